@@ -1,4 +1,4 @@
-use crate::calls::Call::{Bytes, CanBuild, Do, InPattern, Patterns, Refuses, Settings};
+use crate::calls::Call::{self, Bytes, CanBuild, Do, InPattern, Patterns, Refuses, Settings};
 use crate::calls::Step::{
     Byte, Clear, Empty, Fail, Finish, Group, GroupEnd, Limit, Match, SetAll, Start, Union,
 };
@@ -7,9 +7,8 @@ use crate::calls::are_answered;
 /// Three states take all of a limit of 72 bytes. That refuses one more, their bytes a lower limit, and both leave all as
 /// it was. Then the limit is taken away and a state is added. Too great an index refuses to begin a group and to end
 /// one, and nothing is added; the greatest one that there can be doesn't.
-#[test]
-fn limits_of_bytes_and_of_indices(rt: HostRuntime) {
-    let calls = [
+const fn limits() -> [Call; 17] {
+    [
         Do(Limit(Some(72))),
         Do(Fail),
         Do(Fail),
@@ -33,15 +32,18 @@ fn limits_of_bytes_and_of_indices(rt: HostRuntime) {
         Bytes(96),
         Do(GroupEnd(0, 2_147_483_646)),
         Bytes(120),
-    ];
-    assert!(rt; are_answered(rt.alloc(), &calls));
+    ]
+}
+
+#[test]
+fn limits_of_bytes_and_of_indices(rt: HostRuntime) {
+    assert!(rt; are_answered(rt.alloc(), &limits()));
 }
 
 /// No states; two states that stand for each other, behind another one; a state that stands for itself; one with a group
 /// that was never begun, before a match; one that leads to a state that isn't there.
-#[test]
-fn states_that_cannot_be_built(rt: HostRuntime) {
-    let calls = [
+const fn states() -> [Call; 17] {
+    [
         CanBuild(0, 0, false),
         Do(Fail),
         Do(Union(&[2])),
@@ -59,16 +61,19 @@ fn states_that_cannot_be_built(rt: HostRuntime) {
         Do(Clear),
         Do(Byte(0, 1)),
         CanBuild(0, 0, false),
-    ];
-    assert!(rt; are_answered(rt.alloc(), &calls));
+    ]
+}
+
+#[test]
+fn states_that_cannot_be_built(rt: HostRuntime) {
+    assert!(rt; are_answered(rt.alloc(), &states()));
 }
 
 /// One pattern of three states, with the first and the last state as starts, with one that isn't there for each of
 /// them, and with the first one; cleared; one state, and in a pattern; one pattern that starts in a state that isn't
 /// there.
-#[test]
-fn starts_that_cannot_be_built(rt: HostRuntime) {
-    let calls = [
+const fn starts() -> [Call; 22] {
+    [
         Do(Start),
         Do(Match),
         Do(Empty),
@@ -91,15 +96,18 @@ fn starts_that_cannot_be_built(rt: HostRuntime) {
         Do(Empty),
         Do(Finish(3)),
         CanBuild(0, 0, false),
-    ];
-    assert!(rt; are_answered(rt.alloc(), &calls));
+    ]
+}
+
+#[test]
+fn starts_that_cannot_be_built(rt: HostRuntime) {
+    assert!(rt; are_answered(rt.alloc(), &starts()));
 }
 
 /// Patterns are counted: at first, in a pattern, behind it, and in the next one. A builder that is cleared keeps its
 /// settings, and no patterns.
-#[test]
-fn what_clear_keeps(rt: HostRuntime) {
-    let calls = [
+const fn clears() -> [Call; 14] {
+    [
         Settings(true, false, None, b'\n'),
         Patterns(false, 0),
         Do(Start),
@@ -114,6 +122,10 @@ fn what_clear_keeps(rt: HostRuntime) {
         Do(Clear),
         Settings(false, true, Some(100), 0),
         Patterns(false, 0),
-    ];
-    assert!(rt; are_answered(rt.alloc(), &calls));
+    ]
+}
+
+#[test]
+fn what_clear_keeps(rt: HostRuntime) {
+    assert!(rt; are_answered(rt.alloc(), &clears()));
 }

@@ -1,7 +1,7 @@
-ghost use Rattle.std.specs.Prelude.{◌≡◌, ◌+◌, ◌<◌, length, IfOk};
+ghost use Rattle.std.specs.Prelude.{◌≡◌, ◌+◌, ◌<◌, false, length, IfOk};
 
-use crate::building::builds;
-use crate::calls::Call::{Builds, Bytes, Do, Refuses};
+use crate::building::{builds, is_right};
+use crate::calls::Call::{self, Bytes, Do, Refuses};
 use crate::calls::Step::{
     self, All, Build, Byte, Clear, Empty, Fail, Finish, Group, GroupEnd, Match, Reverse, Sparse,
     Start, Union, UnionReverse,
@@ -27,9 +27,8 @@ fn add_link(builder: &mut Builder, to: StateID) -> Result<StateID, BuildError>
 
 /// Unions of a few ways, behind a match, and more of them whose ways are given in the other order. The states 2 and 5
 /// stand for the match.
-#[test]
-fn unions(rt: HostRuntime) {
-    let calls = [
+const fn ways() -> [Call; 12] {
+    [
         Do(Start),
         Do(Match),
         Do(Finish(0)),
@@ -41,16 +40,19 @@ fn unions(rt: HostRuntime) {
         Do(UnionReverse(&[1, 2])),
         Do(UnionReverse(&[1, 2, 3])),
         Bytes(8 * 24 + 12 * 4),
-        Builds(7, 7, Wanted::Ways),
-    ];
-    assert!(rt; are_answered(rt.alloc(), &calls));
+        Do(Build(7, 7, Wanted::Ways)),
+    ]
+}
+
+#[test]
+fn unions(rt: HostRuntime) {
+    assert!(rt; are_answered(rt.alloc(), &ways()));
 }
 
 /// One pattern that reads the byte `a`, behind a loop over all bytes that prefers to leave. Then sparse states of a few
 /// ranges, a look and a state that leads nowhere, behind a match.
-#[test]
-fn a_byte_behind_any_others_and_sparse_states(rt: HostRuntime) {
-    let calls = [
+const fn ranges() -> [Call; 18] {
+    [
         Do(UnionReverse(&[2, 3])),
         Do(Empty),
         Do(All(1)),
@@ -59,7 +61,7 @@ fn a_byte_behind_any_others_and_sparse_states(rt: HostRuntime) {
         Do(Match),
         Do(Finish(3)),
         Bytes(5 * 24 + 2 * 4 + 8),
-        Builds(3, 0, Wanted::ByteA),
+        Do(Build(3, 0, Wanted::ByteA)),
         Do(Clear),
         Do(Start),
         Do(Match),
@@ -68,16 +70,19 @@ fn a_byte_behind_any_others_and_sparse_states(rt: HostRuntime) {
         Do(Step::Look(Look::StartLF, 3)),
         Do(Fail),
         Bytes(6 * 24 + 3 * 8),
-        Builds(4, 4, Wanted::Ranges),
-    ];
-    assert!(rt; are_answered(rt.alloc(), &calls));
+        Do(Build(4, 4, Wanted::Ranges)),
+    ]
+}
+
+#[test]
+fn a_byte_behind_any_others_and_sparse_states(rt: HostRuntime) {
+    assert!(rt; are_answered(rt.alloc(), &ranges()));
 }
 
 /// A pattern with three groups, of which the last two have names, of a text that is read forward and in reverse. Then
 /// both have one name.
-#[test]
-fn groups_with_their_slots(rt: HostRuntime) {
-    let calls = [
+const fn groups() -> [Call; 22] {
+    [
         Do(Start),
         Do(Group(1, 0, None)),
         Do(Group(2, 1, Some("a"))),
@@ -87,9 +92,9 @@ fn groups_with_their_slots(rt: HostRuntime) {
         Do(Match),
         Do(Finish(0)),
         Bytes(6 * 24),
-        Builds(0, 0, Wanted::Groups(false)),
+        Do(Build(0, 0, Wanted::Groups(false))),
         Do(Reverse(true)),
-        Builds(0, 0, Wanted::Groups(true)),
+        Do(Build(0, 0, Wanted::Groups(true))),
         Do(Clear),
         Do(Start),
         Do(Group(1, 0, None)),
@@ -100,43 +105,54 @@ fn groups_with_their_slots(rt: HostRuntime) {
         Do(Match),
         Do(Finish(0)),
         Refuses(
-            Build,
+            Build(0, 0, Wanted::Groups(true)),
             "groups can't be taken: two groups of pattern 0 have the name 'a'",
         ),
-    ];
-    assert!(rt; are_answered(rt.alloc(), &calls));
+    ]
 }
 
-/// A chain of empty states to a match, and the last of them.
-fn chain(alloc: Global) -> Result<(Builder, StateID), BuildError>
-    ensures { IfOk result (λ r. length r.0.drafts ≡ 1001) }
+#[test]
+fn groups_with_their_slots(rt: HostRuntime) {
+    assert!(rt; are_answered(rt.alloc(), &groups()));
+}
+
+/// Whether a chain of empty states to a match takes all its bytes and is built as the match alone.
+fn chain_is_built(builder: &mut Builder) -> Result<bool, BuildError>
+    requires none { length builder.old.drafts ≡ 0 }
+    requires closed { builder.old.is_open ≡ false }
+    ensures { IfOk result (λ _. length builder.new.drafts ≡ 1001) }
 {
-    let mut builder = Builder::new(alloc);
     builder.start_pattern()?;
     let mut at = builder.add_match()?;
     for _index in 0..1000usize {
-        at = add_link(&mut builder, at)?;
+        at = add_link(builder, at)?;
     }
     builder.finish_pattern(at)?;
-    Ok((builder, at))
-}
-
-/// Whether a chain takes all its bytes and is built as the match alone.
-fn chain_is_built(alloc: Global) -> Result<bool, BuildError> {
-    let (builder, start) = chain(alloc)?;
-    Ok(builder.memory_usage() == 24_024 && builds(&builder, start, start, Wanted::Match))
+    let built = builds(builder, at, at, Wanted::Match)?;
+    Ok(builder.memory_usage() == 24_024 && built)
 }
 
 /// Whether a union that is led to itself takes the bytes of one more way, and can't be built.
-fn union_is_patched(alloc: Global) -> Result<bool, BuildError> {
-    let mut builder = Builder::new(alloc);
+fn union_is_patched(alloc: Global, builder: &mut Builder) -> Result<bool, BuildError>
+    requires { length builder.old.drafts ≡ 0 }
+{
     let union = builder.add_union(Vec::new(alloc))?;
     builder.patch(union, union)?;
     Ok(builder.memory_usage() == 24 + 4 && !builder.can_build(union, union))
 }
 
+/// Whether the chain of a new builder, or the union, is that.
+fn is_patched(alloc: Global, is_chain: bool) -> bool {
+    let mut builder = Builder::new(alloc);
+    let patched = if is_chain {
+        chain_is_built(&mut builder)
+    } else {
+        union_is_patched(alloc, &mut builder)
+    };
+    is_right(patched)
+}
+
 #[test]
 fn states_that_are_patched(rt: HostRuntime) {
-    assert!(rt; matches!(chain_is_built(rt.alloc()), Ok(true)));
-    assert!(rt; matches!(union_is_patched(rt.alloc()), Ok(true)));
+    assert!(rt; is_patched(rt.alloc(), true) && is_patched(rt.alloc(), false));
 }

@@ -38,26 +38,30 @@ fn build_counted<L: Ledger>(
 }
 
 /// The automaton with these starts; the builder says whether it can be built.
-pub(crate) fn built(
-    builder: &Builder,
-    anchored: StateID,
-    unanchored: StateID,
-) -> Result<NFA, BuildError> {
+fn built(builder: &Builder, anchored: StateID, unanchored: StateID) -> Result<NFA, BuildError> {
     if !builder.can_build(anchored, unanchored) {
         return Err(BuildError::TooManyStates);
     }
     build_counted::<Brand>(builder, anchored, unanchored, Blank::new(1))
 }
 
-/// Whether the automaton with these starts is built, and is this one.
+/// Whether the automaton with these starts is built as this one, or what refuses it.
 pub(crate) fn builds(
     builder: &Builder,
     anchored: StateID,
     unanchored: StateID,
     wanted: Wanted,
-) -> bool {
+) -> Result<bool, BuildError> {
     match built(builder, anchored, unanchored) {
-        Ok(nfa) => is_wanted(&nfa, wanted),
+        Ok(nfa) => Ok(is_wanted(&nfa, wanted)),
+        Err(error) => Err(error),
+    }
+}
+
+/// Whether something was made, and is right.
+pub(crate) fn is_right(made: Result<bool, BuildError>) -> bool {
+    match made {
+        Ok(yes) => yes,
         Err(_) => false,
     }
 }

@@ -1,7 +1,7 @@
 //! Calls of a builder, one after the other, each with what it should answer.
-ghost use Rattle.std.specs.Prelude.{◌≡◌};
+ghost use Rattle.std.specs.Prelude.{◌≡◌, true};
 
-use crate::building::{builds, built};
+use crate::building::builds;
 use crate::nfas::Wanted;
 use crate::texts::is_told;
 use look_core::{AsciiWord, LineTerm, Look, LookMatcher};
@@ -35,8 +35,8 @@ pub(crate) enum Step {
     /// Sets all settings to others than those of a new builder.
     SetAll,
     Clear,
-    /// Builds an automaton that starts in the state 0, for nothing.
-    Build,
+    /// Builds this automaton with these starts.
+    Build(u8, u8, Wanted),
 }
 
 /// A step, or what a builder should tell.
@@ -49,8 +49,6 @@ pub(crate) enum Call {
     Bytes(usize),
     /// Whether it can build with these starts.
     CanBuild(u8, u8, bool),
-    /// It builds this automaton with these starts.
-    Builds(u8, u8, Wanted),
     /// Whether a pattern was begun, and how many there are.
     Patterns(bool, usize),
     /// One more than the number of the pattern that was begun.
@@ -80,97 +78,122 @@ fn names(alloc: Global, numbers: &[u8]) -> Result<Vec<StateID>, AllocError> {
 }
 
 /// Adds sparse states of a few ranges.
-fn add_sparse(alloc: Global, builder: &mut Builder) -> Result<(), BuildError> {
+fn add_sparse(alloc: Global, builder: &mut Builder) -> Result<StateID, BuildError> {
     builder.add_sparse(Vec::new(alloc))?;
     builder.add_sparse(vec![in alloc; transition(7, 8, 0)]?)?;
-    builder.add_sparse(vec![in alloc; transition(0, 0, 1), transition(1, 255, 2)]?)?;
-    Ok(())
+    builder.add_sparse(vec![in alloc; transition(0, 0, 1), transition(1, 255, 2)]?)
+}
+
+/// Adds a choice of states, whose ways are given in the other order or not.
+fn add_union(
+    alloc: Global,
+    builder: &mut Builder,
+    ways: &[u8],
+    reverse: bool,
+) -> Result<StateID, BuildError> {
+    let ways = names(alloc, ways)?;
+    if reverse {
+        builder.add_union_reverse(ways)
+    } else {
+        builder.add_union(ways)
+    }
 }
 
 /// Adds a state, or a few.
-fn add(alloc: Global, builder: &mut Builder, step: Step) -> Result<(), BuildError> {
+fn add(alloc: Global, builder: &mut Builder, step: Step) -> Result<StateID, BuildError> {
     match step {
-        Step::Fail => builder.add_fail()?,
-        Step::Empty => builder.add_empty()?,
-        Step::Byte(byte, next) => builder.add_range(transition(byte, byte, next))?,
-        Step::All(next) => builder.add_sparse(vec![in alloc; transition(0, 255, next)]?)?,
-        Step::Look(look, next) => builder.add_look(StateID::from(next), look)?,
-        Step::Union(ways) => builder.add_union(names(alloc, ways)?)?,
-        Step::UnionReverse(ways) => builder.add_union_reverse(names(alloc, ways)?)?,
-        _ => return add_sparse(alloc, builder),
-    };
-    Ok(())
+        Step::Fail => builder.add_fail(),
+        Step::Empty => builder.add_empty(),
+        Step::Byte(byte, next) => builder.add_range(transition(byte, byte, next)),
+        Step::All(next) => builder.add_sparse(vec![in alloc; transition(0, 255, next)]?),
+        Step::Look(look, next) => builder.add_look(StateID::from(next), look),
+        Step::Union(ways) => add_union(alloc, builder, ways, false),
+        Step::UnionReverse(ways) => add_union(alloc, builder, ways, true),
+        _ => add_sparse(alloc, builder),
+    }
 }
 
-/// Begins a group, whose name is told.
+/// What a step comes to that makes something which isn't looked at.
+fn done<T: Copy>(made: Result<T, BuildError>) -> Result<bool, BuildError> {
+    match made {
+        Ok(_) => Ok(true),
+        Err(error) => Err(error),
+    }
+}
+
+/// Begins a group with a name.
 fn begin_group(
     alloc: Global,
     builder: &mut Builder,
     next: u8,
     group: u32,
     name: &str,
-) -> Result<(), BuildError> {
+) -> Result<StateID, BuildError>
+    requires { builder.old.is_open ≡ true }
+{
     let name = String::from_str(alloc, name)?;
-    if builder.in_pattern() {
-        builder.add_capture_start(StateID::from(next), group, Some(name))?;
-    }
-    Ok(())
+    builder.add_capture_start(StateID::from(next), group, Some(name))
 }
 
-/// Does what a pattern that was begun is needed for.
-fn add_in_pattern(alloc: Global, builder: &mut Builder, step: Step) -> Result<(), BuildError> {
-    if !builder.in_pattern() {
-        return Err(BuildError::TooManyPatterns);
-    }
+/// Takes a step for which a pattern has to be begun.
+fn take_in_pattern(alloc: Global, builder: &mut Builder, step: Step) -> Result<bool, BuildError>
+    requires { builder.old.is_open ≡ true }
+{
     match step {
-        Step::Finish(start) => {
-            builder.finish_pattern(StateID::from(start))?;
-        }
+        Step::Finish(start) => done(builder.finish_pattern(StateID::from(start))),
         Step::Group(next, group, None) => {
-            builder.add_capture_start(StateID::from(next), group, None)?;
+            done(builder.add_capture_start(StateID::from(next), group, None))
         }
-        Step::Group(next, group, Some(name)) => begin_group(alloc, builder, next, group, name)?,
-        Step::GroupEnd(next, group) => {
-            builder.add_capture_end(StateID::from(next), group)?;
+        Step::Group(next, group, Some(name)) => {
+            done(begin_group(alloc, builder, next, group, name))
         }
-        _ => {
-            builder.add_match()?;
-        }
+        Step::GroupEnd(next, group) => { done(builder.add_capture_end(StateID::from(next), group)) }
+        _ => done(builder.add_match()),
     }
-    Ok(())
 }
 
 /// Sets all settings to others than those of a new builder.
-fn set_all(builder: &mut Builder) -> Result<(), BuildError> {
+fn set_all(builder: &mut Builder) -> Result<bool, BuildError> {
     let mut look_matcher = LookMatcher::new(AsciiWord);
     look_matcher.set_line_terminator(LineTerm::one(0));
     builder.set_look_matcher(look_matcher);
     builder.set_utf8(false);
     builder.set_reverse(true);
-    builder.set_size_limit(Some(100))
+    done(builder.set_size_limit(Some(100)))
 }
 
-/// Takes a step.
-fn take(alloc: Global, builder: &mut Builder, step: Step) -> Result<(), BuildError> {
-    let in_pattern = builder.in_pattern();
+/// Takes a step, if a pattern was begun or wasn't as it has to be. Whether it was, and an automaton that is built is as
+/// it should be; or what refuses it.
+fn take(alloc: Global, builder: &mut Builder, step: Step) -> Result<bool, BuildError> {
     match step {
-        Step::Start if in_pattern => return Err(BuildError::TooManyPatterns),
         Step::Start => {
-            builder.start_pattern()?;
+            if builder.in_pattern() {
+                return Ok(false);
+            }
+            done(builder.start_pattern())
         }
         Step::Finish(_) | Step::Match | Step::Group(..) | Step::GroupEnd(..) => {
-            add_in_pattern(alloc, builder, step)?;
+            if !builder.in_pattern() {
+                return Ok(false);
+            }
+            take_in_pattern(alloc, builder, step)
         }
-        Step::Limit(limit) => builder.set_size_limit(limit)?,
-        Step::SetAll => set_all(builder)?,
-        Step::Reverse(reverse) => builder.set_reverse(reverse),
-        Step::Clear => builder.clear(),
-        Step::Build => {
-            let _nfa = built(builder, StateID::ZERO, StateID::ZERO)?;
+        Step::Limit(limit) => done(builder.set_size_limit(limit)),
+        Step::SetAll => set_all(builder),
+        Step::Reverse(reverse) => {
+            builder.set_reverse(reverse);
+            Ok(true)
         }
-        _ => add(alloc, builder, step)?,
+        Step::Clear => {
+            builder.clear();
+            Ok(true)
+        }
+        Step::Build(anchored, unanchored, wanted) => {
+            let (anchored, unanchored) = (StateID::from(anchored), StateID::from(unanchored));
+            builds(builder, anchored, unanchored, wanted)
+        }
+        _ => done(add(alloc, builder, step)),
     }
-    Ok(())
 }
 
 /// Whether a builder tells what it should.
@@ -180,21 +203,17 @@ fn tells(builder: &Builder, call: Call) -> bool {
         Call::CanBuild(anchored, unanchored, want) => {
             builder.can_build(StateID::from(anchored), StateID::from(unanchored)) == want
         }
-        Call::Builds(anchored, unanchored, wanted) => {
-            let (anchored, unanchored) = (StateID::from(anchored), StateID::from(unanchored));
-            builds(builder, anchored, unanchored, wanted)
-        }
         Call::Patterns(is_open, len) => {
-            (builder.in_pattern(), builder.pattern_len()) == (is_open, len)
+            builder.in_pattern() == is_open && builder.pattern_len() == len
         }
         Call::InPattern(one_more) => {
             builder.in_pattern() && builder.current_pattern_id().one_more() == one_more
         }
         Call::Settings(utf8, reverse, limit, line_end) => {
-            let lines = builder.get_look_matcher().get_line_terminator();
-            (builder.get_utf8(), builder.get_reverse()) == (utf8, reverse)
+            builder.get_utf8() == utf8
+                && builder.get_reverse() == reverse
                 && builder.get_size_limit() == limit
-                && lines == LineTerm::one(line_end)
+                && builder.get_look_matcher().get_line_terminator() == LineTerm::one(line_end)
         }
         _ => false,
     }
@@ -202,13 +221,14 @@ fn tells(builder: &Builder, call: Call) -> bool {
 
 /// Whether a call answers what it should.
 fn is_answered(alloc: Global, builder: &mut Builder, call: Call) -> bool {
-    match call {
-        Call::Do(step) => take(alloc, builder, step).is_ok(),
-        Call::Refuses(step, want) => match take(alloc, builder, step) {
-            Ok(()) => false,
-            Err(error) => is_told(alloc, &error, want),
-        },
-        _ => tells(builder, call),
+    let (step, want) = match call {
+        Call::Do(step) => (step, "none"),
+        Call::Refuses(step, want) => (step, want),
+        _ => return tells(builder, call),
+    };
+    match take(alloc, builder, step) {
+        Ok(yes) => yes && want == "none",
+        Err(error) => is_told(alloc, &error, want),
     }
 }
 

@@ -1,10 +1,10 @@
 //! Automata as they are expected, and those that are ready made.
-use crate::shapes::Shape::{self, Capture, Fail, Match, Range, Sparse, Two, Union};
+use crate::shapes::Shape::{self, Capture, Fail, Match, Range, Three, Two, TwoRanges};
 use crate::shapes::has_states;
 use look_core::{Look, LookSet};
 use nfa_core::NFA;
 use search_core::{PatternID, StateID};
-use std::alloc::{AllocError, Global};
+use std::alloc::Global;
 
 /// An automaton that is expected.
 #[derive(Clone, Copy)]
@@ -98,61 +98,55 @@ fn has_groups(nfa: &NFA) -> bool {
         && info.to_index(first, "b") == Some(2)
 }
 
-/// Whether it has the facts and the states of the one that is expected.
+/// The states of the one that is expected.
+const fn states_of(wanted: Wanted) -> &'static [Shape] {
+    match wanted {
+        Wanted::Always => &[Capture(1, 0, 0), Capture(2, 0, 1), Match],
+        Wanted::Never => &[Fail],
+        Wanted::ByteA => &[Two(2, 1), Range(0, 255, 0), Range(b'a', b'a', 3), Match],
+        Wanted::Ways => &[
+            Match,
+            Fail,
+            Two(0, 1),
+            Three(1, 0, 0),
+            Two(0, 1),
+            Three(2, 0, 1),
+        ],
+        Wanted::Ranges => &[
+            Match,
+            Fail,
+            Range(7, 8, 0),
+            TwoRanges(0, 0, 1, 1, 255, 2),
+            Shape::Look(Look::StartLF, 3),
+            Fail,
+        ],
+        Wanted::Groups(_) => &[
+            Capture(1, 0, 0),
+            Capture(2, 1, 2),
+            Capture(3, 2, 4),
+            Capture(4, 2, 5),
+            Capture(5, 0, 1),
+            Match,
+        ],
+        Wanted::Match => &[Match],
+    }
+}
+
+/// Whether it has the facts, the states and the groups of the one that is expected.
 pub(crate) fn is_wanted(nfa: &NFA, wanted: Wanted) -> bool {
-    if !has_wanted_facts(nfa, wanted) {
+    if matches!(wanted, Wanted::Groups(_)) && !has_groups(nfa) {
         return false;
     }
-    match wanted {
-        Wanted::Always => has_states(nfa, &[Capture(1, 0, 0), Capture(2, 0, 1), Match]),
-        Wanted::Never => has_states(nfa, &[Fail]),
-        Wanted::ByteA => has_states(
-            nfa,
-            &[Two(2, 1), Range(0, 255, 0), Range(b'a', b'a', 3), Match],
-        ),
-        Wanted::Ways => has_states(
-            nfa,
-            &[
-                Match,
-                Fail,
-                Two(0, 1),
-                Union(&[1, 0, 0]),
-                Two(0, 1),
-                Union(&[2, 0, 1]),
-            ],
-        ),
-        Wanted::Ranges => has_states(
-            nfa,
-            &[
-                Match,
-                Fail,
-                Range(7, 8, 0),
-                Sparse(&[(0, 0, 1), (1, 255, 2)]),
-                Shape::Look(Look::StartLF, 3),
-                Fail,
-            ],
-        ),
-        Wanted::Groups(_) => has_groups(nfa) && has_group_states(nfa),
-        Wanted::Match => has_states(nfa, &[Match]),
-    }
+    has_wanted_facts(nfa, wanted) && has_states(nfa, states_of(wanted))
 }
 
-/// Whether it has the states of three groups.
-fn has_group_states(nfa: &NFA) -> bool {
-    let states = [
-        Capture(1, 0, 0),
-        Capture(2, 1, 2),
-        Capture(3, 2, 4),
-        Capture(4, 2, 5),
-        Capture(5, 0, 1),
-        Match,
-    ];
-    has_states(nfa, &states)
-}
-
-/// Whether it has this pattern or none and no looks, matches between characters, and has the classes and the ends of
+/// Whether it has its one pattern or none and no looks, matches between characters, and has the classes and the ends of
 /// lines of a new one.
-fn is_plain(nfa: &NFA, pattern: Option<PatternID>) -> bool {
+fn is_plain(nfa: &NFA, wanted: Wanted) -> bool {
+    let pattern = match wanted {
+        Wanted::Never => None,
+        _ => Some(PatternID::ZERO),
+    };
     let mut patterns = nfa.patterns();
     let told = [patterns.next(), patterns.next()];
     told == [pattern, None]
@@ -163,28 +157,29 @@ fn is_plain(nfa: &NFA, pattern: Option<PatternID>) -> bool {
         && nfa.look_matcher().get_line_terminator().contains(b'\n')
 }
 
+/// Whether a copy has the facts and the states of the one that is expected.
+fn copy_is_wanted(alloc: Global, nfa: &NFA, wanted: Wanted) -> bool {
+    match nfa.try_clone(alloc) {
+        Ok(copy) => is_wanted(&copy, wanted) && is_plain(&copy, wanted),
+        Err(_) => false,
+    }
+}
+
 /// Whether the automaton that matches everywhere, or the one that matches nowhere, is made, and copied.
-fn is_made(alloc: Global, wanted: Wanted, pattern: Option<PatternID>) -> Result<bool, AllocError> {
+fn is_made(alloc: Global, wanted: Wanted) -> bool {
     let made = match wanted {
         Wanted::Always => NFA::always_match(alloc),
         _ => NFA::never_match(alloc),
     };
-    let nfa = made?;
-    let copied = copy_is_wanted(alloc, &nfa, wanted, pattern);
-    Ok(is_wanted(&nfa, wanted) && is_plain(&nfa, pattern) && copied)
-}
-
-/// Whether a copy has the facts and the states of the one that is expected.
-fn copy_is_wanted(alloc: Global, nfa: &NFA, wanted: Wanted, pattern: Option<PatternID>) -> bool {
-    match nfa.try_clone(alloc) {
-        Ok(copy) => is_wanted(&copy, wanted) && is_plain(&copy, pattern),
+    match made {
+        Ok(nfa) => {
+            is_wanted(&nfa, wanted) && is_plain(&nfa, wanted) && copy_is_wanted(alloc, &nfa, wanted)
+        }
         Err(_) => false,
     }
 }
 
 #[test]
 fn always_and_never_match(rt: HostRuntime) {
-    let first = Some(PatternID::ZERO);
-    assert!(rt; matches!(is_made(rt.alloc(), Wanted::Always, first), Ok(true)));
-    assert!(rt; matches!(is_made(rt.alloc(), Wanted::Never, None), Ok(true)));
+    assert!(rt; is_made(rt.alloc(), Wanted::Always) && is_made(rt.alloc(), Wanted::Never));
 }

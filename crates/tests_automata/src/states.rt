@@ -56,46 +56,79 @@ fn state(name: u8) -> Option<StateID> {
     }
 }
 
-/// Whether the state leads on with no byte, and its memory.
-fn facts(state: &State) -> (bool, usize) {
-    (state.is_epsilon(), state.memory_usage())
+/// Whether the state leads on with no byte, as it is expected, and takes so many bytes.
+fn has_facts(state: &State, is_epsilon: bool, bytes: usize) -> bool {
+    state.is_epsilon() == is_epsilon && state.memory_usage() == bytes
 }
 
-/// Whether the ranges lead from each byte to its state, are their copy, and as a state take so many bytes.
-fn ranges_are_right(alloc: Global) -> Result<bool, AllocError> {
-    let ranges = sparse(alloc)?;
+/// Whether a value is its copy.
+fn is_copied<T: Clone + PartialEq + Drop>(value: &T) -> bool {
+    match value.clone() {
+        Ok(copy) => copy == *value,
+        Err(_) => false,
+    }
+}
+
+/// Whether the ranges lead from each byte to its state.
+fn ranges_lead(ranges: &SparseTransitions) -> bool {
     for (byte, name) in STEPS {
         if ranges.matches_byte(byte) != state(name) {
-            return Ok(false);
+            return false;
         }
     }
-    let is_copied = ranges.clone()? == ranges;
-    Ok(is_copied && facts(&State::Sparse(ranges)) == (false, 64))
+    true
 }
 
-/// Whether the table does, is and takes so.
-fn table_is_right(alloc: Global) -> Result<bool, AllocError> {
-    let table = dense(alloc)?;
+/// Whether the table does.
+fn table_leads(table: &DenseTransitions) -> bool {
     for (byte, name) in STEPS {
         if table.matches_byte(byte) != state(name) {
-            return Ok(false);
+            return false;
         }
     }
-    let is_copied = table.clone()? == table;
-    Ok(is_copied && facts(&State::Dense(table)) == (false, 1048))
+    true
+}
+
+/// Whether a state of ranges or with a table leads so, is its copy, and takes so many bytes.
+fn is_right(state: &State, bytes: usize) -> bool {
+    let leads = match state {
+        State::Sparse(ranges) => ranges_lead(ranges) && is_copied(ranges),
+        State::Dense(table) => table_leads(table) && is_copied(table),
+        _ => false,
+    };
+    leads && has_facts(state, false, bytes)
+}
+
+fn ranges_are_right(alloc: Global) -> bool {
+    match sparse(alloc) {
+        Ok(ranges) => is_right(&State::Sparse(ranges), 64),
+        Err(_) => false,
+    }
+}
+
+fn table_is_right(alloc: Global) -> bool {
+    match dense(alloc) {
+        Ok(table) => is_right(&State::Dense(table), 1048),
+        Err(_) => false,
+    }
+}
+
+/// A union of three ways.
+fn union(alloc: Global) -> Result<State, AllocError> {
+    let alternates = vec![in alloc; StateID::ZERO, StateID::MAX, StateID::ZERO]?;
+    Ok(State::Union { alternates })
 }
 
 /// Whether a union of three ways leads on, takes so many bytes, and is its copy but no other state.
-fn union_is_right(alloc: Global) -> Result<bool, AllocError> {
-    let alternates = vec![in alloc; StateID::ZERO, StateID::MAX, StateID::ZERO]?;
-    let union = State::Union { alternates };
-    let copy = union.clone()?;
-    Ok(facts(&union) == (true, 36) && copy == union && copy != State::Fail)
+fn union_is_right(alloc: Global) -> bool {
+    match union(alloc) {
+        Ok(union) => has_facts(&union, true, 36) && is_copied(&union) && union != State::Fail,
+        Err(_) => false,
+    }
 }
 
 #[test]
 fn steps_bytes_and_copies(rt: HostRuntime) {
-    assert!(rt; matches!(ranges_are_right(rt.alloc()), Ok(true)));
-    assert!(rt; matches!(table_is_right(rt.alloc()), Ok(true)));
-    assert!(rt; matches!(union_is_right(rt.alloc()), Ok(true)));
+    let alloc = rt.alloc();
+    assert!(rt; ranges_are_right(alloc) && table_is_right(alloc) && union_is_right(alloc));
 }

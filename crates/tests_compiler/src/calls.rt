@@ -13,6 +13,8 @@ use thompson_nfa::{Compiler, Config, WhichCaptures};
 pub enum Fact {
     /// The state in which the pattern begins, and the states.
     Made(usize, &'static [Shape]),
+    /// Anything.
+    Fits,
     /// How many states there are, patterns, and groups of all patterns.
     States(usize),
     Patterns(usize),
@@ -54,6 +56,7 @@ pub enum Call {
 fn has(nfa: &NFA, fact: Fact) -> bool {
     match fact {
         Fact::Made(start, shapes) => is_made_of(nfa, start, shapes),
+        Fact::Fits => true,
         Fact::States(len) => nfa.states().len() == len,
         Fact::Patterns(len) => nfa.pattern_len() == len,
         Fact::Groups(len) => nfa.group_info().all_group_len() == len,
@@ -91,17 +94,30 @@ fn build(compiler: &mut Compiler, trees: &[Hir]) -> Result<NFA, BuildError> {
     }
 }
 
+/// Drops a value. Where it has many parts, a call is cheaper to prove than the drop of each of them.
+pub(crate) fn give_up<T: Drop>(_value: T) {}
+
 /// The NFA of the trees of these names.
 fn compiled(alloc: Global, compiler: &mut Compiler, names: &[Small]) -> Result<NFA, BuildError> {
     let trees = trees(alloc, names)?;
-    build(compiler, &trees)
+    let nfa = build(compiler, &trees);
+    give_up(trees);
+    nfa
 }
 
 /// Whether a compile comes to this.
 fn comes_to(alloc: Global, compiler: &mut Compiler, names: &[Small], fact: Fact) -> bool {
     match compiled(alloc, compiler, names) {
-        Ok(nfa) => has(&nfa, fact),
-        Err(error) => refuses(&error, fact),
+        Ok(nfa) => {
+            let has_it = has(&nfa, fact);
+            give_up(nfa);
+            has_it
+        }
+        Err(error) => {
+            let refuses_so = refuses(&error, fact);
+            give_up(error);
+            refuses_so
+        }
     }
 }
 
@@ -111,7 +127,7 @@ fn take(alloc: Global, compiler: &mut Compiler, names: &[Small], bytes: usize) -
         return false;
     }
     compiler.configure(Config::new().nfa_size_limit(Some(bytes)));
-    let fit = compiled(alloc, compiler, names).is_ok();
+    let fit = comes_to(alloc, compiler, names, Fact::Fits);
     compiler.configure(Config::new().nfa_size_limit(Some(bytes - 1)));
     let exceed = comes_to(alloc, compiler, names, Fact::Above(bytes - 1));
     compiler.configure(Config::new().nfa_size_limit(None));
@@ -162,5 +178,7 @@ fn answers(alloc: Global, compiler: &mut Compiler, calls: &[Call]) -> bool {
 /// Whether each of the calls of a new compiler does.
 pub fn are_answered(alloc: Global, calls: &[Call]) -> bool {
     let mut compiler = Compiler::new(alloc);
-    answers(alloc, &mut compiler, calls)
+    let answered = answers(alloc, &mut compiler, calls);
+    give_up(compiler);
+    answered
 }

@@ -1,10 +1,11 @@
 //! Small compiles, and what their automata find.
+use crate::calls::give_up;
 use crate::trees::Tree;
-use determinize_core::walk;
+use determinize_core::{State, walk};
 use hir_core::Hir;
 use nfa_core::{BuildError, NFA};
 use search_types::MatchKind;
-use std::alloc::{AllocError, Global};
+use std::alloc::Global;
 use thompson_nfa::{Compiler, Config, WhichCaptures};
 
 /// How a tree is read.
@@ -65,34 +66,31 @@ fn build(compiler: &mut Compiler, mode: Mode, tree: &Hir) -> Result<NFA, BuildEr
 /// The one that a new compiler makes.
 fn compiled(alloc: Global, mode: Mode, tree: &Hir) -> Result<NFA, BuildError> {
     let mut compiler = Compiler::new(alloc);
-    build(&mut compiler, mode, tree)
+    let nfa = build(&mut compiler, mode, tree);
+    give_up(compiler);
+    nfa
 }
 
 /// The automaton of the tree of this name.
 fn made(alloc: Global, tree: Tree, mode: Mode) -> Result<NFA, BuildError> {
     let tree = tree.hir(alloc)?;
-    compiled(alloc, mode, &tree)
+    let nfa = compiled(alloc, mode, &tree);
+    give_up(tree);
+    nfa
 }
 
-/// Behind how many of the bytes the last match ends that a walk over them meets.
-fn last_end(
-    alloc: Global,
-    nfa: &NFA,
-    kind: MatchKind,
-    bytes: &[u8],
-) -> Result<Option<usize>, AllocError> {
-    let start = nfa.start_anchored();
-    let states = walk(alloc, nfa, kind, start, None, bytes)?;
+/// Behind how many bytes the last match ends that a walk comes by.
+fn last_end(states: &[State]) -> Option<usize> {
     let mut end = None;
     for (place, state) in states.iter().enumerate() {
         if state.is_match() && place > 0 {
             end = Some(place - 1);
         }
     }
-    Ok(end)
+    end
 }
 
-/// Whether that is so many, or isn't, as it is expected.
+/// Whether the last match of a walk over the bytes ends behind so many, or doesn't, as it is expected.
 fn is_end(
     alloc: Global,
     nfa: &NFA,
@@ -101,8 +99,8 @@ fn is_end(
     end: Option<usize>,
     expected: bool,
 ) -> bool {
-    match last_end(alloc, nfa, kind, bytes) {
-        Ok(told) => (told == end) == expected,
+    match walk(alloc, nfa, kind, nfa.start_anchored(), None, bytes) {
+        Ok(states) => (last_end(&states) == end) == expected,
         Err(_) => false,
     }
 }
@@ -134,13 +132,15 @@ fn accepts_number(alloc: Global, nfa: &NFA, number: u32, expected: bool) -> bool
 fn accepts_scalar(alloc: Global, nfa: &NFA, scalar: char, expected: bool) -> bool {
     let mut room = [0; 4];
     let spelling = scalar.encode_utf8(&mut room).as_bytes();
-    let Ok(mut bytes) = spelling.to_vec(alloc) else {
-        return false;
-    };
-    if nfa.is_reverse() {
-        bytes.reverse();
+    match spelling.to_vec(alloc) {
+        Ok(mut bytes) => {
+            if nfa.is_reverse() {
+                bytes.reverse();
+            }
+            accepts(alloc, nfa, &bytes, expected)
+        }
+        Err(_) => false,
     }
-    accepts(alloc, nfa, &bytes, expected)
 }
 
 /// The same of each of these scalars.
@@ -179,8 +179,16 @@ fn refuses(error: &BuildError, answer: Answer) -> bool {
 /// Whether the tree, read so, has this answer.
 pub(crate) fn is_answered(alloc: Global, tree: Tree, mode: Mode, answer: Answer) -> bool {
     match made(alloc, tree, mode) {
-        Ok(nfa) => has(alloc, &nfa, answer),
-        Err(error) => refuses(&error, answer),
+        Ok(nfa) => {
+            let has_it = has(alloc, &nfa, answer);
+            give_up(nfa);
+            has_it
+        }
+        Err(error) => {
+            let refuses_so = refuses(&error, answer);
+            give_up(error);
+            refuses_so
+        }
     }
 }
 

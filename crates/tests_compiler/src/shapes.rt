@@ -1,7 +1,6 @@
 //! States as they are expected.
 use look_core::Look;
 use nfa_core::{NFA, State, Transition};
-use search_core::StateID;
 
 /// A state as it is expected. It leads to states by their numbers.
 #[derive(Clone, Copy)]
@@ -22,80 +21,87 @@ fn is_range(transition: &Transition, range: (u8, u8, usize)) -> bool {
     (transition.start, transition.end, transition.next.as_usize()) == range
 }
 
-/// Whether these are the two.
-fn are_two(transitions: &[Transition], first: (u8, u8, usize), last: (u8, u8, usize)) -> bool {
-    match transitions {
-        [one, two] => is_range(one, first) && is_range(two, last),
+/// Whether the ranges are the two of this shape.
+fn are_two(transitions: &[Transition], shape: Shape) -> bool {
+    match (transitions, shape) {
+        ([one, two], Shape::TwoRanges(start, end, next, from, to, last)) => {
+            is_range(one, (start, end, next)) && is_range(two, (from, to, last))
+        }
         _ => false,
     }
 }
 
-/// Whether these are the three.
-fn are_three(ids: &[StateID], numbers: (usize, usize, usize)) -> bool {
-    match ids {
-        [a, b, c] => (a.as_usize(), b.as_usize(), c.as_usize()) == numbers,
-        _ => false,
+/// A kind, and up to three numbers.
+type Numbers = (char, usize, usize, usize);
+
+/// The numbers of a state. A capture of another pattern than the first has those of none, and so have lists of other
+/// lengths than three.
+fn numbers(state: &State) -> Numbers {
+    match state {
+        State::ByteRange { trans } => {
+            let (start, end) = (usize::from(trans.start), usize::from(trans.end));
+            ('r', start, end, trans.next.as_usize())
+        }
+        State::Union { alternates } => match alternates.as_slice() {
+            [a, b, c] => ('3', a.as_usize(), b.as_usize(), c.as_usize()),
+            _ => ('-', 0, 0, 0),
+        },
+        State::BinaryUnion { alt1, alt2 } => ('2', alt1.as_usize(), alt2.as_usize(), 0),
+        State::Capture {
+            next,
+            pattern_id,
+            group_index,
+            slot,
+        } if pattern_id.as_usize() == 0 => {
+            (
+                'c',
+                next.as_usize(),
+                group_index.as_usize(),
+                slot.as_usize(),
+            )
+        }
+        State::Fail => ('f', 0, 0, 0),
+        State::Match { pattern_id } => ('m', pattern_id.as_usize(), 0, 0),
+        _ => ('-', 0, 0, 0),
+    }
+}
+
+/// Those of a state as it is expected.
+fn wanted(shape: Shape) -> Numbers {
+    match shape {
+        Shape::Byte(byte, next) => ('r', usize::from(byte), usize::from(byte), next),
+        Shape::Range(start, end, next) => ('r', usize::from(start), usize::from(end), next),
+        Shape::Two(first, second) => ('2', first, second, 0),
+        Shape::Three(first, second, third) => ('3', first, second, third),
+        Shape::Capture(next, group, slot) => ('c', next, group, slot),
+        Shape::Fail => ('f', 0, 0, 0),
+        Shape::Match(pattern) => ('m', pattern, 0, 0),
+        _ => ('+', 0, 0, 0),
     }
 }
 
 /// Whether the state is as expected. Captures are those of pattern 0.
 fn has_shape(state: &State, shape: Shape) -> bool {
     match state {
-        State::ByteRange { trans } => match shape {
-            Shape::Byte(byte, next) => is_range(trans, (byte, byte, next)),
-            Shape::Range(start, end, next) => is_range(trans, (start, end, next)),
-            _ => false,
-        },
-        State::Sparse(sparse) => match shape {
-            Shape::TwoRanges(start, end, next, from, to, last) => {
-                are_two(&sparse.transitions, (start, end, next), (from, to, last))
-            }
-            _ => false,
-        },
-        State::Dense(_) => false,
+        State::Sparse(sparse) => are_two(&sparse.transitions, shape),
         State::Look { look, next } => match shape {
-            Shape::Look(expected, to) => *look == expected && next.as_usize() == to,
+            Shape::Look(want, to) => *look == want && next.as_usize() == to,
             _ => false,
         },
-        State::Union { alternates } => match shape {
-            Shape::Three(a, b, c) => are_three(alternates, (a, b, c)),
-            _ => false,
-        },
-        State::BinaryUnion { alt1, alt2 } => match shape {
-            Shape::Two(a, b) => (alt1.as_usize(), alt2.as_usize()) == (a, b),
-            _ => false,
-        },
-        State::Capture {
-            next,
-            pattern_id,
-            group_index,
-            slot,
-        } => match shape {
-            Shape::Capture(to, group, at) => {
-                (next.as_usize(), group_index.as_usize(), slot.as_usize()) == (to, group, at)
-                    && pattern_id.as_usize() == 0
-            }
-            _ => false,
-        },
-        State::Fail => matches!(shape, Shape::Fail),
-        State::Match { pattern_id } => match shape {
-            Shape::Match(pattern) => pattern_id.as_usize() == pattern,
-            _ => false,
-        },
+        _ => numbers(state) == wanted(shape),
     }
 }
 
 /// Whether each state is as expected.
 fn have_shapes(states: &[State], shapes: &[Shape]) -> bool {
-    if states.len() != shapes.len() {
-        return false;
-    }
-    for (state, shape) in states.iter().zip(shapes) {
-        if !has_shape(state, *shape) {
-            return false;
+    let mut left = states.iter();
+    for shape in shapes {
+        match left.next() {
+            Some(state) if has_shape(state, *shape) => {}
+            _ => return false,
         }
     }
-    true
+    left.next().is_none()
 }
 
 /// Whether the NFA has these states, and anchored searches begin in this one. Where that is the first state, all

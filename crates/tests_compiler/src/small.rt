@@ -1,5 +1,6 @@
 //! Small trees that the tests are made of.
-use hir_core::{Hir, is_ascending, is_ascending_chars};
+use crate::trees::class;
+use hir_core::{Hir, is_ascending};
 use look_core::Look;
 use std::alloc::{AllocError, Global};
 
@@ -74,8 +75,8 @@ impl Small {
             Small::OneByte(byte) => bytes(alloc, &[(byte, byte)]),
             Small::Letters => bytes(alloc, &[(97, 98), (100, 100)]),
             Small::Digits => bytes(alloc, &[(48, 57)]),
-            Small::Greek => chars(alloc, 'α', 'β'),
-            Small::Edge => chars(alloc, '\u{7F}', '\u{80}'),
+            Small::Greek => class(alloc, &[('α', 'β')]),
+            Small::Edge => class(alloc, &[('\u{7F}', '\u{80}')]),
             Small::Line => Ok(Hir::look(Look::StartLF)),
             Small::Start => Ok(Hir::look(Look::Start)),
             Small::End => Ok(Hir::look(Look::End)),
@@ -101,15 +102,9 @@ impl Small {
                 joined(alloc, &ways, true)
             }
             Small::Words => joined(alloc, &[Small::Going, Small::Doing], true),
-            Small::Rounds(min, max, greedy) => rounds(alloc, min, max, greedy),
-            Small::AnyRounds(min, greedy) => {
-                let body = text(alloc, b"a")?;
-                Hir::repetition(alloc, min, None, greedy, body)
-            }
-            Small::EmptyRounds => {
-                let body = rounds(alloc, 0, 1, true)?;
-                Hir::repetition(alloc, 0, None, true, body)
-            }
+            Small::Rounds(min, max, greedy) => rounds(alloc, min, Some(max), greedy),
+            Small::AnyRounds(min, greedy) => rounds(alloc, min, None, greedy),
+            Small::EmptyRounds => empty_rounds(alloc),
             Small::TwoGroups => {
                 joined(
                     alloc,
@@ -156,31 +151,32 @@ fn bytes(alloc: Global, ranges: &[(u8, u8)]) -> Result<Hir, AllocError> {
     Ok(Hir::bytes(ranges.to_vec(alloc)?))
 }
 
-/// The class of one range.
-fn chars(alloc: Global, first: char, last: char) -> Result<Hir, AllocError> {
-    let ranges = vec![in alloc; (first, last)]?;
-    if !is_ascending_chars(&ranges) {
-        return Ok(Hir::empty());
+/// Rounds of `a`, or the empty text where the least number is above the greatest.
+fn rounds(alloc: Global, min: u32, max: Option<u32>, greedy: bool) -> Result<Hir, AllocError> {
+    match max {
+        Some(most) if min > most => Ok(Hir::empty()),
+        _ => Hir::repetition(alloc, min, max, greedy, text(alloc, b"a")?),
     }
-    Ok(Hir::chars(ranges))
 }
 
-/// Rounds of `a`, or `a` where the least number is above the greatest.
-fn rounds(alloc: Global, min: u32, max: u32, greedy: bool) -> Result<Hir, AllocError> {
-    let body = text(alloc, b"a")?;
-    if min > max {
-        return Ok(body);
-    }
-    Hir::repetition(alloc, min, Some(max), greedy, body)
+/// Any rounds of a body that may read nothing.
+fn empty_rounds(alloc: Global) -> Result<Hir, AllocError> {
+    let body = rounds(alloc, 0, Some(1), true)?;
+    Hir::repetition(alloc, 0, None, true, body)
+}
+
+/// A group with the name.
+fn named_group(alloc: Global, index: u32, body: Hir) -> Result<Hir, AllocError> {
+    let name = String::from_str(alloc, "one")?;
+    Hir::capture(alloc, index, Some(name), body)
 }
 
 /// `a` as a group, with or without a name.
 fn group(alloc: Global, index: u32, named: bool) -> Result<Hir, AllocError> {
-    let name = if named {
-        Some(String::from_str(alloc, "one")?)
-    } else {
-        None
-    };
     let body = text(alloc, b"a")?;
-    Hir::capture(alloc, index, name, body)
+    if named {
+        named_group(alloc, index, body)
+    } else {
+        Hir::capture(alloc, index, None, body)
+    }
 }

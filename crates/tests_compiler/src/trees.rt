@@ -72,7 +72,7 @@ impl Tree {
 }
 
 /// The class of these ranges, which ascend.
-fn class(alloc: Global, ranges: &[(char, char)]) -> Result<Hir, AllocError> {
+pub(crate) fn class(alloc: Global, ranges: &[(char, char)]) -> Result<Hir, AllocError> {
     if !is_ascending_chars(ranges) {
         return Ok(Hir::empty());
     }
@@ -117,17 +117,35 @@ fn choice(alloc: Global, texts: &[&[u8]]) -> Result<Hir, AllocError> {
     Ok(Hir::alternation(parts))
 }
 
-fn words(alloc: Global) -> Result<Hir, AllocError> {
-    let mut parts = Vec::new(alloc);
+/// Adds `word` and each three digits to these parts.
+fn add_words(alloc: Global, parts: &mut Vec<Hir>) -> Result<(), AllocError> {
     for first in b'0'..=b'9' {
         for second in b'0'..=b'9' {
             for third in b'0'..=b'9' {
-                let word = vec![in alloc; b'w', b'o', b'r', b'd', first, second, third]?;
-                parts.push(Hir::literal(word))?;
+                parts.push(word_of(alloc, [first, second, third])?)?;
             }
         }
     }
+    Ok(())
+}
+
+/// `word` and three digits.
+fn word_of(alloc: Global, digits: [u8; 3]) -> Result<Hir, AllocError> {
+    let [first, second, third] = digits;
+    let word = [b'w', b'o', b'r', b'd', first, second, third];
+    Ok(Hir::literal(word.to_vec(alloc)?))
+}
+
+fn words(alloc: Global) -> Result<Hir, AllocError> {
+    let mut parts = Vec::new(alloc);
+    add_words(alloc, &mut parts)?;
     Ok(Hir::alternation(parts))
+}
+
+/// One part.
+fn alone(alloc: Global, tree: Hir) -> Result<Vec<Hir>, AllocError> {
+    let parts = vec![in alloc; tree]?;
+    Ok(parts)
 }
 
 /// A tree within one more node, which has this index where it is a group.
@@ -136,8 +154,8 @@ fn within(alloc: Global, level: Level, index: u32, tree: Hir) -> Result<Hir, All
         Level::Once => Hir::repetition(alloc, 1, Some(1), true, tree),
         Level::Optional => Hir::repetition(alloc, 0, Some(1), true, tree),
         Level::Group => Hir::capture(alloc, index, None, tree),
-        Level::Concat => Ok(Hir::concat(vec![in alloc; tree]?)),
-        Level::Choice => Ok(Hir::alternation(vec![in alloc; tree]?)),
+        Level::Concat => Ok(Hir::concat(alone(alloc, tree)?)),
+        Level::Choice => Ok(Hir::alternation(alone(alloc, tree)?)),
     }
 }
 

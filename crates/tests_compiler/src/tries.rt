@@ -41,11 +41,7 @@ fn tells(trie: &RangeTrie, alloc: Global, stop: u8, want: &[u8]) -> bool {
 }
 
 /// Whether two sequences that overlap are told as five, as far as they are asked for, and none when they are cleared.
-fn tells_two(trie: &mut RangeTrie, alloc: Global) -> Result<bool, AllocError>
-    requires { HasPairs trie.old }
-{
-    insert(trie, range(0xE1, 0xE2), range(0x80, 0xBF))?;
-    insert(trie, range(0xE2, 0xE3), range(0x81, 0x82))?;
+fn tells_two(trie: &mut RangeTrie, alloc: Global) -> bool {
     let expected: [u8; 20] = [
         0xE1, 0xE1, 0x80, 0xBF, 0xE2, 0xE2, 0x80, 0x80, 0xE2, 0xE2, 0x81, 0x82, 0xE2, 0xE2, 0x83,
         0xBF, 0xE3, 0xE3, 0x81, 0x82,
@@ -53,15 +49,26 @@ fn tells_two(trie: &mut RangeTrie, alloc: Global) -> Result<bool, AllocError>
     let all = tells(trie, alloc, 0, &expected);
     let first = tells(trie, alloc, 0xE2, &[0xE1, 0xE1, 0x80, 0xBF]);
     trie.clear();
-    Ok(all && first && tells(trie, alloc, 0, &[]))
+    all && first && tells(trie, alloc, 0, &[])
 }
 
-fn two_are_told(alloc: Global) -> Result<bool, AllocError> {
+/// Adds two sequences that overlap.
+fn insert_two(trie: &mut RangeTrie) -> Result<(), AllocError>
+    requires { HasPairs trie.old }
+{
+    insert(trie, range(0xE1, 0xE2), range(0x80, 0xBF))?;
+    insert(trie, range(0xE2, 0xE3), range(0x81, 0x82))
+}
+
+fn two_are_told(alloc: Global) -> bool {
     let mut trie = RangeTrie::new(alloc);
-    tells_two(&mut trie, alloc)
+    match insert_two(&mut trie) {
+        Ok(()) => tells_two(&mut trie, alloc),
+        Err(_) => false,
+    }
 }
 
 #[test]
 fn two_that_overlap(rt: HostRuntime) {
-    assert!(rt; matches!(two_are_told(rt.alloc()), Ok(true)));
+    assert!(rt; two_are_told(rt.alloc()));
 }

@@ -234,17 +234,19 @@ fn built(builder: &Builder, start: u8) -> Result<NFA, NfaError> {
     build_counted::<Brand>(builder, anchored, unanchored, Blank::new(1))
 }
 
+/// The automaton of these states, which a new builder makes.
+fn build(alloc: Global, builder: &mut Builder, shape: Shape) -> Result<NFA, NfaError> {
+    for node in nodes_of(shape) {
+        add(alloc, builder, *node)?;
+    }
+    built(builder, start_of(shape))
+}
+
 fn nfa_of(alloc: Global, shape: Shape, reverse: bool) -> Result<NFA, NfaError> {
     let mut builder = Builder::new(alloc);
     builder.set_utf8(matches!(shape, Shape::Word | Shape::WordBack | Shape::Nothing));
     builder.set_reverse(reverse);
-    for node in nodes_of(shape) {
-        if let Err(e) = add(alloc, &mut builder, *node) {
-            give_up(builder);
-            return Err(e);
-        }
-    }
-    let nfa = built(&builder, start_of(shape));
+    let nfa = build(alloc, &mut builder, shape);
     give_up(builder);
     nfa
 }

@@ -256,3 +256,13 @@ pub(crate) fn answers(alloc: Global, case: &Case) -> bool {
         }
     }
 }
+
+/// Whether that is so of each case.
+pub(crate) fn all_answer(alloc: Global, cases: &[Case]) -> bool {
+    for case in cases {
+        if !answers(alloc, case) {
+            return false;
+        }
+    }
+    true
+}

@@ -5,13 +5,12 @@ use crate::calls::Call::{IsMatch, Search, Usage};
 use crate::calls::Found::{Any, At, Nothing};
 use crate::calls::Mode::{Earliest, No, Only, Yes};
 use crate::calls::Text::{Aa, Aab, Ab, Ba, Baab, Beta, BetaWithin, Xa, Xaa, Xab, Xba, Xx};
-use crate::calls::{Case, Over, answers};
+use crate::calls::{Case, Over, all_answer, answers};
 
 /// Of `a` the first one in the span, or none; of any number of `a` an empty match too; and of `a` once or more the least start
 /// of a match with the end that is found, which may be the earliest one.
-#[test]
-fn matches_of_one_letter(rt: HostRuntime) {
-    let cases: &[Case] = &[
+const fn of_one_letter() -> &'static [Case] {
+    &[
         (
             Shape::A,
             Shape::A,
@@ -49,16 +48,17 @@ fn matches_of_one_letter(rt: HostRuntime) {
                 Search(Over(Aab, 1, 2, No), At(0, 1, 2)),
             ],
         ),
-    ];
-    for case in cases {
-        assert!(rt; answers(rt.alloc(), case));
-    }
+    ]
+}
+
+#[test]
+fn matches_of_one_letter(rt: HostRuntime) {
+    assert!(rt; all_answer(rt.alloc(), of_one_letter()));
 }
 
 /// Of `ab`; and of the patterns `a` and `b`, also with starts for each: one that there isn't is never found.
-#[test]
-fn matches_of_two_letters(rt: HostRuntime) {
-    let cases: &[Case] = &[
+const fn of_two_letters() -> &'static [Case] {
+    &[
         (
             Shape::AThenB,
             Shape::BThenA,
@@ -90,17 +90,18 @@ fn matches_of_two_letters(rt: HostRuntime) {
                 Search(Over(Ab, 0, 2, Only(7)), Nothing),
             ],
         ),
-    ];
-    for case in cases {
-        assert!(rt; answers(rt.alloc(), case));
-    }
+    ]
+}
+
+#[test]
+fn matches_of_two_letters(rt: HostRuntime) {
+    assert!(rt; all_answer(rt.alloc(), of_two_letters()));
 }
 
 /// Of "aβb" or no bound of a word: the earliest end splits the character, but the preferred one doesn't. Where there is no
 /// other, there is no match. And of the empty pattern.
-#[test]
-fn characters(rt: HostRuntime) {
-    let cases: &[Case] = &[
+const fn of_characters() -> &'static [Case] {
+    &[
         (
             Shape::Word,
             Shape::WordBack,
@@ -125,10 +126,12 @@ fn characters(rt: HostRuntime) {
                 IsMatch(Over(Beta, 1, 1, No), Nothing),
             ],
         ),
-    ];
-    for case in cases {
-        assert!(rt; answers(rt.alloc(), case));
-    }
+    ]
+}
+
+#[test]
+fn characters(rt: HostRuntime) {
+    assert!(rt; all_answer(rt.alloc(), of_characters()));
 }
 
 /// Searches for `a` start at the span's start alone. The automaton of two states takes 266 bytes at first, and its three states

@@ -5,13 +5,12 @@ use crate::calls::Call::{Each, Search};
 use crate::calls::Found::{At, NotAPair, Nothing, Quit};
 use crate::calls::Mode::{Earliest, No, Yes};
 use crate::calls::Text::{Aa, Aab, Abcd, Abd, Baab, Beta, Empty, Xaa, Xx};
-use crate::calls::{Case, Over, answers};
+use crate::calls::{Case, Over, all_answer};
 
 /// Of `a`: an anchored one goes on where the last match ends. Of any number of `a`: an empty match at the end of the last one
 /// isn't given. And of `a` once or more.
-#[test]
-fn matches_of_one_letter(rt: HostRuntime) {
-    let cases: &[Case] = &[
+const fn of_one_letter() -> &'static [Case] {
+    &[
         (
             Shape::A,
             Shape::A,
@@ -45,18 +44,19 @@ fn matches_of_one_letter(rt: HostRuntime) {
                 Each(Over(Xaa, 0, 3, Earliest), At(0, 1, 2), At(0, 2, 3), Nothing),
             ],
         ),
-    ];
-    for case in cases {
-        assert!(rt; answers(rt.alloc(), case));
-    }
+    ]
+}
+
+#[test]
+fn matches_of_one_letter(rt: HostRuntime) {
+    assert!(rt; all_answer(rt.alloc(), of_one_letter()));
 }
 
 /// Of the patterns `a` and `b`, and of the empty pattern by characters. Of `a` with the quit byte `d`: a refusal is the last item,
 /// and the caches are still of use. Of any number of `a` with it: the second search from 1 on is a repeat, and the one from 2 on
 /// comes to `d`. And the ends of `a` with the starts of `b`.
-#[test]
-fn patterns_and_refusals(rt: HostRuntime) {
-    let cases: &[Case] = &[
+const fn of_patterns_and_refused() -> &'static [Case] {
+    &[
         (
             Shape::AOrB,
             Shape::AOrB,
@@ -91,8 +91,10 @@ fn patterns_and_refusals(rt: HostRuntime) {
             Plain,
             &[Each(Over(Xaa, 0, 3, No), NotAPair, Nothing, Nothing)],
         ),
-    ];
-    for case in cases {
-        assert!(rt; answers(rt.alloc(), case));
-    }
+    ]
+}
+
+#[test]
+fn patterns_and_refusals(rt: HostRuntime) {
+    assert!(rt; all_answer(rt.alloc(), of_patterns_and_refused()));
 }

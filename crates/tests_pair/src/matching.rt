@@ -5,14 +5,13 @@ use crate::calls::Call::{IsMatch, Search, Usage};
 use crate::calls::Found::{Any, At, NoStarts, Nothing, Quit};
 use crate::calls::Mode::{No, Only, Yes};
 use crate::calls::Text::{Ab, Abcd, Abd, Dab, Empty, Xa, Xx};
-use crate::calls::{Case, Over, answers};
+use crate::calls::{Case, Over, all_answer};
 
 /// Of `a`: the second automaton isn't asked, and an anchored search has a start of its own, of 62 bytes. With the quit byte `d`: a
 /// match is found before it, at which the search for the preferred one is refused. And of the patterns `a` and `b`, without
 /// starts for each.
-#[test]
-fn is_match(rt: HostRuntime) {
-    let cases: &[Case] = &[
+const fn of_both_answers() -> &'static [Case] {
+    &[
         (
             Shape::A,
             Shape::A,
@@ -49,8 +48,10 @@ fn is_match(rt: HostRuntime) {
                 IsMatch(Over(Ab, 2, 1, Only(1)), Nothing),
             ],
         ),
-    ];
-    for case in cases {
-        assert!(rt; answers(rt.alloc(), case));
-    }
+    ]
+}
+
+#[test]
+fn is_match(rt: HostRuntime) {
+    assert!(rt; all_answer(rt.alloc(), of_both_answers()));
 }

@@ -5,14 +5,13 @@ use crate::calls::Call::Search;
 use crate::calls::Found::{At, Nothing, Quit};
 use crate::calls::Mode::No;
 use crate::calls::Text::{Abcd, Abcz, LetterDigit, LetterSign, WithinD, WithinZ};
-use crate::calls::{Case, Over, answers};
+use crate::calls::{Case, Over, all_answer};
 
 /// Of `a`, with the quit byte `d`: from the byte before the span to two bytes behind the match the haystacks have the same
 /// bytes, and no others. One byte nearer it would be met. Of a letter: each is like each other, and so are the bytes in front of
 /// them.
-#[test]
-fn what_does_not_show(rt: HostRuntime) {
-    let cases: &[Case] = &[
+const fn alike() -> &'static [Case] {
+    &[
         (
             Shape::A,
             Shape::A,
@@ -36,8 +35,10 @@ fn what_does_not_show(rt: HostRuntime) {
                 Search(Over(LetterSign, 1, 2, No), Nothing),
             ],
         ),
-    ];
-    for case in cases {
-        assert!(rt; answers(rt.alloc(), case));
-    }
+    ]
+}
+
+#[test]
+fn what_does_not_show(rt: HostRuntime) {
+    assert!(rt; all_answer(rt.alloc(), alike()));
 }

@@ -5,16 +5,15 @@ use crate::calls::Call::{IsMatch, Search, Told, Usage};
 use crate::calls::Found::{Any, At, GaveUp, NoStarts, NotAPair, Nothing, Quit};
 use crate::calls::Mode::{No, Only, Yes};
 use crate::calls::Text::{A, Aa, Ab, Abd, Xa, Xaa, Xab, Xx};
-use crate::calls::{Case, Over, answers, give_up};
+use crate::calls::{Case, Over, all_answer, answers, give_up};
 use lazy_dfa::BuildError;
 use std::alloc::Global;
 
 /// The ends of `a` with the starts of `b`: no start is found, but where it is known it isn't looked for. Of the patterns `a` and
 /// `b`, without starts for each and with the quit byte `x`: the byte before the span is asked for before the mode, and neither is
 /// where the span is done.
-#[test]
-fn no_pair_and_no_starts(rt: HostRuntime) {
-    let cases: &[Case] = &[
+const fn without_starts() -> &'static [Case] {
+    &[
         (
             Shape::A,
             Shape::B,
@@ -39,18 +38,19 @@ fn no_pair_and_no_starts(rt: HostRuntime) {
                 Search(Over(Xx, 2, 1, Only(1)), Nothing),
             ],
         ),
-    ];
-    for case in cases {
-        assert!(rt; answers(rt.alloc(), case));
-    }
+    ]
+}
+
+#[test]
+fn no_pair_and_no_starts(rt: HostRuntime) {
+    assert!(rt; all_answer(rt.alloc(), without_starts()));
 }
 
 /// There is no room for the state behind `b`, and no clear is allowed. The search back alone gives up at `b`, at which it looks
 /// behind its start; or it has room for two of its three states, of 62, 62 and 61 bytes. Each of the two searches of `xx` is told
 /// to have come 2 bytes far, and each of the four of `ab` 1.
-#[test]
-fn searches_that_give_up(rt: HostRuntime) {
-    let cases: &[Case] = &[
+const fn given_up() -> &'static [Case] {
+    &[
         (
             Shape::A,
             Shape::A,
@@ -85,10 +85,12 @@ fn searches_that_give_up(rt: HostRuntime) {
                 Usage(506, 440),
             ],
         ),
-    ];
-    for case in cases {
-        assert!(rt; answers(rt.alloc(), case));
-    }
+    ]
+}
+
+#[test]
+fn searches_that_give_up(rt: HostRuntime) {
+    assert!(rt; all_answer(rt.alloc(), given_up()));
 }
 
 /// Of `a` with the quit byte `d`, each search made twice: of `xaa` the search for the end comes 3 bytes far, over the letter behind
@@ -130,10 +132,13 @@ fn outcome(alloc: Global, capacity: usize) -> Result<usize, (usize, usize)> {
 }
 
 /// The ends are refused before the starts. The automaton of `ab` has five states and rows of eight cells.
+fn ends_are_refused_first(alloc: Global) -> bool {
+    outcome(alloc, 0) == Err((494, 0))
+        && outcome(alloc, 494) == Err((609, 494))
+        && outcome(alloc, 609) == Ok(1)
+}
+
 #[test]
 fn builds(rt: HostRuntime) {
-    let alloc = rt.alloc();
-    assert!(rt; outcome(alloc, 0) == Err((494, 0)));
-    assert!(rt; outcome(alloc, 494) == Err((609, 494)));
-    assert!(rt; outcome(alloc, 609) == Ok(1));
+    assert!(rt; ends_are_refused_first(rt.alloc()));
 }

@@ -1,24 +1,31 @@
 //! Looks between two bytes, over the sixteen pairs of a letter, a dash, a carriage return and a line feed,
 //! read forward and in reverse.
 use crate::automata::one_look;
-use determinize_core::walk;
+use determinize_core::{State, walk};
 use look_core::Look;
-use nfa_core::{BuildError, NFA};
+use nfa_core::NFA;
 use search_types::MatchKind;
-use std::alloc::{AllocError, Global};
+use std::alloc::Global;
 
-/// Whether the automaton matches between the two bytes, as it reads.
-fn matches_between(alloc: Global, nfa: &NFA, before: u8, after: u8) -> Result<bool, AllocError> {
+/// Whether the state behind one byte is a match, or isn't, as it is expected.
+fn is_match(states: &[State], want: bool) -> bool {
+    match states.get(1) {
+        Some(state) => state.is_match() == want,
+        None => false,
+    }
+}
+
+/// Whether the automaton matches between the two bytes, as it reads, or doesn't, as it is expected.
+fn matches_between(alloc: Global, nfa: &NFA, before: u8, after: u8, want: bool) -> bool {
     let (kind, start) = (MatchKind::LeftmostFirst, nfa.start_anchored());
     let (from, read) = if nfa.is_reverse() {
         (after, before)
     } else {
         (before, after)
     };
-    let states = walk(alloc, nfa, kind, start, Some(from), &[read])?;
-    match states.get(1) {
-        Some(state) => Ok(state.is_match()),
-        None => Ok(false),
+    match walk(alloc, nfa, kind, start, Some(from), &[read]) {
+        Ok(states) => is_match(&states, want),
+        Err(_) => false,
     }
 }
 
@@ -69,24 +76,39 @@ const fn rows() -> &'static [Row] {
     ]
 }
 
-/// Whether the look is passed just between the row's pairs, which are read from the last one to the first.
-fn is_passed_as(alloc: Global, row: &Row) -> Result<bool, BuildError> {
-    let (look, reverse, pairs) = *row;
-    let nfa = one_look(alloc, look, reverse, b'\n')?;
+/// Whether it matches just between these pairs, which are read from the last one to the first.
+fn matches_just_between(alloc: Global, nfa: &NFA, pairs: u16) -> bool {
     let mut left = pairs;
     for number in 0..16u8 {
-        let passed = matches_between(alloc, &nfa, byte(number / 4), byte(number % 4))?;
-        if passed != (left % 2 == 1) {
-            return Ok(false);
+        let want = left % 2 == 1;
+        if !matches_between(alloc, nfa, byte(number / 4), byte(number % 4), want) {
+            return false;
         }
         left /= 2;
     }
-    Ok(true)
+    true
+}
+
+/// Whether the look is passed just between the row's pairs.
+fn is_passed_as(alloc: Global, row: &Row) -> bool {
+    let (look, reverse, pairs) = *row;
+    match one_look(alloc, look, reverse, b'\n') {
+        Some(nfa) => matches_just_between(alloc, &nfa, pairs),
+        None => false,
+    }
+}
+
+/// Whether that is so of each row.
+fn are_passed(alloc: Global, rows: &[Row]) -> bool {
+    for row in rows {
+        if !is_passed_as(alloc, row) {
+            return false;
+        }
+    }
+    true
 }
 
 #[test]
 fn looks_between_two_bytes(rt: HostRuntime) {
-    for row in rows() {
-        assert!(rt; matches!(is_passed_as(rt.alloc(), row), Ok(true)));
-    }
+    assert!(rt; are_passed(rt.alloc(), rows()));
 }

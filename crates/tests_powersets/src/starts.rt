@@ -1,8 +1,8 @@
 //! Starts of searches, and what is known of them, by the table of starts.
 use crate::automata::one_look;
-use determinize_core::{Start, StartByteMap, look_behind_of_start};
+use determinize_core::{LookBehind, Start, StartByteMap, look_behind_of_start};
 use look_core::{AsciiWord, LineTerm, Look, LookMatcher, LookSet};
-use nfa_core::BuildError;
+use nfa_core::NFA;
 use std::alloc::Global;
 
 /// Whether starts have their numbers, and no other number is a start's.
@@ -27,26 +27,30 @@ fn are_starts(terminator: LineTerm, rows: &[(u8, Start)]) -> bool {
     true
 }
 
-#[test]
-fn numbers_and_bytes(rt: HostRuntime) {
-    assert!(rt; numbers_are_told());
+/// Whether bytes have their starts where lines end by one byte or by two.
+fn bytes_are_told() -> bool {
     let by_low_line = [
         (b'_', Start::CustomWordLineTerminator),
         (b'\n', Start::LineLF),
     ];
-    assert!(rt; are_starts(LineTerm::one(b'_'), &by_low_line));
     let by_line_feed = [
         (b'_', Start::WordByte),
         (b'-', Start::NonWordByte),
         (b'\r', Start::LineCR),
         (0xFF, Start::NonWordByte),
     ];
-    assert!(rt; are_starts(LineTerm::one(b'\n'), &by_line_feed));
     let by_two = [
         (0, Start::CustomLineTerminator),
         (b'x', Start::CustomWordLineTerminator),
     ];
-    assert!(rt; are_starts(LineTerm::two(0, b'x'), &by_two));
+    are_starts(LineTerm::one(b'_'), &by_low_line)
+        && are_starts(LineTerm::one(b'\n'), &by_line_feed)
+        && are_starts(LineTerm::two(0, b'x'), &by_two)
+}
+
+#[test]
+fn numbers_and_bytes(rt: HostRuntime) {
+    assert!(rt; numbers_are_told() && bytes_are_told());
 }
 
 /// The look of an automaton, whether that reads in reverse, the looks that are known at starts because of it, which
@@ -100,32 +104,47 @@ const fn known() -> &'static [Known] {
     ]
 }
 
-/// Whether just that is known at each start. Lines end at the line feed and `;`.
-fn is_known_as(alloc: Global, row: &Known) -> Result<bool, BuildError> {
-    let (look, reverse, first, second, letters) = *row;
-    let nfa = one_look(alloc, look, reverse, b';')?;
+/// Whether a letter says what is known at a start, because of these looks.
+fn is_known(known: &LookBehind, looks: LookSet, letter: u8) -> bool {
+    let flags = (known.is_from_word, known.is_half_crlf);
+    let hold = (known.look_have == looks, known.look_have.is_empty());
+    flags == (letter == b'w', letter == b'h') && hold == (letter == b'+', letter != b'+')
+}
+
+/// Whether the row's letters say what is known at each start.
+fn are_known(nfa: &NFA, row: &Known) -> bool {
+    let (_, _, first, second, letters) = *row;
     for number in 0..7 {
         let Some(start) = Start::from_usize(number) else {
-            return Ok(false);
+            return false;
         };
-        let behind = look_behind_of_start(&nfa, start);
-        let letter = letters[number];
-        let flags = (behind.is_from_word, behind.is_half_crlf);
-        if flags != (letter == b'w', letter == b'h') {
-            return Ok(false);
-        }
-        let hold = behind.look_have == LookSet::singleton(first).insert(second);
-        let is_none = behind.look_have.is_empty();
-        if (hold, is_none) != (letter == b'+', letter != b'+') {
-            return Ok(false);
+        let looks = LookSet::singleton(first).insert(second);
+        if !is_known(&look_behind_of_start(nfa, start), looks, letters[number]) {
+            return false;
         }
     }
-    Ok(true)
+    true
+}
+
+/// Whether just that is known at each start. Lines end at the line feed and `;`.
+fn is_known_as(alloc: Global, row: &Known) -> bool {
+    match one_look(alloc, row.0, row.1, b';') {
+        Some(nfa) => are_known(&nfa, row),
+        None => false,
+    }
+}
+
+/// Whether that is so of each row.
+fn all_are_known(alloc: Global, rows: &[Known]) -> bool {
+    for row in rows {
+        if !is_known_as(alloc, row) {
+            return false;
+        }
+    }
+    true
 }
 
 #[test]
 fn known_at_starts(rt: HostRuntime) {
-    for row in known() {
-        assert!(rt; matches!(is_known_as(rt.alloc(), row), Ok(true)));
-    }
+    assert!(rt; all_are_known(rt.alloc(), known()));
 }

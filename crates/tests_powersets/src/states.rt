@@ -5,28 +5,40 @@ use search_core::{PatternID, StateID};
 use std::alloc::{AllocError, Global};
 use std::cmp::Ordering;
 
-/// Adds the pattern, if it isn't there.
-fn add_pattern(builder: &mut StateBuilderMatches, pattern: usize) -> Result<(), AllocError> {
-    if let Ok(id) = PatternID::new(pattern) {
-        if !builder.has_match_pattern_id(id) {
-            builder.add_match_pattern_id(id)?;
+/// Adds the patterns, each of which isn't there yet. Whether all were added.
+fn add_patterns(builder: &mut StateBuilderMatches, patterns: &[usize]) -> bool {
+    for pattern in patterns {
+        let added = match PatternID::new(*pattern) {
+            Ok(id) if !builder.has_match_pattern_id(id) => builder.add_match_pattern_id(id).is_ok(),
+            _ => false,
+        };
+        if !added {
+            return false;
         }
     }
-    Ok(())
+    true
 }
 
-/// A builder with these patterns and states.
-fn made(alloc: Global, patterns: &[usize], ids: &[usize]) -> Result<StateBuilderNFA, AllocError> {
-    let mut begun = StateBuilderEmpty::new(alloc).into_matches()?;
-    for pattern in patterns {
-        add_pattern(&mut begun, *pattern)?;
-    }
-    let mut builder = begun.into_nfa();
+/// Adds the states. Whether all were added.
+fn add_states(builder: &mut StateBuilderNFA, ids: &[usize]) -> bool {
     for id in ids {
-        if let Ok(id) = StateID::new(*id) {
-            builder.add_nfa_state_id(id)?;
+        let added = match StateID::new(*id) {
+            Ok(id) => builder.add_nfa_state_id(id).is_ok(),
+            Err(_) => false,
+        };
+        if !added {
+            return false;
         }
     }
+    true
+}
+
+/// A builder with these patterns and states. Where memory lacks it has fewer.
+fn made(alloc: Global, patterns: &[usize], ids: &[usize]) -> Result<StateBuilderNFA, AllocError> {
+    let mut begun = StateBuilderEmpty::new(alloc).into_matches()?;
+    let _begun = add_patterns(&mut begun, patterns);
+    let mut builder = begun.into_nfa();
+    let _added = add_states(&mut builder, ids);
     Ok(builder)
 }
 
@@ -65,79 +77,123 @@ const fn rows() -> &'static [Row] {
     ]
 }
 
-/// Whether a state tells these states, and as many patterns.
-fn tells(
-    alloc: Global,
-    state: &State,
-    patterns: &[usize],
-    ids: &[usize],
-) -> Result<bool, AllocError> {
-    let listed = match state.match_pattern_ids(alloc)? {
-        Some(listed) => listed.len(),
-        None => 0,
-    };
+/// Whether a state lists so many patterns, and none where it doesn't match.
+fn lists(alloc: Global, state: &State, len: usize) -> bool {
+    match state.match_pattern_ids(alloc) {
+        Ok(Some(listed)) => len > 0 && listed.len() == len,
+        Ok(None) => len == 0,
+        Err(_) => false,
+    }
+}
+
+/// Whether a state tells these states.
+fn tells_states(state: &State, ids: &[usize]) -> bool {
     let mut told = state.iter_nfa_state_ids();
     for id in ids {
         match told.next() {
             Some(next) if next.as_usize() == *id => {}
-            _ => return Ok(false),
+            _ => return false,
         }
     }
-    Ok(told.next().is_none() && [listed, state.match_len()] == [patterns.len(); 2])
+    told.next().is_none()
 }
 
-/// Whether the builder of a row and the state that it makes have the row's bytes, and that tells what it is made of.
-fn has_bytes(alloc: Global, row: &Row) -> Result<bool, AllocError> {
+/// Whether a state has the row's bytes, and tells its states and as many patterns.
+fn tells(alloc: Global, state: &State, row: &Row) -> bool {
     let (patterns, ids, bytes) = *row;
-    let builder = made(alloc, patterns, ids)?;
-    let state = builder.to_state(alloc)?;
-    let has_them = builder.as_bytes() == bytes && state.as_bytes() == bytes;
-    Ok(has_them && tells(alloc, &state, patterns, ids)?)
+    state.as_bytes() == bytes
+        && state.match_len() == patterns.len()
+        && lists(alloc, state, patterns.len())
+        && tells_states(state, ids)
+}
+
+/// Whether a builder and the state that it makes have the row's bytes, and that tells what it is made of.
+fn makes(alloc: Global, builder: &StateBuilderNFA, row: &Row) -> bool {
+    match builder.to_state(alloc) {
+        Ok(state) => builder.as_bytes() == row.2 && tells(alloc, &state, row),
+        Err(_) => false,
+    }
+}
+
+/// Whether the builder of each row does.
+fn have_bytes(alloc: Global, rows: &[Row]) -> bool {
+    for row in rows {
+        let has_them = match made(alloc, row.0, row.1) {
+            Ok(builder) => makes(alloc, &builder, row),
+            Err(_) => false,
+        };
+        if !has_them {
+            return false;
+        }
+    }
+    true
 }
 
 #[test]
 fn bytes_of_patterns_and_states(rt: HostRuntime) {
-    for row in rows() {
-        assert!(rt; matches!(has_bytes(rt.alloc(), row), Ok(true)));
-    }
+    assert!(rt; have_bytes(rt.alloc(), rows()));
 }
 
 /// Whether the state has nothing: no match, no flag, no look, no pattern and no state, in nine bytes that are zero.
-fn is_dead(alloc: Global, state: &State) -> Result<bool, AllocError> {
+fn is_dead(alloc: Global, state: &State) -> bool {
     let flags = [state.is_match(), state.is_from_word(), state.is_half_crlf()];
     let looks = [state.look_have().bits(), state.look_need().bits()];
-    let no_pattern = state.match_pattern_ids(alloc)?.is_none();
-    let no_state = state.iter_nfa_state_ids().next().is_none();
-    Ok(
-        no_pattern
-            && no_state
-            && flags == [false; 3]
-            && looks == [0; 2]
-            && (state.memory_usage(), state.match_len()) == (9, 0)
-            && state.as_bytes() == [0; 9].as_slice(),
-    )
+    flags == [false; 3]
+        && looks == [0; 2]
+        && (state.memory_usage(), state.match_len()) == (9, 0)
+        && state.as_bytes() == [0; 9].as_slice()
+        && lists(alloc, state, 0)
+        && tells_states(state, &[])
 }
 
-/// Whether the state is equal to its copy, and comes behind the dead one, which is another state.
-fn is_behind_dead(alloc: Global, state: &State) -> Result<bool, AllocError> {
-    let (dead, copy) = (State::dead(alloc)?, state.clone()?);
-    let is_copy = *state == copy && state.cmp(&copy) == Ordering::Equal;
-    let is_behind = *state != dead && dead.cmp(state) == Ordering::Less;
-    Ok(is_copy && is_behind && is_dead(alloc, &dead)?)
+/// Whether the state comes behind the dead one, which is another state.
+fn is_behind_dead(alloc: Global, state: &State) -> bool {
+    match State::dead(alloc) {
+        Ok(dead) => { *state != dead && dead.cmp(state) == Ordering::Less && is_dead(alloc, &dead) }
+        Err(_) => false,
+    }
 }
 
-/// Whether a state of three states is that.
-fn is_ordered(alloc: Global) -> Result<bool, AllocError> {
-    let state = made(alloc, &[], &[0, 2, 1])?.to_state(alloc)?;
-    is_behind_dead(alloc, &state)
+/// Whether the state is equal to its copy.
+fn is_its_copy(state: &State) -> bool {
+    match state.clone() {
+        Ok(copy) => *state == copy && state.cmp(&copy) == Ordering::Equal,
+        Err(_) => false,
+    }
 }
 
-/// Whether its builder keeps its memory where it is cleared, and makes a dead state then.
-fn is_cleared(alloc: Global) -> Result<bool, AllocError> {
-    let empty = made(alloc, &[], &[0, 2, 1])?.clear();
+/// Whether the state of a builder is equal to its copy and comes behind the dead one.
+fn is_ordered(alloc: Global, builder: &StateBuilderNFA) -> bool {
+    match builder.to_state(alloc) {
+        Ok(state) => is_its_copy(&state) && is_behind_dead(alloc, &state),
+        Err(_) => false,
+    }
+}
+
+/// The state of a builder that begins anew.
+fn begun_again(alloc: Global, empty: StateBuilderEmpty) -> Result<State, AllocError> {
+    let builder = empty.into_matches()?.into_nfa();
+    builder.to_state(alloc)
+}
+
+/// Whether a builder that was cleared has kept its memory, and makes a dead state then.
+fn is_cleared(alloc: Global, empty: StateBuilderEmpty) -> bool {
     let has_room = empty.capacity() >= 12;
-    let again = empty.into_matches()?.into_nfa().to_state(alloc)?;
-    Ok(has_room && is_dead(alloc, &again)?)
+    match begun_again(alloc, empty) {
+        Ok(again) => has_room && is_dead(alloc, &again),
+        Err(_) => false,
+    }
+}
+
+/// Whether a state of three states is in order, and its builder can be cleared.
+fn three_are_right(alloc: Global) -> bool {
+    match made(alloc, &[], &[0, 2, 1]) {
+        Ok(builder) => {
+            let ordered = is_ordered(alloc, &builder);
+            is_cleared(alloc, builder.clear()) && ordered
+        }
+        Err(_) => false,
+    }
 }
 
 /// A builder with both flags and a look that is known to hold.
@@ -157,21 +213,30 @@ fn has_facts(state: &State) -> bool {
         && state.as_bytes() == [12, 0x44, 0, 0, 0, 2, 0, 0, 0].as_slice()
 }
 
-/// Whether that builder tells its look, and one more look that is asked for; and its state has them.
-fn looks_are_told(alloc: Global) -> Result<bool, AllocError> {
-    let begun = with_flags(alloc)?;
-    let knows = begun.look_have() == LookSet::singleton(Look::StartLF);
-    let mut builder = begun.into_nfa();
+/// Whether such a builder tells one more look, and one that is asked for; and its state has them.
+fn asks(alloc: Global, begun: StateBuilderNFA) -> bool {
+    let mut builder = begun;
     builder.set_look_have(|have| have.insert(Look::WordAscii));
     builder.set_look_need(|need| need.insert(Look::End));
-    let asks = builder.look_need() == LookSet::singleton(Look::End);
-    let state = builder.to_state(alloc)?;
-    Ok(knows && asks && has_facts(&state))
+    let asked = builder.look_need() == LookSet::singleton(Look::End);
+    match builder.to_state(alloc) {
+        Ok(state) => asked && has_facts(&state),
+        Err(_) => false,
+    }
+}
+
+/// Whether that builder tells its look, and does so.
+fn looks_are_told(alloc: Global) -> bool {
+    match with_flags(alloc) {
+        Ok(begun) => {
+            let knows = begun.look_have() == LookSet::singleton(Look::StartLF);
+            asks(alloc, begun.into_nfa()) && knows
+        }
+        Err(_) => false,
+    }
 }
 
 #[test]
 fn order_flags_and_looks(rt: HostRuntime) {
-    assert!(rt; matches!(is_ordered(rt.alloc()), Ok(true)));
-    assert!(rt; matches!(is_cleared(rt.alloc()), Ok(true)));
-    assert!(rt; matches!(looks_are_told(rt.alloc()), Ok(true)));
+    assert!(rt; three_are_right(rt.alloc()) && looks_are_told(rt.alloc()));
 }

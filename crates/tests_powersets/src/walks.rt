@@ -1,13 +1,14 @@
 //! Walks of small automata, with either kind of set.
-ghost use Rattle.std.specs.Prelude.{◌≡◌, ◌<◌};
+ghost use Rattle.std.specs.Prelude.{◌≡◌, ◌<◌, length};
+ghost use Rattle.nfa_core.specs.NameSets.{empty_below};
 
 use crate::automata::Small::{self, Letter, TwoPatterns};
 use crate::automata::nfa_of;
 use crate::steps::pair_sets;
 use determinize_core::{State, walk, walk_with};
-use nfa_core::{BuildError, NFA, Steps};
+use nfa_core::{NFA, PairSet, Sets, Steps};
 use search_types::MatchKind::{self, All, LeftmostFirst};
-use std::alloc::{AllocError, Global};
+use std::alloc::Global;
 use std::marker::Brand;
 use std::sync::ledger::{Blank, Ledger};
 
@@ -102,42 +103,68 @@ fn has_state(states: &[State], row: &Row) -> bool {
     }
 }
 
-/// Whether a walk with sets of pairs comes by the row's state.
-fn walks_in_pairs<L: Ledger>(
+/// Whether a walk with these sets comes by the row's state.
+fn walks_with<L: Ledger>(
     alloc: Global,
     nfa: &NFA,
     row: &Row,
-    blank: Blank,
-) -> Result<bool, AllocError>
+    sets: &mut Sets<PairSet>,
+    steps: &mut Steps<L>,
+) -> bool
+    requires first { sets.old.set1 ≡ empty_below (length nfa.now.automaton.states) }
+    requires second { sets.old.set2 ≡ empty_below (length nfa.now.automaton.states) }
+{
+    let (kind, text, start) = (row.1, row.2, nfa.start_unanchored());
+    match walk_with(alloc, nfa, kind, sets, start, None, text, steps) {
+        Ok(states) => has_state(&states, row),
+        Err(_) => false,
+    }
+}
+
+/// Whether a walk with sets of pairs does.
+fn walks_in_pairs<L: Ledger>(alloc: Global, nfa: &NFA, row: &Row, blank: Blank) -> bool
     requires name { blank.name ≡ L.name }
     requires parts { blank.parts ≡ L.parts }
     requires some { 0 < blank.parts }
 {
     let mut steps = Steps::<L>::new(blank);
-    let mut sets = pair_sets(alloc, nfa)?;
-    let (kind, text, start) = (row.1, row.2, nfa.start_unanchored());
-    let states = walk_with(alloc, nfa, kind, &mut sets, start, None, text, &mut steps)?;
-    Ok(has_state(&states, row))
+    match pair_sets(alloc, nfa) {
+        Ok(mut sets) => walks_with(alloc, nfa, row, &mut sets, &mut steps),
+        Err(_) => false,
+    }
 }
 
 /// Whether a walk with the library's own sets does.
-fn walks_alone(alloc: Global, nfa: &NFA, row: &Row) -> Result<bool, AllocError> {
+fn walks_alone(alloc: Global, nfa: &NFA, row: &Row) -> bool {
     let (kind, text, start) = (row.1, row.2, nfa.start_unanchored());
-    let states = walk(alloc, nfa, kind, start, None, text)?;
-    Ok(has_state(&states, row))
+    match walk(alloc, nfa, kind, start, None, text) {
+        Ok(states) => has_state(&states, row),
+        Err(_) => false,
+    }
 }
 
 /// Whether both of them do.
-fn is_walked(alloc: Global, row: &Row) -> Result<bool, BuildError> {
-    let nfa = nfa_of(alloc, row.0)?;
-    let alone = walks_alone(alloc, &nfa, row)?;
-    let in_pairs = walks_in_pairs::<Brand>(alloc, &nfa, row, Blank::new(1))?;
-    Ok(alone && in_pairs)
+fn is_walked(alloc: Global, row: &Row) -> bool {
+    match nfa_of(alloc, row.0) {
+        Some(nfa) => {
+            walks_alone(alloc, &nfa, row)
+                && walks_in_pairs::<Brand>(alloc, &nfa, row, Blank::new(1))
+        }
+        None => false,
+    }
+}
+
+/// Whether that is so of each row.
+fn are_walked(alloc: Global, rows: &[Row]) -> bool {
+    for row in rows {
+        if !is_walked(alloc, row) {
+            return false;
+        }
+    }
+    true
 }
 
 #[test]
 fn states_of_walks(rt: HostRuntime) {
-    for row in rows() {
-        assert!(rt; matches!(is_walked(rt.alloc(), row), Ok(true)));
-    }
+    assert!(rt; are_walked(rt.alloc(), rows()));
 }

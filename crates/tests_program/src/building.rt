@@ -1,7 +1,7 @@
 // Which regexes are refused, and searches over trees whose loops may have empty rounds.
 use crate::calls::Call::Ask;
 use crate::calls::Found::At;
-use crate::calls::{Call, answers, are_answered, give_up};
+use crate::calls::{Call, Case, all_answer, answers, are_answered, give_up};
 use crate::heads::{Head, Text};
 use crate::machine::Options::{Bare, HighBytes, Least, NoClasses, NoRoom, Plain, Tagged};
 use crate::machine::Question::Match;
@@ -40,9 +40,9 @@ fn outcome_of(alloc: Global, head: Head, options: Options) -> Ending {
     }
 }
 
-#[test]
-fn refusals(rt: HostRuntime) {
-    let rows: &[(Head, Options, Ending)] = &[
+/// Heads, options, and how the builds of their regexes end.
+const fn endings() -> &'static [(Head, Options, Ending)] {
+    &[
         (Head::Dates, NoRoom, Ending::NoRoom),
         (Head::Dates, Least, Ending::Built),
         (Head::Edge, Bare, Ending::Unsupported),
@@ -50,10 +50,22 @@ fn refusals(rt: HostRuntime) {
         (Head::Edge, NoRoom, Ending::Unsupported),
         (Head::Edge, HighBytes, Ending::Built),
         (Head::Edge, Plain, Ending::Built),
-    ];
-    for (head, options, ending) in rows {
-        assert!(rt; outcome_of(rt.alloc(), *head, *options) == *ending);
+    ]
+}
+
+/// Whether each of them ends so.
+fn all_end(alloc: Global) -> bool {
+    for (head, options, ending) in endings() {
+        if outcome_of(alloc, *head, *options) != *ending {
+            return false;
+        }
     }
+    true
+}
+
+#[test]
+fn refusals(rt: HostRuntime) {
+    assert!(rt; all_end(rt.alloc()));
 }
 
 /// Whether the match of rounds that may be empty ends there, however the automata are made.
@@ -109,37 +121,37 @@ fn copies_of_automata(rt: HostRuntime) {
     );
 }
 
-/// Rounds that may be empty are no reason to refuse a regex: the least start and its first pattern are found. Which end is found
-/// is open, but it is the same one however the automata are made.
-#[test]
-fn rounds_that_may_be_empty(rt: HostRuntime) {
-    let alloc = rt.alloc();
-    assert!(rt;
-        answers(
-            alloc,
+/// Rounds that may be empty are no reason to refuse a regex: the least start and its first pattern are found.
+const fn empty_rounds() -> &'static [Case] {
+    &[
+        (
             Head::EmptyOrA,
             Bare,
-            &[Ask(Match, Text::Ba, 0, 2, At(0, 0, 0))]
-        )
-    );
-    assert!(rt;
-        answers(
-            alloc,
+            &[Ask(Match, Text::Ba, 0, 2, At(0, 0, 0))],
+        ),
+        (
             Head::EmptyOrB,
             Bare,
             &[
                 Ask(Match, Text::Abc, 0, 3, At(1, 0, 1)),
                 Ask(Match, Text::Bbc, 0, 3, At(0, 0, 3)),
-            ]
-        )
-    );
-    assert!(rt;
-        answers(
-            alloc,
+            ],
+        ),
+        (
             Head::TwoRounds,
             Bare,
-            &[Ask(Match, Text::B, 0, 1, At(0, 0, 0))]
-        )
-    );
-    assert!(rt; ends_alike(alloc, 0) || ends_alike(alloc, 1) || ends_alike(alloc, 2));
+            &[Ask(Match, Text::B, 0, 1, At(0, 0, 0))],
+        ),
+    ]
+}
+
+/// Which end is found is open, but it is the same one however the automata are made.
+fn all_end_alike(alloc: Global) -> bool {
+    ends_alike(alloc, 0) || ends_alike(alloc, 1) || ends_alike(alloc, 2)
+}
+
+#[test]
+fn rounds_that_may_be_empty(rt: HostRuntime) {
+    let alloc = rt.alloc();
+    assert!(rt; all_answer(alloc, empty_rounds()) && all_end_alike(alloc));
 }

@@ -175,3 +175,16 @@ pub fn answers(alloc: Global, head: Head, options: Options, calls: &[Call]) -> b
         }
     }
 }
+
+/// A head, options, and calls over caches of its regex.
+pub type Case = (Head, Options, &'static [Call]);
+
+/// Whether each call of each case answers what it should.
+pub fn all_answer(alloc: Global, cases: &[Case]) -> bool {
+    for (head, options, calls) in cases {
+        if !answers(alloc, *head, *options, calls) {
+            return false;
+        }
+    }
+    true
+}

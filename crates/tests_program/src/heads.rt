@@ -203,24 +203,23 @@ fn is_read(
     }
 }
 
-/// The head of the dates, whose settings no line sets, and one where each is set.
-#[test]
-fn heads_as_they_are_read(rt: HostRuntime) {
-    let alloc = rt.alloc();
+/// Whether the head of the dates is read, whose settings no line sets.
+fn dates_are_read(alloc: Global) -> bool {
     let numbers = [114, 1, 26, 3, 2097152];
     let choices = [true, false, false, false, true, false, false, false, false];
-    assert!(rt; is_read(alloc, dates(), numbers, choices, LineTerm::one(b'\n'), None));
+    is_read(alloc, dates(), numbers, choices, LineTerm::one(b'\n'), None)
+}
+
+/// Whether the one is where each is set.
+fn set_head_is_read(alloc: Global) -> bool {
     let numbers = [178, 2, 12, 2, 7];
     let choices = [false, true, true, false, false, false, true, false, true];
+    let line = LineTerm::two(b'\r', b'\n');
     let span = Some(Span { start: 1, end: 3 });
-    assert!(rt;
-        is_read(
-            alloc,
-            set_head(),
-            numbers,
-            choices,
-            LineTerm::two(b'\r', b'\n'),
-            span
-        )
-    );
+    is_read(alloc, set_head(), numbers, choices, line, span)
+}
+
+#[test]
+fn heads_as_they_are_read(rt: HostRuntime) {
+    assert!(rt; dates_are_read(rt.alloc()) && set_head_is_read(rt.alloc()));
 }

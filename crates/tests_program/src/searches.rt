@@ -1,11 +1,11 @@
 // Regexes that are built of trees: iterators over any capacity, modes, spans, and searches by halves.
 use crate::calls::Call::{Alike, Ask, Each, HandTo, Usage};
 use crate::calls::Found::{Any, At, NoStarts, Nothing, Quit};
-use crate::calls::{Call, Found, answers, are_answered, give_up};
+use crate::calls::{Case, Found, all_answer, answers, are_answered, give_up};
 use crate::heads::{Head, Text};
+use crate::machine::Machine;
 use crate::machine::Options::{Bare, Least, Plain, Quits, Starts};
 use crate::machine::Question::{IsMatch, Match, Only, Start};
-use crate::machine::{Machine, Options};
 use std::alloc::Global;
 
 /// A head with a haystack, and what the iterator over the matches gives.
@@ -86,38 +86,51 @@ fn is_given(alloc: Global, row: &Row) -> bool {
     answers(alloc, head, Least, &each) && answers(alloc, head, Least, &[Alike(head, haystack)])
 }
 
-#[test]
-fn ample_caches_and_least_ones(rt: HostRuntime) {
-    for row in rows() {
-        assert!(rt; is_given(rt.alloc(), row));
-    }
-}
-
-/// Whether the caches of one regex after the other are of use for the next one, those of dates first.
-fn are_handed_on(alloc: Global) -> bool {
-    let mut machine = match Machine::new(alloc, Head::Dates, Plain) {
-        Ok(machine) => machine,
-        Err(e) => {
-            give_up(e);
+/// Whether that is so of each row.
+fn are_given(alloc: Global, rows: &[Row]) -> bool {
+    for row in rows {
+        if !is_given(alloc, row) {
             return false;
         }
-    };
-    let mut are_of_use = true;
-    for (head, haystack, first, second, third) in rows() {
-        let calls = [HandTo(*head), Each(*haystack, *first, *second, *third)];
-        are_of_use = are_of_use && are_answered(alloc, &mut machine, Plain, &calls);
     }
-    give_up(machine);
-    are_of_use
+    true
+}
+
+#[test]
+fn ample_caches_and_least_ones(rt: HostRuntime) {
+    assert!(rt; are_given(rt.alloc(), rows()));
+}
+
+/// Whether the caches of one regex after the other are of use for the next one.
+fn hands_on(alloc: Global, machine: &mut Machine, rows: &[Row]) -> bool {
+    for (head, haystack, first, second, third) in rows {
+        let calls = [HandTo(*head), Each(*haystack, *first, *second, *third)];
+        if !are_answered(alloc, machine, Plain, &calls) {
+            return false;
+        }
+    }
+    true
+}
+
+/// Whether those of dates, which come first, and of each row are.
+fn are_handed_on(alloc: Global) -> bool {
+    match Machine::new(alloc, Head::Dates, Plain) {
+        Ok(mut machine) => {
+            let are_of_use = hands_on(alloc, &mut machine, rows());
+            give_up(machine);
+            are_of_use
+        }
+        Err(e) => {
+            give_up(e);
+            false
+        }
+    }
 }
 
 #[test]
 fn caches_that_are_handed_on(rt: HostRuntime) {
     assert!(rt; are_handed_on(rt.alloc()));
 }
-
-/// A head, options, and calls over caches of its regex.
-type Case = (Head, Options, &'static [Call]);
 
 fn cases() -> &'static [Case] {
     &[
@@ -197,7 +210,5 @@ fn cases() -> &'static [Case] {
 
 #[test]
 fn searches_and_what_caches_need(rt: HostRuntime) {
-    for (head, options, calls) in cases() {
-        assert!(rt; answers(rt.alloc(), *head, *options, calls));
-    }
+    assert!(rt; all_answer(rt.alloc(), cases()));
 }

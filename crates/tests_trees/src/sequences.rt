@@ -68,6 +68,16 @@ const fn of_one_sequence() -> &'static [(char, char, Ends)] {
     ]
 }
 
+/// Whether each of those ranges has just its sequence.
+fn have_one_sequence() -> bool {
+    for (start, end, want) in of_one_sequence() {
+        if !have_sequences(*start, *end, &[*want]) {
+            return false;
+        }
+    }
+    true
+}
+
 /// What the sequence answers for strings of two bytes, of three, of one, of two the other way round, and of none.
 fn matched(sequence: &Utf8Sequence) -> [bool; 5] {
     [
@@ -99,8 +109,5 @@ fn strings_are_matched() -> bool {
 
 #[test]
 fn ranges_have_their_sequences_and_these_their_strings(rt: HostRuntime) {
-    assert!(rt; have_several_sequences() && strings_are_matched());
-    for (start, end, want) in of_one_sequence() {
-        assert!(rt; have_sequences(*start, *end, &[*want]));
-    }
+    assert!(rt; have_several_sequences() && have_one_sequence() && strings_are_matched());
 }

@@ -1,5 +1,5 @@
 //! Small trees that the tables of the tests are made of, and trees that are made of them.
-use hir_core::Hir;
+use hir_core::{Hir, is_ascending, is_ascending_chars};
 use look_core::Look;
 use std::alloc::{AllocError, Global};
 
@@ -17,6 +17,8 @@ pub(crate) enum Small {
     Samwise,
     /// `[0-9]`
     Digit,
+    /// So many of these.
+    Digits(u32),
     /// `[aeiou]`
     Vowel,
     /// A byte class without a range.
@@ -58,7 +60,29 @@ pub(crate) enum Small {
 }
 
 impl Small {
+    /// The tree of this name.
     fn tree(self, alloc: Global) -> Result<Hir, AllocError> {
+        match self {
+            Small::Date => {
+                let parts = [
+                    Small::Digits(4),
+                    Small::Dash,
+                    Small::Digits(2),
+                    Small::Dash,
+                    Small::Digits(2),
+                ];
+                joined(alloc, &parts)
+            }
+            Small::Half => nested(alloc, 2),
+            Small::Huge => nested(alloc, 3),
+            Small::Anchored => anchored(alloc),
+            Small::Group => group(alloc),
+            _ => self.part(alloc),
+        }
+    }
+
+    /// A text, a class, a look, some digits, or a tree without parts.
+    fn part(self, alloc: Global) -> Result<Hir, AllocError> {
         match self {
             Small::NoBytes => text(alloc, b""),
             Small::Dash => text(alloc, b"-"),
@@ -66,24 +90,22 @@ impl Small {
             Small::Samwise => text(alloc, b"samwise"),
             Small::Alpha => text(alloc, "α".as_bytes()),
             Small::LoneByte => text(alloc, &[0xFF]),
-            Small::Date => date(alloc),
-            Small::Half => nested(alloc, 2),
-            Small::Huge => nested(alloc, 3),
-            Small::Anchored => anchored(alloc),
-            Small::Group => group(alloc),
-            _ => self.leaf(alloc),
-        }
-    }
-
-    /// A class, a look, or a tree without parts.
-    fn leaf(self, alloc: Global) -> Result<Hir, AllocError> {
-        match self {
             Small::Digit => digit(alloc),
-            Small::Vowel => vowel(alloc),
-            Small::HighBytes => Ok(Hir::bytes(vec![in alloc; (0x41, 0x80)]?)),
-            Small::Letter => Ok(Hir::chars(vec![in alloc; ('a', 'z'), ('α', 'ω')]?)),
-            Small::Wide => Ok(Hir::chars(vec![in alloc; ('é', '😀')]?)),
-            Small::AnyChar => Ok(Hir::chars(vec![in alloc; ('\0', char::MAX)]?)),
+            Small::Digits(rounds) => digits(alloc, rounds),
+            Small::Vowel => {
+                let vowels = [
+                    (b'a', b'a'),
+                    (b'e', b'e'),
+                    (b'i', b'i'),
+                    (b'o', b'o'),
+                    (b'u', b'u'),
+                ];
+                bytes(alloc, &vowels)
+            },
+            Small::HighBytes => bytes(alloc, &[(0x41, 0x80)]),
+            Small::Letter => chars(alloc, &[('a', 'z'), ('α', 'ω')]),
+            Small::Wide => chars(alloc, &[('é', '😀')]),
+            Small::AnyChar => chars(alloc, &[('\0', char::MAX)]),
             _ => Ok(self.without_members(alloc)),
         }
     }
@@ -167,13 +189,8 @@ fn rounds(
     sub: Hir,
 ) -> Result<Hir, AllocError> {
     match max {
-        Some(most) => {
-            if min > most {
-                return Ok(Hir::fail(alloc));
-            }
-            Hir::repetition(alloc, min, Some(most), greedy, sub)
-        }
-        None => Hir::repetition(alloc, min, None, greedy, sub),
+        Some(most) if min > most => Ok(Hir::fail(alloc)),
+        _ => Hir::repetition(alloc, min, max, greedy, sub),
     }
 }
 
@@ -190,19 +207,24 @@ fn text(alloc: Global, bytes: &[u8]) -> Result<Hir, AllocError> {
     Ok(Hir::literal(bytes.to_vec(alloc)?))
 }
 
-fn digit(alloc: Global) -> Result<Hir, AllocError> {
-    Ok(Hir::bytes(vec![in alloc; (b'0', b'9')]?))
+/// The class of these ranges, which ascend.
+fn bytes(alloc: Global, ranges: &[(u8, u8)]) -> Result<Hir, AllocError> {
+    if !is_ascending(ranges) {
+        return Ok(Hir::empty());
+    }
+    Ok(Hir::bytes(ranges.to_vec(alloc)?))
 }
 
-fn vowel(alloc: Global) -> Result<Hir, AllocError> {
-    let ranges = vec![in alloc;
-        (b'a', b'a'),
-        (b'e', b'e'),
-        (b'i', b'i'),
-        (b'o', b'o'),
-        (b'u', b'u'),
-    ]?;
-    Ok(Hir::bytes(ranges))
+/// The same of ranges of characters.
+fn chars(alloc: Global, ranges: &[(char, char)]) -> Result<Hir, AllocError> {
+    if !is_ascending_chars(ranges) {
+        return Ok(Hir::empty());
+    }
+    Ok(Hir::chars(ranges.to_vec(alloc)?))
+}
+
+fn digit(alloc: Global) -> Result<Hir, AllocError> {
+    bytes(alloc, &[(b'0', b'9')])
 }
 
 fn times(alloc: Global, rounds: u32, sub: Hir) -> Result<Hir, AllocError> {
@@ -215,22 +237,17 @@ fn digits(alloc: Global, rounds: u32) -> Result<Hir, AllocError> {
     times(alloc, rounds, one)
 }
 
-fn date(alloc: Global) -> Result<Hir, AllocError> {
+/// These parts, one behind the other.
+fn joined(alloc: Global, names: &[Small]) -> Result<Hir, AllocError> {
     let mut parts = Vec::new(alloc);
-    parts.push(digits(alloc, 4)?)?;
-    for _ in 0..2u8 {
-        parts.push(text(alloc, b"-")?)?;
-        parts.push(digits(alloc, 2)?)?;
+    for name in names {
+        parts.push(name.part(alloc)?)?;
     }
     Ok(Hir::concat(parts))
 }
 
 fn anchored(alloc: Global) -> Result<Hir, AllocError> {
-    let mut parts = Vec::new(alloc);
-    parts.push(Hir::look(Look::Start))?;
-    parts.push(text(alloc, b"-")?)?;
-    parts.push(Hir::look(Look::End))?;
-    Ok(Hir::concat(parts))
+    joined(alloc, &[Small::Start, Small::Dash, Small::End])
 }
 
 fn group(alloc: Global) -> Result<Hir, AllocError> {

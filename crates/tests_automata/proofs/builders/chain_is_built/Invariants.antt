@@ -1,5 +1,5 @@
 use Rattle.std.proofs.Common.{◌≡◌, ◌+◌, ◌<◌, length, true}
-use Rattle.tests_automata.proofs.builders.chain.Given as goal
+use Rattle.tests_automata.proofs.builders.chain_is_built.Given as goal
 
 abbrev pub invariant-loop-index : goal.invariant-loop-index
 invariant-loop-index l = record {
