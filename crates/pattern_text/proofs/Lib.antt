@@ -1,0 +1,11 @@
+pub mod SameEndsLemmas
+pub mod CharLemmas
+pub mod LookLemmas
+pub mod LookTree
+pub mod LoopLemmas
+pub mod LoopRows
+pub mod ClassLemmas
+pub mod SpanLemmas
+pub mod RoundLemmas
+pub mod TranslatedLemmas
+pub mod ParseLemmas

@@ -1,0 +1,1 @@
+//! Laws of the definitions. Each function has no code: its contract is the law.
