@@ -27,15 +27,15 @@ same_option (Some x) p f g = sym (f x refl)
 pub char_at_same : (h : List ℕ) (i : ℕ) → char_at h i ≡ character_at h i
 char_at_same h i = same_option (char_at h i) (character_at h i)
     (λ c e. let parts = char_at_parts h i c e in
-      begun_character h i c (record {
-        spelling = encode_utf8 c;
-        rest = drop (i + len_utf8 c) h;
-        spells = encoded_spells c (encode_utf8 c) parts.0 refl;
-        joined = parts.1;
-      }))
+    begun_character h i c (record {
+      spelling = encode_utf8 c;
+      rest = drop (i + len_utf8 c) h;
+      spells = encoded_spells c (encode_utf8 c) parts.0 refl;
+      joined = parts.1;
+    }))
     (λ c e. let first = character_begins h i c e in
-      let spelled = spelling_encodes c first.spelling first.spells in
-      char_at_from h i c first.rest spelled.0 (first.joined ∙ ap (λ s. s ++ first.rest) (sym spelled.1)))
+    let spelled = spelling_encodes c first.spelling first.spells in
+    char_at_from h i c first.rest spelled.0 (first.joined ∙ ap (λ s. s ++ first.rest) (sym spelled.1)))
 
 len_same : (c : ℕ) → IsScalar c → len_utf8 c ≡ spelling_len c
 len_same c scalar = sym (length-encode c) ∙ spelling_has_len c (encode_utf8 c) (encoded_spells c (encode_utf8 c) scalar refl)
@@ -59,14 +59,18 @@ byte_first rs ranges same (Some b) small k i =
 pub same_class : (rs ranges : List (ℕ × ℕ)) → ((b : ℕ) → b < 256 → in_ranges rs b ≡ is_member ranges b) →
     SameEnds (re.byte_in rs) (tree.byte_class ranges)
 unfolding attempt
-same_class rs ranges same = record { at = λ h bytes loops k i within.
-    byte_first rs ranges same (slice_get h i)
-    (λ b e. subst (λ x. x < 256) (get_or_from_slice_get h i b b e) (bytes i b (slice_get_within h i b e))) k i }
+same_class rs ranges same = record {
+  at = λ h bytes loops k i within.
+      byte_first rs ranges same (slice_get h i)
+      (λ b e. subst (λ x. x < 256) (get_or_from_slice_get h i b b e) (bytes i b (slice_get_within h i b e))) k i;
+}
 
 -- ranges that have the same scalars, as those from which surrogates are cut
 pub same_chars : (rs ranges : List (ℕ × ℕ)) → ((c : ℕ) → IsScalar c → in_ranges rs c ≡ is_member ranges c) →
     SameEnds (re.char_in rs) (tree.char_class ranges)
 unfolding attempt
-same_chars rs ranges same = record { at = λ h bytes loops k i within.
-    char_first rs ranges same (char_at h i) (λ c e. (char_at_parts h i c e).0) k i
-    ∙ ap (λ o. first_of (λ j. end_of (k j)) (character_end ranges o i)) (char_at_same h i) }
+same_chars rs ranges same = record {
+  at = λ h bytes loops k i within.
+      char_first rs ranges same (char_at h i) (λ c e. (char_at_parts h i c e).0) k i
+      ∙ ap (λ o. first_of (λ j. end_of (k j)) (character_end ranges o i)) (char_at_same h i);
+}

@@ -44,11 +44,11 @@ scalars_step m r rest p q more =
     ascend_if (nat_lt r.0 0xD800) m (r.0, min r.1 0xD7FF) (above r ++ rest)
     (λ e. let low : r.0 < 0xD800 = ltb-true r.0 0xD800 e in (p, omega arith))
     (λ e. ascend_if (nat_lt 0xDFFF r.1) (min r.1 0xD7FF + 1) (max r.0 0xE000, r.1) rest
-        (λ f. let high : 0xDFFF < r.1 = ltb-true 0xDFFF r.1 f in (omega arith, omega arith))
-        (λ f. more (r.1 + 1) (omega arith)) (λ f. more (min r.1 0xD7FF + 1) (omega arith)))
+    (λ f. let high : 0xDFFF < r.1 = ltb-true 0xDFFF r.1 f in (omega arith, omega arith))
+    (λ f. more (r.1 + 1) (omega arith)) (λ f. more (min r.1 0xD7FF + 1) (omega arith)))
     (λ e. ascend_if (nat_lt 0xDFFF r.1) m (max r.0 0xE000, r.1) rest
-        (λ f. let high : 0xDFFF < r.1 = ltb-true 0xDFFF r.1 f in (omega arith, omega arith))
-        (λ f. more (r.1 + 1) (omega arith)) (λ f. more m (omega arith)))
+    (λ f. let high : 0xDFFF < r.1 = ltb-true 0xDFFF r.1 f in (omega arith, omega arith))
+    (λ f. more (r.1 + 1) (omega arith)) (λ f. more m (omega arith)))
 
 pub scalars_ascend : (m n : ℕ) (rs : List (ℕ × ℕ)) → m ≤ n → rises_from n rs ≡ true → ours.rises_from m (without_surrogates rs) ≡ true
 unfolding rises_from

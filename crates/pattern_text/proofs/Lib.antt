@@ -7,5 +7,6 @@ pub mod LoopRows
 pub mod ClassLemmas
 pub mod SpanLemmas
 pub mod RoundLemmas
+pub mod ListLemmas
 pub mod TranslatedLemmas
 pub mod ParseLemmas

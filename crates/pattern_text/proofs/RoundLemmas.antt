@@ -133,14 +133,24 @@ module _ (h : List ℕ) (a : Re) where
 
 pub spans_rounds : (min : ℕ) (most : Option ℕ) (greedy : Bool) (a : Re) (x : Tree) → SameSpans a x →
     SameSpans (meaning.repeat min most greedy a) (repetition min (option_map (λ n. max n min) most) greedy x)
-spans_rounds min most greedy a x p = record { at = λ h bytes i j within. (
-      λ m. let r = of_repeat h a min most greedy i j m in
-          (r.0, r.1, r.2, along_rounds (Matches h a) (Means (looks_of h) h x) (length h)
-          (λ k l w step. ((p.at h bytes k l w).0 step, (let span = Matches-IsSpan h a k l step in omega arith))) r.0 i j within r.3),
-      λ m. to_repeat h a min most greedy i j
-          (m.0, m.1, m.2, along_rounds (Means (looks_of h) h x) (Matches h a) (length h)
-          (λ k l w step. ((p.at h bytes k l w).1 step, span_within (looks_of h) h x k l w step)) m.0 i j within m.3),
-    ) }
+spans_rounds min most greedy a x p = record {
+  at = λ h bytes i j within. (
+    λ m. let r = of_repeat h a min most greedy i j m in (
+      r.0,
+      r.1,
+      r.2,
+      along_rounds (Matches h a) (Means (looks_of h) h x) (length h)
+          (λ k l w step. ((p.at h bytes k l w).0 step, (let span = Matches-IsSpan h a k l step in omega arith))) r.0 i j within r.3,
+    ),
+    λ m. to_repeat h a min most greedy i j (
+      m.0,
+      m.1,
+      m.2,
+      along_rounds (Means (looks_of h) h x) (Matches h a) (length h)
+          (λ k l w step. ((p.at h bytes k l w).1 step, span_within (looks_of h) h x k l w step)) m.0 i j within m.3,
+    ),
+  );
+}
 
 raised : (min : ℕ) (most : Option ℕ) → ForSome most (λ n. min ≤ n) → option_map (λ n. max n min) most ≡ most
 raised min None ordered = refl

@@ -71,41 +71,49 @@ attempted h a i j m = attempt_complete h a (only j) i j m (only_here j)
 pub matches_along : (a b : Re) → SameCaptures a b → (h : List ℕ) → All (λ x. x < 256) h → (i j : ℕ) → Matches h a i j ↔ Matches h b i j
 matches_along a b same h bytes i j =
     let both : is_some (attempt h a (only j) i) ≡ is_some (attempt h b (only j) i) =
-        sym (some_outcome (attempt h a (only j) i)) ∙ ap is_some (same.at h bytes (only j) i) ∙ some_outcome (attempt h b (only j) i) in (
+    sym (some_outcome (attempt h a (only j) i)) ∙ ap is_some (same.at h bytes (only j) i) ∙ some_outcome (attempt h b (only j) i) in (
       λ m. matched h b i j (sym both ∙ attempted h a i j m),
       λ m. matched h a i j (both ∙ attempted h b i j m),
     )
 
 pub spans_of_captures : (a b : Re) (x : Tree) → SameCaptures a b → SameSpans a x → SameSpans b x
-spans_of_captures a b x same s = record { at = λ h bytes i j within.
-    let p = matches_along a b same h bytes i j in
-    let q = s.at h bytes i j within in
-    (λ m. q.0 (p.1 m), λ m. p.0 (q.1 m)) }
+spans_of_captures a b x same s = record {
+  at = λ h bytes i j within.
+      let p = matches_along a b same h bytes i j in
+      let q = s.at h bytes i j within in
+      (λ m. q.0 (p.1 m), λ m. p.0 (q.1 m));
+}
 
 -- where loops read, the same ends are the same spans; the leaves of trees have no loops
 pub spans_of_ends : (a : Re) (x : Tree) → LoopsRead x → SameEnds a x → SameSpans a x
-spans_of_ends a x loops s = record { at = λ h bytes i j within.
-    let both : is_some (attempt h a (only j) i) ≡ is_some (first_of (λ l. end_of (only j l)) (preferred_ends (looks_of h) h x i)) =
-        sym (some_end (attempt h a (only j) i)) ∙ ap is_some (s.at h bytes loops (only j) i within) in (
-      λ m. preferred_ends_sound (looks_of h) h x i j (first_has j _ (sym both ∙ attempted h a i j m)),
-      λ m. matched h a i j (both ∙ has_first j _ (preferred_ends_complete (looks_of h) h x i j m)),
-    ) }
+spans_of_ends a x loops s = record {
+  at = λ h bytes i j within.
+      let both : is_some (attempt h a (only j) i) ≡ is_some (first_of (λ l. end_of (only j l)) (preferred_ends (looks_of h) h x i)) =
+      sym (some_end (attempt h a (only j) i)) ∙ ap is_some (s.at h bytes loops (only j) i within) in (
+        λ m. preferred_ends_sound (looks_of h) h x i j (first_has j _ (sym both ∙ attempted h a i j m)),
+        λ m. matched h a i j (both ∙ has_first j _ (preferred_ends_complete (looks_of h) h x i j m)),
+      );
+}
 
 -- ---- joined
 matches_within : (h : List ℕ) (a : Re) (i j : ℕ) → i ≤ length h → Matches h a i j → j ≤ length h
 matches_within h a i j within m = let span = Matches-IsSpan h a i j m in omega arith
 
 pub spans_cat : (a b : Re) (x y : Tree) → SameSpans a x → SameSpans b y → SameSpans (re.cat a b) (tree.cat x y)
-spans_cat a b x y p q = record { at = λ h bytes i j within. (
-      λ m. (m.0, (p.at h bytes i m.0 within).0 m.1, (q.at h bytes m.0 j (matches_within h a i m.0 within m.1)).0 m.2),
-      λ m. (m.0, (p.at h bytes i m.0 within).1 m.1, (q.at h bytes m.0 j (span_within (looks_of h) h x i m.0 within m.1)).1 m.2),
-    ) }
+spans_cat a b x y p q = record {
+  at = λ h bytes i j within. (
+    λ m. (m.0, (p.at h bytes i m.0 within).0 m.1, (q.at h bytes m.0 j (matches_within h a i m.0 within m.1)).0 m.2),
+    λ m. (m.0, (p.at h bytes i m.0 within).1 m.1, (q.at h bytes m.0 j (span_within (looks_of h) h x i m.0 within m.1)).1 m.2),
+  );
+}
 
 pub spans_alt : (a b : Re) (x y : Tree) → SameSpans a x → SameSpans b y → SameSpans (re.alt a b) (tree.alt x y)
-spans_alt a b x y p q = record { at = λ h bytes i j within.
-    let first = p.at h bytes i j within in
-    let second = q.at h bytes i j within in
-    (⊎_elim (λ m. inl (first.0 m)) (λ m. inr (second.0 m)), ⊎_elim (λ m. inl (first.1 m)) (λ m. inr (second.1 m))) }
+spans_alt a b x y p q = record {
+  at = λ h bytes i j within.
+      let first = p.at h bytes i j within in
+      let second = q.at h bytes i j within in
+      (⊎_elim (λ m. inl (first.0 m)) (λ m. inr (second.0 m)), ⊎_elim (λ m. inl (first.1 m)) (λ m. inr (second.1 m)));
+}
 
 pub spans_group : (n index : ℕ) (name : Option (List ℕ)) (a : Re) (x : Tree) → SameSpans a x → SameSpans (re.group n a) (tree.capture index name x)
 spans_group n index name a x p = record { at = λ h bytes i j within. p.at h bytes i j within }

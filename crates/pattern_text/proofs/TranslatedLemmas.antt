@@ -156,9 +156,9 @@ bytes_ascii (r ∷ rs) within =
     let others = bytes_ascii rs (λ c e. within c (or_right (nat_le r.0 c && nat_le c r.1) (in_ranges rs c) e)) in
     ascii_if (nat_le r.0 (min r.1 0xFF)) (r.0, min r.1 0xFF) (bytes_of rs) others
     (λ e. let top = min r.1 0xFF in
-      let small : top ≤ 0x7F = within top (or_left (nat_le r.0 top && nat_le top r.1) (in_ranges rs top)
-      (and_from (nat_le r.0 top) (nat_le top r.1) e (le-leb top r.1 (omega arith)))) in
-      lt-ltb top 0x80 (omega (arith, small)))
+    let small : top ≤ 0x7F = within top (or_left (nat_le r.0 top && nat_le top r.1) (in_ranges rs top)
+    (and_from (nat_le r.0 top) (nat_le top r.1) e (le-leb top r.1 (omega arith)))) in
+    lt-ltb top 0x80 (omega (arith, small)))
   where
     ascii_if : (b : Bool) (x : ℕ × ℕ) (rest : List (ℕ × ℕ)) → list_all (λ r. nat_lt r.1 0x80) rest ≡ true → (b ≡ true → nat_lt x.1 0x80 ≡ true) →
         list_all (λ r. nat_lt r.1 0x80) ((if b then x ∷ [] else []) ++ rest) ≡ true

@@ -7,10 +7,7 @@ ghost use Rattle.pattern_text.specs.Cut.{bytes_of, without_surrogates};
 use std::alloc::{AllocError, Global};
 
 /// The ranges of a class of bytes, without the numbers above FF.
-pub(crate) fn byte_ranges(
-    alloc: Global,
-    ranges: &[(u32, u32)],
-) -> Result<Vec<(u8, u8)>, AllocError>
+pub(crate) fn byte_ranges(alloc: Global, ranges: &[(u32, u32)]) -> Result<Vec<(u8, u8)>, AllocError>
     requires { IsCanonical ranges.now }
     ensures same { IfOk result (λ out. out.items ≡ bytes_of ranges.now) }
     ensures ascend { IfOk result (λ out. IsTrue (is_ascending out.items)) }

@@ -13,9 +13,9 @@ pub struct Config {
 }
 
 impl Model for Config {
-    ghost use Rattle.regex_syntax.specs.declared.Config as options;
+    ghost use Rattle.regex_syntax.specs.declared.Config.{Config as Options};
 
-    ghost Value = { options.Config };
+    ghost Value = { Options };
 
     ghost view = { λ c. c.options };
 
@@ -41,7 +41,7 @@ impl Config {
 
     /// Whether a letter matches in either case, as the flag `i`. Off where it isn't set.
     pub fn case_insensitive(mut self, yes: bool) -> Config
-        ensures { result ≡ record (self.entry) { flags = record (self.entry.flags) { case_insensitive = yes } } }
+        ensures { result ≡ record self { flags = record (self.flags) { case_insensitive = yes } } }
     {
         self.options.flags.case_insensitive = yes;
         self
@@ -49,7 +49,7 @@ impl Config {
 
     /// Whether `^` and `$` hold at the ends of lines, as the flag `m`. Off where it isn't set.
     pub fn multi_line(mut self, yes: bool) -> Config
-        ensures { result ≡ record (self.entry) { flags = record (self.entry.flags) { multi_line = yes } } }
+        ensures { result ≡ record self { flags = record (self.flags) { multi_line = yes } } }
     {
         self.options.flags.multi_line = yes;
         self
@@ -57,7 +57,7 @@ impl Config {
 
     /// Whether `.` matches a line feed, as the flag `s`. Off where it isn't set.
     pub fn dot_matches_new_line(mut self, yes: bool) -> Config
-        ensures { result ≡ record (self.entry) { flags = record (self.entry.flags) { dot_matches_new_line = yes } } }
+        ensures { result ≡ record self { flags = record (self.flags) { dot_matches_new_line = yes } } }
     {
         self.options.flags.dot_matches_new_line = yes;
         self
@@ -65,7 +65,7 @@ impl Config {
 
     /// Whether a carriage return ends a line too, as the flag `R`. Off where it isn't set.
     pub fn crlf(mut self, yes: bool) -> Config
-        ensures { result ≡ record (self.entry) { flags = record (self.entry.flags) { crlf = yes } } }
+        ensures { result ≡ record self { flags = record (self.flags) { crlf = yes } } }
     {
         self.options.flags.crlf = yes;
         self
@@ -73,7 +73,7 @@ impl Config {
 
     /// Whether `a*` is lazy and `a*?` is greedy, as the flag `U`. Off where it isn't set.
     pub fn swap_greed(mut self, yes: bool) -> Config
-        ensures { result ≡ record (self.entry) { flags = record (self.entry.flags) { swap_greed = yes } } }
+        ensures { result ≡ record self { flags = record (self.flags) { swap_greed = yes } } }
     {
         self.options.flags.swap_greed = yes;
         self
@@ -81,7 +81,7 @@ impl Config {
 
     /// Whether white space and comments in the text are passed over, as the flag `x`. Off where it isn't set.
     pub fn ignore_whitespace(mut self, yes: bool) -> Config
-        ensures { result ≡ record (self.entry) { flags = record (self.entry.flags) { ignore_whitespace = yes } } }
+        ensures { result ≡ record self { flags = record (self.flags) { ignore_whitespace = yes } } }
     {
         self.options.flags.ignore_whitespace = yes;
         self
@@ -89,7 +89,7 @@ impl Config {
 
     /// Whether classes, words and the folding of case are Unicode's, as the flag `u`. On where it isn't set.
     pub fn unicode(mut self, yes: bool) -> Config
-        ensures { result ≡ record (self.entry) { flags = record (self.entry.flags) { unicode = yes } } }
+        ensures { result ≡ record self { flags = record (self.flags) { unicode = yes } } }
     {
         self.options.flags.unicode = yes;
         self
@@ -98,7 +98,7 @@ impl Config {
     /// Whether a text is refused that may match bytes which are no UTF-8, as the builder for `&str` refuses
     /// it. On where it isn't set; off is the builder for bytes.
     pub fn utf8(mut self, yes: bool) -> Config
-        ensures { result ≡ record (self.entry) { utf8 = yes } }
+        ensures { result ≡ record self { utf8 = yes } }
     {
         self.options.utf8 = yes;
         self
@@ -107,7 +107,7 @@ impl Config {
     /// Whether a backslash and digits, as `\141`, are a character by its number in base eight. Off where it
     /// isn't set.
     pub fn octal(mut self, yes: bool) -> Config
-        ensures { result ≡ record (self.entry) { octal = yes } }
+        ensures { result ≡ record self { octal = yes } }
     {
         self.options.octal = yes;
         self
@@ -116,7 +116,7 @@ impl Config {
     /// How deep groups, classes and repetitions may nest. 250 where it isn't set. Calls nest as deep as the
     /// text does, so a higher limit needs a stack to match.
     pub fn nest_limit(mut self, limit: u32) -> Config
-        ensures { result ≡ record (self.entry) { nest_limit = limit } }
+        ensures { result ≡ record self { nest_limit = limit } }
     {
         self.options.nest_limit = limit;
         self

@@ -1,5 +1,5 @@
 ghost use Rattle.std.specs.Prelude.{ℕ, List};
-ghost use Rattle.regex_syntax.specs.declared.Config as options;
+ghost use Rattle.regex_syntax.specs.declared.Config.{Config as Options};
 ghost use Rattle.regex_syntax.specs.Verdict.{Refuses};
 ghost use Rattle.pattern_text.specs.Patterns.{LiesIn, IsFault};
 
@@ -24,7 +24,7 @@ pub enum ParseError {
 impl ParseError {
     /// What the kit's parser tells.
     pub(crate) fn of_parser(error: regex_syntax::Error) -> ParseError
-        ensures { (config : options.Config) (text : List ℕ) → Refuses config text error.kind → LiesIn text error.span → IsFault config text result }
+        ensures { (config : Options) (text : List ℕ) → Refuses config text error.kind → LiesIn text error.span → IsFault config text result }
     {
         match error.kind {
             ErrorKind::OutOfMemory => ParseError::NoMemory,
