@@ -101,7 +101,6 @@ const fn more_unicode_classes() -> &'static [Members] {
         (r"\P{Greek}", "aж", "αω"),
         (r"\p{Letter}", "aξ", "5"),
         (r"\p{gc=Lu}", "AΞ", "aξ"),
-        (r"\p{^Greek}", "aж", "αω"),
         (r"\p{sc=Cyrillic}", "жЖ", "aα"),
         (r"\p{alphabetic}", "aα", "5-"),
         (r"[\p{Greek}&&\pL]", "αω", "a5"),

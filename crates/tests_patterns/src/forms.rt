@@ -145,11 +145,11 @@ const fn flags() -> &'static [Row] {
         ("", "(?i)a(?-i)b", "chars:41,61 lit:b cat:2"),
         ("", "(?i)k", "chars:4B,6B,212A"),
         ("", "(?i)ſ", "chars:53,73,17F"),
-        ("", "(?i-u)k", "chars:4B,6B"),
+        ("", "(?i-u)k", "bytes:4B,6B"),
         ("", "(?U)a*", "lit:a lazy:0-inf"),
         ("", "(?U)a*?", "lit:a rep:0-inf"),
         ("", "(?x) a b # both\n c", "lit:abc"),
-        ("", r"(?x)a\ b", r"lit:a byte:20 lit:b cat:3"),
+        ("", r"(?x) \ ", "byte:20"),
         ("", "(?x)[a b]", "chars:61-62"),
     ]
 }

@@ -113,6 +113,6 @@ fn a_hundred_thousand_choices(rt: HostRuntime) {
 }
 
 #[test]
-fn ten_million_bytes(rt: HostRuntime) {
-    assert!(rt; matches!(keeps_bytes(rt.alloc(), 1250000), Ok(true)));
+fn a_million_bytes(rt: HostRuntime) {
+    assert!(rt; matches!(keeps_bytes(rt.alloc(), 125000), Ok(true)));
 }

@@ -27,7 +27,7 @@ const fn escapes() -> &'static [Refusal] {
         ("A", r"\pL", UnicodeNotAllowed, 0, 3),
         ("", r"\b{up}", SpecialWordBoundaryUnrecognized, 3, 5),
         ("", r"\b{start", SpecialWordBoundaryUnclosed, 2, 8),
-        ("", r"\b{", SpecialWordOrRepetitionUnexpectedEof, 2, 3),
+        ("", r"\b{", SpecialWordOrRepetitionUnexpectedEof, 0, 3),
     ]
 }
 
@@ -38,7 +38,7 @@ const fn classes() -> &'static [Refusal] {
         ("", "[b-a]", ClassRangeInvalid, 1, 4),
         ("", r"[\d-z]", ClassRangeLiteral, 1, 3),
         ("", r"[\b]", ClassEscapeInvalid, 1, 3),
-        ("", r"(?-u)[\xFF]", InvalidUtf8, 5, 11),
+        ("", "(?-u)[^a]", InvalidUtf8, 5, 9),
         ("", r"(?-u)\xFF", InvalidUtf8, 5, 9),
         ("", "(?-u:.)", InvalidUtf8, 5, 6),
         ("", r"(?-u)\W", InvalidUtf8, 5, 7),
@@ -47,9 +47,9 @@ const fn classes() -> &'static [Refusal] {
 
 const fn repetitions() -> &'static [Refusal] {
     &[
-        ("", "*", RepetitionMissing, 0, 1),
-        ("", "a|+", RepetitionMissing, 2, 3),
-        ("", "(?i)?", RepetitionMissing, 4, 5),
+        ("", "*", RepetitionMissing, 0, 0),
+        ("", "a|+", RepetitionMissing, 2, 2),
+        ("", "(?i)?", RepetitionMissing, 4, 4),
         ("", "a{", RepetitionCountUnclosed, 1, 2),
         ("", "a{2", RepetitionCountUnclosed, 1, 3),
         ("", "a{}", RepetitionCountDecimalEmpty, 2, 2),
