@@ -10,3 +10,4 @@ pub mod RoundLemmas
 pub mod ListLemmas
 pub mod TranslatedLemmas
 pub mod ParseLemmas
+pub mod FirstSpanLemmas
