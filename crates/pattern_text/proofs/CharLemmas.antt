@@ -11,8 +11,7 @@ use Rattle.regex_hir.specs.Meaning as meaning
 use Rattle.regex_hir.proofs.TextLemmas.{char_at_parts, char_at_from}
 use Rattle.search_core.specs.Utf8.{Spells, SpellsFirst}
 use Rattle.search_core.specs.Characters.{character_at, spelling_len}
-use Rattle.search_core.proofs.CharacterLemmas.{character_begins, begun_character, spelling_has_len}
-use Rattle.search_core.proofs.Utf8Lemmas.{spelling_encodes, encoded_spells}
+use Rattle.search_core.proofs.ForCallers.{character_begins, begun_character, spelling_has_len, spelling_encodes, encoded_spells}
 use Rattle.hir_core.specs.Tree as tree
 use Rattle.hir_core.specs.Means.{is_member}
 use Rattle.hir_core.specs.PreferredEnds.{class_end, character_end, preferred_ends}

@@ -11,3 +11,4 @@ pub mod ListLemmas
 pub mod TranslatedLemmas
 pub mod ParseLemmas
 pub mod FirstSpanLemmas
+pub mod ForCallers

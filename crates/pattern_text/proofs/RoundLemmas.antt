@@ -9,7 +9,7 @@ use Rattle.regex_hir.specs.Meaning as meaning
 use Rattle.regex_hir.proofs.MatchesLemmas.{Matches-IsSpan}
 use Rattle.hir_core.specs.Tree.{Tree, repetition}
 use Rattle.hir_core.specs.Means.{Means, AtMost, Rounds}
-use Rattle.hir_core.proofs.SpanLemmas.{span_within}
+use Rattle.hir_core.proofs.ForCallers.{span_within}
 use Rattle.pattern_text.specs.SameEnds.{looks_of, SameSpans}
 
 -- so many rounds, not below a least number and not above a bound, if there is one

@@ -15,8 +15,7 @@ use Rattle.hir_core.specs.Tree as tree
 use Rattle.hir_core.specs.Facts.{LoopsRead}
 use Rattle.hir_core.specs.Means.{Means}
 use Rattle.hir_core.specs.PreferredEnds.{preferred_ends, Has}
-use Rattle.hir_core.proofs.PreferredEndsLemmas.{preferred_ends_sound, preferred_ends_complete}
-use Rattle.hir_core.proofs.SpanLemmas.{span_within}
+use Rattle.hir_core.proofs.ForCallers.{preferred_ends_sound, preferred_ends_complete, span_within}
 use Rattle.pattern_text.specs.SameEnds.{looks_of, end_of, first_of, SameEnds, SameSpans, AreSameSpans}
 use Rattle.pattern_text.proofs.SameEndsLemmas.{same_never}
 
