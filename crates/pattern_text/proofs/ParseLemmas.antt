@@ -1,6 +1,6 @@
 -- From what the kit's parser tells to what is told of trees and refusals.
-use Rattle.std.proofs.Common.{◌≡◌, ◌≢◌, ℕ, ◌≤◌, ◌+◌, ◌*◌, arith, List, length, chars, Option, Some, None, IsSomeAnd, All, ap, sym, ◌∙◌, subst, option_map, ⊎_elim, refl, Bool, true, false, IsTrue, true≢false}
-use Rattle.regex_hir.specs.Re.{Re, Rest, attempt}
+use Rattle.std.proofs.Common.{◌≡◌, ◌≢◌, ℕ, ◌≤◌, ◌+◌, ◌*◌, arith, List, length, chars, Option, Some, None, IsSomeAnd, ap, sym, ◌∙◌, subst, option_map, ⊎_elim, refl, Bool, true, false, IsTrue, true≢false}
+use Rattle.regex_hir.specs.Re.{Re, attempt}
 use Rattle.regex_hir.specs.Meaning.{meaning}
 use Rattle.regex_hir.specs.declared.hir.Hir.{Hir}
 use Rattle.regex_syntax.specs.declared.Config.{Config}

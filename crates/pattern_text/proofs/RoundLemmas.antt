@@ -1,5 +1,5 @@
 -- Repetitions of a pattern and of a tree have the same spans, whether their rounds read or not.
-use Rattle.std.proofs.Common.{◌≡◌, ◌↔◌, ℕ, zero, suc, ◌+◌, ◌-◌, ◌<◌, ◌≤◌, Bool, true, false, List, length, max, Option, Some, None, option_map, All, refl, sym, ap, ◌∙◌, subst, arith, inl, inr, ⊎_elim, ◌⊎◌}
+use Rattle.std.proofs.Common.{◌≡◌, ℕ, zero, suc, ◌+◌, ◌-◌, ◌≤◌, Bool, true, false, List, length, max, Option, Some, None, option_map, refl, sym, ap, subst, arith, inl, inr, ⊎_elim, ◌⊎◌}
 use Rattle.std.specs.Option.{ForSome}
 use Rattle.regex_hir.specs.Re.{Re}
 use Rattle.regex_hir.specs.Re as re

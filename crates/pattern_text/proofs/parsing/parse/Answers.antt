@@ -1,4 +1,4 @@
-use Rattle.std.proofs.Common.{◌≡◌, ◌+◌, ◌*◌, ◌≤◌, map, option_map, string_bytes, ap, ◌∙◌, subst}
+use Rattle.std.proofs.Common.{◌+◌, ◌*◌, ◌≤◌, map, option_map, string_bytes, ap, ◌∙◌, subst}
 use Rattle.regex_syntax.specs.declared.Config.{Config}
 use Rattle.regex_syntax.specs.Verdict.{Reads}
 use Rattle.regex_syntax.specs.WellFormed.{IsWellFormed, depth}
