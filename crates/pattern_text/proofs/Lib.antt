@@ -1,0 +1,14 @@
+pub mod SameEndsLemmas
+pub mod CharLemmas
+pub mod LookLemmas
+pub mod LookTree
+pub mod LoopLemmas
+pub mod LoopRows
+pub mod ClassLemmas
+pub mod SpanLemmas
+pub mod RoundLemmas
+pub mod ListLemmas
+pub mod TranslatedLemmas
+pub mod ParseLemmas
+pub mod FirstSpanLemmas
+pub mod ForCallers

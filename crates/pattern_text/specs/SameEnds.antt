@@ -1,0 +1,56 @@
+-- When a pattern of the kit and a tree match alike.
+use Rattle.std.specs.Prelude.{◌≡◌, ◌↔◌, ℕ, ◌<◌, ◌≤◌, List, [], ◌∷◌, length, All, Option, None, ⊤}
+use Rattle.std.specs.Option.{option_or, option_map}
+use Rattle.ucd_perl.specs.Perl.{is_word_char}
+use Rattle.regex_hir.specs.Re.{Re, Trace, Rest, attempt}
+use Rattle.regex_hir.specs.Matches.{Matches}
+use Rattle.regex_syntax.specs.Grammar.{Names}
+use Rattle.look_core.specs.Looks.{holds}
+use Rattle.look_core.specs.Terminators.{one_of}
+use Rattle.hir_core.specs.Tree.{Tree, repetition, capture, cat, alt}
+use Rattle.hir_core.specs.Facts.{LoopsRead}
+use Rattle.hir_core.specs.Means.{Looks, Means}
+use Rattle.hir_core.specs.PreferredEnds.{preferred_ends}
+use Rattle.pattern_text.specs.Translated.{name_at}
+
+-- where looks hold: words are what `\w` matches, and a line ends at a line feed
+abbrev pub looks_of : List ℕ → Looks
+looks_of h = holds is_word_char (one_of 10) h
+
+-- where a match ended
+abbrev pub end_of : Option Trace → Option ℕ
+end_of = option_map (λ t. t.end)
+
+-- what follows at the first of the places from which it goes on
+abbrev pub first_of : (ℕ → Option ℕ) → List ℕ → Option ℕ
+first_of k [] = None
+first_of k (j ∷ js) = option_or (k j) (first_of k js)
+
+-- On every haystack of bytes, from every place and whatever follows, the pattern goes on from the first end of the tree
+-- from which that goes on. The kit's loops leave where a round reads nothing, so the loops of the tree have to read.
+pub record SameEnds (re : Re) (x : Tree) : Type 0 where
+  pub at : (h : List ℕ) → All (λ b. b < 256) h → LoopsRead x → (k : Rest) (i : ℕ) → i ≤ length h →
+      end_of (attempt h re k i) ≡ first_of (λ j. end_of (k j)) (preferred_ends (looks_of h) h x i)
+
+-- on every haystack of bytes both have the same spans, whatever the loops read
+pub record SameSpans (re : Re) (x : Tree) : Type 0 where
+  pub at : (h : List ℕ) → All (λ b. b < 256) h → (i j : ℕ) → i ≤ length h → Matches h re i j ↔ Means (looks_of h) h x i j
+
+-- the same of each pattern of a list and the tree in its place
+abbrev pub AreSameEnds : List Re → List Tree → Type 0
+AreSameEnds [] [] = ⊤
+AreSameEnds (a ∷ bs) (x ∷ xs) = SameEnds a x × AreSameEnds bs xs
+AreSameEnds _ _ = ⊥
+
+abbrev pub AreSameSpans : List Re → List Tree → Type 0
+AreSameSpans [] [] = ⊤
+AreSameSpans (a ∷ bs) (x ∷ xs) = SameSpans a x × AreSameSpans bs xs
+AreSameSpans _ _ = ⊥
+
+-- each group of the tree has the name at its index, or none where none stands there
+abbrev pub HasNames : Names → Tree → Type 0
+HasNames names (capture index name x) = (name ≡ name_at names index) × HasNames names x
+HasNames names (repetition min most greedy x) = HasNames names x
+HasNames names (cat x y) = HasNames names x × HasNames names y
+HasNames names (alt x y) = HasNames names x × HasNames names y
+HasNames names _ = ⊤

@@ -1,0 +1,23 @@
+//! Patterns as text: what is written in the syntax of the crate `regex`, as a tree.
+//!
+//! [`parse`] reads a text with the options of a [`Config`] and answers the tree of what the kit's grammar
+//! reads, or why it is refused and where; [`tree_of`] makes the tree of a pattern that is parsed already. What
+//! a text means is defined in `specs/`: `Patterns.antt` and `SameEnds.antt`, with laws in [`laws`].
+#![tactic(auto)]
+
+mod classes;
+mod config;
+pub mod laws;
+mod look;
+mod parse_error;
+mod parsing;
+mod trees;
+mod unicode_word;
+
+pub use config::Config;
+pub use look::look_of;
+pub use parse_error::ParseError;
+pub use parsing::parse;
+pub use regex_syntax::{ErrorKind, Span};
+pub use trees::tree_of;
+pub use unicode_word::UnicodeWord;
