@@ -2,7 +2,7 @@
 use Rattle.std.proofs.Common.{◌≡◌, ℕ, ◌+◌, ◌*◌, ◌<◌, ◌≤◌, List, [], ◌∷◌, ◌++◌, map, length, drop, refl, sym, ap, subst, arith}
 use Rattle.std.proofs.Common.{length-append, length-drop, ⊎_elim}
 use Rattle.std.proofs.lemmas.List.{length-map}
-use Rattle.nfa_core.specs.BuilderStates.{Assembly, sparse_draft}
+use Rattle.nfa_core.specs.BuilderStates.{Assembly, empty_draft, sparse_draft}
 use Rattle.nfa_core.specs.declared.build_error.BuildError.{BuildError}
 use Rattle.nfa_core.specs.declared.build_error.BuildError.TheVariants.{NoMemory}
 use Rattle.thompson_nfa.specs.Added.{Added}
@@ -55,6 +55,12 @@ pub pops_weigh : (end : ℕ) (b0 : Assembly) (ns0 : List Stage) (b : Assembly) (
 pops_weigh end b0 ns0 _ _ _ pops_none = omega arith
 pops_weigh end b0 ns0 _ _ _ (pops_more b c ns ms next id before top) =
     omega (arith, pops_weigh end b0 ns0 b ns next before, top_weighs b c end next id ns ms top)
+
+-- ---- the end alone
+
+pub begun_weighs : (a b : Assembly) (end : ℕ) (ns : List Stage) → Added a b end (empty_draft 0) a.groups → ns ≡ [] →
+    sum_of_bytes b + left_bytes ns ≤ sum_of_bytes a + 48
+begun_weighs a b end ns x none = omega (arith, x.bytes, ap left_bytes none)
 
 -- ---- one sequence more
 

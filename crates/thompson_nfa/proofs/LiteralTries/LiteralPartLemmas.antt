@@ -137,11 +137,11 @@ read_next trie next back xs k x bytes e got less is n =
     ∙ ap (λ (w : List ℕ). record { reverse = back; strings = read_strings back (take k xs) ++ spelt back w ∷ [] }) is
     ∙ ap (λ (l : List (List ℕ)). record { reverse = back; strings = l }) (sym all)
 
-pub literals_bytes : (trie : Strings) (xs : List Tree) (k : ℕ) (back : Bool) → trie ≡ record {
+pub strings_bytes : (trie : Strings) (xs : List Tree) (k : ℕ) (back : Bool) → trie ≡ record {
   reverse = back;
   strings = read_strings back (take k xs);
 } → length xs ≤ k → 24 + 32 * bytes_in trie.strings + 36 * length trie.strings ≡ choice_bytes (alternation xs)
-literals_bytes trie xs k back is past =
+strings_bytes trie xs k back is past =
     let all : trie.strings ≡ read_strings back xs = ap (λ (t : Strings). t.strings) is ∙ ap (read_strings back) (take_all k xs past) in
     ap (λ (ws : List (List ℕ)). 24 + 32 * bytes_in ws + 36 * length ws) all ∙ trie_bytes back xs
 

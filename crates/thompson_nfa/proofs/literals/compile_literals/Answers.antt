@@ -1,6 +1,6 @@
 use Rattle.std.proofs.Common.{arith}
 use Rattle.thompson_nfa.proofs.Steps.ErrorLemmas.{handed}
-use Rattle.thompson_nfa.proofs.LiteralTries.LiteralPartLemmas.{read_next, literals_made, literals_bytes, literals_do, literals_quit}
+use Rattle.thompson_nfa.proofs.LiteralTries.LiteralPartLemmas.{read_next, literals_made, strings_bytes, literals_do, literals_quit}
 use Rattle.thompson_nfa.proofs.literals.compile_literals.Goals as goal
 
 pub loop-sub-preserved : goal.loop-sub-preserved
@@ -25,7 +25,7 @@ returns-clause-denotes c = literals_do c.loop-sub.trie c.args.subs.now c.loop-su
 pub returns-clause-weighs : goal.returns-clause-weighs
 returns-clause-weighs c = omega (
   arith,
-  literals_bytes c.loop-sub.trie c.args.subs.now c.loop-sub.sub-index _ c.loop-sub.invariant c.loop-sub-test.false,
+  strings_bytes c.loop-sub.trie c.args.subs.now c.loop-sub.sub-index _ c.loop-sub.invariant c.loop-sub-test.false,
   c.in_ok-all.ensures.weighs,
 )
 
@@ -33,6 +33,6 @@ pub returns-in_err-all-clause-passed : goal.returns-in_err-all-clause-passed
 returns-in_err-all-clause-passed c = handed _ _ c.in_err-all.field-0.0 c.from_residual-in_err-all.ensures.1
     (omega (
       arith,
-      literals_bytes c.loop-sub.trie c.args.subs.now c.loop-sub.sub-index _ c.loop-sub.invariant c.loop-sub-test.false,
+      strings_bytes c.loop-sub.trie c.args.subs.now c.loop-sub.sub-index _ c.loop-sub.invariant c.loop-sub-test.false,
       c.in_err-all.ensures.passed,
     ))
