@@ -6,7 +6,7 @@ use crate::calls::Step::{
     self, All, Build, Byte, Clear, Empty, Fail, Finish, Group, GroupEnd, Match, Reverse, Sparse,
     Start, Union, UnionReverse,
 };
-use crate::calls::are_answered;
+use crate::calls::{Name, Refusal, Ways, are_answered};
 use crate::nfas::Wanted;
 use look_core::Look;
 use nfa_core::{BuildError, Builder};
@@ -27,18 +27,18 @@ fn add_link(builder: &mut Builder, to: StateID) -> Result<StateID, BuildError>
 
 /// Unions of a few ways, behind a match, and more of them whose ways are given in the other order. The states 2 and 5
 /// stand for the match.
-const fn ways() -> [Call; 12] {
-    [
+const fn ways() -> &'static [Call] {
+    &[
         Do(Start),
         Do(Match),
         Do(Finish(0)),
-        Do(Union(&[])),
-        Do(Union(&[0])),
-        Do(Union(&[2, 1])),
-        Do(Union(&[1, 2, 0])),
-        Do(UnionReverse(&[0])),
-        Do(UnionReverse(&[1, 2])),
-        Do(UnionReverse(&[1, 2, 3])),
+        Do(Union(Ways::None)),
+        Do(Union(Ways::One(0))),
+        Do(Union(Ways::Two(2, 1))),
+        Do(Union(Ways::Three(1, 2, 0))),
+        Do(UnionReverse(Ways::One(0))),
+        Do(UnionReverse(Ways::Two(1, 2))),
+        Do(UnionReverse(Ways::Three(1, 2, 3))),
         Bytes(8 * 24 + 12 * 4),
         Do(Build(7, 7, Wanted::Ways)),
     ]
@@ -46,14 +46,14 @@ const fn ways() -> [Call; 12] {
 
 #[test]
 fn unions(rt: HostRuntime) {
-    assert!(rt; are_answered(rt.alloc(), &ways()));
+    assert!(rt; are_answered(rt.alloc(), ways()));
 }
 
 /// One pattern that reads the byte `a`, behind a loop over all bytes that prefers to leave. Then sparse states of a few
 /// ranges, a look and a state that leads nowhere, behind a match.
-const fn ranges() -> [Call; 18] {
-    [
-        Do(UnionReverse(&[2, 3])),
+const fn ranges() -> &'static [Call] {
+    &[
+        Do(UnionReverse(Ways::Two(2, 3))),
         Do(Empty),
         Do(All(1)),
         Do(Start),
@@ -76,17 +76,17 @@ const fn ranges() -> [Call; 18] {
 
 #[test]
 fn a_byte_behind_any_others_and_sparse_states(rt: HostRuntime) {
-    assert!(rt; are_answered(rt.alloc(), &ranges()));
+    assert!(rt; are_answered(rt.alloc(), ranges()));
 }
 
 /// A pattern with three groups, of which the last two have names, of a text that is read forward and in reverse. Then
 /// both have one name.
-const fn groups() -> [Call; 22] {
-    [
+const fn groups() -> &'static [Call] {
+    &[
         Do(Start),
         Do(Group(1, 0, None)),
-        Do(Group(2, 1, Some("a"))),
-        Do(Group(3, 2, Some("b"))),
+        Do(Group(2, 1, Some(Name::A))),
+        Do(Group(3, 2, Some(Name::B))),
         Do(GroupEnd(4, 2)),
         Do(GroupEnd(5, 0)),
         Do(Match),
@@ -98,22 +98,19 @@ const fn groups() -> [Call; 22] {
         Do(Clear),
         Do(Start),
         Do(Group(1, 0, None)),
-        Do(Group(2, 1, Some("a"))),
-        Do(Group(3, 2, Some("a"))),
+        Do(Group(2, 1, Some(Name::A))),
+        Do(Group(3, 2, Some(Name::A))),
         Do(GroupEnd(4, 2)),
         Do(GroupEnd(5, 0)),
         Do(Match),
         Do(Finish(0)),
-        Refuses(
-            Build(0, 0, Wanted::Groups(true)),
-            "groups can't be taken: two groups of pattern 0 have the name 'a'",
-        ),
+        Refuses(Build(0, 0, Wanted::Groups(true)), Refusal::OneName),
     ]
 }
 
 #[test]
 fn groups_with_their_slots(rt: HostRuntime) {
-    assert!(rt; are_answered(rt.alloc(), &groups()));
+    assert!(rt; are_answered(rt.alloc(), groups()));
 }
 
 /// Whether a chain of empty states to a match takes all its bytes and is built as the match alone.

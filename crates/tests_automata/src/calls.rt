@@ -25,10 +25,10 @@ pub(crate) enum Step {
     /// Sparse states of no range, of one and of two, or one of all bytes, which leads to this state.
     Sparse,
     All(u8),
-    Union(&'static [u8]),
-    UnionReverse(&'static [u8]),
+    Union(Ways),
+    UnionReverse(Ways),
     /// Begins or ends a group: where it leads, the group, and its name.
-    Group(u8, u32, Option<&'static str>),
+    Group(u8, u32, Option<Name>),
     GroupEnd(u8, u32),
     Reverse(bool),
     Limit(Option<usize>),
@@ -39,12 +39,55 @@ pub(crate) enum Step {
     Build(u8, u8, Wanted),
 }
 
+/// The states to which a choice leads.
+#[derive(Clone, Copy)]
+pub(crate) enum Ways {
+    None,
+    One(u8),
+    Two(u8, u8),
+    Three(u8, u8, u8),
+}
+
+/// The name of a group, of one letter.
+#[derive(Clone, Copy)]
+pub(crate) enum Name {
+    A,
+    B,
+}
+
+/// What refuses a step.
+#[derive(Clone, Copy)]
+pub(crate) enum Refusal {
+    None,
+    MoreThan71,
+    MoreThan72,
+    ManyGroups,
+    MoreGroups,
+    OneName,
+}
+
+/// Its words.
+fn words_of(refusal: Refusal) -> &'static str {
+    match refusal {
+        Refusal::None => "none",
+        Refusal::MoreThan71 => "the states take more than 71 bytes",
+        Refusal::MoreThan72 => "the states take more than 72 bytes",
+        Refusal::ManyGroups => {
+            "groups can't be taken: pattern 0 has too many groups, at least 2147483647"
+        }
+        Refusal::MoreGroups => {
+            "groups can't be taken: pattern 0 has too many groups, at least 4294967295"
+        }
+        Refusal::OneName => "groups can't be taken: two groups of pattern 0 have the name 'a'",
+    }
+}
+
 /// A step, or what a builder should tell.
 #[derive(Clone, Copy)]
 pub(crate) enum Call {
     Do(Step),
-    /// The step is refused in these words.
-    Refuses(Step, &'static str),
+    /// The step is refused so.
+    Refuses(Step, Refusal),
     /// The bytes of the states.
     Bytes(usize),
     /// Whether it can build with these starts.
@@ -77,6 +120,16 @@ fn names(alloc: Global, numbers: &[u8]) -> Result<Vec<StateID>, AllocError> {
     Ok(names)
 }
 
+/// The states to which a choice leads.
+fn ways_of(alloc: Global, ways: Ways) -> Result<Vec<StateID>, AllocError> {
+    match ways {
+        Ways::None => names(alloc, &[]),
+        Ways::One(first) => names(alloc, &[first]),
+        Ways::Two(first, second) => names(alloc, &[first, second]),
+        Ways::Three(first, second, third) => names(alloc, &[first, second, third]),
+    }
+}
+
 /// Adds sparse states of a few ranges.
 fn add_sparse(alloc: Global, builder: &mut Builder) -> Result<StateID, BuildError> {
     builder.add_sparse(Vec::new(alloc))?;
@@ -88,10 +141,10 @@ fn add_sparse(alloc: Global, builder: &mut Builder) -> Result<StateID, BuildErro
 fn add_union(
     alloc: Global,
     builder: &mut Builder,
-    ways: &[u8],
+    ways: Ways,
     reverse: bool,
 ) -> Result<StateID, BuildError> {
-    let ways = names(alloc, ways)?;
+    let ways = ways_of(alloc, ways)?;
     if reverse {
         builder.add_union_reverse(ways)
     } else {
@@ -127,11 +180,15 @@ fn begin_group(
     builder: &mut Builder,
     next: u8,
     group: u32,
-    name: &str,
+    name: Name,
 ) -> Result<StateID, BuildError>
     requires { builder.old.is_open ≡ true }
 {
-    let name = String::from_str(alloc, name)?;
+    let letter = match name {
+        Name::A => "a",
+        Name::B => "b",
+    };
+    let name = String::from_str(alloc, letter)?;
     builder.add_capture_start(StateID::from(next), group, Some(name))
 }
 
@@ -221,24 +278,29 @@ fn tells(builder: &Builder, call: Call) -> bool {
 
 /// Whether a call answers what it should.
 fn is_answered(alloc: Global, builder: &mut Builder, call: Call) -> bool {
-    let (step, want) = match call {
-        Call::Do(step) => (step, "none"),
-        Call::Refuses(step, want) => (step, want),
+    let (step, refusal) = match call {
+        Call::Do(step) => (step, Refusal::None),
+        Call::Refuses(step, refusal) => (step, refusal),
         _ => return tells(builder, call),
     };
     match take(alloc, builder, step) {
-        Ok(yes) => yes && want == "none",
-        Err(error) => is_told(alloc, &error, want),
+        Ok(yes) => yes && matches!(refusal, Refusal::None),
+        Err(error) => is_told(alloc, &error, words_of(refusal)),
     }
 }
 
-/// Whether each of the calls of a new builder answers what it should.
-pub(crate) fn are_answered(alloc: Global, calls: &[Call]) -> bool {
-    let mut builder = Builder::new(alloc);
+/// Whether each of the calls answers what it should.
+fn all_are_answered(alloc: Global, builder: &mut Builder, calls: &[Call]) -> bool {
     for call in calls {
-        if !is_answered(alloc, &mut builder, *call) {
+        if !is_answered(alloc, builder, *call) {
             return false;
         }
     }
     true
+}
+
+/// Whether each of the calls of a new builder does.
+pub(crate) fn are_answered(alloc: Global, calls: &[Call]) -> bool {
+    let mut builder = Builder::new(alloc);
+    all_are_answered(alloc, &mut builder, calls)
 }

@@ -60,33 +60,47 @@ fn has_facts(nfa: &NFA, starts: (u8, u8, Option<u8>), sizes: [usize; 5], flags: 
         && told_flags == flags
 }
 
-/// Whether it has the facts of the one that is expected.
-fn has_wanted_facts(nfa: &NFA, wanted: Wanted) -> bool {
-    let (starts, sizes, flags) = match wanted {
-        Wanted::Always => ((0, 0, Some(0)), [1, 3, 1, 72, 2], [false, true, true, true]),
-        Wanted::Never => ((0, 0, None), [0, 1, 0, 24, 2], [false, true, false, false]),
-        Wanted::ByteA => ((2, 0, Some(2)), [1, 4, 0, 96, 4], [false; 4]),
-        Wanted::Ways => (
+/// The two starts and that of the first pattern; the numbers of patterns, states, groups, bytes and classes; and the
+/// flags of the one that is expected.
+type Facts = ((u8, u8, Option<u8>), [usize; 5], [bool; 4]);
+
+/// Those facts.
+const fn facts_of(wanted: Wanted) -> &'static Facts {
+    match wanted {
+        Wanted::Always => &((0, 0, Some(0)), [1, 3, 1, 72, 2], [false, true, true, true]),
+        Wanted::Never => &((0, 0, None), [0, 1, 0, 24, 2], [false, true, false, false]),
+        Wanted::ByteA => &((2, 0, Some(2)), [1, 4, 0, 96, 4], [false; 4]),
+        Wanted::Ways => &(
             (5, 5, Some(0)),
             [1, 6, 0, 6 * 24 + 6 * 4, 2],
             [false, true, false, true],
         ),
-        Wanted::Ranges => (
+        Wanted::Ranges => &(
             (4, 4, Some(0)),
             [1, 6, 0, 6 * 24 + 2 * 8, 7],
             [false, true, false, true],
         ),
-        Wanted::Groups(reverse) => (
+        Wanted::Groups(false) => &(
             (0, 0, Some(0)),
             [1, 6, 3, 6 * 24, 2],
-            [reverse, true, true, true],
+            [false, true, true, true],
         ),
-        Wanted::Match => (
+        Wanted::Groups(true) => &(
+            (0, 0, Some(0)),
+            [1, 6, 3, 6 * 24, 2],
+            [true, true, true, true],
+        ),
+        Wanted::Match => &(
             (0, 0, Some(0)),
             [1, 1, 0, 24, 2],
             [false, true, false, true],
         ),
-    };
+    }
+}
+
+/// Whether it has the facts of the one that is expected.
+fn has_wanted_facts(nfa: &NFA, wanted: Wanted) -> bool {
+    let (starts, sizes, flags) = *facts_of(wanted);
     has_facts(nfa, starts, sizes, flags)
 }
 

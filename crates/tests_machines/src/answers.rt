@@ -1,7 +1,7 @@
 //! What a machine answers to calls, one after the other.
 use crate::automata::{Ready, machine_of, machine_ready, ready_made};
 use crate::calls::{Call, Ends, Found, Kind, Mode, Room, Text, bytes_of};
-use crate::machine::{Machine, Stepped};
+use crate::machine::{Machine, Stepped, give_up};
 use crate::shapes::machine_by;
 use determinize_core::Config as StartConfig;
 use lazy_dfa::dfa::Config;
@@ -9,6 +9,7 @@ use lazy_dfa::{BuildError, CacheError, LazyStateID, StartError};
 use search_core::PatternID;
 use search_types::{Anchored, HalfMatch, Input, MatchError, MatchErrorKind, MatchKind, Span};
 use std::alloc::Global;
+use std::mem;
 
 /// The ID with this number.
 fn id_of(ids: &[LazyStateID], number: usize) -> LazyStateID {
@@ -176,14 +177,34 @@ fn set(config: &mut Config, call: &Call) {
     }
 }
 
-/// Whether a machine was made, which then takes the place of this one.
-fn is_replaced(machine: &mut Machine, made: Result<Machine, BuildError>) -> bool {
-    match made {
-        Ok(made) => {
-            *machine = made;
+/// The machine that a call asks for.
+fn asked_for(alloc: Global, config: &Config, call: &Call) -> Result<Machine, BuildError> {
+    match *call {
+        Call::Letters(text) => machine_of(alloc, bytes_of(text), None, false, *config),
+        Call::LettersBack(text) => machine_of(alloc, bytes_of(text), None, true, *config),
+        Call::Behind(look, text) => machine_of(alloc, bytes_of(text), Some(look), false, *config),
+        Call::Of(shape, form) => machine_by(alloc, shape, form, *config),
+        Call::Made(kind) => machine_ready(alloc, kind),
+        _ => Err(BuildError::NoMemory),
+    }
+}
+
+/// The same, if it is made.
+fn machine_for(alloc: Global, config: &Config, call: &Call) -> Option<Machine> {
+    match asked_for(alloc, config, call) {
+        Ok(machine) => Some(machine),
+        Err(_) => None,
+    }
+}
+
+/// Whether the machine that a call asks for is made, and takes the place of this one.
+fn is_replaced(machine: &mut Machine, config: &Config, call: &Call) -> bool {
+    match machine_for(machine.alloc, config, call) {
+        Some(made) => {
+            give_up(mem::replace(machine, made));
             true
         }
-        Err(_) => false,
+        None => false,
     }
 }
 
@@ -202,22 +223,9 @@ fn is_answered(
     config: &Config,
     call: &Call,
 ) -> bool {
-    let alloc = machine.alloc;
     match *call {
-        Call::Letters(text) => {
-            let made = machine_of(alloc, bytes_of(text), None, false, *config);
-            is_replaced(machine, made)
-        }
-        Call::LettersBack(text) => {
-            let made = machine_of(alloc, bytes_of(text), None, true, *config);
-            is_replaced(machine, made)
-        }
-        Call::Behind(look, text) => {
-            let made = machine_of(alloc, bytes_of(text), Some(look), false, *config);
-            is_replaced(machine, made)
-        }
-        Call::Of(shape, form) => is_replaced(machine, machine_by(alloc, shape, form, *config)),
-        Call::Made(kind) => is_replaced(machine, machine_ready(alloc, kind)),
+        Call::Letters(_) | Call::LettersBack(_) | Call::Behind(..) | Call::Of(..) | Call::Made(_) =>
+            is_replaced(machine, config, call),
         Call::HandedOn(kind) => is_handed_on(machine, kind),
         _ => is_started(machine, ids, config, call),
     }
@@ -363,15 +371,23 @@ fn is_moved(machine: &mut Machine, ids: &[LazyStateID], config: &Config, call: &
     }
 }
 
+/// Whether the machine's states would need so many bytes at least with these options.
+fn needs(machine: &Machine, config: &Config, bytes: usize) -> bool {
+    match config.get_minimum_cache_capacity(machine.dfa().get_nfa()) {
+        Ok(least) => least == bytes,
+        Err(e) => {
+            give_up(e);
+            false
+        }
+    }
+}
+
 /// Whether what a call asks of the cache is told, and true of calls that ask for nothing.
 fn is_told(machine: &Machine, ids: &[LazyStateID], config: &Config, call: &Call) -> bool {
     match *call {
         Call::Patterns(count) => machine.dfa().pattern_len() == count,
         Call::Given(bytes) => machine.dfa().get_config().get_cache_capacity() == bytes,
-        Call::Least(bytes) => {
-            let least = config.get_minimum_cache_capacity(machine.dfa().get_nfa());
-            least.ok() == Some(bytes)
-        }
+        Call::Least(bytes) => needs(machine, config, bytes),
         Call::Total(bytes, goes_on) => {
             machine.total() == bytes && machine.in_progress() == goes_on
         }
@@ -439,8 +455,12 @@ fn are_answered(machine: &mut Machine, calls: &[Call]) -> bool {
 
 /// Whether each of them does, where the first machine is of the pattern `a` with no option set.
 pub fn answers(alloc: Global, calls: &[Call]) -> bool {
-    match machine_of(alloc, b"a", None, false, Config::new()) {
-        Ok(mut machine) => are_answered(&mut machine, calls),
-        Err(_) => false,
+    match machine_for(alloc, &Config::new(), &Call::Letters(Text::A)) {
+        Some(mut machine) => {
+            let answered = are_answered(&mut machine, calls);
+            give_up(machine);
+            answered
+        }
+        None => false,
     }
 }

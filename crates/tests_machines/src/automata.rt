@@ -2,7 +2,7 @@
 ghost use Rattle.std.specs.Prelude.{◌≡◌, ◌<◌};
 ghost use Rattle.nfa_core.specs.CanBuild.{CanBuild};
 
-use crate::machine::Machine;
+use crate::machine::{Machine, give_up};
 use lazy_dfa::BuildError;
 use lazy_dfa::dfa::{Config, DFA};
 use look_core::Look;
@@ -44,6 +44,15 @@ pub fn range(start: u8, end: u8, next: StateID) -> Transition
     Transition { start, end, next }
 }
 
+/// Ends the pattern that was begun, which starts in this state.
+pub(crate) fn finish(builder: &mut Builder, start: StateID) -> Result<StateID, NfaError> {
+    if !builder.in_pattern() {
+        return Err(NfaError::TooManyPatterns);
+    }
+    builder.finish_pattern(start)?;
+    Ok(start)
+}
+
 /// A pattern of one letter, behind a look if there is one, and where it starts.
 fn pattern(builder: &mut Builder, letter: u8, look: Option<Look>) -> Result<StateID, NfaError> {
     if builder.in_pattern() {
@@ -53,12 +62,10 @@ fn pattern(builder: &mut Builder, letter: u8, look: Option<Look>) -> Result<Stat
     let last = builder.add_match()?;
     let byte = builder.add_range(range(letter, letter, last))?;
     let Some(look) = look else {
-        builder.finish_pattern(byte)?;
-        return Ok(byte);
+        return finish(builder, byte);
     };
     let start = builder.add_look(byte, look)?;
-    builder.finish_pattern(start)?;
-    Ok(start)
+    finish(builder, start)
 }
 
 /// The patterns of these letters, and where they start.
@@ -75,6 +82,21 @@ fn patterns(
     Ok(starts)
 }
 
+/// The automaton of the patterns of these letters, which a new builder makes.
+fn build(
+    alloc: Global,
+    builder: &mut Builder,
+    letters: &[u8],
+    look: Option<Look>,
+    limit: Option<usize>,
+) -> Result<NFA, NfaError> {
+    builder.set_size_limit(limit)?;
+    let starts = patterns(alloc, builder, letters, look)?;
+    let anchored = builder.add_union(starts)?;
+    let prefix = any_place(alloc, builder, anchored)?;
+    built(builder, anchored, prefix)
+}
+
 /// Finds one pattern for each letter at any place, the first one preferred, forward or in reverse. For one letter it has four
 /// states: a match, the letter, any byte, and a choice of the letter and any byte.
 pub fn letters(
@@ -86,11 +108,9 @@ pub fn letters(
 ) -> Result<NFA, NfaError> {
     let mut builder = Builder::new(alloc);
     builder.set_reverse(reverse);
-    builder.set_size_limit(limit)?;
-    let starts = patterns(alloc, &mut builder, letters, look)?;
-    let anchored = builder.add_union(starts)?;
-    let prefix = any_place(alloc, &mut builder, anchored)?;
-    built(&builder, anchored, prefix)
+    let nfa = build(alloc, &mut builder, letters, look, limit);
+    give_up(builder);
+    nfa
 }
 
 /// Starts at any place what starts in the state that was added last, the first place preferred.
@@ -138,8 +158,5 @@ pub fn ready_made(alloc: Global, kind: Ready) -> Result<DFA, BuildError> {
 /// The machine of it.
 pub fn machine_ready(alloc: Global, kind: Ready) -> Result<Machine, BuildError> {
     let dfa = ready_made(alloc, kind)?;
-    match Machine::of(alloc, dfa) {
-        Ok(machine) => Ok(machine),
-        Err(_) => Err(BuildError::NoMemory),
-    }
+    Machine::of(alloc, dfa)
 }

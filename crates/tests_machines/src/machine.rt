@@ -11,6 +11,7 @@ use search_core::PatternID;
 use search_types::{HalfMatch, Input, MatchError};
 use std::alloc::{AllocError, Global};
 use std::marker::{Brand, Model};
+use std::mem;
 use std::sync::ledger::{Blank, Ledger};
 
 /// An automaton with a cache of it.
@@ -43,23 +44,39 @@ pub enum Stepped {
     NotHeld,
 }
 
+/// Drops a value. Where it has many parts, a call is cheaper to prove than the drop of each of them.
+pub(crate) fn give_up<T: Drop>(_value: T) {}
+
+/// The automaton of an NFA.
+fn built(nfa: NFA, config: Config) -> Result<DFA, BuildError> {
+    let mut builder = DFA::builder();
+    builder.configure(config);
+    builder.build_from_nfa(nfa)
+}
+
 /// How it is made.
 impl Machine {
     /// The automaton of an NFA, with a fresh cache.
     pub fn new(alloc: Global, nfa: NFA, config: Config) -> Result<Machine, BuildError> {
-        let mut builder = DFA::builder();
-        builder.configure(config);
-        let dfa = builder.build_from_nfa(nfa)?;
+        let dfa = built(nfa, config)?;
         match dfa.create_cache(alloc) {
             Ok(cache) => Ok(Machine { dfa, cache, alloc }),
-            Err(_) => Err(BuildError::NoMemory),
+            Err(_) => {
+                give_up(dfa);
+                Err(BuildError::NoMemory)
+            }
         }
     }
 
     /// An automaton, with a fresh cache.
-    pub fn of(alloc: Global, dfa: DFA) -> Result<Machine, AllocError> {
-        let cache = Cache::new(alloc, &dfa)?;
-        Ok(Machine { dfa, cache, alloc })
+    pub fn of(alloc: Global, dfa: DFA) -> Result<Machine, BuildError> {
+        match Cache::new(alloc, &dfa) {
+            Ok(cache) => Ok(Machine { dfa, cache, alloc }),
+            Err(_) => {
+                give_up(dfa);
+                Err(BuildError::NoMemory)
+            }
+        }
     }
 
     /// The automaton.
@@ -74,9 +91,16 @@ impl Machine {
 
     /// Makes the cache anew for another automaton, which takes the place of this one.
     pub fn reset_to(&mut self, dfa: DFA) -> Result<(), AllocError> {
-        dfa.reset_cache(&mut self.cache)?;
-        self.dfa = dfa;
-        Ok(())
+        match dfa.reset_cache(&mut self.cache) {
+            Ok(()) => {
+                give_up(mem::replace(&mut self.dfa, dfa));
+                Ok(())
+            }
+            Err(e) => {
+                give_up(dfa);
+                Err(e)
+            }
+        }
     }
 }
 

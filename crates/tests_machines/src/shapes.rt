@@ -1,6 +1,6 @@
 //! Automata of one pattern as lists of states, whose numbers are their places in these.
-use crate::automata::{any_place, built, range};
-use crate::machine::Machine;
+use crate::automata::{any_place, built, finish, range};
+use crate::machine::{Machine, give_up};
 use lazy_dfa::BuildError;
 use lazy_dfa::dfa::Config;
 use look_core::{AsciiWord, LineTerm, Look, LookMatcher};
@@ -223,11 +223,7 @@ fn add_pattern(alloc: Global, builder: &mut Builder, nodes: &[Node]) -> Result<S
     for node in nodes {
         last = add(alloc, builder, *node)?;
     }
-    if !builder.in_pattern() {
-        return Err(NfaError::TooManyPatterns);
-    }
-    builder.finish_pattern(last)?;
-    Ok(last)
+    finish(builder, last)
 }
 
 /// The byte that ends a line.
@@ -238,6 +234,13 @@ fn line_end(form: Form) -> u8 {
     }
 }
 
+/// The automaton of these states, which a new builder makes.
+fn build(alloc: Global, builder: &mut Builder, nodes: &[Node]) -> Result<NFA, NfaError> {
+    let start = add_pattern(alloc, builder, nodes)?;
+    let prefix = any_place(alloc, builder, start)?;
+    built(builder, start, prefix)
+}
+
 /// The automaton of these states.
 fn nfa_of(alloc: Global, nodes: &[Node], form: Form) -> Result<NFA, NfaError> {
     let mut builder = Builder::new(alloc);
@@ -246,9 +249,9 @@ fn nfa_of(alloc: Global, nodes: &[Node], form: Form) -> Result<NFA, NfaError> {
     builder.set_look_matcher(matcher);
     builder.set_reverse(is_reverse(form));
     builder.set_utf8(is_by_characters(form));
-    let start = add_pattern(alloc, &mut builder, nodes)?;
-    let prefix = any_place(alloc, &mut builder, start)?;
-    built(&builder, start, prefix)
+    let nfa = build(alloc, &mut builder, nodes);
+    give_up(builder);
+    nfa
 }
 
 /// The machine of a shape.

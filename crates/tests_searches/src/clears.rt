@@ -163,8 +163,10 @@ const fn starts_give_up() -> &'static [Call] {
 #[test]
 fn clears_and_what_they_leave(rt: HostRuntime) {
     let alloc = rt.alloc();
-    assert!(rt; have_effect(alloc));
-    assert!(rt; answers(alloc, &leaves(false)));
-    assert!(rt; answers(alloc, &leaves(true)));
-    assert!(rt; answers(alloc, starts_give_up()));
+    assert!(rt;
+        have_effect(alloc)
+            && answers(alloc, &leaves(false))
+            && answers(alloc, &leaves(true))
+            && answers(alloc, starts_give_up())
+    );
 }

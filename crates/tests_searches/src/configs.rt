@@ -35,31 +35,45 @@ fn has_defaults(config: &Config) -> bool {
     matches!(config.get_match_kind(), MatchKind::LeftmostFirst) && has_no_quits(config)
 }
 
-/// The options of an automaton that is built by a builder which was configured with the first and then with the second.
-fn configured(alloc: Global, first: Config, second: Config) -> Result<Config, BuildError> {
+/// Drops a value. Where it has many parts, a call is cheaper to prove than the drop of each of them.
+pub(crate) fn give_up<T: Drop>(_value: T) {}
+
+/// The automaton that is built by a builder which was configured with the first and then with the second.
+fn configured(alloc: Global, first: Config, second: Config) -> Result<DFA, BuildError> {
     let nfa = letters(alloc, b"a", None, None, false)?;
     let mut builder = Builder::new();
     builder.configure(first);
     builder.configure(second);
-    let dfa = builder.build_from_nfa(nfa)?;
-    Ok(*dfa.get_config())
+    builder.build_from_nfa(nfa)
 }
 
 /// What the second configuration doesn't set stays, and the bytes set by hand are replaced as a whole.
+fn has_both(both: &Config) -> bool {
+    both.get_cache_capacity() == 600 && !both.get_quit(b'a') && both.get_quit(b'b')
+}
+
+/// Whether that is so of an automaton's options.
 fn keeps_what_is_not_set(alloc: Global) -> bool {
     let first = Config::new().cache_capacity(600).quit(b'a', true);
     match configured(alloc, first, Config::new().quit(b'b', true)) {
-        Ok(both) => {
-            both.get_cache_capacity() == 600 && !both.get_quit(b'a') && both.get_quit(b'b')
+        Ok(dfa) => {
+            let kept = has_both(dfa.get_config());
+            give_up(dfa);
+            kept
         }
-        Err(_) => false,
+        Err(e) => {
+            give_up(e);
+            false
+        }
     }
 }
 
 #[test]
 fn defaults_and_what_is_set_later(rt: HostRuntime) {
-    assert!(rt; has_defaults(&Config::new()));
-    assert!(rt; has_defaults(&DFA::config()));
-    assert!(rt; has_defaults(&Config::default()));
-    assert!(rt; keeps_what_is_not_set(rt.alloc()));
+    assert!(rt;
+        has_defaults(&Config::new())
+            && has_defaults(&DFA::config())
+            && has_defaults(&Config::default())
+            && keeps_what_is_not_set(rt.alloc())
+    );
 }

@@ -143,9 +143,11 @@ const fn by_looks() -> &'static [Call] {
 #[test]
 fn searches_find_ends(rt: HostRuntime) {
     let alloc = rt.alloc();
-    assert!(rt; answers(alloc, of_repetitions()));
-    assert!(rt; answers(alloc, inside_characters()));
-    assert!(rt; answers(alloc, inside_characters_in_reverse()));
-    assert!(rt; answers(alloc, before_quit_bytes()));
-    assert!(rt; answers(alloc, by_looks()));
+    assert!(rt;
+        answers(alloc, of_repetitions())
+            && answers(alloc, inside_characters())
+            && answers(alloc, inside_characters_in_reverse())
+            && answers(alloc, before_quit_bytes())
+            && answers(alloc, by_looks())
+    );
 }

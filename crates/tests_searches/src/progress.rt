@@ -50,6 +50,5 @@ const fn handed_on() -> &'static [Call] {
 
 #[test]
 fn progress_is_counted_and_reset(rt: HostRuntime) {
-    assert!(rt; answers(rt.alloc(), adds()));
-    assert!(rt; answers(rt.alloc(), handed_on()));
+    assert!(rt; answers(rt.alloc(), adds()) && answers(rt.alloc(), handed_on()));
 }

@@ -1,4 +1,5 @@
 //! Which automata are built, and how many bytes their caches need at least and at first.
+use crate::configs::give_up;
 use lazy_dfa::BuildError;
 use lazy_dfa::dfa::{Config, DFA};
 use look_core::Look;
@@ -59,8 +60,7 @@ const fn bytes_of_ready_made() -> &'static [Call] {
 
 #[test]
 fn caches_need_so_many_bytes(rt: HostRuntime) {
-    assert!(rt; answers(rt.alloc(), bytes()));
-    assert!(rt; answers(rt.alloc(), bytes_of_ready_made()));
+    assert!(rt; answers(rt.alloc(), bytes()) && answers(rt.alloc(), bytes_of_ready_made()));
 }
 
 /// Why a build is refused, if it is.
@@ -105,8 +105,15 @@ fn refusal_of(e: &BuildError) -> Refusal {
 /// Why it isn't built, or that it is.
 fn outcome(alloc: Global, look: Option<Look>, limit: Option<usize>, config: Config) -> Refusal {
     match built(alloc, look, limit, config) {
-        Ok(_) => Refusal::None,
-        Err(e) => refusal_of(&e),
+        Ok(dfa) => {
+            give_up(dfa);
+            Refusal::None
+        }
+        Err(e) => {
+            let refusal = refusal_of(&e);
+            give_up(e);
+            refusal
+        }
     }
 }
 
@@ -118,7 +125,9 @@ fn outcome_with(alloc: Global, capacity: usize) -> Refusal {
 /// The least capacity for `a` behind a bound of a word by characters.
 fn least_for_words(alloc: Global, config: Config) -> Result<usize, BuildError> {
     let nfa = letters(alloc, b"a", Some(Look::WordUnicode), None, false)?;
-    config.get_minimum_cache_capacity(&nfa)
+    let least = config.get_minimum_cache_capacity(&nfa);
+    give_up(nfa);
+    least
 }
 
 /// Whether words by characters are taken with these options. Where they aren't, that is told before a capacity that is too
@@ -132,7 +141,10 @@ fn words_are_taken(alloc: Global, config: Config, taken: bool) -> bool {
     );
     match least_for_words(alloc, config) {
         Ok(least) => taken && small == Refusal::TooSmall(least, 0),
-        Err(_) => !taken && small == Refusal::Unsupported,
+        Err(e) => {
+            give_up(e);
+            !taken && small == Refusal::Unsupported
+        }
     }
 }
 
@@ -147,17 +159,25 @@ fn high(last: usize) -> Config {
     config
 }
 
-/// The refusal of an NFA is told with its cause: `a` takes more than a byte.
+/// Whether caches that are too small are refused, and an NFA with its cause: `a` takes more than a byte. A look that is
+/// taken isn't the cause.
+fn sizes_are_refused(alloc: Global) -> bool {
+    let ascii = Some(Look::WordAscii);
+    outcome_with(alloc, 493) == Refusal::TooSmall(494, 493)
+        && outcome_with(alloc, 0) == Refusal::TooSmall(494, 0)
+        && outcome(alloc, None, Some(1), Config::new()) == Refusal::TooLarge(1)
+        && outcome(alloc, ascii, None, Config::new()) != Refusal::Unsupported
+}
+
+/// Whether words by characters are taken where the option is set or all high bytes quit.
+fn words_are_refused(alloc: Global) -> bool {
+    words_are_taken(alloc, Config::new(), false)
+        && words_are_taken(alloc, high(0xFE), false)
+        && words_are_taken(alloc, high(0xFF), true)
+        && words_are_taken(alloc, Config::new().unicode_word_boundary(true), true)
+}
+
 #[test]
 fn builds_that_are_refused(rt: HostRuntime) {
-    let alloc = rt.alloc();
-    assert!(rt; outcome_with(alloc, 493) == Refusal::TooSmall(494, 493));
-    assert!(rt; outcome_with(alloc, 0) == Refusal::TooSmall(494, 0));
-    assert!(rt; outcome(alloc, None, Some(1), Config::new()) == Refusal::TooLarge(1));
-    assert!(rt; words_are_taken(alloc, Config::new(), false));
-    assert!(rt; words_are_taken(alloc, high(0xFE), false));
-    assert!(rt; words_are_taken(alloc, high(0xFF), true));
-    assert!(rt; words_are_taken(alloc, Config::new().unicode_word_boundary(true), true));
-    let ascii = Some(Look::WordAscii);
-    assert!(rt; outcome(alloc, ascii, None, Config::new()) != Refusal::Unsupported);
+    assert!(rt; sizes_are_refused(rt.alloc()) && words_are_refused(rt.alloc()));
 }

@@ -70,12 +70,14 @@ const fn lacks_room(capacity: usize, bytes: Option<usize>) -> [Call; 9] {
 #[test]
 fn searches_over_least_caches(rt: HostRuntime) {
     let alloc = rt.alloc();
-    assert!(rt; answers(alloc, measured()));
-    assert!(rt; answers(alloc, &clears(None, None)));
-    assert!(rt; answers(alloc, &clears(Some(0), Some(0))));
-    assert!(rt; answers(alloc, &lacks_room(494, None)));
-    assert!(rt; answers(alloc, &lacks_room(494, Some(1))));
-    assert!(rt; answers(alloc, &lacks_room(0, None)));
+    assert!(rt;
+        answers(alloc, measured())
+            && answers(alloc, &clears(None, None))
+            && answers(alloc, &clears(Some(0), Some(0)))
+            && answers(alloc, &lacks_room(494, None))
+            && answers(alloc, &lacks_room(494, Some(1)))
+            && answers(alloc, &lacks_room(0, None))
+    );
 }
 
 /// A match is told one byte late; behind that byte nothing is left, and the quit byte `d` isn't read. Of the patterns `a` and
@@ -136,6 +138,5 @@ const fn by_automata() -> &'static [Call] {
 #[test]
 fn searches_find_and_are_refused(rt: HostRuntime) {
     let alloc = rt.alloc();
-    assert!(rt; answers(alloc, in_order()));
-    assert!(rt; answers(alloc, by_automata()));
+    assert!(rt; answers(alloc, in_order()) && answers(alloc, by_automata()));
 }

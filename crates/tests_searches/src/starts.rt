@@ -85,8 +85,10 @@ const fn tags(tagged: bool, kind: Kind) -> [Call; 15] {
 #[test]
 fn starts_are_told_and_refused(rt: HostRuntime) {
     let alloc = rt.alloc();
-    assert!(rt; answers(alloc, refused_in_order()));
-    assert!(rt; answers(alloc, by_pattern()));
-    assert!(rt; answers(alloc, &tags(false, Kind::Plain)));
-    assert!(rt; answers(alloc, &tags(true, Kind::Start)));
+    assert!(rt;
+        answers(alloc, refused_in_order())
+            && answers(alloc, by_pattern())
+            && answers(alloc, &tags(false, Kind::Plain))
+            && answers(alloc, &tags(true, Kind::Start))
+    );
 }

@@ -102,7 +102,7 @@ const fn listed() -> &'static [Call] {
 #[test]
 fn steps_lead_from_state_to_state(rt: HostRuntime) {
     let alloc = rt.alloc();
-    assert!(rt; answers(alloc, walk()));
-    assert!(rt; answers(alloc, quits_and_ends()));
-    assert!(rt; answers(alloc, listed()));
+    assert!(rt;
+        answers(alloc, walk()) && answers(alloc, quits_and_ends()) && answers(alloc, listed())
+    );
 }

@@ -11,20 +11,25 @@ fn is_told<T: Display>(alloc: Global, refusal: &T, text: &str) -> bool {
     }
 }
 
+/// The same of one that is given up here, since its drop is dear where several of them are made.
+fn has_text<T: Display + Drop>(alloc: Global, refusal: T, text: &str) -> bool {
+    is_told(alloc, &refusal, text)
+}
+
 fn builds(alloc: Global) -> bool {
     let err = nfa_core::BuildError::TooManyStates;
     let small = BuildError::InsufficientCacheCapacity {
         minimum: 494,
         given: 493,
     };
-    is_told(alloc, &BuildError::NFA { err }, "error building NFA")
-        && is_told(
+    has_text(alloc, BuildError::NFA { err }, "error building NFA")
+        && has_text(
             alloc,
-            &small,
+            small,
             "given cache capacity (493) is smaller than minimum required (494)",
         )
-        && is_told(alloc, &BuildError::NoMemory, "out of memory")
-        && is_told(alloc, &BuildError::Unsupported, unsupported())
+        && has_text(alloc, BuildError::NoMemory, "out of memory")
+        && has_text(alloc, BuildError::Unsupported, unsupported())
 }
 
 fn unsupported() -> &'static str {
@@ -48,6 +53,5 @@ fn starts_and_steps(alloc: Global) -> bool {
 
 #[test]
 fn errors_have_their_texts(rt: HostRuntime) {
-    assert!(rt; builds(rt.alloc()));
-    assert!(rt; starts_and_steps(rt.alloc()));
+    assert!(rt; builds(rt.alloc()) && starts_and_steps(rt.alloc()));
 }

@@ -211,12 +211,14 @@ const fn progress_by_modes() -> &'static [Call] {
 #[test]
 fn walks_tell_all_ends(rt: HostRuntime) {
     let alloc = rt.alloc();
-    assert!(rt; answers(alloc, of_words()));
-    assert!(rt; answers(alloc, of_letters()));
-    assert!(rt; answers(alloc, by_modes()));
-    assert!(rt; answers(alloc, by_places()));
-    assert!(rt; answers(alloc, over_clears()));
-    assert!(rt; answers(alloc, progress()));
-    assert!(rt; answers(alloc, progress_by_modes()));
-    assert!(rt; answers(alloc, progress_up_to_quit_bytes()));
+    assert!(rt;
+        answers(alloc, of_words())
+            && answers(alloc, of_letters())
+            && answers(alloc, by_modes())
+            && answers(alloc, by_places())
+            && answers(alloc, over_clears())
+            && answers(alloc, progress())
+            && answers(alloc, progress_by_modes())
+            && answers(alloc, progress_up_to_quit_bytes())
+    );
 }

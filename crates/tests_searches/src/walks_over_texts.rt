@@ -180,6 +180,10 @@ fn agree_with(alloc: Global, each: &[u8], reverse: bool, capacity: usize) -> boo
 #[test]
 fn walks_of_many_patterns_tell_each_at_each_place(rt: HostRuntime) {
     let alloc = rt.alloc();
-    assert!(rt; agree_with(alloc, b"aba", false, 2097152) && agree_with(alloc, b"cab", false, 0));
-    assert!(rt; agree_with(alloc, b"aba", true, 2097152) && agree_with(alloc, b"ccc", true, 0));
+    assert!(rt;
+        agree_with(alloc, b"aba", false, 2097152)
+            && agree_with(alloc, b"cab", false, 0)
+            && agree_with(alloc, b"aba", true, 2097152)
+            && agree_with(alloc, b"ccc", true, 0)
+    );
 }

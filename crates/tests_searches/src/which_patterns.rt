@@ -85,7 +85,9 @@ const fn over_clears() -> &'static [Call] {
 #[test]
 fn patterns_that_match_are_added(rt: HostRuntime) {
     let alloc = rt.alloc();
-    assert!(rt; answers(alloc, by_room_and_input()));
-    assert!(rt; answers(alloc, by_modes_up_to_quit()));
-    assert!(rt; answers(alloc, over_clears()));
+    assert!(rt;
+        answers(alloc, by_room_and_input())
+            && answers(alloc, by_modes_up_to_quit())
+            && answers(alloc, over_clears())
+    );
 }
