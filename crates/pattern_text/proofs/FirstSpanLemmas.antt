@@ -1,4 +1,4 @@
--- What the kit's search finds, for a tree.
+-- What the toolchain's search finds, for a tree.
 use Rattle.std.proofs.Common.{◌≡◌, ℕ, ◌<◌, ◌≤◌, List, [], ◌∷◌, length, All, Some, None, slice_get, refl, sym, ap, ◌∙◌, arith}
 use Rattle.std.proofs.lemmas.Option.{none-some}
 use Rattle.regex_hir.specs.Re.{Re, accept, attempt}

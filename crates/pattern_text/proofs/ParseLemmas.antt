@@ -1,4 +1,4 @@
--- From what the kit's parser tells to what is told of trees and refusals.
+-- From what the toolchain's parser tells to what is told of trees and refusals.
 use Rattle.std.proofs.Common.{◌≡◌, ◌≢◌, ℕ, ◌≤◌, ◌+◌, ◌*◌, arith, List, length, chars, Option, Some, None, IsSomeAnd, ap, sym, ◌∙◌, subst, option_map, ⊎_elim, refl, Bool, true, false, IsTrue, true≢false}
 use Rattle.regex_hir.specs.Re.{Re, attempt}
 use Rattle.regex_hir.specs.Meaning.{meaning}
@@ -59,6 +59,6 @@ pub utf8_tree : (utf8 : Bool) (hir : Hir) (names : Names) (x : Tree) → IsTrue 
 utf8_tree true hir names x on formed is = subst (λ (t : Tree). IsTrue (is_utf8_tree t)) (sym is) (is_text names hir formed)
 utf8_tree false hir names x on formed is = absurd (true≢false (sym on))
 
--- the tree is as high as the kit's is deep
+-- the tree is at most as high as the parsed pattern is deep, and one
 pub low_tree : (limit : ℕ) (hir : Hir) (names : Names) (x : Tree) → depth hir ≤ 5 * limit + 4 → x ≡ translated names hir → height x ≤ 5 * limit + 5
 low_tree limit hir names x low is = subst (λ (t : Tree). height t ≤ 5 * limit + 5) (sym is) (omega (arith, low, height_at_most names hir))

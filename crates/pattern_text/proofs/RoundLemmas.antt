@@ -32,7 +32,7 @@ module _ (R : ℕ → ℕ → Type 0) where
   one_more : (n i l j : ℕ) → Rounds R n i l → R l j → Rounds R (suc n) i j
   one_more n i l j r m = join n 1 (suc n) i l j (omega arith) r (j, m, refl)
 
-  -- one round or more, as the kit counts them
+  -- one round or more, as the toolchain's matcher counts them
   of_plus : (i j : ℕ) → theirs.Rounds R i j → (n : ℕ) × Rounds R (suc n) i j
   of_plus i j (one_round _ r) = (0, (j, r, refl))
   of_plus i j (next_round l _ rs r) = let p = of_plus i l rs in (suc p.0, one_more (suc p.0) i l j p.1 r)

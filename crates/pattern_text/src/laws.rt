@@ -71,8 +71,8 @@ pub fn lists_of_parts_agree()
     ensures alternation_spans { (rs : List Re) (xs : List Tree) → AreSameSpans rs xs → SameSpans (alt_all rs) (alternation xs) }
 {}
 
-/// Where loops read, the kit's search finds the first place at which the tree has a span, and there the end
-/// that the tree prefers; it finds none where the tree has none.
+/// Where loops read, the toolchain's search finds the first place at which the tree has a span, and there the
+/// end that the tree prefers; it finds none where the tree has none.
 pub fn searches_find_the_first_preferred_span()
     ensures found { (re : Re) (x : Tree) → SameEnds re x → (h : List ℕ) → All (λ b. b < 256) h → LoopsRead x →
         (s : ℕ) (m : Match) → find re h s ≡ Some m → IsFirstSpan h x s m.start m.trace.end }

@@ -24,7 +24,7 @@ pub enum ParseError {
 }
 
 impl ParseError {
-    /// What the kit's parser tells.
+    /// What the toolchain's parser tells.
     pub(crate) fn of_parser(error: regex_syntax::Error) -> ParseError
         ensures memory { result ≡ NoMemory → error.kind ≡ OutOfMemory }
         ensures fault { (config : Options) (text : List ℕ) → Refuses config text error.kind → LiesIn text error.span → IsFault config text result }
