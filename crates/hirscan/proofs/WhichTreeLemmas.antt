@@ -73,7 +73,7 @@ ok_is : (d : Dfa) (v : CacheValue) (q : Search) (old new : List Bool) → Answer
     (new ≡ (which_of (reader d) q old).set) × ((which_of (reader d) q old).refusal ≡ None)
 ok_is d v q old new (inl told) = (told.1, told_ok (which_of (reader d) q old).refusal told.0)
 ok_is d v q old new (inr (k, _, set, inl lacked)) = cc
-ok_is d v q old new (inr (k, _, set, inr (x, gave_up, where_it_was))) = cc
+ok_is d v q old new (inr (k, _, set, inr (x, gave_up, on_its_way, where_it_was))) = cc
 
 module _ (xs : List Tree) (utf8 : Bool) (t : Terminator) (d : Dfa) (w : IsWalkerOf xs false utf8 t d) (q : Search)
     (asked : IsSearchOf xs utf8 q) (v : CacheValue) (old new : List Bool) (ok : AnswersWhich d v q old new (Ok tt)) where
