@@ -1,2 +1,4 @@
 pub mod TextLemmas
 pub mod ChoiceLemmas
+pub mod BoundaryLemmas
+pub mod FindLemmas

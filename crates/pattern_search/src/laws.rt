@@ -1,12 +1,22 @@
 //! Laws of searches for several patterns. Each function has no code: its contract is the law.
-ghost use Rattle.std.specs.Prelude.{ℕ};
+ghost use Rattle.std.specs.Prelude.{ℕ, Bool, List, All};
+ghost use Rattle.regex_hir.specs.Re.{Re};
+ghost use Rattle.hir_core.specs.Facts.{LoopsRead};
+ghost use Rattle.hir_core.specs.Tree.{Tree};
+ghost use Rattle.pattern_text.specs.SameEnds.{AreSameEnds};
 ghost use Rattle.hirscan.specs.Choices.{Query, answer_from};
 ghost use Rattle.hirscan.specs.LooseAnswers.{IsLooseAnswer};
-ghost use Rattle.pattern_search.specs.Searches.{FindsWhatIsWritten};
+ghost use Rattle.pattern_search.specs.Searches.{FindsAsRead};
 
 /// The answer that trees define has the least start of a match, the first pattern that matches there, and an end that it means,
 /// whatever the loops read.
 #[tactic(auto, using(crate::proofs::ChoiceLemmas::answer_is_loose))]
 pub fn the_answer_is_leftmost_whatever_the_loops()
     ensures { (q : Query) (s : ℕ) → IsLooseAnswer q s (answer_from q s) }
+{}
+
+/// What a search for the trees of patterns finds is what the kit's matching finds for the patterns.
+#[tactic(auto, using(crate::proofs::FindLemmas::finds_as_read))]
+pub fn searches_find_what_patterns_say()
+    ensures { (res : List Re) (xs : List Tree) → AreSameEnds res xs → All LoopsRead xs → (utf8 : Bool) → FindsAsRead utf8 res xs }
 {}
