@@ -2,3 +2,4 @@ pub mod TextLemmas
 pub mod ChoiceLemmas
 pub mod BoundaryLemmas
 pub mod FindLemmas
+pub mod AllMatchLemmas

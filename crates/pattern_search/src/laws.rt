@@ -6,7 +6,7 @@ ghost use Rattle.hir_core.specs.Tree.{Tree};
 ghost use Rattle.pattern_text.specs.SameEnds.{AreSameEnds};
 ghost use Rattle.hirscan.specs.Choices.{Query, answer_from};
 ghost use Rattle.hirscan.specs.LooseAnswers.{IsLooseAnswer};
-ghost use Rattle.pattern_search.specs.Searches.{FindsAsRead};
+ghost use Rattle.pattern_search.specs.Searches.{FindsAsRead, ListsAsRead};
 
 /// The answer that trees define has the least start of a match, the first pattern that matches there, and an end that it means,
 /// whatever the loops read.
@@ -19,4 +19,10 @@ pub fn the_answer_is_leftmost_whatever_the_loops()
 #[tactic(auto, using(crate::proofs::FindLemmas::finds_as_read))]
 pub fn searches_find_what_patterns_say()
     ensures { (res : List Re) (xs : List Tree) → AreSameEnds res xs → All LoopsRead xs → (utf8 : Bool) → FindsAsRead utf8 res xs }
+{}
+
+/// All answers, one after the other, are all matches of the kit's iteration, by its rule on empty matches.
+#[tactic(auto, using(crate::proofs::AllMatchLemmas::lists_as_read))]
+pub fn lists_are_what_patterns_say()
+    ensures { (res : List Re) (xs : List Tree) → AreSameEnds res xs → All LoopsRead xs → (utf8 : Bool) → ListsAsRead utf8 res xs }
 {}
