@@ -3,3 +3,5 @@ pub mod ChoiceLemmas
 pub mod BoundaryLemmas
 pub mod FindLemmas
 pub mod AllMatchLemmas
+pub mod StartLemmas
+pub mod ReadLemmas
