@@ -5,3 +5,4 @@ pub mod FindLemmas
 pub mod AllMatchLemmas
 pub mod StartLemmas
 pub mod ReadLemmas
+pub mod RegexLemmas

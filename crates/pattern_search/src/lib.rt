@@ -6,5 +6,6 @@
 
 pub mod laws;
 mod parsing;
+pub mod regex_laws;
 
 pub use parsing::{TextError, parse_all};
