@@ -18,7 +18,7 @@ use Rattle.hirscan.specs.Choices.{Query, answer_from, answers_of}
 use Rattle.hirscan.specs.LooseAnswers.{IsLooseAnswer}
 use Rattle.hirscan.specs.Regexes.{IsSearchOf}
 use Rattle.pattern_text.specs.SameEnds.{AreSameEnds}
-use Rattle.pattern_search.specs.Searches.{whole_search, whole_query, found_from, span_of_match, span_of_found, ListsAsRead}
+use Rattle.pattern_search.specs.Searches.{whole_search, whole_query, found_from, all_found, span_of_match, span_of_found, ListsAsRead}
 use Rattle.pattern_search.proofs.ChoiceLemmas.{answer_is_loose}
 use Rattle.pattern_search.proofs.FindLemmas.{finds_as_read}
 
@@ -137,9 +137,23 @@ from_any : (xs : List Tree) (utf8 : Bool) (h : List ℕ) (s t : ℕ) → IsSearc
 from_any xs utf8 h s t q =
     record { within = q.within; whole = q.whole; bytes = q.bytes; valid = q.valid; utf8_trees = q.utf8_trees }
 
-pub lists_as_read : (res : List Re) (xs : List Tree) → AreSameEnds res xs → All LoopsRead xs → (utf8 : Bool) → ListsAsRead utf8 res xs
-lists_as_read res xs same loops utf8 h s n search enough =
+pub lists_from : (res : List Re) (xs : List Tree) → AreSameEnds res xs → All LoopsRead xs → (utf8 : Bool) (h : List ℕ) (s n : ℕ) →
+    IsSearchOf xs utf8 (whole_search h s) → length h + 1 - s ≤ n →
+    map span_of_match (matches_from (found_from utf8 (alt_all res) h) n (found_from utf8 (alt_all res) h s))
+    ≡ map span_of_found (answers_of (whole_query utf8 xs h) s)
+lists_from res xs same loops utf8 h s n search enough =
     let within = within_of (whole_query utf8 xs h) in
     same_list (found_from utf8 (alt_all res) h) (answer_from (whole_query utf8 xs h)) (length h)
     (record { same = λ t. finds_as_read res xs same loops utf8 h t (from_any xs utf8 h s t search); ok = within }) n s
     ∙ ap (map span_of_found) (few_are_all (answer_from (whole_query utf8 xs h)) (length h) within s n enough)
+
+all_from_start : (utf8 : Bool) (re : Re) (h : List ℕ) → all_found utf8 re h ≡ matches_from (found_from utf8 re h) (length h + 1) (found_from utf8 re h 0)
+all_from_start false re h = refl
+all_from_start true re h = refl
+
+pub lists_as_read : (res : List Re) (xs : List Tree) → AreSameEnds res xs → All LoopsRead xs → (utf8 : Bool) → ListsAsRead utf8 res xs
+lists_as_read res xs same loops utf8 = record {
+  from = lists_from res xs same loops utf8;
+  whole = λ h search. ap (map span_of_match) (all_from_start utf8 (alt_all res) h)
+      ∙ lists_from res xs same loops utf8 h 0 (length h + 1) search (omega arith);
+}

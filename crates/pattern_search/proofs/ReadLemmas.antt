@@ -5,10 +5,13 @@ use Rattle.regex_syntax.specs.declared.Config.{Config}
 use Rattle.regex_syntax.specs.Brackets.{Nested}
 use Rattle.regex_syntax.specs.Grammar.{Names, read}
 use Rattle.hir_core.specs.Tree.{Tree}
+use Rattle.regex_pair.specs.Pairs.{Pair}
+use Rattle.hirscan.specs.declared.settings.Settings.{Settings}
 use Rattle.pattern_text.specs.SameEnds.{SameEnds, SameSpans, HasNames, AreSameEnds, AreSameSpans}
 use Rattle.pattern_text.specs.Patterns.{MeansText}
+use Rattle.pattern_search.specs.RegexAnswers.{AnswersAsRead}
 use Rattle.pattern_search.specs.Texts.{AreRead, AllMean}
-use Rattle.pattern_search.specs.Searches.{FindsWhatIsWritten}
+use Rattle.pattern_search.specs.Written.{FindsWhatIsWritten, AnswersWhatIsWritten}
 use Rattle.pattern_search.proofs.AllMatchLemmas.{lists_as_read}
 use Rattle.pattern_search.proofs.FindLemmas.{finds_as_read}
 use Rattle.pattern_search.proofs.StartLemmas.{spans_as_read, starts_as_read}
@@ -41,8 +44,16 @@ finds_what_is_written config ts xs m =
     record {
       patterns = r.0;
       are_read = r.1;
+      same_ends = r.2;
+      same_spans = r.3;
       spans = spans_as_read r.0 xs r.3;
       starts = starts_as_read r.0 xs r.3;
       finds = λ loops. finds_as_read r.0 xs r.2 loops;
       lists = λ loops. lists_as_read r.0 xs r.2 loops;
     }
+
+pub answers_what_is_written : (config : Config) (ts : List (List ℕ)) (xs : List Tree) (s : Settings) (p : Pair) → AllMean config ts xs →
+    ((res : List Re) → AreSameEnds res xs → AreSameSpans res xs → AnswersAsRead res xs s p) → AnswersWhatIsWritten config ts xs s p
+answers_what_is_written config ts xs s p m each =
+    let r = all_read config ts xs m in
+    record { patterns = r.0; are_read = r.1; answers = each r.0 r.2 r.3 }

@@ -16,7 +16,7 @@ use Rattle.hirscan.specs.LooseAnswers.{IsLooseAnswer}
 use Rattle.hirscan.specs.Regexes.{IsSearchOf, query_of}
 use Rattle.pattern_text.specs.SameEnds.{AreSameEnds, AreSameSpans}
 use Rattle.pattern_search.specs.Searches.{whole_search, whole_query, found_from, span_of_match, span_of_found, IsOfFirstPattern}
-use Rattle.pattern_search.proofs.AllMatchLemmas.{lists_as_read}
+use Rattle.pattern_search.proofs.AllMatchLemmas.{lists_from}
 use Rattle.pattern_search.proofs.FindLemmas.{finds_as_read}
 use Rattle.pattern_search.proofs.StartLemmas.{starts_as_read}
 
@@ -48,7 +48,7 @@ module _ (res : List Re) (xs : List Tree) (ends : AreSameEnds res xs) (spans : A
   pub listed_by_settings : All LoopsRead xs → (n : ℕ) → length h + 1 - at ≤ n → (fs : List Found) → answers_to is_word_char xs s (whole_search h at) ≡ fs →
       map span_of_match (matches_from (found_from s.utf8 (alt_all res) h) n (found_from s.utf8 (alt_all res) h at)) ≡ map span_of_found fs
   listed_by_settings loops n enough fs is =
-      lists_as_read res xs ends loops s.utf8 h at n search enough ∙ ap (map span_of_found) (sym same_answers ∙ is)
+      lists_from res xs ends loops s.utf8 h at n search enough ∙ ap (map span_of_found) (sym same_answers ∙ is)
 
   loose_by_settings : (o : Option Found) → IsLooseAnswer (query_by is_word_char xs s (whole_search h at)) at o → IsLooseAnswer (whole_query s.utf8 xs h) at o
   loose_by_settings o loose = subst (λ (t : Terminator). IsLooseAnswer (query_of xs s.utf8 (holds is_word_char t h) (whole_search h at)) at o) feeds loose

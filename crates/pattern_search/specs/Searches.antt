@@ -1,13 +1,11 @@
 -- What the trees of several patterns find in a whole haystack, in the words of the kit's matching: `find` in any bytes, and `find_str`
 -- in text, where no match starts inside a character. The kit has one pattern: several are their alternation, the first preferred.
-use Rattle.std.specs.Prelude.{◌≡◌, ◌↔◌, ◌⊎◌, ℕ, ◌+◌, ◌-◌, ◌<◌, ◌≤◌, Bool, true, false, List, map, length, slice_get, All, Option, Some, option_map}
+use Rattle.std.specs.Prelude.{◌≡◌, ◌↔◌, ℕ, ◌+◌, ◌-◌, ◌<◌, ◌≤◌, Bool, true, false, List, map, length, slice_get, All, Option, Some, option_map}
 use Rattle.regex_hir.specs.Re.{Re}
 use Rattle.regex_hir.specs.Matches.{Matches}
 use Rattle.regex_hir.specs.Meaning.{alt_all}
-use Rattle.regex_hir.specs.Find.{Match, find, find_str, matches_from}
-use Rattle.regex_syntax.specs.declared.Config.{Config}
+use Rattle.regex_hir.specs.Find.{Match, find, find_str, matches_from, find_all, find_all_str}
 use Rattle.hir_core.specs.Tree.{Tree}
-use Rattle.hir_core.specs.Facts.{LoopsRead}
 use Rattle.search_types.specs.declared.anchored.Anchored.TheVariants.{No}
 use Rattle.search_types.specs.Found.{Found}
 use Rattle.search_types.specs.Inputs.{Search}
@@ -15,7 +13,6 @@ use Rattle.hirscan.specs.Choices.{Query, answer_from, answers_of}
 use Rattle.hirscan.specs.LooseAnswers.{IsSpanOf, IsLooseAnswer}
 use Rattle.hirscan.specs.Regexes.{IsSearchOf, query_of}
 use Rattle.pattern_text.specs.SameEnds.{looks_of}
-use Rattle.pattern_search.specs.Texts.{AreRead}
 
 -- a search of the whole haystack from the place s on, which may start at any place
 abbrev pub whole_search : List ℕ → ℕ → Search
@@ -29,6 +26,11 @@ whole_query utf8 xs h = query_of xs utf8 (looks_of h) (whole_search h 0)
 abbrev pub found_from : Bool → Re → List ℕ → ℕ → Option Match
 found_from false re h s = find re h s
 found_from true re h s = find_str re h s
+
+-- all that it finds from the start on
+abbrev pub all_found : Bool → Re → List ℕ → List Match
+all_found false re h = find_all re h
+all_found true re h = find_all_str re h
 
 abbrev pub span_of_match : Match → ℕ × ℕ
 span_of_match m = (m.start, m.trace.end)
@@ -72,19 +74,10 @@ FindsAsRead utf8 res xs = (h : List ℕ) (s : ℕ) → IsSearchOf xs utf8 (whole
     option_map span_of_match (found_from utf8 (alt_all res) h s) ≡ option_map span_of_found (answer_from (whole_query utf8 xs h) s)
 
 -- All answers from each place have, in their order, the spans of all matches that the kit's iteration gives from there, where its
--- bound on their number is no less than the number of places.
-abbrev pub ListsAsRead : Bool → List Re → List Tree → Type 0
-ListsAsRead utf8 res xs = (h : List ℕ) (s n : ℕ) → IsSearchOf xs utf8 (whole_search h s) → length h + 1 - s ≤ n →
-    map span_of_match (matches_from (found_from utf8 (alt_all res) h) n (found_from utf8 (alt_all res) h s))
-    ≡ map span_of_found (answers_of (whole_query utf8 xs h) s)
-
--- ---- texts
-
--- the texts are patterns, and searches for the trees find what these match
-pub record FindsWhatIsWritten (config : Config) (texts : List (List ℕ)) (xs : List Tree) : Type 0 where
-  pub patterns : List Re
-  pub are_read : AreRead config texts patterns
-  pub spans : SpansAsRead patterns xs
-  pub starts : (utf8 : Bool) → StartsAsRead utf8 patterns xs
-  pub finds : All LoopsRead xs → (utf8 : Bool) → FindsAsRead utf8 patterns xs
-  pub lists : All LoopsRead xs → (utf8 : Bool) → ListsAsRead utf8 patterns xs
+-- bound on their number is no less than the number of places; so have all answers from the start on and the kit's list of all matches.
+pub record ListsAsRead (utf8 : Bool) (res : List Re) (xs : List Tree) : Type 0 where
+  pub from : (h : List ℕ) (s n : ℕ) → IsSearchOf xs utf8 (whole_search h s) → length h + 1 - s ≤ n →
+      map span_of_match (matches_from (found_from utf8 (alt_all res) h) n (found_from utf8 (alt_all res) h s))
+      ≡ map span_of_found (answers_of (whole_query utf8 xs h) s)
+  pub whole : (h : List ℕ) → IsSearchOf xs utf8 (whole_search h 0) →
+      map span_of_match (all_found utf8 (alt_all res) h) ≡ map span_of_found (answers_of (whole_query utf8 xs h) 0)

@@ -7,8 +7,9 @@ ghost use Rattle.hir_core.specs.Tree.{Tree};
 ghost use Rattle.pattern_text.specs.SameEnds.{AreSameEnds, AreSameSpans};
 ghost use Rattle.hirscan.specs.Choices.{Query, answer_from};
 ghost use Rattle.hirscan.specs.LooseAnswers.{IsLooseAnswer};
-ghost use Rattle.pattern_search.specs.Searches.{SpansAsRead, StartsAsRead, FindsAsRead, ListsAsRead, FindsWhatIsWritten};
+ghost use Rattle.pattern_search.specs.Searches.{SpansAsRead, StartsAsRead, FindsAsRead, ListsAsRead};
 ghost use Rattle.pattern_search.specs.Texts.{AllMean};
+ghost use Rattle.pattern_search.specs.Written.{FindsWhatIsWritten};
 
 /// The answer that trees define has the least start of a match, the first pattern that matches there, and an end that it means,
 /// whatever the loops read.
