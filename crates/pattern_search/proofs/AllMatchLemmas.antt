@@ -1,5 +1,5 @@
 -- All answers are all matches that the kit's iteration gives.
-use Rattle.std.proofs.Common.{◌≡◌, ℕ, zero, suc, ◌+◌, ◌-◌, ◌≤◌, ◌<◌, ◌&&◌, ◌==◌, nat_eq, Bool, true, false, List, [], ◌∷◌, map, take, length, All, Option, Some, None, option_map, if◌then◌else◌, refl, sym, ap, ap₂, ◌∙◌, subst, arith, eq-eqb, eqb-true}
+use Rattle.std.proofs.Common.{◌≡◌, ℕ, zero, suc, ◌+◌, ◌-◌, ◌≤◌, ◌&&◌, ◌==◌, nat_eq, Bool, true, false, List, [], ◌∷◌, map, take, length, All, Option, Some, None, option_map, if◌then◌else◌, refl, sym, ap, ap₂, ◌∙◌, subst, arith, eq-eqb, eqb-true}
 use Rattle.std.proofs.lemmas.List.{take_all}
 use Rattle.std.proofs.lemmas.Option.{same_Some}
 use Rattle.std.proofs.lemmas.List.Elements.{All-head, All-tail}
@@ -7,7 +7,6 @@ use Rattle.regex_hir.specs.Re.{Re}
 use Rattle.regex_hir.specs.Meaning.{alt_all}
 use Rattle.regex_hir.specs.Text.{is_some_and}
 use Rattle.regex_hir.specs.Find.{Match, find_after, matches_from}
-use Rattle.search_types.specs.declared.anchored.Anchored.TheVariants.{No}
 use Rattle.search_types.specs.Found.{Found}
 use Rattle.search_types.specs.AllAnswers.{is_repeat, and_on, next_answer, answers_from, all_answers, AnswersWithin, EndsRise}
 use Rattle.search_types.proofs.ForCallers.{starts_at, ends_rise, spans_within, no_answer_is_cut_off}

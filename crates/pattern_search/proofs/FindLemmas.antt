@@ -1,26 +1,26 @@
 -- Searches find the spans that the kit's matching finds, where the loops read.
-use Rattle.std.proofs.Common.{◌≡◌, ℕ, zero, suc, ◌+◌, ◌-◌, ◌≤◌, ◌<◌, Bool, true, false, nat_le, nat_lt, List, [], ◌∷◌, ◌++◌, map, length, All, Option, Some, None, option_map, slice_get, if◌then◌else◌, refl, sym, ap, ap₂, ◌∙◌, subst, arith, inl, inr, le-leb, lt-ltb}
+use Rattle.std.proofs.Common.{◌≡◌, ℕ, zero, suc, ◌+◌, ◌-◌, ◌≤◌, ◌<◌, Bool, true, false, nat_le, List, [], ◌∷◌, ◌++◌, map, length, All, Option, Some, None, option_map, slice_get, if◌then◌else◌, refl, sym, ap, ap₂, ◌∙◌, arith, inl, inr, le-leb, lt-ltb}
 use Rattle.std.specs.Option.{option_or}
 use Rattle.std.specs.List.{filter}
-use Rattle.std.proofs.lemmas.Bool.{cond-true, cond-false, cases_lt}
+use Rattle.std.proofs.lemmas.Bool.{cond-true, cases_lt}
 use Rattle.std.proofs.lemmas.List.Elements.{All-head, All-tail}
 use Rattle.regex_class.specs.Ranges.{in_ranges}
 use Rattle.regex_hir.specs.Re.{Re, Trace, Rest, accept, attempt}
 use Rattle.regex_hir.specs.Meaning.{alt_all}
 use Rattle.regex_hir.specs.Find.{Match, first_from, first_between, find, find_str}
-use Rattle.regex_hir.specs.Text.{is_some_and, is_boundary}
+use Rattle.regex_hir.specs.Text.{is_some_and}
 use Rattle.search_types.specs.declared.anchored.Anchored.TheVariants.{No}
 use Rattle.search_types.specs.Found.{Found}
 use Rattle.search_types.specs.Modes.{allowed}
 use Rattle.search_types.specs.Places.{counts}
-use Rattle.search_types.specs.LeftmostAnswer.{first_choice, leftmost, leftmost_answer}
+use Rattle.search_types.specs.LeftmostAnswer.{first_choice, leftmost}
 use Rattle.hir_core.specs.Tree.{Tree}
 use Rattle.hir_core.specs.Facts.{LoopsRead, is_utf8_tree}
 use Rattle.hir_core.specs.PreferredEnds.{preferred_ends, Has}
 use Rattle.hir_core.proofs.ForCallers.{preferred_ends_sound}
-use Rattle.hirscan.specs.Choices.{Query, pattern_choices, choices, ends_at, may_end, choices_at, answer_from}
+use Rattle.hirscan.specs.Choices.{pattern_choices, choices, may_end, choices_at, answer_from}
 use Rattle.hirscan.specs.Regexes.{IsSearchOf}
-use Rattle.pattern_text.specs.SameEnds.{looks_of, end_of, first_of, SameEnds, AreSameEnds}
+use Rattle.pattern_text.specs.SameEnds.{looks_of, end_of, first_of, AreSameEnds}
 use Rattle.pattern_search.specs.Searches.{whole_search, whole_query, found_from, span_of_match, span_of_found, FindsAsRead}
 use Rattle.pattern_search.proofs.BoundaryLemmas.{may_begin, same_begin, span_may_end}
 
@@ -165,7 +165,7 @@ module _ (utf8 : Bool) (res : List Re) (xs : List Tree) (same : AreSameEnds res 
       ≡ span_of (if b then leftmost (choices_at (whole_query utf8 xs h)) (length h + 1 - s) s else None)
   by_place b is = elim (cases_lt (length h) s) [
     | inl behind ↦ none_behind (length h + 1 - s) (omega arith) b
-    | inr within ↦ 
+    | inr within ↦
         from (length h + 1 - s) s (omega arith)
         ∙ ap (λ c. span_of (if c then leftmost (choices_at (whole_query utf8 xs h)) (length h + 1 - s) s else None)) (sym (le-leb s (length h) within) ∙ is)
   ]

@@ -1,5 +1,5 @@
 -- What several texts are read as, and what their trees find.
-use Rattle.std.proofs.Common.{◌≡◌, ℕ, ◌≤◌, List, [], ◌∷◌, chars, All, Option, Some, None, IsSomeAnd, refl}
+use Rattle.std.proofs.Common.{◌≡◌, ℕ, ◌≤◌, List, [], ◌∷◌, chars, Option, Some, None, IsSomeAnd, refl}
 use Rattle.regex_hir.specs.Re.{Re}
 use Rattle.regex_syntax.specs.declared.Config.{Config}
 use Rattle.regex_syntax.specs.Brackets.{Nested}

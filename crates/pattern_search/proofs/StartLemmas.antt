@@ -1,5 +1,5 @@
 -- Whatever the loops read: the spans of the trees are those of the patterns, and so are the starts of what is found.
-use Rattle.std.proofs.Common.{◌≡◌, ◌↔◌, ℕ, zero, suc, ◌+◌, ◌-◌, ◌≤◌, ◌<◌, Bool, true, false, nat_lt, List, [], ◌∷◌, length, All, Option, Some, None, IsSome, option_map, slice_get, if◌then◌else◌, refl, sym, ap, ◌∙◌, subst, arith, inl, inr, lt-ltb, true≢false}
+use Rattle.std.proofs.Common.{◌≡◌, ℕ, zero, suc, ◌≤◌, Bool, true, false, List, [], ◌∷◌, length, All, Option, Some, None, option_map, slice_get, if◌then◌else◌, refl, sym, ap, ◌∙◌, subst, arith, inl, inr, lt-ltb, true≢false}
 use Rattle.std.proofs.lemmas.Bool.{cases_lt}
 use Rattle.std.proofs.lemmas.Option.{none-some, same_Some, slice_get_within, get_or_from_slice_get}
 use Rattle.regex_class.specs.Ranges.{in_ranges}
@@ -12,15 +12,14 @@ use Rattle.regex_hir.proofs.OptionLemmas.{value_of_IsSome}
 use Rattle.regex_hir.proofs.FindLemmas.{IsFirst, IsFirst-of_first_between, none_of_first_between}
 use Rattle.search_types.specs.declared.anchored.Anchored.TheVariants.{No}
 use Rattle.search_types.specs.Found.{Found}
-use Rattle.search_types.specs.Modes.{may_start, allowed}
+use Rattle.search_types.specs.Modes.{may_start}
 use Rattle.search_types.specs.Places.{counts}
 use Rattle.search_types.proofs.ForCallers.{starts_at, may_start_at}
 use Rattle.hir_core.specs.Tree.{Tree}
 use Rattle.hir_core.specs.Facts.{is_utf8_tree}
-use Rattle.hir_core.specs.Means.{Means}
 use Rattle.hir_core.proofs.ForCallers.{span_within}
 use Rattle.hirscan.specs.Choices.{answer_from}
-use Rattle.hirscan.specs.LooseAnswers.{IsSpanOf, IsCounted, IsLoose, IsLooseAnswer}
+use Rattle.hirscan.specs.LooseAnswers.{IsCounted, IsLoose, IsLooseAnswer}
 use Rattle.hirscan.specs.Regexes.{IsSearchOf}
 use Rattle.pattern_text.specs.SameEnds.{looks_of, SameSpans, AreSameSpans}
 use Rattle.pattern_search.specs.Searches.{whole_search, whole_query, found_from, IsMatchOf, SpansAsRead, IsOfFirstPattern, StartsAsRead}

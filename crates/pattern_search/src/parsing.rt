@@ -20,12 +20,7 @@ pub struct TextError {
 }
 
 /// The tree of a text, behind those before it.
-fn push(
-    alloc: Global,
-    trees: &mut Vec<Hir>,
-    text: &str,
-    config: &Config,
-) -> Result<(), ParseError>
+fn push(alloc: Global, trees: &mut Vec<Hir>, text: &str, config: &Config) -> Result<(), ParseError>
     ensures pushed { OnOk result ((x : Tree) × (trees.new.items ≡ trees.old.items ++ x ∷ []) × MeansText config.now text.now x
         × (IsTrue config.now.utf8 → IsTrue (is_utf8_tree x))) }
     ensures refused { IfErr result (λ e. IsFault config.now text.now e) }

@@ -1,4 +1,4 @@
-use Rattle.std.proofs.Common.{◌≡◌, List, [], All, IsTrue, arith, sym, subst, ap, ◌∙◌}
+use Rattle.std.proofs.Common.{◌≡◌, List, [], All, IsTrue, arith, sym, subst}
 use Rattle.hir_core.specs.Facts.{is_utf8_tree}
 use Rattle.hir_core.specs.Tree.{Tree}
 use Rattle.pattern_search.specs.Texts.{AllMean}
@@ -23,7 +23,7 @@ pub loop-number-preserved : goal.loop-number-preserved
 loop-number-preserved c =
     let pushed = c.in-Ok.ensures.pushed in (
       one_more_means c.args.config.now c.args.texts.now _ c.loop-number.number c.loop-number.trees.items c.push.new.trees.items pushed.0 c.loop-number-test.true
-      pushed.1 c.loop-number.invariant.0 pushed.2,
+          pushed.1 c.loop-number.invariant.0 pushed.2,
       λ on. one_more_holds (λ x. IsTrue (is_utf8_tree x)) c.loop-number.trees.items c.push.new.trees.items pushed.0 pushed.1 (c.loop-number.invariant.1 on) (pushed.3 on),
     )
 

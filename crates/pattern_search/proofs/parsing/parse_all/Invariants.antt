@@ -1,4 +1,4 @@
-use Rattle.std.proofs.Common.{IsTrue, All, map, take}
+use Rattle.std.proofs.Common.{IsTrue, All, take}
 use Rattle.hir_core.specs.Facts.{is_utf8_tree}
 use Rattle.pattern_search.specs.Texts.{AllMean}
 use Rattle.pattern_search.proofs.TextLemmas.{read_texts}
