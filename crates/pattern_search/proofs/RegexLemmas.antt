@@ -15,8 +15,8 @@ use Rattle.hirscan.specs.Headline.{answer_to, answers_to, query_by}
 use Rattle.hirscan.specs.LooseAnswers.{IsLooseAnswer}
 use Rattle.hirscan.specs.Regexes.{IsSearchOf, query_of}
 use Rattle.pattern_text.specs.SameEnds.{AreSameEnds, AreSameSpans}
-use Rattle.pattern_search.specs.Searches.{whole_search, whole_query, found_from, span_of_match, span_of_found, IsOfFirstPattern}
-use Rattle.pattern_search.proofs.AllMatchLemmas.{lists_from}
+use Rattle.pattern_search.specs.Searches.{whole_search, whole_query, found_from, all_found, span_of_match, span_of_found, IsOfFirstPattern}
+use Rattle.pattern_search.proofs.AllMatchLemmas.{lists_from, lists_as_read}
 use Rattle.pattern_search.proofs.FindLemmas.{finds_as_read}
 use Rattle.pattern_search.proofs.StartLemmas.{starts_as_read}
 
@@ -59,3 +59,9 @@ module _ (res : List Re) (xs : List Tree) (ends : AreSameEnds res xs) (spans : A
 
   pub pattern_by_settings : (f : Found) → IsLooseAnswer (query_by is_word_char xs s (whole_search h at)) at (Some f) → IsOfFirstPattern res h f
   pattern_by_settings f loose = (starts_as_read res xs spans s.utf8).pattern h at search f (loose_by_settings (Some f) loose)
+
+pub all_by_settings : (res : List Re) (xs : List Tree) → AreSameEnds res xs → AreSameSpans res xs → (s : Settings) → s.line_terminator ≡ one_of 10 →
+    (h : List ℕ) → IsSearchOf xs s.utf8 (whole_search h 0) → All LoopsRead xs → (fs : List Found) → answers_to is_word_char xs s (whole_search h 0) ≡ fs →
+    map span_of_match (all_found s.utf8 (alt_all res) h) ≡ map span_of_found fs
+all_by_settings res xs ends spans s feeds h search loops fs is =
+    (lists_as_read res xs ends loops s.utf8).whole h search ∙ ap (map span_of_found) (sym (same_answers res xs ends spans s feeds h 0 search) ∙ is)

@@ -14,11 +14,11 @@ use Rattle.regex_pair.specs.Pairs.{Pair, PairCache}
 use Rattle.regex_pair.specs.Taken.{AreTaken}
 use Rattle.hirscan.specs.declared.settings.Settings.{Settings}
 use Rattle.hirscan.specs.Regexes.{IsSearchOf}
-use Rattle.pattern_search.specs.Searches.{whole_search, found_from, span_of_match, span_of_found, IsOfFirstPattern}
+use Rattle.pattern_search.specs.Searches.{whole_search, found_from, all_found, span_of_match, span_of_found, IsOfFirstPattern}
 
 -- Of searches of whole haystacks, over whatever caches: where the loops read, an answer has the span that the kit finds, whether there
--- is a match is told as the kit finds one, and an iterator that came to its end has given all matches; whatever the loops read, an
--- answer has the start that the kit finds, and is of the first pattern that matches there.
+-- is a match is told as the kit finds one, and an iterator that came to its end has given all matches, from a place on or from the
+-- start; whatever the loops read, an answer has the start that the kit finds, and is of the first pattern that matches there.
 pub record AnswersAsRead (res : List Re) (xs : List Tree) (s : Settings) (p : Pair) : Type 0 where
   pub found : All LoopsRead xs → (h : List ℕ) (at : ℕ) → IsSearchOf xs s.utf8 (whole_search h at) → (c : PairCache) (o : Option Found) →
       AnswersPair p c (whole_search h at) (Ok o) →
@@ -28,6 +28,9 @@ pub record AnswersAsRead (res : List Re) (xs : List Tree) (s : Settings) (p : Pa
   pub listed : All LoopsRead xs → (h : List ℕ) (at n : ℕ) → IsSearchOf xs s.utf8 (whole_search h at) → at ≤ length h + 1 → length h + 1 - at ≤ n →
       (fs : List Found) (old new : FindMatches) → searches_by old ≡ p → AreTaken p (whole_search h at) fs (finds_from old) → FindsNext old None new →
       map span_of_match (matches_from (found_from s.utf8 (alt_all res) h) n (found_from s.utf8 (alt_all res) h at)) ≡ map span_of_found fs
+  pub all : All LoopsRead xs → (h : List ℕ) → IsSearchOf xs s.utf8 (whole_search h 0) → (fs : List Found) (old new : FindMatches) → searches_by old ≡ p →
+      AreTaken p (whole_search h 0) fs (finds_from old) → FindsNext old None new →
+      map span_of_match (all_found s.utf8 (alt_all res) h) ≡ map span_of_found fs
   pub starts : (h : List ℕ) (at : ℕ) → IsSearchOf xs s.utf8 (whole_search h at) → (c : PairCache) (o : Option Found) →
       AnswersPair p c (whole_search h at) (Ok o) →
       option_map (λ m. m.start) (found_from s.utf8 (alt_all res) h at) ≡ option_map (λ f. f.start) o
