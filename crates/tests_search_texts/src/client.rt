@@ -96,7 +96,10 @@ fn settings_for(utf8: bool) -> Settings
     ensures first { FindsFirst result }
     ensures feeds { result.line_terminator ≡ one_of 10 }
 {
-    program_settings(Settings { utf8, ..Settings::new() })
+    program_settings(Settings {
+        utf8,
+        ..Settings::new()
+    })
 }
 
 /// All matches of the texts in the haystack; `None` where a loop may read nothing, or in UTF-8 mode something is no UTF-8.

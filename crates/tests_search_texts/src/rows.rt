@@ -59,10 +59,25 @@ enum Told {
 
 fn rows() -> &'static [(Texts, bool, Haystack, Told)] {
     &[
-        (Texts::Runs, false, Haystack::Xaab, Told::Three(0, 0, 1, 3, 3, 4)),
-        (Texts::Letters, true, Haystack::Mixed, Told::Three(0, 1, 1, 3, 3, 4)),
+        (
+            Texts::Runs,
+            false,
+            Haystack::Xaab,
+            Told::Three(0, 0, 1, 3, 3, 4),
+        ),
+        (
+            Texts::Letters,
+            true,
+            Haystack::Mixed,
+            Told::Three(0, 1, 1, 3, 3, 4),
+        ),
         (Texts::Nothing, true, Haystack::Beta, Told::Two(0, 0, 2, 2)),
-        (Texts::Nothing, false, Haystack::Beta, Told::Three(0, 0, 1, 1, 2, 2)),
+        (
+            Texts::Nothing,
+            false,
+            Haystack::Beta,
+            Told::Three(0, 0, 1, 1, 2, 2),
+        ),
         (Texts::Longer, true, Haystack::Abcab, Told::Two(0, 2, 3, 5)),
         (Texts::Longer, true, Haystack::Broken, Told::Undefined),
         (Texts::Loop, false, Haystack::Xaab, Told::Undefined),
@@ -81,7 +96,9 @@ fn is_at(found: Option<&Match>, start: usize, end: usize) -> bool {
 fn is_listed(all: &[Match], told: Told) -> bool {
     match told {
         Told::Refused(_) | Told::Undefined => false,
-        Told::Two(a, b, c, d) => all.len() == 2 && is_at(all.first(), a, b) && is_at(all.get(1), c, d),
+        Told::Two(a, b, c, d) => all.len() == 2
+            && is_at(all.first(), a, b)
+            && is_at(all.get(1), c, d),
         Told::Three(a, b, c, d, e, f) => {
             all.len() == 3
                 && is_at(all.first(), a, b)
