@@ -1,4 +1,4 @@
--- All answers are all matches that the kit's iteration gives.
+-- All answers are all matches that the matcher's iteration gives.
 use Rattle.std.proofs.Common.{◌≡◌, ℕ, zero, suc, ◌+◌, ◌-◌, ◌≤◌, ◌&&◌, ◌==◌, nat_eq, Bool, true, false, List, [], ◌∷◌, map, take, length, All, Option, Some, None, option_map, if◌then◌else◌, refl, sym, ap, ap₂, ◌∙◌, subst, arith, eq-eqb, eqb-true}
 use Rattle.std.proofs.lemmas.List.{take_all}
 use Rattle.std.proofs.lemmas.Option.{same_Some}

@@ -23,7 +23,7 @@ passes o = is_none_or o (λ b. not (is_in_range 0x80 0xBF b))
 inside : (i n b : ℕ) → i < n → not (is_in_range 0x80 0xBF b) ≡ (i == n) || (nat_lt i n && (nat_le b 0x7F || nat_le 0xC0 b))
 inside i n b less = grind (arith, nat_tests)
 
--- the kit's boundaries are ours
+-- the matcher's boundaries are those of UTF-8 mode
 pub same_boundary : (h : List ℕ) (i : ℕ) → i ≤ length h → is_boundary h i ≡ utf8.is_boundary h i
 unfolding is_boundary
 same_boundary h i within = elim (cases_lt i (length h)) [

@@ -1,4 +1,4 @@
--- Searches find the spans that the kit's matching finds, where the loops read.
+-- Searches find the spans that the toolchain's matcher finds, where the loops read.
 use Rattle.std.proofs.Common.{◌≡◌, ℕ, zero, suc, ◌+◌, ◌-◌, ◌≤◌, ◌<◌, Bool, true, false, nat_le, List, [], ◌∷◌, ◌++◌, map, length, All, Option, Some, None, option_map, slice_get, if◌then◌else◌, refl, sym, ap, ap₂, ◌∙◌, arith, inl, inr, le-leb, lt-ltb}
 use Rattle.std.specs.Option.{option_or}
 use Rattle.std.specs.List.{filter}
@@ -93,7 +93,7 @@ length-ends h i [] = refl
 length-ends h i (x ∷ xs) = ap suc (length-ends h i xs)
 
 -- ---- searches
--- what the kit tries at a place
+-- what the matcher tries at a place
 abbrev pub tried : Bool → List ℕ → Re → Rest
 tried utf8 h re i = if may_begin utf8 h i then attempt h re accept i else None
 

@@ -65,7 +65,7 @@ module _ (h : List ℕ) (i j : ℕ) where
   any_of (b ∷ res) zero a listed m = inl (subst (λ r. Matches h r i j) (sym (same_Some b a listed)) m)
   any_of (b ∷ res) (suc p) a listed m = inr (any_of res p a listed m)
 
--- ---- where the kit finds a match, a span counts, and the other way round
+-- ---- where the matcher finds a match, a span counts, and the other way round
 holds_of : (xs : List Tree) (p : ℕ) (x : Tree) → slice_get xs p ≡ Some x → All (λ y. is_utf8_tree y ≡ true) xs → is_utf8_tree x ≡ true
 holds_of xs p x listed all =
     subst (λ y. is_utf8_tree y ≡ true) (get_or_from_slice_get xs p x x listed) (all p x (slice_get_within xs p x listed))

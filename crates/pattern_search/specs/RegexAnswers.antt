@@ -1,4 +1,4 @@
--- What a regex that is built of the trees of patterns answers, in the words of the kit's matching.
+-- What a regex that is built of the trees of patterns answers, in the words of the toolchain's matcher.
 use Rattle.std.specs.Prelude.{◌≡◌, ℕ, ◌+◌, ◌-◌, ◌≤◌, Bool, List, map, length, All, Option, Some, None, Ok, option_map, is_some}
 use Rattle.regex_hir.specs.Re.{Re}
 use Rattle.regex_hir.specs.Meaning.{alt_all}
@@ -16,9 +16,9 @@ use Rattle.hirscan.specs.declared.settings.Settings.{Settings}
 use Rattle.hirscan.specs.Regexes.{IsSearchOf}
 use Rattle.pattern_search.specs.Searches.{whole_search, found_from, all_found, span_of_match, span_of_found, IsOfFirstPattern}
 
--- Of searches of whole haystacks, over whatever caches: where the loops read, an answer has the span that the kit finds, whether there
--- is a match is told as the kit finds one, and an iterator that came to its end has given all matches, from a place on or from the
--- start; whatever the loops read, an answer has the start that the kit finds, and is of the first pattern that matches there.
+-- Of searches of whole haystacks, over whatever caches: where the loops read, an answer has the span that the matcher finds, whether
+-- there is a match is told as it finds one, and an iterator that came to its end has given all matches, from a place on or from the
+-- start; whatever the loops read, an answer has the start that the matcher finds, and is of the first pattern that matches there.
 pub record AnswersAsRead (res : List Re) (xs : List Tree) (s : Settings) (p : Pair) : Type 0 where
   pub found : All LoopsRead xs → (h : List ℕ) (at : ℕ) → IsSearchOf xs s.utf8 (whole_search h at) → (c : PairCache) (o : Option Found) →
       AnswersPair p c (whole_search h at) (Ok o) →

@@ -1,5 +1,5 @@
--- What the trees of several patterns find in a whole haystack, in the words of the kit's matching: `find` in any bytes, and `find_str`
--- in text, where no match starts inside a character. The kit has one pattern: several are their alternation, the first preferred.
+-- What the trees of several patterns find in a whole haystack, in the words of the toolchain's matcher: `find` in any bytes, and
+-- `find_str` in text, where no match starts inside a character. It takes one pattern: several are their alternation, the first preferred.
 use Rattle.std.specs.Prelude.{◌≡◌, ◌↔◌, ℕ, ◌+◌, ◌-◌, ◌<◌, ◌≤◌, Bool, true, false, List, map, length, slice_get, All, Option, Some, option_map}
 use Rattle.regex_hir.specs.Re.{Re}
 use Rattle.regex_hir.specs.Matches.{Matches}
@@ -22,7 +22,7 @@ whole_search h s = record { haystack = h; start = s; end = length h; anchored = 
 abbrev pub whole_query : Bool → List Tree → List ℕ → Query
 whole_query utf8 xs h = query_of xs utf8 (looks_of h) (whole_search h 0)
 
--- what the kit finds from the place s on, in bytes or in text
+-- what the matcher finds from the place s on, in bytes or in text
 abbrev pub found_from : Bool → Re → List ℕ → ℕ → Option Match
 found_from false re h s = find re h s
 found_from true re h s = find_str re h s
@@ -56,7 +56,7 @@ pub record IsOfFirstPattern (res : List Re) (h : List ℕ) (f : Found) : Type 0 
   pub matches : IsMatchOf res h f.pattern f.start f.end
   pub none_before : (p j : ℕ) → p < f.pattern → IsMatchOf res h p f.start j → ⊥
 
--- Where the kit finds no match there is no answer, and where it finds one the answer has its start, and there the first pattern
+-- Where the matcher finds no match there is no answer, and where it finds one the answer has its start, and there the first pattern
 -- that matches: so are an answer that the trees define but for preferred ends, and the preferred one.
 pub record StartsAsRead (utf8 : Bool) (res : List Re) (xs : List Tree) : Type 0 where
   pub loose : (h : List ℕ) (s : ℕ) → IsSearchOf xs utf8 (whole_search h s) → (o : Option Found) → IsLooseAnswer (whole_query utf8 xs h) s o →
@@ -68,13 +68,13 @@ pub record StartsAsRead (utf8 : Bool) (res : List Re) (xs : List Tree) : Type 0 
 
 -- ---- where the loops read
 
--- the answer from each place has the span that the kit finds, if it finds one
+-- the answer from each place has the span that the matcher finds, if it finds one
 abbrev pub FindsAsRead : Bool → List Re → List Tree → Type 0
 FindsAsRead utf8 res xs = (h : List ℕ) (s : ℕ) → IsSearchOf xs utf8 (whole_search h s) →
     option_map span_of_match (found_from utf8 (alt_all res) h s) ≡ option_map span_of_found (answer_from (whole_query utf8 xs h) s)
 
--- All answers from each place have, in their order, the spans of all matches that the kit's iteration gives from there, where its
--- bound on their number is no less than the number of places; so have all answers from the start on and the kit's list of all matches.
+-- All answers from each place have, in their order, the spans of all matches that the matcher's iteration gives from there, where its
+-- bound on their number is no less than the number of places; so have all answers from the start on and its list of all matches.
 pub record ListsAsRead (utf8 : Bool) (res : List Re) (xs : List Tree) : Type 0 where
   pub from : (h : List ℕ) (s n : ℕ) → IsSearchOf xs utf8 (whole_search h s) → length h + 1 - s ≤ n →
       map span_of_match (matches_from (found_from utf8 (alt_all res) h) n (found_from utf8 (alt_all res) h s))

@@ -1,4 +1,4 @@
--- What the trees of several texts find, in the words of what the kit's grammar reads in the texts.
+-- What the trees of several texts find, in the words of what the toolchain's grammar reads in the texts.
 use Rattle.std.specs.Prelude.{ℕ, Bool, List, All}
 use Rattle.regex_hir.specs.Re.{Re}
 use Rattle.regex_syntax.specs.declared.Config.{Config}

@@ -18,20 +18,20 @@ pub fn the_answer_is_leftmost_whatever_the_loops()
     ensures { (q : Query) (s : ℕ) → IsLooseAnswer q s (answer_from q s) }
 {}
 
-/// What a search for the trees of patterns finds is what the kit's matching finds for the patterns.
+/// What a search for the trees of patterns finds is what the toolchain's matcher finds for the patterns.
 #[tactic(auto, using(crate::proofs::FindLemmas::finds_as_read))]
 pub fn searches_find_what_patterns_say()
     ensures { (res : List Re) (xs : List Tree) → AreSameEnds res xs → All LoopsRead xs → (utf8 : Bool) → FindsAsRead utf8 res xs }
 {}
 
-/// All answers, one after the other, are all matches of the kit's iteration, by its rule on empty matches.
+/// All answers, one after the other, are all matches of the matcher's iteration, by its rule on empty matches.
 #[tactic(auto, using(crate::proofs::AllMatchLemmas::lists_as_read))]
 pub fn lists_are_what_patterns_say()
     ensures { (res : List Re) (xs : List Tree) → AreSameEnds res xs → All LoopsRead xs → (utf8 : Bool) → ListsAsRead utf8 res xs }
 {}
 
-/// Whatever the loops read, trees mean the spans that patterns match, and what a search finds has the start that the kit finds, or
-/// is none where the kit finds none; there it is of the first pattern that matches.
+/// Whatever the loops read, trees mean the spans that patterns match, and what a search finds has the start that the matcher finds, or
+/// is none where it finds none; there it is of the first pattern that matches.
 #[tactic(auto, using(crate::proofs::StartLemmas::starts_as_read))]
 pub fn spans_and_starts_are_what_patterns_say()
     ensures spans { (res : List Re) (xs : List Tree) → AreSameSpans res xs → SpansAsRead res xs }

@@ -18,8 +18,8 @@ use hirscan::headline::{
     searches_answer_leftmost_whatever_the_loops, searches_answer_what_trees_define,
 };
 
-/// A regex that is built of the trees of patterns, and whose lines end at a line feed, answers what the kit's matching finds for the
-/// patterns.
+/// A regex that is built of the trees of patterns, and whose lines end at a line feed, answers what the toolchain's matcher finds for
+/// the patterns.
 pub fn regexes_answer_what_patterns_say()
     ensures { (res : List Re) (xs : List Tree) → AreSameEnds res xs → AreSameSpans res xs → (s : Settings) (p : Pair) →
         IsBuilt xs s p → FindsFirst s → s.line_terminator ≡ one_of 10 → AnswersAsRead res xs s p }

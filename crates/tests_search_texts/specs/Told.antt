@@ -29,7 +29,7 @@ pub record IsListed (xs : List Tree) (s : Settings) (q : Search) (fs : List Foun
   pub built : IsBuilt xs s pair
   pub list : IsWholeList pair q fs
 
--- these have the spans of all that the toolchain's matching finds of what the texts are read as
+-- these have the spans of all that the toolchain's matcher finds of what the texts are read as
 pub record AreAllMatches (config : Config) (texts : List (List ℕ)) (utf8 : Bool) (h : List ℕ) (fs : List Found) : Type 0 where
   pub patterns : List Re
   pub are_read : AreRead config texts patterns
