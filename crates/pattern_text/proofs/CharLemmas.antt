@@ -1,21 +1,18 @@
 -- Both read the same character at a place.
-use Rattle.std.proofs.Common.{◌≡◌, ℕ, ◌+◌, ◌≤◌, ◌<◌, Bool, true, false, List, [], ◌∷◌, ◌++◌, length, All, drop, slice_get, Option, Some, None, option_and_then, nat_eq, refl, sym, subst, ap, ap₂, ◌∙◌, if◌then◌else◌}
+use Rattle.std.proofs.Common.{◌≡◌, ℕ, ◌+◌, ◌<◌, Bool, List, ◌++◌, drop, slice_get, Option, Some, None, option_and_then, refl, sym, subst, ap, ap₂, ◌∙◌, if◌then◌else◌}
 use Rattle.std.proofs.lemmas.Option.{slice_get_within, get_or_from_slice_get}
 use Rattle.std.specs.Char.{IsScalar, len_utf8, encode_utf8}
 use Rattle.std.proofs.lemmas.Str.{length-encode}
 use Rattle.regex_class.specs.Ranges.{in_ranges}
-use Rattle.regex_hir.specs.Text.{is_some_and, char_at, has_bytes_at}
+use Rattle.regex_hir.specs.Text.{is_some_and, char_at}
 use Rattle.regex_hir.specs.Re.{Re, Rest, attempt, accept, rounds}
 use Rattle.regex_hir.specs.Re as re
-use Rattle.regex_hir.specs.Meaning as meaning
 use Rattle.regex_hir.proofs.TextLemmas.{char_at_parts, char_at_from}
-use Rattle.search_core.specs.Utf8.{Spells, SpellsFirst}
 use Rattle.search_core.specs.Characters.{character_at, spelling_len}
-use Rattle.search_core.proofs.CharacterLemmas.{character_begins, begun_character, spelling_has_len}
-use Rattle.search_core.proofs.Utf8Lemmas.{spelling_encodes, encoded_spells}
+use Rattle.search_core.proofs.ForCallers.{character_begins, begun_character, spelling_has_len, spelling_encodes, encoded_spells}
 use Rattle.hir_core.specs.Tree as tree
 use Rattle.hir_core.specs.Means.{is_member}
-use Rattle.hir_core.specs.PreferredEnds.{class_end, character_end, preferred_ends}
+use Rattle.hir_core.specs.PreferredEnds.{class_end, character_end}
 use Rattle.pattern_text.specs.SameEnds.{end_of, first_of, SameEnds}
 use Rattle.pattern_text.proofs.SameEndsLemmas.{first_of-if}
 

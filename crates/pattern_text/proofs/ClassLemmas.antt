@@ -1,12 +1,10 @@
 -- Ranges of a class, as ranges of bytes and of characters.
-use Rattle.std.proofs.Common.{◌≡◌, ℕ, zero, suc, ◌+◌, ◌-◌, ◌<◌, ◌≤◌, min, max, Bool, true, false, ◌&&◌, ◌||◌, not, nat_le, nat_lt, List, [], ◌∷◌, ◌++◌, length, All, IsTrue, if◌then◌else◌, refl, sym, ap, ap₂, ◌∙◌, subst, arith, inl, inr, drop, get_or, drop-cons, le-leb, leb-true, ltb-true, ltb-false, Fits, w8}
-use Rattle.std.proofs.lemmas.Bool.{and_parts, and_from, or_left, or_right, or_cases, cond-true, cond-false, cases_lt}
+use Rattle.std.proofs.Common.{◌≡◌, ℕ, ◌+◌, ◌<◌, ◌≤◌, min, max, Bool, true, false, ◌&&◌, ◌||◌, nat_le, nat_lt, List, [], ◌∷◌, ◌++◌, length, if◌then◌else◌, refl, sym, ap, ◌∙◌, arith, leb-true, ltb-true}
+use Rattle.std.proofs.lemmas.Bool.{and_parts}
 use Rattle.std.proofs.lemmas.Bool.Decides.{nat_tests}
-use Rattle.std.proofs.lemmas.List.Elements.{All-nil, All-cons, All-weaker}
 use Rattle.std.specs.Char.{IsScalar}
 use Rattle.regex_class.specs.Ranges.{in_range, in_ranges, rises_from, fits_from, range_at, IsCanonical}
 use Rattle.regex_class.proofs.RangesLemmas.{or_assoc, rises_from-at, fits_from-true}
-use Rattle.regex_syntax.specs.WellFormed.{IsWithin}
 use Rattle.hir_core.specs.Facts as ours
 use Rattle.hir_core.specs.Means.{is_member}
 use Rattle.pattern_text.specs.Cut.{bytes_of, below, above, without_surrogates}

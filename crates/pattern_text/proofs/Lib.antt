@@ -10,3 +10,5 @@ pub mod RoundLemmas
 pub mod ListLemmas
 pub mod TranslatedLemmas
 pub mod ParseLemmas
+pub mod FirstSpanLemmas
+pub mod ForCallers

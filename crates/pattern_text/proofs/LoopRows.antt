@@ -1,4 +1,4 @@
--- Why ends are the same only where loops read: a row that tells the kit's loops and those of trees apart.
+-- Why ends are the same only where loops read: a row that tells the toolchain's loops and those of trees apart.
 use Rattle.std.proofs.Common.{◌≡◌, true, false, [], ◌∷◌, Some, None, nat_eq, refl, if◌then◌else◌}
 use Rattle.regex_hir.specs.Text.{has_bytes_at}
 use Rattle.regex_hir.specs.Re.{Re, Rest, attempt, accept, rounds}

@@ -1,6 +1,6 @@
--- From what the kit's parser tells to what is told of trees and refusals.
-use Rattle.std.proofs.Common.{◌≡◌, ◌≢◌, ℕ, ◌≤◌, List, length, chars, Option, Some, None, IsSomeAnd, All, ap, sym, ◌∙◌, subst, option_map, ⊎_elim, refl, Bool, true, false, IsTrue, true≢false}
-use Rattle.regex_hir.specs.Re.{Re, Rest, attempt}
+-- From what the toolchain's parser tells to what is told of trees and refusals.
+use Rattle.std.proofs.Common.{◌≡◌, ◌≢◌, ℕ, ◌≤◌, ◌+◌, ◌*◌, arith, List, length, chars, Option, Some, None, IsSomeAnd, ap, sym, ◌∙◌, subst, option_map, ⊎_elim, refl, Bool, true, false, IsTrue, true≢false}
+use Rattle.regex_hir.specs.Re.{Re, attempt}
 use Rattle.regex_hir.specs.Meaning.{meaning}
 use Rattle.regex_hir.specs.declared.hir.Hir.{Hir}
 use Rattle.regex_syntax.specs.declared.Config.{Config}
@@ -10,14 +10,14 @@ use Rattle.regex_syntax.specs.Brackets.{Nested}
 use Rattle.regex_syntax.specs.Captures.{outcome, SameCaptures}
 use Rattle.regex_syntax.specs.Grammar.{Names, read, group_count}
 use Rattle.regex_syntax.specs.Verdict.{Reads, Refuses}
-use Rattle.regex_syntax.specs.WellFormed.{IsWellFormed}
+use Rattle.regex_syntax.specs.WellFormed.{IsWellFormed, depth}
 use Rattle.hir_core.specs.Tree.{Tree}
-use Rattle.hir_core.specs.Facts.{is_utf8_tree}
+use Rattle.hir_core.specs.Facts.{is_utf8_tree, height}
 use Rattle.pattern_text.specs.Translated.{translated}
 use Rattle.pattern_text.specs.SameEnds.{end_of, SameEnds, SameSpans, HasNames}
 use Rattle.pattern_text.specs.Patterns.{MeansText, IsRefused}
 use Rattle.pattern_text.proofs.SpanLemmas.{spans_of_captures}
-use Rattle.pattern_text.proofs.TranslatedLemmas.{same_ends, same_spans, keeps_names, is_text}
+use Rattle.pattern_text.proofs.TranslatedLemmas.{same_ends, same_spans, keeps_names, is_text, height_at_most}
 
 pub refused_for : (config : Config) (text : List ℕ) (kind : ErrorKind) → kind ≢ OutOfMemory → Refuses config text kind → IsRefused config text kind
 unfolding Refuses IsRefused
@@ -58,3 +58,7 @@ means_text config text hir names x reads is = subst (MeansText config text) (sym
 pub utf8_tree : (utf8 : Bool) (hir : Hir) (names : Names) (x : Tree) → IsTrue utf8 → IsWellFormed utf8 hir → x ≡ translated names hir → IsTrue (is_utf8_tree x)
 utf8_tree true hir names x on formed is = subst (λ (t : Tree). IsTrue (is_utf8_tree t)) (sym is) (is_text names hir formed)
 utf8_tree false hir names x on formed is = absurd (true≢false (sym on))
+
+-- the tree is at most as high as the parsed pattern is deep, and one
+pub low_tree : (limit : ℕ) (hir : Hir) (names : Names) (x : Tree) → depth hir ≤ 5 * limit + 4 → x ≡ translated names hir → height x ≤ 5 * limit + 5
+low_tree limit hir names x low is = subst (λ (t : Tree). height t ≤ 5 * limit + 5) (sym is) (omega (arith, low, height_at_most names hir))

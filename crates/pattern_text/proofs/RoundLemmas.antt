@@ -1,5 +1,5 @@
 -- Repetitions of a pattern and of a tree have the same spans, whether their rounds read or not.
-use Rattle.std.proofs.Common.{◌≡◌, ◌↔◌, ℕ, zero, suc, ◌+◌, ◌-◌, ◌<◌, ◌≤◌, Bool, true, false, List, length, max, Option, Some, None, option_map, All, refl, sym, ap, ◌∙◌, subst, arith, inl, inr, ⊎_elim, ◌⊎◌}
+use Rattle.std.proofs.Common.{◌≡◌, ℕ, zero, suc, ◌+◌, ◌-◌, ◌≤◌, Bool, true, false, List, length, max, Option, Some, None, option_map, refl, sym, ap, subst, arith, inl, inr, ⊎_elim, ◌⊎◌}
 use Rattle.std.specs.Option.{ForSome}
 use Rattle.regex_hir.specs.Re.{Re}
 use Rattle.regex_hir.specs.Re as re
@@ -9,7 +9,7 @@ use Rattle.regex_hir.specs.Meaning as meaning
 use Rattle.regex_hir.proofs.MatchesLemmas.{Matches-IsSpan}
 use Rattle.hir_core.specs.Tree.{Tree, repetition}
 use Rattle.hir_core.specs.Means.{Means, AtMost, Rounds}
-use Rattle.hir_core.proofs.SpanLemmas.{span_within}
+use Rattle.hir_core.proofs.ForCallers.{span_within}
 use Rattle.pattern_text.specs.SameEnds.{looks_of, SameSpans}
 
 -- so many rounds, not below a least number and not above a bound, if there is one
@@ -32,7 +32,7 @@ module _ (R : ℕ → ℕ → Type 0) where
   one_more : (n i l j : ℕ) → Rounds R n i l → R l j → Rounds R (suc n) i j
   one_more n i l j r m = join n 1 (suc n) i l j (omega arith) r (j, m, refl)
 
-  -- one round or more, as the kit counts them
+  -- one round or more, as the toolchain's matcher counts them
   of_plus : (i j : ℕ) → theirs.Rounds R i j → (n : ℕ) × Rounds R (suc n) i j
   of_plus i j (one_round _ r) = (0, (j, r, refl))
   of_plus i j (next_round l _ rs r) = let p = of_plus i l rs in (suc p.0, one_more (suc p.0) i l j p.1 r)

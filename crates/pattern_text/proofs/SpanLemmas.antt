@@ -1,8 +1,6 @@
 -- Patterns and trees that have the same spans: single ones, and how they are joined.
-use Rattle.std.proofs.Common.{◌≡◌, ◌↔◌, ℕ, ◌<◌, ◌≤◌, ◌==◌, Bool, true, false, List, [], ◌∷◌, length, max, Option, Some, None, IsSome, is_some, All, refl, sym, ap, ◌∙◌, subst, arith, inl, inr, ⊎_elim, if◌then◌else◌, eqb-true, eq-eqb, true≢false}
-use Rattle.std.proofs.lemmas.Bool.{cond-true, cond-false}
-use Rattle.std.proofs.lemmas.Option.{none-some}
-use Rattle.std.specs.Option.{option_or}
+use Rattle.std.proofs.Common.{◌≡◌, ◌↔◌, ℕ, ◌<◌, ◌≤◌, ◌==◌, List, [], ◌∷◌, length, Option, Some, None, IsSome, is_some, All, refl, sym, ap, ◌∙◌, subst, arith, inl, inr, ⊎_elim, if◌then◌else◌, eqb-true, eq-eqb, true≢false}
+use Rattle.std.proofs.lemmas.Bool.{cond-true}
 use Rattle.regex_hir.specs.Re.{Re, Trace, Rest, accept, attempt}
 use Rattle.regex_hir.specs.Re as re
 use Rattle.regex_hir.specs.Matches.{Matches}
@@ -13,12 +11,9 @@ use Rattle.regex_syntax.specs.Captures.{outcome, SameCaptures}
 use Rattle.hir_core.specs.Tree.{Tree}
 use Rattle.hir_core.specs.Tree as tree
 use Rattle.hir_core.specs.Facts.{LoopsRead}
-use Rattle.hir_core.specs.Means.{Means}
 use Rattle.hir_core.specs.PreferredEnds.{preferred_ends, Has}
-use Rattle.hir_core.proofs.PreferredEndsLemmas.{preferred_ends_sound, preferred_ends_complete}
-use Rattle.hir_core.proofs.SpanLemmas.{span_within}
-use Rattle.pattern_text.specs.SameEnds.{looks_of, end_of, first_of, SameEnds, SameSpans, AreSameSpans}
-use Rattle.pattern_text.proofs.SameEndsLemmas.{same_never}
+use Rattle.hir_core.proofs.ForCallers.{preferred_ends_sound, preferred_ends_complete, span_within}
+use Rattle.pattern_text.specs.SameEnds.{looks_of, end_of, first_of, SameEnds, SameSpans}
 
 -- ---- a span is an end that what follows takes, and no other
 -- what follows takes one place alone

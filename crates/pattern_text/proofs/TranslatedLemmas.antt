@@ -1,5 +1,5 @@
 -- The equations of `translated`, one for each variant, and what holds of the tree of every pattern.
-use Rattle.std.proofs.Common.{◌≡◌, ℕ, ◌≤◌, ◌<◌, min, max, nat_le, nat_lt, Bool, true, false, ◌&&◌, ◌||◌, List, [], ◌∷◌, ◌++◌, map, Option, option_map, Vec, Box, Global, refl, sym, ap, ◌∙◌, subst, arith, if◌then◌else◌, le-leb, lt-ltb}
+use Rattle.std.proofs.Common.{◌≡◌, ℕ, ◌+◌, ◌≤◌, min, max, nat_le, nat_lt, Bool, true, false, ◌&&◌, List, [], ◌∷◌, ◌++◌, map, Option, option_map, Vec, Box, Global, refl, sym, ap, ◌∙◌, subst, arith, if◌then◌else◌, le-leb, lt-ltb}
 use Rattle.std.proofs.lemmas.Bool.{and_from, or_left, or_right}
 use Rattle.std.proofs.lemmas.Str.{is_utf8-from_IsUtf8}
 use Rattle.std.specs.List.{list_all}
@@ -14,10 +14,10 @@ use Rattle.regex_hir.specs.declared.hir.Hir.{Concat', Alternation', Repetition',
 use Rattle.regex_hir.specs.declared.hir.Hir.TheVariants.{Empty, Literal, Bytes, Chars, Look, Repetition, Capture, Concat, Alternation, rolls-Empty, rolls-Literal, rolls-Bytes, rolls-Chars, rolls-Look, rolls-Repetition, rolls-Capture, rolls-Concat, rolls-Alternation, outs-Concat', outs-Alternation'}
 use Rattle.regex_hir.proofs.MeaningLemmas.{meaning-Empty, meaning-Literal, meaning-Bytes, meaning-Chars, meaning-Look, meaning-Repetition, meaning-Capture}
 use Rattle.regex_syntax.specs.Grammar.{Names}
-use Rattle.regex_syntax.specs.WellFormed.{IsWithin, IsWellFormed, AreWellFormed}
+use Rattle.regex_syntax.specs.WellFormed.{IsWithin, IsWellFormed, AreWellFormed, depth, greatest_depth}
 use Rattle.hir_core.specs.Tree.{Tree, concat, alternation}
 use Rattle.hir_core.specs.Tree as tree
-use Rattle.hir_core.specs.Facts.{LoopsRead, is_utf8_tree}
+use Rattle.hir_core.specs.Facts.{LoopsRead, is_utf8_tree, capped, height}
 use Rattle.pattern_text.specs.Cut.{bytes_of, without_surrogates}
 use Rattle.pattern_text.specs.Translated.{name_at, node_tree, translated, translated_look}
 use Rattle.pattern_text.specs.SameEnds.{SameEnds, SameSpans, HasNames}
@@ -45,10 +45,10 @@ module _ (names : Names) where
   pub translated-Look : (l : look_type.Look) → translated names (Look l) ≡ tree.look (translated_look l)
   translated-Look l = ap (translated names) (sym (rolls-Look l)) ∙ fold-roll-Hir Tree (node_tree names) (Hir-F.Look l)
 
-  pub translated-Repetition : (min : ℕ) (most : Option ℕ) (greedy : Bool) (sub : Box Hir Global) →
-      translated names (Repetition min most greedy sub) ≡ tree.repetition min (option_map (λ n. max n min) most) greedy (translated names sub.value)
-  translated-Repetition min most greedy sub =
-      ap (translated names) (sym (rolls-Repetition min most greedy sub)) ∙ fold-roll-Hir Tree (node_tree names) (Hir-F.Repetition min most greedy sub)
+  pub translated-Repetition : (least : ℕ) (most : Option ℕ) (greedy : Bool) (sub : Box Hir Global) →
+      translated names (Repetition least most greedy sub) ≡ tree.repetition least (option_map (λ n. max n least) most) greedy (translated names sub.value)
+  translated-Repetition least most greedy sub =
+      ap (translated names) (sym (rolls-Repetition least most greedy sub)) ∙ fold-roll-Hir Tree (node_tree names) (Hir-F.Repetition least most greedy sub)
 
   pub translated-Capture : (index : ℕ) (sub : Box Hir Global) →
       translated names (Capture index sub) ≡ tree.capture index (name_at names index) (translated names sub.value)
@@ -83,9 +83,9 @@ module _ (names : Names) where
   matched_group : (index : ℕ) (a : Re) (x : Tree) → Matched names a x → Matched names (re.group index a) (tree.capture index (name_at names index) x)
   matched_group index a x p = (same_group index index _ a x p.0, spans_group index index _ a x p.1, (refl, p.2))
 
-  matched_rounds : (min : ℕ) (most : Option ℕ) (greedy : Bool) (a : Re) (x : Tree) → Matched names a x →
-      Matched names (repeat min most greedy a) (tree.repetition min (option_map (λ n. max n min) most) greedy x)
-  matched_rounds min most greedy a x p = (same_rounds min most greedy a x p.0, spans_rounds min most greedy a x p.1, p.2)
+  matched_rounds : (least : ℕ) (most : Option ℕ) (greedy : Bool) (a : Re) (x : Tree) → Matched names a x →
+      Matched names (repeat least most greedy a) (tree.repetition least (option_map (λ n. max n least) most) greedy x)
+  matched_rounds least most greedy a x p = (same_rounds least most greedy a x p.0, spans_rounds least most greedy a x p.1, p.2)
 
   mutual
     of_tree : (p : Hir) → Matched names (meaning p) (translated names p)
@@ -104,10 +104,10 @@ module _ (names : Names) where
     of_tree (Look l) =
         along names _ _ _ _ (meaning-Look l) (translated-Look names l)
         (leaf names (re.look l) (tree.look (translated_look l)) tt tt (same_look_tree l))
-    of_tree (Repetition' min most greedy place sub) =
+    of_tree (Repetition' least most greedy place sub) =
         let held : Box Hir Global = record { ptr = place.ptr; alloc = place.alloc; value = sub } in
-        along names _ _ _ _ (meaning-Repetition min most greedy held) (translated-Repetition names min most greedy held)
-        (matched_rounds min most greedy (meaning sub) (translated names sub) (of_tree sub))
+        along names _ _ _ _ (meaning-Repetition least most greedy held) (translated-Repetition names least most greedy held)
+        (matched_rounds least most greedy (meaning sub) (translated names sub) (of_tree sub))
     of_tree (Capture' index place sub) =
         let held : Box Hir Global = record { ptr = place.ptr; alloc = place.alloc; value = sub } in
         along names _ _ _ _ (meaning-Capture index held) (translated-Capture names index held)
@@ -176,8 +176,8 @@ module _ (names : Names) where
     text_tree (Bytes class) formed = subst IsText (sym (translated-Bytes names class)) (bytes_ascii class.ranges.items formed)
     text_tree (Chars class) formed = subst IsText (sym (translated-Chars names class)) refl
     text_tree (Look l) formed = subst IsText (sym (translated-Look names l)) refl
-    text_tree (Repetition' min most greedy place sub) formed =
-        subst IsText (sym (translated-Repetition names min most greedy (record { ptr = place.ptr; alloc = place.alloc; value = sub })))
+    text_tree (Repetition' least most greedy place sub) formed =
+        subst IsText (sym (translated-Repetition names least most greedy (record { ptr = place.ptr; alloc = place.alloc; value = sub })))
         (text_tree sub formed.1)
     text_tree (Capture' index place sub) formed =
         subst IsText (sym (translated-Capture names index (record { ptr = place.ptr; alloc = place.alloc; value = sub }))) (text_tree sub formed)
@@ -198,3 +198,44 @@ module _ (names : Names) where
 
 pub is_text : (names : Names) (p : Hir) → IsWellFormed true p → is_utf8_tree (translated names p) ≡ true
 is_text names p formed = text_tree names p formed
+
+-- ---- how high the tree is
+stays_low : (n d : ℕ) → n ≤ d + 1 → capped (n + 1) ≤ d + 1 + 1
+stays_low n d le = omega (arith, le)
+
+module _ (names : Names) where
+  mutual
+    height_tree : (p : Hir) → height (translated names p) ≤ depth p + 1
+    height_tree Empty = subst (λ (x : Tree). height x ≤ 1) (sym (translated-Empty names)) (omega arith)
+    height_tree (Literal bs) = subst (λ (x : Tree). height x ≤ 1) (sym (translated-Literal names bs)) (omega arith)
+    height_tree (Bytes class) = subst (λ (x : Tree). height x ≤ 1) (sym (translated-Bytes names class)) (omega arith)
+    height_tree (Chars class) = subst (λ (x : Tree). height x ≤ 1) (sym (translated-Chars names class)) (omega arith)
+    height_tree (Look l) = subst (λ (x : Tree). height x ≤ 1) (sym (translated-Look names l)) (omega arith)
+    height_tree (Repetition' least most greedy place sub) =
+        let held : Box Hir Global = record { ptr = place.ptr; alloc = place.alloc; value = sub } in
+        subst (λ (x : Tree). height x ≤ depth sub + 1 + 1) (sym (translated-Repetition names least most greedy held))
+        (stays_low (height (translated names sub)) (depth sub) (height_tree sub))
+    height_tree (Capture' index place sub) =
+        let held : Box Hir Global = record { ptr = place.ptr; alloc = place.alloc; value = sub } in
+        subst (λ (x : Tree). height x ≤ depth sub + 1 + 1) (sym (translated-Capture names index held))
+        (stays_low (height (translated names sub)) (depth sub) (height_tree sub))
+    height_tree (Concat' shape subs) =
+        subst (λ (x : Tree). height x ≤ greatest_depth subs + 1 + 1)
+        (sym (fold_out-Hir Tree (node_tree names) _ ∙ ap (λ x. node_tree names (map-Hir Hir Tree (translated names) x)) (outs-Concat' shape subs)
+        ∙ ap (λ l. concat (map (translated names) l)) (items_shown-the_row-Hir-0 shape subs))) (height_row _ subs).0
+    height_tree (Alternation' shape subs) =
+        subst (λ (x : Tree). height x ≤ greatest_depth subs + 1 + 1)
+        (sym (fold_out-Hir Tree (node_tree names) _ ∙ ap (λ x. node_tree names (map-Hir Hir Tree (translated names) x)) (outs-Alternation' shape subs)
+        ∙ ap (λ l. alternation (map (translated names) l)) (items_shown-the_row-Hir-0 shape subs))) (height_row _ subs).1
+
+    height_row : (n : _) (row : Row_of-Hir n) →
+        (height (concat (map (translated names) (items-the_row-Hir n row))) ≤ greatest_depth row + 1 + 1)
+        × (height (alternation (map (translated names) (items-the_row-Hir n row))) ≤ greatest_depth row + 1 + 1)
+    height_row n end_of-Hir = (omega arith, omega arith)
+    height_row n (more_of-Hir sub rest) =
+        let first = stays_low (height (translated names sub)) (depth sub) (height_tree sub) in
+        let others = height_row _ rest in
+        (omega (arith, first, others.0), omega (arith, first, others.1))
+
+pub height_at_most : (names : Names) (p : Hir) → height (translated names p) ≤ depth p + 1
+height_at_most names p = height_tree names p

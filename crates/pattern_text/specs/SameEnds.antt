@@ -1,4 +1,4 @@
--- When a pattern of the kit and a tree match alike.
+-- When a parsed pattern and a tree match alike.
 use Rattle.std.specs.Prelude.{◌≡◌, ◌↔◌, ℕ, ◌<◌, ◌≤◌, List, [], ◌∷◌, length, All, Option, None, ⊤}
 use Rattle.std.specs.Option.{option_or, option_map}
 use Rattle.ucd_perl.specs.Perl.{is_word_char}
@@ -27,7 +27,7 @@ first_of k [] = None
 first_of k (j ∷ js) = option_or (k j) (first_of k js)
 
 -- On every haystack of bytes, from every place and whatever follows, the pattern goes on from the first end of the tree
--- from which that goes on. The kit's loops leave where a round reads nothing, so the loops of the tree have to read.
+-- from which that goes on. The toolchain's loops leave where a round reads nothing, so the loops of the tree have to read.
 pub record SameEnds (re : Re) (x : Tree) : Type 0 where
   pub at : (h : List ℕ) → All (λ b. b < 256) h → LoopsRead x → (k : Rest) (i : ℕ) → i ≤ length h →
       end_of (attempt h re k i) ≡ first_of (λ j. end_of (k j)) (preferred_ends (looks_of h) h x i)

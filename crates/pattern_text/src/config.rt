@@ -6,7 +6,7 @@ use std::marker::Model;
 /// How a text is read, by the names that `regex::RegexBuilder` gives its options. A flag in the text, as
 /// `(?i)`, goes before the option from there on.
 ///
-/// A line ends at a line feed, or as [`crlf`](Config::crlf) says: the kit's grammar knows no other terminator.
+/// A line ends at a line feed, or as [`crlf`](Config::crlf) says: the grammar knows no other terminator.
 #[derive(Clone, Copy, Debug)]
 pub struct Config {
     options: regex_syntax::Config,
@@ -32,7 +32,7 @@ impl Config {
         }
     }
 
-    /// The options as the kit's parser takes them.
+    /// The options as the toolchain's parser takes them.
     pub(crate) fn options(&self) -> regex_syntax::Config
         ensures { result ≡ self.now }
     {

@@ -1,5 +1,5 @@
 //! Laws of the definitions. Each function has no code: its contract is the law.
-ghost use Rattle.std.specs.Prelude.{◌≡◌, ◌≤◌, List, Option, ℕ, Bool, IsTrue, true};
+ghost use Rattle.std.specs.Prelude.{◌≡◌, ◌<◌, ◌≤◌, List, [], length, All, Option, Some, None, ℕ, Bool, IsTrue, true};
 ghost use Rattle.std.specs.Char.{IsScalar};
 ghost use Rattle.std.specs.Option.{ForSome};
 ghost use Rattle.regex_class.specs.Ranges.{in_ranges};
@@ -7,14 +7,17 @@ ghost use Rattle.regex_hir.specs.Meaning.{meaning, repeat, cat_all, alt_all};
 ghost use Rattle.regex_hir.specs.Re.{Re};
 ghost use Rattle.regex_hir.specs.Re as re;
 ghost use Rattle.regex_hir.specs.declared.hir.Hir.{Hir as Pattern};
+ghost use Rattle.regex_hir.specs.Find.{Match, find};
 ghost use Rattle.regex_syntax.specs.Grammar.{Names};
 ghost use Rattle.regex_syntax.specs.WellFormed.{IsWellFormed};
 ghost use Rattle.hir_core.specs.Facts.{LoopsRead, is_utf8_tree};
 ghost use Rattle.hir_core.specs.Means.{is_member};
+ghost use Rattle.hir_core.specs.PreferredEnds.{preferred_ends};
 ghost use Rattle.hir_core.specs.Tree.{Tree, concat, alternation};
 ghost use Rattle.hir_core.specs.Tree as tree;
 ghost use Rattle.pattern_text.specs.Translated.{translated};
-ghost use Rattle.pattern_text.specs.SameEnds.{SameEnds, SameSpans, AreSameEnds, AreSameSpans, HasNames};
+ghost use Rattle.pattern_text.specs.FirstSpan.{IsFirstSpan};
+ghost use Rattle.pattern_text.specs.SameEnds.{looks_of, SameEnds, SameSpans, AreSameEnds, AreSameSpans, HasNames};
 
 /// The tree of a pattern prefers the ends that the pattern does where its loops read, has the same spans
 /// whatever they read, and its groups have the names that stand at their indices.
@@ -66,4 +69,13 @@ pub fn lists_of_parts_agree()
     ensures alternation { (rs : List Re) (xs : List Tree) → AreSameEnds rs xs → SameEnds (alt_all rs) (alternation xs) }
     ensures concat_spans { (rs : List Re) (xs : List Tree) → AreSameSpans rs xs → SameSpans (cat_all rs) (concat xs) }
     ensures alternation_spans { (rs : List Re) (xs : List Tree) → AreSameSpans rs xs → SameSpans (alt_all rs) (alternation xs) }
+{}
+
+/// Where loops read, the toolchain's search finds the first place at which the tree has a span, and there the
+/// end that the tree prefers; it finds none where the tree has none.
+pub fn searches_find_the_first_preferred_span()
+    ensures found { (re : Re) (x : Tree) → SameEnds re x → (h : List ℕ) → All (λ b. b < 256) h → LoopsRead x →
+        (s : ℕ) (m : Match) → find re h s ≡ Some m → IsFirstSpan h x s m.start m.trace.end }
+    ensures none { (re : Re) (x : Tree) → SameEnds re x → (h : List ℕ) → All (λ b. b < 256) h → LoopsRead x →
+        (s : ℕ) → find re h s ≡ None → (k : ℕ) → s ≤ k → k ≤ length h → preferred_ends (looks_of h) h x k ≡ [] }
 {}

@@ -1,8 +1,9 @@
 //! Patterns as text: what is written in the syntax of the crate `regex`, as a tree.
 //!
-//! [`parse`] reads a text with the options of a [`Config`] and answers the tree of what the kit's grammar
-//! reads, or why it is refused and where; [`tree_of`] makes the tree of a pattern that is parsed already. What
-//! a text means is defined in `specs/`: `Patterns.antt` and `SameEnds.antt`, with laws in [`laws`].
+//! [`parse`] reads a text with the options of a [`Config`] and answers the tree of what the grammar of the
+//! toolchain's `regex_syntax` reads, or why it is refused and where; [`tree_of`] makes the tree of a pattern
+//! that is parsed already. What a text means is defined in `specs/`: `Patterns.antt` and `SameEnds.antt`, with
+//! laws in [`laws`].
 #![tactic(auto)]
 
 mod classes;

@@ -1,6 +1,8 @@
-ghost use Rattle.std.specs.Prelude.{ℕ, List};
+ghost use Rattle.std.specs.Prelude.{◌≡◌, ℕ, List};
 ghost use Rattle.regex_syntax.specs.declared.Config.{Config as Options};
+ghost use Rattle.regex_syntax.specs.declared.error.ErrorKind.TheVariants.{OutOfMemory};
 ghost use Rattle.regex_syntax.specs.Verdict.{Refuses};
+ghost use Rattle.pattern_text.specs.declared.parse_error.ParseError.TheVariants.{NoMemory};
 ghost use Rattle.pattern_text.specs.Patterns.{LiesIn, IsFault};
 
 use regex_syntax::{ErrorKind, Span};
@@ -22,9 +24,10 @@ pub enum ParseError {
 }
 
 impl ParseError {
-    /// What the kit's parser tells.
+    /// What the toolchain's parser tells.
     pub(crate) fn of_parser(error: regex_syntax::Error) -> ParseError
-        ensures { (config : Options) (text : List ℕ) → Refuses config text error.kind → LiesIn text error.span → IsFault config text result }
+        ensures memory { result ≡ NoMemory → error.kind ≡ OutOfMemory }
+        ensures fault { (config : Options) (text : List ℕ) → Refuses config text error.kind → LiesIn text error.span → IsFault config text result }
     {
         match error.kind {
             ErrorKind::OutOfMemory => ParseError::NoMemory,

@@ -1,5 +1,5 @@
-ghost use Rattle.std.specs.Prelude.{IfOk, IfErr, IsTrue};
-ghost use Rattle.hir_core.specs.Facts.{is_utf8_tree};
+ghost use Rattle.std.specs.Prelude.{◌+◌, ◌*◌, ◌≤◌, IfOk, IfErr, IsTrue};
+ghost use Rattle.hir_core.specs.Facts.{is_utf8_tree, height};
 ghost use Rattle.pattern_text.specs.Patterns.{MeansText, IsFault};
 
 use crate::config::Config;
@@ -12,6 +12,7 @@ use std::alloc::Global;
 pub fn parse(alloc: Global, pattern: &str, config: &Config) -> Result<Hir, ParseError>
     ensures means { IfOk result (λ x. MeansText config.now pattern.now x) }
     ensures utf8 { IsTrue config.now.utf8 → IfOk result (λ x. IsTrue (is_utf8_tree x)) }
+    ensures height { IfOk result (λ x. height x ≤ 5 * config.now.nest_limit + 5) }
     ensures refused { IfErr result (λ e. IsFault config.now pattern.now e) }
 {
     let parsed = match regex_syntax::parse(alloc, pattern, &config.options()) {

@@ -5,6 +5,8 @@
 //! - `look:NAME`, `rep:MIN-MAX` greedy rounds of the tree before it and `lazy:MIN-MAX` lazy ones, where `inf`
 //!   is no bound, `group:INDEX` and `group:INDEX,NAME`,
 //! - `cat:N` and `alt:N`, the last N trees one after the other, or as a choice.
+ghost use Rattle.std.specs.Prelude.{◌≤◌, IfSome};
+
 use hir_core::{Hir, is_ascending, is_ascending_chars};
 use look_core::Look;
 use std::alloc::{AllocError, Global};
@@ -26,9 +28,9 @@ pub(crate) fn tree_of(alloc: Global, words: &str) -> Result<Option<Hir>, AllocEr
 fn make(alloc: Global, trees: &mut Vec<Hir>, word: &str) -> Result<Option<Hir>, AllocError> {
     let (kind, rest) = word.split_once(':').unwrap_or((word, ""));
     match kind {
-        "rep" => rounds(alloc, trees.pop(), rest, true),
-        "lazy" => rounds(alloc, trees.pop(), rest, false),
-        "group" => group(alloc, trees.pop(), rest),
+        "rep" => rounds(alloc, trees, rest, true),
+        "lazy" => rounds(alloc, trees, rest, false),
+        "group" => group(alloc, trees, rest),
         "cat" => Ok(last(trees, rest)?.map(Hir::concat)),
         "alt" => Ok(last(trees, rest)?.map(Hir::alternation)),
         _ => leaf(alloc, kind, rest),
@@ -127,38 +129,56 @@ fn word_look(name: &str) -> Option<Look> {
     }
 }
 
-fn rounds(
-    alloc: Global,
-    sub: Option<Hir>,
-    bounds: &str,
-    greedy: bool,
-) -> Result<Option<Hir>, AllocError> {
-    let Some(sub) = sub else { return Ok(None) };
+/// The least number of rounds and the bound, if there is one.
+fn bounds_of(bounds: &str) -> Option<(u32, Option<u32>)>
+    ensures { IfSome result (λ b. IfSome b.1 (λ most. b.0 ≤ most)) }
+{
     let (least, most) = bounds.split_once('-').unwrap_or((bounds, bounds));
-    let Ok(min) = least.parse::<u32>() else {
-        return Ok(None);
-    };
+    let min = least.parse::<u32>().ok()?;
     if most == "inf" {
-        return Ok(Some(Hir::repetition(alloc, min, None, greedy, sub)?));
+        return Some((min, None));
     }
-    match most.parse::<u32>() {
-        Ok(max) if min <= max => Ok(Some(Hir::repetition(alloc, min, Some(max), greedy, sub)?)),
-        _ => Ok(None),
+    let max = most.parse::<u32>().ok()?;
+    if min <= max {
+        Some((min, Some(max)))
+    } else {
+        None
     }
 }
 
-fn group(alloc: Global, sub: Option<Hir>, words: &str) -> Result<Option<Hir>, AllocError> {
-    let Some(sub) = sub else { return Ok(None) };
+fn rounds(
+    alloc: Global,
+    trees: &mut Vec<Hir>,
+    bounds: &str,
+    greedy: bool,
+) -> Result<Option<Hir>, AllocError> {
+    let Some((min, max)) = bounds_of(bounds) else {
+        return Ok(None);
+    };
+    match trees.pop() {
+        Some(sub) => Ok(Some(Hir::repetition(alloc, min, max, greedy, sub)?)),
+        None => Ok(None),
+    }
+}
+
+/// A copy of the name, if it is one.
+fn name_of(alloc: Global, name: &str) -> Result<Option<String>, AllocError> {
+    if name.is_empty() {
+        return Ok(None);
+    }
+    Ok(Some(String::from_str(alloc, name)?))
+}
+
+fn group(alloc: Global, trees: &mut Vec<Hir>, words: &str) -> Result<Option<Hir>, AllocError> {
     let (index, name) = words.split_once(',').unwrap_or((words, ""));
     let Ok(index) = index.parse::<u32>() else {
         return Ok(None);
     };
-    let name = if name.is_empty() {
-        None
-    } else {
-        Some(String::from_str(alloc, name)?)
-    };
-    Ok(Some(Hir::capture(alloc, index, name, sub)?))
+    let name = name_of(alloc, name)?;
+    match trees.pop() {
+        Some(sub) => Ok(Some(Hir::capture(alloc, index, name, sub)?)),
+        None => Ok(None),
+    }
 }
 
 /// The last so many trees, which are taken.

@@ -1,1 +1,0 @@
-use Rattle.pattern_text.proofs.trees.+tree_of.Goals as goal
