@@ -1,5 +1,5 @@
-ghost use Rattle.std.specs.Prelude.{◌≡◌, ◌++◌, ◌∷◌, [], IfErr, IfOk, IsTrue, OnOk, All, map};
-ghost use Rattle.hir_core.specs.Facts.{is_utf8_tree};
+ghost use Rattle.std.specs.Prelude.{◌≡◌, ◌≤◌, ◌+◌, ◌*◌, ◌++◌, ◌∷◌, [], IfErr, IfOk, IsTrue, OnOk, All, map};
+ghost use Rattle.hir_core.specs.Facts.{is_utf8_tree, height};
 ghost use Rattle.hir_core.specs.Tree.{Tree};
 ghost use Rattle.pattern_text.specs.Patterns.{MeansText, IsFault};
 ghost use Rattle.pattern_search.specs.Texts.{AllMean, IsFirstFault};
@@ -22,7 +22,8 @@ pub struct TextError {
 /// The tree of a text, behind those before it.
 fn push(alloc: Global, trees: &mut Vec<Hir>, text: &str, config: &Config) -> Result<(), ParseError>
     ensures pushed { OnOk result ((x : Tree) × (trees.new.items ≡ trees.old.items ++ x ∷ []) × MeansText config.now text.now x
-        × (IsTrue config.now.utf8 → IsTrue (is_utf8_tree x))) }
+        × (IsTrue config.now.utf8 → IsTrue (is_utf8_tree x))
+        × (height x ≤ 5 * config.now.nest_limit + 5)) }
     ensures refused { IfErr result (λ e. IsFault config.now text.now e) }
 {
     let tree = parse(alloc, text, config)?;
@@ -37,6 +38,7 @@ fn push(alloc: Global, trees: &mut Vec<Hir>, text: &str, config: &Config) -> Res
 pub fn parse_all(alloc: Global, texts: &[&str], config: &Config) -> Result<Vec<Hir>, TextError>
     ensures means { IfOk result (λ xs. AllMean config.now (map (λ t. t.now) texts.now) xs.items) }
     ensures utf8 { IsTrue config.now.utf8 → IfOk result (λ xs. All (λ x. IsTrue (is_utf8_tree x)) xs.items) }
+    ensures heights { IfOk result (λ xs. All (λ x. height x ≤ 5 * config.now.nest_limit + 5) xs.items) }
     ensures refused { IfErr result (λ e. IsFirstFault config.now (map (λ t. t.now) texts.now) e.number e.error) }
 {
     let mut trees = Vec::new(alloc);

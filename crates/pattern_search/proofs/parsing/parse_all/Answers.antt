@@ -1,5 +1,5 @@
-use Rattle.std.proofs.Common.{◌≡◌, List, [], All, IsTrue, arith, sym, subst}
-use Rattle.hir_core.specs.Facts.{is_utf8_tree}
+use Rattle.std.proofs.Common.{◌≡◌, ◌+◌, ◌*◌, ◌≤◌, List, [], All, IsTrue, arith, sym, subst}
+use Rattle.hir_core.specs.Facts.{is_utf8_tree, height}
 use Rattle.hir_core.specs.Tree.{Tree}
 use Rattle.pattern_search.specs.Texts.{AllMean}
 use Rattle.pattern_search.proofs.TextLemmas.{one_more_means, one_more_holds, all_mean, first_fault}
@@ -12,6 +12,7 @@ pub loop-number-init : goal.loop-number-init
 loop-number-init c = (
   subst (AllMean c.args.config.now []) (sym c.new-trees.ensures.items) tt,
   λ on. none_yet (λ x. IsTrue (is_utf8_tree x)) c.new-trees.result.items c.new-trees.ensures.items,
+  none_yet (λ x. height x ≤ 5 * c.args.config.now.nest_limit + 5) c.new-trees.result.items c.new-trees.ensures.items,
 )
 
 pub returns-in-Err-clause-refused : goal.returns-in-Err-clause-refused
@@ -25,6 +26,8 @@ loop-number-preserved c =
       one_more_means c.args.config.now c.args.texts.now _ c.loop-number.number c.loop-number.trees.items c.push.new.trees.items pushed.0 c.loop-number-test.true
           pushed.1 c.loop-number.invariant.0 pushed.2,
       λ on. one_more_holds (λ x. IsTrue (is_utf8_tree x)) c.loop-number.trees.items c.push.new.trees.items pushed.0 pushed.1 (c.loop-number.invariant.1 on) (pushed.3 on),
+      one_more_holds (λ x. height x ≤ 5 * c.args.config.now.nest_limit + 5) c.loop-number.trees.items c.push.new.trees.items pushed.0 pushed.1
+          c.loop-number.invariant.2 pushed.4,
     )
 
 pub returns-clause-means : goal.returns-clause-means
@@ -33,3 +36,6 @@ returns-clause-means c =
 
 pub returns-clause-utf8 : goal.returns-clause-utf8
 returns-clause-utf8 c = c.loop-number.invariant.1
+
+pub returns-clause-heights : goal.returns-clause-heights
+returns-clause-heights c = c.loop-number.invariant.2
