@@ -1,0 +1,4 @@
+pub mod Texts
+pub mod Searches
+pub mod RegexAnswers
+pub mod Written

@@ -1,0 +1,62 @@
+ghost use Rattle.std.specs.Prelude.{◌≡◌, ◌≤◌, ◌+◌, ◌*◌, ◌++◌, ◌∷◌, [], IfErr, IfOk, IsTrue, OnOk, All, map};
+ghost use Rattle.hir_core.specs.Facts.{is_utf8_tree, height};
+ghost use Rattle.hir_core.specs.Tree.{Tree};
+ghost use Rattle.pattern_text.specs.Patterns.{MeansText, IsFault};
+ghost use Rattle.pattern_search.specs.Texts.{AllMean, IsFirstFault};
+
+use hir_core::Hir;
+use pattern_text::{Config, ParseError, parse};
+use std::alloc::Global;
+use std::error::Error;
+use std::fmt;
+
+/// Why texts have no trees.
+#[derive(Clone, Copy, Debug, PartialEq, Eq)]
+pub struct TextError {
+    /// The number of the text, counted from 0.
+    pub number: usize,
+    /// What is wrong with it, and where in it.
+    pub error: ParseError,
+}
+
+/// The tree of a text, behind those before it.
+fn push(alloc: Global, trees: &mut Vec<Hir>, text: &str, config: &Config) -> Result<(), ParseError>
+    ensures pushed { OnOk result ((x : Tree) × (trees.new.items ≡ trees.old.items ++ x ∷ []) × MeansText config.now text.now x
+        × (IsTrue config.now.utf8 → IsTrue (is_utf8_tree x))
+        × (height x ≤ 5 * config.now.nest_limit + 5)) }
+    ensures refused { IfErr result (λ e. IsFault config.now text.now e) }
+{
+    let tree = parse(alloc, text, config)?;
+    match trees.push(tree) {
+        Ok(()) => Ok(()),
+        Err(_) => Err(ParseError::NoMemory),
+    }
+}
+
+/// The trees of texts, one for each and in their order. Where a text is refused, the first that is refused
+/// is told, by its number from 0.
+pub fn parse_all(alloc: Global, texts: &[&str], config: &Config) -> Result<Vec<Hir>, TextError>
+    ensures means { IfOk result (λ xs. AllMean config.now (map (λ t. t.now) texts.now) xs.items) }
+    ensures utf8 { IsTrue config.now.utf8 → IfOk result (λ xs. All (λ x. IsTrue (is_utf8_tree x)) xs.items) }
+    ensures heights { IfOk result (λ xs. All (λ x. height x ≤ 5 * config.now.nest_limit + 5) xs.items) }
+    ensures refused { IfErr result (λ e. IsFirstFault config.now (map (λ t. t.now) texts.now) e.number e.error) }
+{
+    let mut trees = Vec::new(alloc);
+    for (number, text) in texts.iter().enumerate() {
+        match push(alloc, &mut trees, text, config) {
+            Ok(()) => {}
+            Err(error) => return Err(TextError { number, error }),
+        }
+    }
+    Ok(trees)
+}
+
+impl fmt::Display for TextError {
+    fn fmt<W: fmt::Write>(&self, f: &mut fmt::Formatter<W>) -> fmt::Result {
+        let number = self.number;
+        let error = self.error;
+        write!(f, "text {number}: {error}")
+    }
+}
+
+impl Error for TextError {}
