@@ -119,6 +119,8 @@ fn is_told(alloc: Global, kept: Kept) -> bool {
 
 #[test]
 fn captures_tell_what_is_kept_of_a_match(rt: HostRuntime) {
-    assert!(rt; is_told(rt.alloc(), Kept::All));
-    assert!(rt; is_told(rt.alloc(), Kept::Matches) && is_told(rt.alloc(), Kept::Nothing));
+    let alloc = rt.alloc();
+    assert!(rt;
+        is_told(alloc, Kept::All) && is_told(alloc, Kept::Matches) && is_told(alloc, Kept::Nothing)
+    );
 }

@@ -97,9 +97,15 @@ fn words_are_told(set: &ByteSet) -> bool {
         && are_classes(&classes_of(set), classes_of_words())
 }
 
+/// Whether classes are told.
+fn classes_are_told() -> bool {
+    let classes = letters();
+    sizes(&ByteClasses::default()) == (257, 9, true)
+        && letters_are_told_apart(&classes)
+        && firsts_are_given(&classes)
+}
+
 #[test]
 fn classes_and_sets_of_bytes(rt: HostRuntime) {
-    let classes = letters();
-    assert!(rt; letters_are_told_apart(&classes) && firsts_are_given(&classes));
-    assert!(rt; sizes(&ByteClasses::default()) == (257, 9, true) && words_are_told(&words()));
+    assert!(rt; classes_are_told() && words_are_told(&words()));
 }

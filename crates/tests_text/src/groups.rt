@@ -21,13 +21,24 @@ fn names(alloc: Global, letters: &[u8]) -> Result<Vec<Option<String>>, AllocErro
     Ok(names)
 }
 
-/// The groups of patterns, each with a letter for each of its groups.
-pub(crate) fn groups_of(alloc: Global, patterns: &[&str]) -> Result<GroupInfo, GroupInfoError> {
+/// The names of each pattern's groups.
+fn all_names(alloc: Global, patterns: &[&str]) -> Result<Vec<Vec<Option<String>>>, AllocError> {
     let mut groups = Vec::new(alloc);
     for letters in patterns {
         groups.push(names(alloc, letters.as_bytes())?)?;
     }
-    GroupInfo::new(alloc, &groups)
+    Ok(groups)
+}
+
+/// Drops a value. Where it has many parts, a call is cheaper to prove than the drop of each of them.
+fn give_up<T: Drop>(_value: T) {}
+
+/// The groups of patterns, each with a letter for each of its groups.
+pub(crate) fn groups_of(alloc: Global, patterns: &[&str]) -> Result<GroupInfo, GroupInfoError> {
+    let groups = all_names(alloc, patterns)?;
+    let info = GroupInfo::new(alloc, &groups);
+    give_up(groups);
+    info
 }
 
 /// The number of patterns, of all groups, and of slots: all, implicit and explicit ones.

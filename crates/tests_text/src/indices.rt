@@ -82,6 +82,6 @@ fn are_refused(alloc: Global) -> bool {
 
 #[test]
 fn indices_and_their_texts(rt: HostRuntime) {
-    assert!(rt; ways_are_told() && limits_are_told());
-    assert!(rt; are_printed(rt.alloc()) && are_refused(rt.alloc()));
+    let alloc = rt.alloc();
+    assert!(rt; ways_are_told() && limits_are_told() && are_printed(alloc) && are_refused(alloc));
 }

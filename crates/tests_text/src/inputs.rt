@@ -48,18 +48,25 @@ fn spans_fit() -> bool {
     true
 }
 
-/// The span of a search, its mode and whether it ends early.
-fn search_of(input: &Input<'_>) -> (Span, Anchored, bool) {
-    (input.get_span(), input.get_anchored(), input.get_earliest())
+/// Whether two searches have one haystack, one span and one mode, and end early or not.
+fn are_the_same(one: &Input<'_>, other: &Input<'_>) -> bool {
+    one.haystack() == other.haystack()
+        && one.get_span() == other.get_span()
+        && one.get_anchored() == other.get_anchored()
+        && one.get_earliest() == other.get_earliest()
+}
+
+/// Whether a search is the same as its copy.
+fn is_its_copy(input: &Input<'_>) -> bool {
+    match input.clone() {
+        Ok(copy) => are_the_same(&copy, input),
+        Err(_) => false,
+    }
 }
 
 /// Whether the copy of a search has its haystack and is the same search.
 fn copy_is_the_same() -> bool {
-    let input = Input::new(b"abc").range(1..2).anchored(Anchored::Yes);
-    match input.clone() {
-        Ok(copy) => copy.haystack() == input.haystack() && search_of(&copy) == search_of(&input),
-        Err(_) => false,
-    }
+    is_its_copy(&Input::new(b"abc").range(1..2).anchored(Anchored::Yes))
 }
 
 #[test]
