@@ -6,3 +6,4 @@ pub mod AllMatchLemmas
 pub mod StartLemmas
 pub mod ReadLemmas
 pub mod RegexLemmas
+pub mod ForCallers

@@ -1,0 +1,12 @@
+-- What the proofs of other crates may cite of this crate, beside its definitions and its public laws.
+-- the matcher's boundaries are those of UTF-8 mode
+pub use Rattle.pattern_search.proofs.BoundaryLemmas.{same_boundary}
+-- what trees define, whatever the loops read: the answer by its property, and that answers stand where they were asked for
+pub use Rattle.pattern_search.proofs.ChoiceLemmas.{answer_is_loose}
+pub use Rattle.pattern_search.proofs.AllMatchLemmas.{within_of}
+-- spans and starts whatever the loops read, and where they read what is found and all that is found
+pub use Rattle.pattern_search.proofs.StartLemmas.{spans_as_read, starts_as_read}
+pub use Rattle.pattern_search.proofs.FindLemmas.{finds_as_read}
+pub use Rattle.pattern_search.proofs.AllMatchLemmas.{lists_from, lists_as_read}
+-- the patterns that texts are read as, with what their trees find
+pub use Rattle.pattern_search.proofs.ReadLemmas.{finds_what_is_written}
