@@ -145,12 +145,7 @@ fn regex_of(alloc: Global, head: &Head) -> Result<Option<Regex>, AllocError>
 }
 
 /// The reply of a search over this regex of the head's patterns.
-fn matches_reply(
-    alloc: Global,
-    regex: &Regex,
-    head: &Head,
-    h: &[u8],
-) -> Result<Reply, AllocError>
+fn matches_reply(alloc: Global, regex: &Regex, head: &Head, h: &[u8]) -> Result<Reply, AllocError>
     requires built { IsBuilt head.now.patterns.items (program_settings head.now.settings) regex.now }
     requires searched { IsSearched (value_of_head head.now).setup head.now.patterns.items h.now }
     ensures { IfOk result (λ r. IsSearchReply (value_of_head head.now).setup head.now.patterns.items h.now r.ending (string_bytes r.text)) }
