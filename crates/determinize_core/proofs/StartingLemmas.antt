@@ -20,10 +20,11 @@ one_inside n q low = of_cons nat_eq names_equal (λ r. r < n) q [] low (λ r h. 
 
 module _ (a : Automaton) (formed : IsWellFormed a) (q : ℕ) (low : q < length a.states) (looks : ℕ) (old set : List ℕ) (none : old ≡ [])
     (v : Visits nat_eq (known_steps a looks) (q ∷ []) old set) where
-  one_closed : set ≡ closed a looks (q ∷ [])
+  pub one_closed : set ≡ closed a looks (q ∷ [])
   one_closed = closed_is a looks formed (q ∷ []) set (one_inside (length a.states) q low)
       (subst (λ (l : List ℕ). Visits nat_eq (known_steps a looks) (q ∷ []) l set) none v)
 
+module _ (a : Automaton) (q looks : ℕ) (set : List ℕ) (closes : set ≡ closed a looks (q ∷ [])) where
   pub start_builds : (t : Terminator) (s : Start) (w x m b : StateValue) → w ≡ dead → x ≡ with_look_behind (behind a t s) w →
       looks ≡ x.look_have → m ≡ x → b ≡ with_states a set m →
       b ≡ start_value a t s q
@@ -32,7 +33,7 @@ module _ (a : Automaton) (formed : IsWellFormed a) (q : ℕ) (low : q < length a
       let looks_are : looks ≡ (behind a t s).look_have = known ∙ ap (λ (y : StateValue). y.look_have) (first
       ∙ fresh_with_known (behind a t s)) in
       built ∙ (ap (with_states a set) (same ∙ first)
-      ∙ (ap (λ (qs : List ℕ). with_states a qs (with_look_behind (behind a t s) dead)) one_closed
+      ∙ (ap (λ (qs : List ℕ). with_states a qs (with_look_behind (behind a t s) dead)) closes
       ∙ ap (λ (l : ℕ). with_states a (closed a l (q ∷ [])) (with_look_behind (behind a t s) dead)) looks_are))
 
 -- what the walk from a start has cost, wherever it was cut off

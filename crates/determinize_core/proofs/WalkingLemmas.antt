@@ -1,6 +1,7 @@
 -- A walk from state to state, one unit after another, and what it costs.
 use Rattle.std.proofs.Common.{◌≡◌, ℕ, ◌+◌, ◌<◌, ◌≤◌, List, [], ◌∷◌, ◌++◌, length, drop, get_or, Option, Some, None, sym, ap, ◌∙◌}
-use Rattle.std.proofs.Common.{append_assoc, All, subst, ◌*◌, arith}
+use Rattle.std.proofs.Common.{append_assoc, All, subst, ◌*◌, arith, map}
+use Rattle.std.proofs.lemmas.List.{length-map}
 use Rattle.std.proofs.lemmas.Nat.{row_fits}
 use Rattle.std.specs.Bool.{nat_eq}
 use Rattle.std.specs.List.{IsDistinct}
@@ -61,3 +62,14 @@ module _ (a : Automaton) (t : Terminator) (s : Start) (q : ℕ) (v w : StateValu
 
   pub first_once : IsDistinct nat_eq w.ids
   first_once = subst (λ (x : StateValue). IsDistinct nat_eq x.ids) (sym (is ∙ built)) (start_once a t s q)
+
+-- what a start has cost, and a walk behind it
+pub start_within : (old new free rest : ℕ) → new ≤ old + 1 + free → new ≤ old + (1 + free) + rest
+start_within old new free rest start = omega arith
+
+pub walk_within : (old mid new free rest : ℕ) → mid ≤ old + 1 + free → new ≤ mid + rest → new ≤ old + (1 + free) + rest
+walk_within old mid new free rest start walk = omega arith
+
+-- where each of these is read as one of those, they are as many
+pub as_many : {X Y : Type 0} (f : X → Y) (xs : List X) (ys : List Y) → map f xs ≡ ys → length xs ≡ length ys
+as_many f xs ys e = sym (length-map xs f) ∙ ap length e

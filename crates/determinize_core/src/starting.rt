@@ -1,12 +1,14 @@
-ghost use Rattle.std.specs.Prelude.{◌≡◌, ◌+◌, ◌<◌, ◌≤◌, [], length, OnOk, IfOk};
+ghost use Rattle.std.specs.Prelude.{◌≡◌, ◌+◌, ◌<◌, ◌≤◌, [], ◌∷◌, length, OnOk, IfOk};
 ghost use Rattle.determinize_core.specs.Costs.{free_ways};
-ghost use Rattle.determinize_core.specs.Steps.{start_value};
+ghost use Rattle.determinize_core.specs.LookBehind.{with_look_behind};
+ghost use Rattle.determinize_core.specs.Steps.{behind, closed, start_value};
 
 use crate::closure::epsilon_closure;
 use crate::lookbehind::set_lookbehind_from_start;
 use crate::nfa_states::add_nfa_states;
 use crate::start::Start;
 use crate::state_builder::StateBuilderEmpty;
+use crate::state_builder_matches::StateBuilderMatches;
 use crate::state_builder_nfa::StateBuilderNFA;
 use nfa_core::{NFA, NameSet, Steps};
 use search_core::StateID;
@@ -32,13 +34,38 @@ pub fn start_state<S: NameSet, L: Ledger>(
     ensures bound { S.bound set.new ≡ length nfa.now.automaton.states }
     ensures cost { steps.new ≤ steps.old + 1 + free_ways nfa.now.automaton }
 {
-    nfa.is_sound();
     set.clear();
     let mut builder = builder.into_matches()?;
-    set_lookbehind_from_start(nfa, &start, &mut builder);
-    let looks = builder.look_have();
-    epsilon_closure(nfa, id, looks, stack, set, steps)?;
+    close_start(nfa, start, id, set, stack, &mut builder, steps)?;
     let mut built = builder.into_nfa();
     add_nfa_states(nfa, set, &mut built)?;
     Ok(built)
+}
+
+/// Tells a state that is begun what is known of the place where a search starts, and puts the states into an empty set that
+/// the search is in there.
+fn close_start<S: NameSet, L: Ledger>(
+    nfa: &NFA,
+    start: Start,
+    id: StateID,
+    set: &mut S,
+    stack: &mut Vec<StateID>,
+    builder: &mut StateBuilderMatches,
+    steps: &mut Steps<L>,
+) -> Result<(), AllocError>
+    requires inside { id < length nfa.now.automaton.states }
+    requires bound { S.bound set.old ≡ length nfa.now.automaton.states }
+    requires none { S.names set.old ≡ [] }
+    requires empty { stack.old.items ≡ [] }
+    ensures told { builder.new ≡ with_look_behind (behind nfa.now.automaton nfa.now.terminator start) builder.old }
+    ensures closed { OnOk result (S.names set.new ≡ closed nfa.now.automaton builder.new.look_have (id ∷ [])) }
+    ensures stack { OnOk result (stack.new.items ≡ []) }
+    ensures bound { S.bound set.new ≡ S.bound set.old }
+    ensures cost { steps.new ≤ steps.old + 1 + free_ways nfa.now.automaton }
+{
+    nfa.is_sound();
+    set_lookbehind_from_start(nfa, &start, builder);
+    let looks = builder.look_have();
+    epsilon_closure(nfa, id, looks, stack, set, steps)?;
+    Ok(())
 }

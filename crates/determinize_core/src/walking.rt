@@ -97,19 +97,42 @@ pub fn walk_with<S: NameSet, L: Ledger>(
 {
     nfa.is_sound();
     let mut stack = Vec::new(alloc);
-    let begin = start_behind(nfa, look_behind);
-    let built = start_state(
+    let first = first_state(
+        alloc,
         nfa,
-        begin,
         start,
+        look_behind,
         &mut sets.set1,
         &mut stack,
-        StateBuilderEmpty::new(alloc),
         steps,
     )?;
-    let first = built.to_state(alloc)?;
     let states = walk_from(alloc, nfa, kind, sets, &mut stack, first, bytes, steps)?;
     Ok(states)
+}
+
+/// The state in which a walk starts.
+fn first_state<S: NameSet, L: Ledger>(
+    alloc: Global,
+    nfa: &NFA,
+    start: StateID,
+    look_behind: Option<u8>,
+    set: &mut S,
+    stack: &mut Vec<StateID>,
+    steps: &mut Steps<L>,
+) -> Result<State, AllocError>
+    requires inside { start < length nfa.now.automaton.states }
+    requires bound { S.bound set.old ≡ length nfa.now.automaton.states }
+    requires empty { stack.old.items ≡ [] }
+    ensures value { IfOk result (λ first. first ≡ start_value nfa.now.automaton nfa.now.terminator (start_of nfa.now.terminator look_behind) start) }
+    ensures stack { OnOk result (stack.new.items ≡ []) }
+    ensures bound { S.bound set.new ≡ length nfa.now.automaton.states }
+    ensures cost { steps.new ≤ steps.old + 1 + free_ways nfa.now.automaton }
+{
+    let begin = start_behind(nfa, look_behind);
+    let empty = StateBuilderEmpty::new(alloc);
+    let built = start_state(nfa, begin, start, set, stack, empty, steps)?;
+    let first = built.to_state(alloc)?;
+    Ok(first)
 }
 
 /// The states of a walk over bytes from a state.
@@ -133,19 +156,83 @@ fn walk_from<S: NameSet, L: Ledger>(
     ensures bound2 { S.bound sets.new.set2 ≡ length nfa.now.automaton.states }
     ensures cost { steps.new ≤ steps.old + (length bytes.now + 1) * (3 * length nfa.now.automaton.states + 2 * free_ways nfa.now.automaton) }
 {
-    nfa.is_sound();
     let mut states = Vec::new(alloc);
+    walk_on(
+        alloc,
+        nfa,
+        kind,
+        sets,
+        stack,
+        &mut states,
+        first,
+        bytes,
+        steps,
+    )?;
+    Ok(states)
+}
+
+/// Puts the states of a walk over bytes from a state behind others.
+fn walk_on<S: NameSet, L: Ledger>(
+    alloc: Global,
+    nfa: &NFA,
+    kind: MatchKind,
+    sets: &mut Sets<S>,
+    stack: &mut Vec<StateID>,
+    states: &mut Vec<State>,
+    first: State,
+    bytes: &[u8],
+    steps: &mut Steps<L>,
+) -> Result<(), AllocError>
+    requires bound1 { S.bound sets.old.set1 ≡ length nfa.now.automaton.states }
+    requires bound2 { S.bound sets.old.set2 ≡ length nfa.now.automaton.states }
+    requires below { All (λ q. q < length nfa.now.automaton.states) first.ids }
+    requires once { IsDistinct nat_eq first.ids }
+    requires empty { stack.old.items ≡ [] }
+    ensures states { OnOk result (states.new.items ≡ states.old.items ++ walked nfa.now.automaton nfa.now.terminator kind first (units_of bytes.now)) }
+    ensures bound1 { S.bound sets.new.set1 ≡ length nfa.now.automaton.states }
+    ensures bound2 { S.bound sets.new.set2 ≡ length nfa.now.automaton.states }
+    ensures cost { steps.new ≤ steps.old + (length bytes.now + 1) * (3 * length nfa.now.automaton.states + 2 * free_ways nfa.now.automaton) }
+{
+    nfa.is_sound();
     let mut last = first;
     for k in 0..bytes.len() {
         let unit = Unit::u8(bytes[k]);
-        let behind = state_behind(alloc, nfa, kind, sets, stack, &last, unit, steps)?;
-        states.push(last)?;
+        let behind = step_on(alloc, nfa, kind, sets, stack, states, last, unit, steps)?;
         last = behind;
     }
-    let end = state_behind(alloc, nfa, kind, sets, stack, &last, Unit::eoi(256), steps)?;
-    states.push(last)?;
+    let unit = Unit::eoi(256);
+    let end = step_on(alloc, nfa, kind, sets, stack, states, last, unit, steps)?;
     states.push(end)?;
-    Ok(states)
+    Ok(())
+}
+
+/// Puts a state behind others, and answers the one behind a unit.
+fn step_on<S: NameSet, L: Ledger>(
+    alloc: Global,
+    nfa: &NFA,
+    kind: MatchKind,
+    sets: &mut Sets<S>,
+    stack: &mut Vec<StateID>,
+    states: &mut Vec<State>,
+    last: State,
+    unit: Unit,
+    steps: &mut Steps<L>,
+) -> Result<State, AllocError>
+    requires bound1 { S.bound sets.old.set1 ≡ length nfa.now.automaton.states }
+    requires bound2 { S.bound sets.old.set2 ≡ length nfa.now.automaton.states }
+    requires below { All (λ q. q < length nfa.now.automaton.states) last.ids }
+    requires once { IsDistinct nat_eq last.ids }
+    requires empty { stack.old.items ≡ [] }
+    ensures value { IfOk result (λ behind. behind ≡ step_value nfa.now.automaton nfa.now.terminator kind last (unit_byte unit)) }
+    ensures states { OnOk result (states.new.items ≡ states.old.items ++ last ∷ []) }
+    ensures stack { OnOk result (stack.new.items ≡ []) }
+    ensures bound1 { S.bound sets.new.set1 ≡ length nfa.now.automaton.states }
+    ensures bound2 { S.bound sets.new.set2 ≡ length nfa.now.automaton.states }
+    ensures cost { steps.new ≤ steps.old + 3 * length nfa.now.automaton.states + 2 * free_ways nfa.now.automaton }
+{
+    let behind = state_behind(alloc, nfa, kind, sets, stack, &last, unit, steps)?;
+    states.push(last)?;
+    Ok(behind)
 }
 
 /// The state behind a unit.
