@@ -246,3 +246,14 @@ read_state items v k r e f l = f ∙ (ap (λ (xs : List StateValue). get_or xs k
     any_default [] k d e l = absurd (omega (arith, l))
     any_default (x ∷ xs) zero d e l = refl
     any_default (x ∷ xs) (suc k) d e l = any_default xs k d e (omega (arith, l))
+
+-- lists that are equal make the same value
+pub with_lists : (v : CacheValue) (states : List StateValue) (ids cells : List ℕ) → states ≡ v.states → ids ≡ v.ids → cells ≡ v.cells →
+    record v { states = states; ids = ids; cells = cells } ≡ v
+with_lists v states ids cells e f g = λ k. record v { states = e k; ids = f k; cells = g k }
+
+pub IsKept-lists : {S : Type 0} (v : CacheValue) (rows : HashMap StateValue ℕ S) (used : ℕ) (states : List StateValue) (ids cells : List ℕ) →
+    states ≡ v.states → ids ≡ v.ids → cells ≡ v.cells → IsKept v rows used →
+    IsKept (record v { states = states; ids = ids; cells = cells }) rows used
+IsKept-lists v rows used states ids cells e f g =
+    subst (λ (w : CacheValue). IsKept w rows used) (sym (with_lists v states ids cells e f g))

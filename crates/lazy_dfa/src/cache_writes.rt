@@ -175,9 +175,8 @@ impl Cache {
         let id = id_of(at as u32, is_start, state.is_match());
         let cost = 4 * self.stride + 16 + 20 + state.memory_usage();
         let copy = state.clone()?;
-        self.cells.reserve(self.stride)?;
-        self.states.reserve(1)?;
-        self.ids.reserve(1)?;
+        let stride = self.stride;
+        reserve_row(&mut self.cells, stride, &mut self.states, &mut self.ids)?;
         self.rows.reserve(1)?;
         self.skip = self.skip.forgotten();
         lengthen(&mut self.cells, self.stride, LazyStateID::unknown());
@@ -189,6 +188,26 @@ impl Cache {
         self.used += cost;
         Ok(id)
     }
+}
+
+/// Makes room for a state more in the lists of a cache: a row of cells, and one item in each of the others.
+fn reserve_row(
+    cells: &mut Vec<LazyStateID>,
+    stride: usize,
+    states: &mut Vec<State>,
+    ids: &mut Vec<LazyStateID>,
+) -> Result<(), AllocError>
+    ensures cells { cells.new.items ≡ cells.old.items }
+    ensures states { states.new.items ≡ states.old.items }
+    ensures ids { ids.new.items ≡ ids.old.items }
+    ensures row { OnOk result (vec_len cells.new + stride ≤ vec_capacity cells.new) }
+    ensures state { OnOk result (vec_len states.new < vec_capacity states.new) }
+    ensures id { OnOk result (vec_len ids.new < vec_capacity ids.new) }
+{
+    cells.reserve(stride)?;
+    states.reserve(1)?;
+    ids.reserve(1)?;
+    Ok(())
 }
 
 /// Adds an item to a list that has room for it.
