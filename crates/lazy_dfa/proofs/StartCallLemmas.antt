@@ -1,7 +1,7 @@
 -- What start calls answer, by modes.
 use Rattle.std.proofs.Common.{◌≡◌, ℕ, zero, suc, ◌+◌, ◌*◌, ◌<◌, ◌≤◌, ◌≢◌, ◌⊎◌, Bool, true, false, List, [], ◌∷◌, length, get_or, refl, sym}
-use Rattle.std.proofs.Common.{ap, ◌∙◌, subst, inl, inr, ⊎_elim, arith, Option, Some, None}
-use Rattle.std.specs.Prelude.{slice_get, if◌then◌else◌}
+use Rattle.std.proofs.Common.{ap, ◌∙◌, subst, inl, inr, ⊎_elim, arith, Option, Some, None, true≢false}
+use Rattle.std.specs.Prelude.{slice_get, if◌then◌else◌, MatchOption}
 use Rattle.search_types.specs.declared.anchored.Anchored.{Anchored}
 use Rattle.search_types.specs.declared.anchored.Anchored.TheVariants.{No, Yes, Pattern}
 use Rattle.determinize_core.specs.Starts.{StartValue, start_of}
@@ -9,14 +9,17 @@ use Rattle.determinize_core.specs.declared.start.Start.{Start}
 use Rattle.lazy_dfa.specs.Accounting.{Measures, start_count}
 use Rattle.lazy_dfa.specs.ConfigValue.{starts_each_of}
 use Rattle.lazy_dfa.specs.Dfas.{Dfa, IsDfa, start_in, first_state}
-use Rattle.lazy_dfa.specs.Ids.{unknown_id}
-use Rattle.lazy_dfa.specs.Caches.{CacheValue, IsCacheOf, slot, needs_clear}
+use Rattle.lazy_dfa.specs.Ids.{unknown_id, dead_id}
+use Rattle.lazy_dfa.specs.Caches.{CacheValue, IsCacheOf, Names, slot, needs_clear, lacks_room}
 use Rattle.lazy_dfa.specs.Readers.{is_quit}
-use Rattle.lazy_dfa.specs.Steps.{Grew}
-use Rattle.lazy_dfa.specs.StartCalls.{mode_of, quit_refusal, behind_refusal, mode_refusal, start_refusal, start_slot, start_first}
-use Rattle.lazy_dfa.specs.StartCalls.{IsStartKnown, StartNeedsClear, ClearedFor, StartCleared}
+use Rattle.lazy_dfa.specs.Steps.{Grew, IsCause}
+use Rattle.lazy_dfa.specs.StartCalls.{mode_of, quit_refusal, behind_refusal, mode_refusal, start_refusal, start_slot, start_first, start_noted}
+use Rattle.lazy_dfa.specs.StartCalls.{IsStartKnown, StartNeedsClear, ClearedFor, StartCleared, IsStart, TagsStart, StartGivesUp, IsStartCause}
+use Rattle.lazy_dfa.specs.StartCalls.{start_error_of}
+use Rattle.lazy_dfa.specs.declared.cache_error.CacheError.{CacheError}
+use Rattle.lazy_dfa.specs.declared.cache_error.CacheError.TheVariants.{GaveUp, NoMemory}
 use Rattle.lazy_dfa.specs.declared.start_error.StartError.{StartError}
-use Rattle.lazy_dfa.specs.declared.start_error.StartError.TheVariants.{UnsupportedAnchored}
+use Rattle.lazy_dfa.specs.declared.start_error.StartError.TheVariants.{Cache, UnsupportedAnchored}
 use Rattle.lazy_dfa.proofs.IsCacheLemmas.{numbered_back}
 
 inside_of : {X : Type 0} (xs : List X) (k : ℕ) (x : X) → slice_get xs k ≡ Some x → k < length xs
@@ -120,3 +123,40 @@ module _ (d : Dfa) (c : StartValue) (n q : ℕ) (s : Start) (named : Some q ≡ 
         needs = subst (λ (t : Start). needs_clear d v (first_state d t q) ≡ true) is x.1;
       }))
       e
+
+  -- what the call for this slot tells is told of the start
+  pub start_names : (v : CacheValue) (id : ℕ) → Names v id (first_state d s q) → IsStart d v c id
+  start_names v id h = subst (λ (o : Option ℕ). MatchOption o (id ≡ dead_id v.stride)
+      (λ r. Names v id (first_state d (start_of d.nfa.terminator c.look_behind) r))) named
+      (subst (λ (t : Start). Names v id (first_state d t q)) is h)
+
+  pub start_noted_at : (v : CacheValue) (id : ℕ) → get_or v.starts (slot n s) 0 ≡ id → start_noted d v c ≡ id
+  start_noted_at v id e = ap (λ (i : ℕ). get_or v.starts i 0) (sym same_slot) ∙ e
+
+  pub start_tagged : (old : CacheValue) (id : ℕ) → TagsStart d old (first_state d s q) id → (r : ℕ) →
+      start_in d (mode_of c.anchored) ≡ Some r → TagsStart d old (start_first d c r) id
+  start_tagged old id h r e =
+      let f : Some q ≡ Some r = named ∙ e in
+      let same : q ≡ r = cc in
+      subst (λ (r : ℕ). TagsStart d old (start_first d c r) id) same (subst (λ (t : Start). TagsStart d old (first_state d t q) id) is h)
+
+  pub start_fits : (old : CacheValue) → (get_or old.starts (slot n s) 0 ≡ unknown_id → lacks_room d old (first_state d s q) ≡ false) →
+      StartGivesUp d old c → ⊥
+  start_fits old h gives =
+      let lacks = subst (λ (o : Option ℕ). MatchOption o ⊥ (λ r. lacks_room d old (start_first d c r) ≡ true)) (sym named) gives.lacks in
+      let none = h (ap (λ (i : ℕ). get_or old.starts i 0) same_slot ∙ gives.unknown) in
+      true≢false (sym lacks ∙ (sym (ap (λ (t : Start). lacks_room d old (first_state d t q)) is) ∙ none))
+
+  pub start_cause : (old : CacheValue) (e : CacheError) (x : StartError) → x ≡ start_error_of e →
+      get_or old.starts (slot n s) 0 ≡ unknown_id → IsCause d old (first_state d s q) e → IsStartCause d old c x
+  start_cause old e x told unknown (inl f) = inl (told ∙ ap start_error_of f)
+  start_cause old e x told unknown (inr h) = inr (told ∙ ap start_error_of h.0, record {
+    unknown = ap (λ (i : ℕ). get_or old.starts i 0) (sym same_slot) ∙ unknown;
+    lacks = subst (λ (o : Option ℕ). MatchOption o ⊥ (λ r. lacks_room d old (start_first d c r) ≡ true)) named
+        (subst (λ (t : Start). lacks_room d old (first_state d t q) ≡ true) is h.1);
+  })
+
+-- a start gave up only where its state did
+pub gave_up_back : (e : CacheError) → start_error_of e ≡ Cache GaveUp → e ≡ GaveUp
+gave_up_back GaveUp told = refl
+gave_up_back NoMemory told = absurd cc

@@ -96,3 +96,51 @@ returns-clause-adds c = comes_with c.args.dfa.now (specializes c.args.dfa.now.op
     c.room_alone.new.cache c.add_state.new.self c.requires.own.shape c.in_ok-room_alone.ensures.clears c.requires.is
     (sym c.is_dead_state.ensures ∙ c.if-is_dead_state.false) (sym c.find.ensures.place ∙ c.in_default.is) c.in_ok-room_alone.ensures.fits
     (c.in_ok-id.ensures.ok ∙ ap (λ (b : Bool). with_state b c.args.state c.room_alone.new.cache) c.specializes.ensures)
+
+pub returns-then-is_dead_state-clause-own : goal.returns-then-is_dead_state-clause-own
+returns-then-is_dead_state-clause-own c = c.requires.own
+
+pub returns-then-is_dead_state-clause-slots : goal.returns-then-is_dead_state-clause-slots
+returns-then-is_dead_state-clause-slots c = refl
+
+pub returns-then-is_dead_state-clause-gave_up : goal.returns-then-is_dead_state-clause-gave_up
+returns-then-is_dead_state-clause-gave_up c e = refl
+
+pub returns-in-Some-clause-own : goal.returns-in-Some-clause-own
+returns-in-Some-clause-own c = c.requires.own
+
+pub returns-in-Some-clause-slots : goal.returns-in-Some-clause-slots
+returns-in-Some-clause-slots c = refl
+
+pub returns-in-Some-clause-gave_up : goal.returns-in-Some-clause-gave_up
+returns-in-Some-clause-gave_up c e = refl
+
+pub room_alone-requires-clause-own : goal.room_alone-requires-clause-own
+room_alone-requires-clause-own c = c.requires.own
+
+pub room_alone-requires-clause-is : goal.room_alone-requires-clause-is
+room_alone-requires-clause-is c = c.requires.is
+
+pub room_alone-requires-clause-alive : goal.room_alone-requires-clause-alive
+room_alone-requires-clause-alive c = sym c.is_dead_state.ensures ∙ c.if-is_dead_state.false
+
+pub room_alone-requires-clause-fresh : goal.room_alone-requires-clause-fresh
+room_alone-requires-clause-fresh c = sym c.in_default.ensures.place
+
+pub returns-in_err-room_alone-clause-own : goal.returns-in_err-room_alone-clause-own
+returns-in_err-room_alone-clause-own c = c.in_err-room_alone.ensures.own
+
+pub returns-in_err-room_alone-clause-slots : goal.returns-in_err-room_alone-clause-slots
+returns-in_err-room_alone-clause-slots c = c.in_err-room_alone.ensures.slots
+
+pub returns-in_err-id-clause-own : goal.returns-in_err-id-clause-own
+returns-in_err-id-clause-own c = subst (IsCacheOf c.args.dfa.now) (sym c.in_err-id.ensures.err) c.in_ok-room_alone.ensures.own
+
+pub returns-in_err-id-clause-slots : goal.returns-in_err-id-clause-slots
+returns-in_err-id-clause-slots c = ap (λ (v : CacheValue). length v.starts) c.in_err-id.ensures.err ∙ c.in_ok-room_alone.ensures.slots
+
+pub returns-clause-ok : goal.returns-clause-ok
+returns-clause-ok c = c.in_ok-room_alone.ensures.ok
+
+pub add_state-requires-clause-fresh : goal.add_state-requires-clause-fresh
+add_state-requires-clause-fresh c = c.in_ok-room_alone.ensures.fresh

@@ -1,4 +1,4 @@
-use Rattle.std.proofs.Common.{◌≡◌, ◌⊎◌, ◌∙◌, ◌+◌, ◌*◌, ◌<◌, ℕ, true, sym, subst, ap, inl, inr, ⊎_elim, set, length, refl}
+use Rattle.std.proofs.Common.{get_or, ◌≡◌, ◌⊎◌, ◌∙◌, ◌+◌, ◌*◌, ◌<◌, ℕ, true, sym, subst, ap, inl, inr, ⊎_elim, set, length, refl}
 use Rattle.determinize_core.specs.States.{StateValue}
 use Rattle.lazy_dfa.specs.Caches.{CacheValue, IsCacheOf, slot, cleared, needs_clear}
 use Rattle.lazy_dfa.specs.Dfas.{first_state}
@@ -247,3 +247,47 @@ returns-in-Ok-clause-adds g c = inr (start_comes c.args.dfa.now c.args.cache.now
     (sym c.is_not_known.ensures ∙ c.if-not-is_not_known.false))
     (placed g c) (noted_at g c))
     c.in-Ok.ensures.adds)
+
+pub returns-then-not-is_not_known-clause-own : goal.returns-then-not-is_not_known-clause-own
+returns-then-not-is_not_known-clause-own g c = c.requires.own
+
+pub returns-then-not-is_not_known-clause-noted : goal.returns-then-not-is_not_known-clause-noted
+returns-then-not-is_not_known-clause-noted g c = sym (c.start-known.ensures
+    ∙ ap (λ (n : ℕ). get_or c.args.cache.now.starts (c.args.mode * 7 + n) 0) c.as_usize.ensures.number)
+
+pub returns-then-not-is_not_known-clause-same : goal.returns-then-not-is_not_known-clause-same
+returns-then-not-is_not_known-clause-same g c e = refl
+
+pub returns-then-not-is_not_known-clause-free : goal.returns-then-not-is_not_known-clause-free
+returns-then-not-is_not_known-clause-free g c e = refl
+
+pub returns-then-not-is_not_known-clause-kept : goal.returns-then-not-is_not_known-clause-kept
+returns-then-not-is_not_known-clause-kept g c = inl (same_grew c.args.dfa.now c.args.cache.now)
+
+pub returns-then-not-is_not_known-clause-remains : goal.returns-then-not-is_not_known-clause-remains
+returns-then-not-is_not_known-clause-remains g c = inl (same_grew c.args.dfa.now c.args.cache.now)
+
+pub returns-then-not-is_not_known-clause-gave_up : goal.returns-then-not-is_not_known-clause-gave_up
+returns-then-not-is_not_known-clause-gave_up g c e = refl
+
+pub first_of-requires-clause-own : goal.first_of-requires-clause-own
+first_of-requires-clause-own g c = c.requires.own
+
+pub first_of-requires-clause-below : goal.first_of-requires-clause-below
+first_of-requires-clause-below g c = c.requires.below
+
+pub returns-in_err-state-clause-same : goal.returns-in_err-state-clause-same
+returns-in_err-state-clause-same g c e = c.first_of.ensures.same
+
+pub returns-in_err-state-clause-kept : goal.returns-in_err-state-clause-kept
+returns-in_err-state-clause-kept g c = inl (subst (Grew c.args.dfa.now c.args.cache.now) (sym c.first_of.ensures.same)
+    (same_grew c.args.dfa.now c.args.cache.now))
+
+pub returns-in_err-state-clause-gave_up : goal.returns-in_err-state-clause-gave_up
+returns-in_err-state-clause-gave_up g c e = c.first_of.ensures.same
+
+pub returns-in-Err-clause-own : goal.returns-in-Err-clause-own
+returns-in-Err-clause-own g c = c.in-Err.ensures.own
+
+pub returns-in-Err-clause-gave_up : goal.returns-in-Err-clause-gave_up
+returns-in-Err-clause-gave_up g c e = c.in-Err.ensures.gave_up e ∙ c.first_of.ensures.same

@@ -78,3 +78,45 @@ pub returns-clause-clears : goal.returns-clause-clears
 returns-clause-clears c = inr (clears_for c.args.dfa.now (Some c.args.k) c.args.state.now
     c.args.cache.now c.clear_keeping.new.self c.requires.is c.requires.alive c.requires.fresh (sym c.fits.ensures ∙ c.if-fits.false)
     (sym c.refuses_clear.ensures ∙ c.if-refuses_clear.false) (inr c.in_ok-id.ensures.ok))
+
+pub returns-then-fits-clause-own : goal.returns-then-fits-clause-own
+returns-then-fits-clause-own c = c.requires.own
+
+pub returns-then-fits-clause-room : goal.returns-then-fits-clause-room
+returns-then-fits-clause-room c = inl refl
+
+pub returns-then-fits-clause-cause : goal.returns-then-fits-clause-cause
+returns-then-fits-clause-cause c = inl refl
+
+pub returns-then-fits-clause-clears : goal.returns-then-fits-clause-clears
+returns-then-fits-clause-clears c = inl refl
+
+pub returns-then-fits-clause-gave_up : goal.returns-then-fits-clause-gave_up
+returns-then-fits-clause-gave_up c e = refl
+
+pub returns-then-refuses_clear-clause-own : goal.returns-then-refuses_clear-clause-own
+returns-then-refuses_clear-clause-own c = c.requires.own
+
+pub returns-then-refuses_clear-clause-room : goal.returns-then-refuses_clear-clause-room
+returns-then-refuses_clear-clause-room c = inl refl
+
+pub returns-then-refuses_clear-clause-cause : goal.returns-then-refuses_clear-clause-cause
+returns-then-refuses_clear-clause-cause c = inl refl
+
+pub returns-then-refuses_clear-clause-clears : goal.returns-then-refuses_clear-clause-clears
+returns-then-refuses_clear-clause-clears c = inl refl
+
+pub returns-then-refuses_clear-clause-gave_up : goal.returns-then-refuses_clear-clause-gave_up
+returns-then-refuses_clear-clause-gave_up c e = refl
+
+pub returns-then-fits-clause-made : goal.returns-then-fits-clause-made
+returns-then-fits-clause-made c = inl refl
+
+pub returns-then-fits-clause-from : goal.returns-then-fits-clause-from
+returns-then-fits-clause-from c = (c.args.k, c.requires.row, c.id-id.ensures, refl)
+
+pub returns-then-fits-clause-fresh : goal.returns-then-fits-clause-fresh
+returns-then-fits-clause-fresh c = c.requires.fresh
+
+pub returns-clause-made : goal.returns-clause-made
+returns-clause-made c = inr c.in_ok-id.ensures.ok

@@ -130,3 +130,42 @@ pub returns-clause-adds : goal.returns-clause-adds
 returns-clause-adds c = comes_with c.args.dfa.now false (Some c.args.k) c.args.state c.args.cache.now
     c.make_room.new.cache c.add_state.new.self c.requires.own.shape c.in_ok-from.ensures.clears c.requires.is
     (sym c.is_dead_state.ensures ∙ c.if-is_dead_state.false) (sym c.find.ensures.place ∙ c.in_default.is) c.in_ok-from.ensures.fits c.in_ok-to.ensures.ok
+
+pub returns-then-is_dead_state-clause-own : goal.returns-then-is_dead_state-clause-own
+returns-then-is_dead_state-clause-own c = c.requires.own
+
+pub returns-then-is_dead_state-clause-gave_up : goal.returns-then-is_dead_state-clause-gave_up
+returns-then-is_dead_state-clause-gave_up c e = refl
+
+pub returns-in-Some-clause-own : goal.returns-in-Some-clause-own
+returns-in-Some-clause-own c = c.requires.own
+
+pub returns-in-Some-clause-gave_up : goal.returns-in-Some-clause-gave_up
+returns-in-Some-clause-gave_up c e = refl
+
+pub make_room-requires-clause-own : goal.make_room-requires-clause-own
+make_room-requires-clause-own c = c.requires.own
+
+pub make_room-requires-clause-row : goal.make_room-requires-clause-row
+make_room-requires-clause-row c = c.requires.row
+
+pub make_room-requires-clause-is : goal.make_room-requires-clause-is
+make_room-requires-clause-is c = c.requires.is
+
+pub make_room-requires-clause-alive : goal.make_room-requires-clause-alive
+make_room-requires-clause-alive c = sym c.is_dead_state.ensures ∙ c.if-is_dead_state.false
+
+pub make_room-requires-clause-fresh : goal.make_room-requires-clause-fresh
+make_room-requires-clause-fresh c = sym c.in_default.ensures.place
+
+pub returns-in_err-from-clause-own : goal.returns-in_err-from-clause-own
+returns-in_err-from-clause-own c = c.in_err-from.ensures.own
+
+pub returns-in_err-to-clause-own : goal.returns-in_err-to-clause-own
+returns-in_err-to-clause-own c = subst (IsCacheOf c.args.dfa.now) (sym c.in_err-to.ensures.err) c.in_ok-from.ensures.own
+
+pub returns-clause-ok : goal.returns-clause-ok
+returns-clause-ok c = c.in_ok-from.ensures.ok
+
+pub add_state-requires-clause-fresh : goal.add_state-requires-clause-fresh
+add_state-requires-clause-fresh c = c.in_ok-from.ensures.fresh

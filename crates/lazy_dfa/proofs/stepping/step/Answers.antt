@@ -307,3 +307,96 @@ returns-then-is_quit-clause-adds g c =
     (sym c.is_not_known.ensures ∙ c.if-not-is_not_known.false))
     (added_refl c.args.cache.now c.requires.own.shape))
     (same_states _ c.set_cell.new.self c.set_cell.ensures)
+
+pub returns-then-is_sentinel-clause-own : goal.returns-then-is_sentinel-clause-own
+returns-then-is_sentinel-clause-own g c = c.requires.own
+
+pub returns-then-is_sentinel-clause-gave_up : goal.returns-then-is_sentinel-clause-gave_up
+returns-then-is_sentinel-clause-gave_up g c e = refl
+
+pub returns-then-is_sentinel-clause-spares : goal.returns-then-is_sentinel-clause-spares
+returns-then-is_sentinel-clause-spares g c e = refl
+
+pub returns-then-is_sentinel-clause-same : goal.returns-then-is_sentinel-clause-same
+returns-then-is_sentinel-clause-same g c e = refl
+
+pub returns-then-is_sentinel-clause-free : goal.returns-then-is_sentinel-clause-free
+returns-then-is_sentinel-clause-free g c e = refl
+
+pub returns-then-not-is_not_known-clause-own : goal.returns-then-not-is_not_known-clause-own
+returns-then-not-is_not_known-clause-own g c = c.requires.own
+
+pub returns-then-not-is_not_known-clause-gave_up : goal.returns-then-not-is_not_known-clause-gave_up
+returns-then-not-is_not_known-clause-gave_up g c e = refl
+
+pub returns-then-not-is_not_known-clause-spares : goal.returns-then-not-is_not_known-clause-spares
+returns-then-not-is_not_known-clause-spares g c e = refl
+
+pub returns-then-not-is_not_known-clause-same : goal.returns-then-not-is_not_known-clause-same
+returns-then-not-is_not_known-clause-same g c e = refl
+
+pub returns-then-not-is_not_known-clause-free : goal.returns-then-not-is_not_known-clause-free
+returns-then-not-is_not_known-clause-free g c e = refl
+
+pub returns-then-is_sentinel-clause-loops : goal.returns-then-is_sentinel-clause-loops
+returns-then-is_sentinel-clause-loops g c e = refl
+
+pub returns-then-is_quit-clause-spares : goal.returns-then-is_quit-clause-spares
+returns-then-is_quit-clause-spares g c e = refl
+
+pub returns-then-is_quit-clause-free : goal.returns-then-is_quit-clause-free
+returns-then-is_quit-clause-free g c e = refl
+
+pub fill-requires-clause-own : goal.fill-requires-clause-own
+fill-requires-clause-own g c = c.requires.own
+
+pub fill-requires-clause-unit : goal.fill-requires-clause-unit
+fill-requires-clause-unit g c = c.requires.unit
+
+pub fill-requires-clause-no_quit : goal.fill-requires-clause-no_quit
+fill-requires-clause-no_quit g c = sym c.requires.quit ∙ c.if-is_quit.false
+
+pub fill-requires-clause-class : goal.fill-requires-clause-class
+fill-requires-clause-class g c = c.requires.class
+
+pub returns-in_err-to-clause-own : goal.returns-in_err-to-clause-own
+returns-in_err-to-clause-own g c = c.in_err-to.ensures.own
+
+pub returns-in_err-to-clause-kept : goal.returns-in_err-to-clause-kept
+returns-in_err-to-clause-kept g c = c.in_err-to.ensures.kept
+
+pub returns-in_err-to-clause-cause : goal.returns-in_err-to-clause-cause
+returns-in_err-to-clause-cause g c = c.in_err-to.ensures.cause
+
+pub returns-in_err-to-clause-adds : goal.returns-in_err-to-clause-adds
+returns-in_err-to-clause-adds g c = c.in_err-to.ensures.adds
+
+pub returns-clause-own : goal.returns-clause-own
+returns-clause-own g c = c.in_ok-to.ensures.own
+
+pub returns-clause-kept : goal.returns-clause-kept
+returns-clause-kept g c = c.in_ok-to.ensures.kept
+
+pub returns-clause-cause : goal.returns-clause-cause
+returns-clause-cause g c = c.in_ok-to.ensures.cause
+
+pub returns-clause-adds : goal.returns-clause-adds
+returns-clause-adds g c = c.in_ok-to.ensures.adds
+
+pub returns-clause-remains : goal.returns-clause-remains
+returns-clause-remains g c = c.in_ok-to.ensures.remains
+
+pub returns-clause-step : goal.returns-clause-step
+returns-clause-step g c = c.in_ok-to.ensures.step
+
+pub returns-clause-noted : goal.returns-clause-noted
+returns-clause-noted g c = c.in_ok-to.ensures.noted
+
+pub returns-clause-tag : goal.returns-clause-tag
+returns-clause-tag g c = c.in_ok-to.ensures.tag
+
+pub returns-clause-ok : goal.returns-clause-ok
+returns-clause-ok g c = c.in_ok-to.ensures.ok
+
+pub returns-clause-gave_up : goal.returns-clause-gave_up
+returns-clause-gave_up g c = c.in_ok-to.ensures.gave_up

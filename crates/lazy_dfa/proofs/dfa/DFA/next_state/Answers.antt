@@ -28,3 +28,39 @@ returns-clause-adds g c = subst (λ (x : InputUnit). StepAdds c.args.self.now c.
 pub returns-in_err-to-clause-adds : goal.returns-in_err-to-clause-adds
 returns-in_err-to-clause-adds g c = subst (λ (x : InputUnit). StepAdds c.args.self.now c.args.cache.now c.step.new.cache c.args.current
     (unit_byte x)) c.u8.ensures c.in_err-to.ensures.adds
+
+pub step-requires-clause-own : goal.step-requires-clause-own
+step-requires-clause-own g c = c.requires.own
+
+pub step-requires-clause-held : goal.step-requires-clause-held
+step-requires-clause-held g c = c.requires.held
+
+pub returns-in_err-to-clause-own : goal.returns-in_err-to-clause-own
+returns-in_err-to-clause-own g c = c.in_err-to.ensures.own
+
+pub returns-in_err-to-clause-kept : goal.returns-in_err-to-clause-kept
+returns-in_err-to-clause-kept g c = c.in_err-to.ensures.kept
+
+pub returns-in_err-to-clause-determinized : goal.returns-in_err-to-clause-determinized
+returns-in_err-to-clause-determinized g c = c.in_err-to.ensures.determinized
+
+pub returns-in_err-to-clause-inserted : goal.returns-in_err-to-clause-inserted
+returns-in_err-to-clause-inserted g c = c.in_err-to.ensures.inserted
+
+pub returns-clause-own : goal.returns-clause-own
+returns-clause-own g c = c.in_ok-to.ensures.own
+
+pub returns-clause-kept : goal.returns-clause-kept
+returns-clause-kept g c = c.in_ok-to.ensures.kept
+
+pub returns-clause-determinized : goal.returns-clause-determinized
+returns-clause-determinized g c = c.in_ok-to.ensures.determinized
+
+pub returns-clause-inserted : goal.returns-clause-inserted
+returns-clause-inserted g c = c.in_ok-to.ensures.inserted
+
+pub returns-clause-gave_up : goal.returns-clause-gave_up
+returns-clause-gave_up g c = c.in_ok-to.ensures.gave_up
+
+pub returns-clause-loops : goal.returns-clause-loops
+returns-clause-loops g c = c.in_ok-to.ensures.loops

@@ -1,9 +1,11 @@
-use Rattle.std.proofs.Common.{◌∙◌, ap, sym}
+use Rattle.std.proofs.Common.{◌∙◌, ap, sym, refl, inl}
 use Rattle.search_types.specs.declared.anchored.Anchored.{Anchored}
 use Rattle.determinize_core.specs.Starts.{start_of}
 use Rattle.lazy_dfa.specs.Dfas.{start_in, first_state}
 use Rattle.lazy_dfa.specs.StartCalls.{mode_of}
-use Rattle.lazy_dfa.proofs.StartCallLemmas.{slot_inside, fine_of, allowed_of, known_here, start_left, start_needs}
+use Rattle.lazy_dfa.proofs.StartCallLemmas.{slot_inside, fine_of, allowed_of, known_here, start_left, start_needs, start_names, start_noted_at, start_tagged, start_fits, start_cause}
+use Rattle.lazy_dfa.proofs.ChangeLemmas.{same_grew}
+use Rattle.lazy_dfa.specs.Ids.{dead_id}
 use Rattle.lazy_dfa.proofs.AddsLemmas.{start_adds}
 use Rattle.lazy_dfa.proofs.dfa.DFA.start_state.Goals as goal
 use Rattle.lazy_dfa.proofs.LinkedLemmas.{held_named}
@@ -108,3 +110,121 @@ returns-in-Err-clause-adds g c = start_adds c.args.self.now c.args.config.now c.
     (c.in-Some-name_of.ensures.name ∙ ap (λ (m : Anchored). start_in c.args.self.now (mode_of m)) c.get_anchored-2.ensures)
     (c.start_behind-start.ensures ∙ ap (start_of c.args.self.now.nfa.terminator) c.get_look_behind-look_behind.ensures)
     c.in-Err.ensures.adds
+
+pub returns-in-Ok-clause-own : goal.returns-in-Ok-clause-own
+returns-in-Ok-clause-own g c = c.in-Ok.ensures.own
+
+pub returns-in-Err-clause-own : goal.returns-in-Err-clause-own
+returns-in-Err-clause-own g c = c.in-Err.ensures.own
+
+pub returns-in-Ok-clause-kept : goal.returns-in-Ok-clause-kept
+returns-in-Ok-clause-kept g c = c.in-Ok.ensures.kept
+
+pub returns-in-Err-clause-kept : goal.returns-in-Err-clause-kept
+returns-in-Err-clause-kept g c = c.in-Err.ensures.kept
+
+pub returns-in-Ok-clause-determinized : goal.returns-in-Ok-clause-determinized
+returns-in-Ok-clause-determinized g c = c.in-Ok.ensures.determinized
+
+pub returns-in-Err-clause-determinized : goal.returns-in-Err-clause-determinized
+returns-in-Err-clause-determinized g c = c.in-Err.ensures.determinized
+
+pub returns-in-Ok-clause-inserted : goal.returns-in-Ok-clause-inserted
+returns-in-Ok-clause-inserted g c = c.in-Ok.ensures.inserted
+
+pub returns-in-Err-clause-inserted : goal.returns-in-Err-clause-inserted
+returns-in-Err-clause-inserted g c = c.in-Err.ensures.inserted
+
+pub returns-in-Ok-clause-start : goal.returns-in-Ok-clause-start
+returns-in-Ok-clause-start g c none = start_names c.args.self.now c.args.config.now c.mode_number-number.result c.in-Some-name_of.name
+    c.start_behind-start.result
+    (c.in-Some-name_of.ensures.name ∙ ap (λ (m : Anchored). start_in c.args.self.now (mode_of m)) c.get_anchored-2.ensures)
+    (c.mode_number-number.ensures.value ∙ ap mode_of c.get_anchored-3.ensures)
+    (c.start_behind-start.ensures ∙ ap (start_of c.args.self.now.nfa.terminator) c.get_look_behind-look_behind.ensures)
+    c.start_in_mode.new.cache c.in-Ok.id c.in-Ok.ensures.start
+
+pub returns-in-Ok-clause-noted : goal.returns-in-Ok-clause-noted
+returns-in-Ok-clause-noted g c q e = start_noted_at c.args.self.now c.args.config.now c.mode_number-number.result c.in-Some-name_of.name
+    c.start_behind-start.result
+    (c.in-Some-name_of.ensures.name ∙ ap (λ (m : Anchored). start_in c.args.self.now (mode_of m)) c.get_anchored-2.ensures)
+    (c.mode_number-number.ensures.value ∙ ap mode_of c.get_anchored-3.ensures)
+    (c.start_behind-start.ensures ∙ ap (start_of c.args.self.now.nfa.terminator) c.get_look_behind-look_behind.ensures)
+    c.start_in_mode.new.cache c.in-Ok.id c.in-Ok.ensures.noted
+
+pub returns-in-Ok-clause-tag : goal.returns-in-Ok-clause-tag
+returns-in-Ok-clause-tag g c = start_tagged c.args.self.now c.args.config.now c.mode_number-number.result c.in-Some-name_of.name
+    c.start_behind-start.result
+    (c.in-Some-name_of.ensures.name ∙ ap (λ (m : Anchored). start_in c.args.self.now (mode_of m)) c.get_anchored-2.ensures)
+    (c.mode_number-number.ensures.value ∙ ap mode_of c.get_anchored-3.ensures)
+    (c.start_behind-start.ensures ∙ ap (start_of c.args.self.now.nfa.terminator) c.get_look_behind-look_behind.ensures)
+    c.args.cache.now c.in-Ok.id c.in-Ok.ensures.tag
+
+pub returns-in-Ok-clause-ok : goal.returns-in-Ok-clause-ok
+returns-in-Ok-clause-ok g c = start_fits c.args.self.now c.args.config.now c.mode_number-number.result c.in-Some-name_of.name
+    c.start_behind-start.result
+    (c.in-Some-name_of.ensures.name ∙ ap (λ (m : Anchored). start_in c.args.self.now (mode_of m)) c.get_anchored-2.ensures)
+    (c.mode_number-number.ensures.value ∙ ap mode_of c.get_anchored-3.ensures)
+    (c.start_behind-start.ensures ∙ ap (start_of c.args.self.now.nfa.terminator) c.get_look_behind-look_behind.ensures)
+    c.args.cache.now c.in-Ok.ensures.ok
+
+pub returns-in-Err-clause-err : goal.returns-in-Err-clause-err
+returns-in-Err-clause-err g c none = start_cause c.args.self.now c.args.config.now c.mode_number-number.result c.in-Some-name_of.name
+    c.start_behind-start.result
+    (c.in-Some-name_of.ensures.name ∙ ap (λ (m : Anchored). start_in c.args.self.now (mode_of m)) c.get_anchored-2.ensures)
+    (c.mode_number-number.ensures.value ∙ ap mode_of c.get_anchored-3.ensures)
+    (c.start_behind-start.ensures ∙ ap (start_of c.args.self.now.nfa.terminator) c.get_look_behind-look_behind.ensures)
+    c.args.cache.now c.in-Err.e c.start_error-told.result c.start_error-told.ensures c.in-Err.ensures.unknown c.in-Err.ensures.err
+
+pub start_in_mode-requires-clause-own : goal.start_in_mode-requires-clause-own
+start_in_mode-requires-clause-own g c = c.requires
+
+pub start_in_mode-requires-clause-below : goal.start_in_mode-requires-clause-below
+start_in_mode-requires-clause-below g c = c.in-Some-name_of.ensures.below
+
+pub returns-in-Some-clause-own : goal.returns-in-Some-clause-own
+returns-in-Some-clause-own g c = c.requires
+
+pub returns-in-Some-clause-kept : goal.returns-in-Some-clause-kept
+returns-in-Some-clause-kept g c = inl (same_grew c.args.self.now c.args.cache.now)
+
+pub returns-in-Some-clause-cause : goal.returns-in-Some-clause-cause
+returns-in-Some-clause-cause g c = inl (same_grew c.args.self.now c.args.cache.now)
+
+pub returns-in-Some-clause-adds : goal.returns-in-Some-clause-adds
+returns-in-Some-clause-adds g c = inl (same_grew c.args.self.now c.args.cache.now, (refl, refl, refl))
+
+pub returns-in-Some-clause-same : goal.returns-in-Some-clause-same
+returns-in-Some-clause-same g c e = refl
+
+pub returns-in-Some-clause-free : goal.returns-in-Some-clause-free
+returns-in-Some-clause-free g c e = refl
+
+pub returns-in-Some-clause-gave_up : goal.returns-in-Some-clause-gave_up
+returns-in-Some-clause-gave_up g c e = refl
+
+pub returns-in_default-name_of-clause-own : goal.returns-in_default-name_of-clause-own
+returns-in_default-name_of-clause-own g c = c.requires
+
+pub returns-in_default-name_of-clause-kept : goal.returns-in_default-name_of-clause-kept
+returns-in_default-name_of-clause-kept g c = inl (same_grew c.args.self.now c.args.cache.now)
+
+pub returns-in_default-name_of-clause-remains : goal.returns-in_default-name_of-clause-remains
+returns-in_default-name_of-clause-remains g c = inl (same_grew c.args.self.now c.args.cache.now)
+
+pub returns-in_default-name_of-clause-cause : goal.returns-in_default-name_of-clause-cause
+returns-in_default-name_of-clause-cause g c = inl (same_grew c.args.self.now c.args.cache.now)
+
+pub returns-in_default-name_of-clause-adds : goal.returns-in_default-name_of-clause-adds
+returns-in_default-name_of-clause-adds g c = inl (same_grew c.args.self.now c.args.cache.now, (refl, refl, refl))
+
+pub returns-in_default-name_of-clause-same : goal.returns-in_default-name_of-clause-same
+returns-in_default-name_of-clause-same g c e = refl
+
+pub returns-in_default-name_of-clause-free : goal.returns-in_default-name_of-clause-free
+returns-in_default-name_of-clause-free g c e = refl
+
+pub returns-in_default-name_of-clause-gave_up : goal.returns-in_default-name_of-clause-gave_up
+returns-in_default-name_of-clause-gave_up g c e = refl
+
+pub returns-in_default-name_of-clause-held : goal.returns-in_default-name_of-clause-held
+returns-in_default-name_of-clause-held g c = inl (c.dead.ensures ∙ ap dead_id c.stride-stride.ensures.stride)
