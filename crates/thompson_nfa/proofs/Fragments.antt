@@ -14,5 +14,8 @@ pub mod OptionLemmas
 pub mod ConcatLemmas
 pub mod CopyLemmas
 pub mod AlternativeLemmas
+pub mod FormRefusals
+pub mod TreeLemmas
+pub mod MayLead
 pub mod DoesLemmas
 pub mod DoesCases

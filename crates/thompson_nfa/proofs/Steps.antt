@@ -12,3 +12,4 @@ pub mod RoomLemmas
 pub mod NoGroups
 pub mod PlainRoom
 pub mod LookLemmas
+pub mod SizeLemmas

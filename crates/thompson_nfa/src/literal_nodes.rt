@@ -1,7 +1,7 @@
 //! The nodes of a trie of strings.
 ghost use Rattle.std.specs.Prelude.{◌≡◌, ◌≤◌, ◌+◌, ◌++◌, ◌<◌, length, map, drop, get_or, ℕ, List, IfOk, [], ◌∷◌, if◌then◌else◌};
 ghost use Rattle.thompson_nfa.specs.LiteralGroups.{texts, groups_of, strings_in_all, AddsGroups};
-ghost use Rattle.thompson_nfa.specs.LiteralLaid.{node_value, LaysNode, IsTrie};
+ghost use Rattle.thompson_nfa.specs.LiteralLaid.{NodeValue, node_value, LaysNode, IsTrie};
 ghost use Rattle.thompson_nfa.specs.LiteralTries.{edges_in, matches_in, IsNode};
 
 use crate::literal_groups::{Edge, chunk, turn_len};
@@ -88,6 +88,29 @@ fn take_group<'a>(alloc: Global, groups: &mut Vec<Vec<&'a [u8]>>, at: usize) -> 
     mem::replace(&mut groups[at], Vec::new(alloc))
 }
 
+/// Makes the node of the next group, of those that have none yet, and adds the groups to which its edges lead. The
+/// group itself is held no longer.
+fn lay_next<'a>(
+    alloc: Global,
+    groups: &mut Vec<Vec<&'a [u8]>>,
+    nodes: &mut Vec<Node<'a>>,
+) -> Result<(), AllocError>
+    requires there { length nodes.old.items < length groups.old.items }
+    requires some { 1 ≤ length (get_or (groups_of (λ g. g.items) groups.old.items) (length nodes.old.items) []) }
+    ensures { IfOk result (λ _. (kept : List (List (List ℕ))) × (fresh : List (List (List ℕ))) × (node : NodeValue) ×
+        (length kept ≡ length (groups_of (λ g. g.items) groups.old.items)) ×
+        (drop (length nodes.old.items + 1) kept ≡ drop (length nodes.old.items + 1) (groups_of (λ g. g.items) groups.old.items)) ×
+        LaysNode (length (groups_of (λ g. g.items) groups.old.items)) [] fresh node (get_or (groups_of (λ g. g.items) groups.old.items) (length nodes.old.items) []) ×
+        (map node_value nodes.new.items ≡ map node_value nodes.old.items ++ node ∷ []) × (groups_of (λ g. g.items) groups.new.items ≡ kept ++ fresh)) }
+{
+    let strings = take_group(alloc, groups, nodes.len());
+    let mut more = Vec::new(alloc);
+    let node = lay(alloc, &strings, groups.len(), &mut more)?;
+    nodes.push(node)?;
+    groups.append(&mut more)?;
+    Ok(())
+}
+
 /// The nodes: the first has all strings, and edges lead to later ones, by their numbers.
 pub(crate) fn nodes<'a>(alloc: Global, strings: Vec<&'a [u8]>) -> Result<Vec<Node<'a>>, AllocError>
     requires { 1 ≤ length strings.items }
@@ -97,11 +120,7 @@ pub(crate) fn nodes<'a>(alloc: Global, strings: Vec<&'a [u8]>) -> Result<Vec<Nod
     groups.push(strings)?;
     let mut nodes = Vec::new(alloc);
     while nodes.len() < groups.len() {
-        let strings = take_group(alloc, &mut groups, nodes.len());
-        let mut more = Vec::new(alloc);
-        let node = lay(alloc, &strings, groups.len(), &mut more)?;
-        nodes.push(node)?;
-        groups.append(&mut more)?;
+        lay_next(alloc, &mut groups, &mut nodes)?;
     }
     Ok(nodes)
 }

@@ -24,6 +24,7 @@ use Rattle.thompson_nfa.proofs.Fragments.RepeatLemmas.{choice_then, empty_then}
 use Rattle.thompson_nfa.proofs.Fragments.ConcatLemmas.{rooms, room_of_alternation, alternation_includes}
 use Rattle.thompson_nfa.proofs.Steps.ProgressLemmas.{Progress, first_made, then_made, then_led, made_capped, then_quits, refuses}
 use Rattle.thompson_nfa.proofs.Steps.ProgressLemmas.{then_refuses, first_refuses}
+use Rattle.thompson_nfa.proofs.Steps.SizeLemmas.{AddedAt, added_at, MadeAt, made_at}
 
 pub record Cases (how : How) (old mid : Assembly) (u z i : ℕ) (xs : List Tree) : Type 0 where
   pub n : ℕ
@@ -79,28 +80,33 @@ module _ (how : How) (t0 t1 t2 : Assembly) (s1 e1 s2 e2 : ℕ) (x y : Tree) (xs 
       both : Progress false t0 t4 (room how.shrink x + room how.shrink y + 1 + 1) 4000
       both = empty_then (choice_then true begun union) last
 
+      both_sizes : MadeAt t0 t1 s1 e1 × MadeAt t1 t2 s2 e2 × AddedAt t2 t3 u × AddedAt t3 t4 z
+      both_sizes = (made_at first, made_at second, added_at union, added_at last)
+
+      with_one : {t5 : Assembly} → Led t4 t5 u s1 → Progress false t0 t5 (room how.shrink x + room how.shrink y + 1 + 1) 20
+      with_one p5 = then_led 20 both p5 (omega (arith, both_sizes)) (omega (arith, both_sizes)) (omega arith)
+
+      with_two : {t5 t6 : Assembly} → Led t4 t5 u s1 → Led t5 t6 e1 z → Progress false t0 t6 (room how.shrink x + room how.shrink y + 1 + 1) 16
+      with_two p5 p6 = then_led 16 (with_one p5) p6 (omega (arith, both_sizes)) (omega (arith, both_sizes, p5.size)) (omega arith)
+
       pub first_lead_refused : (new : Assembly) (e : BuildError) → Stays t4 new 0 4 e →
           Refuses how.which t0 new (room how.shrink (alternation xs)) (alternation xs) e
       first_lead_refused new e r = later_refused both r (omega arith) (omega arith)
 
       pub second_lead_refused : (t5 new : Assembly) (e : BuildError) → Led t4 t5 u s1 → Stays t5 new 0 4 e →
           Refuses how.which t0 new (room how.shrink (alternation xs)) (alternation xs) e
-      second_lead_refused t5 new e p5 r = later_refused (then_led 20 both p5 (omega arith) (omega arith) (omega arith)) r (omega arith)
-          (omega arith)
+      second_lead_refused t5 new e p5 r = later_refused (with_one p5) r (omega arith) (omega arith)
 
       pub third_lead_refused : (t5 t6 new : Assembly) (e : BuildError) → Led t4 t5 u s1 → Led t5 t6 e1 z → Stays t6 new 0 4 e →
           Refuses how.which t0 new (room how.shrink (alternation xs)) (alternation xs) e
-      third_lead_refused t5 t6 new e p5 p6 r =
-          later_refused (then_led 16 (then_led 20 both p5 (omega arith) (omega arith) (omega arith)) p6 (omega arith) (omega arith)
-          (omega arith)) r (omega arith) (omega arith)
+      third_lead_refused t5 t6 new e p5 p6 r = later_refused (with_two p5 p6) r (omega arith) (omega arith)
 
       pub fourth_lead_refused : (t5 t6 t7 new : Assembly) (e : BuildError) → Led t4 t5 u s1 → Led t5 t6 e1 z → Led t6 t7 u s2 →
           Stays t7 new 0 4 e →
           Refuses how.which t0 new (room how.shrink (alternation xs)) (alternation xs) e
       fourth_lead_refused t5 t6 t7 new e p5 p6 p7 r =
-          later_refused (then_led 12 (then_led 16 (then_led 20 both p5 (omega arith) (omega arith) (omega arith)) p6 (omega arith)
-          (omega arith) (omega arith)) p7 (omega arith) (omega arith) (omega arith))
-          r (omega arith) (omega arith)
+          later_refused (then_led 12 (with_two p5 p6) p7 (omega (arith, both_sizes)) (omega (arith, both_sizes, p5.size, p6.size)) (omega arith)) r
+          (omega arith) (omega arith)
 
     module _ (t3 t4 t5 t6 t7 t8 : Assembly) (u z : ℕ) (union : Added t2 t3 u (union_draft []) t2.groups)
         (last : Added t3 t4 z (empty_draft 0) t3.groups) (p5 : Led t4 t5 u s1) (p6 : Led t5 t6 e1 z)
@@ -214,7 +220,7 @@ module _ (how : How) (old b : Assembly) (u z i : ℕ) (xs : List Tree) (cs : Cas
       ap (rooms how.shrink) (first_left xs i x x l is) in
       let k = room_of_alternation how.shrink xs in
       refuses how.which (room how.shrink (alternation xs)) (alternation xs)
-      (then_quits (rooms how.shrink xs + 2) (then_led 12 (cases_led c s t x m) p1 v (omega arith) (omega arith)) r (omega arith)
+      (then_quits (rooms how.shrink xs + 2) (then_led 12 (cases_led c s t x m) p1 v m.fragment.start_there (omega arith)) r (omega arith)
       (omega arith)) (omega arith)
 
   pub cases_made : Makes old b u z (room how.shrink (alternation xs))

@@ -9,6 +9,7 @@ use Rattle.nfa_core.specs.Drafted.{Table}
 use Rattle.thompson_nfa.specs.Compiled.{Finished, ComesOut, Makes, Does, uses}
 use Rattle.thompson_nfa.specs.Added.{Added, Led}
 use Rattle.thompson_nfa.proofs.Steps.LookLemmas.{AddsLooks, quiet_led, quiet_added, adds_both, uses_alternation, or_none}
+use Rattle.thompson_nfa.proofs.Steps.SizeLemmas.{AddedAt, added_at, MadeAt, made_at, LedAt}
 use Rattle.thompson_nfa.proofs.Steps.OutLemmas.{out_here, out_next, out_at, out_on}
 use Rattle.thompson_nfa.proofs.Steps.ProgressLemmas.{Progress, first_made, then_made, then_led, made}
 use Rattle.thompson_nfa.proofs.Fragments.RepeatLemmas.{reads_as, choice_then, empty_then}
@@ -34,58 +35,67 @@ pub record Branches (old mid : Assembly) (u z n : ℕ) (done : List Tree) : Type
   pub denote : (table : Table) → FinishesBut (length old.drafts) mid.drafts u z table → AllDenote old.reverse table z entries done
   pub looks : AddsLooks old.reverse old mid (alternation done)
 
+abbrev BranchesAt : Assembly → Assembly → ℕ → ℕ → Type 0
+BranchesAt old mid u z = (length old.drafts ≤ length mid.drafts) × (length old.drafts ≤ u) × (u < z) × (z < length mid.drafts)
+
+branches_at : {old mid : Assembly} {u z n : ℕ} {done : List Tree} → Branches old mid u z n done → BranchesAt old mid u z
+branches_at bs = (bs.progress.partly.grows.longer, bs.u_new, bs.u_z, bs.z_there)
+
 module _ (t0 t1 t2 t3 t4 t5 t6 t7 t8 : Assembly) (s1 e1 n1 s2 e2 n2 u z : ℕ) (x y : Tree) (first : Makes t0 t1 s1 e1 n1)
     (second : Makes t1 t2 s2 e2 n2) (union : Added t2 t3 u (union_draft []) t2.groups)
     (last : Added t3 t4 z (empty_draft 0) t3.groups) (p5 : Led t4 t5 u s1) (p6 : Led t5 t6 e1 z) (p7 : Led t6 t7 u s2)
     (p8 : Led t7 t8 e2 z) where
+  open_sizes : MadeAt t0 t1 s1 e1 × MadeAt t1 t2 s2 e2 × AddedAt t2 t3 u × AddedAt t3 t4 z × LedAt t4 t5 × LedAt t5 t6 × LedAt t6 t7 × LedAt t7 t8
+  open_sizes = (made_at first, made_at second, added_at union, added_at last, p5.size, p6.size, p7.size, p8.size)
+
   open_2 : Progress false t0 t2 (n1 + n2) 8
-  open_2 = then_made 8 (first_made first) second (omega arith)
+  open_2 = then_made 8 (first_made first) second (omega (arith, open_sizes))
 
   pub open_4 : Progress false t0 t4 (n1 + n2 + 1 + 1) 4000
   open_4 = empty_then (choice_then true open_2 union) last
 
   pub open_8 : Progress false t0 t8 (n1 + n2 + 1 + 1) 8
-  open_8 = then_led 8 (then_led 12 (then_led 16 (then_led 20 open_4 p5 (omega arith) (omega arith) (omega arith)) p6 (omega arith)
-      (omega arith) (omega arith))
-      p7 (omega arith) (omega arith) (omega arith)) p8 (omega arith) (omega arith) (omega arith)
+  open_8 = then_led 8 (then_led 12 (then_led 16 (then_led 20 open_4 p5 (omega (arith, open_sizes)) (omega (arith, open_sizes)) (omega (arith, open_sizes))) p6 (omega (arith, open_sizes))
+      (omega (arith, open_sizes)) (omega (arith, open_sizes)))
+      p7 (omega (arith, open_sizes)) (omega (arith, open_sizes)) (omega (arith, open_sizes))) p8 (omega (arith, open_sizes)) (omega (arith, open_sizes)) (omega (arith, open_sizes))
 
   later : (q : ℕ) → q < length t2.drafts → q ≢ e1 → q ≢ e2 → draft_at t8.drafts q ≡ draft_at t2.drafts q
-  later q low ne1 ne2 = p8.same q ne2 ∙ p7.same q (omega arith) ∙ p6.same q ne1 ∙ p5.same q (omega arith) ∙ last.grows.same q (omega arith)
+  later q low ne1 ne2 = p8.same q ne2 ∙ p7.same q (omega (arith, open_sizes)) ∙ p6.same q ne1 ∙ p5.same q (omega (arith, open_sizes)) ∙ last.grows.same q (omega (arith, open_sizes))
       ∙ union.grows.same q low
 
   open_first : (table : Table) → FinishesBut (length t0.drafts) t8.drafts u z table → Finished (length t0.drafts) t1.drafts e1 z table
   open_first table fin = record {
-    states = λ q low high ne. fin q low (omega arith) (omega arith) (omega arith) ∙ later q (omega arith) ne (omega arith)
+    states = λ q low high ne. fin q low (omega (arith, open_sizes)) (omega (arith, open_sizes)) (omega (arith, open_sizes)) ∙ later q (omega (arith, open_sizes)) ne (omega (arith, open_sizes))
         ∙ second.fragment.grows.same q high;
-    led = fin e1 (omega arith) (omega arith) (omega arith) (omega arith) ∙ p8.same e1 (omega arith) ∙ p7.same e1 (omega arith) ∙ p6.here
-        ∙ ap (patched z) (p5.same e1 (omega arith) ∙ last.grows.same e1 (omega arith) ∙ union.grows.same e1 (omega arith)
-        ∙ second.fragment.grows.same e1 (omega arith));
+    led = fin e1 (omega (arith, open_sizes)) (omega (arith, open_sizes)) (omega (arith, open_sizes)) (omega (arith, open_sizes)) ∙ p8.same e1 (omega (arith, open_sizes)) ∙ p7.same e1 (omega (arith, open_sizes)) ∙ p6.here
+        ∙ ap (patched z) (p5.same e1 (omega (arith, open_sizes)) ∙ last.grows.same e1 (omega (arith, open_sizes)) ∙ union.grows.same e1 (omega (arith, open_sizes))
+        ∙ second.fragment.grows.same e1 (omega (arith, open_sizes)));
   }
 
   open_second : (table : Table) → FinishesBut (length t0.drafts) t8.drafts u z table → Finished (length t1.drafts) t2.drafts e2 z table
   open_second table fin = record {
-    states = λ q low high ne. fin q (omega arith) (omega arith) (omega arith) (omega arith) ∙ later q high (omega arith) ne;
-    led = fin e2 (omega arith) (omega arith) (omega arith) (omega arith) ∙ p8.here
-        ∙ ap (patched z) (p7.same e2 (omega arith) ∙ p6.same e2 (omega arith) ∙ p5.same e2 (omega arith) ∙ last.grows.same e2 (omega arith)
-        ∙ union.grows.same e2 (omega arith));
+    states = λ q low high ne. fin q (omega (arith, open_sizes)) (omega (arith, open_sizes)) (omega (arith, open_sizes)) (omega (arith, open_sizes)) ∙ later q high (omega (arith, open_sizes)) ne;
+    led = fin e2 (omega (arith, open_sizes)) (omega (arith, open_sizes)) (omega (arith, open_sizes)) (omega (arith, open_sizes)) ∙ p8.here
+        ∙ ap (patched z) (p7.same e2 (omega (arith, open_sizes)) ∙ p6.same e2 (omega (arith, open_sizes)) ∙ p5.same e2 (omega (arith, open_sizes)) ∙ last.grows.same e2 (omega (arith, open_sizes))
+        ∙ union.grows.same e2 (omega (arith, open_sizes)));
   }
 
   pub branches_open : Does t0 t1 s1 e1 x → Does t1 t2 s2 e2 y → Branches t0 t8 u z (n1 + n2 + 1 + 1) (x ∷ y ∷ [])
   branches_open does1 does2 = record {
     progress = open_8;
-    u_new = omega arith;
-    u_z = omega arith;
-    z_there = omega arith;
+    u_new = omega (arith, open_sizes);
+    u_z = omega (arith, open_sizes);
+    z_there = omega (arith, open_sizes);
     entries = s1 ∷ s2 ∷ [];
-    two = omega arith;
-    union_is = p8.same u (omega arith) ∙ p7.here ∙ ap (patched s2) (p6.same u (omega arith) ∙ p5.here
-        ∙ ap (patched s1) (last.grows.same u (omega arith) ∙ union.here));
-    end_is = p8.same z (omega arith) ∙ p7.same z (omega arith) ∙ p6.same z (omega arith) ∙ p5.same z (omega arith) ∙ last.here;
+    two = omega (arith, open_sizes);
+    union_is = p8.same u (omega (arith, open_sizes)) ∙ p7.here ∙ ap (patched s2) (p6.same u (omega (arith, open_sizes)) ∙ p5.here
+        ∙ ap (patched s1) (last.grows.same u (omega (arith, open_sizes)) ∙ union.here));
+    end_is = p8.same z (omega (arith, open_sizes)) ∙ p7.same z (omega (arith, open_sizes)) ∙ p6.same z (omega (arith, open_sizes)) ∙ p5.same z (omega (arith, open_sizes)) ∙ last.here;
     outs = λ table fin q low high not_u not_z. ⊎_elim
         (λ (l : q < length t1.drafts). first.comes_out table z (open_first table fin) q low l)
         (λ (g : length t1.drafts ≤ q). ⊎_elim
         (λ (l : q < length t2.drafts). second.comes_out table z (open_second table fin) q g l)
-        (λ (h : length t2.drafts ≤ q). absurd (omega arith))
+        (λ (h : length t2.drafts ≤ q). absurd (omega (arith, open_sizes)))
         (cases_lt q (length t2.drafts)))
         (cases_lt q (length t1.drafts));
     denote = λ table fin. more_denote s1 x (s2 ∷ []) (y ∷ []) (does1.denotes table z (open_first table fin))
@@ -100,35 +110,38 @@ module _ (t0 t1 t2 t3 t4 t5 t6 t7 t8 : Assembly) (s1 e1 n1 s2 e2 n2 u z : ℕ) (
 
 module _ (old b c d f : Assembly) (u z n s e k : ℕ) (done : List Tree) (x : Tree) (bs : Branches old b u z n done) (draft : Makes b c s e k)
     (p1 : Led c d u s) (p2 : Led d f e z) where
+  more_sizes : BranchesAt old b u z × MadeAt b c s e × LedAt c d × LedAt d f
+  more_sizes = (branches_at bs, made_at draft, p1.size, p2.size)
+
   more_before : (table : Table) → FinishesBut (length old.drafts) f.drafts u z table → FinishesBut (length old.drafts) b.drafts u z table
   more_before table fin q low high not_u not_z =
       let g = bs.u_z in let h = bs.z_there in
-      fin q low (omega arith) not_u not_z ∙ p2.same q (omega arith) ∙ p1.same q not_u ∙ draft.fragment.grows.same q high
+      fin q low (omega (arith, more_sizes)) not_u not_z ∙ p2.same q (omega (arith, more_sizes)) ∙ p1.same q not_u ∙ draft.fragment.grows.same q high
 
   more_part : (table : Table) → FinishesBut (length old.drafts) f.drafts u z table → Finished (length b.drafts) c.drafts e z table
   more_part table fin =
       let g = bs.u_z in let h = bs.z_there in let l = bs.progress.partly.grows.longer in
       record {
-        states = λ q low high ne. fin q (omega arith) (omega arith) (omega arith) (omega arith) ∙ p2.same q ne ∙ p1.same q (omega arith);
-        led = fin e (omega arith) (omega arith) (omega arith) (omega arith) ∙ p2.here ∙ ap (patched z) (p1.same e (omega arith));
+        states = λ q low high ne. fin q (omega (arith, more_sizes)) (omega (arith, more_sizes)) (omega (arith, more_sizes)) (omega (arith, more_sizes)) ∙ p2.same q ne ∙ p1.same q (omega (arith, more_sizes));
+        led = fin e (omega (arith, more_sizes)) (omega (arith, more_sizes)) (omega (arith, more_sizes)) (omega (arith, more_sizes)) ∙ p2.here ∙ ap (patched z) (p1.same e (omega (arith, more_sizes)));
       }
 
   pub branches_then : Does b c s e x → Branches old f u z (n + k) (done ++ x ∷ [])
   branches_then does =
       let g = bs.u_z in let h = bs.z_there in let l = bs.progress.partly.grows.longer in let v = bs.u_new in let w = bs.two in
       record {
-        progress = then_led 8 (then_led 12 (then_made 16 bs.progress draft (omega arith)) p1 v (omega arith) (omega arith)) p2 (omega arith)
-            (omega arith) (omega arith);
+        progress = then_led 8 (then_led 12 (then_made 16 bs.progress draft (omega (arith, more_sizes))) p1 v (omega (arith, more_sizes)) (omega (arith, more_sizes))) p2 (omega (arith, more_sizes))
+            (omega (arith, more_sizes)) (omega (arith, more_sizes));
         u_new = v;
         u_z = g;
-        z_there = omega arith;
+        z_there = omega (arith, more_sizes);
         entries = bs.entries ++ s ∷ [];
         two = omega (arith, length-append bs.entries (s ∷ []));
-        union_is = p2.same u (omega arith) ∙ p1.here ∙ ap (patched s) (draft.fragment.grows.same u (omega arith) ∙ bs.union_is);
-        end_is = p2.same z (omega arith) ∙ p1.same z (omega arith) ∙ draft.fragment.grows.same z h ∙ bs.end_is;
+        union_is = p2.same u (omega (arith, more_sizes)) ∙ p1.here ∙ ap (patched s) (draft.fragment.grows.same u (omega (arith, more_sizes)) ∙ bs.union_is);
+        end_is = p2.same z (omega (arith, more_sizes)) ∙ p1.same z (omega (arith, more_sizes)) ∙ draft.fragment.grows.same z h ∙ bs.end_is;
         outs = λ table fin q low high not_u not_z. ⊎_elim
             (λ (less : q < length b.drafts). bs.outs table (more_before table fin) q low less not_u not_z)
-            (λ (more : length b.drafts ≤ q). draft.comes_out table z (more_part table fin) q more (omega arith))
+            (λ (more : length b.drafts ≤ q). draft.comes_out table z (more_part table fin) q more (omega (arith, more_sizes)))
             (cases_lt q (length b.drafts));
         denote = λ table fin. all_denote_push old.reverse table z s x bs.entries done (bs.denote table (more_before table fin))
             (reads_as old b table s z x bs.progress.partly.grows (does.denotes table z (more_part table fin)));
@@ -144,18 +157,21 @@ union_stands (a ∷ []) l = absurd (omega arith)
 union_stands (a ∷ b ∷ names) l = refl
 
 module _ (old mid : Assembly) (u z n : ℕ) (done : List Tree) (bs : Branches old mid u z n done) where
+  done_sizes : BranchesAt old mid u z
+  done_sizes = branches_at bs
+
   all_but : (target : ℕ) (table : Table) → Finished (length old.drafts) mid.drafts z target table →
       FinishesBut (length old.drafts) mid.drafts u z table
   all_but target table fin q low high not_u not_z = fin.states q low high not_z
 
   done_u : (target : ℕ) (table : Table) → Finished (length old.drafts) mid.drafts z target table → table u ≡ union_draft bs.entries
   done_u target table fin = let g = bs.u_z in let h = bs.z_there in let v = bs.u_new in
-      fin.states u v (omega arith) (omega arith) ∙ bs.union_is
+      fin.states u v (omega (arith, done_sizes)) (omega (arith, done_sizes)) ∙ bs.union_is
 
   pub branches_made : Makes old mid u z n
   branches_made =
       let g = bs.u_z in let h = bs.z_there in let v = bs.u_new in
-      made n bs.progress (omega arith) (omega arith) v (omega arith) (omega arith) h (ap is_sparse bs.end_is)
+      made n bs.progress (omega (arith, done_sizes)) (omega (arith, done_sizes)) v (omega (arith, done_sizes)) (omega (arith, done_sizes)) h (ap is_sparse bs.end_is)
       (λ table target fin q low high.
       let last : table z ≡ empty_draft target = fin.led ∙ ap (patched target) bs.end_is in
       let out = out_next table target z target (ap stands_for last) (out_at table target) in

@@ -1,5 +1,5 @@
 -- Fragments of captures.
-use Rattle.std.proofs.Common.{◌≡◌, ◌⊎◌, inl, ℕ, ◌+◌, ◌*◌, ◌<◌, ◌≤◌, Bool, true, false, length, Option, Some, None, nat_lt, if◌then◌else◌}
+use Rattle.std.proofs.Common.{◌≡◌, ◌⊎◌, inl, inr, ℕ, ◌+◌, ◌*◌, ◌<◌, ◌≤◌, Bool, true, false, length, Option, Some, None, nat_lt, if◌then◌else◌}
 use Rattle.std.proofs.Common.{refl, sym, ap, ◌∙◌, subst, arith, ⊎_elim}
 use Rattle.std.specs.Option.{option_or}
 use Rattle.std.proofs.lemmas.Bool.{ltb-true}
@@ -19,15 +19,17 @@ use Rattle.nfa_core.specs.declared.build_error.BuildError.TheVariants as error
 use Rattle.thompson_nfa.specs.Compiled.{Finished, AllComeOut, IsTame, Makes, Does, sum_of_bytes}
 use Rattle.thompson_nfa.specs.Added.{Added, Led}
 use Rattle.thompson_nfa.specs.NotedGroups.{noted, keeps_group}
-use Rattle.thompson_nfa.specs.Refusals.{RefusesGroup, QuitsGroup, Refuses, RefusesTree, RefusesStep}
+use Rattle.thompson_nfa.specs.Refusals.{RefusesGroup, QuitsGroup, Refuses, RefusesTree, RefusesStep, Stays}
 use Rattle.thompson_nfa.specs.declared.which_captures.WhichCaptures.{WhichCaptures}
 use Rattle.thompson_nfa.proofs.Steps.LookLemmas.{quiet_led, quiet_added, adds_around}
+use Rattle.thompson_nfa.proofs.Steps.SizeLemmas.{AddedAt, added_at, MadeAt, made_at, LedAt}
 use Rattle.thompson_nfa.proofs.Steps.OutLemmas.{out_here, all_here, all_join, all_on}
 use Rattle.thompson_nfa.proofs.Fragments.LeafLemmas.{tame_one}
 use Rattle.thompson_nfa.proofs.Steps.StepLemmas.{added_of, added_group, refused_name}
 use Rattle.thompson_nfa.proofs.Steps.NotedLemmas.{group_in, known_of_in, known_group}
 use Rattle.thompson_nfa.proofs.Steps.ByteLemmas.{group_bytes}
 use Rattle.thompson_nfa.proofs.Steps.ProgressLemmas.{Progress, first_added, then_added, then_made, then_led, made, step_later, size_kept}
+use Rattle.thompson_nfa.proofs.Steps.ProgressLemmas.{then_quits, refuses, then_refuses}
 use Rattle.thompson_nfa.proofs.Fragments.RepeatLemmas.{reads_as}
 use Rattle.thompson_nfa.proofs.Walks.AheadLemmas.{denotes_capture, denotes_capture_plain}
 use Rattle.thompson_nfa.proofs.Steps.RoomLemmas.{numbered}
@@ -173,39 +175,70 @@ plain_does old new s e index name x does =
           does.looks;
     }
 
-module _ (t0 t1 t2 t3 t4 t5 : Assembly) (a s e z n index pattern : ℕ) (name : Option Name)
-    (first : Added t0 t1 a (capture_start_draft (length t0.starts) index 0) (with_group t0.groups (length t0.starts) index name))
-    (body : Makes t1 t2 s e n) (last : Added t2 t3 z (capture_end_draft pattern index 0) t2.groups)
-    (same_pattern : pattern ≡ length t0.starts) (p4 : Led t3 t4 a s) (p5 : Led t4 t5 e z) where
+-- how far a capture has come, and that a step of it is refused
+module _ {t0 t1 : Assembly} {a index : ℕ} (name : Option Name)
+    (first : Added t0 t1 a (capture_start_draft (length t0.starts) index 0) (with_group t0.groups (length t0.starts) index name)) where
   start_known : is_known t1.groups (capture_start_draft (length t0.starts) index 0) ≡ true
   start_known = ap (λ (gs : Groups). is_known gs (capture_start_draft (length t0.starts) index 0)) first.groups_are
       ∙ known_of_in (with_group t0.groups (length t0.starts) index name) (length t0.starts) index
       (group_in t0.groups (length t0.starts) index name)
 
-  start_tame : IsTame false t1 (capture_start_draft (length t0.starts) index 0)
-  start_tame = tame_one t1 (capture_start_draft (length t0.starts) index 0) 0 refl (omega arith) start_known refl
+  with_start : Progress false t0 t1 1 4000
+  with_start = first_added 4000 first (tame_one t1 (capture_start_draft (length t0.starts) index 0) 0 refl (omega (
+    arith,
+    first.size,
+  )) start_known refl) (omega arith)
 
-  end_tame : IsTame false t3 (capture_end_draft pattern index 0)
-  end_tame =
-      let P : ℕ → Type 0 = λ p. is_known t1.groups (capture_end_draft p index 0) ≡ true in
-      tame_one t3 (capture_end_draft pattern index 0) 0 refl (omega arith)
-      (last.grows.known (capture_end_draft pattern index 0) (body.fragment.grows.known (capture_end_draft pattern index 0)
-      (subst P (sym same_pattern) start_known))) refl
+  pub body_refused : {new : Assembly} {n : ℕ} {err : BuildError} (kept : WhichCaptures) (shown : Option Name) (x : Tree) →
+      Refuses kept t1 new n x err → Refuses kept t0 new (n + 2) (capture index shown x) err
+  body_refused {new} {n} kept shown x r = then_refuses (n + 2) (capture index shown x) with_start r (λ other h. inr h) (omega arith)
 
-  pub capture_1 : Progress false t0 t1 1 4000
-  capture_1 = first_added 4000 first start_tame (omega arith)
+  module _ {t2 : Assembly} {s e n : ℕ} (body : Makes t1 t2 s e n) where
+    with_body : Progress false t0 t2 (1 + n) 4000
+    with_body = then_made 4000 with_start body (omega arith)
 
-  pub capture_2 : Progress false t0 t2 (1 + n) 4000
-  capture_2 = then_made 4000 capture_1 body (omega arith)
+    pub end_step_refused : {new : Assembly} {err : BuildError} (kept : WhichCaptures) (shown : Option Name) (x : Tree) →
+        keeps_group kept index ≡ true → QuitsGroup t2 new index err → Refuses kept t0 new (n + 2) (capture index shown x) err
+    end_step_refused kept shown x keeps r = end_quits index (n + 2) shown x with_body keeps (omega arith) r
 
-  pub capture_3 : Progress false t0 t3 (1 + n + 1) 4000
-  capture_3 = then_added 4000 capture_2 last end_tame (omega arith)
+    module _ {t3 : Assembly} {z pattern : ℕ} (last : Added t2 t3 z (capture_end_draft pattern index 0) t2.groups)
+        (same_pattern : pattern ≡ length t0.starts) where
+      end_tame : IsTame false t3 (capture_end_draft pattern index 0)
+      end_tame =
+          let P : ℕ → Type 0 = λ p. is_known t1.groups (capture_end_draft p index 0) ≡ true in
+          tame_one t3 (capture_end_draft pattern index 0) 0 refl (omega (arith, last.size))
+          (last.grows.known (capture_end_draft pattern index 0) (body.fragment.grows.known (capture_end_draft pattern index 0)
+          (subst P (sym same_pattern) start_known))) refl
 
-  pub capture_4 : Progress false t0 t4 (1 + n + 1) 3996
-  capture_4 = then_led 3996 capture_3 p4 (omega arith) (omega arith) (omega arith)
+      with_end : Progress false t0 t3 (1 + n + 1) 4000
+      with_end = then_added 4000 with_body last end_tame (omega arith)
+
+      with_lead : {t4 : Assembly} → Led t3 t4 a s → Progress false t0 t4 (1 + n + 1) 3996
+      with_lead led = then_led 3996 with_end led (omega (arith, first.is)) (omega (arith, body.fragment.start_there, last.size))
+          (omega arith)
+
+      pub lead_refused : {new : Assembly} {err : BuildError} (kept : WhichCaptures) (shown : Option Name) (x : Tree) →
+          Stays t3 new 0 4 err → Refuses kept t0 new (n + 2) (capture index shown x) err
+      lead_refused kept shown x r = refuses kept (n + 2) (capture index shown x)
+          (then_quits (n + 2) with_end r (omega arith) (omega arith)) (omega arith)
+
+      pub lead_on_refused : {t4 new : Assembly} {err : BuildError} (kept : WhichCaptures) (shown : Option Name) (x : Tree) →
+          Led t3 t4 a s → Stays t4 new 0 4 err → Refuses kept t0 new (n + 2) (capture index shown x) err
+      lead_on_refused kept shown x led r = refuses kept (n + 2) (capture index shown x)
+          (then_quits (n + 2) (with_lead led) r (omega arith) (omega arith)) (omega arith)
+
+module _ (t0 t1 t2 t3 t4 t5 : Assembly) (a s e z n index pattern : ℕ) (name : Option Name)
+    (first : Added t0 t1 a (capture_start_draft (length t0.starts) index 0) (with_group t0.groups (length t0.starts) index name))
+    (body : Makes t1 t2 s e n) (last : Added t2 t3 z (capture_end_draft pattern index 0) t2.groups)
+    (same_pattern : pattern ≡ length t0.starts) (p4 : Led t3 t4 a s) (p5 : Led t4 t5 e z) where
+  capture_sizes : AddedAt t0 t1 a × MadeAt t1 t2 s e × AddedAt t2 t3 z × LedAt t3 t4 × LedAt t4 t5
+  capture_sizes = (added_at first, made_at body, added_at last, p4.size, p5.size)
+
+  capture_4 : Progress false t0 t4 (1 + n + 1) 3996
+  capture_4 = with_lead name first body last same_pattern p4
 
   capture_z : draft_at t5.drafts z ≡ capture_end_draft pattern index 0
-  capture_z = p5.same z (omega arith) ∙ p4.same z (omega arith) ∙ last.here
+  capture_z = p5.same z (omega (arith, capture_sizes)) ∙ p4.same z (omega (arith, capture_sizes)) ∙ last.here
 
   capture_end : (target : ℕ) (table : Table) → Finished (length t0.drafts) t5.drafts z target table →
       table z ≡ capture_end_draft pattern index target
@@ -213,22 +246,22 @@ module _ (t0 t1 t2 t3 t4 t5 : Assembly) (a s e z n index pattern : ℕ) (name : 
 
   capture_start : (target : ℕ) (table : Table) → Finished (length t0.drafts) t5.drafts z target table →
       table a ≡ capture_start_draft (length t0.starts) index s
-  capture_start target table fin = fin.states a (omega arith) (omega arith) (omega arith) ∙ p5.same a (omega arith) ∙ p4.here
-      ∙ ap (patched s) (last.grows.same a (omega arith) ∙ body.fragment.grows.same a (omega arith) ∙ first.here)
+  capture_start target table fin = fin.states a (omega (arith, capture_sizes)) (omega (arith, capture_sizes)) (omega (arith, capture_sizes)) ∙ p5.same a (omega (arith, capture_sizes)) ∙ p4.here
+      ∙ ap (patched s) (last.grows.same a (omega (arith, capture_sizes)) ∙ body.fragment.grows.same a (omega (arith, capture_sizes)) ∙ first.here)
 
   capture_body : (target : ℕ) (table : Table) → Finished (length t0.drafts) t5.drafts z target table →
       Finished (length t1.drafts) t2.drafts e z table
   capture_body target table fin = record {
-    states = λ i low high ne. fin.states i (omega arith) (omega arith) (omega arith) ∙ p5.same i ne ∙ p4.same i (omega arith)
-        ∙ last.grows.same i (omega arith);
-    led = fin.states e (omega arith) (omega arith) (omega arith) ∙ p5.here
-        ∙ ap (patched z) (p4.same e (omega arith) ∙ last.grows.same e (omega arith));
+    states = λ i low high ne. fin.states i (omega (arith, capture_sizes)) (omega (arith, capture_sizes)) (omega (arith, capture_sizes)) ∙ p5.same i ne ∙ p4.same i (omega (arith, capture_sizes))
+        ∙ last.grows.same i (omega (arith, capture_sizes));
+    led = fin.states e (omega (arith, capture_sizes)) (omega (arith, capture_sizes)) (omega (arith, capture_sizes)) ∙ p5.here
+        ∙ ap (patched z) (p4.same e (omega (arith, capture_sizes)) ∙ last.grows.same e (omega (arith, capture_sizes)));
   }
 
   pub capture_made : Makes t0 t5 a z (n + 2)
   capture_made =
-      made (n + 2) (then_led 3992 capture_4 p5 (omega arith) (omega arith) (omega arith)) (omega arith) (omega arith) (omega arith)
-      (omega arith) (omega arith) (omega arith)
+      made (n + 2) (then_led 3992 capture_4 p5 (omega (arith, capture_sizes)) (omega (arith, capture_sizes)) (omega (arith, capture_sizes))) (omega (arith, capture_sizes)) (omega (arith, capture_sizes)) (omega (arith, capture_sizes))
+      (omega (arith, capture_sizes)) (omega (arith, capture_sizes)) (omega (arith, capture_sizes))
       (ap is_sparse capture_z)
       (λ table target fin.
       let real_a = out_here table target a (ap stands_for (capture_start target table fin)) in
@@ -236,10 +269,10 @@ module _ (t0 t1 t2 t3 t4 t5 : Assembly) (a s e z n index pattern : ℕ) (name : 
       let P : ℕ → Type 0 = λ k. AllComeOut table target k (length t1.drafts) in
       let Q : ℕ → Type 0 = λ k. AllComeOut table target k (length t5.drafts) in
       all_join table target (length t0.drafts) (length t1.drafts) (length t5.drafts)
-      (subst P first.is (all_here table target a (length t1.drafts) (omega arith) real_a))
+      (subst P first.is (all_here table target a (length t1.drafts) (omega (arith, capture_sizes)) real_a))
       (all_join table target (length t1.drafts) (length t2.drafts) (length t5.drafts)
       (all_on table target z (length t1.drafts) (length t2.drafts) (body.comes_out table z (capture_body target table fin)) real_z)
-      (subst Q last.is (all_here table target z (length t5.drafts) (omega arith) real_z))))
+      (subst Q last.is (all_here table target z (length t5.drafts) (omega (arith, capture_sizes)) real_z))))
 
   pub capture_does : (shown : Option Name) (x : Tree) → Does t1 t2 s e x → Does t0 t5 a z (capture index shown x)
   capture_does shown x does = record {

@@ -100,6 +100,11 @@ pub copies_left : (how : How) (old b : Assembly) (start end i n : ℕ) (x : Tree
     sum_of_bytes b + byte_room how.shrink x + 4 ≤ sum_of_bytes old + n * (byte_room how.shrink x + 4)
 copies_left how old b start end i n x cs l = omega (arith, cs.weighs, copy_bytes i n (byte_room how.shrink x) l)
 
+pub copies_made : (how : How) (old b : Assembly) (start end i n : ℕ) (x : Tree) → Copies how old b start end i x → i ≤ n → n ≤ i →
+    Makes old b start end (n * room how.shrink x)
+copies_made how old b start end i n x cs le ge = let same : i ≡ n = omega arith in
+    let P : ℕ → Type 0 = λ k. Makes old b start end (k * room how.shrink x) in subst P same cs.made
+
 pub copies_weigh : (how : How) (old b : Assembly) (start end i n : ℕ) (x : Tree) → Copies how old b start end i x → i ≤ n → n ≤ i →
     Weighs old b (n * (byte_room how.shrink x + 4))
 copies_weigh how old b start end i n x cs le ge = let same : i ≡ n = omega arith in
@@ -249,7 +254,7 @@ pub copies_done : (how : How) (old mid : Assembly) (start end i n : ℕ) (x : Tr
 copies_done how old mid start end i n x cs le ge = let same : i ≡ n = omega arith in let P : ℕ → Type 0 =
     λ k. DoesCopies old mid start end k x in subst P same cs.does
 
-before_last : (low k : ℕ) → 0 < low → (low - 1) * k + k ≡ low * k
+pub before_last : (low k : ℕ) → 0 < low → (low - 1) * k + k ≡ low * k
 before_last zero k l = absurd (omega arith)
 before_last (suc low) k l = let e : suc low - 1 ≡ low = omega arith in ap (λ n. n * k + k) e ∙ omega arith
 

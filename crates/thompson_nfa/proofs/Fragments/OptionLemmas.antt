@@ -11,6 +11,7 @@ use Rattle.thompson_nfa.specs.Denotes.{Denotes, choice}
 use Rattle.thompson_nfa.specs.Compiled.{Finished, AllComeOut, ComesOut, Makes, Does, DoesCopies, DoesOption, looks_in, uses}
 use Rattle.thompson_nfa.specs.Added.{Added, Led}
 use Rattle.thompson_nfa.proofs.Steps.LookLemmas.{quiet_led, quiet_added, quiet_choice, adds_around, left_used, or_none}
+use Rattle.thompson_nfa.proofs.Steps.SizeLemmas.{AddedAt, added_at, MadeAt, made_at, LedAt}
 use Rattle.thompson_nfa.proofs.Steps.OutLemmas.{out_here, out_next, out_at, out_on, all_here, all_join}
 use Rattle.thompson_nfa.proofs.Steps.ProgressLemmas.{Progress, first_added, first_made, then_made, then_led, made}
 use Rattle.thompson_nfa.proofs.Fragments.RepeatLemmas.{reads_as, choice_first, empty_then, empty_tame, choice_stands}
@@ -23,31 +24,34 @@ use Rattle.thompson_nfa.proofs.Fragments.DoesLemmas.{chosen}
 -- one round, which may be passed by
 module _ (t0 t1 t2 t3 t4 : Assembly) (greedy : Bool) (u s e n z : ℕ) (added : Added t0 t1 u (no_choice greedy) t0.groups)
     (body : Makes t1 t2 s e n) (p3 : Led t2 t3 u s) (p4 : Led t3 t4 u z) (there : z < length t0.drafts) where
+  option_sizes : AddedAt t0 t1 u × MadeAt t1 t2 s e × LedAt t2 t3 × LedAt t3 t4
+  option_sizes = (added_at added, made_at body, p3.size, p4.size)
+
   option_u : (target : ℕ) (table : Table) → Finished (length t0.drafts) t4.drafts e target table → table u ≡ choice greedy s z
-  option_u target table fin = fin.states u (omega arith) (omega arith) (omega arith) ∙ p4.here
-      ∙ ap (patched z) (p3.here ∙ ap (patched s) (body.fragment.grows.same u (omega arith) ∙ added.here))
+  option_u target table fin = fin.states u (omega (arith, option_sizes)) (omega (arith, option_sizes)) (omega (arith, option_sizes)) ∙ p4.here
+      ∙ ap (patched z) (p3.here ∙ ap (patched s) (body.fragment.grows.same u (omega (arith, option_sizes)) ∙ added.here))
       ∙ chosen greedy s z
 
   option_body : (target : ℕ) (table : Table) → Finished (length t0.drafts) t4.drafts e target table →
       Finished (length t1.drafts) t2.drafts e target table
   option_body target table fin = record {
-    states = λ i low high ne. fin.states i (omega arith) (omega arith) ne ∙ p4.same i (omega arith) ∙ p3.same i (omega arith);
-    led = fin.led ∙ ap (patched target) (p4.same e (omega arith) ∙ p3.same e (omega arith));
+    states = λ i low high ne. fin.states i (omega (arith, option_sizes)) (omega (arith, option_sizes)) ne ∙ p4.same i (omega (arith, option_sizes)) ∙ p3.same i (omega (arith, option_sizes));
+    led = fin.led ∙ ap (patched target) (p4.same e (omega (arith, option_sizes)) ∙ p3.same e (omega (arith, option_sizes)));
   }
 
   pub option_made : Makes t0 t4 u e (n + 1)
   option_made =
-      made (n + 1) (then_led 3992 (then_led 3996 (then_made 4000 (choice_first greedy added) body (omega arith)) p3 (omega arith)
-      (omega arith) (omega arith)) p4 (omega arith) (omega arith) (omega arith))
-      (omega arith) (omega arith) (omega arith) (omega arith) (omega arith) (omega arith)
-      (ap is_sparse (p4.same e (omega arith) ∙ p3.same e (omega arith)) ∙ body.fragment.can_be_led_on)
+      made (n + 1) (then_led 3992 (then_led 3996 (then_made 4000 (choice_first greedy added) body (omega (arith, option_sizes))) p3 (omega (arith, option_sizes))
+      (omega (arith, option_sizes)) (omega (arith, option_sizes))) p4 (omega (arith, option_sizes)) (omega (arith, option_sizes)) (omega (arith, option_sizes)))
+      (omega (arith, option_sizes)) (omega (arith, option_sizes)) (omega (arith, option_sizes)) (omega (arith, option_sizes)) (omega (arith, option_sizes)) (omega (arith, option_sizes))
+      (ap is_sparse (p4.same e (omega (arith, option_sizes)) ∙ p3.same e (omega (arith, option_sizes))) ∙ body.fragment.can_be_led_on)
       (λ table target fin.
       let real_u = out_here table target u (ap stands_for (option_u target table fin) ∙ choice_stands greedy s z) in
       let P : ℕ → Type 0 = λ k. AllComeOut table target k (length t1.drafts) in
       let Q : ℕ → Type 0 = λ k. AllComeOut table target (length t1.drafts) k in
-      let size : length t2.drafts ≡ length t4.drafts = omega arith in
+      let size : length t2.drafts ≡ length t4.drafts = omega (arith, option_sizes) in
       all_join table target (length t0.drafts) (length t1.drafts) (length t4.drafts)
-      (subst P added.is (all_here table target u (length t1.drafts) (omega arith) real_u))
+      (subst P added.is (all_here table target u (length t1.drafts) (omega (arith, option_sizes)) real_u))
       (subst Q size (body.comes_out table target (option_body target table fin))))
 
   pub option_does : (x : Tree) → Does t1 t2 s e x → DoesOption t0 t4 u e z greedy x
@@ -84,15 +88,26 @@ pub record Options (old mid : Assembly) (start end z n left min most : ℕ) (gre
   pub looks : (l : Look) → (looks_in mid.drafts l || uses old.reverse (repetition 0 (Some left) greedy x) l)
       ≡ (looks_in old.drafts l || uses old.reverse (repetition min (Some most) greedy x) l)
 
+abbrev OptionsAt : Assembly → Assembly → ℕ → ℕ → ℕ → Type 0
+OptionsAt old mid start end z = (length old.drafts ≤ length mid.drafts) × (length old.drafts ≤ start) × (start < length mid.drafts) ×
+    (length old.drafts ≤ end) × (end < length mid.drafts) × (length old.drafts ≤ z) × (z < length mid.drafts)
+
+options_at : {old mid : Assembly} {start end z n left min most : ℕ} {greedy : Bool} {x : Tree} →
+    Options old mid start end z n left min most greedy x → OptionsAt old mid start end z
+options_at os = (os.progress.partly.grows.longer, os.start_new, os.start_there, os.end_new, os.end_there, os.z_new, os.z_there)
+
 -- behind copies that are owed
 module _ (t0 t1 t2 : Assembly) (s e n z left min most : ℕ) (greedy : Bool) (x : Tree) (prefix : Makes t0 t1 s e n)
     (copies : DoesCopies t0 t1 s e min x) (added : Added t1 t2 z (empty_draft 0) t1.groups)
     (sum : min + left ≡ most) where
+  owed_sizes : MadeAt t0 t1 s e × AddedAt t1 t2 z
+  owed_sizes = (made_at prefix, added_at added)
+
   owed_prefix : (target : ℕ) (table : Table) → FinishesBut (length t0.drafts) t2.drafts e z table →
       table e ≡ patched target (draft_at t2.drafts e) → Finished (length t0.drafts) t1.drafts e target table
   owed_prefix target table fin here = record {
-    states = λ q low high ne. fin q low (omega arith) ne (omega arith) ∙ added.grows.same q high;
-    led = here ∙ ap (patched target) (added.grows.same e (omega arith));
+    states = λ q low high ne. fin q low (omega (arith, owed_sizes)) ne (omega (arith, owed_sizes)) ∙ added.grows.same q high;
+    led = here ∙ ap (patched target) (added.grows.same e (omega (arith, owed_sizes)));
   }
 
   pub options_owed : Options t0 t2 s e z (n + 1) left min most greedy x
@@ -100,27 +115,27 @@ module _ (t0 t1 t2 : Assembly) (s e n z left min most : ℕ) (greedy : Bool) (x 
     progress = let p = empty_then (first_made prefix) added in record {
       partly = p.partly;
       states = p.states;
-      bytes = omega arith;
+      bytes = omega (arith, p.bytes);
       numbered = p.numbered;
     };
-    start_new = omega arith;
-    start_there = omega arith;
-    end_new = omega arith;
-    end_there = omega arith;
-    z_new = omega arith;
-    z_there = omega arith;
-    apart = omega arith;
-    kind = ap is_sparse (added.grows.same e (omega arith)) ∙ prefix.fragment.can_be_led_on;
+    start_new = omega (arith, owed_sizes);
+    start_there = omega (arith, owed_sizes);
+    end_new = omega (arith, owed_sizes);
+    end_there = omega (arith, owed_sizes);
+    z_new = omega (arith, owed_sizes);
+    z_there = omega (arith, owed_sizes);
+    apart = omega (arith, owed_sizes);
+    kind = ap is_sparse (added.grows.same e (omega (arith, owed_sizes))) ∙ prefix.fragment.can_be_led_on;
     exit_is = added.here;
-    outs = λ table target fin here q low high not_z. prefix.comes_out table target (owed_prefix target table fin here) q low (omega arith);
+    outs = λ table target fin here q low high not_z. prefix.comes_out table target (owed_prefix target table fin here) q low (omega (arith, owed_sizes));
     does = λ table target fin here rest.
         let P : ℕ → Type 0 = λ k. Denotes t0.reverse table s z (repetition k (Some most) greedy x) in
         let Q : ℕ → Type 0 = λ k. Denotes t0.reverse table s z (repetition (min + 0) (Some k) greedy x) in
-        let same : min + 0 ≡ min = omega arith in
+        let same : min + 0 ≡ min = omega (arith, owed_sizes) in
         let lead = copies.before 0 (Some left) greedy in
         subst P same (subst Q sum (lead.before table target (owed_prefix target table fin here) z rest));
     looks = λ l.
-        let same : min + 0 ≡ min = omega arith in
+        let same : min + 0 ≡ min = omega (arith, owed_sizes) in
         ap (λ (b : Bool). b || uses t0.reverse (repetition 0 (Some left) greedy x) l) (quiet_added added (λ k. refl) l)
         ∙ (copies.before 0 (Some left) greedy).looks l
         ∙ ap (λ (m : ℕ). looks_in t0.drafts l || uses t0.reverse (repetition (min + 0) (Some m) greedy x) l) sum
@@ -130,24 +145,27 @@ module _ (t0 t1 t2 : Assembly) (s e n z left min most : ℕ) (greedy : Bool) (x 
 -- from a first round on
 module _ (t0 t1 t2 : Assembly) (u e n z left most : ℕ) (greedy : Bool) (x : Tree) (added : Added t0 t1 z (empty_draft 0) t0.groups)
     (option : Makes t1 t2 u e n) (does : DoesOption t1 t2 u e z greedy x) (sum : suc left ≡ most) where
+  first_sizes : AddedAt t0 t1 z × MadeAt t1 t2 u e
+  first_sizes = (added_at added, made_at option)
+
   first_option : (target : ℕ) (table : Table) → FinishesBut (length t0.drafts) t2.drafts e z table →
       table e ≡ patched target (draft_at t2.drafts e) → Finished (length t1.drafts) t2.drafts e target table
-  first_option target table fin here = record { states = λ q low high ne. fin q (omega arith) high ne (omega arith); led = here }
+  first_option target table fin here = record { states = λ q low high ne. fin q (omega (arith, first_sizes)) high ne (omega (arith, first_sizes)); led = here }
 
   pub options_first : Options t0 t2 u e z (1 + n) left 0 most greedy x
   options_first = record {
-    progress = then_made 12 (first_added 4000 added (empty_tame added) (omega arith)) option (omega arith);
-    start_new = omega arith;
-    start_there = omega arith;
-    end_new = omega arith;
-    end_there = omega arith;
-    z_new = omega arith;
-    z_there = omega arith;
-    apart = omega arith;
+    progress = then_made 12 (first_added 4000 added (empty_tame added) (omega (arith, first_sizes))) option (omega (arith, first_sizes));
+    start_new = omega (arith, first_sizes);
+    start_there = omega (arith, first_sizes);
+    end_new = omega (arith, first_sizes);
+    end_there = omega (arith, first_sizes);
+    z_new = omega (arith, first_sizes);
+    z_there = omega (arith, first_sizes);
+    apart = omega (arith, first_sizes);
     kind = option.fragment.can_be_led_on;
-    exit_is = option.fragment.grows.same z (omega arith) ∙ added.here;
+    exit_is = option.fragment.grows.same z (omega (arith, first_sizes)) ∙ added.here;
     outs = λ table target fin here q low high not_z. option.comes_out table target (first_option target table fin here) q
-        (omega arith) high;
+        (omega (arith, first_sizes)) high;
     does = λ table target fin here rest.
         let Q : ℕ → Type 0 = λ k. Denotes t0.reverse table u z (repetition 0 (Some k) greedy x) in
         let P : Bool → Type 0 = λ back. Denotes back table e z (repetition 0 (Some left) greedy x) in
@@ -167,24 +185,27 @@ module _ (t0 t1 t2 : Assembly) (u e n z left most : ℕ) (greedy : Bool) (x : Tr
 module _ (old b c d : Assembly) (start end z n left rest min most u e k : ℕ) (greedy : Bool) (x : Tree)
     (os : Options old b start end z n left min most greedy x) (option : Makes b c u e k) (does : DoesOption b c u e z greedy x)
     (led : Led c d end u) (one : left ≡ suc rest) where
+  more_sizes : OptionsAt old b start end z × MadeAt b c u e × LedAt c d
+  more_sizes = (options_at os, made_at option, led.size)
+
   more_before : (target : ℕ) (table : Table) → FinishesBut (length old.drafts) d.drafts e z table →
       FinishesBut (length old.drafts) b.drafts end z table
-  more_before target table fin q low high not_end not_z = fin q low (omega arith) (omega arith) not_z ∙ led.same q not_end
+  more_before target table fin q low high not_end not_z = fin q low (omega (arith, more_sizes)) (omega (arith, more_sizes)) not_z ∙ led.same q not_end
       ∙ option.fragment.grows.same q high
 
   more_end : (target : ℕ) (table : Table) → FinishesBut (length old.drafts) d.drafts e z table →
       table end ≡ patched u (draft_at b.drafts end)
   more_end target table fin =
       let a = os.end_new in let g = os.end_there in let h = os.apart in
-      fin end a (omega arith) (omega arith) h ∙ led.here ∙ ap (patched u) (option.fragment.grows.same end g)
+      fin end a (omega (arith, more_sizes)) (omega (arith, more_sizes)) h ∙ led.here ∙ ap (patched u) (option.fragment.grows.same end g)
 
   more_option : (target : ℕ) (table : Table) → FinishesBut (length old.drafts) d.drafts e z table →
       table e ≡ patched target (draft_at d.drafts e) → Finished (length b.drafts) c.drafts e target table
   more_option target table fin here =
       let a = os.end_new in let g = os.end_there in let h = os.z_there in let l = os.progress.partly.grows.longer in
       record {
-        states = λ q low high ne. fin q (omega arith) (omega arith) ne (omega arith) ∙ led.same q (omega arith);
-        led = here ∙ ap (patched target) (led.same e (omega arith));
+        states = λ q low high ne. fin q (omega (arith, more_sizes)) (omega (arith, more_sizes)) ne (omega (arith, more_sizes)) ∙ led.same q (omega (arith, more_sizes));
+        led = here ∙ ap (patched target) (led.same e (omega (arith, more_sizes)));
       }
 
   pub options_then : Options old d start e z (n + k) rest min most greedy x
@@ -192,23 +213,23 @@ module _ (old b c d : Assembly) (start end z n left rest min most u e k : ℕ) (
       let a = os.end_new in let g = os.end_there in let h = os.z_there in let l = os.progress.partly.grows.longer in let v = os.start_new in
       let w = os.start_there in let i = os.z_new in let ap1 = os.apart in
       record {
-        progress = then_led 12 (then_made 16 os.progress option (omega arith)) led a (omega arith) (omega arith);
+        progress = then_led 12 (then_made 16 os.progress option (omega (arith, more_sizes))) led a (omega (arith, more_sizes)) (omega (arith, more_sizes));
         start_new = v;
-        start_there = omega arith;
-        end_new = omega arith;
-        end_there = omega arith;
+        start_there = omega (arith, more_sizes);
+        end_new = omega (arith, more_sizes);
+        end_there = omega (arith, more_sizes);
         z_new = i;
-        z_there = omega arith;
-        apart = omega arith;
-        kind = ap is_sparse (led.same e (omega arith)) ∙ option.fragment.can_be_led_on;
+        z_there = omega (arith, more_sizes);
+        apart = omega (arith, more_sizes);
+        kind = ap is_sparse (led.same e (omega (arith, more_sizes))) ∙ option.fragment.can_be_led_on;
         exit_is = led.same z (λ (same : z ≡ end). ap1 (sym same)) ∙ option.fragment.grows.same z h ∙ os.exit_is;
         outs = λ table target fin here q low high not_z.
             let all = option.comes_out table target (more_option target table fin here) in
             ⊎_elim
             (λ (less : q < length b.drafts).
             let o = os.outs table u (more_before target table fin) (more_end target table fin) q low less not_z in
-            out_on table target u o.0 q o.1 (all u (omega arith) (omega arith)))
-            (λ (more : length b.drafts ≤ q). all q more (omega arith))
+            out_on table target u o.0 q o.1 (all u (omega (arith, more_sizes)) (omega (arith, more_sizes))))
+            (λ (more : length b.drafts ≤ q). all q more (omega (arith, more_sizes)))
             (cases_lt q (length b.drafts));
         does = λ table target fin here done.
             let turn : b.reverse ≡ old.reverse = ap (λ (z : Assembly). z.reverse) os.progress.partly.grows.settings in
@@ -229,13 +250,16 @@ module _ (old b c d : Assembly) (start end z n left rest min most u e k : ℕ) (
 -- no round is left
 module _ (old mid new : Assembly) (start end z n left min most : ℕ) (greedy : Bool) (x : Tree)
     (os : Options old mid start end z n left min most greedy x) (led : Led mid new end z) (none : left ≡ 0) where
+  last_sizes : OptionsAt old mid start end z × LedAt mid new
+  last_sizes = (options_at os, led.size)
+
   last_but : (target : ℕ) (table : Table) → Finished (length old.drafts) new.drafts z target table →
       FinishesBut (length old.drafts) mid.drafts end z table
-  last_but target table fin q low high not_end not_z = fin.states q low (omega arith) not_z ∙ led.same q not_end
+  last_but target table fin q low high not_end not_z = fin.states q low (omega (arith, last_sizes)) not_z ∙ led.same q not_end
 
   last_end : (target : ℕ) (table : Table) → Finished (length old.drafts) new.drafts z target table →
       table end ≡ patched z (draft_at mid.drafts end)
-  last_end target table fin = let a = os.end_new in let g = os.end_there in fin.states end a (omega arith) os.apart ∙ led.here
+  last_end target table fin = let a = os.end_new in let g = os.end_there in fin.states end a (omega (arith, last_sizes)) os.apart ∙ led.here
 
   last_z : draft_at new.drafts z ≡ empty_draft 0
   last_z = let ap1 = os.apart in led.same z (λ (same : z ≡ end). ap1 (sym same)) ∙ os.exit_is
@@ -243,14 +267,14 @@ module _ (old mid new : Assembly) (start end z n left min most : ℕ) (greedy : 
   pub options_made : Makes old new start z n
   options_made =
       let a = os.end_new in let h = os.z_there in let v = os.start_new in let w = os.start_there in let i = os.z_new in
-      made n (then_led 8 os.progress led a h (omega arith)) (omega arith) (omega arith) v (omega arith) i (omega arith)
+      made n (then_led 8 os.progress led a h (omega (arith, last_sizes))) (omega (arith, last_sizes)) (omega (arith, last_sizes)) v (omega (arith, last_sizes)) i (omega (arith, last_sizes))
       (ap is_sparse last_z)
       (λ table target fin q low high.
       let out = out_next table target z target (ap stands_for (fin.led ∙ ap (patched target) last_z)) (out_at table target) in
       let P : ℕ → Type 0 = λ k. ComesOut table target k in
       ⊎_elim
       (λ (e : q ≡ z). subst P (sym e) out)
-      (λ (not_z : q ≡ z → ⊥). let o = os.outs table z (last_but target table fin) (last_end target table fin) q low (omega arith) not_z in
+      (λ (not_z : q ≡ z → ⊥). let o = os.outs table z (last_but target table fin) (last_end target table fin) q low (omega (arith, last_sizes)) not_z in
       out_on table target z o.0 q o.1 out)
       (cases_eq q z))
 

@@ -11,6 +11,7 @@ use Rattle.thompson_nfa.specs.Denotes.{Denotes, choice}
 use Rattle.thompson_nfa.specs.Compiled.{Grows, Finished, AllComeOut, IsTame, Makes, Does, is_above_zero}
 use Rattle.thompson_nfa.specs.Added.{Added, Led}
 use Rattle.thompson_nfa.proofs.Steps.LookLemmas.{quiet_led, quiet_added, quiet_choice, adds_around}
+use Rattle.thompson_nfa.proofs.Steps.SizeLemmas.{AddedAt, added_at, MadeAt, made_at, LedAt}
 use Rattle.thompson_nfa.proofs.Steps.OutLemmas.{out_here, out_next, out_at, all_here, all_join, all_on}
 use Rattle.thompson_nfa.proofs.Fragments.LeafLemmas.{tame_one, tame_none}
 use Rattle.thompson_nfa.proofs.Steps.ProgressLemmas.{Progress, first_added, first_made, then_added, then_made, then_led, made}
@@ -63,14 +64,17 @@ reads_as a b table s e x g d = let P : Bool → Type 0 = λ back. Denotes back t
 -- a loop whose body reads
 module _ (t0 t1 t2 t3 t4 : Assembly) (greedy : Bool) (u s e n : ℕ) (added : Added t0 t1 u (no_choice greedy) t0.groups)
     (body : Makes t1 t2 s e n) (led : Led t2 t3 u s) (back : Led t3 t4 e u) where
+  star_sizes : AddedAt t0 t1 u × MadeAt t1 t2 s e × LedAt t2 t3 × LedAt t3 t4
+  star_sizes = (added_at added, made_at body, led.size, back.size)
+
   pub star_2 : Progress false t0 t2 (1 + n) 4000
-  star_2 = then_made 4000 (choice_first greedy added) body (omega arith)
+  star_2 = then_made 4000 (choice_first greedy added) body (omega (arith, star_sizes))
 
   pub star_3 : Progress false t0 t3 (1 + n) 3996
-  star_3 = then_led 3996 star_2 led (omega arith) (omega arith) (omega arith)
+  star_3 = then_led 3996 star_2 led (omega (arith, star_sizes)) (omega (arith, star_sizes)) (omega (arith, star_sizes))
 
   star_u : draft_at t4.drafts u ≡ patched s (no_choice greedy)
-  star_u = back.same u (omega arith) ∙ led.here ∙ ap (patched s) (body.fragment.grows.same u (omega arith) ∙ added.here)
+  star_u = back.same u (omega (arith, star_sizes)) ∙ led.here ∙ ap (patched s) (body.fragment.grows.same u (omega (arith, star_sizes)) ∙ added.here)
 
   star_choice : (target : ℕ) (table : Table) → Finished (length t0.drafts) t4.drafts u target table → table u ≡ choice greedy s target
   star_choice target table fin = fin.led ∙ ap (patched target) star_u ∙ chosen greedy s target
@@ -78,22 +82,22 @@ module _ (t0 t1 t2 t3 t4 : Assembly) (greedy : Bool) (u s e n : ℕ) (added : Ad
   star_body : (target : ℕ) (table : Table) → Finished (length t0.drafts) t4.drafts u target table →
       Finished (length t1.drafts) t2.drafts e u table
   star_body target table fin = record {
-    states = λ q low high ne. fin.states q (omega arith) (omega arith) (omega arith) ∙ back.same q ne ∙ led.same q (omega arith);
-    led = fin.states e (omega arith) (omega arith) (omega arith) ∙ back.here ∙ ap (patched u) (led.same e (omega arith));
+    states = λ q low high ne. fin.states q (omega (arith, star_sizes)) (omega (arith, star_sizes)) (omega (arith, star_sizes)) ∙ back.same q ne ∙ led.same q (omega (arith, star_sizes));
+    led = fin.states e (omega (arith, star_sizes)) (omega (arith, star_sizes)) (omega (arith, star_sizes)) ∙ back.here ∙ ap (patched u) (led.same e (omega (arith, star_sizes)));
   }
 
   pub star_made : Makes t0 t4 u u (n + 1)
   star_made =
-      made (n + 1) (then_led 3992 star_3 back (omega arith) (omega arith) (omega arith)) (omega arith) (omega arith) (omega arith)
-      (omega arith) (omega arith) (omega arith)
+      made (n + 1) (then_led 3992 star_3 back (omega (arith, star_sizes)) (omega (arith, star_sizes)) (omega (arith, star_sizes))) (omega (arith, star_sizes)) (omega (arith, star_sizes)) (omega (arith, star_sizes))
+      (omega (arith, star_sizes)) (omega (arith, star_sizes)) (omega (arith, star_sizes))
       (ap is_sparse star_u ∙ choice_kind greedy s)
       (λ table target fin.
       let here = out_here table target u (ap stands_for (star_choice target table fin) ∙ choice_stands greedy s target) in
       let P : ℕ → Type 0 = λ k. AllComeOut table target k (length t4.drafts) in
       subst P added.is (all_join table target u (length t1.drafts) (length t4.drafts)
-      (all_here table target u (length t1.drafts) (omega arith) here)
+      (all_here table target u (length t1.drafts) (omega (arith, star_sizes)) here)
       (let Q : ℕ → Type 0 = λ k. AllComeOut table target (length t1.drafts) k in
-      let size : length t2.drafts ≡ length t4.drafts = omega arith in
+      let size : length t2.drafts ≡ length t4.drafts = omega (arith, star_sizes) in
       subst Q size (all_on table target u (length t1.drafts) (length t2.drafts)
       (body.comes_out table u (star_body target table fin)) here))))
 
@@ -110,14 +114,17 @@ module _ (t0 t1 t2 t3 t4 : Assembly) (greedy : Bool) (u s e n : ℕ) (added : Ad
 -- a body, and then a loop
 module _ (t0 t1 t2 t3 t4 : Assembly) (greedy : Bool) (u s e n : ℕ) (body : Makes t0 t1 s e n)
     (added : Added t1 t2 u (no_choice greedy) t1.groups) (back : Led t2 t3 e u) (led : Led t3 t4 u s) where
+  plus_sizes : MadeAt t0 t1 s e × AddedAt t1 t2 u × LedAt t2 t3 × LedAt t3 t4
+  plus_sizes = (made_at body, added_at added, back.size, led.size)
+
   pub plus_2 : Progress false t0 t2 (n + 1) 4000
   plus_2 = choice_then greedy (first_made body) added
 
   pub plus_3 : Progress false t0 t3 (n + 1) 3996
-  plus_3 = then_led 3996 plus_2 back (omega arith) (omega arith) (omega arith)
+  plus_3 = then_led 3996 plus_2 back (omega (arith, plus_sizes)) (omega (arith, plus_sizes)) (omega (arith, plus_sizes))
 
   plus_u : draft_at t4.drafts u ≡ patched s (no_choice greedy)
-  plus_u = led.here ∙ ap (patched s) (back.same u (omega arith) ∙ added.here)
+  plus_u = led.here ∙ ap (patched s) (back.same u (omega (arith, plus_sizes)) ∙ added.here)
 
   plus_choice : (target : ℕ) (table : Table) → Finished (length t0.drafts) t4.drafts u target table → table u ≡ choice greedy s target
   plus_choice target table fin = fin.led ∙ ap (patched target) plus_u ∙ chosen greedy s target
@@ -125,23 +132,23 @@ module _ (t0 t1 t2 t3 t4 : Assembly) (greedy : Bool) (u s e n : ℕ) (body : Mak
   plus_body : (target : ℕ) (table : Table) → Finished (length t0.drafts) t4.drafts u target table →
       Finished (length t0.drafts) t1.drafts e u table
   plus_body target table fin = record {
-    states = λ q low high ne. fin.states q (omega arith) (omega arith) (omega arith) ∙ led.same q (omega arith) ∙ back.same q ne
-        ∙ added.grows.same q (omega arith);
-    led = fin.states e (omega arith) (omega arith) (omega arith) ∙ led.same e (omega arith) ∙ back.here
-        ∙ ap (patched u) (added.grows.same e (omega arith));
+    states = λ q low high ne. fin.states q (omega (arith, plus_sizes)) (omega (arith, plus_sizes)) (omega (arith, plus_sizes)) ∙ led.same q (omega (arith, plus_sizes)) ∙ back.same q ne
+        ∙ added.grows.same q (omega (arith, plus_sizes));
+    led = fin.states e (omega (arith, plus_sizes)) (omega (arith, plus_sizes)) (omega (arith, plus_sizes)) ∙ led.same e (omega (arith, plus_sizes)) ∙ back.here
+        ∙ ap (patched u) (added.grows.same e (omega (arith, plus_sizes)));
   }
 
   pub plus_made : Makes t0 t4 s u (n + 1)
   plus_made =
-      made (n + 1) (then_led 3992 plus_3 led (omega arith) (omega arith) (omega arith)) (omega arith) (omega arith) (omega arith)
-      (omega arith) (omega arith) (omega arith)
+      made (n + 1) (then_led 3992 plus_3 led (omega (arith, plus_sizes)) (omega (arith, plus_sizes)) (omega (arith, plus_sizes))) (omega (arith, plus_sizes)) (omega (arith, plus_sizes)) (omega (arith, plus_sizes))
+      (omega (arith, plus_sizes)) (omega (arith, plus_sizes)) (omega (arith, plus_sizes))
       (ap is_sparse plus_u ∙ choice_kind greedy s)
       (λ table target fin.
       let here = out_here table target u (ap stands_for (plus_choice target table fin) ∙ choice_stands greedy s target) in
       let P : ℕ → Type 0 = λ k. AllComeOut table target k (length t4.drafts) in
       all_join table target (length t0.drafts) (length t1.drafts) (length t4.drafts)
       (all_on table target u (length t0.drafts) (length t1.drafts) (body.comes_out table u (plus_body target table fin)) here)
-      (subst P added.is (all_here table target u (length t4.drafts) (omega arith) here)))
+      (subst P added.is (all_here table target u (length t4.drafts) (omega (arith, plus_sizes)) here)))
 
   pub plus_does : (x : Tree) → Does t0 t1 s e x → Does t0 t4 s u (repetition 1 None greedy x)
   plus_does x does = record {
@@ -156,14 +163,17 @@ module _ (t0 t1 t2 t3 t4 t5 t6 t7 t8 t9 : Assembly) (greedy : Bool) (s e u q z n
     (p1 : Added t1 t2 u (no_choice greedy) t1.groups) (p2 : Led t2 t3 e u) (p3 : Led t3 t4 u s)
     (p4 : Added t4 t5 q (no_choice greedy) t4.groups) (p5 : Added t5 t6 z (empty_draft 0) t5.groups) (p6 : Led t6 t7 q s)
     (p7 : Led t7 t8 q z) (p8 : Led t8 t9 u z) where
+  loop_sizes : MadeAt t0 t1 s e × AddedAt t1 t2 u × LedAt t2 t3 × LedAt t3 t4 × AddedAt t4 t5 q × AddedAt t5 t6 z × LedAt t6 t7 × LedAt t7 t8 × LedAt t8 t9
+  loop_sizes = (made_at body, added_at p1, p2.size, p3.size, added_at p4, added_at p5, p6.size, p7.size, p8.size)
+
   pub loop_2 : Progress false t0 t2 (n + 1) 4000
   loop_2 = choice_then greedy (first_made body) p1
 
   pub loop_3 : Progress false t0 t3 (n + 1) 3996
-  loop_3 = then_led 3996 loop_2 p2 (omega arith) (omega arith) (omega arith)
+  loop_3 = then_led 3996 loop_2 p2 (omega (arith, loop_sizes)) (omega (arith, loop_sizes)) (omega (arith, loop_sizes))
 
   pub loop_4 : Progress false t0 t4 (n + 1) 3992
-  loop_4 = then_led 3992 loop_3 p3 (omega arith) (omega arith) (omega arith)
+  loop_4 = then_led 3992 loop_3 p3 (omega (arith, loop_sizes)) (omega (arith, loop_sizes)) (omega (arith, loop_sizes))
 
   pub loop_5 : Progress false t0 t5 (n + 1 + 1) 4000
   loop_5 = choice_then greedy loop_4 p4
@@ -172,43 +182,43 @@ module _ (t0 t1 t2 t3 t4 t5 t6 t7 t8 t9 : Assembly) (greedy : Bool) (s e u q z n
   loop_6 = empty_then loop_5 p5
 
   pub loop_7 : Progress false t0 t7 (n + 1 + 1 + 1) 3996
-  loop_7 = then_led 3996 loop_6 p6 (omega arith) (omega arith) (omega arith)
+  loop_7 = then_led 3996 loop_6 p6 (omega (arith, loop_sizes)) (omega (arith, loop_sizes)) (omega (arith, loop_sizes))
 
   pub loop_8 : Progress false t0 t8 (n + 1 + 1 + 1) 3992
-  loop_8 = then_led 3992 loop_7 p7 (omega arith) (omega arith) (omega arith)
+  loop_8 = then_led 3992 loop_7 p7 (omega (arith, loop_sizes)) (omega (arith, loop_sizes)) (omega (arith, loop_sizes))
 
   loop_z : draft_at t9.drafts z ≡ empty_draft 0
-  loop_z = p8.same z (omega arith) ∙ p7.same z (omega arith) ∙ p6.same z (omega arith) ∙ p5.here
+  loop_z = p8.same z (omega (arith, loop_sizes)) ∙ p7.same z (omega (arith, loop_sizes)) ∙ p6.same z (omega (arith, loop_sizes)) ∙ p5.here
 
   loop_end : (target : ℕ) (table : Table) → Finished (length t0.drafts) t9.drafts z target table → table z ≡ empty_draft target
   loop_end target table fin = fin.led ∙ ap (patched target) loop_z
 
   loop_u : (target : ℕ) (table : Table) → Finished (length t0.drafts) t9.drafts z target table → table u ≡ choice greedy s z
-  loop_u target table fin = fin.states u (omega arith) (omega arith) (omega arith) ∙ p8.here
-      ∙ ap (patched z) (p7.same u (omega arith) ∙ p6.same u (omega arith) ∙ p5.grows.same u (omega arith) ∙ p4.grows.same u (omega arith)
-      ∙ p3.here ∙ ap (patched s) (p2.same u (omega arith) ∙ p1.here)) ∙ chosen greedy s z
+  loop_u target table fin = fin.states u (omega (arith, loop_sizes)) (omega (arith, loop_sizes)) (omega (arith, loop_sizes)) ∙ p8.here
+      ∙ ap (patched z) (p7.same u (omega (arith, loop_sizes)) ∙ p6.same u (omega (arith, loop_sizes)) ∙ p5.grows.same u (omega (arith, loop_sizes)) ∙ p4.grows.same u (omega (arith, loop_sizes))
+      ∙ p3.here ∙ ap (patched s) (p2.same u (omega (arith, loop_sizes)) ∙ p1.here)) ∙ chosen greedy s z
 
   loop_q : (target : ℕ) (table : Table) → Finished (length t0.drafts) t9.drafts z target table → table q ≡ choice greedy s z
-  loop_q target table fin = fin.states q (omega arith) (omega arith) (omega arith) ∙ p8.same q (omega arith) ∙ p7.here
-      ∙ ap (patched z) (p6.here ∙ ap (patched s) (p5.grows.same q (omega arith) ∙ p4.here)) ∙ chosen greedy s z
+  loop_q target table fin = fin.states q (omega (arith, loop_sizes)) (omega (arith, loop_sizes)) (omega (arith, loop_sizes)) ∙ p8.same q (omega (arith, loop_sizes)) ∙ p7.here
+      ∙ ap (patched z) (p6.here ∙ ap (patched s) (p5.grows.same q (omega (arith, loop_sizes)) ∙ p4.here)) ∙ chosen greedy s z
 
   loop_body : (target : ℕ) (table : Table) → Finished (length t0.drafts) t9.drafts z target table →
       Finished (length t0.drafts) t1.drafts e u table
   loop_body target table fin = record {
-    states = λ i low high ne. fin.states i (omega arith) (omega arith) (omega arith)
-        ∙ p8.same i (omega arith) ∙ p7.same i (omega arith) ∙ p6.same i (omega arith) ∙ p5.grows.same i (omega arith)
-        ∙ p4.grows.same i (omega arith)
-        ∙ p3.same i (omega arith) ∙ p2.same i ne ∙ p1.grows.same i (omega arith);
-    led = fin.states e (omega arith) (omega arith) (omega arith)
-        ∙ p8.same e (omega arith) ∙ p7.same e (omega arith) ∙ p6.same e (omega arith) ∙ p5.grows.same e (omega arith)
-        ∙ p4.grows.same e (omega arith)
-        ∙ p3.same e (omega arith) ∙ p2.here ∙ ap (patched u) (p1.grows.same e (omega arith));
+    states = λ i low high ne. fin.states i (omega (arith, loop_sizes)) (omega (arith, loop_sizes)) (omega (arith, loop_sizes))
+        ∙ p8.same i (omega (arith, loop_sizes)) ∙ p7.same i (omega (arith, loop_sizes)) ∙ p6.same i (omega (arith, loop_sizes)) ∙ p5.grows.same i (omega (arith, loop_sizes))
+        ∙ p4.grows.same i (omega (arith, loop_sizes))
+        ∙ p3.same i (omega (arith, loop_sizes)) ∙ p2.same i ne ∙ p1.grows.same i (omega (arith, loop_sizes));
+    led = fin.states e (omega (arith, loop_sizes)) (omega (arith, loop_sizes)) (omega (arith, loop_sizes))
+        ∙ p8.same e (omega (arith, loop_sizes)) ∙ p7.same e (omega (arith, loop_sizes)) ∙ p6.same e (omega (arith, loop_sizes)) ∙ p5.grows.same e (omega (arith, loop_sizes))
+        ∙ p4.grows.same e (omega (arith, loop_sizes))
+        ∙ p3.same e (omega (arith, loop_sizes)) ∙ p2.here ∙ ap (patched u) (p1.grows.same e (omega (arith, loop_sizes)));
   }
 
   pub loop_made : Makes t0 t9 q z (n + 3)
   loop_made =
-      made (n + 3) (then_led 3988 loop_8 p8 (omega arith) (omega arith) (omega arith)) (omega arith) (omega arith) (omega arith)
-      (omega arith) (omega arith) (omega arith)
+      made (n + 3) (then_led 3988 loop_8 p8 (omega (arith, loop_sizes)) (omega (arith, loop_sizes)) (omega (arith, loop_sizes))) (omega (arith, loop_sizes)) (omega (arith, loop_sizes)) (omega (arith, loop_sizes))
+      (omega (arith, loop_sizes)) (omega (arith, loop_sizes)) (omega (arith, loop_sizes))
       (ap is_sparse loop_z)
       (λ table target fin.
       let real_u = out_here table target u (ap stands_for (loop_u target table fin) ∙ choice_stands greedy s z) in
@@ -217,9 +227,9 @@ module _ (t0 t1 t2 t3 t4 t5 t6 t7 t8 t9 : Assembly) (greedy : Bool) (s e u q z n
       let P : ℕ → Type 0 = λ k. AllComeOut table target k q in
       all_join table target (length t0.drafts) (length t1.drafts) (length t9.drafts)
       (all_on table target u (length t0.drafts) (length t1.drafts) (body.comes_out table u (loop_body target table fin)) real_u)
-      (all_join table target (length t1.drafts) q (length t9.drafts) (subst P p1.is (all_here table target u q (omega arith) real_u))
-      (all_join table target q z (length t9.drafts) (all_here table target q z (omega arith) real_q)
-      (all_here table target z (length t9.drafts) (omega arith) last))))
+      (all_join table target (length t1.drafts) q (length t9.drafts) (subst P p1.is (all_here table target u q (omega (arith, loop_sizes)) real_u))
+      (all_join table target q z (length t9.drafts) (all_here table target q z (omega (arith, loop_sizes)) real_q)
+      (all_here table target z (length t9.drafts) (omega (arith, loop_sizes)) last))))
 
   pub loop_does : (x : Tree) → Does t0 t1 s e x → Does t0 t9 q z (repetition 0 None greedy x)
   loop_does x does = record {

@@ -312,28 +312,25 @@ module _ (stem : List ℕ) (strings rest row : List (Bor (List ℕ))) (begins : 
   pub rest_long : length row ≡ length strings
   rest_long = omega (arith, texts_long row, texts_long strings, behind_long stem (texts row), ap length stem_split)
 
--- a group is taken, and its node laid
-module _ {W V : Type 0} (value : W → NodeValue) (items_of : V → List (Bor (List ℕ))) (rows : List W) (groups kept : List V)
-    (strings : List (List ℕ)) (so_far : NodesHeld (map value rows) (groups_of items_of groups) strings) (k : ℕ)
-    (at : k ≡ length rows) (less : k < length groups) (row taken : List (Bor (List ℕ))) (row_is : row ≡ taken)
-    (taken_is : texts taken ≡ get_or (groups_of items_of groups) k []) where
-  same_place : k ≡ length (map value rows)
-  same_place = omega (arith, at, length-map rows value)
+-- a group was taken and its node laid, behind the other nodes, and groups were added
+abbrev pub LaidNext : List NodeValue → List (List (List ℕ)) → List NodeValue → List (List (List ℕ)) → ℕ → Type 0
+LaidNext nodes held nodes2 held2 k = (kept : List (List (List ℕ))) × (fresh : List (List (List ℕ))) × (node : NodeValue) ×
+    (length kept ≡ length held) × (drop (k + 1) kept ≡ drop (k + 1) held) × LaysNode (length held) [] fresh node (get_or held k []) ×
+    (nodes2 ≡ nodes ++ node ∷ []) × (held2 ≡ kept ++ fresh)
 
-  is_there : k < length (groups_of items_of groups)
-  is_there = omega (arith, less, group_count items_of groups)
+pub next_held : (nodes : List NodeValue) (held : List (List (List ℕ))) (strings : List (List ℕ)) (nodes2 : List NodeValue)
+    (held2 : List (List (List ℕ))) (k : ℕ) → NodesHeld nodes held strings → k ≡ length nodes → k < length held →
+    LaidNext nodes held nodes2 held2 k → NodesHeld nodes2 held2 strings × (left_of nodes2 held2 < left_of nodes held)
+next_held nodes held strings nodes2 held2 k so_far at less x = taken_next nodes held strings so_far k at less x.0 x.1 x.3 x.4 x.2 x.5
+    nodes2 held2 x.6 x.7
 
+module _ {W V : Type 0} (value : W → NodeValue) (items_of : V → List (Bor (List ℕ))) (groups kept : List V) (k : ℕ)
+    (row taken : List (Bor (List ℕ))) (row_is : row ≡ taken) (taken_is : texts taken ≡ get_or (groups_of items_of groups) k []) where
   texts_are : texts row ≡ get_or (groups_of items_of groups) k []
   texts_are = ap texts row_is ∙ taken_is
 
-  pub row_some : 1 ≤ length row
-  row_some = omega (
-    arith,
-    texts_long row,
-    ap length texts_are,
-    held_some (map value rows)
-        (groups_of items_of groups) strings so_far k same_place is_there,
-  )
+  pub row_some : 1 ≤ length (get_or (groups_of items_of groups) k []) → 1 ≤ length row
+  row_some some = omega (arith, texts_long row, ap length texts_are, some)
 
   module _ (n : ℕ) (is_n : n ≡ length kept) (as_many : length (groups_of items_of kept) ≡ length (groups_of items_of groups))
       (later : drop (k + 1) (groups_of items_of kept) ≡ drop (k + 1) (groups_of items_of groups))
@@ -348,11 +345,17 @@ module _ {W V : Type 0} (value : W → NodeValue) (items_of : V → List (Bor (L
         let same : n ≡ length (groups_of items_of groups) = omega (arith, is_n, as_many, group_count items_of kept) in
         subst R same (subst Q texts_are (subst P is_none lays))
 
-    pub node_laid : (rows2 : List W) (groups2 : List V) → rows2 ≡ rows ++ node ∷ [] → groups2 ≡ kept ++ fresh →
-        NodesHeld (map value rows2) (groups_of items_of groups2) strings ×
-        (left_of (map value rows2) (groups_of items_of groups2) < left_of (map value rows) (groups_of items_of groups))
-    node_laid rows2 groups2 e1 e2 =
-        taken_next (map value rows) (groups_of items_of groups) strings so_far k same_place is_there (groups_of items_of kept)
-        (groups_of items_of fresh) as_many later (value node) lays_row (map value rows2) (groups_of items_of groups2)
-        (ap (map value) e1 ∙ map-append value rows (node ∷ [])) (ap (groups_of items_of) e2
-        ∙ map-append (λ (v : V). texts (items_of v)) kept fresh)
+    pub next_laid : (rows rows2 : List W) (groups2 : List V) → k ≡ length rows → rows2 ≡ rows ++ node ∷ [] → groups2 ≡ kept ++ fresh →
+        LaidNext (map value rows) (groups_of items_of groups) (map value rows2) (groups_of items_of groups2) (length rows)
+    next_laid rows rows2 groups2 at e1 e2 =
+        let P : ℕ → Type 0 = λ j. LaidNext (map value rows) (groups_of items_of groups) (map value rows2) (groups_of items_of groups2) j in
+        subst P at (
+          groups_of items_of kept,
+          groups_of items_of fresh,
+          value node,
+          as_many,
+          later,
+          lays_row,
+          ap (map value) e1 ∙ map-append value rows (node ∷ []),
+          ap (groups_of items_of) e2 ∙ map-append (λ (v : V). texts (items_of v)) kept fresh,
+        )

@@ -23,7 +23,12 @@ pub record Progress (plain : Bool) (old mid : Assembly) (n spare : ℕ) : Type 0
 
 pub first_added : {plain : Bool} {a b : Assembly} {id : ℕ} {draft : DraftNode} {groups : Groups} (spare : ℕ) → Added a b id draft groups →
     IsTame plain b draft → draft_bytes draft + spare ≤ 4096 → Progress plain a b 1 spare
-first_added spare x tame le = record { partly = partly_added x tame; states = omega arith; bytes = omega arith; numbered = x.numbered }
+first_added spare x tame le = record {
+  partly = partly_added x tame;
+  states = omega (arith, x.size);
+  bytes = omega (arith, x.size, x.bytes, le);
+  numbered = x.numbered;
+}
 
 pub first_made : {a b : Assembly} {start end n : ℕ} → Makes a b start end n → Progress false a b n 8
 first_made m = record {
@@ -38,8 +43,8 @@ pub then_added : {plain : Bool} {a b c : Assembly} {id n s : ℕ} {draft : Draft
     Progress plain a c (n + 1) spare
 then_added spare p x tame le = record {
   partly = partly_joined p.partly (partly_added x tame);
-  states = omega arith;
-  bytes = omega arith;
+  states = omega (arith, p.states, x.size);
+  bytes = omega (arith, p.bytes, x.size, x.bytes, le);
   numbered = x.numbered;
 }
 
@@ -47,8 +52,8 @@ pub then_made : {a b c : Assembly} {start end n s k : ℕ} (spare : ℕ) → Pro
     Progress false a c (n + k) spare
 then_made spare p m le = record {
   partly = partly_joined p.partly (record { grows = m.fragment.grows; tame = m.tame });
-  states = omega arith;
-  bytes = omega arith;
+  states = omega (arith, p.states, m.within.states);
+  bytes = omega (arith, p.bytes, m.within.bytes, le);
   numbered = m.within.numbered;
 }
 
@@ -56,9 +61,9 @@ pub then_led : {plain : Bool} {a b c : Assembly} {from to n s : ℕ} (spare : �
     length a.drafts ≤ from → to < length b.drafts → spare + 4 ≤ s → Progress plain a c n spare
 then_led spare p x new there le = record {
   partly = partly_led p.partly x new there;
-  states = omega arith;
-  bytes = omega arith;
-  numbered = omega arith;
+  states = omega (arith, p.states, x.size);
+  bytes = omega (arith, p.bytes, x.size, x.bytes, le);
+  numbered = omega (arith, p.numbered, x.size);
 }
 
 -- a fragment that is done
@@ -72,7 +77,7 @@ made {plain} {a} {b} m p spare le s1 s2 e1 e2 kind out = record {
   fragment = record { grows = p.partly.grows; start_new = s1; start_there = s2; end_new = e1; end_there = e2; can_be_led_on = kind };
   comes_out = out;
   tame = λ q low high. tame_anyhow b (draft_at b.drafts q) (p.partly.tame q low high);
-  within = record { states = omega arith; bytes = omega arith; numbered = p.numbered };
+  within = record { states = omega (arith, p.states, le); bytes = omega (arith, p.bytes, spare); numbered = p.numbered };
 }
 
 -- the same where the count stops at the largest number of 64 bits
@@ -82,7 +87,11 @@ made_capped m x le = record {
   fragment = x.fragment;
   comes_out = x.comes_out;
   tame = x.tame;
-  within = record { states = omega arith; bytes = x.within.bytes; numbered = x.within.numbered };
+  within = record {
+    states = omega (arith, x.within.states, x.within.numbered, le);
+    bytes = x.within.bytes;
+    numbered = x.within.numbered;
+  };
 }
 
 pub size_kept : {old mid : Assembly} → Grows old mid → mid.size_limit ≡ old.size_limit
@@ -141,7 +150,8 @@ pub then_quits : {plain : Bool} {old mid new : Assembly} {k s n bytes : ℕ} {e 
     Stays mid new n bytes e → k + n ≤ m → bytes ≤ s + 4096 * n → Quits old new m e
 then_quits {plain} {old} {mid} {new} {k} {s} {n} {bytes} {e} m p r le lb = record {
   settings = (grows_trans p.partly.grows (let P : Assembly → Type 0 = λ b. Grows mid b in subst P (sym r.same) (grows_refl mid))).settings;
-  cause = step_later old mid n bytes m m e (size_kept p.partly.grows) (omega arith) (omega arith) (omega arith) r.cause;
+  cause = step_later old mid n bytes m m e (size_kept p.partly.grows) (omega (arith, p.states, le)) (omega (arith, p.states, p.bytes, le, lb))
+      (omega arith) r.cause;
 }
 
 pub refuses : {old new : Assembly} {n : ℕ} {e : BuildError} (kept : WhichCaptures) (m : ℕ) (x : Tree) → Quits old new n e →
@@ -169,6 +179,6 @@ then_refuses {plain} {old} {mid} {new} {k} {s} {n} {e} {kept} {x} m y p r inside
     let P : ℕ → Type 0 = λ pattern. RefusesTree kept pattern mid n x e in
     record {
       settings = r.settings ∙ ap (λ (b : Assembly). record b { drafts = new.drafts; groups = new.groups }) p.partly.grows.settings;
-      cause = call_later kept (length old.starts) old mid n m m x y e (size_kept p.partly.grows) (omega arith) (omega arith)
-          (omega arith) inside (subst P starts r.cause);
+      cause = call_later kept (length old.starts) old mid n m m x y e (size_kept p.partly.grows) (omega (arith, p.states, le))
+          (omega (arith, p.states, p.bytes, le)) (omega arith) inside (subst P starts r.cause);
     }

@@ -1,30 +1,27 @@
-use Rattle.std.proofs.Common.{arith}
-use Rattle.thompson_nfa.specs.LiteralGroups.{texts}
+use Rattle.std.proofs.Common.{arith, length, map}
+use Rattle.std.proofs.lemmas.List.{length-map}
+use Rattle.thompson_nfa.specs.LiteralGroups.{texts, groups_of}
 use Rattle.thompson_nfa.specs.LiteralLaid.{node_value}
-use Rattle.thompson_nfa.proofs.LiteralTries.LiteralLaidLemmas.{row_some, node_laid}
+use Rattle.thompson_nfa.proofs.LiteralTries.LiteralGroupLemmas.{group_count}
+use Rattle.thompson_nfa.proofs.LiteralTries.LiteralLaidLemmas.{held_some, next_held}
 use Rattle.thompson_nfa.proofs.literal_nodes.nodes.Goals as goal
 
-pub lay-requires-clause-some : goal.lay-requires-clause-some
-lay-requires-clause-some c =
-    row_some node_value (λ g. g.items) c.loop-alloc.nodes.items c.loop-alloc.groups.items c.take_group-strings.new.groups.items
-    (texts c.args.strings.items) c.loop-alloc.invariant c.len-in-loop-alloc-2.result (omega (arith, c.len-in-loop-alloc-2.ensures))
-    (omega (arith, c.loop-alloc-test.true, c.len-in-loop-alloc-2.ensures)) c.deref.result.now c.take_group-strings.result.items
-    c.deref.ensures.value c.take_group-strings.ensures.taken
+pub lay_next-requires-clause-some : goal.lay_next-requires-clause-some
+lay_next-requires-clause-some c =
+    held_some (map node_value c.loop-alloc.nodes.items) (groups_of (λ g. g.items) c.loop-alloc.groups.items) (texts c.args.strings.items)
+    c.loop-alloc.invariant (length c.loop-alloc.nodes.items) (omega (arith, length-map c.loop-alloc.nodes.items node_value))
+    (omega (arith, c.loop-alloc-test.true, group_count (λ g. g.items) c.loop-alloc.groups.items))
 
 pub loop-alloc-smaller : goal.loop-alloc-smaller
 loop-alloc-smaller c =
-    (node_laid node_value (λ g. g.items) c.loop-alloc.nodes.items c.loop-alloc.groups.items c.take_group-strings.new.groups.items
-    (texts c.args.strings.items) c.loop-alloc.invariant c.len-in-loop-alloc-2.result (omega (arith, c.len-in-loop-alloc-2.ensures))
-    (omega (arith, c.loop-alloc-test.true, c.len-in-loop-alloc-2.ensures)) c.deref.result.now c.take_group-strings.result.items
-    c.deref.ensures.value c.take_group-strings.ensures.taken c.len-in-loop-alloc-3.result (omega (arith, c.len-in-loop-alloc-3.ensures))
-    c.take_group-strings.ensures.as_many c.take_group-strings.ensures.later c.new-more.result.items c.lay.new.groups.items
-    c.new-more.ensures.items c.in_ok-node.node c.in_ok-node.ensures _ _ c.in_ok-push-2.ensures.items c.in_ok-append.ensures.items).1
+    (next_held (map node_value c.loop-alloc.nodes.items) (groups_of (λ g. g.items) c.loop-alloc.groups.items)
+    (texts c.args.strings.items) _ _ (length c.loop-alloc.nodes.items)
+    c.loop-alloc.invariant (omega (arith, length-map c.loop-alloc.nodes.items node_value))
+    (omega (arith, c.loop-alloc-test.true, group_count (λ g. g.items) c.loop-alloc.groups.items)) c.in_ok-lay_next.ensures).1
 
 pub loop-alloc-preserved : goal.loop-alloc-preserved
 loop-alloc-preserved c =
-    (node_laid node_value (λ g. g.items) c.loop-alloc.nodes.items c.loop-alloc.groups.items c.take_group-strings.new.groups.items
-    (texts c.args.strings.items) c.loop-alloc.invariant c.len-in-loop-alloc-2.result (omega (arith, c.len-in-loop-alloc-2.ensures))
-    (omega (arith, c.loop-alloc-test.true, c.len-in-loop-alloc-2.ensures)) c.deref.result.now c.take_group-strings.result.items
-    c.deref.ensures.value c.take_group-strings.ensures.taken c.len-in-loop-alloc-3.result (omega (arith, c.len-in-loop-alloc-3.ensures))
-    c.take_group-strings.ensures.as_many c.take_group-strings.ensures.later c.new-more.result.items c.lay.new.groups.items
-    c.new-more.ensures.items c.in_ok-node.node c.in_ok-node.ensures _ _ c.in_ok-push-2.ensures.items c.in_ok-append.ensures.items).0
+    (next_held (map node_value c.loop-alloc.nodes.items) (groups_of (λ g. g.items) c.loop-alloc.groups.items)
+    (texts c.args.strings.items) _ _ (length c.loop-alloc.nodes.items)
+    c.loop-alloc.invariant (omega (arith, length-map c.loop-alloc.nodes.items node_value))
+    (omega (arith, c.loop-alloc-test.true, group_count (λ g. g.items) c.loop-alloc.groups.items)) c.in_ok-lay_next.ensures).0
