@@ -35,6 +35,7 @@ pub mod SearchStartLemmas
 pub mod QuitLemmas
 pub mod StartCallLemmas
 pub mod StartChangeLemmas
+pub mod KeepLemmas
 pub mod LinkedLemmas
 pub mod PassEndLemmas
 pub mod CourseLemmas

@@ -4,6 +4,7 @@ use Rattle.lazy_dfa.specs.Caches.{CacheValue, IsCacheOf, HeldAt, Fits, id_at, st
 use Rattle.lazy_dfa.proofs.IsCacheLemmas.{is_cache_kept, is_cache_refused, fresh_beside, kept_held, fits_beside}
 use Rattle.lazy_dfa.proofs.ChangeLemmas.{room_refused, cleared_one, fits_is, lacks_not_fitting, lacks_not_allowed, lacks_all, needs_all}
 use Rattle.lazy_dfa.proofs.AddsLemmas.{clears_for}
+use Rattle.lazy_dfa.proofs.KeepLemmas.{keep_room, keep_counted}
 use Rattle.lazy_dfa.proofs.stepping.make_room.Goals as goal
 
 pub returns-then-fits-clause-fits : goal.returns-then-fits-clause-fits
@@ -120,3 +121,10 @@ returns-then-fits-clause-fresh c = c.requires.fresh
 
 pub returns-clause-made : goal.returns-clause-made
 returns-clause-made c = inr c.in_ok-id.ensures.ok
+
+pub clear_keeping-requires-clause-room : goal.clear_keeping-requires-clause-room
+clear_keeping-requires-clause-room c = keep_room c.args.cache.now c.requires.own.shape
+
+pub clear_keeping-requires-clause-counted : goal.clear_keeping-requires-clause-counted
+clear_keeping-requires-clause-counted c = keep_counted c.args.dfa.now c.args.cache.now c.args.k c.is_made.ensures c.requires.own
+    c.requires.row
