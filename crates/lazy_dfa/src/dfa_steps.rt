@@ -56,8 +56,10 @@ impl DFA {
     {
         let class = self.class(input);
         let is_quit = self.is_quit(input);
-        let to = step(self, cache, current, Unit::u8(input), class, is_quit, work)?;
-        Ok(to)
+        match step(self, cache, current, Unit::u8(input), class, is_quit, work) {
+            Ok(to) => Ok(to),
+            Err(e) => Err(e),
+        }
     }
 
     /// The ID of the state behind the end of the input, as `DFA::next_eoi_state`. It is as [`next_state`](DFA::next_state)
@@ -90,8 +92,10 @@ impl DFA {
         ensures inserted { work.new.inserted ≤ work.old.inserted + most_inserts self.now }
     {
         let class = self.end_class();
-        let to = step(self, cache, current, Unit::eoi(class), class, false, work)?;
-        Ok(to)
+        match step(self, cache, current, Unit::eoi(class), class, false, work) {
+            Ok(to) => Ok(to),
+            Err(e) => Err(e),
+        }
     }
 
     /// What is known of the step from an untagged ID by a byte, as `DFA::next_state_untagged`: the ID to which it leads,
