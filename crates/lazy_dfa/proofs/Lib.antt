@@ -15,6 +15,7 @@ pub mod IntervalReachLemmas
 pub mod ReadingLemmas
 pub mod FoundLemmas
 pub mod CountLemmas
+pub mod CountedLemmas
 pub mod QuitSetLemmas
 pub mod AccountingLemmas
 mod ScanRows

@@ -252,6 +252,8 @@ pub(crate) fn step<L: Ledger, M: Ledger>(
         cache.set_cell(current, class, quit);
         return Ok(quit);
     }
-    let to = fill(dfa, cache, current, unit, class, work)?;
-    Ok(to)
+    match fill(dfa, cache, current, unit, class, work) {
+        Ok(to) => Ok(to),
+        Err(e) => Err(e),
+    }
 }

@@ -8,6 +8,8 @@ use Rattle.lazy_dfa.proofs.ChangeLemmas.{grew_refl, same_grew, grew_cell, grew_s
 use Rattle.lazy_dfa.proofs.ChangeLemmas.{unknown_here, not_known, known_cell}
 use Rattle.lazy_dfa.proofs.StartChangeLemmas.{known_tags, known_quits}
 use Rattle.lazy_dfa.proofs.AddsLemmas.{same_states, step_adds_none}
+use Rattle.lazy_dfa.specs.Steps.{most_inserts}
+use Rattle.lazy_dfa.proofs.CountedLemmas.{none_counted, one_counted}
 use Rattle.lazy_dfa.proofs.stepping.step.Goals as goal
 
 -- ---- a sentinel
@@ -189,49 +191,49 @@ fill-requires-clause-unknown g c = unknown_here c.args.dfa.now c.args.cache.now 
     (row_of_held c.args.cache.now c.args.current c.requires.held (sym c.is_sentinel.ensures ∙ c.if-is_sentinel.false))
     (sym c.is_not_known.ensures ∙ c.if-not-is_not_known.false)
 
-pub returns-in_err-to-clause-loops : goal.returns-in_err-to-clause-loops
-returns-in_err-to-clause-loops g c e = absurd (true≢false (sym e ∙ (sym c.is_sentinel.ensures ∙ c.if-is_sentinel.false)))
+pub returns-in-Err-clause-loops : goal.returns-in-Err-clause-loops
+returns-in-Err-clause-loops g c e = absurd (true≢false (sym e ∙ (sym c.is_sentinel.ensures ∙ c.if-is_sentinel.false)))
 
-pub returns-in_err-to-clause-known : goal.returns-in_err-to-clause-known
-returns-in_err-to-clause-known g c plain n = absurd (not_known c.args.dfa.now c.args.cache.now c.args.current c.args.class
+pub returns-in-Err-clause-known : goal.returns-in-Err-clause-known
+returns-in-Err-clause-known g c plain n = absurd (not_known c.args.dfa.now c.args.cache.now c.args.current c.args.class
     c.cell-cell.result (unit_byte c.args.unit) c.is_made.ensures c.requires.own c.requires.unit c.requires.class c.cell-cell.ensures
     (row_of_held c.args.cache.now c.args.current c.requires.held (sym c.is_sentinel.ensures ∙ c.if-is_sentinel.false))
     (sym c.is_not_known.ensures ∙ c.if-not-is_not_known.false)
     (sym c.is_sentinel.ensures ∙ c.if-is_sentinel.false) (inr n))
 
-pub returns-in_err-to-clause-same : goal.returns-in_err-to-clause-same
-returns-in_err-to-clause-same g c k = absurd (not_known c.args.dfa.now c.args.cache.now c.args.current c.args.class c.cell-cell.result
+pub returns-in-Err-clause-same : goal.returns-in-Err-clause-same
+returns-in-Err-clause-same g c k = absurd (not_known c.args.dfa.now c.args.cache.now c.args.current c.args.class c.cell-cell.result
     (unit_byte c.args.unit) c.is_made.ensures c.requires.own c.requires.unit c.requires.class c.cell-cell.ensures
     (row_of_held c.args.cache.now c.args.current c.requires.held (sym c.is_sentinel.ensures ∙ c.if-is_sentinel.false))
     (sym c.is_not_known.ensures ∙ c.if-not-is_not_known.false)
     (sym c.is_sentinel.ensures ∙ c.if-is_sentinel.false) k)
 
-pub returns-in_err-to-clause-free : goal.returns-in_err-to-clause-free
-returns-in_err-to-clause-free g c k = absurd (not_known c.args.dfa.now c.args.cache.now c.args.current c.args.class c.cell-cell.result
+pub returns-in-Err-clause-free : goal.returns-in-Err-clause-free
+returns-in-Err-clause-free g c k = absurd (not_known c.args.dfa.now c.args.cache.now c.args.current c.args.class c.cell-cell.result
     (unit_byte c.args.unit) c.is_made.ensures c.requires.own c.requires.unit c.requires.class c.cell-cell.ensures
     (row_of_held c.args.cache.now c.args.current c.requires.held (sym c.is_sentinel.ensures ∙ c.if-is_sentinel.false))
     (sym c.is_not_known.ensures ∙ c.if-not-is_not_known.false)
     (sym c.is_sentinel.ensures ∙ c.if-is_sentinel.false) k)
 
-pub returns-clause-loops : goal.returns-clause-loops
-returns-clause-loops g c e = absurd (true≢false (sym e ∙ (sym c.is_sentinel.ensures ∙ c.if-is_sentinel.false)))
+pub returns-in-Ok-clause-loops : goal.returns-in-Ok-clause-loops
+returns-in-Ok-clause-loops g c e = absurd (true≢false (sym e ∙ (sym c.is_sentinel.ensures ∙ c.if-is_sentinel.false)))
 
-pub returns-clause-known : goal.returns-clause-known
-returns-clause-known g c plain n = absurd (not_known c.args.dfa.now c.args.cache.now c.args.current c.args.class c.cell-cell.result
+pub returns-in-Ok-clause-known : goal.returns-in-Ok-clause-known
+returns-in-Ok-clause-known g c plain n = absurd (not_known c.args.dfa.now c.args.cache.now c.args.current c.args.class c.cell-cell.result
     (unit_byte c.args.unit) c.is_made.ensures c.requires.own c.requires.unit c.requires.class c.cell-cell.ensures
     (row_of_held c.args.cache.now c.args.current c.requires.held (sym c.is_sentinel.ensures ∙ c.if-is_sentinel.false))
     (sym c.is_not_known.ensures ∙ c.if-not-is_not_known.false)
     (sym c.is_sentinel.ensures ∙ c.if-is_sentinel.false) (inr n))
 
-pub returns-clause-same : goal.returns-clause-same
-returns-clause-same g c k = absurd (not_known c.args.dfa.now c.args.cache.now c.args.current c.args.class c.cell-cell.result
+pub returns-in-Ok-clause-same : goal.returns-in-Ok-clause-same
+returns-in-Ok-clause-same g c k = absurd (not_known c.args.dfa.now c.args.cache.now c.args.current c.args.class c.cell-cell.result
     (unit_byte c.args.unit) c.is_made.ensures c.requires.own c.requires.unit c.requires.class c.cell-cell.ensures
     (row_of_held c.args.cache.now c.args.current c.requires.held (sym c.is_sentinel.ensures ∙ c.if-is_sentinel.false))
     (sym c.is_not_known.ensures ∙ c.if-not-is_not_known.false)
     (sym c.is_sentinel.ensures ∙ c.if-is_sentinel.false) k)
 
-pub returns-clause-free : goal.returns-clause-free
-returns-clause-free g c k = absurd (not_known c.args.dfa.now c.args.cache.now c.args.current c.args.class c.cell-cell.result
+pub returns-in-Ok-clause-free : goal.returns-in-Ok-clause-free
+returns-in-Ok-clause-free g c k = absurd (not_known c.args.dfa.now c.args.cache.now c.args.current c.args.class c.cell-cell.result
     (unit_byte c.args.unit) c.is_made.ensures c.requires.own c.requires.unit c.requires.class c.cell-cell.ensures
     (row_of_held c.args.cache.now c.args.current c.requires.held (sym c.is_sentinel.ensures ∙ c.if-is_sentinel.false))
     (sym c.is_not_known.ensures ∙ c.if-not-is_not_known.false)
@@ -268,17 +270,17 @@ returns-then-is_quit-clause-tag g c s h no_quit alive fresh = absurd (true≢fal
 pub returns-then-is_quit-clause-quits : goal.returns-then-is_quit-clause-quits
 returns-then-is_quit-clause-quits g c plain q = ap (λ (m : ℕ). Ok m) (c.quit-quit.ensures ∙ ap quit_id c.stride-stride.ensures.stride)
 
-pub returns-in_err-to-clause-quits : goal.returns-in_err-to-clause-quits
-returns-in_err-to-clause-quits g c plain q = absurd (true≢false (sym q ∙ (sym c.requires.quit ∙ c.if-is_quit.false)))
+pub returns-in-Err-clause-quits : goal.returns-in-Err-clause-quits
+returns-in-Err-clause-quits g c plain q = absurd (true≢false (sym q ∙ (sym c.requires.quit ∙ c.if-is_quit.false)))
 
-pub returns-in_err-to-clause-spares : goal.returns-in_err-to-clause-spares
-returns-in_err-to-clause-spares g c q = absurd (true≢false (sym q ∙ (sym c.requires.quit ∙ c.if-is_quit.false)))
+pub returns-in-Err-clause-spares : goal.returns-in-Err-clause-spares
+returns-in-Err-clause-spares g c q = absurd (true≢false (sym q ∙ (sym c.requires.quit ∙ c.if-is_quit.false)))
 
-pub returns-clause-quits : goal.returns-clause-quits
-returns-clause-quits g c plain q = absurd (true≢false (sym q ∙ (sym c.requires.quit ∙ c.if-is_quit.false)))
+pub returns-in-Ok-clause-quits : goal.returns-in-Ok-clause-quits
+returns-in-Ok-clause-quits g c plain q = absurd (true≢false (sym q ∙ (sym c.requires.quit ∙ c.if-is_quit.false)))
 
-pub returns-clause-spares : goal.returns-clause-spares
-returns-clause-spares g c q = absurd (true≢false (sym q ∙ (sym c.requires.quit ∙ c.if-is_quit.false)))
+pub returns-in-Ok-clause-spares : goal.returns-in-Ok-clause-spares
+returns-in-Ok-clause-spares g c q = absurd (true≢false (sym q ∙ (sym c.requires.quit ∙ c.if-is_quit.false)))
 
 -- ---- what is added
 
@@ -359,44 +361,80 @@ fill-requires-clause-no_quit g c = sym c.requires.quit ∙ c.if-is_quit.false
 pub fill-requires-clause-class : goal.fill-requires-clause-class
 fill-requires-clause-class g c = c.requires.class
 
-pub returns-in_err-to-clause-own : goal.returns-in_err-to-clause-own
-returns-in_err-to-clause-own g c = c.in_err-to.ensures.own
+pub returns-in-Err-clause-own : goal.returns-in-Err-clause-own
+returns-in-Err-clause-own g c = c.in-Err.ensures.own
 
-pub returns-in_err-to-clause-kept : goal.returns-in_err-to-clause-kept
-returns-in_err-to-clause-kept g c = c.in_err-to.ensures.kept
+pub returns-in-Err-clause-kept : goal.returns-in-Err-clause-kept
+returns-in-Err-clause-kept g c = c.in-Err.ensures.kept
 
-pub returns-in_err-to-clause-cause : goal.returns-in_err-to-clause-cause
-returns-in_err-to-clause-cause g c = c.in_err-to.ensures.cause
+pub returns-in-Err-clause-cause : goal.returns-in-Err-clause-cause
+returns-in-Err-clause-cause g c = c.in-Err.ensures.cause
 
-pub returns-in_err-to-clause-adds : goal.returns-in_err-to-clause-adds
-returns-in_err-to-clause-adds g c = c.in_err-to.ensures.adds
+pub returns-in-Err-clause-adds : goal.returns-in-Err-clause-adds
+returns-in-Err-clause-adds g c = c.in-Err.ensures.adds
 
-pub returns-clause-own : goal.returns-clause-own
-returns-clause-own g c = c.in_ok-to.ensures.own
+pub returns-in-Ok-clause-own : goal.returns-in-Ok-clause-own
+returns-in-Ok-clause-own g c = c.in-Ok.ensures.own
 
-pub returns-clause-kept : goal.returns-clause-kept
-returns-clause-kept g c = c.in_ok-to.ensures.kept
+pub returns-in-Ok-clause-kept : goal.returns-in-Ok-clause-kept
+returns-in-Ok-clause-kept g c = c.in-Ok.ensures.kept
 
-pub returns-clause-cause : goal.returns-clause-cause
-returns-clause-cause g c = c.in_ok-to.ensures.cause
+pub returns-in-Ok-clause-cause : goal.returns-in-Ok-clause-cause
+returns-in-Ok-clause-cause g c = c.in-Ok.ensures.cause
 
-pub returns-clause-adds : goal.returns-clause-adds
-returns-clause-adds g c = c.in_ok-to.ensures.adds
+pub returns-in-Ok-clause-adds : goal.returns-in-Ok-clause-adds
+returns-in-Ok-clause-adds g c = c.in-Ok.ensures.adds
 
-pub returns-clause-remains : goal.returns-clause-remains
-returns-clause-remains g c = c.in_ok-to.ensures.remains
+pub returns-in-Ok-clause-remains : goal.returns-in-Ok-clause-remains
+returns-in-Ok-clause-remains g c = c.in-Ok.ensures.remains
 
-pub returns-clause-step : goal.returns-clause-step
-returns-clause-step g c = c.in_ok-to.ensures.step
+pub returns-in-Ok-clause-step : goal.returns-in-Ok-clause-step
+returns-in-Ok-clause-step g c = c.in-Ok.ensures.step
 
-pub returns-clause-noted : goal.returns-clause-noted
-returns-clause-noted g c = c.in_ok-to.ensures.noted
+pub returns-in-Ok-clause-noted : goal.returns-in-Ok-clause-noted
+returns-in-Ok-clause-noted g c = c.in-Ok.ensures.noted
 
-pub returns-clause-tag : goal.returns-clause-tag
-returns-clause-tag g c = c.in_ok-to.ensures.tag
+pub returns-in-Ok-clause-tag : goal.returns-in-Ok-clause-tag
+returns-in-Ok-clause-tag g c = c.in-Ok.ensures.tag
 
-pub returns-clause-ok : goal.returns-clause-ok
-returns-clause-ok g c = c.in_ok-to.ensures.ok
+pub returns-in-Ok-clause-ok : goal.returns-in-Ok-clause-ok
+returns-in-Ok-clause-ok g c = c.in-Ok.ensures.ok
 
-pub returns-clause-gave_up : goal.returns-clause-gave_up
-returns-clause-gave_up g c = c.in_ok-to.ensures.gave_up
+pub returns-in-Ok-clause-gave_up : goal.returns-in-Ok-clause-gave_up
+returns-in-Ok-clause-gave_up g c = c.in-Ok.ensures.gave_up
+
+pub returns-in-Err-clause-err : goal.returns-in-Err-clause-err
+returns-in-Err-clause-err g c = c.in-Err.ensures.err
+
+pub returns-in-Err-clause-gave_up : goal.returns-in-Err-clause-gave_up
+returns-in-Err-clause-gave_up g c = c.in-Err.ensures.gave_up
+
+pub returns-in-Err-clause-inserted : goal.returns-in-Err-clause-inserted
+returns-in-Err-clause-inserted g c = c.in-Err.ensures.inserted
+
+pub returns-in-Ok-clause-inserted : goal.returns-in-Ok-clause-inserted
+returns-in-Ok-clause-inserted g c = c.in-Ok.ensures.inserted
+
+pub returns-then-is_sentinel-clause-determinized : goal.returns-then-is_sentinel-clause-determinized
+returns-then-is_sentinel-clause-determinized g c = none_counted c.args.work.now.determinized 1
+
+pub returns-then-is_sentinel-clause-inserted : goal.returns-then-is_sentinel-clause-inserted
+returns-then-is_sentinel-clause-inserted g c = none_counted c.args.work.now.inserted (most_inserts c.args.dfa.now)
+
+pub returns-then-not-is_not_known-clause-determinized : goal.returns-then-not-is_not_known-clause-determinized
+returns-then-not-is_not_known-clause-determinized g c = none_counted c.args.work.now.determinized 1
+
+pub returns-then-not-is_not_known-clause-inserted : goal.returns-then-not-is_not_known-clause-inserted
+returns-then-not-is_not_known-clause-inserted g c = none_counted c.args.work.now.inserted (most_inserts c.args.dfa.now)
+
+pub returns-then-is_quit-clause-determinized : goal.returns-then-is_quit-clause-determinized
+returns-then-is_quit-clause-determinized g c = none_counted c.args.work.now.determinized 1
+
+pub returns-then-is_quit-clause-inserted : goal.returns-then-is_quit-clause-inserted
+returns-then-is_quit-clause-inserted g c = none_counted c.args.work.now.inserted (most_inserts c.args.dfa.now)
+
+pub returns-in-Ok-clause-determinized : goal.returns-in-Ok-clause-determinized
+returns-in-Ok-clause-determinized g c = one_counted c.fill.new.work.determinized c.args.work.now.determinized c.in-Ok.ensures.determinized
+
+pub returns-in-Err-clause-determinized : goal.returns-in-Err-clause-determinized
+returns-in-Err-clause-determinized g c = one_counted c.fill.new.work.determinized c.args.work.now.determinized c.in-Err.ensures.determinized

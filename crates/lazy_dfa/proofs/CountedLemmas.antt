@@ -1,0 +1,8 @@
+-- What calls count, where they count nothing and where they count one.
+use Rattle.std.proofs.Common.{◌≡◌, ℕ, ◌+◌, ◌≤◌, arith}
+
+pub none_counted : (n m : ℕ) → n ≤ n + m
+none_counted n m = omega arith
+
+pub one_counted : (n m : ℕ) → n ≡ m + 1 → n ≤ m + 1
+one_counted n m e = omega arith
