@@ -1,7 +1,7 @@
 -- That what is built of a sound NFA keeps to IsDfa.
 use Rattle.std.proofs.Common.{◌≡◌, ℕ, zero, suc, ◌+◌, ◌-◌, ◌<◌, ◌≤◌, Bool, true, false, ◌&&◌, not, ◌⊎◌, nat_lt, max, List, length, get_or}
 use Rattle.std.proofs.Common.{map, take, Option, Some, None, Ok, Err, if◌then◌else◌, replicate, inl, inr, refl, sym, ap, ◌∙◌, subst, ⊎_elim}
-use Rattle.std.proofs.Common.{arith}
+use Rattle.std.proofs.Common.{arith, Result}
 use Rattle.std.proofs.lemmas.Bool.{cases_Bool, cases_lt, lt-ltb}
 use Rattle.std.proofs.lemmas.List.{length-take, length-replicate}
 use Rattle.std.proofs.lemmas.List.FromFn.{get_or-map-range_with_len, fill_by_all}
@@ -20,6 +20,7 @@ use Rattle.nfa_core.proofs.ForCallers.{bytes_alike, all_unmarked}
 use Rattle.determinize_core.specs.Steps.{step_value}
 use Rattle.determinize_core.proofs.ForCallers.{units_step_alike}
 use Rattle.lazy_dfa.specs.Accounting.{Measures, stride_of, start_count, least_capacity, effective_capacity}
+use Rattle.lazy_dfa.specs.declared.build_error.BuildError.{BuildError}
 use Rattle.lazy_dfa.specs.declared.build_error.BuildError.TheVariants.{InsufficientCacheCapacity, Unsupported}
 use Rattle.lazy_dfa.specs.Building.{quits_of, class_in, classes_of, measures_with, dfa_of, is_too_small, built}
 use Rattle.lazy_dfa.specs.ConfigValue.{Options, kind_of, classes_on, starts_each_of, word_boundary_of, by_hand, capacity_of, skips_check}
@@ -236,3 +237,26 @@ pub capacity_is : (n : Nfa) (o : Options) (skips : Bool) (given least cap : ℕ)
     least ≡ least_capacity (measures_with n o) → cap ≡ (if skips then max least given else given) →
     cap ≡ effective_capacity (measures_with n o) (skips_check o) (capacity_of o)
 capacity_is n o skips given least cap p q r e = e ∙ (λ i. if p i then max (r i) (q i) else q i)
+
+-- ---- what a call answers, by what it was told
+
+abbrev built_by : Bool → Bool → Nfa → Options → Result Dfa BuildError
+built_by x y n o =
+    if x then Err Unsupported
+    else if y then Err (InsufficientCacheCapacity (least_capacity (measures_with n o)) (capacity_of o)) else Ok (dfa_of n o)
+
+module _ (n : Nfa) (o p : Options) (same : o ≡ p) (b : Bool)
+    (told : b ≡ is_unsupported n.automaton (word_boundary_of o) (by_hand o)) where
+  pub built_unsupported : b ≡ true → Err Unsupported ≡ built n p
+  built_unsupported t = sym (ap (built n) (sym same) ∙ ap (λ (x : Bool). built_by x (is_too_small n o) n o) (sym told ∙ t))
+
+  module _ (f : b ≡ false) (y : Bool) (small : y ≡ is_too_small n o) where
+    pub built_small : y ≡ true → (least given : ℕ) → least ≡ least_capacity (measures_with n o) → given ≡ capacity_of o →
+        Err (InsufficientCacheCapacity least given) ≡ built n p
+    built_small t least given e g =
+        (λ k. Err (InsufficientCacheCapacity (e k) (g k)))
+        ∙ sym (ap (built n) (sym same) ∙ (λ k. built_by ((sym told ∙ f) k) ((sym small ∙ t) k) n o))
+
+    pub built_well : y ≡ false → (d : Dfa) → d ≡ dfa_of n o → Ok d ≡ built n p
+    built_well t d e = ap (λ (x : Dfa). Ok x) e
+        ∙ sym (ap (built n) (sym same) ∙ (λ k. built_by ((sym told ∙ f) k) ((sym small ∙ t) k) n o))

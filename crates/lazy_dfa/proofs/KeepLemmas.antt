@@ -1,5 +1,6 @@
 -- A state that is kept beside a clear has room.
-use Rattle.std.proofs.Common.{ℕ, ◌+◌, ◌*◌, ◌<◌, ◌≤◌, length, arith, rules}
+use Rattle.std.proofs.Common.{ℕ, zero, suc, [], ◌∷◌, ◌+◌, ◌*◌, ◌<◌, ◌≤◌, List, All, IfSome, length, arith, rules}
+use Rattle.std.specs.Prelude.{slice_get}
 use Rattle.lazy_dfa.specs.Dfas.{Dfa, IsDfa, cost}
 use Rattle.lazy_dfa.specs.Ids.{tag}
 use Rattle.lazy_dfa.specs.Caches.{CacheValue, IsShaped, IsCacheOf, state_at}
@@ -10,3 +11,9 @@ keep_room v shape = omega (arith, shape.narrow)
 pub keep_counted : (d : Dfa) (v : CacheValue) (k : ℕ) → IsDfa d → IsCacheOf d v → k < length v.states →
     v.fresh + cost v.stride (state_at v k) < 0x1_0000_0000_0000_0000
 keep_counted d v k made own row = search rules
+
+-- the name at a place of a list of names below a bound
+pub some_below : (xs : List ℕ) (p n : ℕ) → All (λ q. q < n) xs → IfSome (slice_get xs p) (λ q. q < n)
+some_below [] p n below = tt
+some_below (x ∷ xs) zero n below = below 0 x (omega arith)
+some_below (x ∷ xs) (suc p) n below = some_below xs p n (λ k d l. below (suc k) d (omega (arith, l)))
