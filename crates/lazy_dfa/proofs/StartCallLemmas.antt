@@ -1,7 +1,7 @@
 -- What start calls answer, by modes.
 use Rattle.std.proofs.Common.{◌≡◌, ℕ, zero, suc, ◌+◌, ◌*◌, ◌<◌, ◌≤◌, ◌≢◌, ◌⊎◌, Bool, true, false, List, [], ◌∷◌, length, get_or, refl, sym}
-use Rattle.std.proofs.Common.{ap, ◌∙◌, subst, inl, inr, ⊎_elim, arith, Option, Some, None, true≢false}
-use Rattle.std.specs.Prelude.{slice_get, if◌then◌else◌, MatchOption}
+use Rattle.std.proofs.Common.{ap, ◌∙◌, subst, inl, inr, ⊎_elim, arith, Option, Some, None, true≢false, Result, Ok, Err}
+use Rattle.std.specs.Prelude.{slice_get, if◌then◌else◌, MatchOption, ⊤}
 use Rattle.search_types.specs.declared.anchored.Anchored.{Anchored}
 use Rattle.search_types.specs.declared.anchored.Anchored.TheVariants.{No, Yes, Pattern}
 use Rattle.determinize_core.specs.Starts.{StartValue, start_of}
@@ -160,3 +160,30 @@ module _ (d : Dfa) (c : StartValue) (n q : ℕ) (s : Start) (named : Some q ≡ 
 pub gave_up_back : (e : CacheError) → start_error_of e ≡ Cache GaveUp → e ≡ GaveUp
 gave_up_back GaveUp told = refl
 gave_up_back NoMemory told = absurd cc
+
+-- what is refused, and what isn't
+pub refusal_is : (d : Dfa) (c : StartValue) (r : Option StartError) (o : Option ℕ) (m : Anchored) (x : Option StartError) → r ≡ x →
+    r ≡ behind_refusal d o (mode_refusal d m) → o ≡ c.look_behind → m ≡ c.anchored →
+    start_refusal d c ≡ x
+refusal_is d c r o m x is e f g =
+    ap (λ (o : Option ℕ). behind_refusal d o (mode_refusal d c.anchored)) (sym f)
+    ∙ (ap (λ (m : Anchored). behind_refusal d o (mode_refusal d m)) (sym g) ∙ (sym e ∙ is))
+
+pub none_refused : (o : Option StartError) (r : Result ℕ StartError) → o ≡ None → MatchOption o ⊤ (λ e. r ≡ Err e)
+none_refused o r e = subst (λ (x : Option StartError). MatchOption x ⊤ (λ y. r ≡ Err y)) (sym e) tt
+
+pub one_refused : (o : Option StartError) (e : StartError) (r : Result ℕ StartError) → o ≡ Some e → r ≡ Err e →
+    MatchOption o ⊤ (λ y. r ≡ Err y)
+one_refused o e r f g = subst (λ (x : Option StartError). MatchOption x ⊤ (λ y. r ≡ Err y)) (sym f) g
+
+pub not_none : {X : Type 0} (o : Option X) (x : X) → o ≡ Some x → o ≡ None → ⊥
+not_none o x f g = let h : Some x ≡ None = sym f ∙ g in absurd cc
+
+pub told_gave_up : (e : CacheError) (x : StartError) (r : Result ℕ StartError) (s : Result ℕ CacheError) → x ≡ start_error_of e →
+    r ≡ Err x → s ≡ Err e → r ≡ Err (Cache GaveUp) → s ≡ Err GaveUp
+told_gave_up e x r s told f g h =
+    let there : x ≡ Cache GaveUp = cc in
+    g ∙ ap (λ (y : CacheError). Err y) (gave_up_back e (sym told ∙ there))
+
+pub told_known : (id n : ℕ) (r : Result ℕ CacheError) (t : Result ℕ StartError) → r ≡ Ok id → r ≡ Ok n → t ≡ Ok id → t ≡ Ok n
+told_known id n r t e f g = let same : id ≡ n = cc in g ∙ ap (λ (i : ℕ). Ok i) same

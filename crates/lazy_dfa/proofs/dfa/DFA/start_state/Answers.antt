@@ -1,11 +1,14 @@
-use Rattle.std.proofs.Common.{◌∙◌, ap, sym, refl, inl}
+use Rattle.std.proofs.Common.{◌∙◌, ap, sym, refl, inl, Some, None}
 use Rattle.search_types.specs.declared.anchored.Anchored.{Anchored}
 use Rattle.determinize_core.specs.Starts.{start_of}
 use Rattle.lazy_dfa.specs.Dfas.{start_in, first_state}
 use Rattle.lazy_dfa.specs.StartCalls.{mode_of}
 use Rattle.lazy_dfa.proofs.StartCallLemmas.{slot_inside, fine_of, allowed_of, known_here, start_left, start_needs, start_names, start_noted_at, start_tagged, start_fits, start_cause}
+use Rattle.lazy_dfa.proofs.StartCallLemmas.{refusal_is, none_refused, one_refused, not_none, told_gave_up}
+use Rattle.lazy_dfa.proofs.CountedLemmas.{none_counted}
+use Rattle.lazy_dfa.specs.Steps.{most_inserts}
 use Rattle.lazy_dfa.proofs.ChangeLemmas.{same_grew}
-use Rattle.lazy_dfa.specs.Ids.{dead_id}
+use Rattle.lazy_dfa.specs.Ids.{dead_id, unknown_id}
 use Rattle.lazy_dfa.proofs.AddsLemmas.{start_adds}
 use Rattle.lazy_dfa.proofs.dfa.DFA.start_state.Goals as goal
 use Rattle.lazy_dfa.proofs.LinkedLemmas.{held_named}
@@ -228,3 +231,77 @@ returns-in_default-name_of-clause-gave_up g c e = refl
 
 pub returns-in_default-name_of-clause-held : goal.returns-in_default-name_of-clause-held
 returns-in_default-name_of-clause-held g c = inl (c.dead.ensures ∙ ap dead_id c.stride-stride.ensures.stride)
+
+pub returns-in-Some-clause-refused : goal.returns-in-Some-clause-refused
+returns-in-Some-clause-refused g c = one_refused _ c.in-Some.e _ (refusal_is c.args.self.now c.args.config.now c.check_start.result c.get_look_behind-look_behind.result
+    c.get_anchored.result (Some c.in-Some.e) c.in-Some.is c.check_start.ensures
+    c.get_look_behind-look_behind.ensures c.get_anchored.ensures) refl
+
+pub returns-in-Some-clause-err : goal.returns-in-Some-clause-err
+returns-in-Some-clause-err g c none = absurd (not_none _ c.in-Some.e (refusal_is c.args.self.now c.args.config.now c.check_start.result c.get_look_behind-look_behind.result
+    c.get_anchored.result (Some c.in-Some.e) c.in-Some.is c.check_start.ensures
+    c.get_look_behind-look_behind.ensures c.get_anchored.ensures) none)
+
+pub returns-in-Some-clause-known : goal.returns-in-Some-clause-known
+returns-in-Some-clause-known g c none q e k = absurd (not_none _ c.in-Some.e (refusal_is c.args.self.now c.args.config.now c.check_start.result c.get_look_behind-look_behind.result
+    c.get_anchored.result (Some c.in-Some.e) c.in-Some.is c.check_start.ensures
+    c.get_look_behind-look_behind.ensures c.get_anchored.ensures) none)
+
+pub returns-in-Some-clause-none : goal.returns-in-Some-clause-none
+returns-in-Some-clause-none g c none e = absurd (not_none _ c.in-Some.e (refusal_is c.args.self.now c.args.config.now c.check_start.result c.get_look_behind-look_behind.result
+    c.get_anchored.result (Some c.in-Some.e) c.in-Some.is c.check_start.ensures
+    c.get_look_behind-look_behind.ensures c.get_anchored.ensures) none)
+
+pub returns-in-Some-clause-determinized : goal.returns-in-Some-clause-determinized
+returns-in-Some-clause-determinized g c = none_counted c.args.work.now.determinized 1
+
+pub returns-in-Some-clause-inserted : goal.returns-in-Some-clause-inserted
+returns-in-Some-clause-inserted g c = none_counted c.args.work.now.inserted (most_inserts c.args.self.now)
+
+pub returns-in_default-name_of-clause-determinized : goal.returns-in_default-name_of-clause-determinized
+returns-in_default-name_of-clause-determinized g c = none_counted c.args.work.now.determinized 1
+
+pub returns-in_default-name_of-clause-inserted : goal.returns-in_default-name_of-clause-inserted
+returns-in_default-name_of-clause-inserted g c = none_counted c.args.work.now.inserted (most_inserts c.args.self.now)
+
+pub returns-in_default-name_of-clause-refused : goal.returns-in_default-name_of-clause-refused
+returns-in_default-name_of-clause-refused g c = none_refused _ _ (refusal_is c.args.self.now c.args.config.now c.check_start.result c.get_look_behind-look_behind.result
+    c.get_anchored.result None c.in_default.is c.check_start.ensures
+    c.get_look_behind-look_behind.ensures c.get_anchored.ensures)
+
+pub returns-in-Ok-clause-refused : goal.returns-in-Ok-clause-refused
+returns-in-Ok-clause-refused g c = none_refused _ _ (refusal_is c.args.self.now c.args.config.now c.check_start.result c.get_look_behind-look_behind.result
+    c.get_anchored.result None c.in_default.is c.check_start.ensures
+    c.get_look_behind-look_behind.ensures c.get_anchored.ensures)
+
+pub returns-in-Err-clause-refused : goal.returns-in-Err-clause-refused
+returns-in-Err-clause-refused g c = none_refused _ _ (refusal_is c.args.self.now c.args.config.now c.check_start.result c.get_look_behind-look_behind.result
+    c.get_anchored.result None c.in_default.is c.check_start.ensures
+    c.get_look_behind-look_behind.ensures c.get_anchored.ensures)
+
+pub returns-in-Ok-clause-none : goal.returns-in-Ok-clause-none
+returns-in-Ok-clause-none g c none e = absurd (not_none _ c.in-Some-name_of.name (sym (c.in-Some-name_of.ensures.name ∙ ap (λ (m : Anchored). start_in c.args.self.now (mode_of m)) c.get_anchored-2.ensures)) e)
+
+pub returns-in-Err-clause-none : goal.returns-in-Err-clause-none
+returns-in-Err-clause-none g c none e = absurd (not_none _ c.in-Some-name_of.name (sym (c.in-Some-name_of.ensures.name ∙ ap (λ (m : Anchored). start_in c.args.self.now (mode_of m)) c.get_anchored-2.ensures)) e)
+
+pub returns-in-Err-clause-known : goal.returns-in-Err-clause-known
+returns-in-Err-clause-known g c none q e k = absurd (k (start_noted_at c.args.self.now c.args.config.now c.mode_number-number.result c.in-Some-name_of.name
+    c.start_behind-start.result
+    (c.in-Some-name_of.ensures.name ∙ ap (λ (m : Anchored). start_in c.args.self.now (mode_of m)) c.get_anchored-2.ensures)
+    (c.mode_number-number.ensures.value ∙ ap mode_of c.get_anchored-3.ensures)
+    (c.start_behind-start.ensures ∙ ap (start_of c.args.self.now.nfa.terminator) c.get_look_behind-look_behind.ensures)
+    c.args.cache.now unknown_id c.in-Err.ensures.unknown))
+
+pub returns-in-Err-clause-gave_up : goal.returns-in-Err-clause-gave_up
+returns-in-Err-clause-gave_up g c e = c.in-Err.ensures.gave_up (told_gave_up c.in-Err.e c.start_error-told.result _ _ c.start_error-told.ensures
+    refl refl e)
+
+pub returns-in_default-name_of-clause-noted : goal.returns-in_default-name_of-clause-noted
+returns-in_default-name_of-clause-noted g c q e = absurd (not_none _ q e (sym (c.in_default-name_of.ensures.name ∙ ap (λ (m : Anchored). start_in c.args.self.now (mode_of m)) c.get_anchored-2.ensures)))
+
+pub returns-in_default-name_of-clause-tag : goal.returns-in_default-name_of-clause-tag
+returns-in_default-name_of-clause-tag g c q e = absurd (not_none _ q e (sym (c.in_default-name_of.ensures.name ∙ ap (λ (m : Anchored). start_in c.args.self.now (mode_of m)) c.get_anchored-2.ensures)))
+
+pub returns-in_default-name_of-clause-known : goal.returns-in_default-name_of-clause-known
+returns-in_default-name_of-clause-known g c none q e k = absurd (not_none _ q e (sym (c.in_default-name_of.ensures.name ∙ ap (λ (m : Anchored). start_in c.args.self.now (mode_of m)) c.get_anchored-2.ensures)))
