@@ -37,9 +37,9 @@ impl Cache {
         requires names { names ≤ greatest_index + 1 }
         ensures { IfOk result (λ c. c ≡ empty_cache stride fresh starts names classes.now) }
     {
-        let workspace = Workspace::new(alloc, names)?;
         let cells = sentinel_rows(alloc, stride)?;
         let starts = vec![in alloc; LazyStateID::unknown(); starts]?;
+        let workspace = Workspace::new(alloc, names)?;
         Ok(Cache {
             states: Vec::new(alloc),
             ids: Vec::new(alloc),
