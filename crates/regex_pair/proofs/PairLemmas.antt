@@ -6,7 +6,7 @@ use Rattle.search_types.specs.declared.match_error.MatchErrorKind.{MatchErrorKin
 use Rattle.search_types.specs.declared.match_error.MatchErrorKind.TheVariants.{NoMemory, NotAPair}
 use Rattle.search_types.specs.Found.{Found, HalfFound}
 use Rattle.search_types.specs.Inputs.{Search}
-use Rattle.lazy_dfa.specs.Caches.{CacheValue, greatest}
+use Rattle.lazy_dfa.specs.Caches.{CacheValue, IsCacheOf, greatest}
 use Rattle.lazy_dfa.specs.Dfas.{Dfa, reader}
 use Rattle.lazy_dfa.specs.Linked.{IsLinked, GrowsOrClears, IsMoved, passes_of}
 use Rattle.lazy_dfa.specs.Readers.{Reader, HalfAnswer, found, quit, unsupported}
@@ -18,7 +18,7 @@ use Rattle.regex_pair.specs.Joined.{is_start_known, back_from, from_start, with_
 use Rattle.regex_pair.specs.MadeSearches.{MakesHalf, MakesBack, MakesPair}
 use Rattle.regex_pair.specs.PairAnswers.{GoesBack, gives_up_forward, gives_up_back, AnswersPair, IsBackLinked, half_made, back_made_by}
 use Rattle.regex_pair.specs.PairAnswers.{back_made}
-use Rattle.regex_pair.specs.Pairs.{Pair, PairCache}
+use Rattle.regex_pair.specs.Pairs.{Pair, PairCache, AreCachesOf}
 use Rattle.regex_pair.specs.PairTold.{TellsHalf, TellsPair, tells_refusal, tells_end, tells_start, with_half}
 use Rattle.regex_pair.proofs.AnswerLemmas.{answer, error, pair, ok_is_no_error, some_is_not_none, some_is_found, ok_is_told, finds_in_span}
 
@@ -332,3 +332,14 @@ module _ (p : Pair) (q : Search) (f g r : CacheValue) (old : PairCache) (m1 m2 n
       (Ok None)
   finds_none o ok none = ends_so (answer None) (Ok None) (ok ∙ ap answer none) refl
       (λ told_so e there. some_is_not_none (record { pattern = e.1; offset = e.0 }) ⊥ (sym (told_so ∙ ap told there.found)))
+
+-- of caches that are taken apart each is one of its automaton
+module _ (p : Pair) (f r : CacheValue) (w : PairCache) (is : record { forward = f; reverse = r } ≡ w) (own : AreCachesOf p w) where
+  pub own_inside : AreCachesOf p (record { forward = f; reverse = r })
+  own_inside = subst (AreCachesOf p) (sym is) own
+
+  pub own_forward : IsCacheOf p.forward f
+  own_forward = own_inside.forward
+
+  pub own_reverse : IsCacheOf p.reverse r
+  own_reverse = own_inside.reverse

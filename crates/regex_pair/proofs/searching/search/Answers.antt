@@ -1,4 +1,4 @@
-use Rattle.regex_pair.proofs.PairLemmas.{lies, lies_behind, starts_there, goes_back, fails, finds_none}
+use Rattle.regex_pair.proofs.PairLemmas.{own_forward, own_reverse, lies, lies_behind, starts_there, goes_back, fails, finds_none}
 use Rattle.regex_pair.proofs.searching.search.Goals as goal
 
 pub returns-in-Err-clause-search : goal.returns-in-Err-clause-search
@@ -50,3 +50,21 @@ returns-clause-search g c = goes_back c.args.re.now c.args.input.now c.cache.ins
     c.search_back.new.work.inserted c.is_start_known.result c.offset.result c.search_back.result c.cache.view_is c.is_start_known.ensures
     c.if-is_start_known.false
     c.offset.ensures c.search_back.ensures.search
+
+pub search_end-requires : goal.search_end-requires
+search_end-requires g c = record { own = own_forward c.args.re.now c.cache.inside.forward c.cache.inside.reverse c.args.cache.now c.cache.view_is c.requires.own }
+
+pub search_back-requires-clause-own : goal.search_back-requires-clause-own
+search_back-requires-clause-own g c = own_reverse c.args.re.now c.cache.inside.forward c.cache.inside.reverse c.args.cache.now c.cache.view_is c.requires.own
+
+pub returns-in-Err-clause-own : goal.returns-in-Err-clause-own
+returns-in-Err-clause-own g c = record { forward = c.search_end.ensures.own; reverse = own_reverse c.args.re.now c.cache.inside.forward c.cache.inside.reverse c.args.cache.now c.cache.view_is c.requires.own }
+
+pub returns-in_default-clause-own : goal.returns-in_default-clause-own
+returns-in_default-clause-own g c = record { forward = c.search_end.ensures.own; reverse = own_reverse c.args.re.now c.cache.inside.forward c.cache.inside.reverse c.args.cache.now c.cache.view_is c.requires.own }
+
+pub returns-then-is_start_known-clause-own : goal.returns-then-is_start_known-clause-own
+returns-then-is_start_known-clause-own g c = record { forward = c.search_end.ensures.own; reverse = own_reverse c.args.re.now c.cache.inside.forward c.cache.inside.reverse c.args.cache.now c.cache.view_is c.requires.own }
+
+pub returns-clause-own : goal.returns-clause-own
+returns-clause-own g c = record { forward = c.search_end.ensures.own; reverse = c.search_back.ensures.own }
