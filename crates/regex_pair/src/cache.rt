@@ -8,6 +8,7 @@ use crate::regex::Regex;
 use lazy_dfa::dfa;
 use std::alloc::{AllocError, Global};
 use std::marker::Model;
+use std::mem;
 
 /// The caches of both automata of a regex, as `regex_automata::hybrid::regex::Cache`. They are of use with the regex for which
 /// they were made, or to which they were [`reset`](Cache::reset), alone.
@@ -49,7 +50,8 @@ impl Cache {
         ensures err { OnErr result (self.new ≡ self.old) }
     {
         let made = Cache::new(self.alloc, re)?;
-        *self = made;
+        let old = mem::replace(self, made);
+        drop(old);
         Ok(())
     }
 
