@@ -323,12 +323,12 @@ fn pattern_line(args: &[&[u8]], state: &mut HeadState) -> Result<(), LineFault>
     ensures ok { OnOk result (IsDone Pattern (texts args.now) (head_value state.old) (head_value state.new)) }
     ensures err { IfErr result (λ e. TellsLineFault (left_fault Pattern (texts args.now) (head_value state.old)) e) }
 {
-    let Some(tree) = state.stack.pop() else {
-        return Err(LineFault::Is(FaultKind::NotOneTree));
-    };
-    if state.stack.len() != 0 {
+    if state.stack.len() != 1 {
         return Err(LineFault::Is(FaultKind::NotOneTree));
     }
+    let Some(tree) = state.stack.pop() else {
+        unreachable!()
+    };
     state.patterns.push(tree).map_err(|_| LineFault::NoMemory)
 }
 
@@ -504,13 +504,32 @@ fn follow(
     let Ok(first) = args.at_most(alloc, MORE_THAN_MAY_FOLLOW) else {
         return Err(LineFault::NoMemory);
     };
+    let told = follow_words(alloc, word, &first, args, state);
+    drop(first);
+    told
+}
+
+/// The same of a line that may stand there, of which the first words behind this one are at hand.
+fn follow_words(
+    alloc: Global,
+    word: LineWord,
+    first: &[&[u8]],
+    args: WordsLeft,
+    state: &mut HeadState,
+) -> Result<Step, LineFault>
+    requires allowed { is_setting_after_node word (head_value state.old) ≡ false }
+    requires first { texts first.now ≡ take 4 (words_left args) }
+    ensures ok { IfOk result (λ step. (known_fault word (words_left args.entry) (head_value state.old) ≡ None)
+        × (head_value state.new ≡ after word (words_left args.entry) (head_value state.old)) × (step ≡ step_after word)) }
+    ensures err { IfErr result (λ e. TellsLineFault (known_fault word (words_left args.entry) (head_value state.old)) e) }
+{
     if !is_word_count(word, first.len()) {
         return Err(LineFault::Is(FaultKind::WrongWordCount));
     }
     if is_class(word) {
         return follow_class(alloc, word, args, state);
     }
-    follow_counted(alloc, word, &first, state)
+    follow_counted(alloc, word, first, state)
 }
 
 /// Follows a line, given without its line feed.

@@ -1,28 +1,15 @@
-use Rattle.std.proofs.Common.{◌≡◌, length, rules, sym, ◌∙◌, ap}
-use Rattle.hirscan.specs.LineFault.{is_word_count}
-use Rattle.hirscan.specs.Tells.{words_left, head_value}
-use Rattle.hirscan.proofs.StageLemmas.{known_fault_count, fault_of_first, done_by_first}
+use Rattle.std.proofs.Common.{sym, ◌∙◌, ap}
+use Rattle.hirscan.specs.Tells.{texts}
 use Rattle.hirscan.proofs.line.follow.Goals as goal
 
-pub returns-then-not-is_word_count-clause-err : goal.returns-then-not-is_word_count-clause-err
-returns-then-not-is_word_count-clause-err c =
-    let len : c.len.result ≡ length c.in-Ok.first.items = search rules in
-    known_fault_count c.args.word c.in-Ok.first.items (words_left c.args.args) c.in-Ok.ensures (head_value c.args.state.now)
-    (sym c.is_setting_after_node.ensures ∙ c.if-is_setting_after_node.false)
-    (ap (is_word_count c.args.word) (sym len) ∙ (sym c.is_word_count.ensures ∙ c.if-not-is_word_count.true))
+pub follow_words-told-requires-clause-allowed : goal.follow_words-told-requires-clause-allowed
+follow_words-told-requires-clause-allowed c = sym c.is_setting_after_node.ensures ∙ c.if-is_setting_after_node.false
+
+pub follow_words-told-requires-clause-first : goal.follow_words-told-requires-clause-first
+follow_words-told-requires-clause-first c = ap texts c.deref.ensures.value ∙ c.in-Ok.ensures
 
 pub returns-clause-ok : goal.returns-clause-ok
-returns-clause-ok c =
-    let len : c.len.result ≡ length c.in-Ok.first.items = search rules in
-    done_by_first c.args.word c.in-Ok.first.items (words_left c.args.args) c.in-Ok.ensures c.follow_counted.result c.deref.result.now
-    (search rules) (head_value c.args.state.now) (sym c.is_setting_after_node.ensures ∙ c.if-is_setting_after_node.false)
-    (ap (is_word_count c.args.word) (sym len) ∙ (sym c.is_word_count.ensures ∙ c.if-not-is_word_count.false))
-    (sym c.is_class.ensures ∙ c.if-is_class.false) _ c.follow_counted.ensures.ok
+returns-clause-ok c = c.follow_words-told.ensures.ok
 
 pub returns-clause-err : goal.returns-clause-err
-returns-clause-err c =
-    let len : c.len.result ≡ length c.in-Ok.first.items = search rules in
-    fault_of_first c.args.word c.in-Ok.first.items (words_left c.args.args) c.in-Ok.ensures c.follow_counted.result c.deref.result.now
-    (search rules) (head_value c.args.state.now) (sym c.is_setting_after_node.ensures ∙ c.if-is_setting_after_node.false)
-    (ap (is_word_count c.args.word) (sym len) ∙ (sym c.is_word_count.ensures ∙ c.if-not-is_word_count.false))
-    (sym c.is_class.ensures ∙ c.if-is_class.false) c.follow_counted.ensures.err
+returns-clause-err c = c.follow_words-told.ensures.err
