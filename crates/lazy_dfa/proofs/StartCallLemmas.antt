@@ -150,11 +150,14 @@ module _ (d : Dfa) (c : StartValue) (n q : ℕ) (s : Start) (named : Some q ≡ 
   pub start_cause : (old : CacheValue) (e : CacheError) (x : StartError) → x ≡ start_error_of e →
       get_or old.starts (slot n s) 0 ≡ unknown_id → IsCause d old (first_state d s q) e → IsStartCause d old c x
   start_cause old e x told unknown (inl f) = inl (told ∙ ap start_error_of f)
-  start_cause old e x told unknown (inr h) = inr (told ∙ ap start_error_of h.0, record {
-    unknown = ap (λ (i : ℕ). get_or old.starts i 0) (sym same_slot) ∙ unknown;
-    lacks = subst (λ (o : Option ℕ). MatchOption o ⊥ (λ r. lacks_room d old (start_first d c r) ≡ true)) named
-        (subst (λ (t : Start). lacks_room d old (first_state d t q) ≡ true) is h.1);
-  })
+  start_cause old e x told unknown (inr h) = inr (
+    told ∙ ap start_error_of h.0,
+    record {
+      unknown = ap (λ (i : ℕ). get_or old.starts i 0) (sym same_slot) ∙ unknown;
+      lacks = subst (λ (o : Option ℕ). MatchOption o ⊥ (λ r. lacks_room d old (start_first d c r) ≡ true)) named
+          (subst (λ (t : Start). lacks_room d old (first_state d t q) ≡ true) is h.1);
+    },
+  )
 
 -- a start gave up only where its state did
 pub gave_up_back : (e : CacheError) → start_error_of e ≡ Cache GaveUp → e ≡ GaveUp

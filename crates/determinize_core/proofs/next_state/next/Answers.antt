@@ -57,7 +57,7 @@ pub step_each-requires-clause-empty : goal.step_each-requires-clause-empty
 step_each-requires-clause-empty g c = c.in_ok-states_before.ensures.stack
 
 pub step_each-requires-clause-matches : goal.step_each-requires-clause-matches
-step_each-requires-clause-matches g c = 
+step_each-requires-clause-matches g c =
     ap (λ (s : StateValue). s.matches) c.write_have.ensures ∙ ap (λ (s : StateValue). s.matches) c.in_ok-builder.ensures
 
 pub some_kept-requires : goal.some_kept-requires

@@ -1,4 +1,3 @@
-
 use Rattle.determinize_core.proofs.walking.step_on.Goals as goal
 
 pub state_behind-requires-clause-bound1 : goal.state_behind-requires-clause-bound1

@@ -1,4 +1,4 @@
-use Rattle.std.proofs.Common.{ℕ, ◌≡◌, ◌≤◌, length, ap, subst, sym, ◌∙◌}
+use Rattle.std.proofs.Common.{ℕ, ◌≤◌, ap, subst, sym, ◌∙◌}
 use Rattle.nfa_core.specs.NameSets.{Names}
 use Rattle.nfa_core.specs.States.{node_of}
 use Rattle.determinize_core.proofs.WalkingLemmas.{as_many}

@@ -1,6 +1,5 @@
-use Rattle.std.proofs.Common.{List, ap, refl, get_or, ◌++◌, ◌∙◌, length, arith}
+use Rattle.std.proofs.Common.{ap, refl, get_or, ◌++◌, ◌∙◌, length, arith}
 use Rattle.search_core.specs.Units.{unit_byte}
-use Rattle.determinize_core.specs.States.{StateValue}
 use Rattle.determinize_core.specs.Steps.{step_value}
 use Rattle.determinize_core.specs.WalkLists.{walked, units_of}
 use Rattle.determinize_core.proofs.WalkingLemmas.{walks_on, walk_ends, behind_below, behind_once, cost_on}

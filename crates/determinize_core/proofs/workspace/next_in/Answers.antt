@@ -50,7 +50,7 @@ pub returns-clause-value : goal.returns-clause-value
 returns-clause-value g c = c.in_ok-behind.ensures ∙ c.in_ok-built.ensures.value
 
 pub returns-clause-stepped : goal.returns-clause-stepped
-returns-clause-stepped g c = 
+returns-clause-stepped g c =
     subst (λ (v : StateValue). IsStepped c.args.nfa.now.automaton v) (sym (c.in_ok-behind.ensures ∙ c.in_ok-built.ensures.value))
     (c.starts_and_steps_are_stepped.ensures.step c.args.nfa.now.automaton c.args.nfa.now.terminator c.args.kind c.args.state.now
     (unit_byte c.args.unit) c.is_sound.ensures)
