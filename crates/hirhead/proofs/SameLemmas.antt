@@ -1,5 +1,5 @@
 -- The tree that is told means what the tree means, and prefers the same ends.
-use Rattle.std.proofs.Common.{◌≡◌, ◌↔◌, ℕ, ◌+◌, ◌<◌, ◌≤◌, Bool, true, false, ◌&&◌, cond, IsTrue, List, [], ◌∷◌, ◌++◌, map, length, take, drop, slice_get}
+use Rattle.std.proofs.Common.{◌≡◌, ◌↔◌, ℕ, zero, suc, ◌+◌, ◌<◌, ◌≤◌, Bool, true, false, ◌&&◌, cond, IsTrue, List, [], ◌∷◌, ◌++◌, map, length, take, drop, slice_get}
 use Rattle.std.proofs.Common.{Option, Some, None, All, IsSomeAnd, chars, refl, sym, ◌∙◌, ap, ap₂, subst, arith, add-zero}
 use Rattle.std.specs.List.{list_all, flat_map}
 use Rattle.std.proofs.lemmas.Bool.{and_parts, and_from}
@@ -149,10 +149,12 @@ module _ (byte_members : (items : List (ℕ × ℕ)) (b : ℕ) → b < 256 → i
   told_ends looks h bytes (capture index name x) = told_ends looks h bytes x
   told_ends looks h bytes nothing = refl
   told_ends looks h bytes (cat x y) =
-      ap₂ (λ (f g : Ends) (i : ℕ). flat_map g (f i)) (told_ends looks h bytes x) (told_ends looks h bytes y)
+      let one_behind : Ends → Ends → Ends = λ f g i. flat_map g (f i) in
+      ap₂ one_behind (told_ends looks h bytes x) (told_ends looks h bytes y)
   told_ends looks h bytes never = refl
   told_ends looks h bytes (alt x y) =
-      ap₂ (λ (f g : Ends) (i : ℕ). f i ++ g i) (told_ends looks h bytes x) (told_ends looks h bytes y)
+      let either : Ends → Ends → Ends = λ f g i. f i ++ g i in
+      ap₂ either (told_ends looks h bytes x) (told_ends looks h bytes y)
 
   pub ends_stay : (re : Re) (x : Tree) → HasLines 0 x → SameEnds re x → SameEnds re (told x)
   ends_stay re x has same = record {

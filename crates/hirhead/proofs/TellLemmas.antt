@@ -1,4 +1,5 @@
 -- What is printed of a tree's parts is what is printed of the tree, and where a part is refused the tree is.
+pub use Rattle.std.proofs.lemmas.Fmt.{hex_byte}
 use Rattle.std.proofs.Common.{◌≡◌, ◌≢◌, ℕ, zero, suc, ◌+◌, ◌-◌, ◌^◌, ◌<◌, ◌≤◌, ◌==◌, min, max, Bool, true, false, ◌&&◌, nat_le, IsTrue, List, [], ◌∷◌, ◌++◌}
 use Rattle.std.proofs.Common.{map, length, drop, get_or, All, Option, Some, None, slice_get, decimal, codes, refl, sym, ◌∙◌, ap, subst, arith}
 use Rattle.std.proofs.Common.{append_assoc, append-nil, drop-cons, drop_of_length-le}
@@ -59,7 +60,7 @@ next_item item ranges i r now new whole below is e so_far =
 pub last_item : (item : ℕ × ℕ → List ℕ) (ranges : List (ℕ × ℕ)) (i : ℕ) (now new whole : List ℕ) → length ranges ≤ i
     → new ≡ now ++ 10 ∷ [] → now ++ behind_word (map item (drop i ranges)) ≡ whole → new ≡ whole
 last_item item ranges i now new whole above e so_far =
-    e ∙ sym (ap (λ (rs : List (ℕ × ℕ)). now ++ behind_word (map item rs)) (drop_of_length-le i ranges above)) ∙ so_far
+    e ∙ sym (ap (λ (rs : List (ℕ × ℕ)). now ++ behind_word (map item rs)) (drop_of_length-le ranges above)) ∙ so_far
 
 pub bytes_text : (ranges : List (ℕ × ℕ)) (old mid new : List ℕ) → length ranges ≢ 0 → mid ≡ old ++ codes "bytes"
     → new ≡ mid ++ behind_word (map byte_item ranges) → new ≡ old ++ lines_text (lines_of (byte_class ranges))
@@ -145,7 +146,7 @@ next_part xs i x now new whole below is e so_far =
 
 pub all_parts : (xs : List Tree) (i : ℕ) (now whole : List ℕ) → length xs ≤ i → now ++ lines_text (flat_map lines_of (drop i xs)) ≡ whole → now ≡ whole
 all_parts xs i now whole above so_far =
-    sym (append-nil now) ∙ sym (ap (λ (ys : List Tree). now ++ lines_text (flat_map lines_of ys)) (drop_of_length-le i xs above)) ∙ so_far
+    sym (append-nil now) ∙ sym (ap (λ (ys : List Tree). now ++ lines_text (flat_map lines_of ys)) (drop_of_length-le xs above)) ∙ so_far
 
 -- one pattern more
 pub next_pattern : (xs : List Tree) (i : ℕ) (x : Tree) (now new whole : List ℕ) → i < length xs → x ≡ get_or xs i x
@@ -164,7 +165,7 @@ next_pattern xs i x now new whole below is e so_far =
 
 pub all_patterns : (xs : List Tree) (i : ℕ) (now whole : List ℕ) → length xs ≤ i → now ++ lines_text (pattern_lines (drop i xs)) ≡ whole → now ≡ whole
 all_patterns xs i now whole above so_far =
-    sym (append-nil now) ∙ sym (ap (λ (ys : List Tree). now ++ lines_text (pattern_lines ys)) (drop_of_length-le i xs above)) ∙ so_far
+    sym (append-nil now) ∙ sym (ap (λ (ys : List Tree). now ++ lines_text (pattern_lines ys)) (drop_of_length-le xs above)) ∙ so_far
 
 -- ---- ranges that ascend
 
@@ -272,7 +273,7 @@ next_fits levels xs i x below is fits so_far rest =
     so_far (subst (AllFit levels) (sym cut) (fits, rest))
 
 pub all_fit : (levels : ℕ) (xs : List Tree) (i : ℕ) → length xs ≤ i → (AllFit levels (drop i xs) → AllFit levels xs) → AllFit levels xs
-all_fit levels xs i above so_far = so_far (subst (AllFit levels) (sym (drop_of_length-le i xs above)) tt)
+all_fit levels xs i above so_far = so_far (subst (AllFit levels) (sym (drop_of_length-le xs above)) tt)
 
 -- ---- trees that are refused
 

@@ -3,4 +3,3 @@ pub mod Lines
 pub mod HasLines
 pub mod Heads
 pub mod How
-pub mod Pointed

@@ -96,7 +96,7 @@ fn see_byte_ranges(ranges: &[(u8, u8)])
     ensures { All (λ r. r.1 < 256) ranges.now }
 {}
 
-#[tactic(auto, using(Rattle.std.proofs.lemmas.Fmt.hex_byte))]
+#[tactic(auto, using(crate::proofs::TellLemmas::hex_byte))]
 fn push_byte_item(text: &mut String, start: u8, end: u8) -> Result<(), AllocError>
     ensures { OnOk result (string_bytes text.new ≡ string_bytes text.old ++ 32 ∷ byte_item (start, end)) }
 {
@@ -257,8 +257,8 @@ fn tell(alloc: Global, text: &mut String, x: &Hir, levels: u8) -> Result<(), Unf
             tell_rounds(text, *min, *max, *greedy)?;
             Ok(())
         }
-        HirKind::Capture { sub, .. } => {
-            tell(alloc, text, sub, levels)?;
+        HirKind::Capture { sub: body, .. } => {
+            tell(alloc, text, body, levels)?;
             Ok(())
         }
         HirKind::Concat(subs) => {
