@@ -3,11 +3,10 @@ use Rattle.std.proofs.Common.{◌≡◌, ℕ, ◌+◌, Bool, true, false, List, 
 use Rattle.std.proofs.Common.{append_assoc, append-nil, length-append}
 use Rattle.std.proofs.lemmas.List.Concat.{flat_map-append}
 use Rattle.hir_core.specs.Tree.{Tree}
-use Rattle.hirscan.specs.declared.line.Setup.{Setup}
 use Rattle.hirscan.specs.Words.{IsHex}
 use Rattle.hirscan.specs.Readers.{IsReader, hex_bytes}
 use Rattle.hirscan.specs.Reads.{Reads}
-use Rattle.hirscan.specs.Takes.{HeadValue, at_first, with_utf8, utf8_line, pattern_line}
+use Rattle.hirscan.specs.Takes.{HeadValue, at_first, utf8_line, pattern_line}
 use Rattle.hirhead.specs.Told.{told}
 use Rattle.hirhead.specs.Lines.{Line, lines_of, pattern_lines, setting_lines, head_lines, line_text, lines_text, head_text}
 use Rattle.hirhead.specs.HasLines.{AllFit}
@@ -19,10 +18,10 @@ use Rattle.hirhead.proofs.TreeLineLemmas.{state, tree_taken}
 abbrev find_line : Line
 find_line = codes "find" ∷ []
 
-setting_taken : (utf8 : Bool) → AreTaken (setting_lines utf8) at_first (state (with_utf8 utf8 at_first.setup) [] [])
+setting_taken : (utf8 : Bool) → AreTaken (setting_lines utf8) at_first (state (read_of utf8 []) [] [])
 setting_taken true = refl
 setting_taken false = (
-  state (with_utf8 false at_first.setup) [] [],
+  state (read_of false []) [] [],
   refl,
   refl,
   utf8_line (codes "off") false refl refl
@@ -30,7 +29,7 @@ setting_taken false = (
   refl,
 )
 
-module _ (reads : IsReader hex_bytes IsHex) (s : Setup) where
+module _ (reads : IsReader hex_bytes IsHex) (s : HeadValue) where
   patterns_taken : (xs done : List Tree) → AllFit 250 xs → AreTaken (pattern_lines xs) (state s done []) (state s (done ++ map told xs) [])
   patterns_taken [] done h = ap (λ (d : List Tree). state s d []) (sym (append-nil done))
   patterns_taken (x ∷ xs) done h =
@@ -59,8 +58,8 @@ head_reads reads utf8 xs fits haystack =
     let last = line_text find_line in
     let end = read_of utf8 xs in
     let taken : AreTaken (a ++ p) at_first end =
-        taken_append a p at_first (state (with_utf8 utf8 at_first.setup) [] []) end (setting_taken utf8)
-        (patterns_taken reads (with_utf8 utf8 at_first.setup) xs [] fits) in
+        taken_append a p at_first (state (read_of utf8 []) [] []) end (setting_taken utf8)
+        (patterns_taken reads (read_of utf8 []) xs [] fits) in
     let read = reads_all (a ++ p) (last ++ haystack) at_first end end (length last) taken (reads_end haystack end refl) in
     let e = head_parts a p in
     let text : lines_text (a ++ p) ++ (last ++ haystack) ≡ head_text utf8 xs ++ haystack =

@@ -6,7 +6,6 @@ use Rattle.hex.specs.Hex.{encode_lower}
 use Rattle.look_core.specs.declared.look.Look.{Look}
 use Rattle.hir_core.specs.Tree.{Tree, empty, literal, byte_class, char_class, look, repetition, capture, nothing, cat, never, alt, concat, alternation}
 use Rattle.hir_core.specs.Facts.{height, capped}
-use Rattle.hirscan.specs.declared.line.Setup.{Setup}
 use Rattle.hirscan.specs.Words.{IsHex, look_name, class_ranges, scalar_ranges}
 use Rattle.hirscan.specs.Readers.{IsReader, hex_bytes}
 use Rattle.hirscan.specs.Takes.{HeadValue, Replaces, Takes, empty_line, lit_line, bytes_line, chars_line, look_line, rep_line, cat_line, alt_line}
@@ -18,8 +17,9 @@ use Rattle.hirhead.proofs.DigitLemmas.{decimal_plain, bound_plain, bound_is, ord
 use Rattle.hirhead.proofs.DigitLemmas.{byte_items_are, scalar_items_plain, scalar_items_are}
 use Rattle.hirhead.proofs.TakenLemmas.{AreTaken, taken_line, taken_append}
 
-abbrev pub state : Setup → List Tree → List Tree → HeadValue
-state s done stack = record { setup = s; stack = stack; patterns = done }
+-- with the setup of s
+abbrev pub state : HeadValue → List Tree → List Tree → HeadValue
+state s done stack = record { setup = s.setup; stack = stack; patterns = done }
 
 -- ---- parts that stand before the rest of a concatenation or alternation
 
@@ -87,7 +87,7 @@ no_parts : (P : List Tree → Type 0) (parts : List Tree) (n : ℕ) → length p
 no_parts P [] n e z h = h
 no_parts P (p ∷ parts) n e z h = absurd (omega (arith, e, z))
 
-module _ (reads : IsReader hex_bytes IsHex) (s : Setup) (done : List Tree) where
+module _ (reads : IsReader hex_bytes IsHex) (s : HeadValue) (done : List Tree) where
   abbrev at_stack : List Tree → HeadValue
   at_stack stack = state s done stack
 
