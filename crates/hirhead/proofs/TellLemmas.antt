@@ -2,11 +2,11 @@
 pub use Rattle.std.proofs.lemmas.Fmt.{hex_byte}
 use Rattle.std.proofs.Common.{◌≡◌, ◌≢◌, ℕ, zero, suc, ◌+◌, ◌-◌, ◌^◌, ◌<◌, ◌≤◌, ◌==◌, min, max, Bool, true, false, ◌&&◌, nat_le, IsTrue, List, [], ◌∷◌, ◌++◌}
 use Rattle.std.proofs.Common.{map, length, drop, get_or, All, Option, Some, None, slice_get, decimal, codes, refl, sym, ◌∙◌, ap, subst, arith}
-use Rattle.std.proofs.Common.{append_assoc, append-nil, drop-cons, drop_of_length-le}
+use Rattle.std.proofs.Common.{Result, Ok, Err, IsErrAnd, IfErr, append_assoc, append-nil, drop-cons, drop_of_length-le, take, take_all}
 use Rattle.std.specs.List.{flat_map}
 use Rattle.std.proofs.lemmas.Bool.{and_parts, leb-true}
 use Rattle.std.proofs.lemmas.List.Concat.{flat_map-append}
-use Rattle.std.proofs.lemmas.List.Elements.{All-nil, All-cons, All-head, All-tail}
+use Rattle.std.proofs.lemmas.List.Elements.{All-nil, All-cons, All-head, All-tail, All-more}
 use Rattle.hex.specs.Hex.{encode_lower}
 use Rattle.hir_core.specs.Tree.{Tree, empty, literal, byte_class, char_class, look, repetition, capture, nothing, cat, never, alt, concat, alternation}
 use Rattle.hir_core.specs.Facts.{height, is_ascending, rises_from, IsWellFormed}
@@ -46,15 +46,15 @@ no_literal_text [] old new none e = one_line old new (codes "empty" ∷ []) e
 no_literal_text (b ∷ bytes) old new none e = absurd (omega (arith, none))
 
 -- items, one after the other
-pub next_item : (item : ℕ × ℕ → List ℕ) (ranges : List (ℕ × ℕ)) (i : ℕ) (r : ℕ × ℕ) (now new whole : List ℕ) → i < length ranges
-    → r ≡ get_or ranges i r → new ≡ now ++ 32 ∷ item r → now ++ behind_word (map item (drop i ranges)) ≡ whole
+pub next_item : (item : ℕ × ℕ → List ℕ) (ranges : List (ℕ × ℕ)) (i : ℕ) (d : ℕ × ℕ) (now new whole : List ℕ) → i < length ranges
+    → new ≡ now ++ 32 ∷ item (get_or ranges i d) → now ++ behind_word (map item (drop i ranges)) ≡ whole
     → new ++ behind_word (map item (drop (i + 1) ranges)) ≡ whole
-next_item item ranges i r now new whole below is e so_far =
+next_item item ranges i d now new whole below e so_far =
     let next : suc i ≡ i + 1 = omega arith in
-    let cut : drop i ranges ≡ r ∷ drop (i + 1) ranges =
-        drop-cons ranges i r below ∙ ap (λ (q : ℕ × ℕ). q ∷ drop (suc i) ranges) (sym is) ∙ ap (λ (k : ℕ). r ∷ drop k ranges) next in
+    let cut : drop i ranges ≡ get_or ranges i d ∷ drop (i + 1) ranges =
+        drop-cons ranges i d below ∙ ap (λ (k : ℕ). get_or ranges i d ∷ drop k ranges) next in
     ap (λ (t : List ℕ). t ++ behind_word (map item (drop (i + 1) ranges))) e
-    ∙ append_assoc now (32 ∷ item r) (behind_word (map item (drop (i + 1) ranges)))
+    ∙ append_assoc now (32 ∷ item (get_or ranges i d)) (behind_word (map item (drop (i + 1) ranges)))
     ∙ ap (λ (rs : List (ℕ × ℕ)). now ++ behind_word (map item rs)) (sym cut) ∙ so_far
 
 pub last_item : (item : ℕ × ℕ → List ℕ) (ranges : List (ℕ × ℕ)) (i : ℕ) (now new whole : List ℕ) → length ranges ≤ i
@@ -130,6 +130,11 @@ pub rounds_text : (min : ℕ) (most : Option ℕ) (greedy : Bool) (body x : Tree
 rounds_text min most greedy body x old mid new is e f =
     more_lines old mid new (lines_of body) (rounds_line min most greedy) e f ∙ ap (λ (y : Tree). old ++ lines_text (lines_of y)) is
 
+-- what holds of an error holds of it where it is handed on
+pub handed : {A E : Type 0} (r : Result A E) (P : E → Type 0) (e : E) → IsErrAnd r (λ x. x ≡ e) → P e → IfErr r P
+handed (Ok a) P e is h = tt
+handed (Err x) P e is h = subst P (sym is) h
+
 -- one tree more in a row
 pub next_part : (xs : List Tree) (i : ℕ) (x : Tree) (now new whole : List ℕ) → i < length xs → x ≡ get_or xs i x
     → new ≡ now ++ lines_text (lines_of x) → now ++ lines_text (flat_map lines_of (drop i xs)) ≡ whole
@@ -166,6 +171,25 @@ next_pattern xs i x now new whole below is e so_far =
 pub all_patterns : (xs : List Tree) (i : ℕ) (now whole : List ℕ) → length xs ≤ i → now ++ lines_text (pattern_lines (drop i xs)) ≡ whole → now ≡ whole
 all_patterns xs i now whole above so_far =
     sym (append-nil now) ∙ sym (ap (λ (ys : List Tree). now ++ lines_text (pattern_lines ys)) (drop_of_length-le xs above)) ∙ so_far
+
+-- ---- what is seen of ranges, one after the other
+
+abbrev IsSmall : ℕ × ℕ → Type 0
+IsSmall r = r.1 < 256
+
+pub more_small : (ranges : List (ℕ × ℕ)) (i : ℕ) (d : ℕ × ℕ) → i < length ranges → All IsSmall (take i ranges) → IsSmall (get_or ranges i d)
+    → All IsSmall (take (i + 1) ranges)
+more_small ranges i d below seen here = All-more IsSmall ranges i d below seen here
+
+pub all_small : (ranges : List (ℕ × ℕ)) (i : ℕ) → length ranges ≤ i → All IsSmall (take i ranges) → All IsSmall ranges
+all_small ranges i above seen = subst (All IsSmall) (take_all i ranges above) seen
+
+pub more_scalars : (ranges : List (ℕ × ℕ)) (i : ℕ) (d : ℕ × ℕ) → i < length ranges → All AreScalars (take i ranges) → AreScalars (get_or ranges i d)
+    → All AreScalars (take (i + 1) ranges)
+more_scalars ranges i d below seen here = All-more AreScalars ranges i d below seen here
+
+pub all_scalars : (ranges : List (ℕ × ℕ)) (i : ℕ) → length ranges ≤ i → All AreScalars (take i ranges) → All AreScalars ranges
+all_scalars ranges i above seen = subst (All AreScalars) (take_all i ranges above) seen
 
 -- ---- ranges that ascend
 

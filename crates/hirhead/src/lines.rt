@@ -91,14 +91,10 @@ fn tell_literal(alloc: Global, text: &mut String, bytes: &[u8]) -> Result<(), Al
     Ok(())
 }
 
-/// What a class of bytes has are bytes.
-fn see_byte_ranges(ranges: &[(u8, u8)])
-    ensures { All (λ r. r.1 < 256) ranges.now }
-{}
-
 #[tactic(auto, using(crate::proofs::TellLemmas::hex_byte))]
 fn push_byte_item(text: &mut String, start: u8, end: u8) -> Result<(), AllocError>
-    ensures { OnOk result (string_bytes text.new ≡ string_bytes text.old ++ 32 ∷ byte_item (start, end)) }
+    ensures item { OnOk result (string_bytes text.new ≡ string_bytes text.old ++ 32 ∷ byte_item (start, end)) }
+    ensures small { end < 256 }
 {
     write!(text, " {start:02X}-{end:02X}")?;
     Ok(())
@@ -106,7 +102,8 @@ fn push_byte_item(text: &mut String, start: u8, end: u8) -> Result<(), AllocErro
 
 /// The items, and the end of the line.
 fn push_byte_items(text: &mut String, ranges: &[(u8, u8)]) -> Result<(), AllocError>
-    ensures { OnOk result (string_bytes text.new ≡ string_bytes text.old ++ behind_word (map byte_item ranges.now)) }
+    ensures items { OnOk result (string_bytes text.new ≡ string_bytes text.old ++ behind_word (map byte_item ranges.now)) }
+    ensures small { IfOk result (λ _. All (λ r. r.1 < 256) ranges.now) }
 {
     for range in ranges {
         let (start, end) = *range;
@@ -120,9 +117,8 @@ fn push_byte_items(text: &mut String, ranges: &[(u8, u8)]) -> Result<(), AllocEr
 fn tell_bytes(text: &mut String, ranges: &[(u8, u8)]) -> Result<(), AllocError>
     requires { IsTrue (is_ascending ranges.now) }
     ensures lines { OnOk result (string_bytes text.new ≡ string_bytes text.old ++ lines_text (lines_of (byte_class ranges.now))) }
-    ensures fits { FitsIn 1 (byte_class ranges.now) }
+    ensures fits { IfOk result (λ _. FitsIn 1 (byte_class ranges.now)) }
 {
-    see_byte_ranges(ranges);
     if ranges.is_empty() {
         tell_number(text, "alt", 0)?;
         return Ok(());
@@ -132,23 +128,20 @@ fn tell_bytes(text: &mut String, ranges: &[(u8, u8)]) -> Result<(), AllocError>
     Ok(())
 }
 
-/// What a class of characters has are scalars.
-fn see_scalar_ranges(ranges: &[(char, char)])
-    ensures { All AreScalars ranges.now }
-{}
-
 fn push_scalar_item(text: &mut String, start: char, end: char) -> Result<(), AllocError>
-    ensures { OnOk result (string_bytes text.new ≡ string_bytes text.old ++ 32 ∷ scalar_item (start, end)) }
+    ensures item { OnOk result (string_bytes text.new ≡ string_bytes text.old ++ 32 ∷ scalar_item (start, end)) }
+    ensures scalars { AreScalars (start, end) }
 {
-    let start = u32::from(start);
-    let end = u32::from(end);
-    write!(text, " {start:X}-{end:X}")?;
+    let low = u32::from(start);
+    let high = u32::from(end);
+    write!(text, " {low:X}-{high:X}")?;
     Ok(())
 }
 
 /// The items, and the end of the line.
 fn push_scalar_items(text: &mut String, ranges: &[(char, char)]) -> Result<(), AllocError>
-    ensures { OnOk result (string_bytes text.new ≡ string_bytes text.old ++ behind_word (map scalar_item ranges.now)) }
+    ensures items { OnOk result (string_bytes text.new ≡ string_bytes text.old ++ behind_word (map scalar_item ranges.now)) }
+    ensures scalars { IfOk result (λ _. All AreScalars ranges.now) }
 {
     for range in ranges {
         let (start, end) = *range;
@@ -162,9 +155,8 @@ fn push_scalar_items(text: &mut String, ranges: &[(char, char)]) -> Result<(), A
 fn tell_chars(text: &mut String, ranges: &[(char, char)]) -> Result<(), AllocError>
     requires { IsTrue (is_ascending ranges.now) }
     ensures lines { OnOk result (string_bytes text.new ≡ string_bytes text.old ++ lines_text (lines_of (char_class ranges.now))) }
-    ensures fits { FitsIn 1 (char_class ranges.now) }
+    ensures fits { IfOk result (λ _. FitsIn 1 (char_class ranges.now)) }
 {
-    see_scalar_ranges(ranges);
     if ranges.is_empty() {
         tell_number(text, "alt", 0)?;
         return Ok(());
@@ -208,6 +200,7 @@ fn tell_rounds(text: &mut String, min: u32, max: Option<u32>, greedy: bool) -> R
 /// How many parts stand in a row.
 fn count_of(subs: &[Hir]) -> Result<u32, Unfit>
     ensures count { IfOk result (λ count. count ≡ length subs.now) }
+    ensures few { IfOk result (λ count. count < 2 ^ 32) }
     ensures refused { IfErr result (λ e. (e ≡ Unfit.TooManyParts) × (2 ^ 32 ≤ length subs.now)) }
 {
     if subs.len() > u32::MAX as usize {
