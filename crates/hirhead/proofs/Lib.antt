@@ -6,3 +6,4 @@ pub mod HeadLemmas
 pub mod ClassLemmas
 pub mod SameLemmas
 pub mod TellLemmas
+pub mod WrittenLemmas

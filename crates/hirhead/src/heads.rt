@@ -5,7 +5,7 @@ ghost use Rattle.hirhead.specs.How.{config_of};
 ghost use Rattle.hirhead.specs.Lines.{head_text, lines_text, line_text, setting_lines};
 
 use crate::how::How;
-use crate::laws::{heads_are_read, heads_match_as_their_texts, told_trees_match_alike};
+use crate::laws::{heads_are_read, heads_match_as_their_texts};
 use crate::lines::{Unfit, UnfitTree, tell_patterns, tell_word, tell_words};
 use hir_core::Hir;
 use pattern_search::parse_all;
@@ -81,7 +81,6 @@ pub fn head_of(alloc: Global, texts: &[&str], how: &How) -> Result<String, HeadE
 {
     heads_are_read();
     heads_match_as_their_texts();
-    told_trees_match_alike();
     let config = how.config();
     let trees = match parse_all(alloc, texts, &config) {
         Ok(trees) => trees,
