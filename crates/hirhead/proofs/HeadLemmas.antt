@@ -25,7 +25,7 @@ setting_taken false = (
   refl,
   refl,
   utf8_line (codes "off") false refl refl
-  (record { no_node = record { stack_empty = refl; no_pattern = refl }; setup_is = refl; stack_stays = refl; patterns_stay = refl }),
+      (record { no_node = record { stack_empty = refl; no_pattern = refl }; setup_is = refl; stack_stays = refl; patterns_stay = refl }),
   refl,
 )
 
@@ -40,7 +40,7 @@ module _ (reads : IsReader hex_bytes IsHex) (s : HeadValue) where
         refl,
         pattern_line refl (record { tree = told x; stack_was = refl; setup_stays = refl; stack_is = refl; patterns_are = refl }),
         subst (λ (d : List Tree). AreTaken (pattern_lines xs) (state s (done ++ told x ∷ []) []) (state s d []))
-        (append_assoc done (told x ∷ []) (map told xs)) (patterns_taken xs (done ++ told x ∷ []) h.1),
+            (append_assoc done (told x ∷ []) (map told xs)) (patterns_taken xs (done ++ told x ∷ []) h.1),
       )
 
 -- the lines before `find`, and this one
@@ -58,13 +58,13 @@ head_reads reads utf8 xs fits haystack =
     let last = line_text find_line in
     let end = read_of utf8 xs in
     let taken : AreTaken (a ++ p) at_first end =
-        taken_append a p at_first (state (read_of utf8 []) [] []) end (setting_taken utf8)
-        (patterns_taken reads (read_of utf8 []) xs [] fits) in
+    taken_append a p at_first (state (read_of utf8 []) [] []) end (setting_taken utf8)
+    (patterns_taken reads (read_of utf8 []) xs [] fits) in
     let read = reads_all (a ++ p) (last ++ haystack) at_first end end (length last) taken (reads_end haystack end refl) in
     let e = head_parts a p in
     let text : lines_text (a ++ p) ++ (last ++ haystack) ≡ head_text utf8 xs ++ haystack =
-        sym (append_assoc (lines_text (a ++ p)) last haystack) ∙ ap (λ (t : List ℕ). t ++ haystack) (sym e) in
+    sym (append_assoc (lines_text (a ++ p)) last haystack) ∙ ap (λ (t : List ℕ). t ++ haystack) (sym e) in
     let len : length (lines_text (a ++ p)) + length last ≡ length (head_text utf8 xs) =
-        sym (length-append (lines_text (a ++ p)) last) ∙ ap length (sym e) in
+    sym (length-append (lines_text (a ++ p)) last) ∙ ap length (sym e) in
     subst (λ (n : ℕ). Reads (head_text utf8 xs ++ haystack) at_first end n) len
     (subst (λ (t : List ℕ). Reads t at_first end (length (lines_text (a ++ p)) + length last)) text read)

@@ -7,3 +7,4 @@ pub mod ClassLemmas
 pub mod SameLemmas
 pub mod TellLemmas
 pub mod WrittenLemmas
+pub mod PointedLemmas

@@ -52,7 +52,7 @@ pub next_item : (item : ℕ × ℕ → List ℕ) (ranges : List (ℕ × ℕ)) (i
 next_item item ranges i d now new whole below e so_far =
     let next : suc i ≡ i + 1 = omega arith in
     let cut : drop i ranges ≡ get_or ranges i d ∷ drop (i + 1) ranges =
-        drop-cons ranges i d below ∙ ap (λ (k : ℕ). get_or ranges i d ∷ drop k ranges) next in
+    drop-cons ranges i d below ∙ ap (λ (k : ℕ). get_or ranges i d ∷ drop k ranges) next in
     ap (λ (t : List ℕ). t ++ behind_word (map item (drop (i + 1) ranges))) e
     ∙ append_assoc now (32 ∷ item (get_or ranges i d)) (behind_word (map item (drop (i + 1) ranges)))
     ∙ ap (λ (rs : List (ℕ × ℕ)). now ++ behind_word (map item rs)) (sym cut) ∙ so_far
@@ -142,7 +142,7 @@ pub next_part : (xs : List Tree) (i : ℕ) (x : Tree) (now new whole : List ℕ)
 next_part xs i x now new whole below is e so_far =
     let next : suc i ≡ i + 1 = omega arith in
     let cut : drop i xs ≡ x ∷ drop (i + 1) xs =
-        drop-cons xs i x below ∙ ap (λ (y : Tree). y ∷ drop (suc i) xs) (sym is) ∙ ap (λ (k : ℕ). x ∷ drop k xs) next in
+    drop-cons xs i x below ∙ ap (λ (y : Tree). y ∷ drop (suc i) xs) (sym is) ∙ ap (λ (k : ℕ). x ∷ drop k xs) next in
     let rest = flat_map lines_of (drop (i + 1) xs) in
     ap (λ (t : List ℕ). t ++ lines_text rest) e
     ∙ append_assoc now (lines_text (lines_of x)) (lines_text rest)
@@ -160,7 +160,7 @@ pub next_pattern : (xs : List Tree) (i : ℕ) (x : Tree) (now new whole : List �
 next_pattern xs i x now new whole below is e so_far =
     let next : suc i ≡ i + 1 = omega arith in
     let cut : drop i xs ≡ x ∷ drop (i + 1) xs =
-        drop-cons xs i x below ∙ ap (λ (y : Tree). y ∷ drop (suc i) xs) (sym is) ∙ ap (λ (k : ℕ). x ∷ drop k xs) next in
+    drop-cons xs i x below ∙ ap (λ (y : Tree). y ∷ drop (suc i) xs) (sym is) ∙ ap (λ (k : ℕ). x ∷ drop k xs) next in
     let rest = pattern_lines (drop (i + 1) xs) in
     ap (λ (t : List ℕ). t ++ lines_text rest) e
     ∙ append_assoc now (lines_text (pattern_lines (x ∷ []))) (lines_text rest)
@@ -293,7 +293,7 @@ pub next_fits : (levels : ℕ) (xs : List Tree) (i : ℕ) (x : Tree) → i < len
 next_fits levels xs i x below is fits so_far rest =
     let next : suc i ≡ i + 1 = omega arith in
     let cut : drop i xs ≡ x ∷ drop (i + 1) xs =
-        drop-cons xs i x below ∙ ap (λ (y : Tree). y ∷ drop (suc i) xs) (sym is) ∙ ap (λ (k : ℕ). x ∷ drop k xs) next in
+    drop-cons xs i x below ∙ ap (λ (y : Tree). y ∷ drop (suc i) xs) (sym is) ∙ ap (λ (k : ℕ). x ∷ drop k xs) next in
     so_far (subst (AllFit levels) (sym cut) (fits, rest))
 
 pub all_fit : (levels : ℕ) (xs : List Tree) (i : ℕ) → length xs ≤ i → (AllFit levels (drop i xs) → AllFit levels xs) → AllFit levels xs

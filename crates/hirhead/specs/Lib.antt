@@ -3,3 +3,4 @@ pub mod Lines
 pub mod HasLines
 pub mod Heads
 pub mod How
+pub mod Pointed

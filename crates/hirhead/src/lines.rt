@@ -180,7 +180,12 @@ fn order_word(greedy: bool) -> &'static str
     if greedy { "greedy" } else { "lazy" }
 }
 
-fn tell_rounds(text: &mut String, min: u32, max: Option<u32>, greedy: bool) -> Result<(), AllocError>
+fn tell_rounds(
+    text: &mut String,
+    min: u32,
+    max: Option<u32>,
+    greedy: bool,
+) -> Result<(), AllocError>
     ensures lines { OnOk result (string_bytes text.new ≡ string_bytes text.old ++ line_text (rounds_line min max greedy)) }
     ensures short { (min < 2 ^ 32) × IsShort max }
 {

@@ -11,55 +11,131 @@ use std::env;
 use std::process::ExitCode;
 use std::rt::Runtime;
 
-fn flag(alloc: Global, id: &'static str, help: &'static str) -> Arg<'static> {
-    Arg::new(alloc, id)
+/// One option more, which takes no value.
+fn with_flag<'a>(
+    alloc: Global,
+    command: Command<'a>,
+    id: &'a str,
+    short: char,
+    help: &'a str,
+) -> Result<Command<'a>, AllocError> {
+    let arg = Arg::new(alloc, id)
         .long(id)
+        .short(short)
         .help(help)
-        .action(ArgAction::SetTrue)
+        .action(ArgAction::SetTrue);
+    let command = command.arg(arg)?;
+    Ok(command)
 }
 
-fn switch(alloc: Global, id: &'static str, help: &'static str) -> Arg<'static> {
-    Arg::new(alloc, id)
+/// One option more, which takes the value `on` or `off`.
+fn with_switch<'a>(
+    alloc: Global,
+    command: Command<'a>,
+    id: &'a str,
+    help: &'a str,
+) -> Result<Command<'a>, AllocError> {
+    let arg = Arg::new(alloc, id)
         .long(id)
         .help(help)
         .action(ArgAction::Set)
         .value_name("on|off")
         .value_parser(["on", "off"].as_slice())
-        .default_value("on")
+        .default_value("on");
+    let command = command.arg(arg)?;
+    Ok(command)
 }
 
-fn command(alloc: Global) -> Result<Command<'static>, AllocError> {
-    let limit = Arg::new(alloc, "nest-limit")
+fn with_crlf<'a>(alloc: Global, command: Command<'a>) -> Result<Command<'a>, AllocError> {
+    let arg = Arg::new(alloc, "crlf")
+        .long("crlf")
+        .help("a carriage return ends a line too")
+        .action(ArgAction::SetTrue);
+    let command = command.arg(arg)?;
+    Ok(command)
+}
+
+fn with_nest_limit<'a>(alloc: Global, command: Command<'a>) -> Result<Command<'a>, AllocError> {
+    let arg = Arg::new(alloc, "nest-limit")
         .long("nest-limit")
         .help("how deep groups, classes and repetitions may nest, at most 1000")
         .action(ArgAction::Set)
         .value_name("N")
         .value_parser(value_parser!(u32).range(0..=1000))
         .default_value("250");
-    let patterns = Arg::new(alloc, "PATTERN")
+    let command = command.arg(arg)?;
+    Ok(command)
+}
+
+fn with_patterns<'a>(alloc: Global, command: Command<'a>) -> Result<Command<'a>, AllocError> {
+    let arg = Arg::new(alloc, "PATTERN")
         .help("a pattern in the syntax of the crate regex")
         .action(ArgAction::Append)
         .num_args(1..)
         .required(true);
-    let ignore_case = flag(alloc, "ignore-case", "letters match in either case").short('i');
-    let multi_line = flag(alloc, "multi-line", "^ and $ hold at the ends of lines").short('m');
-    let dot = flag(alloc, "dot-matches-new-line", ". matches a line feed too").short('s');
-    let swap_greed = flag(alloc, "swap-greed", "a* is lazy, and a*? greedy").short('U');
-    let fixed = flag(alloc, "fixed-strings", "patterns are plain text").short('F');
-    let crlf = flag(alloc, "crlf", "a carriage return ends a line too");
-    let command = Command::new(alloc, "hirhead")
-        .version("1.0")
-        .about("Prints the head that means the patterns, in the notation of hirscan")
-        .arg(ignore_case)?
-        .arg(multi_line)?
-        .arg(dot)?
-        .arg(swap_greed)?
-        .arg(crlf)?
-        .arg(fixed)?
-        .arg(switch(alloc, "unicode", "whether classes and words are Unicode's"))?
-        .arg(switch(alloc, "utf8", "whether matches are of whole characters"))?
-        .arg(limit)?
-        .arg(patterns)?;
+    let command = command.arg(arg)?;
+    Ok(command)
+}
+
+fn with_flags<'a>(alloc: Global, command: Command<'a>) -> Result<Command<'a>, AllocError> {
+    let command = with_flag(
+        alloc,
+        command,
+        "ignore-case",
+        'i',
+        "letters match in either case",
+    )?;
+    let command = with_flag(
+        alloc,
+        command,
+        "multi-line",
+        'm',
+        "^ and $ hold at the ends of lines",
+    )?;
+    let command = with_flag(
+        alloc,
+        command,
+        "dot-matches-new-line",
+        's',
+        ". matches a line feed too",
+    )?;
+    let command = with_flag(
+        alloc,
+        command,
+        "swap-greed",
+        'U',
+        "a* is lazy, and a*? greedy",
+    )?;
+    let command = with_flag(
+        alloc,
+        command,
+        "fixed-strings",
+        'F',
+        "patterns are plain text",
+    )?;
+    let command = with_crlf(alloc, command)?;
+    Ok(command)
+}
+
+fn command<'a>(alloc: Global) -> Result<Command<'a>, AllocError> {
+    let command = Command::new(alloc, "hirhead").version("1.0").about(
+        "Prints the head that means the patterns, in the notation of hirscan",
+    );
+    let command = with_flags(alloc, command)?;
+    let command = with_switch(
+        alloc,
+        command,
+        "unicode",
+        "whether classes and words are Unicode's",
+    )?;
+    let command = with_switch(
+        alloc,
+        command,
+        "utf8",
+        "whether matches are of whole characters",
+    )?;
+    let command = with_nest_limit(alloc, command)?;
+    let command = with_patterns(alloc, command)?;
     Ok(command)
 }
 
@@ -85,8 +161,13 @@ fn tell_error(rt: &HostRuntime, texts: &[&str], error: HeadError) -> Result<u8, 
     let number = error.number;
     match error.cause {
         Cause::Text(ParseError::Refused { kind, span }) => {
-            let text = texts.get(number).map_or("", |text| *text);
-            let shown = pointed(rt.alloc(), text, span.start)?;
+            let Some(text) = texts.get(number) else {
+                return Ok(2);
+            };
+            if !text.is_char_boundary(span.start) {
+                return Ok(2);
+            }
+            let shown = pointed(rt.alloc(), *text, span.start)?;
             let message = kind.message();
             let _ = eprint!(rt; "hirhead: pattern {number}: {message}\n{shown}");
         }
@@ -118,17 +199,32 @@ fn run_texts(rt: &HostRuntime, texts: &[&str], how: &How) -> Result<u8, AllocErr
 fn escaped(alloc: Global, texts: &[&str]) -> Result<Vec<String>, AllocError> {
     let mut patterns = Vec::new(alloc);
     for text in texts {
-        patterns.push(regex_syntax::escape(alloc, *text)?)?;
+        let pattern = regex_syntax::escape(alloc, *text)?;
+        patterns.push(pattern)?;
     }
     Ok(patterns)
 }
 
-fn borrowed<'a>(alloc: Global, texts: &'a [String]) -> Result<Vec<&'a str>, AllocError> {
-    let mut words = Vec::new(alloc);
-    for text in texts.iter() {
-        words.push(text.as_str())?;
+fn run_fixed(rt: &HostRuntime, texts: &[&str], how: &How) -> Result<u8, AllocError> {
+    let alloc = rt.alloc();
+    let patterns = escaped(alloc, texts)?;
+    let mut words: Vec<&str> = Vec::new(alloc);
+    for pattern in patterns.iter() {
+        words.push(pattern.as_str())?;
     }
-    Ok(words)
+    run_texts(rt, words.as_slice(), how)
+}
+
+fn run_matches(rt: &HostRuntime, matches: &ArgMatches<'_>) -> Result<u8, AllocError> {
+    let how = how_of(matches);
+    let Some(texts) = matches.get_strs("PATTERN") else {
+        return Ok(2);
+    };
+    if matches.get_flag("fixed-strings") {
+        run_fixed(rt, texts, &how)
+    } else {
+        run_texts(rt, texts, &how)
+    }
 }
 
 fn run(rt: &HostRuntime) -> Result<u8, AllocError> {
@@ -141,23 +237,14 @@ fn run(rt: &HostRuntime) -> Result<u8, AllocError> {
     for arg in args {
         owned.push(arg)?;
     }
-    let words = borrowed(alloc, &owned)?;
-    let matches = match command(alloc)?.try_get_matches_from(words.as_slice()) {
-        Ok(matches) => matches,
+    let command = command(alloc)?;
+    match command.try_get_matches_from(owned.as_slice()) {
+        Ok(matches) => run_matches(rt, &matches),
         Err(error) => {
             let _ = error.print(rt);
-            return Ok(if error.use_stderr() { 2 } else { 0 });
+            Ok(if error.use_stderr() { 2 } else { 0 })
         }
-    };
-    let how = how_of(&matches);
-    let Some(texts) = matches.get_strs("PATTERN") else {
-        return Ok(2);
-    };
-    if matches.get_flag("fixed-strings") {
-        let patterns = escaped(alloc, texts)?;
-        return run_texts(rt, &borrowed(alloc, &patterns)?, &how);
     }
-    run_texts(rt, texts, &how)
 }
 
 fn main(rt: HostRuntime) -> ExitCode {

@@ -90,6 +90,8 @@ tell-returns-in_ok-tell_number-in-Alternation-clause-fits t c =
 
 pub tell_parts-returns-in_err-tell-clause-refused : goal.tell_parts-returns-in_err-tell-clause-refused
 tell_parts-returns-in_err-tell-clause-refused t c =
-    handed c.from_residual.result (λ e. (n : ℕ) × AreUnfit c.args.levels c.args.subs.now n e) c.in_err-tell.field-0.0 c.from_residual.ensures.1
-    (c.loop-sub.sub-index, one_unfit c.args.levels c.args.subs.now c.loop-sub.sub-index c.sub-item.result c.in_err-tell.field-0.0 c.loop-sub-test.true
-    c.sub-item.is c.in_err-tell.ensures.refused)
+    handed c.from_residual.result (λ e. (n : ℕ) × AreUnfit c.args.levels c.args.subs.now n e) c.in_err-tell.field-0.0 c.from_residual.ensures.1 (
+      c.loop-sub.sub-index,
+      one_unfit c.args.levels c.args.subs.now c.loop-sub.sub-index c.sub-item.result c.in_err-tell.field-0.0 c.loop-sub-test.true
+          c.sub-item.is c.in_err-tell.ensures.refused,
+    )
