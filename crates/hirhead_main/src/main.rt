@@ -77,43 +77,19 @@ fn with_patterns<'a>(alloc: Global, command: Command<'a>) -> Result<Command<'a>,
     Ok(command)
 }
 
-fn with_flags<'a>(alloc: Global, command: Command<'a>) -> Result<Command<'a>, AllocError> {
-    let command = with_flag(
-        alloc,
-        command,
-        "ignore-case",
-        'i',
-        "letters match in either case",
-    )?;
-    let command = with_flag(
-        alloc,
-        command,
-        "multi-line",
-        'm',
-        "^ and $ hold at the ends of lines",
-    )?;
-    let command = with_flag(
-        alloc,
-        command,
-        "dot-matches-new-line",
-        's',
-        ". matches a line feed too",
-    )?;
-    let command = with_flag(
-        alloc,
-        command,
-        "swap-greed",
-        'U',
-        "a* is lazy, and a*? greedy",
-    )?;
-    let command = with_flag(
-        alloc,
-        command,
-        "fixed-strings",
-        'F',
-        "patterns are plain text",
-    )?;
-    let command = with_crlf(alloc, command)?;
+/// The options that take no value, by their names, their letters and what they say.
+const FLAGS: [(&str, char, &str); 5] = [
+    ("ignore-case", 'i', "letters match in either case"),
+    ("multi-line", 'm', "^ and $ hold at the ends of lines"),
+    ("dot-matches-new-line", 's', ". matches a line feed too"),
+    ("swap-greed", 'U', "a* is lazy, and a*? greedy"),
+    ("fixed-strings", 'F', "patterns are plain text"),
+];
+
+fn with_flags<'a>(alloc: Global, mut command: Command<'a>) -> Result<Command<'a>, AllocError> {
+    for (id, short, help) in FLAGS {
+        command = with_flag(alloc, command, id, short, help)?;
+    }
     Ok(command)
 }
 
