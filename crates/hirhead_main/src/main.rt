@@ -97,7 +97,9 @@ fn command<'a>(alloc: Global) -> Result<Command<'a>, AllocError> {
     let command = Command::new(alloc, "hirhead").version("1.0").about(
         "Prints the head that means the patterns, in the notation of hirscan",
     );
+    let command = command.bin_name("hirhead")?;
     let command = with_flags(alloc, command)?;
+    let command = with_crlf(alloc, command)?;
     let command = with_switch(
         alloc,
         command,
