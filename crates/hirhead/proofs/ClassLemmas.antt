@@ -1,15 +1,15 @@
 -- What the ranges that the notation reads keep of the ranges that were printed.
-use Rattle.std.proofs.Common.{◌≡◌, ℕ, zero, suc, ◌+◌, ◌<◌, ◌≤◌, min, max, Bool, true, false, ◌&&◌, ◌||◌, nat_lt, nat_le, IsTrue, List, [], ◌∷◌}
-use Rattle.std.proofs.Common.{Option, Some, None, All, refl, sym, ◌∙◌, ap, inl, inr, arith, ◌==◌, if◌then◌else◌}
+use Rattle.std.proofs.Common.{◌≡◌, ℕ, zero, suc, ◌+◌, ◌<◌, ◌≤◌, min, max, Bool, true, false, ◌&&◌, nat_lt, nat_le, List, [], ◌∷◌}
+use Rattle.std.proofs.Common.{Option, Some, None, All, refl, ◌∙◌, ap, inl, inr, arith, ◌==◌}
 use Rattle.std.specs.List.{list_all}
-use Rattle.std.proofs.lemmas.Bool.{cases_Bool, cases_lt, and_parts, and_from, or_cases, or_left, leb-true, le-leb, ltb-true, ltb-false, lt-ltb}
+use Rattle.std.proofs.lemmas.Bool.{cases_Bool, cases_lt, and_parts, and_from, or_cases, or_left, leb-true, le-leb, ltb-true, lt-ltb}
 use Rattle.std.proofs.lemmas.Bool.Decides.{nat_tests}
 use Rattle.std.proofs.lemmas.List.Elements.{All-head}
 use Rattle.search_core.specs.Characters.{spelling_len}
-use Rattle.hir_core.specs.Tree.{byte_class, char_class}
+use Rattle.hir_core.specs.Tree.{byte_class}
 use Rattle.hir_core.specs.Means.{is_member}
 use Rattle.hir_core.specs.Facts.{minimum_len, least_of_either, least_spelling, is_utf8_tree}
-use Rattle.hirscan.specs.Words.{with_byte, with_member, ranges_from, class_ranges, with_range, scalar_ranges}
+use Rattle.hirscan.specs.Words.{with_member, ranges_from, class_ranges, with_range, scalar_ranges}
 use Rattle.hirhead.specs.HasLines.{IsByteRange}
 
 -- ---- classes of bytes

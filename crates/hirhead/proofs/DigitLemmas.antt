@@ -1,30 +1,29 @@
 -- The words that lines have: numbers, digits, names and items of classes, each plain and of what it was printed for.
-use Rattle.std.proofs.Common.{◌≡◌, ◌≢◌, ◌⊎◌, ℕ, zero, suc, ◌+◌, ◌-◌, ◌*◌, ◌/◌, ◌%◌, ◌^◌, ◌<◌, ◌≤◌, ◌==◌, Bool, true, false, not, ◌&&◌, ◌||◌}
+use Rattle.std.proofs.Common.{◌≡◌, ℕ, zero, suc, ◌+◌, ◌*◌, ◌/◌, ◌%◌, ◌^◌, ◌<◌, ◌≤◌, ◌==◌, Bool, true, false, not, ◌&&◌}
 use Rattle.std.proofs.Common.{List, [], ◌∷◌, ◌++◌, map, length, get_or, All, Option, Some, None, refl, sym, ◌∙◌, ap, subst, inl, inr, arith}
-use Rattle.std.proofs.Common.{codes, decimal, nat_lt, nat_le, slice_index, eqb}
+use Rattle.std.proofs.Common.{decimal, nat_lt, nat_le, slice_index}
 use Rattle.std.specs.List.{list_all}
 use Rattle.std.specs.Fmt.{digits, digits_onto, digit_glyph}
 use Rattle.std.specs.Str.{all_ascii_digits}
 use Rattle.std.specs.Str.Parse.{digits_value}
-use Rattle.std.proofs.lemmas.Bool.{cases_Bool, cases_lt, and_parts, and_from, or_cases, not_from_false, ne_eqb, eq-eqb, ltb-true, ltb-false, leb-true, eqb-true, eqb-false}
-use Rattle.std.proofs.lemmas.Bool.Decides.{nat_tests}
+use Rattle.std.proofs.lemmas.Bool.{cases_Bool, cases_lt, and_parts, and_from, or_cases, not_from_false, ne_eqb, eq-eqb, ltb-true, ltb-false, leb-true, eqb-true}
 use Rattle.std.proofs.lemmas.Fmt.{digits_decimal}
 use Rattle.std.proofs.lemmas.List.{get_or_past}
 use Rattle.std.proofs.lemmas.List.Elements.{All-head, All-tail}
 use Rattle.std.proofs.lemmas.List.Folds.{list_all-append}
 use Rattle.std.proofs.lemmas.Str.Parse.{IsNumeralModel, numerals_by_value, tells_all_ascii_digits}
-use Rattle.hex.specs.Hex.{encode_with, lower_digits, encode_lower, IsBytes, decode_of}
+use Rattle.hex.specs.Hex.{encode_with, lower_digits, encode_lower, IsBytes}
 use Rattle.hex.proofs.HexLemmas.{decode_of-encode_lower}
 use Rattle.look_core.specs.declared.look.Look.{Look}
 use Rattle.look_core.specs.declared.look.Look.TheVariants.{Start, End, StartLF, EndLF, StartCRLF, EndCRLF, WordAscii, WordAsciiNegate}
 use Rattle.look_core.specs.declared.look.Look.TheVariants.{WordUnicode, WordUnicodeNegate, WordStartAscii, WordEndAscii, WordStartUnicode}
 use Rattle.look_core.specs.declared.look.Look.TheVariants.{WordEndUnicode, WordStartHalfAscii, WordEndHalfAscii, WordStartHalfUnicode}
 use Rattle.look_core.specs.declared.look.Look.TheVariants.{WordEndHalfUnicode}
-use Rattle.hirscan.specs.Words.{IsBound, IsGreedy, IsHexDigit, SpellsByte, IsHex, IsHexByte, HasEnds, IsItem, look_name, HasHexValue, IsHexNumber}
-use Rattle.hirscan.specs.Words.{HasHexEnds, is_scalar, IsScalarItem, AreScalarItems, AreItems}
+use Rattle.hirscan.specs.Words.{IsBound, IsGreedy, IsHexDigit, SpellsByte, IsHex, IsHexByte, IsItem, look_name, HasHexValue, IsHexNumber}
+use Rattle.hirscan.specs.Words.{is_scalar, IsScalarItem, AreScalarItems, AreItems}
 use Rattle.hirscan.specs.Words.IsHexDigit.{from_zero, from_small_a, from_great_a}
 use Rattle.hirscan.specs.Readers.{IsReader, hex_bytes, one_or_more}
-use Rattle.hirhead.specs.Lines.{Line, two_digits, byte_item, scalar_item, bound_word, order_word}
+use Rattle.hirhead.specs.Lines.{two_digits, byte_item, scalar_item, bound_word, order_word}
 use Rattle.hirhead.specs.HasLines.{IsByteRange, IsScalarRange, IsShort}
 use Rattle.hirhead.proofs.PlainLemmas.{is_plain, plain}
 

@@ -1,5 +1,5 @@
 -- A head that was printed for trees reads, and its patterns are the trees that are told of these.
-use Rattle.std.proofs.Common.{◌≡◌, ℕ, ◌+◌, Bool, true, false, List, [], ◌∷◌, ◌++◌, map, length, codes, refl, sym, ◌∙◌, ap, subst, arith}
+use Rattle.std.proofs.Common.{◌≡◌, ℕ, ◌+◌, Bool, true, false, List, [], ◌∷◌, ◌++◌, map, length, codes, refl, sym, ◌∙◌, ap, subst}
 use Rattle.std.proofs.Common.{append_assoc, append-nil, length-append}
 use Rattle.std.proofs.lemmas.List.Concat.{flat_map-append}
 use Rattle.hir_core.specs.Tree.{Tree}
@@ -8,7 +8,7 @@ use Rattle.hirscan.specs.Readers.{IsReader, hex_bytes}
 use Rattle.hirscan.specs.Reads.{Reads}
 use Rattle.hirscan.specs.Takes.{HeadValue, at_first, utf8_line, pattern_line}
 use Rattle.hirhead.specs.Told.{told}
-use Rattle.hirhead.specs.Lines.{Line, lines_of, pattern_lines, setting_lines, head_lines, line_text, lines_text, head_text}
+use Rattle.hirhead.specs.Lines.{Line, lines_of, pattern_lines, setting_lines, line_text, lines_text, head_text}
 use Rattle.hirhead.specs.HasLines.{AllFit}
 use Rattle.hirhead.specs.Heads.{read_of}
 use Rattle.hirhead.proofs.PlainLemmas.{reads_end}

@@ -1,9 +1,9 @@
 -- The line of a place, by what std says of the first and the last line feed.
-use Rattle.std.proofs.Common.{◌≡◌, ℕ, ◌+◌, ◌≤◌, ◌<◌, List, [], ◌∷◌, ◌++◌, length, take, drop, Option, Some, None, MatchOption, Bor, refl, sym, ap, ◌∙◌, arith}
+use Rattle.std.proofs.Common.{◌≡◌, ℕ, List, ◌∷◌, ◌++◌, take, drop, sym, ap, ◌∙◌, arith}
 use Rattle.std.proofs.Common.{take-append-drop}
 use Rattle.std.specs.Str.Pattern.{FindsChar, RFindsChar, HasCharAt, SplitsAroundMatch}
 use Rattle.std.proofs.lemmas.Str.Pattern.{drop_at_char}
-use Rattle.hirhead.specs.Pointed.{HasNoFeed, IsLastLine, no_feed_before, behind_feed, IsFirstLine, no_feed_behind, before_feed}
+use Rattle.hirhead.specs.Pointed.{IsLastLine, behind_feed, IsFirstLine, before_feed}
 
 parted : (text : List ℕ) (i j : ℕ) → HasCharAt 10 text i j → text ≡ take i text ++ 10 ∷ drop j text
 parted text i j h = sym (take-append-drop i text) ∙ ap (λ (t : List ℕ). take i text ++ t) (drop_at_char 10 text i j h (omega arith))

@@ -1,12 +1,11 @@
 -- The tree that is told means what the tree means, and prefers the same ends.
-use Rattle.std.proofs.Common.{◌≡◌, ◌↔◌, ℕ, zero, suc, ◌+◌, ◌<◌, ◌≤◌, Bool, true, false, ◌&&◌, cond, IsTrue, List, [], ◌∷◌, ◌++◌, map, length, take, drop, slice_get}
+use Rattle.std.proofs.Common.{◌≡◌, ℕ, zero, suc, ◌+◌, ◌<◌, ◌≤◌, Bool, true, cond, IsTrue, List, [], ◌∷◌, ◌++◌, map, slice_get}
 use Rattle.std.proofs.Common.{Option, Some, None, All, IsSomeAnd, chars, refl, sym, ◌∙◌, ap, ap₂, subst, arith, add-zero}
-use Rattle.std.specs.List.{list_all, flat_map}
+use Rattle.std.specs.List.{flat_map}
 use Rattle.std.proofs.lemmas.Bool.{and_parts, and_from}
 use Rattle.std.proofs.lemmas.List.Elements.{All-head, All-tail, All-nil, All-cons}
 use Rattle.search_core.specs.Characters.{character_at}
-use Rattle.regex_hir.specs.Re.{Re, Rest}
-use Rattle.regex_hir.specs.Matches.{Matches}
+use Rattle.regex_hir.specs.Re.{Re}
 use Rattle.regex_syntax.specs.declared.Config.{Config}
 use Rattle.regex_syntax.specs.Brackets.{Nested}
 use Rattle.regex_syntax.specs.Grammar.{Names, read}

@@ -1,6 +1,6 @@
 -- What is printed of a tree's parts is what is printed of the tree, and where a part is refused the tree is.
 pub use Rattle.std.proofs.lemmas.Fmt.{hex_byte}
-use Rattle.std.proofs.Common.{◌≡◌, ◌≢◌, ℕ, zero, suc, ◌+◌, ◌-◌, ◌^◌, ◌<◌, ◌≤◌, ◌==◌, min, max, Bool, true, false, ◌&&◌, nat_le, IsTrue, List, [], ◌∷◌, ◌++◌}
+use Rattle.std.proofs.Common.{◌≡◌, ◌≢◌, ℕ, zero, suc, ◌+◌, ◌-◌, ◌^◌, ◌<◌, ◌≤◌, min, Bool, true, ◌&&◌, nat_le, List, [], ◌∷◌, ◌++◌}
 use Rattle.std.proofs.Common.{map, length, drop, get_or, All, Option, Some, None, slice_get, decimal, codes, refl, sym, ◌∙◌, ap, subst, arith}
 use Rattle.std.proofs.Common.{Result, Ok, Err, IsErrAnd, IfErr, append_assoc, append-nil, drop-cons, drop_of_length-le, take, take_all}
 use Rattle.std.specs.List.{flat_map}
@@ -11,12 +11,11 @@ use Rattle.hex.specs.Hex.{encode_lower}
 use Rattle.hir_core.specs.Tree.{Tree, empty, literal, byte_class, char_class, look, repetition, capture, nothing, cat, never, alt, concat, alternation}
 use Rattle.hir_core.specs.Facts.{height, is_ascending, rises_from, IsWellFormed}
 use Rattle.hir_core.specs.Means.{AtMost}
-use Rattle.hirscan.specs.Words.{is_scalar}
 use Rattle.hirhead.specs.declared.lines.Unfit.{Unfit}
 use Rattle.hirhead.specs.declared.lines.Unfit.TheVariants.{NoMemory, TooDeep, TooManyParts}
 use Rattle.hirhead.specs.Told.{told}
 use Rattle.hirhead.specs.Lines.{Line, byte_item, scalar_item, rounds_line, lines_behind, lines_of, pattern_lines, behind_word, line_text, lines_text}
-use Rattle.hirhead.specs.HasLines.{AreScalars, IsByteRange, IsScalarRange, IsShort, is_cat, is_alt, HasLines, FitsIn, AllFit, most_parts, IsUnfit, HasUnfit, AreUnfit}
+use Rattle.hirhead.specs.HasLines.{AreScalars, IsByteRange, IsScalarRange, IsShort, is_cat, is_alt, HasLines, FitsIn, AllFit, most_parts, IsUnfit, AreUnfit}
 
 -- ---- texts
 

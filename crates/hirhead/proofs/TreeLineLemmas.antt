@@ -1,9 +1,8 @@
 -- The lines of a tree put the tree that is told of it onto the stack.
-use Rattle.std.proofs.Common.{◌≡◌, ◌≢◌, ℕ, zero, suc, ◌+◌, ◌-◌, ◌^◌, ◌<◌, ◌≤◌, min, max, Bool, true, false, IsTrue, List, [], ◌∷◌, ◌++◌, map}
-use Rattle.std.proofs.Common.{length, All, Option, Some, None, decimal, codes, refl, sym, ◌∙◌, ap, subst, arith, append_assoc, append-nil, length-append}
+use Rattle.std.proofs.Common.{◌≡◌, ℕ, suc, ◌+◌, ◌-◌, ◌^◌, ◌<◌, ◌≤◌, min, max, Bool, true, IsTrue, List, [], ◌∷◌, ◌++◌, map}
+use Rattle.std.proofs.Common.{length, Option, decimal, codes, refl, sym, ◌∙◌, ap, subst, arith, append_assoc, append-nil, length-append}
 use Rattle.std.specs.List.{list_all}
 use Rattle.hex.specs.Hex.{encode_lower}
-use Rattle.look_core.specs.declared.look.Look.{Look}
 use Rattle.hir_core.specs.Tree.{Tree, empty, literal, byte_class, char_class, look, repetition, capture, nothing, cat, never, alt, concat, alternation}
 use Rattle.hir_core.specs.Facts.{height, capped}
 use Rattle.hirscan.specs.Words.{IsHex, look_name, class_ranges, scalar_ranges}

@@ -1,5 +1,5 @@
 -- What a head says of the texts for which it was printed.
-use Rattle.std.specs.Prelude.{◌≡◌, ℕ, ◌≤◌, Bool, IsTrue, List, [], ◌∷◌, ◌++◌, map, length, All, chars, take, slice_get, Some, IsSomeAnd, ⊤}
+use Rattle.std.specs.Prelude.{◌≡◌, ℕ, ◌≤◌, Bool, IsTrue, List, [], ◌∷◌, ◌++◌, map, length, All, chars, IsSomeAnd, ⊤}
 use Rattle.regex_syntax.specs.declared.Config.{Config}
 use Rattle.regex_syntax.specs.Grammar.{read}
 use Rattle.hir_core.specs.Tree.{Tree}
@@ -8,7 +8,6 @@ use Rattle.hirscan.specs.Reads.{Reads}
 use Rattle.hirscan.specs.Takes.{HeadValue, at_first, with_utf8}
 use Rattle.pattern_text.specs.SameEnds.{SameEnds, SameSpans}
 use Rattle.pattern_search.specs.Texts.{AllMean, IsFirstFault}
-use Rattle.hirhead.specs.declared.heads.HeadError.{HeadError}
 use Rattle.hirhead.specs.declared.heads.Cause.TheVariants.{Text, Lines}
 use Rattle.hirhead.specs.declared.heads.Cause.{Cause}
 use Rattle.hirhead.specs.Told.{told}

@@ -1,5 +1,5 @@
 -- How a place in a text is shown: the line that has it, and a caret below the place.
-use Rattle.std.specs.Prelude.{◌≡◌, ℕ, ◌==◌, List, [], ◌∷◌, ◌++◌, length, take, drop, replicate, chars, codes}
+use Rattle.std.specs.Prelude.{◌≡◌, ℕ, ◌==◌, List, ◌∷◌, ◌++◌, length, take, drop, replicate, chars, codes}
 use Rattle.std.specs.Str.{NoCharPasses}
 
 -- no character is a line feed, 10

@@ -1,5 +1,5 @@
 -- The tree that the printed lines of a tree make.
-use Rattle.std.specs.Prelude.{List, [], ◌∷◌}
+use Rattle.std.specs.Prelude.{[], ◌∷◌}
 use Rattle.hir_core.specs.Tree.{Tree, empty, literal, byte_class, char_class, look, repetition, capture, nothing, cat, never, alt}
 use Rattle.hirscan.specs.Words.{class_ranges, scalar_ranges}
 

@@ -1,4 +1,4 @@
-use Rattle.std.proofs.Common.{arith, rules, string_bytes, ◌++◌, map, get_or}
+use Rattle.std.proofs.Common.{arith, string_bytes, ◌++◌, map}
 use Rattle.hirhead.specs.Lines.{byte_item, behind_word}
 use Rattle.hirhead.proofs.TellLemmas.{next_item, more_small, all_small}
 use Rattle.hirhead.proofs.lines.push_byte_items.Goals as goal

@@ -1,4 +1,4 @@
-use Rattle.std.proofs.Common.{arith, rules, string_bytes, ◌++◌, map, get_or}
+use Rattle.std.proofs.Common.{arith, string_bytes, ◌++◌, map}
 use Rattle.hirhead.specs.Lines.{scalar_item, behind_word}
 use Rattle.hirhead.proofs.TellLemmas.{next_item, more_scalars, all_scalars}
 use Rattle.hirhead.proofs.lines.push_scalar_items.Goals as goal

@@ -1,4 +1,4 @@
-use Rattle.std.proofs.Common.{string_bytes, ◌≡◌, chars, length, replicate, ◌∙◌, ap, sym, map-id}
+use Rattle.std.proofs.Common.{length, replicate, ◌∙◌, ap, sym, map-id}
 use Rattle.std.proofs.lemmas.Iterator.{YieldsList-from_chars}
 use Rattle.std.proofs.lemmas.Iterator.Consumers.{YieldsList-end}
 use Rattle.hirhead.proofs.pointing.spaces_for.Goals as goal
