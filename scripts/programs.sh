@@ -1,14 +1,20 @@
 # Of the programs that stand at the top: which crates each is made of, whether it is built, and the two ways to an answer. It is
 # read by these scripts, which set `top`, the repository's folder.
 
-# The crates that a program is made of, each after those that it uses; libraries of the toolchain have no folder here.
+# The crates that a program is made of, each after those that it uses; libraries of the toolchain have no folder here. The list of
+# crates has each crate behind those that it uses.
 crates_of() {
-    for crate in $(sed -n "s/^$1_main://p" "$top/crates.txt"); do
-        for below in $(sed -n "s/^$crate://p" "$top/crates.txt") "$crate"; do
-            [ -d "$top/crates/$below" ] && echo "$below"
-        done
-    done
-    echo "$1_main"
+    awk -v wanted="$1_main" '
+        /^[a-z_]+:/ { name = $1; sub(/:.*/, "", name); order[++count] = name; uses[name] = $0 }
+        END {
+            needed[wanted] = 1
+            for (i = count; i > 0; i--) {
+                if (!(order[i] in needed)) continue
+                n = split(uses[order[i]], words, /[: ]+/)
+                for (k = 2; k <= n; k++) needed[words[k]] = 1
+            }
+            for (i = 1; i <= count; i++) if (order[i] in needed) print order[i]
+        }' "$top/crates.txt"
 }
 
 program_of() {
@@ -39,12 +45,40 @@ tell_terminal() {
 # An unproved run reads its input whole: rt try takes fewer than this many bytes, and cuts what is longer.
 most_unproved=67108863
 
-# Runs a program on standard input with nothing proved, and ends with its status; what such a run can't do is told with status 2.
-run_unproved() {
+# Runs a program with nothing proved, on the file input of the folder and with the arguments behind its name, and ends with its
+# status; what such a run can't do is told with status 2.
+try_program() {
+    program=$1
+    shift
+    [ $# = 0 ] || set -- -- "$@"
+    # One step of the interpreter: what is compiled with checks answers, and runs as the interpreter does.
+    (cd "$top/crates/${program}_main" && rt try --steps 1 "$@" <"$folder/input") >"$folder/reply" 2>"$folder/said"
+    status=$(sed -n 's/^run=ended status=\([0-9]*\) .*/\1/p' "$folder/said")
+    if [ -z "$status" ] || grep -q '^rt: standard input did not end' "$folder/said"; then
+        why=$(sed -n 's/^checked: //p' "$folder/said" | head -n 1)
+        [ -n "$why" ] || why=$(grep -v -e '^run=' -e '^interpreter: ' "$folder/said" | head -n 1)
+        echo "$program: the unproved run gave no answer (${why:-rt try said nothing}); ./prove builds the program, which has no such limit" >&2
+        exit 2
+    fi
+    grep -v -e '^run=' -e '^interpreter: ' -e '^checked: ' -e '^rt: ' -e '^| ' "$folder/said" >&2
+    if ! cat "$folder/reply" 2>/dev/null; then
+        echo "$program: write fault" >&2
+        exit 2
+    fi
+    exit "$status"
+}
+
+# Makes the folder of an unproved run.
+make_folder() {
     folder=$(mktemp -d) || exit 2
     trap 'rm -rf "$folder"' EXIT
     trap 'exit 2' HUP INT TERM
     trap '' PIPE
+}
+
+# Runs a program on standard input with nothing proved.
+run_unproved() {
+    make_folder
     if ! head -c $((most_unproved + 1)) >"$folder/input" 2>/dev/null; then
         echo "$1: read fault" >&2
         exit 2
@@ -53,21 +87,7 @@ run_unproved() {
         echo "$1: an unproved run takes $most_unproved bytes of input at most; ./prove builds the program, which takes more" >&2
         exit 2
     fi
-    # One step of the interpreter: what is compiled with checks answers, and runs as the interpreter does.
-    (cd "$top/crates/$1_main" && rt try --steps 1 <"$folder/input") >"$folder/reply" 2>"$folder/said"
-    status=$(sed -n 's/^run=ended status=\([0-9]*\) .*/\1/p' "$folder/said")
-    if [ -z "$status" ] || grep -q '^rt: standard input did not end' "$folder/said"; then
-        why=$(sed -n 's/^checked: //p' "$folder/said" | head -n 1)
-        [ -n "$why" ] || why=$(grep -v -e '^run=' -e '^interpreter: ' "$folder/said" | head -n 1)
-        echo "$1: the unproved run gave no answer (${why:-rt try said nothing}); ./prove builds the program, which has no such limit" >&2
-        exit 2
-    fi
-    grep "^$1: " "$folder/said" >&2
-    if ! cat "$folder/reply" 2>/dev/null; then
-        echo "$1: write fault" >&2
-        exit 2
-    fi
-    exit "$status"
+    try_program "$1"
 }
 
 # Answers by the program as it was built, or else with nothing proved.
@@ -80,4 +100,16 @@ answer() {
     echo "$1: nothing is proved yet, so this answer is checked as it runs and no more; ./prove proves and builds the program" >&2
     tell_terminal "$1"
     run_unproved "$1"
+}
+
+# The same of a program that reads no input, with the arguments behind its name.
+answer_arguments() {
+    name=$1
+    shift
+    is_built "$name" && exec "$(program_of "$name")" "$@"
+    need_rt "$name"
+    echo "$name: nothing is proved yet, so this answer is checked as it runs and no more; ./prove proves and builds the program" >&2
+    make_folder
+    : >"$folder/input"
+    try_program "$name" "$@"
 }
