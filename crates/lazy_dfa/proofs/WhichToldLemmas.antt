@@ -1,7 +1,7 @@
 -- What the calls of a walk over a whole span tell, one after the other, and that the ID at which a walk stopped doesn't show in what
 -- it tells.
-use Rattle.std.proofs.Common.{◌≡◌, ◌⊎◌, ℕ, zero, suc, ◌+◌, ◌<◌, ◌≤◌, ◌&&◌, Bool, true, false, true≢false, List, Option, Some, None, refl, sym, ap}
-use Rattle.std.proofs.Common.{◌∙◌, inl, inr, subst, arith, if◌then◌else◌}
+use Rattle.std.proofs.Common.{◌≡◌, ℕ, suc, ◌+◌, ◌<◌, ◌≤◌, ◌&&◌, Bool, true, false, true≢false, List, None, refl, sym, ap}
+use Rattle.std.proofs.Common.{◌∙◌, inl, inr, subst, if◌then◌else◌}
 use Rattle.std.specs.Prelude.{Result, Ok, Err, min, ⊤}
 use Rattle.std.proofs.lemmas.Bool.{lt-leb}
 use Rattle.search_types.specs.declared.match_error.MatchErrorKind.{MatchErrorKind}
@@ -17,7 +17,7 @@ use Rattle.lazy_dfa.specs.Readers.{Reader}
 use Rattle.lazy_dfa.specs.PassPlaces.{left_at}
 use Rattle.lazy_dfa.specs.SearchAnswers.{told_of, Told, pass_distance}
 use Rattle.lazy_dfa.specs.Walks.{Rest, whole_rest}
-use Rattle.lazy_dfa.specs.WalkAnswers.{without_id, walk_behind, walk_after, told_by_call, told_after, GivesUpOn, at_start, at_unit}
+use Rattle.lazy_dfa.specs.WalkAnswers.{without_id, walk_behind, walk_after, told_by_call, GivesUpOn, at_start, at_unit}
 use Rattle.lazy_dfa.specs.WalkAnswers.{LeavesCall, left_failed, left_at_start, left_at_unit, TellsCallAnew, anew_at_start, anew_at}
 use Rattle.lazy_dfa.specs.WalkAnswers.{FailsCallAnew, fails_behind_start, fails_behind, IsCallTold, told_last, told_before}
 use Rattle.lazy_dfa.specs.WalkAnswers.{left_last, left_before, IsToldAfter, IsLeftAfter, call_place, call_units, calls_for}

@@ -1,6 +1,6 @@
 use Rattle.std.proofs.Common.{List, [], ◌∷◌, ◌++◌, ◌≤◌, None, replicate, length, sym, ap, subst, ◌∙◌, ◌+◌, ◌*◌, ◌≡◌, ℕ, Bool, cond, Some, refl, arith}
 use Rattle.determinize_core.specs.States.{IsState, StateValue}
-use Rattle.lazy_dfa.specs.Ids.{tag, unknown_id, tagged}
+use Rattle.lazy_dfa.specs.Ids.{tag, tagged}
 use Rattle.lazy_dfa.specs.Caches.{CacheValue, IsKept, same, new_id, place_of, with_state}
 use Rattle.determinize_core.specs.StateBytes.{is_match}
 use Rattle.lazy_dfa.specs.Skips.{IsSkip}

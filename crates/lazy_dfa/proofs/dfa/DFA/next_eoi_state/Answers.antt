@@ -1,4 +1,4 @@
-use Rattle.std.proofs.Common.{◌≡◌, ◌≢◌, ◌⊎◌, ◌∙◌, ℕ, true, false, ap, sym, subst, Result, Ok, Err}
+use Rattle.std.proofs.Common.{◌≡◌, ◌≢◌, ◌⊎◌, ℕ, false, subst, Result, Ok, Err}
 use Rattle.search_core.specs.Units.{unit_byte}
 use Rattle.search_core.specs.declared.unit.Unit.{Unit as InputUnit}
 use Rattle.lazy_dfa.specs.Ids.{unknown_id, is_sentinel}
