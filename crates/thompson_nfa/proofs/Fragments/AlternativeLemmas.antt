@@ -86,7 +86,8 @@ module _ (how : How) (t0 t1 t2 : Assembly) (s1 e1 s2 e2 : ℕ) (x y : Tree) (xs 
       with_one : {t5 : Assembly} → Led t4 t5 u s1 → Progress false t0 t5 (room how.shrink x + room how.shrink y + 1 + 1) 20
       with_one p5 = then_led 20 both p5 (omega (arith, both_sizes)) (omega (arith, both_sizes)) (omega arith)
 
-      with_two : {t5 t6 : Assembly} → Led t4 t5 u s1 → Led t5 t6 e1 z → Progress false t0 t6 (room how.shrink x + room how.shrink y + 1 + 1) 16
+      with_two : {t5 t6 : Assembly} → Led t4 t5 u s1 → Led t5 t6 e1 z → Progress false t0 t6 (room how.shrink x + room how.shrink y + 1 +
+          1) 16
       with_two p5 p6 = then_led 16 (with_one p5) p6 (omega (arith, both_sizes)) (omega (arith, both_sizes, p5.size)) (omega arith)
 
       pub first_lead_refused : (new : Assembly) (e : BuildError) → Stays t4 new 0 4 e →
@@ -105,7 +106,8 @@ module _ (how : How) (t0 t1 t2 : Assembly) (s1 e1 s2 e2 : ℕ) (x y : Tree) (xs 
           Stays t7 new 0 4 e →
           Refuses how.which t0 new (room how.shrink (alternation xs)) (alternation xs) e
       fourth_lead_refused t5 t6 t7 new e p5 p6 p7 r =
-          later_refused (then_led 12 (with_two p5 p6) p7 (omega (arith, both_sizes)) (omega (arith, both_sizes, p5.size, p6.size)) (omega arith)) r
+          later_refused (then_led 12 (with_two p5 p6) p7 (omega (arith, both_sizes)) (omega (arith, both_sizes, p5.size, p6.size)) (omega
+          arith)) r
           (omega arith) (omega arith)
 
     module _ (t3 t4 t5 t6 t7 t8 : Assembly) (u z : ℕ) (union : Added t2 t3 u (union_draft []) t2.groups)

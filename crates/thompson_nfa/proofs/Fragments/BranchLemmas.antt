@@ -45,7 +45,8 @@ module _ (t0 t1 t2 t3 t4 t5 t6 t7 t8 : Assembly) (s1 e1 n1 s2 e2 n2 u z : ℕ) (
     (second : Makes t1 t2 s2 e2 n2) (union : Added t2 t3 u (union_draft []) t2.groups)
     (last : Added t3 t4 z (empty_draft 0) t3.groups) (p5 : Led t4 t5 u s1) (p6 : Led t5 t6 e1 z) (p7 : Led t6 t7 u s2)
     (p8 : Led t7 t8 e2 z) where
-  open_sizes : MadeAt t0 t1 s1 e1 × MadeAt t1 t2 s2 e2 × AddedAt t2 t3 u × AddedAt t3 t4 z × LedAt t4 t5 × LedAt t5 t6 × LedAt t6 t7 × LedAt t7 t8
+  open_sizes : MadeAt t0 t1 s1 e1 × MadeAt t1 t2 s2 e2 × AddedAt t2 t3 u × AddedAt t3 t4 z × LedAt t4 t5 × LedAt t5 t6 × LedAt t6 t7 ×
+      LedAt t7 t8
   open_sizes = (made_at first, made_at second, added_at union, added_at last, p5.size, p6.size, p7.size, p8.size)
 
   open_2 : Progress false t0 t2 (n1 + n2) 8
@@ -55,28 +56,40 @@ module _ (t0 t1 t2 t3 t4 t5 t6 t7 t8 : Assembly) (s1 e1 n1 s2 e2 n2 u z : ℕ) (
   open_4 = empty_then (choice_then true open_2 union) last
 
   pub open_8 : Progress false t0 t8 (n1 + n2 + 1 + 1) 8
-  open_8 = then_led 8 (then_led 12 (then_led 16 (then_led 20 open_4 p5 (omega (arith, open_sizes)) (omega (arith, open_sizes)) (omega (arith, open_sizes))) p6 (omega (arith, open_sizes))
+  open_8 = then_led 8 (then_led 12 (then_led 16 (then_led 20 open_4 p5 (omega (arith, open_sizes)) (omega (arith, open_sizes)) (omega
+      (arith, open_sizes))) p6 (omega (arith, open_sizes))
       (omega (arith, open_sizes)) (omega (arith, open_sizes)))
-      p7 (omega (arith, open_sizes)) (omega (arith, open_sizes)) (omega (arith, open_sizes))) p8 (omega (arith, open_sizes)) (omega (arith, open_sizes)) (omega (arith, open_sizes))
+      p7 (omega (arith, open_sizes)) (omega (arith, open_sizes)) (omega (arith, open_sizes))) p8 (omega (arith, open_sizes)) (omega
+      (arith, open_sizes)) (omega (arith, open_sizes))
 
   later : (q : ℕ) → q < length t2.drafts → q ≢ e1 → q ≢ e2 → draft_at t8.drafts q ≡ draft_at t2.drafts q
-  later q low ne1 ne2 = p8.same q ne2 ∙ p7.same q (omega (arith, open_sizes)) ∙ p6.same q ne1 ∙ p5.same q (omega (arith, open_sizes)) ∙ last.grows.same q (omega (arith, open_sizes))
+  later q low ne1 ne2 = p8.same q ne2 ∙ p7.same q (omega (arith, open_sizes)) ∙ p6.same q ne1 ∙ p5.same q (omega (arith, open_sizes)) ∙
+      last.grows.same q (omega (arith, open_sizes))
       ∙ union.grows.same q low
 
   open_first : (table : Table) → FinishesBut (length t0.drafts) t8.drafts u z table → Finished (length t0.drafts) t1.drafts e1 z table
   open_first table fin = record {
-    states = λ q low high ne. fin q low (omega (arith, open_sizes)) (omega (arith, open_sizes)) (omega (arith, open_sizes)) ∙ later q (omega (arith, open_sizes)) ne (omega (arith, open_sizes))
+    states = λ q low high ne. fin q low (omega (arith, open_sizes)) (omega (arith, open_sizes)) (omega (arith, open_sizes)) ∙ later q
+        (omega (arith, open_sizes)) ne (omega (arith, open_sizes))
         ∙ second.fragment.grows.same q high;
-    led = fin e1 (omega (arith, open_sizes)) (omega (arith, open_sizes)) (omega (arith, open_sizes)) (omega (arith, open_sizes)) ∙ p8.same e1 (omega (arith, open_sizes)) ∙ p7.same e1 (omega (arith, open_sizes)) ∙ p6.here
-        ∙ ap (patched z) (p5.same e1 (omega (arith, open_sizes)) ∙ last.grows.same e1 (omega (arith, open_sizes)) ∙ union.grows.same e1 (omega (arith, open_sizes))
+    led = fin e1 (omega (arith, open_sizes)) (omega (arith, open_sizes)) (omega (arith, open_sizes)) (omega (arith, open_sizes)) ∙ p8.same
+        e1 (omega (arith, open_sizes)) ∙ p7.same e1 (omega (arith, open_sizes)) ∙ p6.here
+        ∙ ap (patched z) (p5.same e1 (omega (arith, open_sizes)) ∙ last.grows.same e1 (omega (arith, open_sizes)) ∙ union.grows.same e1
+        (omega (arith, open_sizes))
         ∙ second.fragment.grows.same e1 (omega (arith, open_sizes)));
   }
 
   open_second : (table : Table) → FinishesBut (length t0.drafts) t8.drafts u z table → Finished (length t1.drafts) t2.drafts e2 z table
   open_second table fin = record {
-    states = λ q low high ne. fin q (omega (arith, open_sizes)) (omega (arith, open_sizes)) (omega (arith, open_sizes)) (omega (arith, open_sizes)) ∙ later q high (omega (arith, open_sizes)) ne;
+    states = λ q low high ne. fin q (omega (arith, open_sizes)) (omega (arith, open_sizes)) (omega (arith, open_sizes)) (omega (
+      arith,
+      open_sizes,
+    )) ∙ later q high (omega (arith, open_sizes)) ne;
     led = fin e2 (omega (arith, open_sizes)) (omega (arith, open_sizes)) (omega (arith, open_sizes)) (omega (arith, open_sizes)) ∙ p8.here
-        ∙ ap (patched z) (p7.same e2 (omega (arith, open_sizes)) ∙ p6.same e2 (omega (arith, open_sizes)) ∙ p5.same e2 (omega (arith, open_sizes)) ∙ last.grows.same e2 (omega (arith, open_sizes))
+        ∙ ap (patched z) (p7.same e2 (omega (arith, open_sizes)) ∙ p6.same e2 (omega (arith, open_sizes)) ∙ p5.same e2 (omega (
+          arith,
+          open_sizes,
+        )) ∙ last.grows.same e2 (omega (arith, open_sizes))
         ∙ union.grows.same e2 (omega (arith, open_sizes)));
   }
 
@@ -90,7 +103,8 @@ module _ (t0 t1 t2 t3 t4 t5 t6 t7 t8 : Assembly) (s1 e1 n1 s2 e2 n2 u z : ℕ) (
     two = omega (arith, open_sizes);
     union_is = p8.same u (omega (arith, open_sizes)) ∙ p7.here ∙ ap (patched s2) (p6.same u (omega (arith, open_sizes)) ∙ p5.here
         ∙ ap (patched s1) (last.grows.same u (omega (arith, open_sizes)) ∙ union.here));
-    end_is = p8.same z (omega (arith, open_sizes)) ∙ p7.same z (omega (arith, open_sizes)) ∙ p6.same z (omega (arith, open_sizes)) ∙ p5.same z (omega (arith, open_sizes)) ∙ last.here;
+    end_is = p8.same z (omega (arith, open_sizes)) ∙ p7.same z (omega (arith, open_sizes)) ∙ p6.same z (omega (arith, open_sizes)) ∙
+        p5.same z (omega (arith, open_sizes)) ∙ last.here;
     outs = λ table fin q low high not_u not_z. ⊎_elim
         (λ (l : q < length t1.drafts). first.comes_out table z (open_first table fin) q low l)
         (λ (g : length t1.drafts ≤ q). ⊎_elim
@@ -116,28 +130,37 @@ module _ (old b c d f : Assembly) (u z n s e k : ℕ) (done : List Tree) (x : Tr
   more_before : (table : Table) → FinishesBut (length old.drafts) f.drafts u z table → FinishesBut (length old.drafts) b.drafts u z table
   more_before table fin q low high not_u not_z =
       let g = bs.u_z in let h = bs.z_there in
-      fin q low (omega (arith, more_sizes)) not_u not_z ∙ p2.same q (omega (arith, more_sizes)) ∙ p1.same q not_u ∙ draft.fragment.grows.same q high
+      fin q low (omega (arith, more_sizes)) not_u not_z ∙ p2.same q (omega (arith, more_sizes)) ∙ p1.same q not_u ∙
+      draft.fragment.grows.same q high
 
   more_part : (table : Table) → FinishesBut (length old.drafts) f.drafts u z table → Finished (length b.drafts) c.drafts e z table
   more_part table fin =
       let g = bs.u_z in let h = bs.z_there in let l = bs.progress.partly.grows.longer in
       record {
-        states = λ q low high ne. fin q (omega (arith, more_sizes)) (omega (arith, more_sizes)) (omega (arith, more_sizes)) (omega (arith, more_sizes)) ∙ p2.same q ne ∙ p1.same q (omega (arith, more_sizes));
-        led = fin e (omega (arith, more_sizes)) (omega (arith, more_sizes)) (omega (arith, more_sizes)) (omega (arith, more_sizes)) ∙ p2.here ∙ ap (patched z) (p1.same e (omega (arith, more_sizes)));
+        states = λ q low high ne. fin q (omega (arith, more_sizes)) (omega (arith, more_sizes)) (omega (arith, more_sizes)) (omega (
+          arith,
+          more_sizes,
+        )) ∙ p2.same q ne ∙ p1.same q (omega (arith, more_sizes));
+        led = fin e (omega (arith, more_sizes)) (omega (arith, more_sizes)) (omega (arith, more_sizes)) (omega (arith, more_sizes)) ∙
+            p2.here ∙ ap (patched z) (p1.same e (omega (arith, more_sizes)));
       }
 
   pub branches_then : Does b c s e x → Branches old f u z (n + k) (done ++ x ∷ [])
   branches_then does =
       let g = bs.u_z in let h = bs.z_there in let l = bs.progress.partly.grows.longer in let v = bs.u_new in let w = bs.two in
       record {
-        progress = then_led 8 (then_led 12 (then_made 16 bs.progress draft (omega (arith, more_sizes))) p1 v (omega (arith, more_sizes)) (omega (arith, more_sizes))) p2 (omega (arith, more_sizes))
+        progress = then_led 8 (then_led 12 (then_made 16 bs.progress draft (omega (arith, more_sizes))) p1 v (omega (arith, more_sizes))
+            (omega (arith, more_sizes))) p2 (omega (arith, more_sizes))
             (omega (arith, more_sizes)) (omega (arith, more_sizes));
         u_new = v;
         u_z = g;
         z_there = omega (arith, more_sizes);
         entries = bs.entries ++ s ∷ [];
         two = omega (arith, length-append bs.entries (s ∷ []));
-        union_is = p2.same u (omega (arith, more_sizes)) ∙ p1.here ∙ ap (patched s) (draft.fragment.grows.same u (omega (arith, more_sizes)) ∙ bs.union_is);
+        union_is = p2.same u (omega (arith, more_sizes)) ∙ p1.here ∙ ap (patched s) (draft.fragment.grows.same u (omega (
+          arith,
+          more_sizes,
+        )) ∙ bs.union_is);
         end_is = p2.same z (omega (arith, more_sizes)) ∙ p1.same z (omega (arith, more_sizes)) ∙ draft.fragment.grows.same z h ∙ bs.end_is;
         outs = λ table fin q low high not_u not_z. ⊎_elim
             (λ (less : q < length b.drafts). bs.outs table (more_before table fin) q low less not_u not_z)
@@ -171,7 +194,8 @@ module _ (old mid : Assembly) (u z n : ℕ) (done : List Tree) (bs : Branches ol
   pub branches_made : Makes old mid u z n
   branches_made =
       let g = bs.u_z in let h = bs.z_there in let v = bs.u_new in
-      made n bs.progress (omega (arith, done_sizes)) (omega (arith, done_sizes)) v (omega (arith, done_sizes)) (omega (arith, done_sizes)) h (ap is_sparse bs.end_is)
+      made n bs.progress (omega (arith, done_sizes)) (omega (arith, done_sizes)) v (omega (arith, done_sizes)) (omega (arith, done_sizes))
+      h (ap is_sparse bs.end_is)
       (λ table target fin q low high.
       let last : table z ≡ empty_draft target = fin.led ∙ ap (patched target) bs.end_is in
       let out = out_next table target z target (ap stands_for last) (out_at table target) in

@@ -1,5 +1,6 @@
 -- Fragments of captures.
-use Rattle.std.proofs.Common.{◌≡◌, ◌⊎◌, inl, inr, ℕ, ◌+◌, ◌*◌, ◌<◌, ◌≤◌, Bool, true, false, length, Option, Some, None, nat_lt, if◌then◌else◌}
+use Rattle.std.proofs.Common.{◌≡◌, ◌⊎◌, inl, inr, ℕ, ◌+◌, ◌*◌, ◌<◌, ◌≤◌}
+use Rattle.std.proofs.Common.{Bool, true, false, length, Option, Some, None, nat_lt, if◌then◌else◌}
 use Rattle.std.proofs.Common.{refl, sym, ap, ◌∙◌, subst, arith, ⊎_elim}
 use Rattle.std.specs.Option.{option_or}
 use Rattle.std.proofs.lemmas.Bool.{ltb-true}
@@ -97,7 +98,8 @@ end_refused old new index e same told = record {
   passed = group_bytes (length old.starts) index old e end_cause;
 } where
   end_cause : RefusesGroup (length old.starts) index old e
-  end_cause = group_refused (nat_lt greatest_index index) old index (capture_end_draft (length old.starts) index 0) e refl (omega arith) told
+  end_cause = group_refused (nat_lt greatest_index index) old index (capture_end_draft (length old.starts) index 0) e refl (omega arith)
+      told
 
 start_cause : (old : Assembly) (index : ℕ) (e : BuildError) →
     (e ≡ error.NoMemory) ⊎ Tells e (option_or (index_fault (length old.starts) index)
@@ -246,13 +248,18 @@ module _ (t0 t1 t2 t3 t4 t5 : Assembly) (a s e z n index pattern : ℕ) (name : 
 
   capture_start : (target : ℕ) (table : Table) → Finished (length t0.drafts) t5.drafts z target table →
       table a ≡ capture_start_draft (length t0.starts) index s
-  capture_start target table fin = fin.states a (omega (arith, capture_sizes)) (omega (arith, capture_sizes)) (omega (arith, capture_sizes)) ∙ p5.same a (omega (arith, capture_sizes)) ∙ p4.here
-      ∙ ap (patched s) (last.grows.same a (omega (arith, capture_sizes)) ∙ body.fragment.grows.same a (omega (arith, capture_sizes)) ∙ first.here)
+  capture_start target table fin = fin.states a (omega (arith, capture_sizes)) (omega (arith, capture_sizes)) (omega (
+    arith,
+    capture_sizes,
+  )) ∙ p5.same a (omega (arith, capture_sizes)) ∙ p4.here
+      ∙ ap (patched s) (last.grows.same a (omega (arith, capture_sizes)) ∙ body.fragment.grows.same a (omega (arith, capture_sizes)) ∙
+      first.here)
 
   capture_body : (target : ℕ) (table : Table) → Finished (length t0.drafts) t5.drafts z target table →
       Finished (length t1.drafts) t2.drafts e z table
   capture_body target table fin = record {
-    states = λ i low high ne. fin.states i (omega (arith, capture_sizes)) (omega (arith, capture_sizes)) (omega (arith, capture_sizes)) ∙ p5.same i ne ∙ p4.same i (omega (arith, capture_sizes))
+    states = λ i low high ne. fin.states i (omega (arith, capture_sizes)) (omega (arith, capture_sizes)) (omega (arith, capture_sizes)) ∙
+        p5.same i ne ∙ p4.same i (omega (arith, capture_sizes))
         ∙ last.grows.same i (omega (arith, capture_sizes));
     led = fin.states e (omega (arith, capture_sizes)) (omega (arith, capture_sizes)) (omega (arith, capture_sizes)) ∙ p5.here
         ∙ ap (patched z) (p4.same e (omega (arith, capture_sizes)) ∙ last.grows.same e (omega (arith, capture_sizes)));
@@ -260,7 +267,10 @@ module _ (t0 t1 t2 t3 t4 t5 : Assembly) (a s e z n index pattern : ℕ) (name : 
 
   pub capture_made : Makes t0 t5 a z (n + 2)
   capture_made =
-      made (n + 2) (then_led 3992 capture_4 p5 (omega (arith, capture_sizes)) (omega (arith, capture_sizes)) (omega (arith, capture_sizes))) (omega (arith, capture_sizes)) (omega (arith, capture_sizes)) (omega (arith, capture_sizes))
+      made (n + 2) (then_led 3992 capture_4 p5 (omega (arith, capture_sizes)) (omega (arith, capture_sizes)) (omega (
+        arith,
+        capture_sizes,
+      ))) (omega (arith, capture_sizes)) (omega (arith, capture_sizes)) (omega (arith, capture_sizes))
       (omega (arith, capture_sizes)) (omega (arith, capture_sizes)) (omega (arith, capture_sizes))
       (ap is_sparse capture_z)
       (λ table target fin.

@@ -159,7 +159,8 @@ pub record Rounds (how : How) (old mid : Assembly) (start end z i low most total
   pub options : Options old mid start end z n (most - i) low most greedy x
   pub fits : n + (most - i) * (room how.shrink x + 1) ≤ total
   pub groups : mid.groups ≡ noted how.which (length old.starts) x old.groups
-  pub bytes : sum_of_bytes mid + (most - i) * (byte_room how.shrink x + 36) + 4 ≤ sum_of_bytes old + repeated_bytes low (Some most) (byte_room how.shrink x)
+  pub bytes : sum_of_bytes mid + (most - i) * (byte_room how.shrink x + 36) + 4 ≤ sum_of_bytes old + repeated_bytes low (Some most)
+      (byte_room how.shrink x)
 
 pub rounds_owed : (how : How) (t0 t1 t2 : Assembly) (s e z low most : ℕ) (greedy : Bool) (x : Tree) → low ≤ most →
     Makes t0 t1 s e (low * room how.shrink x) → DoesCopies t0 t1 s e low x →

@@ -158,7 +158,8 @@ first_round_refused shrink most x some exit r =
 -- ---- forms that hand on what one call made
 
 -- no fewer rounds than one, in the forms for any number
-pub loop_wider : {a b : Assembly} {s e n : ℕ} (shrink : Bool) (low : ℕ) (greedy : Bool) (x : Tree) → Makes a b s e n → n ≤ room shrink x + 3 →
+pub loop_wider : {a b : Assembly} {s e n : ℕ} (shrink : Bool) (low : ℕ) (greedy : Bool) (x : Tree) → Makes a b s e n → n ≤ room shrink x +
+    3 →
     Makes a b s e (room shrink (repetition low None greedy x))
 loop_wider shrink low greedy x m le = made_capped (room shrink (repetition low None greedy x)) m (omega (
   arith,
@@ -166,7 +167,8 @@ loop_wider shrink low greedy x m le = made_capped (room shrink (repetition low N
   loop_of_one low (room shrink x),
 ))
 
-pub loop_bounds : {a b : Assembly} {s e : ℕ} (low low2 : ℕ) (greedy : Bool) (x : Tree) → low2 ≡ low → Does a b s e (repetition low None greedy x) →
+pub loop_bounds : {a b : Assembly} {s e : ℕ} (low low2 : ℕ) (greedy : Bool) (x : Tree) → low2 ≡ low → Does a b s e (repetition low None
+    greedy x) →
     Does a b s e (repetition low2 None greedy x)
 loop_bounds {a} {b} {s} {e} low low2 greedy x same does =
     let P : ℕ → Type 0 = λ k. Does a b s e (repetition k None greedy x) in subst P (sym same) does

@@ -110,7 +110,8 @@ module _ {t0 t1 t2 : Assembly} {u s e n : ℕ} (greedy : Bool) (body : Makes t0 
     }
 
 -- the states at both ends of a group
-module _ {t0 t1 t2 t3 : Assembly} {a s e z n p p2 index : ℕ} {groups : Groups} (first : Added t0 t1 a (capture_start_draft p index 0) groups)
+module _ {t0 t1 t2 t3 : Assembly} {a s e z n p p2 index : ℕ} {groups : Groups} (first : Added t0 t1 a (capture_start_draft p index 0)
+    groups)
     (body : Makes t1 t2 s e n) (last : Added t2 t3 z (capture_end_draft p2 index 0) t2.groups) where
   group_at : AddedAt t0 t1 a × MadeAt t1 t2 s e × AddedAt t2 t3 z
   group_at = (added_at first, made_at body, added_at last)

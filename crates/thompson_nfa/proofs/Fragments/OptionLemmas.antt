@@ -28,22 +28,29 @@ module _ (t0 t1 t2 t3 t4 : Assembly) (greedy : Bool) (u s e n z : ℕ) (added : 
   option_sizes = (added_at added, made_at body, p3.size, p4.size)
 
   option_u : (target : ℕ) (table : Table) → Finished (length t0.drafts) t4.drafts e target table → table u ≡ choice greedy s z
-  option_u target table fin = fin.states u (omega (arith, option_sizes)) (omega (arith, option_sizes)) (omega (arith, option_sizes)) ∙ p4.here
+  option_u target table fin = fin.states u (omega (arith, option_sizes)) (omega (arith, option_sizes)) (omega (arith, option_sizes)) ∙
+      p4.here
       ∙ ap (patched z) (p3.here ∙ ap (patched s) (body.fragment.grows.same u (omega (arith, option_sizes)) ∙ added.here))
       ∙ chosen greedy s z
 
   option_body : (target : ℕ) (table : Table) → Finished (length t0.drafts) t4.drafts e target table →
       Finished (length t1.drafts) t2.drafts e target table
   option_body target table fin = record {
-    states = λ i low high ne. fin.states i (omega (arith, option_sizes)) (omega (arith, option_sizes)) ne ∙ p4.same i (omega (arith, option_sizes)) ∙ p3.same i (omega (arith, option_sizes));
+    states = λ i low high ne. fin.states i (omega (arith, option_sizes)) (omega (arith, option_sizes)) ne ∙ p4.same i (omega (
+      arith,
+      option_sizes,
+    )) ∙ p3.same i (omega (arith, option_sizes));
     led = fin.led ∙ ap (patched target) (p4.same e (omega (arith, option_sizes)) ∙ p3.same e (omega (arith, option_sizes)));
   }
 
   pub option_made : Makes t0 t4 u e (n + 1)
   option_made =
-      made (n + 1) (then_led 3992 (then_led 3996 (then_made 4000 (choice_first greedy added) body (omega (arith, option_sizes))) p3 (omega (arith, option_sizes))
-      (omega (arith, option_sizes)) (omega (arith, option_sizes))) p4 (omega (arith, option_sizes)) (omega (arith, option_sizes)) (omega (arith, option_sizes)))
-      (omega (arith, option_sizes)) (omega (arith, option_sizes)) (omega (arith, option_sizes)) (omega (arith, option_sizes)) (omega (arith, option_sizes)) (omega (arith, option_sizes))
+      made (n + 1) (then_led 3992 (then_led 3996 (then_made 4000 (choice_first greedy added) body (omega (arith, option_sizes))) p3 (omega
+      (arith, option_sizes))
+      (omega (arith, option_sizes)) (omega (arith, option_sizes))) p4 (omega (arith, option_sizes)) (omega (arith, option_sizes)) (omega
+      (arith, option_sizes)))
+      (omega (arith, option_sizes)) (omega (arith, option_sizes)) (omega (arith, option_sizes)) (omega (arith, option_sizes)) (omega
+      (arith, option_sizes)) (omega (arith, option_sizes))
       (ap is_sparse (p4.same e (omega (arith, option_sizes)) ∙ p3.same e (omega (arith, option_sizes))) ∙ body.fragment.can_be_led_on)
       (λ table target fin.
       let real_u = out_here table target u (ap stands_for (option_u target table fin) ∙ choice_stands greedy s z) in
@@ -127,7 +134,8 @@ module _ (t0 t1 t2 : Assembly) (s e n z left min most : ℕ) (greedy : Bool) (x 
     apart = omega (arith, owed_sizes);
     kind = ap is_sparse (added.grows.same e (omega (arith, owed_sizes))) ∙ prefix.fragment.can_be_led_on;
     exit_is = added.here;
-    outs = λ table target fin here q low high not_z. prefix.comes_out table target (owed_prefix target table fin here) q low (omega (arith, owed_sizes));
+    outs = λ table target fin here q low high not_z. prefix.comes_out table target (owed_prefix target table fin here) q low (omega
+        (arith, owed_sizes));
     does = λ table target fin here rest.
         let P : ℕ → Type 0 = λ k. Denotes t0.reverse table s z (repetition k (Some most) greedy x) in
         let Q : ℕ → Type 0 = λ k. Denotes t0.reverse table s z (repetition (min + 0) (Some k) greedy x) in
@@ -150,7 +158,13 @@ module _ (t0 t1 t2 : Assembly) (u e n z left most : ℕ) (greedy : Bool) (x : Tr
 
   first_option : (target : ℕ) (table : Table) → FinishesBut (length t0.drafts) t2.drafts e z table →
       table e ≡ patched target (draft_at t2.drafts e) → Finished (length t1.drafts) t2.drafts e target table
-  first_option target table fin here = record { states = λ q low high ne. fin q (omega (arith, first_sizes)) high ne (omega (arith, first_sizes)); led = here }
+  first_option target table fin here = record {
+    states = λ q low high ne. fin q (omega (arith, first_sizes)) high ne (omega (
+      arith,
+      first_sizes,
+    ));
+    led = here;
+  }
 
   pub options_first : Options t0 t2 u e z (1 + n) left 0 most greedy x
   options_first = record {
@@ -190,7 +204,8 @@ module _ (old b c d : Assembly) (start end z n left rest min most u e k : ℕ) (
 
   more_before : (target : ℕ) (table : Table) → FinishesBut (length old.drafts) d.drafts e z table →
       FinishesBut (length old.drafts) b.drafts end z table
-  more_before target table fin q low high not_end not_z = fin q low (omega (arith, more_sizes)) (omega (arith, more_sizes)) not_z ∙ led.same q not_end
+  more_before target table fin q low high not_end not_z = fin q low (omega (arith, more_sizes)) (omega (arith, more_sizes)) not_z ∙
+      led.same q not_end
       ∙ option.fragment.grows.same q high
 
   more_end : (target : ℕ) (table : Table) → FinishesBut (length old.drafts) d.drafts e z table →
@@ -204,7 +219,8 @@ module _ (old b c d : Assembly) (start end z n left rest min most u e k : ℕ) (
   more_option target table fin here =
       let a = os.end_new in let g = os.end_there in let h = os.z_there in let l = os.progress.partly.grows.longer in
       record {
-        states = λ q low high ne. fin q (omega (arith, more_sizes)) (omega (arith, more_sizes)) ne (omega (arith, more_sizes)) ∙ led.same q (omega (arith, more_sizes));
+        states = λ q low high ne. fin q (omega (arith, more_sizes)) (omega (arith, more_sizes)) ne (omega (arith, more_sizes)) ∙ led.same
+            q (omega (arith, more_sizes));
         led = here ∙ ap (patched target) (led.same e (omega (arith, more_sizes)));
       }
 
@@ -213,7 +229,8 @@ module _ (old b c d : Assembly) (start end z n left rest min most u e k : ℕ) (
       let a = os.end_new in let g = os.end_there in let h = os.z_there in let l = os.progress.partly.grows.longer in let v = os.start_new in
       let w = os.start_there in let i = os.z_new in let ap1 = os.apart in
       record {
-        progress = then_led 12 (then_made 16 os.progress option (omega (arith, more_sizes))) led a (omega (arith, more_sizes)) (omega (arith, more_sizes));
+        progress = then_led 12 (then_made 16 os.progress option (omega (arith, more_sizes))) led a (omega (arith, more_sizes)) (omega
+            (arith, more_sizes));
         start_new = v;
         start_there = omega (arith, more_sizes);
         end_new = omega (arith, more_sizes);
@@ -267,14 +284,18 @@ module _ (old mid new : Assembly) (start end z n left min most : ℕ) (greedy : 
   pub options_made : Makes old new start z n
   options_made =
       let a = os.end_new in let h = os.z_there in let v = os.start_new in let w = os.start_there in let i = os.z_new in
-      made n (then_led 8 os.progress led a h (omega (arith, last_sizes))) (omega (arith, last_sizes)) (omega (arith, last_sizes)) v (omega (arith, last_sizes)) i (omega (arith, last_sizes))
+      made n (then_led 8 os.progress led a h (omega (arith, last_sizes))) (omega (arith, last_sizes)) (omega (arith, last_sizes)) v (omega
+      (arith, last_sizes)) i (omega (arith, last_sizes))
       (ap is_sparse last_z)
       (λ table target fin q low high.
       let out = out_next table target z target (ap stands_for (fin.led ∙ ap (patched target) last_z)) (out_at table target) in
       let P : ℕ → Type 0 = λ k. ComesOut table target k in
       ⊎_elim
       (λ (e : q ≡ z). subst P (sym e) out)
-      (λ (not_z : q ≡ z → ⊥). let o = os.outs table z (last_but target table fin) (last_end target table fin) q low (omega (arith, last_sizes)) not_z in
+      (λ (not_z : q ≡ z → ⊥). let o = os.outs table z (last_but target table fin) (last_end target table fin) q low (omega (
+        arith,
+        last_sizes,
+      )) not_z in
       out_on table target z o.0 q o.1 out)
       (cases_eq q z))
 

@@ -74,7 +74,8 @@ module _ (t0 t1 t2 t3 t4 : Assembly) (greedy : Bool) (u s e n : ℕ) (added : Ad
   star_3 = then_led 3996 star_2 led (omega (arith, star_sizes)) (omega (arith, star_sizes)) (omega (arith, star_sizes))
 
   star_u : draft_at t4.drafts u ≡ patched s (no_choice greedy)
-  star_u = back.same u (omega (arith, star_sizes)) ∙ led.here ∙ ap (patched s) (body.fragment.grows.same u (omega (arith, star_sizes)) ∙ added.here)
+  star_u = back.same u (omega (arith, star_sizes)) ∙ led.here ∙ ap (patched s) (body.fragment.grows.same u (omega (arith, star_sizes)) ∙
+      added.here)
 
   star_choice : (target : ℕ) (table : Table) → Finished (length t0.drafts) t4.drafts u target table → table u ≡ choice greedy s target
   star_choice target table fin = fin.led ∙ ap (patched target) star_u ∙ chosen greedy s target
@@ -82,13 +83,16 @@ module _ (t0 t1 t2 t3 t4 : Assembly) (greedy : Bool) (u s e n : ℕ) (added : Ad
   star_body : (target : ℕ) (table : Table) → Finished (length t0.drafts) t4.drafts u target table →
       Finished (length t1.drafts) t2.drafts e u table
   star_body target table fin = record {
-    states = λ q low high ne. fin.states q (omega (arith, star_sizes)) (omega (arith, star_sizes)) (omega (arith, star_sizes)) ∙ back.same q ne ∙ led.same q (omega (arith, star_sizes));
-    led = fin.states e (omega (arith, star_sizes)) (omega (arith, star_sizes)) (omega (arith, star_sizes)) ∙ back.here ∙ ap (patched u) (led.same e (omega (arith, star_sizes)));
+    states = λ q low high ne. fin.states q (omega (arith, star_sizes)) (omega (arith, star_sizes)) (omega (arith, star_sizes)) ∙ back.same
+        q ne ∙ led.same q (omega (arith, star_sizes));
+    led = fin.states e (omega (arith, star_sizes)) (omega (arith, star_sizes)) (omega (arith, star_sizes)) ∙ back.here ∙ ap (patched u)
+        (led.same e (omega (arith, star_sizes)));
   }
 
   pub star_made : Makes t0 t4 u u (n + 1)
   star_made =
-      made (n + 1) (then_led 3992 star_3 back (omega (arith, star_sizes)) (omega (arith, star_sizes)) (omega (arith, star_sizes))) (omega (arith, star_sizes)) (omega (arith, star_sizes)) (omega (arith, star_sizes))
+      made (n + 1) (then_led 3992 star_3 back (omega (arith, star_sizes)) (omega (arith, star_sizes)) (omega (arith, star_sizes))) (omega
+      (arith, star_sizes)) (omega (arith, star_sizes)) (omega (arith, star_sizes))
       (omega (arith, star_sizes)) (omega (arith, star_sizes)) (omega (arith, star_sizes))
       (ap is_sparse star_u ∙ choice_kind greedy s)
       (λ table target fin.
@@ -132,15 +136,20 @@ module _ (t0 t1 t2 t3 t4 : Assembly) (greedy : Bool) (u s e n : ℕ) (body : Mak
   plus_body : (target : ℕ) (table : Table) → Finished (length t0.drafts) t4.drafts u target table →
       Finished (length t0.drafts) t1.drafts e u table
   plus_body target table fin = record {
-    states = λ q low high ne. fin.states q (omega (arith, plus_sizes)) (omega (arith, plus_sizes)) (omega (arith, plus_sizes)) ∙ led.same q (omega (arith, plus_sizes)) ∙ back.same q ne
+    states = λ q low high ne. fin.states q (omega (arith, plus_sizes)) (omega (arith, plus_sizes)) (omega (arith, plus_sizes)) ∙ led.same
+        q (omega (arith, plus_sizes)) ∙ back.same q ne
         ∙ added.grows.same q (omega (arith, plus_sizes));
-    led = fin.states e (omega (arith, plus_sizes)) (omega (arith, plus_sizes)) (omega (arith, plus_sizes)) ∙ led.same e (omega (arith, plus_sizes)) ∙ back.here
+    led = fin.states e (omega (arith, plus_sizes)) (omega (arith, plus_sizes)) (omega (arith, plus_sizes)) ∙ led.same e (omega (
+      arith,
+      plus_sizes,
+    )) ∙ back.here
         ∙ ap (patched u) (added.grows.same e (omega (arith, plus_sizes)));
   }
 
   pub plus_made : Makes t0 t4 s u (n + 1)
   plus_made =
-      made (n + 1) (then_led 3992 plus_3 led (omega (arith, plus_sizes)) (omega (arith, plus_sizes)) (omega (arith, plus_sizes))) (omega (arith, plus_sizes)) (omega (arith, plus_sizes)) (omega (arith, plus_sizes))
+      made (n + 1) (then_led 3992 plus_3 led (omega (arith, plus_sizes)) (omega (arith, plus_sizes)) (omega (arith, plus_sizes))) (omega
+      (arith, plus_sizes)) (omega (arith, plus_sizes)) (omega (arith, plus_sizes))
       (omega (arith, plus_sizes)) (omega (arith, plus_sizes)) (omega (arith, plus_sizes))
       (ap is_sparse plus_u ∙ choice_kind greedy s)
       (λ table target fin.
@@ -163,7 +172,8 @@ module _ (t0 t1 t2 t3 t4 t5 t6 t7 t8 t9 : Assembly) (greedy : Bool) (s e u q z n
     (p1 : Added t1 t2 u (no_choice greedy) t1.groups) (p2 : Led t2 t3 e u) (p3 : Led t3 t4 u s)
     (p4 : Added t4 t5 q (no_choice greedy) t4.groups) (p5 : Added t5 t6 z (empty_draft 0) t5.groups) (p6 : Led t6 t7 q s)
     (p7 : Led t7 t8 q z) (p8 : Led t8 t9 u z) where
-  loop_sizes : MadeAt t0 t1 s e × AddedAt t1 t2 u × LedAt t2 t3 × LedAt t3 t4 × AddedAt t4 t5 q × AddedAt t5 t6 z × LedAt t6 t7 × LedAt t7 t8 × LedAt t8 t9
+  loop_sizes : MadeAt t0 t1 s e × AddedAt t1 t2 u × LedAt t2 t3 × LedAt t3 t4 × AddedAt t4 t5 q × AddedAt t5 t6 z × LedAt t6 t7 × LedAt t7
+      t8 × LedAt t8 t9
   loop_sizes = (made_at body, added_at p1, p2.size, p3.size, added_at p4, added_at p5, p6.size, p7.size, p8.size)
 
   pub loop_2 : Progress false t0 t2 (n + 1) 4000
@@ -195,29 +205,36 @@ module _ (t0 t1 t2 t3 t4 t5 t6 t7 t8 t9 : Assembly) (greedy : Bool) (s e u q z n
 
   loop_u : (target : ℕ) (table : Table) → Finished (length t0.drafts) t9.drafts z target table → table u ≡ choice greedy s z
   loop_u target table fin = fin.states u (omega (arith, loop_sizes)) (omega (arith, loop_sizes)) (omega (arith, loop_sizes)) ∙ p8.here
-      ∙ ap (patched z) (p7.same u (omega (arith, loop_sizes)) ∙ p6.same u (omega (arith, loop_sizes)) ∙ p5.grows.same u (omega (arith, loop_sizes)) ∙ p4.grows.same u (omega (arith, loop_sizes))
+      ∙ ap (patched z) (p7.same u (omega (arith, loop_sizes)) ∙ p6.same u (omega (arith, loop_sizes)) ∙ p5.grows.same u (omega (
+        arith,
+        loop_sizes,
+      )) ∙ p4.grows.same u (omega (arith, loop_sizes))
       ∙ p3.here ∙ ap (patched s) (p2.same u (omega (arith, loop_sizes)) ∙ p1.here)) ∙ chosen greedy s z
 
   loop_q : (target : ℕ) (table : Table) → Finished (length t0.drafts) t9.drafts z target table → table q ≡ choice greedy s z
-  loop_q target table fin = fin.states q (omega (arith, loop_sizes)) (omega (arith, loop_sizes)) (omega (arith, loop_sizes)) ∙ p8.same q (omega (arith, loop_sizes)) ∙ p7.here
+  loop_q target table fin = fin.states q (omega (arith, loop_sizes)) (omega (arith, loop_sizes)) (omega (arith, loop_sizes)) ∙ p8.same q
+      (omega (arith, loop_sizes)) ∙ p7.here
       ∙ ap (patched z) (p6.here ∙ ap (patched s) (p5.grows.same q (omega (arith, loop_sizes)) ∙ p4.here)) ∙ chosen greedy s z
 
   loop_body : (target : ℕ) (table : Table) → Finished (length t0.drafts) t9.drafts z target table →
       Finished (length t0.drafts) t1.drafts e u table
   loop_body target table fin = record {
     states = λ i low high ne. fin.states i (omega (arith, loop_sizes)) (omega (arith, loop_sizes)) (omega (arith, loop_sizes))
-        ∙ p8.same i (omega (arith, loop_sizes)) ∙ p7.same i (omega (arith, loop_sizes)) ∙ p6.same i (omega (arith, loop_sizes)) ∙ p5.grows.same i (omega (arith, loop_sizes))
+        ∙ p8.same i (omega (arith, loop_sizes)) ∙ p7.same i (omega (arith, loop_sizes)) ∙ p6.same i (omega (arith, loop_sizes)) ∙
+        p5.grows.same i (omega (arith, loop_sizes))
         ∙ p4.grows.same i (omega (arith, loop_sizes))
         ∙ p3.same i (omega (arith, loop_sizes)) ∙ p2.same i ne ∙ p1.grows.same i (omega (arith, loop_sizes));
     led = fin.states e (omega (arith, loop_sizes)) (omega (arith, loop_sizes)) (omega (arith, loop_sizes))
-        ∙ p8.same e (omega (arith, loop_sizes)) ∙ p7.same e (omega (arith, loop_sizes)) ∙ p6.same e (omega (arith, loop_sizes)) ∙ p5.grows.same e (omega (arith, loop_sizes))
+        ∙ p8.same e (omega (arith, loop_sizes)) ∙ p7.same e (omega (arith, loop_sizes)) ∙ p6.same e (omega (arith, loop_sizes)) ∙
+        p5.grows.same e (omega (arith, loop_sizes))
         ∙ p4.grows.same e (omega (arith, loop_sizes))
         ∙ p3.same e (omega (arith, loop_sizes)) ∙ p2.here ∙ ap (patched u) (p1.grows.same e (omega (arith, loop_sizes)));
   }
 
   pub loop_made : Makes t0 t9 q z (n + 3)
   loop_made =
-      made (n + 3) (then_led 3988 loop_8 p8 (omega (arith, loop_sizes)) (omega (arith, loop_sizes)) (omega (arith, loop_sizes))) (omega (arith, loop_sizes)) (omega (arith, loop_sizes)) (omega (arith, loop_sizes))
+      made (n + 3) (then_led 3988 loop_8 p8 (omega (arith, loop_sizes)) (omega (arith, loop_sizes)) (omega (arith, loop_sizes))) (omega
+      (arith, loop_sizes)) (omega (arith, loop_sizes)) (omega (arith, loop_sizes))
       (omega (arith, loop_sizes)) (omega (arith, loop_sizes)) (omega (arith, loop_sizes))
       (ap is_sparse loop_z)
       (λ table target fin.
@@ -227,7 +244,8 @@ module _ (t0 t1 t2 t3 t4 t5 t6 t7 t8 t9 : Assembly) (greedy : Bool) (s e u q z n
       let P : ℕ → Type 0 = λ k. AllComeOut table target k q in
       all_join table target (length t0.drafts) (length t1.drafts) (length t9.drafts)
       (all_on table target u (length t0.drafts) (length t1.drafts) (body.comes_out table u (loop_body target table fin)) real_u)
-      (all_join table target (length t1.drafts) q (length t9.drafts) (subst P p1.is (all_here table target u q (omega (arith, loop_sizes)) real_u))
+      (all_join table target (length t1.drafts) q (length t9.drafts) (subst P p1.is (all_here table target u q (omega (arith, loop_sizes))
+      real_u))
       (all_join table target q z (length t9.drafts) (all_here table target q z (omega (arith, loop_sizes)) real_q)
       (all_here table target z (length t9.drafts) (omega (arith, loop_sizes)) last))))
 

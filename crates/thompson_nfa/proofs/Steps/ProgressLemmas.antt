@@ -150,7 +150,13 @@ pub then_quits : {plain : Bool} {old mid new : Assembly} {k s n bytes : ℕ} {e 
     Stays mid new n bytes e → k + n ≤ m → bytes ≤ s + 4096 * n → Quits old new m e
 then_quits {plain} {old} {mid} {new} {k} {s} {n} {bytes} {e} m p r le lb = record {
   settings = (grows_trans p.partly.grows (let P : Assembly → Type 0 = λ b. Grows mid b in subst P (sym r.same) (grows_refl mid))).settings;
-  cause = step_later old mid n bytes m m e (size_kept p.partly.grows) (omega (arith, p.states, le)) (omega (arith, p.states, p.bytes, le, lb))
+  cause = step_later old mid n bytes m m e (size_kept p.partly.grows) (omega (arith, p.states, le)) (omega (
+    arith,
+    p.states,
+    p.bytes,
+    le,
+    lb,
+  ))
       (omega arith) r.cause;
 }
 

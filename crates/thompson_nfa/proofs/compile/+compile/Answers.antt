@@ -260,7 +260,8 @@ concatenation-returns-in_err-first t c =
       denotes = err_only _ _ c.in_err-first.field-0.0 is;
       weighs = err_only _ _ c.in_err-first.field-0.0 is;
       groups = err_only _ _ c.in_err-first.field-0.0 is;
-      refused = handed _ _ c.in_err-first.field-0.0 is (first_part_refused c.args.how _ _ c.index-subs-begin.result c.args.subs.now _ (omega arith)
+      refused = handed _ _ c.in_err-first.field-0.0 is (first_part_refused c.args.how _ _ c.index-subs-begin.result c.args.subs.now _
+          (omega arith)
           (c.index-subs-begin.is ∙ ap (λ k. get_or c.args.subs.now k c.index-subs-begin.result)
           (c.turned_place-begin.ensures.value ∙ ap (λ back. turned_place back 0 (length c.args.subs.now)) c.get_reverse-reverse.ensures))
           c.in_err-first.ensures.refused);
@@ -281,15 +282,18 @@ concatenation-returns-in_err-next t c =
       denotes = err_only _ _ c.in_err-next.field-0.0 is;
       weighs = err_only _ _ c.in_err-next.field-0.0 is;
       groups = err_only _ _ c.in_err-next.field-0.0 is;
-      refused = handed _ _ c.in_err-next.field-0.0 is (parts_refused c.args.how _ _ _ _ c.loop-i.i c.args.subs.now c.loop-i.invariant _ c.index-subs-place.result _ c.loop-i-test.true
+      refused = handed _ _ c.in_err-next.field-0.0 is (parts_refused c.args.how _ _ _ _ c.loop-i.i c.args.subs.now c.loop-i.invariant _
+          c.index-subs-place.result _ c.loop-i-test.true
           (c.index-subs-place.is ∙ ap (λ k. get_or c.args.subs.now k c.index-subs-place.result)
-          (c.turned_place-place.ensures.value ∙ ap (λ back. turned_place back c.loop-i.i (length c.args.subs.now)) c.get_reverse-reverse.ensures))
+          (c.turned_place-place.ensures.value ∙ ap (λ back. turned_place back c.loop-i.i (length c.args.subs.now))
+          c.get_reverse-reverse.ensures))
           c.in_err-next.ensures.refused);
       passed = handed _ _ c.in_err-next.field-0.0 is (omega (
         arith,
         parts_left c.args.how _ _ _ _ c.loop-i.i c.args.subs.now c.loop-i.invariant c.index-subs-place.result c.loop-i-test.true
             (c.index-subs-place.is ∙ ap (λ k. get_or c.args.subs.now k c.index-subs-place.result)
-            (c.turned_place-place.ensures.value ∙ ap (λ back. turned_place back c.loop-i.i (length c.args.subs.now)) c.get_reverse-reverse.ensures)),
+            (c.turned_place-place.ensures.value ∙ ap (λ back. turned_place back c.loop-i.i (length c.args.subs.now))
+            c.get_reverse-reverse.ensures)),
         c.in_err-next.ensures.passed,
       ));
     }
@@ -302,16 +306,19 @@ concatenation-returns-in_err-lead t c =
       denotes = err_only _ _ c.in_err-lead.field-0.0 is;
       weighs = err_only _ _ c.in_err-lead.field-0.0 is;
       groups = err_only _ _ c.in_err-lead.field-0.0 is;
-      refused = handed _ _ c.in_err-lead.field-0.0 is (parts_lead_refused c.args.how _ _ _ _ c.loop-i.i c.args.subs.now c.loop-i.invariant _ _ _ _ c.index-subs-place.result _
+      refused = handed _ _ c.in_err-lead.field-0.0 is (parts_lead_refused c.args.how _ _ _ _ c.loop-i.i c.args.subs.now c.loop-i.invariant
+          _ _ _ _ c.index-subs-place.result _
           c.loop-i-test.true
           (c.index-subs-place.is ∙ ap (λ k. get_or c.args.subs.now k c.index-subs-place.result)
-          (c.turned_place-place.ensures.value ∙ ap (λ back. turned_place back c.loop-i.i (length c.args.subs.now)) c.get_reverse-reverse.ensures))
+          (c.turned_place-place.ensures.value ∙ ap (λ back. turned_place back c.loop-i.i (length c.args.subs.now))
+          c.get_reverse-reverse.ensures))
           c.in_ok-next.ensures.made c.in_err-lead.ensures);
       passed = handed _ _ c.in_err-lead.field-0.0 is (omega (
         arith,
         parts_left c.args.how _ _ _ _ c.loop-i.i c.args.subs.now c.loop-i.invariant c.index-subs-place.result c.loop-i-test.true
             (c.index-subs-place.is ∙ ap (λ k. get_or c.args.subs.now k c.index-subs-place.result)
-            (c.turned_place-place.ensures.value ∙ ap (λ back. turned_place back c.loop-i.i (length c.args.subs.now)) c.get_reverse-reverse.ensures)),
+            (c.turned_place-place.ensures.value ∙ ap (λ back. turned_place back c.loop-i.i (length c.args.subs.now))
+            c.get_reverse-reverse.ensures)),
         c.in_ok-next.ensures.weighs,
         c.in_err-lead.ensures.passed,
       ));
@@ -344,7 +351,8 @@ alternatives-returns-in_err-literals t c =
       denotes = err_only _ _ c.in_err-literals.field-0.0 is;
       weighs = err_only _ _ c.in_err-literals.field-0.0 is;
       groups = err_only _ _ c.in_err-literals.field-0.0 is;
-      refused = handed _ _ c.in_err-literals.field-0.0 is (literals_refused c.args.how.which c.args.how.shrink _ _ c.args.subs.now _ (sym c.all_literals.ensures
+      refused = handed _ _ c.in_err-literals.field-0.0 is (literals_refused c.args.how.which c.args.how.shrink _ _ c.args.subs.now _ (sym
+          c.all_literals.ensures
           ∙ c.if-all_literals.true) c.in_err-literals.ensures.refused);
       passed = handed _ _ c.in_err-literals.field-0.0 is (omega (
         arith,
@@ -373,12 +381,14 @@ alternatives-returns-in_err-union t c =
       denotes = err_only _ _ c.in_err-union.field-0.0 is;
       weighs = err_only _ _ c.in_err-union.field-0.0 is;
       groups = err_only _ _ c.in_err-union.field-0.0 is;
-      refused = handed _ _ c.in_err-union.field-0.0 is (union_refused c.args.how _ _ _ _ _ _ _ c.index-subs-0-2.result c.index-subs-1.result c.args.subs.now
+      refused = handed _ _ c.in_err-union.field-0.0 is (union_refused c.args.how _ _ _ _ _ _ _ c.index-subs-0-2.result
+          c.index-subs-1.result c.args.subs.now
           (omega arith) c.index-subs-0-2.is c.index-subs-1.is
           c.in_ok-first.ensures.made c.in_ok-second.ensures.made _ _ c.in_err-union.ensures);
       passed = handed _ _ c.in_err-union.field-0.0 is (omega (
         arith,
-        two_bytes c.args.how.shrink c.args.subs.now c.index-subs-0-2.result c.index-subs-1.result (omega arith) c.index-subs-0-2.is c.index-subs-1.is,
+        two_bytes c.args.how.shrink c.args.subs.now c.index-subs-0-2.result c.index-subs-1.result (omega arith) c.index-subs-0-2.is
+            c.index-subs-1.is,
         bytes_of_alternation c.args.how.shrink c.args.subs.now (sym c.all_literals.ensures ∙ c.if-all_literals.false),
         c.in_ok-first.ensures.weighs,
         c.in_ok-second.ensures.weighs,
@@ -394,12 +404,14 @@ alternatives-returns-in_err-end t c =
       denotes = err_only _ _ c.in_err-end.field-0.0 is;
       weighs = err_only _ _ c.in_err-end.field-0.0 is;
       groups = err_only _ _ c.in_err-end.field-0.0 is;
-      refused = handed _ _ c.in_err-end.field-0.0 is (end_refused c.args.how _ _ _ _ _ _ _ c.index-subs-0-2.result c.index-subs-1.result c.args.subs.now
+      refused = handed _ _ c.in_err-end.field-0.0 is (end_refused c.args.how _ _ _ _ _ _ _ c.index-subs-0-2.result c.index-subs-1.result
+          c.args.subs.now
           (omega arith) c.index-subs-0-2.is c.index-subs-1.is
           c.in_ok-first.ensures.made c.in_ok-second.ensures.made _ _ _ _ c.in_ok-union.ensures c.in_err-end.ensures);
       passed = handed _ _ c.in_err-end.field-0.0 is (omega (
         arith,
-        two_bytes c.args.how.shrink c.args.subs.now c.index-subs-0-2.result c.index-subs-1.result (omega arith) c.index-subs-0-2.is c.index-subs-1.is,
+        two_bytes c.args.how.shrink c.args.subs.now c.index-subs-0-2.result c.index-subs-1.result (omega arith) c.index-subs-0-2.is
+            c.index-subs-1.is,
         bytes_of_alternation c.args.how.shrink c.args.subs.now (sym c.all_literals.ensures ∙ c.if-all_literals.false),
         c.in_ok-first.ensures.weighs,
         c.in_ok-second.ensures.weighs,
@@ -416,12 +428,15 @@ alternatives-returns-in_err-lead t c =
       denotes = err_only _ _ c.in_err-lead.field-0.0 is;
       weighs = err_only _ _ c.in_err-lead.field-0.0 is;
       groups = err_only _ _ c.in_err-lead.field-0.0 is;
-      refused = handed _ _ c.in_err-lead.field-0.0 is (first_lead_refused c.args.how _ _ _ _ _ _ _ c.index-subs-0-2.result c.index-subs-1.result c.args.subs.now
+      refused = handed _ _ c.in_err-lead.field-0.0 is (first_lead_refused c.args.how _ _ _ _ _ _ _ c.index-subs-0-2.result
+          c.index-subs-1.result c.args.subs.now
           (omega arith) c.index-subs-0-2.is c.index-subs-1.is
-          c.in_ok-first.ensures.made c.in_ok-second.ensures.made _ _ _ _ c.in_ok-union.ensures c.in_ok-end.ensures _ _ c.in_err-lead.ensures);
+          c.in_ok-first.ensures.made c.in_ok-second.ensures.made _ _ _ _ c.in_ok-union.ensures c.in_ok-end.ensures _ _
+          c.in_err-lead.ensures);
       passed = handed _ _ c.in_err-lead.field-0.0 is (omega (
         arith,
-        two_bytes c.args.how.shrink c.args.subs.now c.index-subs-0-2.result c.index-subs-1.result (omega arith) c.index-subs-0-2.is c.index-subs-1.is,
+        two_bytes c.args.how.shrink c.args.subs.now c.index-subs-0-2.result c.index-subs-1.result (omega arith) c.index-subs-0-2.is
+            c.index-subs-1.is,
         bytes_of_alternation c.args.how.shrink c.args.subs.now (sym c.all_literals.ensures ∙ c.if-all_literals.false),
         c.in_ok-first.ensures.weighs,
         c.in_ok-second.ensures.weighs,
@@ -439,13 +454,16 @@ alternatives-returns-in_err-lead-2 t c =
       denotes = err_only _ _ c.in_err-lead-2.field-0.0 is;
       weighs = err_only _ _ c.in_err-lead-2.field-0.0 is;
       groups = err_only _ _ c.in_err-lead-2.field-0.0 is;
-      refused = handed _ _ c.in_err-lead-2.field-0.0 is (second_lead_refused c.args.how _ _ _ _ _ _ _ c.index-subs-0-2.result c.index-subs-1.result c.args.subs.now
+      refused = handed _ _ c.in_err-lead-2.field-0.0 is (second_lead_refused c.args.how _ _ _ _ _ _ _ c.index-subs-0-2.result
+          c.index-subs-1.result c.args.subs.now
           (omega arith) c.index-subs-0-2.is c.index-subs-1.is
-          c.in_ok-first.ensures.made c.in_ok-second.ensures.made _ _ _ _ c.in_ok-union.ensures c.in_ok-end.ensures _ _ _ c.in_ok-lead.ensures
+          c.in_ok-first.ensures.made c.in_ok-second.ensures.made _ _ _ _ c.in_ok-union.ensures c.in_ok-end.ensures _ _ _
+          c.in_ok-lead.ensures
           c.in_err-lead-2.ensures);
       passed = handed _ _ c.in_err-lead-2.field-0.0 is (omega (
         arith,
-        two_bytes c.args.how.shrink c.args.subs.now c.index-subs-0-2.result c.index-subs-1.result (omega arith) c.index-subs-0-2.is c.index-subs-1.is,
+        two_bytes c.args.how.shrink c.args.subs.now c.index-subs-0-2.result c.index-subs-1.result (omega arith) c.index-subs-0-2.is
+            c.index-subs-1.is,
         bytes_of_alternation c.args.how.shrink c.args.subs.now (sym c.all_literals.ensures ∙ c.if-all_literals.false),
         c.in_ok-first.ensures.weighs,
         c.in_ok-second.ensures.weighs,
@@ -464,13 +482,16 @@ alternatives-returns-in_err-lead-3 t c =
       denotes = err_only _ _ c.in_err-lead-3.field-0.0 is;
       weighs = err_only _ _ c.in_err-lead-3.field-0.0 is;
       groups = err_only _ _ c.in_err-lead-3.field-0.0 is;
-      refused = handed _ _ c.in_err-lead-3.field-0.0 is (third_lead_refused c.args.how _ _ _ _ _ _ _ c.index-subs-0-2.result c.index-subs-1.result c.args.subs.now
+      refused = handed _ _ c.in_err-lead-3.field-0.0 is (third_lead_refused c.args.how _ _ _ _ _ _ _ c.index-subs-0-2.result
+          c.index-subs-1.result c.args.subs.now
           (omega arith) c.index-subs-0-2.is c.index-subs-1.is
-          c.in_ok-first.ensures.made c.in_ok-second.ensures.made _ _ _ _ c.in_ok-union.ensures c.in_ok-end.ensures _ _ _ _ c.in_ok-lead.ensures
+          c.in_ok-first.ensures.made c.in_ok-second.ensures.made _ _ _ _ c.in_ok-union.ensures c.in_ok-end.ensures _ _ _ _
+          c.in_ok-lead.ensures
           c.in_ok-lead-2.ensures c.in_err-lead-3.ensures);
       passed = handed _ _ c.in_err-lead-3.field-0.0 is (omega (
         arith,
-        two_bytes c.args.how.shrink c.args.subs.now c.index-subs-0-2.result c.index-subs-1.result (omega arith) c.index-subs-0-2.is c.index-subs-1.is,
+        two_bytes c.args.how.shrink c.args.subs.now c.index-subs-0-2.result c.index-subs-1.result (omega arith) c.index-subs-0-2.is
+            c.index-subs-1.is,
         bytes_of_alternation c.args.how.shrink c.args.subs.now (sym c.all_literals.ensures ∙ c.if-all_literals.false),
         c.in_ok-first.ensures.weighs,
         c.in_ok-second.ensures.weighs,
@@ -490,13 +511,16 @@ alternatives-returns-in_err-lead-4 t c =
       denotes = err_only _ _ c.in_err-lead-4.field-0.0 is;
       weighs = err_only _ _ c.in_err-lead-4.field-0.0 is;
       groups = err_only _ _ c.in_err-lead-4.field-0.0 is;
-      refused = handed _ _ c.in_err-lead-4.field-0.0 is (fourth_lead_refused c.args.how _ _ _ _ _ _ _ c.index-subs-0-2.result c.index-subs-1.result c.args.subs.now
+      refused = handed _ _ c.in_err-lead-4.field-0.0 is (fourth_lead_refused c.args.how _ _ _ _ _ _ _ c.index-subs-0-2.result
+          c.index-subs-1.result c.args.subs.now
           (omega arith) c.index-subs-0-2.is c.index-subs-1.is
-          c.in_ok-first.ensures.made c.in_ok-second.ensures.made _ _ _ _ c.in_ok-union.ensures c.in_ok-end.ensures _ _ _ _ _ c.in_ok-lead.ensures
+          c.in_ok-first.ensures.made c.in_ok-second.ensures.made _ _ _ _ c.in_ok-union.ensures c.in_ok-end.ensures _ _ _ _ _
+          c.in_ok-lead.ensures
           c.in_ok-lead-2.ensures c.in_ok-lead-3.ensures c.in_err-lead-4.ensures);
       passed = handed _ _ c.in_err-lead-4.field-0.0 is (omega (
         arith,
-        two_bytes c.args.how.shrink c.args.subs.now c.index-subs-0-2.result c.index-subs-1.result (omega arith) c.index-subs-0-2.is c.index-subs-1.is,
+        two_bytes c.args.how.shrink c.args.subs.now c.index-subs-0-2.result c.index-subs-1.result (omega arith) c.index-subs-0-2.is
+            c.index-subs-1.is,
         bytes_of_alternation c.args.how.shrink c.args.subs.now (sym c.all_literals.ensures ∙ c.if-all_literals.false),
         c.in_ok-first.ensures.weighs,
         c.in_ok-second.ensures.weighs,
@@ -526,7 +550,13 @@ alternatives-loop-i-preserved t c =
 
 pub alternatives-compile-requires-in-loop-i : goal.alternatives-compile-requires-in-loop-i
 alternatives-compile-requires-in-loop-i t c = (
-  omega (arith, c.decreases, weight_in_alternation c.args.subs.now c.loop-i.i c.index-subs-i.result c.loop-i-test.true, ap weight c.index-subs-i.is),
+  omega (
+    arith,
+    c.decreases,
+    weight_in_alternation c.args.subs.now c.loop-i.i c.index-subs-i.result c.loop-i-test.true,
+    ap weight
+        c.index-subs-i.is,
+  ),
   ready_later c.args.how.which _ _ c.loop-i.invariant.branches.progress.partly.grows c.requires,
 )
 
@@ -538,9 +568,16 @@ alternatives-returns-in_err-next t c =
       denotes = err_only _ _ c.in_err-next.field-0.0 is;
       weighs = err_only _ _ c.in_err-next.field-0.0 is;
       groups = err_only _ _ c.in_err-next.field-0.0 is;
-      refused = handed _ _ c.in_err-next.field-0.0 is (cases_refused c.args.how _ _ _ _ c.loop-i.i c.args.subs.now c.loop-i.invariant _ c.index-subs-i.result _ c.loop-i-test.true
+      refused = handed _ _ c.in_err-next.field-0.0 is (cases_refused c.args.how _ _ _ _ c.loop-i.i c.args.subs.now c.loop-i.invariant _
+          c.index-subs-i.result _ c.loop-i-test.true
           c.index-subs-i.is c.in_err-next.ensures.refused);
-      passed = handed _ _ c.in_err-next.field-0.0 is (omega (arith, cases_left c.args.how _ _ _ _ c.loop-i.i c.args.subs.now c.loop-i.invariant (sym c.all_literals.ensures ∙ c.if-all_literals.false) c.index-subs-i.result c.loop-i-test.true c.index-subs-i.is, c.in_err-next.ensures.passed));
+      passed = handed _ _ c.in_err-next.field-0.0 is (omega (
+        arith,
+        cases_left c.args.how _ _ _ _ c.loop-i.i c.args.subs.now
+            c.loop-i.invariant (sym c.all_literals.ensures ∙ c.if-all_literals.false) c.index-subs-i.result c.loop-i-test.true
+            c.index-subs-i.is,
+        c.in_err-next.ensures.passed,
+      ));
     }
 
 pub alternatives-returns-in_err-lead-5 : goal.alternatives-returns-in_err-lead-5
@@ -551,9 +588,17 @@ alternatives-returns-in_err-lead-5 t c =
       denotes = err_only _ _ c.in_err-lead-5.field-0.0 is;
       weighs = err_only _ _ c.in_err-lead-5.field-0.0 is;
       groups = err_only _ _ c.in_err-lead-5.field-0.0 is;
-      refused = handed _ _ c.in_err-lead-5.field-0.0 is (cases_lead_refused c.args.how _ _ _ _ c.loop-i.i c.args.subs.now c.loop-i.invariant _ _ _ _ c.index-subs-i.result _ c.loop-i-test.true
+      refused = handed _ _ c.in_err-lead-5.field-0.0 is (cases_lead_refused c.args.how _ _ _ _ c.loop-i.i c.args.subs.now
+          c.loop-i.invariant _ _ _ _ c.index-subs-i.result _ c.loop-i-test.true
           c.index-subs-i.is c.in_ok-next.ensures.made c.in_err-lead-5.ensures);
-      passed = handed _ _ c.in_err-lead-5.field-0.0 is (omega (arith, cases_left c.args.how _ _ _ _ c.loop-i.i c.args.subs.now c.loop-i.invariant (sym c.all_literals.ensures ∙ c.if-all_literals.false) c.index-subs-i.result c.loop-i-test.true c.index-subs-i.is, c.in_ok-next.ensures.weighs, c.in_err-lead-5.ensures.passed));
+      passed = handed _ _ c.in_err-lead-5.field-0.0 is (omega (
+        arith,
+        cases_left c.args.how _ _ _ _ c.loop-i.i c.args.subs.now
+            c.loop-i.invariant (sym c.all_literals.ensures ∙ c.if-all_literals.false) c.index-subs-i.result c.loop-i-test.true
+            c.index-subs-i.is,
+        c.in_ok-next.ensures.weighs,
+        c.in_err-lead-5.ensures.passed,
+      ));
     }
 
 pub alternatives-returns-in_err-lead-6 : goal.alternatives-returns-in_err-lead-6
@@ -564,9 +609,18 @@ alternatives-returns-in_err-lead-6 t c =
       denotes = err_only _ _ c.in_err-lead-6.field-0.0 is;
       weighs = err_only _ _ c.in_err-lead-6.field-0.0 is;
       groups = err_only _ _ c.in_err-lead-6.field-0.0 is;
-      refused = handed _ _ c.in_err-lead-6.field-0.0 is (cases_end_refused c.args.how _ _ _ _ c.loop-i.i c.args.subs.now c.loop-i.invariant _ _ _ _ _ c.index-subs-i.result _ c.loop-i-test.true
+      refused = handed _ _ c.in_err-lead-6.field-0.0 is (cases_end_refused c.args.how _ _ _ _ c.loop-i.i c.args.subs.now
+          c.loop-i.invariant _ _ _ _ _ c.index-subs-i.result _ c.loop-i-test.true
           c.index-subs-i.is c.in_ok-next.ensures.made c.in_ok-lead-5.ensures c.in_err-lead-6.ensures);
-      passed = handed _ _ c.in_err-lead-6.field-0.0 is (omega (arith, cases_left c.args.how _ _ _ _ c.loop-i.i c.args.subs.now c.loop-i.invariant (sym c.all_literals.ensures ∙ c.if-all_literals.false) c.index-subs-i.result c.loop-i-test.true c.index-subs-i.is, c.in_ok-next.ensures.weighs, c.in_ok-lead-5.ensures.bytes, c.in_err-lead-6.ensures.passed));
+      passed = handed _ _ c.in_err-lead-6.field-0.0 is (omega (
+        arith,
+        cases_left c.args.how _ _ _ _ c.loop-i.i c.args.subs.now
+            c.loop-i.invariant (sym c.all_literals.ensures ∙ c.if-all_literals.false) c.index-subs-i.result c.loop-i-test.true
+            c.index-subs-i.is,
+        c.in_ok-next.ensures.weighs,
+        c.in_ok-lead-5.ensures.bytes,
+        c.in_err-lead-6.ensures.passed,
+      ));
     }
 
 pub concatenation-returns-then-subs-eq0-clause-weighs : goal.concatenation-returns-then-subs-eq0-clause-weighs
@@ -584,8 +638,15 @@ concatenation-returns-in_err-none t c =
       denotes = err_only _ _ c.in_err-none.field-0.0 is;
       weighs = err_only _ _ c.in_err-none.field-0.0 is;
       groups = err_only _ _ c.in_err-none.field-0.0 is;
-      refused = handed _ _ c.in_err-none.field-0.0 is (refuses c.args.how.which _ _ c.in_err-none.ensures.refused (omega (arith, room_of_concat c.args.how.shrink c.args.subs.now)));
-      passed = handed _ _ c.in_err-none.field-0.0 is (omega (arith, bytes_of_concat c.args.how.shrink c.args.subs.now, c.in_err-none.ensures.passed));
+      refused = handed _ _ c.in_err-none.field-0.0 is (refuses c.args.how.which _ _ c.in_err-none.ensures.refused (omega (
+        arith,
+        room_of_concat c.args.how.shrink c.args.subs.now,
+      )));
+      passed = handed _ _ c.in_err-none.field-0.0 is (omega (
+        arith,
+        bytes_of_concat c.args.how.shrink c.args.subs.now,
+        c.in_err-none.ensures.passed,
+      ));
     }
 
 pub concatenation-returns-clause-weighs : goal.concatenation-returns-clause-weighs
@@ -599,8 +660,17 @@ copies-returns-in_err-first t c =
       denotes = err_only _ _ c.in_err-first.field-0.0 is;
       weighs = err_only _ _ c.in_err-first.field-0.0 is;
       groups = err_only _ _ c.in_err-first.field-0.0 is;
-      refused = handed _ _ c.in_err-first.field-0.0 is (fewer_states _ c.in_err-first.ensures.refused (omega (arith, one_fits 0 c.args.n (room c.args.how.shrink c.args.x.now) c.requires.some)));
-      passed = handed _ _ c.in_err-first.field-0.0 is (omega (arith, copy_bytes 0 c.args.n (byte_room c.args.how.shrink c.args.x.now) c.requires.some, c.in_err-first.ensures.passed));
+      refused = handed _ _ c.in_err-first.field-0.0 is (fewer_states _ c.in_err-first.ensures.refused (omega (
+        arith,
+        one_fits 0 c.args.n
+            (room c.args.how.shrink c.args.x.now) c.requires.some,
+      )));
+      passed = handed _ _ c.in_err-first.field-0.0 is (omega (
+        arith,
+        copy_bytes 0 c.args.n (byte_room c.args.how.shrink c.args.x.now)
+            c.requires.some,
+        c.in_err-first.ensures.passed,
+      ));
     }
 
 pub copies-returns-in_err-next : goal.copies-returns-in_err-next
@@ -611,7 +681,8 @@ copies-returns-in_err-next t c =
       denotes = err_only _ _ c.in_err-next.field-0.0 is;
       weighs = err_only _ _ c.in_err-next.field-0.0 is;
       groups = err_only _ _ c.in_err-next.field-0.0 is;
-      refused = handed _ _ c.in_err-next.field-0.0 is (copies_refused c.args.how _ _ _ _ _ c.loop.counter c.args.n c.args.x.now _ c.loop.invariant.0 c.loop-test.true c.in_err-next.ensures.refused);
+      refused = handed _ _ c.in_err-next.field-0.0 is (copies_refused c.args.how _ _ _ _ _ c.loop.counter c.args.n c.args.x.now _
+          c.loop.invariant.0 c.loop-test.true c.in_err-next.ensures.refused);
       passed = handed _ _ c.in_err-next.field-0.0 is (omega (
         arith,
         copies_left c.args.how _ _ _ _ c.loop.counter c.args.n c.args.x.now c.loop.invariant.0 c.loop-test.true,
@@ -627,7 +698,8 @@ copies-returns-in_err-lead t c =
       denotes = err_only _ _ c.in_err-lead.field-0.0 is;
       weighs = err_only _ _ c.in_err-lead.field-0.0 is;
       groups = err_only _ _ c.in_err-lead.field-0.0 is;
-      refused = handed _ _ c.in_err-lead.field-0.0 is (copies_lead_refused c.args.how _ _ _ _ _ _ _ _ c.loop.counter c.args.n c.args.x.now _ c.loop.invariant.0 c.loop-test.true c.in_ok-next.ensures.made c.in_err-lead.ensures);
+      refused = handed _ _ c.in_err-lead.field-0.0 is (copies_lead_refused c.args.how _ _ _ _ _ _ _ _ c.loop.counter c.args.n c.args.x.now
+          _ c.loop.invariant.0 c.loop-test.true c.in_ok-next.ensures.made c.in_err-lead.ensures);
       passed = handed _ _ c.in_err-lead.field-0.0 is (omega (
         arith,
         copies_left c.args.how _ _ _ _ c.loop.counter c.args.n c.args.x.now c.loop.invariant.0 c.loop-test.true,
@@ -637,7 +709,8 @@ copies-returns-in_err-lead t c =
     }
 
 pub copies-returns-clause-weighs : goal.copies-returns-clause-weighs
-copies-returns-clause-weighs t c = copies_weigh c.args.how _ _ _ _ c.loop.counter c.args.n c.args.x.now c.loop.invariant.0 c.loop.invariant.1 c.loop-test.false
+copies-returns-clause-weighs t c = copies_weigh c.args.how _ _ _ _ c.loop.counter c.args.n c.args.x.now c.loop.invariant.0
+    c.loop.invariant.1 c.loop-test.false
 
 pub at_least-returns-then-min-eq0-clause-weighs : goal.at_least-returns-then-min-eq0-clause-weighs
 at_least-returns-then-min-eq0-clause-weighs t c = omega (
@@ -654,8 +727,13 @@ at_least-returns-in_err-any t c =
       denotes = err_only _ _ c.in_err-any.field-0.0 is;
       weighs = err_only _ _ c.in_err-any.field-0.0 is;
       groups = err_only _ _ c.in_err-any.field-0.0 is;
-      refused = handed _ _ c.in_err-any.field-0.0 is (loop_refused c.args.how.shrink c.args.min c.args.greedy c.args.x.now c.in_err-any.ensures.refused (omega arith));
-      passed = handed _ _ c.in_err-any.field-0.0 is (omega (arith, repeated_once c.args.min (byte_room c.args.how.shrink c.args.x.now), c.in_err-any.ensures.passed));
+      refused = handed _ _ c.in_err-any.field-0.0 is (loop_refused c.args.how.shrink c.args.min c.args.greedy c.args.x.now
+          c.in_err-any.ensures.refused (omega arith));
+      passed = handed _ _ c.in_err-any.field-0.0 is (omega (
+        arith,
+        repeated_once c.args.min (byte_room c.args.how.shrink c.args.x.now),
+        c.in_err-any.ensures.passed,
+      ));
     }
 
 pub at_least-returns-then-min-eq1-clause-weighs : goal.at_least-returns-then-min-eq1-clause-weighs
@@ -673,8 +751,13 @@ at_least-returns-in_err-some t c =
       denotes = err_only _ _ c.in_err-some.field-0.0 is;
       weighs = err_only _ _ c.in_err-some.field-0.0 is;
       groups = err_only _ _ c.in_err-some.field-0.0 is;
-      refused = handed _ _ c.in_err-some.field-0.0 is (loop_refused c.args.how.shrink c.args.min c.args.greedy c.args.x.now c.in_err-some.ensures.refused (omega arith));
-      passed = handed _ _ c.in_err-some.field-0.0 is (omega (arith, repeated_once c.args.min (byte_room c.args.how.shrink c.args.x.now), c.in_err-some.ensures.passed));
+      refused = handed _ _ c.in_err-some.field-0.0 is (loop_refused c.args.how.shrink c.args.min c.args.greedy c.args.x.now
+          c.in_err-some.ensures.refused (omega arith));
+      passed = handed _ _ c.in_err-some.field-0.0 is (omega (
+        arith,
+        repeated_once c.args.min (byte_room c.args.how.shrink c.args.x.now),
+        c.in_err-some.ensures.passed,
+      ));
     }
 
 pub at_least-returns-in_err-prefix : goal.at_least-returns-in_err-prefix
@@ -685,7 +768,8 @@ at_least-returns-in_err-prefix t c =
       denotes = err_only _ _ c.in_err-prefix.field-0.0 is;
       weighs = err_only _ _ c.in_err-prefix.field-0.0 is;
       groups = err_only _ _ c.in_err-prefix.field-0.0 is;
-      refused = handed _ _ c.in_err-prefix.field-0.0 is (prefix_refused c.args.how.which c.args.how.shrink c.args.min c.args.greedy c.args.x.now (omega (arith, c.if-min-eq0.false, c.if-min-eq1.false)) c.in_err-prefix.ensures.refused);
+      refused = handed _ _ c.in_err-prefix.field-0.0 is (prefix_refused c.args.how.which c.args.how.shrink c.args.min c.args.greedy
+          c.args.x.now (omega (arith, c.if-min-eq0.false, c.if-min-eq1.false)) c.in_err-prefix.ensures.refused);
       passed = handed _ _ c.in_err-prefix.field-0.0 is (omega (
         arith,
         at_least_bytes c.args.min (byte_room c.args.how.shrink c.args.x.now) (omega arith),
@@ -701,7 +785,8 @@ at_least-returns-in_err-last t c =
       denotes = err_only _ _ c.in_err-last.field-0.0 is;
       weighs = err_only _ _ c.in_err-last.field-0.0 is;
       groups = err_only _ _ c.in_err-last.field-0.0 is;
-      refused = handed _ _ c.in_err-last.field-0.0 is (last_refused c.args.how.which c.args.how.shrink c.args.min c.args.greedy c.args.x.now (omega (arith, c.if-min-eq0.false, c.if-min-eq1.false)) c.in_ok-prefix.ensures.made c.in_err-last.ensures.refused);
+      refused = handed _ _ c.in_err-last.field-0.0 is (last_refused c.args.how.which c.args.how.shrink c.args.min c.args.greedy
+          c.args.x.now (omega (arith, c.if-min-eq0.false, c.if-min-eq1.false)) c.in_ok-prefix.ensures.made c.in_err-last.ensures.refused);
       passed = handed _ _ c.in_err-last.field-0.0 is (omega (
         arith,
         at_least_bytes c.args.min (byte_room c.args.how.shrink c.args.x.now) (omega arith),
@@ -718,7 +803,9 @@ at_least-returns-in_err-lead t c =
       denotes = err_only _ _ c.in_err-lead.field-0.0 is;
       weighs = err_only _ _ c.in_err-lead.field-0.0 is;
       groups = err_only _ _ c.in_err-lead.field-0.0 is;
-      refused = handed _ _ c.in_err-lead.field-0.0 is (last_lead_refused c.args.how.which c.args.how.shrink c.args.min c.args.greedy c.args.x.now (omega (arith, c.if-min-eq0.false, c.if-min-eq1.false)) c.in_ok-prefix.ensures.made c.in_ok-last.ensures.made c.in_err-lead.ensures);
+      refused = handed _ _ c.in_err-lead.field-0.0 is (last_lead_refused c.args.how.which c.args.how.shrink c.args.min c.args.greedy
+          c.args.x.now (omega (arith, c.if-min-eq0.false, c.if-min-eq1.false)) c.in_ok-prefix.ensures.made c.in_ok-last.ensures.made
+          c.in_err-lead.ensures);
       passed = handed _ _ c.in_err-lead.field-0.0 is (omega (
         arith,
         at_least_bytes c.args.min (byte_room c.args.how.shrink c.args.x.now) (omega arith),
@@ -729,7 +816,13 @@ at_least-returns-in_err-lead t c =
     }
 
 pub at_least-returns-clause-weighs : goal.at_least-returns-clause-weighs
-at_least-returns-clause-weighs t c = omega (arith, at_least_bytes c.args.min (byte_room c.args.how.shrink c.args.x.now) (omega arith), c.in_ok-prefix.ensures.weighs, c.in_ok-last.ensures.weighs, c.in_ok-lead.ensures.bytes)
+at_least-returns-clause-weighs t c = omega (
+  arith,
+  at_least_bytes c.args.min (byte_room c.args.how.shrink c.args.x.now) (omega arith),
+  c.in_ok-prefix.ensures.weighs,
+  c.in_ok-last.ensures.weighs,
+  c.in_ok-lead.ensures.bytes,
+)
 
 pub up_to-returns-in_err-first : goal.up_to-returns-in_err-first
 up_to-returns-in_err-first t c =
@@ -739,7 +832,8 @@ up_to-returns-in_err-first t c =
       denotes = err_only _ _ c.in_err-first.field-0.0 is;
       weighs = err_only _ _ c.in_err-first.field-0.0 is;
       groups = err_only _ _ c.in_err-first.field-0.0 is;
-      refused = handed _ _ c.in_err-first.field-0.0 is (first_round_refused c.args.how.shrink c.args.most c.args.x.now c.requires.some c.in_ok-exit.ensures c.in_err-first.ensures.refused);
+      refused = handed _ _ c.in_err-first.field-0.0 is (first_round_refused c.args.how.shrink c.args.most c.args.x.now c.requires.some
+          c.in_ok-exit.ensures c.in_err-first.ensures.refused);
       passed = handed _ _ c.in_err-first.field-0.0 is (omega (
         arith,
         round_bytes 0 c.args.most (byte_room c.args.how.shrink c.args.x.now + 36) c.requires.some,
@@ -756,8 +850,14 @@ up_to-returns-in_err-next t c =
       denotes = err_only _ _ c.in_err-next.field-0.0 is;
       weighs = err_only _ _ c.in_err-next.field-0.0 is;
       groups = err_only _ _ c.in_err-next.field-0.0 is;
-      refused = handed _ _ c.in_err-next.field-0.0 is (rounds_refused c.args.how _ _ _ _ _ c.loop.counter 0 c.args.most _ c.args.greedy c.args.x.now c.loop.invariant _ _ c.loop-test.true c.in_err-next.ensures.refused);
-      passed = handed _ _ c.in_err-next.field-0.0 is (omega (arith, rounds_left c.args.how _ _ _ _ _ c.loop.counter 0 c.args.most _ c.args.greedy c.args.x.now c.loop.invariant c.loop-test.true, c.in_err-next.ensures.passed));
+      refused = handed _ _ c.in_err-next.field-0.0 is (rounds_refused c.args.how _ _ _ _ _ c.loop.counter 0 c.args.most _ c.args.greedy
+          c.args.x.now c.loop.invariant _ _ c.loop-test.true c.in_err-next.ensures.refused);
+      passed = handed _ _ c.in_err-next.field-0.0 is (omega (
+        arith,
+        rounds_left c.args.how _ _ _ _ _ c.loop.counter 0 c.args.most _
+            c.args.greedy c.args.x.now c.loop.invariant c.loop-test.true,
+        c.in_err-next.ensures.passed,
+      ));
     }
 
 pub up_to-returns-in_err-lead : goal.up_to-returns-in_err-lead
@@ -768,8 +868,15 @@ up_to-returns-in_err-lead t c =
       denotes = err_only _ _ c.in_err-lead.field-0.0 is;
       weighs = err_only _ _ c.in_err-lead.field-0.0 is;
       groups = err_only _ _ c.in_err-lead.field-0.0 is;
-      refused = handed _ _ c.in_err-lead.field-0.0 is (rounds_lead_refused c.args.how _ _ _ _ _ c.loop.counter 0 c.args.most _ c.args.greedy c.args.x.now c.loop.invariant _ _ _ _ _ c.loop-test.true c.in_ok-next.ensures.made c.in_err-lead.ensures);
-      passed = handed _ _ c.in_err-lead.field-0.0 is (omega (arith, rounds_left c.args.how _ _ _ _ _ c.loop.counter 0 c.args.most _ c.args.greedy c.args.x.now c.loop.invariant c.loop-test.true, c.in_ok-next.ensures.weighs, c.in_err-lead.ensures.passed));
+      refused = handed _ _ c.in_err-lead.field-0.0 is (rounds_lead_refused c.args.how _ _ _ _ _ c.loop.counter 0 c.args.most _
+          c.args.greedy c.args.x.now c.loop.invariant _ _ _ _ _ c.loop-test.true c.in_ok-next.ensures.made c.in_err-lead.ensures);
+      passed = handed _ _ c.in_err-lead.field-0.0 is (omega (
+        arith,
+        rounds_left c.args.how _ _ _ _ _ c.loop.counter 0 c.args.most _
+            c.args.greedy c.args.x.now c.loop.invariant c.loop-test.true,
+        c.in_ok-next.ensures.weighs,
+        c.in_err-lead.ensures.passed,
+      ));
     }
 
 pub up_to-returns-in_err-lead-2 : goal.up_to-returns-in_err-lead-2
@@ -780,7 +887,8 @@ up_to-returns-in_err-lead-2 t c =
       denotes = err_only _ _ c.in_err-lead-2.field-0.0 is;
       weighs = err_only _ _ c.in_err-lead-2.field-0.0 is;
       groups = err_only _ _ c.in_err-lead-2.field-0.0 is;
-      refused = handed _ _ c.in_err-lead-2.field-0.0 is (rounds_last_refused c.args.how _ _ _ _ _ c.loop.counter 0 c.args.most _ c.args.greedy c.args.x.now c.loop.invariant _ _ c.in_err-lead-2.ensures);
+      refused = handed _ _ c.in_err-lead-2.field-0.0 is (rounds_last_refused c.args.how _ _ _ _ _ c.loop.counter 0 c.args.most _
+          c.args.greedy c.args.x.now c.loop.invariant _ _ c.in_err-lead-2.ensures);
       passed = handed _ _ c.in_err-lead-2.field-0.0 is (omega (
         arith,
         rounds_last c.args.how _ _ _ _ _ c.loop.counter 0 c.args.most _ c.args.greedy c.args.x.now c.loop.invariant,
@@ -789,7 +897,8 @@ up_to-returns-in_err-lead-2 t c =
     }
 
 pub up_to-returns-clause-weighs : goal.up_to-returns-clause-weighs
-up_to-returns-clause-weighs t c = rounds_weigh c.args.how _ _ _ _ _ c.loop.counter 0 c.args.most _ c.args.greedy c.args.x.now c.loop.invariant _ c.in_ok-lead-2.ensures
+up_to-returns-clause-weighs t c = rounds_weigh c.args.how _ _ _ _ _ c.loop.counter 0 c.args.most _ c.args.greedy c.args.x.now
+    c.loop.invariant _ c.in_ok-lead-2.ensures
 
 pub owed_and_more-returns-in_err-next : goal.owed_and_more-returns-in_err-next
 owed_and_more-returns-in_err-next t c =
@@ -799,8 +908,14 @@ owed_and_more-returns-in_err-next t c =
       denotes = err_only _ _ c.in_err-next.field-0.0 is;
       weighs = err_only _ _ c.in_err-next.field-0.0 is;
       groups = err_only _ _ c.in_err-next.field-0.0 is;
-      refused = handed _ _ c.in_err-next.field-0.0 is (rounds_refused c.args.how _ _ _ _ _ c.loop.counter c.args.min c.args.most _ c.args.greedy c.args.x.now c.loop.invariant _ _ c.loop-test.true c.in_err-next.ensures.refused);
-      passed = handed _ _ c.in_err-next.field-0.0 is (omega (arith, rounds_left c.args.how _ _ _ _ _ c.loop.counter c.args.min c.args.most _ c.args.greedy c.args.x.now c.loop.invariant c.loop-test.true, c.in_err-next.ensures.passed));
+      refused = handed _ _ c.in_err-next.field-0.0 is (rounds_refused c.args.how _ _ _ _ _ c.loop.counter c.args.min c.args.most _
+          c.args.greedy c.args.x.now c.loop.invariant _ _ c.loop-test.true c.in_err-next.ensures.refused);
+      passed = handed _ _ c.in_err-next.field-0.0 is (omega (
+        arith,
+        rounds_left c.args.how _ _ _ _ _ c.loop.counter c.args.min c.args.most
+            _ c.args.greedy c.args.x.now c.loop.invariant c.loop-test.true,
+        c.in_err-next.ensures.passed,
+      ));
     }
 
 pub owed_and_more-returns-in_err-lead : goal.owed_and_more-returns-in_err-lead
@@ -811,8 +926,15 @@ owed_and_more-returns-in_err-lead t c =
       denotes = err_only _ _ c.in_err-lead.field-0.0 is;
       weighs = err_only _ _ c.in_err-lead.field-0.0 is;
       groups = err_only _ _ c.in_err-lead.field-0.0 is;
-      refused = handed _ _ c.in_err-lead.field-0.0 is (rounds_lead_refused c.args.how _ _ _ _ _ c.loop.counter c.args.min c.args.most _ c.args.greedy c.args.x.now c.loop.invariant _ _ _ _ _ c.loop-test.true c.in_ok-next.ensures.made c.in_err-lead.ensures);
-      passed = handed _ _ c.in_err-lead.field-0.0 is (omega (arith, rounds_left c.args.how _ _ _ _ _ c.loop.counter c.args.min c.args.most _ c.args.greedy c.args.x.now c.loop.invariant c.loop-test.true, c.in_ok-next.ensures.weighs, c.in_err-lead.ensures.passed));
+      refused = handed _ _ c.in_err-lead.field-0.0 is (rounds_lead_refused c.args.how _ _ _ _ _ c.loop.counter c.args.min c.args.most _
+          c.args.greedy c.args.x.now c.loop.invariant _ _ _ _ _ c.loop-test.true c.in_ok-next.ensures.made c.in_err-lead.ensures);
+      passed = handed _ _ c.in_err-lead.field-0.0 is (omega (
+        arith,
+        rounds_left c.args.how _ _ _ _ _ c.loop.counter c.args.min c.args.most
+            _ c.args.greedy c.args.x.now c.loop.invariant c.loop-test.true,
+        c.in_ok-next.ensures.weighs,
+        c.in_err-lead.ensures.passed,
+      ));
     }
 
 pub owed_and_more-returns-in_err-lead-2 : goal.owed_and_more-returns-in_err-lead-2
@@ -823,12 +945,19 @@ owed_and_more-returns-in_err-lead-2 t c =
       denotes = err_only _ _ c.in_err-lead-2.field-0.0 is;
       weighs = err_only _ _ c.in_err-lead-2.field-0.0 is;
       groups = err_only _ _ c.in_err-lead-2.field-0.0 is;
-      refused = handed _ _ c.in_err-lead-2.field-0.0 is (rounds_last_refused c.args.how _ _ _ _ _ c.loop.counter c.args.min c.args.most _ c.args.greedy c.args.x.now c.loop.invariant _ _ c.in_err-lead-2.ensures);
-      passed = handed _ _ c.in_err-lead-2.field-0.0 is (omega (arith, rounds_last c.args.how _ _ _ _ _ c.loop.counter c.args.min c.args.most _ c.args.greedy c.args.x.now c.loop.invariant, c.in_err-lead-2.ensures.passed));
+      refused = handed _ _ c.in_err-lead-2.field-0.0 is (rounds_last_refused c.args.how _ _ _ _ _ c.loop.counter c.args.min c.args.most _
+          c.args.greedy c.args.x.now c.loop.invariant _ _ c.in_err-lead-2.ensures);
+      passed = handed _ _ c.in_err-lead-2.field-0.0 is (omega (
+        arith,
+        rounds_last c.args.how _ _ _ _ _ c.loop.counter c.args.min
+            c.args.most _ c.args.greedy c.args.x.now c.loop.invariant,
+        c.in_err-lead-2.ensures.passed,
+      ));
     }
 
 pub owed_and_more-returns-clause-weighs : goal.owed_and_more-returns-clause-weighs
-owed_and_more-returns-clause-weighs t c = rounds_weigh c.args.how _ _ _ _ _ c.loop.counter c.args.min c.args.most _ c.args.greedy c.args.x.now c.loop.invariant _ c.in_ok-lead-2.ensures
+owed_and_more-returns-clause-weighs t c = rounds_weigh c.args.how _ _ _ _ _ c.loop.counter c.args.min c.args.most _ c.args.greedy
+    c.args.x.now c.loop.invariant _ c.in_ok-lead-2.ensures
 
 pub between-returns-in_err-any : goal.between-returns-in_err-any
 between-returns-in_err-any t c =
@@ -838,7 +967,8 @@ between-returns-in_err-any t c =
       denotes = err_only _ _ c.in_err-any.field-0.0 is;
       weighs = err_only _ _ c.in_err-any.field-0.0 is;
       groups = err_only _ _ c.in_err-any.field-0.0 is;
-      refused = handed _ _ c.in_err-any.field-0.0 is (none_owed_refused c.args.how.shrink c.args.min c.args.most c.args.greedy c.args.x.now (omega (arith, c.if-min-gt0.false)) c.in_err-any.ensures.refused);
+      refused = handed _ _ c.in_err-any.field-0.0 is (none_owed_refused c.args.how.shrink c.args.min c.args.most c.args.greedy
+          c.args.x.now (omega (arith, c.if-min-gt0.false)) c.in_err-any.ensures.refused);
       passed = handed _ _ c.in_err-any.field-0.0 is (omega (
         arith,
         none_owed c.args.min c.args.most (byte_room c.args.how.shrink c.args.x.now) (omega arith),
@@ -847,7 +977,12 @@ between-returns-in_err-any t c =
     }
 
 pub between-returns-clause-weighs : goal.between-returns-clause-weighs
-between-returns-clause-weighs t c = omega (arith, none_owed c.args.min c.args.most (byte_room c.args.how.shrink c.args.x.now) (omega arith), c.in_ok-any.ensures.weighs)
+between-returns-clause-weighs t c = omega (
+  arith,
+  none_owed c.args.min c.args.most (byte_room c.args.how.shrink c.args.x.now) (omega
+      arith),
+  c.in_ok-any.ensures.weighs,
+)
 
 pub alternatives-returns-then-subs-eq0-clause-weighs : goal.alternatives-returns-then-subs-eq0-clause-weighs
 alternatives-returns-then-subs-eq0-clause-weighs t c = omega (
@@ -864,8 +999,16 @@ alternatives-returns-in_err-none t c =
       denotes = err_only _ _ c.in_err-none.field-0.0 is;
       weighs = err_only _ _ c.in_err-none.field-0.0 is;
       groups = err_only _ _ c.in_err-none.field-0.0 is;
-      refused = handed _ _ c.in_err-none.field-0.0 is (refuses c.args.how.which _ _ c.in_err-none.ensures.refused (omega (arith, room_of_alternation c.args.how.shrink c.args.subs.now)));
-      passed = handed _ _ c.in_err-none.field-0.0 is (omega (arith, bytes_of_alternation c.args.how.shrink c.args.subs.now (few_parts c.args.subs.now (omega arith)), c.in_err-none.ensures.passed));
+      refused = handed _ _ c.in_err-none.field-0.0 is (refuses c.args.how.which _ _ c.in_err-none.ensures.refused (omega (
+        arith,
+        room_of_alternation c.args.how.shrink c.args.subs.now,
+      )));
+      passed = handed _ _ c.in_err-none.field-0.0 is (omega (
+        arith,
+        bytes_of_alternation c.args.how.shrink c.args.subs.now (few_parts
+            c.args.subs.now (omega arith)),
+        c.in_err-none.ensures.passed,
+      ));
     }
 
 pub alternatives-returns-then-all_literals-clause-weighs : goal.alternatives-returns-then-all_literals-clause-weighs
@@ -878,7 +1021,8 @@ alternatives-returns-then-all_literals-clause-weighs t c = omega (
 pub alternatives-returns-then-subs-eq1-clause-weighs : goal.alternatives-returns-then-subs-eq1-clause-weighs
 alternatives-returns-then-subs-eq1-clause-weighs t c = omega (
   arith,
-  part_in_alternation c.args.how.shrink c.args.subs.now 0 c.index-subs-0.result (sym c.all_literals.ensures ∙ c.if-all_literals.false) (omega arith) c.index-subs-0.is,
+  part_in_alternation c.args.how.shrink c.args.subs.now 0 c.index-subs-0.result (sym c.all_literals.ensures ∙ c.if-all_literals.false)
+      (omega arith) c.index-subs-0.is,
   c.in_ok-one.ensures.weighs,
 )
 
@@ -890,10 +1034,12 @@ alternatives-returns-in_err-one t c =
       denotes = err_only _ _ c.in_err-one.field-0.0 is;
       weighs = err_only _ _ c.in_err-one.field-0.0 is;
       groups = err_only _ _ c.in_err-one.field-0.0 is;
-      refused = handed _ _ c.in_err-one.field-0.0 is (part_refused c.args.how _ _ 0 c.index-subs-0.result c.args.subs.now _ (omega arith) c.index-subs-0.is c.in_err-one.ensures.refused);
+      refused = handed _ _ c.in_err-one.field-0.0 is (part_refused c.args.how _ _ 0 c.index-subs-0.result c.args.subs.now _ (omega arith)
+          c.index-subs-0.is c.in_err-one.ensures.refused);
       passed = handed _ _ c.in_err-one.field-0.0 is (omega (
         arith,
-        part_in_alternation c.args.how.shrink c.args.subs.now 0 c.index-subs-0.result (sym c.all_literals.ensures ∙ c.if-all_literals.false) (omega arith) c.index-subs-0.is,
+        part_in_alternation c.args.how.shrink c.args.subs.now 0 c.index-subs-0.result (sym c.all_literals.ensures ∙
+            c.if-all_literals.false) (omega arith) c.index-subs-0.is,
         c.in_err-one.ensures.passed,
       ));
     }
@@ -906,10 +1052,12 @@ alternatives-returns-in_err-first t c =
       denotes = err_only _ _ c.in_err-first.field-0.0 is;
       weighs = err_only _ _ c.in_err-first.field-0.0 is;
       groups = err_only _ _ c.in_err-first.field-0.0 is;
-      refused = handed _ _ c.in_err-first.field-0.0 is (part_refused c.args.how _ _ 0 c.index-subs-0-2.result c.args.subs.now _ (omega arith) c.index-subs-0-2.is c.in_err-first.ensures.refused);
+      refused = handed _ _ c.in_err-first.field-0.0 is (part_refused c.args.how _ _ 0 c.index-subs-0-2.result c.args.subs.now _ (omega
+          arith) c.index-subs-0-2.is c.in_err-first.ensures.refused);
       passed = handed _ _ c.in_err-first.field-0.0 is (omega (
         arith,
-        part_in_alternation c.args.how.shrink c.args.subs.now 0 c.index-subs-0-2.result (sym c.all_literals.ensures ∙ c.if-all_literals.false) (omega arith) c.index-subs-0-2.is,
+        part_in_alternation c.args.how.shrink c.args.subs.now 0 c.index-subs-0-2.result (sym c.all_literals.ensures ∙
+            c.if-all_literals.false) (omega arith) c.index-subs-0-2.is,
         c.in_err-first.ensures.passed,
       ));
     }
@@ -922,10 +1070,13 @@ alternatives-returns-in_err-second t c =
       denotes = err_only _ _ c.in_err-second.field-0.0 is;
       weighs = err_only _ _ c.in_err-second.field-0.0 is;
       groups = err_only _ _ c.in_err-second.field-0.0 is;
-      refused = handed _ _ c.in_err-second.field-0.0 is (second_refused c.args.how _ _ c.args.builder.now _ _ 0 0 c.index-subs-0-2.result c.index-subs-1.result c.args.subs.now (omega arith) c.index-subs-0-2.is c.index-subs-1.is c.in_ok-first.ensures.made _ _ c.in_err-second.ensures.refused);
+      refused = handed _ _ c.in_err-second.field-0.0 is (second_refused c.args.how _ _ c.args.builder.now _ _ 0 0 c.index-subs-0-2.result
+          c.index-subs-1.result c.args.subs.now (omega arith) c.index-subs-0-2.is c.index-subs-1.is c.in_ok-first.ensures.made _ _
+          c.in_err-second.ensures.refused);
       passed = handed _ _ c.in_err-second.field-0.0 is (omega (
         arith,
-        two_bytes c.args.how.shrink c.args.subs.now c.index-subs-0-2.result c.index-subs-1.result (omega arith) c.index-subs-0-2.is c.index-subs-1.is,
+        two_bytes c.args.how.shrink c.args.subs.now c.index-subs-0-2.result c.index-subs-1.result (omega arith) c.index-subs-0-2.is
+            c.index-subs-1.is,
         bytes_of_alternation c.args.how.shrink c.args.subs.now (sym c.all_literals.ensures ∙ c.if-all_literals.false),
         c.in_ok-first.ensures.weighs,
         c.in_err-second.ensures.passed,
@@ -970,7 +1121,8 @@ zero_or_more-returns-in_err-union t c =
       weighs = err_only _ _ c.in_err-union.field-0.0 is;
       groups = err_only _ _ c.in_err-union.field-0.0 is;
       form = err_only _ _ c.in_err-union.field-0.0 is;
-      refused = handed _ _ c.in_err-union.field-0.0 is (first_step c.args.how.which _ c.args.x.now c.in_err-union.ensures (omega arith) (omega arith));
+      refused = handed _ _ c.in_err-union.field-0.0 is (first_step c.args.how.which _ c.args.x.now c.in_err-union.ensures (omega arith)
+          (omega arith));
       passed = handed _ _ c.in_err-union.field-0.0 is (omega (arith, c.in_err-union.ensures.passed));
     }
 
@@ -983,8 +1135,14 @@ zero_or_more-returns-in_err-body t c =
       weighs = err_only _ _ c.in_err-body.field-0.0 is;
       groups = err_only _ _ c.in_err-body.field-0.0 is;
       form = err_only _ _ c.in_err-body.field-0.0 is;
-      refused = handed _ _ c.in_err-body.field-0.0 is (later_tree _ (choice_first c.args.greedy c.in_ok-union.ensures) c.in_err-body.ensures.refused (omega arith));
-      passed = handed _ _ c.in_err-body.field-0.0 is (omega (arith, no_choice_bytes c.args.greedy, c.in_ok-union.ensures.bytes, c.in_err-body.ensures.passed));
+      refused = handed _ _ c.in_err-body.field-0.0 is (later_tree _ (choice_first c.args.greedy c.in_ok-union.ensures)
+          c.in_err-body.ensures.refused (omega arith));
+      passed = handed _ _ c.in_err-body.field-0.0 is (omega (
+        arith,
+        no_choice_bytes c.args.greedy,
+        c.in_ok-union.ensures.bytes,
+        c.in_err-body.ensures.passed,
+      ));
     }
 
 pub zero_or_more-returns-in_err-lead : goal.zero_or_more-returns-in_err-lead
@@ -996,8 +1154,15 @@ zero_or_more-returns-in_err-lead t c =
       weighs = err_only _ _ c.in_err-lead.field-0.0 is;
       groups = err_only _ _ c.in_err-lead.field-0.0 is;
       form = err_only _ _ c.in_err-lead.field-0.0 is;
-      refused = handed _ _ c.in_err-lead.field-0.0 is (later_step c.args.how.which _ c.args.x.now (choice_body c.args.greedy c.in_ok-union.ensures c.in_ok-body.ensures.made) c.in_err-lead.ensures (omega arith) (omega arith));
-      passed = handed _ _ c.in_err-lead.field-0.0 is (omega (arith, no_choice_bytes c.args.greedy, c.in_ok-union.ensures.bytes, c.in_ok-body.ensures.weighs, c.in_err-lead.ensures.passed));
+      refused = handed _ _ c.in_err-lead.field-0.0 is (later_step c.args.how.which _ c.args.x.now (choice_body c.args.greedy
+          c.in_ok-union.ensures c.in_ok-body.ensures.made) c.in_err-lead.ensures (omega arith) (omega arith));
+      passed = handed _ _ c.in_err-lead.field-0.0 is (omega (
+        arith,
+        no_choice_bytes c.args.greedy,
+        c.in_ok-union.ensures.bytes,
+        c.in_ok-body.ensures.weighs,
+        c.in_err-lead.ensures.passed,
+      ));
     }
 
 pub zero_or_more-returns-in_err-lead-2 : goal.zero_or_more-returns-in_err-lead-2
@@ -1009,15 +1174,31 @@ zero_or_more-returns-in_err-lead-2 t c =
       weighs = err_only _ _ c.in_err-lead-2.field-0.0 is;
       groups = err_only _ _ c.in_err-lead-2.field-0.0 is;
       form = err_only _ _ c.in_err-lead-2.field-0.0 is;
-      refused = handed _ _ c.in_err-lead-2.field-0.0 is (later_step c.args.how.which _ c.args.x.now (choice_led c.args.greedy c.in_ok-union.ensures c.in_ok-body.ensures.made c.in_ok-lead.ensures) c.in_err-lead-2.ensures (omega arith) (omega arith));
-      passed = handed _ _ c.in_err-lead-2.field-0.0 is (omega (arith, no_choice_bytes c.args.greedy, c.in_ok-union.ensures.bytes, c.in_ok-body.ensures.weighs, c.in_ok-lead.ensures.bytes, c.in_err-lead-2.ensures.passed));
+      refused = handed _ _ c.in_err-lead-2.field-0.0 is (later_step c.args.how.which _ c.args.x.now (choice_led c.args.greedy
+          c.in_ok-union.ensures c.in_ok-body.ensures.made c.in_ok-lead.ensures) c.in_err-lead-2.ensures (omega arith) (omega arith));
+      passed = handed _ _ c.in_err-lead-2.field-0.0 is (omega (
+        arith,
+        no_choice_bytes c.args.greedy,
+        c.in_ok-union.ensures.bytes,
+        c.in_ok-body.ensures.weighs,
+        c.in_ok-lead.ensures.bytes,
+        c.in_err-lead-2.ensures.passed,
+      ));
     }
 
 pub zero_or_more-returns-clause-weighs : goal.zero_or_more-returns-clause-weighs
-zero_or_more-returns-clause-weighs t c = omega (arith, no_choice_bytes c.args.greedy, c.in_ok-union.ensures.bytes, c.in_ok-body.ensures.weighs, c.in_ok-lead.ensures.bytes, c.in_ok-lead-2.ensures.bytes)
+zero_or_more-returns-clause-weighs t c = omega (
+  arith,
+  no_choice_bytes c.args.greedy,
+  c.in_ok-union.ensures.bytes,
+  c.in_ok-body.ensures.weighs,
+  c.in_ok-lead.ensures.bytes,
+  c.in_ok-lead-2.ensures.bytes,
+)
 
 pub zero_or_more-returns-clause-groups : goal.zero_or_more-returns-clause-groups
-zero_or_more-returns-clause-groups t c = led_groups c.in_ok-lead-2.ensures ∙ led_groups c.in_ok-lead.ensures ∙ groups_behind c.args.how.which c.args.x.now c.in_ok-union.ensures c.in_ok-body.ensures.groups
+zero_or_more-returns-clause-groups t c = led_groups c.in_ok-lead-2.ensures ∙ led_groups c.in_ok-lead.ensures ∙ groups_behind
+    c.args.how.which c.args.x.now c.in_ok-union.ensures c.in_ok-body.ensures.groups
 
 pub zero_or_more_of_empty-returns-in_err-body : goal.zero_or_more_of_empty-returns-in_err-body
 zero_or_more_of_empty-returns-in_err-body t c =
@@ -1041,7 +1222,8 @@ zero_or_more_of_empty-returns-in_err-plus t c =
       weighs = err_only _ _ c.in_err-plus.field-0.0 is;
       groups = err_only _ _ c.in_err-plus.field-0.0 is;
       apart = err_only _ _ c.in_err-plus.field-0.0 is;
-      refused = handed _ _ c.in_err-plus.field-0.0 is (later_step c.args.how.which _ c.args.x.now (first_made c.in_ok-body.ensures.made) c.in_err-plus.ensures (omega arith) (omega arith));
+      refused = handed _ _ c.in_err-plus.field-0.0 is (later_step c.args.how.which _ c.args.x.now (first_made c.in_ok-body.ensures.made)
+          c.in_err-plus.ensures (omega arith) (omega arith));
       passed = handed _ _ c.in_err-plus.field-0.0 is (omega (arith, c.in_ok-body.ensures.weighs, c.in_err-plus.ensures.passed));
     }
 
@@ -1054,8 +1236,15 @@ zero_or_more_of_empty-returns-in_err-lead t c =
       weighs = err_only _ _ c.in_err-lead.field-0.0 is;
       groups = err_only _ _ c.in_err-lead.field-0.0 is;
       apart = err_only _ _ c.in_err-lead.field-0.0 is;
-      refused = handed _ _ c.in_err-lead.field-0.0 is (later_step c.args.how.which _ c.args.x.now (body_choice c.args.greedy c.in_ok-body.ensures.made c.in_ok-plus.ensures) c.in_err-lead.ensures (omega arith) (omega arith));
-      passed = handed _ _ c.in_err-lead.field-0.0 is (omega (arith, no_choice_bytes c.args.greedy, c.in_ok-body.ensures.weighs, c.in_ok-plus.ensures.bytes, c.in_err-lead.ensures.passed));
+      refused = handed _ _ c.in_err-lead.field-0.0 is (later_step c.args.how.which _ c.args.x.now (body_choice c.args.greedy
+          c.in_ok-body.ensures.made c.in_ok-plus.ensures) c.in_err-lead.ensures (omega arith) (omega arith));
+      passed = handed _ _ c.in_err-lead.field-0.0 is (omega (
+        arith,
+        no_choice_bytes c.args.greedy,
+        c.in_ok-body.ensures.weighs,
+        c.in_ok-plus.ensures.bytes,
+        c.in_err-lead.ensures.passed,
+      ));
     }
 
 pub zero_or_more_of_empty-returns-in_err-lead-2 : goal.zero_or_more_of_empty-returns-in_err-lead-2
@@ -1067,8 +1256,16 @@ zero_or_more_of_empty-returns-in_err-lead-2 t c =
       weighs = err_only _ _ c.in_err-lead-2.field-0.0 is;
       groups = err_only _ _ c.in_err-lead-2.field-0.0 is;
       apart = err_only _ _ c.in_err-lead-2.field-0.0 is;
-      refused = handed _ _ c.in_err-lead-2.field-0.0 is (later_step c.args.how.which _ c.args.x.now (body_led c.args.greedy c.in_ok-body.ensures.made c.in_ok-plus.ensures c.in_ok-lead.ensures) c.in_err-lead-2.ensures (omega arith) (omega arith));
-      passed = handed _ _ c.in_err-lead-2.field-0.0 is (omega (arith, no_choice_bytes c.args.greedy, c.in_ok-body.ensures.weighs, c.in_ok-plus.ensures.bytes, c.in_ok-lead.ensures.bytes, c.in_err-lead-2.ensures.passed));
+      refused = handed _ _ c.in_err-lead-2.field-0.0 is (later_step c.args.how.which _ c.args.x.now (body_led c.args.greedy
+          c.in_ok-body.ensures.made c.in_ok-plus.ensures c.in_ok-lead.ensures) c.in_err-lead-2.ensures (omega arith) (omega arith));
+      passed = handed _ _ c.in_err-lead-2.field-0.0 is (omega (
+        arith,
+        no_choice_bytes c.args.greedy,
+        c.in_ok-body.ensures.weighs,
+        c.in_ok-plus.ensures.bytes,
+        c.in_ok-lead.ensures.bytes,
+        c.in_err-lead-2.ensures.passed,
+      ));
     }
 
 pub zero_or_more_of_empty-returns-in_err-question : goal.zero_or_more_of_empty-returns-in_err-question
@@ -1080,8 +1277,18 @@ zero_or_more_of_empty-returns-in_err-question t c =
       weighs = err_only _ _ c.in_err-question.field-0.0 is;
       groups = err_only _ _ c.in_err-question.field-0.0 is;
       apart = err_only _ _ c.in_err-question.field-0.0 is;
-      refused = handed _ _ c.in_err-question.field-0.0 is (later_step c.args.how.which _ c.args.x.now (body_led_back c.args.greedy c.in_ok-body.ensures.made c.in_ok-plus.ensures c.in_ok-lead.ensures c.in_ok-lead-2.ensures) c.in_err-question.ensures (omega arith) (omega arith));
-      passed = handed _ _ c.in_err-question.field-0.0 is (omega (arith, no_choice_bytes c.args.greedy, c.in_ok-body.ensures.weighs, c.in_ok-plus.ensures.bytes, c.in_ok-lead.ensures.bytes, c.in_ok-lead-2.ensures.bytes, c.in_err-question.ensures.passed));
+      refused = handed _ _ c.in_err-question.field-0.0 is (later_step c.args.how.which _ c.args.x.now (body_led_back c.args.greedy
+          c.in_ok-body.ensures.made c.in_ok-plus.ensures c.in_ok-lead.ensures c.in_ok-lead-2.ensures) c.in_err-question.ensures (omega
+          arith) (omega arith));
+      passed = handed _ _ c.in_err-question.field-0.0 is (omega (
+        arith,
+        no_choice_bytes c.args.greedy,
+        c.in_ok-body.ensures.weighs,
+        c.in_ok-plus.ensures.bytes,
+        c.in_ok-lead.ensures.bytes,
+        c.in_ok-lead-2.ensures.bytes,
+        c.in_err-question.ensures.passed,
+      ));
     }
 
 pub zero_or_more_of_empty-returns-in_err-empty : goal.zero_or_more_of_empty-returns-in_err-empty
@@ -1093,8 +1300,19 @@ zero_or_more_of_empty-returns-in_err-empty t c =
       weighs = err_only _ _ c.in_err-empty.field-0.0 is;
       groups = err_only _ _ c.in_err-empty.field-0.0 is;
       apart = err_only _ _ c.in_err-empty.field-0.0 is;
-      refused = handed _ _ c.in_err-empty.field-0.0 is (later_step c.args.how.which _ c.args.x.now (choice_then c.args.greedy (body_led_back c.args.greedy c.in_ok-body.ensures.made c.in_ok-plus.ensures c.in_ok-lead.ensures c.in_ok-lead-2.ensures) c.in_ok-question.ensures) c.in_err-empty.ensures (omega arith) (omega arith));
-      passed = handed _ _ c.in_err-empty.field-0.0 is (omega (arith, no_choice_bytes c.args.greedy, c.in_ok-body.ensures.weighs, c.in_ok-plus.ensures.bytes, c.in_ok-lead.ensures.bytes, c.in_ok-lead-2.ensures.bytes, c.in_ok-question.ensures.bytes, c.in_err-empty.ensures.passed));
+      refused = handed _ _ c.in_err-empty.field-0.0 is (later_step c.args.how.which _ c.args.x.now (choice_then c.args.greedy
+          (body_led_back c.args.greedy c.in_ok-body.ensures.made c.in_ok-plus.ensures c.in_ok-lead.ensures c.in_ok-lead-2.ensures)
+          c.in_ok-question.ensures) c.in_err-empty.ensures (omega arith) (omega arith));
+      passed = handed _ _ c.in_err-empty.field-0.0 is (omega (
+        arith,
+        no_choice_bytes c.args.greedy,
+        c.in_ok-body.ensures.weighs,
+        c.in_ok-plus.ensures.bytes,
+        c.in_ok-lead.ensures.bytes,
+        c.in_ok-lead-2.ensures.bytes,
+        c.in_ok-question.ensures.bytes,
+        c.in_err-empty.ensures.passed,
+      ));
     }
 
 pub zero_or_more_of_empty-returns-in_err-lead-3 : goal.zero_or_more_of_empty-returns-in_err-lead-3
@@ -1106,8 +1324,20 @@ zero_or_more_of_empty-returns-in_err-lead-3 t c =
       weighs = err_only _ _ c.in_err-lead-3.field-0.0 is;
       groups = err_only _ _ c.in_err-lead-3.field-0.0 is;
       apart = err_only _ _ c.in_err-lead-3.field-0.0 is;
-      refused = handed _ _ c.in_err-lead-3.field-0.0 is (later_step c.args.how.which _ c.args.x.now (with_exit c.args.greedy (body_led_back c.args.greedy c.in_ok-body.ensures.made c.in_ok-plus.ensures c.in_ok-lead.ensures c.in_ok-lead-2.ensures) c.in_ok-question.ensures c.in_ok-empty.ensures) c.in_err-lead-3.ensures (omega arith) (omega arith));
-      passed = handed _ _ c.in_err-lead-3.field-0.0 is (omega (arith, no_choice_bytes c.args.greedy, c.in_ok-body.ensures.weighs, c.in_ok-plus.ensures.bytes, c.in_ok-lead.ensures.bytes, c.in_ok-lead-2.ensures.bytes, c.in_ok-question.ensures.bytes, c.in_ok-empty.ensures.bytes, c.in_err-lead-3.ensures.passed));
+      refused = handed _ _ c.in_err-lead-3.field-0.0 is (later_step c.args.how.which _ c.args.x.now (with_exit c.args.greedy
+          (body_led_back c.args.greedy c.in_ok-body.ensures.made c.in_ok-plus.ensures c.in_ok-lead.ensures c.in_ok-lead-2.ensures)
+          c.in_ok-question.ensures c.in_ok-empty.ensures) c.in_err-lead-3.ensures (omega arith) (omega arith));
+      passed = handed _ _ c.in_err-lead-3.field-0.0 is (omega (
+        arith,
+        no_choice_bytes c.args.greedy,
+        c.in_ok-body.ensures.weighs,
+        c.in_ok-plus.ensures.bytes,
+        c.in_ok-lead.ensures.bytes,
+        c.in_ok-lead-2.ensures.bytes,
+        c.in_ok-question.ensures.bytes,
+        c.in_ok-empty.ensures.bytes,
+        c.in_err-lead-3.ensures.passed,
+      ));
     }
 
 pub zero_or_more_of_empty-returns-in_err-lead-4 : goal.zero_or_more_of_empty-returns-in_err-lead-4
@@ -1119,8 +1349,28 @@ zero_or_more_of_empty-returns-in_err-lead-4 t c =
       weighs = err_only _ _ c.in_err-lead-4.field-0.0 is;
       groups = err_only _ _ c.in_err-lead-4.field-0.0 is;
       apart = err_only _ _ c.in_err-lead-4.field-0.0 is;
-      refused = handed _ _ c.in_err-lead-4.field-0.0 is (later_step c.args.how.which _ c.args.x.now (exit_led c.args.greedy (body_led_back c.args.greedy c.in_ok-body.ensures.made c.in_ok-plus.ensures c.in_ok-lead.ensures c.in_ok-lead-2.ensures) c.in_ok-question.ensures c.in_ok-empty.ensures (omega (arith, c.in_ok-body.ensures.made.fragment.start_there, c.in_ok-plus.ensures.size, c.in_ok-lead.ensures.size, c.in_ok-lead-2.ensures.size)) c.in_ok-lead-3.ensures) c.in_err-lead-4.ensures (omega arith) (omega arith));
-      passed = handed _ _ c.in_err-lead-4.field-0.0 is (omega (arith, no_choice_bytes c.args.greedy, c.in_ok-body.ensures.weighs, c.in_ok-plus.ensures.bytes, c.in_ok-lead.ensures.bytes, c.in_ok-lead-2.ensures.bytes, c.in_ok-question.ensures.bytes, c.in_ok-empty.ensures.bytes, c.in_ok-lead-3.ensures.bytes, c.in_err-lead-4.ensures.passed));
+      refused = handed _ _ c.in_err-lead-4.field-0.0 is (later_step c.args.how.which _ c.args.x.now (exit_led c.args.greedy (body_led_back
+          c.args.greedy c.in_ok-body.ensures.made c.in_ok-plus.ensures c.in_ok-lead.ensures c.in_ok-lead-2.ensures)
+          c.in_ok-question.ensures c.in_ok-empty.ensures (omega (
+            arith,
+            c.in_ok-body.ensures.made.fragment.start_there,
+            c.in_ok-plus.ensures.size,
+            c.in_ok-lead.ensures.size,
+            c.in_ok-lead-2.ensures.size,
+          )) c.in_ok-lead-3.ensures)
+          c.in_err-lead-4.ensures (omega arith) (omega arith));
+      passed = handed _ _ c.in_err-lead-4.field-0.0 is (omega (
+        arith,
+        no_choice_bytes c.args.greedy,
+        c.in_ok-body.ensures.weighs,
+        c.in_ok-plus.ensures.bytes,
+        c.in_ok-lead.ensures.bytes,
+        c.in_ok-lead-2.ensures.bytes,
+        c.in_ok-question.ensures.bytes,
+        c.in_ok-empty.ensures.bytes,
+        c.in_ok-lead-3.ensures.bytes,
+        c.in_err-lead-4.ensures.passed,
+      ));
     }
 
 pub zero_or_more_of_empty-returns-in_err-lead-5 : goal.zero_or_more_of_empty-returns-in_err-lead-5
@@ -1132,15 +1382,50 @@ zero_or_more_of_empty-returns-in_err-lead-5 t c =
       weighs = err_only _ _ c.in_err-lead-5.field-0.0 is;
       groups = err_only _ _ c.in_err-lead-5.field-0.0 is;
       apart = err_only _ _ c.in_err-lead-5.field-0.0 is;
-      refused = handed _ _ c.in_err-lead-5.field-0.0 is (later_step c.args.how.which _ c.args.x.now (exit_led_on c.args.greedy (body_led_back c.args.greedy c.in_ok-body.ensures.made c.in_ok-plus.ensures c.in_ok-lead.ensures c.in_ok-lead-2.ensures) c.in_ok-question.ensures c.in_ok-empty.ensures (omega (arith, c.in_ok-body.ensures.made.fragment.start_there, c.in_ok-plus.ensures.size, c.in_ok-lead.ensures.size, c.in_ok-lead-2.ensures.size)) c.in_ok-lead-3.ensures c.in_ok-lead-4.ensures) c.in_err-lead-5.ensures (omega arith) (omega arith));
-      passed = handed _ _ c.in_err-lead-5.field-0.0 is (omega (arith, no_choice_bytes c.args.greedy, c.in_ok-body.ensures.weighs, c.in_ok-plus.ensures.bytes, c.in_ok-lead.ensures.bytes, c.in_ok-lead-2.ensures.bytes, c.in_ok-question.ensures.bytes, c.in_ok-empty.ensures.bytes, c.in_ok-lead-3.ensures.bytes, c.in_ok-lead-4.ensures.bytes, c.in_err-lead-5.ensures.passed));
+      refused = handed _ _ c.in_err-lead-5.field-0.0 is (later_step c.args.how.which _ c.args.x.now (exit_led_on c.args.greedy
+          (body_led_back c.args.greedy c.in_ok-body.ensures.made c.in_ok-plus.ensures c.in_ok-lead.ensures c.in_ok-lead-2.ensures)
+          c.in_ok-question.ensures c.in_ok-empty.ensures (omega (
+            arith,
+            c.in_ok-body.ensures.made.fragment.start_there,
+            c.in_ok-plus.ensures.size,
+            c.in_ok-lead.ensures.size,
+            c.in_ok-lead-2.ensures.size,
+          )) c.in_ok-lead-3.ensures
+          c.in_ok-lead-4.ensures) c.in_err-lead-5.ensures (omega arith) (omega arith));
+      passed = handed _ _ c.in_err-lead-5.field-0.0 is (omega (
+        arith,
+        no_choice_bytes c.args.greedy,
+        c.in_ok-body.ensures.weighs,
+        c.in_ok-plus.ensures.bytes,
+        c.in_ok-lead.ensures.bytes,
+        c.in_ok-lead-2.ensures.bytes,
+        c.in_ok-question.ensures.bytes,
+        c.in_ok-empty.ensures.bytes,
+        c.in_ok-lead-3.ensures.bytes,
+        c.in_ok-lead-4.ensures.bytes,
+        c.in_err-lead-5.ensures.passed,
+      ));
     }
 
 pub zero_or_more_of_empty-returns-clause-weighs : goal.zero_or_more_of_empty-returns-clause-weighs
-zero_or_more_of_empty-returns-clause-weighs t c = omega (arith, no_choice_bytes c.args.greedy, c.in_ok-body.ensures.weighs, c.in_ok-plus.ensures.bytes, c.in_ok-lead.ensures.bytes, c.in_ok-lead-2.ensures.bytes, c.in_ok-question.ensures.bytes, c.in_ok-empty.ensures.bytes, c.in_ok-lead-3.ensures.bytes, c.in_ok-lead-4.ensures.bytes, c.in_ok-lead-5.ensures.bytes)
+zero_or_more_of_empty-returns-clause-weighs t c = omega (
+  arith,
+  no_choice_bytes c.args.greedy,
+  c.in_ok-body.ensures.weighs,
+  c.in_ok-plus.ensures.bytes,
+  c.in_ok-lead.ensures.bytes,
+  c.in_ok-lead-2.ensures.bytes,
+  c.in_ok-question.ensures.bytes,
+  c.in_ok-empty.ensures.bytes,
+  c.in_ok-lead-3.ensures.bytes,
+  c.in_ok-lead-4.ensures.bytes,
+  c.in_ok-lead-5.ensures.bytes,
+)
 
 pub zero_or_more_of_empty-returns-clause-groups : goal.zero_or_more_of_empty-returns-clause-groups
-zero_or_more_of_empty-returns-clause-groups t c = led_groups c.in_ok-lead-5.ensures ∙ led_groups c.in_ok-lead-4.ensures ∙ led_groups c.in_ok-lead-3.ensures ∙ c.in_ok-empty.ensures.groups_are ∙ c.in_ok-question.ensures.groups_are ∙ led_groups c.in_ok-lead-2.ensures ∙ led_groups c.in_ok-lead.ensures ∙ c.in_ok-plus.ensures.groups_are ∙ c.in_ok-body.ensures.groups
+zero_or_more_of_empty-returns-clause-groups t c = led_groups c.in_ok-lead-5.ensures ∙ led_groups c.in_ok-lead-4.ensures ∙ led_groups
+    c.in_ok-lead-3.ensures ∙ c.in_ok-empty.ensures.groups_are ∙ c.in_ok-question.ensures.groups_are ∙ led_groups c.in_ok-lead-2.ensures ∙
+    led_groups c.in_ok-lead.ensures ∙ c.in_ok-plus.ensures.groups_are ∙ c.in_ok-body.ensures.groups
 
 pub one_or_more-returns-in_err-body : goal.one_or_more-returns-in_err-body
 one_or_more-returns-in_err-body t c =
@@ -1162,7 +1447,8 @@ one_or_more-returns-in_err-union t c =
       denotes = err_only _ _ c.in_err-union.field-0.0 is;
       weighs = err_only _ _ c.in_err-union.field-0.0 is;
       groups = err_only _ _ c.in_err-union.field-0.0 is;
-      refused = handed _ _ c.in_err-union.field-0.0 is (later_step c.args.how.which _ c.args.x.now (first_made c.in_ok-body.ensures.made) c.in_err-union.ensures (omega arith) (omega arith));
+      refused = handed _ _ c.in_err-union.field-0.0 is (later_step c.args.how.which _ c.args.x.now (first_made c.in_ok-body.ensures.made)
+          c.in_err-union.ensures (omega arith) (omega arith));
       passed = handed _ _ c.in_err-union.field-0.0 is (omega (arith, c.in_ok-body.ensures.weighs, c.in_err-union.ensures.passed));
     }
 
@@ -1174,8 +1460,15 @@ one_or_more-returns-in_err-lead t c =
       denotes = err_only _ _ c.in_err-lead.field-0.0 is;
       weighs = err_only _ _ c.in_err-lead.field-0.0 is;
       groups = err_only _ _ c.in_err-lead.field-0.0 is;
-      refused = handed _ _ c.in_err-lead.field-0.0 is (later_step c.args.how.which _ c.args.x.now (body_choice c.args.greedy c.in_ok-body.ensures.made c.in_ok-union.ensures) c.in_err-lead.ensures (omega arith) (omega arith));
-      passed = handed _ _ c.in_err-lead.field-0.0 is (omega (arith, no_choice_bytes c.args.greedy, c.in_ok-body.ensures.weighs, c.in_ok-union.ensures.bytes, c.in_err-lead.ensures.passed));
+      refused = handed _ _ c.in_err-lead.field-0.0 is (later_step c.args.how.which _ c.args.x.now (body_choice c.args.greedy
+          c.in_ok-body.ensures.made c.in_ok-union.ensures) c.in_err-lead.ensures (omega arith) (omega arith));
+      passed = handed _ _ c.in_err-lead.field-0.0 is (omega (
+        arith,
+        no_choice_bytes c.args.greedy,
+        c.in_ok-body.ensures.weighs,
+        c.in_ok-union.ensures.bytes,
+        c.in_err-lead.ensures.passed,
+      ));
     }
 
 pub one_or_more-returns-in_err-lead-2 : goal.one_or_more-returns-in_err-lead-2
@@ -1186,15 +1479,31 @@ one_or_more-returns-in_err-lead-2 t c =
       denotes = err_only _ _ c.in_err-lead-2.field-0.0 is;
       weighs = err_only _ _ c.in_err-lead-2.field-0.0 is;
       groups = err_only _ _ c.in_err-lead-2.field-0.0 is;
-      refused = handed _ _ c.in_err-lead-2.field-0.0 is (later_step c.args.how.which _ c.args.x.now (body_led c.args.greedy c.in_ok-body.ensures.made c.in_ok-union.ensures c.in_ok-lead.ensures) c.in_err-lead-2.ensures (omega arith) (omega arith));
-      passed = handed _ _ c.in_err-lead-2.field-0.0 is (omega (arith, no_choice_bytes c.args.greedy, c.in_ok-body.ensures.weighs, c.in_ok-union.ensures.bytes, c.in_ok-lead.ensures.bytes, c.in_err-lead-2.ensures.passed));
+      refused = handed _ _ c.in_err-lead-2.field-0.0 is (later_step c.args.how.which _ c.args.x.now (body_led c.args.greedy
+          c.in_ok-body.ensures.made c.in_ok-union.ensures c.in_ok-lead.ensures) c.in_err-lead-2.ensures (omega arith) (omega arith));
+      passed = handed _ _ c.in_err-lead-2.field-0.0 is (omega (
+        arith,
+        no_choice_bytes c.args.greedy,
+        c.in_ok-body.ensures.weighs,
+        c.in_ok-union.ensures.bytes,
+        c.in_ok-lead.ensures.bytes,
+        c.in_err-lead-2.ensures.passed,
+      ));
     }
 
 pub one_or_more-returns-clause-weighs : goal.one_or_more-returns-clause-weighs
-one_or_more-returns-clause-weighs t c = omega (arith, no_choice_bytes c.args.greedy, c.in_ok-body.ensures.weighs, c.in_ok-union.ensures.bytes, c.in_ok-lead.ensures.bytes, c.in_ok-lead-2.ensures.bytes)
+one_or_more-returns-clause-weighs t c = omega (
+  arith,
+  no_choice_bytes c.args.greedy,
+  c.in_ok-body.ensures.weighs,
+  c.in_ok-union.ensures.bytes,
+  c.in_ok-lead.ensures.bytes,
+  c.in_ok-lead-2.ensures.bytes,
+)
 
 pub one_or_more-returns-clause-groups : goal.one_or_more-returns-clause-groups
-one_or_more-returns-clause-groups t c = led_groups c.in_ok-lead-2.ensures ∙ led_groups c.in_ok-lead.ensures ∙ c.in_ok-union.ensures.groups_are ∙ c.in_ok-body.ensures.groups
+one_or_more-returns-clause-groups t c = led_groups c.in_ok-lead-2.ensures ∙ led_groups c.in_ok-lead.ensures ∙
+    c.in_ok-union.ensures.groups_are ∙ c.in_ok-body.ensures.groups
 
 pub option-returns-in_err-union : goal.option-returns-in_err-union
 option-returns-in_err-union t c =
@@ -1204,7 +1513,8 @@ option-returns-in_err-union t c =
       denotes = err_only _ _ c.in_err-union.field-0.0 is;
       weighs = err_only _ _ c.in_err-union.field-0.0 is;
       groups = err_only _ _ c.in_err-union.field-0.0 is;
-      refused = handed _ _ c.in_err-union.field-0.0 is (first_step c.args.how.which _ c.args.x.now c.in_err-union.ensures (omega arith) (omega arith));
+      refused = handed _ _ c.in_err-union.field-0.0 is (first_step c.args.how.which _ c.args.x.now c.in_err-union.ensures (omega arith)
+          (omega arith));
       passed = handed _ _ c.in_err-union.field-0.0 is (omega (arith, c.in_err-union.ensures.passed));
     }
 
@@ -1216,8 +1526,14 @@ option-returns-in_err-body t c =
       denotes = err_only _ _ c.in_err-body.field-0.0 is;
       weighs = err_only _ _ c.in_err-body.field-0.0 is;
       groups = err_only _ _ c.in_err-body.field-0.0 is;
-      refused = handed _ _ c.in_err-body.field-0.0 is (later_tree _ (choice_first c.args.greedy c.in_ok-union.ensures) c.in_err-body.ensures.refused (omega arith));
-      passed = handed _ _ c.in_err-body.field-0.0 is (omega (arith, no_choice_bytes c.args.greedy, c.in_ok-union.ensures.bytes, c.in_err-body.ensures.passed));
+      refused = handed _ _ c.in_err-body.field-0.0 is (later_tree _ (choice_first c.args.greedy c.in_ok-union.ensures)
+          c.in_err-body.ensures.refused (omega arith));
+      passed = handed _ _ c.in_err-body.field-0.0 is (omega (
+        arith,
+        no_choice_bytes c.args.greedy,
+        c.in_ok-union.ensures.bytes,
+        c.in_err-body.ensures.passed,
+      ));
     }
 
 pub option-returns-in_err-lead : goal.option-returns-in_err-lead
@@ -1228,8 +1544,15 @@ option-returns-in_err-lead t c =
       denotes = err_only _ _ c.in_err-lead.field-0.0 is;
       weighs = err_only _ _ c.in_err-lead.field-0.0 is;
       groups = err_only _ _ c.in_err-lead.field-0.0 is;
-      refused = handed _ _ c.in_err-lead.field-0.0 is (later_step c.args.how.which _ c.args.x.now (choice_body c.args.greedy c.in_ok-union.ensures c.in_ok-body.ensures.made) c.in_err-lead.ensures (omega arith) (omega arith));
-      passed = handed _ _ c.in_err-lead.field-0.0 is (omega (arith, no_choice_bytes c.args.greedy, c.in_ok-union.ensures.bytes, c.in_ok-body.ensures.weighs, c.in_err-lead.ensures.passed));
+      refused = handed _ _ c.in_err-lead.field-0.0 is (later_step c.args.how.which _ c.args.x.now (choice_body c.args.greedy
+          c.in_ok-union.ensures c.in_ok-body.ensures.made) c.in_err-lead.ensures (omega arith) (omega arith));
+      passed = handed _ _ c.in_err-lead.field-0.0 is (omega (
+        arith,
+        no_choice_bytes c.args.greedy,
+        c.in_ok-union.ensures.bytes,
+        c.in_ok-body.ensures.weighs,
+        c.in_err-lead.ensures.passed,
+      ));
     }
 
 pub option-returns-in_err-lead-2 : goal.option-returns-in_err-lead-2
@@ -1240,15 +1563,31 @@ option-returns-in_err-lead-2 t c =
       denotes = err_only _ _ c.in_err-lead-2.field-0.0 is;
       weighs = err_only _ _ c.in_err-lead-2.field-0.0 is;
       groups = err_only _ _ c.in_err-lead-2.field-0.0 is;
-      refused = handed _ _ c.in_err-lead-2.field-0.0 is (later_step c.args.how.which _ c.args.x.now (choice_led c.args.greedy c.in_ok-union.ensures c.in_ok-body.ensures.made c.in_ok-lead.ensures) c.in_err-lead-2.ensures (omega arith) (omega arith));
-      passed = handed _ _ c.in_err-lead-2.field-0.0 is (omega (arith, no_choice_bytes c.args.greedy, c.in_ok-union.ensures.bytes, c.in_ok-body.ensures.weighs, c.in_ok-lead.ensures.bytes, c.in_err-lead-2.ensures.passed));
+      refused = handed _ _ c.in_err-lead-2.field-0.0 is (later_step c.args.how.which _ c.args.x.now (choice_led c.args.greedy
+          c.in_ok-union.ensures c.in_ok-body.ensures.made c.in_ok-lead.ensures) c.in_err-lead-2.ensures (omega arith) (omega arith));
+      passed = handed _ _ c.in_err-lead-2.field-0.0 is (omega (
+        arith,
+        no_choice_bytes c.args.greedy,
+        c.in_ok-union.ensures.bytes,
+        c.in_ok-body.ensures.weighs,
+        c.in_ok-lead.ensures.bytes,
+        c.in_err-lead-2.ensures.passed,
+      ));
     }
 
 pub option-returns-clause-weighs : goal.option-returns-clause-weighs
-option-returns-clause-weighs t c = omega (arith, no_choice_bytes c.args.greedy, c.in_ok-union.ensures.bytes, c.in_ok-body.ensures.weighs, c.in_ok-lead.ensures.bytes, c.in_ok-lead-2.ensures.bytes)
+option-returns-clause-weighs t c = omega (
+  arith,
+  no_choice_bytes c.args.greedy,
+  c.in_ok-union.ensures.bytes,
+  c.in_ok-body.ensures.weighs,
+  c.in_ok-lead.ensures.bytes,
+  c.in_ok-lead-2.ensures.bytes,
+)
 
 pub option-returns-clause-groups : goal.option-returns-clause-groups
-option-returns-clause-groups t c = led_groups c.in_ok-lead-2.ensures ∙ led_groups c.in_ok-lead.ensures ∙ groups_behind c.args.how.which c.args.x.now c.in_ok-union.ensures c.in_ok-body.ensures.groups
+option-returns-clause-groups t c = led_groups c.in_ok-lead-2.ensures ∙ led_groups c.in_ok-lead.ensures ∙ groups_behind c.args.how.which
+    c.args.x.now c.in_ok-union.ensures c.in_ok-body.ensures.groups
 
 pub captured-returns-in_err-body : goal.captured-returns-in_err-body
 captured-returns-in_err-body t c =
@@ -1270,7 +1609,8 @@ captured-returns-in_err-start t c =
       denotes = err_only _ _ c.in_err-start.field-0.0 is;
       weighs = err_only _ _ c.in_err-start.field-0.0 is;
       groups = err_only _ _ c.in_err-start.field-0.0 is;
-      refused = handed _ _ c.in_err-start.field-0.0 is (start_quits c.args.how.which _ _ c.args.index _ _ c.args.x.now _ (sym c.keeps.ensures ∙ c.if-not-keeps.false) (omega arith) c.in_err-start.ensures.refused);
+      refused = handed _ _ c.in_err-start.field-0.0 is (start_quits c.args.how.which _ _ c.args.index _ _ c.args.x.now _ (sym
+          c.keeps.ensures ∙ c.if-not-keeps.false) (omega arith) c.in_err-start.ensures.refused);
       passed = handed _ _ c.in_err-start.field-0.0 is (omega (arith, c.in_err-start.ensures.refused.passed));
     }
 
@@ -1282,7 +1622,8 @@ captured-returns-in_err-body-2 t c =
       denotes = err_only _ _ c.in_err-body-2.field-0.0 is;
       weighs = err_only _ _ c.in_err-body-2.field-0.0 is;
       groups = err_only _ _ c.in_err-body-2.field-0.0 is;
-      refused = handed _ _ c.in_err-body-2.field-0.0 is (body_refused _ c.in_ok-start.ensures.added c.args.how.which _ c.args.x.now c.in_err-body-2.ensures.refused);
+      refused = handed _ _ c.in_err-body-2.field-0.0 is (body_refused _ c.in_ok-start.ensures.added c.args.how.which _ c.args.x.now
+          c.in_err-body-2.ensures.refused);
       passed = handed _ _ c.in_err-body-2.field-0.0 is (omega (arith, c.in_ok-start.ensures.added.bytes, c.in_err-body-2.ensures.passed));
     }
 
@@ -1294,8 +1635,14 @@ captured-returns-in_err-end t c =
       denotes = err_only _ _ c.in_err-end.field-0.0 is;
       weighs = err_only _ _ c.in_err-end.field-0.0 is;
       groups = err_only _ _ c.in_err-end.field-0.0 is;
-      refused = handed _ _ c.in_err-end.field-0.0 is (end_step_refused _ c.in_ok-start.ensures.added c.in_ok-body-2.ensures.made c.args.how.which _ c.args.x.now (sym c.keeps.ensures ∙ c.if-not-keeps.false) c.in_err-end.ensures.refused);
-      passed = handed _ _ c.in_err-end.field-0.0 is (omega (arith, c.in_ok-start.ensures.added.bytes, c.in_ok-body-2.ensures.weighs, c.in_err-end.ensures.refused.passed));
+      refused = handed _ _ c.in_err-end.field-0.0 is (end_step_refused _ c.in_ok-start.ensures.added c.in_ok-body-2.ensures.made
+          c.args.how.which _ c.args.x.now (sym c.keeps.ensures ∙ c.if-not-keeps.false) c.in_err-end.ensures.refused);
+      passed = handed _ _ c.in_err-end.field-0.0 is (omega (
+        arith,
+        c.in_ok-start.ensures.added.bytes,
+        c.in_ok-body-2.ensures.weighs,
+        c.in_err-end.ensures.refused.passed,
+      ));
     }
 
 pub captured-returns-in_err-lead : goal.captured-returns-in_err-lead
@@ -1306,8 +1653,16 @@ captured-returns-in_err-lead t c =
       denotes = err_only _ _ c.in_err-lead.field-0.0 is;
       weighs = err_only _ _ c.in_err-lead.field-0.0 is;
       groups = err_only _ _ c.in_err-lead.field-0.0 is;
-      refused = handed _ _ c.in_err-lead.field-0.0 is (lead_refused _ c.in_ok-start.ensures.added c.in_ok-body-2.ensures.made c.in_ok-end.ensures.added (same_starts c.in_ok-body-2.ensures.made.fragment.grows ∙ same_starts c.in_ok-start.ensures.added.grows) c.args.how.which _ c.args.x.now c.in_err-lead.ensures);
-      passed = handed _ _ c.in_err-lead.field-0.0 is (omega (arith, c.in_ok-start.ensures.added.bytes, c.in_ok-body-2.ensures.weighs, c.in_ok-end.ensures.added.bytes, c.in_err-lead.ensures.passed));
+      refused = handed _ _ c.in_err-lead.field-0.0 is (lead_refused _ c.in_ok-start.ensures.added c.in_ok-body-2.ensures.made
+          c.in_ok-end.ensures.added (same_starts c.in_ok-body-2.ensures.made.fragment.grows ∙ same_starts
+          c.in_ok-start.ensures.added.grows) c.args.how.which _ c.args.x.now c.in_err-lead.ensures);
+      passed = handed _ _ c.in_err-lead.field-0.0 is (omega (
+        arith,
+        c.in_ok-start.ensures.added.bytes,
+        c.in_ok-body-2.ensures.weighs,
+        c.in_ok-end.ensures.added.bytes,
+        c.in_err-lead.ensures.passed,
+      ));
     }
 
 pub captured-returns-in_err-lead-2 : goal.captured-returns-in_err-lead-2
@@ -1318,8 +1673,17 @@ captured-returns-in_err-lead-2 t c =
       denotes = err_only _ _ c.in_err-lead-2.field-0.0 is;
       weighs = err_only _ _ c.in_err-lead-2.field-0.0 is;
       groups = err_only _ _ c.in_err-lead-2.field-0.0 is;
-      refused = handed _ _ c.in_err-lead-2.field-0.0 is (lead_on_refused _ c.in_ok-start.ensures.added c.in_ok-body-2.ensures.made c.in_ok-end.ensures.added (same_starts c.in_ok-body-2.ensures.made.fragment.grows ∙ same_starts c.in_ok-start.ensures.added.grows) c.args.how.which _ c.args.x.now c.in_ok-lead.ensures c.in_err-lead-2.ensures);
-      passed = handed _ _ c.in_err-lead-2.field-0.0 is (omega (arith, c.in_ok-start.ensures.added.bytes, c.in_ok-body-2.ensures.weighs, c.in_ok-end.ensures.added.bytes, c.in_ok-lead.ensures.bytes, c.in_err-lead-2.ensures.passed));
+      refused = handed _ _ c.in_err-lead-2.field-0.0 is (lead_on_refused _ c.in_ok-start.ensures.added c.in_ok-body-2.ensures.made
+          c.in_ok-end.ensures.added (same_starts c.in_ok-body-2.ensures.made.fragment.grows ∙ same_starts
+          c.in_ok-start.ensures.added.grows) c.args.how.which _ c.args.x.now c.in_ok-lead.ensures c.in_err-lead-2.ensures);
+      passed = handed _ _ c.in_err-lead-2.field-0.0 is (omega (
+        arith,
+        c.in_ok-start.ensures.added.bytes,
+        c.in_ok-body-2.ensures.weighs,
+        c.in_ok-end.ensures.added.bytes,
+        c.in_ok-lead.ensures.bytes,
+        c.in_err-lead-2.ensures.passed,
+      ));
     }
 
 pub captured-returns-then-not-keeps-clause-made : goal.captured-returns-then-not-keeps-clause-made
@@ -1329,34 +1693,52 @@ pub captured-returns-then-not-keeps-clause-weighs : goal.captured-returns-then-n
 captured-returns-then-not-keeps-clause-weighs t c = omega (arith, c.in_ok-body.ensures.weighs)
 
 pub captured-returns-then-not-keeps-clause-groups : goal.captured-returns-then-not-keeps-clause-groups
-captured-returns-then-not-keeps-clause-groups t c = plain_groups c.args.how.which _ c.args.index _ c.args.x.now _ _ (sym c.keeps.ensures ∙ c.if-not-keeps.true) c.in_ok-body.ensures.groups
+captured-returns-then-not-keeps-clause-groups t c = plain_groups c.args.how.which _ c.args.index _ c.args.x.now _ _ (sym c.keeps.ensures ∙
+    c.if-not-keeps.true) c.in_ok-body.ensures.groups
 
 pub captured-returns-clause-weighs : goal.captured-returns-clause-weighs
-captured-returns-clause-weighs t c = omega (arith, c.in_ok-start.ensures.added.bytes, c.in_ok-body-2.ensures.weighs, c.in_ok-end.ensures.added.bytes, c.in_ok-lead.ensures.bytes, c.in_ok-lead-2.ensures.bytes)
+captured-returns-clause-weighs t c = omega (
+  arith,
+  c.in_ok-start.ensures.added.bytes,
+  c.in_ok-body-2.ensures.weighs,
+  c.in_ok-end.ensures.added.bytes,
+  c.in_ok-lead.ensures.bytes,
+  c.in_ok-lead-2.ensures.bytes,
+)
 
 pub captured-returns-clause-groups : goal.captured-returns-clause-groups
-captured-returns-clause-groups t c = led_groups c.in_ok-lead-2.ensures ∙ led_groups c.in_ok-lead.ensures ∙ c.in_ok-end.ensures.added.groups_are ∙ capture_groups c.args.how.which _ _ c.args.index _ _ c.args.x.now _ _ _ (sym c.keeps.ensures ∙ c.if-not-keeps.false) c.in_ok-start.ensures.added.groups_are c.in_ok-name.ensures (same_starts c.in_ok-start.ensures.added.grows) c.in_ok-body-2.ensures.groups
+captured-returns-clause-groups t c = led_groups c.in_ok-lead-2.ensures ∙ led_groups c.in_ok-lead.ensures ∙
+    c.in_ok-end.ensures.added.groups_are ∙ capture_groups c.args.how.which _ _ c.args.index _ _ c.args.x.now _ _ _ (sym c.keeps.ensures ∙
+    c.if-not-keeps.false) c.in_ok-start.ensures.added.groups_are c.in_ok-name.ensures (same_starts c.in_ok-start.ensures.added.grows)
+    c.in_ok-body-2.ensures.groups
 
 pub concatenation-returns-then-subs-eq0-clause-made : goal.concatenation-returns-then-subs-eq0-clause-made
-concatenation-returns-then-subs-eq0-clause-made t c = made_capped _ c.in_ok-none.ensures.made (omega (arith, room_of_concat c.args.how.shrink c.args.subs.now))
+concatenation-returns-then-subs-eq0-clause-made t c = made_capped _ c.in_ok-none.ensures.made (omega (
+  arith,
+  room_of_concat
+      c.args.how.shrink c.args.subs.now,
+))
 
 pub concatenation-returns-clause-groups : goal.concatenation-returns-clause-groups
 concatenation-returns-clause-groups t c = parts_groups c.args.how _ _ _ _ c.loop-i.i c.args.subs.now c.loop-i.invariant c.loop-i-test.false
 
 pub copies-returns-clause-made : goal.copies-returns-clause-made
-copies-returns-clause-made t c = copies_made c.args.how _ _ _ _ c.loop.counter c.args.n c.args.x.now c.loop.invariant.0 c.loop.invariant.1 c.loop-test.false
+copies-returns-clause-made t c = copies_made c.args.how _ _ _ _ c.loop.counter c.args.n c.args.x.now c.loop.invariant.0 c.loop.invariant.1
+    c.loop-test.false
 
 pub copies-returns-clause-groups : goal.copies-returns-clause-groups
 copies-returns-clause-groups t c = c.loop.invariant.0.groups
 
 pub at_least-returns-then-min-eq0-clause-made : goal.at_least-returns-then-min-eq0-clause-made
-at_least-returns-then-min-eq0-clause-made t c = loop_wider c.args.how.shrink c.args.min c.args.greedy c.args.x.now c.in_ok-any.ensures.made (omega arith)
+at_least-returns-then-min-eq0-clause-made t c = loop_wider c.args.how.shrink c.args.min c.args.greedy c.args.x.now
+    c.in_ok-any.ensures.made (omega arith)
 
 pub at_least-returns-then-min-eq0-clause-groups : goal.at_least-returns-then-min-eq0-clause-groups
 at_least-returns-then-min-eq0-clause-groups t c = c.in_ok-any.ensures.groups
 
 pub at_least-returns-then-min-eq1-clause-made : goal.at_least-returns-then-min-eq1-clause-made
-at_least-returns-then-min-eq1-clause-made t c = loop_wider c.args.how.shrink c.args.min c.args.greedy c.args.x.now c.in_ok-some.ensures.made (omega arith)
+at_least-returns-then-min-eq1-clause-made t c = loop_wider c.args.how.shrink c.args.min c.args.greedy c.args.x.now
+    c.in_ok-some.ensures.made (omega arith)
 
 pub at_least-returns-then-min-eq1-clause-groups : goal.at_least-returns-then-min-eq1-clause-groups
 at_least-returns-then-min-eq1-clause-groups t c = c.in_ok-some.ensures.groups
@@ -1369,7 +1751,8 @@ up_to-returns-in_err-exit t c =
       denotes = err_only _ _ c.in_err-exit.field-0.0 is;
       weighs = err_only _ _ c.in_err-exit.field-0.0 is;
       groups = err_only _ _ c.in_err-exit.field-0.0 is;
-      refused = handed _ _ c.in_err-exit.field-0.0 is (first_step c.args.how.which _ c.args.x.now c.in_err-exit.ensures (omega arith) (omega arith));
+      refused = handed _ _ c.in_err-exit.field-0.0 is (first_step c.args.how.which _ c.args.x.now c.in_err-exit.ensures (omega arith)
+          (omega arith));
       passed = handed _ _ c.in_err-exit.field-0.0 is (omega (arith, c.in_err-exit.ensures.passed));
     }
 
@@ -1396,7 +1779,8 @@ owed_and_more-returns-in_err-exit t c =
       denotes = err_only _ _ c.in_err-exit.field-0.0 is;
       weighs = err_only _ _ c.in_err-exit.field-0.0 is;
       groups = err_only _ _ c.in_err-exit.field-0.0 is;
-      refused = handed _ _ c.in_err-exit.field-0.0 is (later_step c.args.how.which _ c.args.x.now (first_made c.in_ok-prefix.ensures.made) c.in_err-exit.ensures (omega arith) (omega arith));
+      refused = handed _ _ c.in_err-exit.field-0.0 is (later_step c.args.how.which _ c.args.x.now (first_made c.in_ok-prefix.ensures.made)
+          c.in_err-exit.ensures (omega arith) (omega arith));
       passed = handed _ _ c.in_err-exit.field-0.0 is (omega (arith, c.in_ok-prefix.ensures.weighs, c.in_err-exit.ensures.passed));
     }
 
@@ -1423,7 +1807,8 @@ between-returns-in_err-all t c =
       denotes = err_only _ _ c.in_err-all.field-0.0 is;
       weighs = err_only _ _ c.in_err-all.field-0.0 is;
       groups = err_only _ _ c.in_err-all.field-0.0 is;
-      refused = handed _ _ c.in_err-all.field-0.0 is (bounded_refused c.args.how.shrink c.args.min c.args.most c.args.greedy c.args.x.now c.in_err-all.ensures.refused (omega arith));
+      refused = handed _ _ c.in_err-all.field-0.0 is (bounded_refused c.args.how.shrink c.args.min c.args.most c.args.greedy c.args.x.now
+          c.in_err-all.ensures.refused (omega arith));
       passed = handed _ _ c.in_err-all.field-0.0 is (omega (arith, c.in_err-all.ensures.passed));
     }
 
@@ -1435,33 +1820,45 @@ between-returns-in_err-some t c =
       denotes = err_only _ _ c.in_err-some.field-0.0 is;
       weighs = err_only _ _ c.in_err-some.field-0.0 is;
       groups = err_only _ _ c.in_err-some.field-0.0 is;
-      refused = handed _ _ c.in_err-some.field-0.0 is (bounded_refused c.args.how.shrink c.args.min c.args.most c.args.greedy c.args.x.now c.in_err-some.ensures.refused (omega arith));
+      refused = handed _ _ c.in_err-some.field-0.0 is (bounded_refused c.args.how.shrink c.args.min c.args.most c.args.greedy c.args.x.now
+          c.in_err-some.ensures.refused (omega arith));
       passed = handed _ _ c.in_err-some.field-0.0 is (c.in_err-some.ensures.passed);
     }
 
 pub alternatives-returns-then-subs-eq0-clause-made : goal.alternatives-returns-then-subs-eq0-clause-made
-alternatives-returns-then-subs-eq0-clause-made t c = made_capped _ c.in_ok-none.ensures.made (omega (arith, room_of_alternation c.args.how.shrink c.args.subs.now))
+alternatives-returns-then-subs-eq0-clause-made t c = made_capped _ c.in_ok-none.ensures.made (omega (
+  arith,
+  room_of_alternation
+      c.args.how.shrink c.args.subs.now,
+))
 
 pub alternatives-returns-then-all_literals-clause-denotes : goal.alternatives-returns-then-all_literals-clause-denotes
 alternatives-returns-then-all_literals-clause-denotes t c = c.in_ok-literals.ensures.denotes
 
 pub alternatives-returns-then-subs-eq1-clause-made : goal.alternatives-returns-then-subs-eq1-clause-made
-alternatives-returns-then-subs-eq1-clause-made t c = single_made c.args.how.shrink _ _ _ _ c.index-subs-0.result c.args.subs.now (omega arith) c.index-subs-0.is c.in_ok-one.ensures.made
+alternatives-returns-then-subs-eq1-clause-made t c = single_made c.args.how.shrink _ _ _ _ c.index-subs-0.result c.args.subs.now (omega
+    arith) c.index-subs-0.is c.in_ok-one.ensures.made
 
 pub alternatives-returns-then-subs-eq1-clause-groups : goal.alternatives-returns-then-subs-eq1-clause-groups
-alternatives-returns-then-subs-eq1-clause-groups t c = single_groups c.args.how.which _ c.index-subs-0.result c.args.subs.now _ _ (omega arith) c.index-subs-0.is c.in_ok-one.ensures.groups
+alternatives-returns-then-subs-eq1-clause-groups t c = single_groups c.args.how.which _ c.index-subs-0.result c.args.subs.now _ _ (omega
+    arith) c.index-subs-0.is c.in_ok-one.ensures.groups
 
 pub alternatives-returns-clause-groups : goal.alternatives-returns-clause-groups
 alternatives-returns-clause-groups t c = cases_groups c.args.how _ _ _ _ c.loop-i.i c.args.subs.now c.loop-i.invariant c.loop-i-test.false
 
 pub concatenation-returns-then-subs-eq0-clause-groups : goal.concatenation-returns-then-subs-eq0-clause-groups
-concatenation-returns-then-subs-eq0-clause-groups t c = no_parts_groups c.args.how.which _ c.args.subs.now (omega (arith, c.if-subs-eq0.true)) c.in_ok-none.ensures.groups
+concatenation-returns-then-subs-eq0-clause-groups t c = no_parts_groups c.args.how.which _ c.args.subs.now (omega (
+  arith,
+  c.if-subs-eq0.true,
+)) c.in_ok-none.ensures.groups
 
 pub at_least-returns-then-min-eq0-clause-denotes : goal.at_least-returns-then-min-eq0-clause-denotes
-at_least-returns-then-min-eq0-clause-denotes t c = loop_bounds 0 c.args.min c.args.greedy c.args.x.now (omega (arith, c.if-min-eq0.true)) c.in_ok-any.ensures.denotes
+at_least-returns-then-min-eq0-clause-denotes t c = loop_bounds 0 c.args.min c.args.greedy c.args.x.now (omega (arith, c.if-min-eq0.true))
+    c.in_ok-any.ensures.denotes
 
 pub at_least-returns-then-min-eq1-clause-denotes : goal.at_least-returns-then-min-eq1-clause-denotes
-at_least-returns-then-min-eq1-clause-denotes t c = loop_bounds 1 c.args.min c.args.greedy c.args.x.now (omega (arith, c.if-min-eq1.true)) c.in_ok-some.ensures.denotes
+at_least-returns-then-min-eq1-clause-denotes t c = loop_bounds 1 c.args.min c.args.greedy c.args.x.now (omega (arith, c.if-min-eq1.true))
+    c.in_ok-some.ensures.denotes
 
 pub between-returns-then-most-eq0-clause-made : goal.between-returns-then-most-eq0-clause-made
 between-returns-then-most-eq0-clause-made t c = made_capped _ c.in_ok-none.ensures.made (omega arith)
@@ -1470,7 +1867,8 @@ pub between-returns-then-most-eq0-clause-weighs : goal.between-returns-then-most
 between-returns-then-most-eq0-clause-weighs t c = omega (arith, c.in_ok-none.ensures.weighs)
 
 pub between-returns-then-most-eq0-clause-groups : goal.between-returns-then-most-eq0-clause-groups
-between-returns-then-most-eq0-clause-groups t c = stopped_groups c.args.how.which _ c.args.min c.args.most c.args.greedy c.args.x.now (omega (arith, c.if-most-eq0.true)) c.in_ok-none.ensures.groups
+between-returns-then-most-eq0-clause-groups t c = stopped_groups c.args.how.which _ c.args.min c.args.most c.args.greedy c.args.x.now
+    (omega (arith, c.if-most-eq0.true)) c.in_ok-none.ensures.groups
 
 pub between-returns-then-min-most-clause-made : goal.between-returns-then-min-most-clause-made
 between-returns-then-min-most-clause-made t c = made_capped _ c.in_ok-all.ensures.made (omega arith)
@@ -1479,7 +1877,8 @@ pub between-returns-then-min-most-clause-weighs : goal.between-returns-then-min-
 between-returns-then-min-most-clause-weighs t c = omega (arith, c.in_ok-all.ensures.weighs)
 
 pub between-returns-then-min-most-clause-groups : goal.between-returns-then-min-most-clause-groups
-between-returns-then-min-most-clause-groups t c = bounded_groups c.args.how.which _ c.args.min c.args.most c.args.greedy c.args.x.now _ (omega (arith, c.if-most-eq0.false)) c.in_ok-all.ensures.groups
+between-returns-then-min-most-clause-groups t c = bounded_groups c.args.how.which _ c.args.min c.args.most c.args.greedy c.args.x.now _
+    (omega (arith, c.if-most-eq0.false)) c.in_ok-all.ensures.groups
 
 pub between-returns-then-min-gt0-clause-made : goal.between-returns-then-min-gt0-clause-made
 between-returns-then-min-gt0-clause-made t c = made_capped _ c.in_ok-some.ensures.made (omega arith)
@@ -1491,151 +1890,309 @@ pub between-returns-then-min-gt0-clause-weighs : goal.between-returns-then-min-g
 between-returns-then-min-gt0-clause-weighs t c = c.in_ok-some.ensures.weighs
 
 pub between-returns-then-min-gt0-clause-groups : goal.between-returns-then-min-gt0-clause-groups
-between-returns-then-min-gt0-clause-groups t c = bounded_groups c.args.how.which _ c.args.min c.args.most c.args.greedy c.args.x.now _ (omega (arith, c.if-most-eq0.false)) c.in_ok-some.ensures.groups
+between-returns-then-min-gt0-clause-groups t c = bounded_groups c.args.how.which _ c.args.min c.args.most c.args.greedy c.args.x.now _
+    (omega (arith, c.if-most-eq0.false)) c.in_ok-some.ensures.groups
 
 pub between-returns-clause-made : goal.between-returns-clause-made
-between-returns-clause-made t c = none_owed_made c.args.how.shrink c.args.min c.args.most c.args.greedy c.args.x.now (omega (arith, c.if-min-gt0.false)) c.in_ok-any.ensures.made
+between-returns-clause-made t c = none_owed_made c.args.how.shrink c.args.min c.args.most c.args.greedy c.args.x.now (omega (
+  arith,
+  c.if-min-gt0.false,
+)) c.in_ok-any.ensures.made
 
 pub between-returns-clause-groups : goal.between-returns-clause-groups
-between-returns-clause-groups t c = bounded_groups c.args.how.which _ c.args.min c.args.most c.args.greedy c.args.x.now _ (omega (arith, c.if-most-eq0.false)) c.in_ok-any.ensures.groups
+between-returns-clause-groups t c = bounded_groups c.args.how.which _ c.args.min c.args.most c.args.greedy c.args.x.now _ (omega (
+  arith,
+  c.if-most-eq0.false,
+)) c.in_ok-any.ensures.groups
 
 pub alternatives-returns-then-subs-eq0-clause-denotes : goal.alternatives-returns-then-subs-eq0-clause-denotes
-alternatives-returns-then-subs-eq0-clause-denotes t c = no_cases_does c.args.subs.now (omega (arith, c.if-subs-eq0.true)) c.in_ok-none.ensures.denotes
+alternatives-returns-then-subs-eq0-clause-denotes t c = no_cases_does c.args.subs.now (omega (arith, c.if-subs-eq0.true))
+    c.in_ok-none.ensures.denotes
 
 pub alternatives-returns-then-subs-eq0-clause-groups : goal.alternatives-returns-then-subs-eq0-clause-groups
-alternatives-returns-then-subs-eq0-clause-groups t c = no_cases_groups c.args.how.which _ c.args.subs.now (omega (arith, c.if-subs-eq0.true)) c.in_ok-none.ensures.groups
+alternatives-returns-then-subs-eq0-clause-groups t c = no_cases_groups c.args.how.which _ c.args.subs.now (omega (
+  arith,
+  c.if-subs-eq0.true,
+)) c.in_ok-none.ensures.groups
 
 pub compile-returns-in-Empty : goal.compile-returns-in-Empty
 compile-returns-in-Empty t c =
-    let all : Compiles c.args.how c.args.builder.now _ _ c.args.x.now = compiles_as (ap node (sym c.in-Empty.is) ∙ c.kind.ensures.is) (leaf_compiles c.args.how _ _ c.empty.result (empty) (1) c.empty.ensures.made c.empty.ensures.denotes c.empty.ensures.weighs c.empty.ensures.groups c.empty.ensures.refused c.empty.ensures.passed (omega arith) refl) in
+    let all : Compiles c.args.how c.args.builder.now _ _ c.args.x.now = compiles_as (ap node (sym c.in-Empty.is) ∙ c.kind.ensures.is)
+    (leaf_compiles c.args.how _ _ c.empty.result (empty) (1) c.empty.ensures.made c.empty.ensures.denotes c.empty.ensures.weighs
+    c.empty.ensures.groups c.empty.ensures.refused c.empty.ensures.passed (omega arith) refl) in
     record { made = all.made; denotes = all.denotes; weighs = all.weighs; groups = all.groups; refused = all.refused; passed = all.passed }
 
 pub compile-returns-in-Literal : goal.compile-returns-in-Literal
 compile-returns-in-Literal t c =
-    let all : Compiles c.args.how c.args.builder.now _ _ c.args.x.now = compiles_as (ap literal c.deref.ensures.value ∙ ap node (sym c.in-Literal.is) ∙ c.kind.ensures.is) (leaf_compiles c.args.how _ _ c.literal.result (literal c.deref.result.now) (length c.deref.result.now + 1) c.literal.ensures.made c.literal.ensures.denotes c.literal.ensures.weighs c.literal.ensures.groups c.literal.ensures.refused c.literal.ensures.passed (omega arith) refl) in
+    let all : Compiles c.args.how c.args.builder.now _ _ c.args.x.now = compiles_as (ap literal c.deref.ensures.value ∙ ap node (sym
+    c.in-Literal.is) ∙ c.kind.ensures.is) (leaf_compiles c.args.how _ _ c.literal.result (literal c.deref.result.now) (length
+    c.deref.result.now + 1) c.literal.ensures.made c.literal.ensures.denotes c.literal.ensures.weighs c.literal.ensures.groups
+    c.literal.ensures.refused c.literal.ensures.passed (omega arith) refl) in
     record { made = all.made; denotes = all.denotes; weighs = all.weighs; groups = all.groups; refused = all.refused; passed = all.passed }
 
 pub compile-returns-in-Bytes : goal.compile-returns-in-Bytes
 compile-returns-in-Bytes t c =
-    let all : Compiles c.args.how c.args.builder.now _ _ c.args.x.now = compiles_as (ap byte_class c.deref-in-Bytes.ensures.value ∙ ap node (sym c.in-Bytes.is) ∙ c.kind.ensures.is) (leaf_compiles c.args.how _ _ c.byte_class.result (byte_class c.deref-in-Bytes.result.now) (2) c.byte_class.ensures.made c.byte_class.ensures.denotes c.byte_class.ensures.weighs c.byte_class.ensures.groups c.byte_class.ensures.refused c.byte_class.ensures.passed (omega arith) refl) in
+    let all : Compiles c.args.how c.args.builder.now _ _ c.args.x.now = compiles_as (ap byte_class c.deref-in-Bytes.ensures.value ∙ ap
+    node (sym c.in-Bytes.is) ∙ c.kind.ensures.is) (leaf_compiles c.args.how _ _ c.byte_class.result (byte_class
+    c.deref-in-Bytes.result.now) (2) c.byte_class.ensures.made c.byte_class.ensures.denotes c.byte_class.ensures.weighs
+    c.byte_class.ensures.groups c.byte_class.ensures.refused c.byte_class.ensures.passed (omega arith) refl) in
     record { made = all.made; denotes = all.denotes; weighs = all.weighs; groups = all.groups; refused = all.refused; passed = all.passed }
 
 pub compile-returns-in-Chars : goal.compile-returns-in-Chars
 compile-returns-in-Chars t c =
-    let all : Compiles c.args.how c.args.builder.now _ _ c.args.x.now = compiles_as (ap char_class c.deref-in-Chars.ensures.value ∙ ap node (sym c.in-Chars.is) ∙ c.kind.ensures.is) (leaf_compiles c.args.how _ _ c.compile_scalars.result (char_class c.deref-in-Chars.result.now) (room c.args.how.shrink (char_class c.deref-in-Chars.result.now)) c.compile_scalars.ensures.made c.compile_scalars.ensures.does c.compile_scalars.ensures.weighs c.compile_scalars.ensures.groups c.compile_scalars.ensures.refused c.compile_scalars.ensures.passed (omega arith) refl) in
+    let all : Compiles c.args.how c.args.builder.now _ _ c.args.x.now = compiles_as (ap char_class c.deref-in-Chars.ensures.value ∙ ap
+    node (sym c.in-Chars.is) ∙ c.kind.ensures.is) (leaf_compiles c.args.how _ _ c.compile_scalars.result (char_class
+    c.deref-in-Chars.result.now) (room c.args.how.shrink (char_class c.deref-in-Chars.result.now)) c.compile_scalars.ensures.made
+    c.compile_scalars.ensures.does c.compile_scalars.ensures.weighs c.compile_scalars.ensures.groups c.compile_scalars.ensures.refused
+    c.compile_scalars.ensures.passed (omega arith) refl) in
     record { made = all.made; denotes = all.denotes; weighs = all.weighs; groups = all.groups; refused = all.refused; passed = all.passed }
 
 pub compile-returns-in-Look : goal.compile-returns-in-Look
 compile-returns-in-Look t c =
-    let all : Compiles c.args.how c.args.builder.now _ _ c.args.x.now = compiles_as (ap node (sym c.in-Look.is) ∙ c.kind.ensures.is) (leaf_compiles c.args.how _ _ c.look.result (look c.in-Look.assertion) (1) c.look.ensures.made c.look.ensures.denotes c.look.ensures.weighs c.look.ensures.groups c.look.ensures.refused c.look.ensures.passed (omega arith) refl) in
+    let all : Compiles c.args.how c.args.builder.now _ _ c.args.x.now = compiles_as (ap node (sym c.in-Look.is) ∙ c.kind.ensures.is)
+    (leaf_compiles c.args.how _ _ c.look.result (look c.in-Look.assertion) (1) c.look.ensures.made c.look.ensures.denotes
+    c.look.ensures.weighs c.look.ensures.groups c.look.ensures.refused c.look.ensures.passed (omega arith) refl) in
     record { made = all.made; denotes = all.denotes; weighs = all.weighs; groups = all.groups; refused = all.refused; passed = all.passed }
 
 pub compile-returns-in-None : goal.compile-returns-in-None
 compile-returns-in-None t c =
-    let here : Compiles c.args.how c.args.builder.now c.at_least.new.builder c.at_least.result (repetition c.in-Repetition.min None c.in-Repetition.greedy c.deref-in-None.result.now) = record { made = c.at_least.ensures.made; denotes = c.at_least.ensures.denotes; weighs = c.at_least.ensures.weighs; groups = c.at_least.ensures.groups; refused = c.at_least.ensures.refused; passed = c.at_least.ensures.passed } in
-    let all : Compiles c.args.how c.args.builder.now c.at_least.new.builder c.at_least.result c.args.x.now = compiles_as (repetition_is c.in-Repetition.min c.in-Repetition.greedy c.deref-in-None.ensures c.in-None.is ∙ ap node (sym c.in-Repetition.is) ∙ c.kind.ensures.is) here in
+    let here : Compiles c.args.how c.args.builder.now c.at_least.new.builder c.at_least.result (repetition c.in-Repetition.min None
+    c.in-Repetition.greedy c.deref-in-None.result.now) = record {
+      made = c.at_least.ensures.made;
+      denotes =
+          c.at_least.ensures.denotes;
+      weighs = c.at_least.ensures.weighs;
+      groups = c.at_least.ensures.groups;
+      refused =
+          c.at_least.ensures.refused;
+      passed = c.at_least.ensures.passed;
+    } in
+    let all : Compiles c.args.how c.args.builder.now c.at_least.new.builder c.at_least.result c.args.x.now = compiles_as (repetition_is
+    c.in-Repetition.min c.in-Repetition.greedy c.deref-in-None.ensures c.in-None.is ∙ ap node (sym c.in-Repetition.is) ∙
+    c.kind.ensures.is) here in
     record { made = all.made; denotes = all.denotes; weighs = all.weighs; groups = all.groups; refused = all.refused; passed = all.passed }
 
 pub compile-returns-in-Some : goal.compile-returns-in-Some
 compile-returns-in-Some t c =
-    let here : Compiles c.args.how c.args.builder.now c.between.new.builder c.between.result (repetition c.in-Repetition.min (Some c.in-Some.max) c.in-Repetition.greedy c.deref-in-Some.result.now) = record { made = c.between.ensures.made; denotes = c.between.ensures.denotes; weighs = c.between.ensures.weighs; groups = c.between.ensures.groups; refused = c.between.ensures.refused; passed = c.between.ensures.passed } in
-    let all : Compiles c.args.how c.args.builder.now c.between.new.builder c.between.result c.args.x.now = compiles_as (repetition_is c.in-Repetition.min c.in-Repetition.greedy c.deref-in-Some.ensures c.in-Some.is ∙ ap node (sym c.in-Repetition.is) ∙ c.kind.ensures.is) here in
+    let here : Compiles c.args.how c.args.builder.now c.between.new.builder c.between.result (repetition c.in-Repetition.min (Some
+    c.in-Some.max) c.in-Repetition.greedy c.deref-in-Some.result.now) = record {
+      made = c.between.ensures.made;
+      denotes =
+          c.between.ensures.denotes;
+      weighs = c.between.ensures.weighs;
+      groups = c.between.ensures.groups;
+      refused =
+          c.between.ensures.refused;
+      passed = c.between.ensures.passed;
+    } in
+    let all : Compiles c.args.how c.args.builder.now c.between.new.builder c.between.result c.args.x.now = compiles_as (repetition_is
+    c.in-Repetition.min c.in-Repetition.greedy c.deref-in-Some.ensures c.in-Some.is ∙ ap node (sym c.in-Repetition.is) ∙
+    c.kind.ensures.is) here in
     record { made = all.made; denotes = all.denotes; weighs = all.weighs; groups = all.groups; refused = all.refused; passed = all.passed }
 
 pub compile-returns-in-Capture : goal.compile-returns-in-Capture
 compile-returns-in-Capture t c =
-    let all : Compiles c.args.how c.args.builder.now _ _ c.args.x.now = compiles_as (ap (capture c.in-Capture.index (option_map string_bytes c.in-Capture.name)) c.deref-in-Capture.ensures ∙ ap node (sym c.in-Capture.is) ∙ c.kind.ensures.is) (capture_compiles c.args.how _ _ c.captured.result c.in-Capture.index (option_map string_bytes c.in-Capture.name) c.deref-in-Capture.result.now c.captured.ensures.made c.captured.ensures.denotes c.captured.ensures.weighs c.captured.ensures.groups c.captured.ensures.refused c.captured.ensures.passed) in
+    let all : Compiles c.args.how c.args.builder.now _ _ c.args.x.now = compiles_as (ap (capture c.in-Capture.index (option_map
+    string_bytes c.in-Capture.name)) c.deref-in-Capture.ensures ∙ ap node (sym c.in-Capture.is) ∙ c.kind.ensures.is) (capture_compiles
+    c.args.how _ _ c.captured.result c.in-Capture.index (option_map string_bytes c.in-Capture.name) c.deref-in-Capture.result.now
+    c.captured.ensures.made c.captured.ensures.denotes c.captured.ensures.weighs c.captured.ensures.groups c.captured.ensures.refused
+    c.captured.ensures.passed) in
     record { made = all.made; denotes = all.denotes; weighs = all.weighs; groups = all.groups; refused = all.refused; passed = all.passed }
 
 pub compile-returns-in-Concat : goal.compile-returns-in-Concat
 compile-returns-in-Concat t c =
-    let here : Compiles c.args.how c.args.builder.now c.concatenation.new.builder c.concatenation.result (concat c.deref-in-Concat.result.now) = record { made = c.concatenation.ensures.made; denotes = c.concatenation.ensures.denotes; weighs = c.concatenation.ensures.weighs; groups = c.concatenation.ensures.groups; refused = c.concatenation.ensures.refused; passed = c.concatenation.ensures.passed } in
-    let all : Compiles c.args.how c.args.builder.now c.concatenation.new.builder c.concatenation.result c.args.x.now = compiles_as (ap concat c.deref-in-Concat.ensures.value ∙ ap node (sym c.in-Concat.is) ∙ c.kind.ensures.is) here in
+    let here : Compiles c.args.how c.args.builder.now c.concatenation.new.builder c.concatenation.result (concat
+    c.deref-in-Concat.result.now) = record {
+      made = c.concatenation.ensures.made;
+      denotes = c.concatenation.ensures.denotes;
+      weighs =
+          c.concatenation.ensures.weighs;
+      groups = c.concatenation.ensures.groups;
+      refused = c.concatenation.ensures.refused;
+      passed =
+          c.concatenation.ensures.passed;
+    } in
+    let all : Compiles c.args.how c.args.builder.now c.concatenation.new.builder c.concatenation.result c.args.x.now = compiles_as (ap
+    concat c.deref-in-Concat.ensures.value ∙ ap node (sym c.in-Concat.is) ∙ c.kind.ensures.is) here in
     record { made = all.made; denotes = all.denotes; weighs = all.weighs; groups = all.groups; refused = all.refused; passed = all.passed }
 
 pub compile-returns-in-Alternation : goal.compile-returns-in-Alternation
 compile-returns-in-Alternation t c =
-    let here : Compiles c.args.how c.args.builder.now c.alternatives.new.builder c.alternatives.result (alternation c.deref-in-Alternation.result.now) = record { made = c.alternatives.ensures.made; denotes = c.alternatives.ensures.denotes; weighs = c.alternatives.ensures.weighs; groups = c.alternatives.ensures.groups; refused = c.alternatives.ensures.refused; passed = c.alternatives.ensures.passed } in
-    let all : Compiles c.args.how c.args.builder.now c.alternatives.new.builder c.alternatives.result c.args.x.now = compiles_as (ap alternation c.deref-in-Alternation.ensures.value ∙ ap node (sym c.in-Alternation.is) ∙ c.kind.ensures.is) here in
+    let here : Compiles c.args.how c.args.builder.now c.alternatives.new.builder c.alternatives.result (alternation
+    c.deref-in-Alternation.result.now) = record {
+      made = c.alternatives.ensures.made;
+      denotes = c.alternatives.ensures.denotes;
+      weighs
+          = c.alternatives.ensures.weighs;
+      groups = c.alternatives.ensures.groups;
+      refused = c.alternatives.ensures.refused;
+      passed =
+          c.alternatives.ensures.passed;
+    } in
+    let all : Compiles c.args.how c.args.builder.now c.alternatives.new.builder c.alternatives.result c.args.x.now = compiles_as (ap
+    alternation c.deref-in-Alternation.ensures.value ∙ ap node (sym c.in-Alternation.is) ∙ c.kind.ensures.is) here in
     record { made = all.made; denotes = all.denotes; weighs = all.weighs; groups = all.groups; refused = all.refused; passed = all.passed }
 
 pub zero_or_more-lead-requires : goal.zero_or_more-lead-requires
-zero_or_more-lead-requires t c = let may = choice_leads c.args.greedy c.in_ok-union.ensures c.in_ok-body.ensures.made in record { from = may.from; to = may.to; kind = may.kind }
+zero_or_more-lead-requires t c = let may = choice_leads c.args.greedy c.in_ok-union.ensures c.in_ok-body.ensures.made in record {
+  from =
+      may.from;
+  to = may.to;
+  kind = may.kind;
+}
 
 pub zero_or_more-lead-requires-2 : goal.zero_or_more-lead-requires-2
-zero_or_more-lead-requires-2 t c = let may = choice_led_back c.args.greedy c.in_ok-union.ensures c.in_ok-body.ensures.made c.in_ok-lead.ensures in record { from = may.from; to = may.to; kind = may.kind }
+zero_or_more-lead-requires-2 t c = let may = choice_led_back c.args.greedy c.in_ok-union.ensures c.in_ok-body.ensures.made
+    c.in_ok-lead.ensures in record { from = may.from; to = may.to; kind = may.kind }
 
 pub option-lead-requires : goal.option-lead-requires
-option-lead-requires t c = let may = choice_leads c.args.greedy c.in_ok-union.ensures c.in_ok-body.ensures.made in record { from = may.from; to = may.to; kind = may.kind }
+option-lead-requires t c = let may = choice_leads c.args.greedy c.in_ok-union.ensures c.in_ok-body.ensures.made in record {
+  from =
+      may.from;
+  to = may.to;
+  kind = may.kind;
+}
 
 pub option-lead-requires-2 : goal.option-lead-requires-2
-option-lead-requires-2 t c = let may = choice_led_out c.args.greedy c.in_ok-union.ensures c.in_ok-body.ensures.made c.requires.there c.in_ok-lead.ensures in record { from = may.from; to = may.to; kind = may.kind }
+option-lead-requires-2 t c = let may = choice_led_out c.args.greedy c.in_ok-union.ensures c.in_ok-body.ensures.made c.requires.there
+    c.in_ok-lead.ensures in record { from = may.from; to = may.to; kind = may.kind }
 
 pub one_or_more-lead-requires : goal.one_or_more-lead-requires
-one_or_more-lead-requires t c = let may = body_leads c.args.greedy c.in_ok-body.ensures.made c.in_ok-union.ensures in record { from = may.from; to = may.to; kind = may.kind }
+one_or_more-lead-requires t c = let may = body_leads c.args.greedy c.in_ok-body.ensures.made c.in_ok-union.ensures in record {
+  from =
+      may.from;
+  to = may.to;
+  kind = may.kind;
+}
 
 pub one_or_more-lead-requires-2 : goal.one_or_more-lead-requires-2
-one_or_more-lead-requires-2 t c = let may = body_leads_back c.args.greedy c.in_ok-body.ensures.made c.in_ok-union.ensures c.in_ok-lead.ensures in record { from = may.from; to = may.to; kind = may.kind }
+one_or_more-lead-requires-2 t c = let may = body_leads_back c.args.greedy c.in_ok-body.ensures.made c.in_ok-union.ensures
+    c.in_ok-lead.ensures in record { from = may.from; to = may.to; kind = may.kind }
 
 pub zero_or_more_of_empty-lead-requires : goal.zero_or_more_of_empty-lead-requires
-zero_or_more_of_empty-lead-requires t c = let may = body_leads c.args.greedy c.in_ok-body.ensures.made c.in_ok-plus.ensures in record { from = may.from; to = may.to; kind = may.kind }
+zero_or_more_of_empty-lead-requires t c = let may = body_leads c.args.greedy c.in_ok-body.ensures.made c.in_ok-plus.ensures in record {
+  from = may.from;
+  to = may.to;
+  kind = may.kind;
+}
 
 pub zero_or_more_of_empty-lead-requires-2 : goal.zero_or_more_of_empty-lead-requires-2
-zero_or_more_of_empty-lead-requires-2 t c = let may = body_leads_back c.args.greedy c.in_ok-body.ensures.made c.in_ok-plus.ensures c.in_ok-lead.ensures in record { from = may.from; to = may.to; kind = may.kind }
+zero_or_more_of_empty-lead-requires-2 t c = let may = body_leads_back c.args.greedy c.in_ok-body.ensures.made c.in_ok-plus.ensures
+    c.in_ok-lead.ensures in record { from = may.from; to = may.to; kind = may.kind }
 
 pub zero_or_more_of_empty-lead-requires-3 : goal.zero_or_more_of_empty-lead-requires-3
-zero_or_more_of_empty-lead-requires-3 t c = let may = exit_leads c.args.greedy c.in_ok-body.ensures.made c.in_ok-plus.ensures c.in_ok-lead.ensures c.in_ok-lead-2.ensures c.in_ok-question.ensures c.in_ok-empty.ensures in record { from = may.from; to = may.to; kind = may.kind }
+zero_or_more_of_empty-lead-requires-3 t c = let may = exit_leads c.args.greedy c.in_ok-body.ensures.made c.in_ok-plus.ensures
+    c.in_ok-lead.ensures c.in_ok-lead-2.ensures c.in_ok-question.ensures c.in_ok-empty.ensures in record {
+      from = may.from;
+      to = may.to;
+      kind = may.kind;
+    }
 
 pub zero_or_more_of_empty-lead-requires-4 : goal.zero_or_more_of_empty-lead-requires-4
-zero_or_more_of_empty-lead-requires-4 t c = let may = exit_leads_on c.args.greedy c.in_ok-body.ensures.made c.in_ok-plus.ensures c.in_ok-lead.ensures c.in_ok-lead-2.ensures c.in_ok-question.ensures c.in_ok-empty.ensures c.in_ok-lead-3.ensures in record { from = may.from; to = may.to; kind = may.kind }
+zero_or_more_of_empty-lead-requires-4 t c = let may = exit_leads_on c.args.greedy c.in_ok-body.ensures.made c.in_ok-plus.ensures
+    c.in_ok-lead.ensures c.in_ok-lead-2.ensures c.in_ok-question.ensures c.in_ok-empty.ensures c.in_ok-lead-3.ensures in record {
+      from =
+          may.from;
+      to = may.to;
+      kind = may.kind;
+    }
 
 pub zero_or_more_of_empty-lead-requires-5 : goal.zero_or_more_of_empty-lead-requires-5
-zero_or_more_of_empty-lead-requires-5 t c = let may = exit_leads_from c.args.greedy c.in_ok-body.ensures.made c.in_ok-plus.ensures c.in_ok-lead.ensures c.in_ok-lead-2.ensures c.in_ok-question.ensures c.in_ok-empty.ensures c.in_ok-lead-3.ensures c.in_ok-lead-4.ensures in record { from = may.from; to = may.to; kind = may.kind }
+zero_or_more_of_empty-lead-requires-5 t c = let may = exit_leads_from c.args.greedy c.in_ok-body.ensures.made c.in_ok-plus.ensures
+    c.in_ok-lead.ensures c.in_ok-lead-2.ensures c.in_ok-question.ensures c.in_ok-empty.ensures c.in_ok-lead-3.ensures
+    c.in_ok-lead-4.ensures in record { from = may.from; to = may.to; kind = may.kind }
 
 pub captured-lead-requires : goal.captured-lead-requires
-captured-lead-requires t c = let may = start_leads c.in_ok-start.ensures.added c.in_ok-body-2.ensures.made c.in_ok-end.ensures.added in record { from = may.from; to = may.to; kind = may.kind }
+captured-lead-requires t c = let may = start_leads c.in_ok-start.ensures.added c.in_ok-body-2.ensures.made c.in_ok-end.ensures.added in
+    record { from = may.from; to = may.to; kind = may.kind }
 
 pub captured-lead-requires-2 : goal.captured-lead-requires-2
-captured-lead-requires-2 t c = let may = body_leads_out c.in_ok-start.ensures.added c.in_ok-body-2.ensures.made c.in_ok-end.ensures.added c.in_ok-lead.ensures in record { from = may.from; to = may.to; kind = may.kind }
+captured-lead-requires-2 t c = let may = body_leads_out c.in_ok-start.ensures.added c.in_ok-body-2.ensures.made c.in_ok-end.ensures.added
+    c.in_ok-lead.ensures in record { from = may.from; to = may.to; kind = may.kind }
 
 pub concatenation-lead-requires : goal.concatenation-lead-requires
-concatenation-lead-requires t c = let may = parts_lead c.loop-i.invariant.made c.in_ok-next.ensures.made in record { from = may.from; to = may.to; kind = may.kind }
+concatenation-lead-requires t c = let may = parts_lead c.loop-i.invariant.made c.in_ok-next.ensures.made in record {
+  from = may.from;
+  to =
+      may.to;
+  kind = may.kind;
+}
 
 pub copies-lead-requires : goal.copies-lead-requires
-copies-lead-requires t c = let may = parts_lead c.loop.invariant.0.made c.in_ok-next.ensures.made in record { from = may.from; to = may.to; kind = may.kind }
+copies-lead-requires t c = let may = parts_lead c.loop.invariant.0.made c.in_ok-next.ensures.made in record {
+  from = may.from;
+  to =
+      may.to;
+  kind = may.kind;
+}
 
 pub at_least-lead-requires : goal.at_least-lead-requires
-at_least-lead-requires t c = let may = parts_lead c.in_ok-prefix.ensures.made c.in_ok-last.ensures.made in record { from = may.from; to = may.to; kind = may.kind }
+at_least-lead-requires t c = let may = parts_lead c.in_ok-prefix.ensures.made c.in_ok-last.ensures.made in record {
+  from = may.from;
+  to =
+      may.to;
+  kind = may.kind;
+}
 
 pub up_to-lead-requires : goal.up_to-lead-requires
-up_to-lead-requires t c = let may = rounds_lead c.loop.invariant.options c.in_ok-next.ensures.made in record { from = may.from; to = may.to; kind = may.kind }
+up_to-lead-requires t c = let may = rounds_lead c.loop.invariant.options c.in_ok-next.ensures.made in record {
+  from = may.from;
+  to =
+      may.to;
+  kind = may.kind;
+}
 
 pub up_to-lead-requires-2 : goal.up_to-lead-requires-2
 up_to-lead-requires-2 t c = let may = rounds_lead_out c.loop.invariant.options in record { from = may.from; to = may.to; kind = may.kind }
 
 pub owed_and_more-lead-requires : goal.owed_and_more-lead-requires
-owed_and_more-lead-requires t c = let may = rounds_lead c.loop.invariant.options c.in_ok-next.ensures.made in record { from = may.from; to = may.to; kind = may.kind }
+owed_and_more-lead-requires t c = let may = rounds_lead c.loop.invariant.options c.in_ok-next.ensures.made in record {
+  from = may.from;
+  to
+      = may.to;
+  kind = may.kind;
+}
 
 pub owed_and_more-lead-requires-2 : goal.owed_and_more-lead-requires-2
-owed_and_more-lead-requires-2 t c = let may = rounds_lead_out c.loop.invariant.options in record { from = may.from; to = may.to; kind = may.kind }
+owed_and_more-lead-requires-2 t c = let may = rounds_lead_out c.loop.invariant.options in record {
+  from = may.from;
+  to = may.to;
+  kind =
+      may.kind;
+}
 
 pub alternatives-lead-requires : goal.alternatives-lead-requires
-alternatives-lead-requires t c = let may = union_leads c.in_ok-first.ensures.made c.in_ok-second.ensures.made c.in_ok-union.ensures c.in_ok-end.ensures in record { from = may.from; to = may.to; kind = may.kind }
+alternatives-lead-requires t c = let may = union_leads c.in_ok-first.ensures.made c.in_ok-second.ensures.made c.in_ok-union.ensures
+    c.in_ok-end.ensures in record { from = may.from; to = may.to; kind = may.kind }
 
 pub alternatives-lead-requires-2 : goal.alternatives-lead-requires-2
-alternatives-lead-requires-2 t c = let may = first_leads c.in_ok-first.ensures.made c.in_ok-second.ensures.made c.in_ok-union.ensures c.in_ok-end.ensures c.in_ok-lead.ensures in record { from = may.from; to = may.to; kind = may.kind }
+alternatives-lead-requires-2 t c = let may = first_leads c.in_ok-first.ensures.made c.in_ok-second.ensures.made c.in_ok-union.ensures
+    c.in_ok-end.ensures c.in_ok-lead.ensures in record { from = may.from; to = may.to; kind = may.kind }
 
 pub alternatives-lead-requires-3 : goal.alternatives-lead-requires-3
-alternatives-lead-requires-3 t c = let may = union_leads_on c.in_ok-first.ensures.made c.in_ok-second.ensures.made c.in_ok-union.ensures c.in_ok-end.ensures c.in_ok-lead.ensures c.in_ok-lead-2.ensures in record { from = may.from; to = may.to; kind = may.kind }
+alternatives-lead-requires-3 t c = let may = union_leads_on c.in_ok-first.ensures.made c.in_ok-second.ensures.made c.in_ok-union.ensures
+    c.in_ok-end.ensures c.in_ok-lead.ensures c.in_ok-lead-2.ensures in record { from = may.from; to = may.to; kind = may.kind }
 
 pub alternatives-lead-requires-4 : goal.alternatives-lead-requires-4
-alternatives-lead-requires-4 t c = let may = second_leads c.in_ok-first.ensures.made c.in_ok-second.ensures.made c.in_ok-union.ensures c.in_ok-end.ensures c.in_ok-lead.ensures c.in_ok-lead-2.ensures c.in_ok-lead-3.ensures in record { from = may.from; to = may.to; kind = may.kind }
+alternatives-lead-requires-4 t c = let may = second_leads c.in_ok-first.ensures.made c.in_ok-second.ensures.made c.in_ok-union.ensures
+    c.in_ok-end.ensures c.in_ok-lead.ensures c.in_ok-lead-2.ensures c.in_ok-lead-3.ensures in record {
+      from = may.from;
+      to = may.to;
+      kind
+          = may.kind;
+    }
 
 pub alternatives-lead-requires-in-loop-i : goal.alternatives-lead-requires-in-loop-i
-alternatives-lead-requires-in-loop-i t c = let may = branches_lead c.loop-i.invariant.branches c.in_ok-next.ensures.made in record { from = may.from; to = may.to; kind = may.kind }
+alternatives-lead-requires-in-loop-i t c = let may = branches_lead c.loop-i.invariant.branches c.in_ok-next.ensures.made in record {
+  from
+      = may.from;
+  to = may.to;
+  kind = may.kind;
+}
 
 pub alternatives-lead-requires-in-loop-i-2 : goal.alternatives-lead-requires-in-loop-i-2
-alternatives-lead-requires-in-loop-i-2 t c = let may = branch_leads_out c.loop-i.invariant.branches c.in_ok-next.ensures.made c.in_ok-lead-5.ensures in record { from = may.from; to = may.to; kind = may.kind }
+alternatives-lead-requires-in-loop-i-2 t c = let may = branch_leads_out c.loop-i.invariant.branches c.in_ok-next.ensures.made
+    c.in_ok-lead-5.ensures in record { from = may.from; to = may.to; kind = may.kind }
 
 pub zero_or_more-compile-requires : goal.zero_or_more-compile-requires
 zero_or_more-compile-requires t c = (omega (arith, c.decreases), ready_later c.args.how.which _ _ c.in_ok-union.ensures.grows c.requires)
@@ -1656,7 +2213,11 @@ pub copies-compile-requires : goal.copies-compile-requires
 copies-compile-requires t c = (omega (arith, c.decreases), c.requires.ready)
 
 pub copies-compile-requires-in-loop : goal.copies-compile-requires-in-loop
-copies-compile-requires-in-loop t c = (omega (arith, c.decreases), ready_later c.args.how.which _ _ c.loop.invariant.0.made.fragment.grows c.requires.ready)
+copies-compile-requires-in-loop t c = (
+  omega (arith, c.decreases),
+  ready_later c.args.how.which _ _ c.loop.invariant.0.made.fragment.grows
+      c.requires.ready,
+)
 
 pub at_least-zero_or_more-requires : goal.at_least-zero_or_more-requires
 at_least-zero_or_more-requires t c = (omega (arith, c.decreases), c.requires)
@@ -1668,16 +2229,40 @@ pub at_least-one_or_more-requires : goal.at_least-one_or_more-requires
 at_least-one_or_more-requires t c = (omega (arith, c.decreases), c.requires)
 
 pub at_least-one_or_more-requires-2 : goal.at_least-one_or_more-requires-2
-at_least-one_or_more-requires-2 t c = (omega (arith, c.decreases), ready_later c.args.how.which _ _ c.in_ok-prefix.ensures.made.fragment.grows c.requires)
+at_least-one_or_more-requires-2 t c = (
+  omega (arith, c.decreases),
+  ready_later c.args.how.which _ _
+      c.in_ok-prefix.ensures.made.fragment.grows c.requires,
+)
 
 pub up_to-option-requires : goal.up_to-option-requires
-up_to-option-requires t c = (omega (arith, c.decreases), (ready_later c.args.how.which _ _ c.in_ok-exit.ensures.grows c.requires.ready, omega (arith, c.in_ok-exit.ensures.is, c.in_ok-exit.ensures.size)))
+up_to-option-requires t c = (
+  omega (arith, c.decreases),
+  (
+    ready_later c.args.how.which _ _ c.in_ok-exit.ensures.grows c.requires.ready,
+    omega (arith, c.in_ok-exit.ensures.is, c.in_ok-exit.ensures.size),
+  ),
+)
 
 pub up_to-option-requires-in-loop : goal.up_to-option-requires-in-loop
-up_to-option-requires-in-loop t c = (omega (arith, c.decreases), (ready_later c.args.how.which _ _ c.loop.invariant.options.progress.partly.grows c.requires.ready, c.loop.invariant.options.z_there))
+up_to-option-requires-in-loop t c = (
+  omega (arith, c.decreases),
+  (
+    ready_later c.args.how.which _ _
+        c.loop.invariant.options.progress.partly.grows c.requires.ready,
+    c.loop.invariant.options.z_there,
+  ),
+)
 
 pub owed_and_more-option-requires : goal.owed_and_more-option-requires
-owed_and_more-option-requires t c = (omega (arith, c.decreases), (ready_later c.args.how.which _ _ c.loop.invariant.options.progress.partly.grows c.requires.ready, c.loop.invariant.options.z_there))
+owed_and_more-option-requires t c = (
+  omega (arith, c.decreases),
+  (
+    ready_later c.args.how.which _ _
+        c.loop.invariant.options.progress.partly.grows c.requires.ready,
+    c.loop.invariant.options.z_there,
+  ),
+)
 
 pub owed_and_more-copies-requires : goal.owed_and_more-copies-requires
 owed_and_more-copies-requires t c = (omega (arith, c.decreases), (c.requires.ready, c.requires.some))
@@ -1686,7 +2271,16 @@ pub between-copies-requires : goal.between-copies-requires
 between-copies-requires t c = (omega (arith, c.decreases), (c.requires.ready, omega (arith, c.if-most-eq0.false, c.if-min-most.true)))
 
 pub between-owed_and_more-requires : goal.between-owed_and_more-requires
-between-owed_and_more-requires t c = (omega (arith, c.decreases), (c.requires.ready, (omega (arith, c.if-min-gt0.true), c.requires.ordered)))
+between-owed_and_more-requires t c = (
+  omega (arith, c.decreases),
+  (
+    c.requires.ready,
+    (
+      omega (arith, c.if-min-gt0.true),
+      c.requires.ordered,
+    ),
+  ),
+)
 
 pub between-up_to-requires : goal.between-up_to-requires
 between-up_to-requires t c = (omega (arith, c.decreases), (c.requires.ready, omega (arith, c.if-most-eq0.false)))
@@ -1695,31 +2289,97 @@ pub captured-compile-requires : goal.captured-compile-requires
 captured-compile-requires t c = (omega (arith, c.decreases), c.requires)
 
 pub captured-compile-requires-2 : goal.captured-compile-requires-2
-captured-compile-requires-2 t c = (omega (arith, c.decreases), ready_later c.args.how.which _ _ c.in_ok-start.ensures.added.grows c.requires)
+captured-compile-requires-2 t c = (
+  omega (arith, c.decreases),
+  ready_later c.args.how.which _ _ c.in_ok-start.ensures.added.grows
+      c.requires,
+)
 
 pub compile-at_least-requires : goal.compile-at_least-requires
-compile-at_least-requires t c = (omega (arith, c.decreases, ap weight (repetition_is c.in-Repetition.min c.in-Repetition.greedy c.deref-in-None.ensures c.in-None.is ∙ ap node (sym c.in-Repetition.is) ∙ c.kind.ensures.is)), c.requires)
+compile-at_least-requires t c = (
+  omega (
+    arith,
+    c.decreases,
+    ap weight (repetition_is c.in-Repetition.min c.in-Repetition.greedy
+        c.deref-in-None.ensures c.in-None.is ∙ ap node (sym c.in-Repetition.is) ∙ c.kind.ensures.is),
+  ),
+  c.requires,
+)
 
 pub compile-between-requires : goal.compile-between-requires
 compile-between-requires t c =
-    let e : repetition c.in-Repetition.min (Some c.in-Some.max) c.in-Repetition.greedy c.deref-in-Some.result.now ≡ c.args.x.now = repetition_is c.in-Repetition.min c.in-Repetition.greedy c.deref-in-Some.ensures c.in-Some.is ∙ ap node (sym c.in-Repetition.is) ∙ c.kind.ensures.is in
+    let e : repetition c.in-Repetition.min (Some c.in-Some.max) c.in-Repetition.greedy c.deref-in-Some.result.now ≡ c.args.x.now =
+    repetition_is c.in-Repetition.min c.in-Repetition.greedy c.deref-in-Some.ensures c.in-Some.is ∙ ap node (sym c.in-Repetition.is) ∙
+    c.kind.ensures.is in
     let P : Tree → Type 0 = λ y. IsWellFormed y in
     (omega (arith, c.decreases, ap weight e), (c.requires, subst P (sym e) c.kind.ensures.well_formed))
 
 pub compile-captured-requires : goal.compile-captured-requires
-compile-captured-requires t c = (omega (arith, c.decreases, ap weight (ap (capture c.in-Capture.index (option_map string_bytes c.in-Capture.name)) c.deref-in-Capture.ensures ∙ ap node (sym c.in-Capture.is) ∙ c.kind.ensures.is)), c.requires)
+compile-captured-requires t c = (
+  omega (
+    arith,
+    c.decreases,
+    ap weight (ap (capture c.in-Capture.index (option_map string_bytes
+        c.in-Capture.name)) c.deref-in-Capture.ensures ∙ ap node (sym c.in-Capture.is) ∙ c.kind.ensures.is),
+  ),
+  c.requires,
+)
 
 pub compile-concatenation-requires : goal.compile-concatenation-requires
-compile-concatenation-requires t c = (omega (arith, c.decreases, ap weight (ap concat c.deref-in-Concat.ensures.value ∙ ap node (sym c.in-Concat.is) ∙ c.kind.ensures.is)), c.requires)
+compile-concatenation-requires t c = (
+  omega (
+    arith,
+    c.decreases,
+    ap weight (ap concat c.deref-in-Concat.ensures.value ∙ ap node (sym
+        c.in-Concat.is) ∙ c.kind.ensures.is),
+  ),
+  c.requires,
+)
 
 pub compile-alternatives-requires : goal.compile-alternatives-requires
-compile-alternatives-requires t c = (omega (arith, c.decreases, ap weight (ap alternation c.deref-in-Alternation.ensures.value ∙ ap node (sym c.in-Alternation.is) ∙ c.kind.ensures.is)), c.requires)
+compile-alternatives-requires t c = (
+  omega (
+    arith,
+    c.decreases,
+    ap weight (ap alternation c.deref-in-Alternation.ensures.value ∙ ap node
+        (sym c.in-Alternation.is) ∙ c.kind.ensures.is),
+  ),
+  c.requires,
+)
 
 pub alternatives-compile-requires : goal.alternatives-compile-requires
-alternatives-compile-requires t c = (omega (arith, c.decreases, weight_in_alternation c.args.subs.now 0 c.index-subs-0.result (omega (arith, c.if-subs-eq0.false)), ap weight c.index-subs-0.is), c.requires)
+alternatives-compile-requires t c = (
+  omega (
+    arith,
+    c.decreases,
+    weight_in_alternation c.args.subs.now 0 c.index-subs-0.result (omega
+        (arith, c.if-subs-eq0.false)),
+    ap weight c.index-subs-0.is,
+  ),
+  c.requires,
+)
 
 pub alternatives-compile-requires-2 : goal.alternatives-compile-requires-2
-alternatives-compile-requires-2 t c = (omega (arith, c.decreases, weight_in_alternation c.args.subs.now 0 c.index-subs-0-2.result (omega (arith, c.if-subs-eq0.false)), ap weight c.index-subs-0-2.is), c.requires)
+alternatives-compile-requires-2 t c = (
+  omega (
+    arith,
+    c.decreases,
+    weight_in_alternation c.args.subs.now 0 c.index-subs-0-2.result (omega
+        (arith, c.if-subs-eq0.false)),
+    ap weight c.index-subs-0-2.is,
+  ),
+  c.requires,
+)
 
 pub alternatives-compile-requires-3 : goal.alternatives-compile-requires-3
-alternatives-compile-requires-3 t c = (omega (arith, c.decreases, weight_in_alternation c.args.subs.now 1 c.index-subs-1.result (omega (arith, c.if-subs-eq0.false, c.if-subs-eq1.false)), ap weight c.index-subs-1.is), ready_later c.args.how.which _ _ c.in_ok-first.ensures.made.fragment.grows c.requires)
+alternatives-compile-requires-3 t c = (
+  omega (
+    arith,
+    c.decreases,
+    weight_in_alternation c.args.subs.now 1 c.index-subs-1.result (omega
+        (arith, c.if-subs-eq0.false, c.if-subs-eq1.false)),
+    ap weight c.index-subs-1.is,
+  ),
+  ready_later c.args.how.which _ _
+      c.in_ok-first.ensures.made.fragment.grows c.requires,
+)

@@ -15,11 +15,13 @@ pub loop-string-preserved : goal.loop-string-preserved
 loop-string-preserved c = elim c.if-first-byte.branch [
   | then-first-byte+in_ok-push w ↦
       rw w.all-is (tails_same c.args.byte c.args.strings.now c.loop-string.string-index c.loop-string.all.items c.loop-string.invariant
-      (record { ref_ptr = (0, 0); now = [] }) c.loop-string-test.true c.in-Some.first.now c.in-Some.rest c.in-Some.ensures.cases.0 w.push.new.self.items
+      (record { ref_ptr = (0, 0); now = [] }) c.loop-string-test.true c.in-Some.first.now c.in-Some.rest c.in-Some.ensures.cases.0
+      w.push.new.self.items
       w.if-first-byte.true w.in_ok-push.ensures.items)
   | else-first-byte w ↦
       rw w.all-is (tails_other c.args.byte c.args.strings.now c.loop-string.string-index c.loop-string.all.items c.loop-string.invariant
-      (record { ref_ptr = (0, 0); now = [] }) c.loop-string-test.true c.in-Some.first.now c.in-Some.rest c.in-Some.ensures.cases.0 w.if-first-byte.false)
+      (record { ref_ptr = (0, 0); now = [] }) c.loop-string-test.true c.in-Some.first.now c.in-Some.rest c.in-Some.ensures.cases.0
+      w.if-first-byte.false)
 ]
 
 pub returns : goal.returns

@@ -5,7 +5,8 @@ use Rattle.thompson_nfa.proofs.LiteralTries.LiteralLaidLemmas.{row_some, next_la
 use Rattle.thompson_nfa.proofs.literal_nodes.lay_next.Goals as goal
 
 pub lay-requires-clause-some : goal.lay-requires-clause-some
-lay-requires-clause-some c = row_some node_value (λ g. g.items) c.args.groups.now.items c.args.groups.now.items c.len.result c.deref.result.now
+lay-requires-clause-some c = row_some node_value (λ g. g.items) c.args.groups.now.items c.args.groups.now.items c.len.result
+    c.deref.result.now
     c.take_group-strings.result.items c.deref.ensures.value c.take_group-strings.ensures.taken
     (let P : ℕ → Type 0 = λ k. 1 ≤ length (get_or (groups_of (λ g. g.items) c.args.groups.now.items) k []) in
     let e : length c.args.nodes.now.items ≡ c.len.result = omega (arith, c.len.ensures) in subst P e c.requires.some)

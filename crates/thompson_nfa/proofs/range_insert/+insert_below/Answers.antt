@@ -9,7 +9,8 @@ use Rattle.thompson_nfa.specs.TrieSteps.{IsCover}
 use Rattle.thompson_nfa.specs.RangeCovers.{edge_of}
 use Rattle.thompson_nfa.proofs.Tries.NodeLemmas.{inside_more}
 use Rattle.thompson_nfa.proofs.Tries.InsertLemmas.{with_none, nil_of_length, read_itself, rest_apart, first_ok, next_kept, next_at}
-use Rattle.thompson_nfa.proofs.Tries.InsertLemmas.{later_itself, later_more, inserting_none, inserting_within, inserting_beside, edges_rise, with_pushed_if}
+use Rattle.thompson_nfa.proofs.Tries.InsertLemmas.{later_itself, later_more, inserting_none}
+use Rattle.thompson_nfa.proofs.Tries.InsertLemmas.{inserting_within, inserting_beside, edges_rise, with_pushed_if}
 use Rattle.thompson_nfa.proofs.Tries.InsertLemmas.{later_pushed, inside_pushed}
 use Rattle.thompson_nfa.proofs.range_insert.+insert_below.Goals as goal
 use Rattle.thompson_nfa.proofs.range_insert.+insert_below.Goals.{then-is_within+in_ok-next, else-is_within}
