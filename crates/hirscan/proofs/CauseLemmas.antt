@@ -1,7 +1,7 @@
 -- What reading a haystack as UTF-8 says of its longest valid beginning, and what is searched where nothing is refused.
 use Rattle.std.proofs.Common.{◌≡◌, ℕ, zero, suc, ◌+◌, ◌<◌, ◌≤◌, Bool, true, false, not, if◌then◌else◌, List, [], ◌∷◌, All, length, take}
 use Rattle.std.proofs.Common.{Option, Some, None, option_map, nat_lt, nat_le, get_or, true≢false, refl, sym, subst, arith, codes, decimal}
-use Rattle.std.proofs.Common.{◌++◌, leb-true}
+use Rattle.std.proofs.Common.{◌++◌, ◌∙◌, ap, leb-true}
 use Rattle.std.specs.List.{position, position_or_len}
 use Rattle.std.proofs.lemmas.List.Sums.{fails_before_first}
 use Rattle.std.specs.Str.{IsUtf8, IsValidUpTo, is_utf8}
@@ -136,3 +136,23 @@ module _ (setup : Setup) (xs : List Tree) (h : List ℕ) (none : refusal setup x
 
   pub is_search : All (λ byte. byte < 256) h → IsSearchOf xs setup.settings.utf8 (search_of setup h)
   is_search bytes = record { within = span_ends; whole = refl; bytes = bytes; valid = valid_haystack; utf8_trees = utf8_trees }
+
+-- ---- causes that the code tells
+
+pub cause_of_loops : (utf8 : Bool) (xs : List Tree) (k : ℕ) (text : List ℕ) → Some k ≡ first_empty_loop xs
+    → text ≡ of_pattern (codes ": unbounded body may be empty") k → Some text ≡ pattern_causes utf8 xs
+cause_of_loops utf8 xs k text found e =
+    ap Some e
+    ∙ ap (λ (loop : Option ℕ). first_cause (option_map (of_pattern (codes ": unbounded body may be empty")) loop
+    ∷ option_map (of_pattern (codes ": not UTF-8")) (where_utf8 utf8 (first_not_utf8 xs))
+    ∷ [])) found
+
+pub cause_of_utf8 : (utf8 : Bool) (xs : List Tree) (k : ℕ) (text : List ℕ) → None ≡ first_empty_loop xs → utf8 ≡ true
+    → Some k ≡ first_not_utf8 xs → text ≡ of_pattern (codes ": not UTF-8") k → Some text ≡ pattern_causes utf8 xs
+cause_of_utf8 utf8 xs k text no_loop on found e =
+    ap Some e
+    ∙ ap (λ (which : Option ℕ). first_cause (option_map (of_pattern (codes ": not UTF-8")) which ∷ []))
+    (found ∙ ap (λ (b : Bool). where_utf8 b (first_not_utf8 xs)) (sym on))
+    ∙ ap (λ (loop : Option ℕ). first_cause (option_map (of_pattern (codes ": unbounded body may be empty")) loop
+    ∷ option_map (of_pattern (codes ": not UTF-8")) (where_utf8 utf8 (first_not_utf8 xs))
+    ∷ [])) no_loop

@@ -1,10 +1,22 @@
 -- A head, line by line: whatever reads, or is faulty, behind the lines so far gives that of the whole text.
-use Rattle.std.proofs.Common.{◌≡◌, ℕ, ◌+◌, List, [], ◌∷◌, length, refl, sym, ◌∙◌, ap, arith, length-append}
+use Rattle.std.proofs.Common.{◌≡◌, ℕ, ◌+◌, List, [], ◌∷◌, length, None, false, refl, sym, ◌∙◌, ap, subst, arith}
+use Rattle.std.proofs.Common.{◌-◌, ◌<◌, ◌++◌, ◌≢◌, ◌==◌, Bool, true, Some, suc, take, drop, get_or, nat_lt, eqb, drop-cons}
+use Rattle.std.proofs.Common.{length-append, length-take}
+use mathlib.Core.Bool.{cond}
+use Rattle.std.specs.List.{position, position_or_len}
+use Rattle.std.proofs.lemmas.Bool.{eqb-true, eqb-false, ltb-false}
+use Rattle.std.proofs.lemmas.List.{get_or-take, take-append-drop}
+use Rattle.std.proofs.lemmas.List.Elements.{All-from_get_or}
+use Rattle.std.proofs.lemmas.List.Quantifiers.{position-Some}
+use Rattle.std.proofs.lemmas.List.Sums.{fails_before_first}
+use Rattle.hirscan.proofs.SliceLemmas.{rest_of_slice}
 use Rattle.hir_core.specs.Tree.{Tree}
 use Rattle.hirscan.specs.declared.fault.FaultKind.{FaultKind}
 use Rattle.hirscan.specs.declared.fault.FaultKind.TheVariants.{NoFindLine}
 use Rattle.hirscan.specs.declared.fault.LineFault.{LineFault}
 use Rattle.hirscan.specs.declared.fault.LineFault.TheVariants as of_line
+use Rattle.hirscan.specs.declared.settings.Settings.{Settings}
+use Rattle.hirscan.specs.Built.{default_settings}
 use Rattle.hirscan.specs.Words.{words}
 use Rattle.hirscan.specs.Tells.{CutsLine, TellsFault, TellsLineFault, on_line}
 use Rattle.hirscan.specs.Takes.{HeadValue, at_first, Takes, EndsHead}
@@ -15,6 +27,40 @@ use Rattle.hirscan.specs.Reads.{IsOneLine, Reads, reads_find, reads_line, IsFaul
 pub record Behind (text rest : List ℕ) (here : HeadValue) (at lines : ℕ) : Type 0 where
   pub reads : (found : HeadValue) (n : ℕ) → Reads rest here found n → Reads text at_first found (at + n)
   pub faults : (k : ℕ) (kind : FaultKind) → IsFaultAt rest here k kind → IsFaultAt text at_first (lines + k) kind
+
+-- ---- the first line
+
+pub cut_at : (text : List ℕ) (k : ℕ) → position (λ b. b == 10) text ≡ Some k
+    → CutsLine text (take k text) (take (length text - (k + 1)) (drop (k + 1) text))
+cut_at text k e =
+    let p = position-Some (λ b. b == 10) text k 0 e in
+    let feed : get_or text k 0 ≡ 10 = eqb-true _ _ p.1 in
+    let next : suc k ≡ k + 1 = omega arith in
+    let behind : drop k text ≡ 10 ∷ drop (k + 1) text =
+    drop-cons text k 0 p.0 ∙ (ap (λ (b : ℕ). b ∷ drop (suc k) text) feed ∙ ap (λ (n : ℕ). 10 ∷ drop n text) next) in
+    record {
+      parts =
+          sym (take-append-drop k text) ∙ (ap (λ (rest : List ℕ). take k text ++ rest) behind
+          ∙ ap (λ (rest : List ℕ). take k text ++ 10 ∷ rest) (sym (rest_of_slice (k + 1) text)));
+      one_line =
+          All-from_get_or (λ b. b ≢ 10) (take k text) 0
+          (λ j l.
+          let less : j < k = omega (arith, l, length-take k text) in
+          eqb-false _ _ (ap (λ (b : ℕ). eqb b 10) (get_or-take k text j 0 less) ∙ p.2 j less));
+    }
+
+-- no place of it is found
+unfound : (b : Bool) (k : ℕ) → cond b (Some k) None ≡ None → b ≡ false
+unfound true k e = absurd cc
+unfound false k e = refl
+
+pub no_feed : (text : List ℕ) → position (λ b. b == 10) text ≡ None → IsOneLine text
+no_feed text e k d less =
+    let none = ltb-false (position_or_len (λ b. b == 10) text) (length text)
+    (unfound (nat_lt (position_or_len (λ b. b == 10) text) (length text)) (position_or_len (λ b. b == 10) text) e) in
+    eqb-false _ _ (fails_before_first (λ b. b == 10) text k d (omega (arith, none, less)))
+
+-- ---- the lines so far
 
 pub length-cut : (text line rest : List ℕ) → CutsLine text line rest → length text ≡ length line + (length rest + 1)
 length-cut text line rest cut = omega (arith, ap length cut.parts, length-append line (10 ∷ rest))
@@ -52,3 +98,20 @@ pub state_at_end : (now here : HeadValue) → now ≡ here → here.stack ≡ []
 state_at_end now here e none =
     let left : now.stack ≡ [] = ap (λ (s : HeadValue). s.stack) e ∙ none in
     sym (ap (λ (s : List Tree). record { setup = now.setup; stack = s; patterns = now.patterns }) left) ∙ e
+
+abbrev begun : Settings → List Tree → List Tree → HeadValue
+begun s stack patterns = record { setup = record { settings = s; anchored = false; span = None }; stack = stack; patterns = patterns }
+
+-- where nothing was read, what the head begins with is there
+pub behind_none : (text : List ℕ) (s : Settings) (stack patterns : List Tree) → s ≡ default_settings → stack ≡ [] → patterns ≡ []
+    → Behind text text (begun s stack patterns) 0 0
+behind_none text s stack patterns d e f =
+    let first : begun s stack patterns ≡ at_first = λ i. begun (d i) (e i) (f i) in
+    record {
+      reads = λ found n h.
+          let z : 0 + n ≡ n = omega arith in
+          rw z (subst (λ (at : HeadValue). Reads text at found n) first h);
+      faults = λ k kind h.
+          let z : 0 + k ≡ k = omega arith in
+          rw z (subst (λ (at : HeadValue). IsFaultAt text at k kind) first h);
+    }

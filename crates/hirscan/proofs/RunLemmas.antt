@@ -1,16 +1,17 @@
 -- What a run leaves, from what its three steps leave.
-use Rattle.std.proofs.Common.{◌≡◌, ℕ, ◌+◌, ◌-◌, ◌^◌, ◌≤◌, List, length, take, drop, Option, Some, None, sym, ◌∙◌, subst, arith, length-take}
+use Rattle.std.proofs.Common.{◌≡◌, ℕ, ◌+◌, ◌-◌, ◌^◌, ◌≤◌, List, length, take, drop, Option, Some, None, sym, ◌∙◌, ap, subst, arith, length-take}
+use Rattle.std.proofs.Common.{length-append}
 use Rattle.std.proofs.Math.Seq.{take-add}
 use Rattle.hirscan.proofs.ReplyLemmas.{reply_of_whole}
 use Rattle.hirscan.proofs.SliceLemmas.{rest_of_slice}
-use Rattle.std.proofs.KnownBytes.{Appends-trans}
+use Rattle.std.proofs.KnownBytes.{Appends-trans, Consumes-trans}
 use Rattle.std.specs.Prelude.{IfSome}
 use Rattle.std.specs.Io.KnownBytes.{Appends, Consumes, IsAtEnd, Keeps}
 use Rattle.hirscan.specs.declared.program.Ending.{Ending}
 use Rattle.hirscan.specs.declared.program.RunError.{RunError}
 use Rattle.hirscan.specs.declared.program.RunError.TheVariants.{Read, Write, NoMemory}
 use Rattle.hirscan.specs.Reply.{IsReply}
-use Rattle.hirscan.specs.Runs.{WritesReply, WritesAtFault}
+use Rattle.hirscan.specs.Runs.{ReadsSome, WritesReply, WritesAtFault}
 
 -- what is written of the text, where n bytes of its rest were taken
 pub more_in_text : (text : List ℕ) (done n : ℕ) → done ≤ length text → n ≤ length (take (length text - done) (drop done text)) →
@@ -57,3 +58,16 @@ module _ (input left before after : Option (List ℕ)) (bytes items text written
   writes_prefix e part =
       if_some_prefix input before after ending text part.1 e part.0 reply_known
       (subst (λ (xs : List ℕ). Appends before after (take part.1 xs)) all part.2)
+
+-- ---- what one more read leaves
+
+pub read_on : (a b c : Option (List ℕ)) (old new : List ℕ) (n : ℕ) → Consumes a b old → ReadsSome b c old new n → Consumes a c new
+read_on a b c old new n p q = subst (Consumes a c) (sym q.appended) (Consumes-trans a b c old q.bytes p q.taken)
+
+-- as many bytes as there is room for don't pass the limit
+pub within : (b c : Option (List ℕ)) (old new : List ℕ) (n room len : ℕ) (buffer : List ℕ) → ReadsSome b c old new n →
+    n ≤ length (take room buffer) → room ≤ 2 ^ 30 + 1 - len → len ≡ length old → length old ≤ 2 ^ 30 + 1 → length new ≤ 2 ^ 30 + 1
+within b c old new n room len buffer q fits small is few =
+    let grown : length new ≡ length old + n =
+    ap length q.appended ∙ (length-append old q.bytes ∙ ap (λ (k : ℕ). length old + k) q.counted) in
+    omega (arith, grown, fits, small, is, few, length-take room buffer)

@@ -85,7 +85,7 @@ pub enum Fault {
 }
 
 /// Why a line, or a part of it, can't be read.
-#[derive(Debug, Drop)]
+#[derive(Drop)]
 pub(crate) enum LineFault {
     Is(FaultKind),
     NoMemory,

@@ -7,6 +7,7 @@ ghost use Rattle.hirscan.specs.Tells.{TellsFault, CutsLine, value_of_head};
 use crate::fault::{Fault, FaultKind};
 use crate::line::{HeadState, Setup, Step, read_line};
 use crate::settings::Settings;
+use crate::split::place_of;
 use hir_core::Hir;
 use search_types::Span;
 use std::alloc::Global;
@@ -30,7 +31,9 @@ pub struct Head {
 fn split_line(text: &[u8]) -> Option<(&[u8], &[u8])>
     ensures { MatchOption result (IsOneLine text.now) (λ p. CutsLine text.now p.0.now p.1.now) }
 {
-    let len = text.iter().position(|b| *b == b'\n')?;
+    let Some(len) = place_of(text, b'\n') else {
+        return None;
+    };
     Some((&text[..len], &text[len + 1..]))
 }
 

@@ -19,7 +19,7 @@ use crate::words::{
 use hir_core::Hir;
 use look_core::LineTerm;
 use search_types::Span;
-use std::alloc::Global;
+use std::alloc::{AllocError, Global};
 
 /// A tree may not be higher.
 const MAX_HEIGHT: usize = 250;
@@ -44,10 +44,18 @@ pub(crate) struct HeadState {
 }
 
 /// What comes after a line that has no fault.
-#[derive(Clone, Copy, Debug)]
+#[derive(Clone, Copy)]
 pub(crate) enum Step {
     Next,
     End,
+}
+
+/// Puts a tree behind the others. Where memory lacks, it is dropped.
+fn push_onto(trees: &mut Vec<Hir>, tree: Hir) -> Result<(), AllocError>
+    ensures { OnOk result (trees.new.items ≡ trees.old.items ++ tree ∷ []) }
+{
+    trees.push(tree)?;
+    Ok(())
 }
 
 /// Pushes a tree, unless it is too high.
@@ -59,7 +67,10 @@ fn push(state: &mut HeadState, tree: Hir) -> Result<(), LineFault>
     if tree.height() > MAX_HEIGHT {
         return Err(LineFault::Is(FaultKind::TooDeep));
     }
-    state.stack.push(tree).map_err(|_| LineFault::NoMemory)
+    let Ok(()) = push_onto(&mut state.stack, tree) else {
+        return Err(LineFault::NoMemory);
+    };
+    Ok(())
 }
 
 /// Takes the top tree off the stack.
@@ -87,10 +98,10 @@ fn pop_many(state: &mut HeadState, count: u32) -> Result<Vec<Hir>, LineFault>
     if len < count as usize {
         return Err(LineFault::Is(FaultKind::TooFewTrees));
     }
-    state
-        .stack
-        .split_off(len - count as usize)
-        .map_err(|_| LineFault::NoMemory)
+    let Ok(parts) = state.stack.split_off(len - count as usize) else {
+        return Err(LineFault::NoMemory);
+    };
+    Ok(parts)
 }
 
 fn utf8_line(args: &[&[u8]], state: &mut HeadState) -> Result<(), LineFault>
@@ -329,7 +340,10 @@ fn pattern_line(args: &[&[u8]], state: &mut HeadState) -> Result<(), LineFault>
     let Some(tree) = state.stack.pop() else {
         unreachable!()
     };
-    state.patterns.push(tree).map_err(|_| LineFault::NoMemory)
+    let Ok(()) = push_onto(&mut state.patterns, tree) else {
+        return Err(LineFault::NoMemory);
+    };
+    Ok(())
 }
 
 fn find_line(args: &[&[u8]], state: &mut HeadState) -> Result<(), LineFault>

@@ -24,7 +24,7 @@ use std::alloc::{AllocError, Global};
 pub(crate) const INPUT_LIMIT: usize = 1_073_741_824;
 
 /// What is written for an input, and how the run then ends.
-#[derive(Debug, Drop)]
+#[derive(Drop)]
 pub(crate) struct Reply {
     pub ending: Ending,
     pub text: String,

@@ -13,11 +13,11 @@ pub(crate) struct WordsLeft<'a> {
     left: Option<&'a [u8]>,
 }
 
-/// The place of the first space.
-fn space_at(text: &[u8]) -> Option<usize>
-    ensures { result ≡ position (λ b. b == 32) text.now }
+/// The first place of a byte.
+pub(crate) fn place_of(text: &[u8], byte: u8) -> Option<usize>
+    ensures { result ≡ position (λ b. b == byte) text.now }
 {
-    text.iter().position(|b| *b == b' ')
+    text.iter().position(|b| *b == byte)
 }
 
 /// The first word of a text, and what follows the space behind it, if there is one.
@@ -25,7 +25,7 @@ fn space_at(text: &[u8]) -> Option<usize>
 fn split_word(text: &[u8]) -> (&[u8], Option<&[u8]>)
     ensures { words text.now ≡ result.0.now ∷ words_behind result.1 }
 {
-    match space_at(text) {
+    match place_of(text, b' ') {
         Some(len) => (&text[..len], Some(&text[len + 1..])),
         None => (text, None),
     }

@@ -1,6 +1,7 @@
 // What a word of a line says by itself.
 ghost use Rattle.std.specs.Prelude.{◌≡◌, ℕ, List, ◌+◌, ◌==◌, ◌<◌, ◌≤◌, ◌∷◌, ◌++◌, ◌&&◌, ◌||◌, true, false, [], length, map, reverse, nat_lt, nat_le, Some, None, IfOk, IfErr, OnOk};
-ghost use Rattle.std.specs.List.{list_all, position};
+ghost use Rattle.std.specs.List.{list_all};
+ghost use Rattle.std.specs.Str.{bytes_eq};
 ghost use Rattle.hir_core.specs.Means.{is_member};
 ghost use Rattle.hirscan.specs.Words.{is_scalar, with_byte, with_range, is_covered, AreLowEnds, class_ranges, scalar_ranges};
 ghost use Rattle.hirscan.specs.Readers.{line_word, setting_word, tree_word, number, bound, order, switch, yes_or_no, hex_bytes, hex_byte, item_ends, the_ends, hex_number, hex_ends, the_hex_ends, anchor_named, word_look_named, word_side_named, half_look_named, look_named, word_at};
@@ -9,7 +10,7 @@ ghost use Rattle.hirscan.specs.Tells.{texts, words_left, TellsLineFault};
 ghost use Rattle.hirscan.specs.declared.fault.FaultKind.TheVariants.{BadHex};
 
 use crate::fault::{FaultKind, LineFault};
-use crate::split::WordsLeft;
+use crate::split::{WordsLeft, place_of};
 use hex::{FromHex, FromHexError};
 use look_core::Look;
 use std::alloc::{AllocError, Global};
@@ -19,7 +20,7 @@ use std::marker::Model;
 const MANY_ITEMS: usize = 1 << 22;
 
 /// The lines of the notation, by their first word.
-#[derive(Clone, Copy, Debug)]
+#[derive(Clone, Copy)]
 pub(crate) enum LineWord {
     Utf8,
     Line,
@@ -41,58 +42,79 @@ pub(crate) enum LineWord {
     Find,
 }
 
+/// Whether a word is this name.
+fn is(word: &[u8], name: &[u8]) -> bool
+    ensures { result ≡ bytes_eq word.now name.now }
+{
+    word == name
+}
+
 /// The line that sets something and begins with this word.
 fn setting_word(word: &[u8]) -> Option<LineWord>
     ensures { result ≡ setting_word word.now }
 {
-    if word == b"utf8".as_slice() {
-        Some(LineWord::Utf8)
-    } else if word == b"line".as_slice() {
-        Some(LineWord::Line)
-    } else if word == b"capacity".as_slice() {
-        Some(LineWord::Capacity)
-    } else if word == b"quit".as_slice() {
-        Some(LineWord::Quit)
-    } else if word == b"classes".as_slice() {
-        Some(LineWord::Classes)
-    } else if word == b"shrink".as_slice() {
-        Some(LineWord::Shrink)
-    } else if word == b"anchored".as_slice() {
-        Some(LineWord::Anchored)
-    } else if word == b"span".as_slice() {
-        Some(LineWord::Span)
-    } else {
-        None
+    if is(word, b"utf8") {
+        return Some(LineWord::Utf8);
     }
+    if is(word, b"line") {
+        return Some(LineWord::Line);
+    }
+    if is(word, b"capacity") {
+        return Some(LineWord::Capacity);
+    }
+    if is(word, b"quit") {
+        return Some(LineWord::Quit);
+    }
+    if is(word, b"classes") {
+        return Some(LineWord::Classes);
+    }
+    if is(word, b"shrink") {
+        return Some(LineWord::Shrink);
+    }
+    if is(word, b"anchored") {
+        return Some(LineWord::Anchored);
+    }
+    if is(word, b"span") {
+        return Some(LineWord::Span);
+    }
+    None
 }
 
 /// The line that makes or takes trees, or ends the head, and begins with this word.
 fn tree_word(word: &[u8]) -> Option<LineWord>
     ensures { result ≡ tree_word word.now }
 {
-    if word == b"empty".as_slice() {
-        Some(LineWord::Empty)
-    } else if word == b"lit".as_slice() {
-        Some(LineWord::Lit)
-    } else if word == b"bytes".as_slice() {
-        Some(LineWord::Bytes)
-    } else if word == b"chars".as_slice() {
-        Some(LineWord::Chars)
-    } else if word == b"look".as_slice() {
-        Some(LineWord::Look)
-    } else if word == b"rep".as_slice() {
-        Some(LineWord::Rep)
-    } else if word == b"cat".as_slice() {
-        Some(LineWord::Cat)
-    } else if word == b"alt".as_slice() {
-        Some(LineWord::Alt)
-    } else if word == b"pattern".as_slice() {
-        Some(LineWord::Pattern)
-    } else if word == b"find".as_slice() {
-        Some(LineWord::Find)
-    } else {
-        None
+    if is(word, b"empty") {
+        return Some(LineWord::Empty);
     }
+    if is(word, b"lit") {
+        return Some(LineWord::Lit);
+    }
+    if is(word, b"bytes") {
+        return Some(LineWord::Bytes);
+    }
+    if is(word, b"chars") {
+        return Some(LineWord::Chars);
+    }
+    if is(word, b"look") {
+        return Some(LineWord::Look);
+    }
+    if is(word, b"rep") {
+        return Some(LineWord::Rep);
+    }
+    if is(word, b"cat") {
+        return Some(LineWord::Cat);
+    }
+    if is(word, b"alt") {
+        return Some(LineWord::Alt);
+    }
+    if is(word, b"pattern") {
+        return Some(LineWord::Pattern);
+    }
+    if is(word, b"find") {
+        return Some(LineWord::Find);
+    }
+    None
 }
 
 pub(crate) fn line_word(word: &[u8]) -> Option<LineWord>
@@ -130,50 +152,49 @@ pub(crate) fn number(word: &[u8]) -> Option<u32>
 pub(crate) fn bound(word: &[u8]) -> Option<Option<u32>>
     ensures { result ≡ bound word.now }
 {
-    if word == b"inf".as_slice() {
-        Some(None)
-    } else {
-        number(word).map(Some)
+    if is(word, b"inf") {
+        return Some(None);
     }
+    number(word).map(Some)
 }
 
 /// Whether more rounds are preferred.
 pub(crate) fn order(word: &[u8]) -> Option<bool>
     ensures { result ≡ order word.now }
 {
-    if word == b"greedy".as_slice() {
-        Some(true)
-    } else if word == b"lazy".as_slice() {
-        Some(false)
-    } else {
-        None
+    if is(word, b"greedy") {
+        return Some(true);
     }
+    if is(word, b"lazy") {
+        return Some(false);
+    }
+    None
 }
 
 /// Whether a setting is switched on.
 pub(crate) fn switch(word: &[u8]) -> Option<bool>
     ensures { result ≡ switch word.now }
 {
-    if word == b"on".as_slice() {
-        Some(true)
-    } else if word == b"off".as_slice() {
-        Some(false)
-    } else {
-        None
+    if is(word, b"on") {
+        return Some(true);
     }
+    if is(word, b"off") {
+        return Some(false);
+    }
+    None
 }
 
 /// Whether a word says yes.
 pub(crate) fn yes_or_no(word: &[u8]) -> Option<bool>
     ensures { result ≡ yes_or_no word.now }
 {
-    if word == b"yes".as_slice() {
-        Some(true)
-    } else if word == b"no".as_slice() {
-        Some(false)
-    } else {
-        None
+    if is(word, b"yes") {
+        return Some(true);
     }
+    if is(word, b"no") {
+        return Some(false);
+    }
+    None
 }
 
 pub(crate) fn hex_bytes(alloc: Global, word: &[u8]) -> Result<Vec<u8>, LineFault>
@@ -207,8 +228,12 @@ fn item_ends(word: &[u8]) -> Option<(u8, u8)>
     if word.len() != 5 || word[2] != b'-' {
         return None;
     }
-    let low = hex_byte(&word[..2])?;
-    let high = hex_byte(&word[3..])?;
+    let Some(low) = hex_byte(&word[..2]) else {
+        return None;
+    };
+    let Some(high) = hex_byte(&word[3..]) else {
+        return None;
+    };
     Some((low, high))
 }
 
@@ -327,20 +352,19 @@ fn hex_number(word: &[u8]) -> Option<u32>
     u32::from_str_radix(text, 16).ok()
 }
 
-/// The place of the first sign.
-fn sign_at(word: &[u8]) -> Option<usize>
-    ensures { result ≡ position (λ b. b == 45) word.now }
-{
-    word.iter().position(|b| *b == b'-')
-}
-
 /// The two ends of an item of a class of scalars, in whichever order.
 fn hex_ends(word: &[u8]) -> Option<(u32, u32)>
     ensures { result ≡ hex_ends word.now }
 {
-    let sign = sign_at(word)?;
-    let low = hex_number(&word[..sign])?;
-    let high = hex_number(&word[sign + 1..])?;
+    let Some(sign) = place_of(word, b'-') else {
+        return None;
+    };
+    let Some(low) = hex_number(&word[..sign]) else {
+        return None;
+    };
+    let Some(high) = hex_number(&word[sign + 1..]) else {
+        return None;
+    };
     Some((low, high))
 }
 
@@ -417,7 +441,6 @@ fn put_range(
 }
 
 /// The ranges of the items, which are put from the last to the first.
-#[tactic(auto, using(crate::proofs::ScalarRangeLemmas::ranges_with_item))]
 fn put_ranges(alloc: Global, items: &[(char, char)]) -> Result<Vec<(char, char)>, AllocError>
     ensures { IfOk result (λ ranges. ranges.items ≡ scalar_ranges items.now) }
 {
@@ -512,72 +535,82 @@ pub(crate) fn scalar_items(alloc: Global, words: WordsLeft) -> Result<Vec<(char,
 fn anchor_named(word: &[u8]) -> Option<Look>
     ensures { result ≡ anchor_named word.now }
 {
-    if word == b"Start".as_slice() {
-        Some(Look::Start)
-    } else if word == b"End".as_slice() {
-        Some(Look::End)
-    } else if word == b"StartLF".as_slice() {
-        Some(Look::StartLF)
-    } else if word == b"EndLF".as_slice() {
-        Some(Look::EndLF)
-    } else if word == b"StartCRLF".as_slice() {
-        Some(Look::StartCRLF)
-    } else if word == b"EndCRLF".as_slice() {
-        Some(Look::EndCRLF)
-    } else {
-        None
+    if is(word, b"Start") {
+        return Some(Look::Start);
     }
+    if is(word, b"End") {
+        return Some(Look::End);
+    }
+    if is(word, b"StartLF") {
+        return Some(Look::StartLF);
+    }
+    if is(word, b"EndLF") {
+        return Some(Look::EndLF);
+    }
+    if is(word, b"StartCRLF") {
+        return Some(Look::StartCRLF);
+    }
+    if is(word, b"EndCRLF") {
+        return Some(Look::EndCRLF);
+    }
+    None
 }
 
 /// The look of an edge of a word with this name.
 fn word_look_named(word: &[u8]) -> Option<Look>
     ensures { result ≡ word_look_named word.now }
 {
-    if word == b"WordAscii".as_slice() {
-        Some(Look::WordAscii)
-    } else if word == b"WordAsciiNegate".as_slice() {
-        Some(Look::WordAsciiNegate)
-    } else if word == b"WordUnicode".as_slice() {
-        Some(Look::WordUnicode)
-    } else if word == b"WordUnicodeNegate".as_slice() {
-        Some(Look::WordUnicodeNegate)
-    } else {
-        None
+    if is(word, b"WordAscii") {
+        return Some(Look::WordAscii);
     }
+    if is(word, b"WordAsciiNegate") {
+        return Some(Look::WordAsciiNegate);
+    }
+    if is(word, b"WordUnicode") {
+        return Some(Look::WordUnicode);
+    }
+    if is(word, b"WordUnicodeNegate") {
+        return Some(Look::WordUnicodeNegate);
+    }
+    None
 }
 
 /// The look with this name of a place where a word begins, or where one ends.
 fn word_side_named(word: &[u8]) -> Option<Look>
     ensures { result ≡ word_side_named word.now }
 {
-    if word == b"WordStartAscii".as_slice() {
-        Some(Look::WordStartAscii)
-    } else if word == b"WordEndAscii".as_slice() {
-        Some(Look::WordEndAscii)
-    } else if word == b"WordStartUnicode".as_slice() {
-        Some(Look::WordStartUnicode)
-    } else if word == b"WordEndUnicode".as_slice() {
-        Some(Look::WordEndUnicode)
-    } else {
-        None
+    if is(word, b"WordStartAscii") {
+        return Some(Look::WordStartAscii);
     }
+    if is(word, b"WordEndAscii") {
+        return Some(Look::WordEndAscii);
+    }
+    if is(word, b"WordStartUnicode") {
+        return Some(Look::WordStartUnicode);
+    }
+    if is(word, b"WordEndUnicode") {
+        return Some(Look::WordEndUnicode);
+    }
+    None
 }
 
 /// The look with this name of a place before which no word is, or behind which none is.
 fn half_look_named(word: &[u8]) -> Option<Look>
     ensures { result ≡ half_look_named word.now }
 {
-    if word == b"WordStartHalfAscii".as_slice() {
-        Some(Look::WordStartHalfAscii)
-    } else if word == b"WordEndHalfAscii".as_slice() {
-        Some(Look::WordEndHalfAscii)
-    } else if word == b"WordStartHalfUnicode".as_slice() {
-        Some(Look::WordStartHalfUnicode)
-    } else if word == b"WordEndHalfUnicode".as_slice() {
-        Some(Look::WordEndHalfUnicode)
-    } else {
-        None
+    if is(word, b"WordStartHalfAscii") {
+        return Some(Look::WordStartHalfAscii);
     }
+    if is(word, b"WordEndHalfAscii") {
+        return Some(Look::WordEndHalfAscii);
+    }
+    if is(word, b"WordStartHalfUnicode") {
+        return Some(Look::WordStartHalfUnicode);
+    }
+    if is(word, b"WordEndHalfUnicode") {
+        return Some(Look::WordEndHalfUnicode);
+    }
+    None
 }
 
 /// The look with this name.

@@ -1,7 +1,7 @@
 -- What is tested of a builder is what is asked of it before an automaton is built.
 use Rattle.std.proofs.Common.{◌≡◌, ℕ, zero, suc, ◌<◌, ◌≤◌, Bool, true, false, List, length, get_or, refl, sym, ap, ◌∙◌, arith, [], ◌∷◌}
-use Rattle.std.proofs.Common.{Option, Some, None}
-use Rattle.std.specs.Prelude.{All, nat_lt, not, is_none, Decides, String, string_bytes, Vec}
+use Rattle.std.proofs.Common.{Option, Some, None, le-ltb, subst}
+use Rattle.std.specs.Prelude.{All, nat_lt, not, ◌&&◌, is_none, Decides, String, string_bytes, Vec}
 use Rattle.std.specs.Option.{option_map}
 use Rattle.std.proofs.lemmas.List.{length-map}
 use Rattle.std.specs.List.{list_all}
@@ -84,6 +84,54 @@ pub len_absent : {A B : Type 0} (groups : List (Vec (Option (String A)) B)) (p :
 len_absent [] p h = refl
 len_absent (first ∷ rest) zero h = absurd (omega (arith, h))
 len_absent (first ∷ rest) (suc p) h = len_absent rest p (omega (arith, h))
+
+-- ---- a part that is false makes all false
+first_false : (a rest : Bool) → a ≡ false → a && rest ≡ false
+first_false a rest e = ap (λ t. t && rest) e
+
+behind_false : (a rest : Bool) → rest ≡ false → a && rest ≡ false
+behind_false true rest e = e
+behind_false false rest e = refl
+
+not_below : (x n m : ℕ) → n ≡ m → n ≤ x → nat_lt x m ≡ false
+not_below x n m same above = le-ltb x m (subst (λ (k : ℕ). k ≤ x) same above)
+
+pub open_fails : (b : Assembly) (x y : ℕ) → b.is_open ≡ true → false ≡ has_all b x y
+open_fails b x y e = sym (first_false _ _ (ap not e))
+
+pub anchored_fails : (b : Assembly) (x y n : ℕ) → n ≡ length b.drafts → n ≤ x → false ≡ has_all b x y
+anchored_fails b x y n same above = sym (behind_false _ _ (first_false _ _ (not_below x n (length b.drafts) same above)))
+
+pub unanchored_fails : (b : Assembly) (x y n : ℕ) → n ≡ length b.drafts → n ≤ y → false ≡ has_all b x y
+unanchored_fails b x y n same above =
+    sym (behind_false _ _ (behind_false _ _ (first_false _ _ (not_below y n (length b.drafts) same above))))
+
+fourth_false : (a b c d rest : Bool) → d ≡ false → false ≡ a && (b && (c && (d && rest)))
+fourth_false a b c d rest e =
+    sym (behind_false a (b && (c && (d && rest))) (behind_false b (c && (d && rest)) (behind_false c (d && rest) (first_false d rest e))))
+
+fifth_false : (a b c d f rest : Bool) → f ≡ false → false ≡ a && (b && (c && (d && (f && rest))))
+fifth_false a b c d f rest e =
+    sym (behind_false a (b && (c && (d && (f && rest)))) (behind_false b (c && (d && (f && rest)))
+    (behind_false c (d && (f && rest)) (behind_false d (f && rest) (first_false f rest e)))))
+
+pub starts_fail : (b : Assembly) (x y n : ℕ) (starts : List ℕ) → n ≡ length b.drafts → starts ≡ b.starts →
+    false ≡ list_all (λ q. nat_lt q n) starts → false ≡ has_all b x y
+starts_fail b x y n starts same_n same e =
+    fourth_false (not b.is_open) (nat_lt x (length b.drafts)) (nat_lt y (length b.drafts))
+    (list_all (λ q. nat_lt q (length b.drafts)) b.starts)
+    (list_all (λ draft. list_all (λ q. nat_lt q (length b.drafts)) (names_of draft)) b.drafts && list_all (is_known b.groups) b.drafts)
+    (ap (λ (k : ℕ). list_all (λ q. nat_lt q k) b.starts) (sym same_n) ∙ ap (list_all (λ q. nat_lt q n)) (sym same) ∙ sym e)
+
+pub names_fail : (b : Assembly) (x y m : ℕ) (drafts : List DraftNode) → m ≡ length b.drafts → drafts ≡ b.drafts →
+    false ≡ list_all (λ draft. list_all (λ q. nat_lt q m) (names_of draft)) drafts → false ≡ has_all b x y
+names_fail b x y m drafts same_m same e =
+    let named = list_all (λ draft. list_all (λ q. nat_lt q (length b.drafts)) (names_of draft)) b.drafts in
+    let known = list_all (is_known b.groups) b.drafts in
+    fifth_false (not b.is_open) (nat_lt x (length b.drafts)) (nat_lt y (length b.drafts))
+    (list_all (λ q. nat_lt q (length b.drafts)) b.starts) named known
+    (ap (λ (k : ℕ). list_all (λ draft. list_all (λ q. nat_lt q k) (names_of draft)) b.drafts) (sym same_m)
+    ∙ ap (list_all (λ draft. list_all (λ q. nat_lt q m) (names_of draft))) (sym same) ∙ sym e)
 
 -- the tests in their order, where all but the last answered true
 pub all_tested : (b : Assembly) (x y n m : ℕ) (starts : List ℕ) (drafts later : List DraftNode) (groups : Groups)

@@ -34,6 +34,7 @@ pub mod RenamingPlaces
 pub mod RenamingOnce
 pub mod RenamingEnds
 pub mod OrderLemmas
+pub mod AddedLemmas
 pub mod PastLemmas
 pub mod StackedLemmas
 pub mod MetLemmas

@@ -97,7 +97,6 @@ impl Builder {
     }
 
     /// Puts a state last.
-    #[tactic(auto, using(crate::proofs::BuilderLemmas::bytes_pushed, crate::proofs::OrderLemmas::order_added))]
     pub(crate) fn add(&mut self, draft: Draft) -> Result<StateID, BuildError>
         requires { IsDraftOf (pattern_count self.old) (draft_of draft) }
         ensures { Adds self.old self.new result (draft_of draft) }

@@ -80,7 +80,6 @@ impl Builder {
 
     /// Lets the state `from` lead to `to`: a union has one more way, behind those that it had, and any other
     /// state leads there and no more where it did, which is never refused.
-    #[tactic(auto, using(crate::proofs::BuilderLemmas::bytes_patched, crate::proofs::OrderLemmas::limit_holds))]
     pub fn patch(&mut self, from: StateID, to: StateID) -> Result<(), BuildError>
         requires from { from < length self.old.drafts }
         requires to { to < length self.old.drafts }

@@ -12,4 +12,5 @@ pub mod ChainLemmas
 pub mod FirstLemmas
 pub mod RuleLemmas
 pub mod SoundLemmas
+pub mod GroupLoopLemmas
 pub mod ForCallers

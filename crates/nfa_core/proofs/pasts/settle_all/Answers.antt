@@ -1,11 +1,13 @@
-use Rattle.std.proofs.Common.{◌≡◌, ◌<◌, ◌≤◌, ◌+◌, ◌*◌, ℕ, List, Option, true, map, length, arith, ap, sym, ◌∙◌}
+use Rattle.std.proofs.Common.{◌≡◌, ◌<◌, ◌≤◌, ◌+◌, ◌*◌, ℕ, List, Option, true, map, length, arith, ap, sym, subst, ◌∙◌}
 use Rattle.std.specs.Prelude.{is_some}
 use Rattle.std.proofs.lemmas.List.{length-map}
 use Rattle.std.proofs.lemmas.List.Sums.{count_by-le-length}
 use borrow.Author.Count.{below_more}
+use Rattle.search_core.specs.Index.{greatest_index}
 use Rattle.nfa_core.specs.Drafts.{draft_of}
 use Rattle.nfa_core.specs.Pasts.{IsPastTable, is_settled, settled_count}
 use Rattle.nfa_core.specs.declared.draft.Draft.{Draft}
+use Rattle.nfa_core.proofs.AddedLemmas.{failed}
 use Rattle.nfa_core.proofs.pasts.settle_all.Goals as goal
 
 -- what a state more has cost
@@ -39,3 +41,30 @@ returns-clause-there g c = λ q h. c.loop-index.invariant.there q (before q _ c.
 pub returns-clause-moves : goal.returns-clause-moves
 returns-clause-moves g c = spent c.args.drafts.now c.loop-index.pasts.table.items c.args.steps.now c.loop-index.steps
     c.loop-index.invariant.told c.loop-index.invariant.moves
+
+room : (i n most : ℕ) → i < n → n ≤ most + 1 → i ≤ most
+room i n most below few = omega arith
+
+none_spent : (n more : ℕ) → n ≤ n + more
+none_spent n more = omega arith
+
+pub must-requires : goal.must-requires
+must-requires g c = room c.loop-index.index (length c.args.drafts.now) greatest_index c.loop-index-test.true c.requires.numbered
+
+pub settle_from-requires-clause-table : goal.settle_from-requires-clause-table
+settle_from-requires-clause-table g c = c.loop-index.invariant.told
+
+pub settle_from-requires-clause-inside : goal.settle_from-requires-clause-inside
+settle_from-requires-clause-inside g c = subst (λ (q : ℕ). q < length c.args.drafts.now) (sym c.must.ensures) c.loop-index-test.true
+
+pub returns-in_err-pasts-clause-table : goal.returns-in_err-pasts-clause-table
+returns-in_err-pasts-clause-table g c = failed _ _ c.from_residual.result c.from_residual.ensures.1
+
+pub returns-in_err-pasts-clause-there : goal.returns-in_err-pasts-clause-there
+returns-in_err-pasts-clause-there g c = failed _ _ c.from_residual.result c.from_residual.ensures.1
+
+pub returns-in_err-pasts-clause-moves : goal.returns-in_err-pasts-clause-moves
+returns-in_err-pasts-clause-moves g c = none_spent c.args.steps.now (2 * length c.args.drafts.now)
+
+pub returns-clause-table : goal.returns-clause-table
+returns-clause-table g c = c.loop-index.invariant.told

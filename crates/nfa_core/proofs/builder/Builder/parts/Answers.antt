@@ -1,6 +1,7 @@
-use Rattle.std.proofs.Common.{◌≡◌, ◌<◌, ◌≤◌, ◌+◌, ◌*◌, All, List, ℕ, length, map, subst, sym, ap, ◌∙◌, rules}
+use Rattle.std.proofs.Common.{◌≡◌, ◌<◌, ◌≤◌, ◌+◌, ◌*◌, All, List, ℕ, true, length, map, subst, sym, ap, ◌∙◌, rules}
 use Rattle.std.proofs.lemmas.List.{length-map}
-use Rattle.nfa_core.specs.CanBuild.{names_of}
+use Rattle.nfa_core.specs.CanBuild.{names_of, is_known}
+use Rattle.search_core.specs.Index.{greatest_index}
 use Rattle.search_types.specs.Groups.{Groups}
 use Rattle.nfa_core.specs.BuilderStates.{Assembly, DraftNode, pattern_count}
 use Rattle.nfa_core.specs.Drafts.{draft_of}
@@ -13,6 +14,7 @@ use Rattle.nfa_core.specs.States.{node_of}
 use Rattle.nfa_core.specs.declared.draft.Draft.{Draft}
 use Rattle.nfa_core.proofs.BuildLemmas.{sound, nfa_made}
 use Rattle.nfa_core.proofs.ReachLemmas.{can_reach}
+use Rattle.nfa_core.proofs.AddedLemmas.{failed}
 use Rattle.nfa_core.proofs.builder.Builder.parts.Goals as goal
 
 -- the names that the code holds are as many as the states
@@ -117,3 +119,49 @@ returns-clause-sound g c =
     let all = sound b c.args.start_anchored c.args.start_unanchored c.requires.can
     (can_reach b c.args.start_anchored c.args.start_unanchored c.requires.can) order in
     subst (λ (a : Automaton). IsSound a) (sym (ap (λ (n : Nfa). n.automaton) (returns-clause-value g c))) all
+
+pub name_all-requires-clause-numbered : goal.name_all-requires-clause-numbered
+name_all-requires-clause-numbered g c =
+    subst (λ (n : ℕ). n ≤ greatest_index + 1)
+    (length-map c.self.inside.drafts.items draft_of ∙ ap length (sym c.deref.ensures.value)) c.self.invariant.2.states_numbered
+
+pub kept_states-requires-clause-known : goal.kept_states-requires-clause-known
+kept_states-requires-clause-known g c =
+    let b = c.args.self.now in
+    let seen = ap (map draft_of) c.deref-3.ensures.value ∙ ap (λ (b : Assembly). b.drafts) c.self.view_is in
+    subst (λ (ds : List DraftNode). All (λ draft. is_known c.args.group_info draft ≡ true) ds) (sym seen)
+    (subst (λ (gs : Groups). All (λ draft. is_known gs draft ≡ true) b.drafts) (sym c.requires.groups) c.requires.can.known)
+
+pub rename_all-requires : goal.rename_all-requires
+rename_all-requires g c =
+    let b = c.args.self.now in
+    let many = as_many b.drafts (map draft_of c.deref.result.now) c.in_ok-names.names.items c.deref-4.result.now
+    (ap (map draft_of) c.deref.ensures.value ∙ ap (λ (b : Assembly). b.drafts) c.self.view_is) c.deref-4.ensures.value
+    c.in_ok-names.ensures.names in
+    subst (λ (starts : List ℕ). All (λ q. q < length c.deref-4.result.now) starts)
+    (sym (c.deref-5.ensures.value ∙ ap (λ (b : Assembly). b.starts) c.self.view_is))
+    (subst (λ (n : ℕ). All (λ q. q < n) b.starts) many c.requires.can.starts_there)
+
+pub returns-in_err-names-clause-value : goal.returns-in_err-names-clause-value
+returns-in_err-names-clause-value g c = failed _ _ c.from_residual.result c.from_residual.ensures.1
+
+pub returns-in_err-names-clause-sound : goal.returns-in_err-names-clause-sound
+returns-in_err-names-clause-sound g c = failed _ _ c.from_residual.result c.from_residual.ensures.1
+
+pub returns-in_err-states-clause-value : goal.returns-in_err-states-clause-value
+returns-in_err-states-clause-value g c = failed _ _ c.from_residual-in_err-states.result c.from_residual-in_err-states.ensures.1
+
+pub returns-in_err-states-clause-sound : goal.returns-in_err-states-clause-sound
+returns-in_err-states-clause-sound g c = failed _ _ c.from_residual-in_err-states.result c.from_residual-in_err-states.ensures.1
+
+pub returns-in_err-start_pattern-clause-value : goal.returns-in_err-start_pattern-clause-value
+returns-in_err-start_pattern-clause-value g c = failed _ _ c.from_residual-in_err-start_pattern.result c.from_residual-in_err-start_pattern.ensures.1
+
+pub returns-in_err-start_pattern-clause-sound : goal.returns-in_err-start_pattern-clause-sound
+returns-in_err-start_pattern-clause-sound g c = failed _ _ c.from_residual-in_err-start_pattern.result c.from_residual-in_err-start_pattern.ensures.1
+
+pub returns-in_err-clone-clause-value : goal.returns-in_err-clone-clause-value
+returns-in_err-clone-clause-value g c = failed _ _ c.from_residual-in_err-clone.result c.from_residual-in_err-clone.ensures.1
+
+pub returns-in_err-clone-clause-sound : goal.returns-in_err-clone-clause-sound
+returns-in_err-clone-clause-sound g c = failed _ _ c.from_residual-in_err-clone.result c.from_residual-in_err-clone.ensures.1
