@@ -1,1 +1,2 @@
+pub mod TextsToldLemmas
 pub mod ToldLemmas

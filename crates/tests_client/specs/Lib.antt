@@ -1,1 +1,2 @@
+pub mod TextsTold
 pub mod Told

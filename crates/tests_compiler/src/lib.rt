@@ -1,5 +1,6 @@
 //! Tests of compiled trees: the states that they become, worked out by hand, and why trees are refused; of classes and
-//! alternations that share states, how many states there are and what they find. Trees of many levels are tried beside them.
+//! alternations that share states, how many states there are and what they find. Trees of many levels are tried
+//! beside them, and powerset states over automata that were made by hand (`powersets`).
 #![tactic(auto)]
 
 #[cfg(test)]
@@ -24,6 +25,8 @@ mod maps;
 mod options;
 #[cfg(test)]
 mod patterns;
+#[cfg(test)]
+mod powersets;
 #[cfg(test)]
 mod repeats;
 #[cfg(test)]

@@ -1,9 +1,0 @@
-//! A client of texts: it makes trees of several texts, a regex of these, and lists the matches in a haystack. By public contracts and
-//! public laws alone the list is proved to have the spans that the toolchain's matcher finds of what the texts are read as. It is run
-//! on rows, whose spans were found by hand.
-#![tactic(auto)]
-
-#[cfg(test)]
-mod client;
-#[cfg(test)]
-mod rows;
