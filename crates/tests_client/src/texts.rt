@@ -2,4 +2,5 @@
 //! public laws alone the list is proved to have the spans that the toolchain's matcher finds of what the texts are read as. It is run
 //! on rows, whose spans were found by hand.
 mod client;
+mod long;
 mod rows;
