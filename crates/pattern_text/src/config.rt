@@ -33,7 +33,7 @@ impl Config {
     }
 
     /// The options as the toolchain's parser takes them.
-    pub(crate) fn options(&self) -> regex_syntax::Config
+    pub fn options(&self) -> regex_syntax::Config
         ensures { result ≡ self.now }
     {
         self.options
