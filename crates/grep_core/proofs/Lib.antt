@@ -1,0 +1,16 @@
+mod BlockLemmas
+mod CourseLemmas
+mod FallbackLemmas
+mod ListLemmas
+mod LoopLemmas
+mod MarkLemmas
+mod NeededLemmas
+mod RegexLemmas
+mod ReportRows
+mod SeenLemmas
+mod SpanLemmas
+mod StepLemmas
+mod TellingLemmas
+mod TextLemmas
+mod ToldLemmas
+mod WriteLemmas

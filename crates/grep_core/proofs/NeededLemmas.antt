@@ -1,0 +1,64 @@
+-- A report asks for no more matches than are needed.
+use Rattle.std.proofs.Common.{◌≡◌, ℕ, Bool, true, false, ◌&&◌, List, [], ◌∷◌, ◌++◌, Option, Some, None, if◌then◌else◌, refl, sym, ap, ◌∙◌}
+use Rattle.std.specs.List.{filter}
+use Rattle.grep_core.specs.declared.known.Known.{Known}
+use Rattle.grep_core.specs.declared.known.Known.TheVariants.{NonePrinted, LastPrinted}
+use Rattle.grep_core.specs.declared.role.Role.{Role}
+use Rattle.grep_core.specs.declared.role.Role.TheVariants.{Selected, Beside, Hidden}
+use Rattle.grep_core.specs.declared.what.Print.{Print}
+use Rattle.grep_core.specs.declared.what.Print.TheVariants.{Lines, Matches, Count, NameIfAny, NameIfNone, Nothing}
+use Rattle.grep_core.specs.declared.what.What.{What}
+use Rattle.grep_core.specs.Lines.{TextLine, lines_of}
+use Rattle.grep_core.specs.Printing.{fields, has_marks, marked_from, printed_line, printed_matches}
+use Rattle.grep_core.specs.Report.{Finds, behind_hidden, is_some_text, parting, print_lines, report, report_as, roles_of, selected, told_spans}
+use Rattle.grep_core.specs.Selecting.{roles}
+use Rattle.grep_core.specs.Telling.{needed, needs_of, needs_spans}
+
+print_alike : {X : Type 0} (w : What) (one two : Role → X → List ℕ) → ((r : Role) (x : X) → one r x ≡ two r x) → (b : Known) (rs : List Role) (xs : List X) →
+    print_lines w one b rs xs ≡ print_lines w two b rs xs
+print_alike w one two same b [] xs = refl
+print_alike w one two same b (r ∷ rs) [] = refl
+print_alike w one two same b (Hidden ∷ rs) (x ∷ xs) = print_alike w one two same (behind_hidden b) rs xs
+print_alike w one two same b (Selected ∷ rs) (x ∷ xs) =
+    ap (λ t. parting w b ++ (t ++ print_lines w one LastPrinted rs xs)) (same Selected x)
+    ∙ ap (λ t. parting w b ++ (two Selected x ++ t)) (print_alike w one two same LastPrinted rs xs)
+print_alike w one two same b (Beside ∷ rs) (x ∷ xs) =
+    ap (λ t. parting w b ++ (t ++ print_lines w one LastPrinted rs xs)) (same Beside x)
+    ∙ ap (λ t. parting w b ++ (two Beside x ++ t)) (print_alike w one two same LastPrinted rs xs)
+
+module _ (w : What) (f : Finds) (name : Option (List ℕ)) where
+  same_spans : needs_spans w ≡ true → (line : TextLine) → told_spans (needed w f) line ≡ told_spans f line
+  same_spans needs line = ap (λ b. filter is_some_text (if b then f.spans line.bytes else [])) needs
+
+  unmarked : w.color ≡ false → (role : Role) (line : TextLine) (found : List (ℕ × ℕ)) →
+      printed_line w name role line found ≡ fields w name role line.number line.place ++ (line.bytes ++ 10 ∷ [])
+  unmarked plain role line found =
+      ap (λ b. fields w name role line.number line.place ++ ((if b && has_marks w role then marked_from line.bytes 0 found else line.bytes) ++ 10 ∷ [])) plain
+
+  same_line : (color : Bool) → w.color ≡ color → needs_spans w ≡ w.color → (role : Role) (line : TextLine) →
+      printed_line w name role line (told_spans (needed w f) line) ≡ printed_line w name role line (told_spans f line)
+  same_line true is needs role line = ap (printed_line w name role line) (same_spans (needs ∙ is) line)
+  same_line false is needs role line = unmarked is role line (told_spans (needed w f) line) ∙ sym (unmarked is role line (told_spans f line))
+
+  same_matches : needs_spans w ≡ true → (role : Role) (line : TextLine) →
+      printed_matches w name line (told_spans (needed w f) line) ≡ printed_matches w name line (told_spans f line)
+  same_matches needs role line = ap (printed_matches w name line) (same_spans needs line)
+
+same_report : (p : Print) (w : What) (f : Finds) (name : List ℕ) (with_name : Bool) (lines : List TextLine) → w.print ≡ p →
+    report_as p w (needed w f) name with_name lines (selected w f lines) ≡ report_as p w f name with_name lines (selected w f lines)
+same_report Lines w f name with_name lines is =
+    print_alike w (λ role line. printed_line w (if with_name then Some name else None) role line (told_spans (needed w f) line))
+    (λ role line. printed_line w (if with_name then Some name else None) role line (told_spans f line))
+    (same_line w f (if with_name then Some name else None) w.color refl (ap (λ p. needs_of p w.color) is)) NonePrinted (roles_of w (selected w f lines)) lines
+same_report Matches w f name with_name lines is =
+    print_alike w (λ _ line. printed_matches w (if with_name then Some name else None) line (told_spans (needed w f) line))
+    (λ _ line. printed_matches w (if with_name then Some name else None) line (told_spans f line))
+    (same_matches w f (if with_name then Some name else None) (ap (λ p. needs_of p w.color) is)) NonePrinted (roles 0 0 (selected w f lines)) lines
+same_report Count w f name with_name lines is = refl
+same_report NameIfAny w f name with_name lines is = refl
+same_report NameIfNone w f name with_name lines is = refl
+same_report Nothing w f name with_name lines is = refl
+
+pub needed_report : (w : What) (f : Finds) (name : List ℕ) (with_name : Bool) (text : List ℕ) →
+    report_as w.print w (needed w f) name with_name (lines_of text) (selected w (needed w f) (lines_of text)) ≡ report w f name with_name text
+needed_report w f name with_name text = same_report w.print w f name with_name (lines_of text) refl

@@ -1,0 +1,59 @@
+-- What is seen of a line.
+use Rattle.std.proofs.Common.{◌≡◌, ℕ, zero, suc, ◌+◌, Bool, true, false, List, [], map, length, All, Option, Some, None, if◌then◌else◌, refl, sym, ap, ◌∙◌, subst, arith}
+use Rattle.std.specs.Prelude.{is_some}
+use Rattle.std.specs.List.{filter}
+use Rattle.regex_hir.specs.Re.{Re}
+use Rattle.regex_hir.specs.Meaning.{alt_all}
+use Rattle.regex_hir.specs.Find.{Match, find, matches_from}
+use Rattle.hir_core.specs.Facts.{LoopsRead}
+use Rattle.pattern_search.specs.Searches.{span_of_match}
+use Rattle.hirscan.specs.Built.{IsBuilt}
+use Rattle.grep_core.specs.declared.what.What.{What}
+use Rattle.grep_core.specs.Patterns.{finds_of}
+use Rattle.grep_core.specs.Report.{is_some_text}
+use Rattle.grep_core.specs.Searchers.{Sought, IsSearcherOf, AreTold, SearchesFor, line_settings}
+use Rattle.pattern_search.specs.Texts.{AllMean, AreRead}
+use Rattle.grep_core.specs.Telling.{needs_spans, needed}
+
+none_from : (search_from : ℕ → Option Match) (n : ℕ) (o : Option Match) → is_some o ≡ false → matches_from search_from n o ≡ []
+unfolding matches_from
+none_from search_from zero o none = refl
+none_from search_from (suc n) None none = refl
+none_from search_from (suc n) (Some m) none = absurd (grind (arith, none))
+
+no_spans : (b : Bool) (found : List (ℕ × ℕ)) → found ≡ [] → filter is_some_text (if b then found else []) ≡ []
+no_spans true found e = ap (filter is_some_text) e
+no_spans false found e = refl
+
+-- a line without a match has no matches
+pub none_found : (w : What) (res : List Re) (line : List ℕ) (has : Bool) → has ≡ (finds_of res).has_match line → has ≡ false →
+    filter is_some_text ((needed w (finds_of res)).spans line) ≡ []
+none_found w res line has told none =
+    no_spans (needs_spans w) ((finds_of res).spans line)
+    (ap (map span_of_match) (none_from (find (alt_all res) line) (length line + 1) (find (alt_all res) line 0) (sym told ∙ none)))
+
+-- where matches don't count there are none
+pub none_needed : (w : What) (res : List Re) (line : List ℕ) → needs_spans w ≡ false → filter is_some_text ((needed w (finds_of res)).spans line) ≡ []
+none_needed w res line none = ap (λ b. filter is_some_text (if b then (finds_of res).spans line else [])) none
+
+-- what a finder tells of all matches in a line
+abbrev pub TellsAll : Sought → List ℕ → List (ℕ × ℕ) → Type 0
+TellsAll s line found = (it : IsSearcherOf s.config s.texts s.pair) → All LoopsRead it.trees → AreTold s.config s.texts line found
+
+-- and where they count these are all
+pub all_needed : (w : What) (res : List Re) (line : List ℕ) (found : List (ℕ × ℕ)) → needs_spans w ≡ true →
+    found ≡ filter is_some_text ((finds_of res).spans line) → found ≡ filter is_some_text ((needed w (finds_of res)).spans line)
+all_needed w res line found needs told = told ∙ sym (ap (λ b. filter is_some_text (if b then (finds_of res).spans line else [])) needs)
+
+-- a finder that seeks the same
+abbrev pub moved_by : {p q : Sought} {spans : Bool} → q ≡ p → SearchesFor p spans → SearchesFor q spans
+moved_by {p} {q} {spans} same by = record {
+  searcher = record {
+    trees = by.searcher.trees;
+    mean = subst (λ (s : Sought). AllMean s.config s.texts by.searcher.trees) (sym same) by.searcher.mean;
+    built = subst (λ (s : Sought). IsBuilt by.searcher.trees line_settings s.pair) (sym same) by.searcher.built;
+  };
+  loops_read = by.loops_read;
+  patterns = by.patterns;
+  are_read = subst (λ (s : Sought). AreRead s.config s.texts by.patterns) (sym same) by.are_read;
+}

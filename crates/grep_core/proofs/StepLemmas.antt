@@ -1,0 +1,110 @@
+-- What is still to be printed, line by line. Lines that wait for one that is selected stand in a queue.
+use Rattle.std.proofs.Common.{inl, inr, ◌≡◌, ◌≤◌, ◌<◌, ℕ, zero, suc, Bool, true, false, List, [], ◌∷◌, ◌++◌, map, length, take, refl, sym, ap, ap₂, ◌∙◌, if◌then◌else◌, ◌⊎◌, rules, arith}
+use Rattle.std.proofs.lemmas.Grind.{common_steps}
+use Rattle.grep_core.specs.declared.role.Role.{Role}
+use Rattle.grep_core.specs.declared.role.Role.TheVariants.{Selected, Beside, Hidden}
+use Rattle.grep_core.specs.declared.what.What.{What}
+use Rattle.grep_core.specs.declared.known.Known.{Known}
+use Rattle.grep_core.specs.declared.known.Known.TheVariants.{LastPrinted}
+use Rattle.grep_core.specs.Selecting.{any, roles_from}
+use Rattle.grep_core.specs.Courses.{queued, behind_queue}
+use Rattle.grep_core.specs.Report.{behind_hidden, parting, print_lines}
+
+module _ {X : Type 0} (w : What) (print : Role → X → List ℕ) (before after : ℕ) where
+  -- none of these lines is selected
+  abbrev none_of : List X → List Bool
+  none_of queue = map (λ _. false) queue
+
+  -- what is still to be printed: of the lines in the queue, none of them selected, and of those behind them
+  abbrev pub rest : Known → ℕ → List X → List Bool → List X → List ℕ
+  rest b left queue flags lines = print_lines w print b (roles_from before after left (none_of queue ++ flags)) (queue ++ lines)
+
+  -- a selected line stands among the next ones, where no more than so many stand before it
+  any_behind : (n : ℕ) (queue : List X) (flags : List Bool) → length queue < n → any (take n (none_of queue ++ true ∷ flags)) ≡ true
+  any_behind zero queue flags few = elim few [ ]
+  any_behind (suc n) [] flags few = refl
+  any_behind (suc n) (q ∷ queue) flags few = any_behind n queue flags (grind arith)
+
+  none_among : (n : ℕ) (queue : List X) (flags : List Bool) → n ≤ length queue → any (take n (none_of queue ++ flags)) ≡ false
+  none_among zero queue flags few = refl
+  none_among (suc n) [] flags few = elim few [ ]
+  none_among (suc n) (q ∷ queue) flags few = none_among n queue flags (grind arith)
+
+  none_left : (n : ℕ) (queue : List X) → any (take n (none_of queue ++ [])) ≡ false
+  none_left zero queue = refl
+  none_left (suc n) [] = refl
+  none_left (suc n) (q ∷ queue) = none_left n queue
+
+  -- a line that isn't selected, by whether one is among the next ones
+  abbrev passed : Bool → Known → List X → List Bool → X → List X → List ℕ
+  passed soon b queue flags q lines =
+      print_lines w print b ((if soon then Beside else Hidden) ∷ roles_from before after 0 (none_of queue ++ flags)) (q ∷ (queue ++ lines))
+
+  last_behind : (queue : List X) → behind_queue LastPrinted queue ≡ LastPrinted
+  last_behind [] = refl
+  last_behind (q ∷ queue) = refl
+
+  joined : (a b c d : List ℕ) → a ++ (b ++ (c ++ d)) ≡ (a ++ (b ++ c)) ++ d
+  joined a b c d = Prim.search (rules, common_steps)
+
+  -- the selected line prints the queue and then itself
+  pub selects : (b : Known) (queue : List X) (flags : List Bool) (line : X) (lines : List X) → length queue ≤ before →
+      rest b 0 queue (true ∷ flags) (line ∷ lines)
+      ≡ queued w print b queue ++ (parting w (behind_queue b queue) ++ (print Selected line ++ rest LastPrinted after [] flags lines))
+  selects b [] flags line lines few = refl
+  selects b (q ∷ queue) flags line lines few =
+      ap (λ soon. passed soon b queue (true ∷ flags) q (line ∷ lines)) (any_behind before queue flags (grind arith))
+      ∙ ap (λ tail. parting w b ++ (print Beside q ++ tail)) (selects LastPrinted queue flags line lines (grind arith))
+      ∙ ap (λ known. parting w b ++ (print Beside q ++ (queued w print LastPrinted queue ++ (parting w known
+      ++ (print Selected line ++ rest LastPrinted after [] flags lines))))) (last_behind queue)
+      ∙ joined (parting w b) (print Beside q) (queued w print LastPrinted queue)
+      (parting w LastPrinted ++ (print Selected line ++ rest LastPrinted after [] flags lines))
+
+  -- where lines are still owed to the last selected one, none waits, and the line is printed at once
+  pub selects_soon : (b : Known) (left : ℕ) (flags : List Bool) (line : X) (lines : List X) →
+      rest b left [] (true ∷ flags) (line ∷ lines) ≡ parting w b ++ (print Selected line ++ rest LastPrinted after [] flags lines)
+  selects_soon b left flags line lines = refl
+
+  pub stands_beside : (b : Known) (left : ℕ) (flags : List Bool) (line : X) (lines : List X) →
+      rest b (suc left) [] (false ∷ flags) (line ∷ lines) ≡ parting w b ++ (print Beside line ++ rest LastPrinted left [] flags lines)
+  stands_beside b left flags line lines = refl
+
+  none_more : (queue : List X) (line : X) (flags : List Bool) → none_of (queue ++ line ∷ []) ++ flags ≡ none_of queue ++ false ∷ flags
+  none_more [] line flags = refl
+  none_more (q ∷ queue) line flags = ap (λ fs. false ∷ fs) (none_more queue line flags)
+
+  one_more : (queue : List X) (line : X) (lines : List X) → (queue ++ line ∷ []) ++ lines ≡ queue ++ line ∷ lines
+  one_more [] line lines = refl
+  one_more (q ∷ queue) line lines = ap (λ ls. q ∷ ls) (one_more queue line lines)
+
+  -- else a line that isn't selected waits
+  pub waits : (b : Known) (queue : List X) (flags : List Bool) (line : X) (lines : List X) →
+      rest b 0 queue (false ∷ flags) (line ∷ lines) ≡ rest b 0 (queue ++ line ∷ []) flags lines
+  waits b queue flags line lines =
+      sym (ap₂ (λ fs ls. print_lines w print b (roles_from before after 0 fs) ls) (none_more queue line flags) (one_more queue line lines))
+
+  -- and the first one that waits isn't printed, where enough stand behind it
+  pub forgets : (b : Known) (q : X) (queue : List X) (flags : List Bool) (lines : List X) → before ≤ length queue →
+      rest b 0 (q ∷ queue) flags lines ≡ rest (behind_hidden b) 0 queue flags lines
+  forgets b q queue flags lines many = ap (λ soon. passed soon b queue flags q lines) (none_among before queue flags many)
+
+  -- at the end of the text none that waits is printed
+  pub ends : (b : Known) (queue : List X) → rest b 0 queue [] [] ≡ []
+  ends b [] = refl
+  ends b (q ∷ queue) =
+      ap (λ soon. passed soon b queue [] q []) (none_left before queue) ∙ ends (behind_hidden b) queue
+
+  pub ends_soon : (b : Known) (left : ℕ) → rest b left [] [] [] ≡ []
+  ends_soon b left = refl
+
+  -- the selected line, whether lines wait or are still owed
+  pub selects_any : (b : Known) (left : ℕ) (queue : List X) (flags : List Bool) (line : X) (lines : List X) → length queue ≤ before →
+      (left ≡ 0) ⊎ (queue ≡ []) →
+      rest b left queue (true ∷ flags) (line ∷ lines)
+      ≡ queued w print b queue ++ (parting w (behind_queue b queue) ++ (print Selected line ++ rest LastPrinted after [] flags lines))
+  selects_any b left queue flags line lines few (inl none) =
+      ap (λ n. rest b n queue (true ∷ flags) (line ∷ lines)) none ∙ selects b queue flags line lines few
+  selects_any b left queue flags line lines few (inr empty) =
+      ap (λ q. rest b left q (true ∷ flags) (line ∷ lines)) empty
+      ∙ selects_soon b left flags line lines
+      ∙ sym (ap (λ q. queued w print b q ++ (parting w (behind_queue b q) ++ (print Selected line ++ rest LastPrinted after [] flags lines))) empty)

@@ -1,0 +1,262 @@
+-- What is still told of lines goes on by one line.
+use Rattle.std.proofs.Common.{◌≡◌, Result, Ok, Err, OnOk, ◌⊎◌, inl, inr, IsTrue, nat_eq, take, ◌≤◌, ◌<◌, ℕ, zero, suc, ◌+◌, ◌-◌, Bool, true, false, not, ◌&&◌, nat_lt, List, [], ◌∷◌, ◌++◌, map, Option, Some, None, if◌then◌else◌, refl, sym, ap, ap₂, ◌∙◌, subst, arith, lt-ltb}
+use Rattle.grep_core.specs.declared.course.Course.{Course}
+use Rattle.grep_core.specs.declared.known.Known.{Known}
+use Rattle.grep_core.specs.declared.known.Known.TheVariants.{NonePrinted, LastPrinted}
+use Rattle.grep_core.specs.declared.role.Role.{Role}
+use Rattle.grep_core.specs.declared.role.Role.TheVariants.{Selected, Beside, Hidden}
+use Rattle.grep_core.specs.declared.what.Print.{Print}
+use Rattle.grep_core.specs.declared.what.Print.TheVariants.{Lines, Matches, Count, NameIfAny, NameIfNone, Nothing}
+use Rattle.grep_core.specs.declared.what.What.{What}
+use Rattle.grep_core.specs.Courses.{Item, item, still, print_item, waiting_item}
+use Rattle.grep_core.specs.Lines.{TextLine}
+use Rattle.grep_core.specs.Report.{Finds, before_of, after_of, parting, behind_hidden, print_lines, count_line, name_line, report_as, selected, told_spans, is_wanted}
+use Rattle.grep_core.specs.Selecting.{limited, count, any, roles, roles_from}
+use Rattle.grep_core.specs.Telling.{shown, told_item, print_matches, tells_as, left_of, may_select, flags_behind}
+
+print_map : {X Y : Type 0} (w : What) (print : Role → Y → List ℕ) (g : X → Y) (b : Known) (rs : List Role) (xs : List X) →
+    print_lines w print b rs (map g xs) ≡ print_lines w (λ r x. print r (g x)) b rs xs
+print_map w print g b [] xs = refl
+print_map w print g b (r ∷ rs) [] = refl
+print_map w print g b (Hidden ∷ rs) (x ∷ xs) = print_map w print g (behind_hidden b) rs xs
+print_map w print g b (Selected ∷ rs) (x ∷ xs) = ap (λ t. parting w b ++ (print Selected (g x) ++ t)) (print_map w print g LastPrinted rs xs)
+print_map w print g b (Beside ∷ rs) (x ∷ xs) = ap (λ t. parting w b ++ (print Beside (g x) ++ t)) (print_map w print g LastPrinted rs xs)
+
+left_none : (most : Option ℕ) → left_of most 0 ≡ most
+left_none None = refl
+left_none (Some m) = ap Some (let e : m - 0 ≡ m = omega arith in e)
+
+flags_none : (w : What) (f : Finds) (lines : List TextLine) → flags_behind w f 0 lines ≡ selected w f lines
+flags_none w f lines = ap (λ most. limited most (map (is_wanted w f) lines)) (left_none w.most)
+
+none_before : (n : ℕ) → 0 + n ≡ n
+none_before n = omega arith
+
+pub starts_told : (p : Print) (w : What) (f : Finds) (name : List ℕ) (with_name : Bool) (c : Course) →
+    ((flags : List Bool) (items : List Item) → still w (shown with_name name) c flags items
+    ≡ print_lines w (print_item w (shown with_name name)) NonePrinted (roles (before_of w.context) (after_of w.context) flags) items) →
+    c.known ≡ NonePrinted → (lines : List TextLine) →
+    tells_as p w name with_name c 0 (flags_behind w f 0 lines) (map (told_item f) lines) ≡ report_as p w f name with_name lines (selected w f lines)
+starts_told Lines w f name with_name c fresh known lines =
+    fresh (flags_behind w f 0 lines) (map (told_item f) lines)
+    ∙ print_map w (print_item w (shown with_name name)) (told_item f) NonePrinted (roles (before_of w.context) (after_of w.context) (flags_behind w f 0 lines)) lines
+    ∙ ap (λ flags. print_lines w (λ role line. print_item w (shown with_name name) role (told_item f line)) NonePrinted (roles (before_of w.context) (after_of w.context) flags) lines) (flags_none w f lines)
+starts_told Matches w f name with_name c fresh known lines =
+    print_map w (print_matches w (shown with_name name)) (told_item f) c.known (roles 0 0 (flags_behind w f 0 lines)) lines
+    ∙ ap₂ (λ b flags. print_lines w (λ role line. print_matches w (shown with_name name) role (told_item f line)) b (roles 0 0 flags) lines) known (flags_none w f lines)
+starts_told Count w f name with_name c fresh known lines =
+    ap (count_line w (shown with_name name)) (none_before (count (flags_behind w f 0 lines)) ∙ ap count (flags_none w f lines))
+starts_told NameIfAny w f name with_name c fresh known lines =
+    ap (λ n. if nat_lt 0 n then name_line w name else []) (none_before (count (flags_behind w f 0 lines)) ∙ ap count (flags_none w f lines))
+starts_told NameIfNone w f name with_name c fresh known lines =
+    ap (λ n. if nat_lt 0 n then [] else name_line w name) (none_before (count (flags_behind w f 0 lines)) ∙ ap count (flags_none w f lines))
+starts_told Nothing w f name with_name c fresh known lines = refl
+
+pub starts_counted : (w : What) (f : Finds) (lines : List TextLine) → 0 + count (flags_behind w f 0 lines) ≡ count (selected w f lines)
+starts_counted w f lines = none_before (count (flags_behind w f 0 lines)) ∙ ap count (flags_none w f lines)
+
+-- at most so many lines are selected
+and_false : (b t : Bool) → t ≡ false → (b && t) ≡ false
+and_false true t e = e
+and_false false t e = refl
+
+spent : (m n : ℕ) → m ≤ n → (b : Bool) (bs : List Bool) →
+    limited (Some (m - n)) (b ∷ bs) ≡ (b && nat_lt n m) ∷ limited (Some (m - (n + (if b && nat_lt n m then 1 else 0)))) bs
+spent m n few b bs =
+    let none : m - n ≡ 0 = omega (arith, few) in
+    let no : nat_lt n m ≡ false = grind (arith, few) in
+    let still_none : (x : ℕ) → 0 ≡ m - (n + x) = λ x. omega (arith, few) in
+    ap (λ k. limited (Some k) (b ∷ bs)) none
+    ∙ ap₂ (λ t k. t ∷ limited (Some k) bs) (sym (and_false b (nat_lt n m) no)) (still_none (if b && nat_lt n m then 1 else 0))
+
+one_left : (m n : ℕ) → n < m → (b : Bool) (bs : List Bool) →
+    limited (Some (m - n)) (b ∷ bs) ≡ (b && nat_lt n m) ∷ limited (Some (m - (n + (if b && nat_lt n m then 1 else 0)))) bs
+one_left m n more true bs =
+    let some : m - n ≡ suc (m - (n + 1)) = omega (arith, more) in
+    ap (λ k. limited (Some k) (true ∷ bs)) some
+    ∙ ap (λ t. t ∷ limited (Some (m - (n + (if t then 1 else 0)))) bs) (sym (lt-ltb n m more))
+one_left m n more false bs =
+    let some : m - n ≡ suc (m - (n + 1)) = omega (arith, more) in
+    let same : suc (m - (n + 1)) ≡ m - (n + 0) = omega (arith, more) in
+    ap (λ k. limited (Some k) (false ∷ bs)) some ∙ ap (λ k. false ∷ limited (Some k) bs) same
+
+limited_some : (m n : ℕ) (t : Bool) → nat_lt n m ≡ t → (b : Bool) (bs : List Bool) →
+    limited (Some (m - n)) (b ∷ bs) ≡ (b && nat_lt n m) ∷ limited (Some (m - (n + (if b && nat_lt n m then 1 else 0)))) bs
+limited_some m n true is b bs = one_left m n (grind (arith, is)) b bs
+limited_some m n false is b bs = spent m n (grind (arith, is)) b bs
+
+pub limited_step : (most : Option ℕ) (n : ℕ) (b : Bool) (bs : List Bool) →
+    limited (left_of most n) (b ∷ bs) ≡ (b && may_select most n) ∷ limited (left_of most (n + (if b && may_select most n then 1 else 0))) bs
+limited_step None n true bs = refl
+limited_step None n false bs = refl
+limited_step (Some m) n b bs = limited_some m n (nat_lt n m) refl b bs
+
+-- a line is selected as it is seen
+abbrev pub selects : What → ℕ → Bool → Bool
+selects w n has = (if w.invert then not has else has) && may_select w.most n
+
+flags_step : (w : What) (f : Finds) (n m : ℕ) (sel has : Bool) (line : TextLine) (lines : List TextLine) → sel ≡ selects w n has → has ≡ f.has_match line.bytes →
+    m ≡ n + (if sel then 1 else 0) → flags_behind w f n (line ∷ lines) ≡ sel ∷ flags_behind w f m lines
+flags_step w f n m sel has line lines is seen more =
+    let same : selects w n (f.has_match line.bytes) ≡ sel = sym (is ∙ ap (selects w n) seen) in
+    limited_step w.most n (is_wanted w f line) (map (is_wanted w f) lines)
+    ∙ ap (λ t. t ∷ limited (left_of w.most (n + (if t then 1 else 0))) (map (is_wanted w f) lines)) same
+    ∙ ap (λ k. sel ∷ limited (left_of w.most k) (map (is_wanted w f) lines)) (sym more)
+
+pub line_told : (p : Print) (w : What) (f : Finds) (name : List ℕ) (with_name : Bool) (c after : Course) (n m : ℕ) (sel has : Bool) (line : TextLine)
+    (found : List (ℕ × ℕ)) (out new : List ℕ) (lines : List TextLine) → sel ≡ selects w n has → has ≡ f.has_match line.bytes → found ≡ told_spans f line →
+    m ≡ n + (if sel then 1 else 0) →
+    ((flags : List Bool) (items : List Item) →
+    out ++ tells_as p w name with_name c n (sel ∷ flags) (item line found ∷ items) ≡ new ++ tells_as p w name with_name after m flags items) →
+    out ++ tells_as p w name with_name c n (flags_behind w f n (line ∷ lines)) (map (told_item f) (line ∷ lines))
+    ≡ new ++ tells_as p w name with_name after m (flags_behind w f m lines) (map (told_item f) lines)
+line_told p w f name with_name c after n m sel has line found out new lines is seen spans more goes_on =
+    ap₂ (λ flags fs. out ++ tells_as p w name with_name c n flags (item line fs ∷ map (told_item f) lines)) (flags_step w f n m sel has line lines is seen more) (sym spans)
+    ∙ goes_on (flags_behind w f m lines) (map (told_item f) lines)
+
+one_counted : (sel : Bool) (n : ℕ) (flags : List Bool) → (n + (if sel then 1 else 0)) + count flags ≡ n + count (sel ∷ flags)
+one_counted true n flags = let e : (n + 1) + count flags ≡ n + suc (count flags) = omega arith in e
+one_counted false n flags = let e : (n + 0) + count flags ≡ n + count flags = omega arith in e
+
+pub line_counted : (w : What) (f : Finds) (n m : ℕ) (sel has : Bool) (line : TextLine) (lines : List TextLine) → sel ≡ selects w n has → has ≡ f.has_match line.bytes →
+    m ≡ n + (if sel then 1 else 0) → m + count (flags_behind w f m lines) ≡ n + count (flags_behind w f n (line ∷ lines))
+line_counted w f n m sel has line lines is seen more =
+    ap (λ k. k + count (flags_behind w f m lines)) more
+    ∙ one_counted sel n (flags_behind w f m lines)
+    ∙ ap (λ flags. n + count flags) (sym (flags_step w f n m sel has line lines is seen more))
+
+-- what is told besides lines and matches
+pub count_goes_on : (p : Print) (w : What) (name : List ℕ) (with_name : Bool) (c : Course) (n m : ℕ) (sel : Bool) (out : List ℕ) (flags : List Bool) (it : Item) (items : List Item) →
+    m ≡ n + (if sel then 1 else 0) → p ≡ Count →
+    out ++ tells_as p w name with_name c n (sel ∷ flags) (it ∷ items) ≡ out ++ tells_as p w name with_name c m flags items
+count_goes_on p w name with_name c n m sel out flags it items more is =
+    ap (λ q. out ++ tells_as q w name with_name c n (sel ∷ flags) (it ∷ items)) is
+    ∙ ap (λ k. out ++ count_line w (shown with_name name) k) (sym (ap (λ k. k + count flags) more ∙ one_counted sel n flags))
+    ∙ ap (λ q. out ++ tells_as q w name with_name c m flags items) (sym is)
+
+-- ---- behind the last line that may be selected
+spent_flags : (most : Option ℕ) (n : ℕ) → may_select most n ≡ false → (xs : List Bool) → limited (left_of most n) xs ≡ map (λ _. false) xs
+spent_flags None n spent xs = absurd (grind (arith, spent))
+spent_flags (Some m) n spent xs = ap (λ k. limited (Some k) xs) (let few : m ≤ n = grind (arith, spent) in let e : m - n ≡ 0 = omega (arith, few) in e)
+
+none_counted : (xs : List Bool) → count (map (λ _. false) xs) ≡ 0
+none_counted [] = refl
+none_counted (x ∷ xs) = none_counted xs
+
+none_any : (xs ys : List Bool) → any (map (λ _. false) xs ++ map (λ _. false) ys) ≡ false
+none_any [] [] = refl
+none_any [] (y ∷ ys) = none_any [] ys
+none_any (x ∷ xs) ys = none_any xs ys
+
+any_taken : (n : ℕ) (flags : List Bool) → any flags ≡ false → any (take n flags) ≡ false
+any_taken zero flags e = refl
+any_taken (suc n) [] e = refl
+any_taken (suc n) (true ∷ flags) e = absurd (grind (arith, e))
+any_taken (suc n) (false ∷ flags) e = any_taken n flags e
+
+prints_none : {X : Type 0} (w : What) (print : Role → X → List ℕ) (before after : ℕ) (b : Known) (flags : List Bool) → any flags ≡ false → (xs : List X) →
+    print_lines w print b (roles_from before after 0 flags) xs ≡ []
+prints_none w print before after b [] e xs = refl
+prints_none w print before after b (true ∷ flags) e xs = absurd (grind (arith, e))
+prints_none w print before after b (false ∷ flags) e [] = refl
+prints_none w print before after b (false ∷ flags) e (x ∷ xs) =
+    ap (λ soon. print_lines w print b ((if soon then Beside else Hidden) ∷ roles_from before after 0 flags) (x ∷ xs)) (any_taken before flags e)
+    ∙ prints_none w print before after (behind_hidden b) flags e xs
+
+falses : {X : Type 0} (xs : List X) (ys : List Bool) → any (map (λ _. false) xs ++ map (λ _. false) ys) ≡ false
+falses [] [] = refl
+falses {X} [] (y ∷ ys) = falses {X = X} [] ys
+falses (x ∷ xs) ys = falses xs ys
+
+-- lines that wait aren't printed either
+still_none : (w : What) (name : Option (List ℕ)) (c : Course) → c.left ≡ 0 → (ys : List Bool) (items : List Item) → still w name c (map (λ _. false) ys) items ≡ []
+still_none w name c none ys items =
+    ap (λ n. print_lines w (print_item w name) c.known
+    (roles_from (before_of w.context) (after_of w.context) n (map (λ _. false) (map waiting_item c.waiting.items) ++ map (λ _. false) ys))
+    (map waiting_item c.waiting.items ++ items)) none
+    ∙ prints_none w (print_item w name) (before_of w.context) (after_of w.context) c.known (map (λ _. false) (map waiting_item c.waiting.items) ++ map (λ _. false) ys)
+    (falses (map waiting_item c.waiting.items) ys) (map waiting_item c.waiting.items ++ items)
+
+module _ (w : What) (f : Finds) (name : List ℕ) (with_name : Bool) (c : Course) (n : ℕ) (spent : may_select w.most n ≡ false) where
+  none : (lines : List TextLine) → flags_behind w f n lines ≡ map (λ _. false) (map (is_wanted w f) lines)
+  none lines = spent_flags w.most n spent (map (is_wanted w f) lines)
+
+  none_more : (lines : List TextLine) → count (flags_behind w f n lines) ≡ 0
+  none_more lines = ap count (none lines) ∙ none_counted (map (is_wanted w f) lines)
+
+  pub over_counted : (lines : List TextLine) → n + count (flags_behind w f n lines) ≡ n + count (flags_behind w f n [])
+  over_counted lines = ap (λ k. n + k) (none_more lines ∙ sym (none_more []))
+
+  pub over_told : (p : Print) → (p ≡ Lines → c.left ≡ 0) → (lines : List TextLine) →
+      tells_as p w name with_name c n (flags_behind w f n lines) (map (told_item f) lines) ≡ tells_as p w name with_name c n (flags_behind w f n []) []
+  over_told Lines left lines =
+      ap (λ flags. still w (shown with_name name) c flags (map (told_item f) lines)) (none lines)
+      ∙ still_none w (shown with_name name) c (left refl) (map (is_wanted w f) lines) (map (told_item f) lines)
+      ∙ sym (ap (λ flags. still w (shown with_name name) c flags []) (none []) ∙ still_none w (shown with_name name) c (left refl) [] [])
+  over_told Matches left lines =
+      ap (λ flags. print_lines w (print_matches w (shown with_name name)) c.known (roles 0 0 flags) (map (told_item f) lines)) (none lines)
+      ∙ prints_none w (print_matches w (shown with_name name)) 0 0 c.known (map (λ _. false) (map (is_wanted w f) lines)) (none_any [] (map (is_wanted w f) lines)) (map (told_item f) lines)
+      ∙ sym (ap (λ flags. print_lines w (print_matches w (shown with_name name)) c.known (roles 0 0 flags) []) (none []))
+  over_told Count left lines = ap (count_line w (shown with_name name)) (over_counted lines)
+  over_told NameIfAny left lines = ap (λ k. if nat_lt 0 k then name_line w name else []) (over_counted lines)
+  over_told NameIfNone left lines = ap (λ k. if nat_lt 0 k then [] else name_line w name) (over_counted lines)
+  over_told Nothing left lines = refl
+
+-- or behind one that is selected, where no more is asked
+is_some_more : (n k : ℕ) → 0 < n → nat_lt 0 (n + k) ≡ true
+is_some_more n k more = lt-ltb 0 (n + k) (omega (arith, more))
+
+pub some_counted : (w : What) (f : Finds) (n : ℕ) (lines : List TextLine) → 0 < n → nat_lt 0 (n + count (flags_behind w f n lines)) ≡ nat_lt 0 (n + count (flags_behind w f n []))
+some_counted w f n lines more = is_some_more n (count (flags_behind w f n lines)) more ∙ sym (is_some_more n (count (flags_behind w f n [])) more)
+
+-- it asks for no more than whether a line is selected
+abbrev pub IsOfNames : Print → Type 0
+IsOfNames p = (p ≡ NameIfAny) ⊎ ((p ≡ NameIfNone) ⊎ (p ≡ Nothing))
+
+abbrev IsToldSo : What → Finds → List ℕ → Bool → Course → ℕ → List TextLine → Print → Type 0
+IsToldSo w f name with_name c n lines p =
+    tells_as p w name with_name c n (flags_behind w f n lines) (map (told_item f) lines) ≡ tells_as p w name with_name c n (flags_behind w f n []) []
+
+pub some_told : (w : What) (f : Finds) (name : List ℕ) (with_name : Bool) (c : Course) (n : ℕ) (p : Print) (lines : List TextLine) → IsOfNames p → 0 < n →
+    tells_as p w name with_name c n (flags_behind w f n lines) (map (told_item f) lines) ≡ tells_as p w name with_name c n (flags_behind w f n []) []
+some_told w f name with_name c n p lines (inl e) more =
+    subst (IsToldSo w f name with_name c n lines) (sym e) (ap (λ t. if t then name_line w name else []) (some_counted w f n lines more))
+some_told w f name with_name c n p lines (inr (inl e)) more =
+    subst (IsToldSo w f name with_name c n lines) (sym e) (ap (λ t. if t then [] else name_line w name) (some_counted w f n lines more))
+some_told w f name with_name c n p lines (inr (inr e)) more =
+    subst (IsToldSo w f name with_name c n lines) (sym e) refl
+
+-- some print is not that of whole lines
+pub not_lines : (p : Print) (n : ℕ) → (p ≡ Matches) ⊎ (p ≡ Count) → p ≡ Lines → n ≡ 0
+not_lines p n (inl e) l = let f : Matches ≡ Lines = sym e ∙ l in cc
+not_lines p n (inr e) l = let f : Count ≡ Lines = sym e ∙ l in cc
+
+pub names_not_lines : (p : Print) (n : ℕ) → IsOfNames p → p ≡ Lines → n ≡ 0
+names_not_lines p n (inl e) l = let f : NameIfAny ≡ Lines = sym e ∙ l in cc
+names_not_lines p n (inr (inl e)) l = let f : NameIfNone ≡ Lines = sym e ∙ l in cc
+names_not_lines p n (inr (inr e)) l = let f : Nothing ≡ Lines = sym e ∙ l in cc
+
+pub is_false : (r : Bool) → IsTrue (not r) → r ≡ false
+is_false true t = absurd (grind (arith, t))
+is_false false t = refl
+
+pub is_zero : (n : ℕ) → IsTrue (nat_eq n 0) → n ≡ 0
+is_zero zero t = refl
+is_zero (suc n) t = absurd (grind (arith, t))
+
+pub is_some : (n : ℕ) → IsTrue (nat_lt 0 n) → 0 < n
+is_some n t = grind (arith, t)
+
+-- ---- matches alone, in the words of the call that tells them
+pub matches_told : {E : Type 0} (r : Result (Unit {0}) E) (p : Print) (w : What) (c after : Course) (sel : Bool) (it : Item) (out new : List ℕ) (name : Option (List ℕ)) → p ≡ Matches →
+    OnOk r ((flags : List Bool) (items : List Item) →
+    out ++ print_lines w (print_matches w name) c.known (roles 0 0 (sel ∷ flags)) (it ∷ items) ≡ new ++ print_lines w (print_matches w name) after.known (roles 0 0 flags) items) →
+    OnOk r ((text : List ℕ) (with_name : Bool) (n m : ℕ) (flags : List Bool) (items : List Item) → shown with_name text ≡ name → m ≡ n + (if sel then 1 else 0) →
+    out ++ tells_as p w text with_name c n (sel ∷ flags) (it ∷ items) ≡ new ++ tells_as p w text with_name after m flags items)
+matches_told (Err e) p w c after sel it out new name is goes_on = tt
+matches_told (Ok u) p w c after sel it out new name is goes_on = λ text with_name n m flags items named more.
+    ap (λ q. out ++ tells_as q w text with_name c n (sel ∷ flags) (it ∷ items)) is
+    ∙ ap (λ o. out ++ print_lines w (print_matches w o) c.known (roles 0 0 (sel ∷ flags)) (it ∷ items)) named
+    ∙ goes_on flags items
+    ∙ sym (ap (λ o. new ++ print_lines w (print_matches w o) after.known (roles 0 0 flags) items) named)
+    ∙ sym (ap (λ q. new ++ tells_as q w text with_name after m flags items) is)

@@ -1,0 +1,21 @@
+use Rattle.std.proofs.Common.{◌≡◌, ◌++◌, ◌-◌, ◌≤◌, ℕ, List, drop, length}
+use Rattle.grep_core.specs.Blocks.{SearchesBy, finds_by, tells_lines, counts_lines}
+use Rattle.grep_core.specs.Courses.{Waits}
+use Rattle.grep_core.specs.Lines.{split_lines}
+use Rattle.grep_core.proofs.blocks.tell_block.Given as goal
+
+abbrev pub invariant-loop-len : goal.invariant-loop-len
+invariant-loop-len l = record {
+  in_block : l.done ≤ length l.block;
+  same : l.finder.0 ≡ l.initial.finder.0;
+  waits : Waits l.task.what.now l.progress.telling.course;
+  printed : (by : SearchesBy l.task l.initial.finder.0) (more : List ℕ) →
+      l.initial.out.items ++ tells_lines l.task (finds_by l.task by) l.initial.progress (split_lines (l.block ++ more))
+      ≡ l.out.items ++ tells_lines l.task (finds_by l.task by) l.progress (split_lines (drop l.done l.block ++ more));
+  counted : (by : SearchesBy l.task l.initial.finder.0) (more : List ℕ) →
+      counts_lines l.task (finds_by l.task by) l.progress (split_lines (drop l.done l.block ++ more))
+      ≡ counts_lines l.task (finds_by l.task by) l.initial.progress (split_lines (l.block ++ more));
+}
+
+abbrev pub decreases-loop-len : goal.decreases-loop-len
+decreases-loop-len l = length l.block - l.done

@@ -1,0 +1,11 @@
+pub mod Lines
+pub mod Selecting
+pub mod Printing
+pub mod Report
+pub mod Patterns
+pub mod Searchers
+pub mod Courses
+pub mod Telling
+pub mod Blocks
+pub mod Fallbacks
+pub mod Meant

@@ -1,0 +1,73 @@
+-- How lines are printed, as by GNU grep.
+use Rattle.std.specs.Prelude.{ℕ, ◌+◌, Bool, true, false, not, ◌&&◌, List, [], ◌∷◌, ◌++◌, codes, decimal, slice_range, length, Option, Some, None, if◌then◌else◌}
+use Rattle.std.specs.List.{flat_map}
+use Rattle.grep_core.specs.declared.line.Line.{Line}
+use Rattle.grep_core.specs.declared.role.Role.{Role}
+use Rattle.grep_core.specs.declared.role.Role.TheVariants.{Selected}
+use Rattle.search_types.specs.declared.span.Span.{Span}
+use Rattle.grep_core.specs.declared.what.What.{What}
+use Rattle.grep_core.specs.Lines.{TextLine}
+
+-- marked for a terminal: 27 begins a sequence that sets a colour, and one that ends it
+abbrev pub marked : Bool → List ℕ → List ℕ → List ℕ
+marked false code text = text
+marked true code text = 27 ∷ (codes "[" ++ (code ++ (codes "m" ++ (27 ∷ (codes "[K" ++ (text ++ (27 ∷ (codes "[m" ++ (27 ∷ codes "[K")))))))))
+
+-- what parts the fields before a line: a colon for selected lines, or else a hyphen
+abbrev pub separator : Role → List ℕ
+separator Selected = codes ":"
+separator _ = codes "-"
+
+abbrev pub field : What → Role → List ℕ → List ℕ → List ℕ
+field w role code text = marked w.color code text ++ marked w.color (codes "36") (separator role)
+
+abbrev pub if_asked : Bool → List ℕ → List ℕ
+if_asked true text = text
+if_asked false text = []
+
+abbrev pub name_field : What → Role → Option (List ℕ) → List ℕ
+name_field w role None = []
+name_field w role (Some name) = field w role (codes "35") name
+
+-- what stands before a line, or a match in it whose first byte is at this place
+abbrev pub fields : What → Option (List ℕ) → Role → ℕ → ℕ → List ℕ
+fields w name role number place =
+    name_field w role name
+    ++ (if_asked w.numbers (field w role (codes "32") (decimal number))
+    ++ if_asked w.offsets (field w role (codes "32") (decimal place)))
+
+-- a line that is lent
+abbrev pub text_line : Line → TextLine
+text_line line = record { number = line.number; place = line.place; bytes = line.bytes.now }
+
+abbrev pub span_pair : Span → ℕ × ℕ
+span_pair s = (s.start, s.end)
+
+-- the bytes of a line from a place on, with the spans behind it marked
+abbrev pub marked_from : List ℕ → ℕ → List (ℕ × ℕ) → List ℕ
+marked_from line at [] = slice_range line at (length line)
+marked_from line at (s ∷ spans) = slice_range line at s.0 ++ (marked true (codes "01;31") (slice_range line s.0 s.1) ++ marked_from line s.1 spans)
+
+-- matches are marked in lines that have some: selected ones, or with `invert` those beside them
+abbrev pub has_marks : What → Role → Bool
+has_marks w Selected = not w.invert
+has_marks w _ = w.invert
+
+-- the bytes of a line that has these matches, none of them empty
+abbrev pub line_bytes : What → List (ℕ × ℕ) → Role → List ℕ → List ℕ
+line_bytes w found role line = if w.color && has_marks w role then marked_from line 0 found else line
+
+abbrev pub printed_line : What → Option (List ℕ) → Role → TextLine → List (ℕ × ℕ) → List ℕ
+printed_line w name role line found = fields w name role line.number line.place ++ (line_bytes w found role line.bytes ++ 10 ∷ [])
+
+-- a match in a line, as a line of its own
+abbrev pub printed_match : What → Option (List ℕ) → TextLine → ℕ × ℕ → List ℕ
+printed_match w name line s =
+    fields w name Selected line.number (line.place + s.0) ++ (marked w.color (codes "01;31") (slice_range line.bytes s.0 s.1) ++ 10 ∷ [])
+
+abbrev pub printed_matches : What → Option (List ℕ) → TextLine → List (ℕ × ℕ) → List ℕ
+printed_matches w name line found = if w.invert then [] else flat_map (printed_match w name line) found
+
+-- the line between two groups of lines that aren't neighbours
+abbrev pub group_line : What → List ℕ
+group_line w = marked w.color (codes "36") (codes "--") ++ 10 ∷ []

@@ -1,0 +1,90 @@
+-- What is printed of a text, whatever lines are wanted and whatever spans are matches in a line.
+use Rattle.std.specs.Prelude.{ℕ, Bool, not, nat_lt, List, [], ◌∷◌, ◌++◌, map, decimal, codes, Option, Some, None, is_some, if◌then◌else◌}
+use Rattle.std.specs.List.{filter}
+use Rattle.grep_core.specs.declared.what.Context.{Context}
+use Rattle.grep_core.specs.declared.what.Print.TheVariants.{Lines, Matches, Count, NameIfAny, NameIfNone, Nothing}
+use Rattle.grep_core.specs.declared.what.Print.{Print}
+use Rattle.grep_core.specs.declared.known.Known.{Known}
+use Rattle.grep_core.specs.declared.known.Known.TheVariants.{NonePrinted, LastPrinted, EarlierPrinted}
+use Rattle.grep_core.specs.declared.what.What.{What}
+use Rattle.grep_core.specs.Lines.{TextLine, lines_of}
+use Rattle.grep_core.specs.declared.role.Role.{Role}
+use Rattle.grep_core.specs.declared.role.Role.TheVariants.{Selected, Beside, Hidden}
+use Rattle.grep_core.specs.Selecting.{limited, count, roles}
+use Rattle.grep_core.specs.Printing.{marked, printed_line, printed_matches, group_line, field}
+
+-- how lines are told apart: whether a line has a match, and the spans of all its matches, from left to right
+pub record Finds : Type 0 where
+  pub has_match : List ℕ → Bool
+  pub spans : List ℕ → List (ℕ × ℕ)
+
+-- the matches of a line that aren't empty
+abbrev pub is_some_text : ℕ × ℕ → Bool
+is_some_text s = nat_lt s.0 s.1
+
+abbrev pub told_spans : Finds → TextLine → List (ℕ × ℕ)
+told_spans f line = filter is_some_text (f.spans line.bytes)
+
+abbrev pub is_wanted : What → Finds → TextLine → Bool
+is_wanted w f line = if w.invert then not (f.has_match line.bytes) else f.has_match line.bytes
+
+-- which of the lines are selected
+abbrev pub selected : What → Finds → List TextLine → List Bool
+selected w f lines = limited w.most (map (is_wanted w f) lines)
+
+-- lines beside selected ones are printed where whole lines are
+abbrev pub before_of : Option Context → ℕ
+before_of None = 0
+before_of (Some c) = c.before
+
+abbrev pub after_of : Option Context → ℕ
+after_of None = 0
+after_of (Some c) = c.after
+
+abbrev pub roles_of : What → List Bool → List Role
+roles_of w wanted = roles (before_of w.context) (after_of w.context) wanted
+
+-- behind a line that isn't printed
+abbrev pub behind_hidden : Known → Known
+behind_hidden NonePrinted = NonePrinted
+behind_hidden _ = EarlierPrinted
+
+-- groups of neighbours are parted where context is asked for
+abbrev pub parting : What → Known → List ℕ
+parting w EarlierPrinted = if is_some w.context then group_line w else []
+parting w _ = []
+
+-- the lines with these roles, each printed so
+abbrev pub print_lines : {X : Type 0} → What → (Role → X → List ℕ) → Known → List Role → List X → List ℕ
+print_lines w print before [] lines = []
+print_lines w print before (r ∷ rs) [] = []
+print_lines w print before (Hidden ∷ rs) (line ∷ lines) = print_lines w print (behind_hidden before) rs lines
+print_lines w print before (Selected ∷ rs) (line ∷ lines) = parting w before ++ (print Selected line ++ print_lines w print LastPrinted rs lines)
+print_lines w print before (Beside ∷ rs) (line ∷ lines) = parting w before ++ (print Beside line ++ print_lines w print LastPrinted rs lines)
+
+-- the count, behind the text's name
+abbrev pub count_line : What → Option (List ℕ) → ℕ → List ℕ
+count_line w None n = decimal n ++ 10 ∷ []
+count_line w (Some name) n = field w Selected (codes "35") name ++ (decimal n ++ 10 ∷ [])
+
+abbrev pub name_line : What → List ℕ → List ℕ
+name_line w name = marked w.color (codes "35") name ++ 10 ∷ []
+
+-- What is printed of the text of this name; it stands before lines where that is asked for. No line is printed beside another one
+-- where matches alone are.
+abbrev pub report_as : Print → What → Finds → List ℕ → Bool → List TextLine → List Bool → List ℕ
+report_as Lines w f name with_name lines wanted =
+    print_lines w (λ role line. printed_line w (if with_name then Some name else None) role line (told_spans f line)) NonePrinted (roles_of w wanted) lines
+report_as Matches w f name with_name lines wanted =
+    print_lines w (λ _ line. printed_matches w (if with_name then Some name else None) line (told_spans f line)) NonePrinted (roles 0 0 wanted) lines
+report_as Count w f name with_name lines wanted = count_line w (if with_name then Some name else None) (count wanted)
+report_as NameIfAny w f name with_name lines wanted = if nat_lt 0 (count wanted) then name_line w name else []
+report_as NameIfNone w f name with_name lines wanted = if nat_lt 0 (count wanted) then [] else name_line w name
+report_as Nothing w f name with_name lines wanted = []
+
+abbrev pub report : What → Finds → List ℕ → Bool → List ℕ → List ℕ
+report w f name with_name text = report_as w.print w f name with_name (lines_of text) (selected w f (lines_of text))
+
+-- how many lines of the text are selected
+abbrev pub selected_count : What → Finds → List ℕ → ℕ
+selected_count w f text = count (selected w f (lines_of text))

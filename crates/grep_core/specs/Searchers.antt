@@ -1,0 +1,71 @@
+-- What a searcher of lines is of, and what it tells of a line.
+use Rattle.std.specs.Prelude.{◌≡◌, ◌⊎◌, ℕ, Bool, true, false, List, All, Some, None}
+use Rattle.std.specs.List.{filter}
+use Rattle.regex_hir.specs.Re.{Re}
+use Rattle.regex_syntax.specs.declared.Config.{Config}
+use Rattle.hir_core.specs.Facts.{LoopsRead}
+use Rattle.hir_core.specs.Tree.{Tree}
+use Rattle.search_types.specs.Found.{Found}
+use Rattle.search_types.specs.Inputs.{Search}
+use Rattle.lazy_dfa.specs.declared.build_error.BuildError.TheVariants.{NoMemory}
+use Rattle.regex_pair.specs.declared.find_matches.FindMatches.{FindMatches}
+use Rattle.regex_pair.specs.FindSteps.{FindsNext, finds_from, searches_by}
+use Rattle.regex_pair.specs.Pairs.{Pair}
+use Rattle.regex_pair.specs.Taken.{AreTaken}
+use Rattle.hirscan.specs.declared.settings.Settings.{Settings}
+use Rattle.hirscan.specs.Built.{IsBuilt, RefusesBuild, default_settings, program_settings}
+use Rattle.hirscan.specs.Loops.{first_empty_loop}
+use Rattle.pattern_search.specs.Texts.{AreRead, AllMean, IsFirstFault}
+use Rattle.grep_core.specs.declared.searcher.SearcherError.{SearcherError}
+use Rattle.grep_core.specs.declared.searcher.SearcherError.TheVariants.{Text, EmptyLoop, Build}
+use Rattle.grep_core.specs.Report.{Finds, is_some_text}
+use Rattle.grep_core.specs.Patterns.{finds_of}
+
+-- lines are any bytes
+abbrev pub line_settings : Settings
+line_settings = program_settings (record default_settings { utf8 = false })
+
+-- the regex is built of trees of these texts
+pub record IsSearcherOf (config : Config) (texts : List (List ℕ)) (p : Pair) : Type 0 where
+  pub trees : List Tree
+  pub mean : AllMean config texts trees
+  pub built : IsBuilt trees line_settings p
+
+-- whether the line has a match is told as what the texts are read as has it
+abbrev pub IsTold : Config → List (List ℕ) → List ℕ → Bool → Type 0
+IsTold config texts line told = (res : List Re) → AreRead config texts res → told ≡ (finds_of res).has_match line
+
+-- the matches of the line that aren't empty are told as what the texts are read as has them
+abbrev pub AreTold : Config → List (List ℕ) → List ℕ → List (ℕ × ℕ) → Type 0
+AreTold config texts line told = (res : List Re) → AreRead config texts res → told ≡ filter is_some_text ((finds_of res).spans line)
+
+-- an iterator over the matches of the search gave these, and then came to its end
+pub record IsWholeList (p : Pair) (q : Search) (fs : List Found) : Type 0 where
+  pub old : FindMatches
+  pub new : FindMatches
+  pub regex : searches_by old ≡ p
+  pub taken : AreTaken p q fs (finds_from old)
+  pub over : FindsNext old None new
+
+-- what is sought in lines: a regex, and the texts of which it is built and the options under which these are read
+pub record Sought : Type 0 where
+  pub pair : Pair
+  pub config : Config
+  pub texts : List (List ℕ)
+
+-- What is found in lines is what the patterns have that are written in the texts. Where matches are asked for, loops read.
+pub record SearchesFor (s : Sought) (spans : Bool) : Type 0 where
+  pub searcher : IsSearcherOf s.config s.texts s.pair
+  pub loops_read : spans ≡ true → All LoopsRead searcher.trees
+  pub patterns : List Re
+  pub are_read : AreRead s.config s.texts patterns
+
+abbrev pub found_by : {s : Sought} {spans : Bool} → SearchesFor s spans → Finds
+found_by by = finds_of by.patterns
+
+-- Why there is no searcher of texts: the first that is no pattern, or that has an empty loop where matches are asked for; or no regex is
+-- built of their trees, or memory lacked.
+abbrev pub IsRefused : Config → List (List ℕ) → Bool → SearcherError → Type 0
+IsRefused config texts spans (Text e) = IsFirstFault config texts e.number e.error
+IsRefused config texts spans (EmptyLoop number) = (spans ≡ true) × ((xs : List Tree) × AllMean config texts xs × (first_empty_loop xs ≡ Some number))
+IsRefused config texts spans (Build e) = (e ≡ NoMemory) ⊎ ((xs : List Tree) × AllMean config texts xs × RefusesBuild xs line_settings e)

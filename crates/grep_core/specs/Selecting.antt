@@ -1,0 +1,33 @@
+-- Which lines are selected, and which are printed beside them.
+use Rattle.std.specs.Prelude.{ℕ, zero, suc, Bool, true, false, List, [], ◌∷◌, take, map, length, Option, Some, None, if◌then◌else◌}
+use Rattle.std.specs.List.{filter}
+use Rattle.grep_core.specs.declared.role.Role.{Role}
+use Rattle.grep_core.specs.declared.role.Role.TheVariants.{Selected, Beside, Hidden}
+
+-- Lines are told by whether each is wanted, in their order. At most so many of them are selected, the first ones.
+abbrev pub limited : Option ℕ → List Bool → List Bool
+limited None wanted = wanted
+limited (Some zero) wanted = map (λ _. false) wanted
+limited (Some (suc n)) [] = []
+limited (Some (suc n)) (true ∷ wanted) = true ∷ limited (Some n) wanted
+limited (Some (suc n)) (false ∷ wanted) = false ∷ limited (Some (suc n)) wanted
+
+abbrev pub count : List Bool → ℕ
+count selected = length (filter (λ it. it) selected)
+
+-- some line is selected
+abbrev pub any : List Bool → Bool
+any [] = false
+any (true ∷ selected) = true
+any (false ∷ selected) = any selected
+
+-- The roles of lines: those up to `before` lines before a selected one, or up to `after` lines behind it, stand beside it. So many
+-- of the first ones do whatever comes.
+abbrev pub roles_from : ℕ → ℕ → ℕ → List Bool → List Role
+roles_from before after left [] = []
+roles_from before after left (true ∷ selected) = Selected ∷ roles_from before after after selected
+roles_from before after (suc left) (false ∷ selected) = Beside ∷ roles_from before after left selected
+roles_from before after zero (false ∷ selected) = (if any (take before selected) then Beside else Hidden) ∷ roles_from before after zero selected
+
+abbrev pub roles : ℕ → ℕ → List Bool → List Role
+roles before after selected = roles_from before after 0 selected

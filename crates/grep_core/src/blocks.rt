@@ -1,0 +1,145 @@
+//! The lines of blocks of a text.
+ghost use Rattle.std.specs.Prelude.{◌≡◌, ◌++◌, ◌∷◌, [], ℕ, ◌+◌, ◌≤◌, ◌==◌, List, None, OnOk, IfOk, drop, length};
+ghost use Rattle.std.specs.List.{position};
+ghost use Rattle.grep_core.specs.Blocks.{SearchesBy, finds_by, tells_lines, counts_lines};
+ghost use Rattle.grep_core.specs.Courses.{Waits};
+ghost use Rattle.grep_core.specs.Lines.{lines_of, split_lines};
+ghost use Rattle.grep_core.specs.Report.{Finds, report_as, selected};
+ghost use Rattle.grep_core.specs.Selecting.{count};
+ghost use Rattle.grep_core.specs.declared.blocks.Task.{Task as TheTask};
+ghost use Rattle.grep_core.specs.declared.what.What.{What as TheWhat};
+
+use crate::fault::Fault;
+use crate::finder::Finder;
+use crate::line::Line;
+use crate::looking::look_at;
+use crate::telling::{Telling, tell_line};
+use crate::what::What;
+use std::alloc::Global;
+
+/// A text of this name is searched for what is asked.
+#[derive(Clone, Copy)]
+pub(crate) struct Task<'a> {
+    pub what: &'a What,
+    pub name: &'a [u8],
+    /// Whether the name stands before lines.
+    pub with_name: bool,
+}
+
+/// Where the next line stands, and what was told of those before it.
+#[derive(Drop)]
+pub(crate) struct Progress {
+    pub number: u64,
+    pub place: u64,
+    pub telling: Telling,
+}
+
+impl Progress {
+    /// Before the first line.
+    pub(crate) fn new(alloc: Global) -> Progress
+        ensures starts { (t : TheTask) → (f : Finds) → (text : List ℕ) →
+            tells_lines t f result (split_lines text) ≡ report_as t.what.now.print t.what.now f t.name.now t.with_name (lines_of text) (selected t.what.now f (lines_of text)) }
+        ensures counts { (t : TheTask) → (f : Finds) → (text : List ℕ) → counts_lines t f result (split_lines text) ≡ count (selected t.what.now f (lines_of text)) }
+        ensures waits { (w : TheWhat) → Waits w result.telling.course }
+    {
+        Progress {
+            number: 1,
+            place: 0,
+            telling: Telling::new(alloc),
+        }
+    }
+}
+
+/// The first place of a line feed.
+pub(crate) fn feed_at(text: &[u8]) -> Option<usize>
+    ensures { result ≡ position (λ b. b == 10) text.now }
+{
+    text.iter().position(|b| *b == b'\n')
+}
+
+fn sum(a: u64, b: u64) -> Result<u64, Fault>
+    ensures { IfOk result (λ n. n ≡ a + b) }
+{
+    match a.checked_add(b) {
+        Some(sum) => Ok(sum),
+        None => Err(Fault::TooLong),
+    }
+}
+
+/// Goes on behind a line of so many bytes.
+fn pass(progress: &mut Progress, len: usize) -> Result<(), Fault>
+    ensures number { OnOk result (progress.new.number ≡ progress.old.number + 1) }
+    ensures place { OnOk result (progress.new.place ≡ progress.old.place + len + 1) }
+    ensures telling { OnOk result (progress.new.telling ≡ progress.old.telling) }
+{
+    progress.number = sum(progress.number, 1)?;
+    progress.place = sum(sum(progress.place, len as u64)?, 1)?;
+    Ok(())
+}
+
+/// Tells one line, which is given without its line feed.
+pub(crate) fn tell_one(
+    alloc: Global,
+    out: &mut Vec<u8>,
+    finder: &mut Finder<'_>,
+    task: Task<'_>,
+    progress: &mut Progress,
+    bytes: &[u8],
+) -> Result<(), Fault>
+    requires { Waits task.what.now progress.old.telling.course }
+    ensures same { finder.new.0 ≡ finder.old.0 }
+    ensures waits { OnOk result (Waits task.entry.what.now progress.new.telling.course) }
+    ensures goes_on { OnOk result ((by : SearchesBy task.entry finder.old.0) (lines : List (List ℕ)) →
+        out.old.items ++ tells_lines task.entry (finds_by task.entry by) progress.old (bytes.now ∷ lines)
+        ≡ out.new.items ++ tells_lines task.entry (finds_by task.entry by) progress.new lines) }
+    ensures counts { OnOk result ((by : SearchesBy task.entry finder.old.0) (lines : List (List ℕ)) →
+        counts_lines task.entry (finds_by task.entry by) progress.new lines ≡ counts_lines task.entry (finds_by task.entry by) progress.old (bytes.now ∷ lines)) }
+{
+    let seen = look_at(alloc, finder, task.what, bytes)?;
+    let line = Line {
+        number: progress.number,
+        place: progress.place,
+        bytes,
+    };
+    tell_line(
+        alloc,
+        out,
+        task.what,
+        task.name,
+        task.with_name,
+        &mut progress.telling,
+        line,
+        seen.has,
+        &seen.found,
+    )?;
+    pass(progress, bytes.len())
+}
+
+/// Tells the whole lines that a block begins with. The answer counts their bytes.
+pub(crate) fn tell_block(
+    alloc: Global,
+    out: &mut Vec<u8>,
+    finder: &mut Finder<'_>,
+    task: Task<'_>,
+    progress: &mut Progress,
+    block: &[u8],
+) -> Result<usize, Fault>
+    requires { Waits task.what.now progress.old.telling.course }
+    ensures same { finder.new.0 ≡ finder.old.0 }
+    ensures waits { OnOk result (Waits task.entry.what.now progress.new.telling.course) }
+    ensures within { IfOk result (λ done. done ≤ length block.now) }
+    ensures all { IfOk result (λ done. position (λ b. b == 10) (drop done block.now) ≡ None) }
+    ensures goes_on { IfOk result (λ done. (by : SearchesBy task.entry finder.old.0) (more : List ℕ) →
+        out.old.items ++ tells_lines task.entry (finds_by task.entry by) progress.old (split_lines (block.now ++ more))
+        ≡ out.new.items ++ tells_lines task.entry (finds_by task.entry by) progress.new (split_lines (drop done block.now ++ more))) }
+    ensures counts { IfOk result (λ done. (by : SearchesBy task.entry finder.old.0) (more : List ℕ) →
+        counts_lines task.entry (finds_by task.entry by) progress.new (split_lines (drop done block.now ++ more))
+        ≡ counts_lines task.entry (finds_by task.entry by) progress.old (split_lines (block.now ++ more))) }
+{
+    let mut done = 0usize;
+    while let Some(len) = feed_at(&block[done..]) {
+        tell_one(alloc, out, finder, task, progress, &block[done..done + len])?;
+        done += len + 1;
+    }
+    Ok(done)
+}

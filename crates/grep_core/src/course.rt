@@ -1,0 +1,268 @@
+//! Where the printing of lines has come to, and how it goes on by one line.
+ghost use Rattle.std.specs.Prelude.{◌≡◌, ◌++◌, ◌∷◌, [], ℕ, Bool, List, OnOk, map, option_map, true, false, IfOk, Option, drop, ◌<◌};
+ghost use Rattle.grep_core.specs.Courses.{Item, Waits, still, item, queued, behind_queue, print_item, waiting_item};
+ghost use Rattle.grep_core.specs.Printing.{span_pair, text_line};
+ghost use Rattle.grep_core.specs.declared.what.What.{What as TheWhat};
+ghost use Rattle.grep_core.specs.Report.{parting, before_of, after_of, behind_hidden, print_lines};
+ghost use Rattle.grep_core.specs.Selecting.{roles};
+
+use crate::known::Known;
+use crate::line::Line;
+use crate::printing::{push_group, push_line};
+use crate::role::Role;
+use crate::what::What;
+use search_types::Span;
+use std::alloc::{AllocError, Global};
+use std::collections::VecDeque;
+
+/// A line that waits for one that is selected.
+#[derive(Drop)]
+pub(crate) struct Waiting {
+    number: u64,
+    place: u64,
+    bytes: Vec<u8>,
+    found: Vec<Span>,
+}
+
+/// Where the printing of lines has come to.
+#[derive(Drop)]
+pub(crate) struct Course {
+    pub known: Known,
+    /// How many lines are still printed behind the last selected one.
+    pub left: u64,
+    /// The lines before the next one that are printed only if one of the next ones is selected.
+    waiting: VecDeque<Waiting>,
+}
+
+/// Appends what stands between groups of lines, where one begins.
+pub(crate) fn push_parting(out: &mut Vec<u8>, what: &What, known: Known) -> Result<(), AllocError>
+    ensures { OnOk result (out.new.items ≡ out.old.items ++ parting what.now known) }
+{
+    match known {
+        Known::EarlierPrinted if what.context.is_some() => push_group(out, what),
+        _ => Ok(()),
+    }
+}
+
+/// Appends a line that waited.
+fn push_waiting(
+    alloc: Global,
+    out: &mut Vec<u8>,
+    what: &What,
+    name: Option<&[u8]>,
+    known: Known,
+    it: &Waiting,
+) -> Result<(), AllocError>
+    ensures { OnOk result (out.new.items ≡ out.old.items ++ (parting what.now known ++ print_item what.now (option_map (λ n. n.now) name.entry) Role.Beside (waiting_item it.now))) }
+{
+    push_parting(out, what, known)?;
+    let line = Line {
+        number: it.number,
+        place: it.place,
+        bytes: &it.bytes,
+    };
+    push_line(alloc, out, what, name, Role::Beside, line, &it.found)?;
+    Ok(())
+}
+
+/// Appends the lines that wait, and lets none wait any more.
+fn print_waiting(
+    alloc: Global,
+    out: &mut Vec<u8>,
+    what: &What,
+    name: Option<&[u8]>,
+    course: &mut Course,
+) -> Result<(), AllocError>
+    ensures printed { OnOk result (out.new.items ≡ out.old.items ++ queued what.now (print_item what.now (option_map (λ n. n.now) name.entry)) course.old.known (map waiting_item course.old.waiting.items)) }
+    ensures known { OnOk result (course.new.known ≡ behind_queue course.old.known course.old.waiting.items) }
+    ensures none { OnOk result (course.new.waiting.items ≡ []) }
+    ensures left { course.new.left ≡ course.old.left }
+{
+    while let Some(it) = course.waiting.pop_front() {
+        push_waiting(alloc, out, what, name, course.known, &it)?;
+        course.known = Known::LastPrinted;
+    }
+    Ok(())
+}
+
+/// How many lines are printed behind a selected one.
+fn after_of(what: &What) -> u64
+    ensures { result ≡ after_of what.now.context }
+{
+    match what.context {
+        Some(context) => context.after,
+        None => 0,
+    }
+}
+
+/// How many lines are printed before a selected one.
+fn before_of(what: &What) -> u64
+    ensures { result ≡ before_of what.now.context }
+{
+    match what.context {
+        Some(context) => context.before,
+        None => 0,
+    }
+}
+
+/// Goes on by a line that is selected.
+fn select(
+    alloc: Global,
+    out: &mut Vec<u8>,
+    what: &What,
+    name: Option<&[u8]>,
+    course: &mut Course,
+    line: Line<'_>,
+    found: &[Span],
+) -> Result<(), AllocError>
+    requires { Waits what.now course.old }
+    ensures goes_on { OnOk result ((flags : List Bool) (items : List Item) →
+        out.old.items ++ still what.now (option_map (λ n. n.now) name.entry) course.old (true ∷ flags) (item (text_line line.entry) (map span_pair found.now) ∷ items)
+        ≡ out.new.items ++ still what.now (option_map (λ n. n.now) name.entry) course.new flags items) }
+    ensures waits { OnOk result (Waits what.now course.new) }
+{
+    print_waiting(alloc, out, what, name, course)?;
+    push_parting(out, what, course.known)?;
+    push_line(alloc, out, what, name, Role::Selected, line, found)?;
+    course.known = Known::LastPrinted;
+    course.left = after_of(what);
+    Ok(())
+}
+
+/// Goes on by a line that isn't selected, where lines are owed to the last selected one.
+fn stand_beside(
+    alloc: Global,
+    out: &mut Vec<u8>,
+    what: &What,
+    name: Option<&[u8]>,
+    course: &mut Course,
+    line: Line<'_>,
+    found: &[Span],
+) -> Result<(), AllocError>
+    requires waits { Waits what.now course.old }
+    requires owed { 0 < course.old.left }
+    ensures goes_on { OnOk result ((flags : List Bool) (items : List Item) →
+        out.old.items ++ still what.now (option_map (λ n. n.now) name.entry) course.old (false ∷ flags) (item (text_line line.entry) (map span_pair found.now) ∷ items)
+        ≡ out.new.items ++ still what.now (option_map (λ n. n.now) name.entry) course.new flags items) }
+    ensures waits { OnOk result (Waits what.now course.new) }
+{
+    push_parting(out, what, course.known)?;
+    push_line(alloc, out, what, name, Role::Beside, line, found)?;
+    course.known = Known::LastPrinted;
+    course.left -= 1;
+    Ok(())
+}
+
+/// What is known behind a line that isn't printed.
+pub(crate) fn behind_hidden(known: Known) -> Known
+    ensures { result ≡ behind_hidden known }
+{
+    match known {
+        Known::NonePrinted => Known::NonePrinted,
+        _ => Known::EarlierPrinted,
+    }
+}
+
+/// A copy of a line and its matches, which waits.
+fn waiting_of(alloc: Global, line: Line<'_>, found: &[Span]) -> Result<Waiting, AllocError>
+    ensures { IfOk result (λ it. waiting_item it ≡ item (text_line line.entry) (map span_pair found.now)) }
+{
+    let bytes = line.bytes.to_vec(alloc)?;
+    let found = found.to_vec(alloc)?;
+    Ok(Waiting {
+        number: line.number,
+        place: line.place,
+        bytes,
+        found,
+    })
+}
+
+/// Lets the first line that waits wait no more: it isn't printed.
+fn forget_first(course: &mut Course)
+    ensures known { course.new.known ≡ behind_hidden course.old.known }
+    ensures waiting { course.new.waiting.items ≡ drop 1 course.old.waiting.items }
+    ensures left { course.new.left ≡ course.old.left }
+{
+    if let Some(first) = course.waiting.pop_front() {
+        drop(first);
+    }
+    course.known = behind_hidden(course.known);
+}
+
+/// Goes on by a line that isn't selected, where none is owed to the last selected one.
+fn wait(
+    alloc: Global,
+    what: &What,
+    course: &mut Course,
+    line: Line<'_>,
+    found: &[Span],
+) -> Result<(), AllocError>
+    requires waits { Waits what.now course.old }
+    requires none_owed { course.old.left ≡ 0 }
+    ensures goes_on { OnOk result ((name : Option (List ℕ)) (flags : List Bool) (items : List Item) →
+        still what.now name course.old (false ∷ flags) (item (text_line line.entry) (map span_pair found.now) ∷ items)
+        ≡ still what.now name course.new flags items) }
+    ensures waits { OnOk result (Waits what.now course.new) }
+{
+    let most = before_of(what);
+    if most == 0 {
+        course.known = behind_hidden(course.known);
+        return Ok(());
+    }
+    let waiting = waiting_of(alloc, line, found)?;
+    course.waiting.push_back(waiting)?;
+    if course.waiting.len() as u64 > most {
+        forget_first(course);
+    }
+    Ok(())
+}
+
+impl Course {
+    /// Before the first line.
+    pub(crate) fn new(alloc: Global) -> Course
+        ensures starts { (what : TheWhat) → (name : Option (List ℕ)) → (flags : List Bool) → (items : List Item) →
+            still what name result flags items ≡ print_lines what (print_item what name) Known.NonePrinted (roles (before_of what.context) (after_of what.context) flags) items }
+        ensures waits { (what : TheWhat) → Waits what result }
+        ensures known { result.known ≡ Known.NonePrinted }
+    {
+        Course {
+            known: Known::NonePrinted,
+            left: 0,
+            waiting: VecDeque::new(alloc),
+        }
+    }
+}
+
+/// Goes on by one line.
+pub(crate) fn next_line(
+    alloc: Global,
+    out: &mut Vec<u8>,
+    what: &What,
+    name: Option<&[u8]>,
+    course: &mut Course,
+    line: Line<'_>,
+    is_selected: bool,
+    found: &[Span],
+) -> Result<(), AllocError>
+    requires { Waits what.now course.old }
+    ensures goes_on { OnOk result ((flags : List Bool) (items : List Item) →
+        out.old.items ++ still what.now (option_map (λ n. n.now) name.entry) course.old (is_selected ∷ flags) (item (text_line line.entry) (map span_pair found.now) ∷ items)
+        ≡ out.new.items ++ still what.now (option_map (λ n. n.now) name.entry) course.new flags items) }
+    ensures waits { OnOk result (Waits what.now course.new) }
+{
+    if is_selected {
+        return select(alloc, out, what, name, course, line, found);
+    }
+    if course.left > 0 {
+        return stand_beside(alloc, out, what, name, course, line, found);
+    }
+    wait(alloc, what, course, line, found)
+}
+
+/// Behind the last line nothing is printed.
+pub(crate) fn see_end(what: &What, course: &Course)
+    requires { Waits what.now course.now }
+    ensures { (name : Option (List ℕ)) → still what.now name course.now [] [] ≡ [] }
+{
+    let _left = course.left;
+}

@@ -1,0 +1,34 @@
+//! Searching lines: which lines of a text patterns select, and what is printed of them.
+//!
+//! [`What`] says what is asked for. What is printed then is defined in `specs/Report.antt`, over the lines of `Lines.antt`, which are
+//! selected as `Selecting.antt` has it and printed as `Printing.antt` does; which lines patterns select stands in `Patterns.antt`.
+//! A [`Searcher`] tells whether a line has a match.
+#![tactic(auto)]
+
+mod blocks;
+mod course;
+mod fallback;
+mod fault;
+mod finder;
+mod known;
+mod line;
+mod listing;
+mod looking;
+mod patterns;
+mod printing;
+mod reading;
+mod role;
+mod searcher;
+mod telling;
+mod what;
+
+pub use fault::Fault;
+pub use finder::Finder;
+pub use known::Known;
+pub use line::Line;
+pub use looking::needs_spans;
+pub use patterns::{How, config_of, searched_text};
+pub use reading::tell_text;
+pub use role::Role;
+pub use searcher::SearcherError;
+pub use what::{Context, Print, What};

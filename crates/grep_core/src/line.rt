@@ -1,0 +1,9 @@
+/// A line without its line feed.
+#[derive(Clone, Copy, Debug)]
+pub struct Line<'a> {
+    /// Its number, counted from 1.
+    pub number: u64,
+    /// Where its first byte stands in the text, counted from 0.
+    pub place: u64,
+    pub bytes: &'a [u8],
+}

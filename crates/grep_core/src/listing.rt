@@ -1,0 +1,56 @@
+// All matches of a line, by the iterator.
+ghost use Rattle.std.specs.Prelude.{◌≡◌, ◌++◌, ◌∷◌, [], IfOk, OnOk, map};
+ghost use Rattle.std.specs.List.{filter};
+ghost use Rattle.regex_pair.specs.Pairs.{AreCachesOf};
+ghost use Rattle.pattern_search.specs.Searches.{span_of_found};
+ghost use Rattle.grep_core.specs.Printing.{span_pair};
+ghost use Rattle.grep_core.specs.Report.{is_some_text};
+ghost use Rattle.grep_core.specs.Searchers.{IsWholeList};
+
+use regex_pair::regex::{Cache, Regex};
+use regex_pair::taken_laws::a_step_takes_one_more;
+use search_types::{Input, Match, MatchError, Span};
+use std::alloc::{AllocError, Global};
+
+fn push(all: &mut Vec<Match>, found: Match) -> Result<(), AllocError>
+    ensures { OnOk result (all.new.items ≡ all.old.items ++ found ∷ []) }
+{
+    all.push(found)?;
+    Ok(())
+}
+
+/// What the iterator gives.
+pub(crate) fn list(
+    alloc: Global,
+    re: &Regex,
+    cache: &mut Cache,
+    input: Input<'_>,
+) -> Result<Vec<Match>, MatchError>
+    requires own { AreCachesOf re.now cache.old }
+    ensures own { AreCachesOf re.now cache.new }
+    ensures whole { IfOk result (λ all. IsWholeList re.now input.entry all.items) }
+{
+    a_step_takes_one_more();
+    let mut all = Vec::new(alloc);
+    for item in re.find_iter(cache, input) {
+        match item {
+            Ok(found) => push(&mut all, found)?,
+            Err(e) => return Err(e),
+        }
+    }
+    Ok(all)
+}
+
+/// The spans of matches, but for empty ones.
+pub(crate) fn spans_of(alloc: Global, all: &[Match]) -> Result<Vec<Span>, AllocError>
+    ensures { IfOk result (λ spans. map span_pair spans.items ≡ filter is_some_text (map span_of_found all.now)) }
+{
+    let mut spans = Vec::new(alloc);
+    for found in all {
+        let span = found.span();
+        if span.start < span.end {
+            spans.push(span)?;
+        }
+    }
+    Ok(spans)
+}

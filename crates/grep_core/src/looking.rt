@@ -1,0 +1,61 @@
+//! What is seen of a line.
+ghost use Rattle.std.specs.Prelude.{◌≡◌, IfOk, map};
+ghost use Rattle.grep_core.specs.Printing.{span_pair};
+ghost use Rattle.grep_core.specs.Report.{is_some_text};
+ghost use Rattle.grep_core.specs.Searchers.{SearchesFor, found_by};
+ghost use Rattle.grep_core.specs.Telling.{needs_spans, needed};
+ghost use Rattle.std.specs.List.{filter};
+
+use crate::fault::Fault;
+use crate::finder::Finder;
+use crate::what::{Print, What};
+use search_types::Span;
+use std::alloc::Global;
+
+/// What is seen of a line.
+#[derive(Drop)]
+pub(crate) struct Seen {
+    /// Whether it has a match.
+    pub has: bool,
+    /// The matches that aren't empty, where these count.
+    pub found: Vec<Span>,
+}
+
+/// Whether matches count for what is printed.
+pub fn needs_spans(what: &What) -> bool
+    ensures { result ≡ needs_spans what.now }
+{
+    match what.print {
+        Print::Lines => what.color,
+        Print::Matches => true,
+        Print::Count | Print::NameIfAny | Print::NameIfNone | Print::Nothing => false,
+    }
+}
+
+/// Whether a line has a match, and which of its matches aren't empty, where these count.
+pub(crate) fn look_at(
+    alloc: Global,
+    finder: &mut Finder<'_>,
+    what: &What,
+    line: &[u8],
+) -> Result<Seen, Fault>
+    ensures same { finder.new.0 ≡ finder.old.0 }
+    ensures has { IfOk result (λ seen. (by : SearchesFor finder.old.0 (needs_spans what.now)) → seen.has ≡ (found_by by).has_match line.now) }
+    ensures found { IfOk result (λ seen. (by : SearchesFor finder.old.0 (needs_spans what.now)) →
+        map span_pair seen.found.items ≡ filter is_some_text ((needed what.now (found_by by)).spans line.now)) }
+{
+    let has = match finder.has_match(alloc, line) {
+        Ok(has) => has,
+        Err(e) => return Err(e),
+    };
+    if !has || !needs_spans(what) {
+        return Ok(Seen {
+            has,
+            found: Vec::new(alloc),
+        });
+    }
+    match finder.matches(alloc, line) {
+        Ok(found) => Ok(Seen { has, found }),
+        Err(e) => Err(e),
+    }
+}

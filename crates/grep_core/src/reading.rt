@@ -1,0 +1,447 @@
+//! A text is read in blocks, and its lines are told one after the other.
+ghost use Rattle.std.specs.Prelude.{◌≡◌, ◌==◌, None, ◌++◌, ◌<◌, ◌≤◌, ℕ, [], List, Some, Ok, OnOk, IfOk, IfErr, IfSome, IsTrue, drop, take, true, false, length, nat_lt};
+ghost use Rattle.std.specs.Io.KnownBytes.{Appends, IsAtEnd, Keeps};
+ghost use Rattle.std.specs.List.{position};
+ghost use Rattle.hirscan.specs.Runs.{ReadsSome};
+ghost use Rattle.grep_core.specs.Blocks.{SearchesBy, finds_by, tells_lines, counts_lines, Writes, ReadsOn, WritesPart, IsOver};
+ghost use Rattle.grep_core.specs.Courses.{Waits};
+ghost use Rattle.grep_core.specs.Lines.{split_lines};
+ghost use Rattle.grep_core.specs.Report.{Finds, report, selected_count};
+ghost use Rattle.grep_core.specs.Searchers.{SearchesFor, found_by};
+ghost use Rattle.grep_core.specs.Telling.{needs_spans};
+ghost use Rattle.grep_core.specs.declared.blocks.Task.{Task as TheTask};
+
+use crate::blocks::{Progress, Task, feed_at, tell_block, tell_one};
+use crate::fault::Fault;
+use crate::finder::Finder;
+use crate::telling::{Telling, is_over, tell_end};
+use crate::what::What;
+use std::alloc::{AllocError, Global};
+use std::io::{Read, Write};
+
+/// How many bytes are asked of the reader at once.
+const BLOCK: usize = 65536;
+
+/// A line may not have more bytes.
+const LONGEST: usize = 1 << 30;
+
+/// What comes behind a block.
+#[derive(Clone, Copy)]
+enum Next {
+    More,
+    End,
+    /// Nothing of the next lines is told, whatever they are.
+    Over,
+}
+
+fn make_chunk(alloc: Global) -> Result<Vec<u8>, AllocError>
+    ensures { IfOk result (λ chunk. 0 < length chunk.items) }
+{
+    vec![in alloc; 0u8; BLOCK]
+}
+
+/// Appends the bytes of one read to the text. The answer counts them; 0 is the reader's end.
+fn read_some<R: Read>(reader: &mut R, chunk: &mut [u8], text: &mut Vec<u8>) -> Result<usize, Fault>
+    requires { 0 < length chunk.old }
+    ensures ok { IfOk result (λ n. ReadsSome (R.remaining reader.old) (R.remaining reader.new) text.old.items text.new.items n) }
+    ensures chunk { length chunk.new ≡ length chunk.old }
+{
+    match reader.read(chunk) {
+        Ok(n) => {
+            text.extend_from_slice(&chunk[..n])?;
+            Ok(n)
+        }
+        Err(_) => Err(Fault::Read),
+    }
+}
+
+/// Writes all bytes. Where it fails, those that were written begin them.
+fn write_out<W: Write>(writer: &mut W, out: &[u8]) -> Result<(), Fault>
+    ensures ok { OnOk result (Appends (W.contents writer.old) (W.contents writer.new) out.now) }
+    ensures part { IfErr result (λ _. (n : ℕ) × Appends (W.contents writer.old) (W.contents writer.new) (take n out.now)) }
+{
+    let mut done = 0usize;
+    while done < out.len() {
+        match writer.write(&out[done..]) {
+            Ok(0) => return Err(Fault::Write),
+            Ok(n) => done += n,
+            Err(_) => return Err(Fault::Write),
+        }
+    }
+    Ok(())
+}
+
+fn flush<W: Write>(writer: &mut W) -> Result<(), Fault>
+    ensures { Keeps (W.contents writer.old) (W.contents writer.new) }
+{
+    match writer.flush() {
+        Ok(()) => Ok(()),
+        Err(_) => Err(Fault::Write),
+    }
+}
+
+/// A copy of what stands behind the first bytes.
+fn behind(alloc: Global, text: &[u8], done: usize) -> Result<Vec<u8>, AllocError>
+    requires { done ≤ length text.now }
+    ensures { IfOk result (λ rest. rest.items ≡ drop done text.now) }
+{
+    let rest = text[done..].to_vec(alloc)?;
+    Ok(rest)
+}
+
+/// Whether nothing of the next lines is told.
+fn is_task_over(task: Task<'_>, progress: &Progress) -> bool
+    ensures { IsTrue result → IsOver task.entry progress.now }
+{
+    is_over(task.what, &progress.telling)
+}
+
+/// Tells the whole lines of what was read, and keeps the bytes behind them. The answer says whether nothing more is told.
+fn tell_read<W: Write>(
+    alloc: Global,
+    writer: &mut W,
+    finder: &mut Finder<'_>,
+    task: Task<'_>,
+    read: &mut Vec<u8>,
+    progress: &mut Progress,
+) -> Result<bool, Fault>
+    requires { Waits task.what.now progress.old.telling.course }
+    ensures same { finder.new.0 ≡ finder.old.0 }
+    ensures waits { OnOk result (Waits task.entry.what.now progress.new.telling.course) }
+    ensures writes { OnOk result ((by : SearchesBy task.entry finder.old.0) (more : List ℕ) →
+        Writes task.entry (finds_by task.entry by) progress.old progress.new (read.old.items ++ more) (read.new.items ++ more) (W.contents writer.old) (W.contents writer.new)) }
+    ensures over { IfOk result (λ over. IsTrue over → IsOver task.entry progress.new) }
+    ensures fault { IfErr result (λ _. (by : SearchesBy task.entry finder.old.0) (more : List ℕ) →
+        WritesPart task.entry (finds_by task.entry by) progress.old (read.old.items ++ more) (W.contents writer.old) (W.contents writer.new)) }
+{
+    let mut out = Vec::new(alloc);
+    let done = match tell_block(alloc, &mut out, finder, task, progress, read) {
+        Ok(done) => done,
+        Err(e) => return Err(e),
+    };
+    let rest = match behind(alloc, read, done) {
+        Ok(rest) => rest,
+        Err(_) => return Err(Fault::NoMemory),
+    };
+    match write_out(writer, &out) {
+        Ok(()) => {}
+        Err(e) => return Err(e),
+    }
+    *read = rest;
+    Ok(is_task_over(task, progress))
+}
+
+/// Reads one block more, and tells the lines that end in it.
+fn next_block<R: Read, W: Write>(
+    alloc: Global,
+    reader: &mut R,
+    writer: &mut W,
+    finder: &mut Finder<'_>,
+    task: Task<'_>,
+    chunk: &mut [u8],
+    read: &mut Vec<u8>,
+    progress: &mut Progress,
+) -> Result<Next, Fault>
+    requires waits { Waits task.what.now progress.old.telling.course }
+    requires chunk { 0 < length chunk.old }
+    ensures same { finder.new.0 ≡ finder.old.0 }
+    ensures waits { OnOk result (Waits task.entry.what.now progress.new.telling.course) }
+    ensures chunk { length chunk.new ≡ length chunk.old }
+    ensures reads { OnOk result ((by : SearchesBy task.entry finder.old.0) (text : List ℕ) → R.remaining reader.old ≡ Some text →
+        ReadsOn task.entry (finds_by task.entry by) progress.old progress.new read.old.items read.new.items text (R.remaining reader.new) (W.contents writer.old) (W.contents writer.new)) }
+    ensures end { result ≡ Ok Next.End → IsAtEnd (R.remaining reader.new) }
+    ensures over { result ≡ Ok Next.Over → IsOver task.entry progress.new }
+    ensures fault { IfErr result (λ _. (by : SearchesBy task.entry finder.old.0) (text : List ℕ) → R.remaining reader.old ≡ Some text →
+        WritesPart task.entry (finds_by task.entry by) progress.old (read.old.items ++ text) (W.contents writer.old) (W.contents writer.new)) }
+{
+    let before = read.len();
+    let taken = match read_some(reader, chunk, read) {
+        Ok(taken) => taken,
+        Err(e) => return Err(e),
+    };
+    if taken == 0 {
+        return Ok(Next::End);
+    }
+    if read.len() > LONGEST {
+        return Err(Fault::TooLong);
+    }
+    if feed_at(&read[before..]).is_none() {
+        return Ok(Next::More);
+    }
+    match tell_read(alloc, writer, finder, task, read, progress) {
+        Ok(true) => Ok(Next::Over),
+        Ok(false) => Ok(Next::More),
+        Err(e) => Err(e),
+    }
+}
+
+/// Reads blocks until the text ends, or nothing more is told of it. The answer says whether it ended.
+fn tell_blocks<R: Read, W: Write>(
+    alloc: Global,
+    reader: &mut R,
+    writer: &mut W,
+    finder: &mut Finder<'_>,
+    task: Task<'_>,
+    chunk: &mut [u8],
+    read: &mut Vec<u8>,
+    progress: &mut Progress,
+) -> Result<bool, Fault>
+    requires waits { Waits task.what.now progress.old.telling.course }
+    requires chunk { 0 < length chunk.old }
+    ensures same { finder.new.0 ≡ finder.old.0 }
+    ensures waits { OnOk result (Waits task.entry.what.now progress.new.telling.course) }
+    ensures reads { OnOk result ((by : SearchesBy task.entry finder.old.0) (text : List ℕ) → R.remaining reader.old ≡ Some text →
+        ReadsOn task.entry (finds_by task.entry by) progress.old progress.new read.old.items read.new.items text (R.remaining reader.new) (W.contents writer.old) (W.contents writer.new)) }
+    ensures end { IfOk result (λ ended. ended ≡ true → IsAtEnd (R.remaining reader.new)) }
+    ensures over { IfOk result (λ ended. ended ≡ false → IsOver task.entry progress.new) }
+    ensures fault { IfErr result (λ _. (by : SearchesBy task.entry finder.old.0) (text : List ℕ) → R.remaining reader.old ≡ Some text →
+        WritesPart task.entry (finds_by task.entry by) progress.old (read.old.items ++ text) (W.contents writer.old) (W.contents writer.new)) }
+{
+    for _ in 0..u64::MAX {
+        match next_block(alloc, reader, writer, finder, task, chunk, read, progress) {
+            Ok(Next::More) => {}
+            Ok(Next::End) => return Ok(true),
+            Ok(Next::Over) => return Ok(false),
+            Err(e) => return Err(e),
+        }
+    }
+    Err(Fault::TooLong)
+}
+
+/// Tells a last line that no line feed ends, if there is one.
+fn tell_open_line(
+    alloc: Global,
+    out: &mut Vec<u8>,
+    finder: &mut Finder<'_>,
+    task: Task<'_>,
+    rest: &[u8],
+    progress: &mut Progress,
+) -> Result<(), Fault>
+    requires waits { Waits task.what.now progress.old.telling.course }
+    requires unended { position (λ b. b == 10) rest.now ≡ None }
+    ensures same { finder.new.0 ≡ finder.old.0 }
+    ensures waits { OnOk result (Waits task.entry.what.now progress.new.telling.course) }
+    ensures told { OnOk result ((by : SearchesBy task.entry finder.old.0) → out.old.items ++ tells_lines task.entry (finds_by task.entry by) progress.old (split_lines rest.now) ≡ out.new.items ++ tells_lines task.entry (finds_by task.entry by) progress.new []) }
+    ensures counts { OnOk result ((by : SearchesBy task.entry finder.old.0) → counts_lines task.entry (finds_by task.entry by) progress.new [] ≡ counts_lines task.entry (finds_by task.entry by) progress.old (split_lines rest.now)) }
+{
+    if rest.is_empty() {
+        return Ok(());
+    }
+    match tell_one(alloc, out, finder, task, progress, rest) {
+        Ok(()) => Ok(()),
+        Err(e) => Err(e),
+    }
+}
+
+/// Tells all that is left of a text that has ended.
+fn tell_tail(
+    alloc: Global,
+    out: &mut Vec<u8>,
+    finder: &mut Finder<'_>,
+    task: Task<'_>,
+    read: &[u8],
+    progress: &mut Progress,
+) -> Result<(), Fault>
+    requires { Waits task.what.now progress.old.telling.course }
+    ensures same { finder.new.0 ≡ finder.old.0 }
+    ensures told { OnOk result ((by : SearchesBy task.entry finder.old.0) → out.old.items ++ tells_lines task.entry (finds_by task.entry by) progress.old (split_lines read.now) ≡ out.new.items) }
+    ensures counts { OnOk result ((by : SearchesBy task.entry finder.old.0) → counts_lines task.entry (finds_by task.entry by) progress.new [] ≡ counts_lines task.entry (finds_by task.entry by) progress.old (split_lines read.now)) }
+{
+    let done = match tell_block(alloc, out, finder, task, progress, read) {
+        Ok(done) => done,
+        Err(e) => return Err(e),
+    };
+    match tell_open_line(alloc, out, finder, task, &read[done..], progress) {
+        Ok(()) => {}
+        Err(e) => return Err(e),
+    }
+    match tell_end(
+        alloc,
+        out,
+        task.what,
+        task.name,
+        task.with_name,
+        &progress.telling,
+    ) {
+        Ok(()) => Ok(()),
+        Err(_) => Err(Fault::NoMemory),
+    }
+}
+
+/// Tells all that is left of a text that has ended, and writes it.
+fn write_tail<W: Write>(
+    alloc: Global,
+    writer: &mut W,
+    finder: &mut Finder<'_>,
+    task: Task<'_>,
+    read: &[u8],
+    progress: &mut Progress,
+) -> Result<(), Fault>
+    requires { Waits task.what.now progress.old.telling.course }
+    ensures same { finder.new.0 ≡ finder.old.0 }
+    ensures written { OnOk result ((by : SearchesBy task.entry finder.old.0) → Appends (W.contents writer.old) (W.contents writer.new) (tells_lines task.entry (finds_by task.entry by) progress.old (split_lines read.now))) }
+    ensures counts { OnOk result ((by : SearchesBy task.entry finder.old.0) → counts_lines task.entry (finds_by task.entry by) progress.new [] ≡ counts_lines task.entry (finds_by task.entry by) progress.old (split_lines read.now)) }
+    ensures fault { IfErr result (λ _. (by : SearchesBy task.entry finder.old.0) → WritesPart task.entry (finds_by task.entry by) progress.old read.now (W.contents writer.old) (W.contents writer.new)) }
+{
+    let mut out = Vec::new(alloc);
+    match tell_tail(alloc, &mut out, finder, task, read, progress) {
+        Ok(()) => {}
+        Err(e) => return Err(e),
+    }
+    match write_out(writer, &out) {
+        Ok(()) => Ok(()),
+        Err(e) => Err(e),
+    }
+}
+
+/// Writes what comes behind all lines.
+fn write_end<W: Write>(
+    alloc: Global,
+    writer: &mut W,
+    task: Task<'_>,
+    progress: &Progress,
+) -> Result<(), Fault>
+    requires { Waits task.what.now progress.now.telling.course }
+    ensures written { OnOk result ((f : Finds) → Appends (W.contents writer.old) (W.contents writer.new) (tells_lines task.entry f progress.now [])) }
+    ensures fault { IfErr result (λ _. (f : Finds) → (n : ℕ) × Appends (W.contents writer.old) (W.contents writer.new) (take n (tells_lines task.entry f progress.now []))) }
+{
+    let mut out = Vec::new(alloc);
+    match tell_end(
+        alloc,
+        &mut out,
+        task.what,
+        task.name,
+        task.with_name,
+        &progress.telling,
+    ) {
+        Ok(()) => {}
+        Err(_) => return Err(Fault::NoMemory),
+    }
+    match write_out(writer, &out) {
+        Ok(()) => Ok(()),
+        Err(e) => Err(e),
+    }
+}
+
+/// Writes what is left of a text that has ended, or of which nothing more is told.
+fn write_rest<W: Write>(
+    alloc: Global,
+    writer: &mut W,
+    finder: &mut Finder<'_>,
+    task: Task<'_>,
+    ended: bool,
+    read: &[u8],
+    progress: &mut Progress,
+) -> Result<(), Fault>
+    requires waits { Waits task.what.now progress.old.telling.course }
+    requires over { ended ≡ false → IsOver task progress.old }
+    ensures same { finder.new.0 ≡ finder.old.0 }
+    ensures written { OnOk result ((by : SearchesBy task.entry finder.old.0) (more : List ℕ) → (ended ≡ true → more ≡ []) →
+        Appends (W.contents writer.old) (W.contents writer.new) (tells_lines task.entry (finds_by task.entry by) progress.old (split_lines (read.now ++ more)))) }
+    ensures counts { OnOk result ((by : SearchesBy task.entry finder.old.0) (more : List ℕ) → (ended ≡ true → more ≡ []) →
+        nat_lt 0 (counts_lines task.entry (finds_by task.entry by) progress.new []) ≡ nat_lt 0 (counts_lines task.entry (finds_by task.entry by) progress.old (split_lines (read.now ++ more)))) }
+    ensures fault { IfErr result (λ _. (by : SearchesBy task.entry finder.old.0) (more : List ℕ) → (ended ≡ true → more ≡ []) →
+        WritesPart task.entry (finds_by task.entry by) progress.old (read.now ++ more) (W.contents writer.old) (W.contents writer.new)) }
+{
+    if ended {
+        return match write_tail(alloc, writer, finder, task, read, progress) {
+            Ok(()) => Ok(()),
+            Err(e) => Err(e),
+        };
+    }
+    match write_end(alloc, writer, task, progress) {
+        Ok(()) => Ok(()),
+        Err(e) => Err(e),
+    }
+}
+
+/// The same, and flushes.
+fn finish<W: Write>(
+    alloc: Global,
+    writer: &mut W,
+    finder: &mut Finder<'_>,
+    task: Task<'_>,
+    ended: bool,
+    read: &[u8],
+    progress: &mut Progress,
+) -> Result<(), Fault>
+    requires waits { Waits task.what.now progress.old.telling.course }
+    requires over { ended ≡ false → IsOver task progress.old }
+    ensures same { finder.new.0 ≡ finder.old.0 }
+    ensures written { OnOk result ((by : SearchesBy task.entry finder.old.0) (more : List ℕ) → (ended ≡ true → more ≡ []) →
+        Appends (W.contents writer.old) (W.contents writer.new) (tells_lines task.entry (finds_by task.entry by) progress.old (split_lines (read.now ++ more)))) }
+    ensures counts { OnOk result ((by : SearchesBy task.entry finder.old.0) (more : List ℕ) → (ended ≡ true → more ≡ []) →
+        nat_lt 0 (counts_lines task.entry (finds_by task.entry by) progress.new []) ≡ nat_lt 0 (counts_lines task.entry (finds_by task.entry by) progress.old (split_lines (read.now ++ more)))) }
+    ensures fault { IfErr result (λ _. (by : SearchesBy task.entry finder.old.0) (more : List ℕ) → (ended ≡ true → more ≡ []) →
+        WritesPart task.entry (finds_by task.entry by) progress.old (read.now ++ more) (W.contents writer.old) (W.contents writer.new)) }
+{
+    match write_rest(alloc, writer, finder, task, ended, read, progress) {
+        Ok(()) => {}
+        Err(e) => return Err(e),
+    }
+    match flush(writer) {
+        Ok(()) => Ok(()),
+        Err(e) => Err(e),
+    }
+}
+
+/// Whether a line is selected.
+fn has_selected(progress: &Progress) -> bool
+    ensures { (t : TheTask) → (f : Finds) → result ≡ nat_lt 0 (counts_lines t f progress.now []) }
+{
+    progress.telling.count > 0
+}
+
+/// Reads a text, line by line, and writes what is told of it. The answer says whether a line is selected.
+///
+/// It reads blocks of 64 KiB, and tells the lines that end in one before it reads the next; it reads no more where nothing more is told
+/// whatever comes. A line is held whole, and one above 1 GiB is refused. Where it fails, a beginning of what is told was written.
+///
+/// The matches of lines are asked for where these are printed alone or marked; then no unbounded repetition of the patterns may be of what
+/// matches the empty text.
+pub fn tell_text<R: Read, W: Write>(
+    alloc: Global,
+    finder: &mut Finder<'_>,
+    what: &What,
+    name: &[u8],
+    with_name: bool,
+    reader: &mut R,
+    writer: &mut W,
+) -> Result<bool, Fault>
+    ensures same { finder.new.0 ≡ finder.old.0 }
+    ensures told { OnOk result ((by : SearchesFor finder.old.0 (needs_spans what.now)) → IfSome (R.remaining reader.old) (λ text.
+        Appends (W.contents writer.old) (W.contents writer.new) (report what.now (found_by by) name.now with_name text))) }
+    ensures selected { IfOk result (λ any. (by : SearchesFor finder.old.0 (needs_spans what.now)) → IfSome (R.remaining reader.old) (λ text.
+        any ≡ nat_lt 0 (selected_count what.now (found_by by) text))) }
+    ensures fault { IfErr result (λ _. (by : SearchesFor finder.old.0 (needs_spans what.now)) → IfSome (R.remaining reader.old) (λ text.
+        (n : ℕ) × Appends (W.contents writer.old) (W.contents writer.new) (take n (report what.now (found_by by) name.now with_name text)))) }
+{
+    let task = Task {
+        what,
+        name,
+        with_name,
+    };
+    let mut chunk = match make_chunk(alloc) {
+        Ok(chunk) => chunk,
+        Err(_) => return Err(Fault::NoMemory),
+    };
+    let mut progress = Progress::new(alloc);
+    let mut read = Vec::new(alloc);
+    let ended = match tell_blocks(
+        alloc,
+        reader,
+        writer,
+        finder,
+        task,
+        &mut chunk,
+        &mut read,
+        &mut progress,
+    ) {
+        Ok(ended) => ended,
+        Err(e) => return Err(e),
+    };
+    match finish(alloc, writer, finder, task, ended, &read, &mut progress) {
+        Ok(()) => Ok(has_selected(&progress)),
+        Err(e) => Err(e),
+    }
+}

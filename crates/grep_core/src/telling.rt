@@ -1,0 +1,312 @@
+//! What is told of a text, line by line.
+ghost use Rattle.std.specs.Prelude.{◌≡◌, ◌++◌, ◌∷◌, [], ℕ, ◌+◌, Bool, List, Option, OnOk, IfOk, IsTrue, decimal, map, nat_lt, not, ◌&&◌, option_map, if◌then◌else◌};
+ghost use Rattle.std.specs.List.{flat_map};
+ghost use Rattle.grep_core.specs.Courses.{Item, Waits, item};
+ghost use Rattle.grep_core.specs.Lines.{TextLine};
+ghost use Rattle.grep_core.specs.Printing.{span_pair, text_line, printed_match};
+ghost use Rattle.grep_core.specs.Report.{Finds, told_spans, print_lines, report_as, selected, count_line, name_line};
+ghost use Rattle.grep_core.specs.Selecting.{roles, count};
+ghost use Rattle.grep_core.specs.Telling.{shown, print_matches, tells_as, may_select, still_told, count_in_all};
+ghost use Rattle.grep_core.specs.declared.what.What.{What as TheWhat};
+
+use crate::course::{Course, behind_hidden, next_line, push_parting, see_end};
+use crate::fault::Fault;
+use crate::known::Known;
+use crate::line::Line;
+use crate::printing::{piece, push_field, push_fields, push_marked};
+use crate::role::Role;
+use crate::what::{Print, What};
+use search_types::Span;
+use std::alloc::{AllocError, Global};
+
+/// What was told of some lines.
+#[derive(Drop)]
+pub(crate) struct Telling {
+    pub course: Course,
+    /// How many of them are selected.
+    pub count: u64,
+}
+
+/// The name that stands before lines.
+pub(crate) fn shown(name: &[u8], with_name: bool) -> Option<&[u8]>
+    ensures { option_map (λ n. n.now) result ≡ shown with_name name.now }
+{
+    if with_name { Some(name) } else { None }
+}
+
+/// Whether one more line may be selected, where so many are.
+fn may_select(what: &What, count: u64) -> bool
+    ensures { result ≡ may_select what.now.most count }
+{
+    match what.most {
+        Some(most) => count < most,
+        None => true,
+    }
+}
+
+/// Whether a line is wanted that has a match, or has none.
+fn is_wanted(what: &What, has: bool) -> bool
+    ensures { result ≡ (if what.now.invert then not has else has) }
+{
+    if what.invert { !has } else { has }
+}
+
+/// Whether a line is selected, where so many are.
+fn is_selected(what: &What, count: u64, has: bool) -> bool
+    ensures { result ≡ ((if what.now.invert then not has else has) && may_select what.now.most count) }
+{
+    is_wanted(what, has) && may_select(what, count)
+}
+
+/// Appends a match whose first byte is at this place, as a line of its own.
+fn push_match_at(
+    alloc: Global,
+    out: &mut Vec<u8>,
+    what: &What,
+    name: Option<&[u8]>,
+    line: Line<'_>,
+    span: Span,
+    place: u64,
+) -> Result<(), AllocError>
+    requires { place ≡ line.place + span.start }
+    ensures { OnOk result (out.new.items ≡ out.old.items ++ printed_match what.now (option_map (λ n. n.now) name.entry) (text_line line.entry) (span_pair span)) }
+{
+    push_fields(alloc, out, what, name, Role::Selected, line.number, place)?;
+    push_marked(
+        out,
+        what.color,
+        b"01;31",
+        piece(line.bytes, span.start, span.end),
+    )?;
+    out.push(b'\n')?;
+    Ok(())
+}
+
+/// Appends a match, as a line of its own.
+fn push_match(
+    alloc: Global,
+    out: &mut Vec<u8>,
+    what: &What,
+    name: Option<&[u8]>,
+    line: Line<'_>,
+    span: Span,
+) -> Result<(), Fault>
+    ensures { OnOk result (out.new.items ≡ out.old.items ++ printed_match what.now (option_map (λ n. n.now) name.entry) (text_line line.entry) (span_pair span)) }
+{
+    let Some(place) = line.place.checked_add(span.start as u64) else {
+        return Err(Fault::TooLong);
+    };
+    push_match_at(alloc, out, what, name, line, span, place)?;
+    Ok(())
+}
+
+/// Appends the matches of a line, each as a line of its own.
+fn push_matches(
+    alloc: Global,
+    out: &mut Vec<u8>,
+    what: &What,
+    name: Option<&[u8]>,
+    line: Line<'_>,
+    found: &[Span],
+) -> Result<(), Fault>
+    ensures { OnOk result (out.new.items ≡ out.old.items ++ flat_map (printed_match what.now (option_map (λ n. n.now) name.entry) (text_line line.entry)) (map span_pair found.now)) }
+{
+    for span in found {
+        push_match(alloc, out, what, name, line, *span)?;
+    }
+    Ok(())
+}
+
+/// Goes on by one line, where matches alone are told.
+fn next_matches(
+    alloc: Global,
+    out: &mut Vec<u8>,
+    what: &What,
+    name: Option<&[u8]>,
+    course: &mut Course,
+    line: Line<'_>,
+    is_selected: bool,
+    found: &[Span],
+) -> Result<(), Fault>
+    ensures goes_on { OnOk result ((flags : List Bool) (items : List Item) →
+        out.old.items ++ print_lines what.now (print_matches what.now (option_map (λ n. n.now) name.entry)) course.old.known (roles 0 0 (is_selected ∷ flags)) (item (text_line line.entry) (map span_pair found.now) ∷ items)
+        ≡ out.new.items ++ print_lines what.now (print_matches what.now (option_map (λ n. n.now) name.entry)) course.new.known (roles 0 0 flags) items) }
+    ensures waiting { course.new.waiting ≡ course.old.waiting }
+    ensures left { course.new.left ≡ course.old.left }
+{
+    if !is_selected {
+        course.known = behind_hidden(course.known);
+        return Ok(());
+    }
+    push_parting(out, what, course.known)?;
+    if !what.invert {
+        push_matches(alloc, out, what, name, line, found)?;
+    }
+    course.known = Known::LastPrinted;
+    Ok(())
+}
+
+/// Goes on by one line, whatever is told.
+fn tell_as(
+    alloc: Global,
+    out: &mut Vec<u8>,
+    what: &What,
+    name: Option<&[u8]>,
+    course: &mut Course,
+    line: Line<'_>,
+    is_selected: bool,
+    found: &[Span],
+) -> Result<(), Fault>
+    requires { Waits what.now course.old }
+    ensures goes_on { OnOk result ((text : List ℕ) (with_name : Bool) (n m : ℕ) (flags : List Bool) (items : List Item) →
+        shown with_name text ≡ option_map (λ n. n.now) name.entry → m ≡ n + (if is_selected then 1 else 0) →
+        out.old.items ++ tells_as what.now.print what.now text with_name course.old n (is_selected ∷ flags) (item (text_line line.entry) (map span_pair found.now) ∷ items)
+        ≡ out.new.items ++ tells_as what.now.print what.now text with_name course.new m flags items) }
+    ensures waits { OnOk result (Waits what.now course.new) }
+{
+    match what.print {
+        Print::Lines => {
+            next_line(alloc, out, what, name, course, line, is_selected, found)?;
+            Ok(())
+        }
+        Print::Matches => next_matches(alloc, out, what, name, course, line, is_selected, found),
+        _ => Ok(()),
+    }
+}
+
+/// One more, where a line is selected.
+fn count_more(count: u64, is_selected: bool) -> Result<u64, Fault>
+    ensures { IfOk result (λ n. n ≡ count + (if is_selected then 1 else 0)) }
+{
+    if !is_selected {
+        return Ok(count);
+    }
+    match count.checked_add(1) {
+        Some(more) => Ok(more),
+        None => Err(Fault::TooLong),
+    }
+}
+
+impl Telling {
+    /// Before the first line.
+    pub(crate) fn new(alloc: Global) -> Telling
+        ensures starts { (w : TheWhat) → (f : Finds) → (name : List ℕ) → (with_name : Bool) → (lines : List TextLine) → still_told w f name with_name result lines ≡ report_as w.print w f name with_name lines (selected w f lines) }
+        ensures counts { (w : TheWhat) → (f : Finds) → (lines : List TextLine) → count_in_all w f result lines ≡ count (selected w f lines) }
+        ensures waits { (w : TheWhat) → Waits w result.course }
+    {
+        Telling {
+            course: Course::new(alloc),
+            count: 0,
+        }
+    }
+}
+
+/// Goes on by one line, of which it is known whether it has a match, and which of its matches aren't empty.
+pub(crate) fn tell_line(
+    alloc: Global,
+    out: &mut Vec<u8>,
+    what: &What,
+    name: &[u8],
+    with_name: bool,
+    telling: &mut Telling,
+    line: Line<'_>,
+    has: bool,
+    found: &[Span],
+) -> Result<(), Fault>
+    requires { Waits what.now telling.old.course }
+    ensures goes_on { OnOk result ((f : Finds) → has ≡ f.has_match line.entry.bytes.now → map span_pair found.now ≡ told_spans f (text_line line.entry) → (lines : List TextLine) →
+        out.old.items ++ still_told what.now f name.now with_name telling.old (text_line line.entry ∷ lines)
+        ≡ out.new.items ++ still_told what.now f name.now with_name telling.new lines) }
+    ensures counts { OnOk result ((f : Finds) → has ≡ f.has_match line.entry.bytes.now → (lines : List TextLine) →
+        count_in_all what.now f telling.new lines ≡ count_in_all what.now f telling.old (text_line line.entry ∷ lines)) }
+    ensures waits { OnOk result (Waits what.now telling.new.course) }
+{
+    let is_selected = is_selected(what, telling.count, has);
+    tell_as(
+        alloc,
+        out,
+        what,
+        shown(name, with_name),
+        &mut telling.course,
+        line,
+        is_selected,
+        found,
+    )?;
+    telling.count = count_more(telling.count, is_selected)?;
+    Ok(())
+}
+
+/// Appends a number, as a line.
+fn push_number(alloc: Global, out: &mut Vec<u8>, number: u64) -> Result<(), AllocError>
+    ensures { OnOk result (out.new.items ≡ out.old.items ++ (decimal number ++ 10 ∷ [])) }
+{
+    let text = format!(in alloc; "{number}")?;
+    out.extend_from_slice(text.as_str().as_bytes())?;
+    out.push(b'\n')?;
+    Ok(())
+}
+
+/// Appends the count of selected lines, behind the name.
+fn push_count(
+    alloc: Global,
+    out: &mut Vec<u8>,
+    what: &What,
+    name: Option<&[u8]>,
+    count: u64,
+) -> Result<(), AllocError>
+    ensures { OnOk result (out.new.items ≡ out.old.items ++ count_line what.now (option_map (λ n. n.now) name.entry) count) }
+{
+    let Some(name) = name else {
+        return push_number(alloc, out, count);
+    };
+    push_field(out, what, Role::Selected, b"35", name)?;
+    push_number(alloc, out, count)
+}
+
+/// Appends the name of a text, as a line.
+fn push_name(out: &mut Vec<u8>, what: &What, name: &[u8]) -> Result<(), AllocError>
+    ensures { OnOk result (out.new.items ≡ out.old.items ++ name_line what.now name.now) }
+{
+    push_marked(out, what.color, b"35", name)?;
+    out.push(b'\n')?;
+    Ok(())
+}
+
+/// Tells what is left behind the last line.
+pub(crate) fn tell_end(
+    alloc: Global,
+    out: &mut Vec<u8>,
+    what: &What,
+    name: &[u8],
+    with_name: bool,
+    telling: &Telling,
+) -> Result<(), AllocError>
+    requires { Waits what.now telling.now.course }
+    ensures { OnOk result ((f : Finds) → out.new.items ≡ out.old.items ++ still_told what.now f name.now with_name telling.now []) }
+{
+    match what.print {
+        Print::Lines => {
+            see_end(what, &telling.course);
+            Ok(())
+        }
+        Print::Count => push_count(alloc, out, what, shown(name, with_name), telling.count),
+        Print::NameIfAny if telling.count > 0 => push_name(out, what, name),
+        Print::NameIfNone if telling.count == 0 => push_name(out, what, name),
+        _ => Ok(()),
+    }
+}
+
+/// Whether nothing of the next lines is told, whatever they are.
+pub(crate) fn is_over(what: &What, telling: &Telling) -> bool
+    ensures told { IsTrue result → (f : Finds) (name : List ℕ) (with_name : Bool) (lines : List TextLine) →
+        still_told what.now f name with_name telling.now lines ≡ still_told what.now f name with_name telling.now [] }
+    ensures counted { IsTrue result → (f : Finds) (lines : List TextLine) →
+        nat_lt 0 (count_in_all what.now f telling.now lines) ≡ nat_lt 0 (count_in_all what.now f telling.now []) }
+{
+    let is_spent = !may_select(what, telling.count);
+    match what.print {
+        Print::Lines => is_spent && telling.course.left == 0,
+        Print::Matches | Print::Count => is_spent,
+        Print::NameIfAny | Print::NameIfNone | Print::Nothing => is_spent || telling.count > 0,
+    }
+}
