@@ -45,22 +45,29 @@ tell_terminal() {
 # An unproved run reads its input whole: rt try takes fewer than this many bytes, and cuts what is longer.
 most_unproved=67108863
 
-# Runs a program with nothing proved, on the file input of the folder and with the arguments behind its name, and ends with its
-# status; what such a run can't do is told with status 2.
+# Runs a program with nothing proved, with the arguments behind its name, and ends with its status; what such a run can't do is told
+# with status 2.
 try_program() {
     program=$1
     shift
     [ $# = 0 ] || set -- -- "$@"
     # One step of the interpreter: what is compiled with checks answers, and runs as the interpreter does.
-    (cd "$top/crates/${program}_main" && rt try --steps 1 "$@" <"$folder/input") >"$folder/reply" 2>"$folder/said"
+    (cd "$top/crates/${program}_main" && rt try --steps 1 "$@") >"$folder/reply" 2>"$folder/said"
     status=$(sed -n 's/^run=ended status=\([0-9]*\) .*/\1/p' "$folder/said")
-    if [ -z "$status" ] || grep -q '^rt: standard input did not end' "$folder/said"; then
+    # A program that may do without standard input tells where it reads it.
+    is_read=1
+    [ "${2-}" = --tell-input ] && ! grep -q '^input=read$' "$folder/said" && is_read=
+    if [ "$is_read" ] && [ -t 0 ]; then
+        echo "$program: an unproved run reads no terminal; ./prove builds the program, which does" >&2
+        exit 2
+    fi
+    if [ -z "$status" ] || { [ "$is_read" ] && grep -q '^rt: standard input did not end' "$folder/said"; }; then
         why=$(sed -n 's/^checked: //p' "$folder/said" | head -n 1)
         [ -n "$why" ] || why=$(grep -v -e '^run=' -e '^interpreter: ' "$folder/said" | head -n 1)
         echo "$program: the unproved run gave no answer (${why:-rt try said nothing}); ./prove builds the program, which has no such limit" >&2
         exit 2
     fi
-    grep -v -e '^run=' -e '^interpreter: ' -e '^checked: ' -e '^rt: ' -e '^| ' "$folder/said" >&2
+    grep -v -e '^run=' -e '^interpreter: ' -e '^checked: ' -e '^rt: ' -e '^| ' -e '^input=read$' "$folder/said" >&2
     if ! cat "$folder/reply" 2>/dev/null; then
         echo "$program: write fault" >&2
         exit 2
@@ -87,7 +94,7 @@ run_unproved() {
         echo "$1: an unproved run takes $most_unproved bytes of input at most; ./prove builds the program, which takes more" >&2
         exit 2
     fi
-    try_program "$1"
+    try_program "$1" <"$folder/input"
 }
 
 # Answers by the program as it was built, or else with nothing proved.
@@ -102,14 +109,26 @@ answer() {
     run_unproved "$1"
 }
 
-# The same of a program that reads no input, with the arguments behind its name.
-answer_arguments() {
+# Ends with the answer of the program as it was built, with the arguments behind its name; where it isn't built, makes the folder of an
+# unproved run.
+answer_if_built() {
     name=$1
     shift
     is_built "$name" && exec "$(program_of "$name")" "$@"
     need_rt "$name"
     echo "$name: nothing is proved yet, so this answer is checked as it runs and no more; ./prove proves and builds the program" >&2
     make_folder
-    : >"$folder/input"
-    try_program "$name" "$@"
+}
+
+# The same of a program that reads no input, with the arguments behind its name.
+answer_arguments() {
+    answer_if_built "$@"
+    try_program "$@" </dev/null
+}
+
+# The same of a program that reads the files that arguments name, or standard input. An unproved run isn't in the caller's folder.
+answer_files() {
+    answer_if_built "$@"
+    shift
+    try_program "$name" --tell-input --directory "$PWD" "$@"
 }

@@ -1,0 +1,108 @@
+//! The program `hirgrep`: prints the lines of files, or of standard input, in which a pattern matches.
+//! Its status is 0 where a line is selected, 1 where none is, and 2 where something fails, which standard error tells.
+#![tactic(auto)]
+
+mod asked;
+mod command;
+mod counting;
+mod input;
+mod messages;
+mod outcome;
+mod parting;
+mod patterns;
+mod searching;
+mod walking;
+
+use crate::asked::{Asked, asked_of};
+use crate::command::command;
+use crate::patterns::{lines_of, patterns_of};
+use crate::searching::search;
+use clap::ArgMatches;
+use std::alloc::AllocError;
+use std::env;
+use std::process::ExitCode;
+use std::rt::Runtime;
+
+/// Goes to the folders that are named, each from the one before. The answer is no where that fails, which is told.
+fn enter(rt: &HostRuntime, folders: &[&str]) -> bool {
+    for folder in folders {
+        if let Err(e) = env::set_current_dir(rt, *folder) {
+            let _ = eprintln!(rt; "hirgrep: {folder}: {e}");
+            return false;
+        }
+    }
+    true
+}
+
+/// Searches for patterns that options give.
+fn run_given(
+    rt: &HostRuntime,
+    asked: &Asked,
+    matches: &ArgMatches<'_>,
+    files: &[&str],
+) -> Result<u8, AllocError> {
+    match patterns_of(rt, asked, matches)? {
+        Some(patterns) => search(rt, asked, patterns.as_slice(), files),
+        None => Ok(2),
+    }
+}
+
+/// Searches for the pattern that is the first of the words, which are no options.
+fn run_words(rt: &HostRuntime, asked: &Asked, words: &[&str]) -> Result<u8, AllocError> {
+    match words.split_first() {
+        Some((pattern, files)) => {
+            let patterns = lines_of(rt.alloc(), pattern)?;
+            search(rt, asked, patterns.as_slice(), files)
+        }
+        None => {
+            let _ = eprintln!(rt; "hirgrep: no pattern; hirgrep --help tells what there is");
+            Ok(2)
+        }
+    }
+}
+
+fn run_matches(rt: &HostRuntime, matches: &ArgMatches<'_>) -> Result<u8, AllocError> {
+    let asked = asked_of(rt, matches);
+    if !enter(rt, matches.get_strs("directory").unwrap_or(&[])) {
+        return Ok(2);
+    }
+    let words = matches.get_strs("words").unwrap_or(&[]);
+    if matches.contains_id("regexp") || matches.contains_id("file") {
+        return run_given(rt, &asked, matches, words);
+    }
+    run_words(rt, &asked, words)
+}
+
+fn run(rt: &HostRuntime) -> Result<u8, AllocError> {
+    let alloc = rt.alloc();
+    let Ok(args) = env::args(rt) else {
+        let _ = eprintln!(rt; "hirgrep: an argument isn't UTF-8");
+        return Ok(2);
+    };
+    let mut owned: Vec<String> = Vec::new(alloc);
+    for arg in args {
+        owned.push(arg)?;
+    }
+    let command = command(alloc)?;
+    match command.try_get_matches_from(owned.as_slice()) {
+        Ok(matches) => run_matches(rt, &matches),
+        Err(error) => {
+            let printed = error.print(rt);
+            Ok(if error.use_stderr() || printed.is_err() {
+                2
+            } else {
+                0
+            })
+        }
+    }
+}
+
+fn main(rt: HostRuntime) -> ExitCode {
+    match run(&rt) {
+        Ok(status) => ExitCode::from(status),
+        Err(_) => {
+            let _ = eprintln!(rt; "hirgrep: out of memory");
+            ExitCode::from(2)
+        }
+    }
+}

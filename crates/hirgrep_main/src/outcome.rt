@@ -1,0 +1,92 @@
+//! What comes of a search.
+
+use crate::asked::Asked;
+use crate::messages::said_of;
+use grep_core::{Fault, Finder, Print};
+use std::io;
+use std::rt::Runtime;
+
+/// What came of the files so far.
+#[derive(Clone, Copy, Default)]
+pub struct Outcome {
+    /// A line was selected.
+    pub selected: bool,
+    /// Something was printed.
+    pub printed: bool,
+    /// Something failed.
+    pub failed: bool,
+    /// Nothing more is searched: what is printed can't be written, or all is known that is asked for.
+    pub ended: bool,
+    /// How many files were read, standard input among them.
+    pub files: u64,
+    /// How many bytes were read of them.
+    pub bytes: u64,
+}
+
+impl Outcome {
+    /// Counts a file of which so many bytes were read.
+    pub fn count(&mut self, bytes: u64) {
+        self.files = self.files.saturating_add(1);
+        self.bytes = self.bytes.saturating_add(bytes);
+    }
+
+    /// Keeps that this text was or wasn't told, and whether a line of it was selected.
+    pub fn keep(&mut self, rt: &HostRuntime, asked: &Asked, name: &str, told: Result<bool, Fault>) {
+        match told {
+            Ok(any) => {
+                self.selected |= any;
+                self.ended |= any && asked.what.print == Print::Nothing;
+            }
+            Err(Fault::Write) => {
+                let _ = eprintln!(rt; "hirgrep: write fault");
+                self.failed = true;
+                self.ended = true;
+            }
+            Err(Fault::Read) if asked.silent => self.failed = true,
+            Err(fault) => {
+                let said = said_of(fault);
+                let _ = eprintln!(rt; "hirgrep: {name}: {said}");
+                self.failed = true;
+            }
+        }
+    }
+
+    /// Keeps that something can't be read.
+    pub fn fail(&mut self, rt: &HostRuntime, asked: &Asked, path: &str, error: io::Error) {
+        self.failed = true;
+        if !asked.silent {
+            let _ = eprintln!(rt; "hirgrep: {path}: {error}");
+        }
+    }
+
+    /// Keeps that something isn't searched, for this reason.
+    pub fn refuse(&mut self, rt: &HostRuntime, asked: &Asked, path: &str, reason: &str) {
+        self.failed = true;
+        if !asked.silent {
+            let _ = eprintln!(rt; "hirgrep: {path}: {reason}");
+        }
+    }
+
+    /// 2 where something failed, but for a search that ended at a selected line and prints nothing.
+    pub fn status(&self, asked: &Asked) -> u8 {
+        if self.selected && asked.what.print == Print::Nothing {
+            return 0;
+        }
+        if self.failed {
+            return 2;
+        }
+        if self.selected { 0 } else { 1 }
+    }
+
+    /// Tells what the searches took.
+    pub fn tell_stats(&self, rt: &HostRuntime, finder: &Finder<'_>) {
+        let files = self.files;
+        let bytes = self.bytes;
+        let clears = finder.clear_count();
+        let kept = finder.memory_usage();
+        let lines = finder.slow_lines();
+        let _ = eprintln!(rt; "hirgrep: files read: {files}\nhirgrep: bytes read: {bytes}");
+        let _ = eprintln!(rt; "hirgrep: caches cleared: {clears}\nhirgrep: bytes in caches: {kept}");
+        let _ = eprintln!(rt; "hirgrep: lines in which automata gave up: {lines}");
+    }
+}

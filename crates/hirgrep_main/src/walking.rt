@@ -1,0 +1,85 @@
+//! The files of folders.
+
+use crate::asked::Asked;
+use crate::outcome::Outcome;
+use std::alloc::AllocError;
+use std::os::unix::fs::MetadataExt;
+use std::rt::Runtime;
+use std::{fs, io};
+
+/// What stands at a path.
+#[derive(Clone, Copy, PartialEq, Eq)]
+pub enum Kind {
+    File,
+    Folder,
+    /// What isn't searched when it is met in a folder: links, devices, pipes.
+    Other,
+}
+
+/// What stands at a path that was met in a folder.
+pub fn kind_of(rt: &HostRuntime, path: &str) -> io::Result<Kind> {
+    let metadata = fs::symlink_metadata(rt, path)?;
+    if metadata.is_dir() {
+        return Ok(Kind::Folder);
+    }
+    if metadata.is_file() {
+        return Ok(Kind::File);
+    }
+    Ok(Kind::Other)
+}
+
+/// Whether a path that was given is a folder.
+pub fn is_folder(rt: &HostRuntime, path: &str) -> bool {
+    match fs::metadata(rt, path) {
+        Ok(metadata) => metadata.is_dir(),
+        Err(_) => false,
+    }
+}
+
+/// Whether what stands at the path is the file that standard output goes to.
+pub fn is_output(rt: &HostRuntime, path: &str) -> bool {
+    match (fs::metadata(rt, path), fs::metadata(rt, "/dev/stdout")) {
+        (Ok(read), Ok(written)) => written.is_file()
+            && read.dev() == written.dev()
+            && read.ino() == written.ino(),
+        _ => false,
+    }
+}
+
+/// The paths of what a folder has, in the order in which the system lists them. What can't be listed is told, and left out.
+fn read_entries(
+    rt: &HostRuntime,
+    asked: &Asked,
+    outcome: &mut Outcome,
+    path: &str,
+    paths: &mut Vec<String>,
+) -> io::Result<()> {
+    for entry in fs::read_dir(rt, path)? {
+        match entry {
+            Ok(entry) => {
+                let path = String::from_str(rt.alloc(), entry.path().as_str())?;
+                paths.push(path)?;
+            }
+            Err(e) => outcome.fail(rt, asked, path, e),
+        }
+    }
+    Ok(())
+}
+
+/// Puts the paths of what a folder has before those that are still to be searched.
+pub fn push_folder(
+    rt: &HostRuntime,
+    asked: &Asked,
+    outcome: &mut Outcome,
+    left: &mut Vec<String>,
+    path: &str,
+) -> Result<(), AllocError> {
+    let mut paths = Vec::new(rt.alloc());
+    if let Err(e) = read_entries(rt, asked, outcome, path, &mut paths) {
+        outcome.fail(rt, asked, path, e);
+    }
+    while let Some(path) = paths.pop() {
+        left.push(path)?;
+    }
+    Ok(())
+}
