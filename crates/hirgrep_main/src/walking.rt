@@ -78,7 +78,7 @@ pub fn push_folder(
     if let Err(e) = read_entries(rt, asked, outcome, path, &mut paths) {
         outcome.fail(rt, asked, path, e);
     }
-    while let Some(path) = paths.pop() {
+    for path in paths.into_iter().rev() {
         left.push(path)?;
     }
     Ok(())
