@@ -86,7 +86,9 @@ impl Outcome {
         let kept = finder.memory_usage();
         let lines = finder.slow_lines();
         let _ = eprintln!(rt; "hirgrep: files read: {files}\nhirgrep: bytes read: {bytes}");
-        let _ = eprintln!(rt; "hirgrep: caches cleared: {clears}\nhirgrep: bytes in caches: {kept}");
+        let _ = eprintln!(rt;
+            "hirgrep: caches cleared: {clears}\nhirgrep: bytes in caches: {kept}"
+        );
         let _ = eprintln!(rt; "hirgrep: lines in which automata gave up: {lines}");
     }
 }

@@ -19,6 +19,9 @@ returns-in-Ok-new-clause-searcher c = (
 
 pub returns-in-Err-build-clause-refused : goal.returns-in-Err-build-clause-refused
 returns-in-Err-build-clause-refused c =
-    inr (c.in-Ok.trees.items, c.in-Ok.ensures.means,
-    subst (λ (xs : List Tree). RefusesBuild xs line_settings c.in-Err-build.e) c.deref-2.ensures.value
-    (subst (λ (s : Settings). RefusesBuild c.deref-2.result.now s c.in-Err-build.e) c.settings.ensures c.in-Err-build.ensures.refused))
+    inr (
+      c.in-Ok.trees.items,
+      c.in-Ok.ensures.means,
+      subst (λ (xs : List Tree). RefusesBuild xs line_settings c.in-Err-build.e) c.deref-2.ensures.value
+          (subst (λ (s : Settings). RefusesBuild c.deref-2.result.now s c.in-Err-build.e) c.settings.ensures c.in-Err-build.ensures.refused),
+    )
