@@ -15,6 +15,8 @@ pub struct Outcome {
     pub printed: bool,
     /// Something failed.
     pub failed: bool,
+    /// Standard output is a pipe from which nobody reads any more, which isn't told.
+    pub closed: bool,
     /// Nothing more is searched: what is printed can't be written, or all is known that is asked for.
     pub ended: bool,
     /// How many files were read, standard input among them.
@@ -38,7 +40,9 @@ impl Outcome {
                 self.ended |= any && asked.what.print == Print::Nothing;
             }
             Err(Fault::Write) => {
-                let _ = eprintln!(rt; "hirgrep: write fault");
+                if !self.closed {
+                    let _ = eprintln!(rt; "hirgrep: write fault");
+                }
                 self.failed = true;
                 self.ended = true;
             }

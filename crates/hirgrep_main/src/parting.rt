@@ -2,7 +2,7 @@
 
 use grep_core::{Print, What};
 use std::io;
-use std::io::{Stdout, Write};
+use std::io::{ErrorKind, Stdout, Write};
 
 /// Standard output, on which a line that parts stands before the first of these bytes.
 #[derive(Drop)]
@@ -11,6 +11,7 @@ pub struct Parted {
     /// It has no byte where nothing is parted, or it was written.
     parting: &'static [u8],
     wrote: bool,
+    closed: bool,
 }
 
 /// The line that parts groups of lines, which is empty where these aren't parted.
@@ -35,12 +36,18 @@ impl Parted {
             writer,
             parting,
             wrote: false,
+            closed: false,
         }
     }
 
     /// Whether it was given bytes.
     pub fn wrote(&self) -> bool {
         self.wrote
+    }
+
+    /// Whether it is a pipe from which nobody reads any more.
+    pub fn closed(&self) -> bool {
+        self.closed
     }
 
     /// Writes what parts, where it isn't written yet.
@@ -55,7 +62,13 @@ impl Write for Parted {
     fn write(&mut self, buf: &[u8]) -> io::Result<usize> {
         self.part()?;
         self.wrote = true;
-        self.writer.write(buf)
+        match self.writer.write(buf) {
+            Ok(n) => Ok(n),
+            Err(e) => {
+                self.closed = e.kind() == ErrorKind::BrokenPipe;
+                Err(e)
+            }
+        }
     }
 
     fn flush(&mut self) -> io::Result<()> {

@@ -99,6 +99,7 @@ fn search_reader<R: Read + Drop>(
     );
     let told = parted(&mut writer, told);
     outcome.printed |= writer.wrote();
+    outcome.closed = writer.closed();
     outcome.count(reader.count());
     outcome.keep(rt, task.asked, name, told);
 }
