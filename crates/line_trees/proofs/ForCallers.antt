@@ -1,0 +1,9 @@
+-- What the proofs of other crates may cite of this crate, beside its definitions and its public laws.
+-- what a tree means in a line, its line tree means in the block, and a line with a match is a block with one
+pub use Rattle.line_trees.proofs.MeaningLemmas.{means_in_block, match_in_block}
+-- what the line tree means in the block between two places of one line, the tree means in the line
+pub use Rattle.line_trees.proofs.WithinLemmas.{means_in_line}
+-- each look by itself
+pub use Rattle.line_trees.proofs.LineLookLemmas.{same_looks}
+-- what a line tree keeps of the tree
+pub use Rattle.line_trees.proofs.KeptLemmas.{minimum_kept, loops_kept}

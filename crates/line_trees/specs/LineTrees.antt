@@ -1,0 +1,79 @@
+-- Text is searched in blocks of lines. A tree that is meant for one line is read for a block: where it asks for an edge of the
+-- haystack, its line tree asks for an edge of a line. The law is that what the tree means in a line, its line tree means in the block.
+use Rattle.std.specs.Prelude.{◌≡◌, ◌≢◌, ℕ, ◌+◌, ◌≤◌, ◌⊎◌, Bool, false, ◌||◌, List, [], ◌∷◌, ◌++◌, length}
+use Rattle.std.specs.List.{All}
+use Rattle.look_core.specs.Codes.{is_anchor_crlf}
+use Rattle.look_core.specs.Looks.{holds}
+use Rattle.look_core.specs.Terminators.{one_of}
+use Rattle.look_core.specs.declared.look.Look.{Look}
+use Rattle.look_core.specs.declared.look.Look.TheVariants.{Start, End, StartLF, EndLF}
+use Rattle.hir_core.specs.Tree.{Tree, empty, literal, byte_class, char_class, look, repetition, capture, nothing, cat, never, alt}
+use Rattle.hir_core.specs.Means.{Looks, Means}
+
+-- the look that holds in a block of lines where this one holds in a line of it
+abbrev pub line_look : Look → Look
+line_look Start = StartLF
+line_look End = EndLF
+line_look l = l
+
+-- the tree with each of its looks replaced so
+abbrev pub line_tree : Tree → Tree
+line_tree empty = empty
+line_tree (literal bytes) = literal bytes
+line_tree (byte_class ranges) = byte_class ranges
+line_tree (char_class ranges) = char_class ranges
+line_tree (look l) = look (line_look l)
+line_tree (repetition min most greedy x) = repetition min most greedy (line_tree x)
+line_tree (capture index name x) = capture index name (line_tree x)
+line_tree nothing = nothing
+line_tree (cat x y) = cat (line_tree x) (line_tree y)
+line_tree never = never
+line_tree (alt x y) = alt (line_tree x) (line_tree y)
+
+-- Whether a look stands in the tree that knows carriage returns. Where a line ends with one, these two looks hold behind it in the
+-- line alone, which ends there, and not in the block, where a line feed follows: so nothing is said of trees that have them.
+abbrev pub has_crlf : Tree → Bool
+has_crlf empty = false
+has_crlf (literal bytes) = false
+has_crlf (byte_class ranges) = false
+has_crlf (char_class ranges) = false
+has_crlf (look l) = is_anchor_crlf l
+has_crlf (repetition min most greedy x) = has_crlf x
+has_crlf (capture index name x) = has_crlf x
+has_crlf nothing = false
+has_crlf (cat x y) = has_crlf x || has_crlf y
+has_crlf never = false
+has_crlf (alt x y) = has_crlf x || has_crlf y
+
+-- A line stands between these two parts of a block: before it nothing, or text that a line feed ends; behind it nothing, or its own
+-- line feed and more. It has none itself. Bytes need be no UTF-8.
+pub record IsLineBetween (before line after : List ℕ) : Type 0 where
+  pub starts : (before ≡ []) ⊎ ((front : List ℕ) × (before ≡ front ++ (0x0A ∷ [])))
+  pub ends : (after ≡ []) ⊎ ((rest : List ℕ) × (after ≡ 0x0A ∷ rest))
+  pub without_feed : All (λ b. b ≢ 0x0A) line
+
+-- the block
+abbrev pub block_of : List ℕ → List ℕ → List ℕ → List ℕ
+block_of before line after = before ++ (line ++ after)
+
+-- how looks are read in a line, and in a block: a line feed ends a line, and these are the characters of words
+abbrev pub looks_of : (ℕ → Bool) → List ℕ → Looks
+looks_of words h = holds words (one_of 0x0A) h
+
+-- a span that the tree means in the line, its line tree means in the block, where the line's bytes stand there
+abbrev pub MeansInBlock : (ℕ → Bool) → List ℕ → List ℕ → List ℕ → Tree → Type 0
+MeansInBlock words before line after x = (s e : ℕ) → s ≤ length line → Means (looks_of words line) line x s e →
+    Means (looks_of words (block_of before line after)) (block_of before line after) (line_tree x) (length before + s) (length before + e)
+
+-- and the other way round for what the line tree means in the block up to the line's end: it is meant in the line
+abbrev pub MeansInLine : (ℕ → Bool) → List ℕ → List ℕ → List ℕ → Tree → Type 0
+MeansInLine words before line after x = (s e : ℕ) → e ≤ length line →
+    Means (looks_of words (block_of before line after)) (block_of before line after) (line_tree x) (length before + s) (length before + e) →
+    Means (looks_of words line) line x s e
+
+-- the tree has a match in the haystack
+pub record HasMatch (looks : Looks) (h : List ℕ) (x : Tree) : Type 0 where
+  pub start : ℕ
+  pub end : ℕ
+  pub within : start ≤ length h
+  pub means : Means looks h x start end

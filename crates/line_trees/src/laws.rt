@@ -1,0 +1,42 @@
+//! Laws of trees that are meant for one line and read for a block of lines. Each function has no code: its contract is the law.
+ghost use Rattle.std.specs.Prelude.{◌≡◌, ◌↔◌, ◌≤◌, ◌+◌, ℕ, Bool, false, List, length};
+ghost use Rattle.look_core.specs.Codes.{is_anchor_crlf};
+ghost use Rattle.look_core.specs.Looks.{IsWordSet};
+ghost use Rattle.look_core.specs.declared.look.Look.{Look};
+ghost use Rattle.hir_core.specs.Facts.{minimum_len, LoopsRead};
+ghost use Rattle.hir_core.specs.Tree.{Tree};
+ghost use Rattle.line_trees.specs.LineTrees.{line_look, line_tree, has_crlf, IsLineBetween, block_of, looks_of};
+ghost use Rattle.line_trees.specs.LineTrees.{MeansInBlock, MeansInLine, HasMatch};
+
+/// At the places of a line each look but the two of carriage returns holds in the line just where its line look holds in the block.
+#[tactic(auto, using(crate::proofs::LineLookLemmas::same_looks))]
+pub fn line_looks_hold_in_the_block()
+    ensures { (words : ℕ → Bool) (before line after : List ℕ) (l : Look) (i : ℕ) → IsWordSet words → IsLineBetween before line after →
+        is_anchor_crlf l ≡ false → i ≤ length line →
+        looks_of words line l i ≡ looks_of words (block_of before line after) (line_look l) (length before + i) }
+{}
+
+/// What a tree means in a line, its line tree means in each block with that line, at the same bytes: so a line with a match is a block
+/// with one. A block with a match need have no line with one, since the match may reach over the ends of lines.
+#[tactic(auto, using(crate::proofs::MeaningLemmas::means_in_block, crate::proofs::MeaningLemmas::match_in_block))]
+pub fn a_line_with_a_match_is_a_block_with_one()
+    ensures spans { (words : ℕ → Bool) (before line after : List ℕ) (x : Tree) → IsWordSet words → IsLineBetween before line after →
+        has_crlf x ≡ false → MeansInBlock words before line after x }
+    ensures found { (words : ℕ → Bool) (before line after : List ℕ) (x : Tree) → IsWordSet words → IsLineBetween before line after →
+        has_crlf x ≡ false → HasMatch (looks_of words line) line x →
+        HasMatch (looks_of words (block_of before line after)) (block_of before line after) (line_tree x) }
+{}
+
+/// A match of the line tree in the block that reaches over no end of a line is a match of the tree in that line.
+#[tactic(auto, using(crate::proofs::WithinLemmas::means_in_line))]
+pub fn a_match_within_a_line_is_one_of_the_line()
+    ensures { (words : ℕ → Bool) (before line after : List ℕ) (x : Tree) → IsWordSet words → IsLineBetween before line after →
+        has_crlf x ≡ false → MeansInLine words before line after x }
+{}
+
+/// A line tree has the minimum length of the tree, and loops that read where the tree's do.
+#[tactic(auto, using(crate::proofs::KeptLemmas::minimum_kept, crate::proofs::KeptLemmas::loops_kept))]
+pub fn line_trees_read_as_much()
+    ensures least { (x : Tree) → minimum_len (line_tree x) ≡ minimum_len x }
+    ensures loops { (x : Tree) → LoopsRead (line_tree x) ↔ LoopsRead x }
+{}

@@ -1,0 +1,10 @@
+//! A tree that is meant for one line, read for a block of lines.
+//!
+//! The definitions are in `specs/LineTrees.antt`; the laws are public functions without code, in [`laws`]. [`line_tree`] makes such a
+//! tree.
+#![tactic(auto)]
+
+pub mod laws;
+mod trees;
+
+pub use trees::{all_line_trees, any_has_crlf, has_crlf, line_look, line_tree};

@@ -1,0 +1,114 @@
+//! Trees that are read for blocks of lines, and the test for what has none.
+ghost use Rattle.std.specs.Prelude.{◌≡◌, IfOk, map, option_map, string_bytes};
+ghost use Rattle.std.specs.List.{list_any};
+ghost use Rattle.look_core.specs.Codes.{is_anchor_crlf};
+ghost use Rattle.hir_core.specs.Tree.{concat, alternation};
+ghost use Rattle.line_trees.specs.LineTrees.{line_look, line_tree, has_crlf};
+
+use hir_core::{Hir, HirKind};
+use look_core::Look;
+use std::alloc::{AllocError, Global};
+
+/// The look that holds in a block of lines where this one holds in a line of it.
+pub fn line_look(look: Look) -> Look
+    ensures { result ≡ line_look look }
+{
+    match look {
+        Look::Start => Look::StartLF,
+        Look::End => Look::EndLF,
+        other => other,
+    }
+}
+
+/// A copy of the name, if there is one.
+fn copied(alloc: Global, name: &Option<String>) -> Result<Option<String>, AllocError>
+    ensures { IfOk result (λ copy. option_map string_bytes copy ≡ option_map string_bytes name.now) }
+{
+    match name {
+        None => Ok(None),
+        Some(name) => Ok(Some(String::from_str(alloc, name)?)),
+    }
+}
+
+/// The tree with each of its looks replaced by its line look. What the tree means in a line, this one means in each block with that line
+/// ([`a_line_with_a_match_is_a_block_with_one`](crate::laws::a_line_with_a_match_is_a_block_with_one)). Refused only for want of memory.
+#[cycle(line_tree)]
+pub fn line_tree(alloc: Global, x: &Hir) -> Result<Hir, AllocError>
+    ensures { IfOk result (λ y. y ≡ line_tree x.now) }
+{
+    match x.kind() {
+        HirKind::Empty | HirKind::Literal(_) | HirKind::Bytes(_) | HirKind::Chars(_) => {
+            let y = x.try_clone(alloc)?;
+            Ok(y)
+        }
+        HirKind::Look(look) => Ok(Hir::look(line_look(*look))),
+        HirKind::Repetition {
+            min,
+            max,
+            greedy,
+            sub,
+        } => {
+            let body = line_tree(alloc, sub)?;
+            let y = Hir::repetition(alloc, *min, *max, *greedy, body)?;
+            Ok(y)
+        }
+        HirKind::Capture { index, name, sub } => {
+            let body = line_tree(alloc, sub)?;
+            let y = Hir::capture(alloc, *index, copied(alloc, name)?, body)?;
+            Ok(y)
+        }
+        HirKind::Concat(subs) => Ok(Hir::concat(all_line_trees(alloc, subs)?)),
+        HirKind::Alternation(subs) => Ok(Hir::alternation(all_line_trees(alloc, subs)?)),
+    }
+}
+
+/// The line trees of these trees, in their order.
+#[cycle(line_tree)]
+pub fn all_line_trees(alloc: Global, xs: &[Hir]) -> Result<Vec<Hir>, AllocError>
+    ensures { IfOk result (λ ys. ys.items ≡ map line_tree xs.now) }
+{
+    let mut ys = Vec::new(alloc);
+    for x in xs {
+        ys.push(line_tree(alloc, x)?)?;
+    }
+    Ok(ys)
+}
+
+fn knows_crlf(look: Look) -> bool
+    ensures { result ≡ is_anchor_crlf look }
+{
+    match look {
+        Look::StartCRLF | Look::EndCRLF => true,
+        _ => false,
+    }
+}
+
+/// Whether a look stands in the tree that knows carriage returns, so that nothing is said of its line tree.
+#[cycle(has_crlf)]
+pub fn has_crlf(x: &Hir) -> bool
+    ensures { result ≡ has_crlf x.now }
+{
+    match x.kind() {
+        HirKind::Empty | HirKind::Literal(_) | HirKind::Bytes(_) | HirKind::Chars(_) => false,
+        HirKind::Look(look) => knows_crlf(*look),
+        HirKind::Repetition { sub, .. } => has_crlf(sub),
+        HirKind::Capture { sub, .. } => has_crlf(sub),
+        HirKind::Concat(subs) => any_has_crlf(subs),
+        HirKind::Alternation(subs) => any_has_crlf(subs),
+    }
+}
+
+/// Whether one stands in some of the trees.
+#[cycle(has_crlf)]
+pub fn any_has_crlf(xs: &[Hir]) -> bool
+    ensures any { result ≡ list_any has_crlf xs.now }
+    ensures concat { result ≡ has_crlf (concat xs.now) }
+    ensures alternation { result ≡ has_crlf (alternation xs.now) }
+{
+    for x in xs {
+        if has_crlf(x) {
+            return true;
+        }
+    }
+    false
+}
