@@ -1,0 +1,160 @@
+-- What calls of a half search for the earliest end answer, by what the search over values answers.
+use Rattle.std.proofs.Common.{◌≡◌, ◌⊎◌, inl, inr, ℕ, ◌<◌, Bool, true, false, List, length, Option, Some, None, All, refl, sym}
+use Rattle.std.proofs.Common.{ap, ◌∙◌, subst, arith, if◌then◌else◌}
+use Rattle.std.specs.Prelude.{Result, Ok, Err}
+use Rattle.search_core.specs.ByteSets.{has}
+use Rattle.look_core.specs.Looks.{IsWordSet}
+use Rattle.hir_core.specs.Tree.{Tree}
+use Rattle.search_types.specs.declared.anchored.Anchored.{Anchored}
+use Rattle.search_types.specs.declared.match_error.MatchErrorKind.{MatchErrorKind}
+use Rattle.search_types.specs.declared.match_error.MatchErrorKind.TheVariants.{GaveUp, NoMemory, Quit}
+use Rattle.search_types.specs.declared.match_error.MatchErrorKind.TheVariants.{UnsupportedAnchored}
+use Rattle.search_types.specs.Found.{HalfFound}
+use Rattle.search_types.specs.Inputs.{Search}
+use Rattle.nfa_core.specs.NfaValue.{Nfa}
+use Rattle.lazy_dfa.specs.Accounting.{least_capacity}
+use Rattle.lazy_dfa.specs.Building.{built, dfa_of, is_too_small, measures_with}
+use Rattle.lazy_dfa.specs.Caches.{CacheValue}
+use Rattle.lazy_dfa.specs.ConfigValue.{Options, by_hand, capacity_of, changed_by, clears_of, word_boundary_of}
+use Rattle.lazy_dfa.specs.declared.build_error.BuildError.{BuildError}
+use Rattle.lazy_dfa.specs.declared.build_error.BuildError.TheVariants.{InsufficientCacheCapacity, Unsupported}
+use Rattle.lazy_dfa.specs.Dfas.{Dfa, reader}
+use Rattle.lazy_dfa.specs.Linked.{passes_of}
+use Rattle.lazy_dfa.specs.Quits.{is_unsupported}
+use Rattle.lazy_dfa.specs.Readers.{HalfAnswer, found, quit, unsupported}
+use Rattle.lazy_dfa.specs.Scans.{scan}
+use Rattle.lazy_dfa.specs.SearchAnswers.{Answers, half_of, told}
+use Rattle.lazy_dfa.proofs.ForCallers.{never_among, scan_quits_near}
+use Rattle.regex_pair.specs.Pairs.{Pair, back_options, both_of}
+use Rattle.hirscan.specs.declared.settings.Settings.{Settings}
+use Rattle.hirscan.specs.Built.{IsBuilt, quit_bytes_for}
+use Rattle.hirscan.specs.Regexes.{IsRegexOf}
+use Rattle.earliest_ends.specs.Earliest.{IsEarliest, IsEarliestEnd, IsRefusal, earliest_search, looks_by}
+use Rattle.earliest_ends.proofs.SpanLemmas.{found_is_earliest, quit_is_before, never_unsupported}
+
+-- ---- answers, by their kinds
+abbrev Answer : Type 0
+Answer = Result (Option HalfFound) MatchErrorKind
+
+abbrev ok_half : Option HalfFound → Answer
+ok_half o = Ok o
+
+abbrev err_half : MatchErrorKind → Answer
+err_half e = Err e
+
+ok_is_no_refusal : (o : Option HalfFound) (e : MatchErrorKind) → ok_half o ≡ err_half e → ⊥
+ok_is_no_refusal o e is = let never : true ≡ false = cc in grind (arith, never)
+
+same_half : (o u : Option HalfFound) → ok_half o ≡ ok_half u → o ≡ u
+same_half o u is = cc
+
+same_error : (e v : MatchErrorKind) → err_half e ≡ err_half v → e ≡ v
+same_error e v is = cc
+
+-- the search over values found it
+found_of : (a : HalfAnswer) (o : Option HalfFound) → ok_half o ≡ told a → (u : Option (ℕ × ℕ)) × (a ≡ found u) × (o ≡ half_of u)
+found_of (found u) o is = (u, refl, same_half o (half_of u) is)
+found_of (quit b x) o is = absurd (ok_is_no_refusal o (Quit b x) is)
+found_of (unsupported mode) o is = absurd (ok_is_no_refusal o (UnsupportedAnchored mode) is)
+
+-- or it met a quit byte, or can't search in the mode
+refused_of : (a : HalfAnswer) (e : MatchErrorKind) → err_half e ≡ told a →
+    ((b : ℕ) × (x : ℕ) × (a ≡ quit b x) × (e ≡ Quit b x)) ⊎ ((mode : Anchored) × (a ≡ unsupported mode))
+refused_of (found u) e is = absurd (ok_is_no_refusal (half_of u) e (sym is))
+refused_of (quit b x) e is = inl (b, x, refl, same_error e (Quit b x) is)
+refused_of (unsupported mode) e is = inr (mode, refl)
+
+told_by_scan : (d : Dfa) (v : CacheValue) (q : Search) (o : Option HalfFound) → Answers d v q (Ok o) → ok_half o ≡ told (scan (reader d) q)
+told_by_scan d v q o (inl there) = there
+told_by_scan d v q o (inr (inl lacks)) = absurd (ok_is_no_refusal o NoMemory lacks)
+told_by_scan d v q o (inr (inr gave)) = absurd (ok_is_no_refusal o (GaveUp gave.0) gave.1)
+
+-- ---- the options of the automaton that reads forward
+abbrev dfa_ok : Dfa → Result Dfa BuildError
+dfa_ok d = Ok d
+
+abbrev pair_ok : Pair → Result Pair BuildError
+pair_ok p = Ok p
+
+same_dfa : (d v : Dfa) → dfa_ok d ≡ dfa_ok v → d ≡ v
+same_dfa d v e = cc
+
+same_pair_ok : (p v : Pair) → pair_ok p ≡ pair_ok v → p ≡ v
+same_pair_ok p v e = cc
+
+if_ok : (is_refused small : Bool) (e v : BuildError) (d w : Dfa) →
+    (if is_refused then Err e else if small then Err v else dfa_ok d) ≡ dfa_ok w → w ≡ d
+if_ok true small e v d w is = cc
+if_ok false true e v d w is = cc
+if_ok false false e v d w is = sym (same_dfa d w is)
+
+first_built : (x y : Result Dfa BuildError) (p : Pair) → both_of x y ≡ pair_ok p → x ≡ dfa_ok p.forward
+first_built (Ok f) (Ok r) p is =
+    let same : p ≡ record { forward = f; reverse = r } = sym (same_pair_ok (record { forward = f; reverse = r }) p is) in
+    ap (λ (z : Pair). dfa_ok z.forward) (sym same)
+first_built (Ok f) (Err e) p is = cc
+first_built (Err e) r p is = cc
+
+dfa_is : (n : Nfa) (c : Options) (d : Dfa) → built n c ≡ dfa_ok d → d ≡ dfa_of n c
+dfa_is n c d is =
+    if_ok (is_unsupported n.automaton (word_boundary_of c) (by_hand c)) (is_too_small n c) Unsupported
+    (InsufficientCacheCapacity (least_capacity (measures_with n c)) (capacity_of c)) (dfa_of n c) d is
+
+forward_clears : (xs : List Tree) (s : Settings) (p : Pair) → IsBuilt xs s p → clears_of s.dfa ≡ None → clears_of p.forward.options ≡ None
+forward_clears xs s p made none =
+    let first = first_built (built p.forward.nfa s.dfa) (built p.reverse.nfa (changed_by s.dfa back_options)) p made.made in
+    ap (λ (d : Dfa). clears_of d.options) (dfa_is p.forward.nfa s.dfa p.forward first) ∙ none
+
+-- ---- calls
+module _ (xs : List Tree) (s : Settings) (p : Pair) (made : IsBuilt xs s p) (regex : IsRegexOf xs false s.line_terminator p)
+    (quits : p.forward.quits ≡ quit_bytes_for xs s.dfa) (h : List ℕ) (bytes : All (λ byte. byte < 256) h)
+    (words : ℕ → Bool) (set : IsWordSet words) (at : ℕ) (v : CacheValue) where
+  abbrev q : Search
+  q = earliest_search h at (length h)
+
+  pub found_by_call : (o : Option HalfFound) → Answers p.forward v q (Ok o) → IsEarliest xs (looks_by words s h) h at (length h) o
+  found_by_call o answers =
+      let there = found_of (scan (reader p.forward) q) o (told_by_scan p.forward v q o answers) in
+      let P : Option HalfFound → Type 0 = λ u. IsEarliest xs (looks_by words s h) h at (length h) u in
+      subst P (sym there.2) (found_is_earliest xs s.line_terminator p regex h bytes words set at (length h) (omega arith) there.0 there.1)
+
+  -- what the search over values refuses
+  refused_by_scan : (e : MatchErrorKind) → err_half e ≡ told (scan (reader p.forward) q) → IsRefusal words xs s h at e
+  refused_by_scan e is = elim (refused_of (scan (reader p.forward) q) e is) [
+    | inl met ↦
+        let near = scan_quits_near (reader p.forward) q met.0 met.1 met.2 in
+        let P : MatchErrorKind → Type 0 = λ k. IsRefusal words xs s h at k in
+        subst P (sym met.3) (
+          record {
+            stands = near.0;
+            is_quit = subst (λ (marks : List Bool). has marks met.0 ≡ true) quits near.1;
+            behind_start = near.2;
+            before_end = near.3;
+          },
+          quit_is_before xs s.line_terminator p regex h bytes words set at (length h) (omega arith) met.0 met.1 met.2,
+        )
+    | inr never ↦ absurd (never_unsupported (reader p.forward) h at (length h) never.0 never.1)
+  ]
+
+  pub refused_by_call : (e : MatchErrorKind) → Answers p.forward v q (Err e) → IsRefusal words xs s h at e
+  refused_by_call e (inl there) = refused_by_scan e there
+  refused_by_call e (inr (inl lacks)) =
+      let P : MatchErrorKind → Type 0 = λ k. IsRefusal words xs s h at k in subst P (sym (same_error e NoMemory lacks)) tt
+  refused_by_call e (inr (inr gave)) =
+      let P : MatchErrorKind → Type 0 = λ k. IsRefusal words xs s h at k in
+      subst P (sym (same_error e (GaveUp gave.0) gave.1))
+      (λ none. never_among p.forward v (forward_clears xs s p made none) q gave.0 (passes_of (reader p.forward) q) gave.2)
+
+-- ---- the end alone
+module _ (xs : List Tree) (s : Settings) (words : ℕ → Bool) (h : List ℕ) (at : ℕ) (o : Option HalfFound)
+    (is : IsEarliest xs (looks_by words s h) h at (length h) o) where
+  abbrev End : Option HalfFound → Type 0
+  End u = IsEarliest xs (looks_by words s h) h at (length h) u
+
+  pub end_of_none : o ≡ None → IsEarliestEnd xs (looks_by words s h) h at (length h) None
+  end_of_none none = subst End none is
+
+  pub end_of_some : (f : HalfFound) (x : ℕ) → o ≡ Some f → x ≡ f.offset → IsEarliestEnd xs (looks_by words s h) h at (length h) (Some x)
+  end_of_some f x some same =
+      let P : ℕ → Type 0 = λ k. IsEarliestEnd xs (looks_by words s h) h at (length h) (Some k) in
+      let there : End (Some f) = subst End some is in subst P (sym same) (f.pattern, there)

@@ -1,0 +1,4 @@
+pub mod PassLemmas
+pub mod LookLemmas
+pub mod SpanLemmas
+pub mod AnswerLemmas

@@ -1,0 +1,100 @@
+//! One half search forward for the earliest end.
+ghost use Rattle.std.specs.Prelude.{◌≡◌, ◌≤◌, ◌<◌, ℕ, Bool, false, List, All, length, IfOk, IfErr};
+ghost use Rattle.look_core.specs.Looks.{IsWordSet};
+ghost use Rattle.hir_core.specs.Tree.{Tree};
+ghost use Rattle.lazy_dfa.specs.SearchAnswers.{Answers};
+ghost use Rattle.regex_pair.specs.Pairs.{AreCachesOf};
+ghost use Rattle.hirscan.specs.declared.settings.Settings.{Settings};
+ghost use Rattle.hirscan.specs.Built.{IsBuilt, FindsFirst};
+ghost use Rattle.earliest_ends.specs.Earliest.{IsEarliestEnd, IsRefusal, earliest_search, looks_by};
+
+use crate::laws::calls_tell_the_least_end;
+use lazy_dfa::Work;
+use regex_pair::regex::{Cache, Regex};
+use search_types::{HalfMatch, Input, MatchError};
+use std::marker::Brand;
+use std::sync::ledger::{Blank, Ledger};
+
+/// What a block has are bytes.
+fn see_bytes(bytes: &[u8])
+    ensures { All (λ byte. byte < 256) bytes.now }
+{}
+
+/// The search of a block from a place on.
+fn search_from<'h>(block: &'h [u8], at: usize) -> Input<'h>
+    requires { at ≤ length block.now }
+    ensures { result ≡ earliest_search block.now at (length block.now) }
+{
+    let mut input = Input::new(block);
+    input.set_start(at);
+    input.set_earliest(true);
+    input
+}
+
+/// A half search forward, with a count of its work that is made for it.
+fn search_counted<L: Ledger, M: Ledger>(
+    re: &Regex,
+    cache: &mut Cache,
+    input: &Input<'_>,
+    first: Blank,
+    second: Blank,
+) -> Result<Option<HalfMatch>, MatchError>
+    requires own { AreCachesOf re.now cache.old }
+    requires name1 { first.name ≡ L.name }
+    requires parts1 { first.parts ≡ L.parts }
+    requires some1 { 0 < first.parts }
+    requires name2 { second.name ≡ M.name }
+    requires parts2 { second.parts ≡ M.parts }
+    requires some2 { 0 < second.parts }
+    ensures own { AreCachesOf re.now cache.new }
+    ensures untouched { cache.new.reverse ≡ cache.old.reverse }
+    ensures answer { Answers re.now.forward cache.new.forward input.now result }
+{
+    let mut work = Work::<L, M>::new(first, second);
+    re.forward()
+        .try_search_fwd(cache.forward_mut(), input, &mut work)
+}
+
+/// A half search forward whose work nobody counts.
+fn search_once(
+    re: &Regex,
+    cache: &mut Cache,
+    input: &Input<'_>,
+) -> Result<Option<HalfMatch>, MatchError>
+    requires own { AreCachesOf re.now cache.old }
+    ensures own { AreCachesOf re.now cache.new }
+    ensures untouched { cache.new.reverse ≡ cache.old.reverse }
+    ensures answer { Answers re.now.forward cache.new.forward input.now result }
+{
+    let first = Blank::new(1);
+    let second = Blank::new(1);
+    search_counted::<Brand, Brand>(re, cache, input, first, second)
+}
+
+/// The least end of the matches of a block that start at a place or further on, or none. Where the regex is built of trees, finds the
+/// leftmost-first match and isn't in UTF-8 mode, it is the least end of all spans that any of the trees means, whatever their loops read,
+/// for every set of words at once. A search that meets a quit byte is refused; then no such span ends before that byte. So is one for
+/// which memory lacks, or which gives up, which is never where no number of clears is set.
+pub fn find_earliest_end(
+    re: &Regex,
+    cache: &mut Cache,
+    block: &[u8],
+    at: usize,
+) -> Result<Option<usize>, MatchError>
+    requires own { AreCachesOf re.now cache.old }
+    requires within { at ≤ length block.now }
+    ensures own { AreCachesOf re.now cache.new }
+    ensures untouched { cache.new.reverse ≡ cache.old.reverse }
+    ensures found { (xs : List Tree) (s : Settings) → IsBuilt xs s re.now → FindsFirst s → s.utf8 ≡ false → (words : ℕ → Bool) → IsWordSet words →
+        IfOk result (λ o. IsEarliestEnd xs (looks_by words s block.now) block.now at (length block.now) o) }
+    ensures refused { (xs : List Tree) (s : Settings) → IsBuilt xs s re.now → FindsFirst s → s.utf8 ≡ false → (words : ℕ → Bool) → IsWordSet words →
+        IfErr result (λ e. IsRefusal words xs s block.now at e) }
+{
+    see_bytes(block);
+    calls_tell_the_least_end();
+    match search_once(re, cache, &search_from(block, at)) {
+        Ok(Some(half)) => Ok(Some(half.offset())),
+        Ok(None) => Ok(None),
+        Err(e) => Err(e),
+    }
+}
