@@ -8,14 +8,14 @@ use Rattle.grep_core.specs.Lines.{put_first, split_lines}
 abbrev pub is_feed : ℕ → Bool
 is_feed b = b == 10
 
-first_at : (x : ℕ) (xs : List ℕ) (v : Bool) → is_feed x ≡ v → position_or_len is_feed (x ∷ xs) ≡ cond (not v) (1 + position_or_len is_feed xs) 0
+pub first_at : (x : ℕ) (xs : List ℕ) (v : Bool) → is_feed x ≡ v → position_or_len is_feed (x ∷ xs) ≡ cond (not v) (1 + position_or_len is_feed xs) 0
 first_at x xs v e = ap (λ b. cond (not b) (1 + position_or_len is_feed xs) 0) e
 
 by_first : (x : ℕ) (xs more : List ℕ) (v : Bool) → is_feed x ≡ v →
     split_lines (x ∷ (xs ++ more)) ≡ (if v then [] ∷ split_lines (xs ++ more) else put_first x (split_lines (xs ++ more)))
 by_first x xs more v e = ap (λ b. if b then [] ∷ split_lines (xs ++ more) else put_first x (split_lines (xs ++ more))) e
 
-one_more : (n : ℕ) → 1 + n ≡ suc n
+pub one_more : (n : ℕ) → 1 + n ≡ suc n
 one_more n = omega arith
 
 two_more : (n : ℕ) → (1 + n) + 1 ≡ suc (n + 1)
@@ -40,7 +40,7 @@ cut : (text more : List ℕ) → position_or_len is_feed text < length text → 
 cut [] more few = absurd (omega (arith, few))
 cut (x ∷ xs) more few = cut_by x xs more (cut xs more) (is_feed x) refl few
 
-some_at : (b : Bool) (k n : ℕ) → cond b (Some k) None ≡ Some n → (b ≡ true) × (k ≡ n)
+pub some_at : (b : Bool) (k n : ℕ) → cond b (Some k) None ≡ Some n → (b ≡ true) × (k ≡ n)
 some_at true k n e = (refl, same_Some k n e)
 some_at false k n e = absurd (none-some n e)
 

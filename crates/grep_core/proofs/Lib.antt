@@ -1,16 +1,22 @@
 mod BlockLemmas
 mod CourseLemmas
 mod FallbackLemmas
+mod JoinLemmas
 mod ListLemmas
 mod LoopLemmas
 mod MarkLemmas
 mod NeededLemmas
+mod PassLemmas
 mod RegexLemmas
 mod ReportRows
+mod RunLemmas
 mod SeenLemmas
 mod SpanLemmas
 mod StepLemmas
 mod TellingLemmas
 mod TextLemmas
 mod ToldLemmas
+mod WholeLemmas
 mod WriteLemmas
+pub mod LineCutLemmas
+pub mod CandidateLemmas

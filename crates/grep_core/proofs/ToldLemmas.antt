@@ -26,7 +26,7 @@ one_value : {A : Type 0} (o : Option A) (of : A → Re) (D : A → Type 0) (a b 
 one_value None of D a b p q = elim p [ ]
 one_value (Some it) of D a b p q = sym p.1 ∙ q.1
 
-same_patterns : (config : Config) (texts : List (List ℕ)) (res others : List Re) → AreRead config texts res → AreRead config texts others → res ≡ others
+pub same_patterns : (config : Config) (texts : List (List ℕ)) (res others : List Re) → AreRead config texts res → AreRead config texts others → res ≡ others
 same_patterns config [] [] [] p q = refl
 same_patterns config [] [] (b ∷ others) p q = elim q [ ]
 same_patterns config [] (a ∷ res) others p q = elim p [ ]
@@ -42,11 +42,11 @@ starts : {A : Type 0} (f : A → ℕ) (x : Option A) → is_some (option_map f x
 starts f None = refl
 starts f (Some a) = refl
 
-alike_some : {A B : Type 0} (f : A → ℕ) (g : B → ℕ) (x : Option A) (y : Option B) → option_map f x ≡ option_map g y → is_some x ≡ is_some y
+pub alike_some : {A B : Type 0} (f : A → ℕ) (g : B → ℕ) (x : Option A) (y : Option B) → option_map f x ≡ option_map g y → is_some x ≡ is_some y
 alike_some f g x y e = sym (starts f x) ∙ ap is_some e ∙ starts g y
 
 -- any line of bytes is searched, whatever the trees
-is_search : (xs : List Tree) (line : List ℕ) → All (λ b. b < 256) line → IsSearchOf xs false (whole_search line 0)
+pub is_search : (xs : List Tree) (line : List ℕ) → All (λ b. b < 256) line → IsSearchOf xs false (whole_search line 0)
 is_search xs line bytes = record {
   within = grind arith;
   whole = refl;

@@ -7,5 +7,7 @@ pub mod Searchers
 pub mod Courses
 pub mod Telling
 pub mod Blocks
+pub mod Passing
 pub mod Fallbacks
 pub mod Meant
+pub mod Candidates

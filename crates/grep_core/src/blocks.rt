@@ -1,18 +1,22 @@
 //! The lines of blocks of a text.
-ghost use Rattle.std.specs.Prelude.{◌≡◌, ◌++◌, ◌∷◌, [], ℕ, ◌+◌, ◌≤◌, ◌==◌, List, None, OnOk, IfOk, drop, length};
+ghost use Rattle.std.specs.Prelude.{◌≡◌, ◌++◌, ◌∷◌, [], ℕ, ◌+◌, ◌≤◌, ◌==◌, List, None, OnOk, IfOk, drop, length, ◌<◌, ◌≢◌, take, slice_range};
 ghost use Rattle.std.specs.List.{position};
 ghost use Rattle.grep_core.specs.Blocks.{SearchesBy, finds_by, tells_lines, counts_lines};
+ghost use Rattle.grep_core.specs.Candidates.{HaveNoMatch, IsLineStart};
 ghost use Rattle.grep_core.specs.Courses.{Waits};
 ghost use Rattle.grep_core.specs.Lines.{lines_of, split_lines};
+ghost use Rattle.grep_core.specs.Passing.{AreWhole};
 ghost use Rattle.grep_core.specs.Report.{Finds, report_as, selected};
 ghost use Rattle.grep_core.specs.Selecting.{count};
 ghost use Rattle.grep_core.specs.declared.blocks.Task.{Task as TheTask};
 ghost use Rattle.grep_core.specs.declared.what.What.{What as TheWhat};
 
+use crate::candidates::line_start;
 use crate::fault::Fault;
 use crate::finder::Finder;
 use crate::line::Line;
 use crate::looking::look_at;
+use crate::passing::pass_lines;
 use crate::telling::{Telling, tell_line};
 use crate::what::What;
 use std::alloc::Global;
@@ -57,7 +61,7 @@ pub(crate) fn feed_at(text: &[u8]) -> Option<usize>
     text.iter().position(|b| *b == b'\n')
 }
 
-fn sum(a: u64, b: u64) -> Result<u64, Fault>
+pub(crate) fn sum(a: u64, b: u64) -> Result<u64, Fault>
     ensures { IfOk result (λ n. n ≡ a + b) }
 {
     match a.checked_add(b) {
@@ -67,7 +71,7 @@ fn sum(a: u64, b: u64) -> Result<u64, Fault>
 }
 
 /// Goes on behind a line of so many bytes.
-fn pass(progress: &mut Progress, len: usize) -> Result<(), Fault>
+pub(crate) fn pass(progress: &mut Progress, len: usize) -> Result<(), Fault>
     ensures number { OnOk result (progress.new.number ≡ progress.old.number + 1) }
     ensures place { OnOk result (progress.new.place ≡ progress.old.place + len + 1) }
     ensures telling { OnOk result (progress.new.telling ≡ progress.old.telling) }
@@ -115,6 +119,114 @@ pub(crate) fn tell_one(
     pass(progress, bytes.len())
 }
 
+/// How many bytes the whole lines have that a block begins with.
+fn whole_len(block: &[u8]) -> usize
+    ensures within { result ≤ length block.now }
+    ensures whole { AreWhole (take result block.now) }
+    ensures rest { position (λ b. b == 10) (drop result block.now) ≡ None }
+{
+    line_start(block, 0, block.len())
+}
+
+/// Tells the line that starts at a place, if a line feed ends one there. The answer is the place behind it.
+fn tell_here(
+    alloc: Global,
+    out: &mut Vec<u8>,
+    finder: &mut Finder<'_>,
+    task: Task<'_>,
+    progress: &mut Progress,
+    block: &[u8],
+    at: usize,
+) -> Result<usize, Fault>
+    requires waits { Waits task.what.now progress.old.telling.course }
+    requires within { at ≤ length block.now }
+    ensures same { finder.new.0 ≡ finder.old.0 }
+    ensures waits { OnOk result (Waits task.entry.what.now progress.new.telling.course) }
+    ensures within { IfOk result (λ next. next ≤ length block.now) }
+    ensures on { position (λ b. b == 10) (drop at block.now) ≢ None → IfOk result (λ next. at < next) }
+    ensures from { IfOk result (λ next. at ≤ next) }
+    ensures starts { IfOk result (λ next. at < next → IsLineStart block.now next) }
+    ensures goes_on { IfOk result (λ next. (by : SearchesBy task.entry finder.old.0) (more : List ℕ) →
+        out.old.items ++ tells_lines task.entry (finds_by task.entry by) progress.old (split_lines (drop at block.now ++ more))
+        ≡ out.new.items ++ tells_lines task.entry (finds_by task.entry by) progress.new (split_lines (drop next block.now ++ more))) }
+    ensures counts { IfOk result (λ next. (by : SearchesBy task.entry finder.old.0) (more : List ℕ) →
+        counts_lines task.entry (finds_by task.entry by) progress.new (split_lines (drop next block.now ++ more))
+        ≡ counts_lines task.entry (finds_by task.entry by) progress.old (split_lines (drop at block.now ++ more))) }
+{
+    let Some(len) = feed_at(&block[at..]) else {
+        return Ok(at);
+    };
+    match tell_one(alloc, out, finder, task, progress, &block[at..at + len]) {
+        Ok(()) => {}
+        Err(e) => return Err(e),
+    }
+    Ok(at + len + 1)
+}
+
+/// Where the next line starts that is looked at, from the start of a line on: lines without a match are told as such where these aren't
+/// asked for.
+fn next_looked_at(
+    finder: &mut Finder<'_>,
+    task: Task<'_>,
+    block: &[u8],
+    at: usize,
+) -> Result<usize, Fault>
+    requires within { at ≤ length block.now }
+    requires starts { IsLineStart block.now at }
+    ensures same { finder.new.0 ≡ finder.old.0 }
+    ensures from { IfOk result (λ next. at ≤ next) }
+    ensures within { IfOk result (λ next. next ≤ length block.now) }
+    ensures starts { IfOk result (λ next. next < length block.now → IsLineStart block.now next) }
+    ensures passed { IfOk result (λ next. HaveNoMatch finder.old.0.config finder.old.0.texts (slice_range block.now at next)) }
+{
+    if task.what.invert {
+        return Ok(at);
+    }
+    finder.next_line(block, at)
+}
+
+/// Tells lines from the start of one on: those without a match, and the next one. The answer is the place behind them. The block has
+/// whole lines alone.
+fn tell_next(
+    alloc: Global,
+    out: &mut Vec<u8>,
+    finder: &mut Finder<'_>,
+    task: Task<'_>,
+    progress: &mut Progress,
+    block: &[u8],
+    at: usize,
+) -> Result<usize, Fault>
+    requires waits { Waits task.what.now progress.old.telling.course }
+    requires below { at < length block.now }
+    requires starts { IsLineStart block.now at }
+    requires whole { AreWhole block.now }
+    ensures same { finder.new.0 ≡ finder.old.0 }
+    ensures waits { OnOk result (Waits task.entry.what.now progress.new.telling.course) }
+    ensures on { IfOk result (λ next. at < next) }
+    ensures within { IfOk result (λ next. next ≤ length block.now) }
+    ensures starts { IfOk result (λ next. IsLineStart block.now next) }
+    ensures goes_on { IfOk result (λ next. (by : SearchesBy task.entry finder.old.0) (more : List ℕ) →
+        out.old.items ++ tells_lines task.entry (finds_by task.entry by) progress.old (split_lines (drop at block.now ++ more))
+        ≡ out.new.items ++ tells_lines task.entry (finds_by task.entry by) progress.new (split_lines (drop next block.now ++ more))) }
+    ensures counts { IfOk result (λ next. (by : SearchesBy task.entry finder.old.0) (more : List ℕ) →
+        counts_lines task.entry (finds_by task.entry by) progress.new (split_lines (drop next block.now ++ more))
+        ≡ counts_lines task.entry (finds_by task.entry by) progress.old (split_lines (drop at block.now ++ more))) }
+{
+    let next = match next_looked_at(finder, task, block, at) {
+        Ok(next) => next,
+        Err(e) => return Err(e),
+    };
+    match pass_lines(alloc, out, task, progress, &block[at..next]) {
+        Ok(()) => {}
+        Err(e) => return Err(e),
+    }
+    let behind = match tell_here(alloc, out, finder, task, progress, block, next) {
+        Ok(behind) => behind,
+        Err(e) => return Err(e),
+    };
+    Ok(behind)
+}
+
 /// Tells the whole lines that a block begins with. The answer counts their bytes.
 pub(crate) fn tell_block(
     alloc: Global,
@@ -136,10 +248,13 @@ pub(crate) fn tell_block(
         counts_lines task.entry (finds_by task.entry by) progress.new (split_lines (drop done block.now ++ more))
         ≡ counts_lines task.entry (finds_by task.entry by) progress.old (split_lines (block.now ++ more))) }
 {
+    let whole = whole_len(block);
     let mut done = 0usize;
-    while let Some(len) = feed_at(&block[done..]) {
-        tell_one(alloc, out, finder, task, progress, &block[done..done + len])?;
-        done += len + 1;
+    while done < whole {
+        done = match tell_next(alloc, out, finder, task, progress, &block[..whole], done) {
+            Ok(next) => next,
+            Err(e) => return Err(e),
+        };
     }
     Ok(done)
 }

@@ -96,7 +96,7 @@ fn after_of(what: &What) -> u64
 }
 
 /// How many lines are printed before a selected one.
-fn before_of(what: &What) -> u64
+pub(crate) fn before_of(what: &What) -> u64
     ensures { result ≡ before_of what.now.context }
 {
     match what.context {

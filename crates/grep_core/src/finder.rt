@@ -1,10 +1,12 @@
 //! Patterns are found by automata, and where these give up at a quit byte by the toolchain's regexes of the same texts.
-ghost use Rattle.std.specs.Prelude.{◌≡◌, All, IfErr, IfOk, map, false};
+ghost use Rattle.std.specs.Prelude.{◌≡◌, All, IfErr, IfOk, map, false, ◌≤◌, ◌<◌, length, slice_range};
 ghost use Rattle.hir_core.specs.Facts.{LoopsRead};
+ghost use Rattle.grep_core.specs.Candidates.{HaveNoMatch, IsLineStart};
 ghost use Rattle.grep_core.specs.Fallbacks.{AreRegexesOf};
 ghost use Rattle.grep_core.specs.Printing.{span_pair};
 ghost use Rattle.grep_core.specs.Searchers.{IsSearcherOf, IsTold, AreTold, IsRefused, SearchesFor};
 
+use crate::candidates::{Candidates, candidates_of};
 use crate::fallback::{all_matches, has_any, regexes_of};
 use crate::fault::Fault;
 use crate::searcher::{Searcher, SearcherError};
@@ -26,11 +28,13 @@ pub struct Finder<'t> {
     config: Config,
     regexes: Option<Vec<Regex>>,
     slow: u64,
+    candidates: Option<Candidates>,
 }
 
 impl<'t> Model for Finder<'t> {
     ghost use Rattle.std.specs.Prelude.{◌≡◌, IfSome, false, map};
     ghost use Rattle.regex_pair.specs.Pairs.{PairCache};
+    ghost use Rattle.grep_core.specs.Candidates.{IsCandidatesOf};
     ghost use Rattle.grep_core.specs.Fallbacks.{AreRegexesOf};
     ghost use Rattle.grep_core.specs.Searchers.{Sought};
 
@@ -38,7 +42,8 @@ impl<'t> Model for Finder<'t> {
 
     ghost view = { λ f. (record { pair = f.searcher.0; config = f.config; texts = map (λ t. t.now) f.texts.now }, f.searcher.1) };
 
-    ghost invariant = { λ f. (f.config ≡ record (f.config) { utf8 = false }) × IfSome f.regexes (λ rs. AreRegexesOf f.config (map (λ t. t.now) f.texts.now) rs.items) };
+    ghost invariant = { λ f. (f.config ≡ record (f.config) { utf8 = false }) × IfSome f.regexes (λ rs. AreRegexesOf f.config (map (λ t. t.now) f.texts.now) rs.items)
+        × IfSome f.candidates (λ c. IsCandidatesOf f.config (map (λ t. t.now) f.texts.now) c.0) };
 }
 
 /// Whether a search was refused for want of memory.
@@ -78,7 +83,29 @@ impl<'t> Finder<'t> {
             config,
             regexes: None,
             slow: 0,
+            candidates: candidates_of(alloc, texts, &config),
         })
+    }
+
+    /// Where the next line of a block starts that may have a match, or the end of the block where none may. The given place is the start
+    /// of a line, and no line from there on that stands before the answer has a match.
+    pub(crate) fn next_line(&mut self, block: &[u8], at: usize) -> Result<usize, Fault>
+        requires within { at ≤ length block.now }
+        requires starts { IsLineStart block.now at }
+        ensures same { self.new.0 ≡ self.old.0 }
+        ensures from { IfOk result (λ next. at ≤ next) }
+        ensures within { IfOk result (λ next. next ≤ length block.now) }
+        ensures starts { IfOk result (λ next. next < length block.now → IsLineStart block.now next) }
+        ensures passed { IfOk result (λ next. HaveNoMatch self.old.0.config self.old.0.texts (slice_range block.now at next)) }
+    {
+        let Some(candidates) = &mut self.candidates else {
+            return Ok(at);
+        };
+        let next = match candidates.next_line(block, at) {
+            Ok(next) => next,
+            Err(e) => return Err(e),
+        };
+        Ok(next)
     }
 
     /// How often the caches of the automata were cleared; the greatest number stands for any above it.

@@ -6,6 +6,7 @@
 #![tactic(auto)]
 
 mod blocks;
+mod candidates;
 mod course;
 mod fallback;
 mod fault;
@@ -14,6 +15,7 @@ mod known;
 mod line;
 mod listing;
 mod looking;
+mod passing;
 mod patterns;
 mod printing;
 mod reading;

@@ -53,7 +53,7 @@ pub(crate) fn see_bytes(bytes: &[u8])
 {}
 
 /// Any bytes are searched, as the program of the notation searches them.
-fn settings() -> Settings
+pub(crate) fn settings() -> Settings
     ensures { result ≡ line_settings }
 {
     program_settings(Settings {

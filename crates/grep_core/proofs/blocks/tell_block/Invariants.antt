@@ -1,12 +1,14 @@
-use Rattle.std.proofs.Common.{◌≡◌, ◌++◌, ◌-◌, ◌≤◌, ℕ, List, drop, length}
+use Rattle.std.proofs.Common.{◌≡◌, ◌++◌, ◌-◌, ◌≤◌, ℕ, List, drop, take}
 use Rattle.grep_core.specs.Blocks.{SearchesBy, finds_by, tells_lines, counts_lines}
+use Rattle.grep_core.specs.Candidates.{IsLineStart}
 use Rattle.grep_core.specs.Courses.{Waits}
 use Rattle.grep_core.specs.Lines.{split_lines}
 use Rattle.grep_core.proofs.blocks.tell_block.Given as goal
 
-abbrev pub invariant-loop-len : goal.invariant-loop-len
-invariant-loop-len l = record {
-  in_block : l.done ≤ length l.block;
+abbrev pub invariant-loop-done : goal.invariant-loop-done
+invariant-loop-done l = record {
+  in_whole : l.done ≤ l.whole;
+  starts : IsLineStart (take l.whole l.block) l.done;
   same : l.finder.0 ≡ l.initial.finder.0;
   waits : Waits l.task.what.now l.progress.telling.course;
   printed : (by : SearchesBy l.task l.initial.finder.0) (more : List ℕ) →
@@ -17,5 +19,5 @@ invariant-loop-len l = record {
       ≡ counts_lines l.task (finds_by l.task by) l.initial.progress (split_lines (l.block ++ more));
 }
 
-abbrev pub decreases-loop-len : goal.decreases-loop-len
-decreases-loop-len l = length l.block - l.done
+abbrev pub decreases-loop-done : goal.decreases-loop-done
+decreases-loop-done l = l.whole - l.done

@@ -1,0 +1,178 @@
+-- The lines of a part of a text: what stands before each in the text, and behind it.
+use Rattle.std.proofs.Common.{◌≡◌, ◌≢◌, ◌≤◌, ◌<◌, ◌⊎◌, inl, inr, ℕ, zero, suc, ◌+◌, ◌-◌, ◌==◌, Bool, true, false, List, [], ◌∷◌, ◌++◌, All, length, take, drop}
+use Rattle.std.proofs.Common.{slice_get, slice_range, Some, if◌then◌else◌, refl, sym, ap, ◌∙◌, subst, arith, length-append, append_assoc, append-nil, take-append-drop, length-drop}
+use Rattle.std.proofs.lemmas.Bool.{eqb-true, eq-eqb}
+use Rattle.std.proofs.lemmas.List.{length-take-le, drop_all}
+use Rattle.std.proofs.lemmas.List.Elements.{All-nil, All-cons, All-head, All-tail, All-append}
+use Rattle.std.proofs.lemmas.List.Folds.{drop_split}
+use Rattle.std.proofs.lemmas.Option.{none-some, same_Some}
+use Rattle.line_trees.specs.LineTrees.{IsLineBetween, block_of}
+use Rattle.grep_core.specs.Candidates.{IsLineStart}
+use Rattle.grep_core.specs.Lines.{put_first, split_lines}
+
+abbrev pub HasNoFeed : List ℕ → Type 0
+HasNoFeed line = All (λ b. b ≢ 10) line
+
+-- before a line stands nothing, or what a line feed ends
+abbrev pub IsBefore : List ℕ → Type 0
+IsBefore before = (before ≡ []) ⊎ ((front : List ℕ) × (before ≡ front ++ (10 ∷ [])))
+
+-- the line stands in the block, at this place or behind it, and ends before x
+pub record StandsIn (block : List ℕ) (at x : ℕ) (line : List ℕ) : Type 0 where
+  pub before : List ℕ
+  pub after : List ℕ
+  pub between : IsLineBetween before line after
+  pub whole : block ≡ block_of before line after
+  pub from : at ≤ length before
+  pub ends : length before + length line < x
+
+-- ---- how lines are split
+is_no_feed : (b : ℕ) → b ≢ 10 → (v : Bool) → (b == 10) ≡ v → (b == 10) ≡ false
+is_no_feed b none true e = absurd (none (eqb-true b 10 e))
+is_no_feed b none false e = e
+
+put : (b : ℕ) (bs : List ℕ) → b ≢ 10 → split_lines (b ∷ bs) ≡ put_first b (split_lines bs)
+put b bs none = ap (λ v. if v then [] ∷ split_lines bs else put_first b (split_lines bs)) (is_no_feed b none (b == 10) refl)
+
+split_ended : (line rest : List ℕ) → HasNoFeed line → split_lines (line ++ (10 ∷ rest)) ≡ line ∷ split_lines rest
+split_ended [] rest none = refl
+split_ended (b ∷ bs) rest none =
+    put b (bs ++ (10 ∷ rest)) (All-head (λ c. c ≢ 10) b bs none)
+    ∙ ap (put_first b) (split_ended bs rest (All-tail (λ c. c ≢ 10) b bs none))
+
+split_last : (b : ℕ) (bs : List ℕ) → HasNoFeed (b ∷ bs) → split_lines (b ∷ bs) ≡ (b ∷ bs) ∷ []
+split_last b [] none = put b [] (All-head (λ c. c ≢ 10) b [] none)
+split_last b (c ∷ cs) none =
+    put b (c ∷ cs) (All-head (λ d. d ≢ 10) b (c ∷ cs) none)
+    ∙ ap (put_first b) (split_last c cs (All-tail (λ d. d ≢ 10) b (c ∷ cs) none))
+
+-- ---- where a text ends, of which the line has been read: at the end of a line, or it is the block's end, which lies before x
+abbrev IsWhole : List ℕ → List ℕ → Type 0
+IsWhole line text = (text ≡ [] → line ≡ []) × ((k : ℕ) → length text ≡ suc k → slice_get text k ≡ Some 10)
+
+abbrev Ends : ℕ → List ℕ → List ℕ → List ℕ → List ℕ → Type 0
+Ends x before line text after = IsWhole line text ⊎ ((after ≡ []) × (length before + (length line + length text) < x))
+
+-- what is to be shown of the lines of the text, of whose first one some bytes were read
+abbrev Cuts : List ℕ → ℕ → ℕ → List ℕ → List ℕ → Type 0
+Cuts block at x after text = (before line : List ℕ) → IsBefore before → HasNoFeed line → block ≡ block_of before line (text ++ after) →
+    at ≤ length before → length before + (length line + length text) ≤ x → Ends x before line text after →
+    All (StandsIn block at x) (split_lines (line ++ text))
+
+module _ (block : List ℕ) (at x : ℕ) (after : List ℕ) where
+  last_line : (before : List ℕ) (b : ℕ) (bs : List ℕ) → IsBefore before → HasNoFeed (b ∷ bs) → block ≡ block_of before (b ∷ bs) after →
+      at ≤ length before → Ends x before (b ∷ bs) [] after → All (StandsIn block at x) (split_lines (b ∷ bs))
+  last_line before b bs starts none whole from (inl e) = absurd (grind (arith, e.0 refl))
+  last_line before b bs starts none whole from (inr e) =
+      subst (All (StandsIn block at x)) (sym (split_last b bs none))
+      (All-cons (StandsIn block at x) (b ∷ bs) [] (record {
+        before = before;
+        after = after;
+        between = record { starts = starts; ends = inl e.0; without_feed = none };
+        whole = whole;
+        from = from;
+        ends = omega (arith, e.1);
+      }) (All-nil (StandsIn block at x)))
+
+  cut_none : Cuts block at x after []
+  cut_none before [] starts none whole from fits ends = All-nil (StandsIn block at x)
+  cut_none before (b ∷ bs) starts none whole from fits ends =
+      subst (λ (t : List ℕ). All (StandsIn block at x) (split_lines t)) (sym (append-nil (b ∷ bs)))
+      (last_line before b bs starts none whole from ends)
+
+  -- behind a line feed
+  ended_on : (b : ℕ) (bs before line : List ℕ) → Ends x before line (b ∷ bs) after → Ends x (before ++ (line ++ (10 ∷ []))) [] bs after
+  ended_on b bs before line (inl e) = inl ((λ _. refl), (λ k is. e.1 (suc k) (ap suc is)))
+  ended_on b bs before line (inr e) =
+      inr (e.0, omega (arith, e.1, length-append before (line ++ (10 ∷ [])), length-append line (10 ∷ [])))
+
+  -- behind another byte
+  read_on : (b : ℕ) (bs before line : List ℕ) → b ≢ 10 → Ends x before line (b ∷ bs) after → Ends x before (line ++ (b ∷ [])) bs after
+  read_on b bs before line none (inl e) = inl (
+    (λ over. absurd (none (same_Some b 10 (e.1 0 (ap (λ (t : List ℕ). suc (length t)) over))))),
+    (λ k is. e.1 (suc k) (ap suc is)),
+  )
+  read_on b bs before line none (inr e) = inr (e.0, omega (arith, e.1, length-append line (b ∷ [])))
+
+  cut_step : (b : ℕ) (bs : List ℕ) → Cuts block at x after bs → (v : Bool) → (b == 10) ≡ v → Cuts block at x after (b ∷ bs)
+  cut_step b bs rest true is before line starts none whole from fits ends =
+      let feed : b ≡ 10 = eqb-true b 10 is in
+      let here : block ≡ block_of before line (10 ∷ (bs ++ after)) = whole ∙ ap (λ c. block_of before line (c ∷ (bs ++ after))) feed in
+      let behind : block ≡ block_of (before ++ (line ++ (10 ∷ []))) [] (bs ++ after) =
+      here ∙ sym (ap (λ (t : List ℕ). before ++ t) (append_assoc line (10 ∷ []) (bs ++ after)))
+      ∙ sym (append_assoc before (line ++ (10 ∷ [])) (bs ++ after)) in
+      let long = length-append before (line ++ (10 ∷ [])) in
+      let longer = length-append line (10 ∷ []) in
+      subst (All (StandsIn block at x)) (sym (ap (λ c. split_lines (line ++ (c ∷ bs))) feed ∙ split_ended line bs none))
+      (All-cons (StandsIn block at x) line (split_lines bs) (record {
+        before = before;
+        after = 10 ∷ (bs ++ after);
+        between = record { starts = starts; ends = inr (bs ++ after, refl); without_feed = none };
+        whole = here;
+        from = from;
+        ends = omega (arith, fits);
+      }) (rest (before ++ (line ++ (10 ∷ []))) [] (inr (before ++ line, sym (append_assoc before line (10 ∷ [])))) (All-nil (λ c. c ≢ 10)) behind
+      (omega (arith, from, long)) (omega (arith, fits, long, longer)) (ended_on b bs before line ends)))
+  cut_step b bs rest false is before line starts none whole from fits ends =
+      let other : b ≢ 10 = λ e. absurd (grind (arith, eq-eqb b 10 e, is)) in
+      let long = length-append line (b ∷ []) in
+      subst (λ (t : List ℕ). All (StandsIn block at x) (split_lines t)) (append_assoc line (b ∷ []) bs)
+      (rest before (line ++ (b ∷ [])) starts
+      (All-append (λ c. c ≢ 10) line (b ∷ []) none (All-cons (λ c. c ≢ 10) b [] other (All-nil (λ c. c ≢ 10))))
+      (whole ∙ sym (ap (λ (t : List ℕ). before ++ t) (append_assoc line (b ∷ []) (bs ++ after))))
+      from (omega (arith, fits, long)) (read_on b bs before line other ends))
+
+  cut_all : (text : List ℕ) → Cuts block at x after text
+  cut_all [] = cut_none
+  cut_all (b ∷ bs) = cut_step b bs (cut_all bs) (b == 10) refl
+
+-- ---- a part of a block
+take_one_more : (xs : List ℕ) (k b : ℕ) → slice_get xs k ≡ Some b → take (suc k) xs ≡ take k xs ++ (b ∷ [])
+take_one_more [] k b e = absurd (none-some b e)
+take_one_more (x ∷ xs) zero b e = ap (λ c. c ∷ []) (same_Some x b e)
+take_one_more (x ∷ xs) (suc k) b e = ap (λ (t : List ℕ). x ∷ t) (take_one_more xs k b e)
+
+get_taken : (n : ℕ) (xs : List ℕ) (k : ℕ) → k < n → slice_get (take n xs) k ≡ slice_get xs k
+get_taken zero xs k less = absurd (omega (arith, less))
+get_taken (suc n) [] k less = refl
+get_taken (suc n) (x ∷ xs) zero less = refl
+get_taken (suc n) (x ∷ xs) (suc k) less = get_taken n xs k (omega (arith, less))
+
+pub get_dropped : (n : ℕ) (xs : List ℕ) (k : ℕ) → slice_get (drop n xs) k ≡ slice_get xs (n + k)
+get_dropped zero xs k = let same : k ≡ 0 + k = omega arith in ap (slice_get xs) same
+get_dropped (suc n) [] k = refl
+get_dropped (suc n) (x ∷ xs) k =
+    let one : suc (n + k) ≡ suc n + k = omega arith in
+    get_dropped n xs k ∙ ap (slice_get (x ∷ xs)) one
+
+pub before_start : (block : List ℕ) (at : ℕ) → IsLineStart block at → IsBefore (take at block)
+before_start block zero start = inl refl
+before_start block (suc k) start =
+    let one : suc k - 1 ≡ k = omega arith in
+    inr (take k block, take_one_more block k 10 (sym (ap (slice_get block) one) ∙ start (omega arith)))
+
+length_range : (block : List ℕ) (at next : ℕ) → at ≤ next → next ≤ length block → length (slice_range block at next) ≡ next - at
+length_range block at next low high = length-take-le (next - at) (drop at block) (omega (arith, length-drop at block, low, high))
+
+-- the lines between two places: from the start of a line to the start of another one, or to the end of the block
+pub lines_between : (block : List ℕ) (at next x : ℕ) → IsLineStart block at → at < next → next ≤ length block → next ≤ x →
+    ((slice_get block (next - 1) ≡ Some 10) ⊎ ((next ≡ length block) × (next < x))) →
+    All (StandsIn block at x) (split_lines (slice_range block at next))
+lines_between block at next x start low high fits end =
+    let from : at ≤ next = omega (arith, low) in
+    let len = length_range block at next from high in
+    let front = length-take-le at block (omega (arith, low, high)) in
+    let whole : block ≡ block_of (take at block) [] (slice_range block at next ++ drop next block) =
+    sym (take-append-drop at block) ∙ ap (λ (t : List ℕ). take at block ++ t) (drop_split block at next from) in
+    cut_all block at x (drop next block) (slice_range block at next) (take at block) [] (before_start block at start) (All-nil (λ c. c ≢ 10)) whole
+    (omega (arith, front)) (omega (arith, front, len, low, fits)) (ending end len front)
+  where
+    ending : ((slice_get block (next - 1) ≡ Some 10) ⊎ ((next ≡ length block) × (next < x))) → length (slice_range block at next) ≡ next - at →
+        length (take at block) ≡ at → Ends x (take at block) [] (slice_range block at next) (drop next block)
+    ending (inl feed) len front = inl (
+      (λ _. refl),
+      (λ k is.
+          let place : at + k ≡ next - 1 = omega (arith, is, len, low) in
+          get_taken (next - at) (drop at block) k (omega (arith, is, len)) ∙ get_dropped at block k ∙ ap (slice_get block) place ∙ feed),
+    )
+    ending (inr last) len front = inr (drop_all next block (omega (arith, last.0)), omega (arith, last.1, len, front, low))

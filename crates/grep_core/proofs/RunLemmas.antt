@@ -1,0 +1,70 @@
+-- A run of lines without a match, line by line.
+use Rattle.std.proofs.Common.{◌≡◌, ℕ, ◌+◌, List, [], ◌∷◌, ◌++◌, All, Some, false, refl, length, take, drop, drop-drop, append-nil, sym, ap, ap₂, ◌∙◌, subst}
+use Rattle.std.proofs.lemmas.List.{nil_from_length}
+use Rattle.std.proofs.lemmas.List.Elements.{All-head, All-tail, All-weaker}
+use Rattle.std.specs.List.{position}
+use Rattle.grep_core.specs.declared.blocks.Task.{Task}
+use Rattle.grep_core.specs.Blocks.{SearchesBy, finds_by}
+use Rattle.grep_core.specs.Lines.{split_lines}
+use Rattle.grep_core.specs.Passing.{Lacks}
+use Rattle.grep_core.specs.Report.{Finds}
+use Rattle.grep_core.specs.Searchers.{Sought, found_by}
+use Rattle.grep_core.proofs.BlockLemmas.{is_feed, first_line}
+use Rattle.grep_core.proofs.SeenLemmas.{none_found}
+
+-- lines in which nothing is found have no text of a match
+pub all_lack : (t : Task) (s : Sought) (by : SearchesBy t s) (lines : List (List ℕ)) →
+    All (λ line. (found_by by).has_match line ≡ false) lines →
+    All (Lacks (finds_by t by)) lines
+all_lack t s by lines none =
+    All-weaker (λ line. (found_by by).has_match line ≡ false) (Lacks (finds_by t by))
+    (λ line lacks. record { no_match = lacks; no_text = none_found t.what.now by.patterns line false (sym lacks) refl }) lines none
+
+-- the first of the lines that are left, and the others
+cut_lines : (block text piece : List ℕ) (done len : ℕ) → text ≡ drop done block → position is_feed text ≡ Some len →
+    piece ≡ take len text → split_lines (drop done block) ≡ piece ∷ split_lines (drop (done + (len + 1)) block)
+cut_lines block text piece done len rest found cut =
+    ap split_lines (sym rest ∙ sym (append-nil text))
+    ∙ first_line text [] len found
+    ∙ ap₂ (λ line t. line ∷ split_lines t) (sym cut)
+    (append-nil (drop (len + 1) text) ∙ ap (drop (len + 1)) rest ∙ drop-drop (len + 1) done block)
+
+module _ (f : Finds) (block text piece : List ℕ) (done len : ℕ) (rest : text ≡ drop done block)
+    (found : position is_feed text ≡ Some len) (cut : piece ≡ take len text) (lack : All (Lacks f) (split_lines (drop done block))) where
+  both_lack : All (Lacks f) (piece ∷ split_lines (drop (done + (len + 1)) block))
+  both_lack = subst (λ (lines : List (List ℕ)). All (Lacks f) lines) (cut_lines block text piece done len rest found cut) lack
+
+  pub one_lacks : Lacks f piece
+  one_lacks = All-head (Lacks f) piece (split_lines (drop (done + (len + 1)) block)) both_lack
+
+  pub others_lack : All (Lacks f) (split_lines (drop (done + (len + 1)) block))
+  others_lack = All-tail (Lacks f) piece (split_lines (drop (done + (len + 1)) block)) both_lack
+
+-- all that are left
+pub others_told : {P : Type 0} (tells : P → List (List ℕ) → List ℕ) (p q : P) (block text more all out : List ℕ) (done : ℕ) →
+    text ≡ drop done block → all ≡ out ++ tells p (split_lines (drop done block ++ more)) →
+    tells p (split_lines (text ++ more)) ≡ tells q (split_lines more) → all ≡ out ++ tells q (split_lines more)
+others_told tells p q block text more all out done rest so_far goes_on =
+    so_far ∙ ap (λ t. out ++ tells p (split_lines (t ++ more))) (sym rest) ∙ ap (λ t. out ++ t) goes_on
+
+pub others_counted : {P : Type 0} (counts : P → List (List ℕ) → ℕ) (p q : P) (block text more : List ℕ) (all done : ℕ) →
+    text ≡ drop done block → counts p (split_lines (drop done block ++ more)) ≡ all →
+    counts q (split_lines more) ≡ counts p (split_lines (text ++ more)) → counts q (split_lines more) ≡ all
+others_counted counts p q block text more all done rest so_far goes_on =
+    goes_on ∙ ap (λ t. counts p (split_lines (t ++ more))) rest ∙ so_far
+
+-- or none is left
+none_left : (block text more : List ℕ) (done : ℕ) → text ≡ drop done block → length text ≡ 0 →
+    split_lines (drop done block ++ more) ≡ split_lines more
+none_left block text more done rest none = ap (λ t. split_lines (t ++ more)) (sym rest ∙ nil_from_length text none)
+
+pub none_told : {P : Type 0} (tells : P → List (List ℕ) → List ℕ) (p : P) (block text more all out : List ℕ) (done : ℕ) →
+    text ≡ drop done block → length text ≡ 0 → all ≡ out ++ tells p (split_lines (drop done block ++ more)) →
+    all ≡ out ++ tells p (split_lines more)
+none_told tells p block text more all out done rest none so_far =
+    so_far ∙ ap (λ lines. out ++ tells p lines) (none_left block text more done rest none)
+
+pub none_counted : {P : Type 0} (counts : P → List (List ℕ) → ℕ) (p : P) (block text more : List ℕ) (all done : ℕ) →
+    text ≡ drop done block → length text ≡ 0 → counts p (split_lines (drop done block ++ more)) ≡ all → counts p (split_lines more) ≡ all
+none_counted counts p block text more all done rest none so_far =
+    sym (ap (counts p) (none_left block text more done rest none)) ∙ so_far

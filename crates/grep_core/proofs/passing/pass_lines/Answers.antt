@@ -1,0 +1,17 @@
+use Rattle.std.proofs.lemmas.Result.{on_ok_weaker}
+use Rattle.grep_core.specs.Blocks.{finds_by}
+use Rattle.grep_core.specs.Lines.{split_lines}
+use Rattle.grep_core.proofs.RunLemmas.{all_lack}
+use Rattle.grep_core.proofs.passing.pass_lines.Goals as goal
+
+pub returns-clause-goes_on : goal.returns-clause-goes_on
+returns-clause-goes_on c =
+    on_ok_weaker c.tell_lacking.result
+    (λ goes_on s by none. goes_on (finds_by c.args.task by) (all_lack c.args.task s by (split_lines c.args.lines.now) none))
+    c.tell_lacking.ensures.goes_on
+
+pub returns-clause-counts : goal.returns-clause-counts
+returns-clause-counts c =
+    on_ok_weaker c.tell_lacking.result
+    (λ goes_on s by none. goes_on (finds_by c.args.task by) (all_lack c.args.task s by (split_lines c.args.lines.now) none))
+    c.tell_lacking.ensures.counts

@@ -1,0 +1,54 @@
+-- Which lines of a text may have a match, by a regex of trees that are read for blocks of lines.
+use Rattle.std.specs.Prelude.{◌≡◌, ℕ, ◌+◌, ◌-◌, ◌<◌, ◌≤◌, false, List, All, map, length, slice_get, Option, Some, None}
+use Rattle.ucd_perl.specs.Perl.{is_word_char}
+use Rattle.regex_hir.specs.Re.{Re}
+use Rattle.regex_syntax.specs.declared.Config.{Config}
+use Rattle.hir_core.specs.Tree.{Tree}
+use Rattle.line_trees.specs.LineTrees.{line_tree, has_crlf}
+use Rattle.regex_pair.specs.Pairs.{Pair}
+use Rattle.hirscan.specs.Built.{IsBuilt, quit_bytes_for}
+use Rattle.hirscan.specs.Headline.{IsQuitBeside}
+use Rattle.earliest_ends.specs.Earliest.{HasNoSpan, NoneEndsBefore, IsLeastEnd, earliest_search, looks_by}
+use Rattle.pattern_search.specs.Texts.{AreRead, AllMean}
+use Rattle.grep_core.specs.Lines.{split_lines}
+use Rattle.grep_core.specs.Patterns.{finds_of}
+use Rattle.grep_core.specs.Searchers.{line_settings}
+
+-- The regex is built of the line trees of trees that mean these texts. No look in these trees knows carriage returns.
+pub record IsCandidatesOf (config : Config) (texts : List (List ℕ)) (p : Pair) : Type 0 where
+  pub trees : List Tree
+  pub mean : AllMean config texts trees
+  pub plain : All (λ x. has_crlf x ≡ false) trees
+  pub built : IsBuilt (map line_tree trees) line_settings p
+
+-- a line starts there: at the start of the text, or behind a line feed
+abbrev pub IsLineStart : List ℕ → ℕ → Type 0
+IsLineStart text at = 0 < at → slice_get text (at - 1) ≡ Some 10
+
+-- no line of the text has a match, as what the texts of patterns are read as has it
+abbrev pub HaveNoMatch : Config → List (List ℕ) → List ℕ → Type 0
+HaveNoMatch config texts text =
+    (res : List Re) → AreRead config texts res → All (λ line. (finds_of res).has_match line ≡ false) (split_lines text)
+
+-- no line feed stands from the one place up to the other
+abbrev pub HasNoFeedFrom : List ℕ → ℕ → ℕ → Type 0
+HasNoFeedFrom text from to = (i : ℕ) → from ≤ i → i < to → slice_get text i ≡ Some 10 → ⊥
+
+-- At this place is the least end of the spans that these trees mean in the block from the place `at` on; or a byte at which searches for
+-- them give up stands there, and none of these spans ends before it.
+pub data IsStop (xs : List Tree) (block : List ℕ) (at place : ℕ) : Type 0 where
+  least_end : (p : ℕ) → IsLeastEnd xs (looks_by is_word_char line_settings block) block at (length block) p place → IsStop xs block at place
+  quit_byte : (b : ℕ) → IsQuitBeside (quit_bytes_for xs line_settings.dfa) (earliest_search block at (length block)) b place →
+      NoneEndsBefore xs (looks_by is_word_char line_settings block) block at (length block) place → IsStop xs block at place
+
+-- where a search for the least end stops, if there is such a span or such a byte
+abbrev pub IsStopIfAny : List Tree → List ℕ → ℕ → Option ℕ → Type 0
+IsStopIfAny xs block at None = HasNoSpan xs (looks_by is_word_char line_settings block) block at (length block)
+IsStopIfAny xs block at (Some place) = IsStop xs block at place
+
+-- it stops in the line that starts at this place, or at the line feed before it
+pub record StopsInLine (xs : List Tree) (block : List ℕ) (at start : ℕ) : Type 0 where
+  pub place : ℕ
+  pub stop : IsStop xs block at place
+  pub behind_feed : start ≤ place + 1
+  pub within_line : HasNoFeedFrom block start place

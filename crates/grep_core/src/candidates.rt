@@ -1,0 +1,163 @@
+//! The lines of a block that may have a match.
+ghost use Rattle.std.specs.Prelude.{◌≡◌, ◌≤◌, ◌<◌, ◌-◌, ℕ, List, length, map, slice_get, slice_range, is_some, not, Some, IfErr, IfOk, IfSome};
+ghost use Rattle.std.specs.List.{list_any};
+ghost use Rattle.regex_syntax.specs.declared.Config.{Config as TextConfig};
+ghost use Rattle.hir_core.specs.Tree.{Tree};
+ghost use Rattle.line_trees.specs.LineTrees.{line_tree, has_crlf};
+ghost use Rattle.hirscan.specs.Built.{IsBuilt, RefusesBuild};
+ghost use Rattle.ucd_perl.specs.Perl.{is_word_char};
+ghost use Rattle.earliest_ends.specs.Earliest.{IsRefusal};
+ghost use Rattle.pattern_search.specs.Texts.{AllMean};
+ghost use Rattle.grep_core.specs.Candidates.{IsCandidatesOf, IsLineStart, HaveNoMatch, HasNoFeedFrom, IsStop, IsStopIfAny, StopsInLine};
+ghost use Rattle.grep_core.specs.Searchers.{line_settings};
+ghost use Rattle.grep_core.specs.declared.fault.Fault.TheVariants.{NoMemory};
+
+use crate::fault::Fault;
+use crate::searcher::{see_bytes, settings};
+use earliest_ends::find_earliest_end;
+use hir_core::Hir;
+use hirscan::build;
+use lazy_dfa::BuildError;
+use line_trees::{all_line_trees, any_has_crlf};
+use pattern_search::parse_all;
+use pattern_text::Config;
+use regex_pair::regex::{Cache, Regex};
+use search_types::{MatchError, MatchErrorKind};
+use std::alloc::Global;
+use std::marker::Model;
+
+/// A regex of patterns that are read for blocks of lines, and the caches of its searches.
+///
+/// A line that has a match has one in each block with that line, so the lines before the earliest end of a match in the block have none.
+/// A match in the block need be none in a line, since it may reach over the ends of lines.
+#[derive(Drop)]
+pub(crate) struct Candidates {
+    regex: Regex,
+    cache: Cache,
+}
+
+impl Model for Candidates {
+    ghost use Rattle.regex_pair.specs.Pairs.{AreCachesOf, Pair, PairCache};
+
+    ghost Value = { Pair × PairCache };
+
+    ghost view = { λ s. (s.regex, s.cache) };
+
+    ghost invariant = { λ s. AreCachesOf s.regex s.cache };
+}
+
+/// Behind the last line feed between both places, or where none stands there, the first place.
+pub(crate) fn line_start(block: &[u8], at: usize, place: usize) -> usize
+    requires { at ≤ length block.now }
+    ensures from { at ≤ result }
+    ensures within { result ≤ length block.now }
+    ensures before { at < result → result ≤ place }
+    ensures starts { at < result → slice_get block.now (result - 1) ≡ Some 10 }
+    ensures last { HasNoFeedFrom block.now result place }
+{
+    let mut start = place.min(block.len());
+    while at < start {
+        if block[start - 1] == b'\n' {
+            return start;
+        }
+        start -= 1;
+    }
+    at
+}
+
+/// The place at which a search that was refused stopped.
+fn refused_at(at: usize, error: &MatchError) -> Result<usize, Fault>
+    ensures told { (xs : List Tree) (block : List ℕ) → IsRefusal is_word_char xs line_settings block at error.now → IfOk result (λ place. IsStop xs block at place) }
+    ensures refused { IfErr result (λ e. e ≡ NoMemory) }
+{
+    match error.kind() {
+        MatchErrorKind::Quit { offset, .. } => Ok(*offset),
+        MatchErrorKind::NoMemory => Err(Fault::NoMemory),
+        _ => Ok(at),
+    }
+}
+
+/// For blocks of lines, of patterns as text; none where there is no such regex, as where the patterns are refused, and then each line is
+/// searched by itself.
+pub(crate) fn candidates_of(alloc: Global, texts: &[&str], config: &Config) -> Option<Candidates>
+    ensures { IfSome result (λ c. IsCandidatesOf config.now (map (λ t. t.now) texts.now) c.0) }
+{
+    let Ok(trees) = parse_all(alloc, texts, config) else {
+        return None;
+    };
+    let Ok(candidates) = Candidates::new(alloc, &trees) else {
+        return None;
+    };
+    candidates
+}
+
+impl Candidates {
+    /// Of trees that texts have; none where a look in them knows carriage returns, since nothing is said of such trees in blocks.
+    pub(crate) fn new(alloc: Global, trees: &[Hir]) -> Result<Option<Candidates>, BuildError>
+        ensures some { IfOk result (λ o. is_some o ≡ not (list_any has_crlf trees.now)) }
+        ensures candidates { (config : TextConfig) (texts : List (List ℕ)) → AllMean config texts trees.now →
+            IfOk result (λ o. IfSome o (λ c. IsCandidatesOf config texts c.0)) }
+        ensures refused { IfErr result (λ e. RefusesBuild (map line_tree trees.now) line_settings e) }
+    {
+        if any_has_crlf(trees) {
+            return Ok(None);
+        }
+        let Ok(trees) = all_line_trees(alloc, trees) else {
+            return Err(BuildError::NoMemory);
+        };
+        let regex = match build(alloc, &trees, &settings()) {
+            Ok(regex) => regex,
+            Err(e) => return Err(e),
+        };
+        match Cache::new(alloc, &regex) {
+            Ok(cache) => Ok(Some(Candidates { regex, cache })),
+            Err(_) => Err(BuildError::NoMemory),
+        }
+    }
+
+    /// Where a search from this place on stops: at the least end of the matches in the block that start at this place or further on, or at
+    /// a byte at which it gives up, before which none of them ends; or nowhere, where there is no such match.
+    fn stop_from(&mut self, block: &[u8], at: usize) -> Result<Option<usize>, Fault>
+        requires { at ≤ length block.now }
+        ensures same { self.new.0 ≡ self.old.0 }
+        ensures told { (xs : List Tree) → IsBuilt xs line_settings self.old.0 → IfOk result (λ o. IsStopIfAny xs block.now at o) }
+        ensures refused { IfErr result (λ e. e ≡ NoMemory) }
+    {
+        let error = match find_earliest_end(&self.regex, &mut self.cache, block, at) {
+            Ok(end) => return Ok(end),
+            Err(error) => error,
+        };
+        let place = match refused_at(at, &error) {
+            Ok(place) => place,
+            Err(e) => return Err(e),
+        };
+        Ok(Some(place))
+    }
+
+    /// Where the next line starts that may have a match, or the end of the block where none may: the lines from the given one on that
+    /// stand before it have none. The given place is the start of a line. In the line that is answered ends a match in the block, the
+    /// first that ends there, or in it stands a byte at which the search gives up, as one that isn't ASCII where words are asked for.
+    pub(crate) fn next_line(&mut self, block: &[u8], at: usize) -> Result<usize, Fault>
+        requires within { at ≤ length block.now }
+        requires starts { IsLineStart block.now at }
+        ensures same { self.new.0 ≡ self.old.0 }
+        ensures from { IfOk result (λ next. at ≤ next) }
+        ensures within { IfOk result (λ next. next ≤ length block.now) }
+        ensures starts { IfOk result (λ next. next < length block.now → IsLineStart block.now next) }
+        ensures passed { (config : TextConfig) (texts : List (List ℕ)) → IsCandidatesOf config texts self.old.0 →
+            IfOk result (λ next. HaveNoMatch config texts (slice_range block.now at next)) }
+        ensures stops { (xs : List Tree) → IsBuilt xs line_settings self.old.0 →
+            IfOk result (λ next. next < length block.now → StopsInLine xs block.now at next) }
+        ensures refused { IfErr result (λ e. e ≡ NoMemory) }
+    {
+        see_bytes(block);
+        let stop = match self.stop_from(block, at) {
+            Ok(stop) => stop,
+            Err(e) => return Err(e),
+        };
+        match stop {
+            None => Ok(block.len()),
+            Some(place) => Ok(line_start(block, at, place)),
+        }
+    }
+}
