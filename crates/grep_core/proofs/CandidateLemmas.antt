@@ -1,11 +1,14 @@
 -- Lines that end before the least end of a match in the block have no match.
-use Rattle.std.proofs.Common.{◌≡◌, ◌≤◌, ◌<◌, inl, inr, ℕ, suc, ◌+◌, ◌-◌, Bool, false, List, ◌++◌, All, map, length, slice_get, slice_range}
-use Rattle.std.proofs.Common.{true, get_or, take, drop, Option, Some, None, refl, sym, ap, ◌∙◌, subst, arith, length-append, true≢false}
+use Rattle.std.proofs.Common.{◌≡◌, ◌≢◌, ◌≤◌, ◌<◌, ◌==◌, inl, inr, ℕ, zero, suc, ◌+◌, ◌-◌, Bool, false, List, [], ◌∷◌, ◌++◌, All, map, length, slice_get, slice_range}
+use Rattle.std.proofs.Common.{true, get_or, take, drop, nat_lt, ◌&&◌, Option, Some, None, refl, sym, ap, ◌∙◌, subst, arith, length-append, length-drop, take-append-drop, true≢false, lt-ltb}
 use Rattle.std.specs.List.{list_any}
-use Rattle.std.proofs.lemmas.Bool.{cases_lt}
+use Rattle.std.proofs.lemmas.Bool.{cases_lt, eq-eqb, eqb-true}
 use Rattle.std.proofs.lemmas.List.Folds.{list_any_at}
-use Rattle.std.specs.Prelude.{option_map}
-use Rattle.std.proofs.lemmas.Option.{slice_get_within, get_or_from_slice_get, slice_get-map}
+use Rattle.std.specs.Prelude.{is_some, option_map, IfSome}
+use Rattle.std.specs.List.{position, position_or_len}
+use Rattle.std.proofs.lemmas.List.{length-take-le}
+use Rattle.std.proofs.lemmas.List.Elements.{All-nil, All-cons}
+use Rattle.std.proofs.lemmas.Option.{none-some, same_Some, slice_get_within, get_or_from_slice_get, slice_get-map}
 use Rattle.ucd_perl.specs.Perl.{is_word_char}
 use Rattle.regex_hir.specs.Re.{Re}
 use Rattle.regex_hir.specs.Meaning.{alt_all}
@@ -14,25 +17,31 @@ use Rattle.regex_syntax.specs.declared.Config.{Config}
 use Rattle.look_core.proofs.ForCallers.{All-left, All-right}
 use Rattle.search_types.specs.declared.anchored.Anchored.TheVariants.{No}
 use Rattle.search_types.specs.Found.{Found}
-use Rattle.search_types.proofs.ForCallers.{starts_at}
+use Rattle.search_types.proofs.ForCallers.{starts_at, may_start_at}
 use Rattle.hir_core.specs.Tree.{Tree}
 use Rattle.hir_core.specs.Means.{Means}
 use Rattle.hir_core.proofs.ForCallers.{span_forward}
 use Rattle.line_trees.specs.LineTrees.{line_tree, has_crlf, block_of, looks_of}
-use Rattle.line_trees.proofs.ForCallers.{means_in_block}
+use Rattle.hirscan.specs.Choices.{answer_from}
+use Rattle.hirscan.specs.LooseAnswers.{IsLooseAnswer}
+use Rattle.line_trees.proofs.ForCallers.{means_in_block, means_in_line}
 use Rattle.regex_pair.specs.Pairs.{Pair}
 use Rattle.earliest_ends.specs.Earliest.{IsSpanFrom, NoneEndsBefore, IsEarliestEnd, IsRefusal, looks_by}
 use Rattle.search_types.specs.declared.match_error.MatchErrorKind.{MatchErrorKind}
 use Rattle.search_types.specs.declared.match_error.MatchErrorKind.TheVariants.{Quit}
 use Rattle.pattern_text.specs.Words.{word_set}
 use Rattle.pattern_search.specs.Texts.{AreRead, AllMean}
-use Rattle.pattern_search.proofs.ForCallers.{finds_what_is_written}
-use Rattle.grep_core.specs.Candidates.{IsCandidatesOf, IsLineStart, HaveNoMatch, HasNoFeedFrom, IsStop, IsStopIfAny, StopsInLine}
+use Rattle.pattern_search.specs.Searches.{whole_query}
+use Rattle.pattern_search.proofs.ForCallers.{answer_is_loose, finds_what_is_written}
+use Rattle.grep_core.specs.declared.candidates.Stop.{Stop}
+use Rattle.grep_core.specs.Candidates.{IsCandidatesOf, IsLineStart, HaveNoMatch, HasMatchAt, HasNoFeedFrom, IsStop, IsStopIfAny, IsEnd, StopsInLine}
 use Rattle.grep_core.specs.Candidates.IsStop.{least_end, quit_byte}
 use Rattle.grep_core.specs.Lines.{split_lines}
 use Rattle.grep_core.specs.Patterns.{finds_of}
 use Rattle.grep_core.specs.Searchers.{line_settings}
-use Rattle.grep_core.proofs.LineCutLemmas.{StandsIn, lines_between}
+use Rattle.grep_core.proofs.BlockLemmas.{is_feed, first_at, first_within, one_more, some_at}
+use Rattle.grep_core.proofs.JoinLemmas.{feed_there}
+use Rattle.grep_core.proofs.LineCutLemmas.{StandsIn, before_start, get_dropped, lines_between}
 use Rattle.grep_core.proofs.ToldLemmas.{alike_some, is_search, same_patterns}
 
 -- of the spans that these trees mean in the block from a place on, none ends before this place
@@ -95,6 +104,18 @@ pub end_told : (xs : List Tree) (block : List ℕ) (at : ℕ) (o : Option ℕ) �
 end_told xs block at None none = none
 end_told xs block at (Some x) end = least_end end.0 end.1
 
+some_by : (o : Option Stop) (P : Stop → Type 0) → ((s : Stop) → o ≡ Some s → P s) → IfSome o P
+some_by None P f = tt
+some_by (Some s) P f = f s refl
+
+-- a search that ends stops at an end
+pub ends_told : (xs : List Tree) (block : List ℕ) (at : ℕ) (o : Option Stop) (end : Option ℕ) → option_map (λ s. s.place) o ≡ end →
+    IsEarliestEnd xs (looks_by is_word_char line_settings block) block at (length block) end →
+    IfSome o (λ s. s.is_end ≡ true → IsEnd xs block at s.place)
+ends_told xs block at o end same found =
+    some_by o (λ s. s.is_end ≡ true → IsEnd xs block at s.place) (λ s is ends. subst (λ (e : Option ℕ). IsEarliestEnd xs (looks_by is_word_char line_settings block) block at (length block) e)
+    (sym same ∙ ap (option_map (λ (t : Stop). t.place)) is) found)
+
 pub quit_told : (xs : List Tree) (block : List ℕ) (at : ℕ) (e : MatchErrorKind) (b x : ℕ) → e ≡ Quit b x →
     IsRefusal is_word_char xs line_settings block at e → IsStop xs block at x
 quit_told xs block at e b x is refused =
@@ -145,6 +166,119 @@ module _ (config : Config) (texts : List (List ℕ)) (p : Pair) (block : List �
         (lines_between block at next place start less within (fits less) (inl (feed less)))
     | inr over ↦ nothing_between config texts block at next over
   ]
+
+-- ---- a line that is known to have a match
+-- an answer that is none tells that there is no span
+no_answer : (xs : List Tree) (line : List ℕ) (o : Option Found) → IsLooseAnswer (whole_query false xs line) 0 o → is_some o ≡ false →
+    IsLooseAnswer (whole_query false xs line) 0 None
+no_answer xs line None loose none = loose
+no_answer xs line (Some f) loose none = cc
+
+-- where a tree means a span of the line, the line has a match
+has_of : (config : Config) (texts : List (List ℕ)) (xs : List Tree) (res : List Re) (line : List ℕ) → AllMean config texts xs →
+    AreRead config texts res → All (λ b. b < 256) line → (p : ℕ) (x : Tree) (i j : ℕ) → slice_get xs p ≡ Some x → i ≤ length line → j ≤ length line →
+    Means (looks_of is_word_char line) line x i j → (has : Bool) → (finds_of res).has_match line ≡ has → true ≡ (finds_of res).has_match line
+has_of config texts xs res line mean read bytes p x i j listed low high means true is = sym is
+has_of config texts xs res line mean read bytes p x i j listed low high means false is =
+    let written = finds_what_is_written config texts xs mean in
+    let same = same_patterns config texts written.patterns res written.are_read read in
+    let none : is_some (answer_from (whole_query false xs line) 0) ≡ false =
+    sym (alike_some (λ m. m.start) (λ (f : Found). f.start) (find (alt_all written.patterns) line 0) (answer_from (whole_query false xs line) 0)
+    ((written.starts false).preferred line 0 (is_search xs line bytes)))
+    ∙ ap (λ rs. (finds_of rs).has_match line) same ∙ is in
+    absurd (no_answer xs line (answer_from (whole_query false xs line) 0) (answer_is_loose (whole_query false xs line) 0) none i p j
+    (may_start_at No 0 (length line) i (omega arith) (omega arith) low)
+    (record {
+      findable = record {
+        may = lt-ltb p (length xs) (slice_get_within xs p x listed);
+        span = record { tree = x; listed = listed; means = means };
+        within = high;
+      };
+      start_counts = refl;
+      end_counts = refl;
+    }))
+
+-- the tree of a line tree
+tree_of_line : (xs : List Tree) (p : ℕ) (y : Tree) (o : Option Tree) → slice_get xs p ≡ o → option_map line_tree o ≡ Some y →
+    (x : Tree) × (slice_get xs p ≡ Some x) × (line_tree x ≡ y)
+tree_of_line xs p y None is e = absurd (none-some y e)
+tree_of_line xs p y (Some x) is e = (x, is, same_Some (line_tree x) y e)
+
+dropped : (xs : List ℕ) (n b : ℕ) → slice_get xs n ≡ Some b → drop n xs ≡ b ∷ drop (suc n) xs
+dropped [] n b e = absurd (none-some b e)
+dropped (x ∷ xs) zero b e = ap (λ c. c ∷ xs) (same_Some x b e)
+dropped (x ∷ xs) (suc n) b e = dropped xs n b e
+
+no_feed_by : (x : ℕ) (xs : List ℕ) → All (λ b. b ≢ 10) (take (position_or_len is_feed xs) xs) → (v : Bool) → is_feed x ≡ v →
+    All (λ b. b ≢ 10) (take (position_or_len is_feed (x ∷ xs)) (x ∷ xs))
+no_feed_by x xs rest true e =
+    subst (λ n. All (λ b. b ≢ 10) (take n (x ∷ xs))) (sym (first_at x xs true e)) (All-nil (λ b. b ≢ 10))
+no_feed_by x xs rest false e =
+    subst (λ n. All (λ b. b ≢ 10) (take n (x ∷ xs))) (sym (first_at x xs false e ∙ one_more (position_or_len is_feed xs)))
+    (All-cons (λ b. b ≢ 10) x (take (position_or_len is_feed xs) xs) (λ is. absurd (grind (arith, eq-eqb x 10 is, e))) rest)
+
+no_feed_first : (text : List ℕ) → All (λ b. b ≢ 10) (take (position_or_len is_feed text) text)
+no_feed_first [] = All-nil (λ b. b ≢ 10)
+no_feed_first (x ∷ xs) = no_feed_by x xs (no_feed_first xs) (is_feed x) refl
+
+-- no line feed stands in a text's first line
+without_feed : (text : List ℕ) (n : ℕ) → position is_feed text ≡ Some n → All (λ b. b ≢ 10) (take n text)
+without_feed text n e =
+    let at = some_at (nat_lt (position_or_len is_feed text) (length text)) (position_or_len is_feed text) n e in
+    subst (λ k. All (λ b. b ≢ 10) (take k text)) at.1 (no_feed_first text)
+
+not_past : (block : List ℕ) (at len place : ℕ) → HasNoFeedFrom block at place → slice_get (drop at block) len ≡ Some 10 → place ≤ at + len
+not_past block at len place none feed = elim (cases_lt (at + len) place) [
+  | inl less ↦ absurd (none (at + len) (omega arith) less (sym (get_dropped at block len) ∙ feed))
+  | inr over ↦ over
+]
+
+-- a span that ends before the end of the line from whose start the search went is one of the line
+pub match_here : (config : Config) (texts : List (List ℕ)) (p : Pair) (block : List ℕ) (at place : ℕ) → (it : IsCandidatesOf config texts p) →
+    All (λ b. b < 256) block → IsLineStart block at → at ≤ length block → IsEnd (map line_tree it.trees) block at place →
+    HasNoFeedFrom block at place → HasMatchAt config texts block at
+match_here config texts p block at place it bytes start inside end none len found res read =
+    let text : List ℕ = drop at block in
+    let feed : slice_get text len ≡ Some 10 = feed_there text len found in
+    let few : len < length text = first_within text len found in
+    let long : length text ≡ length block - at = length-drop at block in
+    let cut : drop len text ≡ 10 ∷ drop (suc len) text = dropped text len 10 feed in
+    let front : length (take at block) ≡ at = length-take-le at block inside in
+    let size : length (take len text) ≡ len = length-take-le len text (omega (arith, few)) in
+    let whole : block ≡ block_of (take at block) (take len text) (drop len text) =
+    sym (take-append-drop at block) ∙ ap (λ (t : List ℕ). take at block ++ t) (sym (take-append-drop len text)) in
+    let span = end.1.span in
+    let y = tree_of_line it.trees end.0 span.tree (slice_get it.trees end.0) refl (sym (slice_get-map line_tree it.trees end.0) ∙ span.listed) in
+    let forward = span_forward (looks_by is_word_char line_settings block) block span.tree end.1.start place span.means in
+    let early : place ≤ at + len = not_past block at len place none feed in
+    let low : end.1.start ≡ length (take at block) + (end.1.start - at) = omega (arith, front, span.from) in
+    let high : place ≡ length (take at block) + (place - at) = omega (arith, front, span.from, forward) in
+    let short : place - at ≤ length (take len text) = omega (arith, early, size) in
+    let there : Means (looks_by is_word_char line_settings block) block (line_tree y.0) (length (take at block) + (end.1.start - at)) (length (take at block) + (place - at)) =
+    subst (λ t. Means (looks_by is_word_char line_settings block) block t (length (take at block) + (end.1.start - at)) (length (take at block) + (place - at))) (sym y.2)
+    (subst (λ j. Means (looks_by is_word_char line_settings block) block span.tree (length (take at block) + (end.1.start - at)) j) high
+    (subst (λ i. Means (looks_by is_word_char line_settings block) block span.tree i place) low span.means)) in
+    let here = subst (λ (h : List ℕ). Means (looks_of is_word_char h) h (line_tree y.0) (length (take at block) + (end.1.start - at)) (length (take at block) + (place - at)))
+    whole there in
+    let means = means_in_line is_word_char (take at block) (take len text) (drop len text) y.0 word_set (record {
+      starts = before_start block at start;
+      ends = inr (drop (suc len) text, cut);
+      without_feed = without_feed text len found;
+    }) (plain_at it.trees end.0 y.0 y.1 it.plain) (end.1.start - at) (place - at) short here in
+    has_of config texts it.trees res (take len text) it.mean read
+    (All-left (λ b. b < 256) (take len text) (drop len text) (All-right (λ b. b < 256) (take at block) _ (subst (All (λ b. b < 256)) whole bytes)))
+    end.0 y.0 (end.1.start - at) (place - at) y.1 (omega (arith, forward, short)) short means ((finds_of res).has_match (take len text)) refl
+
+pub match_known : (config : Config) (texts : List (List ℕ)) (p : Pair) (block : List ℕ) (at start place : ℕ) (ends : Bool) →
+    (it : IsCandidatesOf config texts p) → All (λ b. b < 256) block → IsLineStart block at → at ≤ length block →
+    (ends ≡ true → IsEnd (map line_tree it.trees) block at place) → HasNoFeedFrom block start place → (ends && start == at) ≡ true →
+    HasMatchAt config texts block start
+match_known config texts p block at start place false it bytes starts inside end none known = absurd (true≢false (sym known))
+match_known config texts p block at start place true it bytes starts inside end none known =
+    let same : at ≡ start = sym (eqb-true start at known) in
+    subst (λ (n : ℕ). HasMatchAt config texts block n) same
+    (match_here config texts p block at place it bytes starts inside (end refl)
+    (subst (λ (n : ℕ). HasNoFeedFrom block n place) (sym same) none))
 
 -- ---- of which trees
 plain_by : (xs : List Tree) (k : ℕ) (d : Tree) (v : Bool) → list_any has_crlf xs ≡ false → k < length xs → has_crlf (get_or xs k d) ≡ v →

@@ -1,4 +1,4 @@
--- Lines of a block that are passed over, and the one behind them.
+-- Lines of a block that are passed over, or one that is looked at.
 use Rattle.std.proofs.Common.{◌≡◌, ◌≢◌, ◌≤◌, ◌<◌, inl, inr, ℕ, zero, suc, ◌+◌, ◌-◌, Bool, true, false, cond, List, [], ◌∷◌, ◌++◌, length, take, drop, slice_get, slice_range, Some, None, nat_lt}
 use Rattle.std.proofs.Common.{refl, sym, ap, ◌∙◌, subst, arith, append_assoc, take-append-drop, length-append, length-drop}
 use Rattle.std.proofs.lemmas.Bool.{cases_lt, ltb-true, eqb-true}
@@ -113,41 +113,29 @@ here_counted counts p q block more text piece at len next rest found cut is goes
     ap (λ n. counts q (split_lines (drop n block ++ more))) is
     ∙ turn_counted counts p q block more text piece (counts p (split_lines (drop at block ++ more))) at len rest found cut refl goes_on
 
--- ---- lines that are passed over, and one behind them
+-- ---- lines that are passed over
 parted : (block more : List ℕ) (at next : ℕ) → at ≤ next → drop at block ++ more ≡ slice_range block at next ++ (drop next block ++ more)
 parted block more at next low =
     ap (λ (t : List ℕ). t ++ more) (drop_split block at next low) ∙ append_assoc (slice_range block at next) (drop next block) more
 
-pub next_told : {P : Type 0} (tells : P → List (List ℕ) → List ℕ) (p q r : P) (block more out one two : List ℕ) (at next behind : ℕ) → at ≤ next →
-    ((m : List ℕ) → out ++ tells p (split_lines (slice_range block at next ++ m)) ≡ one ++ tells q (split_lines m)) →
-    one ++ tells q (split_lines (drop next block ++ more)) ≡ two ++ tells r (split_lines (drop behind block ++ more)) →
-    out ++ tells p (split_lines (drop at block ++ more)) ≡ two ++ tells r (split_lines (drop behind block ++ more))
-next_told tells p q r block more out one two at next behind low passed here =
-    ap (λ t. out ++ tells p (split_lines t)) (parted block more at next low) ∙ passed (drop next block ++ more) ∙ here
+pub passed_told : {P : Type 0} (tells : P → List (List ℕ) → List ℕ) (p q : P) (block more out new : List ℕ) (at next : ℕ) → at ≤ next →
+    ((m : List ℕ) → out ++ tells p (split_lines (slice_range block at next ++ m)) ≡ new ++ tells q (split_lines m)) →
+    out ++ tells p (split_lines (drop at block ++ more)) ≡ new ++ tells q (split_lines (drop next block ++ more))
+passed_told tells p q block more out new at next low passed =
+    ap (λ t. out ++ tells p (split_lines t)) (parted block more at next low) ∙ passed (drop next block ++ more)
 
-pub next_counted : {P : Type 0} (counts : P → List (List ℕ) → ℕ) (p q r : P) (block more : List ℕ) (at next behind : ℕ) → at ≤ next →
+pub passed_counted : {P : Type 0} (counts : P → List (List ℕ) → ℕ) (p q : P) (block more : List ℕ) (at next : ℕ) → at ≤ next →
     ((m : List ℕ) → counts q (split_lines m) ≡ counts p (split_lines (slice_range block at next ++ m))) →
-    counts r (split_lines (drop behind block ++ more)) ≡ counts q (split_lines (drop next block ++ more)) →
-    counts r (split_lines (drop behind block ++ more)) ≡ counts p (split_lines (drop at block ++ more))
-next_counted counts p q r block more at next behind low passed here =
-    here ∙ passed (drop next block ++ more) ∙ sym (ap (λ t. counts p (split_lines t)) (parted block more at next low))
+    counts q (split_lines (drop next block ++ more)) ≡ counts p (split_lines (drop at block ++ more))
+passed_counted counts p q block more at next low passed =
+    passed (drop next block ++ more) ∙ sym (ap (λ t. counts p (split_lines t)) (parted block more at next low))
 
--- these are some
-pub moves_on : (block : List ℕ) (at next behind : ℕ) → AreWhole block → at < length block → at ≤ next → next ≤ behind →
-    (position is_feed (drop next block) ≢ None → next < behind) → at < behind
-moves_on block at next behind whole below low high on = elim (cases_lt next (length block)) [
-  | inl less ↦
-      let step : next < behind = on (λ none. let over = whole_none (drop next block) (whole_behind block next whole) none in absurd (omega (arith, over, less, length-drop next block))) in
-      omega (arith, low, step)
-  | inr over ↦ omega (arith, below, over, high)
-]
-
--- and what stands behind them is the start of a line
-pub starts_next : (block : List ℕ) (next behind : ℕ) → IsLineStart block next → next ≤ behind → (next < behind → IsLineStart block behind) → IsLineStart block behind
-starts_next block next behind starts high on = elim (cases_lt next behind) [
-  | inl less ↦ on less
-  | inr over ↦ let same : next ≡ behind = omega (arith, over, high) in subst (λ (n : ℕ). IsLineStart block n) same starts
-]
+-- ---- or the next one
+-- where a line starts in whole lines, a line feed ends it
+pub moves_on : (block : List ℕ) (at behind : ℕ) → AreWhole block → at < length block →
+    (position is_feed (drop at block) ≢ None → at < behind) → at < behind
+moves_on block at behind whole below on =
+    on (λ none. let over = whole_none (drop at block) (whole_behind block at whole) none in absurd (omega (arith, over, below, length-drop at block)))
 
 -- ---- the whole lines of a block, and what stands behind them
 rejoin : (block more : List ℕ) (whole done : ℕ) → done ≤ whole → drop done (take whole block) ++ (drop whole block ++ more) ≡ drop done block ++ more

@@ -5,14 +5,15 @@ use Rattle.std.specs.List.{filter}
 use Rattle.regex_hir.specs.Re.{Re}
 use Rattle.regex_hir.specs.Meaning.{alt_all}
 use Rattle.regex_hir.specs.Find.{Match, find, matches_from}
+use Rattle.regex_syntax.specs.declared.Config.{Config}
 use Rattle.hir_core.specs.Facts.{LoopsRead}
+use Rattle.regex_pair.specs.Pairs.{Pair}
 use Rattle.pattern_search.specs.Searches.{span_of_match}
-use Rattle.hirscan.specs.Built.{IsBuilt}
 use Rattle.grep_core.specs.declared.what.What.{What}
 use Rattle.grep_core.specs.Patterns.{finds_of}
 use Rattle.grep_core.specs.Report.{is_some_text}
-use Rattle.grep_core.specs.Searchers.{Sought, IsSearcherOf, AreTold, SearchesFor, line_settings}
-use Rattle.pattern_search.specs.Texts.{AllMean, AreRead}
+use Rattle.grep_core.specs.Searchers.{Sought, IsSearcherOf, SearchesFor}
+use Rattle.pattern_search.specs.Texts.{AreRead}
 use Rattle.grep_core.specs.Telling.{needs_spans, needed}
 
 none_from : (search_from : ℕ → Option Match) (n : ℕ) (o : Option Match) → is_some o ≡ false → matches_from search_from n o ≡ []
@@ -36,9 +37,9 @@ none_found w res line has told none =
 pub none_needed : (w : What) (res : List Re) (line : List ℕ) → needs_spans w ≡ false → filter is_some_text ((needed w (finds_of res)).spans line) ≡ []
 none_needed w res line none = ap (λ b. filter is_some_text (if b then (finds_of res).spans line else [])) none
 
--- what a finder tells of all matches in a line
-abbrev pub TellsAll : Sought → List ℕ → List (ℕ × ℕ) → Type 0
-TellsAll s line found = (it : IsSearcherOf s.config s.texts s.pair) → All LoopsRead it.trees → AreTold s.config s.texts line found
+-- what a finder knows of its searcher
+abbrev pub IsOwn : Config → List (List ℕ) → Bool → Pair → Type 0
+IsOwn config texts spans p = (it : IsSearcherOf config texts p) × (spans ≡ true → All LoopsRead it.trees)
 
 -- and where they count these are all
 pub all_needed : (w : What) (res : List Re) (line : List ℕ) (found : List (ℕ × ℕ)) → needs_spans w ≡ true →
@@ -48,12 +49,7 @@ all_needed w res line found needs told = told ∙ sym (ap (λ b. filter is_some_
 -- a finder that seeks the same
 abbrev pub moved_by : {p q : Sought} {spans : Bool} → q ≡ p → SearchesFor p spans → SearchesFor q spans
 moved_by {p} {q} {spans} same by = record {
-  searcher = record {
-    trees = by.searcher.trees;
-    mean = subst (λ (s : Sought). AllMean s.config s.texts by.searcher.trees) (sym same) by.searcher.mean;
-    built = subst (λ (s : Sought). IsBuilt by.searcher.trees line_settings s.pair) (sym same) by.searcher.built;
-  };
-  loops_read = by.loops_read;
+  may = λ asked. ap (λ (s : Sought). s.spans) same ∙ by.may asked;
   patterns = by.patterns;
   are_read = subst (λ (s : Sought). AreRead s.config s.texts by.patterns) (sym same) by.are_read;
 }

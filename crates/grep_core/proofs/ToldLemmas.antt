@@ -18,7 +18,7 @@ use Rattle.std.specs.List.{filter}
 use Rattle.hir_core.specs.Facts.{LoopsRead}
 use Rattle.pattern_search.specs.Searches.{span_of_found}
 use Rattle.grep_core.specs.Report.{is_some_text}
-use Rattle.grep_core.specs.Searchers.{IsSearcherOf, IsTold, AreTold, IsWholeList, line_settings}
+use Rattle.grep_core.specs.Searchers.{IsSearcherOf, IsTold, AreTold, IsWholeList, sized_settings}
 
 -- what is read of one text is one pattern
 one_value : {A : Type 0} (o : Option A) (of : A → Re) (D : A → Type 0) (a b : Re) →
@@ -56,19 +56,19 @@ is_search xs line bytes = record {
 }
 
 pub told_of : (config : Config) (texts : List (List ℕ)) (p : Pair) (c : PairCache) (line : List ℕ) (o : Option Found) →
-    ((xs : List Tree) → AllMean config texts xs → IsBuilt xs line_settings p → AnswersWhatIsWritten config texts xs line_settings p) →
+    ((k : Option ℕ) (xs : List Tree) → AllMean config texts xs → IsBuilt xs (sized_settings k) p → AnswersWhatIsWritten config texts xs (sized_settings k) p) →
     IsSearcherOf config texts p → All (λ b. b < 256) line → AnswersPair p c (whole_search line 0) (Ok o) → IsTold config texts line (is_some o)
 told_of config texts p c line o law it bytes answer res read =
-    let written = law it.trees it.mean it.built in
+    let written = law it.capacity it.trees it.mean it.built in
     sym (alike_some _ _ _ _ (written.answers.starts line 0 (is_search it.trees line bytes) c o answer))
     ∙ ap (λ rs. (finds_of rs).has_match line) (same_patterns config texts written.patterns res written.are_read read)
 
 pub all_told : (config : Config) (texts : List (List ℕ)) (p : Pair) (line : List ℕ) (fs : List Found) (told : List (ℕ × ℕ)) →
-    ((xs : List Tree) → AllMean config texts xs → IsBuilt xs line_settings p → AnswersWhatIsWritten config texts xs line_settings p) →
+    ((k : Option ℕ) (xs : List Tree) → AllMean config texts xs → IsBuilt xs (sized_settings k) p → AnswersWhatIsWritten config texts xs (sized_settings k) p) →
     (it : IsSearcherOf config texts p) → All LoopsRead it.trees → All (λ b. b < 256) line → IsWholeList p (whole_search line 0) fs →
     told ≡ filter is_some_text (map span_of_found fs) → AreTold config texts line told
 all_told config texts p line fs told law it loops bytes l spans res read =
-    let written = law it.trees it.mean it.built in
+    let written = law it.capacity it.trees it.mean it.built in
     spans
     ∙ ap (filter is_some_text)
     (sym (written.answers.all loops line (is_search it.trees line bytes) fs l.old l.new l.regex l.taken l.over)

@@ -1,5 +1,6 @@
 -- Which lines of a text may have a match, by a regex of trees that are read for blocks of lines.
-use Rattle.std.specs.Prelude.{◌≡◌, ℕ, ◌+◌, ◌-◌, ◌<◌, ◌≤◌, false, List, All, map, length, slice_get, Option, Some, None}
+use Rattle.std.specs.Prelude.{◌≡◌, ◌==◌, ℕ, ◌+◌, ◌-◌, ◌<◌, ◌≤◌, true, false, List, All, drop, map, length, slice_get, take, Option, Some, None}
+use Rattle.std.specs.List.{position}
 use Rattle.ucd_perl.specs.Perl.{is_word_char}
 use Rattle.regex_hir.specs.Re.{Re}
 use Rattle.regex_syntax.specs.declared.Config.{Config}
@@ -12,14 +13,15 @@ use Rattle.earliest_ends.specs.Earliest.{HasNoSpan, NoneEndsBefore, IsLeastEnd, 
 use Rattle.pattern_search.specs.Texts.{AreRead, AllMean}
 use Rattle.grep_core.specs.Lines.{split_lines}
 use Rattle.grep_core.specs.Patterns.{finds_of}
-use Rattle.grep_core.specs.Searchers.{line_settings}
+use Rattle.grep_core.specs.Searchers.{IsTold, line_settings, sized_settings}
 
 -- The regex is built of the line trees of trees that mean these texts. No look in these trees knows carriage returns.
 pub record IsCandidatesOf (config : Config) (texts : List (List ℕ)) (p : Pair) : Type 0 where
   pub trees : List Tree
   pub mean : AllMean config texts trees
   pub plain : All (λ x. has_crlf x ≡ false) trees
-  pub built : IsBuilt (map line_tree trees) line_settings p
+  pub capacity : Option ℕ
+  pub built : IsBuilt (map line_tree trees) (sized_settings capacity) p
 
 -- a line starts there: at the start of the text, or behind a line feed
 abbrev pub IsLineStart : List ℕ → ℕ → Type 0
@@ -29,6 +31,11 @@ IsLineStart text at = 0 < at → slice_get text (at - 1) ≡ Some 10
 abbrev pub HaveNoMatch : Config → List (List ℕ) → List ℕ → Type 0
 HaveNoMatch config texts text =
     (res : List Re) → AreRead config texts res → All (λ line. (finds_of res).has_match line ≡ false) (split_lines text)
+
+-- the line that starts at this place, if a line feed ends it, has a match
+abbrev pub HasMatchAt : Config → List (List ℕ) → List ℕ → ℕ → Type 0
+HasMatchAt config texts block at =
+    (len : ℕ) → position (λ b. b == 10) (drop at block) ≡ Some len → IsTold config texts (take len (drop at block)) true
 
 -- no line feed stands from the one place up to the other
 abbrev pub HasNoFeedFrom : List ℕ → ℕ → ℕ → Type 0
@@ -45,6 +52,10 @@ pub data IsStop (xs : List Tree) (block : List ℕ) (at place : ℕ) : Type 0 wh
 abbrev pub IsStopIfAny : List Tree → List ℕ → ℕ → Option ℕ → Type 0
 IsStopIfAny xs block at None = HasNoSpan xs (looks_by is_word_char line_settings block) block at (length block)
 IsStopIfAny xs block at (Some place) = IsStop xs block at place
+
+-- where it stops, a span ends
+abbrev pub IsEnd : List Tree → List ℕ → ℕ → ℕ → Type 0
+IsEnd xs block at place = (p : ℕ) × IsLeastEnd xs (looks_by is_word_char line_settings block) block at (length block) p place
 
 -- it stops in the line that starts at this place, or at the line feed before it
 pub record StopsInLine (xs : List Tree) (block : List ℕ) (at start : ℕ) : Type 0 where

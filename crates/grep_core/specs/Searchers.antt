@@ -1,5 +1,5 @@
 -- What a searcher of lines is of, and what it tells of a line.
-use Rattle.std.specs.Prelude.{◌≡◌, ◌⊎◌, ℕ, Bool, true, false, List, All, Some, None}
+use Rattle.std.specs.Prelude.{◌≡◌, ◌⊎◌, ℕ, Bool, true, false, List, All, Option, Some, None}
 use Rattle.std.specs.List.{filter}
 use Rattle.regex_hir.specs.Re.{Re}
 use Rattle.regex_syntax.specs.declared.Config.{Config}
@@ -25,11 +25,16 @@ use Rattle.grep_core.specs.Patterns.{finds_of}
 abbrev pub line_settings : Settings
 line_settings = program_settings (record default_settings { utf8 = false })
 
--- the regex is built of trees of these texts
+-- the same, where caches have this capacity, or the one that is meant where none is set: searches answer alike
+abbrev pub sized_settings : Option ℕ → Settings
+sized_settings capacity = record line_settings { dfa = record (line_settings.dfa) { cache_capacity = capacity } }
+
+-- the regex is built of trees of these texts, whatever the capacity of its caches
 pub record IsSearcherOf (config : Config) (texts : List (List ℕ)) (p : Pair) : Type 0 where
   pub trees : List Tree
   pub mean : AllMean config texts trees
-  pub built : IsBuilt trees line_settings p
+  pub capacity : Option ℕ
+  pub built : IsBuilt trees (sized_settings capacity) p
 
 -- whether the line has a match is told as what the texts are read as has it
 abbrev pub IsTold : Config → List (List ℕ) → List ℕ → Bool → Type 0
@@ -47,16 +52,15 @@ pub record IsWholeList (p : Pair) (q : Search) (fs : List Found) : Type 0 where
   pub taken : AreTaken p q fs (finds_from old)
   pub over : FindsNext old None new
 
--- what is sought in lines: a regex, and the texts of which it is built and the options under which these are read
+-- what is sought in lines: the texts of patterns, the options under which these are read, and whether matches may be asked for
 pub record Sought : Type 0 where
-  pub pair : Pair
   pub config : Config
   pub texts : List (List ℕ)
+  pub spans : Bool
 
--- What is found in lines is what the patterns have that are written in the texts. Where matches are asked for, loops read.
+-- What is found in lines is what the patterns have that are written in the texts. Matches are asked for only where they may be.
 pub record SearchesFor (s : Sought) (spans : Bool) : Type 0 where
-  pub searcher : IsSearcherOf s.config s.texts s.pair
-  pub loops_read : spans ≡ true → All LoopsRead searcher.trees
+  pub may : spans ≡ true → s.spans ≡ true
   pub patterns : List Re
   pub are_read : AreRead s.config s.texts patterns
 

@@ -1,12 +1,13 @@
 //! The lines of blocks of a text.
-ghost use Rattle.std.specs.Prelude.{◌≡◌, ◌++◌, ◌∷◌, [], ℕ, ◌+◌, ◌≤◌, ◌==◌, List, None, OnOk, IfOk, drop, length, ◌<◌, ◌≢◌, take, slice_range};
+ghost use Rattle.std.specs.Prelude.{◌≡◌, ◌++◌, ◌∷◌, [], ℕ, ◌+◌, ◌≤◌, ◌==◌, List, None, OnOk, IfOk, drop, length, ◌<◌, ◌≢◌, take, true};
 ghost use Rattle.std.specs.List.{position};
 ghost use Rattle.grep_core.specs.Blocks.{SearchesBy, finds_by, tells_lines, counts_lines};
-ghost use Rattle.grep_core.specs.Candidates.{HaveNoMatch, IsLineStart};
+ghost use Rattle.grep_core.specs.Candidates.{HasMatchAt, IsLineStart};
 ghost use Rattle.grep_core.specs.Courses.{Waits};
 ghost use Rattle.grep_core.specs.Lines.{lines_of, split_lines};
 ghost use Rattle.grep_core.specs.Passing.{AreWhole};
 ghost use Rattle.grep_core.specs.Report.{Finds, report_as, selected};
+ghost use Rattle.grep_core.specs.Searchers.{IsTold};
 ghost use Rattle.grep_core.specs.Selecting.{count};
 ghost use Rattle.grep_core.specs.declared.blocks.Task.{Task as TheTask};
 ghost use Rattle.grep_core.specs.declared.what.What.{What as TheWhat};
@@ -81,7 +82,7 @@ pub(crate) fn pass(progress: &mut Progress, len: usize) -> Result<(), Fault>
     Ok(())
 }
 
-/// Tells one line, which is given without its line feed.
+/// Tells one line, which is given without its line feed. It may be known that it has a match.
 pub(crate) fn tell_one(
     alloc: Global,
     out: &mut Vec<u8>,
@@ -89,17 +90,19 @@ pub(crate) fn tell_one(
     task: Task<'_>,
     progress: &mut Progress,
     bytes: &[u8],
+    is_known: bool,
 ) -> Result<(), Fault>
-    requires { Waits task.what.now progress.old.telling.course }
-    ensures same { finder.new.0 ≡ finder.old.0 }
+    requires waits { Waits task.what.now progress.old.telling.course }
+    requires known { is_known ≡ true → IsTold finder.old.config finder.old.texts bytes.now true }
+    ensures same { finder.new ≡ finder.old }
     ensures waits { OnOk result (Waits task.entry.what.now progress.new.telling.course) }
-    ensures goes_on { OnOk result ((by : SearchesBy task.entry finder.old.0) (lines : List (List ℕ)) →
+    ensures goes_on { OnOk result ((by : SearchesBy task.entry finder.old) (lines : List (List ℕ)) →
         out.old.items ++ tells_lines task.entry (finds_by task.entry by) progress.old (bytes.now ∷ lines)
         ≡ out.new.items ++ tells_lines task.entry (finds_by task.entry by) progress.new lines) }
-    ensures counts { OnOk result ((by : SearchesBy task.entry finder.old.0) (lines : List (List ℕ)) →
+    ensures counts { OnOk result ((by : SearchesBy task.entry finder.old) (lines : List (List ℕ)) →
         counts_lines task.entry (finds_by task.entry by) progress.new lines ≡ counts_lines task.entry (finds_by task.entry by) progress.old (bytes.now ∷ lines)) }
 {
-    let seen = look_at(alloc, finder, task.what, bytes)?;
+    let seen = look_at(alloc, finder, task.what, bytes, is_known)?;
     let line = Line {
         number: progress.number,
         place: progress.place,
@@ -128,7 +131,8 @@ fn whole_len(block: &[u8]) -> usize
     line_start(block, 0, block.len())
 }
 
-/// Tells the line that starts at a place, if a line feed ends one there. The answer is the place behind it.
+/// Tells the line that starts at a place, if a line feed ends one there. It may be known that it has a match. The answer is the place
+/// behind it.
 fn tell_here(
     alloc: Global,
     out: &mut Vec<u8>,
@@ -137,56 +141,44 @@ fn tell_here(
     progress: &mut Progress,
     block: &[u8],
     at: usize,
+    is_known: bool,
 ) -> Result<usize, Fault>
     requires waits { Waits task.what.now progress.old.telling.course }
     requires within { at ≤ length block.now }
-    ensures same { finder.new.0 ≡ finder.old.0 }
+    requires known { is_known ≡ true → HasMatchAt finder.old.config finder.old.texts block.now at }
+    ensures same { finder.new ≡ finder.old }
     ensures waits { OnOk result (Waits task.entry.what.now progress.new.telling.course) }
     ensures within { IfOk result (λ next. next ≤ length block.now) }
     ensures on { position (λ b. b == 10) (drop at block.now) ≢ None → IfOk result (λ next. at < next) }
     ensures from { IfOk result (λ next. at ≤ next) }
     ensures starts { IfOk result (λ next. at < next → IsLineStart block.now next) }
-    ensures goes_on { IfOk result (λ next. (by : SearchesBy task.entry finder.old.0) (more : List ℕ) →
+    ensures goes_on { IfOk result (λ next. (by : SearchesBy task.entry finder.old) (more : List ℕ) →
         out.old.items ++ tells_lines task.entry (finds_by task.entry by) progress.old (split_lines (drop at block.now ++ more))
         ≡ out.new.items ++ tells_lines task.entry (finds_by task.entry by) progress.new (split_lines (drop next block.now ++ more))) }
-    ensures counts { IfOk result (λ next. (by : SearchesBy task.entry finder.old.0) (more : List ℕ) →
+    ensures counts { IfOk result (λ next. (by : SearchesBy task.entry finder.old) (more : List ℕ) →
         counts_lines task.entry (finds_by task.entry by) progress.new (split_lines (drop next block.now ++ more))
         ≡ counts_lines task.entry (finds_by task.entry by) progress.old (split_lines (drop at block.now ++ more))) }
 {
     let Some(len) = feed_at(&block[at..]) else {
         return Ok(at);
     };
-    match tell_one(alloc, out, finder, task, progress, &block[at..at + len]) {
+    match tell_one(
+        alloc,
+        out,
+        finder,
+        task,
+        progress,
+        &block[at..at + len],
+        is_known,
+    ) {
         Ok(()) => {}
         Err(e) => return Err(e),
     }
     Ok(at + len + 1)
 }
 
-/// Where the next line starts that is looked at, from the start of a line on: lines without a match are told as such where these aren't
-/// asked for.
-fn next_looked_at(
-    finder: &mut Finder<'_>,
-    task: Task<'_>,
-    block: &[u8],
-    at: usize,
-) -> Result<usize, Fault>
-    requires within { at ≤ length block.now }
-    requires starts { IsLineStart block.now at }
-    ensures same { finder.new.0 ≡ finder.old.0 }
-    ensures from { IfOk result (λ next. at ≤ next) }
-    ensures within { IfOk result (λ next. next ≤ length block.now) }
-    ensures starts { IfOk result (λ next. next < length block.now → IsLineStart block.now next) }
-    ensures passed { IfOk result (λ next. HaveNoMatch finder.old.0.config finder.old.0.texts (slice_range block.now at next)) }
-{
-    if task.what.invert {
-        return Ok(at);
-    }
-    finder.next_line(block, at)
-}
-
-/// Tells lines from the start of one on: those without a match, and the next one. The answer is the place behind them. The block has
-/// whole lines alone.
+/// Tells lines from the start of one on: those before the next one that may have a match, or else that one. The answer is the place behind
+/// them. The block has whole lines alone.
 fn tell_next(
     alloc: Global,
     out: &mut Vec<u8>,
@@ -200,27 +192,29 @@ fn tell_next(
     requires below { at < length block.now }
     requires starts { IsLineStart block.now at }
     requires whole { AreWhole block.now }
-    ensures same { finder.new.0 ≡ finder.old.0 }
+    ensures same { finder.new ≡ finder.old }
     ensures waits { OnOk result (Waits task.entry.what.now progress.new.telling.course) }
     ensures on { IfOk result (λ next. at < next) }
     ensures within { IfOk result (λ next. next ≤ length block.now) }
     ensures starts { IfOk result (λ next. IsLineStart block.now next) }
-    ensures goes_on { IfOk result (λ next. (by : SearchesBy task.entry finder.old.0) (more : List ℕ) →
+    ensures goes_on { IfOk result (λ next. (by : SearchesBy task.entry finder.old) (more : List ℕ) →
         out.old.items ++ tells_lines task.entry (finds_by task.entry by) progress.old (split_lines (drop at block.now ++ more))
         ≡ out.new.items ++ tells_lines task.entry (finds_by task.entry by) progress.new (split_lines (drop next block.now ++ more))) }
-    ensures counts { IfOk result (λ next. (by : SearchesBy task.entry finder.old.0) (more : List ℕ) →
+    ensures counts { IfOk result (λ next. (by : SearchesBy task.entry finder.old) (more : List ℕ) →
         counts_lines task.entry (finds_by task.entry by) progress.new (split_lines (drop next block.now ++ more))
         ≡ counts_lines task.entry (finds_by task.entry by) progress.old (split_lines (drop at block.now ++ more))) }
 {
-    let next = match next_looked_at(finder, task, block, at) {
-        Ok(next) => next,
+    let reached = match finder.next_line(alloc, block, at) {
+        Ok(reached) => reached,
         Err(e) => return Err(e),
     };
-    match pass_lines(alloc, out, task, progress, &block[at..next]) {
-        Ok(()) => {}
-        Err(e) => return Err(e),
+    if at < reached.start {
+        return match pass_lines(alloc, out, task, progress, &block[at..reached.start]) {
+            Ok(()) => Ok(reached.start),
+            Err(e) => Err(e),
+        };
     }
-    let behind = match tell_here(alloc, out, finder, task, progress, block, next) {
+    let behind = match tell_here(alloc, out, finder, task, progress, block, at, reached.has) {
         Ok(behind) => behind,
         Err(e) => return Err(e),
     };
@@ -237,14 +231,14 @@ pub(crate) fn tell_block(
     block: &[u8],
 ) -> Result<usize, Fault>
     requires { Waits task.what.now progress.old.telling.course }
-    ensures same { finder.new.0 ≡ finder.old.0 }
+    ensures same { finder.new ≡ finder.old }
     ensures waits { OnOk result (Waits task.entry.what.now progress.new.telling.course) }
     ensures within { IfOk result (λ done. done ≤ length block.now) }
     ensures all { IfOk result (λ done. position (λ b. b == 10) (drop done block.now) ≡ None) }
-    ensures goes_on { IfOk result (λ done. (by : SearchesBy task.entry finder.old.0) (more : List ℕ) →
+    ensures goes_on { IfOk result (λ done. (by : SearchesBy task.entry finder.old) (more : List ℕ) →
         out.old.items ++ tells_lines task.entry (finds_by task.entry by) progress.old (split_lines (block.now ++ more))
         ≡ out.new.items ++ tells_lines task.entry (finds_by task.entry by) progress.new (split_lines (drop done block.now ++ more))) }
-    ensures counts { IfOk result (λ done. (by : SearchesBy task.entry finder.old.0) (more : List ℕ) →
+    ensures counts { IfOk result (λ done. (by : SearchesBy task.entry finder.old) (more : List ℕ) →
         counts_lines task.entry (finds_by task.entry by) progress.new (split_lines (drop done block.now ++ more))
         ≡ counts_lines task.entry (finds_by task.entry by) progress.old (split_lines (block.now ++ more))) }
 {

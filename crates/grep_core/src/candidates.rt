@@ -1,5 +1,5 @@
 //! The lines of a block that may have a match.
-ghost use Rattle.std.specs.Prelude.{◌≡◌, ◌≤◌, ◌<◌, ◌-◌, ℕ, List, length, map, slice_get, slice_range, is_some, not, Some, IfErr, IfOk, IfSome};
+ghost use Rattle.std.specs.Prelude.{◌≡◌, ◌==◌, ◌&&◌, ◌≤◌, ◌<◌, ◌-◌, ℕ, List, length, map, option_map, slice_get, slice_range, is_some, not, true, Option, Some, IfErr, IfOk, IfSome};
 ghost use Rattle.std.specs.List.{list_any};
 ghost use Rattle.regex_syntax.specs.declared.Config.{Config as TextConfig};
 ghost use Rattle.hir_core.specs.Tree.{Tree};
@@ -8,8 +8,9 @@ ghost use Rattle.hirscan.specs.Built.{IsBuilt, RefusesBuild};
 ghost use Rattle.ucd_perl.specs.Perl.{is_word_char};
 ghost use Rattle.earliest_ends.specs.Earliest.{IsRefusal};
 ghost use Rattle.pattern_search.specs.Texts.{AllMean};
-ghost use Rattle.grep_core.specs.Candidates.{IsCandidatesOf, IsLineStart, HaveNoMatch, HasNoFeedFrom, IsStop, IsStopIfAny, StopsInLine};
-ghost use Rattle.grep_core.specs.Searchers.{line_settings};
+ghost use Rattle.grep_core.specs.Candidates.{IsCandidatesOf, IsLineStart, HaveNoMatch, HasMatchAt, HasNoFeedFrom, IsStop, IsStopIfAny, IsEnd};
+ghost use Rattle.grep_core.specs.Candidates.{StopsInLine};
+ghost use Rattle.grep_core.specs.Searchers.{line_settings, sized_settings};
 ghost use Rattle.grep_core.specs.declared.fault.Fault.TheVariants.{NoMemory};
 
 use crate::fault::Fault;
@@ -34,6 +35,25 @@ use std::marker::Model;
 pub(crate) struct Candidates {
     regex: Regex,
     cache: Cache,
+}
+
+/// Where the search of a block stops.
+#[derive(Clone, Copy)]
+struct Stop {
+    place: usize,
+    /// Whether a match ends there; else the search gives up there.
+    is_end: bool,
+}
+
+/// What the search of a block comes to.
+#[derive(Clone, Copy)]
+pub(crate) struct Reached {
+    /// Where the next line starts that may have a match, or the end of the block.
+    pub start: usize,
+    /// Whether that line is known to have one.
+    pub has: bool,
+    /// How many bytes the search passed.
+    pub passed: usize,
 }
 
 impl Model for Candidates {
@@ -77,15 +97,41 @@ fn refused_at(at: usize, error: &MatchError) -> Result<usize, Fault>
     }
 }
 
+/// A search that ends stops there.
+fn stop_at(end: Option<usize>) -> Option<Stop>
+    ensures { option_map (λ stop. stop.place) result ≡ end }
+{
+    match end {
+        Some(place) => Some(Stop {
+            place,
+            is_end: true,
+        }),
+        None => None,
+    }
+}
+
+/// Whether the line that starts at this place is known to have a match, where the search went from the other: a match ends in it that can't
+/// have begun before it.
+fn is_known(stop: Stop, start: usize, at: usize) -> bool
+    ensures { result ≡ (stop.is_end && start == at) }
+{
+    stop.is_end && start == at
+}
+
 /// For blocks of lines, of patterns as text; none where there is no such regex, as where the patterns are refused, and then each line is
 /// searched by itself.
-pub(crate) fn candidates_of(alloc: Global, texts: &[&str], config: &Config) -> Option<Candidates>
+pub(crate) fn candidates_of(
+    alloc: Global,
+    texts: &[&str],
+    config: &Config,
+    capacity: Option<usize>,
+) -> Option<Candidates>
     ensures { IfSome result (λ c. IsCandidatesOf config.now (map (λ t. t.now) texts.now) c.0) }
 {
     let Ok(trees) = parse_all(alloc, texts, config) else {
         return None;
     };
-    let Ok(candidates) = Candidates::new(alloc, &trees) else {
+    let Ok(candidates) = Candidates::new(alloc, &trees, capacity) else {
         return None;
     };
     candidates
@@ -93,11 +139,15 @@ pub(crate) fn candidates_of(alloc: Global, texts: &[&str], config: &Config) -> O
 
 impl Candidates {
     /// Of trees that texts have; none where a look in them knows carriage returns, since nothing is said of such trees in blocks.
-    pub(crate) fn new(alloc: Global, trees: &[Hir]) -> Result<Option<Candidates>, BuildError>
+    pub(crate) fn new(
+        alloc: Global,
+        trees: &[Hir],
+        capacity: Option<usize>,
+    ) -> Result<Option<Candidates>, BuildError>
         ensures some { IfOk result (λ o. is_some o ≡ not (list_any has_crlf trees.now)) }
         ensures candidates { (config : TextConfig) (texts : List (List ℕ)) → AllMean config texts trees.now →
             IfOk result (λ o. IfSome o (λ c. IsCandidatesOf config texts c.0)) }
-        ensures refused { IfErr result (λ e. RefusesBuild (map line_tree trees.now) line_settings e) }
+        ensures refused { IfErr result (λ e. RefusesBuild (map line_tree trees.now) (sized_settings capacity) e) }
     {
         if any_has_crlf(trees) {
             return Ok(None);
@@ -105,7 +155,7 @@ impl Candidates {
         let Ok(trees) = all_line_trees(alloc, trees) else {
             return Err(BuildError::NoMemory);
         };
-        let regex = match build(alloc, &trees, &settings()) {
+        let regex = match build(alloc, &trees, &settings(capacity)) {
             Ok(regex) => regex,
             Err(e) => return Err(e),
         };
@@ -115,39 +165,61 @@ impl Candidates {
         }
     }
 
+    /// How often the caches were cleared; the greatest number stands for any above it.
+    pub(crate) fn clear_count(&self) -> usize {
+        let forward = self.cache.forward().clear_count();
+        let reverse = self.cache.reverse().clear_count();
+        forward.saturating_add(reverse)
+    }
+
+    /// The bytes that both caches are taken to need.
+    pub(crate) fn memory_usage(&self) -> usize {
+        self.cache.memory_usage()
+    }
+
     /// Where a search from this place on stops: at the least end of the matches in the block that start at this place or further on, or at
     /// a byte at which it gives up, before which none of them ends; or nowhere, where there is no such match.
-    fn stop_from(&mut self, block: &[u8], at: usize) -> Result<Option<usize>, Fault>
+    fn stop_from(&mut self, block: &[u8], at: usize) -> Result<Option<Stop>, Fault>
         requires { at ≤ length block.now }
         ensures same { self.new.0 ≡ self.old.0 }
-        ensures told { (xs : List Tree) → IsBuilt xs line_settings self.old.0 → IfOk result (λ o. IsStopIfAny xs block.now at o) }
+        ensures told { (xs : List Tree) (capacity : Option ℕ) → IsBuilt xs (sized_settings capacity) self.old.0 →
+            IfOk result (λ o. IsStopIfAny xs block.now at (option_map (λ stop. stop.place) o)) }
+        ensures ends { (xs : List Tree) (capacity : Option ℕ) → IsBuilt xs (sized_settings capacity) self.old.0 →
+            IfOk result (λ o. IfSome o (λ stop. stop.is_end ≡ true → IsEnd xs block.now at stop.place)) }
         ensures refused { IfErr result (λ e. e ≡ NoMemory) }
     {
         let error = match find_earliest_end(&self.regex, &mut self.cache, block, at) {
-            Ok(end) => return Ok(end),
+            Ok(end) => return Ok(stop_at(end)),
             Err(error) => error,
         };
         let place = match refused_at(at, &error) {
             Ok(place) => place,
             Err(e) => return Err(e),
         };
-        Ok(Some(place))
+        Ok(Some(Stop {
+            place,
+            is_end: false,
+        }))
     }
 
     /// Where the next line starts that may have a match, or the end of the block where none may: the lines from the given one on that
     /// stand before it have none. The given place is the start of a line. In the line that is answered ends a match in the block, the
     /// first that ends there, or in it stands a byte at which the search gives up, as one that isn't ASCII where words are asked for.
-    pub(crate) fn next_line(&mut self, block: &[u8], at: usize) -> Result<usize, Fault>
+    ///
+    /// Where that match ends in the line from whose start the search went, it is one of the line.
+    pub(crate) fn next_line(&mut self, block: &[u8], at: usize) -> Result<Reached, Fault>
         requires within { at ≤ length block.now }
         requires starts { IsLineStart block.now at }
         ensures same { self.new.0 ≡ self.old.0 }
-        ensures from { IfOk result (λ next. at ≤ next) }
-        ensures within { IfOk result (λ next. next ≤ length block.now) }
-        ensures starts { IfOk result (λ next. next < length block.now → IsLineStart block.now next) }
+        ensures from { IfOk result (λ r. at ≤ r.start) }
+        ensures within { IfOk result (λ r. r.start ≤ length block.now) }
+        ensures starts { IfOk result (λ r. r.start < length block.now → IsLineStart block.now r.start) }
         ensures passed { (config : TextConfig) (texts : List (List ℕ)) → IsCandidatesOf config texts self.old.0 →
-            IfOk result (λ next. HaveNoMatch config texts (slice_range block.now at next)) }
-        ensures stops { (xs : List Tree) → IsBuilt xs line_settings self.old.0 →
-            IfOk result (λ next. next < length block.now → StopsInLine xs block.now at next) }
+            IfOk result (λ r. HaveNoMatch config texts (slice_range block.now at r.start)) }
+        ensures has { (config : TextConfig) (texts : List (List ℕ)) → IsCandidatesOf config texts self.old.0 →
+            IfOk result (λ r. r.has ≡ true → HasMatchAt config texts block.now r.start) }
+        ensures stops { (xs : List Tree) (capacity : Option ℕ) → IsBuilt xs (sized_settings capacity) self.old.0 →
+            IfOk result (λ r. r.start < length block.now → StopsInLine xs block.now at r.start) }
         ensures refused { IfErr result (λ e. e ≡ NoMemory) }
     {
         see_bytes(block);
@@ -156,8 +228,19 @@ impl Candidates {
             Err(e) => return Err(e),
         };
         match stop {
-            None => Ok(block.len()),
-            Some(place) => Ok(line_start(block, at, place)),
+            None => Ok(Reached {
+                start: block.len(),
+                has: false,
+                passed: block.len() - at,
+            }),
+            Some(stop) => {
+                let start = line_start(block, at, stop.place);
+                Ok(Reached {
+                    start,
+                    has: is_known(stop, start, at),
+                    passed: stop.place.saturating_sub(at),
+                })
+            }
         }
     }
 }

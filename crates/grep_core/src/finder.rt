@@ -1,15 +1,15 @@
 //! Patterns are found by automata, and where these give up at a quit byte by the toolchain's regexes of the same texts.
-ghost use Rattle.std.specs.Prelude.{◌≡◌, All, IfErr, IfOk, map, false, ◌≤◌, ◌<◌, length, slice_range};
-ghost use Rattle.hir_core.specs.Facts.{LoopsRead};
-ghost use Rattle.grep_core.specs.Candidates.{HaveNoMatch, IsLineStart};
+ghost use Rattle.std.specs.Prelude.{◌≡◌, IfErr, IfOk, map, false, true, ◌≤◌, ◌<◌, length, slice_range};
+ghost use Rattle.grep_core.specs.Candidates.{HaveNoMatch, HasMatchAt, IsLineStart};
 ghost use Rattle.grep_core.specs.Fallbacks.{AreRegexesOf};
 ghost use Rattle.grep_core.specs.Printing.{span_pair};
-ghost use Rattle.grep_core.specs.Searchers.{IsSearcherOf, IsTold, AreTold, IsRefused, SearchesFor};
+ghost use Rattle.grep_core.specs.Searchers.{IsTold, AreTold, IsRefused, SearchesFor};
 
-use crate::candidates::{Candidates, candidates_of};
+use crate::candidates::{Candidates, Reached, candidates_of};
 use crate::fallback::{all_matches, has_any, regexes_of};
 use crate::fault::Fault;
 use crate::searcher::{Searcher, SearcherError};
+use crate::sizes::Size;
 use pattern_search::regex_laws::regexes_answer_what_is_written;
 use pattern_text::Config;
 use regex::bytes::Regex;
@@ -21,28 +21,39 @@ use std::marker::Model;
 ///
 /// Automata find them but in lines in which these give up at a quit byte, as where `\b` stands beside what isn't ASCII: there the toolchain's
 /// regexes of the same texts do, which are made when the first such line comes.
+///
+/// Where the caches of the automata are cleared too soon, as where a thousand words are looked for in prose, they are made larger, up to
+/// 256 MiB for each.
 #[derive(Drop)]
 pub struct Finder<'t> {
     searcher: Searcher,
     texts: &'t [&'t str],
     config: Config,
+    with_matches: bool,
     regexes: Option<Vec<Regex>>,
-    slow: u64,
     candidates: Option<Candidates>,
+    /// How large the caches of the search of lines are, and of the search of blocks.
+    line_size: Size,
+    block_size: Size,
+    slow: u64,
+    /// How often caches were cleared in whose place larger ones are now.
+    past_clears: usize,
 }
 
 impl<'t> Model for Finder<'t> {
-    ghost use Rattle.std.specs.Prelude.{◌≡◌, IfSome, false, map};
-    ghost use Rattle.regex_pair.specs.Pairs.{PairCache};
+    ghost use Rattle.std.specs.Prelude.{◌≡◌, All, IfSome, false, true, map};
+    ghost use Rattle.hir_core.specs.Facts.{LoopsRead};
     ghost use Rattle.grep_core.specs.Candidates.{IsCandidatesOf};
     ghost use Rattle.grep_core.specs.Fallbacks.{AreRegexesOf};
-    ghost use Rattle.grep_core.specs.Searchers.{Sought};
+    ghost use Rattle.grep_core.specs.Searchers.{IsSearcherOf, Sought};
 
-    ghost Value = { Sought × PairCache };
+    ghost Value = { Sought };
 
-    ghost view = { λ f. (record { pair = f.searcher.0; config = f.config; texts = map (λ t. t.now) f.texts.now }, f.searcher.1) };
+    ghost view = { λ f. record { config = f.config; texts = map (λ t. t.now) f.texts.now; spans = f.with_matches } };
 
-    ghost invariant = { λ f. (f.config ≡ record (f.config) { utf8 = false }) × IfSome f.regexes (λ rs. AreRegexesOf f.config (map (λ t. t.now) f.texts.now) rs.items)
+    ghost invariant = { λ f. (f.config ≡ record (f.config) { utf8 = false })
+        × ((it : IsSearcherOf f.config (map (λ t. t.now) f.texts.now) f.searcher.0) × (f.with_matches ≡ true → All LoopsRead it.trees))
+        × IfSome f.regexes (λ rs. AreRegexesOf f.config (map (λ t. t.now) f.texts.now) rs.items)
         × IfSome f.candidates (λ c. IsCandidatesOf f.config (map (λ t. t.now) f.texts.now) c.0) };
 }
 
@@ -51,6 +62,14 @@ fn lacks_memory(error: &MatchError) -> bool {
     match error.kind() {
         MatchErrorKind::NoMemory => true,
         _ => false,
+    }
+}
+
+/// How often the caches of the search of blocks were cleared.
+fn clears_of(candidates: &Option<Candidates>) -> usize {
+    match candidates {
+        Some(candidates) => candidates.clear_count(),
+        None => 0,
     }
 }
 
@@ -66,9 +85,8 @@ impl<'t> Finder<'t> {
         config: &Config,
         with_matches: bool,
     ) -> Result<Finder<'t>, SearcherError>
-        ensures config { IfOk result (λ f. f.0.config ≡ record (config.now) { utf8 = false }) }
-        ensures texts { IfOk result (λ f. f.0.texts ≡ map (λ t. t.now) texts.now) }
-        ensures searches { IfOk result (λ f. SearchesFor f.0 with_matches) }
+        ensures sought { IfOk result (λ f. f ≡ record { config = record (config.now) { utf8 = false }; texts = map (λ t. t.now) texts.now; spans = with_matches }) }
+        ensures searches { IfOk result (λ f. SearchesFor f with_matches) }
         ensures refused { IfErr result (IsRefused (record (config.now) { utf8 = false }) (map (λ t. t.now) texts.now) with_matches) }
     {
         regexes_answer_what_is_written();
@@ -81,41 +99,133 @@ impl<'t> Finder<'t> {
             searcher,
             texts,
             config,
+            with_matches,
             regexes: None,
+            candidates: candidates_of(alloc, texts, &config, None),
+            line_size: Size::first(),
+            block_size: Size::first(),
             slow: 0,
-            candidates: candidates_of(alloc, texts, &config),
+            past_clears: 0,
         })
     }
 
-    /// Where the next line of a block starts that may have a match, or the end of the block where none may. The given place is the start
-    /// of a line, and no line from there on that stands before the answer has a match.
-    pub(crate) fn next_line(&mut self, block: &[u8], at: usize) -> Result<usize, Fault>
+    /// Gives the search of blocks larger caches, where its own were cleared too soon and memory suffices.
+    fn grow_candidates(&mut self, alloc: Global)
+        ensures { self.new ≡ self.old }
+    {
+        let Some(size) = self.block_size.take_larger() else {
+            return;
+        };
+        let clears = clears_of(&self.candidates);
+        if let Some(larger) = candidates_of(alloc, self.texts, &self.config, Some(size.capacity)) {
+            self.candidates = Some(larger);
+            self.block_size = size;
+            self.past_clears = self.past_clears.saturating_add(clears);
+        }
+    }
+
+    /// Gives the search of lines larger caches, where its own were cleared too soon and memory suffices.
+    fn grow_searcher(&mut self, alloc: Global)
+        ensures { self.new ≡ self.old }
+    {
+        let Some(size) = self.line_size.take_larger() else {
+            return;
+        };
+        let clears = self.searcher.clear_count();
+        let capacity = Some(size.capacity);
+        if let Ok(larger) = Searcher::sized(
+            alloc,
+            self.texts,
+            &self.config,
+            self.with_matches,
+            capacity,
+        ) {
+            self.searcher = larger;
+            self.line_size = size;
+            self.past_clears = self.past_clears.saturating_add(clears);
+        }
+    }
+
+    /// Keeps that so many bytes of lines were searched.
+    fn note_lines(&mut self, bytes: usize)
+        ensures { self.new ≡ self.old }
+    {
+        let clears = self.searcher.clear_count();
+        self.line_size.note(bytes, clears);
+    }
+
+    /// Keeps that so many bytes of blocks were searched.
+    fn note_blocks(&mut self, bytes: usize)
+        ensures { self.new ≡ self.old }
+    {
+        let clears = clears_of(&self.candidates);
+        self.block_size.note(bytes, clears);
+    }
+
+    /// Where the next line of a block starts that may have a match, or the end of the block where none may, and whether that line is known
+    /// to have one. The given place is the start of a line, and no line from there on that stands before the answer has a match.
+    pub(crate) fn next_line(
+        &mut self,
+        alloc: Global,
+        block: &[u8],
+        at: usize,
+    ) -> Result<Reached, Fault>
         requires within { at ≤ length block.now }
         requires starts { IsLineStart block.now at }
-        ensures same { self.new.0 ≡ self.old.0 }
-        ensures from { IfOk result (λ next. at ≤ next) }
-        ensures within { IfOk result (λ next. next ≤ length block.now) }
-        ensures starts { IfOk result (λ next. next < length block.now → IsLineStart block.now next) }
-        ensures passed { IfOk result (λ next. HaveNoMatch self.old.0.config self.old.0.texts (slice_range block.now at next)) }
+        ensures same { self.new ≡ self.old }
+        ensures from { IfOk result (λ r. at ≤ r.start) }
+        ensures within { IfOk result (λ r. r.start ≤ length block.now) }
+        ensures starts { IfOk result (λ r. r.start < length block.now → IsLineStart block.now r.start) }
+        ensures passed { IfOk result (λ r. HaveNoMatch self.old.config self.old.texts (slice_range block.now at r.start)) }
+        ensures has { IfOk result (λ r. r.has ≡ true → HasMatchAt self.old.config self.old.texts block.now r.start) }
     {
-        let Some(candidates) = &mut self.candidates else {
-            return Ok(at);
-        };
-        let next = match candidates.next_line(block, at) {
-            Ok(next) => next,
+        self.grow_candidates(alloc);
+        let reached = match self.reach(block, at) {
+            Ok(reached) => reached,
             Err(e) => return Err(e),
         };
-        Ok(next)
+        self.note_blocks(reached.passed);
+        Ok(reached)
+    }
+
+    /// The same by the caches that there are.
+    fn reach(&mut self, block: &[u8], at: usize) -> Result<Reached, Fault>
+        requires within { at ≤ length block.now }
+        requires starts { IsLineStart block.now at }
+        ensures same { self.new ≡ self.old }
+        ensures from { IfOk result (λ r. at ≤ r.start) }
+        ensures within { IfOk result (λ r. r.start ≤ length block.now) }
+        ensures starts { IfOk result (λ r. r.start < length block.now → IsLineStart block.now r.start) }
+        ensures passed { IfOk result (λ r. HaveNoMatch self.old.config self.old.texts (slice_range block.now at r.start)) }
+        ensures has { IfOk result (λ r. r.has ≡ true → HasMatchAt self.old.config self.old.texts block.now r.start) }
+    {
+        let Some(candidates) = &mut self.candidates else {
+            return Ok(Reached {
+                start: at,
+                has: false,
+                passed: 0,
+            });
+        };
+        let reached = match candidates.next_line(block, at) {
+            Ok(reached) => reached,
+            Err(e) => return Err(e),
+        };
+        Ok(reached)
     }
 
     /// How often the caches of the automata were cleared; the greatest number stands for any above it.
     pub fn clear_count(&self) -> usize {
-        self.searcher.clear_count()
+        let clears = self.past_clears.saturating_add(self.searcher.clear_count());
+        clears.saturating_add(clears_of(&self.candidates))
     }
 
     /// The bytes that these caches are taken to need.
     pub fn memory_usage(&self) -> usize {
-        self.searcher.memory_usage()
+        let usage = self.searcher.memory_usage();
+        match &self.candidates {
+            Some(candidates) => usage.saturating_add(candidates.memory_usage()),
+            None => usage,
+        }
     }
 
     /// In how many lines the automata gave up, so that the toolchain's regexes told whether there is a match.
@@ -125,8 +235,8 @@ impl<'t> Finder<'t> {
 
     /// Takes the regexes out, which are made where they aren't yet.
     fn take_regexes(&mut self, alloc: Global) -> Result<Vec<Regex>, Fault>
-        ensures same { self.new.0 ≡ self.old.0 }
-        ensures regexes { IfOk result (λ rs. AreRegexesOf self.old.0.config self.old.0.texts rs.items) }
+        ensures same { self.new ≡ self.old }
+        ensures regexes { IfOk result (λ rs. AreRegexesOf self.old.config self.old.texts rs.items) }
     {
         if let Some(regexes) = self.regexes.take() {
             return Ok(regexes);
@@ -140,8 +250,8 @@ impl<'t> Finder<'t> {
 
     /// Whether the line has a match, by the regexes.
     fn has_match_slowly(&mut self, alloc: Global, line: &[u8]) -> Result<bool, Fault>
-        ensures same { self.new.0 ≡ self.old.0 }
-        ensures told { IfOk result (λ told. IsTold self.old.0.config self.old.0.texts line.now told) }
+        ensures same { self.new ≡ self.old }
+        ensures told { IfOk result (λ told. IsTold self.old.config self.old.texts line.now told) }
     {
         self.slow = self.slow.saturating_add(1);
         let regexes = match self.take_regexes(alloc) {
@@ -150,16 +260,17 @@ impl<'t> Finder<'t> {
         };
         let told = has_any(alloc, &regexes, line);
         self.regexes = Some(regexes);
-        match told {
-            Ok(has) => Ok(has),
-            Err(_) => Err(Fault::NoMemory),
-        }
+        let has = match told {
+            Ok(has) => has,
+            Err(_) => return Err(Fault::NoMemory),
+        };
+        Ok(has)
     }
 
     /// The matches of the line that aren't empty, by the regexes.
     fn matches_slowly(&mut self, alloc: Global, line: &[u8]) -> Result<Vec<Span>, Fault>
-        ensures same { self.new.0 ≡ self.old.0 }
-        ensures told { IfOk result (λ found. AreTold self.old.0.config self.old.0.texts line.now (map span_pair found.items)) }
+        ensures same { self.new ≡ self.old }
+        ensures told { IfOk result (λ found. AreTold self.old.config self.old.texts line.now (map span_pair found.items)) }
     {
         let regexes = match self.take_regexes(alloc) {
             Ok(regexes) => regexes,
@@ -167,18 +278,46 @@ impl<'t> Finder<'t> {
         };
         let told = all_matches(alloc, &regexes, line);
         self.regexes = Some(regexes);
-        match told {
-            Ok(found) => Ok(found),
-            Err(_) => Err(Fault::NoMemory),
-        }
+        let found = match told {
+            Ok(found) => found,
+            Err(_) => return Err(Fault::NoMemory),
+        };
+        Ok(found)
+    }
+
+    /// Whether the line has a match, by the automata.
+    fn has_match_quickly(&mut self, line: &[u8]) -> Result<bool, MatchError>
+        ensures same { self.new ≡ self.old }
+        ensures told { IfOk result (λ told. IsTold self.old.config self.old.texts line.now told) }
+    {
+        let told = match self.searcher.has_match(line) {
+            Ok(told) => told,
+            Err(e) => return Err(e),
+        };
+        self.note_lines(line.len());
+        Ok(told)
+    }
+
+    /// The matches of the line that aren't empty, by the automata.
+    fn matches_quickly(&mut self, alloc: Global, line: &[u8]) -> Result<Vec<Span>, MatchError>
+        ensures same { self.new ≡ self.old }
+        ensures told { self.old.spans ≡ true → IfOk result (λ found. AreTold self.old.config self.old.texts line.now (map span_pair found.items)) }
+    {
+        let found = match self.searcher.matches(alloc, line) {
+            Ok(found) => found,
+            Err(e) => return Err(e),
+        };
+        self.note_lines(line.len());
+        Ok(found)
     }
 
     /// Whether the line has a match of some pattern.
     pub(crate) fn has_match(&mut self, alloc: Global, line: &[u8]) -> Result<bool, Fault>
-        ensures same { self.new.0 ≡ self.old.0 }
-        ensures told { IsSearcherOf self.old.0.config self.old.0.texts self.old.0.pair → IfOk result (λ told. IsTold self.old.0.config self.old.0.texts line.now told) }
+        ensures same { self.new ≡ self.old }
+        ensures told { IfOk result (λ told. IsTold self.old.config self.old.texts line.now told) }
     {
-        let error = match self.searcher.has_match(line) {
+        self.grow_searcher(alloc);
+        let error = match self.has_match_quickly(line) {
             Ok(has) => return Ok(has),
             Err(error) => error,
         };
@@ -193,11 +332,11 @@ impl<'t> Finder<'t> {
 
     /// The matches of the line that aren't empty, from left to right.
     pub(crate) fn matches(&mut self, alloc: Global, line: &[u8]) -> Result<Vec<Span>, Fault>
-        ensures same { self.new.0 ≡ self.old.0 }
-        ensures told { (it : IsSearcherOf self.old.0.config self.old.0.texts self.old.0.pair) → All LoopsRead it.trees →
-            IfOk result (λ found. AreTold self.old.0.config self.old.0.texts line.now (map span_pair found.items)) }
+        ensures same { self.new ≡ self.old }
+        ensures told { self.old.spans ≡ true → IfOk result (λ found. AreTold self.old.config self.old.texts line.now (map span_pair found.items)) }
     {
-        let error = match self.searcher.matches(alloc, line) {
+        self.grow_searcher(alloc);
+        let error = match self.matches_quickly(alloc, line) {
             Ok(found) => return Ok(found),
             Err(error) => error,
         };

@@ -21,6 +21,7 @@ mod printing;
 mod reading;
 mod role;
 mod searcher;
+mod sizes;
 mod telling;
 mod what;
 

@@ -1,8 +1,8 @@
 //! What is seen of a line.
-ghost use Rattle.std.specs.Prelude.{◌≡◌, IfOk, map};
+ghost use Rattle.std.specs.Prelude.{◌≡◌, IfOk, map, true};
 ghost use Rattle.grep_core.specs.Printing.{span_pair};
 ghost use Rattle.grep_core.specs.Report.{is_some_text};
-ghost use Rattle.grep_core.specs.Searchers.{SearchesFor, found_by};
+ghost use Rattle.grep_core.specs.Searchers.{IsTold, SearchesFor, found_by};
 ghost use Rattle.grep_core.specs.Telling.{needs_spans, needed};
 ghost use Rattle.std.specs.List.{filter};
 
@@ -32,19 +32,41 @@ pub fn needs_spans(what: &What) -> bool
     }
 }
 
-/// Whether a line has a match, and which of its matches aren't empty, where these count.
+/// Whether a line has a match, where it isn't known that it has one.
+fn has_match(
+    alloc: Global,
+    finder: &mut Finder<'_>,
+    line: &[u8],
+    is_known: bool,
+) -> Result<bool, Fault>
+    requires { is_known ≡ true → IsTold finder.old.config finder.old.texts line.now true }
+    ensures same { finder.new ≡ finder.old }
+    ensures told { IfOk result (λ told. IsTold finder.old.config finder.old.texts line.now told) }
+{
+    if is_known {
+        return Ok(true);
+    }
+    match finder.has_match(alloc, line) {
+        Ok(has) => Ok(has),
+        Err(e) => Err(e),
+    }
+}
+
+/// Whether a line has a match, and which of its matches aren't empty, where these count. It may be known that it has one.
 pub(crate) fn look_at(
     alloc: Global,
     finder: &mut Finder<'_>,
     what: &What,
     line: &[u8],
+    is_known: bool,
 ) -> Result<Seen, Fault>
-    ensures same { finder.new.0 ≡ finder.old.0 }
-    ensures has { IfOk result (λ seen. (by : SearchesFor finder.old.0 (needs_spans what.now)) → seen.has ≡ (found_by by).has_match line.now) }
-    ensures found { IfOk result (λ seen. (by : SearchesFor finder.old.0 (needs_spans what.now)) →
+    requires { is_known ≡ true → IsTold finder.old.config finder.old.texts line.now true }
+    ensures same { finder.new ≡ finder.old }
+    ensures has { IfOk result (λ seen. (by : SearchesFor finder.old (needs_spans what.now)) → seen.has ≡ (found_by by).has_match line.now) }
+    ensures found { IfOk result (λ seen. (by : SearchesFor finder.old (needs_spans what.now)) →
         map span_pair seen.found.items ≡ filter is_some_text ((needed what.now (found_by by)).spans line.now)) }
 {
-    let has = match finder.has_match(alloc, line) {
+    let has = match has_match(alloc, finder, line, is_known) {
         Ok(has) => has,
         Err(e) => return Err(e),
     };

@@ -106,12 +106,12 @@ fn tell_read<W: Write>(
     progress: &mut Progress,
 ) -> Result<bool, Fault>
     requires { Waits task.what.now progress.old.telling.course }
-    ensures same { finder.new.0 ≡ finder.old.0 }
+    ensures same { finder.new ≡ finder.old }
     ensures waits { OnOk result (Waits task.entry.what.now progress.new.telling.course) }
-    ensures writes { OnOk result ((by : SearchesBy task.entry finder.old.0) (more : List ℕ) →
+    ensures writes { OnOk result ((by : SearchesBy task.entry finder.old) (more : List ℕ) →
         Writes task.entry (finds_by task.entry by) progress.old progress.new (read.old.items ++ more) (read.new.items ++ more) (W.contents writer.old) (W.contents writer.new)) }
     ensures over { IfOk result (λ over. IsTrue over → IsOver task.entry progress.new) }
-    ensures fault { IfErr result (λ _. (by : SearchesBy task.entry finder.old.0) (more : List ℕ) →
+    ensures fault { IfErr result (λ _. (by : SearchesBy task.entry finder.old) (more : List ℕ) →
         WritesPart task.entry (finds_by task.entry by) progress.old (read.old.items ++ more) (W.contents writer.old) (W.contents writer.new)) }
 {
     let mut out = Vec::new(alloc);
@@ -144,14 +144,14 @@ fn next_block<R: Read, W: Write>(
 ) -> Result<Next, Fault>
     requires waits { Waits task.what.now progress.old.telling.course }
     requires chunk { 0 < length chunk.old }
-    ensures same { finder.new.0 ≡ finder.old.0 }
+    ensures same { finder.new ≡ finder.old }
     ensures waits { OnOk result (Waits task.entry.what.now progress.new.telling.course) }
     ensures chunk { length chunk.new ≡ length chunk.old }
-    ensures reads { OnOk result ((by : SearchesBy task.entry finder.old.0) (text : List ℕ) → R.remaining reader.old ≡ Some text →
+    ensures reads { OnOk result ((by : SearchesBy task.entry finder.old) (text : List ℕ) → R.remaining reader.old ≡ Some text →
         ReadsOn task.entry (finds_by task.entry by) progress.old progress.new read.old.items read.new.items text (R.remaining reader.new) (W.contents writer.old) (W.contents writer.new)) }
     ensures end { result ≡ Ok Next.End → IsAtEnd (R.remaining reader.new) }
     ensures over { result ≡ Ok Next.Over → IsOver task.entry progress.new }
-    ensures fault { IfErr result (λ _. (by : SearchesBy task.entry finder.old.0) (text : List ℕ) → R.remaining reader.old ≡ Some text →
+    ensures fault { IfErr result (λ _. (by : SearchesBy task.entry finder.old) (text : List ℕ) → R.remaining reader.old ≡ Some text →
         WritesPart task.entry (finds_by task.entry by) progress.old (read.old.items ++ text) (W.contents writer.old) (W.contents writer.new)) }
 {
     let before = read.len();
@@ -188,13 +188,13 @@ fn tell_blocks<R: Read, W: Write>(
 ) -> Result<bool, Fault>
     requires waits { Waits task.what.now progress.old.telling.course }
     requires chunk { 0 < length chunk.old }
-    ensures same { finder.new.0 ≡ finder.old.0 }
+    ensures same { finder.new ≡ finder.old }
     ensures waits { OnOk result (Waits task.entry.what.now progress.new.telling.course) }
-    ensures reads { OnOk result ((by : SearchesBy task.entry finder.old.0) (text : List ℕ) → R.remaining reader.old ≡ Some text →
+    ensures reads { OnOk result ((by : SearchesBy task.entry finder.old) (text : List ℕ) → R.remaining reader.old ≡ Some text →
         ReadsOn task.entry (finds_by task.entry by) progress.old progress.new read.old.items read.new.items text (R.remaining reader.new) (W.contents writer.old) (W.contents writer.new)) }
     ensures end { IfOk result (λ ended. ended ≡ true → IsAtEnd (R.remaining reader.new)) }
     ensures over { IfOk result (λ ended. ended ≡ false → IsOver task.entry progress.new) }
-    ensures fault { IfErr result (λ _. (by : SearchesBy task.entry finder.old.0) (text : List ℕ) → R.remaining reader.old ≡ Some text →
+    ensures fault { IfErr result (λ _. (by : SearchesBy task.entry finder.old) (text : List ℕ) → R.remaining reader.old ≡ Some text →
         WritesPart task.entry (finds_by task.entry by) progress.old (read.old.items ++ text) (W.contents writer.old) (W.contents writer.new)) }
 {
     for _ in 0..u64::MAX {
@@ -219,15 +219,15 @@ fn tell_open_line(
 ) -> Result<(), Fault>
     requires waits { Waits task.what.now progress.old.telling.course }
     requires unended { position (λ b. b == 10) rest.now ≡ None }
-    ensures same { finder.new.0 ≡ finder.old.0 }
+    ensures same { finder.new ≡ finder.old }
     ensures waits { OnOk result (Waits task.entry.what.now progress.new.telling.course) }
-    ensures told { OnOk result ((by : SearchesBy task.entry finder.old.0) → out.old.items ++ tells_lines task.entry (finds_by task.entry by) progress.old (split_lines rest.now) ≡ out.new.items ++ tells_lines task.entry (finds_by task.entry by) progress.new []) }
-    ensures counts { OnOk result ((by : SearchesBy task.entry finder.old.0) → counts_lines task.entry (finds_by task.entry by) progress.new [] ≡ counts_lines task.entry (finds_by task.entry by) progress.old (split_lines rest.now)) }
+    ensures told { OnOk result ((by : SearchesBy task.entry finder.old) → out.old.items ++ tells_lines task.entry (finds_by task.entry by) progress.old (split_lines rest.now) ≡ out.new.items ++ tells_lines task.entry (finds_by task.entry by) progress.new []) }
+    ensures counts { OnOk result ((by : SearchesBy task.entry finder.old) → counts_lines task.entry (finds_by task.entry by) progress.new [] ≡ counts_lines task.entry (finds_by task.entry by) progress.old (split_lines rest.now)) }
 {
     if rest.is_empty() {
         return Ok(());
     }
-    match tell_one(alloc, out, finder, task, progress, rest) {
+    match tell_one(alloc, out, finder, task, progress, rest, false) {
         Ok(()) => Ok(()),
         Err(e) => Err(e),
     }
@@ -243,9 +243,9 @@ fn tell_tail(
     progress: &mut Progress,
 ) -> Result<(), Fault>
     requires { Waits task.what.now progress.old.telling.course }
-    ensures same { finder.new.0 ≡ finder.old.0 }
-    ensures told { OnOk result ((by : SearchesBy task.entry finder.old.0) → out.old.items ++ tells_lines task.entry (finds_by task.entry by) progress.old (split_lines read.now) ≡ out.new.items) }
-    ensures counts { OnOk result ((by : SearchesBy task.entry finder.old.0) → counts_lines task.entry (finds_by task.entry by) progress.new [] ≡ counts_lines task.entry (finds_by task.entry by) progress.old (split_lines read.now)) }
+    ensures same { finder.new ≡ finder.old }
+    ensures told { OnOk result ((by : SearchesBy task.entry finder.old) → out.old.items ++ tells_lines task.entry (finds_by task.entry by) progress.old (split_lines read.now) ≡ out.new.items) }
+    ensures counts { OnOk result ((by : SearchesBy task.entry finder.old) → counts_lines task.entry (finds_by task.entry by) progress.new [] ≡ counts_lines task.entry (finds_by task.entry by) progress.old (split_lines read.now)) }
 {
     let done = match tell_block(alloc, out, finder, task, progress, read) {
         Ok(done) => done,
@@ -278,10 +278,10 @@ fn write_tail<W: Write>(
     progress: &mut Progress,
 ) -> Result<(), Fault>
     requires { Waits task.what.now progress.old.telling.course }
-    ensures same { finder.new.0 ≡ finder.old.0 }
-    ensures written { OnOk result ((by : SearchesBy task.entry finder.old.0) → Appends (W.contents writer.old) (W.contents writer.new) (tells_lines task.entry (finds_by task.entry by) progress.old (split_lines read.now))) }
-    ensures counts { OnOk result ((by : SearchesBy task.entry finder.old.0) → counts_lines task.entry (finds_by task.entry by) progress.new [] ≡ counts_lines task.entry (finds_by task.entry by) progress.old (split_lines read.now)) }
-    ensures fault { IfErr result (λ _. (by : SearchesBy task.entry finder.old.0) → WritesPart task.entry (finds_by task.entry by) progress.old read.now (W.contents writer.old) (W.contents writer.new)) }
+    ensures same { finder.new ≡ finder.old }
+    ensures written { OnOk result ((by : SearchesBy task.entry finder.old) → Appends (W.contents writer.old) (W.contents writer.new) (tells_lines task.entry (finds_by task.entry by) progress.old (split_lines read.now))) }
+    ensures counts { OnOk result ((by : SearchesBy task.entry finder.old) → counts_lines task.entry (finds_by task.entry by) progress.new [] ≡ counts_lines task.entry (finds_by task.entry by) progress.old (split_lines read.now)) }
+    ensures fault { IfErr result (λ _. (by : SearchesBy task.entry finder.old) → WritesPart task.entry (finds_by task.entry by) progress.old read.now (W.contents writer.old) (W.contents writer.new)) }
 {
     let mut out = Vec::new(alloc);
     match tell_tail(alloc, &mut out, finder, task, read, progress) {
@@ -335,12 +335,12 @@ fn write_rest<W: Write>(
 ) -> Result<(), Fault>
     requires waits { Waits task.what.now progress.old.telling.course }
     requires over { ended ≡ false → IsOver task progress.old }
-    ensures same { finder.new.0 ≡ finder.old.0 }
-    ensures written { OnOk result ((by : SearchesBy task.entry finder.old.0) (more : List ℕ) → (ended ≡ true → more ≡ []) →
+    ensures same { finder.new ≡ finder.old }
+    ensures written { OnOk result ((by : SearchesBy task.entry finder.old) (more : List ℕ) → (ended ≡ true → more ≡ []) →
         Appends (W.contents writer.old) (W.contents writer.new) (tells_lines task.entry (finds_by task.entry by) progress.old (split_lines (read.now ++ more)))) }
-    ensures counts { OnOk result ((by : SearchesBy task.entry finder.old.0) (more : List ℕ) → (ended ≡ true → more ≡ []) →
+    ensures counts { OnOk result ((by : SearchesBy task.entry finder.old) (more : List ℕ) → (ended ≡ true → more ≡ []) →
         nat_lt 0 (counts_lines task.entry (finds_by task.entry by) progress.new []) ≡ nat_lt 0 (counts_lines task.entry (finds_by task.entry by) progress.old (split_lines (read.now ++ more)))) }
-    ensures fault { IfErr result (λ _. (by : SearchesBy task.entry finder.old.0) (more : List ℕ) → (ended ≡ true → more ≡ []) →
+    ensures fault { IfErr result (λ _. (by : SearchesBy task.entry finder.old) (more : List ℕ) → (ended ≡ true → more ≡ []) →
         WritesPart task.entry (finds_by task.entry by) progress.old (read.now ++ more) (W.contents writer.old) (W.contents writer.new)) }
 {
     if ended {
@@ -367,12 +367,12 @@ fn finish<W: Write>(
 ) -> Result<(), Fault>
     requires waits { Waits task.what.now progress.old.telling.course }
     requires over { ended ≡ false → IsOver task progress.old }
-    ensures same { finder.new.0 ≡ finder.old.0 }
-    ensures written { OnOk result ((by : SearchesBy task.entry finder.old.0) (more : List ℕ) → (ended ≡ true → more ≡ []) →
+    ensures same { finder.new ≡ finder.old }
+    ensures written { OnOk result ((by : SearchesBy task.entry finder.old) (more : List ℕ) → (ended ≡ true → more ≡ []) →
         Appends (W.contents writer.old) (W.contents writer.new) (tells_lines task.entry (finds_by task.entry by) progress.old (split_lines (read.now ++ more)))) }
-    ensures counts { OnOk result ((by : SearchesBy task.entry finder.old.0) (more : List ℕ) → (ended ≡ true → more ≡ []) →
+    ensures counts { OnOk result ((by : SearchesBy task.entry finder.old) (more : List ℕ) → (ended ≡ true → more ≡ []) →
         nat_lt 0 (counts_lines task.entry (finds_by task.entry by) progress.new []) ≡ nat_lt 0 (counts_lines task.entry (finds_by task.entry by) progress.old (split_lines (read.now ++ more)))) }
-    ensures fault { IfErr result (λ _. (by : SearchesBy task.entry finder.old.0) (more : List ℕ) → (ended ≡ true → more ≡ []) →
+    ensures fault { IfErr result (λ _. (by : SearchesBy task.entry finder.old) (more : List ℕ) → (ended ≡ true → more ≡ []) →
         WritesPart task.entry (finds_by task.entry by) progress.old (read.now ++ more) (W.contents writer.old) (W.contents writer.new)) }
 {
     match write_rest(alloc, writer, finder, task, ended, read, progress) {
@@ -408,12 +408,12 @@ pub fn tell_text<R: Read, W: Write>(
     reader: &mut R,
     writer: &mut W,
 ) -> Result<bool, Fault>
-    ensures same { finder.new.0 ≡ finder.old.0 }
-    ensures told { OnOk result ((by : SearchesFor finder.old.0 (needs_spans what.now)) → IfSome (R.remaining reader.old) (λ text.
+    ensures same { finder.new ≡ finder.old }
+    ensures told { OnOk result ((by : SearchesFor finder.old (needs_spans what.now)) → IfSome (R.remaining reader.old) (λ text.
         Appends (W.contents writer.old) (W.contents writer.new) (report what.now (found_by by) name.now with_name text))) }
-    ensures selected { IfOk result (λ any. (by : SearchesFor finder.old.0 (needs_spans what.now)) → IfSome (R.remaining reader.old) (λ text.
+    ensures selected { IfOk result (λ any. (by : SearchesFor finder.old (needs_spans what.now)) → IfSome (R.remaining reader.old) (λ text.
         any ≡ nat_lt 0 (selected_count what.now (found_by by) text))) }
-    ensures fault { IfErr result (λ _. (by : SearchesFor finder.old.0 (needs_spans what.now)) → IfSome (R.remaining reader.old) (λ text.
+    ensures fault { IfErr result (λ _. (by : SearchesFor finder.old (needs_spans what.now)) → IfSome (R.remaining reader.old) (λ text.
         (n : ℕ) × Appends (W.contents writer.old) (W.contents writer.new) (take n (report what.now (found_by by) name.now with_name text)))) }
 {
     let task = Task {

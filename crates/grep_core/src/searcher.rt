@@ -1,16 +1,18 @@
 //! Patterns that lines are searched for, by automata.
-ghost use Rattle.std.specs.Prelude.{◌≡◌, ◌<◌, ℕ, List, All, Some, true, IfErr, IfNone, IfOk, IfSome, map};
+ghost use Rattle.std.specs.Prelude.{◌≡◌, ◌<◌, ℕ, List, All, Some, None, true, IfErr, IfNone, IfOk, IfSome, map};
 ghost use Rattle.regex_syntax.specs.declared.Config.{Config as TextConfig};
 ghost use Rattle.hir_core.specs.Facts.{LoopsRead};
 ghost use Rattle.hirscan.specs.Loops.{first_empty_loop};
+ghost use Rattle.lazy_dfa.specs.ConfigValue.{no_options};
 ghost use Rattle.grep_core.specs.Printing.{span_pair};
-ghost use Rattle.grep_core.specs.Searchers.{IsSearcherOf, IsTold, AreTold, IsRefused, line_settings};
+ghost use Rattle.grep_core.specs.Searchers.{IsSearcherOf, IsTold, AreTold, IsRefused, sized_settings};
 
 use crate::listing::{list, spans_of};
 use hir_core::Hir;
 use hirscan::laws::loops_read_tells;
 use hirscan::{Settings, build, find, first_empty_loop, program_settings};
 use lazy_dfa::BuildError;
+use lazy_dfa::dfa::Config as Options;
 use pattern_search::regex_laws::regexes_answer_what_is_written;
 use pattern_search::{TextError, parse_all};
 use pattern_text::Config;
@@ -52,12 +54,23 @@ pub(crate) fn see_bytes(bytes: &[u8])
     ensures { All (λ byte. byte < 256) bytes.now }
 {}
 
+/// Options of automata whose caches have this capacity in bytes, or the one that is meant where none is told.
+fn options_of(capacity: Option<usize>) -> Options
+    ensures { result ≡ record no_options { cache_capacity = capacity } }
+{
+    match capacity {
+        Some(bytes) => Options::new().cache_capacity(bytes),
+        None => Options::new(),
+    }
+}
+
 /// Any bytes are searched, as the program of the notation searches them.
-pub(crate) fn settings() -> Settings
-    ensures { result ≡ line_settings }
+pub(crate) fn settings(capacity: Option<usize>) -> Settings
+    ensures { result ≡ sized_settings capacity }
 {
     program_settings(Settings {
         utf8: false,
+        dfa: options_of(capacity),
         ..Settings::new()
     })
 }
@@ -86,6 +99,20 @@ impl Searcher {
         ensures searcher { IfOk result (λ s. (it : IsSearcherOf config.now (map (λ t. t.now) texts.now) s.0) × (with_matches ≡ true → All LoopsRead it.trees)) }
         ensures refused { IfErr result (IsRefused config.now (map (λ t. t.now) texts.now) with_matches) }
     {
+        Searcher::sized(alloc, texts, config, with_matches, None)
+    }
+
+    /// The same with caches of this capacity, or the one that is meant where none is told.
+    pub(crate) fn sized(
+        alloc: Global,
+        texts: &[&str],
+        config: &Config,
+        with_matches: bool,
+        capacity: Option<usize>,
+    ) -> Result<Searcher, SearcherError>
+        ensures searcher { IfOk result (λ s. (it : IsSearcherOf config.now (map (λ t. t.now) texts.now) s.0) × (with_matches ≡ true → All LoopsRead it.trees)) }
+        ensures refused { capacity ≡ None → IfErr result (IsRefused config.now (map (λ t. t.now) texts.now) with_matches) }
+    {
         let trees = match parse_all(alloc, texts, config) {
             Ok(trees) => trees,
             Err(e) => return Err(SearcherError::Text(e)),
@@ -93,7 +120,7 @@ impl Searcher {
         if let Some(number) = refused_loop(&trees, with_matches) {
             return Err(SearcherError::EmptyLoop(number));
         }
-        let regex = match build(alloc, &trees, &settings()) {
+        let regex = match build(alloc, &trees, &settings(capacity)) {
             Ok(regex) => regex,
             Err(e) => return Err(SearcherError::Build(e)),
         };

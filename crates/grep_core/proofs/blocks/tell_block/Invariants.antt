@@ -9,12 +9,12 @@ abbrev pub invariant-loop-done : goal.invariant-loop-done
 invariant-loop-done l = record {
   in_whole : l.done ≤ l.whole;
   starts : IsLineStart (take l.whole l.block) l.done;
-  same : l.finder.0 ≡ l.initial.finder.0;
+  same : l.finder ≡ l.initial.finder;
   waits : Waits l.task.what.now l.progress.telling.course;
-  printed : (by : SearchesBy l.task l.initial.finder.0) (more : List ℕ) →
+  printed : (by : SearchesBy l.task l.initial.finder) (more : List ℕ) →
       l.initial.out.items ++ tells_lines l.task (finds_by l.task by) l.initial.progress (split_lines (l.block ++ more))
       ≡ l.out.items ++ tells_lines l.task (finds_by l.task by) l.progress (split_lines (drop l.done l.block ++ more));
-  counted : (by : SearchesBy l.task l.initial.finder.0) (more : List ℕ) →
+  counted : (by : SearchesBy l.task l.initial.finder) (more : List ℕ) →
       counts_lines l.task (finds_by l.task by) l.progress (split_lines (drop l.done l.block ++ more))
       ≡ counts_lines l.task (finds_by l.task by) l.initial.progress (split_lines (l.block ++ more));
 }

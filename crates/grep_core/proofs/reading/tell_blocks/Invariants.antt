@@ -5,10 +5,10 @@ use Rattle.grep_core.proofs.reading.tell_blocks.Given as goal
 
 abbrev pub invariant-loop : goal.invariant-loop
 invariant-loop g l = record {
-  same : l.finder.0 ≡ l.initial.finder.0;
+  same : l.finder ≡ l.initial.finder;
   waits : Waits l.task.what.now l.progress.telling.course;
   some_chunk : 0 < length l.chunk;
-  reads : (by : SearchesBy l.task l.initial.finder.0) (text : List ℕ) → g.R.Read.remaining l.initial.reader ≡ Some text →
+  reads : (by : SearchesBy l.task l.initial.finder) (text : List ℕ) → g.R.Read.remaining l.initial.reader ≡ Some text →
       ReadsOn l.task (finds_by l.task by) l.initial.progress l.progress l.initial.read.items l.read.items text
       (g.R.Read.remaining l.reader) (g.W.Write.contents l.initial.writer) (g.W.Write.contents l.writer);
 }

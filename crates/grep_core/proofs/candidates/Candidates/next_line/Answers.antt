@@ -1,24 +1,39 @@
-use Rattle.std.proofs.Common.{ℕ, Option, map, subst}
+use Rattle.std.proofs.Common.{◌≡◌, ℕ, Option, map, sym, ◌∙◌, subst}
+use Rattle.std.specs.Prelude.{option_map}
 use Rattle.line_trees.specs.LineTrees.{line_tree}
-use Rattle.grep_core.specs.Candidates.{IsStopIfAny}
-use Rattle.grep_core.proofs.CandidateLemmas.{all_passed, lines_passed, stops_in_line}
+use Rattle.hir_core.specs.Tree.{Tree}
+use Rattle.std.proofs.Common.{List}
+use Rattle.grep_core.specs.declared.candidates.Stop.{Stop}
+use Rattle.grep_core.specs.Candidates.{IsStopIfAny, IsEnd}
+use Rattle.std.specs.Prelude.{IfSome, true}
+use Rattle.grep_core.proofs.CandidateLemmas.{all_passed, lines_passed, match_known, stops_in_line}
 use Rattle.grep_core.proofs.candidates.Candidates.next_line.Goals as goal
 
 pub returns-in-None-clause-passed : goal.returns-in-None-clause-passed
 returns-in-None-clause-passed c config texts it =
     all_passed config texts c.args.self.now.0 c.args.block.now c.args.at it c.see_bytes.ensures c.requires.starts
-    (subst (λ (o : Option ℕ). IsStopIfAny (map line_tree it.trees) c.args.block.now c.args.at o) c.in-None.is
-    (c.in-Ok.ensures.told (map line_tree it.trees) it.built))
+    (subst (λ (o : Option Stop). IsStopIfAny (map line_tree it.trees) c.args.block.now c.args.at (option_map (λ s. s.place) o)) c.in-None.is
+    (c.in-Ok.ensures.told (map line_tree it.trees) it.capacity it.built))
 
 pub returns-in-Some-clause-passed : goal.returns-in-Some-clause-passed
 returns-in-Some-clause-passed c config texts it =
-    lines_passed config texts c.args.self.now.0 c.args.block.now c.args.at it c.see_bytes.ensures c.requires.starts c.in-Some.place c.line_start.result
-    (subst (λ (o : Option ℕ). IsStopIfAny (map line_tree it.trees) c.args.block.now c.args.at o) c.in-Some.is
-    (c.in-Ok.ensures.told (map line_tree it.trees) it.built))
-    c.line_start.ensures.within c.line_start.ensures.before c.line_start.ensures.starts
+    lines_passed config texts c.args.self.now.0 c.args.block.now c.args.at it c.see_bytes.ensures c.requires.starts c.in-Some.stop.place
+    c.line_start-start.result
+    (subst (λ (o : Option Stop). IsStopIfAny (map line_tree it.trees) c.args.block.now c.args.at (option_map (λ s. s.place) o)) c.in-Some.is
+    (c.in-Ok.ensures.told (map line_tree it.trees) it.capacity it.built))
+    c.line_start-start.ensures.within c.line_start-start.ensures.before c.line_start-start.ensures.starts
+
+pub returns-in-Some-clause-has : goal.returns-in-Some-clause-has
+returns-in-Some-clause-has c config texts it known =
+    match_known config texts c.args.self.now.0 c.args.block.now c.args.at c.line_start-start.result c.in-Some.stop.place c.in-Some.stop.is_end it
+    c.see_bytes.ensures c.requires.starts c.requires.within
+    (subst (λ (o : Option Stop). IfSome o (λ s. s.is_end ≡ true → IsEnd (map line_tree it.trees) c.args.block.now c.args.at s.place)) c.in-Some.is
+    (c.in-Ok.ensures.ends (map line_tree it.trees) it.capacity it.built))
+    c.line_start-start.ensures.last (sym c.is_known.ensures ∙ known)
 
 pub returns-in-Some-clause-stops : goal.returns-in-Some-clause-stops
-returns-in-Some-clause-stops c xs built below =
-    stops_in_line xs c.args.block.now c.args.at c.line_start.result c.in-Some.place
-    (subst (λ (o : Option ℕ). IsStopIfAny xs c.args.block.now c.args.at o) c.in-Some.is (c.in-Ok.ensures.told xs built))
-    c.line_start.ensures.before c.line_start.ensures.last
+returns-in-Some-clause-stops c xs capacity built below =
+    stops_in_line xs c.args.block.now c.args.at c.line_start-start.result c.in-Some.stop.place
+    (subst (λ (o : Option Stop). IsStopIfAny xs c.args.block.now c.args.at (option_map (λ s. s.place) o)) c.in-Some.is
+    (c.in-Ok.ensures.told xs capacity built))
+    c.line_start-start.ensures.before c.line_start-start.ensures.last

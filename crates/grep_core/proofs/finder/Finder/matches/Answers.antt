@@ -1,11 +1,14 @@
-use Rattle.std.proofs.Common.{All, subst, sym}
-use Rattle.hir_core.specs.Facts.{LoopsRead}
-use Rattle.regex_pair.specs.Pairs.{PairCache}
-use Rattle.grep_core.specs.Searchers.{IsSearcherOf, Sought}
+use Rattle.std.proofs.Common.{◌≡◌, ◌∙◌, true, map, subst}
+use Rattle.grep_core.specs.Printing.{span_pair}
+use Rattle.grep_core.specs.Searchers.{AreTold, Sought}
 use Rattle.grep_core.proofs.finder.Finder.matches.Goals as goal
 
 pub returns-in-Ok-clause-told : goal.returns-in-Ok-clause-told
-returns-in-Ok-clause-told c it loops =
-    let both = subst (λ (v : Sought × PairCache). (other : IsSearcherOf c.args.self.now.0.config c.args.self.now.0.texts v.0.pair) × All LoopsRead other.trees)
-    (sym c.self.view_is) (it, loops) in
-    c.in-Ok.ensures.told c.args.self.now.0.config c.args.self.now.0.texts both.0 both.1
+returns-in-Ok-clause-told c =
+    subst (λ (s : Sought). s.spans ≡ true → AreTold s.config s.texts c.args.line.now (map span_pair c.in-Ok.found.items)) c.grow_searcher.ensures
+    c.in-Ok.ensures.told
+
+pub returns-in-Ok-matches_slowly-clause-told : goal.returns-in-Ok-matches_slowly-clause-told
+returns-in-Ok-matches_slowly-clause-told c asked =
+    subst (λ (s : Sought). AreTold s.config s.texts c.args.line.now (map span_pair c.in-Ok-matches_slowly.found.items))
+    (c.matches_quickly.ensures.same ∙ c.grow_searcher.ensures) c.in-Ok-matches_slowly.ensures.told

@@ -1,0 +1,14 @@
+use Rattle.std.proofs.Common.{◌≡◌, true, slice_range, subst}
+use Rattle.grep_core.specs.Candidates.{HaveNoMatch, HasMatchAt}
+use Rattle.grep_core.specs.Searchers.{Sought}
+use Rattle.grep_core.proofs.finder.Finder.next_line.Goals as goal
+
+pub returns-clause-passed : goal.returns-clause-passed
+returns-clause-passed c =
+    subst (λ (s : Sought). HaveNoMatch s.config s.texts (slice_range c.args.block.now c.args.at c.in-Ok.reached.start)) c.grow_candidates.ensures
+    c.in-Ok.ensures.passed
+
+pub returns-clause-has : goal.returns-clause-has
+returns-clause-has c =
+    subst (λ (s : Sought). c.in-Ok.reached.has ≡ true → HasMatchAt s.config s.texts c.args.block.now c.in-Ok.reached.start) c.grow_candidates.ensures
+    c.in-Ok.ensures.has
