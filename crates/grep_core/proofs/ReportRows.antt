@@ -59,6 +59,16 @@ matches_parted : report (record plain { print = Matches; numbers = true; context
     ≡ line (numbered 1 (codes ":a")) (line (codes "--") (line (numbered 5 (codes ":a")) (line (numbered 5 (codes ":a")) [])))
 matches_parted = Prim.search (rules, common_steps)
 
+-- -o -n -C2: the lines beside them make one group of all
+matches_joined : report (record plain { print = Matches; numbers = true; context = beside 2 2 }) letters (codes "t") false text
+    ≡ line (numbered 1 (codes ":a")) (line (numbered 5 (codes ":a")) (line (numbered 5 (codes ":a")) []))
+matches_joined = Prim.search (rules, common_steps)
+
+-- -o -n -v -C1: no selected line has a match, and those beside them have some
+matches_beside : report (record plain { invert = true; print = Matches; numbers = true; context = beside 1 1 }) letters (codes "t") false text
+    ≡ line (numbered 1 (codes "-a")) (line (numbered 5 (codes "-a")) (line (numbered 5 (codes "-a")) []))
+matches_beside = Prim.search (rules, common_steps)
+
 -- -c
 counted : report (record plain { print = Count }) letters (codes "t") false text ≡ line (decimal 2) []
 counted = refl
