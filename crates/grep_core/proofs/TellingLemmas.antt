@@ -2,7 +2,7 @@
 use Rattle.std.proofs.Common.{◌≡◌, Result, Ok, Err, OnOk, ◌⊎◌, inl, inr, IsTrue, nat_eq, take, ◌≤◌, ◌<◌, ℕ, zero, suc, ◌+◌, ◌-◌, Bool, true, false, not, ◌&&◌, nat_lt, List, [], ◌∷◌, ◌++◌, map, Option, Some, None, if◌then◌else◌, refl, sym, ap, ap₂, ◌∙◌, subst, arith, lt-ltb}
 use Rattle.grep_core.specs.declared.course.Course.{Course}
 use Rattle.grep_core.specs.declared.known.Known.{Known}
-use Rattle.grep_core.specs.declared.known.Known.TheVariants.{NonePrinted, LastPrinted}
+use Rattle.grep_core.specs.declared.known.Known.TheVariants.{LastPrinted}
 use Rattle.grep_core.specs.declared.role.Role.{Role}
 use Rattle.grep_core.specs.declared.role.Role.TheVariants.{Selected, Beside, Hidden}
 use Rattle.grep_core.specs.declared.what.Print.{Print}
@@ -33,31 +33,31 @@ none_before : (n : ℕ) → 0 + n ≡ n
 none_before n = omega arith
 
 -- nothing of a course but this
-abbrev Starts : What → Option (List ℕ) → Course → Type 0
-Starts w name c = (flags : List Bool) (items : List Item) →
-    still w name c flags items ≡ print_lines w (print_item w name) NonePrinted (roles (before_of w.context) (after_of w.context) flags) items
+abbrev Starts : What → Option (List ℕ) → Known → Course → Type 0
+Starts w name known c = (flags : List Bool) (items : List Item) →
+    still w name c flags items ≡ print_lines w (print_item w name) known (roles (before_of w.context) (after_of w.context) flags) items
 
-starts_lines : (p : Print) (w : What) (f : Finds) (name : Option (List ℕ)) (c : Course) → Starts w name c → w.print ≡ p → (lines : List TextLine) →
+starts_lines : (p : Print) (w : What) (f : Finds) (name : Option (List ℕ)) (known : Known) (c : Course) → Starts w name known c → w.print ≡ p → (lines : List TextLine) →
     still w name c (flags_behind w f 0 lines) (map (told_item f) lines)
-    ≡ print_lines w (λ role line. print_as p w name role (told_item f line)) NonePrinted (roles_of w (selected w f lines)) lines
-starts_lines p w f name c fresh is lines =
+    ≡ print_lines w (λ role line. print_as p w name role (told_item f line)) known (roles_of w (selected w f lines)) lines
+starts_lines p w f name known c fresh is lines =
     fresh (flags_behind w f 0 lines) (map (told_item f) lines)
-    ∙ print_map w (print_item w name) (told_item f) NonePrinted (roles_of w (flags_behind w f 0 lines)) lines
-    ∙ ap (λ flags. print_lines w (λ role line. print_item w name role (told_item f line)) NonePrinted (roles_of w flags) lines) (flags_none w f lines)
-    ∙ ap (λ q. print_lines w (λ role line. print_as q w name role (told_item f line)) NonePrinted (roles_of w (selected w f lines)) lines) is
+    ∙ print_map w (print_item w name) (told_item f) known (roles_of w (flags_behind w f 0 lines)) lines
+    ∙ ap (λ flags. print_lines w (λ role line. print_item w name role (told_item f line)) known (roles_of w flags) lines) (flags_none w f lines)
+    ∙ ap (λ q. print_lines w (λ role line. print_as q w name role (told_item f line)) known (roles_of w (selected w f lines)) lines) is
 
-pub starts_told : (p : Print) (w : What) (f : Finds) (name : List ℕ) (with_name : Bool) (c : Course) →
-    Starts w (shown with_name name) c → w.print ≡ p → (lines : List TextLine) →
-    tells_as p w name with_name c 0 (flags_behind w f 0 lines) (map (told_item f) lines) ≡ report_as p w f name with_name lines (selected w f lines)
-starts_told Lines w f name with_name c fresh is lines = starts_lines Lines w f (shown with_name name) c fresh is lines
-starts_told Matches w f name with_name c fresh is lines = starts_lines Matches w f (shown with_name name) c fresh is lines
-starts_told Count w f name with_name c fresh is lines =
+pub starts_told : (p : Print) (w : What) (f : Finds) (name : List ℕ) (with_name : Bool) (known : Known) (c : Course) →
+    Starts w (shown with_name name) known c → w.print ≡ p → (lines : List TextLine) →
+    tells_as p w name with_name c 0 (flags_behind w f 0 lines) (map (told_item f) lines) ≡ report_as p w f name with_name known lines (selected w f lines)
+starts_told Lines w f name with_name known c fresh is lines = starts_lines Lines w f (shown with_name name) known c fresh is lines
+starts_told Matches w f name with_name known c fresh is lines = starts_lines Matches w f (shown with_name name) known c fresh is lines
+starts_told Count w f name with_name known c fresh is lines =
     ap (count_line w (shown with_name name)) (none_before (count (flags_behind w f 0 lines)) ∙ ap count (flags_none w f lines))
-starts_told NameIfAny w f name with_name c fresh is lines =
+starts_told NameIfAny w f name with_name known c fresh is lines =
     ap (λ n. if nat_lt 0 n then name_line w name else []) (none_before (count (flags_behind w f 0 lines)) ∙ ap count (flags_none w f lines))
-starts_told NameIfNone w f name with_name c fresh is lines =
+starts_told NameIfNone w f name with_name known c fresh is lines =
     ap (λ n. if nat_lt 0 n then [] else name_line w name) (none_before (count (flags_behind w f 0 lines)) ∙ ap count (flags_none w f lines))
-starts_told Nothing w f name with_name c fresh is lines = refl
+starts_told Nothing w f name with_name known c fresh is lines = refl
 
 pub starts_counted : (w : What) (f : Finds) (lines : List TextLine) → 0 + count (flags_behind w f 0 lines) ≡ count (selected w f lines)
 starts_counted w f lines = none_before (count (flags_behind w f 0 lines)) ∙ ap count (flags_none w f lines)

@@ -220,14 +220,14 @@ fn wait(
 }
 
 impl Course {
-    /// Before the first line.
-    pub(crate) fn new(alloc: Global) -> Course
+    /// Before the first line, where this is known of the lines of earlier texts.
+    pub(crate) fn new(alloc: Global, known: Known) -> Course
         ensures starts { (what : TheWhat) → (name : Option (List ℕ)) → (flags : List Bool) → (items : List Item) →
-            still what name result flags items ≡ print_lines what (print_item what name) Known.NonePrinted (roles (before_of what.context) (after_of what.context) flags) items }
+            still what name result flags items ≡ print_lines what (print_item what name) known (roles (before_of what.context) (after_of what.context) flags) items }
         ensures waits { (what : TheWhat) → Waits what result }
     {
         Course {
-            known: Known::NonePrinted,
+            known,
             left: 0,
             waiting: VecDeque::new(alloc),
         }

@@ -14,6 +14,7 @@ ghost use Rattle.grep_core.specs.declared.blocks.Task.{Task as TheTask};
 use crate::blocks::{Progress, Task, feed_at, tell_block, tell_one};
 use crate::fault::Fault;
 use crate::finder::Finder;
+use crate::known::Known;
 use crate::telling::{Telling, is_over, tell_end};
 use crate::what::What;
 use std::alloc::{AllocError, Global};
@@ -397,6 +398,8 @@ fn has_selected(progress: &Progress) -> bool
 /// It reads blocks of 64 KiB, and tells the lines that end in one before it reads the next; it reads no more where nothing more is told
 /// whatever comes. A line is held whole, and one above 1 GiB is refused. Where it fails, a beginning of what is told was written.
 ///
+/// What is known of the lines of earlier texts says whether a line parts the first group of lines from these.
+///
 /// The matches of lines are asked for where these are printed alone or marked; then no unbounded repetition of the patterns may be of what
 /// matches the empty text.
 pub fn tell_text<R: Read, W: Write>(
@@ -405,16 +408,17 @@ pub fn tell_text<R: Read, W: Write>(
     what: &What,
     name: &[u8],
     with_name: bool,
+    known: Known,
     reader: &mut R,
     writer: &mut W,
 ) -> Result<bool, Fault>
     ensures same { finder.new.0 ≡ finder.old.0 }
     ensures told { OnOk result ((by : SearchesFor finder.old.0 (needs_spans what.now)) → IfSome (R.remaining reader.old) (λ text.
-        Appends (W.contents writer.old) (W.contents writer.new) (report what.now (found_by by) name.now with_name text))) }
+        Appends (W.contents writer.old) (W.contents writer.new) (report what.now (found_by by) name.now with_name known text))) }
     ensures selected { IfOk result (λ any. (by : SearchesFor finder.old.0 (needs_spans what.now)) → IfSome (R.remaining reader.old) (λ text.
         any ≡ nat_lt 0 (selected_count what.now (found_by by) text))) }
     ensures fault { IfErr result (λ _. (by : SearchesFor finder.old.0 (needs_spans what.now)) → IfSome (R.remaining reader.old) (λ text.
-        (n : ℕ) × Appends (W.contents writer.old) (W.contents writer.new) (take n (report what.now (found_by by) name.now with_name text)))) }
+        (n : ℕ) × Appends (W.contents writer.old) (W.contents writer.new) (take n (report what.now (found_by by) name.now with_name known text)))) }
 {
     let task = Task {
         what,
@@ -425,7 +429,7 @@ pub fn tell_text<R: Read, W: Write>(
         Ok(chunk) => chunk,
         Err(_) => return Err(Fault::NoMemory),
     };
-    let mut progress = Progress::new(alloc);
+    let mut progress = Progress::new(alloc, known);
     let mut read = Vec::new(alloc);
     let ended = match tell_blocks(
         alloc,

@@ -10,6 +10,7 @@ ghost use Rattle.grep_core.specs.declared.what.What.{What as TheWhat};
 
 use crate::course::{Course, next_line, see_end};
 use crate::fault::Fault;
+use crate::known::Known;
 use crate::line::Line;
 use crate::printing::{push_field, push_marked};
 use crate::role::Role;
@@ -104,14 +105,14 @@ fn count_more(count: u64, is_selected: bool) -> Result<u64, Fault>
 }
 
 impl Telling {
-    /// Before the first line.
-    pub(crate) fn new(alloc: Global) -> Telling
-        ensures starts { (w : TheWhat) → (f : Finds) → (name : List ℕ) → (with_name : Bool) → (lines : List TextLine) → still_told w f name with_name result lines ≡ report_as w.print w f name with_name lines (selected w f lines) }
+    /// Before the first line, where this is known of the lines of earlier texts.
+    pub(crate) fn new(alloc: Global, known: Known) -> Telling
+        ensures starts { (w : TheWhat) → (f : Finds) → (name : List ℕ) → (with_name : Bool) → (lines : List TextLine) → still_told w f name with_name result lines ≡ report_as w.print w f name with_name known lines (selected w f lines) }
         ensures counts { (w : TheWhat) → (f : Finds) → (lines : List TextLine) → count_in_all w f result lines ≡ count (selected w f lines) }
         ensures waits { (w : TheWhat) → Waits w result.course }
     {
         Telling {
-            course: Course::new(alloc),
+            course: Course::new(alloc, known),
             count: 0,
         }
     }
