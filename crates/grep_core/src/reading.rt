@@ -18,7 +18,7 @@ use crate::known::Known;
 use crate::telling::{Telling, is_over, tell_end};
 use crate::what::What;
 use std::alloc::{AllocError, Global};
-use std::io::{Read, Write};
+use std::io::{ErrorKind, Read, Write};
 
 /// How many bytes are asked of the reader at once.
 const BLOCK: usize = 65536;
@@ -52,7 +52,7 @@ fn read_some<R: Read>(reader: &mut R, chunk: &mut [u8], text: &mut Vec<u8>) -> R
             text.extend_from_slice(&chunk[..n])?;
             Ok(n)
         }
-        Err(_) => Err(Fault::Read),
+        Err(e) => Err(Fault::Read(e.kind())),
     }
 }
 
@@ -64,9 +64,9 @@ fn write_out<W: Write>(writer: &mut W, out: &[u8]) -> Result<(), Fault>
     let mut done = 0usize;
     while done < out.len() {
         match writer.write(&out[done..]) {
-            Ok(0) => return Err(Fault::Write),
+            Ok(0) => return Err(Fault::Write(ErrorKind::WriteZero)),
             Ok(n) => done += n,
-            Err(_) => return Err(Fault::Write),
+            Err(e) => return Err(Fault::Write(e.kind())),
         }
     }
     Ok(())
@@ -77,7 +77,7 @@ fn flush<W: Write>(writer: &mut W) -> Result<(), Fault>
 {
     match writer.flush() {
         Ok(()) => Ok(()),
-        Err(_) => Err(Fault::Write),
+        Err(e) => Err(Fault::Write(e.kind())),
     }
 }
 

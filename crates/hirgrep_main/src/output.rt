@@ -1,14 +1,13 @@
-//! Standard output, and what became of it.
+//! Standard output, and whether anything was written to it.
 
 use std::io;
-use std::io::{ErrorKind, Stdout, Write};
+use std::io::{Stdout, Write};
 
 /// Standard output.
 #[derive(Drop)]
 pub struct Output {
     writer: Stdout,
     wrote: bool,
-    closed: bool,
 }
 
 impl Output {
@@ -16,7 +15,6 @@ impl Output {
         Output {
             writer,
             wrote: false,
-            closed: false,
         }
     }
 
@@ -24,23 +22,12 @@ impl Output {
     pub fn wrote(&self) -> bool {
         self.wrote
     }
-
-    /// Whether it is a pipe from which nobody reads any more.
-    pub fn closed(&self) -> bool {
-        self.closed
-    }
 }
 
 impl Write for Output {
     fn write(&mut self, buf: &[u8]) -> io::Result<usize> {
         self.wrote = true;
-        match self.writer.write(buf) {
-            Ok(n) => Ok(n),
-            Err(e) => {
-                self.closed = e.kind() == ErrorKind::BrokenPipe;
-                Err(e)
-            }
-        }
+        self.writer.write(buf)
     }
 
     fn flush(&mut self) -> io::Result<()> {

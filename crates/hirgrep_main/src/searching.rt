@@ -84,7 +84,6 @@ fn search_reader<R: Read + Drop>(
         &mut writer,
     );
     outcome.printed |= writer.wrote();
-    outcome.closed = writer.closed();
     outcome.count(reader.count());
     outcome.keep(rt, task.asked, name, told);
 }
