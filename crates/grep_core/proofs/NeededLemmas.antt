@@ -2,7 +2,7 @@
 use Rattle.std.proofs.Common.{◌≡◌, ℕ, Bool, true, false, ◌&&◌, List, [], ◌∷◌, ◌++◌, Option, Some, None, if◌then◌else◌, refl, sym, ap, ◌∙◌}
 use Rattle.std.specs.List.{filter}
 use Rattle.grep_core.specs.declared.known.Known.{Known}
-use Rattle.grep_core.specs.declared.known.Known.TheVariants.{NonePrinted, LastPrinted}
+use Rattle.grep_core.specs.declared.known.Known.TheVariants.{LastPrinted}
 use Rattle.grep_core.specs.declared.role.Role.{Role}
 use Rattle.grep_core.specs.declared.role.Role.TheVariants.{Selected, Beside, Hidden}
 use Rattle.grep_core.specs.declared.what.Print.{Print}
@@ -11,7 +11,6 @@ use Rattle.grep_core.specs.declared.what.What.{What}
 use Rattle.grep_core.specs.Lines.{TextLine, lines_of}
 use Rattle.grep_core.specs.Printing.{fields, has_marks, marked_from, printed_line, printed_matches}
 use Rattle.grep_core.specs.Report.{Finds, behind_hidden, is_some_text, parting, print_lines, report, report_as, roles_of, selected, told_spans}
-use Rattle.grep_core.specs.Selecting.{roles}
 use Rattle.grep_core.specs.Telling.{needed, needs_of, needs_spans}
 
 print_alike : {X : Type 0} (w : What) (one two : Role → X → List ℕ) → ((r : Role) (x : X) → one r x ≡ two r x) → (b : Known) (rs : List Role) (xs : List X) →
@@ -41,24 +40,24 @@ module _ (w : What) (f : Finds) (name : Option (List ℕ)) where
   same_line false is needs role line = unmarked is role line (told_spans (needed w f) line) ∙ sym (unmarked is role line (told_spans f line))
 
   same_matches : needs_spans w ≡ true → (role : Role) (line : TextLine) →
-      printed_matches w name line (told_spans (needed w f) line) ≡ printed_matches w name line (told_spans f line)
-  same_matches needs role line = ap (printed_matches w name line) (same_spans needs line)
+      printed_matches w name role line (told_spans (needed w f) line) ≡ printed_matches w name role line (told_spans f line)
+  same_matches needs role line = ap (printed_matches w name role line) (same_spans needs line)
 
-same_report : (p : Print) (w : What) (f : Finds) (name : List ℕ) (with_name : Bool) (lines : List TextLine) → w.print ≡ p →
-    report_as p w (needed w f) name with_name lines (selected w f lines) ≡ report_as p w f name with_name lines (selected w f lines)
-same_report Lines w f name with_name lines is =
+same_report : (p : Print) (w : What) (f : Finds) (name : List ℕ) (with_name : Bool) (known : Known) (lines : List TextLine) → w.print ≡ p →
+    report_as p w (needed w f) name with_name known lines (selected w f lines) ≡ report_as p w f name with_name known lines (selected w f lines)
+same_report Lines w f name with_name known lines is =
     print_alike w (λ role line. printed_line w (if with_name then Some name else None) role line (told_spans (needed w f) line))
     (λ role line. printed_line w (if with_name then Some name else None) role line (told_spans f line))
-    (same_line w f (if with_name then Some name else None) w.color refl (ap (λ p. needs_of p w.color) is)) NonePrinted (roles_of w (selected w f lines)) lines
-same_report Matches w f name with_name lines is =
-    print_alike w (λ _ line. printed_matches w (if with_name then Some name else None) line (told_spans (needed w f) line))
-    (λ _ line. printed_matches w (if with_name then Some name else None) line (told_spans f line))
-    (same_matches w f (if with_name then Some name else None) (ap (λ p. needs_of p w.color) is)) NonePrinted (roles 0 0 (selected w f lines)) lines
-same_report Count w f name with_name lines is = refl
-same_report NameIfAny w f name with_name lines is = refl
-same_report NameIfNone w f name with_name lines is = refl
-same_report Nothing w f name with_name lines is = refl
+    (same_line w f (if with_name then Some name else None) w.color refl (ap (λ p. needs_of p w.color) is)) known (roles_of w (selected w f lines)) lines
+same_report Matches w f name with_name known lines is =
+    print_alike w (λ role line. printed_matches w (if with_name then Some name else None) role line (told_spans (needed w f) line))
+    (λ role line. printed_matches w (if with_name then Some name else None) role line (told_spans f line))
+    (same_matches w f (if with_name then Some name else None) (ap (λ p. needs_of p w.color) is)) known (roles_of w (selected w f lines)) lines
+same_report Count w f name with_name known lines is = refl
+same_report NameIfAny w f name with_name known lines is = refl
+same_report NameIfNone w f name with_name known lines is = refl
+same_report Nothing w f name with_name known lines is = refl
 
-pub needed_report : (w : What) (f : Finds) (name : List ℕ) (with_name : Bool) (text : List ℕ) →
-    report_as w.print w (needed w f) name with_name (lines_of text) (selected w (needed w f) (lines_of text)) ≡ report w f name with_name text
-needed_report w f name with_name text = same_report w.print w f name with_name (lines_of text) refl
+pub needed_report : (w : What) (f : Finds) (name : List ℕ) (with_name : Bool) (known : Known) (text : List ℕ) →
+    report_as w.print w (needed w f) name with_name known (lines_of text) (selected w (needed w f) (lines_of text)) ≡ report w f name with_name known text
+needed_report w f name with_name known text = same_report w.print w f name with_name known (lines_of text) refl

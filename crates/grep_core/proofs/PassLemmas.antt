@@ -1,5 +1,5 @@
 -- Lines without a match of which none is told: what is told goes on behind all of them at once.
-use Rattle.std.proofs.Common.{◌≡◌, ℕ, zero, suc, ◌+◌, Bool, false, not, ◌&&◌, List, [], ◌∷◌, ◌++◌, All, length, map, count_by, if◌then◌else◌, refl, sym, ap, ap₂, ◌∙◌, arith}
+use Rattle.std.proofs.Common.{◌≡◌, ℕ, zero, suc, ◌+◌, Bool, true, false, not, ◌&&◌, List, [], ◌∷◌, ◌++◌, All, length, map, count_by, if◌then◌else◌, refl, sym, ap, ap₂, ◌∙◌, arith}
 use Rattle.std.proofs.lemmas.List.{nil_from_length}
 use Rattle.std.proofs.lemmas.List.Elements.{All-head, All-tail}
 use Rattle.grep_core.specs.declared.course.Course.{Course}
@@ -15,7 +15,7 @@ use Rattle.grep_core.specs.Lines.{numbered, split_lines}
 use Rattle.grep_core.specs.Passing.{AreWhole, Hides, Lacks, known_behind}
 use Rattle.grep_core.specs.Report.{Finds, before_of, after_of, behind_hidden, told_spans}
 use Rattle.grep_core.specs.Selecting.{count}
-use Rattle.grep_core.specs.Telling.{shown, told_item, tells_as, may_select, flags_behind}
+use Rattle.grep_core.specs.Telling.{shown, told_item, prints_lines, tells_as, may_select, flags_behind}
 use Rattle.grep_core.proofs.BlockLemmas.{is_feed}
 use Rattle.grep_core.proofs.StepLemmas.{rest}
 use Rattle.grep_core.proofs.TellingLemmas.{line_told, line_counted, selects}
@@ -35,13 +35,15 @@ hidden_line w print before after left b queue flags it items no_before no_left n
 
 hidden_as : (p : Print) (w : What) (name : List ℕ) (with_name : Bool) (c : Course) (b : Known) (n : ℕ) (flags : List Bool) (it : Item)
     (items : List Item) →
-    (p ≡ Lines → before_of w.context ≡ 0) → (p ≡ Lines → c.left ≡ 0) → (p ≡ Lines → c.waiting.items ≡ []) →
+    (prints_lines p ≡ true → before_of w.context ≡ 0) → (prints_lines p ≡ true → c.left ≡ 0) → (prints_lines p ≡ true → c.waiting.items ≡ []) →
     tells_as p w name with_name (record c { known = b }) n (false ∷ flags) (it ∷ items)
     ≡ tells_as p w name with_name (record c { known = behind_hidden b }) n flags items
 hidden_as Lines w name with_name c b n flags it items no_before no_left none =
     hidden_line w (print_item w (shown with_name name)) (before_of w.context) (after_of w.context) c.left b c.waiting.items flags it items
     (no_before refl) (no_left refl) (none refl)
-hidden_as Matches w name with_name c b n flags it items no_before no_left none = refl
+hidden_as Matches w name with_name c b n flags it items no_before no_left none =
+    hidden_line w (print_item w (shown with_name name)) (before_of w.context) (after_of w.context) c.left b c.waiting.items flags it items
+    (no_before refl) (no_left refl) (none refl)
 hidden_as Count w name with_name c b n flags it items no_before no_left none = refl
 hidden_as NameIfAny w name with_name c b n flags it items no_before no_left none = refl
 hidden_as NameIfNone w name with_name c b n flags it items no_before no_left none = refl

@@ -1,6 +1,7 @@
 -- The definition of a report, run on a small text; what is expected is what GNU grep 3.8 prints for the pattern `a`.
 use Rattle.std.proofs.Common.{◌≡◌, ℕ, ◌+◌, ◌==◌, Bool, true, false, List, [], ◌∷◌, ◌++◌, codes, decimal, Option, Some, None, if◌then◌else◌, refl, rules}
 use Rattle.std.proofs.lemmas.Grind.{common_steps}
+use Rattle.grep_core.specs.declared.known.Known.TheVariants.{NonePrinted, EarlierPrinted}
 use Rattle.grep_core.specs.declared.what.Context.{Context}
 use Rattle.grep_core.specs.declared.what.Print.TheVariants.{Lines, Matches, Count, NameIfAny, NameIfNone}
 use Rattle.grep_core.specs.declared.what.What.{What}
@@ -36,45 +37,60 @@ plain = record { invert = false; print = Lines; numbers = false; offsets = false
 abbrev beside : ℕ → ℕ → Option Context
 beside before after = Some (record { before = before; after = after })
 
-whole_lines : report plain letters (codes "t") false text ≡ line (codes "a1") (line (codes "a2 a3") [])
+whole_lines : report plain letters (codes "t") false NonePrinted text ≡ line (codes "a1") (line (codes "a2 a3") [])
 whole_lines = refl
 
 -- -nb -A1
-with_context : report (record plain { numbers = true; offsets = true; context = beside 0 1 }) letters (codes "t") false text
+with_context : report (record plain { numbers = true; offsets = true; context = beside 0 1 }) letters (codes "t") false NonePrinted text
     ≡ line (numbered 1 (codes ":" ++ numbered 0 (codes ":a1"))) (line (numbered 2 (codes "-" ++ numbered 3 (codes "-b"))) (line (codes "--") (line (numbered 5 (codes ":" ++ numbered 9 (codes ":a2 a3"))) (line (numbered 6 (codes "-" ++ numbered 15 (codes "-"))) []))))
 with_context = Prim.search (rules, common_steps)
 
 -- -n -v -B1 -m1
-inverted : report (record plain { invert = true; numbers = true; context = beside 1 0; most = Some 1 }) letters (codes "t") false text
+inverted : report (record plain { invert = true; numbers = true; context = beside 1 0; most = Some 1 }) letters (codes "t") false NonePrinted text
     ≡ line (numbered 1 (codes "-a1")) (line (numbered 2 (codes ":b")) [])
 inverted = Prim.search (rules, common_steps)
 
 -- -o -b
-matches_alone : report (record plain { print = Matches; offsets = true }) letters (codes "t") false text
+matches_alone : report (record plain { print = Matches; offsets = true }) letters (codes "t") false NonePrinted text
     ≡ line (numbered 0 (codes ":a")) (line (numbered 9 (codes ":a")) (line (numbered 12 (codes ":a")) []))
 matches_alone = Prim.search (rules, common_steps)
 
 -- -o -n -A1
-matches_parted : report (record plain { print = Matches; numbers = true; context = beside 0 1 }) letters (codes "t") false text
+matches_parted : report (record plain { print = Matches; numbers = true; context = beside 0 1 }) letters (codes "t") false NonePrinted text
     ≡ line (numbered 1 (codes ":a")) (line (codes "--") (line (numbered 5 (codes ":a")) (line (numbered 5 (codes ":a")) [])))
 matches_parted = Prim.search (rules, common_steps)
 
+-- -o -n -C2: the lines beside them make one group of all
+matches_joined : report (record plain { print = Matches; numbers = true; context = beside 2 2 }) letters (codes "t") false NonePrinted text
+    ≡ line (numbered 1 (codes ":a")) (line (numbered 5 (codes ":a")) (line (numbered 5 (codes ":a")) []))
+matches_joined = Prim.search (rules, common_steps)
+
+-- -o -n -v -C1: no selected line has a match, and those beside them have some
+matches_beside : report (record plain { invert = true; print = Matches; numbers = true; context = beside 1 1 }) letters (codes "t") false NonePrinted text
+    ≡ line (numbered 1 (codes "-a")) (line (numbered 5 (codes "-a")) (line (numbered 5 (codes "-a")) []))
+matches_beside = Prim.search (rules, common_steps)
+
+-- -n -A0, behind another file of which a line was printed
+of_a_later_text : report (record plain { numbers = true; context = beside 0 0 }) letters (codes "t") false EarlierPrinted text
+    ≡ line (codes "--") (line (numbered 1 (codes ":a1")) (line (codes "--") (line (numbered 5 (codes ":a2 a3")) [])))
+of_a_later_text = Prim.search (rules, common_steps)
+
 -- -c
-counted : report (record plain { print = Count }) letters (codes "t") false text ≡ line (decimal 2) []
+counted : report (record plain { print = Count }) letters (codes "t") false NonePrinted text ≡ line (decimal 2) []
 counted = refl
 
 -- -H -m1 -n -A2
-stopped : report (record plain { numbers = true; context = beside 0 2; most = Some 1 }) letters (codes "t") true text
+stopped : report (record plain { numbers = true; context = beside 0 2; most = Some 1 }) letters (codes "t") true NonePrinted text
     ≡ line (codes "t:" ++ numbered 1 (codes ":a1")) (line (codes "t-" ++ numbered 2 (codes "-b")) (line (codes "t-" ++ numbered 3 (codes "-c")) []))
 stopped = Prim.search (rules, common_steps)
 
 -- -c -H -v
-counted_without : report (record plain { invert = true; print = Count }) letters (codes "t") true text ≡ line (codes "t:" ++ decimal 5) []
+counted_without : report (record plain { invert = true; print = Count }) letters (codes "t") true NonePrinted text ≡ line (codes "t:" ++ decimal 5) []
 counted_without = refl
 
 -- -l, -L
-named : report (record plain { print = NameIfAny }) letters (codes "t") false text ≡ line (codes "t") []
+named : report (record plain { print = NameIfAny }) letters (codes "t") false NonePrinted text ≡ line (codes "t") []
 named = refl
 
-not_named : report (record plain { print = NameIfNone }) letters (codes "t") false text ≡ []
+not_named : report (record plain { print = NameIfNone }) letters (codes "t") false NonePrinted text ≡ []
 not_named = refl

@@ -2,17 +2,17 @@
 use Rattle.std.proofs.Common.{◌≡◌, Result, Ok, Err, OnOk, ◌⊎◌, inl, inr, IsTrue, nat_eq, take, ◌≤◌, ◌<◌, ℕ, zero, suc, ◌+◌, ◌-◌, Bool, true, false, not, ◌&&◌, nat_lt, List, [], ◌∷◌, ◌++◌, map, Option, Some, None, if◌then◌else◌, refl, sym, ap, ap₂, ◌∙◌, subst, arith, lt-ltb}
 use Rattle.grep_core.specs.declared.course.Course.{Course}
 use Rattle.grep_core.specs.declared.known.Known.{Known}
-use Rattle.grep_core.specs.declared.known.Known.TheVariants.{NonePrinted, LastPrinted}
+use Rattle.grep_core.specs.declared.known.Known.TheVariants.{LastPrinted}
 use Rattle.grep_core.specs.declared.role.Role.{Role}
 use Rattle.grep_core.specs.declared.role.Role.TheVariants.{Selected, Beside, Hidden}
 use Rattle.grep_core.specs.declared.what.Print.{Print}
 use Rattle.grep_core.specs.declared.what.Print.TheVariants.{Lines, Matches, Count, NameIfAny, NameIfNone, Nothing}
 use Rattle.grep_core.specs.declared.what.What.{What}
-use Rattle.grep_core.specs.Courses.{Item, item, still, print_item, waiting_item}
+use Rattle.grep_core.specs.Courses.{Item, item, still, print_as, print_item, waiting_item}
 use Rattle.grep_core.specs.Lines.{TextLine}
-use Rattle.grep_core.specs.Report.{Finds, before_of, after_of, parting, behind_hidden, print_lines, count_line, name_line, report_as, selected, told_spans, is_wanted}
+use Rattle.grep_core.specs.Report.{Finds, before_of, after_of, roles_of, parting, behind_hidden, print_lines, count_line, name_line, report_as, selected, told_spans, is_wanted}
 use Rattle.grep_core.specs.Selecting.{limited, count, any, roles, roles_from}
-use Rattle.grep_core.specs.Telling.{shown, told_item, print_matches, tells_as, left_of, may_select, flags_behind}
+use Rattle.grep_core.specs.Telling.{shown, told_item, prints_lines, tells_as, left_of, may_select, flags_behind}
 
 print_map : {X Y : Type 0} (w : What) (print : Role → Y → List ℕ) (g : X → Y) (b : Known) (rs : List Role) (xs : List X) →
     print_lines w print b rs (map g xs) ≡ print_lines w (λ r x. print r (g x)) b rs xs
@@ -32,25 +32,32 @@ flags_none w f lines = ap (λ most. limited most (map (is_wanted w f) lines)) (l
 none_before : (n : ℕ) → 0 + n ≡ n
 none_before n = omega arith
 
-pub starts_told : (p : Print) (w : What) (f : Finds) (name : List ℕ) (with_name : Bool) (c : Course) →
-    ((flags : List Bool) (items : List Item) → still w (shown with_name name) c flags items
-    ≡ print_lines w (print_item w (shown with_name name)) NonePrinted (roles (before_of w.context) (after_of w.context) flags) items) →
-    c.known ≡ NonePrinted → (lines : List TextLine) →
-    tells_as p w name with_name c 0 (flags_behind w f 0 lines) (map (told_item f) lines) ≡ report_as p w f name with_name lines (selected w f lines)
-starts_told Lines w f name with_name c fresh known lines =
+-- nothing of a course but this
+abbrev Starts : What → Option (List ℕ) → Known → Course → Type 0
+Starts w name known c = (flags : List Bool) (items : List Item) →
+    still w name c flags items ≡ print_lines w (print_item w name) known (roles (before_of w.context) (after_of w.context) flags) items
+
+starts_lines : (p : Print) (w : What) (f : Finds) (name : Option (List ℕ)) (known : Known) (c : Course) → Starts w name known c → w.print ≡ p → (lines : List TextLine) →
+    still w name c (flags_behind w f 0 lines) (map (told_item f) lines)
+    ≡ print_lines w (λ role line. print_as p w name role (told_item f line)) known (roles_of w (selected w f lines)) lines
+starts_lines p w f name known c fresh is lines =
     fresh (flags_behind w f 0 lines) (map (told_item f) lines)
-    ∙ print_map w (print_item w (shown with_name name)) (told_item f) NonePrinted (roles (before_of w.context) (after_of w.context) (flags_behind w f 0 lines)) lines
-    ∙ ap (λ flags. print_lines w (λ role line. print_item w (shown with_name name) role (told_item f line)) NonePrinted (roles (before_of w.context) (after_of w.context) flags) lines) (flags_none w f lines)
-starts_told Matches w f name with_name c fresh known lines =
-    print_map w (print_matches w (shown with_name name)) (told_item f) c.known (roles 0 0 (flags_behind w f 0 lines)) lines
-    ∙ ap₂ (λ b flags. print_lines w (λ role line. print_matches w (shown with_name name) role (told_item f line)) b (roles 0 0 flags) lines) known (flags_none w f lines)
-starts_told Count w f name with_name c fresh known lines =
+    ∙ print_map w (print_item w name) (told_item f) known (roles_of w (flags_behind w f 0 lines)) lines
+    ∙ ap (λ flags. print_lines w (λ role line. print_item w name role (told_item f line)) known (roles_of w flags) lines) (flags_none w f lines)
+    ∙ ap (λ q. print_lines w (λ role line. print_as q w name role (told_item f line)) known (roles_of w (selected w f lines)) lines) is
+
+pub starts_told : (p : Print) (w : What) (f : Finds) (name : List ℕ) (with_name : Bool) (known : Known) (c : Course) →
+    Starts w (shown with_name name) known c → w.print ≡ p → (lines : List TextLine) →
+    tells_as p w name with_name c 0 (flags_behind w f 0 lines) (map (told_item f) lines) ≡ report_as p w f name with_name known lines (selected w f lines)
+starts_told Lines w f name with_name known c fresh is lines = starts_lines Lines w f (shown with_name name) known c fresh is lines
+starts_told Matches w f name with_name known c fresh is lines = starts_lines Matches w f (shown with_name name) known c fresh is lines
+starts_told Count w f name with_name known c fresh is lines =
     ap (count_line w (shown with_name name)) (none_before (count (flags_behind w f 0 lines)) ∙ ap count (flags_none w f lines))
-starts_told NameIfAny w f name with_name c fresh known lines =
+starts_told NameIfAny w f name with_name known c fresh is lines =
     ap (λ n. if nat_lt 0 n then name_line w name else []) (none_before (count (flags_behind w f 0 lines)) ∙ ap count (flags_none w f lines))
-starts_told NameIfNone w f name with_name c fresh known lines =
+starts_told NameIfNone w f name with_name known c fresh is lines =
     ap (λ n. if nat_lt 0 n then [] else name_line w name) (none_before (count (flags_behind w f 0 lines)) ∙ ap count (flags_none w f lines))
-starts_told Nothing w f name with_name c fresh known lines = refl
+starts_told Nothing w f name with_name known c fresh is lines = refl
 
 pub starts_counted : (w : What) (f : Finds) (lines : List TextLine) → 0 + count (flags_behind w f 0 lines) ≡ count (selected w f lines)
 starts_counted w f lines = none_before (count (flags_behind w f 0 lines)) ∙ ap count (flags_none w f lines)
@@ -126,13 +133,18 @@ line_counted w f n m sel has line lines is seen more =
     ∙ ap (λ flags. n + count flags) (sym (flags_step w f n m sel has line lines is seen more))
 
 -- what is told besides lines and matches
-pub count_goes_on : (p : Print) (w : What) (name : List ℕ) (with_name : Bool) (c : Course) (n m : ℕ) (sel : Bool) (out : List ℕ) (flags : List Bool) (it : Item) (items : List Item) →
-    m ≡ n + (if sel then 1 else 0) → p ≡ Count →
+pub besides_told : (p : Print) (w : What) (name : List ℕ) (with_name : Bool) (c : Course) (n m : ℕ) (sel : Bool) (out : List ℕ) (flags : List Bool) (it : Item)
+    (items : List Item) → prints_lines p ≡ false → m ≡ n + (if sel then 1 else 0) →
     out ++ tells_as p w name with_name c n (sel ∷ flags) (it ∷ items) ≡ out ++ tells_as p w name with_name c m flags items
-count_goes_on p w name with_name c n m sel out flags it items more is =
-    ap (λ q. out ++ tells_as q w name with_name c n (sel ∷ flags) (it ∷ items)) is
-    ∙ ap (λ k. out ++ count_line w (shown with_name name) k) (sym (ap (λ k. k + count flags) more ∙ one_counted sel n flags))
-    ∙ ap (λ q. out ++ tells_as q w name with_name c m flags items) (sym is)
+besides_told Lines w name with_name c n m sel out flags it items other more = absurd (grind (arith, other))
+besides_told Matches w name with_name c n m sel out flags it items other more = absurd (grind (arith, other))
+besides_told Count w name with_name c n m sel out flags it items other more =
+    ap (λ k. out ++ count_line w (shown with_name name) k) (sym (ap (λ k. k + count flags) more ∙ one_counted sel n flags))
+besides_told NameIfAny w name with_name c n m sel out flags it items other more =
+    ap (λ k. out ++ (if nat_lt 0 k then name_line w name else [])) (sym (ap (λ k. k + count flags) more ∙ one_counted sel n flags))
+besides_told NameIfNone w name with_name c n m sel out flags it items other more =
+    ap (λ k. out ++ (if nat_lt 0 k then [] else name_line w name)) (sym (ap (λ k. k + count flags) more ∙ one_counted sel n flags))
+besides_told Nothing w name with_name c n m sel out flags it items other more = refl
 
 -- ---- behind the last line that may be selected
 spent_flags : (most : Option ℕ) (n : ℕ) → may_select most n ≡ false → (xs : List Bool) → limited (left_of most n) xs ≡ map (λ _. false) xs
@@ -142,11 +154,6 @@ spent_flags (Some m) n spent xs = ap (λ k. limited (Some k) xs) (let few : m �
 none_counted : (xs : List Bool) → count (map (λ _. false) xs) ≡ 0
 none_counted [] = refl
 none_counted (x ∷ xs) = none_counted xs
-
-none_any : (xs ys : List Bool) → any (map (λ _. false) xs ++ map (λ _. false) ys) ≡ false
-none_any [] [] = refl
-none_any [] (y ∷ ys) = none_any [] ys
-none_any (x ∷ xs) ys = none_any xs ys
 
 any_taken : (n : ℕ) (flags : List Bool) → any flags ≡ false → any (take n flags) ≡ false
 any_taken zero flags e = refl
@@ -187,16 +194,17 @@ module _ (w : What) (f : Finds) (name : List ℕ) (with_name : Bool) (c : Course
   pub over_counted : (lines : List TextLine) → n + count (flags_behind w f n lines) ≡ n + count (flags_behind w f n [])
   over_counted lines = ap (λ k. n + k) (none_more lines ∙ sym (none_more []))
 
-  pub over_told : (p : Print) → (p ≡ Lines → c.left ≡ 0) → (lines : List TextLine) →
-      tells_as p w name with_name c n (flags_behind w f n lines) (map (told_item f) lines) ≡ tells_as p w name with_name c n (flags_behind w f n []) []
-  over_told Lines left lines =
+  over_lines : c.left ≡ 0 → (lines : List TextLine) →
+      still w (shown with_name name) c (flags_behind w f n lines) (map (told_item f) lines) ≡ still w (shown with_name name) c (flags_behind w f n []) []
+  over_lines left lines =
       ap (λ flags. still w (shown with_name name) c flags (map (told_item f) lines)) (none lines)
-      ∙ still_none w (shown with_name name) c (left refl) (map (is_wanted w f) lines) (map (told_item f) lines)
-      ∙ sym (ap (λ flags. still w (shown with_name name) c flags []) (none []) ∙ still_none w (shown with_name name) c (left refl) [] [])
-  over_told Matches left lines =
-      ap (λ flags. print_lines w (print_matches w (shown with_name name)) c.known (roles 0 0 flags) (map (told_item f) lines)) (none lines)
-      ∙ prints_none w (print_matches w (shown with_name name)) 0 0 c.known (map (λ _. false) (map (is_wanted w f) lines)) (none_any [] (map (is_wanted w f) lines)) (map (told_item f) lines)
-      ∙ sym (ap (λ flags. print_lines w (print_matches w (shown with_name name)) c.known (roles 0 0 flags) []) (none []))
+      ∙ still_none w (shown with_name name) c left (map (is_wanted w f) lines) (map (told_item f) lines)
+      ∙ sym (ap (λ flags. still w (shown with_name name) c flags []) (none []) ∙ still_none w (shown with_name name) c left [] [])
+
+  pub over_told : (p : Print) → (prints_lines p ≡ true → c.left ≡ 0) → (lines : List TextLine) →
+      tells_as p w name with_name c n (flags_behind w f n lines) (map (told_item f) lines) ≡ tells_as p w name with_name c n (flags_behind w f n []) []
+  over_told Lines left lines = over_lines (left refl) lines
+  over_told Matches left lines = over_lines (left refl) lines
   over_told Count left lines = ap (count_line w (shown with_name name)) (over_counted lines)
   over_told NameIfAny left lines = ap (λ k. if nat_lt 0 k then name_line w name else []) (over_counted lines)
   over_told NameIfNone left lines = ap (λ k. if nat_lt 0 k then [] else name_line w name) (over_counted lines)
@@ -226,15 +234,14 @@ some_told w f name with_name c n p lines (inr (inl e)) more =
 some_told w f name with_name c n p lines (inr (inr e)) more =
     subst (IsToldSo w f name with_name c n lines) (sym e) refl
 
--- some print is not that of whole lines
-pub not_lines : (p : Print) (n : ℕ) → (p ≡ Matches) ⊎ (p ≡ Count) → p ≡ Lines → n ≡ 0
-not_lines p n (inl e) l = let f : Matches ≡ Lines = sym e ∙ l in cc
-not_lines p n (inr e) l = let f : Count ≡ Lines = sym e ∙ l in cc
+-- a count and names are no lines
+pub not_lines : (p : Print) (n : ℕ) → p ≡ Count → prints_lines p ≡ true → n ≡ 0
+not_lines p n e l = let f : false ≡ true = sym (ap prints_lines e) ∙ l in absurd (grind (arith, f))
 
-pub names_not_lines : (p : Print) (n : ℕ) → IsOfNames p → p ≡ Lines → n ≡ 0
-names_not_lines p n (inl e) l = let f : NameIfAny ≡ Lines = sym e ∙ l in cc
-names_not_lines p n (inr (inl e)) l = let f : NameIfNone ≡ Lines = sym e ∙ l in cc
-names_not_lines p n (inr (inr e)) l = let f : Nothing ≡ Lines = sym e ∙ l in cc
+pub names_not_lines : (p : Print) (n : ℕ) → IsOfNames p → prints_lines p ≡ true → n ≡ 0
+names_not_lines p n (inl e) l = let f : false ≡ true = sym (ap prints_lines e) ∙ l in absurd (grind (arith, f))
+names_not_lines p n (inr (inl e)) l = let f : false ≡ true = sym (ap prints_lines e) ∙ l in absurd (grind (arith, f))
+names_not_lines p n (inr (inr e)) l = let f : false ≡ true = sym (ap prints_lines e) ∙ l in absurd (grind (arith, f))
 
 pub is_false : (r : Bool) → IsTrue (not r) → r ≡ false
 is_false true t = absurd (grind (arith, t))
@@ -247,16 +254,25 @@ is_zero (suc n) t = absurd (grind (arith, t))
 pub is_some : (n : ℕ) → IsTrue (nat_lt 0 n) → 0 < n
 is_some n t = grind (arith, t)
 
--- ---- matches alone, in the words of the call that tells them
-pub matches_told : {E : Type 0} (r : Result (Unit {0}) E) (p : Print) (w : What) (c after : Course) (sel : Bool) (it : Item) (out new : List ℕ) (name : Option (List ℕ)) → p ≡ Matches →
-    OnOk r ((flags : List Bool) (items : List Item) →
-    out ++ print_lines w (print_matches w name) c.known (roles 0 0 (sel ∷ flags)) (it ∷ items) ≡ new ++ print_lines w (print_matches w name) after.known (roles 0 0 flags) items) →
+-- ---- lines or matches, in the words of the call that tells them
+as_still : (p : Print) (w : What) (name : List ℕ) (with_name : Bool) (c : Course) (n : ℕ) (flags : List Bool) (items : List Item) → prints_lines p ≡ true →
+    tells_as p w name with_name c n flags items ≡ still w (shown with_name name) c flags items
+as_still Lines w name with_name c n flags items is = refl
+as_still Matches w name with_name c n flags items is = refl
+as_still Count w name with_name c n flags items is = absurd (grind (arith, is))
+as_still NameIfAny w name with_name c n flags items is = absurd (grind (arith, is))
+as_still NameIfNone w name with_name c n flags items is = absurd (grind (arith, is))
+as_still Nothing w name with_name c n flags items is = absurd (grind (arith, is))
+
+pub lines_told : {E : Type 0} (r : Result (Unit {0}) E) (p : Print) (w : What) (c after : Course) (sel : Bool) (it : Item) (out new : List ℕ)
+    (name : Option (List ℕ)) → prints_lines p ≡ true →
+    OnOk r ((flags : List Bool) (items : List Item) → out ++ still w name c (sel ∷ flags) (it ∷ items) ≡ new ++ still w name after flags items) →
     OnOk r ((text : List ℕ) (with_name : Bool) (n m : ℕ) (flags : List Bool) (items : List Item) → shown with_name text ≡ name → m ≡ n + (if sel then 1 else 0) →
     out ++ tells_as p w text with_name c n (sel ∷ flags) (it ∷ items) ≡ new ++ tells_as p w text with_name after m flags items)
-matches_told (Err e) p w c after sel it out new name is goes_on = tt
-matches_told (Ok u) p w c after sel it out new name is goes_on = λ text with_name n m flags items named more.
-    ap (λ q. out ++ tells_as q w text with_name c n (sel ∷ flags) (it ∷ items)) is
-    ∙ ap (λ o. out ++ print_lines w (print_matches w o) c.known (roles 0 0 (sel ∷ flags)) (it ∷ items)) named
+lines_told (Err e) p w c after sel it out new name is goes_on = tt
+lines_told (Ok u) p w c after sel it out new name is goes_on = λ text with_name n m flags items named more.
+    ap (λ t. out ++ t) (as_still p w text with_name c n (sel ∷ flags) (it ∷ items) is)
+    ∙ ap (λ o. out ++ still w o c (sel ∷ flags) (it ∷ items)) named
     ∙ goes_on flags items
-    ∙ sym (ap (λ o. new ++ print_lines w (print_matches w o) after.known (roles 0 0 flags) items) named)
-    ∙ sym (ap (λ q. new ++ tells_as q w text with_name after m flags items) is)
+    ∙ sym (ap (λ o. new ++ still w o after flags items) named)
+    ∙ sym (ap (λ t. new ++ t) (as_still p w text with_name after m flags items is))

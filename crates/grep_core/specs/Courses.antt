@@ -6,10 +6,12 @@ use Rattle.grep_core.specs.declared.known.Known.{Known}
 use Rattle.grep_core.specs.declared.known.Known.TheVariants.{LastPrinted}
 use Rattle.grep_core.specs.declared.role.Role.{Role}
 use Rattle.grep_core.specs.declared.role.Role.TheVariants.{Beside}
+use Rattle.grep_core.specs.declared.what.Print.{Print}
+use Rattle.grep_core.specs.declared.what.Print.TheVariants.{Matches}
 use Rattle.grep_core.specs.declared.what.What.{What}
 use Rattle.grep_core.specs.Lines.{TextLine}
 use Rattle.grep_core.specs.Selecting.{roles_from}
-use Rattle.grep_core.specs.Printing.{printed_line, span_pair}
+use Rattle.grep_core.specs.Printing.{printed_line, printed_matches, span_pair}
 use Rattle.grep_core.specs.Report.{before_of, after_of, parting, print_lines}
 
 -- a line and its matches that aren't empty
@@ -20,8 +22,13 @@ pub record Item : Type 0 where
 abbrev pub item : TextLine → List (ℕ × ℕ) → Item
 item line found = record { line = line; found = found }
 
+-- the line, or the matches in it
+abbrev pub print_as : Print → What → Option (List ℕ) → Role → Item → List ℕ
+print_as Matches w name role it = printed_matches w name role it.line it.found
+print_as _ w name role it = printed_line w name role it.line it.found
+
 abbrev pub print_item : What → Option (List ℕ) → Role → Item → List ℕ
-print_item w name role it = printed_line w name role it.line it.found
+print_item w name role it = print_as w.print w name role it
 
 abbrev pub waiting_item : Waiting → Item
 waiting_item it = item (record { number = it.number; place = it.place; bytes = it.bytes.items }) (map span_pair it.found.items)

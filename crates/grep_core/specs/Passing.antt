@@ -1,11 +1,11 @@
 -- Whole lines of which none has a match.
-use Rattle.std.specs.Prelude.{◌≡◌, ◌⊎◌, ℕ, zero, suc, false, List, [], ◌∷◌, ◌++◌}
+use Rattle.std.specs.Prelude.{◌≡◌, ◌⊎◌, ℕ, zero, suc, true, false, List, [], ◌∷◌, ◌++◌}
 use Rattle.std.specs.List.{filter}
 use Rattle.grep_core.specs.declared.course.Course.{Course}
 use Rattle.grep_core.specs.declared.known.Known.{Known}
-use Rattle.grep_core.specs.declared.what.Print.TheVariants.{Lines}
 use Rattle.grep_core.specs.declared.what.What.{What}
 use Rattle.grep_core.specs.Report.{Finds, before_of, behind_hidden, is_some_text}
+use Rattle.grep_core.specs.Telling.{prints_lines}
 
 -- a text of whole lines is empty or ends with a line feed
 abbrev pub AreWhole : List ℕ → Type 0
@@ -19,8 +19,8 @@ pub record Lacks (f : Finds) (line : List ℕ) : Type 0 where
 -- a line without a match isn't told at this place, whatever comes behind it
 pub record Hides (w : What) (c : Course) : Type 0 where
   pub kept : w.invert ≡ false
-  pub none_before : w.print ≡ Lines → before_of w.context ≡ 0
-  pub none_behind : w.print ≡ Lines → c.left ≡ 0
+  pub none_before : prints_lines w.print ≡ true → before_of w.context ≡ 0
+  pub none_behind : prints_lines w.print ≡ true → c.left ≡ 0
 
 -- what is known behind so many lines of which none is told
 abbrev pub known_behind : Known → ℕ → Known

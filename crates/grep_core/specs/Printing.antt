@@ -60,13 +60,15 @@ line_bytes w found role line = if w.color && has_marks w role then marked_from l
 abbrev pub printed_line : What → Option (List ℕ) → Role → TextLine → List (ℕ × ℕ) → List ℕ
 printed_line w name role line found = fields w name role line.number line.place ++ (line_bytes w found role line.bytes ++ 10 ∷ [])
 
--- a match in a line, as a line of its own
-abbrev pub printed_match : What → Option (List ℕ) → TextLine → ℕ × ℕ → List ℕ
-printed_match w name line s =
-    fields w name Selected line.number (line.place + s.0) ++ (marked w.color (codes "01;31") (slice_range line.bytes s.0 s.1) ++ 10 ∷ [])
+-- a match in a line of this role, as a line of its own
+abbrev pub printed_match : What → Option (List ℕ) → Role → TextLine → ℕ × ℕ → List ℕ
+printed_match w name role line s =
+    fields w name role line.number (line.place + s.0)
+    ++ (marked w.color (codes "01;31") (slice_range line.bytes s.0 s.1) ++ 10 ∷ [])
 
-abbrev pub printed_matches : What → Option (List ℕ) → TextLine → List (ℕ × ℕ) → List ℕ
-printed_matches w name line found = if w.invert then [] else flat_map (printed_match w name line) found
+-- the matches of a line, in lines in which they would be marked
+abbrev pub printed_matches : What → Option (List ℕ) → Role → TextLine → List (ℕ × ℕ) → List ℕ
+printed_matches w name role line found = if has_marks w role then flat_map (printed_match w name role line) found else []
 
 -- the line between two groups of lines that aren't neighbours
 abbrev pub group_line : What → List ℕ

@@ -32,7 +32,7 @@ is_wanted w f line = if w.invert then not (f.has_match line.bytes) else f.has_ma
 abbrev pub selected : What → Finds → List TextLine → List Bool
 selected w f lines = limited w.most (map (is_wanted w f) lines)
 
--- lines beside selected ones are printed where whole lines are
+-- how many lines are printed beside each selected one
 abbrev pub before_of : Option Context → ℕ
 before_of None = 0
 before_of (Some c) = c.before
@@ -70,20 +70,20 @@ count_line w (Some name) n = field w Selected (codes "35") name ++ (decimal n ++
 abbrev pub name_line : What → List ℕ → List ℕ
 name_line w name = marked w.color (codes "35") name ++ 10 ∷ []
 
--- What is printed of the text of this name; it stands before lines where that is asked for. No line is printed beside another one
--- where matches alone are.
-abbrev pub report_as : Print → What → Finds → List ℕ → Bool → List TextLine → List Bool → List ℕ
-report_as Lines w f name with_name lines wanted =
-    print_lines w (λ role line. printed_line w (if with_name then Some name else None) role line (told_spans f line)) NonePrinted (roles_of w wanted) lines
-report_as Matches w f name with_name lines wanted =
-    print_lines w (λ _ line. printed_matches w (if with_name then Some name else None) line (told_spans f line)) NonePrinted (roles 0 0 wanted) lines
-report_as Count w f name with_name lines wanted = count_line w (if with_name then Some name else None) (count wanted)
-report_as NameIfAny w f name with_name lines wanted = if nat_lt 0 (count wanted) then name_line w name else []
-report_as NameIfNone w f name with_name lines wanted = if nat_lt 0 (count wanted) then [] else name_line w name
-report_as Nothing w f name with_name lines wanted = []
+-- What is printed of the text of this name; it stands before lines where that is asked for. What is known of the lines before its first
+-- one is what is known of those of earlier texts.
+abbrev pub report_as : Print → What → Finds → List ℕ → Bool → Known → List TextLine → List Bool → List ℕ
+report_as Lines w f name with_name known lines wanted =
+    print_lines w (λ role line. printed_line w (if with_name then Some name else None) role line (told_spans f line)) known (roles_of w wanted) lines
+report_as Matches w f name with_name known lines wanted =
+    print_lines w (λ role line. printed_matches w (if with_name then Some name else None) role line (told_spans f line)) known (roles_of w wanted) lines
+report_as Count w f name with_name known lines wanted = count_line w (if with_name then Some name else None) (count wanted)
+report_as NameIfAny w f name with_name known lines wanted = if nat_lt 0 (count wanted) then name_line w name else []
+report_as NameIfNone w f name with_name known lines wanted = if nat_lt 0 (count wanted) then [] else name_line w name
+report_as Nothing w f name with_name known lines wanted = []
 
-abbrev pub report : What → Finds → List ℕ → Bool → List ℕ → List ℕ
-report w f name with_name text = report_as w.print w f name with_name (lines_of text) (selected w f (lines_of text))
+abbrev pub report : What → Finds → List ℕ → Bool → Known → List ℕ → List ℕ
+report w f name with_name known text = report_as w.print w f name with_name known (lines_of text) (selected w f (lines_of text))
 
 -- how many lines of the text are selected
 abbrev pub selected_count : What → Finds → List ℕ → ℕ

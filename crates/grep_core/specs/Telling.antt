@@ -1,16 +1,14 @@
 -- What is still told of a text, behind its first lines.
 use Rattle.std.specs.Prelude.{ℕ, ◌+◌, ◌-◌, Bool, true, false, nat_lt, List, [], map, Option, Some, None, option_map, if◌then◌else◌}
 use Rattle.grep_core.specs.declared.course.Course.{Course}
-use Rattle.grep_core.specs.declared.role.Role.{Role}
 use Rattle.grep_core.specs.declared.telling.Telling.{Telling}
 use Rattle.grep_core.specs.declared.what.Print.{Print}
 use Rattle.grep_core.specs.declared.what.Print.TheVariants.{Lines, Matches, Count, NameIfAny, NameIfNone, Nothing}
 use Rattle.grep_core.specs.declared.what.What.{What}
 use Rattle.grep_core.specs.Courses.{Item, item, still}
 use Rattle.grep_core.specs.Lines.{TextLine}
-use Rattle.grep_core.specs.Printing.{printed_matches}
-use Rattle.grep_core.specs.Report.{Finds, told_spans, is_wanted, print_lines, count_line, name_line}
-use Rattle.grep_core.specs.Selecting.{limited, count, roles}
+use Rattle.grep_core.specs.Report.{Finds, told_spans, is_wanted, count_line, name_line}
+use Rattle.grep_core.specs.Selecting.{limited, count}
 
 -- the name that stands before lines
 abbrev pub shown : Bool → List ℕ → Option (List ℕ)
@@ -20,13 +18,19 @@ shown with_name name = if with_name then Some name else None
 abbrev pub told_item : Finds → TextLine → Item
 told_item f line = item line (told_spans f line)
 
-abbrev pub print_matches : What → Option (List ℕ) → Role → Item → List ℕ
-print_matches w name role it = printed_matches w name it.line it.found
+-- whether lines are printed, or the matches in them
+abbrev pub prints_lines : Print → Bool
+prints_lines Lines = true
+prints_lines Matches = true
+prints_lines Count = false
+prints_lines NameIfAny = false
+prints_lines NameIfNone = false
+prints_lines Nothing = false
 
 -- of lines that are selected as the flags say, behind some of which n are selected
 abbrev pub tells_as : Print → What → List ℕ → Bool → Course → ℕ → List Bool → List Item → List ℕ
 tells_as Lines w name with_name c n flags items = still w (shown with_name name) c flags items
-tells_as Matches w name with_name c n flags items = print_lines w (print_matches w (shown with_name name)) c.known (roles 0 0 flags) items
+tells_as Matches w name with_name c n flags items = still w (shown with_name name) c flags items
 tells_as Count w name with_name c n flags items = count_line w (shown with_name name) (n + count flags)
 tells_as NameIfAny w name with_name c n flags items = if nat_lt 0 (n + count flags) then name_line w name else []
 tells_as NameIfNone w name with_name c n flags items = if nat_lt 0 (n + count flags) then [] else name_line w name

@@ -15,6 +15,7 @@ ghost use Rattle.grep_core.specs.declared.what.What.{What as TheWhat};
 use crate::candidates::line_start;
 use crate::fault::Fault;
 use crate::finder::Finder;
+use crate::known::Known;
 use crate::line::Line;
 use crate::looking::look_at;
 use crate::passing::pass_lines;
@@ -40,17 +41,17 @@ pub(crate) struct Progress {
 }
 
 impl Progress {
-    /// Before the first line.
-    pub(crate) fn new(alloc: Global) -> Progress
+    /// Before the first line, where this is known of the lines of earlier texts.
+    pub(crate) fn new(alloc: Global, known: Known) -> Progress
         ensures starts { (t : TheTask) → (f : Finds) → (text : List ℕ) →
-            tells_lines t f result (split_lines text) ≡ report_as t.what.now.print t.what.now f t.name.now t.with_name (lines_of text) (selected t.what.now f (lines_of text)) }
+            tells_lines t f result (split_lines text) ≡ report_as t.what.now.print t.what.now f t.name.now t.with_name known (lines_of text) (selected t.what.now f (lines_of text)) }
         ensures counts { (t : TheTask) → (f : Finds) → (text : List ℕ) → counts_lines t f result (split_lines text) ≡ count (selected t.what.now f (lines_of text)) }
         ensures waits { (w : TheWhat) → Waits w result.telling.course }
     {
         Progress {
             number: 1,
             place: 0,
-            telling: Telling::new(alloc),
+            telling: Telling::new(alloc, known),
         }
     }
 }

@@ -6,9 +6,11 @@ ghost use Rattle.grep_core.specs.declared.what.What.{What as TheWhat};
 ghost use Rattle.grep_core.specs.Report.{parting, before_of, after_of, behind_hidden, print_lines};
 ghost use Rattle.grep_core.specs.Selecting.{roles};
 
+use crate::fault::Fault;
+use crate::items::push_item;
 use crate::known::Known;
 use crate::line::Line;
-use crate::printing::{push_group, push_line};
+use crate::printing::push_group;
 use crate::role::Role;
 use crate::what::What;
 use search_types::Span;
@@ -52,7 +54,7 @@ fn push_waiting(
     name: Option<&[u8]>,
     known: Known,
     it: &Waiting,
-) -> Result<(), AllocError>
+) -> Result<(), Fault>
     ensures { OnOk result (out.new.items ≡ out.old.items ++ (parting what.now known ++ print_item what.now (option_map (λ n. n.now) name.entry) Role.Beside (waiting_item it.now))) }
 {
     push_parting(out, what, known)?;
@@ -61,7 +63,7 @@ fn push_waiting(
         place: it.place,
         bytes: &it.bytes,
     };
-    push_line(alloc, out, what, name, Role::Beside, line, &it.found)?;
+    push_item(alloc, out, what, name, Role::Beside, line, &it.found)?;
     Ok(())
 }
 
@@ -72,7 +74,7 @@ fn print_waiting(
     what: &What,
     name: Option<&[u8]>,
     course: &mut Course,
-) -> Result<(), AllocError>
+) -> Result<(), Fault>
     ensures printed { OnOk result (out.new.items ≡ out.old.items ++ queued what.now (print_item what.now (option_map (λ n. n.now) name.entry)) course.old.known (map waiting_item course.old.waiting.items)) }
     ensures known { OnOk result (course.new.known ≡ behind_queue course.old.known course.old.waiting.items) }
     ensures none { OnOk result (course.new.waiting.items ≡ []) }
@@ -114,7 +116,7 @@ fn select(
     course: &mut Course,
     line: Line<'_>,
     found: &[Span],
-) -> Result<(), AllocError>
+) -> Result<(), Fault>
     requires { Waits what.now course.old }
     ensures goes_on { OnOk result ((flags : List Bool) (items : List Item) →
         out.old.items ++ still what.now (option_map (λ n. n.now) name.entry) course.old (true ∷ flags) (item (text_line line.entry) (map span_pair found.now) ∷ items)
@@ -123,7 +125,7 @@ fn select(
 {
     print_waiting(alloc, out, what, name, course)?;
     push_parting(out, what, course.known)?;
-    push_line(alloc, out, what, name, Role::Selected, line, found)?;
+    push_item(alloc, out, what, name, Role::Selected, line, found)?;
     course.known = Known::LastPrinted;
     course.left = after_of(what);
     Ok(())
@@ -138,7 +140,7 @@ fn stand_beside(
     course: &mut Course,
     line: Line<'_>,
     found: &[Span],
-) -> Result<(), AllocError>
+) -> Result<(), Fault>
     requires waits { Waits what.now course.old }
     requires owed { 0 < course.old.left }
     ensures goes_on { OnOk result ((flags : List Bool) (items : List Item) →
@@ -147,7 +149,7 @@ fn stand_beside(
     ensures waits { OnOk result (Waits what.now course.new) }
 {
     push_parting(out, what, course.known)?;
-    push_line(alloc, out, what, name, Role::Beside, line, found)?;
+    push_item(alloc, out, what, name, Role::Beside, line, found)?;
     course.known = Known::LastPrinted;
     course.left -= 1;
     Ok(())
@@ -218,15 +220,14 @@ fn wait(
 }
 
 impl Course {
-    /// Before the first line.
-    pub(crate) fn new(alloc: Global) -> Course
+    /// Before the first line, where this is known of the lines of earlier texts.
+    pub(crate) fn new(alloc: Global, known: Known) -> Course
         ensures starts { (what : TheWhat) → (name : Option (List ℕ)) → (flags : List Bool) → (items : List Item) →
-            still what name result flags items ≡ print_lines what (print_item what name) Known.NonePrinted (roles (before_of what.context) (after_of what.context) flags) items }
+            still what name result flags items ≡ print_lines what (print_item what name) known (roles (before_of what.context) (after_of what.context) flags) items }
         ensures waits { (what : TheWhat) → Waits what result }
-        ensures known { result.known ≡ Known.NonePrinted }
     {
         Course {
-            known: Known::NonePrinted,
+            known,
             left: 0,
             waiting: VecDeque::new(alloc),
         }
@@ -243,7 +244,7 @@ pub(crate) fn next_line(
     line: Line<'_>,
     is_selected: bool,
     found: &[Span],
-) -> Result<(), AllocError>
+) -> Result<(), Fault>
     requires { Waits what.now course.old }
     ensures goes_on { OnOk result ((flags : List Bool) (items : List Item) →
         out.old.items ++ still what.now (option_map (λ n. n.now) name.entry) course.old (is_selected ∷ flags) (item (text_line line.entry) (map span_pair found.now) ∷ items)
@@ -256,7 +257,8 @@ pub(crate) fn next_line(
     if course.left > 0 {
         return stand_beside(alloc, out, what, name, course, line, found);
     }
-    wait(alloc, what, course, line, found)
+    wait(alloc, what, course, line, found)?;
+    Ok(())
 }
 
 /// Behind the last line nothing is printed.

@@ -12,8 +12,8 @@ use crate::course::{Course, before_of, behind_hidden};
 use crate::fault::Fault;
 use crate::known::Known;
 use crate::line::Line;
-use crate::telling::tell_line;
-use crate::what::{Print, What};
+use crate::telling::{prints_lines, tell_line};
+use crate::what::What;
 use std::alloc::Global;
 
 /// As many bytes as a count in one byte holds.
@@ -64,10 +64,7 @@ fn hides(what: &What, course: &Course) -> bool
     if what.invert {
         return false;
     }
-    match what.print {
-        Print::Lines => before_of(what) == 0 && course.left == 0,
-        _ => true,
-    }
+    !prints_lines(what.print) || before_of(what) == 0 && course.left == 0
 }
 
 /// Passes over lines without a match that aren't told: only what stands behind them is counted.

@@ -117,8 +117,8 @@ fn push_matches(out: &mut Vec<u8>, line: &[u8], found: &[Span]) -> Result<(), Al
     Ok(())
 }
 
-/// Whether matches are marked in lines of this role.
-fn has_marks(what: &What, role: Role) -> bool
+/// Whether matches are told in lines of this role.
+pub(crate) fn has_marks(what: &What, role: Role) -> bool
     ensures { result ≡ has_marks what.now role }
 {
     match role {

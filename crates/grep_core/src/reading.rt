@@ -14,10 +14,11 @@ ghost use Rattle.grep_core.specs.declared.blocks.Task.{Task as TheTask};
 use crate::blocks::{Progress, Task, feed_at, tell_block, tell_one};
 use crate::fault::Fault;
 use crate::finder::Finder;
+use crate::known::Known;
 use crate::telling::{Telling, is_over, tell_end};
 use crate::what::What;
 use std::alloc::{AllocError, Global};
-use std::io::{Read, Write};
+use std::io::{ErrorKind, Read, Write};
 
 /// How many bytes are asked of the reader at once.
 const BLOCK: usize = 65536;
@@ -51,7 +52,7 @@ fn read_some<R: Read>(reader: &mut R, chunk: &mut [u8], text: &mut Vec<u8>) -> R
             text.extend_from_slice(&chunk[..n])?;
             Ok(n)
         }
-        Err(_) => Err(Fault::Read),
+        Err(e) => Err(Fault::Read(e.kind())),
     }
 }
 
@@ -63,9 +64,9 @@ fn write_out<W: Write>(writer: &mut W, out: &[u8]) -> Result<(), Fault>
     let mut done = 0usize;
     while done < out.len() {
         match writer.write(&out[done..]) {
-            Ok(0) => return Err(Fault::Write),
+            Ok(0) => return Err(Fault::Write(ErrorKind::WriteZero)),
             Ok(n) => done += n,
-            Err(_) => return Err(Fault::Write),
+            Err(e) => return Err(Fault::Write(e.kind())),
         }
     }
     Ok(())
@@ -76,7 +77,7 @@ fn flush<W: Write>(writer: &mut W) -> Result<(), Fault>
 {
     match writer.flush() {
         Ok(()) => Ok(()),
-        Err(_) => Err(Fault::Write),
+        Err(e) => Err(Fault::Write(e.kind())),
     }
 }
 
@@ -397,6 +398,8 @@ fn has_selected(progress: &Progress) -> bool
 /// It reads blocks of 64 KiB, and tells the lines that end in one before it reads the next; it reads no more where nothing more is told
 /// whatever comes. A line is held whole, and one above 1 GiB is refused. Where it fails, a beginning of what is told was written.
 ///
+/// What is known of the lines of earlier texts says whether a line parts the first group of lines from these.
+///
 /// The matches of lines are asked for where these are printed alone or marked; then no unbounded repetition of the patterns may be of what
 /// matches the empty text.
 pub fn tell_text<R: Read, W: Write>(
@@ -405,16 +408,17 @@ pub fn tell_text<R: Read, W: Write>(
     what: &What,
     name: &[u8],
     with_name: bool,
+    known: Known,
     reader: &mut R,
     writer: &mut W,
 ) -> Result<bool, Fault>
     ensures same { finder.new ≡ finder.old }
     ensures told { OnOk result ((by : SearchesFor finder.old (needs_spans what.now)) → IfSome (R.remaining reader.old) (λ text.
-        Appends (W.contents writer.old) (W.contents writer.new) (report what.now (found_by by) name.now with_name text))) }
+        Appends (W.contents writer.old) (W.contents writer.new) (report what.now (found_by by) name.now with_name known text))) }
     ensures selected { IfOk result (λ any. (by : SearchesFor finder.old (needs_spans what.now)) → IfSome (R.remaining reader.old) (λ text.
         any ≡ nat_lt 0 (selected_count what.now (found_by by) text))) }
     ensures fault { IfErr result (λ _. (by : SearchesFor finder.old (needs_spans what.now)) → IfSome (R.remaining reader.old) (λ text.
-        (n : ℕ) × Appends (W.contents writer.old) (W.contents writer.new) (take n (report what.now (found_by by) name.now with_name text)))) }
+        (n : ℕ) × Appends (W.contents writer.old) (W.contents writer.new) (take n (report what.now (found_by by) name.now with_name known text)))) }
 {
     let task = Task {
         what,
@@ -425,7 +429,7 @@ pub fn tell_text<R: Read, W: Write>(
         Ok(chunk) => chunk,
         Err(_) => return Err(Fault::NoMemory),
     };
-    let mut progress = Progress::new(alloc);
+    let mut progress = Progress::new(alloc, known);
     let mut read = Vec::new(alloc);
     let ended = match tell_blocks(
         alloc,

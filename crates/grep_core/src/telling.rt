@@ -1,19 +1,18 @@
 //! What is told of a text, line by line.
 ghost use Rattle.std.specs.Prelude.{◌≡◌, ◌++◌, ◌∷◌, [], ℕ, ◌+◌, Bool, List, Option, OnOk, IfOk, IsTrue, decimal, map, nat_lt, not, ◌&&◌, option_map, if◌then◌else◌};
-ghost use Rattle.std.specs.List.{flat_map};
 ghost use Rattle.grep_core.specs.Courses.{Item, Waits, item};
 ghost use Rattle.grep_core.specs.Lines.{TextLine};
-ghost use Rattle.grep_core.specs.Printing.{span_pair, text_line, printed_match};
-ghost use Rattle.grep_core.specs.Report.{Finds, told_spans, print_lines, report_as, selected, count_line, name_line};
-ghost use Rattle.grep_core.specs.Selecting.{roles, count};
-ghost use Rattle.grep_core.specs.Telling.{shown, print_matches, tells_as, may_select, still_told, count_in_all};
+ghost use Rattle.grep_core.specs.Printing.{span_pair, text_line};
+ghost use Rattle.grep_core.specs.Report.{Finds, told_spans, report_as, selected, count_line, name_line};
+ghost use Rattle.grep_core.specs.Selecting.{count};
+ghost use Rattle.grep_core.specs.Telling.{shown, prints_lines, tells_as, may_select, still_told, count_in_all};
 ghost use Rattle.grep_core.specs.declared.what.What.{What as TheWhat};
 
-use crate::course::{Course, behind_hidden, next_line, push_parting, see_end};
+use crate::course::{Course, next_line, see_end};
 use crate::fault::Fault;
 use crate::known::Known;
 use crate::line::Line;
-use crate::printing::{piece, push_field, push_fields, push_marked};
+use crate::printing::{push_field, push_marked};
 use crate::role::Role;
 use crate::what::{Print, What};
 use search_types::Span;
@@ -32,6 +31,16 @@ pub(crate) fn shown(name: &[u8], with_name: bool) -> Option<&[u8]>
     ensures { option_map (λ n. n.now) result ≡ shown with_name name.now }
 {
     if with_name { Some(name) } else { None }
+}
+
+/// Whether lines are printed, or the matches in them.
+pub(crate) fn prints_lines(print: Print) -> bool
+    ensures { result ≡ prints_lines print }
+{
+    match print {
+        Print::Lines | Print::Matches => true,
+        Print::Count | Print::NameIfAny | Print::NameIfNone | Print::Nothing => false,
+    }
 }
 
 /// Whether one more line may be selected, where so many are.
@@ -58,94 +67,6 @@ fn is_selected(what: &What, count: u64, has: bool) -> bool
     is_wanted(what, has) && may_select(what, count)
 }
 
-/// Appends a match whose first byte is at this place, as a line of its own.
-fn push_match_at(
-    alloc: Global,
-    out: &mut Vec<u8>,
-    what: &What,
-    name: Option<&[u8]>,
-    line: Line<'_>,
-    span: Span,
-    place: u64,
-) -> Result<(), AllocError>
-    requires { place ≡ line.place + span.start }
-    ensures { OnOk result (out.new.items ≡ out.old.items ++ printed_match what.now (option_map (λ n. n.now) name.entry) (text_line line.entry) (span_pair span)) }
-{
-    push_fields(alloc, out, what, name, Role::Selected, line.number, place)?;
-    push_marked(
-        out,
-        what.color,
-        b"01;31",
-        piece(line.bytes, span.start, span.end),
-    )?;
-    out.push(b'\n')?;
-    Ok(())
-}
-
-/// Appends a match, as a line of its own.
-fn push_match(
-    alloc: Global,
-    out: &mut Vec<u8>,
-    what: &What,
-    name: Option<&[u8]>,
-    line: Line<'_>,
-    span: Span,
-) -> Result<(), Fault>
-    ensures { OnOk result (out.new.items ≡ out.old.items ++ printed_match what.now (option_map (λ n. n.now) name.entry) (text_line line.entry) (span_pair span)) }
-{
-    let Some(place) = line.place.checked_add(span.start as u64) else {
-        return Err(Fault::TooLong);
-    };
-    push_match_at(alloc, out, what, name, line, span, place)?;
-    Ok(())
-}
-
-/// Appends the matches of a line, each as a line of its own.
-fn push_matches(
-    alloc: Global,
-    out: &mut Vec<u8>,
-    what: &What,
-    name: Option<&[u8]>,
-    line: Line<'_>,
-    found: &[Span],
-) -> Result<(), Fault>
-    ensures { OnOk result (out.new.items ≡ out.old.items ++ flat_map (printed_match what.now (option_map (λ n. n.now) name.entry) (text_line line.entry)) (map span_pair found.now)) }
-{
-    for span in found {
-        push_match(alloc, out, what, name, line, *span)?;
-    }
-    Ok(())
-}
-
-/// Goes on by one line, where matches alone are told.
-fn next_matches(
-    alloc: Global,
-    out: &mut Vec<u8>,
-    what: &What,
-    name: Option<&[u8]>,
-    course: &mut Course,
-    line: Line<'_>,
-    is_selected: bool,
-    found: &[Span],
-) -> Result<(), Fault>
-    ensures goes_on { OnOk result ((flags : List Bool) (items : List Item) →
-        out.old.items ++ print_lines what.now (print_matches what.now (option_map (λ n. n.now) name.entry)) course.old.known (roles 0 0 (is_selected ∷ flags)) (item (text_line line.entry) (map span_pair found.now) ∷ items)
-        ≡ out.new.items ++ print_lines what.now (print_matches what.now (option_map (λ n. n.now) name.entry)) course.new.known (roles 0 0 flags) items) }
-    ensures waiting { course.new.waiting ≡ course.old.waiting }
-    ensures left { course.new.left ≡ course.old.left }
-{
-    if !is_selected {
-        course.known = behind_hidden(course.known);
-        return Ok(());
-    }
-    push_parting(out, what, course.known)?;
-    if !what.invert {
-        push_matches(alloc, out, what, name, line, found)?;
-    }
-    course.known = Known::LastPrinted;
-    Ok(())
-}
-
 /// Goes on by one line, whatever is told.
 fn tell_as(
     alloc: Global,
@@ -164,14 +85,10 @@ fn tell_as(
         ≡ out.new.items ++ tells_as what.now.print what.now text with_name course.new m flags items) }
     ensures waits { OnOk result (Waits what.now course.new) }
 {
-    match what.print {
-        Print::Lines => {
-            next_line(alloc, out, what, name, course, line, is_selected, found)?;
-            Ok(())
-        }
-        Print::Matches => next_matches(alloc, out, what, name, course, line, is_selected, found),
-        _ => Ok(()),
+    if prints_lines(what.print) {
+        return next_line(alloc, out, what, name, course, line, is_selected, found);
     }
+    Ok(())
 }
 
 /// One more, where a line is selected.
@@ -188,14 +105,14 @@ fn count_more(count: u64, is_selected: bool) -> Result<u64, Fault>
 }
 
 impl Telling {
-    /// Before the first line.
-    pub(crate) fn new(alloc: Global) -> Telling
-        ensures starts { (w : TheWhat) → (f : Finds) → (name : List ℕ) → (with_name : Bool) → (lines : List TextLine) → still_told w f name with_name result lines ≡ report_as w.print w f name with_name lines (selected w f lines) }
+    /// Before the first line, where this is known of the lines of earlier texts.
+    pub(crate) fn new(alloc: Global, known: Known) -> Telling
+        ensures starts { (w : TheWhat) → (f : Finds) → (name : List ℕ) → (with_name : Bool) → (lines : List TextLine) → still_told w f name with_name result lines ≡ report_as w.print w f name with_name known lines (selected w f lines) }
         ensures counts { (w : TheWhat) → (f : Finds) → (lines : List TextLine) → count_in_all w f result lines ≡ count (selected w f lines) }
         ensures waits { (w : TheWhat) → Waits w result.course }
     {
         Telling {
-            course: Course::new(alloc),
+            course: Course::new(alloc, known),
             count: 0,
         }
     }
@@ -285,7 +202,7 @@ pub(crate) fn tell_end(
     ensures { OnOk result ((f : Finds) → out.new.items ≡ out.old.items ++ still_told what.now f name.now with_name telling.now []) }
 {
     match what.print {
-        Print::Lines => {
+        Print::Lines | Print::Matches => {
             see_end(what, &telling.course);
             Ok(())
         }
@@ -305,8 +222,8 @@ pub(crate) fn is_over(what: &What, telling: &Telling) -> bool
 {
     let is_spent = !may_select(what, telling.count);
     match what.print {
-        Print::Lines => is_spent && telling.course.left == 0,
-        Print::Matches | Print::Count => is_spent,
+        Print::Lines | Print::Matches => is_spent && telling.course.left == 0,
+        Print::Count => is_spent,
         Print::NameIfAny | Print::NameIfNone | Print::Nothing => is_spent || telling.count > 0,
     }
 }

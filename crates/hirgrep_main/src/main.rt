@@ -8,7 +8,7 @@ mod counting;
 mod input;
 mod messages;
 mod outcome;
-mod parting;
+mod output;
 mod patterns;
 mod searching;
 mod walking;

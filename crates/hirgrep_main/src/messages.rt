@@ -51,14 +51,21 @@ pub fn tell_no_finder(
     }
 }
 
-/// Why a text isn't searched to its end.
-pub fn said_of(fault: Fault) -> &'static str {
-    match fault {
-        Fault::Read => "read fault",
-        Fault::Write => "write fault",
+/// Tells why the text of this name isn't searched to its end.
+pub fn tell_fault(rt: &HostRuntime, name: &str, fault: Fault) {
+    let said = match fault {
+        Fault::Read(cause) => {
+            let _ = eprintln!(rt; "hirgrep: {name}: {cause}");
+            return;
+        }
+        Fault::Write(cause) => {
+            let _ = eprintln!(rt; "hirgrep: write error: {cause}");
+            return;
+        }
         Fault::NoMemory => "out of memory",
         Fault::TooLong => "a line above 1 GiB, or too many of them",
         Fault::TooLarge =>
             "the patterns are too large for a line with what isn't ASCII beside a word boundary",
-    }
+    };
+    let _ = eprintln!(rt; "hirgrep: {name}: {said}");
 }

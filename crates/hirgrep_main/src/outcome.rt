@@ -1,9 +1,10 @@
 //! What comes of a search.
 
 use crate::asked::Asked;
-use crate::messages::said_of;
+use crate::messages::tell_fault;
 use grep_core::{Fault, Finder, Print};
 use std::io;
+use std::io::ErrorKind;
 use std::rt::Runtime;
 
 /// What came of the files so far.
@@ -15,14 +16,29 @@ pub struct Outcome {
     pub printed: bool,
     /// Something failed.
     pub failed: bool,
-    /// Standard output is a pipe from which nobody reads any more, which isn't told.
-    pub closed: bool,
     /// Nothing more is searched: what is printed can't be written, or all is known that is asked for.
     pub ended: bool,
     /// How many files were read, standard input among them.
     pub files: u64,
     /// How many bytes were read of them.
     pub bytes: u64,
+}
+
+/// Whether what is printed can't be written.
+fn is_of_output(fault: Fault) -> bool {
+    match fault {
+        Fault::Write(_) => true,
+        _ => false,
+    }
+}
+
+/// Whether standard error tells it: not that nobody reads a pipe any more, and of files that can't be read only where that is asked for.
+fn is_told(asked: &Asked, fault: Fault) -> bool {
+    match fault {
+        Fault::Write(cause) => cause != ErrorKind::BrokenPipe,
+        Fault::Read(_) => !asked.silent,
+        _ => true,
+    }
 }
 
 impl Outcome {
@@ -39,18 +55,12 @@ impl Outcome {
                 self.selected |= any;
                 self.ended |= any && asked.what.print == Print::Nothing;
             }
-            Err(Fault::Write) => {
-                if !self.closed {
-                    let _ = eprintln!(rt; "hirgrep: write fault");
+            Err(fault) => {
+                if is_told(asked, fault) {
+                    tell_fault(rt, name, fault);
                 }
                 self.failed = true;
-                self.ended = true;
-            }
-            Err(Fault::Read) if asked.silent => self.failed = true,
-            Err(fault) => {
-                let said = said_of(fault);
-                let _ = eprintln!(rt; "hirgrep: {name}: {said}");
-                self.failed = true;
+                self.ended |= is_of_output(fault);
             }
         }
     }

@@ -5,9 +5,9 @@ use crate::counting::Counting;
 use crate::input::input;
 use crate::messages::{tell_no_finder, tell_refused};
 use crate::outcome::Outcome;
-use crate::parting::{Parted, parting_of};
+use crate::output::Output;
 use crate::walking::{Kind, is_folder, is_output, kind_of, push_folder};
-use grep_core::{Fault, Finder, Print, config_of, needs_spans, searched_text, tell_text};
+use grep_core::{Finder, Known, Print, config_of, needs_spans, searched_text, tell_text};
 use pattern_search::parse_all;
 use std::alloc::{AllocError, Global};
 use std::fs;
@@ -53,27 +53,12 @@ fn texts_of(
     Ok(Some(texts))
 }
 
-/// Where what is told of the next text is written: behind a line that parts it from what was printed before, where groups are parted.
-fn writer_of(rt: &HostRuntime, asked: &Asked, outcome: &Outcome) -> Parted {
-    let is_first = !outcome.printed && !outcome.selected;
-    Parted::new(
-        rt.stdout(),
-        if is_first {
-            b""
-        } else {
-            parting_of(&asked.what)
-        },
-    )
-}
-
-/// What was told, where lines are parted even if nothing is printed of those that are selected, as by GNU grep.
-fn parted(writer: &mut Parted, told: Result<bool, Fault>) -> Result<bool, Fault> {
-    if told != Ok(true) {
-        return told;
-    }
-    match writer.part() {
-        Ok(()) => Ok(true),
-        Err(_) => Err(Fault::Write),
+/// What is known of the lines of the texts so far, of which some were printed where anything was selected or printed.
+fn known_of(outcome: &Outcome) -> Known {
+    if outcome.selected || outcome.printed {
+        Known::EarlierPrinted
+    } else {
+        Known::NonePrinted
     }
 }
 
@@ -87,19 +72,18 @@ fn search_reader<R: Read + Drop>(
     reader: R,
 ) {
     let mut reader = Counting::new(reader);
-    let mut writer = writer_of(rt, task.asked, outcome);
+    let mut writer = Output::new(rt.stdout());
     let told = tell_text(
         rt.alloc(),
         finder,
         &task.asked.what,
         name.as_bytes(),
         task.with_name,
+        known_of(outcome),
         &mut reader,
         &mut writer,
     );
-    let told = parted(&mut writer, told);
     outcome.printed |= writer.wrote();
-    outcome.closed = writer.closed();
     outcome.count(reader.count());
     outcome.keep(rt, task.asked, name, told);
 }

@@ -18,7 +18,7 @@ pub returns-in-Err-tell_blocks-clause-fault : goal.returns-in-Err-tell_blocks-cl
 returns-in-Err-tell_blocks-clause-fault g c by =
     let t : Task = record { what = c.args.what; name = c.args.name; with_name = c.args.with_name } in
     some_of (g.R.Read.remaining c.args.reader.now) _
-    (λ text is. text_part t (found_by by) c.new-progress.result c.new-read.result.items text (g.W.Write.contents c.args.writer.now) (g.W.Write.contents c.tell_blocks.new.writer)
+    (λ text is. text_part t (found_by by) c.args.known c.new-progress.result c.new-read.result.items text (g.W.Write.contents c.args.writer.now) (g.W.Write.contents c.tell_blocks.new.writer)
     c.new-read.ensures.items (c.new-progress.ensures.starts t (needed c.args.what.now (found_by by))) (c.in-Err-tell_blocks.ensures.fault by text is))
 
 pub returns-in-Ok-finish-clause-told : goal.returns-in-Ok-finish-clause-told
@@ -26,7 +26,7 @@ returns-in-Ok-finish-clause-told g c by =
     let t : Task = record { what = c.args.what; name = c.args.name; with_name = c.args.with_name } in
     some_of (g.R.Read.remaining c.args.reader.now) _
     (λ text is. let a = c.in-Ok-tell_blocks.ensures.reads by text is in
-    text_written t (found_by by) c.new-progress.result c.tell_blocks.new.progress c.new-read.result.items c.tell_blocks.new.read.items c.deref.result.now text
+    text_written t (found_by by) c.args.known c.new-progress.result c.tell_blocks.new.progress c.new-read.result.items c.tell_blocks.new.read.items c.deref.result.now text
     (g.R.Read.remaining c.tell_blocks.new.reader) (g.W.Write.contents c.args.writer.now) (g.W.Write.contents c.tell_blocks.new.writer) (g.W.Write.contents c.finish.new.writer)
     c.new-read.ensures.items c.deref.ensures.value (c.new-progress.ensures.starts t (needed c.args.what.now (found_by by))) a
     (c.in-Ok-finish.ensures.written (moved_by c.in-Ok-tell_blocks.ensures.same by) a.rest
@@ -49,7 +49,7 @@ returns-clause-fault g c by =
     let t : Task = record { what = c.args.what; name = c.args.name; with_name = c.args.with_name } in
     some_of (g.R.Read.remaining c.args.reader.now) _
     (λ text is. let a = c.in-Ok-tell_blocks.ensures.reads by text is in
-    rest_part t (found_by by) c.new-progress.result c.tell_blocks.new.progress c.new-read.result.items c.tell_blocks.new.read.items c.deref.result.now text
+    rest_part t (found_by by) c.args.known c.new-progress.result c.tell_blocks.new.progress c.new-read.result.items c.tell_blocks.new.read.items c.deref.result.now text
     (g.R.Read.remaining c.tell_blocks.new.reader) (g.W.Write.contents c.args.writer.now) (g.W.Write.contents c.tell_blocks.new.writer) (g.W.Write.contents c.finish.new.writer)
     c.new-read.ensures.items c.deref.ensures.value (c.new-progress.ensures.starts t (needed c.args.what.now (found_by by))) a
     (c.in-Err-finish.ensures.fault (moved_by c.in-Ok-tell_blocks.ensures.same by) a.rest

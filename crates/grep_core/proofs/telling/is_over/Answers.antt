@@ -13,13 +13,13 @@ returns-then-is_spent-clause-counted c none f lines =
     let spent : may_select c.args.what.now.most c.args.telling.now.count ≡ false = sym c.may_select-is_spent.ensures ∙ c.if-is_spent.true in
     ap (nat_lt 0) (over_counted c.args.what.now f [] false c.args.telling.now.course c.args.telling.now.count spent lines)
 
-pub returns-in-Matches-clause-told : goal.returns-in-Matches-clause-told
-returns-in-Matches-clause-told c told f name with_name lines =
+pub returns-in-Count-clause-told : goal.returns-in-Count-clause-told
+returns-in-Count-clause-told c told f name with_name lines =
     let spent : may_select c.args.what.now.most c.args.telling.now.count ≡ false = sym c.may_select-is_spent.ensures ∙ is_false c.may_select-is_spent.result told in
-    over_told c.args.what.now f name with_name c.args.telling.now.course c.args.telling.now.count spent c.args.what.now.print (not_lines c.args.what.now.print c.args.telling.now.course.left c.in-Matches.is) lines
+    over_told c.args.what.now f name with_name c.args.telling.now.course c.args.telling.now.count spent c.args.what.now.print (not_lines c.args.what.now.print c.args.telling.now.course.left c.in-Count.is) lines
 
-pub returns-in-Matches-clause-counted : goal.returns-in-Matches-clause-counted
-returns-in-Matches-clause-counted c told f lines =
+pub returns-in-Count-clause-counted : goal.returns-in-Count-clause-counted
+returns-in-Count-clause-counted c told f lines =
     let spent : may_select c.args.what.now.most c.args.telling.now.count ≡ false = sym c.may_select-is_spent.ensures ∙ is_false c.may_select-is_spent.result told in
     ap (nat_lt 0) (over_counted c.args.what.now f [] false c.args.telling.now.course c.args.telling.now.count spent lines)
 
