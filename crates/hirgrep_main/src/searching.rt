@@ -318,20 +318,17 @@ pub fn search(
     files: &[&str],
 ) -> Result<u8, AllocError> {
     let alloc = rt.alloc();
+    let config = config_of(&asked.how);
+    let with_spans = needs_spans(&asked.what);
     let patterns = strs_of(alloc, patterns)?;
     let Some(texts) = texts_of(rt, asked, patterns.as_slice())? else {
         return Ok(2);
     };
     let words = strs_of(alloc, texts.as_slice())?;
-    match Finder::new(
-        alloc,
-        words.as_slice(),
-        &config_of(&asked.how),
-        needs_spans(&asked.what),
-    ) {
+    match Finder::new(alloc, words.as_slice(), &config, with_spans) {
         Ok(mut finder) => search_by(rt, &mut finder, asked, files),
         Err(error) => {
-            tell_no_finder(rt, patterns.as_slice(), words.as_slice(), error)?;
+            tell_no_finder(rt, &config, patterns.as_slice(), words.as_slice(), error)?;
             Ok(2)
         }
     }
