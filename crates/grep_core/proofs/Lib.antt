@@ -5,6 +5,7 @@ mod JoinLemmas
 mod ListLemmas
 mod LoopLemmas
 mod MarkLemmas
+mod MeantLemmas
 mod NeededLemmas
 mod PassLemmas
 mod RegexLemmas

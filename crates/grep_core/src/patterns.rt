@@ -1,8 +1,8 @@
 //! How patterns are meant: of which texts, under which options, regexes are made for them.
 ghost use Rattle.std.specs.Prelude.{◌≡◌, ◌++◌, IfOk, string_bytes};
-ghost use Rattle.grep_core.specs.Meant.{config_of, searched_text, written};
+ghost use Rattle.grep_core.specs.Meant.{around, config_of, grouped, is_read, searched_text, written};
 
-use pattern_text::Config;
+use pattern_text::{Config, ParseError, parse};
 use std::alloc::{AllocError, Global};
 
 /// How patterns are meant.
@@ -51,17 +51,64 @@ fn between(alloc: Global, before: &str, text: &str, after: &str) -> Result<Strin
     Ok(whole)
 }
 
+/// Whether a text is read as a pattern.
+#[tactic(auto, using(crate::proofs::MeantLemmas::means_read, crate::proofs::MeantLemmas::refused_unread))]
+fn is_read(alloc: Global, config: &Config, text: &str) -> Result<bool, AllocError>
+    ensures { IfOk result (λ told. told ≡ is_read config.now text.now) }
+{
+    let error = match parse(alloc, text, config) {
+        Ok(_tree) => return Ok(true),
+        Err(error) => error,
+    };
+    match error {
+        ParseError::Refused { .. } => Ok(false),
+        ParseError::NoMemory => Err(AllocError),
+    }
+}
+
+/// The text between what begins a group and what ends it, with a line feed behind it where this isn't read without one: a comment at the
+/// end of the text takes the end of the group in.
+fn grouped(
+    alloc: Global,
+    config: &Config,
+    before: &str,
+    text: &str,
+    after: &str,
+) -> Result<String, AllocError>
+    ensures { IfOk result (λ t. string_bytes t ≡ grouped config.now before.now text.now after.now) }
+{
+    let plain = between(alloc, before, text, after)?;
+    if is_read(alloc, config, plain.as_str())? {
+        return Ok(plain);
+    }
+    let mut ended = String::from_str(alloc, text)?;
+    ended.push_str("\n")?;
+    between(alloc, before, ended.as_str(), after)
+}
+
+/// The text in a group between `^` and `$`, or between looks at words, or alone.
+fn around(alloc: Global, how: &How, text: &str) -> Result<String, AllocError>
+    ensures { IfOk result (λ t. string_bytes t ≡ around how.now text.now) }
+{
+    if how.lines {
+        let whole = grouped(alloc, &config_of(how), "^(?:", text, ")$")?;
+        return Ok(whole);
+    }
+    if how.words {
+        let before = "\\b{start-half}(?:";
+        let whole = grouped(alloc, &config_of(how), before, text, ")\\b{end-half}")?;
+        return Ok(whole);
+    }
+    let whole = String::from_str(alloc, text)?;
+    Ok(whole)
+}
+
 /// The text of which a regex is made where this pattern is asked for: the pattern itself, or what matches it literally, and that in a
-/// group between `^` and `$`, or between looks at words.
+/// group between `^` and `$`, or between looks at words. A comment at the end of the pattern, under the flag `x`, ends with the pattern.
 pub fn searched_text(alloc: Global, how: &How, pattern: &str) -> Result<String, AllocError>
     ensures { IfOk result (λ t. string_bytes t ≡ searched_text how.now pattern.now) }
 {
     let text = written(alloc, how.fixed, pattern)?;
-    if how.lines {
-        return between(alloc, "^(?:", text.as_str(), ")$");
-    }
-    if how.words {
-        return between(alloc, "\\b{start-half}(?:", text.as_str(), ")\\b{end-half}");
-    }
-    Ok(text)
+    let whole = around(alloc, how, text.as_str())?;
+    Ok(whole)
 }

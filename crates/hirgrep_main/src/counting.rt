@@ -1,4 +1,5 @@
 //! A reader that counts.
+ghost use Rattle.std.specs.Prelude.{◌≡◌};
 
 use std::io;
 use std::io::Read;
@@ -11,20 +12,34 @@ pub struct Counting<R> {
 }
 
 impl<R> Counting<R> {
-    pub fn new(reader: R) -> Counting<R> {
+    pub fn new(reader: R) -> Counting<R>
+        ensures reader { result.reader ≡ reader }
+        ensures count { result.count ≡ 0 }
+    {
         Counting { reader, count: 0 }
     }
 
     /// How many bytes it gave; the greatest number stands for any above it.
-    pub fn count(&self) -> u64 {
+    pub fn count(&self) -> u64
+        ensures { result ≡ self.now.count }
+    {
         self.count
     }
 }
 
 impl<R: Read> Read for Counting<R> {
+    ghost use Rattle.std.specs.Prelude.{◌≡◌, IfOk};
+    ghost use Rattle.std.specs.Io.{ReadsAtMost};
+    ghost use Rattle.std.specs.Io.KnownBytes.{ReadConsumes};
+    ghost use Rattle.hirgrep_main.specs.Decisions.{counted};
+
     ghost remaining = { λ c. R.remaining c.reader };
 
-    fn read(&mut self, buf: &mut [u8]) -> io::Result<usize> {
+    fn read(&mut self, buf: &mut [u8]) -> io::Result<usize>
+        ensures bound { ReadsAtMost result buf.new }
+        ensures bytes { ReadConsumes (R.remaining self.old.reader) (R.remaining self.new.reader) result buf.new }
+        ensures count { IfOk result (λ n. self.new.count ≡ counted self.old.count n) }
+    {
         match self.reader.read(buf) {
             Ok(n) => {
                 self.count = self.count.saturating_add(n as u64);

@@ -6,6 +6,7 @@ mod asked;
 mod command;
 mod counting;
 mod input;
+mod loops;
 mod messages;
 mod outcome;
 mod output;

@@ -1,4 +1,6 @@
 //! What comes of a search.
+ghost use Rattle.std.specs.Prelude.{◌≡◌};
+ghost use Rattle.hirgrep_main.specs.Decisions.{counted, prints_nothing, status};
 
 use crate::asked::Asked;
 use crate::messages::tell_fault;
@@ -32,6 +34,16 @@ fn is_of_output(fault: Fault) -> bool {
     }
 }
 
+/// Whether nothing is printed, so that the first selected line answers.
+fn prints_nothing(print: Print) -> bool
+    ensures { result ≡ prints_nothing print }
+{
+    match print {
+        Print::Nothing => true,
+        _ => false,
+    }
+}
+
 /// Whether standard error tells it: not that nobody reads a pipe any more, and of files that can't be read only where that is asked for.
 fn is_told(asked: &Asked, fault: Fault) -> bool {
     match fault {
@@ -43,7 +55,9 @@ fn is_told(asked: &Asked, fault: Fault) -> bool {
 
 impl Outcome {
     /// Counts a file of which so many bytes were read.
-    pub fn count(&mut self, bytes: u64) {
+    pub fn count(&mut self, bytes: u64)
+        ensures { self.new ≡ record (self.old) { files = counted self.old.files 1; bytes = counted self.old.bytes bytes } }
+    {
         self.files = self.files.saturating_add(1);
         self.bytes = self.bytes.saturating_add(bytes);
     }
@@ -82,8 +96,10 @@ impl Outcome {
     }
 
     /// 2 where something failed, but for a search that ended at a selected line and prints nothing.
-    pub fn status(&self, asked: &Asked) -> u8 {
-        if self.selected && asked.what.print == Print::Nothing {
+    pub fn status(&self, asked: &Asked) -> u8
+        ensures { result ≡ status asked.now.what.print self.now.selected self.now.failed }
+    {
+        if prints_nothing(asked.what.print) && self.selected {
             return 0;
         }
         if self.failed {

@@ -1,4 +1,6 @@
 //! Searching files, one after the other.
+ghost use Rattle.std.specs.Prelude.{◌≡◌};
+ghost use Rattle.hirgrep_main.specs.Decisions.{is_most, is_named, may_run_on, prints_lines, prints_names_if_none, selects_none};
 
 use crate::asked::{Asked, Names};
 use crate::counting::Counting;
@@ -88,12 +90,39 @@ fn search_reader<R: Read + Drop>(
     outcome.keep(rt, task.asked, name, told);
 }
 
-/// Whether a file that is written while it is read could be read for ever: lines are printed, and the first isn't the last one.
-fn may_run_on(asked: &Asked) -> bool {
-    match asked.what.print {
-        Print::Lines | Print::Matches => asked.what.most != Some(1),
+fn prints_lines(print: Print) -> bool
+    ensures { result ≡ prints_lines print }
+{
+    match print {
+        Print::Lines | Print::Matches => true,
+        Print::Count | Print::NameIfAny | Print::NameIfNone | Print::Nothing => false,
+    }
+}
+
+fn prints_names_if_none(print: Print) -> bool
+    ensures { result ≡ prints_names_if_none print }
+{
+    match print {
+        Print::NameIfNone => true,
         _ => false,
     }
+}
+
+/// Whether no more lines are selected than this number.
+fn is_most(number: u64, most: Option<u64>) -> bool
+    ensures { result ≡ is_most number most }
+{
+    match most {
+        Some(most) => most == number,
+        None => false,
+    }
+}
+
+/// Whether a file that is written while it is read could be read for ever: lines are printed, and the first isn't the last one.
+fn may_run_on(asked: &Asked) -> bool
+    ensures { result ≡ may_run_on asked.now.what }
+{
+    prints_lines(asked.what.print) && !is_most(1, asked.what.most)
 }
 
 /// Whether what is printed would come into what is read, which is told.
@@ -209,7 +238,9 @@ fn search_named(
 }
 
 /// Whether names stand before lines, where several files may be searched or only one.
-fn is_named(asked: &Asked, may_be_several: bool) -> bool {
+fn is_named(asked: &Asked, may_be_several: bool) -> bool
+    ensures { result ≡ is_named asked.now.names may_be_several }
+{
     match asked.names {
         Names::Always => true,
         Names::Never => false,
@@ -273,8 +304,10 @@ fn search_files(
 }
 
 /// Whether no line can be selected, and nothing is printed whatever the texts are.
-fn selects_none(asked: &Asked) -> bool {
-    asked.what.most == Some(0) && asked.what.print != Print::NameIfNone
+fn selects_none(asked: &Asked) -> bool
+    ensures { result ≡ selects_none asked.now.what }
+{
+    is_most(0, asked.what.most) && !prints_names_if_none(asked.what.print)
 }
 
 /// Searches files by a finder, and gives the status.
@@ -302,20 +335,17 @@ pub fn search(
     files: &[&str],
 ) -> Result<u8, AllocError> {
     let alloc = rt.alloc();
+    let config = config_of(&asked.how);
+    let with_spans = needs_spans(&asked.what);
     let patterns = strs_of(alloc, patterns)?;
     let Some(texts) = texts_of(rt, asked, patterns.as_slice())? else {
         return Ok(2);
     };
     let words = strs_of(alloc, texts.as_slice())?;
-    match Finder::new(
-        alloc,
-        words.as_slice(),
-        &config_of(&asked.how),
-        needs_spans(&asked.what),
-    ) {
+    match Finder::new(alloc, words.as_slice(), &config, with_spans) {
         Ok(mut finder) => search_by(rt, &mut finder, asked, files),
         Err(error) => {
-            tell_no_finder(rt, patterns.as_slice(), words.as_slice(), error)?;
+            tell_no_finder(rt, &config, patterns.as_slice(), words.as_slice(), error)?;
             Ok(2)
         }
     }
