@@ -1,5 +1,6 @@
 //! The lines of blocks of a text.
-ghost use Rattle.std.specs.Prelude.{◌≡◌, ◌++◌, ◌∷◌, [], ℕ, ◌+◌, ◌≤◌, ◌==◌, List, None, OnOk, IfOk, drop, length, ◌<◌, ◌≢◌, take, slice_range};
+ghost use Rattle.std.specs.Prelude.{◌≡◌, ◌++◌, ◌∷◌, [], ℕ, ◌+◌, ◌≤◌, ◌==◌, List, None, OnOk, IfOk, drop, length, ◌<◌, ◌≢◌, take};
+ghost use Rattle.std.specs.Prelude.{slice_range};
 ghost use Rattle.std.specs.List.{position};
 ghost use Rattle.grep_core.specs.Blocks.{SearchesBy, finds_by, tells_lines, counts_lines};
 ghost use Rattle.grep_core.specs.Candidates.{HaveNoMatch, IsLineStart};
@@ -43,8 +44,10 @@ impl Progress {
     /// Before the first line, where this is known of the lines of earlier texts.
     pub(crate) fn new(alloc: Global, known: Known) -> Progress
         ensures starts { (t : TheTask) → (f : Finds) → (text : List ℕ) →
-            tells_lines t f result (split_lines text) ≡ report_as t.what.now.print t.what.now f t.name.now t.with_name known (lines_of text) (selected t.what.now f (lines_of text)) }
-        ensures counts { (t : TheTask) → (f : Finds) → (text : List ℕ) → counts_lines t f result (split_lines text) ≡ count (selected t.what.now f (lines_of text)) }
+            tells_lines t f result (split_lines text) ≡ report_as t.what.now.print t.what.now f t.name.now t.with_name known (lines_of text)
+            (selected t.what.now f (lines_of text)) }
+        ensures counts { (t : TheTask) → (f : Finds) → (text : List ℕ) →
+            counts_lines t f result (split_lines text) ≡ count (selected t.what.now f (lines_of text)) }
         ensures waits { (w : TheWhat) → Waits w result.telling.course }
     {
         Progress {
