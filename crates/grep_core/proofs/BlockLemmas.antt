@@ -1,5 +1,6 @@
 -- A text's first line, and its last one.
-use Rattle.std.proofs.Common.{◌≡◌, ◌≤◌, ◌<◌, ℕ, zero, suc, ◌+◌, ◌==◌, Bool, true, false, not, cond, List, [], ◌∷◌, ◌++◌, length, take, drop, drop-drop, append-nil, nat_eq, Some, None, nat_lt, if◌then◌else◌, refl, sym, ap, ap₂, ◌∙◌, subst, arith}
+use Rattle.std.proofs.Common.{◌≡◌, ◌≤◌, ◌<◌, ℕ, zero, suc, ◌+◌, ◌==◌, Bool, true, false, not, cond, List, [], ◌∷◌, ◌++◌, length, take, drop}
+use Rattle.std.proofs.Common.{drop-drop, append-nil, nat_eq, Some, None, nat_lt, if◌then◌else◌, refl, sym, ap, ap₂, ◌∙◌, subst, arith}
 use Rattle.std.proofs.lemmas.Option.{none-some, same_Some}
 use Rattle.std.proofs.lemmas.Bool.{ltb-true, ltb-false}
 use Rattle.std.specs.List.{position, position_or_len}
@@ -8,7 +9,8 @@ use Rattle.grep_core.specs.Lines.{put_first, split_lines}
 abbrev pub is_feed : ℕ → Bool
 is_feed b = b == 10
 
-pub first_at : (x : ℕ) (xs : List ℕ) (v : Bool) → is_feed x ≡ v → position_or_len is_feed (x ∷ xs) ≡ cond (not v) (1 + position_or_len is_feed xs) 0
+pub first_at : (x : ℕ) (xs : List ℕ) (v : Bool) → is_feed x ≡ v →
+    position_or_len is_feed (x ∷ xs) ≡ cond (not v) (1 + position_or_len is_feed xs) 0
 first_at x xs v e = ap (λ b. cond (not b) (1 + position_or_len is_feed xs) 0) e
 
 by_first : (x : ℕ) (xs more : List ℕ) (v : Bool) → is_feed x ≡ v →
@@ -24,7 +26,8 @@ two_more n = omega arith
 -- a text's first line ends at its first line feed
 abbrev IsCut : List ℕ → List ℕ → Type 0
 IsCut more text =
-    split_lines (text ++ more) ≡ take (position_or_len is_feed text) text ∷ split_lines (drop (position_or_len is_feed text + 1) text ++ more)
+    split_lines (text ++ more) ≡ take (position_or_len is_feed text) text ∷ split_lines
+    (drop (position_or_len is_feed text + 1) text ++ more)
 
 cut_by : (x : ℕ) (xs more : List ℕ) → (position_or_len is_feed xs < length xs → IsCut more xs) → (v : Bool) → is_feed x ≡ v →
     position_or_len is_feed (x ∷ xs) < length (x ∷ xs) → IsCut more (x ∷ xs)
@@ -33,7 +36,8 @@ cut_by x xs more rest true e few =
 cut_by x xs more rest false e few =
     by_first x xs more false e
     ∙ ap (put_first x) (rest (omega (arith, few, first_at x xs false e)))
-    ∙ sym (ap₂ (λ k j. take k (x ∷ xs) ∷ split_lines (drop j (x ∷ xs) ++ more)) (first_at x xs false e ∙ one_more (position_or_len is_feed xs))
+    ∙ sym (ap₂ (λ k j. take k (x ∷ xs) ∷ split_lines (drop j (x ∷ xs) ++ more))
+    (first_at x xs false e ∙ one_more (position_or_len is_feed xs))
     (ap (λ k. k + 1) (first_at x xs false e) ∙ two_more (position_or_len is_feed xs)))
 
 cut : (text more : List ℕ) → position_or_len is_feed text < length text → IsCut more text
@@ -60,7 +64,8 @@ none_at : (b : Bool) (k : ℕ) → cond b (Some k) None ≡ None → b ≡ false
 none_at true k e = absurd (none-some k (sym e))
 none_at false k e = refl
 
-alone_by : (x : ℕ) (xs : List ℕ) → (0 < length xs → length xs ≤ position_or_len is_feed xs → split_lines xs ≡ xs ∷ []) → (v : Bool) → is_feed x ≡ v →
+alone_by : (x : ℕ) (xs : List ℕ) → (0 < length xs → length xs ≤ position_or_len is_feed xs → split_lines xs ≡ xs ∷ []) → (v : Bool) →
+    is_feed x ≡ v →
     length (x ∷ xs) ≤ position_or_len is_feed (x ∷ xs) → split_lines (x ∷ xs) ≡ (x ∷ xs) ∷ []
 alone_by x xs rest true e many = absurd (omega (arith, many, first_at x xs true e))
 alone_by x [] rest false e many = ap (λ b. if b then [] ∷ [] else put_first x []) e
@@ -75,7 +80,8 @@ alone (x ∷ xs) some many = alone_by x xs (alone xs) (is_feed x) refl many
 pub last_line : (text : List ℕ) → position is_feed text ≡ None → 0 < length text → split_lines text ≡ text ∷ []
 last_line [] e some = absurd (omega (arith, some))
 last_line (x ∷ xs) e some =
-    alone (x ∷ xs) some (ltb-false (position_or_len is_feed (x ∷ xs)) (length (x ∷ xs)) (none_at (nat_lt (position_or_len is_feed (x ∷ xs)) (length (x ∷ xs))) (position_or_len is_feed (x ∷ xs)) e))
+    alone (x ∷ xs) some (ltb-false (position_or_len is_feed (x ∷ xs)) (length (x ∷ xs))
+    (none_at (nat_lt (position_or_len is_feed (x ∷ xs)) (length (x ∷ xs))) (position_or_len is_feed (x ∷ xs)) e))
 
 -- one turn of the loop over a block's lines
 pub turn : {P : Type 0} (tells : P → List (List ℕ) → List ℕ) (p q : P) (block more text piece all out new : List ℕ) (done len : ℕ) →
@@ -98,7 +104,8 @@ pub turn_counted : {P : Type 0} (counts : P → List (List ℕ) → ℕ) (p q : 
     ((lines : List (List ℕ)) → counts q lines ≡ counts p (piece ∷ lines)) →
     counts q (split_lines (drop (done + (len + 1)) block ++ more)) ≡ all
 turn_counted counts p q block more text piece all done len rest found cut so_far goes_on =
-    sym (ap (λ t. counts q (split_lines (drop (len + 1) t ++ more))) rest ∙ ap (λ t. counts q (split_lines (t ++ more))) (drop-drop (len + 1) done block))
+    sym (ap (λ t. counts q (split_lines (drop (len + 1) t ++ more))) rest
+    ∙ ap (λ t. counts q (split_lines (t ++ more))) (drop-drop (len + 1) done block))
     ∙ goes_on (split_lines (drop (len + 1) text ++ more))
     ∙ ap (λ line. counts p (line ∷ split_lines (drop (len + 1) text ++ more))) cut
     ∙ ap (counts p) (sym (first_line text more len found))
@@ -106,11 +113,13 @@ turn_counted counts p q block more text piece all done len rest found cut so_far
     ∙ so_far
 
 -- a last line that no line feed ends
-pub open_told : {P : Type 0} (tells : P → List (List ℕ) → List ℕ) (p q : P) (rest out new : List ℕ) → position is_feed rest ≡ None → 0 < length rest →
+pub open_told : {P : Type 0} (tells : P → List (List ℕ) → List ℕ) (p q : P) (rest out new : List ℕ) → position is_feed rest ≡ None →
+    0 < length rest →
     out ++ tells p (rest ∷ []) ≡ new ++ tells q [] → out ++ tells p (split_lines rest) ≡ new ++ tells q []
 open_told tells p q rest out new unended some told = ap (λ lines. out ++ tells p lines) (last_line rest unended some) ∙ told
 
-pub open_counted : {P : Type 0} (counts : P → List (List ℕ) → ℕ) (p q : P) (rest : List ℕ) → position is_feed rest ≡ None → 0 < length rest →
+pub open_counted : {P : Type 0} (counts : P → List (List ℕ) → ℕ) (p q : P) (rest : List ℕ) → position is_feed rest ≡ None →
+    0 < length rest →
     counts q [] ≡ counts p (rest ∷ []) → counts q [] ≡ counts p (split_lines rest)
 open_counted counts p q rest unended some told = told ∙ sym (ap (counts p) (last_line rest unended some))
 
@@ -119,8 +128,10 @@ none_open [] none = refl
 none_open (x ∷ xs) none = absurd (omega (arith, none))
 
 -- what is left of a text that has ended
-pub tail_told : {P : Type 0} (tells : P → List (List ℕ) → List ℕ) (p q r : P) (read rest out one two three : List ℕ) (done : ℕ) → rest ≡ drop done read →
-    out ++ tells p (split_lines (read ++ [])) ≡ one ++ tells q (split_lines (drop done read ++ [])) → one ++ tells q (split_lines rest) ≡ two ++ tells r [] →
+pub tail_told : {P : Type 0} (tells : P → List (List ℕ) → List ℕ) (p q r : P) (read rest out one two three : List ℕ) (done : ℕ) →
+    rest ≡ drop done read →
+    out ++ tells p (split_lines (read ++ [])) ≡ one ++ tells q (split_lines (drop done read ++ [])) →
+    one ++ tells q (split_lines rest) ≡ two ++ tells r [] →
     three ≡ two ++ tells r [] → out ++ tells p (split_lines read) ≡ three
 tail_told tells p q r read rest out one two three done is whole unended end =
     ap (λ l. out ++ tells p (split_lines l)) (sym (append-nil read))
@@ -130,7 +141,8 @@ tail_told tells p q r read rest out one two three done is whole unended end =
     ∙ sym end
 
 pub tail_counted : {P : Type 0} (counts : P → List (List ℕ) → ℕ) (p q r : P) (read rest : List ℕ) (done : ℕ) → rest ≡ drop done read →
-    counts q (split_lines (drop done read ++ [])) ≡ counts p (split_lines (read ++ [])) → counts r [] ≡ counts q (split_lines rest) → counts r [] ≡ counts p (split_lines read)
+    counts q (split_lines (drop done read ++ [])) ≡ counts p (split_lines (read ++ [])) → counts r [] ≡ counts q (split_lines rest) →
+    counts r [] ≡ counts p (split_lines read)
 tail_counted counts p q r read rest done is whole unended =
     unended
     ∙ ap (λ l. counts q (split_lines l)) (is ∙ sym (append-nil (drop done read)))

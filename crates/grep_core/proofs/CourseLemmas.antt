@@ -1,5 +1,6 @@
 -- How the printing of lines goes on by one line.
-use Rattle.std.proofs.Common.{◌≡◌, ◌≤◌, ◌⊎◌, inl, inr, ℕ, suc, ◌-◌, ◌<◌, Bool, true, false, List, [], ◌∷◌, ◌++◌, map, length, drop, refl, sym, ap, ap₂, ◌∙◌, subst, rules, arith}
+use Rattle.std.proofs.Common.{◌≡◌, ◌≤◌, ◌⊎◌, inl, inr, ℕ, suc, ◌-◌, ◌<◌, Bool, true, false, List, [], ◌∷◌, ◌++◌, map, length, drop, refl}
+use Rattle.std.proofs.Common.{sym, ap, ap₂, ◌∙◌, subst, rules, arith}
 use Rattle.std.proofs.lemmas.Grind.{common_steps}
 use Rattle.grep_core.specs.declared.course.Waiting.{Waiting}
 use Rattle.grep_core.specs.declared.known.Known.{Known}
@@ -27,7 +28,8 @@ joined : (a b c d e : List ℕ) → a ++ (b ++ (c ++ (d ++ e))) ≡ (((a ++ b) +
 joined a b c d e = Prim.search (rules, common_steps)
 
 -- each thing that is printed is known by an equation
-pub selected : (w : What) (print : Role → Item → List ℕ) (known behind : Known) (left owed : ℕ) (waiting none : List Waiting) (out one two new : List ℕ) (it : Item)
+pub selected : (w : What) (print : Role → Item → List ℕ) (known behind : Known) (left owed : ℕ) (waiting none : List Waiting)
+    (out one two new : List ℕ) (it : Item)
     (flags : List Bool) (items : List Item) → length waiting ≤ before_of w.context → (left ≡ 0) ⊎ (waiting ≡ []) →
     one ≡ out ++ queued w print known (map waiting_item waiting) → behind ≡ behind_queue known waiting → none ≡ [] →
     two ≡ one ++ parting w behind → new ≡ two ++ print Selected it → owed ≡ after_of w.context →
@@ -44,7 +46,8 @@ selected w print known behind left owed waiting none out one two new it flags it
     ∙ ap (λ b. out ++ (queued w print known queue ++ (parting w b ++ (print Selected it ++ tail)))) last
     ∙ joined out (queued w print known queue) (parting w behind) (print Selected it) tail
     ∙ ap (λ t. t ++ tail) (sym whole)
-    ∙ ap₂ (λ n ws. new ++ rest w print (before_of w.context) (after_of w.context) LastPrinted n (map waiting_item ws) flags items) (sym after) (sym empty)
+    ∙ ap₂ (λ n ws. new ++ rest w print (before_of w.context) (after_of w.context) LastPrinted n (map waiting_item ws) flags items)
+    (sym after) (sym empty)
 
 no_waiting : (left : ℕ) (waiting : List Waiting) → 0 < left → (left ≡ 0) ⊎ (waiting ≡ []) → waiting ≡ []
 no_waiting left waiting owed (inl e) = absurd (omega (arith, owed, e))
@@ -53,21 +56,26 @@ no_waiting left waiting owed (inr e) = e
 joined_two : (a b c d : List ℕ) → a ++ (b ++ (c ++ d)) ≡ ((a ++ b) ++ c) ++ d
 joined_two a b c d = Prim.search (rules, common_steps)
 
-pub beside : (w : What) (print : Role → Item → List ℕ) (known : Known) (left : ℕ) (waiting : List Waiting) (out one new : List ℕ) (it : Item)
-    (flags : List Bool) (items : List Item) → 0 < left → (left ≡ 0) ⊎ (waiting ≡ []) → one ≡ out ++ parting w known → new ≡ one ++ print Beside it →
+pub beside : (w : What) (print : Role → Item → List ℕ) (known : Known) (left : ℕ) (waiting : List Waiting) (out one new : List ℕ)
+    (it : Item)
+    (flags : List Bool) (items : List Item) → 0 < left → (left ≡ 0) ⊎ (waiting ≡ []) → one ≡ out ++ parting w known →
+    new ≡ one ++ print Beside it →
     out ++ rest w print (before_of w.context) (after_of w.context) known left (map waiting_item waiting) (false ∷ flags) (it ∷ items)
     ≡ new ++ rest w print (before_of w.context) (after_of w.context) LastPrinted (left - 1) (map waiting_item waiting) flags items
 beside w print known left waiting out one new it flags items owed how parted printed =
     let empty : waiting ≡ [] = no_waiting left waiting owed how in
     let more : left ≡ suc (left - 1) = omega (arith, owed) in
     let tail : List ℕ = rest w print (before_of w.context) (after_of w.context) LastPrinted (left - 1) [] flags items in
-    ap₂ (λ n ws. out ++ rest w print (before_of w.context) (after_of w.context) known n (map waiting_item ws) (false ∷ flags) (it ∷ items)) more empty
+    ap₂ (λ n ws. out ++ rest w print (before_of w.context) (after_of w.context) known n (map waiting_item ws) (false ∷ flags) (it ∷ items))
+    more empty
     ∙ ap (λ t. out ++ t) (stands_beside w print (before_of w.context) (after_of w.context) known (left - 1) flags it items)
     ∙ joined_two out (parting w known) (print Beside it) tail
     ∙ ap (λ t. t ++ tail) (sym (printed ∙ ap (λ t. t ++ print Beside it) parted))
-    ∙ ap (λ ws. new ++ rest w print (before_of w.context) (after_of w.context) LastPrinted (left - 1) (map waiting_item ws) flags items) (sym empty)
+    ∙ ap (λ ws. new ++ rest w print (before_of w.context) (after_of w.context) LastPrinted (left - 1) (map waiting_item ws) flags items)
+    (sym empty)
 
-items_more : (waiting : List Waiting) (it : Waiting) → map waiting_item (waiting ++ it ∷ []) ≡ map waiting_item waiting ++ waiting_item it ∷ []
+items_more : (waiting : List Waiting) (it : Waiting) →
+    map waiting_item (waiting ++ it ∷ []) ≡ map waiting_item waiting ++ waiting_item it ∷ []
 items_more [] it = refl
 items_more (x ∷ xs) it = ap (λ ws. waiting_item x ∷ ws) (items_more xs it)
 
@@ -78,12 +86,15 @@ forgot : (w : What) (print : Role → Item → List ℕ) (known behind : Known) 
     ≡ rest w print (before_of w.context) (after_of w.context) behind 0 (map waiting_item now) flags items
 forgot w print known behind [] now flags items many is hidden = absurd (omega (arith, many))
 forgot w print known behind (q ∷ queue) now flags items many is hidden =
-    let enough : before_of w.context ≤ length (map waiting_item queue) = subst (λ n. before_of w.context ≤ n) (sym (length_items queue)) (omega (arith, many)) in
+    let enough : before_of w.context ≤ length (map waiting_item queue) =
+    subst (λ n. before_of w.context ≤ n) (sym (length_items queue)) (omega (arith, many)) in
     forgets w print (before_of w.context) (after_of w.context) known (waiting_item q) (map waiting_item queue) flags items enough
     ∙ sym (ap₂ (λ b ws. rest w print (before_of w.context) (after_of w.context) b 0 (map waiting_item ws) flags items) hidden is)
 
-pub waited : (w : What) (print : Role → Item → List ℕ) (known behind : Known) (left owed : ℕ) (waiting mid now : List Waiting) (one : Waiting) (it : Item)
-    (flags : List Bool) (items : List Item) → left ≡ 0 → owed ≡ left → waiting_item one ≡ it → mid ≡ waiting ++ one ∷ [] → before_of w.context < length mid →
+pub waited : (w : What) (print : Role → Item → List ℕ) (known behind : Known) (left owed : ℕ) (waiting mid now : List Waiting)
+    (one : Waiting) (it : Item)
+    (flags : List Bool) (items : List Item) → left ≡ 0 → owed ≡ left → waiting_item one ≡ it → mid ≡ waiting ++ one ∷ [] →
+    before_of w.context < length mid →
     now ≡ drop 1 mid → behind ≡ behind_hidden known →
     rest w print (before_of w.context) (after_of w.context) known left (map waiting_item waiting) (false ∷ flags) (it ∷ items)
     ≡ rest w print (before_of w.context) (after_of w.context) behind owed (map waiting_item now) flags items

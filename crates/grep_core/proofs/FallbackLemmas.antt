@@ -1,5 +1,7 @@
 -- What the toolchain's regexes find is what the patterns of the texts have.
-use Rattle.std.proofs.Common.{◌≡◌, ℕ, zero, suc, ◌+◌, ◌-◌, ◌<◌, ◌≤◌, Bool, true, false, ◌||◌, List, [], ◌∷◌, All, length, map, Option, Some, None, option_map, if◌then◌else◌, refl, sym, ap, ap₂, ◌∙◌, subst, arith, IsSomeAnd, chars, drop, get_or, drop-cons, drop_of_length-le}
+use Rattle.std.proofs.Common.{◌≡◌, ℕ, zero, suc, ◌+◌, ◌-◌, ◌<◌, ◌≤◌, Bool, true, false, ◌||◌, List, [], ◌∷◌, All, length, map, Option, Some}
+use Rattle.std.proofs.Common.{None, option_map, if◌then◌else◌, refl, sym, ap, ap₂, ◌∙◌, subst, arith, IsSomeAnd, chars, drop, get_or}
+use Rattle.std.proofs.Common.{drop-cons, drop_of_length-le}
 use Rattle.std.specs.Prelude.{is_some, slice_get}
 use Rattle.std.specs.Option.{option_or}
 use Rattle.regex_class.specs.Ranges.{in_ranges}
@@ -46,7 +48,8 @@ found_from f g h here zero i = refl
 found_from f g h here (suc n) i =
     let at : (k : Rest) → Option Match = λ k. option_map (λ t. record { start = i; trace = t }) (k i) in
     let both : (k : Rest) → is_some (first_from k (suc n) i) ≡ is_some (k i) || is_some (first_from k n (i + 1)) =
-    λ k. some_or (at k) (first_from k n (i + 1)) ∙ ap (λ b. b || is_some (first_from k n (i + 1))) (some_map (λ t. record { start = i; trace = t }) (k i)) in
+    λ k. some_or (at k) (first_from k n (i + 1)) ∙ ap (λ b. b || is_some (first_from k n (i + 1)))
+    (some_map (λ t. record { start = i; trace = t }) (k i)) in
     both h
     ∙ ap₂ (λ a b. a || b) (here i) (found_from f g h here n (i + 1))
     ∙ shuffled (is_some (f i)) (is_some (g i)) (is_some (first_from f n (i + 1))) (is_some (first_from g n (i + 1)))
@@ -64,7 +67,8 @@ unfolding first_from
 same_from f g here zero i = refl
 same_from f g here (suc n) i =
     some_or (option_map (λ t. record { start = i; trace = t }) (f i)) (first_from f n (i + 1))
-    ∙ ap₂ (λ a b. a || b) (some_map (λ t. record { start = i; trace = t }) (f i) ∙ here i ∙ sym (some_map (λ t. record { start = i; trace = t }) (g i))) (same_from f g here n (i + 1))
+    ∙ ap₂ (λ a b. a || b) (some_map (λ t. record { start = i; trace = t }) (f i) ∙ here i
+    ∙ sym (some_map (λ t. record { start = i; trace = t }) (g i))) (same_from f g here n (i + 1))
     ∙ sym (some_or (option_map (λ t. record { start = i; trace = t }) (g i)) (first_from g n (i + 1)))
 
 abbrev pub has : Re → List ℕ → Bool
@@ -94,11 +98,13 @@ has_same : (a b : Re) (line : List ℕ) → SameCaptures a b → All (λ x. x < 
 unfolding find
 has_same a b line same bytes =
     same_from (attempt line a accept) (attempt line b accept)
-    (λ i. sym (outcome_some (attempt line a accept i)) ∙ ap is_some (same.at line bytes accept i) ∙ outcome_some (attempt line b accept i)) (length line + 1 - 0) 0
+    (λ i. sym (outcome_some (attempt line a accept i)) ∙ ap is_some (same.at line bytes accept i) ∙ outcome_some (attempt line b accept i))
+    (length line + 1 - 0) 0
 
 -- one regex, and what the grammar reads in its text
 one_same : (config : Config) (hir : Hir) (names : Names) (a : Re) (r : Option (Nested Re × Names)) →
-    IsSomeAnd r (λ (re, found). (re.depth ≤ config.nest_limit) × SameCaptures (meaning hir) re.value × (names ≡ found) × (group_count (meaning hir) ≤ length names)) →
+    IsSomeAnd r (λ (re, found). (re.depth ≤ config.nest_limit) × SameCaptures (meaning hir) re.value × (names ≡ found) ×
+    (group_count (meaning hir) ≤ length names)) →
     IsSomeAnd r (λ (re, names). (re.depth ≤ config.nest_limit) × (re.value ≡ a)) → SameCaptures (meaning hir) a
 one_same config hir names a None p q = absurd p
 one_same config hir names a (Some (re, found)) p q = subst (SameCaptures (meaning hir)) q.1 p.1
@@ -107,7 +113,8 @@ abbrev pub any_has : List Re → List ℕ → Bool
 any_has [] line = false
 any_has (a ∷ rest) line = has a line || any_has rest line
 
-reads_text : (config : Config) (text : List ℕ) (r : Regex) → IsRegexOf config text r → Reads config text r.pattern.program.hir (names_of r.pattern.names.items)
+reads_text : (config : Config) (text : List ℕ) (r : Regex) → IsRegexOf config text r →
+    Reads config text r.pattern.program.hir (names_of r.pattern.names.items)
 reads_text config text r it =
     subst (λ (c : Config). Reads c text r.pattern.program.hir (names_of r.pattern.names.items)) it.options
     (subst (λ (s : List ℕ). Reads r.pattern.config s r.pattern.program.hir (names_of r.pattern.names.items)) it.source it.read)
@@ -118,7 +125,8 @@ unfolding Reads
 regex_same config text r a it q =
     one_same config r.pattern.program.hir (names_of r.pattern.names.items) a (read config (chars text)) (reads_text config text r it) q
 
-all_have : (config : Config) (texts : List (List ℕ)) (rs : List Regex) (res : List Re) (line : List ℕ) → All (λ x. x < 256) line → AreRegexesOf config texts rs →
+all_have : (config : Config) (texts : List (List ℕ)) (rs : List Regex) (res : List Re) (line : List ℕ) → All (λ x. x < 256) line →
+    AreRegexesOf config texts rs →
     AreRead config texts res → any_has (map regex_pattern rs) line ≡ has (alt_all res) line
 all_have config [] [] [] line bytes p q = sym (has_none line)
 all_have config [] [] (a ∷ res) line bytes p q = absurd q
@@ -126,14 +134,17 @@ all_have config [] (r ∷ rs) res line bytes p q = absurd p
 all_have config (t ∷ ts) [] res line bytes p q = absurd p
 all_have config (t ∷ ts) (r ∷ rs) [] line bytes p q = absurd q
 all_have config (t ∷ ts) (r ∷ rs) (a ∷ res) line bytes p q =
-    ap₂ (λ x y. x || y) (has_same (regex_pattern r) a line (regex_same config t r a p.0 q.0) bytes) (all_have config ts rs res line bytes p.1 q.1)
+    ap₂ (λ x y. x || y) (has_same (regex_pattern r) a line (regex_same config t r a p.0 q.0) bytes)
+    (all_have config ts rs res line bytes p.1 q.1)
     ∙ sym (has_or a (alt_all res) line)
 
-pub told_any : (config : Config) (texts : List (List ℕ)) (rs : List Regex) (line : List ℕ) (told : Bool) → All (λ x. x < 256) line → told ≡ any_has (map regex_pattern rs) line →
+pub told_any : (config : Config) (texts : List (List ℕ)) (rs : List Regex) (line : List ℕ) (told : Bool) → All (λ x. x < 256) line →
+    told ≡ any_has (map regex_pattern rs) line →
     AreRegexesOf config texts rs → IsTold config texts line told
 told_any config texts rs line told bytes is p res q = is ∙ all_have config texts rs res line bytes p q
 
-all_best : (config : Config) (texts : List (List ℕ)) (rs : List Regex) (res : List Re) (line : List ℕ) (start : ℕ) → All (λ x. x < 256) line →
+all_best : (config : Config) (texts : List (List ℕ)) (rs : List Regex) (res : List Re) (line : List ℕ) (start : ℕ) →
+    All (λ x. x < 256) line →
     AreRegexesOf config texts rs → AreRead config texts res → best_at (map regex_pattern rs) line start ≡ best_at res line start
 all_best config [] [] [] line start bytes p q = refl
 all_best config [] [] (a ∷ res) line start bytes p q = absurd q
@@ -141,7 +152,8 @@ all_best config [] (r ∷ rs) res line start bytes p q = absurd p
 all_best config (t ∷ ts) [] res line start bytes p q = absurd p
 all_best config (t ∷ ts) (r ∷ rs) [] line start bytes p q = absurd q
 all_best config (t ∷ ts) (r ∷ rs) (a ∷ res) line start bytes p q =
-    ap₂ better (same_found (regex_pattern r) a line start (regex_same config t r a p.0 q.0) bytes) (all_best config ts rs res line start bytes p.1 q.1)
+    ap₂ better (same_found (regex_pattern r) a line start (regex_same config t r a p.0 q.0) bytes)
+    (all_best config ts rs res line start bytes p.1 q.1)
 
 -- the spans of the regexes, one after the other
 abbrev pub all_of : List Regex → List ℕ → List (ℕ × ℕ)
@@ -156,14 +168,16 @@ told_all config texts rs line told bytes is p res q =
     ∙ ap (spans_behind (best_at res line) (length line + 1)) (same 0) ∙ sym (all_spans res line))
 
 -- one regex after the other
-pub one_better : (rs : List Regex) (i : ℕ) (d : Regex) (line : List ℕ) (start : ℕ) (best found : Option (ℕ × ℕ)) (all : Option (ℕ × ℕ)) → i < length rs →
+pub one_better : (rs : List Regex) (i : ℕ) (d : Regex) (line : List ℕ) (start : ℕ) (best found : Option (ℕ × ℕ)) (all : Option (ℕ × ℕ)) →
+    i < length rs →
     found ≡ found_at (regex_pattern (get_or rs i d)) line start → better best (best_at (map regex_pattern (drop i rs)) line start) ≡ all →
     better (better best found) (best_at (map regex_pattern (drop (i + 1) rs)) line start) ≡ all
 one_better rs i d line start best found all below is so_far =
     let next : suc i ≡ i + 1 = omega arith in
     better_of_three best found (best_at (map regex_pattern (drop (i + 1) rs)) line start)
     ∙ ap (λ f. better best (better f (best_at (map regex_pattern (drop (i + 1) rs)) line start))) is
-    ∙ sym (ap (λ l. better best (best_at (map regex_pattern l) line start)) (drop-cons rs i d below ∙ ap (λ k. get_or rs i d ∷ drop k rs) next))
+    ∙ sym (ap (λ l. better best (best_at (map regex_pattern l) line start))
+    (drop-cons rs i d below ∙ ap (λ k. get_or rs i d ∷ drop k rs) next))
     ∙ so_far
 
 pub none_better : (rs : List Regex) (i : ℕ) (line : List ℕ) (start : ℕ) (best : Option (ℕ × ℕ)) (all : Option (ℕ × ℕ)) → length rs ≤ i →
@@ -171,7 +185,8 @@ pub none_better : (rs : List Regex) (i : ℕ) (line : List ℕ) (start : ℕ) (b
 none_better rs i line start best all above so_far =
     sym (ap (λ l. better best (best_at (map regex_pattern l) line start)) (drop_of_length-le rs above) ∙ better_none best) ∙ so_far
 
-pub one_more : (rs : List Regex) (i : ℕ) (d : Regex) (line : List ℕ) (all : Bool) → i < length rs → has (regex_pattern (get_or rs i d)) line ≡ false →
+pub one_more : (rs : List Regex) (i : ℕ) (d : Regex) (line : List ℕ) (all : Bool) → i < length rs →
+    has (regex_pattern (get_or rs i d)) line ≡ false →
     all ≡ any_has (map regex_pattern (drop i rs)) line → all ≡ any_has (map regex_pattern (drop (i + 1) rs)) line
 one_more rs i d line all below none so_far =
     let next : suc i ≡ i + 1 = omega arith in
@@ -179,12 +194,14 @@ one_more rs i d line all below none so_far =
     ∙ ap (λ l. any_has (map regex_pattern l) line) (drop-cons rs i d below ∙ ap (λ k. get_or rs i d ∷ drop k rs) next)
     ∙ ap (λ b. b || any_has (map regex_pattern (drop (i + 1) rs)) line) none
 
-pub found_one : (rs : List Regex) (i : ℕ) (d : Regex) (line : List ℕ) (all : Bool) → i < length rs → has (regex_pattern (get_or rs i d)) line ≡ true →
+pub found_one : (rs : List Regex) (i : ℕ) (d : Regex) (line : List ℕ) (all : Bool) → i < length rs →
+    has (regex_pattern (get_or rs i d)) line ≡ true →
     all ≡ any_has (map regex_pattern (drop i rs)) line → true ≡ all
 found_one rs i d line all below some so_far =
     sym (so_far
     ∙ ap (λ l. any_has (map regex_pattern l) line) (drop-cons rs i d below)
     ∙ ap (λ b. b || any_has (map regex_pattern (drop (suc i) rs)) line) some)
 
-pub none_left : (rs : List Regex) (i : ℕ) (line : List ℕ) (all : Bool) → length rs ≤ i → all ≡ any_has (map regex_pattern (drop i rs)) line → false ≡ all
+pub none_left : (rs : List Regex) (i : ℕ) (line : List ℕ) (all : Bool) → length rs ≤ i →
+    all ≡ any_has (map regex_pattern (drop i rs)) line → false ≡ all
 none_left rs i line all above so_far = sym (so_far ∙ ap (λ l. any_has (map regex_pattern l) line) (drop_of_length-le rs above))

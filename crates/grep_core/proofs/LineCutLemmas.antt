@@ -1,6 +1,8 @@
 -- The lines of a part of a text: what stands before each in the text, and behind it.
-use Rattle.std.proofs.Common.{◌≡◌, ◌≢◌, ◌≤◌, ◌<◌, ◌⊎◌, inl, inr, ℕ, zero, suc, ◌+◌, ◌-◌, ◌==◌, Bool, true, false, List, [], ◌∷◌, ◌++◌, All, length, take, drop}
-use Rattle.std.proofs.Common.{slice_get, slice_range, Some, if◌then◌else◌, refl, sym, ap, ◌∙◌, subst, arith, length-append, append_assoc, append-nil, take-append-drop, length-drop}
+use Rattle.std.proofs.Common.{◌≡◌, ◌≢◌, ◌≤◌, ◌<◌, ◌⊎◌, inl, inr, ℕ, zero, suc, ◌+◌, ◌-◌, ◌==◌, Bool, true, false, List, [], ◌∷◌, ◌++◌, All}
+use Rattle.std.proofs.Common.{length, take, drop}
+use Rattle.std.proofs.Common.{slice_get, slice_range, Some, if◌then◌else◌, refl, sym, ap, ◌∙◌, subst, arith, length-append, append_assoc}
+use Rattle.std.proofs.Common.{append-nil, take-append-drop, length-drop}
 use Rattle.std.proofs.lemmas.Bool.{eqb-true, eq-eqb}
 use Rattle.std.proofs.lemmas.List.{length-take-le, drop_all}
 use Rattle.std.proofs.lemmas.List.Elements.{All-nil, All-cons, All-head, All-tail, All-append}
@@ -111,7 +113,8 @@ module _ (block : List ℕ) (at x : ℕ) (after : List ℕ) where
         whole = here;
         from = from;
         ends = omega (arith, fits);
-      }) (rest (before ++ (line ++ (10 ∷ []))) [] (inr (before ++ line, sym (append_assoc before line (10 ∷ [])))) (All-nil (λ c. c ≢ 10)) behind
+      }) (rest (before ++ (line ++ (10 ∷ []))) [] (inr (before ++ line, sym (append_assoc before line (10 ∷ []))))
+      (All-nil (λ c. c ≢ 10)) behind
       (omega (arith, from, long)) (omega (arith, fits, long, longer)) (ended_on b bs before line ends)))
   cut_step b bs rest false is before line starts none whole from fits ends =
       let other : b ≢ 10 = λ e. absurd (grind (arith, eq-eqb b 10 e, is)) in
@@ -164,10 +167,12 @@ lines_between block at next x start low high fits end =
     let front = length-take-le at block (omega (arith, low, high)) in
     let whole : block ≡ block_of (take at block) [] (slice_range block at next ++ drop next block) =
     sym (take-append-drop at block) ∙ ap (λ (t : List ℕ). take at block ++ t) (drop_split block at next from) in
-    cut_all block at x (drop next block) (slice_range block at next) (take at block) [] (before_start block at start) (All-nil (λ c. c ≢ 10)) whole
+    cut_all block at x (drop next block) (slice_range block at next) (take at block) [] (before_start block at start)
+    (All-nil (λ c. c ≢ 10)) whole
     (omega (arith, front)) (omega (arith, front, len, low, fits)) (ending end len front)
   where
-    ending : ((slice_get block (next - 1) ≡ Some 10) ⊎ ((next ≡ length block) × (next < x))) → length (slice_range block at next) ≡ next - at →
+    ending : ((slice_get block (next - 1) ≡ Some 10) ⊎ ((next ≡ length block) × (next < x))) →
+        length (slice_range block at next) ≡ next - at →
         length (take at block) ≡ at → Ends x (take at block) [] (slice_range block at next) (drop next block)
     ending (inl feed) len front = inl (
       (λ _. refl),

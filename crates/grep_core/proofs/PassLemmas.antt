@@ -1,5 +1,6 @@
 -- Lines without a match of which none is told: what is told goes on behind all of them at once.
-use Rattle.std.proofs.Common.{◌≡◌, ℕ, zero, suc, ◌+◌, Bool, true, false, not, ◌&&◌, List, [], ◌∷◌, ◌++◌, All, length, map, count_by, if◌then◌else◌, refl, sym, ap, ap₂, ◌∙◌, arith}
+use Rattle.std.proofs.Common.{◌≡◌, ℕ, zero, suc, ◌+◌, Bool, true, false, not, ◌&&◌, List, [], ◌∷◌, ◌++◌, All, length, map, count_by}
+use Rattle.std.proofs.Common.{if◌then◌else◌, refl, sym, ap, ap₂, ◌∙◌, arith}
 use Rattle.std.proofs.lemmas.List.{nil_from_length}
 use Rattle.std.proofs.lemmas.List.Elements.{All-head, All-tail}
 use Rattle.grep_core.specs.declared.course.Course.{Course}
@@ -35,7 +36,8 @@ hidden_line w print before after left b queue flags it items no_before no_left n
 
 hidden_as : (p : Print) (w : What) (name : List ℕ) (with_name : Bool) (c : Course) (b : Known) (n : ℕ) (flags : List Bool) (it : Item)
     (items : List Item) →
-    (prints_lines p ≡ true → before_of w.context ≡ 0) → (prints_lines p ≡ true → c.left ≡ 0) → (prints_lines p ≡ true → c.waiting.items ≡ []) →
+    (prints_lines p ≡ true → before_of w.context ≡ 0) → (prints_lines p ≡ true → c.left ≡ 0) →
+    (prints_lines p ≡ true → c.waiting.items ≡ []) →
     tells_as p w name with_name (record c { known = b }) n (false ∷ flags) (it ∷ items)
     ≡ tells_as p w name with_name (record c { known = behind_hidden b }) n flags items
 hidden_as Lines w name with_name c b n flags it items no_before no_left none =
@@ -133,7 +135,8 @@ module _ (w : What) (f : Finds) (name : List ℕ) (with_name : Bool) (c : Course
     hidden_told b known more =
         ap (tells c.known number place) (whole_joins text more whole)
         ∙ all_told c.known number place (split_lines text) (split_lines more) lack
-        ∙ ap (λ k. tells (known_behind c.known k) (number + length (split_lines text)) (place + all_bytes (split_lines text)) (split_lines more))
+        ∙ ap (λ k. tells (known_behind c.known k) (number + length (split_lines text)) (place + all_bytes (split_lines text))
+        (split_lines more))
         (whole_counts text whole ∙ sym counted)
         ∙ ap (λ k. tells k (number + length (split_lines text)) (place + all_bytes (split_lines text)) (split_lines more))
         (sym known)

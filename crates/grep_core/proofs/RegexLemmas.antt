@@ -1,5 +1,6 @@
 -- Texts whose regexes are made one by one.
-use Rattle.std.proofs.Common.{◌≡◌, ℕ, zero, suc, ◌+◌, ◌<◌, ◌≤◌, List, [], ◌∷◌, ◌++◌, map, length, take, slice_index_or, Bor, refl, sym, ap, subst, arith}
+use Rattle.std.proofs.Common.{◌≡◌, ℕ, zero, suc, ◌+◌, ◌<◌, ◌≤◌, List, [], ◌∷◌, ◌++◌, map, length, take, slice_index_or, Bor, refl, sym, ap}
+use Rattle.std.proofs.Common.{subst, arith}
 use Rattle.regex_syntax.specs.declared.Config.{Config}
 use Rattle.regex.specs.declared.bytes.regex.Regex.{Regex}
 use Rattle.grep_core.specs.Fallbacks.{IsRegexOf, AreRegexesOf}
@@ -18,7 +19,8 @@ next_regex config (t ∷ ts) d (suc n) [] r below p q = absurd p
 next_regex config (t ∷ ts) d (suc n) (x ∷ rs) r below p q = (p.0, next_regex config ts d n rs r (omega arith) p.1 q)
 
 -- one more text has its regex
-pub one_more_regex : (config : Config) (ts : List (Bor (List ℕ))) (d : Bor (List ℕ)) (n : ℕ) (old new : List Regex) (r : Regex) → n < length ts →
+pub one_more_regex : (config : Config) (ts : List (Bor (List ℕ))) (d : Bor (List ℕ)) (n : ℕ) (old new : List Regex) (r : Regex) →
+    n < length ts →
     new ≡ old ++ r ∷ [] → AreRegexesOf config (take n (read_texts ts)) old → IsRegexOf config (slice_index_or ts n d).now r →
     AreRegexesOf config (take (n + 1) (read_texts ts)) new
 one_more_regex config ts d n old new r below is p q =
@@ -33,6 +35,7 @@ take_all (t ∷ ts) zero above = absurd (omega arith)
 take_all (t ∷ ts) (suc n) above = ap (λ us. t.now ∷ us) (take_all ts n (omega arith))
 
 -- all texts have theirs
-pub all_regexes : (config : Config) (ts : List (Bor (List ℕ))) (n : ℕ) (rs : List Regex) → length ts ≤ n → AreRegexesOf config (take n (read_texts ts)) rs →
+pub all_regexes : (config : Config) (ts : List (Bor (List ℕ))) (n : ℕ) (rs : List Regex) → length ts ≤ n →
+    AreRegexesOf config (take n (read_texts ts)) rs →
     AreRegexesOf config (read_texts ts) rs
 all_regexes config ts n rs above p = subst (λ us. AreRegexesOf config us rs) (take_all ts n above) p

@@ -1,5 +1,6 @@
 -- The definition of a report, run on a small text; what is expected is what GNU grep 3.8 prints for the pattern `a`.
-use Rattle.std.proofs.Common.{◌≡◌, ℕ, ◌+◌, ◌==◌, Bool, true, false, List, [], ◌∷◌, ◌++◌, codes, decimal, Option, Some, None, if◌then◌else◌, refl, rules}
+use Rattle.std.proofs.Common.{◌≡◌, ℕ, ◌+◌, ◌==◌, Bool, true, false, List, [], ◌∷◌, ◌++◌, codes, decimal, Option, Some, None, if◌then◌else◌}
+use Rattle.std.proofs.Common.{refl, rules}
 use Rattle.std.proofs.lemmas.Grind.{common_steps}
 use Rattle.grep_core.specs.declared.known.Known.TheVariants.{NonePrinted, EarlierPrinted}
 use Rattle.grep_core.specs.declared.what.Context.{Context}
@@ -42,11 +43,15 @@ whole_lines = refl
 
 -- -nb -A1
 with_context : report (record plain { numbers = true; offsets = true; context = beside 0 1 }) letters (codes "t") false NonePrinted text
-    ≡ line (numbered 1 (codes ":" ++ numbered 0 (codes ":a1"))) (line (numbered 2 (codes "-" ++ numbered 3 (codes "-b"))) (line (codes "--") (line (numbered 5 (codes ":" ++ numbered 9 (codes ":a2 a3"))) (line (numbered 6 (codes "-" ++ numbered 15 (codes "-"))) []))))
+    ≡ line (numbered 1 (codes ":" ++ numbered 0 (codes ":a1")))
+    (line (numbered 2 (codes "-" ++ numbered 3 (codes "-b")))
+    (line (codes "--") (line (numbered 5 (codes ":" ++ numbered 9 (codes ":a2 a3")))
+    (line (numbered 6 (codes "-" ++ numbered 15 (codes "-"))) []))))
 with_context = Prim.search (rules, common_steps)
 
 -- -n -v -B1 -m1
-inverted : report (record plain { invert = true; numbers = true; context = beside 1 0; most = Some 1 }) letters (codes "t") false NonePrinted text
+inverted : report (record plain { invert = true; numbers = true; context = beside 1 0; most = Some 1 }) letters
+    (codes "t") false NonePrinted text
     ≡ line (numbered 1 (codes "-a1")) (line (numbered 2 (codes ":b")) [])
 inverted = Prim.search (rules, common_steps)
 
@@ -66,7 +71,8 @@ matches_joined : report (record plain { print = Matches; numbers = true; context
 matches_joined = Prim.search (rules, common_steps)
 
 -- -o -n -v -C1: no selected line has a match, and those beside them have some
-matches_beside : report (record plain { invert = true; print = Matches; numbers = true; context = beside 1 1 }) letters (codes "t") false NonePrinted text
+matches_beside : report (record plain { invert = true; print = Matches; numbers = true; context = beside 1 1 }) letters
+    (codes "t") false NonePrinted text
     ≡ line (numbered 1 (codes "-a")) (line (numbered 5 (codes "-a")) (line (numbered 5 (codes "-a")) []))
 matches_beside = Prim.search (rules, common_steps)
 
@@ -81,11 +87,13 @@ counted = refl
 
 -- -H -m1 -n -A2
 stopped : report (record plain { numbers = true; context = beside 0 2; most = Some 1 }) letters (codes "t") true NonePrinted text
-    ≡ line (codes "t:" ++ numbered 1 (codes ":a1")) (line (codes "t-" ++ numbered 2 (codes "-b")) (line (codes "t-" ++ numbered 3 (codes "-c")) []))
+    ≡ line (codes "t:" ++ numbered 1 (codes ":a1")) (line (codes "t-" ++ numbered 2 (codes "-b"))
+    (line (codes "t-" ++ numbered 3 (codes "-c")) []))
 stopped = Prim.search (rules, common_steps)
 
 -- -c -H -v
-counted_without : report (record plain { invert = true; print = Count }) letters (codes "t") true NonePrinted text ≡ line (codes "t:" ++ decimal 5) []
+counted_without : report (record plain { invert = true; print = Count }) letters (codes "t") true NonePrinted text
+    ≡ line (codes "t:" ++ decimal 5) []
 counted_without = refl
 
 -- -l, -L

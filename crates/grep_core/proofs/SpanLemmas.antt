@@ -1,5 +1,7 @@
 -- What several patterns find is the best of what each finds.
-use Rattle.std.proofs.Common.{◌≡◌, ℕ, zero, suc, ◌+◌, ◌-◌, ◌<◌, ◌≤◌, ◌==◌, Bool, true, false, nat_lt, List, [], ◌∷◌, ◌++◌, All, length, map, Option, Some, None, option_map, if◌then◌else◌, refl, sym, ap, ap₂, ◌∙◌, arith, lt-ltb, append_assoc, append-nil}
+use Rattle.std.proofs.Common.{◌≡◌, ℕ, zero, suc, ◌+◌, ◌-◌, ◌<◌, ◌≤◌, ◌==◌, Bool, true, false, nat_lt, List, [], ◌∷◌, ◌++◌, All, length, map}
+use Rattle.std.proofs.Common.{Option, Some, None, option_map, if◌then◌else◌, refl, sym, ap, ap₂, ◌∙◌, arith, lt-ltb, append_assoc}
+use Rattle.std.proofs.Common.{append-nil}
 use Rattle.std.proofs.lemmas.Option.{none-some, same_Some}
 use Rattle.std.specs.Option.{option_or}
 use Rattle.std.specs.Prelude.{slice_get}
@@ -21,11 +23,13 @@ spans f n i = option_map span_of_match (first_from f n i)
 abbrev here : Rest → ℕ → Option (ℕ × ℕ)
 here f i = option_map (λ t. (i, Trace.end t)) (f i)
 
-spans_or : (a b : Option Match) → option_map span_of_match (option_or a b) ≡ option_or (option_map span_of_match a) (option_map span_of_match b)
+spans_or : (a b : Option Match) → option_map span_of_match (option_or a b)
+    ≡ option_or (option_map span_of_match a) (option_map span_of_match b)
 spans_or None b = refl
 spans_or (Some x) b = refl
 
-here_is : (i : ℕ) (o : Option Trace) → option_map span_of_match (option_map (λ t. record { start = i; trace = t }) o) ≡ option_map (λ t. (i, Trace.end t)) o
+here_is : (i : ℕ) (o : Option Trace) → option_map span_of_match (option_map (λ t. record { start = i; trace = t }) o)
+    ≡ option_map (λ t. (i, Trace.end t)) o
 here_is i None = refl
 here_is i (Some t) = refl
 
@@ -39,7 +43,8 @@ step f n i =
 abbrev NoEarlier : ℕ → Option (ℕ × ℕ) → Type 0
 NoEarlier i o = (s : ℕ × ℕ) → o ≡ Some s → i ≤ s.0
 
-or_later : (i : ℕ) (o : Option Trace) (rest : Option (ℕ × ℕ)) → NoEarlier (i + 1) rest → NoEarlier i (option_or (option_map (λ t. (i, Trace.end t)) o) rest)
+or_later : (i : ℕ) (o : Option Trace) (rest : Option (ℕ × ℕ)) → NoEarlier (i + 1) rest →
+    NoEarlier i (option_or (option_map (λ t. (i, Trace.end t)) o) rest)
 or_later i None rest later s e = let l = later s e in omega (arith, l)
 or_later i (Some t) rest later s e = omega (arith, ap (λ p. p.0) (same_Some (i, Trace.end t) s e))
 
@@ -51,13 +56,15 @@ later_from f (suc n) i s e = or_later i (f i) (spans f n (i + 1)) (later_from f 
 -- the first of two that start at a place, before what starts later
 first_here : (i j : ℕ) (o : Option (ℕ × ℕ)) → NoEarlier i o → better (Some (i, j)) o ≡ Some (i, j)
 first_here i j None later = refl
-first_here i j (Some s) later = ap (λ b. if b then Some s else Some (i, j)) (let l = later s refl in let e : nat_lt s.0 i ≡ false = grind (arith, l) in e)
+first_here i j (Some s) later = ap (λ b. if b then Some s else Some (i, j))
+    (let l = later s refl in let e : nat_lt s.0 i ≡ false = grind (arith, l) in e)
 
 then_here : (i j : ℕ) (o : Option (ℕ × ℕ)) → NoEarlier (i + 1) o → better o (Some (i, j)) ≡ Some (i, j)
 then_here i j None later = refl
 then_here i j (Some s) later = ap (λ b. if b then Some (i, j) else Some s) (lt-ltb i s.0 (let l = later s refl in omega (arith, l)))
 
-both_here : (i : ℕ) (a b : Option Trace) (r s t : Option (ℕ × ℕ)) → NoEarlier (i + 1) r → NoEarlier i (option_or (option_map (λ t. (i, Trace.end t)) b) s) → t ≡ better r s →
+both_here : (i : ℕ) (a b : Option Trace) (r s t : Option (ℕ × ℕ)) → NoEarlier (i + 1) r →
+    NoEarlier i (option_or (option_map (λ t. (i, Trace.end t)) b) s) → t ≡ better r s →
     option_or (option_map (λ t. (i, Trace.end t)) (option_or a b)) t
     ≡ better (option_or (option_map (λ t. (i, Trace.end t)) a) r) (option_or (option_map (λ t. (i, Trace.end t)) b) s)
 both_here i (Some x) b r s t later other e = sym (first_here i (Trace.end x) (option_or (option_map (λ t. (i, Trace.end t)) b) s) other)
@@ -74,10 +81,12 @@ better_from f g h at (suc n) i =
     (or_later i (g i) (spans g n (i + 1)) (later_from g n (i + 1))) (better_from f g h at n (i + 1))
     ∙ sym (ap₂ better (step f n i) (step g n i))
 
-alt_found : (a b : Re) (line : List ℕ) (start : ℕ) → found_at (re.alt a b) line start ≡ better (found_at a line start) (found_at b line start)
+alt_found : (a b : Re) (line : List ℕ) (start : ℕ) →
+    found_at (re.alt a b) line start ≡ better (found_at a line start) (found_at b line start)
 unfolding find attempt
 alt_found a b line start =
-    better_from (attempt line a accept) (attempt line b accept) (attempt line (re.alt a b) accept) (λ i. refl) (length line + 1 - start) start
+    better_from (attempt line a accept) (attempt line b accept) (attempt line (re.alt a b) accept) (λ i. refl)
+    (length line + 1 - start) start
 
 no_class : (o : Option ℕ) (i : ℕ) → (if is_some_and o (in_ranges []) then accept (i + 1) else None) ≡ None
 unfolding in_ranges
@@ -115,7 +124,8 @@ alike_from f g at (suc n) i =
     ∙ ap₂ option_or (here_by i (f i) ∙ ap (span_of_outcome i) (at i) ∙ sym (here_by i (g i))) (alike_from f g at n (i + 1))
     ∙ sym (step g n i)
 
-pub same_found : (a b : Re) (line : List ℕ) (start : ℕ) → SameCaptures a b → All (λ x. x < 256) line → found_at a line start ≡ found_at b line start
+pub same_found : (a b : Re) (line : List ℕ) (start : ℕ) → SameCaptures a b → All (λ x. x < 256) line →
+    found_at a line start ≡ found_at b line start
 unfolding find
 same_found a b line start same bytes =
     alike_from (attempt line a accept) (attempt line b accept) (same.at line bytes accept) (length line + 1 - start) start
@@ -132,14 +142,16 @@ beyond [] line start above = refl
 beyond (a ∷ res) line start above = ap₂ better (found_beyond a line start above) (beyond res line start above)
 
 -- ---- all matches
-map_after : (s : ℕ → Option Match) (end : ℕ) → option_map span_of_match (find_after s end) ≡ next_behind (λ i. option_map span_of_match (s i)) end
+map_after : (s : ℕ → Option Match) (end : ℕ) → option_map span_of_match (find_after s end)
+    ≡ next_behind (λ i. option_map span_of_match (s i)) end
 map_after s end = by (s end) (s (end + 1))
   where
     test_is : (o : Option Match) → is_some_and o (λ m. m.trace.end == end) ≡ is_some_and (option_map span_of_match o) (λ p. p.1 == end)
     test_is None = refl
     test_is (Some m) = refl
 
-    if_map : (b : Bool) (x y : Option Match) → option_map span_of_match (if b then x else y) ≡ (if b then option_map span_of_match x else option_map span_of_match y)
+    if_map : (b : Bool) (x y : Option Match) → option_map span_of_match (if b then x else y)
+        ≡ (if b then option_map span_of_match x else option_map span_of_match y)
     if_map true x y = refl
     if_map false x y = refl
 
@@ -166,7 +178,8 @@ same_spans f g same (suc n) (Some s) =
     ∙ ap₂ (λ x y. spans_behind g n (if is_some_and x (λ p. p.1 == s.1) then y else x)) (same s.1) (same (s.1 + 1)))
 
 pub all_spans : (res : List Re) (line : List ℕ) →
-    map span_of_match (matches_from (find (alt_all res) line) (length line + 1) (find (alt_all res) line 0)) ≡ spans_behind (best_at res line) (length line + 1) (best_at res line 0)
+    map span_of_match (matches_from (find (alt_all res) line) (length line + 1) (find (alt_all res) line 0))
+    ≡ spans_behind (best_at res line) (length line + 1) (best_at res line 0)
 all_spans res line =
     spans_of_matches (find (alt_all res) line) (length line + 1) (find (alt_all res) line 0)
     ∙ same_spans (found_at (alt_all res) line) (best_at res line) (best_found res line) (length line + 1) (found_at (alt_all res) line 0)
@@ -176,15 +189,18 @@ all_spans res line =
 one_of : (s : ℕ × ℕ) (xs : List (ℕ × ℕ)) → filter is_some_text (s ∷ xs) ≡ filter is_some_text (s ∷ []) ++ filter is_some_text xs
 one_of s xs = by (is_some_text s)
   where
-    by : (b : Bool) → (if b then s ∷ filter is_some_text xs else filter is_some_text xs) ≡ (if b then s ∷ [] else []) ++ filter is_some_text xs
+    by : (b : Bool) → (if b then s ∷ filter is_some_text xs else filter is_some_text xs) ≡ (if b then s ∷ [] else [])
+        ++ filter is_some_text xs
     by true = refl
     by false = refl
 
 pub one_span : (at : ℕ → Option (ℕ × ℕ)) (n m : ℕ) (s : ℕ × ℕ) → n ≡ suc m →
-    filter is_some_text (spans_behind at n (Some s)) ≡ filter is_some_text (s ∷ []) ++ filter is_some_text (spans_behind at m (next_behind at s.1))
+    filter is_some_text (spans_behind at n (Some s)) ≡ filter is_some_text (s ∷ [])
+    ++ filter is_some_text (spans_behind at m (next_behind at s.1))
 one_span at n m s is = ap (λ k. filter is_some_text (spans_behind at k (Some s))) is ∙ one_of s (spans_behind at m (next_behind at s.1))
 
-pub next_beyond : (at : ℕ → Option (ℕ × ℕ)) (end : ℕ) → is_some_and (at end) (λ s. s.1 == end) ≡ true → at (end + 1) ≡ None → None ≡ next_behind at end
+pub next_beyond : (at : ℕ → Option (ℕ × ℕ)) (end : ℕ) → is_some_and (at end) (λ s. s.1 == end) ≡ true → at (end + 1) ≡ None →
+    None ≡ next_behind at end
 next_beyond at end is none = sym (ap (λ b. if b then at (end + 1) else at end) is ∙ none)
 
 pub no_span : (at : ℕ → Option (ℕ × ℕ)) (n : ℕ) → filter is_some_text (spans_behind at n None) ≡ []
@@ -200,12 +216,14 @@ choose false true z p q r up down = refl
 choose false false z p q r up down = ap (λ b. if b then r else p) (down refl refl)
 
 better_if : (x : Bool) (a b c : ℕ × ℕ) →
-    better (if x then Some b else Some a) (Some c) ≡ (if x then (if nat_lt c.0 b.0 then Some c else Some b) else (if nat_lt c.0 a.0 then Some c else Some a))
+    better (if x then Some b else Some a) (Some c) ≡ (if x then (if nat_lt c.0 b.0 then Some c else Some b) else
+    (if nat_lt c.0 a.0 then Some c else Some a))
 better_if true a b c = refl
 better_if false a b c = refl
 
 if_better : (y : Bool) (a b c : ℕ × ℕ) →
-    better (Some a) (if y then Some c else Some b) ≡ (if y then (if nat_lt c.0 a.0 then Some c else Some a) else (if nat_lt b.0 a.0 then Some b else Some a))
+    better (Some a) (if y then Some c else Some b) ≡ (if y then (if nat_lt c.0 a.0 then Some c else Some a) else
+    (if nat_lt b.0 a.0 then Some b else Some a))
 if_better true a b c = refl
 if_better false a b c = refl
 
@@ -223,8 +241,10 @@ better_of_three (Some a) (Some b) (Some c) =
     (λ below less. grind (arith, below, less)) (λ below less. grind (arith, below, less))
     ∙ sym (if_better (nat_lt c.0 b.0) a b c)
 
-pub one_more_span : (at : ℕ → Option (ℕ × ℕ)) (all before after : List (ℕ × ℕ)) (most step : ℕ) (o next : Option (ℕ × ℕ)) (s : ℕ × ℕ) → step < most → o ≡ Some s →
-    next ≡ next_behind at s.1 → after ≡ before ++ filter is_some_text (s ∷ []) → all ≡ before ++ filter is_some_text (spans_behind at (most - step) o) →
+pub one_more_span : (at : ℕ → Option (ℕ × ℕ)) (all before after : List (ℕ × ℕ)) (most step : ℕ) (o next : Option (ℕ × ℕ)) (s : ℕ × ℕ) →
+    step < most → o ≡ Some s →
+    next ≡ next_behind at s.1 → after ≡ before ++ filter is_some_text (s ∷ []) →
+    all ≡ before ++ filter is_some_text (spans_behind at (most - step) o) →
     all ≡ after ++ filter is_some_text (spans_behind at (most - (step + 1)) next)
 one_more_span at all before after most step o next s below some is pushed so_far =
     let one : most - step ≡ suc (most - (step + 1)) = omega (arith, below) in

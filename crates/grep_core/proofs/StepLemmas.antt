@@ -1,5 +1,6 @@
 -- What is still to be printed, line by line. Lines that wait for one that is selected stand in a queue.
-use Rattle.std.proofs.Common.{inl, inr, ◌≡◌, ◌≤◌, ◌<◌, ℕ, zero, suc, Bool, true, false, List, [], ◌∷◌, ◌++◌, map, length, take, refl, sym, ap, ap₂, ◌∙◌, if◌then◌else◌, ◌⊎◌, rules, arith}
+use Rattle.std.proofs.Common.{inl, inr, ◌≡◌, ◌≤◌, ◌<◌, ℕ, zero, suc, Bool, true, false, List, [], ◌∷◌, ◌++◌, map, length, take, refl, sym}
+use Rattle.std.proofs.Common.{ap, ap₂, ◌∙◌, if◌then◌else◌, ◌⊎◌, rules, arith}
 use Rattle.std.proofs.lemmas.Grind.{common_steps}
 use Rattle.grep_core.specs.declared.role.Role.{Role}
 use Rattle.grep_core.specs.declared.role.Role.TheVariants.{Selected, Beside, Hidden}
@@ -107,4 +108,5 @@ module _ {X : Type 0} (w : What) (print : Role → X → List ℕ) (before after
   selects_any b left queue flags line lines few (inr empty) =
       ap (λ q. rest b left q (true ∷ flags) (line ∷ lines)) empty
       ∙ selects_soon b left flags line lines
-      ∙ sym (ap (λ q. queued w print b q ++ (parting w (behind_queue b q) ++ (print Selected line ++ rest LastPrinted after [] flags lines))) empty)
+      ∙ sym (ap (λ q. queued w print b q ++ (parting w (behind_queue b q)
+      ++ (print Selected line ++ rest LastPrinted after [] flags lines))) empty)

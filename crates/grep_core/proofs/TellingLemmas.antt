@@ -1,5 +1,7 @@
 -- What is still told of lines goes on by one line.
-use Rattle.std.proofs.Common.{◌≡◌, Result, Ok, Err, OnOk, ◌⊎◌, inl, inr, IsTrue, nat_eq, take, ◌≤◌, ◌<◌, ℕ, zero, suc, ◌+◌, ◌-◌, Bool, true, false, not, ◌&&◌, nat_lt, List, [], ◌∷◌, ◌++◌, map, Option, Some, None, if◌then◌else◌, refl, sym, ap, ap₂, ◌∙◌, subst, arith, lt-ltb}
+use Rattle.std.proofs.Common.{◌≡◌, Result, Ok, Err, OnOk, ◌⊎◌, inl, inr, IsTrue, nat_eq, take, ◌≤◌, ◌<◌, ℕ, zero, suc, ◌+◌, ◌-◌, Bool, true}
+use Rattle.std.proofs.Common.{false, not, ◌&&◌, nat_lt, List, [], ◌∷◌, ◌++◌, map, Option, Some, None, if◌then◌else◌, refl, sym, ap, ap₂}
+use Rattle.std.proofs.Common.{◌∙◌, subst, arith, lt-ltb}
 use Rattle.grep_core.specs.declared.course.Course.{Course}
 use Rattle.grep_core.specs.declared.known.Known.{Known}
 use Rattle.grep_core.specs.declared.known.Known.TheVariants.{LastPrinted}
@@ -10,7 +12,8 @@ use Rattle.grep_core.specs.declared.what.Print.TheVariants.{Lines, Matches, Coun
 use Rattle.grep_core.specs.declared.what.What.{What}
 use Rattle.grep_core.specs.Courses.{Item, item, still, print_as, print_item, waiting_item}
 use Rattle.grep_core.specs.Lines.{TextLine}
-use Rattle.grep_core.specs.Report.{Finds, before_of, after_of, roles_of, parting, behind_hidden, print_lines, count_line, name_line, report_as, selected, told_spans, is_wanted}
+use Rattle.grep_core.specs.Report.{Finds, before_of, after_of, roles_of, parting, behind_hidden, print_lines, count_line, name_line}
+use Rattle.grep_core.specs.Report.{report_as, selected, told_spans, is_wanted}
 use Rattle.grep_core.specs.Selecting.{limited, count, any, roles, roles_from}
 use Rattle.grep_core.specs.Telling.{shown, told_item, prints_lines, tells_as, left_of, may_select, flags_behind}
 
@@ -19,7 +22,8 @@ print_map : {X Y : Type 0} (w : What) (print : Role → Y → List ℕ) (g : X �
 print_map w print g b [] xs = refl
 print_map w print g b (r ∷ rs) [] = refl
 print_map w print g b (Hidden ∷ rs) (x ∷ xs) = print_map w print g (behind_hidden b) rs xs
-print_map w print g b (Selected ∷ rs) (x ∷ xs) = ap (λ t. parting w b ++ (print Selected (g x) ++ t)) (print_map w print g LastPrinted rs xs)
+print_map w print g b (Selected ∷ rs) (x ∷ xs) = ap (λ t. parting w b ++ (print Selected (g x) ++ t))
+    (print_map w print g LastPrinted rs xs)
 print_map w print g b (Beside ∷ rs) (x ∷ xs) = ap (λ t. parting w b ++ (print Beside (g x) ++ t)) (print_map w print g LastPrinted rs xs)
 
 left_none : (most : Option ℕ) → left_of most 0 ≡ most
@@ -37,18 +41,21 @@ abbrev Starts : What → Option (List ℕ) → Known → Course → Type 0
 Starts w name known c = (flags : List Bool) (items : List Item) →
     still w name c flags items ≡ print_lines w (print_item w name) known (roles (before_of w.context) (after_of w.context) flags) items
 
-starts_lines : (p : Print) (w : What) (f : Finds) (name : Option (List ℕ)) (known : Known) (c : Course) → Starts w name known c → w.print ≡ p → (lines : List TextLine) →
+starts_lines : (p : Print) (w : What) (f : Finds) (name : Option (List ℕ)) (known : Known) (c : Course) → Starts w name known c →
+    w.print ≡ p → (lines : List TextLine) →
     still w name c (flags_behind w f 0 lines) (map (told_item f) lines)
     ≡ print_lines w (λ role line. print_as p w name role (told_item f line)) known (roles_of w (selected w f lines)) lines
 starts_lines p w f name known c fresh is lines =
     fresh (flags_behind w f 0 lines) (map (told_item f) lines)
     ∙ print_map w (print_item w name) (told_item f) known (roles_of w (flags_behind w f 0 lines)) lines
-    ∙ ap (λ flags. print_lines w (λ role line. print_item w name role (told_item f line)) known (roles_of w flags) lines) (flags_none w f lines)
+    ∙ ap (λ flags. print_lines w (λ role line. print_item w name role (told_item f line)) known (roles_of w flags) lines)
+    (flags_none w f lines)
     ∙ ap (λ q. print_lines w (λ role line. print_as q w name role (told_item f line)) known (roles_of w (selected w f lines)) lines) is
 
 pub starts_told : (p : Print) (w : What) (f : Finds) (name : List ℕ) (with_name : Bool) (known : Known) (c : Course) →
     Starts w (shown with_name name) known c → w.print ≡ p → (lines : List TextLine) →
-    tells_as p w name with_name c 0 (flags_behind w f 0 lines) (map (told_item f) lines) ≡ report_as p w f name with_name known lines (selected w f lines)
+    tells_as p w name with_name c 0 (flags_behind w f 0 lines) (map (told_item f) lines)
+    ≡ report_as p w f name with_name known lines (selected w f lines)
 starts_told Lines w f name with_name known c fresh is lines = starts_lines Lines w f (shown with_name name) known c fresh is lines
 starts_told Matches w f name with_name known c fresh is lines = starts_lines Matches w f (shown with_name name) known c fresh is lines
 starts_told Count w f name with_name known c fresh is lines =
@@ -102,7 +109,8 @@ limited_step (Some m) n b bs = limited_some m n (nat_lt n m) refl b bs
 abbrev pub selects : What → ℕ → Bool → Bool
 selects w n has = (if w.invert then not has else has) && may_select w.most n
 
-flags_step : (w : What) (f : Finds) (n m : ℕ) (sel has : Bool) (line : TextLine) (lines : List TextLine) → sel ≡ selects w n has → has ≡ f.has_match line.bytes →
+flags_step : (w : What) (f : Finds) (n m : ℕ) (sel has : Bool) (line : TextLine) (lines : List TextLine) → sel ≡ selects w n has →
+    has ≡ f.has_match line.bytes →
     m ≡ n + (if sel then 1 else 0) → flags_behind w f n (line ∷ lines) ≡ sel ∷ flags_behind w f m lines
 flags_step w f n m sel has line lines is seen more =
     let same : selects w n (f.has_match line.bytes) ≡ sel = sym (is ∙ ap (selects w n) seen) in
@@ -110,22 +118,27 @@ flags_step w f n m sel has line lines is seen more =
     ∙ ap (λ t. t ∷ limited (left_of w.most (n + (if t then 1 else 0))) (map (is_wanted w f) lines)) same
     ∙ ap (λ k. sel ∷ limited (left_of w.most k) (map (is_wanted w f) lines)) (sym more)
 
-pub line_told : (p : Print) (w : What) (f : Finds) (name : List ℕ) (with_name : Bool) (c after : Course) (n m : ℕ) (sel has : Bool) (line : TextLine)
-    (found : List (ℕ × ℕ)) (out new : List ℕ) (lines : List TextLine) → sel ≡ selects w n has → has ≡ f.has_match line.bytes → found ≡ told_spans f line →
+pub line_told : (p : Print) (w : What) (f : Finds) (name : List ℕ) (with_name : Bool) (c after : Course) (n m : ℕ) (sel has : Bool)
+    (line : TextLine)
+    (found : List (ℕ × ℕ)) (out new : List ℕ) (lines : List TextLine) → sel ≡ selects w n has → has ≡ f.has_match line.bytes →
+    found ≡ told_spans f line →
     m ≡ n + (if sel then 1 else 0) →
     ((flags : List Bool) (items : List Item) →
-    out ++ tells_as p w name with_name c n (sel ∷ flags) (item line found ∷ items) ≡ new ++ tells_as p w name with_name after m flags items) →
+    out ++ tells_as p w name with_name c n (sel ∷ flags) (item line found ∷ items) ≡ new ++ tells_as p w name with_name after m flags items)
+    →
     out ++ tells_as p w name with_name c n (flags_behind w f n (line ∷ lines)) (map (told_item f) (line ∷ lines))
     ≡ new ++ tells_as p w name with_name after m (flags_behind w f m lines) (map (told_item f) lines)
 line_told p w f name with_name c after n m sel has line found out new lines is seen spans more goes_on =
-    ap₂ (λ flags fs. out ++ tells_as p w name with_name c n flags (item line fs ∷ map (told_item f) lines)) (flags_step w f n m sel has line lines is seen more) (sym spans)
+    ap₂ (λ flags fs. out ++ tells_as p w name with_name c n flags (item line fs ∷ map (told_item f) lines))
+    (flags_step w f n m sel has line lines is seen more) (sym spans)
     ∙ goes_on (flags_behind w f m lines) (map (told_item f) lines)
 
 one_counted : (sel : Bool) (n : ℕ) (flags : List Bool) → (n + (if sel then 1 else 0)) + count flags ≡ n + count (sel ∷ flags)
 one_counted true n flags = let e : (n + 1) + count flags ≡ n + suc (count flags) = omega arith in e
 one_counted false n flags = let e : (n + 0) + count flags ≡ n + count flags = omega arith in e
 
-pub line_counted : (w : What) (f : Finds) (n m : ℕ) (sel has : Bool) (line : TextLine) (lines : List TextLine) → sel ≡ selects w n has → has ≡ f.has_match line.bytes →
+pub line_counted : (w : What) (f : Finds) (n m : ℕ) (sel has : Bool) (line : TextLine) (lines : List TextLine) → sel ≡ selects w n has →
+    has ≡ f.has_match line.bytes →
     m ≡ n + (if sel then 1 else 0) → m + count (flags_behind w f m lines) ≡ n + count (flags_behind w f n (line ∷ lines))
 line_counted w f n m sel has line lines is seen more =
     ap (λ k. k + count (flags_behind w f m lines)) more
@@ -133,7 +146,8 @@ line_counted w f n m sel has line lines is seen more =
     ∙ ap (λ flags. n + count flags) (sym (flags_step w f n m sel has line lines is seen more))
 
 -- what is told besides lines and matches
-pub besides_told : (p : Print) (w : What) (name : List ℕ) (with_name : Bool) (c : Course) (n m : ℕ) (sel : Bool) (out : List ℕ) (flags : List Bool) (it : Item)
+pub besides_told : (p : Print) (w : What) (name : List ℕ) (with_name : Bool) (c : Course) (n m : ℕ) (sel : Bool) (out : List ℕ)
+    (flags : List Bool) (it : Item)
     (items : List Item) → prints_lines p ≡ false → m ≡ n + (if sel then 1 else 0) →
     out ++ tells_as p w name with_name c n (sel ∷ flags) (it ∷ items) ≡ out ++ tells_as p w name with_name c m flags items
 besides_told Lines w name with_name c n m sel out flags it items other more = absurd (grind (arith, other))
@@ -149,7 +163,8 @@ besides_told Nothing w name with_name c n m sel out flags it items other more = 
 -- ---- behind the last line that may be selected
 spent_flags : (most : Option ℕ) (n : ℕ) → may_select most n ≡ false → (xs : List Bool) → limited (left_of most n) xs ≡ map (λ _. false) xs
 spent_flags None n spent xs = absurd (grind (arith, spent))
-spent_flags (Some m) n spent xs = ap (λ k. limited (Some k) xs) (let few : m ≤ n = grind (arith, spent) in let e : m - n ≡ 0 = omega (arith, few) in e)
+spent_flags (Some m) n spent xs = ap (λ k. limited (Some k) xs)
+    (let few : m ≤ n = grind (arith, spent) in let e : m - n ≡ 0 = omega (arith, few) in e)
 
 none_counted : (xs : List Bool) → count (map (λ _. false) xs) ≡ 0
 none_counted [] = refl
@@ -161,13 +176,15 @@ any_taken (suc n) [] e = refl
 any_taken (suc n) (true ∷ flags) e = absurd (grind (arith, e))
 any_taken (suc n) (false ∷ flags) e = any_taken n flags e
 
-prints_none : {X : Type 0} (w : What) (print : Role → X → List ℕ) (before after : ℕ) (b : Known) (flags : List Bool) → any flags ≡ false → (xs : List X) →
+prints_none : {X : Type 0} (w : What) (print : Role → X → List ℕ) (before after : ℕ) (b : Known) (flags : List Bool) → any flags ≡ false →
+    (xs : List X) →
     print_lines w print b (roles_from before after 0 flags) xs ≡ []
 prints_none w print before after b [] e xs = refl
 prints_none w print before after b (true ∷ flags) e xs = absurd (grind (arith, e))
 prints_none w print before after b (false ∷ flags) e [] = refl
 prints_none w print before after b (false ∷ flags) e (x ∷ xs) =
-    ap (λ soon. print_lines w print b ((if soon then Beside else Hidden) ∷ roles_from before after 0 flags) (x ∷ xs)) (any_taken before flags e)
+    ap (λ soon. print_lines w print b ((if soon then Beside else Hidden) ∷ roles_from before after 0 flags) (x ∷ xs))
+    (any_taken before flags e)
     ∙ prints_none w print before after (behind_hidden b) flags e xs
 
 falses : {X : Type 0} (xs : List X) (ys : List Bool) → any (map (λ _. false) xs ++ map (λ _. false) ys) ≡ false
@@ -176,12 +193,14 @@ falses {X} [] (y ∷ ys) = falses {X = X} [] ys
 falses (x ∷ xs) ys = falses xs ys
 
 -- lines that wait aren't printed either
-still_none : (w : What) (name : Option (List ℕ)) (c : Course) → c.left ≡ 0 → (ys : List Bool) (items : List Item) → still w name c (map (λ _. false) ys) items ≡ []
+still_none : (w : What) (name : Option (List ℕ)) (c : Course) → c.left ≡ 0 → (ys : List Bool) (items : List Item) →
+    still w name c (map (λ _. false) ys) items ≡ []
 still_none w name c none ys items =
     ap (λ n. print_lines w (print_item w name) c.known
     (roles_from (before_of w.context) (after_of w.context) n (map (λ _. false) (map waiting_item c.waiting.items) ++ map (λ _. false) ys))
     (map waiting_item c.waiting.items ++ items)) none
-    ∙ prints_none w (print_item w name) (before_of w.context) (after_of w.context) c.known (map (λ _. false) (map waiting_item c.waiting.items) ++ map (λ _. false) ys)
+    ∙ prints_none w (print_item w name) (before_of w.context) (after_of w.context) c.known
+    (map (λ _. false) (map waiting_item c.waiting.items) ++ map (λ _. false) ys)
     (falses (map waiting_item c.waiting.items) ys) (map waiting_item c.waiting.items ++ items)
 
 module _ (w : What) (f : Finds) (name : List ℕ) (with_name : Bool) (c : Course) (n : ℕ) (spent : may_select w.most n ≡ false) where
@@ -195,14 +214,16 @@ module _ (w : What) (f : Finds) (name : List ℕ) (with_name : Bool) (c : Course
   over_counted lines = ap (λ k. n + k) (none_more lines ∙ sym (none_more []))
 
   over_lines : c.left ≡ 0 → (lines : List TextLine) →
-      still w (shown with_name name) c (flags_behind w f n lines) (map (told_item f) lines) ≡ still w (shown with_name name) c (flags_behind w f n []) []
+      still w (shown with_name name) c (flags_behind w f n lines) (map (told_item f) lines)
+      ≡ still w (shown with_name name) c (flags_behind w f n []) []
   over_lines left lines =
       ap (λ flags. still w (shown with_name name) c flags (map (told_item f) lines)) (none lines)
       ∙ still_none w (shown with_name name) c left (map (is_wanted w f) lines) (map (told_item f) lines)
       ∙ sym (ap (λ flags. still w (shown with_name name) c flags []) (none []) ∙ still_none w (shown with_name name) c left [] [])
 
   pub over_told : (p : Print) → (prints_lines p ≡ true → c.left ≡ 0) → (lines : List TextLine) →
-      tells_as p w name with_name c n (flags_behind w f n lines) (map (told_item f) lines) ≡ tells_as p w name with_name c n (flags_behind w f n []) []
+      tells_as p w name with_name c n (flags_behind w f n lines) (map (told_item f) lines)
+      ≡ tells_as p w name with_name c n (flags_behind w f n []) []
   over_told Lines left lines = over_lines (left refl) lines
   over_told Matches left lines = over_lines (left refl) lines
   over_told Count left lines = ap (count_line w (shown with_name name)) (over_counted lines)
@@ -214,8 +235,10 @@ module _ (w : What) (f : Finds) (name : List ℕ) (with_name : Bool) (c : Course
 is_some_more : (n k : ℕ) → 0 < n → nat_lt 0 (n + k) ≡ true
 is_some_more n k more = lt-ltb 0 (n + k) (omega (arith, more))
 
-pub some_counted : (w : What) (f : Finds) (n : ℕ) (lines : List TextLine) → 0 < n → nat_lt 0 (n + count (flags_behind w f n lines)) ≡ nat_lt 0 (n + count (flags_behind w f n []))
-some_counted w f n lines more = is_some_more n (count (flags_behind w f n lines)) more ∙ sym (is_some_more n (count (flags_behind w f n [])) more)
+pub some_counted : (w : What) (f : Finds) (n : ℕ) (lines : List TextLine) → 0 < n →
+    nat_lt 0 (n + count (flags_behind w f n lines)) ≡ nat_lt 0 (n + count (flags_behind w f n []))
+some_counted w f n lines more = is_some_more n (count (flags_behind w f n lines)) more
+    ∙ sym (is_some_more n (count (flags_behind w f n [])) more)
 
 -- it asks for no more than whether a line is selected
 abbrev pub IsOfNames : Print → Type 0
@@ -223,10 +246,13 @@ IsOfNames p = (p ≡ NameIfAny) ⊎ ((p ≡ NameIfNone) ⊎ (p ≡ Nothing))
 
 abbrev IsToldSo : What → Finds → List ℕ → Bool → Course → ℕ → List TextLine → Print → Type 0
 IsToldSo w f name with_name c n lines p =
-    tells_as p w name with_name c n (flags_behind w f n lines) (map (told_item f) lines) ≡ tells_as p w name with_name c n (flags_behind w f n []) []
+    tells_as p w name with_name c n (flags_behind w f n lines) (map (told_item f) lines)
+    ≡ tells_as p w name with_name c n (flags_behind w f n []) []
 
-pub some_told : (w : What) (f : Finds) (name : List ℕ) (with_name : Bool) (c : Course) (n : ℕ) (p : Print) (lines : List TextLine) → IsOfNames p → 0 < n →
-    tells_as p w name with_name c n (flags_behind w f n lines) (map (told_item f) lines) ≡ tells_as p w name with_name c n (flags_behind w f n []) []
+pub some_told : (w : What) (f : Finds) (name : List ℕ) (with_name : Bool) (c : Course) (n : ℕ) (p : Print) (lines : List TextLine) →
+    IsOfNames p → 0 < n →
+    tells_as p w name with_name c n (flags_behind w f n lines) (map (told_item f) lines)
+    ≡ tells_as p w name with_name c n (flags_behind w f n []) []
 some_told w f name with_name c n p lines (inl e) more =
     subst (IsToldSo w f name with_name c n lines) (sym e) (ap (λ t. if t then name_line w name else []) (some_counted w f n lines more))
 some_told w f name with_name c n p lines (inr (inl e)) more =
@@ -255,7 +281,8 @@ pub is_some : (n : ℕ) → IsTrue (nat_lt 0 n) → 0 < n
 is_some n t = grind (arith, t)
 
 -- ---- lines or matches, in the words of the call that tells them
-as_still : (p : Print) (w : What) (name : List ℕ) (with_name : Bool) (c : Course) (n : ℕ) (flags : List Bool) (items : List Item) → prints_lines p ≡ true →
+as_still : (p : Print) (w : What) (name : List ℕ) (with_name : Bool) (c : Course) (n : ℕ) (flags : List Bool) (items : List Item) →
+    prints_lines p ≡ true →
     tells_as p w name with_name c n flags items ≡ still w (shown with_name name) c flags items
 as_still Lines w name with_name c n flags items is = refl
 as_still Matches w name with_name c n flags items is = refl
@@ -264,10 +291,13 @@ as_still NameIfAny w name with_name c n flags items is = absurd (grind (arith, i
 as_still NameIfNone w name with_name c n flags items is = absurd (grind (arith, is))
 as_still Nothing w name with_name c n flags items is = absurd (grind (arith, is))
 
-pub lines_told : {E : Type 0} (r : Result (Unit {0}) E) (p : Print) (w : What) (c after : Course) (sel : Bool) (it : Item) (out new : List ℕ)
+pub lines_told : {E : Type 0} (r : Result (Unit {0}) E) (p : Print) (w : What) (c after : Course) (sel : Bool) (it : Item)
+    (out new : List ℕ)
     (name : Option (List ℕ)) → prints_lines p ≡ true →
-    OnOk r ((flags : List Bool) (items : List Item) → out ++ still w name c (sel ∷ flags) (it ∷ items) ≡ new ++ still w name after flags items) →
-    OnOk r ((text : List ℕ) (with_name : Bool) (n m : ℕ) (flags : List Bool) (items : List Item) → shown with_name text ≡ name → m ≡ n + (if sel then 1 else 0) →
+    OnOk r ((flags : List Bool) (items : List Item) → out ++ still w name c (sel ∷ flags) (it ∷ items) ≡ new
+    ++ still w name after flags items) →
+    OnOk r ((text : List ℕ) (with_name : Bool) (n m : ℕ) (flags : List Bool) (items : List Item) → shown with_name text ≡ name →
+    m ≡ n + (if sel then 1 else 0) →
     out ++ tells_as p w text with_name c n (sel ∷ flags) (it ∷ items) ≡ new ++ tells_as p w text with_name after m flags items)
 lines_told (Err e) p w c after sel it out new name is goes_on = tt
 lines_told (Ok u) p w c after sel it out new name is goes_on = λ text with_name n m flags items named more.

@@ -20,33 +20,43 @@ module _ (t : Task) (f : Finds) where
   -- before its first line
   abbrev pub Begins : Known → Progress → Type 0
   Begins known p = (text : List ℕ) → tells_lines t (needed t.what.now f) p (split_lines text)
-      ≡ report_as t.what.now.print t.what.now (needed t.what.now f) t.name.now t.with_name known (lines_of text) (selected t.what.now (needed t.what.now f) (lines_of text))
+      ≡ report_as t.what.now.print t.what.now (needed t.what.now f) t.name.now t.with_name known (lines_of text)
+      (selected t.what.now (needed t.what.now f) (lines_of text))
 
   begins : (known : Known) (p : Progress) (read text : List ℕ) → read ≡ [] → Begins known p →
       tells_lines t wanted p (split_lines (read ++ text)) ≡ report t.what.now f t.name.now t.with_name known text
   begins known p read text none starts =
-      ap (λ l. tells_lines t wanted p (split_lines (l ++ text))) none ∙ starts text ∙ needed_report t.what.now f t.name.now t.with_name known text
+      ap (λ l. tells_lines t wanted p (split_lines (l ++ text))) none ∙ starts text
+      ∙ needed_report t.what.now f t.name.now t.with_name known text
 
-  pub text_part : (known : Known) (p : Progress) (read text : List ℕ) (u v : Option (List ℕ)) → read ≡ [] → Begins known p → WritesPart t (needed t.what.now f) p (read ++ text) u v →
+  pub text_part : (known : Known) (p : Progress) (read text : List ℕ) (u v : Option (List ℕ)) → read ≡ [] → Begins known p →
+      WritesPart t (needed t.what.now f) p (read ++ text) u v →
       (n : ℕ) × Appends u v (take n (report t.what.now f t.name.now t.with_name known text))
-  text_part known p read text u v none starts part = (part.0, subst (λ l. Appends u v (take part.0 l)) (begins known p read text none starts) part.1)
+  text_part known p read text u v none starts part =
+      (part.0, subst (λ l. Appends u v (take part.0 l)) (begins known p read text none starts) part.1)
 
-  pub text_written : (known : Known) (o p : Progress) (x y z text : List ℕ) (now u w v : Option (List ℕ)) → x ≡ [] → z ≡ y → Begins known o →
-      (a : ReadsOn t (needed t.what.now f) o p x y text now u w) → Appends w v (tells_lines t (needed t.what.now f) p (split_lines (z ++ a.rest))) →
+  pub text_written : (known : Known) (o p : Progress) (x y z text : List ℕ) (now u w v : Option (List ℕ)) → x ≡ [] → z ≡ y →
+      Begins known o →
+      (a : ReadsOn t (needed t.what.now f) o p x y text now u w) →
+      Appends w v (tells_lines t (needed t.what.now f) p (split_lines (z ++ a.rest))) →
       Appends u v (report t.what.now f t.name.now t.with_name known text)
   text_written known o p x y z text now u w v none shown starts a written =
       subst (Appends u v) (begins known o x text none starts)
-      (all_written t wanted o p x y text now u w v a (subst (λ l. Appends w v (tells_lines t wanted p (split_lines (l ++ a.rest)))) shown written))
+      (all_written t wanted o p x y text now u w v a (subst
+      (λ l. Appends w v (tells_lines t wanted p (split_lines (l ++ a.rest)))) shown written))
 
   pub rest_part : (known : Known) (o p : Progress) (x y z text : List ℕ) (now u w v : Option (List ℕ)) → x ≡ [] → z ≡ y → Begins known o →
       (a : ReadsOn t (needed t.what.now f) o p x y text now u w) → WritesPart t (needed t.what.now f) p (z ++ a.rest) w v →
       (n : ℕ) × Appends u v (take n (report t.what.now f t.name.now t.with_name known text))
   rest_part known o p x y z text now u w v none shown starts a part =
-      text_part known o x text u v none starts (all_part t wanted o p x y text now u w v a (subst (λ l. WritesPart t wanted p (l ++ a.rest) w v) shown part))
+      text_part known o x text u v none starts (all_part t wanted o p x y text now u w v a
+      (subst (λ l. WritesPart t wanted p (l ++ a.rest) w v) shown part))
 
   pub text_counted : (o p : Progress) (x y z text : List ℕ) (now u w : Option (List ℕ)) (any last : Bool) → x ≡ [] → z ≡ y →
-      ((l : List ℕ) → counts_lines t (needed t.what.now f) o (split_lines l) ≡ count (selected t.what.now (needed t.what.now f) (lines_of l))) →
-      (a : ReadsOn t (needed t.what.now f) o p x y text now u w) → any ≡ last → last ≡ nat_lt 0 (counts_lines t (needed t.what.now f) p (split_lines (z ++ a.rest))) →
+      ((l : List ℕ) → counts_lines t (needed t.what.now f) o (split_lines l)
+      ≡ count (selected t.what.now (needed t.what.now f) (lines_of l))) →
+      (a : ReadsOn t (needed t.what.now f) o p x y text now u w) → any ≡ last →
+      last ≡ nat_lt 0 (counts_lines t (needed t.what.now f) p (split_lines (z ++ a.rest))) →
       any ≡ nat_lt 0 (selected_count t.what.now f text)
   text_counted o p x y z text now u w any last none shown starts a is rest =
       is

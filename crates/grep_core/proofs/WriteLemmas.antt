@@ -1,5 +1,6 @@
 -- What is written, piece by piece, and what that tells of a text.
-use Rattle.std.proofs.Common.{◌≡◌, ◌≤◌, ℕ, ◌+◌, ◌-◌, List, [], ◌++◌, length, take, drop, Option, Some, None, refl, sym, ap, ◌∙◌, subst, arith, length-take, append_assoc, append-nil}
+use Rattle.std.proofs.Common.{◌≡◌, ◌≤◌, ℕ, ◌+◌, ◌-◌, List, [], ◌++◌, length, take, drop, Option, Some, None, refl, sym, ap, ◌∙◌, subst}
+use Rattle.std.proofs.Common.{arith, length-take, append_assoc, append-nil}
 use Rattle.std.proofs.Math.Seq.{take-add, take-append_seam, take-append-add, take-length}
 use Rattle.std.proofs.KnownBytes.{Appends-nil, Appends-trans}
 use Rattle.std.proofs.lemmas.List.{take_rest, take-append-drop}
@@ -63,29 +64,35 @@ module _ (t : Task) (f : Finds) where
       }
 
   -- what was read of a text
-  pub reads_some : (P : List ℕ → Option (List ℕ) → Type 0) (r0 left : Option (List ℕ)) (text bytes : List ℕ) → r0 ≡ Some text → Consumes r0 left bytes →
+  pub reads_some : (P : List ℕ → Option (List ℕ) → Type 0) (r0 left : Option (List ℕ)) (text bytes : List ℕ) → r0 ≡ Some text →
+      Consumes r0 left bytes →
       ((rest : List ℕ) → P (bytes ++ rest) (Some rest)) → P text left
   reads_some P None left text bytes is taken all = absurd (none-some text is)
   reads_some P (Some xs) None text bytes is taken all = absurd taken
   reads_some P (Some xs) (Some ys) text bytes is taken all = subst (λ l. P l (Some ys)) (sym taken ∙ same_Some xs text is) (all ys)
 
-  pub reads_same : (p : Progress) (before after text bytes : List ℕ) (r0 left w : Option (List ℕ)) → r0 ≡ Some text → Consumes r0 left bytes →
+  pub reads_same : (p : Progress) (before after text bytes : List ℕ) (r0 left w : Option (List ℕ)) → r0 ≡ Some text →
+      Consumes r0 left bytes →
       after ≡ before ++ bytes → ReadsOn t f p p before after text left w w
   reads_same p before after text bytes r0 left w is taken appended =
       reads_some (λ l o. ReadsOn t f p p before after l o w w) r0 left text bytes is taken
       (λ rest. record { rest = rest; is_left = refl; writes = no_more p before after bytes rest w appended })
 
-  pub reads_more : (p q : Progress) (before mid after text bytes : List ℕ) (r0 left w v : Option (List ℕ)) → r0 ≡ Some text → Consumes r0 left bytes →
-      mid ≡ before ++ bytes → ((more : List ℕ) → Writes t f p q (mid ++ more) (after ++ more) w v) → ReadsOn t f p q before after text left w v
+  pub reads_more : (p q : Progress) (before mid after text bytes : List ℕ) (r0 left w v : Option (List ℕ)) → r0 ≡ Some text →
+      Consumes r0 left bytes →
+      mid ≡ before ++ bytes → ((more : List ℕ) → Writes t f p q (mid ++ more) (after ++ more) w v) →
+      ReadsOn t f p q before after text left w v
   reads_more p q before mid after text bytes r0 left w v is taken appended writes =
       reads_some (λ l o. ReadsOn t f p q before after l o w v) r0 left text bytes is taken
       (λ rest. record {
         rest = rest;
         is_left = refl;
-        writes = subst (λ l. Writes t f p q l (after ++ rest) w v) (ap (λ l. l ++ rest) appended ∙ append_assoc before bytes rest) (writes rest);
+        writes = subst (λ l. Writes t f p q l (after ++ rest) w v) (ap (λ l. l ++ rest) appended ∙ append_assoc before bytes rest)
+            (writes rest);
       })
 
-  pub part_more : (p : Progress) (before mid text bytes : List ℕ) (r0 left w v : Option (List ℕ)) → r0 ≡ Some text → Consumes r0 left bytes →
+  pub part_more : (p : Progress) (before mid text bytes : List ℕ) (r0 left w v : Option (List ℕ)) → r0 ≡ Some text →
+      Consumes r0 left bytes →
       mid ≡ before ++ bytes → ((more : List ℕ) → WritesPart t f p (mid ++ more) w v) → WritesPart t f p (before ++ text) w v
   part_more p before mid text bytes r0 left w v is taken appended part =
       reads_some (λ l o. WritesPart t f p (before ++ l) w v) r0 left text bytes is taken
@@ -95,7 +102,8 @@ module _ (t : Task) (f : Finds) where
   then_printed : (a b c d : List ℕ) (one two : List ℕ) → a ≡ one ++ b → b ≡ two ++ c → a ≡ (one ++ two) ++ c
   then_printed a b c d one two first second = first ∙ ap (λ l. one ++ l) second ∙ sym (append_assoc one two c)
 
-  pub then_writes : (o p q : Progress) (x y z : List ℕ) (u w v : Option (List ℕ)) → Writes t f o p x y u w → Writes t f p q y z w v → Writes t f o q x z u v
+  pub then_writes : (o p q : Progress) (x y z : List ℕ) (u w v : Option (List ℕ)) → Writes t f o p x y u w → Writes t f p q y z w v →
+      Writes t f o q x z u v
   then_writes o p q x y z u w v a b = record {
     told = a.told ++ b.told;
     written = Appends-trans u w v a.told b.told a.written b.written;
@@ -105,7 +113,8 @@ module _ (t : Task) (f : Finds) where
     };
   }
 
-  pub then_part : (o p : Progress) (x y : List ℕ) (u w v : Option (List ℕ)) → Writes t f o p x y u w → WritesPart t f p y w v → WritesPart t f o x u v
+  pub then_part : (o p : Progress) (x y : List ℕ) (u w v : Option (List ℕ)) → Writes t f o p x y u w → WritesPart t f p y w v →
+      WritesPart t f o x u v
   then_part o p x y u w v a part = (
     length a.told + part.0,
     subst (Appends u v) (sym (take-append-add a.told (tells p y) part.0) ∙ ap (take (length a.told + part.0)) (sym a.on.printed))
@@ -113,7 +122,8 @@ module _ (t : Task) (f : Finds) where
   )
 
   -- what a block's lines are told as, with what was read as its calls know it
-  told_of_read : (p q : Progress) (read block same rest more empty out : List ℕ) (done : ℕ) → empty ≡ [] → block ≡ read → same ≡ read → rest ≡ drop done same →
+  told_of_read : (p q : Progress) (read block same rest more empty out : List ℕ) (done : ℕ) → empty ≡ [] → block ≡ read → same ≡ read →
+      rest ≡ drop done same →
       empty ++ tells p (block ++ more) ≡ out ++ tells q (drop done block ++ more) → tells p (read ++ more) ≡ out ++ tells q (rest ++ more)
   told_of_read p q read block same rest more empty out done none is also cut told =
       let behind : drop done block ≡ rest = ap (drop done) (is ∙ sym also) ∙ sym cut in
@@ -122,7 +132,8 @@ module _ (t : Task) (f : Finds) where
       ∙ told
       ∙ ap (λ l. out ++ tells q (l ++ more)) behind
 
-  pub read_writes : (p q : Progress) (read block same rest more empty out shown : List ℕ) (done : ℕ) (w v : Option (List ℕ)) → empty ≡ [] → block ≡ read → same ≡ read →
+  pub read_writes : (p q : Progress) (read block same rest more empty out shown : List ℕ) (done : ℕ) (w v : Option (List ℕ)) → empty ≡ [] →
+      block ≡ read → same ≡ read →
       rest ≡ drop done same → shown ≡ out → empty ++ tells p (block ++ more) ≡ out ++ tells q (drop done block ++ more) →
       counts_lines t f q (split_lines (drop done block ++ more)) ≡ counts_lines t f p (split_lines (block ++ more)) →
       Appends w v shown → Writes t f p q (read ++ more) (rest ++ more) w v
@@ -131,15 +142,18 @@ module _ (t : Task) (f : Finds) where
     written = subst (Appends w v) seen written;
     on = record {
       printed = told_of_read p q read block same rest more empty out done none is also cut told;
-      counted = ap (λ l. counts_lines t f q (split_lines (l ++ more))) (cut ∙ ap (drop done) (also ∙ sym is)) ∙ counted ∙ ap (λ l. counts_lines t f p (split_lines (l ++ more))) is;
+      counted = ap (λ l. counts_lines t f q (split_lines (l ++ more))) (cut ∙ ap (drop done) (also ∙ sym is)) ∙ counted
+          ∙ ap (λ l. counts_lines t f p (split_lines (l ++ more))) is;
     };
   }
 
-  pub read_part : (p q : Progress) (read block same rest more empty out shown : List ℕ) (done : ℕ) (w v : Option (List ℕ)) → empty ≡ [] → block ≡ read → same ≡ read →
+  pub read_part : (p q : Progress) (read block same rest more empty out shown : List ℕ) (done : ℕ) (w v : Option (List ℕ)) → empty ≡ [] →
+      block ≡ read → same ≡ read →
       rest ≡ drop done same → shown ≡ out → empty ++ tells p (block ++ more) ≡ out ++ tells q (drop done block ++ more) →
       (n : ℕ) × Appends w v (take n shown) → WritesPart t f p (read ++ more) w v
   read_part p q read block same rest more empty out shown done w v none is also cut seen told part =
-      out_part p q (read ++ more) (rest ++ more) out part.0 w v (told_of_read p q read block same rest more empty out done none is also cut told)
+      out_part p q (read ++ more) (rest ++ more) out part.0 w v
+      (told_of_read p q read block same rest more empty out done none is also cut told)
       (subst (λ l. Appends w v (take part.0 l)) seen part.1)
 
   -- steps over what was read
@@ -158,31 +172,42 @@ module _ (t : Task) (f : Finds) where
     writes = then_writes o p q (x ++ text) (y ++ a.rest) (z ++ b.rest) u w v a.writes b.writes;
   }
 
-  pub reads_part : (o p : Progress) (x y text : List ℕ) (now u w : Option (List ℕ)) → ReadsOn t f o p x y text now u w → WritesPart t f o (x ++ text) u w
+  pub reads_part : (o p : Progress) (x y text : List ℕ) (now u w : Option (List ℕ)) → ReadsOn t f o p x y text now u w →
+      WritesPart t f o (x ++ text) u w
   reads_part o p x y text now u w a = then_part o p (x ++ text) (y ++ a.rest) u w w a.writes (none_part p (y ++ a.rest) w)
 
   -- a text that has ended is all that was read of it
-  pub ended_written : (p : Progress) (read more : List ℕ) (w v : Option (List ℕ)) → more ≡ [] → Appends w v (tells p read) → Appends w v (tells p (read ++ more))
-  ended_written p read more w v none written = subst (λ l. Appends w v (tells p l)) (sym (append-nil read) ∙ ap (λ m. read ++ m) (sym none)) written
+  pub ended_written : (p : Progress) (read more : List ℕ) (w v : Option (List ℕ)) → more ≡ [] → Appends w v (tells p read) →
+      Appends w v (tells p (read ++ more))
+  ended_written p read more w v none written = subst (λ l. Appends w v (tells p l))
+      (sym (append-nil read) ∙ ap (λ m. read ++ m) (sym none)) written
 
   pub ended_counted : (p q : Progress) (read more : List ℕ) → more ≡ [] → counts_lines t f q [] ≡ counts_lines t f p (split_lines read) →
       nat_lt 0 (counts_lines t f q []) ≡ nat_lt 0 (counts_lines t f p (split_lines (read ++ more)))
   ended_counted p q read more none counted =
       ap (nat_lt 0) (counted ∙ ap (λ l. counts_lines t f p (split_lines l)) (sym (append-nil read) ∙ ap (λ m. read ++ m) (sym none)))
 
-  pub ended_part : (p : Progress) (read more : List ℕ) (w v : Option (List ℕ)) → more ≡ [] → WritesPart t f p read w v → WritesPart t f p (read ++ more) w v
+  pub ended_part : (p : Progress) (read more : List ℕ) (w v : Option (List ℕ)) → more ≡ [] → WritesPart t f p read w v →
+      WritesPart t f p (read ++ more) w v
   ended_part p read more w v none part = subst (λ l. WritesPart t f p l w v) (sym (append-nil read) ∙ ap (λ m. read ++ m) (sym none)) part
 
   -- of one of which nothing more is told
-  pub over_written : (p : Progress) (text : List ℕ) (w v : Option (List ℕ)) → IsOver t p → Appends w v (tells_lines t f p []) → Appends w v (tells p text)
+  pub over_written : (p : Progress) (text : List ℕ) (w v : Option (List ℕ)) → IsOver t p → Appends w v (tells_lines t f p []) →
+      Appends w v (tells p text)
   over_written p text w v over written = subst (Appends w v) (sym (over.printed f (split_lines text))) written
 
-  pub over_part : (p : Progress) (text : List ℕ) (w v : Option (List ℕ)) → IsOver t p → (n : ℕ) × Appends w v (take n (tells_lines t f p [])) → WritesPart t f p text w v
+  pub over_part : (p : Progress) (text : List ℕ) (w v : Option (List ℕ)) → IsOver t p →
+      (n : ℕ) × Appends w v (take n (tells_lines t f p [])) → WritesPart t f p text w v
   over_part p text w v over part = (part.0, subst (λ l. Appends w v (take part.0 l)) (sym (over.printed f (split_lines text))) part.1)
 
   -- all of it is a beginning too
-  pub whole_part : (p : Progress) (text : List ℕ) (w v u : Option (List ℕ)) → Appends w v (tells p text) → Keeps v u → WritesPart t f p text w u
-  whole_part p text w v u written kept = (length (tells p text), subst (Appends w u) (sym (take-length (tells p text))) (appends_kept w v u (tells p text) written kept))
+  pub whole_part : (p : Progress) (text : List ℕ) (w v u : Option (List ℕ)) → Appends w v (tells p text) → Keeps v u →
+      WritesPart t f p text w u
+  whole_part p text w v u written kept = (
+    length (tells p text),
+    subst (Appends w u) (sym (take-length (tells p text)))
+        (appends_kept w v u (tells p text) written kept),
+  )
 
   -- the whole text
   pub all_written : (o p : Progress) (x y text : List ℕ) (now u w v : Option (List ℕ)) (a : ReadsOn t f o p x y text now u w) →
@@ -195,10 +220,12 @@ module _ (t : Task) (f : Finds) where
   all_part o p x y text now u w v a part = then_part o p (x ++ text) (y ++ a.rest) u w v a.writes part
 
 -- what is written of bytes that are known by an equation
-pub shown_written : (empty shown out told : List ℕ) (w v : Option (List ℕ)) → empty ≡ [] → shown ≡ out → empty ++ told ≡ out → Appends w v shown → Appends w v told
+pub shown_written : (empty shown out told : List ℕ) (w v : Option (List ℕ)) → empty ≡ [] → shown ≡ out → empty ++ told ≡ out →
+    Appends w v shown → Appends w v told
 shown_written empty shown out told w v none seen is written = subst (Appends w v) (seen ∙ sym is ∙ ap (λ l. l ++ told) none) written
 
-pub shown_part : (empty shown out told : List ℕ) (w v : Option (List ℕ)) → empty ≡ [] → shown ≡ out → empty ++ told ≡ out → (n : ℕ) × Appends w v (take n shown) →
+pub shown_part : (empty shown out told : List ℕ) (w v : Option (List ℕ)) → empty ≡ [] → shown ≡ out → empty ++ told ≡ out →
+    (n : ℕ) × Appends w v (take n shown) →
     (n : ℕ) × Appends w v (take n told)
 shown_part empty shown out told w v none seen is part =
     (part.0, subst (λ l. Appends w v (take part.0 l)) (seen ∙ sym is ∙ ap (λ l. l ++ told) none) part.1)

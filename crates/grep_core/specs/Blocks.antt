@@ -37,7 +37,8 @@ pub record Writes (t : Task) (f : Finds) (old new : Progress) (before after : Li
   pub on : TellsOn t f told old new before after
 
 -- where a reader had a text left, some of it was read, and what is told of that was written
-pub record ReadsOn (t : Task) (f : Finds) (old new : Progress) (before after text : List ℕ) (left empty full : Option (List ℕ)) : Type 0 where
+pub record ReadsOn (t : Task) (f : Finds) (old new : Progress) (before after text : List ℕ)
+    (left empty full : Option (List ℕ)) : Type 0 where
   pub rest : List ℕ
   pub is_left : left ≡ Some rest
   pub writes : Writes t f old new (before ++ text) (after ++ rest) empty full

@@ -1,5 +1,6 @@
 -- How lines are printed, as by GNU grep.
-use Rattle.std.specs.Prelude.{ℕ, ◌+◌, Bool, true, false, not, ◌&&◌, List, [], ◌∷◌, ◌++◌, codes, decimal, slice_range, length, Option, Some, None, if◌then◌else◌}
+use Rattle.std.specs.Prelude.{ℕ, ◌+◌, Bool, true, false, not, ◌&&◌, List, [], ◌∷◌, ◌++◌, codes, decimal, slice_range, length, Option, Some}
+use Rattle.std.specs.Prelude.{None, if◌then◌else◌}
 use Rattle.std.specs.List.{flat_map}
 use Rattle.grep_core.specs.declared.line.Line.{Line}
 use Rattle.grep_core.specs.declared.role.Role.{Role}
@@ -11,7 +12,8 @@ use Rattle.grep_core.specs.Lines.{TextLine}
 -- marked for a terminal: 27 begins a sequence that sets a colour, and one that ends it
 abbrev pub marked : Bool → List ℕ → List ℕ → List ℕ
 marked false code text = text
-marked true code text = 27 ∷ (codes "[" ++ (code ++ (codes "m" ++ (27 ∷ (codes "[K" ++ (text ++ (27 ∷ (codes "[m" ++ (27 ∷ codes "[K")))))))))
+marked true code text = 27 ∷ (codes "[" ++ (code ++
+    (codes "m" ++ (27 ∷ (codes "[K" ++ (text ++ (27 ∷ (codes "[m" ++ (27 ∷ codes "[K")))))))))
 
 -- what parts the fields before a line: a colon for selected lines, or else a hyphen
 abbrev pub separator : Role → List ℕ
@@ -46,7 +48,8 @@ span_pair s = (s.start, s.end)
 -- the bytes of a line from a place on, with the spans behind it marked
 abbrev pub marked_from : List ℕ → ℕ → List (ℕ × ℕ) → List ℕ
 marked_from line at [] = slice_range line at (length line)
-marked_from line at (s ∷ spans) = slice_range line at s.0 ++ (marked true (codes "01;31") (slice_range line s.0 s.1) ++ marked_from line s.1 spans)
+marked_from line at (s ∷ spans) = slice_range line at s.0
+    ++ (marked true (codes "01;31") (slice_range line s.0 s.1) ++ marked_from line s.1 spans)
 
 -- matches are marked in lines that have some: selected ones, or with `invert` those beside them
 abbrev pub has_marks : What → Role → Bool

@@ -59,8 +59,10 @@ abbrev pub print_lines : {X : Type 0} → What → (Role → X → List ℕ) →
 print_lines w print before [] lines = []
 print_lines w print before (r ∷ rs) [] = []
 print_lines w print before (Hidden ∷ rs) (line ∷ lines) = print_lines w print (behind_hidden before) rs lines
-print_lines w print before (Selected ∷ rs) (line ∷ lines) = parting w before ++ (print Selected line ++ print_lines w print LastPrinted rs lines)
-print_lines w print before (Beside ∷ rs) (line ∷ lines) = parting w before ++ (print Beside line ++ print_lines w print LastPrinted rs lines)
+print_lines w print before (Selected ∷ rs) (line ∷ lines) =
+    parting w before ++ (print Selected line ++ print_lines w print LastPrinted rs lines)
+print_lines w print before (Beside ∷ rs) (line ∷ lines) =
+    parting w before ++ (print Beside line ++ print_lines w print LastPrinted rs lines)
 
 -- the count, behind the text's name
 abbrev pub count_line : What → Option (List ℕ) → ℕ → List ℕ
@@ -74,9 +76,11 @@ name_line w name = marked w.color (codes "35") name ++ 10 ∷ []
 -- one is what is known of those of earlier texts.
 abbrev pub report_as : Print → What → Finds → List ℕ → Bool → Known → List TextLine → List Bool → List ℕ
 report_as Lines w f name with_name known lines wanted =
-    print_lines w (λ role line. printed_line w (if with_name then Some name else None) role line (told_spans f line)) known (roles_of w wanted) lines
+    print_lines w (λ role line. printed_line w (if with_name then Some name else None) role line (told_spans f line)) known
+    (roles_of w wanted) lines
 report_as Matches w f name with_name known lines wanted =
-    print_lines w (λ role line. printed_matches w (if with_name then Some name else None) role line (told_spans f line)) known (roles_of w wanted) lines
+    print_lines w (λ role line. printed_matches w (if with_name then Some name else None) role line (told_spans f line)) known
+    (roles_of w wanted) lines
 report_as Count w f name with_name known lines wanted = count_line w (if with_name then Some name else None) (count wanted)
 report_as NameIfAny w f name with_name known lines wanted = if nat_lt 0 (count wanted) then name_line w name else []
 report_as NameIfNone w f name with_name known lines wanted = if nat_lt 0 (count wanted) then [] else name_line w name

@@ -27,7 +27,8 @@ abbrev pub roles_from : ℕ → ℕ → ℕ → List Bool → List Role
 roles_from before after left [] = []
 roles_from before after left (true ∷ selected) = Selected ∷ roles_from before after after selected
 roles_from before after (suc left) (false ∷ selected) = Beside ∷ roles_from before after left selected
-roles_from before after zero (false ∷ selected) = (if any (take before selected) then Beside else Hidden) ∷ roles_from before after zero selected
+roles_from before after zero (false ∷ selected) = (if any (take before selected) then Beside else Hidden) ∷ roles_from before after zero
+    selected
 
 abbrev pub roles : ℕ → ℕ → List Bool → List Role
 roles before after selected = roles_from before after 0 selected

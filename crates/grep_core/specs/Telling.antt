@@ -49,7 +49,8 @@ abbrev pub flags_behind : What → Finds → ℕ → List TextLine → List Bool
 flags_behind w f n lines = limited (left_of w.most n) (map (is_wanted w f) lines)
 
 abbrev pub still_told : What → Finds → List ℕ → Bool → Telling → List TextLine → List ℕ
-still_told w f name with_name t lines = tells_as w.print w name with_name t.course t.count (flags_behind w f t.count lines) (map (told_item f) lines)
+still_told w f name with_name t lines = tells_as w.print w name with_name t.course t.count (flags_behind w f t.count lines)
+    (map (told_item f) lines)
 
 -- how many lines are selected in all
 abbrev pub count_in_all : What → Finds → Telling → List TextLine → ℕ

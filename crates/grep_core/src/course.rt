@@ -55,7 +55,8 @@ fn push_waiting(
     known: Known,
     it: &Waiting,
 ) -> Result<(), Fault>
-    ensures { OnOk result (out.new.items ≡ out.old.items ++ (parting what.now known ++ print_item what.now (option_map (λ n. n.now) name.entry) Role.Beside (waiting_item it.now))) }
+    ensures { OnOk result (out.new.items ≡ out.old.items
+        ++ (parting what.now known ++ print_item what.now (option_map (λ n. n.now) name.entry) Role.Beside (waiting_item it.now))) }
 {
     push_parting(out, what, known)?;
     let line = Line {
@@ -75,7 +76,9 @@ fn print_waiting(
     name: Option<&[u8]>,
     course: &mut Course,
 ) -> Result<(), Fault>
-    ensures printed { OnOk result (out.new.items ≡ out.old.items ++ queued what.now (print_item what.now (option_map (λ n. n.now) name.entry)) course.old.known (map waiting_item course.old.waiting.items)) }
+    ensures printed { OnOk result (out.new.items ≡ out.old.items
+        ++ queued what.now (print_item what.now (option_map (λ n. n.now) name.entry)) course.old.known
+        (map waiting_item course.old.waiting.items)) }
     ensures known { OnOk result (course.new.known ≡ behind_queue course.old.known course.old.waiting.items) }
     ensures none { OnOk result (course.new.waiting.items ≡ []) }
     ensures left { course.new.left ≡ course.old.left }
@@ -119,7 +122,8 @@ fn select(
 ) -> Result<(), Fault>
     requires { Waits what.now course.old }
     ensures goes_on { OnOk result ((flags : List Bool) (items : List Item) →
-        out.old.items ++ still what.now (option_map (λ n. n.now) name.entry) course.old (true ∷ flags) (item (text_line line.entry) (map span_pair found.now) ∷ items)
+        out.old.items ++ still what.now (option_map (λ n. n.now) name.entry) course.old (true ∷ flags)
+        (item (text_line line.entry) (map span_pair found.now) ∷ items)
         ≡ out.new.items ++ still what.now (option_map (λ n. n.now) name.entry) course.new flags items) }
     ensures waits { OnOk result (Waits what.now course.new) }
 {
@@ -144,7 +148,8 @@ fn stand_beside(
     requires waits { Waits what.now course.old }
     requires owed { 0 < course.old.left }
     ensures goes_on { OnOk result ((flags : List Bool) (items : List Item) →
-        out.old.items ++ still what.now (option_map (λ n. n.now) name.entry) course.old (false ∷ flags) (item (text_line line.entry) (map span_pair found.now) ∷ items)
+        out.old.items ++ still what.now (option_map (λ n. n.now) name.entry) course.old (false ∷ flags)
+        (item (text_line line.entry) (map span_pair found.now) ∷ items)
         ≡ out.new.items ++ still what.now (option_map (λ n. n.now) name.entry) course.new flags items) }
     ensures waits { OnOk result (Waits what.now course.new) }
 {
@@ -223,7 +228,8 @@ impl Course {
     /// Before the first line, where this is known of the lines of earlier texts.
     pub(crate) fn new(alloc: Global, known: Known) -> Course
         ensures starts { (what : TheWhat) → (name : Option (List ℕ)) → (flags : List Bool) → (items : List Item) →
-            still what name result flags items ≡ print_lines what (print_item what name) known (roles (before_of what.context) (after_of what.context) flags) items }
+            still what name result flags items ≡ print_lines what (print_item what name) known
+            (roles (before_of what.context) (after_of what.context) flags) items }
         ensures waits { (what : TheWhat) → Waits what result }
     {
         Course {
@@ -247,7 +253,8 @@ pub(crate) fn next_line(
 ) -> Result<(), Fault>
     requires { Waits what.now course.old }
     ensures goes_on { OnOk result ((flags : List Bool) (items : List Item) →
-        out.old.items ++ still what.now (option_map (λ n. n.now) name.entry) course.old (is_selected ∷ flags) (item (text_line line.entry) (map span_pair found.now) ∷ items)
+        out.old.items ++ still what.now (option_map (λ n. n.now) name.entry) course.old (is_selected ∷ flags)
+        (item (text_line line.entry) (map span_pair found.now) ∷ items)
         ≡ out.new.items ++ still what.now (option_map (λ n. n.now) name.entry) course.new flags items) }
     ensures waits { OnOk result (Waits what.now course.new) }
 {

@@ -82,7 +82,8 @@ fn has_one(alloc: Global, regex: &Regex, line: &[u8]) -> Result<bool, AllocError
 
 /// Whether it has one of some pattern.
 pub(crate) fn has_any(alloc: Global, regexes: &[Regex], line: &[u8]) -> Result<bool, AllocError>
-    ensures { IfOk result (λ told. (config : TextConfig) (texts : List (List ℕ)) → AreRegexesOf config texts regexes.now → IsTold config texts line.now told) }
+    ensures { IfOk result (λ told. (config : TextConfig) (texts : List (List ℕ)) → AreRegexesOf config texts regexes.now →
+        IsTold config texts line.now told) }
 {
     see_bytes(line);
     for regex in regexes {
@@ -184,7 +185,8 @@ pub(crate) fn all_matches(
     regexes: &[Regex],
     line: &[u8],
 ) -> Result<Vec<Span>, AllocError>
-    ensures { IfOk result (λ found. (config : TextConfig) (texts : List (List ℕ)) → AreRegexesOf config texts regexes.now → AreTold config texts line.now (map span_pair found.items)) }
+    ensures { IfOk result (λ found. (config : TextConfig) (texts : List (List ℕ)) → AreRegexesOf config texts regexes.now →
+        AreTold config texts line.now (map span_pair found.items)) }
 {
     see_bytes(line);
     let mut found = Vec::new(alloc);

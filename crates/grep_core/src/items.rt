@@ -24,7 +24,8 @@ fn push_match_at(
     place: u64,
 ) -> Result<(), AllocError>
     requires { place ≡ line.place + span.start }
-    ensures { OnOk result (out.new.items ≡ out.old.items ++ printed_match what.now (option_map (λ n. n.now) name.entry) role (text_line line.entry) (span_pair span)) }
+    ensures { OnOk result (out.new.items ≡ out.old.items
+        ++ printed_match what.now (option_map (λ n. n.now) name.entry) role (text_line line.entry) (span_pair span)) }
 {
     push_fields(alloc, out, what, name, role, line.number, place)?;
     push_marked(
@@ -47,7 +48,8 @@ fn push_match(
     line: Line<'_>,
     span: Span,
 ) -> Result<(), Fault>
-    ensures { OnOk result (out.new.items ≡ out.old.items ++ printed_match what.now (option_map (λ n. n.now) name.entry) role (text_line line.entry) (span_pair span)) }
+    ensures { OnOk result (out.new.items ≡ out.old.items
+        ++ printed_match what.now (option_map (λ n. n.now) name.entry) role (text_line line.entry) (span_pair span)) }
 {
     let Some(place) = line.place.checked_add(span.start as u64) else {
         return Err(Fault::TooLong);
@@ -66,7 +68,8 @@ fn push_all(
     line: Line<'_>,
     found: &[Span],
 ) -> Result<(), Fault>
-    ensures { OnOk result (out.new.items ≡ out.old.items ++ flat_map (printed_match what.now (option_map (λ n. n.now) name.entry) role (text_line line.entry)) (map span_pair found.now)) }
+    ensures { OnOk result (out.new.items ≡ out.old.items
+        ++ flat_map (printed_match what.now (option_map (λ n. n.now) name.entry) role (text_line line.entry)) (map span_pair found.now)) }
 {
     for span in found {
         push_match(alloc, out, what, name, role, line, *span)?;
@@ -84,7 +87,8 @@ fn push_matches(
     line: Line<'_>,
     found: &[Span],
 ) -> Result<(), Fault>
-    ensures { OnOk result (out.new.items ≡ out.old.items ++ printed_matches what.now (option_map (λ n. n.now) name.entry) role (text_line line.entry) (map span_pair found.now)) }
+    ensures { OnOk result (out.new.items ≡ out.old.items
+        ++ printed_matches what.now (option_map (λ n. n.now) name.entry) role (text_line line.entry) (map span_pair found.now)) }
 {
     if has_marks(what, role) {
         return push_all(alloc, out, what, name, role, line, found);
@@ -102,7 +106,8 @@ pub(crate) fn push_item(
     line: Line<'_>,
     found: &[Span],
 ) -> Result<(), Fault>
-    ensures { OnOk result (out.new.items ≡ out.old.items ++ print_item what.now (option_map (λ n. n.now) name.entry) role (item (text_line line.entry) (map span_pair found.now))) }
+    ensures { OnOk result (out.new.items ≡ out.old.items
+        ++ print_item what.now (option_map (λ n. n.now) name.entry) role (item (text_line line.entry) (map span_pair found.now))) }
 {
     match what.print {
         Print::Matches => push_matches(alloc, out, what, name, role, line, found),

@@ -1,6 +1,7 @@
 //! How a line is printed, as by GNU grep.
 ghost use Rattle.std.specs.Prelude.{◌≡◌, ◌≤◌, ◌++◌, ◌∷◌, ◌+◌, ℕ, [], codes, decimal, length, map, option_map, slice_range, OnOk};
-ghost use Rattle.grep_core.specs.Printing.{marked, marked_from, span_pair, has_marks, line_bytes, printed_line, text_line, group_line, field, fields, if_asked, name_field, separator};
+ghost use Rattle.grep_core.specs.Printing.{marked, marked_from, span_pair, has_marks, line_bytes, printed_line, text_line, group_line};
+ghost use Rattle.grep_core.specs.Printing.{field, fields, if_asked, name_field, separator};
 
 use crate::line::Line;
 use crate::role::Role;
@@ -155,7 +156,8 @@ pub(crate) fn push_line(
     line: Line<'_>,
     found: &[Span],
 ) -> Result<(), AllocError>
-    ensures { OnOk result (out.new.items ≡ out.old.items ++ printed_line what.now (option_map (λ n. n.now) name.entry) role (text_line line.entry) (map span_pair found.now)) }
+    ensures { OnOk result (out.new.items ≡ out.old.items
+        ++ printed_line what.now (option_map (λ n. n.now) name.entry) role (text_line line.entry) (map span_pair found.now)) }
 {
     push_fields(alloc, out, what, name, role, line.number, line.place)?;
     push_bytes(out, what, role, line.bytes, found)?;

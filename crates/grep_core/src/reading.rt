@@ -1,5 +1,6 @@
 //! A text is read in blocks, and its lines are told one after the other.
-ghost use Rattle.std.specs.Prelude.{◌≡◌, ◌==◌, None, ◌++◌, ◌<◌, ◌≤◌, ℕ, [], List, Some, Ok, OnOk, IfOk, IfErr, IfSome, IsTrue, drop, take, true, false, length, nat_lt};
+ghost use Rattle.std.specs.Prelude.{◌≡◌, ◌==◌, None, ◌++◌, ◌<◌, ◌≤◌, ℕ, [], List, Some, Ok, OnOk, IfOk, IfErr, IfSome, IsTrue, drop, take};
+ghost use Rattle.std.specs.Prelude.{true, false, length, nat_lt};
 ghost use Rattle.std.specs.Io.KnownBytes.{Appends, IsAtEnd, Keeps};
 ghost use Rattle.std.specs.List.{position};
 ghost use Rattle.hirscan.specs.Runs.{ReadsSome};
@@ -110,10 +111,12 @@ fn tell_read<W: Write>(
     ensures same { finder.new ≡ finder.old }
     ensures waits { OnOk result (Waits task.entry.what.now progress.new.telling.course) }
     ensures writes { OnOk result ((by : SearchesBy task.entry finder.old) (more : List ℕ) →
-        Writes task.entry (finds_by task.entry by) progress.old progress.new (read.old.items ++ more) (read.new.items ++ more) (W.contents writer.old) (W.contents writer.new)) }
+        Writes task.entry (finds_by task.entry by) progress.old progress.new (read.old.items ++ more) (read.new.items ++ more)
+        (W.contents writer.old) (W.contents writer.new)) }
     ensures over { IfOk result (λ over. IsTrue over → IsOver task.entry progress.new) }
     ensures fault { IfErr result (λ _. (by : SearchesBy task.entry finder.old) (more : List ℕ) →
-        WritesPart task.entry (finds_by task.entry by) progress.old (read.old.items ++ more) (W.contents writer.old) (W.contents writer.new)) }
+        WritesPart task.entry (finds_by task.entry by) progress.old (read.old.items ++ more) (W.contents writer.old)
+        (W.contents writer.new)) }
 {
     let mut out = Vec::new(alloc);
     let done = match tell_block(alloc, &mut out, finder, task, progress, read) {
@@ -149,11 +152,13 @@ fn next_block<R: Read, W: Write>(
     ensures waits { OnOk result (Waits task.entry.what.now progress.new.telling.course) }
     ensures chunk { length chunk.new ≡ length chunk.old }
     ensures reads { OnOk result ((by : SearchesBy task.entry finder.old) (text : List ℕ) → R.remaining reader.old ≡ Some text →
-        ReadsOn task.entry (finds_by task.entry by) progress.old progress.new read.old.items read.new.items text (R.remaining reader.new) (W.contents writer.old) (W.contents writer.new)) }
+        ReadsOn task.entry (finds_by task.entry by) progress.old progress.new read.old.items read.new.items text (R.remaining reader.new)
+        (W.contents writer.old) (W.contents writer.new)) }
     ensures end { result ≡ Ok Next.End → IsAtEnd (R.remaining reader.new) }
     ensures over { result ≡ Ok Next.Over → IsOver task.entry progress.new }
     ensures fault { IfErr result (λ _. (by : SearchesBy task.entry finder.old) (text : List ℕ) → R.remaining reader.old ≡ Some text →
-        WritesPart task.entry (finds_by task.entry by) progress.old (read.old.items ++ text) (W.contents writer.old) (W.contents writer.new)) }
+        WritesPart task.entry (finds_by task.entry by) progress.old (read.old.items ++ text) (W.contents writer.old)
+        (W.contents writer.new)) }
 {
     let before = read.len();
     let taken = match read_some(reader, chunk, read) {
@@ -192,11 +197,13 @@ fn tell_blocks<R: Read, W: Write>(
     ensures same { finder.new ≡ finder.old }
     ensures waits { OnOk result (Waits task.entry.what.now progress.new.telling.course) }
     ensures reads { OnOk result ((by : SearchesBy task.entry finder.old) (text : List ℕ) → R.remaining reader.old ≡ Some text →
-        ReadsOn task.entry (finds_by task.entry by) progress.old progress.new read.old.items read.new.items text (R.remaining reader.new) (W.contents writer.old) (W.contents writer.new)) }
+        ReadsOn task.entry (finds_by task.entry by) progress.old progress.new read.old.items read.new.items text (R.remaining reader.new)
+        (W.contents writer.old) (W.contents writer.new)) }
     ensures end { IfOk result (λ ended. ended ≡ true → IsAtEnd (R.remaining reader.new)) }
     ensures over { IfOk result (λ ended. ended ≡ false → IsOver task.entry progress.new) }
     ensures fault { IfErr result (λ _. (by : SearchesBy task.entry finder.old) (text : List ℕ) → R.remaining reader.old ≡ Some text →
-        WritesPart task.entry (finds_by task.entry by) progress.old (read.old.items ++ text) (W.contents writer.old) (W.contents writer.new)) }
+        WritesPart task.entry (finds_by task.entry by) progress.old (read.old.items ++ text) (W.contents writer.old)
+        (W.contents writer.new)) }
 {
     for _ in 0..u64::MAX {
         match next_block(alloc, reader, writer, finder, task, chunk, read, progress) {
@@ -222,8 +229,12 @@ fn tell_open_line(
     requires unended { position (λ b. b == 10) rest.now ≡ None }
     ensures same { finder.new ≡ finder.old }
     ensures waits { OnOk result (Waits task.entry.what.now progress.new.telling.course) }
-    ensures told { OnOk result ((by : SearchesBy task.entry finder.old) → out.old.items ++ tells_lines task.entry (finds_by task.entry by) progress.old (split_lines rest.now) ≡ out.new.items ++ tells_lines task.entry (finds_by task.entry by) progress.new []) }
-    ensures counts { OnOk result ((by : SearchesBy task.entry finder.old) → counts_lines task.entry (finds_by task.entry by) progress.new [] ≡ counts_lines task.entry (finds_by task.entry by) progress.old (split_lines rest.now)) }
+    ensures told { OnOk result ((by : SearchesBy task.entry finder.old) →
+        out.old.items ++ tells_lines task.entry (finds_by task.entry by) progress.old (split_lines rest.now) ≡ out.new.items
+        ++ tells_lines task.entry (finds_by task.entry by) progress.new []) }
+    ensures counts { OnOk result ((by : SearchesBy task.entry finder.old) →
+        counts_lines task.entry (finds_by task.entry by) progress.new []
+        ≡ counts_lines task.entry (finds_by task.entry by) progress.old (split_lines rest.now)) }
 {
     if rest.is_empty() {
         return Ok(());
@@ -245,8 +256,11 @@ fn tell_tail(
 ) -> Result<(), Fault>
     requires { Waits task.what.now progress.old.telling.course }
     ensures same { finder.new ≡ finder.old }
-    ensures told { OnOk result ((by : SearchesBy task.entry finder.old) → out.old.items ++ tells_lines task.entry (finds_by task.entry by) progress.old (split_lines read.now) ≡ out.new.items) }
-    ensures counts { OnOk result ((by : SearchesBy task.entry finder.old) → counts_lines task.entry (finds_by task.entry by) progress.new [] ≡ counts_lines task.entry (finds_by task.entry by) progress.old (split_lines read.now)) }
+    ensures told { OnOk result ((by : SearchesBy task.entry finder.old) →
+        out.old.items ++ tells_lines task.entry (finds_by task.entry by) progress.old (split_lines read.now) ≡ out.new.items) }
+    ensures counts { OnOk result ((by : SearchesBy task.entry finder.old) →
+        counts_lines task.entry (finds_by task.entry by) progress.new []
+        ≡ counts_lines task.entry (finds_by task.entry by) progress.old (split_lines read.now)) }
 {
     let done = match tell_block(alloc, out, finder, task, progress, read) {
         Ok(done) => done,
@@ -280,9 +294,14 @@ fn write_tail<W: Write>(
 ) -> Result<(), Fault>
     requires { Waits task.what.now progress.old.telling.course }
     ensures same { finder.new ≡ finder.old }
-    ensures written { OnOk result ((by : SearchesBy task.entry finder.old) → Appends (W.contents writer.old) (W.contents writer.new) (tells_lines task.entry (finds_by task.entry by) progress.old (split_lines read.now))) }
-    ensures counts { OnOk result ((by : SearchesBy task.entry finder.old) → counts_lines task.entry (finds_by task.entry by) progress.new [] ≡ counts_lines task.entry (finds_by task.entry by) progress.old (split_lines read.now)) }
-    ensures fault { IfErr result (λ _. (by : SearchesBy task.entry finder.old) → WritesPart task.entry (finds_by task.entry by) progress.old read.now (W.contents writer.old) (W.contents writer.new)) }
+    ensures written { OnOk result ((by : SearchesBy task.entry finder.old) →
+        Appends (W.contents writer.old) (W.contents writer.new)
+        (tells_lines task.entry (finds_by task.entry by) progress.old (split_lines read.now))) }
+    ensures counts { OnOk result ((by : SearchesBy task.entry finder.old) →
+        counts_lines task.entry (finds_by task.entry by) progress.new []
+        ≡ counts_lines task.entry (finds_by task.entry by) progress.old (split_lines read.now)) }
+    ensures fault { IfErr result (λ _. (by : SearchesBy task.entry finder.old) →
+        WritesPart task.entry (finds_by task.entry by) progress.old read.now (W.contents writer.old) (W.contents writer.new)) }
 {
     let mut out = Vec::new(alloc);
     match tell_tail(alloc, &mut out, finder, task, read, progress) {
@@ -303,8 +322,10 @@ fn write_end<W: Write>(
     progress: &Progress,
 ) -> Result<(), Fault>
     requires { Waits task.what.now progress.now.telling.course }
-    ensures written { OnOk result ((f : Finds) → Appends (W.contents writer.old) (W.contents writer.new) (tells_lines task.entry f progress.now [])) }
-    ensures fault { IfErr result (λ _. (f : Finds) → (n : ℕ) × Appends (W.contents writer.old) (W.contents writer.new) (take n (tells_lines task.entry f progress.now []))) }
+    ensures written { OnOk result ((f : Finds) → Appends (W.contents writer.old) (W.contents writer.new)
+        (tells_lines task.entry f progress.now [])) }
+    ensures fault { IfErr result (λ _. (f : Finds) → (n : ℕ) × Appends (W.contents writer.old) (W.contents writer.new)
+        (take n (tells_lines task.entry f progress.now []))) }
 {
     let mut out = Vec::new(alloc);
     match tell_end(
@@ -338,9 +359,11 @@ fn write_rest<W: Write>(
     requires over { ended ≡ false → IsOver task progress.old }
     ensures same { finder.new ≡ finder.old }
     ensures written { OnOk result ((by : SearchesBy task.entry finder.old) (more : List ℕ) → (ended ≡ true → more ≡ []) →
-        Appends (W.contents writer.old) (W.contents writer.new) (tells_lines task.entry (finds_by task.entry by) progress.old (split_lines (read.now ++ more)))) }
+        Appends (W.contents writer.old) (W.contents writer.new)
+        (tells_lines task.entry (finds_by task.entry by) progress.old (split_lines (read.now ++ more)))) }
     ensures counts { OnOk result ((by : SearchesBy task.entry finder.old) (more : List ℕ) → (ended ≡ true → more ≡ []) →
-        nat_lt 0 (counts_lines task.entry (finds_by task.entry by) progress.new []) ≡ nat_lt 0 (counts_lines task.entry (finds_by task.entry by) progress.old (split_lines (read.now ++ more)))) }
+        nat_lt 0 (counts_lines task.entry (finds_by task.entry by) progress.new [])
+        ≡ nat_lt 0 (counts_lines task.entry (finds_by task.entry by) progress.old (split_lines (read.now ++ more)))) }
     ensures fault { IfErr result (λ _. (by : SearchesBy task.entry finder.old) (more : List ℕ) → (ended ≡ true → more ≡ []) →
         WritesPart task.entry (finds_by task.entry by) progress.old (read.now ++ more) (W.contents writer.old) (W.contents writer.new)) }
 {
@@ -370,9 +393,11 @@ fn finish<W: Write>(
     requires over { ended ≡ false → IsOver task progress.old }
     ensures same { finder.new ≡ finder.old }
     ensures written { OnOk result ((by : SearchesBy task.entry finder.old) (more : List ℕ) → (ended ≡ true → more ≡ []) →
-        Appends (W.contents writer.old) (W.contents writer.new) (tells_lines task.entry (finds_by task.entry by) progress.old (split_lines (read.now ++ more)))) }
+        Appends (W.contents writer.old) (W.contents writer.new)
+        (tells_lines task.entry (finds_by task.entry by) progress.old (split_lines (read.now ++ more)))) }
     ensures counts { OnOk result ((by : SearchesBy task.entry finder.old) (more : List ℕ) → (ended ≡ true → more ≡ []) →
-        nat_lt 0 (counts_lines task.entry (finds_by task.entry by) progress.new []) ≡ nat_lt 0 (counts_lines task.entry (finds_by task.entry by) progress.old (split_lines (read.now ++ more)))) }
+        nat_lt 0 (counts_lines task.entry (finds_by task.entry by) progress.new [])
+        ≡ nat_lt 0 (counts_lines task.entry (finds_by task.entry by) progress.old (split_lines (read.now ++ more)))) }
     ensures fault { IfErr result (λ _. (by : SearchesBy task.entry finder.old) (more : List ℕ) → (ended ≡ true → more ≡ []) →
         WritesPart task.entry (finds_by task.entry by) progress.old (read.now ++ more) (W.contents writer.old) (W.contents writer.new)) }
 {
@@ -418,7 +443,8 @@ pub fn tell_text<R: Read, W: Write>(
     ensures selected { IfOk result (λ any. (by : SearchesFor finder.old (needs_spans what.now)) → IfSome (R.remaining reader.old) (λ text.
         any ≡ nat_lt 0 (selected_count what.now (found_by by) text))) }
     ensures fault { IfErr result (λ _. (by : SearchesFor finder.old (needs_spans what.now)) → IfSome (R.remaining reader.old) (λ text.
-        (n : ℕ) × Appends (W.contents writer.old) (W.contents writer.new) (take n (report what.now (found_by by) name.now with_name known text)))) }
+        (n : ℕ) × Appends (W.contents writer.old) (W.contents writer.new)
+        (take n (report what.now (found_by by) name.now with_name known text)))) }
 {
     let task = Task {
         what,

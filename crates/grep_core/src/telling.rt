@@ -1,5 +1,6 @@
 //! What is told of a text, line by line.
-ghost use Rattle.std.specs.Prelude.{◌≡◌, ◌++◌, ◌∷◌, [], ℕ, ◌+◌, Bool, List, Option, OnOk, IfOk, IsTrue, decimal, map, nat_lt, not, ◌&&◌, option_map, if◌then◌else◌};
+ghost use Rattle.std.specs.Prelude.{◌≡◌, ◌++◌, ◌∷◌, [], ℕ, ◌+◌, Bool, List, Option, OnOk, IfOk, IsTrue, decimal, map, nat_lt, not, ◌&&◌};
+ghost use Rattle.std.specs.Prelude.{option_map, if◌then◌else◌};
 ghost use Rattle.grep_core.specs.Courses.{Item, Waits, item};
 ghost use Rattle.grep_core.specs.Lines.{TextLine};
 ghost use Rattle.grep_core.specs.Printing.{span_pair, text_line};
@@ -81,7 +82,8 @@ fn tell_as(
     requires { Waits what.now course.old }
     ensures goes_on { OnOk result ((text : List ℕ) (with_name : Bool) (n m : ℕ) (flags : List Bool) (items : List Item) →
         shown with_name text ≡ option_map (λ n. n.now) name.entry → m ≡ n + (if is_selected then 1 else 0) →
-        out.old.items ++ tells_as what.now.print what.now text with_name course.old n (is_selected ∷ flags) (item (text_line line.entry) (map span_pair found.now) ∷ items)
+        out.old.items ++ tells_as what.now.print what.now text with_name course.old n (is_selected ∷ flags)
+        (item (text_line line.entry) (map span_pair found.now) ∷ items)
         ≡ out.new.items ++ tells_as what.now.print what.now text with_name course.new m flags items) }
     ensures waits { OnOk result (Waits what.now course.new) }
 {
@@ -107,8 +109,10 @@ fn count_more(count: u64, is_selected: bool) -> Result<u64, Fault>
 impl Telling {
     /// Before the first line, where this is known of the lines of earlier texts.
     pub(crate) fn new(alloc: Global, known: Known) -> Telling
-        ensures starts { (w : TheWhat) → (f : Finds) → (name : List ℕ) → (with_name : Bool) → (lines : List TextLine) → still_told w f name with_name result lines ≡ report_as w.print w f name with_name known lines (selected w f lines) }
-        ensures counts { (w : TheWhat) → (f : Finds) → (lines : List TextLine) → count_in_all w f result lines ≡ count (selected w f lines) }
+        ensures starts { (w : TheWhat) → (f : Finds) → (name : List ℕ) → (with_name : Bool) → (lines : List TextLine) →
+            still_told w f name with_name result lines ≡ report_as w.print w f name with_name known lines (selected w f lines) }
+        ensures counts { (w : TheWhat) → (f : Finds) → (lines : List TextLine) →
+            count_in_all w f result lines ≡ count (selected w f lines) }
         ensures waits { (w : TheWhat) → Waits w result.course }
     {
         Telling {
@@ -131,7 +135,8 @@ pub(crate) fn tell_line(
     found: &[Span],
 ) -> Result<(), Fault>
     requires { Waits what.now telling.old.course }
-    ensures goes_on { OnOk result ((f : Finds) → has ≡ f.has_match line.entry.bytes.now → map span_pair found.now ≡ told_spans f (text_line line.entry) → (lines : List TextLine) →
+    ensures goes_on { OnOk result ((f : Finds) → has ≡ f.has_match line.entry.bytes.now →
+        map span_pair found.now ≡ told_spans f (text_line line.entry) → (lines : List TextLine) →
         out.old.items ++ still_told what.now f name.now with_name telling.old (text_line line.entry ∷ lines)
         ≡ out.new.items ++ still_told what.now f name.now with_name telling.new lines) }
     ensures counts { OnOk result ((f : Finds) → has ≡ f.has_match line.entry.bytes.now → (lines : List TextLine) →

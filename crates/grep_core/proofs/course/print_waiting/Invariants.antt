@@ -4,8 +4,10 @@ use Rattle.grep_core.proofs.course.print_waiting.Given as goal
 
 abbrev pub invariant-loop-it : goal.invariant-loop-it
 invariant-loop-it l =
-    (l.out.items ++ queued l.what (print_item l.what (option_map (λ (n : Bor (List ℕ)). n.now) l.name)) l.course.known (map waiting_item l.course.waiting.items)
-    ≡ l.initial.out.items ++ queued l.what (print_item l.what (option_map (λ (n : Bor (List ℕ)). n.now) l.name)) l.initial.course.known (map waiting_item l.initial.course.waiting.items))
+    (l.out.items ++ queued l.what (print_item l.what (option_map (λ (n : Bor (List ℕ)). n.now) l.name)) l.course.known
+    (map waiting_item l.course.waiting.items)
+    ≡ l.initial.out.items ++ queued l.what (print_item l.what (option_map (λ (n : Bor (List ℕ)). n.now) l.name)) l.initial.course.known
+    (map waiting_item l.initial.course.waiting.items))
     × (behind_queue l.course.known l.course.waiting.items ≡ behind_queue l.initial.course.known l.initial.course.waiting.items)
     × (l.course.left ≡ l.initial.course.left)
 

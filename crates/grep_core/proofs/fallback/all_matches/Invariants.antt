@@ -10,4 +10,5 @@ use Rattle.grep_core.proofs.fallback.all_matches.Given as goal
 abbrev pub invariant-loop-step : goal.invariant-loop-step
 invariant-loop-step l =
     filter is_some_text (all_of l.regexes l.line)
-    ≡ map span_pair l.found.items ++ filter is_some_text (spans_behind (best_at (map regex_pattern l.regexes) l.line) (l.most - l.step) (option_map span_pair l.next))
+    ≡ map span_pair l.found.items ++ filter is_some_text
+    (spans_behind (best_at (map regex_pattern l.regexes) l.line) (l.most - l.step) (option_map span_pair l.next))

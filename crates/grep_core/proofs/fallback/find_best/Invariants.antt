@@ -6,4 +6,5 @@ use Rattle.grep_core.proofs.fallback.find_best.Given as goal
 
 abbrev pub invariant-loop-regex : goal.invariant-loop-regex
 invariant-loop-regex l =
-    better (option_map span_pair l.best) (best_at (map regex_pattern (drop l.regex-index l.regexes)) l.line l.start) ≡ best_at (map regex_pattern l.regexes) l.line l.start
+    better (option_map span_pair l.best) (best_at (map regex_pattern (drop l.regex-index l.regexes)) l.line l.start)
+    ≡ best_at (map regex_pattern l.regexes) l.line l.start

@@ -8,5 +8,6 @@ use Rattle.grep_core.proofs.fallback.find_next.Goals as goal
 pub returns-then-end-line : goal.returns-then-end-line
 returns-then-end-line c =
     next_beyond (best_at (map regex_pattern c.args.regexes.now) c.args.line.now) c.args.end
-    (ap (λ (o : Option (ℕ × ℕ)). is_some_and o (λ s. s.1 == c.args.end)) (sym c.in_ok-next.ensures) ∙ sym c.ends_at.ensures ∙ c.if-not-ends_at.false)
+    (ap (λ (o : Option (ℕ × ℕ)). is_some_and o (λ s. s.1 == c.args.end)) (sym c.in_ok-next.ensures) ∙ sym c.ends_at.ensures
+    ∙ c.if-not-ends_at.false)
     (beyond (map regex_pattern c.args.regexes.now) c.args.line.now (c.args.end + 1) (omega (arith, c.if-end-line.true)))

@@ -11,7 +11,8 @@ loop-done-preserved c =
     let len : ℕ = c.min-len.result in
     let part : List ℕ = take len (drop done text) in
     let short : done + len - done ≡ len = omega arith in
-    let is : c.count_few.result ≡ count_by is_feed part = c.count_few.ensures ∙ ap (λ n. count_by is_feed (take n (drop done text))) short in
+    let is : c.count_few.result ≡ count_by is_feed part = c.count_few.ensures
+    ∙ ap (λ n. count_by is_feed (take n (drop done text))) short in
     let few : c.count_few.result ≤ len = omega (arith, is, count_by-le-length is_feed part, length-take len (drop done text)) in
     record {
       in_text = omega (arith, c.min-len.ensures, c.loop-done-test.true);

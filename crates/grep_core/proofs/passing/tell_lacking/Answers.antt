@@ -66,7 +66,8 @@ returns-clause-goes_on c =
     let rest : text ≡ drop done block = take_rest block done in
     on_ok_weaker c.pass_hidden.result
     (λ goes_on f lack more.
-    others_told (tells_lines c.args.task f) c.loop-alloc.progress c.pass_hidden.new.progress block text more _ c.loop-alloc.out.items done rest
+    others_told (tells_lines c.args.task f) c.loop-alloc.progress c.pass_hidden.new.progress block text more _ c.loop-alloc.out.items done
+    rest
     (c.loop-alloc.invariant.printed f lack more)
     (goes_on f (subst (λ (t : List ℕ). All (Lacks f) (split_lines t)) (sym rest) (c.loop-alloc.invariant.lack f lack)) more))
     c.pass_hidden.ensures.goes_on

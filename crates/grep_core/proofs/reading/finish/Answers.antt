@@ -7,9 +7,11 @@ use Rattle.grep_core.proofs.reading.finish.Goals as goal
 pub returns-in-Ok-flush-clause-written : goal.returns-in-Ok-flush-clause-written
 returns-in-Ok-flush-clause-written g c by more none =
     appends_kept (g.W.Write.contents c.args.writer.now) (g.W.Write.contents c.write_rest.new.writer) (g.W.Write.contents c.flush.new.writer)
-    (tells_lines c.args.task (finds_by c.args.task by) c.args.progress.now (split_lines (c.args.read.now ++ more))) (c.in-Ok.ensures.written by more none) c.flush.ensures
+    (tells_lines c.args.task (finds_by c.args.task by) c.args.progress.now (split_lines (c.args.read.now ++ more)))
+    (c.in-Ok.ensures.written by more none) c.flush.ensures
 
 pub returns-in-Err-flush-clause-fault : goal.returns-in-Err-flush-clause-fault
 returns-in-Err-flush-clause-fault g c by more none =
     whole_part c.args.task (finds_by c.args.task by) c.args.progress.now (c.args.read.now ++ more)
-    (g.W.Write.contents c.args.writer.now) (g.W.Write.contents c.write_rest.new.writer) (g.W.Write.contents c.flush.new.writer) (c.in-Ok.ensures.written by more none) c.flush.ensures
+    (g.W.Write.contents c.args.writer.now) (g.W.Write.contents c.write_rest.new.writer) (g.W.Write.contents c.flush.new.writer)
+    (c.in-Ok.ensures.written by more none) c.flush.ensures

@@ -6,7 +6,8 @@ use Rattle.grep_core.proofs.reading.tell_open_line.Goals as goal
 pub returns-then-is_empty-clause-told : goal.returns-then-is_empty-clause-told
 returns-then-is_empty-clause-told c by =
     let none : length c.args.rest.now ≡ 0 = is_none c.is_empty.result (length c.args.rest.now) c.is_empty.ensures c.if-is_empty.true in
-    ap (λ lines. c.args.out.now.items ++ tells_lines c.args.task (finds_by c.args.task by) c.args.progress.now lines) (none_open c.args.rest.now none)
+    ap (λ lines. c.args.out.now.items ++ tells_lines c.args.task (finds_by c.args.task by) c.args.progress.now lines)
+    (none_open c.args.rest.now none)
 
 pub returns-then-is_empty-clause-counts : goal.returns-then-is_empty-clause-counts
 returns-then-is_empty-clause-counts c by =
@@ -16,7 +17,8 @@ returns-then-is_empty-clause-counts c by =
 pub returns-in-Ok-clause-told : goal.returns-in-Ok-clause-told
 returns-in-Ok-clause-told c by =
     let some : 0 < length c.args.rest.now = is_some c.is_empty.result (length c.args.rest.now) c.is_empty.ensures c.if-is_empty.false in
-    open_told (tells_lines c.args.task (finds_by c.args.task by)) c.args.progress.now c.tell_one.new.progress c.args.rest.now c.args.out.now.items c.tell_one.new.out.items
+    open_told (tells_lines c.args.task (finds_by c.args.task by)) c.args.progress.now c.tell_one.new.progress c.args.rest.now
+    c.args.out.now.items c.tell_one.new.out.items
     c.requires.unended some (c.in-Ok.ensures.goes_on by [])
 
 pub returns-in-Ok-clause-counts : goal.returns-in-Ok-clause-counts

@@ -9,13 +9,16 @@ pub returns-in-Ok-tell_end-clause-told : goal.returns-in-Ok-tell_end-clause-told
 returns-in-Ok-tell_end-clause-told c by =
     let read : List ℕ = c.args.read.now in
     let done : ℕ = c.in-Ok.done in
-    tail_told (tells_lines c.args.task (finds_by c.args.task by)) c.args.progress.now c.tell_block.new.progress c.tell_open_line.new.progress read (take (length read - done) (drop done read))
+    tail_told (tells_lines c.args.task (finds_by c.args.task by)) c.args.progress.now c.tell_block.new.progress
+    c.tell_open_line.new.progress read (take (length read - done) (drop done read))
     c.args.out.now.items c.tell_block.new.out.items c.tell_open_line.new.out.items c.tell_end.new.out.items done (take_rest read done)
-    (c.in-Ok.ensures.goes_on by []) (c.in-Ok-tell_open_line.ensures.told (moved_by c.in-Ok.ensures.same by)) (c.in-Ok-tell_end.ensures (finds_by c.args.task by))
+    (c.in-Ok.ensures.goes_on by []) (c.in-Ok-tell_open_line.ensures.told (moved_by c.in-Ok.ensures.same by))
+    (c.in-Ok-tell_end.ensures (finds_by c.args.task by))
 
 pub returns-in-Ok-tell_end-clause-counts : goal.returns-in-Ok-tell_end-clause-counts
 returns-in-Ok-tell_end-clause-counts c by =
     let read : List ℕ = c.args.read.now in
     let done : ℕ = c.in-Ok.done in
-    tail_counted (counts_lines c.args.task (finds_by c.args.task by)) c.args.progress.now c.tell_block.new.progress c.tell_open_line.new.progress read (take (length read - done) (drop done read))
+    tail_counted (counts_lines c.args.task (finds_by c.args.task by)) c.args.progress.now c.tell_block.new.progress
+    c.tell_open_line.new.progress read (take (length read - done) (drop done read))
     done (take_rest read done) (c.in-Ok.ensures.counts by []) (c.in-Ok-tell_open_line.ensures.counts (moved_by c.in-Ok.ensures.same by))

@@ -4,14 +4,19 @@ use Rattle.grep_core.proofs.WriteLemmas.{none_part, shown_written, shown_part}
 use Rattle.grep_core.proofs.reading.write_tail.Goals as goal
 
 pub returns-in-Err-clause-fault : goal.returns-in-Err-clause-fault
-returns-in-Err-clause-fault g c by = none_part c.args.task (finds_by c.args.task by) c.args.progress.now c.args.read.now (g.W.Write.contents c.args.writer.now)
+returns-in-Err-clause-fault g c by = none_part c.args.task (finds_by c.args.task by) c.args.progress.now c.args.read.now
+    (g.W.Write.contents c.args.writer.now)
 
 pub returns-in-Ok-write_out-clause-written : goal.returns-in-Ok-write_out-clause-written
 returns-in-Ok-write_out-clause-written g c by =
-    shown_written c.new-out.result.items c.deref.result.now c.tell_tail.new.out.items (tells_lines c.args.task (finds_by c.args.task by) c.args.progress.now (split_lines c.args.read.now))
-    (g.W.Write.contents c.args.writer.now) (g.W.Write.contents c.write_out.new.writer) c.new-out.ensures.items c.deref.ensures.value (c.in-Ok.ensures.told by) c.in-Ok-write_out.ensures.ok
+    shown_written c.new-out.result.items c.deref.result.now c.tell_tail.new.out.items
+    (tells_lines c.args.task (finds_by c.args.task by) c.args.progress.now (split_lines c.args.read.now))
+    (g.W.Write.contents c.args.writer.now) (g.W.Write.contents c.write_out.new.writer) c.new-out.ensures.items c.deref.ensures.value
+    (c.in-Ok.ensures.told by) c.in-Ok-write_out.ensures.ok
 
 pub returns-clause-fault : goal.returns-clause-fault
 returns-clause-fault g c by =
-    shown_part c.new-out.result.items c.deref.result.now c.tell_tail.new.out.items (tells_lines c.args.task (finds_by c.args.task by) c.args.progress.now (split_lines c.args.read.now))
-    (g.W.Write.contents c.args.writer.now) (g.W.Write.contents c.write_out.new.writer) c.new-out.ensures.items c.deref.ensures.value (c.in-Ok.ensures.told by) c.in-Err-write_out.ensures.part
+    shown_part c.new-out.result.items c.deref.result.now c.tell_tail.new.out.items
+    (tells_lines c.args.task (finds_by c.args.task by) c.args.progress.now (split_lines c.args.read.now))
+    (g.W.Write.contents c.args.writer.now) (g.W.Write.contents c.write_out.new.writer) c.new-out.ensures.items c.deref.ensures.value
+    (c.in-Ok.ensures.told by) c.in-Err-write_out.ensures.part

@@ -6,7 +6,8 @@ use Rattle.grep_core.proofs.telling.is_over.Goals as goal
 pub returns-then-is_spent-clause-told : goal.returns-then-is_spent-clause-told
 returns-then-is_spent-clause-told c none f name with_name lines =
     let spent : may_select c.args.what.now.most c.args.telling.now.count ≡ false = sym c.may_select-is_spent.ensures ∙ c.if-is_spent.true in
-    over_told c.args.what.now f name with_name c.args.telling.now.course c.args.telling.now.count spent c.args.what.now.print (λ _. is_zero c.args.telling.now.course.left none) lines
+    over_told c.args.what.now f name with_name c.args.telling.now.course c.args.telling.now.count spent c.args.what.now.print
+    (λ _. is_zero c.args.telling.now.course.left none) lines
 
 pub returns-then-is_spent-clause-counted : goal.returns-then-is_spent-clause-counted
 returns-then-is_spent-clause-counted c none f lines =
@@ -15,20 +16,26 @@ returns-then-is_spent-clause-counted c none f lines =
 
 pub returns-in-Count-clause-told : goal.returns-in-Count-clause-told
 returns-in-Count-clause-told c told f name with_name lines =
-    let spent : may_select c.args.what.now.most c.args.telling.now.count ≡ false = sym c.may_select-is_spent.ensures ∙ is_false c.may_select-is_spent.result told in
-    over_told c.args.what.now f name with_name c.args.telling.now.course c.args.telling.now.count spent c.args.what.now.print (not_lines c.args.what.now.print c.args.telling.now.course.left c.in-Count.is) lines
+    let spent : may_select c.args.what.now.most c.args.telling.now.count ≡ false = sym c.may_select-is_spent.ensures
+    ∙ is_false c.may_select-is_spent.result told in
+    over_told c.args.what.now f name with_name c.args.telling.now.course c.args.telling.now.count spent c.args.what.now.print
+    (not_lines c.args.what.now.print c.args.telling.now.course.left c.in-Count.is) lines
 
 pub returns-in-Count-clause-counted : goal.returns-in-Count-clause-counted
 returns-in-Count-clause-counted c told f lines =
-    let spent : may_select c.args.what.now.most c.args.telling.now.count ≡ false = sym c.may_select-is_spent.ensures ∙ is_false c.may_select-is_spent.result told in
+    let spent : may_select c.args.what.now.most c.args.telling.now.count ≡ false = sym c.may_select-is_spent.ensures
+    ∙ is_false c.may_select-is_spent.result told in
     ap (nat_lt 0) (over_counted c.args.what.now f [] false c.args.telling.now.course c.args.telling.now.count spent lines)
 
 pub returns-then-is_spent-2-clause-told : goal.returns-then-is_spent-2-clause-told
 returns-then-is_spent-2-clause-told c told f name with_name lines =
-    let spent : may_select c.args.what.now.most c.args.telling.now.count ≡ false = sym c.may_select-is_spent.ensures ∙ c.if-is_spent-2.true in
-    over_told c.args.what.now f name with_name c.args.telling.now.course c.args.telling.now.count spent c.args.what.now.print (names_not_lines c.args.what.now.print c.args.telling.now.course.left c.in-NameIfAny.is) lines
+    let spent : may_select c.args.what.now.most c.args.telling.now.count ≡ false = sym c.may_select-is_spent.ensures
+    ∙ c.if-is_spent-2.true in
+    over_told c.args.what.now f name with_name c.args.telling.now.course c.args.telling.now.count spent c.args.what.now.print
+    (names_not_lines c.args.what.now.print c.args.telling.now.course.left c.in-NameIfAny.is) lines
 
 pub returns-then-is_spent-2-clause-counted : goal.returns-then-is_spent-2-clause-counted
 returns-then-is_spent-2-clause-counted c told f lines =
-    let spent : may_select c.args.what.now.most c.args.telling.now.count ≡ false = sym c.may_select-is_spent.ensures ∙ c.if-is_spent-2.true in
+    let spent : may_select c.args.what.now.most c.args.telling.now.count ≡ false = sym c.may_select-is_spent.ensures
+    ∙ c.if-is_spent-2.true in
     ap (nat_lt 0) (over_counted c.args.what.now f [] false c.args.telling.now.course c.args.telling.now.count spent lines)

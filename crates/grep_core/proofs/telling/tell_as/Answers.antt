@@ -7,7 +7,8 @@ use Rattle.grep_core.proofs.telling.tell_as.Goals as goal
 pub returns-then-prints_lines-clause-goes_on : goal.returns-then-prints_lines-clause-goes_on
 returns-then-prints_lines-clause-goes_on c =
     lines_told c.next_line.result c.args.what.now.print c.args.what.now c.args.course.now c.next_line.new.course c.args.is_selected
-    (item (text_line c.args.line) (map span_pair c.args.found.now)) c.args.out.now.items c.next_line.new.out.items (option_map (λ n. n.now) c.args.name)
+    (item (text_line c.args.line) (map span_pair c.args.found.now)) c.args.out.now.items c.next_line.new.out.items
+    (option_map (λ n. n.now) c.args.name)
     (sym c.prints_lines.ensures ∙ c.if-prints_lines.true) c.next_line.ensures.goes_on
 
 pub returns-clause-goes_on : goal.returns-clause-goes_on
