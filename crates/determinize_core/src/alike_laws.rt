@@ -1,4 +1,12 @@
 //! A law of units that an automaton does not tell apart. The function's contract is the law; it has no code.
+//! ```rust
+//! pub fn steps_are_alike()
+//!     ensures { (a : Automaton) (t : Terminator) (k : MatchKind) (v : StateValue) (u w : Option ℕ) → IsStepped a v →
+//!         AreUnitsAlike a t u w → step_value a t k v u ≡ step_value a t k v w }
+//! {
+//!     alike_units_step_alike();
+//! }
+//! ```
 ghost use Rattle.std.specs.Prelude.{◌≡◌, ℕ, Option};
 ghost use Rattle.look_core.specs.Terminators.{Terminator};
 ghost use Rattle.search_types.specs.declared.match_kind.MatchKind.{MatchKind};

@@ -1,4 +1,9 @@
 //! Powerset states of a byte automaton, one at a time, and how searches start.
+//! ```rust
+//! pub fn start_behind(byte: u8) -> Start {
+//!     StartByteMap::new(&LookMatcher::default()).get(byte)
+//! }
+//! ```
 #![tactic(auto)]
 
 pub mod alike_laws;

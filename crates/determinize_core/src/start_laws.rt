@@ -1,5 +1,13 @@
 //! Laws of what is known of the place where a search starts. Each function has no code: its contract is
 //! the law.
+//! ```rust
+//! pub fn halves_stand_behind_returns()
+//!     ensures { (looks : ℕ) (t : Terminator) (h : List ℕ) (i : ℕ) →
+//!         (look_behind looks false t (start_of t (byte_before h i))).is_half_crlf ≡ true → byte_before h i ≡ Some 0x0D }
+//! {
+//!     what_is_known_forward_is_true();
+//! }
+//! ```
 ghost use Rattle.std.specs.Prelude.{◌≡◌, ◌≤◌, ◌==◌, ◌||◌, ℕ, Bool, true, false, List, length, Some, IsSomeAnd};
 ghost use Rattle.search_core.specs.Text.{byte_at, byte_before};
 ghost use Rattle.search_core.specs.Utf8.{is_word_byte};

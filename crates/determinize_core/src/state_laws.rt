@@ -1,4 +1,11 @@
 //! Laws of the bytes of states. The contract of each function is the law; they have no code.
+//! ```rust
+//! pub fn bytes_tell_states_apart()
+//!     ensures { (v w : StateValue) → IsState v → IsState w → encoded v ≡ encoded w → v ≡ w }
+//! {
+//!     bytes_stand_for_states();
+//! }
+//! ```
 ghost use Rattle.std.specs.Prelude.{◌≡◌, ◌≤◌, ◌+◌, ◌*◌, ◌↔◌, true, length};
 ghost use Rattle.determinize_core.specs.States.{StateValue, IsState};
 ghost use Rattle.determinize_core.specs.StateBytes.{encoded, decoded, has_same_bytes};

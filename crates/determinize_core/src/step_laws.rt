@@ -1,4 +1,11 @@
 //! Laws of the steps from one powerset state to the next. The contract of each function is the law; they have no code.
+//! ```rust
+//! pub fn nothing_comes_of_a_dead_state()
+//!     ensures { (a : Automaton) (t : Terminator) (k : MatchKind) (u : Option ℕ) → step_value a t k dead u ≡ dead }
+//! {
+//!     dead_states_stay_dead();
+//! }
+//! ```
 ghost use Rattle.std.specs.Prelude.{◌≡◌, ◌<◌, ◌≤◌, ℕ, [], All, length, Option};
 ghost use Rattle.std.specs.Bool.{nat_eq};
 ghost use Rattle.std.specs.List.{IsDistinct};

@@ -1,4 +1,11 @@
 //! Laws of the states that starts and steps come to. The contract of each function is the law; they have no code.
+//! ```rust
+//! pub fn states_are_narrow()
+//!     ensures { (a : Automaton) (v : StateValue) → IsStepped a v → length (encoded v) ≤ widest a }
+//! {
+//!     stepped_states_are_short();
+//! }
+//! ```
 ghost use Rattle.std.specs.Prelude.{◌<◌, ◌≤◌, ℕ, length, Option};
 ghost use Rattle.look_core.specs.Terminators.{Terminator};
 ghost use Rattle.search_types.specs.declared.match_kind.MatchKind.{MatchKind};

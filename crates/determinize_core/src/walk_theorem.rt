@@ -1,5 +1,13 @@
 //! Laws of walks from powerset state to powerset state, by the runs of the automaton. Each function has no
 //! code: its contract is the law.
+//! ```rust
+//! pub fn walks_make_lists()
+//!     ensures { (k : MatchKind) (a : Automaton) (t : Text) (i q : ℕ) → IsWellFormed a → q < length a.states →
+//!         AreLists a t (i, q) (cut_of k a i) (walked_lists k a t i q) }
+//! {
+//!     walked_lists_are_lists();
+//! }
+//! ```
 ghost use Rattle.std.specs.Prelude.{◌≡◌, ◌+◌, ◌<◌, ◌≤◌, ℕ, suc, List, [], ◌∷◌, map, length, Option, Some, None};
 ghost use Rattle.std.specs.Bool.{nat_eq};
 ghost use Rattle.std.specs.List.{filter, slice_get};

@@ -1,5 +1,12 @@
 //! Laws of trees on a haystack that is cut at a place: looks are read as of the whole. Each function has no
 //! code: its contract is the law.
+//! ```rust
+//! pub fn spans_end_within()
+//!     ensures { (f : Looks) (h : List ℕ) (e : ℕ) (x : Tree) (i j : ℕ) → i ≤ e → Means f (take e h) x i j → j ≤ e }
+//! {
+//!     cut_haystacks_have_the_spans_within();
+//! }
+//! ```
 ghost use Rattle.std.specs.Prelude.{◌≡◌, ◌≤◌, ℕ, List, take, nat_le};
 ghost use Rattle.std.specs.List.{filter};
 ghost use Rattle.hir_core.specs.Tree.{Tree};

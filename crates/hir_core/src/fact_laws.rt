@@ -1,4 +1,11 @@
 //! Laws of the facts of trees. Each function has no code: its contract is the law.
+//! ```rust
+//! pub fn spans_are_empty()
+//!     ensures { (f : Looks) (h : List ℕ) (x : Tree) (i j : ℕ) → maximum_len x ≡ Some 0 → Means f h x i j → i ≡ j }
+//! {
+//!     spans_of_no_length_are_empty();
+//! }
+//! ```
 ghost use Rattle.std.specs.Prelude.{◌≡◌, ◌≤◌, ◌<◌, ◌^◌, ℕ, length, List, Some, true, slice_range};
 ghost use Rattle.search_core.specs.Utf8.{IsValidText};
 ghost use Rattle.look_core.specs.declared.look.Look.{Look};

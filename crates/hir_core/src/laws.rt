@@ -1,4 +1,12 @@
 //! Laws of the definitions. Each function has no code: its contract is the law.
+//! ```rust
+//! pub fn preferred_ends_go_forward()
+//!     ensures { (f : Looks) (h : List ℕ) (x : Tree) (i j : ℕ) → Has (preferred_ends f h x i) j → i ≤ j }
+//! {
+//!     preferred_ends_are_meant();
+//!     spans_stay_in_the_haystack();
+//! }
+//! ```
 ghost use Rattle.std.specs.Prelude.{◌≡◌, ◌≤◌, ℕ, suc, length, Bool, List, [], ◌∷◌, Some, None};
 ghost use Rattle.std.specs.List.{flat_map};
 ghost use Rattle.hir_core.specs.Tree.{Tree, repetition};

@@ -6,6 +6,13 @@
 //! [`fact_laws`], those of the byte sequences of scalars in [`utf8_sequences_laws`] and, as trees, in
 //! [`sequence_tree_laws`], those of haystacks that are cut at a place in [`cut_laws`], those of where spans
 //! stand and what they depend on in [`span_laws`].
+//! ```rust
+//! pub fn start_of_line() -> Hir
+//!     ensures { result ≡ look StartLF }
+//! {
+//!     Hir::look(Look::StartLF)
+//! }
+//! ```
 #![tactic(auto)]
 
 mod class_facts;

@@ -1,5 +1,12 @@
 //! Laws of a class of scalars as a tree of byte ranges (`BySequences.antt`). Each function has no code: its
 //! contract is the law.
+//! ```rust
+//! pub fn sequences_are_no_loops()
+//!     ensures { (ranges : List (ℕ × ℕ)) → LoopsRead (by_sequences ranges) }
+//! {
+//!     sequence_trees_read();
+//! }
+//! ```
 ghost use Rattle.std.specs.Prelude.{◌≡◌, ℕ, List, length, true};
 ghost use Rattle.hir_core.specs.Tree.{char_class};
 ghost use Rattle.hir_core.specs.Means.{Looks, Means};

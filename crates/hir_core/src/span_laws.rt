@@ -1,4 +1,12 @@
 //! Laws of where spans stand, and of what they depend on. Each function has no code: its contract is the law.
+//! ```rust
+//! pub fn spans_start_at_boundaries()
+//!     ensures { (f : Looks) (h : List ℕ) (x : Tree) (i j : ℕ) → IsValidText h → is_utf8_tree x ≡ true → Means f h x i j → i < j →
+//!         j ≤ length h → is_boundary h i ≡ true }
+//! {
+//!     spans_of_utf8_trees_stand_at_boundaries();
+//! }
+//! ```
 ghost use Rattle.std.specs.Prelude.{◌≡◌, ◌≤◌, ◌<◌, ℕ, length, List, [], take, drop, true};
 ghost use Rattle.search_core.specs.Utf8.{IsValidText, is_boundary};
 ghost use Rattle.hir_core.specs.Tree.{Tree};

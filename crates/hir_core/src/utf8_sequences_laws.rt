@@ -1,6 +1,14 @@
 //! Laws of the sequences of byte ranges that spell a range of characters. Each function has no code: its
 //! contract is the law. The bounds of a range are any numbers; surrogates and what lies above 10FFFF are
 //! left out of it.
+//! ```rust
+//! pub fn strings_have_scalars()
+//!     ensures { (lo hi i : ℕ) (rs : List (ℕ × ℕ)) (s : List ℕ) → slice_get (utf8_sequences lo hi) i ≡ Some rs →
+//!         is_in_ranges rs s ≡ true → (c : ℕ) × (lo ≤ c) × (c ≤ hi) × Spells c s }
+//! {
+//!     strings_are_spellings();
+//! }
+//! ```
 ghost use Rattle.std.specs.Prelude.{◌≡◌, ◌≤◌, ◌<◌, ℕ, List, [], ◌∷◌, length, take, slice_get, Some, true};
 ghost use Rattle.search_core.specs.Utf8.{Spells};
 ghost use Rattle.std.specs.Char.{encode_utf8};

@@ -3,6 +3,14 @@
 //!
 //! For every list of trees, every setting, haystack and span, and whatever the caches hold: a search that answers Ok gives the match
 //! that the trees define, an iterator gives the list of them, and they do answer where no quit byte stands in or beside the span.
+//! ```rust
+//! pub fn answers_are_defined()
+//!     ensures { (xs : List Tree) (s : SettingsValue) (p : Pair) → IsBuilt xs s p → FindsFirst s → (q : Search) → IsSearchOf xs s.utf8 q → All LoopsRead xs →
+//!         (c : PairCache) (o : Option Found) → AnswersPair p c q (Ok o) → (w : ℕ → Bool) → IsWordSet w → o ≡ answer_to w xs s q }
+//! {
+//!     searches_answer_what_trees_define();
+//! }
+//! ```
 ghost use Rattle.std.specs.Prelude.{◌≡◌, ◌≤◌, ◌+◌, ◌++◌, ℕ, Bool, true, false, List, All, Option, Some, None, Ok, Err, is_some};
 ghost use Rattle.look_core.specs.Looks.{IsWordSet};
 ghost use Rattle.hir_core.specs.Facts.{LoopsRead};

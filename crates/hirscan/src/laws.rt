@@ -1,4 +1,11 @@
 //! Laws of the answers and of the reply. Each function has no code: its contract is the law.
+//! ```rust
+//! pub fn answers_rise()
+//!     ensures { (q : Query) (s : ℕ) → EndsRise None (answers_of q s) }
+//! {
+//!     ends_of_answers_rise();
+//! }
+//! ```
 ghost use Rattle.std.specs.Prelude.{◌≡◌, ◌⊎◌, ◌≤◌, ◌+◌, ◌-◌, ℕ, true, All, length, slice_get, List, Some, None};
 ghost use Rattle.hir_core.specs.Tree.{Tree};
 ghost use Rattle.hir_core.specs.Means.{Means};

@@ -9,6 +9,11 @@
 //! where a text has its first fault is defined in `Takes.antt`, `Reads.antt` and `LineFault.antt`; why a head is refused with its
 //! haystack in `Refusals.antt`; the reply in `Reply.antt`. Their laws are in [`laws`], those of the notation in [`reading_laws`],
 //! those of its words in [`word_laws`].
+//! ```rust
+//! pub fn regex_of(alloc: Global, trees: &[Hir]) -> Result<Regex, BuildError> {
+//!     build(alloc, trees, &Settings::new())
+//! }
+//! ```
 #![tactic(auto)]
 
 mod building;

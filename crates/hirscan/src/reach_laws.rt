@@ -1,5 +1,12 @@
 //! Laws of what answers over trees depend on: the bytes in their reach, up to bytes that the automata don't tell apart, and
 //! no setting of a cache. Each function has no code: its contract is the law.
+//! ```rust
+//! pub fn built_pairs_have_their_classes()
+//!     ensures { (n m : Nfa) (o : Options) (p : Pair) → pair_built n m o ≡ Ok p → HasItsClasses p }
+//! {
+//!     bytes_of_one_class_are_interchangeable();
+//! }
+//! ```
 ghost use Rattle.std.specs.Prelude.{◌≡◌, ℕ, ◌<◌, ◌≤◌, Bool, false, List, All, length, Option, Ok};
 ghost use Rattle.look_core.specs.Looks.{holds};
 ghost use Rattle.look_core.specs.SameClasses.{HaveSameClasses};

@@ -1,4 +1,11 @@
 //! Laws of the notation. Each function has no code: its contract is the law.
+//! ```rust
+//! pub fn heads_read_once()
+//!     ensures { (text : List ℕ) (p q r : HeadValue) (n m : ℕ) → Reads text p q n → Reads text p r m → q ≡ r }
+//! {
+//!     texts_read_in_one_way();
+//! }
+//! ```
 ghost use Rattle.std.specs.Prelude.{◌≡◌, ◌<◌, ◌⊎◌, ℕ, true, List, None};
 ghost use Rattle.hir_core.specs.Means.{is_member};
 ghost use Rattle.hir_core.specs.Facts.{is_ascending};

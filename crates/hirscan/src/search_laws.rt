@@ -1,5 +1,13 @@
 //! Laws of searches over two automata that are compiled from trees: they answer what the trees define. Each function has no
 //! code: its contract is the law.
+//! ```rust
+//! pub fn joined_answers_are_defined()
+//!     ensures { (xs : List Tree) (u : Bool) (t : Terminator) (p : Pair) → IsRegexOf xs u t p → (q : Search) → IsSearchOf xs u q → (w : ℕ → Bool) →
+//!         IsWordSet w → All LoopsRead xs → (o : Option Found) → joined p q ≡ Ok o → o ≡ answer_from (query_of xs u (holds w t q.haystack) q) q.start }
+//! {
+//!     answers_are_those_of_the_trees();
+//! }
+//! ```
 ghost use Rattle.std.specs.Prelude.{◌≡◌, ◌≤◌, ◌+◌, ◌++◌, ℕ, Bool, true, false, List, All, Option, None, Ok, Err, is_some};
 ghost use Rattle.std.specs.List.{list_any};
 ghost use Rattle.look_core.specs.Looks.{holds, IsWordSet};

@@ -3,6 +3,13 @@
 //!
 //! Read forward, a walk tells the ends of all spans of the trees that a search may find, each with its pattern; read in reverse,
 //! their starts. It tells no other places, and each pair once.
+//! ```rust
+//! pub fn starts_can_be_walked()
+//!     ensures { (xs : List Tree) (s : SettingsValue) (p : Pair) → IsBuilt xs s p → IsWalkerOf xs true s.utf8 s.line_terminator p.reverse }
+//! {
+//!     built_automata_are_walked();
+//! }
+//! ```
 ghost use Rattle.std.specs.Prelude.{◌≡◌, ◌⊎◌, ℕ, ◌<◌, ◌↔◌, Bool, true, false, List, [], length, slice_get, Some, None, Ok};
 ghost use Rattle.search_core.specs.ByteSets.{has};
 ghost use Rattle.look_core.specs.Looks.{IsWordSet};

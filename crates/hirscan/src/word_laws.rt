@@ -1,6 +1,13 @@
 //! Laws of words: each reader answers just what its relation says of a word, and nothing just where the relation
 //! says nothing, so that a line's faults are told by what its words spell. Each function has no code: its contract
 //! is the law.
+//! ```rust
+//! pub fn readers_read_numbers()
+//!     ensures { IsReader number IsNumber }
+//! {
+//!     numbers_are_read();
+//! }
+//! ```
 ghost use Rattle.std.specs.Prelude.{◌≡◌, ◌↔◌, ◌⊎◌, ◌<◌, ℕ, true, false, List, Some, None};
 ghost use Rattle.hirscan.specs.declared.fault.FaultKind.TheVariants.{BadHex, BadRange};
 ghost use Rattle.hir_core.specs.Means.{is_member};

@@ -1,4 +1,12 @@
 //! Laws of accounting. Each function has no code: its contract is the law.
+//! ```rust
+//! pub fn a_state_more()
+//!     ensures { (m : Measures) (vs : List StateValue) (v : StateValue) →
+//!         usage m (vs ++ v ∷ []) ≡ usage m vs + state_cost m.stride (length (encoded v)) }
+//! {
+//!     states_add_to_the_usage();
+//! }
+//! ```
 ghost use Rattle.std.specs.Prelude.{◌≡◌, ◌≤◌, ◌+◌, ◌^◌, ◌++◌, ℕ, Bool, true, List, [], ◌∷◌, length};
 ghost use Rattle.search_core.specs.Classes.{alphabet_size, IsLeastExponent};
 ghost use Rattle.determinize_core.specs.States.{StateValue};

@@ -1,5 +1,13 @@
 //! Laws of caches: what leaves one its automaton's own, and what its IDs tell apart. Each function has no code: its contract
 //! is the law.
+//! ```rust
+//! pub fn ids_tell_states_apart()
+//!     ensures { (d : Dfa) (c : CacheValue) (i j : ℕ) (v w : StateValue) → IsCacheOf d c → HeldAt c i v → HeldAt c j w → (i ≡ j → ⊥) →
+//!         v ≡ w → ⊥ }
+//! {
+//!     rows_name_different_states();
+//! }
+//! ```
 ghost use Rattle.std.specs.Prelude.{◌≡◌, ℕ, Option};
 ghost use Rattle.determinize_core.specs.States.{StateValue};
 ghost use Rattle.lazy_dfa.specs.Caches.{CacheValue, IsCacheOf, HeldAt};

@@ -1,5 +1,13 @@
 //! Laws of what calls change of a cache: when it is never cleared, and what is added to it. Each function has no code: its
 //! contract is the law.
+//! ```rust
+//! pub fn few_clears()
+//!     ensures { (d : Dfa) (q : Search) (old new : CacheValue) (n : ℕ) → Changes d (IsMadeBy d q) old new n → old.clears ≤ greatest →
+//!         new.clears ≤ old.clears + n }
+//! {
+//!     searches_clear_for_states();
+//! }
+//! ```
 ghost use Rattle.std.specs.Prelude.{◌≡◌, ◌+◌, ◌<◌, ◌≤◌, ℕ};
 ghost use Rattle.search_types.specs.Inputs.{Search};
 ghost use Rattle.lazy_dfa.specs.Caches.{CacheValue, IsCacheOf, greatest};

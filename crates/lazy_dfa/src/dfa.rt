@@ -1,4 +1,9 @@
 //! A DFA that is made as it is used, as `regex_automata::hybrid::dfa`.
+//! ```rust
+//! pub fn least_capacity(nfa: &NFA) -> Result<usize, BuildError> {
+//!     Config::new().get_minimum_cache_capacity(nfa)
+//! }
+//! ```
 ghost use Rattle.std.specs.Prelude.{◌≡◌, ◌+◌, ◌≤◌, Some, None, length};
 ghost use Rattle.search_core.specs.Index.{greatest_index};
 ghost use Rattle.determinize_core.specs.Starts.{IsStartTable, start_of};

@@ -14,6 +14,11 @@
 //! Options are in `ConfigValue.antt`, an automaton in `Dfas.antt`, a cache and how it belongs to its automaton in
 //! `Caches.antt`, steps in `Steps.antt`, starts in `StartCalls.antt`, those of searches over an input in
 //! `SearchStarts.antt`. What is built of an NFA, and why it is refused, is in `Building.antt`.
+//! ```rust
+//! pub fn was_never_cleared(cache: &Cache) -> bool {
+//!     cache.clear_count() == 0
+//! }
+//! ```
 #![tactic(auto)]
 
 pub mod accounting_laws;

@@ -1,4 +1,11 @@
 //! Laws of passes. Each function has no code: its contract is the law.
+//! ```rust
+//! pub fn passes_come_to_an_end()
+//!     ensures { (r : Reader) (m : Anchored) (b : Bool) (h : List ℕ) (n i : ℕ) → pass_len r m b h n i ≤ suc n }
+//! {
+//!     passes_read_one_unit_more_at_most();
+//! }
+//! ```
 ghost use Rattle.std.specs.Prelude.{◌≡◌, ◌⊎◌, ℕ, suc, ◌<◌, ◌≤◌, Bool, true, false, List, length, Option, Some, None};
 ghost use Rattle.search_types.specs.Modes.{is_supported};
 ghost use Rattle.search_types.specs.declared.match_kind.MatchKind.TheVariants.{All as AllMatches, LeftmostFirst};

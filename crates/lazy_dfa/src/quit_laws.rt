@@ -1,4 +1,11 @@
 //! Laws of quit bytes. Each function has no code: its contract is the law.
+//! ```rust
+//! pub fn no_words_no_further_quits()
+//!     ensures { (a : Automaton) (on : Bool) (set : List Bool) → has_unicode_word a ≡ false → quit_bytes a on set ≡ set }
+//! {
+//!     quit_bytes_are_set_by_hand_or_high();
+//! }
+//! ```
 ghost use Rattle.std.specs.Prelude.{◌≡◌, ◌≤◌, ◌<◌, ℕ, Bool, true, false, List, length};
 ghost use Rattle.search_core.specs.ByteSets.{has};
 ghost use Rattle.nfa_core.specs.Nfa.{Automaton};

@@ -1,4 +1,12 @@
 //! Laws of the reach of half searches: the bytes at which they look. Each function has no code: its contract is the law.
+//! ```rust
+//! pub fn passes_read_their_reach()
+//!     ensures { (r : Reader) (m : Anchored) (b : Bool) (h g : List ℕ) (n i : ℕ) → Agree h g (IsInPass r m b h n i) →
+//!         pass r m b h n i ≡ pass r m b g n i }
+//! {
+//!     passes_depend_on_their_reach();
+//! }
+//! ```
 ghost use Rattle.std.specs.Prelude.{◌≡◌, ℕ, suc, ◌+◌, ◌-◌, ◌<◌, ◌≤◌, Bool, true, false, List, length, Option, Some};
 ghost use Rattle.std.specs.List.{list_any};
 ghost use Rattle.search_core.specs.Text.{byte_at};

@@ -1,5 +1,12 @@
 //! Laws of half searches: what they find, which passes they make, and which quit bytes they answer. Each function has no
 //! code: its contract is the law.
+//! ```rust
+//! pub fn nothing_is_found_of_no_pattern()
+//!     ensures { (r : Reader) (q : Search) (o : Option (ℕ × ℕ)) → start_name r.automaton q.anchored ≡ None → scan r q ≡ found o → o ≡ None }
+//! {
+//!     scans_for_no_pattern_find_nothing();
+//! }
+//! ```
 ghost use Rattle.std.specs.Prelude.{◌≡◌, ℕ, suc, ◌-◌, ◌*◌, ◌<◌, ◌≤◌, Bool, true, false, List, length, Option, Some, None};
 ghost use Rattle.search_types.specs.Inputs.{Search};
 ghost use Rattle.search_types.specs.Modes.{is_anchored, is_supported};

@@ -1,4 +1,12 @@
 //! Laws of overlapping walks: which ends they tell, and in which order. Each function has no code: its contract is the law.
+//! ```rust
+//! pub fn ends_are_told_once()
+//!     ensures { (r : Reader) (q : Search) (s : ℕ) → r.kind ≡ AllMatches → IsBegun r q s → (whole_rest r q).refusal ≡ None →
+//!         HasNoneTwice same_pair (whole_rest r q).ends }
+//! {
+//!     walks_for_all_tell_each_end_once();
+//! }
+//! ```
 ghost use Rattle.std.specs.Prelude.{◌≡◌, ◌⊎◌, ℕ, suc, ◌-◌, ◌<◌, ◌≤◌, ◌↔◌, Bool, true, false, List, [], length, Some, None};
 ghost use Rattle.std.specs.Bool.{nat_eq};
 ghost use Rattle.std.specs.List.{filter};

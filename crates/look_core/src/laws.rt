@@ -1,4 +1,12 @@
 //! Laws of the definitions of looks. Each function has no code: its contract is the law.
+//! ```rust
+//! pub fn lines_are_read_by_bytes()
+//!     ensures { (words : ℕ → Bool) (t : Terminator) (h : List ℕ) (l : TheLook) (i : ℕ) → is_word_unicode l ≡ false →
+//!         holds words t h l i ≡ holds_ascii t h l i }
+//! {
+//!     other_looks_read_bytes();
+//! }
+//! ```
 ghost use Rattle.std.specs.Prelude.{◌≡◌, ◌≤◌, ◌<◌, ◌+◌, ◌-◌, ℕ, Bool, true, false, List, length, take, reverse, ◌++◌};
 ghost use Rattle.std.specs.List.{All, Contains, flat_map};
 ghost use Rattle.std.specs.Str.{encode_utf8_all, all_scalars};

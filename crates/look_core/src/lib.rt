@@ -2,6 +2,11 @@
 //!
 //! The definitions are in `specs/`; the laws are public functions without code, those of looks and of
 //! their sets in [`look_set_laws`], and those of where looks hold in [`matcher_laws`] and [`laws`].
+//! ```rust
+//! pub fn is_edge_of_word(haystack: &[u8], at: usize) -> bool {
+//!     at <= haystack.len() && LookMatcher::default().matches(Look::WordAscii, haystack, at)
+//! }
+//! ```
 #![tactic(auto)]
 
 pub mod laws;

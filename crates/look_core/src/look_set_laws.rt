@@ -1,5 +1,12 @@
 //! Laws of looks and of their sets. The contract of each function is the law, and but for one of them they have no
 //! code.
+//! ```rust
+//! pub fn twice_is_not_at_all()
+//!     ensures { (l : TheLook) → reversed (reversed l) ≡ l }
+//! {
+//!     reversed_twice();
+//! }
+//! ```
 ghost use Rattle.std.specs.Prelude.{◌≡◌, ◌&&◌, ◌||◌, not, ℕ, Some, true, false};
 ghost use Rattle.look_core.specs.declared.look.Look.{Look as TheLook};
 ghost use Rattle.look_core.specs.Codes.{same_look, repr, char_of, reversed};

@@ -1,4 +1,11 @@
 //! Laws of line terminators and of where looks hold. Each function has no code: its contract is the law.
+//! ```rust
+//! pub fn both_end_lines()
+//!     ensures { ends_line (two_of 13 10) 10 ≡ ((13 == 10) || (10 == 10)) }
+//! {
+//!     two_bytes_end_lines();
+//! }
+//! ```
 ghost use Rattle.std.specs.Prelude.{◌≡◌, ◌<◌, ◌||◌, ◌==◌, ℕ, Bool, List, IfSome};
 ghost use Rattle.search_core.specs.Text.{byte_at, byte_before};
 ghost use Rattle.look_core.specs.Terminators.{Terminator, IsTerminator, ends_line, two_of};

@@ -1,4 +1,11 @@
 //! Laws of what is built of a builder's states. Each function has no code: its contract is the law.
+//! ```rust
+//! pub fn kept_states_keep_their_place()
+//!     ensures { (drafts : List DraftNode) (q : ℕ) → stands_for (draft_at drafts q) ≡ None → past drafts q ≡ q }
+//! {
+//!     past_states_stand_for_themselves();
+//! }
+//! ```
 ghost use Rattle.std.specs.Prelude.{◌≡◌, ℕ, ◌<◌, ◌≤◌, List, [], ◌∷◌, map, length, None, Some, All};
 ghost use Rattle.nfa_core.specs.BuilderStates.{DraftNode, draft_at, Assembly};
 ghost use Rattle.nfa_core.specs.CanBuild.{names_of, CanBuild};

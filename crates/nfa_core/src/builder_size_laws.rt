@@ -1,4 +1,11 @@
 //! Laws of the memory of what is built. Each function has no code: its contract is the law.
+//! ```rust
+//! pub fn automata_need_no_more()
+//!     ensures { (b : Assembly) (x y : ℕ) → memory_of (automaton_of b x y).states ≤ bytes_of b.drafts }
+//! {
+//!     automata_need_no_more_than_builders();
+//! }
+//! ```
 ghost use Rattle.std.specs.Prelude.{ℕ, ◌≤◌};
 ghost use Rattle.nfa_core.specs.BuilderStates.{Assembly, bytes_of};
 ghost use Rattle.nfa_core.specs.NfaValue.{memory_of};

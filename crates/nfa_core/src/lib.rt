@@ -9,6 +9,11 @@
 //! it is built is in `CanBuild.antt`, and what is built in `NfaOf.antt`. What an [`NFA`] knows of its automaton
 //! is in `NfaValue.antt`, which bytes it doesn't tell apart in `Alike.antt`, with laws in [`nfa_laws`]. How far
 //! runs read is in `Reaches.antt`, with laws in [`text_laws`].
+//! ```rust
+//! pub fn is_for_text_alone(nfa: &NFA) -> bool {
+//!     nfa.is_utf8() && !nfa.has_empty()
+//! }
+//! ```
 #![tactic(auto)]
 
 mod build_error;

@@ -1,4 +1,12 @@
 //! Laws of what an NFA knows of its automaton. Each function has no code: its contract is the law.
+//! ```rust
+//! pub fn bytes_are_alike()
+//!     ensures { (a : Automaton) (t : Terminator) (ms : List Bool) (b c : ℕ) → IsSound a → HasMarks ms (marks_of t a.states) → b < 256 →
+//!         c < 256 → marks_below ms b ≡ marks_below ms c → AreAlike t a b c }
+//! {
+//!     bytes_of_one_class_are_alike();
+//! }
+//! ```
 ghost use Rattle.std.specs.Prelude.{◌≡◌, ℕ, ◌<◌, ◌↔◌, Bool, true, List, get_or, All};
 ghost use Rattle.std.specs.Bool.{nat_eq};
 ghost use Rattle.std.specs.Option.{option_to_list};

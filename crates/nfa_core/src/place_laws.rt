@@ -1,5 +1,13 @@
 //! Laws of the lists of states that a search makes place by place. Each function has no code: its contract is
 //! the law.
+//! ```rust
+//! pub fn lists_are_joined()
+//!     ensures { (eps step : ℕ → ℕ → List ℕ) (n len q : ℕ) (ls : ℕ → List ℕ) → IsGraph eps step n len → q < n →
+//!         IsListed eps step (λ k xs. xs) len q ls → (k : ℕ) → k ≤ len → ls k ≡ join nat_eq [] (arrivals eps step n q k) }
+//! {
+//!     lists_join_what_arrives();
+//! }
+//! ```
 ghost use Rattle.std.specs.Prelude.{◌≡◌, ℕ, ◌<◌, ◌≤◌, List, [], ◌∷◌, length};
 ghost use Rattle.std.specs.Bool.{nat_eq};
 ghost use Rattle.std.specs.List.{filter};

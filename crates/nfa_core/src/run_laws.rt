@@ -1,5 +1,12 @@
 //! Laws of the runs of an automaton. Each function has no code: its contract is the law. The lemmas behind
 //! them, in `proofs/`, are of any graph.
+//! ```rust
+//! pub fn matches_have_no_way()
+//!     ensures { (a : Automaton) (t : Text) (p e : ℕ × ℕ) → matched a p ≡ Some e → ways a t p ≡ [] }
+//! {
+//!     matches_lead_nowhere();
+//! }
+//! ```
 ghost use Rattle.std.specs.Prelude.{◌≡◌, ◌⊎◌, ℕ, suc, List, [], ◌∷◌, ◌++◌, Bool, true, false, Option, Some};
 ghost use Rattle.std.specs.List.{filter};
 ghost use Rattle.nfa_core.specs.Walks.{Has, HasNoneTwice, distinct, Visits, Lists};

@@ -1,4 +1,10 @@
 //! The numbers of states that a walk has still to visit: a list that ends with the one on top.
+//! ```rust
+//! pub fn push_both(states: &mut Vec<StateID>, a: StateID, b: StateID) -> Result<(), AllocError> {
+//!     stack::push(states, a)?;
+//!     stack::push(states, b)
+//! }
+//! ```
 ghost use Rattle.std.specs.Prelude.{◌≡◌, ℕ, ◌+◌, ◌<◌, ◌≤◌, ◌∷◌, ◌++◌, [], length, reverse, drop, All, OnOk, OnErr, IfSome, MatchOption};
 ghost use Rattle.std.specs.Bool.{nat_eq};
 ghost use Rattle.std.specs.List.{IsDistinct};

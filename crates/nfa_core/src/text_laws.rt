@@ -1,5 +1,13 @@
 //! Laws of the places that runs come to, and of texts that are alike as far as runs read. Each function has no
 //! code: its contract is the law.
+//! ```rust
+//! pub fn ends_lie_behind_their_start()
+//!     ensures { (a : Automaton) (t : Text) (i q : ℕ) (e : ℕ × ℕ) → IsWellFormed a → IsPairOf a t (i, q) → a.reverse ≡ false →
+//!         Has same_pair e (ends_from a t (i, q)) → i ≤ e.0 }
+//! {
+//!     ends_lie_inside();
+//! }
+//! ```
 ghost use Rattle.std.specs.Prelude.{◌≡◌, ◌≢◌, ℕ, ◌+◌, ◌≤◌, List, Bool, true, false};
 ghost use Rattle.std.specs.Bool.{nat_eq};
 ghost use Rattle.look_core.specs.LookSets.{has_look};

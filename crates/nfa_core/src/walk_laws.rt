@@ -1,5 +1,12 @@
 //! Laws of walks over names, as the closure of a set of states makes them. Each function has no code: its
 //! contract is the law. The lemmas behind them, in `proofs/`, are of any graph.
+//! ```rust
+//! pub fn walks_end_alike()
+//!     ensures { (steps : ℕ → List ℕ) (now seen a b : List ℕ) → Visits nat_eq steps now seen a → Visits nat_eq steps now seen b → a ≡ b }
+//! {
+//!     walks_come_to_one_list();
+//! }
+//! ```
 ghost use Rattle.std.specs.Prelude.{◌≡◌, ℕ, ◌<◌, List, [], ◌∷◌, ◌++◌, Bool, true, false};
 ghost use Rattle.std.specs.Bool.{nat_eq};
 ghost use Rattle.std.specs.List.{filter, flat_map};

@@ -1,4 +1,12 @@
 //! Laws of where an automaton leads. Each function has no code: its contract is the law.
+//! ```rust
+//! pub fn ends_are_joined()
+//!     ensures { (a : Automaton) (t : Text) (p : ℕ × ℕ) → IsWellFormed a → IsPairOf a t p → IsLeftForGood a t p → matched a p ≡ None →
+//!         ends_from a t p ≡ distinct same_pair (flat_map (ends_from a t) (ways a t p)) }
+//! {
+//!     ends_come_by_the_ways();
+//! }
+//! ```
 ghost use Rattle.std.specs.Prelude.{◌≡◌, ◌<◌, ℕ, List, length, None};
 ghost use Rattle.std.specs.List.{flat_map};
 ghost use Rattle.nfa_core.specs.BuilderStates.{Assembly, draft_at};

@@ -1,4 +1,11 @@
 //! Laws of searches for several patterns. Each function has no code: its contract is the law.
+//! ```rust
+//! pub fn trees_find_what_is_written()
+//!     ensures { (c : Options) (texts : List (List ℕ)) (xs : List Tree) → AllMean c texts xs → FindsWhatIsWritten c texts xs }
+//! {
+//!     searches_find_what_is_written();
+//! }
+//! ```
 ghost use Rattle.std.specs.Prelude.{ℕ, Bool, List, All};
 ghost use Rattle.regex_hir.specs.Re.{Re};
 ghost use Rattle.regex_syntax.specs.declared.Config.{Config};

@@ -1,5 +1,13 @@
 //! Laws of regexes that are built of the trees of patterns. The body of each function calls the laws on which its own rests, and does
 //! nothing.
+//! ```rust
+//! pub fn regexes_find_what_is_written()
+//!     ensures { (c : Options) (texts : List (List ℕ)) (xs : List Tree) → AllMean c texts xs → (s : Settings) (p : Pair) →
+//!         IsBuilt xs s p → FindsFirst s → s.line_terminator ≡ one_of 10 → AnswersWhatIsWritten c texts xs s p }
+//! {
+//!     regexes_answer_what_is_written();
+//! }
+//! ```
 ghost use Rattle.std.specs.Prelude.{◌≡◌, ℕ, List};
 ghost use Rattle.regex_hir.specs.Re.{Re};
 ghost use Rattle.regex_syntax.specs.declared.Config.{Config};

@@ -1,4 +1,11 @@
 //! Laws of the definitions. Each function has no code: its contract is the law.
+//! ```rust
+//! pub fn ends_tell_spans()
+//!     ensures { (a : Re) (x : Tree) → LoopsRead x → SameEnds a x → SameSpans a x }
+//! {
+//!     same_ends_are_same_spans();
+//! }
+//! ```
 ghost use Rattle.std.specs.Prelude.{◌≡◌, ◌<◌, ◌≤◌, List, [], length, All, Option, Some, None, ℕ, Bool, IsTrue, true};
 ghost use Rattle.std.specs.Char.{IsScalar};
 ghost use Rattle.std.specs.Option.{ForSome};

@@ -4,6 +4,11 @@
 //! toolchain's `regex_syntax` reads, or why it is refused and where; [`tree_of`] makes the tree of a pattern
 //! that is parsed already. What a text means is defined in `specs/`: `Patterns.antt` and `SameEnds.antt`, with
 //! laws in [`laws`].
+//! ```rust
+//! pub fn in_either_case(alloc: Global, text: &str) -> Result<Hir, ParseError> {
+//!     parse(alloc, text, &Config::new().case_insensitive(true))
+//! }
+//! ```
 #![tactic(auto)]
 
 mod classes;

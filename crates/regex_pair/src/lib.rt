@@ -5,6 +5,11 @@
 //! `PairTold.antt`, whether there is a match in `Matching.antt`, and matches one after the other in `Finding.antt`; what contracts
 //! see of an iterator over them is in `FindSteps.antt` and `StepSearches.antt`, and what a loop over it keeps in `Taken.antt`. Laws
 //! are public functions without code in [`pair_laws`] and [`taken_laws`].
+//! ```rust
+//! pub fn caches_of(alloc: Global, re: &Regex) -> Result<Cache, AllocError> {
+//!     re.create_cache(alloc)
+//! }
+//! ```
 #![tactic(auto)]
 
 mod builder;

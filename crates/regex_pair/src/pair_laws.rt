@@ -1,4 +1,11 @@
 //! Laws of searches over two automata, as functions of values. Each function has no code: its contract is the law.
+//! ```rust
+//! pub fn matches_end_within()
+//!     ensures { (p : Pair) (q : Search) (f : Found) → joined p q ≡ Ok (Some f) → f.end ≤ q.end }
+//! {
+//!     matches_lie_in_their_span();
+//! }
+//! ```
 ghost use Rattle.std.specs.Prelude.{◌≡◌, ◌<◌, ◌≤◌, ℕ, ◌+◌, ◌++◌, Bool, false, List, length, Option, Some, Result, Ok};
 ghost use Rattle.search_types.specs.declared.match_error.MatchErrorKind.{MatchErrorKind};
 ghost use Rattle.search_types.specs.AllAnswers.{AnswersWithin, EndsRise, all_answers};

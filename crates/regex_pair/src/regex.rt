@@ -1,4 +1,9 @@
 //! A regex over two automata that are made as they are used, as `regex_automata::hybrid::regex`.
+//! ```rust
+//! pub fn bytes_of_both(cache: &Cache) -> usize {
+//!     cache.memory_usage()
+//! }
+//! ```
 ghost use Rattle.std.specs.Prelude.{◌≡◌, ◌+◌, ◌≤◌, length};
 ghost use Rattle.search_core.specs.Index.{greatest_index};
 ghost use Rattle.lazy_dfa.specs.ConfigValue.{no_options};

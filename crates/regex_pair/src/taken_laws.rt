@@ -3,6 +3,13 @@
 //! A loop over [`FindMatches`](crate::regex::FindMatches) keeps what it has taken (`AreTaken`): nothing at first, and behind each
 //! step that gives a match this one more. Where a step gives nothing, these are all; where it is refused, they are a beginning of
 //! all. Behind both nothing comes.
+//! ```rust
+//! pub fn loops_begin_with_nothing()
+//!     ensures { (p : Pair) (q : Search) (it : FindMatches) → finds_from it ≡ finding_all q → AreTaken p q [] (finds_from it) }
+//! {
+//!     nothing_is_taken_at_first();
+//! }
+//! ```
 ghost use Rattle.std.specs.Prelude.{◌≡◌, ◌≤◌, ℕ, ◌+◌, [], ◌∷◌, ◌++◌, true, List, Option, Some, None, Result, Ok, Err};
 ghost use Rattle.search_types.specs.declared.match_error.MatchErrorKind.{MatchErrorKind};
 ghost use Rattle.search_types.specs.AllAnswers.{all_answers};

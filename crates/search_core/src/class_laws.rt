@@ -1,4 +1,11 @@
 //! Laws of the classes by marks. Each function has no code: its contract is the law.
+//! ```rust
+//! pub fn no_class_is_above_the_last()
+//!     ensures { (cs : List ℕ) (b : ℕ) → IsRising cs → b < 256 → slice_index cs b ≤ slice_index cs 255 }
+//! {
+//!     classes_that_rise_are_numbered_by_the_last();
+//! }
+//! ```
 ghost use Rattle.std.specs.Prelude.{◌≡◌, ℕ, ◌+◌, ◌<◌, ◌≤◌, ◌⊎◌, ◌↔◌, Bool, List, length, slice_index};
 ghost use Rattle.std.specs.List.{All};
 ghost use Rattle.search_core.specs.Classes.{IsRising};

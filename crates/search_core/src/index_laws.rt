@@ -1,5 +1,12 @@
 //! Laws of the indices' constants. A clause cannot name a constant whose type has a model, so such ones are
 //! given back.
+//! ```rust
+//! pub fn last_pattern() -> PatternID
+//!     ensures { result ≡ greatest_index }
+//! {
+//!     pattern_id_constants().1
+//! }
+//! ```
 ghost use Rattle.std.specs.Prelude.{◌≡◌, ◌+◌};
 ghost use Rattle.search_core.specs.Index.{greatest_index};
 

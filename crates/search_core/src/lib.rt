@@ -3,6 +3,11 @@
 //!
 //! The definitions are in `specs/`; their laws are public functions without code in [`index_laws`],
 //! [`utf8_laws`] and [`class_laws`].
+//! ```rust
+//! pub fn second_pattern() -> Result<PatternID, PatternIDError> {
+//!     PatternID::new(1)
+//! }
+//! ```
 #![tactic(auto)]
 
 mod byte_set;

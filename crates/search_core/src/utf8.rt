@@ -1,4 +1,9 @@
 //! Bytes read as UTF-8.
+//! ```rust
+//! pub fn starts_with_a_character(bytes: &[u8]) -> bool {
+//!     matches!(utf8::decode(bytes), Some(Ok(_)))
+//! }
+//! ```
 ghost use Rattle.std.specs.Prelude.{◌≡◌, ◌<◌, ℕ, length, [], ◌∷◌, MatchOption};
 ghost use Rattle.std.specs.Int.{is_in_range};
 ghost use Rattle.search_core.specs.Utf8.{second_of_three, second_of_four, Spells, SpellsFirst, SpellsLast, Decodes, DecodesLast, is_boundary, is_word_byte};

@@ -1,4 +1,11 @@
 //! Laws of UTF-8. Each function has no code: its contract is the law.
+//! ```rust
+//! pub fn scalars_are_spelled_once()
+//!     ensures { (c : ℕ) (s t : List ℕ) → Spells c s → Spells c t → s ≡ t }
+//! {
+//!     one_spelling_for_a_scalar();
+//! }
+//! ```
 ghost use Rattle.std.specs.Prelude.{◌≡◌, ◌≤◌, ◌<◌, ℕ, List, [], ◌++◌, length, take, drop, Option, Result, Some, Ok, ◌⊎◌, true, false};
 ghost use Rattle.std.specs.Char.{IsScalar, encode_utf8};
 ghost use Rattle.std.specs.Str.{IsUtf8};

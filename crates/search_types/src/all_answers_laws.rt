@@ -1,5 +1,12 @@
 //! Laws of the list of all answers, over any function that answers from a place. Each function has no
 //! code: its contract is the law.
+//! ```rust
+//! pub fn no_end_comes_twice()
+//!     ensures { (answer : ℕ → Option Found) (s e : ℕ) → AnswersWithin answer e → EndsRise None (all_answers answer s e) }
+//! {
+//!     ends_rise();
+//! }
+//! ```
 ghost use Rattle.std.specs.Prelude.{◌≡◌, ◌≤◌, ℕ, suc, ◌+◌, ◌-◌, ◌∷◌, ◌++◌, [], Bool, true, List, Option, Some, None};
 ghost use Rattle.std.specs.List.{All, flat_map};
 ghost use Rattle.search_types.specs.Found.{Found};

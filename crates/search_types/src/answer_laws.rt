@@ -1,5 +1,13 @@
 //! Laws of what a search answers and of the places that it looks at. Each function has no code: its
 //! contract is the law.
+//! ```rust
+//! pub fn answers_are_computed()
+//!     ensures { (at : ℕ → List (ℕ × ℕ)) (m : Mode) (s e : ℕ) (o : Option Found) → IsAnswer at m s e o → o ≡ leftmost_answer at m s e }
+//! {
+//!     the_computed_answer_is_the_leftmost();
+//!     a_search_has_one_answer();
+//! }
+//! ```
 ghost use Rattle.std.specs.Prelude.{◌≡◌, ◌≤◌, ◌⊎◌, ◌↔◌, ℕ, Bool, true, false, List, Option, length};
 ghost use Rattle.search_core.specs.Utf8.{IsSplit, IsValidText};
 ghost use Rattle.search_types.specs.declared.anchored.Anchored.{Anchored};

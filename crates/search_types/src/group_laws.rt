@@ -1,4 +1,11 @@
 //! Laws of groups, their names and their slots. Each function has no code: its contract is the law.
+//! ```rust
+//! pub fn names_come_back()
+//!     ensures { (gs : Groups) (p g : ℕ) (n : Name) → group_fault gs ≡ None → (to_index gs p n ≡ Some g) ↔ (to_name gs p g ≡ Some n) }
+//! {
+//!     names_and_indices_agree();
+//! }
+//! ```
 ghost use Rattle.std.specs.Prelude.{◌≡◌, ℕ, ◌+◌, ◌<◌, ◌≤◌, ◌↔◌, Some, None};
 ghost use Rattle.search_types.specs.Groups.{Groups, Name, to_index, to_name, slot, slot_len, implicit_slot_len};
 ghost use Rattle.search_types.specs.GroupFaults.{group_fault};

@@ -2,6 +2,11 @@
 //!
 //! The definitions are in `specs/`; their laws are public functions without code in [`answer_laws`],
 //! [`all_answers_laws`], [`group_laws`] and [`captures_laws`].
+//! ```rust
+//! pub fn at_the_start(haystack: &[u8]) -> Input<'_> {
+//!     Input::new(haystack).anchored(Anchored::Yes)
+//! }
+//! ```
 #![tactic(auto)]
 
 pub mod all_answers_laws;

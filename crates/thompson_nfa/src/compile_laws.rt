@@ -1,4 +1,11 @@
 //! Laws of the automata that trees are compiled to. The contract of each function is the law; none has work to do.
+//! ```rust
+//! pub fn spans_are_texts()
+//!     ensures { (t : Terminator) (h : List ℕ) (s e : ℕ) → e ≤ length h → All (λ b. b < 256) h → IsRead (span t h s e) }
+//! {
+//!     spans_have_edges_that_are_read_as_they_are();
+//! }
+//! ```
 ghost use Rattle.std.specs.Prelude.{◌≡◌, ◌↔◌, ◌<◌, ◌≤◌, ◌-◌, ℕ, suc, true, false, List, All, length, slice_get, Some};
 ghost use Rattle.std.specs.List.{flat_map};
 ghost use Rattle.look_core.specs.LookSets.{has_look};

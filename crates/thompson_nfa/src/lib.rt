@@ -1,4 +1,10 @@
 //! Compiles trees to byte automata.
+//! ```rust
+//! pub fn automaton_of(alloc: Global, trees: &[Hir]) -> Result<NFA, BuildError> {
+//!     let mut compiler = Compiler::new(alloc);
+//!     compiler.build_many_from_hir(trees)
+//! }
+//! ```
 #![tactic(auto)]
 
 mod class;

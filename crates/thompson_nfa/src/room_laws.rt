@@ -1,5 +1,12 @@
 //! Laws of how many states a compile may make, and how many bytes they may take. Each function has no code: its contract
 //! is the law.
+//! ```rust
+//! pub fn rooms_are_counted()
+//!     ensures { (x : Tree) → room false x ≡ count x }
+//! {
+//!     plain_compiles_take_what_trees_count();
+//! }
+//! ```
 ghost use Rattle.std.specs.Prelude.{◌≡◌, ◌≤◌, ◌+◌, ◌*◌, ℕ, Bool, true, false, List, [], ◌∷◌, length, Some};
 ghost use Rattle.hir_core.specs.BySequences.{sequences_of};
 ghost use Rattle.hir_core.specs.Facts.{count, list_count, sequence_count};

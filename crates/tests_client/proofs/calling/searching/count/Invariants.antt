@@ -1,0 +1,7 @@
+use Rattle.std.proofs.Common.{◌≡◌}
+use Rattle.regex_pair.specs.FindSteps.{MayGoOn, lender_of, searches_by}
+use Rattle.tests_client.proofs.calling.searching.count.Given as goal
+
+abbrev pub invariant-loop-item : goal.invariant-loop-item
+invariant-loop-item l =
+    MayGoOn l.item-iterator × (searches_by l.item-iterator ≡ l.fn.re) × (lender_of l.item-iterator ≡ lender_of l.initial.item-iterator)

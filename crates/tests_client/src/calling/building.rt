@@ -1,0 +1,38 @@
+ghost use Rattle.std.specs.Prelude.{IfOk, map};
+ghost use Rattle.hirscan.specs.Built.{IsBuilt, default_settings};
+
+use hir_core::Hir;
+use hirscan::{Settings, build, program_settings};
+use lazy_dfa::BuildError;
+use pattern_search::{TextError, parse_all};
+use pattern_text::Config;
+use regex_pair::regex::Regex;
+use std::alloc::Global;
+
+/// A regex of trees, each a pattern of its own, the first preferred.
+pub fn of_trees(alloc: Global, trees: &[Hir]) -> Result<Regex, BuildError>
+    ensures { IfOk result (λ re. IsBuilt trees.now default_settings re) }
+{
+    build(alloc, trees, &Settings::new())
+}
+
+/// Why there is no regex of texts.
+#[derive(Debug, Drop)]
+pub enum NoRegex {
+    /// A text is refused, by its number, with what is wrong and where.
+    Text(TextError),
+    /// The trees have no automata.
+    Trees(BuildError),
+}
+
+/// A regex of texts in the syntax of the crate `regex`. Looks for words by characters are taken: searches then give up at bytes above 7F.
+pub fn of_texts(alloc: Global, texts: &[&str]) -> Result<Regex, NoRegex> {
+    let trees = match parse_all(alloc, texts, &Config::new()) {
+        Ok(trees) => trees,
+        Err(e) => return Err(NoRegex::Text(e)),
+    };
+    match build(alloc, &trees, &program_settings(Settings::new())) {
+        Ok(re) => Ok(re),
+        Err(e) => Err(NoRegex::Trees(e)),
+    }
+}
