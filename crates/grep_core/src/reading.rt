@@ -21,8 +21,11 @@ use crate::what::What;
 use std::alloc::{AllocError, Global};
 use std::io::{ErrorKind, Read, Write};
 
-/// How many bytes are asked of the reader at once.
+/// How many bytes are asked of the reader at once, at most.
 const BLOCK: usize = 65536;
+
+/// And at first: behind that no more than were told before, so that caches that are too small are made larger before much is searched.
+const FIRST_BLOCK: usize = 4096;
 
 /// A line may not have more bytes.
 const LONGEST: usize = 1 << 30;
@@ -135,6 +138,19 @@ fn tell_read<W: Write>(
     Ok(is_task_over(task, progress))
 }
 
+/// How many bytes are asked of the reader, where so many were told before and so many can be held; some are.
+fn block_len(told: u64, room: usize) -> usize
+    requires { 0 < room }
+    ensures some { 0 < result }
+    ensures fits { result ≤ room }
+{
+    let few = FIRST_BLOCK.min(room);
+    if told < BLOCK as u64 {
+        return few.max(told as usize).min(room);
+    }
+    room
+}
+
 /// Reads one block more, and tells the lines that end in it.
 fn next_block<R: Read, W: Write>(
     alloc: Global,
@@ -161,7 +177,8 @@ fn next_block<R: Read, W: Write>(
         (W.contents writer.new)) }
 {
     let before = read.len();
-    let taken = match read_some(reader, chunk, read) {
+    let len = block_len(progress.place, chunk.len());
+    let taken = match read_some(reader, &mut chunk[..len], read) {
         Ok(taken) => taken,
         Err(e) => return Err(e),
     };
