@@ -3,24 +3,25 @@
  *
  * A regex is made once of one pattern or several, and searched many times:
  *
+ *     hanneddois_regex regex = HANNEDDOIS_EMPTY;
  *     hanneddois_options options = {0};
  *     hanneddois_error error;
- *     hanneddois_regex *regex;
  *     const char *text = "[0-9]+";
  *     size_t length = strlen(text);
- *     if (hanneddois_new((const uint8_t *)text, length, &length, 1, &options, &regex, &error) != HANNEDDOIS_OK)
+ *     if (hanneddois_new(&regex, (const uint8_t *)text, length, &length, 1, &options, &error) != HANNEDDOIS_OK)
  *         return 1;
  *     hanneddois_match match;
- *     if (hanneddois_find_at(regex, haystack, haystack_length, 0, &match, &error) == HANNEDDOIS_OK)
+ *     if (hanneddois_find_at(&regex, haystack, haystack_length, 0, &match, &error) == HANNEDDOIS_OK)
  *         printf("%zu..%zu\n", match.start, match.end);
- *     hanneddois_free(regex);
+ *     hanneddois_free(&regex);
  *
  * Patterns are written in the syntax of the Rust crate regex. All offsets count bytes from 0; a place "end" is
  * the one behind the last byte.
  *
  * What a caller has to keep, in every call:
  *
- *   - A regex is one that hanneddois_new gave with HANNEDDOIS_OK, and that wasn't freed.
+ *   - A hanneddois_regex begins as HANNEDDOIS_EMPTY, all 0, and only the calls of this header change it. It may be
+ *     moved, but of two copies only one may be used from then on. An empty one is refused as HANNEDDOIS_BAD_ARGUMENT.
  *   - Calls with the same regex don't run at the same time. Different regexes may be used by different threads.
  *   - No pointer is NULL. Where a length stands beside it, so many elements lie there; where the length is 0, the
  *     pointer isn't read but still isn't NULL.
@@ -42,8 +43,13 @@ extern "C" {
 /* The version of this header: 10000 times the major number, 100 times the minor one, and the patch. */
 #define HANNEDDOIS_VERSION 100
 
-/* A compiled regex with the caches of its searches. */
-typedef struct hanneddois_regex hanneddois_regex;
+/* Nothing, or a compiled regex with the caches of its searches. */
+typedef struct hanneddois_regex {
+    void *inside;
+} hanneddois_regex;
+
+/* Nothing: what a hanneddois_regex begins as. */
+#define HANNEDDOIS_EMPTY { NULL }
 
 /* How a call ended. */
 typedef uint32_t hanneddois_status;
@@ -151,20 +157,21 @@ typedef struct hanneddois_options {
  * so on. The lengths have to sum up to texts_length; else, and where count is 0, the call is refused as
  * HANNEDDOIS_BAD_ARGUMENT. Of matches that start at the same place the one of the earlier pattern is preferred.
  *
- * Returns HANNEDDOIS_OK and writes the regex to *regex; or a refusal, which *error tells too, and writes NULL.
+ * What stood in *regex before is freed. Returns HANNEDDOIS_OK, and *regex is the new one; or a refusal, which *error
+ * tells too, and *regex is empty.
  */
 hanneddois_status hanneddois_new(
+    hanneddois_regex *regex,
     const uint8_t *texts, size_t texts_length,
     const size_t *lengths, size_t count,
     const hanneddois_options *options,
-    hanneddois_regex **regex,
     hanneddois_error *error);
 
-/* Frees a regex. It may not be used any more. */
+/* Frees what a regex holds, and leaves it empty. An empty one stays so. */
 void hanneddois_free(hanneddois_regex *regex);
 
-/* How many patterns the regex has. */
-size_t hanneddois_pattern_count(const hanneddois_regex *regex);
+/* How many patterns the regex has; 0 where it is empty. */
+size_t hanneddois_pattern_count(hanneddois_regex *regex);
 
 /* Whether there is a match in the haystack: HANNEDDOIS_OK, HANNEDDOIS_NONE, or a refusal. */
 hanneddois_status hanneddois_is_match(
@@ -213,11 +220,11 @@ hanneddois_status hanneddois_which(
    there are. They are ASCII, and name no place or number. */
 size_t hanneddois_error_text(const hanneddois_error *error, uint8_t *text, size_t text_length);
 
-/* How many bytes the caches of the regex are taken to need now. */
-size_t hanneddois_memory_usage(const hanneddois_regex *regex);
+/* How many bytes the caches of the regex are taken to need now; 0 where it is empty. */
+size_t hanneddois_memory_usage(hanneddois_regex *regex);
 
-/* How often the caches of the regex were cleared since it was made. */
-size_t hanneddois_clear_count(const hanneddois_regex *regex);
+/* How often the caches of the regex were cleared since it was made; 0 where it is empty. */
+size_t hanneddois_clear_count(hanneddois_regex *regex);
 
 /* The version of the library, as HANNEDDOIS_VERSION. */
 uint32_t hanneddois_version(void);
