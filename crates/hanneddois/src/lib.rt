@@ -13,6 +13,7 @@ ghost use Rattle.hir_core.specs.Facts.{LoopsRead};
 ghost use Rattle.capi.specs.Compiled.{Regexed, IsRegexOf, IsTold, IsFound, IsPreferred, AreAll};
 ghost use Rattle.capi.specs.Options.{config_of, allows_empty_loops};
 ghost use Rattle.capi.specs.Texts.{cut};
+ghost use Rattle.capi.specs.Failures.{plain};
 
 use capi::{Compiled, Failure, FoundMatch, NewError, Options, SearchError, error_text, texts_of};
 use handle::Handle;
@@ -28,16 +29,16 @@ const VERSION: u32 = 100;
 
 /// What the header says of a status, with no refusal.
 fn end(status: u32, error: &mut Failure) -> u32
-    ensures { result ≡ status }
-    ensures { error.new.status ≡ status }
+    ensures status { result ≡ status }
+    ensures told { error.new ≡ plain status }
 {
     *error = Failure::plain(status);
     status
 }
 
 fn refuse(failure: Failure, error: &mut Failure) -> u32
-    ensures { error.new ≡ failure }
-    ensures { result ≡ failure.status }
+    ensures status { result ≡ failure.status }
+    ensures told { error.new ≡ failure }
 {
     *error = failure;
     failure.status
@@ -197,11 +198,17 @@ pub extern "C" fn hanneddois_find_all(
 pub extern "C" fn hanneddois_which(
     alloc: Global,
     regex: &mut Handle,
-    haystack: &[u8],
+    _haystack: &[u8],
     matched: &mut [u8],
     error: &mut Failure,
 ) -> u32 {
-    matched.fill(0);
+    for mark in matched.iter_mut() {
+        *mark = 0;
+    }
+    let Some(inside) = regex.take(alloc) else {
+        return end(BAD_ARGUMENT, error);
+    };
+    regex.put(alloc, inside);
     refuse(SearchError::Unsupported.failure(), error)
 }
 
