@@ -208,7 +208,7 @@ hanneddois_status hanneddois_find_all(
  * Which patterns match anywhere in the haystack: writes 1 to matched[i] where pattern i does, and 0 elsewhere:
  * HANNEDDOIS_OK where some pattern matches, HANNEDDOIS_NONE, or a refusal, where all is 0. matched_length has to be
  * the number of patterns; else it is HANNEDDOIS_BAD_ARGUMENT. A regex that wasn't made with HANNEDDOIS_WHICH answers
- * HANNEDDOIS_UNSUPPORTED.
+ * HANNEDDOIS_UNSUPPORTED. In this version every regex does.
  */
 hanneddois_status hanneddois_which(
     hanneddois_regex *regex,
