@@ -68,7 +68,11 @@ pub extern "C" fn hanneddois_new(
     lengths: &[usize],
     options: &Options,
     error: &mut Failure,
-) -> u32 {
+) -> u32
+    ensures told { error.new.status ≡ result }
+    ensures made { result ≡ 0 → regex.new.value ≢ None }
+    ensures refused { result ≢ 0 → regex.new.value ≡ None }
+{
     drop(regex.take(alloc));
     match made(alloc, texts, lengths, options) {
         Ok(inside) => {
@@ -89,7 +93,9 @@ pub extern "C" fn hanneddois_free(alloc: Global, regex: &mut Handle)
 
 /// How many patterns it has.
 #[unsafe(no_mangle)]
-pub extern "C" fn hanneddois_pattern_count(alloc: Global, regex: &mut Handle) -> usize {
+pub extern "C" fn hanneddois_pattern_count(alloc: Global, regex: &mut Handle) -> usize
+    ensures same { regex.new.value ≡ regex.old.value }
+{
     let Some(inside) = regex.take(alloc) else {
         return 0;
     };
@@ -100,7 +106,9 @@ pub extern "C" fn hanneddois_pattern_count(alloc: Global, regex: &mut Handle) ->
 
 /// The bytes that the caches are taken to need.
 #[unsafe(no_mangle)]
-pub extern "C" fn hanneddois_memory_usage(alloc: Global, regex: &mut Handle) -> usize {
+pub extern "C" fn hanneddois_memory_usage(alloc: Global, regex: &mut Handle) -> usize
+    ensures same { regex.new.value ≡ regex.old.value }
+{
     let Some(inside) = regex.take(alloc) else {
         return 0;
     };
@@ -111,7 +119,9 @@ pub extern "C" fn hanneddois_memory_usage(alloc: Global, regex: &mut Handle) -> 
 
 /// How often the caches were cleared.
 #[unsafe(no_mangle)]
-pub extern "C" fn hanneddois_clear_count(alloc: Global, regex: &mut Handle) -> usize {
+pub extern "C" fn hanneddois_clear_count(alloc: Global, regex: &mut Handle) -> usize
+    ensures same { regex.new.value ≡ regex.old.value }
+{
     let Some(inside) = regex.take(alloc) else {
         return 0;
     };
@@ -127,7 +137,10 @@ pub extern "C" fn hanneddois_is_match(
     regex: &mut Handle,
     haystack: &[u8],
     error: &mut Failure,
-) -> u32 {
+) -> u32
+    ensures told { error.new.status ≡ result }
+    ensures empty { regex.old.value ≡ None → result ≡ 2 }
+{
     let Some(mut inside) = regex.take(alloc) else {
         return end(BAD_ARGUMENT, error);
     };
@@ -149,7 +162,10 @@ pub extern "C" fn hanneddois_find_at(
     from: usize,
     found: &mut FoundMatch,
     error: &mut Failure,
-) -> u32 {
+) -> u32
+    ensures told { error.new.status ≡ result }
+    ensures empty { regex.old.value ≡ None → result ≡ 2 }
+{
     *found = FoundMatch::zero();
     if haystack.len() < from {
         return end(BAD_ARGUMENT, error);
@@ -178,7 +194,10 @@ pub extern "C" fn hanneddois_find_all(
     matches: &mut [FoundMatch],
     count: &mut usize,
     error: &mut Failure,
-) -> u32 {
+) -> u32
+    ensures told { error.new.status ≡ result }
+    ensures empty { regex.old.value ≡ None → result ≡ 2 }
+{
     *count = 0;
     let Some(mut inside) = regex.take(alloc) else {
         return end(BAD_ARGUMENT, error);
@@ -201,7 +220,10 @@ pub extern "C" fn hanneddois_which(
     _haystack: &[u8],
     matched: &mut [u8],
     error: &mut Failure,
-) -> u32 {
+) -> u32
+    ensures told { error.new.status ≡ result }
+    ensures empty { regex.old.value ≡ None → result ≡ 2 }
+{
     for mark in matched.iter_mut() {
         *mark = 0;
     }
