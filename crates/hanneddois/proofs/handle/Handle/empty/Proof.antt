@@ -1,17 +1,16 @@
 -- `empty` is null, which holds nothing.
-use Rattle.std.proofs.Common.{◌≡◌, List, [], ◌∷◌, refl, lit<}
+use Rattle.std.proofs.Common.{◌≡◌, [], ◌∷◌, refl, lit<}
 use Rattle.std.specs.Prelude.{None}
-use mir.Val.{Val}
 use base.Logic.{emp}
 use base.Fml.{ftrue}
-use types.Kit.{‵, raw, ◌⊛◌, ◌$◌, ◌∵◌, !, qed, drop, split, join, fpack, suffices, done}
+use types.Kit.{‵, raw, ◌⊛◌, ◌$◌, ◌∵◌, !, qed, drop, join, fpack, suffices, done}
 use types.Run.{lit, no_more, and_then, returns, enter}
 use types.ByLocal.{alloc_all, pass_all, free_all, look_at, sets}
 use types.Part.{agg}
 use contract.Running.{tables}
 use denote.RawPtr.{null_ptr}
 use denote.Steps.{nothing}
-use denote.Triple.Walked.{Stays, walk_of, ends_at, says}
+use denote.Triple.Walked.{Stays, ends_at, says}
 use Rattle.std.proofs.raw_atomic.Walks.{proved_at}
 use Rattle.hanneddois.proofs.HandleSteps.{one, handle_in}
 use Rattle.hanneddois.specs.contracts.handle.Handle.empty.{ended, clauses}

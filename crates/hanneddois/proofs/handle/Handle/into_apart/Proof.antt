@@ -1,41 +1,33 @@
 -- `into_apart` tests the pointer for null: there the handle holds nothing, and else the parts of a box.
 use Rattle.std.proofs.Common.{◌≡◌, ℕ, List, [], ◌∷◌, ◌++◌, refl, sym, ap, ap₂, ◌∙◌, subst, lit<}
-use Rattle.std.specs.Prelude.{Option, Some, None}
-use lib.Dec.{T}
-use mir.Val.{Val, vcons, vnil, of_list, has_ty, WT}
+use Rattle.std.specs.Prelude.{Some, None}
+use mir.Val.{Val, vcons, vnil, of_list}
 use mir.Raw.{raw as bare}
 use base.Fraction.{full_share}
-use base.Logic.{SProp, ent, emp, id⊢, guard_i, fst∗, never}
+use base.Logic.{SProp, ent, emp}
 use base.Fml.{ftrue, fsep}
 use prog.Wp.{WpFn}
-use types.Logic.{sem}
 use types.Kit.{Item, ‵, raw, ◌⊛◌, given, at_ret, ◌$◌, ◌∵◌, !, qed, by, move, keep, drop, use0, use1, join, split, fsplit, fsplit3, fjoin, fjoin3, fpick, learn, rewrite, suffices, done}
 use types.Part.{whole, sub, agg}
 use types.Run.{stop, fld, lit, of_opd, bin, no_more, and_then, first, branches, exec, returns, enter}
 use types.ByLocal.{alloc_all, pass_all, free_all, look_at, get, get_in, sets, sets_last, env}
 use types.Match.{live}
-use contract.Monad.{fact_use}
 use contract.Running.{tables}
 use denote.Exit.{yes}
 use denote.RattleType.{RattleType}
-use denote.Memory.{lone, part_at}
+use denote.Memory.{part_at}
 use denote.Signature.{type_at}
 use denote.RawPtr.{Ptr, block_ptr, null_ptr, tests_null, Testable}
 use denote.Steps.{nothing}
 use denote.Triple.Walked.{Stays, stay_dropped, walk_of, ends_at, says, Goes-dropped}
-use denote.RawPtr.{in_a_block}
-use Rattle.std.specs.Box.Ownership.{box_owns}
 use Rattle.std.specs.declared.alloc.Global.{Global}
-use Rattle.std.specs.contracts.impls.GlobalAllocator.TheImpl.{ghosts}
-use Rattle.std.proofs.GlobalToken.{dealloc_token-Testable}
 use Rattle.std.proofs.option.Made.{Some-of, none_of}
 use Rattle.std.proofs.alloc.Calls.{handle_tells, token}
-use Rattle.std.proofs.BoxSteps.Form.{D, B, R, τ, handle, word, box_typed}
+use Rattle.std.proofs.BoxSteps.Form.{D, R, τ, handle, word, box_typed}
 use Rattle.std.proofs.BoxSteps.Steps.{box_in}
 use Rattle.std.proofs.ResultValues.{and_tt}
 use Rattle.std.proofs.raw_atomic.Walks.{proved_at}
 use Rattle.capi.specs.contracts.compiled.Compiled as regex
-use Rattle.hanneddois.specs.Handles.{held}
 use Rattle.hanneddois.proofs.Boxed.{E, Parts, FromHandle, FromAlloc}
 use Rattle.hanneddois.proofs.HandleSteps.{one, handle_out, held_cases}
 use Rattle.hanneddois.specs.contracts.handle.Handle.into_apart.{ended, clauses}
