@@ -1,2 +1,3 @@
+mod ApartSteps
 mod Boxed
 mod HandleSteps
