@@ -1,0 +1,154 @@
+/* What a caller may do wrong and still gets an answer for, and each field of an error. Prints nothing where all is well. */
+#include <stdio.h>
+#include <string.h>
+
+#include "hanneddois.h"
+
+static int failed = 0;
+
+#define CHECK(what)                                              \
+    do {                                                         \
+        if (!(what)) {                                           \
+            printf("misuse: line %d: %s\n", __LINE__, #what);    \
+            failed = 1;                                          \
+        }                                                        \
+    } while (0)
+
+static hanneddois_error error;
+
+static hanneddois_status make(hanneddois_regex *regex, const char *text, const hanneddois_options *options)
+{
+    size_t length = strlen(text);
+    return hanneddois_new(regex, (const uint8_t *)text, length, &length, 1, options, &error);
+}
+
+static const uint8_t *bytes(const char *text)
+{
+    return (const uint8_t *)text;
+}
+
+static void empty_handles(void)
+{
+    hanneddois_regex none = HANNEDDOIS_EMPTY;
+    hanneddois_match match = {7, 7, 7};
+    size_t count = 7;
+    uint8_t matched[1] = {7};
+    CHECK(hanneddois_is_match(&none, bytes("a"), 1, &error) == HANNEDDOIS_BAD_ARGUMENT);
+    CHECK(error.status == HANNEDDOIS_BAD_ARGUMENT);
+    CHECK(hanneddois_find_at(&none, bytes("a"), 1, 0, &match, &error) == HANNEDDOIS_BAD_ARGUMENT);
+    CHECK(match.pattern == 0 && match.start == 0 && match.end == 0);
+    CHECK(hanneddois_find_all(&none, bytes("a"), 1, &match, 1, &count, &error) == HANNEDDOIS_BAD_ARGUMENT && count == 0);
+    CHECK(hanneddois_which(&none, bytes("a"), 1, matched, 1, &error) == HANNEDDOIS_BAD_ARGUMENT && matched[0] == 0);
+    CHECK(hanneddois_pattern_count(&none) == 0 && hanneddois_memory_usage(&none) == 0 && hanneddois_clear_count(&none) == 0);
+    hanneddois_free(&none);
+    hanneddois_free(&none);
+    CHECK(none.inside == NULL);
+}
+
+static void refusals(void)
+{
+    hanneddois_regex regex = HANNEDDOIS_EMPTY;
+    hanneddois_options options = {0};
+    CHECK(make(&regex, "a(b", &options) == HANNEDDOIS_NO_PATTERN);
+    CHECK(regex.inside == NULL && error.pattern == 0 && error.start == 1 && error.end == 2);
+    uint8_t words[100];
+    size_t length = hanneddois_error_text(&error, words, sizeof words);
+    CHECK(length == 14 && memcmp(words, "unclosed group", 14) == 0);
+    memset(words, 'x', sizeof words);
+    CHECK(hanneddois_error_text(&error, words, 3) == 14 && memcmp(words, "uncx", 4) == 0);
+    CHECK(hanneddois_error_text(&error, words, 0) == 14);
+
+    size_t lengths[3] = {1, 2, 1};
+    CHECK(hanneddois_new(&regex, bytes("aa**"), 4, lengths, 3, &options, &error) == HANNEDDOIS_NO_PATTERN && error.pattern == 2);
+    CHECK(hanneddois_new(&regex, bytes("aa+b"), 4, lengths, 3, &options, &error) == HANNEDDOIS_OK);
+    CHECK(hanneddois_pattern_count(&regex) == 3);
+    CHECK(hanneddois_new(&regex, bytes("aa+b"), 4, lengths, 2, &options, &error) == HANNEDDOIS_BAD_ARGUMENT && regex.inside == NULL);
+    CHECK(hanneddois_new(&regex, bytes("aa"), 2, lengths, 3, &options, &error) == HANNEDDOIS_BAD_ARGUMENT);
+    CHECK(hanneddois_new(&regex, bytes(""), 0, lengths, 0, &options, &error) == HANNEDDOIS_BAD_ARGUMENT);
+    lengths[0] = SIZE_MAX;
+    CHECK(hanneddois_new(&regex, bytes("aa+b"), 4, lengths, 3, &options, &error) == HANNEDDOIS_BAD_ARGUMENT);
+
+    CHECK(make(&regex, "ab\xff", &options) == HANNEDDOIS_NOT_UTF8 && error.pattern == 0 && error.start == 2);
+    CHECK(make(&regex, "(a*)*", &options) == HANNEDDOIS_EMPTY_LOOP && error.pattern == 0);
+    options.flags = HANNEDDOIS_EMPTY_LOOPS;
+    CHECK(make(&regex, "(a*)*b", &options) == HANNEDDOIS_OK);
+    CHECK(hanneddois_is_match(&regex, bytes("aab"), 3, &error) == HANNEDDOIS_OK);
+    options.flags = 1u << 20;
+    CHECK(make(&regex, "a", &options) == HANNEDDOIS_BAD_ARGUMENT && regex.inside == NULL);
+    options.flags = 0;
+    options.nest_limit = 2;
+    CHECK(make(&regex, "(((a)))", &options) == HANNEDDOIS_NESTS_TOO_DEEP);
+    options.nest_limit = 0;
+    options.size_limit = 100;
+    CHECK(make(&regex, "[a-z]{100}", &options) == HANNEDDOIS_TOO_LARGE && error.limit == 100);
+    options.size_limit = 0;
+    options.capacity = 1;
+    CHECK(make(&regex, "[a-z]+", &options) == HANNEDDOIS_CAPACITY_TOO_SMALL && error.limit > 1);
+    options.capacity = error.limit;
+    CHECK(make(&regex, "[a-z]+", &options) != HANNEDDOIS_NO_PATTERN);
+    options.capacity = 1;
+    options.flags = HANNEDDOIS_RAISE_CAPACITY;
+    CHECK(make(&regex, "[a-z]{3,9}x", &options) == HANNEDDOIS_OK);
+    for (int i = 0; i < 20; i++)
+        CHECK(hanneddois_is_match(&regex, bytes("abcdefgh ijklmnopqrx"), 20, &error) == HANNEDDOIS_OK);
+    CHECK(hanneddois_clear_count(&regex) > 0 && hanneddois_memory_usage(&regex) > 0);
+    hanneddois_free(&regex);
+    CHECK(regex.inside == NULL);
+    hanneddois_free(&regex);
+}
+
+static void searches(void)
+{
+    hanneddois_regex regex = HANNEDDOIS_EMPTY;
+    hanneddois_options options = {0};
+    hanneddois_match match, rows[3];
+    size_t count;
+    CHECK(make(&regex, "[0-9]+", &options) == HANNEDDOIS_OK);
+    CHECK(hanneddois_find_at(&regex, bytes("a12b3"), 5, 2, &match, &error) == HANNEDDOIS_OK && match.start == 2 && match.end == 3);
+    CHECK(hanneddois_find_at(&regex, bytes("a12b3"), 5, 5, &match, &error) == HANNEDDOIS_NONE);
+    CHECK(hanneddois_find_at(&regex, bytes("a12b3"), 5, 6, &match, &error) == HANNEDDOIS_BAD_ARGUMENT);
+    CHECK(hanneddois_find_at(&regex, bytes("a12b3"), 5, SIZE_MAX, &match, &error) == HANNEDDOIS_BAD_ARGUMENT);
+    memset(rows, 0x55, sizeof rows);
+    CHECK(hanneddois_find_all(&regex, bytes("1 2 3 45"), 8, rows, 2, &count, &error) == HANNEDDOIS_OK && count == 4);
+    CHECK(rows[1].start == 2 && rows[1].end == 3 && rows[2].start == (size_t)0x5555555555555555);
+    CHECK(hanneddois_find_all(&regex, bytes("1 2 3 45"), 8, rows, 0, &count, &error) == HANNEDDOIS_OK && count == 4);
+    CHECK(hanneddois_find_all(&regex, bytes(""), 0, rows, 3, &count, &error) == HANNEDDOIS_NONE && count == 0);
+
+    CHECK(make(&regex, "\\bk\\b", &options) == HANNEDDOIS_OK);
+    CHECK(hanneddois_is_match(&regex, bytes("a k b"), 5, &error) == HANNEDDOIS_OK);
+    CHECK(hanneddois_is_match(&regex, bytes("a \xc3\xa9 b"), 6, &error) == HANNEDDOIS_GAVE_UP && error.byte == 0xc3 && error.start == 2);
+    CHECK(hanneddois_find_all(&regex, bytes("k k \xc3\xa9"), 6, rows, 3, &count, &error) == HANNEDDOIS_GAVE_UP && count >= 1 && rows[0].end == 1);
+
+    CHECK(make(&regex, "^a|(?-u:\\xff)", &options) == HANNEDDOIS_OK);
+    CHECK(hanneddois_find_at(&regex, bytes("ba\xff"), 3, 1, &match, &error) == HANNEDDOIS_OK && match.start == 2);
+    options.flags = HANNEDDOIS_UTF8;
+    CHECK(make(&regex, "(?-u:\\xff)", &options) == HANNEDDOIS_NO_PATTERN);
+    CHECK(make(&regex, ".", &options) == HANNEDDOIS_OK);
+    CHECK(hanneddois_is_match(&regex, bytes("ab\xff"), 3, &error) == HANNEDDOIS_HAYSTACK_NOT_UTF8 && error.start == 2);
+    CHECK(hanneddois_find_at(&regex, bytes("\xc3\xa9"), 2, 0, &match, &error) == HANNEDDOIS_OK && match.end == 2);
+    hanneddois_free(&regex);
+}
+
+static void patterns(void)
+{
+    hanneddois_regex regex = HANNEDDOIS_EMPTY;
+    hanneddois_options options = {0};
+    hanneddois_match rows[4];
+    size_t count, lengths[3] = {2, 1, 2};
+    uint8_t matched[3];
+    CHECK(hanneddois_new(&regex, bytes("abacd"), 5, lengths, 3, &options, &error) == HANNEDDOIS_OK);
+    CHECK(hanneddois_find_all(&regex, bytes("cdxabaa"), 7, rows, 4, &count, &error) == HANNEDDOIS_OK && count == 4);
+    CHECK(rows[0].pattern == 2 && rows[1].pattern == 0 && rows[2].pattern == 1 && rows[3].pattern == 1);
+    CHECK(hanneddois_which(&regex, bytes("cd"), 2, matched, 3, &error) == HANNEDDOIS_UNSUPPORTED);
+    hanneddois_free(&regex);
+}
+
+int main(void)
+{
+    empty_handles();
+    refusals();
+    searches();
+    patterns();
+    CHECK(hanneddois_version() == HANNEDDOIS_VERSION);
+    return failed;
+}

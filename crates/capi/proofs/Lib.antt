@@ -1,0 +1,4 @@
+mod FoundLemmas
+mod ListLemmas
+mod LoopLemmas
+mod TextLemmas

@@ -1,0 +1,7 @@
+use Rattle.std.proofs.Common.{◌≡◌, take}
+use Rattle.capi.specs.Compiled.{overlaid}
+use Rattle.capi.proofs.words.write_into.Given as goal
+
+-- the bytes so far lie in the room
+abbrev pub invariant-loop-at : goal.invariant-loop-at
+invariant-loop-at l = l.room ≡ overlaid (take l.at l.fn.bytes) l.fn.room

@@ -1,0 +1,73 @@
+-- Refusals, and matches, by numbers.
+use Rattle.std.specs.Prelude.{◌≡◌, ℕ, Option, Some, None}
+use Rattle.regex_syntax.specs.declared.error.ErrorKind.{ErrorKind}
+use Rattle.regex_syntax.specs.declared.error.ErrorKind.TheVariants.{NestLimitExceeded}
+use Rattle.search_types.specs.declared.match_error.MatchErrorKind.{MatchErrorKind}
+use Rattle.search_types.specs.declared.match_error.MatchErrorKind.TheVariants.{Quit, GaveUp, HaystackTooLong, UnsupportedAnchored, NotAPair, NoMemory as NoMemoryLeft}
+use Rattle.search_types.specs.Found.{Found}
+use Rattle.nfa_core.specs.BuildErrors.{size_limit_of}
+use Rattle.lazy_dfa.specs.declared.build_error.BuildError.{BuildError}
+use Rattle.lazy_dfa.specs.declared.build_error.BuildError.TheVariants.{NFA, InsufficientCacheCapacity, InsufficientStateIDCapacity, Unsupported, NoMemory as NoRoom}
+use Rattle.pattern_text.specs.declared.parse_error.ParseError.{ParseError}
+use Rattle.pattern_text.specs.declared.parse_error.ParseError.TheVariants.{NoMemory as NoneLeft, Refused}
+use Rattle.pattern_search.specs.declared.parsing.TextError.{TextError}
+use Rattle.capi.specs.declared.failure.Failure.{Failure}
+use Rattle.capi.specs.declared.failure.FoundMatch.{FoundMatch}
+use Rattle.capi.specs.declared.failure.NewError.{NewError}
+use Rattle.capi.specs.declared.failure.NewError.TheVariants.{BadArgument, NoMemory, NotUtf8, Text, EmptyLoop, Build}
+use Rattle.capi.specs.declared.failure.SearchError.{SearchError}
+use Rattle.capi.specs.declared.failure.SearchError.TheVariants.{BadArgument as BadSearch, NotUtf8 as NoText, Unsupported as NotAsked, Search}
+
+abbrev pub row_of : Found → FoundMatch
+row_of f = record { pattern = f.pattern; start = f.start; end = f.end }
+
+abbrev pub plain : ℕ → Failure
+plain status = record { status = status; cause = 0; pattern = 0; start = 0; end = 0; limit = 0; byte = 0 }
+
+-- which cause a text is refused for is told by words alone
+abbrev pub without_cause : Failure → Failure
+without_cause f = record f { cause = 0 }
+
+abbrev pub status_of_kind : ErrorKind → ℕ
+status_of_kind NestLimitExceeded = 6
+status_of_kind _ = 5
+
+abbrev pub failure_of_parse : ℕ → ParseError → Failure
+failure_of_parse number NoneLeft = plain 3
+failure_of_parse number (Refused kind place) = record (plain (status_of_kind kind)) { pattern = number; start = place.start; end = place.end }
+
+abbrev pub failure_of_text : TextError → Failure
+failure_of_text e = failure_of_parse e.number e.error
+
+abbrev pub failure_of_limit : Option ℕ → Failure
+failure_of_limit None = plain 8
+failure_of_limit (Some limit) = record (plain 8) { limit = limit }
+
+abbrev pub failure_of_build : BuildError → Failure
+failure_of_build (NFA err) = failure_of_limit (size_limit_of err)
+failure_of_build (InsufficientCacheCapacity minimum given) = record (plain 9) { limit = minimum }
+failure_of_build InsufficientStateIDCapacity = plain 8
+failure_of_build Unsupported = plain 10
+failure_of_build NoRoom = plain 3
+
+abbrev pub failure_of_new : NewError → Failure
+failure_of_new BadArgument = plain 2
+failure_of_new NoMemory = plain 3
+failure_of_new (NotUtf8 pattern at) = record (plain 4) { pattern = pattern; start = at }
+failure_of_new (Text e) = failure_of_text e
+failure_of_new (EmptyLoop pattern) = record (plain 7) { pattern = pattern }
+failure_of_new (Build e) = failure_of_build e
+
+abbrev pub failure_of_match : MatchErrorKind → Failure
+failure_of_match (Quit byte at) = record (plain 11) { start = at; byte = byte }
+failure_of_match (GaveUp at) = record (plain 11) { start = at }
+failure_of_match (HaystackTooLong len) = plain 8
+failure_of_match (UnsupportedAnchored mode) = plain 10
+failure_of_match NotAPair = plain 10
+failure_of_match NoMemoryLeft = plain 3
+
+abbrev pub failure_of_search : SearchError → Failure
+failure_of_search BadSearch = plain 2
+failure_of_search (NoText at) = record (plain 12) { start = at }
+failure_of_search NotAsked = plain 10
+failure_of_search (Search kind) = failure_of_match kind

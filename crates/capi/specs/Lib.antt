@@ -1,0 +1,4 @@
+pub mod Options
+pub mod Texts
+pub mod Compiled
+pub mod Failures

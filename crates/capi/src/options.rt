@@ -1,0 +1,154 @@
+//! What a caller may set.
+ghost use Rattle.std.specs.Prelude.{◌≡◌, ◌<◌, ◌+◌, ◌≤◌, Bool};
+ghost use Rattle.look_core.specs.Terminators.{one_of};
+ghost use Rattle.search_types.specs.declared.match_kind.MatchKind.TheVariants.{LeftmostFirst};
+ghost use Rattle.lazy_dfa.specs.ConfigValue.{kind_of};
+ghost use Rattle.hirscan.specs.Built.{FindsFirst};
+ghost use Rattle.capi.specs.Options.{has_flag, is_known, config_of, nest_limit_of, allows_empty_loops};
+
+use hirscan::Settings;
+use lazy_dfa::dfa;
+use pattern_text::Config;
+use search_types::MatchKind;
+
+const CASE_INSENSITIVE: u32 = 1;
+
+const MULTI_LINE: u32 = 2;
+
+const DOT_MATCHES_NEW_LINE: u32 = 4;
+
+const SWAP_GREED: u32 = 8;
+
+const IGNORE_WHITESPACE: u32 = 16;
+
+const CRLF: u32 = 32;
+
+const OCTAL: u32 = 64;
+
+const NO_UNICODE: u32 = 128;
+
+const UTF8: u32 = 256;
+
+const EMPTY_LOOPS: u32 = 512;
+
+const WHICH: u32 = 1024;
+
+const RAISE_CAPACITY: u32 = 2048;
+
+const NO_BYTE_CLASSES: u32 = 4096;
+
+const SHRINK: u32 = 8192;
+
+const FLAGS_END: u32 = 16384;
+
+const NEST_LIMIT: u32 = 250;
+
+const SIZE_LIMIT: usize = 1 << 26;
+
+/// How patterns are read and searched for. All zero are the defaults.
+#[repr(C)]
+#[derive(Clone, Copy, Drop)]
+pub struct Options {
+    /// One bit for each flag, by the numbers of the header for C.
+    pub flags: u32,
+    /// How deep groups, classes and repetitions may nest; 0 for 250.
+    pub nest_limit: u32,
+    /// How many bytes each of both caches may take; 0 for 2 MiB.
+    pub capacity: usize,
+    /// How many bytes each of both automata may take; 0 for 64 MiB.
+    pub size_limit: usize,
+}
+
+impl Options {
+    fn has(&self, flag: u32) -> bool
+        requires { 0 < flag }
+        ensures { result ≡ has_flag self.now.flags flag }
+    {
+        self.flags / flag % 2 == 1
+    }
+
+    /// Whether each flag is one that there is.
+    pub fn is_known(&self) -> bool
+        ensures { result ≡ is_known self.now }
+    {
+        self.flags < FLAGS_END
+    }
+
+    /// Whether patterns may repeat without a bound what may match the empty text.
+    pub fn allows_empty_loops(&self) -> bool
+        ensures { result ≡ allows_empty_loops self.now }
+    {
+        self.has(EMPTY_LOOPS)
+    }
+
+    /// Whether it will be asked which patterns match.
+    pub fn asks_which(&self) -> bool {
+        self.has(WHICH)
+    }
+
+    fn nest_limit(&self) -> u32
+        ensures { result ≡ nest_limit_of self.now }
+    {
+        if self.nest_limit == 0 {
+            NEST_LIMIT
+        } else {
+            self.nest_limit
+        }
+    }
+
+    /// How texts are read.
+    pub fn config(&self) -> Config
+        ensures { result ≡ config_of self.now }
+    {
+        Config::new()
+            .case_insensitive(self.has(CASE_INSENSITIVE))
+            .multi_line(self.has(MULTI_LINE))
+            .dot_matches_new_line(self.has(DOT_MATCHES_NEW_LINE))
+            .swap_greed(self.has(SWAP_GREED))
+            .ignore_whitespace(self.has(IGNORE_WHITESPACE))
+            .crlf(self.has(CRLF))
+            .octal(self.has(OCTAL))
+            .unicode(!self.has(NO_UNICODE))
+            .utf8(self.has(UTF8))
+            .nest_limit(self.nest_limit())
+    }
+
+    /// The options of both automata.
+    fn dfa(&self) -> dfa::Config
+        ensures { kind_of result ≡ LeftmostFirst }
+    {
+        let config = dfa::Config::new()
+            .match_kind(MatchKind::LeftmostFirst)
+            .unicode_word_boundary(true)
+            .byte_classes(!self.has(NO_BYTE_CLASSES))
+            .skip_cache_capacity_check(self.has(RAISE_CAPACITY));
+        if self.capacity == 0 {
+            config
+        } else {
+            config.cache_capacity(self.capacity)
+        }
+    }
+
+    fn size_limit(&self) -> usize {
+        if self.size_limit == 0 {
+            SIZE_LIMIT
+        } else {
+            self.size_limit
+        }
+    }
+
+    /// How regexes are built.
+    pub fn settings(&self) -> Settings
+        ensures finds { FindsFirst result }
+        ensures lines { result.line_terminator ≡ one_of 10 }
+        ensures mode { result.utf8 ≡ (config_of self.now).utf8 }
+    {
+        Settings {
+            utf8: self.has(UTF8),
+            shrink: self.has(SHRINK),
+            size_limit: Some(self.size_limit()),
+            dfa: self.dfa(),
+            ..Settings::new()
+        }
+    }
+}

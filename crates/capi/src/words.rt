@@ -1,0 +1,59 @@
+//! Words for refusals.
+ghost use Rattle.std.specs.Prelude.{◌≡◌, slice_set};
+ghost use Rattle.capi.specs.Compiled.{overlaid};
+
+use crate::failure::{
+    BAD_ARGUMENT, CAPACITY_TOO_SMALL, EMPTY_LOOP, Failure, GAVE_UP, HAYSTACK_NOT_UTF8,
+    NESTS_TOO_DEEP, NO_MEMORY, NO_PATTERN, NOT_UTF8, TOO_LARGE, UNSUPPORTED, kind_of,
+};
+
+/// Words for what is wrong with a text.
+fn words_of_cause(cause: u32) -> &'static str {
+    match kind_of(cause) {
+        Some(kind) => kind.message(),
+        None => "no pattern",
+    }
+}
+
+/// Words for a refusal.
+fn words_of(failure: &Failure) -> &'static str {
+    match failure.status {
+        0 | 1 => "",
+        BAD_ARGUMENT => "an argument isn't one that the call takes",
+        NO_MEMORY => "out of memory",
+        NOT_UTF8 => "the pattern is no UTF-8",
+        NO_PATTERN | NESTS_TOO_DEEP => words_of_cause(failure.cause),
+        EMPTY_LOOP => "the pattern repeats without a bound what may match the empty text",
+        TOO_LARGE => "the automata are larger than they may be",
+        CAPACITY_TOO_SMALL => "a cache may take fewer bytes than it needs",
+        UNSUPPORTED => "the regex wasn't made to be asked this",
+        GAVE_UP => "the search met a byte above 0x7F beside a word boundary of Unicode",
+        HAYSTACK_NOT_UTF8 => "the haystack is no UTF-8",
+        _ => "unknown status",
+    }
+}
+
+/// Writes a byte into its place, where there is one.
+fn put(room: &mut [u8], at: usize, byte: u8)
+    ensures { room.new ≡ slice_set room.old at byte }
+{
+    if at < room.len() {
+        room[at] = byte;
+    }
+}
+
+/// Writes the first bytes into the room, as many as fit.
+fn write_into(bytes: &[u8], room: &mut [u8])
+    ensures { room.new ≡ overlaid bytes.now room.old }
+{
+    for (at, byte) in bytes.iter().enumerate() {
+        put(room, at, *byte);
+    }
+}
+
+/// Writes words for a refusal into the room, as far as they fit, and tells how many bytes they have.
+pub fn error_text(failure: &Failure, room: &mut [u8]) -> usize {
+    let words = words_of(failure).as_bytes();
+    write_into(words, room);
+    words.len()
+}

@@ -1,0 +1,3 @@
+mod ApartSteps
+mod Boxed
+mod HandleSteps

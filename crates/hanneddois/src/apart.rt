@@ -1,0 +1,35 @@
+//! A box as its pointer and its allocator.
+ghost use Rattle.std.specs.Prelude.{◌≡◌};
+ghost use Rattle.std.specs.Box.Ownership.{box_owns};
+
+use std::alloc::Allocator;
+use std::marker::Model;
+
+/// What a box is made of. It owns what the box owned.
+pub(crate) struct Apart<T, A: Allocator> {
+    pub(crate) at: *mut T,
+    pub(crate) alloc: A,
+    pub(crate) ghost value: { T },
+}
+
+impl<T, A: Allocator> Model for Apart<T, A> {
+    ghost also_owns = { λ a. box_owns (A.dealloc_token a.alloc) T.row a.at a.value };
+}
+
+impl<T, A: Allocator> Apart<T, A> {
+    pub(crate) fn of(whole: Box<T, A>) -> Apart<T, A>
+    where
+        T: Drop,
+        ensures { result.value ≡ whole.value }
+    {
+        let (at, alloc) = Box::into_raw_with_allocator(whole);
+        Apart { at, alloc }
+    }
+
+    pub(crate) fn into_box(self) -> Box<T, A>
+        ensures { result.value ≡ self.value }
+    {
+        let Apart { at, alloc } = self;
+        unsafe { Box::from_raw(alloc, at) }
+    }
+}
