@@ -9,7 +9,7 @@ use crate::random::Random;
 use crate::report::Report;
 use crate::settings::Settings;
 use crate::shrink::shrink;
-use crate::trees::{has_empty_loop, tree_of};
+use crate::trees::{has_empty_loop, size, tree_of};
 use regex::bytes::Regex;
 use regex_syntax::hir::Hir;
 
@@ -35,6 +35,9 @@ pub struct Run {
     pub kinds: Vec<Kind>,
     pub published: Vec<Published>,
     pub haystacks: usize,
+    /// Patterns with more states than this are left out: a cache of the least capacity makes a state anew for each
+    /// byte, which takes time by its size.
+    pub largest: usize,
     unassigned: Regex,
 }
 
@@ -45,9 +48,9 @@ enum Compiled {
 }
 
 impl Run {
-    pub fn new(seed: u64, kinds: Vec<Kind>, published: Vec<Published>, haystacks: usize) -> Run {
+    pub fn new(seed: u64, kinds: Vec<Kind>, published: Vec<Published>, haystacks: usize, largest: usize) -> Run {
         let unassigned = Regex::new(r"\p{Cn}").expect("a pattern");
-        Run { seed, kinds, published, haystacks, unassigned }
+        Run { seed, kinds, published, haystacks, largest, unassigned }
     }
 
     fn group(&self, number: u64, random: &mut Random) -> Group {
@@ -86,9 +89,9 @@ impl Run {
         let mut random = Random::new(self.seed.wrapping_mul(0x1_0000_0001).wrapping_add(number));
         let group = self.group(number, &mut random);
         report.add("patterns", group.patterns.len() as u64);
-        match compiled(&group.patterns, group.settings) {
+        match compiled(&group.patterns, group.settings, self.largest) {
             Compiled::Refused(how) => {
-                report.count_with(&how, || format!("{:?}", group.patterns));
+                report.count_with(&how, || format!("{}: {:?} {:?}", group.name, group.patterns, group.settings));
                 1
             }
             Compiled::Both(mut both) => {
@@ -166,7 +169,7 @@ fn shown_text(text: &[u8]) -> String {
 fn shown_by(patterns: &[String], settings: Settings, text: &[u8], from: usize) -> Option<Shown> {
     let mut settings_here = settings;
     settings_here.empty_loops = false;
-    match compiled(patterns, settings_here) {
+    match compiled(patterns, settings_here, usize::MAX) {
         Compiled::Both(mut both) if both.settings.empty_loops == settings.empty_loops => {
             let from = (0..=from.min(text.len())).rev().find(|it| is_place(text, *it)).unwrap_or(0);
             Some(both.show(text, from))
@@ -193,8 +196,11 @@ fn kind_of(error: &regex::Error) -> String {
 }
 
 /// Compiles patterns on both sides; those with an unbounded repetition of what may be empty are taken on demand.
-fn compiled(patterns: &[String], settings: Settings) -> Compiled {
+fn compiled(patterns: &[String], settings: Settings, largest: usize) -> Compiled {
     let trees: Option<Vec<Hir>> = patterns.iter().map(|it| tree_of(it, &settings)).collect();
+    if trees.iter().flatten().map(size).sum::<usize>() > largest {
+        return Compiled::Refused("left out: large".to_string());
+    }
     let mut settings = settings;
     let ours = Ours::new(patterns, &settings);
     let Some(trees) = trees else { return refused_there(patterns, settings, ours.err()) };

@@ -135,10 +135,19 @@ impl Ours {
         }
     }
 
+    /// What the program lists. It refuses unbounded repetitions of what may be empty.
+    fn scan(&self, haystack: &[u8]) -> Listed {
+        let told = listed(&scanned(&self.head, haystack));
+        match &told.refusal {
+            Some(it) if it.status == EMPTY_LOOP => Listed { matches: Vec::new(), refusal: Some(unsupported()) },
+            _ => told,
+        }
+    }
+
     /// All matches. Where the count and the sums are those of the expected list, it is taken to be that.
     pub fn find_all(&mut self, haystack: &[u8], expected: &[Match]) -> Listed {
         if self.utf8 && std::str::from_utf8(haystack).is_err() {
-            return listed(&scanned(&self.head, haystack));
+            return self.scan(haystack);
         }
         let mut totals = Totals::default();
         // Safe: all parts live through the call, with the lengths that are told.
@@ -148,13 +157,21 @@ impl Ours {
         if outcome == 0 && totals == totals_of(expected) {
             return Listed { matches: expected.to_vec(), refusal: None };
         }
-        let told = listed(&scanned(&self.head, haystack));
+        let told = self.scan(haystack);
         match &told.refusal {
-            Some(it) if it.status == EMPTY_LOOP => Listed { matches: Vec::new(), refusal: Some(unsupported()) },
             _ if outcome == 0 && told.refusal.is_none() && totals != totals_of(&told.matches) => {
                 panic!("the library's sums aren't those of the program: {totals:?}, {told:?}")
             }
             _ => told,
+        }
+    }
+
+    /// The first match, by the program.
+    pub fn first(&mut self, haystack: &[u8]) -> Result<Option<Match>, Refusal> {
+        let listed = self.scan(haystack);
+        match listed.refusal {
+            Some(refusal) if listed.matches.is_empty() => Err(refusal),
+            _ => Ok(listed.matches.first().copied()),
         }
     }
 

@@ -134,6 +134,11 @@ impl Ours {
         Ok(answer(status, error)?.then_some(found))
     }
 
+    /// The first match.
+    pub fn first(&mut self, haystack: &[u8]) -> Result<Option<Match>, Refusal> {
+        self.find_at(haystack, 0)
+    }
+
     /// All matches. A haystack of n bytes has at most n + 1, so none is left out. The list that is expected isn't needed.
     pub fn find_all(&mut self, haystack: &[u8], _expected: &[Match]) -> Listed {
         let mut matches = vec![Match::default(); haystack.len() + 1];

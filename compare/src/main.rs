@@ -57,29 +57,33 @@ fn compare_cases(arguments: &Arguments, report: &mut Report) {
     println!("{} patterns of that crate's tests", published.len());
     let seed = number(arguments, "--seed", 1);
     let wanted = number(arguments, "--cases", 10_000);
-    let run = Run::new(seed, kinds(arguments), published, number(arguments, "--haystacks", 12) as usize);
+    let haystacks = number(arguments, "--haystacks", 12) as usize;
+    let largest = number(arguments, "--largest", 4000) as usize;
+    let run = Run::new(seed, kinds(arguments), published, haystacks, largest);
     let (mut group, mut cases) = (number(arguments, "--group", 0), 0);
-    while cases < wanted {
+    let began = std::time::Instant::now();
+    let seconds = number(arguments, "--seconds", u64::MAX);
+    while cases < wanted && began.elapsed().as_secs() < seconds {
         cases += run.compare(group, report);
         group += 1;
     }
-    println!("seed {seed}, groups up to {group}");
+    println!("seed {seed}, groups before {group}");
 }
 
-fn compare_table(path: &str, report: &mut Report) {
+fn compare_table(path: &str, every: u64, report: &mut Report) {
     let input: Box<dyn std::io::Read> = if path == "-" {
         Box::new(std::io::stdin())
     } else {
         Box::new(std::fs::File::open(path).expect("the table can be read"))
     };
-    re2::compare(BufReader::new(input), report).expect("the table can be read");
+    re2::compare(BufReader::new(input), every, report).expect("the table can be read");
 }
 
 fn main() -> ExitCode {
     let arguments = arguments();
     let mut report = Report::new(number(&arguments, "--show", 10) as usize);
     match arguments.get("--re2") {
-        Some(path) => compare_table(path, &mut report),
+        Some(path) => compare_table(path, number(&arguments, "--every", 1), &mut report),
         None => compare_cases(&arguments, &mut report),
     }
     report.print();

@@ -1,6 +1,6 @@
 //! RE2's own tables of answers, as Go's sources have them.
 
-use crate::ours::{Match, Ours, EMPTY_LOOP};
+use crate::ours::{Match, Ours, EMPTY_LOOP, UNSUPPORTED};
 use crate::report::Report;
 use crate::settings::Settings;
 use std::io::BufRead;
@@ -121,11 +121,13 @@ struct Table {
     made: Option<(Made, Made)>,
     row: usize,
     number: u64,
+    /// Of so many patterns one is compared.
+    every: u64,
 }
 
 /// Reads a table and compares its rows: of each the whole match and the first match, as its first two columns tell.
-pub fn compare(input: impl BufRead, report: &mut Report) -> std::io::Result<()> {
-    let mut table = Table::default();
+pub fn compare(input: impl BufRead, every: u64, report: &mut Report) -> std::io::Result<()> {
+    let mut table = Table { every, ..Table::default() };
     for line in input.lines() {
         let line = line?;
         match line.as_bytes().first() {
@@ -157,8 +159,19 @@ impl Table {
         }
         self.row = 0;
         self.number += 1;
-        let settings = Settings { which: false, utf8: false, ..Settings::in_turn(self.number) };
-        let pattern = translated(&text);
+        self.made = None;
+        self.pattern = text;
+        if self.number % self.every != 0 {
+            return report.count("patterns passed over");
+        }
+        self.make(report);
+    }
+
+    /// Compiles a pattern, with what can't change an answer in turn.
+    fn make(&mut self, report: &mut Report) {
+        let text = &self.pattern;
+        let settings = Settings { which: false, utf8: false, ..Settings::in_turn(self.number / self.every) };
+        let pattern = translated(text);
         report.count("patterns");
         let whole = made(format!("\\A(?:{pattern})\\z"), settings);
         let first = made(pattern.clone(), settings);
@@ -170,13 +183,12 @@ impl Table {
                 None
             }
         };
-        self.pattern = text;
     }
 
     fn answers(&mut self, line: &str, report: &mut Report) {
         let Some(text) = self.strings.get(self.row) else { panic!("a row without a string") };
         self.row += 1;
-        let Some((whole, first)) = &mut self.made else { return report.count("rows of refused patterns") };
+        let Some((whole, first)) = &mut self.made else { return report.count("rows of patterns that aren't compared") };
         report.count("rows");
         let mut columns = line.split(';');
         for (name, made) in [("whole", whole), ("first", first)] {
@@ -187,8 +199,14 @@ impl Table {
 }
 
 fn compare_one(name: &str, made: &mut Made, pattern: &str, text: &str, wanted: Option<(usize, usize)>, report: &mut Report) {
-    let found = made.regex.find_at(text.as_bytes(), 0);
-    let any = made.regex.is_match(text.as_bytes());
+    let found = made.regex.first(text.as_bytes());
+    if found.is_err_and(|it| it.status == UNSUPPORTED) {
+        return report.count(&format!("{name} match isn't asked for with an empty loop"));
+    }
+    let any = match made.regex.is_match(text.as_bytes()) {
+        Err(it) if it.status == UNSUPPORTED => found.map(|it| it.is_some()),
+        any => any,
+    };
     let span = |it: Option<Match>| it.map(|it| (it.start, it.end));
     let is_same = found.map(span) == Ok(wanted) && any == Ok(wanted.is_some());
     let kind = if made.is_loop { "with an empty loop" } else { "" };

@@ -51,11 +51,23 @@ pub fn least_length(tree: &Hir) -> Option<usize> {
     }
 }
 
-/// Whether a repetition without a bound has a body that may match the empty text, or matches nothing.
+/// Whether all that it matches is empty, seen by its form.
+fn is_always_empty(tree: &Hir) -> bool {
+    match tree.kind() {
+        HirKind::Literal(_) | HirKind::Class(_) => false,
+        HirKind::Repetition(it) if rounds_of(it).1 == Some(0) => true,
+        _ => parts_of(tree).into_iter().all(is_always_empty),
+    }
+}
+
+/// Whether a repetition without a bound has a body that may match the empty text, or matches nothing. Where all that
+/// the body matches is empty, the grammars take one round in place of many.
 pub fn has_empty_loop(tree: &Hir) -> bool {
     let is_one = match tree.kind() {
         HirKind::Repetition(it) => {
-            rounds_of(it).1.is_none() && matches!(least_length(&it.hir), None | Some(0))
+            rounds_of(it).1.is_none()
+                && matches!(least_length(&it.hir), None | Some(0))
+                && !is_always_empty(&it.hir)
         }
         _ => false,
     };
@@ -66,4 +78,20 @@ pub fn has_empty_loop(tree: &Hir) -> bool {
 pub fn has_unicode_word(tree: &Hir) -> bool {
     matches!(tree.kind(), HirKind::WordBoundary(WordBoundary::Unicode | WordBoundary::UnicodeNegate))
         || parts_of(tree).into_iter().any(has_unicode_word)
+}
+
+/// About how many states an automaton of the tree has: ranges of classes, times rounds.
+pub fn size(tree: &Hir) -> usize {
+    let own = match tree.kind() {
+        HirKind::Class(Class::Unicode(it)) => it.ranges().len(),
+        _ => 1,
+    };
+    let below = parts_of(tree).into_iter().map(size).fold(own, usize::saturating_add);
+    match tree.kind() {
+        HirKind::Repetition(it) => {
+            let (low, high) = rounds_of(it);
+            below.saturating_mul(high.unwrap_or(low.saturating_add(1)).max(1) as usize)
+        }
+        _ => below,
+    }
 }
