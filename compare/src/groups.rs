@@ -137,7 +137,8 @@ impl Run {
         if !shown.fastest.is_empty() {
             let loops = if settings.empty_loops { ", empty loop" } else { "" };
             let agrees = if shown.differs.is_empty() { "this agrees with the simplest" } else { "so does this" };
-            let name = format!("fastest differs from the simplest, {agrees}{loops}");
+            let kinds = kinds_of(&shown.fastest);
+            let name = format!("fastest differs from the simplest in {kinds}, {agrees}{loops}");
             let told = report.wants(&name).then(|| self.example(group, settings, text, from, &shown.fastest, true));
             report.count_with(&name, || told.unwrap_or_default());
         }
@@ -159,6 +160,12 @@ impl Run {
         let less = if fast { shown.fastest } else { shown.differs };
         format!("{:?} in {:?}: {less:?}; {whole}", patterns, shown_text(&smaller))
     }
+}
+
+/// In what something differs: the first words of what is told.
+fn kinds_of(told: &[String]) -> String {
+    let words: std::collections::BTreeSet<&str> = told.iter().filter_map(|it| it.split(' ').next()).collect();
+    words.into_iter().collect::<Vec<_>>().join(" and ")
 }
 
 fn shown_text(text: &[u8]) -> String {

@@ -54,7 +54,8 @@ fn number_behind(line: &str, words: &str) -> Option<usize> {
 /// The head of the patterns, up to its `find` line.
 fn head_of(patterns: &[String], settings: &Settings) -> Result<Vec<u8>, Refusal> {
     let utf8 = if settings.utf8 { "on" } else { "off" };
-    let spelled = patterns.iter().map(|it| settings.spelled(it));
+    // An argument has no byte 0.
+    let spelled = patterns.iter().map(|it| settings.spelled(it).replace('\0', "\\x00"));
     let made = program("hirhead").args(["--utf8", utf8, "--"]).args(spelled).output().expect("hirhead runs");
     if !made.status.success() {
         let said = String::from_utf8_lossy(&made.stderr).into_owned();
@@ -120,6 +121,8 @@ fn listed(told: &str) -> Listed {
 pub struct Ours {
     head: Vec<u8>,
     utf8: bool,
+    /// Whether the program was asked for a haystack that is no UTF-8: of each group it is for one.
+    has_asked: bool,
 }
 
 fn unsupported() -> Refusal {
@@ -131,7 +134,7 @@ impl Ours {
         let head = head_of(patterns, settings)?;
         match listed(&scanned(&head, b"")).refusal {
             Some(it) if !(it.status == EMPTY_LOOP && settings.empty_loops) => Err(it),
-            _ => Ok(Ours { head, utf8: settings.utf8 }),
+            _ => Ok(Ours { head, utf8: settings.utf8, has_asked: false }),
         }
     }
 
@@ -147,7 +150,8 @@ impl Ours {
     /// All matches. Where the count and the sums are those of the expected list, it is taken to be that.
     pub fn find_all(&mut self, haystack: &[u8], expected: &[Match]) -> Listed {
         if self.utf8 && std::str::from_utf8(haystack).is_err() {
-            return self.scan(haystack);
+            let none = Listed { matches: Vec::new(), refusal: Some(unsupported()) };
+            return if std::mem::replace(&mut self.has_asked, true) { none } else { self.scan(haystack) };
         }
         let mut totals = Totals::default();
         // Safe: all parts live through the call, with the lengths that are told.

@@ -68,6 +68,9 @@ impl Both {
     fn show_refused(&mut self, haystack: &[u8], place: usize, shown: &mut Shown) {
         let is_it = |it: &Refusal| it.status == HAYSTACK_NOT_UTF8 && it.start == place;
         let listed = self.ours.find_all(haystack, &[]);
+        if listed.refusal.is_some_and(|it| it.status == UNSUPPORTED) {
+            return shown.apart.push("haystack that is no UTF-8, not asked for");
+        }
         let told = [
             Err(listed.refusal.filter(|_| listed.matches.is_empty()).unwrap_or_default()),
             self.ours.is_match(haystack),
