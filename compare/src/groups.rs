@@ -129,8 +129,13 @@ impl Run {
         }
         let settings = both.settings;
         if !shown.differs.is_empty() {
-            let unknown = self.unassigned.is_match(text);
-            let name = if unknown { "differs: text has characters unassigned there" } else { "DIFFERS from the simplest" };
+            let name = if self.unassigned.is_match(text) {
+                "differs: text has characters unassigned there"
+            } else if group.patterns.iter().any(|it| it.to_lowercase().contains("pictographic")) {
+                "differs: a property whose members changed since Unicode 14"
+            } else {
+                "DIFFERS from the simplest"
+            };
             let told = report.wants(name).then(|| self.example(group, settings, text, from, &shown.differs, false));
             report.count_with(name, || told.unwrap_or_default());
         }
