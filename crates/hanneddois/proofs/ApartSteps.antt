@@ -5,11 +5,12 @@ use lib.Dec.{T}
 use seplogic.Ra.Ura.{Ura}
 use mir.Val.{Val, has_ty, WT}
 use base.Logic.{id⊢}
+use base.Fml.{Fml, ftrue, fsep}
 use types.Logic.{Logic}
-use types.Kit.{Item, Goal, Seq, Step, step, ‵, ◌$◌, use1, rewrite, fjoin}
+use types.Kit.{Item, Goal, Seq, Step, step, ‵, ◌⊛◌, ◌$◌, move, use1, join, rewrite, fjoin}
 use denote.RattleType.{RattleType}
 use denote.RawPtr.{Ptr, RawPtr, block_ptr}
-use denote.Steps.{only}
+use denote.Steps.{nothing, only}
 use denote.Struct.Tuple.{Tuple}
 use Rattle.std.specs.Box.Ownership.{box_owns}
 use Rattle.std.proofs.alloc.Calls.{token, Fits}
@@ -56,3 +57,8 @@ module _ (E : Bx) where
     parts_in t r a x vs same = step (λ s.
         rewrite t 1 (λ (z : E.al.row.Denot). ‵ (box_owns (token E.al z) (R E) r.0 x)) (sym same) refl $ fjoin t $
         use1 𝓛 (‵ (PartsOf.own_val (record { at = r.0; alloc = r.1; value = x }) vs)) (id⊢ 𝓤 _) $ s)
+
+module _ {M : Type 1} {𝓤 : Ura M} {𝓛 : Logic 𝓤} {K : Type 0} {G : Goal 𝓤 𝓛.H} where
+  -- a function that has its result and the tokens of its lifetimes left, and nothing of what it was given
+  pub all_given : K → {out : Fml} {tokens : Item 𝓤} → Step K 𝓛 ((tokens ⊛ (‵ (fsep ftrue ftrue) ⊛ ‵ out)) ∷ []) G (‵ out ∷ tokens ∷ []) G
+  all_given t = step (λ s. nothing t $ nothing t $ fjoin t $ join t $ move t (1 ∷ 0 ∷ []) $ join t $ s)

@@ -9,7 +9,8 @@ use mir.Val.{Val}
 use base.Logic.{SProp, id⊢}
 use base.Fml.{ftrue, fsep}
 use prog.Wp.{WpFn}
-use types.Kit.{Item, ‵, raw, prop, ◌⊛◌, some, later, ◌$◌, ◌∵◌, !, qed, move, drop, use1, join, split, split3, pick, regoal, fsplit, fjoin, suffices, await, done}
+use types.Logic.{Logic}
+use types.Kit.{Item, Goal, Seq, ‵, raw, prop, ◌⊛◌, some, later, ◌$◌, ◌∵◌, !, qed, move, drop, use1, join, split, split3, pick, regoal, fsplit, fjoin, suffices, await, done}
 use types.Part.{whole, sub, agg}
 use types.Run.{stop, fld, no_more, and_then, of_opd, returns, enter}
 use types.ByLocal.{alloc_all, pass_all, free_all, look_at, get, get_in, sets, lands_as}
@@ -18,7 +19,7 @@ use contract.Running.{tables}
 use denote.Exit.{no}
 use denote.Param.{bounded}
 use denote.Signature.{Slot, plain}
-use denote.Steps.{heard, nothing, only}
+use denote.Steps.{heard, only}
 use denote.Triple.Call.{calls_at}
 use denote.Triple.Clauses.{Ended}
 use denote.Triple.Entry.{alive}
@@ -32,7 +33,7 @@ use Rattle.std.proofs.raw_atomic.Walks.{proved_at}
 use Rattle.std.proofs.BoxSteps.Form.{Bx, D, R, B, word, box_typed}
 use Rattle.std_alloc.specs.contracts.boxed.Box.into_raw_with_allocator as opening
 use Rattle.std_alloc.proofs.boxed.Box.into_raw_with_allocator.Met as opened
-use Rattle.hanneddois.proofs.ApartSteps.{PartsOf, PairOf, closed, box_word, parts_in}
+use Rattle.hanneddois.proofs.ApartSteps.{PartsOf, PairOf, closed, box_word, parts_in, all_given}
 use Rattle.hanneddois.specs.contracts.apart.Apart.of as spec
 use Rattle.hanneddois.specs.contracts.apart.Apart.of.Key.{name as #self}
 use Rattle.hanneddois.proofs.apart.Apart.of.Statement.{statement}
@@ -45,13 +46,22 @@ module _ (E : Bx) where
   abbrev instance : Dict → Args
   instance dx = bounded (a_type ∷ a_type ∷ []) (E.row, (E.al.row, tt)) (dcons E.al.d (dcons E.al.drops (dcons dx dnil)))
 
-  -- the pair, whose allocator is that of the box, and what the box owned, at the pointer
-  abbrev Opened : {M : Type 1} (𝓤 : Ura M) → D E → (PairOf E).Denot → Item 𝓤
-  Opened 𝓤 v r = raw (fact 𝓤 (r.1 ≡ v.alloc)) ⊛ ‵ (box_owns (token E.al v.alloc) (R E) r.0 v.value)
-
+  -- what the clause answers: a pair, whose allocator is that of the box, and what the box owned, at the pointer
   abbrev Answered : {M : Type 1} (𝓤 : Ura M) → Item 𝓤 → D E → Val → Item 𝓤
-  Answered 𝓤 tokens v u = later (some (λ (r : (PairOf E).Denot). (tokens ⊛ ‵ ((PairOf E).own_val r (u ∷ [])))
-      ⊛ some (λ (_ : (Unit {0} × (Unit {0} × Unit {0})) × Unit {0}). ‵ (fsep (fsep ftrue (fsep ftrue ftrue)) ftrue) ⊛ Opened 𝓤 v r)))
+  Answered 𝓤 tokens v u = some (λ (r : (PairOf E).Denot). (tokens ⊛ ‵ ((PairOf E).own_val r (u ∷ [])))
+      ⊛ some (λ (_ : (Unit {0} × (Unit {0} × Unit {0})) × Unit {0}). ‵ (fsep (fsep ftrue (fsep ftrue ftrue)) ftrue)
+      ⊛ (raw (fact 𝓤 (r.1 ≡ v.alloc)) ⊛ ‵ (box_owns (token E.al v.alloc) (R E) r.0 v.value))))
+
+  -- so these are parts of the same value
+  abbrev made : D E → (PairOf E).Denot → (PartsOf E).Denot
+  made v r = record { at = r.0; alloc = r.1; value = v.value }
+
+  module _ {M : Type 1} {𝓤 : Ura M} {𝓛 : Logic 𝓤} {K : Type 0} {Γ : List (Item 𝓤)} {G : Goal 𝓤 𝓛.H} where
+    answers_parts : K → (tokens : Item 𝓤) (v : D E) (u : Val)
+        → ((r : (PairOf E).Denot) → Seq K 𝓛 (‵ ((PartsOf E).own_val (made v r) (u ∷ [])) ∷ tokens ∷ Γ) G)
+        → Seq K 𝓛 (Answered 𝓤 tokens v u ∷ Γ) G
+    answers_parts t tokens v u k = pick t (λ r. split t $ move t (1 ∷ []) $ pick t (λ _. split3 t $ drop t $
+        heard t (r.1 ≡ v.alloc) (λ same. move t (1 ∷ []) $ split t $ move t (1 ∷ 2 ∷ []) $ parts_in E t r v.alloc v.value (u ∷ []) same $ k r)))
 
 pub of_spec : {M : Type 1} → statement M
 of_spec 𝓤 𝓛 𝓜 𝓡 wired X Z LX LZ g d dd dx allocator md glue =
@@ -70,15 +80,12 @@ of_spec 𝓤 𝓛 𝓜 𝓡 wired X Z LX LZ g d dd dx allocator md glue =
     let asked : Opens.Ghost = ((z.0.0, z.0.1, tt, (v, tt), (w ∷ [], tt)), tt) in
     fjoin ! $ move ! (1 ∷ 0 ∷ []) $ join ! $ join ! $ use1 𝓛 (raw (Opens.pre asked)) (id⊢ 𝓤 _) $
     calls_at ! (fm 𝓛 𝓜 𝓡) Opens (opened.met 𝓤 𝓛 𝓜 𝓡 (code.calls-std_alloc::boxed::Box::into_raw_with_allocator 𝓡.env wired) X Z LX LZ g d dd dx allocator md glue) asked (and_then ! (get ! refl) (no_more !)) (λ u.
-    use1 𝓛 (Answered E 𝓤 tokens v u) (id⊢ 𝓤 _) $ await ! tt $ pick ! (λ r. split ! $ move ! (1 ∷ []) $ pick ! (λ _. split3 ! $ drop ! $
-    heard ! (r.1 ≡ v.alloc) (λ same. move ! (1 ∷ []) $ split ! $ move ! (1 ∷ 2 ∷ []) $ parts_in E ! r v.alloc v.value (u ∷ []) same $
-    let made : (PartsOf E).Denot = record { at = r.0; alloc = r.1; value = v.value } in
-    box_word E ! (closed E made) (u ∷ []) (λ b' o' hv' us fits'. let w' : Val = word E hv' b' o' in
+    use1 𝓛 (later (Answered E 𝓤 tokens v u)) (id⊢ 𝓤 _) $ await ! tt $ answers_parts E ! tokens v u (λ r.
+    box_word E ! (closed E (made E v r)) (u ∷ []) (λ b' o' hv' us fits'. let w' : Val = word E hv' b' o' in
     lands_as ! (ap only us) refl (box_typed E hv' b' o' fits') $
     sets ! (of_opd ! (get_in ! (fld ! refl (stop !)) (sub ! 0 refl (whole !)))) refl (tt, tt) $
     sets ! (of_opd ! (get_in ! (fld ! refl (stop !)) (sub ! 1 refl (whole !)))) refl fits' $
     sets ! (of_opd ! (get ! refl)) refl fits' $
     sets ! (agg ! (and_then ! (get ! refl) (and_then ! (get ! refl) (no_more !)))) refl (box_typed E hv' b' o' fits') $
     returns ! (look_at ! 0 refl) $ free_all ! refl $
-    suffices ! _ (ends_at 𝓛 T stayed c z w' made ((tt, (tt, tt)), tt) (tt, tt)) $ says ! refl $
-    nothing ! $ nothing ! $ fjoin ! $ join ! $ move ! (1 ∷ 0 ∷ []) $ join ! $ done !))))))))
+    suffices ! _ (ends_at 𝓛 T stayed c z w' (made E v r) ((tt, (tt, tt)), tt) (tt, tt)) $ says ! refl $ all_given ! $ done !))))))
