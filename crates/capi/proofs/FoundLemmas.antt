@@ -1,5 +1,5 @@
 -- What is told of a haystack, by what searches promise.
-use Rattle.std.proofs.Common.{map, ◌≡◌, ◌<◌, ◌≤◌, ℕ, Bool, true, false, List, [], ◌∷◌, All, length, Option, Some, None, Ok, ap, ap₂, sym, subst, ◌∙◌, refl, arith}
+use Rattle.std.proofs.Common.{map, ◌≡◌, ◌<◌, ◌≤◌, ℕ, Bool, true, List, [], ◌∷◌, All, length, Option, Some, None, Ok, ap, ap₂, sym, subst, ◌∙◌, refl, arith}
 use Rattle.std.specs.Prelude.{is_some, option_map, IsSomeAnd, IfSome, chars}
 use Rattle.regex_hir.specs.Re.{Re}
 use Rattle.regex_hir.specs.Meaning.{alt_all}
@@ -7,7 +7,7 @@ use Rattle.regex_syntax.specs.declared.Config.{Config}
 use Rattle.regex_syntax.specs.Grammar.{read}
 use Rattle.search_core.specs.Utf8.{IsValidText}
 use Rattle.look_core.specs.Terminators.{one_of}
-use Rattle.hir_core.specs.Facts.{LoopsRead, is_utf8_tree}
+use Rattle.hir_core.specs.Facts.{LoopsRead}
 use Rattle.hir_core.specs.Tree.{Tree}
 use Rattle.search_types.specs.Found.{Found}
 use Rattle.regex_pair.specs.Pairs.{PairCache}

@@ -1,10 +1,10 @@
 -- What a compiled regex is of, and what it tells.
-use Rattle.std.specs.Prelude.{◌≡◌, ◌⊎◌, ℕ, ◌+◌, Bool, true, false, List, [], ◌∷◌, All, Option, Some, None, IfSome, IsTrue, map, length, take, drop, option_map, is_some, ⊤}
+use Rattle.std.specs.Prelude.{◌≡◌, ◌⊎◌, ℕ, Bool, true, false, List, [], ◌∷◌, All, Option, Some, None, IfSome, map, length, option_map, is_some, ⊤}
 use Rattle.regex_hir.specs.Re.{Re}
 use Rattle.regex_hir.specs.Meaning.{alt_all}
 use Rattle.regex_syntax.specs.declared.Config.{Config}
 use Rattle.look_core.specs.Terminators.{one_of}
-use Rattle.hir_core.specs.Facts.{LoopsRead, is_utf8_tree}
+use Rattle.hir_core.specs.Facts.{is_utf8_tree}
 use Rattle.hir_core.specs.Tree.{Tree}
 use Rattle.search_types.specs.Found.{Found}
 use Rattle.search_types.specs.Inputs.{Search}

@@ -1,5 +1,5 @@
 -- Refusals, and matches, by numbers.
-use Rattle.std.specs.Prelude.{◌≡◌, ℕ, Option, Some, None}
+use Rattle.std.specs.Prelude.{ℕ, Option, Some, None}
 use Rattle.regex_syntax.specs.declared.error.ErrorKind.{ErrorKind}
 use Rattle.regex_syntax.specs.declared.error.ErrorKind.TheVariants.{NestLimitExceeded}
 use Rattle.search_types.specs.declared.match_error.MatchErrorKind.{MatchErrorKind}

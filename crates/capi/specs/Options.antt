@@ -1,7 +1,6 @@
 -- What the numbers of a caller's options mean.
-use Rattle.std.specs.Prelude.{◌≡◌, ℕ, ◌/◌, ◌%◌, ◌<◌, Bool, not, if◌then◌else◌, nat_eq, nat_lt}
+use Rattle.std.specs.Prelude.{ℕ, ◌/◌, ◌%◌, Bool, not, if◌then◌else◌, nat_eq, nat_lt}
 use Rattle.regex_syntax.specs.declared.Config.{Config}
-use Rattle.regex_syntax.specs.Verdict.{default_config}
 use Rattle.capi.specs.declared.options.Options.{Options}
 
 -- a flag is a power of two

@@ -1,9 +1,6 @@
-use Rattle.std.proofs.Common.{ap, [], ◌∷◌, ◌++◌, List, map, refl, sym, ◌∙◌, subst, ◌≡◌, Bool}
-use Rattle.search_types.specs.Found.{Found}
+use Rattle.std.proofs.Common.{ap, [], ◌∷◌, ◌++◌, refl, sym, ◌∙◌, subst, ◌≡◌}
 use Rattle.regex_pair.specs.declared.find_matches.FindMatches.{FindMatches}
 use Rattle.regex_pair.specs.FindSteps.{MayGoOn, finds_from, searches_by}
-use Rattle.regex_pair.specs.Taken.{AreTaken}
-use Rattle.capi.specs.Failures.{row_of}
 use Rattle.capi.proofs.ListLemmas.{none_laid, one_more_row, one_more_counted}
 use Rattle.capi.proofs.listing.write_all.Goals as goal
 

@@ -1,4 +1,4 @@
-use Rattle.std.proofs.Common.{map, ◌∙◌, ap, List, Bor, sym, refl, arith}
+use Rattle.std.proofs.Common.{map, ◌∙◌, arith}
 use Rattle.capi.proofs.TextLemmas.{one_more_cut, all_cut}
 use Rattle.capi.proofs.texts.texts_of.Goals as goal
 

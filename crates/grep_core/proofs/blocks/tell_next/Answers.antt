@@ -1,4 +1,3 @@
-use Rattle.std.proofs.Common.{◌≡◌, ◌≤◌, ℕ, refl, arith, subst}
 use Rattle.grep_core.specs.Blocks.{finds_by, tells_lines, counts_lines}
 use Rattle.grep_core.proofs.JoinLemmas.{whole_range, starts_all, moves_on, passed_told, passed_counted}
 use Rattle.grep_core.proofs.SeenLemmas.{moved_by}

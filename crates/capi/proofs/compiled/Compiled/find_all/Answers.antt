@@ -1,4 +1,4 @@
-use Rattle.std.proofs.Common.{◌≡◌, ℕ, true, subst, sym, Ok, Err, IfOk, IfNone, Option, None, Some, Result, List}
+use Rattle.std.proofs.Common.{◌≡◌, ℕ, true, subst, sym, IfOk, IfNone, Option, None, Some, Result}
 use Rattle.std.proofs.lemmas.Option.{none-some}
 use Rattle.search_core.specs.Utf8.{IsValidText}
 use Rattle.search_types.specs.Inputs.{Search}

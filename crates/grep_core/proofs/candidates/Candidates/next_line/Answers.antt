@@ -1,8 +1,6 @@
-use Rattle.std.proofs.Common.{◌≡◌, ℕ, Option, map, sym, ◌∙◌, subst}
+use Rattle.std.proofs.Common.{◌≡◌, Option, map, sym, ◌∙◌, subst}
 use Rattle.std.specs.Prelude.{option_map}
 use Rattle.line_trees.specs.LineTrees.{line_tree}
-use Rattle.hir_core.specs.Tree.{Tree}
-use Rattle.std.proofs.Common.{List}
 use Rattle.grep_core.specs.declared.candidates.Stop.{Stop}
 use Rattle.grep_core.specs.Candidates.{IsStopIfAny, IsEnd}
 use Rattle.std.specs.Prelude.{IfSome, true}

@@ -1,7 +1,6 @@
-use Rattle.std.proofs.Common.{◌≡◌, true, All, map, sym, subst}
-use Rattle.hir_core.specs.Facts.{LoopsRead}
+use Rattle.std.proofs.Common.{map, sym, subst}
 use Rattle.regex_pair.specs.Pairs.{Pair}
-use Rattle.grep_core.specs.Searchers.{IsSearcherOf, IsTold, Sought}
+use Rattle.grep_core.specs.Searchers.{IsTold, Sought}
 use Rattle.grep_core.proofs.SeenLemmas.{IsOwn}
 use Rattle.grep_core.proofs.finder.Finder.has_match_quickly.Goals as goal
 

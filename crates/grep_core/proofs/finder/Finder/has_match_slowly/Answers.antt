@@ -1,4 +1,4 @@
-use Rattle.std.proofs.Common.{◌∙◌, List, sym, subst}
+use Rattle.std.proofs.Common.{List, sym, subst}
 use Rattle.regex.specs.declared.bytes.regex.Regex.{Regex}
 use Rattle.grep_core.specs.Fallbacks.{AreRegexesOf}
 use Rattle.grep_core.specs.Searchers.{IsTold, Sought}

@@ -1,4 +1,4 @@
-use Rattle.std.proofs.Common.{◌≡◌, true, Option, map, slice_range, subst}
+use Rattle.std.proofs.Common.{◌≡◌, true, Option, slice_range, subst}
 use Rattle.std.specs.Prelude.{IfSome}
 use Rattle.regex_pair.specs.Pairs.{Pair, PairCache}
 use Rattle.grep_core.specs.Candidates.{IsCandidatesOf, HaveNoMatch, HasMatchAt}
