@@ -1,10 +1,17 @@
 -- States of an automaton are added one after another.
 use Rattle.std.proofs.Common.{◌≡◌, ℕ, zero, suc, ◌+◌, ◌<◌, ◌≤◌, Bool, true, false, List, [], ◌∷◌, ◌++◌, length, drop, get_or, refl, sym, ap}
-use Rattle.std.proofs.Common.{◌∙◌, arith, append_assoc, append-nil, cond}
-use Rattle.nfa_core.specs.Nfa.{Automaton}
+use Rattle.std.proofs.Common.{◌∙◌, arith, append_assoc, append-nil, cond, not, ◌||◌, subst}
+use Rattle.std.specs.List.{list_any}
+use lib.Bits.{or_zero_r}
+use Rattle.look_core.specs.declared.look.Look.{Look}
+use Rattle.look_core.specs.LookSets.{has_look, union_of}
+use Rattle.look_core.proofs.ForCallers.{has_look-none}
+use Rattle.nfa_core.specs.Nfa.{Node, byte_range, sparse_node, dense_node, look_node, union_node, binary_union, capture_node, fail_node}
+use Rattle.nfa_core.specs.Nfa.{match_node, Automaton, node_at}
+use Rattle.nfa_core.specs.NfaValue.{look_of, looks_of, is_capture}
+use Rattle.nfa_core.proofs.ForCallers.{looks_any, not_both}
 use Rattle.determinize_core.specs.States.{StateValue}
 use Rattle.determinize_core.specs.Steps.{is_kept, kept, looks_with}
-use Rattle.determinize_core.specs.Added.{with_each}
 
 -- a list from a member on
 pub from_member : (qs : List ℕ) (k : ℕ) → k < length qs → drop k qs ≡ get_or qs k 0 ∷ drop (suc k) qs
@@ -28,22 +35,84 @@ kept_by : (b : Bool) (q : ℕ) (xs ys zs : List ℕ) → zs ≡ (cond b (q ∷ [
 kept_by true q xs ys zs e = ap (λ l. l) (sym (append_assoc xs (q ∷ []) ys)) ∙ ap (λ (l : List ℕ). (xs ++ l) ++ ys) (sym e)
 kept_by false q xs ys zs e = ap (λ (l : List ℕ). l ++ ys) (sym (append-nil xs)) ∙ ap (λ (l : List ℕ). (xs ++ l) ++ ys) (sym e)
 
-with_first : (a : Automaton) (q : ℕ) (qs : List ℕ) (v : StateValue) → with_each a (q ∷ qs) v ≡ with_each a qs (with_each a (q ∷ []) v)
-with_first a q qs v = ap (λ (ids : List ℕ). record v { look_need = looks_with a v.look_need (q ∷ qs); ids = ids })
-    (kept_by (is_kept a q) q v.ids (kept a qs) (kept a (q ∷ [])) refl)
+kept_first : (a : Automaton) (q : ℕ) (qs xs : List ℕ) → xs ++ kept a (q ∷ qs) ≡ (xs ++ kept a (q ∷ [])) ++ kept a qs
+kept_first a q qs xs = kept_by (is_kept a q) q xs (kept a qs) (kept a (q ∷ [])) refl
 
--- a state more was added, and in the end all were
-pub one_more : (a : Automaton) (qs : List ℕ) (k : ℕ) (v w x : StateValue) → k < length qs → with_each a (drop k qs) v ≡ w →
-    x ≡ with_each a (get_or qs k 0 ∷ []) v →
-    with_each a (drop (k + 1) qs) x ≡ w
-one_more a qs k v w x within all e =
-    let next : k + 1 ≡ suc k = omega arith in
-    ap (λ (i : ℕ). with_each a (drop i qs) x) next
-    ∙ (ap (with_each a (drop (suc k) qs)) e
-    ∙ (sym (with_first a (get_or qs k 0) (drop (suc k) qs) v) ∙ (ap (λ (l : List ℕ). with_each a l v) (sym (from_member qs k within))
-    ∙ all)))
+-- the state with more states
+abbrev with_ids : StateValue → List ℕ → StateValue
+with_ids v ids = record v { ids = v.ids ++ ids }
 
-pub all_added : (a : Automaton) (qs : List ℕ) (k : ℕ) (v w : StateValue) → length qs ≤ k → with_each a (drop k qs) v ≡ w → v ≡ w
-all_added a qs k v w past all =
-    ap (λ (ids : List ℕ). record v { ids = ids }) (sym (append-nil v.ids))
-    ∙ (ap (λ (l : List ℕ). with_each a l v) (sym (past_all qs k past)) ∙ all)
+module _ (qs : List ℕ) (k : ℕ) (v w : StateValue) where
+  -- a state more was added
+  pub ids_left : (q : ℕ) (x : StateValue) → drop k qs ≡ q ∷ drop (k + 1) qs → x ≡ with_ids v (q ∷ []) → with_ids v (drop k qs) ≡ w →
+      with_ids x (drop (k + 1) qs) ≡ w
+  ids_left q x left e all =
+      ap (λ (y : StateValue). with_ids y (drop (k + 1) qs)) e
+      ∙ (ap (λ (l : List ℕ). record v { ids = l }) (append_assoc v.ids (q ∷ []) (drop (k + 1) qs))
+      ∙ (ap (with_ids v) (sym left) ∙ all))
+
+  -- all were
+  pub ids_done : drop k qs ≡ [] → with_ids v (drop k qs) ≡ w → v ≡ w
+  ids_done none all = ap (λ (l : List ℕ). record v { ids = l }) (sym (append-nil v.ids)) ∙ (ap (with_ids v) (sym none) ∙ all)
+
+  -- the same of those that are kept
+  module _ (a : Automaton) where
+    pub kept_left : (q : ℕ) (x : StateValue) → drop k qs ≡ q ∷ drop (k + 1) qs → x ≡ with_ids v (kept a (q ∷ [])) →
+        with_ids v (kept a (drop k qs)) ≡ w →
+        with_ids x (kept a (drop (k + 1) qs)) ≡ w
+    kept_left q x left e all =
+        ap (λ (y : StateValue). with_ids y (kept a (drop (k + 1) qs))) e
+        ∙ (ap (λ (l : List ℕ). record v { ids = l }) (sym (kept_first a q (drop (k + 1) qs) v.ids))
+        ∙ (ap (λ (l : List ℕ). with_ids v (kept a l)) (sym left) ∙ all))
+
+    pub kept_done : drop k qs ≡ [] → with_ids v (kept a (drop k qs)) ≡ w → v ≡ w
+    kept_done none all = ap (λ (l : List ℕ). record v { ids = l }) (sym (append-nil v.ids))
+        ∙ (ap (λ (l : List ℕ). with_ids v (kept a l)) (sym none) ∙ all)
+
+module _ (a : Automaton) (qs : List ℕ) (k s all : ℕ) where
+  -- the looks of a state more were joined
+  pub looks_left : (q t : ℕ) → drop k qs ≡ q ∷ drop (k + 1) qs → t ≡ union_of s (look_of (node_at a q)) →
+      looks_with a s (drop k qs) ≡ all → looks_with a t (drop (k + 1) qs) ≡ all
+  looks_left q t left e h = ap (λ (n : ℕ). looks_with a n (drop (k + 1) qs)) e ∙ (ap (looks_with a s) (sym left) ∙ h)
+
+  pub looks_done : drop k qs ≡ [] → looks_with a s (drop k qs) ≡ all → s ≡ all
+  looks_done none h = sym (ap (looks_with a s) none) ∙ h
+
+-- ---- automata without looks, and without captures
+
+has_none : (node : Node) → ((l : Look) (next : ℕ) → node ≡ look_node l next → ⊥) → look_of node ≡ 0
+has_none (byte_range low high next) never = refl
+has_none (sparse_node ranges) never = refl
+has_none (dense_node names) never = refl
+has_none (look_node l next) never = absurd (never l next refl)
+has_none (union_node names) never = refl
+has_none (binary_union first second) never = refl
+has_none (capture_node next pattern group slot) never = refl
+has_none fail_node never = refl
+has_none (match_node pattern) never = refl
+
+module _ (a : Automaton) (none : looks_of a.states ≡ 0) where
+  no_look_at : (q : ℕ) → look_of (node_at a q) ≡ 0
+  no_look_at q = has_none (node_at a q) (λ l next is. not_both (has_look 0 l) ⊥
+      (subst (λ (s : ℕ). has_look s l ≡ true) none ((looks_any l a).1 (q, next, is))) (has_look-none l))
+
+  pub no_looks : (s : ℕ) (qs : List ℕ) → looks_with a s qs ≡ s
+  no_looks s [] = refl
+  no_looks s (q ∷ qs) =
+      let same : union_of s (look_of (node_at a q)) ≡ s = ap (union_of s) (no_look_at q) ∙ or_zero_r s in
+      ap (λ (n : ℕ). looks_with a n qs) same ∙ no_looks s qs
+
+neither : (x y : Bool) → (x || y) ≡ false → (x ≡ false) × (y ≡ false)
+neither true y e = let never : true ≡ false = e in (e, cc)
+neither false y e = (refl, e)
+
+none_captures : (nodes : List Node) → list_any is_capture nodes ≡ false → (q : ℕ) → is_capture (get_or nodes q fail_node) ≡ false
+none_captures [] none q = refl
+none_captures (node ∷ nodes) none zero = (neither (is_capture node) (list_any is_capture nodes) none).0
+none_captures (node ∷ nodes) none (suc q) = none_captures nodes (neither (is_capture node) (list_any is_capture nodes) none).1 q
+
+pub all_kept : (a : Automaton) → list_any is_capture a.states ≡ false → (qs : List ℕ) → kept a qs ≡ qs
+all_kept a none [] = refl
+all_kept a none (q ∷ qs) =
+    let keeps : is_kept a q ≡ true = ap not (none_captures a.states none q) in
+    rw keeps (ap (λ (l : List ℕ). q ∷ l) (all_kept a none qs))

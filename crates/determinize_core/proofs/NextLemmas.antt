@@ -25,15 +25,19 @@ module _ (a : Automaton) (t : Terminator) (v : StateValue) (u : Option ℕ) wher
   by_gain b e = ap (λ (g : Bool). cond g (closed a (known_before a.reverse t v u) v.ids) v.ids) e
 
   -- a state that needs no looks gains none
-  nothing_gained : v.look_need ≡ 0 → gains v (known_before a.reverse t v u) ≡ false
-  nothing_gained none =
+  pub gains_nothing : v.look_need ≡ 0 → gains v (known_before a.reverse t v u) ≡ false
+  gains_nothing none =
       let new : ℕ = without (known_before a.reverse t v u) v.look_have in
       ap (λ (s : ℕ). not (s == 0)) (ap (shared_by new) none ∙ and_zero_r new)
+
+  -- where the states aren't closed anew they are the state's own
+  pub before_kept : (b : Bool) → b ≡ gains v (known_before a.reverse t v u) → b ≡ false → ids_before a t v u ≡ v.ids
+  before_kept b told none = by_gain false (sym told ∙ none)
 
   pub before_without_looks : IsDistinct nat_eq v.ids → (put : List ℕ) → put ≡ distinct nat_eq v.ids → (need : ℕ) → need ≡ v.look_need →
       need ≡ 0 → put ≡ ids_before a t v u
   before_without_looks once put is need needed none = is ∙ (distinct_already v.ids once
-      ∙ sym (by_gain false (nothing_gained (sym needed ∙ none))))
+      ∙ sym (by_gain false (gains_nothing (sym needed ∙ none))))
 
   module _ (once : IsDistinct nat_eq v.ids) (looks : ℕ) (known : looks ≡ known_before a.reverse t v u) (put : List ℕ)
       (is : put ≡ distinct nat_eq v.ids) (b : Bool) (told : b ≡ gains v looks) where

@@ -1,16 +1,10 @@
--- What a state that is built gets one after another: states of the automaton, and patterns.
+-- What a state that is built gets one after another.
 use Rattle.std.specs.Prelude.{ℕ, ◌++◌, ◌∷◌, [], List, Bool, false, Option, Some, None, is_some, if◌then◌else◌}
 use Rattle.std.specs.Bool.{nat_eq}
 use Rattle.search_types.specs.declared.match_kind.MatchKind.{MatchKind}
 use Rattle.search_types.specs.declared.match_kind.MatchKind.TheVariants.{All as AllMatches, LeftmostFirst}
 use Rattle.nfa_core.specs.Walks.{has}
-use Rattle.nfa_core.specs.Nfa.{Automaton}
 use Rattle.determinize_core.specs.States.{StateValue}
-use Rattle.determinize_core.specs.Steps.{kept, looks_with}
-
--- the state with these states of the automaton behind its own, and their looks; what is known to hold stays
-abbrev pub with_each : Automaton → List ℕ → StateValue → StateValue
-with_each a qs v = record v { look_need = looks_with a v.look_need qs; ids = v.ids ++ kept a qs }
 
 -- the state with one more pattern
 abbrev pub with_match : StateValue → ℕ → StateValue

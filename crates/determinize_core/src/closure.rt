@@ -6,6 +6,7 @@ ghost use Rattle.nfa_core.specs.Reached.{AreBelow, Meets};
 ghost use Rattle.nfa_core.specs.States.{node_of};
 ghost use Rattle.nfa_core.specs.Walks.{Visits};
 ghost use Rattle.nfa_core.specs.Ways.{on_nothing};
+ghost use Rattle.determinize_core.specs.Closing.{AddsLeaves, PassesLeaves, GoesBehind};
 ghost use Rattle.determinize_core.specs.Costs.{known_ways};
 ghost use Rattle.determinize_core.specs.Steps.{known_steps};
 
@@ -43,9 +44,71 @@ pub fn epsilon_closure<S: NameSet, L: Ledger>(
     nfa.is_sound();
     push(stack, start)?;
     while let Some(id) = next_fresh(stack, set, steps) {
-        push_ways(nfa.state(id), look_have, stack)?;
+        follow(nfa, id, look_have, stack, set, steps)?;
     }
     Ok(())
+}
+
+/// Goes on behind a state that was met, to those to which it leads with no byte where these looks are known to hold: puts
+/// them on a stack, the preferred one on top. The first of a union are put into the set at once, up to one that leads on.
+fn follow<S: NameSet, L: Ledger>(
+    nfa: &NFA,
+    id: StateID,
+    look_have: LookSet,
+    stack: &mut Vec<StateID>,
+    set: &mut S,
+    steps: &mut Steps<L>,
+) -> Result<(), AllocError>
+    requires inside { id < length nfa.now.automaton.states }
+    requires bound { S.bound set.old ≡ length nfa.now.automaton.states }
+    ensures goes { OnOk result (GoesBehind nfa.now.automaton look_have id (reverse stack.old.items) (S.names set.old) steps.old (reverse stack.new.items) (S.names set.new) steps.new) }
+    ensures bound { S.bound set.new ≡ S.bound set.old }
+    ensures fits { length (S.names set.new) ≤ S.bound set.new }
+    ensures grows { AddsLeaves nfa.now.automaton look_have (S.names set.old) (S.names set.new) }
+    ensures once { IsDistinct nat_eq (S.names set.new) }
+    ensures below { All (λ q. q < S.bound set.new) (S.names set.new) }
+    ensures cost { steps.new ≤ steps.old + length (known_steps nfa.now.automaton look_have id) }
+{
+    nfa.is_sound();
+    let _ = set.len();
+    let state = nfa.state(id);
+    if let State::Union { alternates } = state {
+        let names = alternates.as_slice();
+        let met = meet_leaves(nfa, names, set, steps);
+        push_all(stack, &names[met..])?;
+        return Ok(());
+    }
+    push_ways(state, look_have, stack)?;
+    Ok(())
+}
+
+/// Puts the states of a list into a set, up to the first that leads on with no byte. Tells how many these were.
+fn meet_leaves<S: NameSet, L: Ledger>(
+    nfa: &NFA,
+    ids: &[StateID],
+    set: &mut S,
+    steps: &mut Steps<L>,
+) -> usize
+    requires below { AreBelow (length nfa.now.automaton.states) ids.now }
+    requires bound { S.bound set.old ≡ length nfa.now.automaton.states }
+    ensures within { result ≤ length ids.now }
+    ensures passes { (looks : ℕ) → PassesLeaves nfa.now.automaton looks ids.now result (S.names set.old) (S.names set.new) }
+    ensures bound { S.bound set.new ≡ S.bound set.old }
+    ensures fits { length (S.names set.new) ≤ S.bound set.new }
+    ensures once { IsDistinct nat_eq (S.names set.new) }
+    ensures all_below { All (λ q. q < S.bound set.new) (S.names set.new) }
+    ensures cost { steps.new ≡ steps.old + result }
+{
+    for k in 0..ids.len() {
+        let id = ids[k];
+        if nfa.state(id).is_epsilon() {
+            let _ = set.len();
+            return k;
+        }
+        set.insert(id, steps);
+    }
+    let _ = set.len();
+    ids.len()
 }
 
 /// Puts the states on a stack to which a state leads with no byte where these looks are known to hold, the

@@ -1,10 +1,11 @@
-ghost use Rattle.std.specs.Prelude.{◌≡◌, ◌+◌, ◌*◌, ◌<◌, ◌≤◌, ◌&&◌, ◌||◌, [], length, All, OnOk, IfOk, ℕ, List, ◌++◌, drop, IfSome, option_to_list};
+ghost use Rattle.std.specs.Prelude.{◌≡◌, ◌+◌, ◌*◌, ◌<◌, ◌≤◌, ◌&&◌, ◌||◌, [], length, All, OnOk, IfOk, ℕ, List, ◌++◌, drop, IfSome, Some, option_to_list};
 ghost use Rattle.std.specs.Bool.{nat_eq};
+ghost use Rattle.std.specs.Int.{is_in_range};
 ghost use Rattle.std.specs.List.{IsDistinct, flat_map};
 ghost use Rattle.search_core.specs.Units.{unit_byte};
 ghost use Rattle.look_core.specs.Looks.{byte_side, is_word, is_byte};
 ghost use Rattle.determinize_core.specs.Costs.{free_ways, known_ways};
-ghost use Rattle.determinize_core.specs.Steps.{families, first_half, ids_before, states_behind, begun, step_value, closed, is_some_kept, known_steps, pattern_at, patterns_in, reading, unit_steps};
+ghost use Rattle.determinize_core.specs.Steps.{families, first_half, gains, ids_before, known_before, states_behind, begun, step_value, closed, is_some_kept, known_steps, pattern_at, patterns_in, reading, unit_steps};
 ghost use Rattle.nfa_core.specs.Walks.{distinct, Visits};
 ghost use Rattle.determinize_core.specs.Added.{listed_with, stops};
 ghost use Rattle.nfa_core.specs.States.{node_of};
@@ -48,10 +49,69 @@ pub fn next<S: NameSet, L: Ledger>(
     ensures bound2 { S.bound sets.new.set2 ≡ length nfa.now.automaton.states }
     ensures cost { steps.new ≤ steps.old + 3 * length nfa.now.automaton.states + 2 * free_ways nfa.now.automaton }
 {
-    states_before(nfa, sets, stack, state, unit, steps)?;
     let mut builder = builder.into_matches()?;
     let looks = known_behind(nfa, unit);
     builder.write_have(looks);
+    step_all(
+        nfa,
+        kind,
+        sets,
+        stack,
+        state,
+        unit,
+        looks,
+        &mut builder,
+        steps,
+    )?;
+    tell_unit(nfa, unit, some_kept(nfa, &sets.set2), &mut builder);
+    let mut built = builder.into_nfa();
+    add_nfa_states(nfa, &sets.set2, &mut built)?;
+    Ok(built)
+}
+
+/// Lists the patterns that match in the states at the place of a state before the unit, and puts the states into the second
+/// set to which these lead by the unit, closed where these looks are known to hold. States that aren't closed anew are read
+/// from the state, and put into no set.
+fn step_all<S: NameSet, L: Ledger>(
+    nfa: &NFA,
+    kind: MatchKind,
+    sets: &mut Sets<S>,
+    stack: &mut Vec<StateID>,
+    state: &State,
+    unit: Unit,
+    looks: LookSet,
+    builder: &mut StateBuilderMatches,
+    steps: &mut Steps<L>,
+) -> Result<(), AllocError>
+    requires bound1 { S.bound sets.old.set1 ≡ length nfa.now.automaton.states }
+    requires bound2 { S.bound sets.old.set2 ≡ length nfa.now.automaton.states }
+    requires below { All (λ q. q < length nfa.now.automaton.states) state.now.ids }
+    requires once { IsDistinct nat_eq state.now.ids }
+    requires empty { stack.old.items ≡ [] }
+    requires matches { builder.old.matches ≡ [] }
+    ensures matches { OnOk result (builder.new ≡ record builder.old { matches = patterns_in kind nfa.now.automaton (ids_before nfa.now.automaton nfa.now.terminator state.now (unit_byte unit)) }) }
+    ensures closed { OnOk result (S.names sets.new.set2 ≡ closed nfa.now.automaton looks (flat_map (unit_steps nfa.now.automaton (unit_byte unit)) (reading kind nfa.now.automaton (ids_before nfa.now.automaton nfa.now.terminator state.now (unit_byte unit))))) }
+    ensures stack { OnOk result (stack.new.items ≡ []) }
+    ensures bound1 { S.bound sets.new.set1 ≡ length nfa.now.automaton.states }
+    ensures bound2 { S.bound sets.new.set2 ≡ length nfa.now.automaton.states }
+    ensures cost { steps.new ≤ steps.old + 3 * length nfa.now.automaton.states + 2 * free_ways nfa.now.automaton }
+{
+    if !asks_anew(nfa, state, unit) {
+        sets.set2.clear();
+        step_ids(
+            nfa,
+            kind,
+            state,
+            unit,
+            looks,
+            stack,
+            &mut sets.set2,
+            builder,
+            steps,
+        )?;
+        return Ok(());
+    }
+    states_before(nfa, sets, stack, state, unit, steps)?;
     step_each(
         nfa,
         kind,
@@ -60,13 +120,20 @@ pub fn next<S: NameSet, L: Ledger>(
         looks,
         stack,
         &mut sets.set2,
-        &mut builder,
+        builder,
         steps,
     )?;
-    tell_unit(nfa, unit, some_kept(nfa, &sets.set2), &mut builder);
-    let mut built = builder.into_nfa();
-    add_nfa_states(nfa, &sets.set2, &mut built)?;
-    Ok(built)
+    Ok(())
+}
+
+/// Whether the unit decides a look that some of the states at the place of a state before it ask for.
+fn asks_anew(nfa: &NFA, state: &State, unit: Unit) -> bool
+    ensures { result ≡ gains state.now (known_before nfa.now.automaton.reverse nfa.now.terminator state.now (unit_byte unit)) }
+{
+    if state.look_need().is_empty() {
+        return false;
+    }
+    gains(state, known_before(nfa, state, unit))
 }
 
 /// Puts the states at the place of a state before the unit into the first set, closed anew where the unit decides a look
@@ -210,8 +277,46 @@ pub(crate) fn step_each<S: NameSet, L: Ledger>(
     Ok(())
 }
 
+/// The same for the states of a powerset state, which are below the automaton's, none of them twice.
+fn step_ids<S: NameSet, L: Ledger>(
+    nfa: &NFA,
+    kind: MatchKind,
+    state: &State,
+    unit: Unit,
+    looks: LookSet,
+    stack: &mut Vec<StateID>,
+    set: &mut S,
+    builder: &mut StateBuilderMatches,
+    steps: &mut Steps<L>,
+) -> Result<(), AllocError>
+    requires below { All (λ q. q < length nfa.now.automaton.states) state.now.ids }
+    requires once { IsDistinct nat_eq state.now.ids }
+    requires bound { S.bound set.old ≡ length nfa.now.automaton.states }
+    requires none { S.names set.old ≡ [] }
+    requires empty { stack.old.items ≡ [] }
+    requires matches { builder.old.matches ≡ [] }
+    ensures matches { OnOk result (builder.new ≡ record builder.old { matches = patterns_in kind nfa.now.automaton state.now.ids }) }
+    ensures closed { OnOk result (S.names set.new ≡ closed nfa.now.automaton looks (flat_map (unit_steps nfa.now.automaton (unit_byte unit)) (reading kind nfa.now.automaton state.now.ids))) }
+    ensures stack { OnOk result (stack.new.items ≡ []) }
+    ensures bound { S.bound set.new ≡ S.bound set.old }
+    ensures cost { steps.new ≤ steps.old + length nfa.now.automaton.states + free_ways nfa.now.automaton }
+{
+    nfa.is_sound();
+    for id in state.iter_nfa_state_ids() {
+        // What a set has is there once, and below its bound.
+        let _ = set.len();
+        let last = list_match(nfa, kind, id, builder)?;
+        if last {
+            return Ok(());
+        }
+        close_target(nfa, id, unit, looks, stack, set, steps)?;
+    }
+    Ok(())
+}
+
 /// Lists the pattern that matches in a state, if there is one and it isn't listed yet, and tells whether no state
 /// behind it reads the unit.
+#[inline(always)]
 fn list_match(
     nfa: &NFA,
     kind: MatchKind,
@@ -225,13 +330,23 @@ fn list_match(
     let Some(pattern) = pattern_at(nfa, id) else {
         return Ok(false);
     };
-    if !builder.has_match_pattern_id(pattern) {
-        builder.add_match_pattern_id(pattern)?;
-    }
+    list_pattern(pattern, builder)?;
     Ok(kind == MatchKind::LeftmostFirst)
 }
 
+/// Lists a pattern, unless it is listed.
+#[inline(never)]
+fn list_pattern(pattern: PatternID, builder: &mut StateBuilderMatches) -> Result<(), AllocError>
+    ensures { OnOk result (builder.new ≡ record builder.old { matches = listed_with (Some pattern) builder.old.matches }) }
+{
+    if !builder.has_match_pattern_id(pattern) {
+        builder.add_match_pattern_id(pattern)?;
+    }
+    Ok(())
+}
+
 /// Puts the states into a set to which a state leads by the unit, closed where these looks are known to hold.
+#[inline(always)]
 fn close_target<S: NameSet, L: Ledger>(
     nfa: &NFA,
     id: StateID,
@@ -280,7 +395,7 @@ fn target_by(state: &NfaState, byte: u8) -> Option<StateID>
 {
     match state {
         NfaState::ByteRange { trans } => {
-            if trans.matches_byte(byte) {
+            if is_within(trans.start, trans.end, byte) {
                 return Some(trans.next);
             }
             None
@@ -291,6 +406,17 @@ fn target_by(state: &NfaState, byte: u8) -> Option<StateID>
         NfaState::Union { .. } | NfaState::BinaryUnion { .. } => None,
         NfaState::Fail | NfaState::Match { .. } => None,
     }
+}
+
+/// Whether a byte lies in a range. Both ends are tested at once: of many ranges each end alone is often met and often not,
+/// which a processor can't foresee, and both together seldom.
+#[inline(always)]
+fn is_within(start: u8, end: u8, byte: u8) -> bool
+    ensures { result ≡ is_in_range start end byte }
+{
+    let from_start = 256 + u32::from(byte) - u32::from(start);
+    let to_end = 256 + u32::from(end) - u32::from(byte);
+    from_start.min(to_end) >= 256
 }
 
 /// The pattern that matches in a state.

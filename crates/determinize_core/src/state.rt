@@ -1,12 +1,12 @@
-ghost use Rattle.std.specs.Prelude.{◌≡◌, ◌<◌, ◌≤◌, length, slice_index, IfOk, IsOk, MatchOption, true, [], Some, refl};
+ghost use Rattle.std.specs.Prelude.{◌≡◌, ◌<◌, ◌≤◌, ◌∷◌, ◌++◌, ℕ, List, length, slice_index, IfOk, IsOk, MatchOption, true, [], Some, refl};
 ghost use Rattle.look_core.specs.LookSets.{IsLookSet};
 ghost use Rattle.determinize_core.specs.States.{dead, IsState};
 ghost use Rattle.determinize_core.specs.StateBytes.{encoded, decoded, IsEncoded, is_match, has_same_bytes};
-ghost use Rattle.std.proofs.Common.{rules};
+ghost use Rattle.std.proofs.Common.{ap};
+ghost use Rattle.std.proofs.lemmas.Slice.Eq.{bytes_eq-Decides};
 ghost use Rattle.std.specs.Ordering.{nat_cmp};
 ghost use Rattle.std.specs.Cmp.{on_equiv, on_per, on_po, on_total, partial_equiv_from_equiv};
 ghost use Rattle.std.specs.Cmp.Lexicographic.{nat_list_cmp_total, nat_list_eq_equiv, slice_cmp, texts_po, texts_ties};
-ghost use Rattle.std.specs.Cmp.Rules.{hashing};
 ghost use Rattle.std.specs.Hash as fed;
 
 use crate::state_bytes::{FROM_WORD, HALF_CRLF, LISTED, MATCHES, has_flag, ids_start, number_at};
@@ -216,11 +216,14 @@ impl Ord for State {
 }
 
 impl Hash for State {
-    ghost hash_input = { λ s. fed.slice fed.u8 (encoded s) };
+    ghost hash_input = { λ s. fed.usize (length (encoded s)) ++ encoded s ∷ [] };
 
-    ghost respects_eq = { Prim.search (hashing, rules) };
+    ghost respects_eq = { λ x y h. ap (λ (bytes : List ℕ). fed.usize (length bytes) ++ bytes ∷ []) ((bytes_eq-Decides (encoded x) (encoded y)).0 h) };
 
+    // All in one write, as the Rust crate's: a hasher takes sixteen bytes at once of it, and a byte of single ones.
     fn hash<H: Hasher>(&self, state: &mut H) {
-        self.as_bytes().hash(state);
+        let bytes = self.as_bytes();
+        state.write_usize(bytes.len());
+        state.write(bytes);
     }
 }

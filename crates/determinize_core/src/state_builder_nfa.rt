@@ -117,6 +117,7 @@ impl StateBuilderNFA {
     }
 
     /// Adds a state of the NFA behind the others, or leaves all as it is where there is no memory.
+    #[inline(always)]
     pub fn add_nfa_state_id(&mut self, id: StateID) -> Result<(), AllocError>
         ensures ok { OnOk result (self.new ≡ record self.old { ids = self.old.ids ++ id ∷ [] }) }
         ensures err { OnErr result (self.new ≡ self.old) }

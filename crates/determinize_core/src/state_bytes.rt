@@ -88,14 +88,27 @@ pub(crate) fn push_behind_eight(bytes: &mut Vec<u8>, number: u32) -> Result<(), 
     bytes.extend_from_slice(&[0, 0, 0, 0, 0, 0, 0, 0, a, b, c, d])
 }
 
-/// Adds a number in groups of seven bits, or leaves the bytes as they are where there is no memory.
+/// Adds a number in groups of seven bits, or leaves the bytes as they are where there is no memory. Most numbers have one.
+#[inline(always)]
 pub(crate) fn push_groups(bytes: &mut Vec<u8>, number: u32) -> Result<(), AllocError>
     ensures ok { OnOk result (bytes.new.items ≡ bytes.old.items ++ groups 4 number) }
     ensures err { OnErr result (bytes.new.items ≡ bytes.old.items) }
 {
-    if number < 128 {
-        return bytes.extend_from_slice(&[number as u8]);
+    if number >= 128 {
+        push_more_groups(bytes, number)?;
+        return Ok(());
     }
+    bytes.push(number as u8)?;
+    Ok(())
+}
+
+/// The same of a number that has more than one group.
+#[inline(never)]
+fn push_more_groups(bytes: &mut Vec<u8>, number: u32) -> Result<(), AllocError>
+    requires { 128 ≤ number }
+    ensures ok { OnOk result (bytes.new.items ≡ bytes.old.items ++ groups 4 number) }
+    ensures err { OnErr result (bytes.new.items ≡ bytes.old.items) }
+{
     let second = number / 128;
     if second < 128 {
         return bytes.extend_from_slice(&[open(number), second as u8]);

@@ -49,16 +49,11 @@ impl<'a> StateIds<'a> {
             previous: self.previous,
         }
     }
-}
 
-impl<'a> Iterator for StateIds<'a> {
-    type Item = StateID;
-
-    ghost next_gives = { YieldsFirst (λ rest. rest) };
-
-    ghost remaining = { item_count (λ rest. rest) };
-
-    fn next(&mut self) -> Option<StateID> {
+    /// The next one, of which the difference may have several groups.
+    fn next_of_groups(&mut self) -> Option<StateID>
+        ensures { YieldsFirst (λ rest. rest) self.old result self.new }
+    {
         let mut part = 0;
         let mut weight = 1;
         while let Some((byte, rest)) = self.bytes.split_first() {
@@ -75,6 +70,30 @@ impl<'a> Iterator for StateIds<'a> {
             weight *= 128;
         }
         None
+    }
+}
+
+impl<'a> Iterator for StateIds<'a> {
+    type Item = StateID;
+
+    ghost next_gives = { YieldsFirst (λ rest. rest) };
+
+    ghost remaining = { item_count (λ rest. rest) };
+
+    // Most differences have one group.
+    #[inline(always)]
+    fn next(&mut self) -> Option<StateID> {
+        let Some((byte, rest)) = self.bytes.split_first() else {
+            return None;
+        };
+        let group = u64::from(*byte);
+        if group >= 128 {
+            return self.next_of_groups();
+        }
+        let id = StateID::must(moved(self.previous.as_u64(), group) as usize);
+        self.bytes = rest;
+        self.previous = id;
+        Some(id)
     }
 }
 

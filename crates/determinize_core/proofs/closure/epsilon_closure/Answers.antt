@@ -19,23 +19,26 @@ next_fresh-requires-clause-below g c =
     let bound : g.S.NameSet.bound c.loop-id.set ≡ length c.args.nfa.now.automaton.states = c.loop-id.invariant.bound ∙ c.requires.bound in
     rw bound c.loop-id.invariant.stands.below
 
-pub state-requires : goal.state-requires
-state-requires g c =
+pub follow-requires-clause-inside : goal.follow-requires-clause-inside
+follow-requires-clause-inside g c =
     let bound : g.S.NameSet.bound c.loop-id.set ≡ length c.args.nfa.now.automaton.states = c.loop-id.invariant.bound ∙ c.requires.bound in
     rw (← bound) c.in-Some.ensures.inside
+
+pub follow-requires-clause-bound : goal.follow-requires-clause-bound
+follow-requires-clause-bound g c = c.in-Some.ensures.bound ∙ (c.loop-id.invariant.bound ∙ c.requires.bound)
 
 pub loop-id-preserved : goal.loop-id-preserved
 loop-id-preserved g c =
     let bound : g.S.NameSet.bound c.loop-id.set ≡ length c.args.nfa.now.automaton.states = c.loop-id.invariant.bound ∙ c.requires.bound in
     record {
-      bound = c.in-Some.ensures.bound ∙ c.loop-id.invariant.bound;
-      fits = c.in-Some.ensures.fits;
+      bound = c.in_ok-follow.ensures.bound ∙ (c.in-Some.ensures.bound ∙ c.loop-id.invariant.bound);
+      fits = c.in_ok-follow.ensures.fits;
       stands = goes_on c.args.nfa.now.automaton c.args.look_have c.args.start (g.S.NameSet.names c.args.set.now) c.args.steps.now
           (reverse c.loop-id.stack.items) (g.S.NameSet.names c.loop-id.set) (reverse c.next_fresh.new.stack.items)
           (g.S.NameSet.names c.next_fresh.new.set) c.loop-id.steps c.next_fresh.new.steps
-          c.loop-id.invariant.stands (reverse c.push_ways.new.stack.items) c.in-Some.id _ c.is_sound.ensures.named
-          (rw (← bound) c.in-Some.ensures.inside) (rw (← bound) c.in-Some.ensures.below) c.in-Some.ensures.meets c.in-Some.ensures.cost
-          c.state.ensures c.in_ok-push_ways.ensures;
+          c.loop-id.invariant.stands c.in-Some.id c.is_sound.ensures.named (rw (← bound) c.in-Some.ensures.inside)
+          (rw (← bound) c.in-Some.ensures.below) c.in-Some.ensures.meets c.in-Some.ensures.cost
+          (reverse c.follow.new.stack.items) (g.S.NameSet.names c.follow.new.set) c.follow.new.steps c.in_ok-follow.ensures.goes;
     }
 
 -- where there is no memory to begin with, nothing was done
@@ -47,25 +50,26 @@ returns-in_err-push-clause-below g c = subst (λ (n : ℕ). All (λ q. q < n) (g
     c.len.ensures.below
 
 -- where it lacks later, a state was met whose ways were not followed
-pub returns-in_err-push_ways-clause-grows : goal.returns-in_err-push_ways-clause-grows
-returns-in_err-push_ways-clause-grows g c =
+pub returns-in_err-follow-clause-grows : goal.returns-in_err-follow-clause-grows
+returns-in_err-follow-clause-grows g c =
     cut_grown c.args.nfa.now.automaton c.args.look_have c.args.start (g.S.NameSet.names c.args.set.now) c.args.steps.now
     (reverse c.loop-id.stack.items) (g.S.NameSet.names c.loop-id.set) (reverse c.next_fresh.new.stack.items)
     (g.S.NameSet.names c.next_fresh.new.set) c.loop-id.steps c.next_fresh.new.steps
-    c.loop-id.invariant.stands c.in-Some.id c.in-Some.ensures.meets
+    c.loop-id.invariant.stands c.in-Some.id c.in-Some.ensures.meets (g.S.NameSet.names c.follow.new.set) c.in_err-follow.ensures.grows
 
-pub returns-in_err-push_ways-clause-below : goal.returns-in_err-push_ways-clause-below
-returns-in_err-push_ways-clause-below g c =
-    let bound : g.S.NameSet.bound c.next_fresh.new.set ≡ length c.args.nfa.now.automaton.states =
-    c.in-Some.ensures.bound ∙ (c.loop-id.invariant.bound ∙ c.requires.bound) in
-    subst (λ (n : ℕ). All (λ q. q < n) (g.S.NameSet.names c.next_fresh.new.set)) bound c.in-Some.ensures.all_below
+pub returns-in_err-follow-clause-below : goal.returns-in_err-follow-clause-below
+returns-in_err-follow-clause-below g c =
+    let bound : g.S.NameSet.bound c.follow.new.set ≡ length c.args.nfa.now.automaton.states =
+    c.in_err-follow.ensures.bound ∙ (c.in-Some.ensures.bound ∙ (c.loop-id.invariant.bound ∙ c.requires.bound)) in
+    subst (λ (n : ℕ). All (λ q. q < n) (g.S.NameSet.names c.follow.new.set)) bound c.in_err-follow.ensures.below
 
-pub returns-in_err-push_ways-clause-cost : goal.returns-in_err-push_ways-clause-cost
-returns-in_err-push_ways-clause-cost g c =
+pub returns-in_err-follow-clause-cost : goal.returns-in_err-follow-clause-cost
+returns-in_err-follow-clause-cost g c =
     cut_counts c.args.nfa.now.automaton c.args.look_have c.args.start (g.S.NameSet.names c.args.set.now) c.args.steps.now
     (reverse c.loop-id.stack.items) (g.S.NameSet.names c.loop-id.set) (reverse c.next_fresh.new.stack.items)
     (g.S.NameSet.names c.next_fresh.new.set) c.loop-id.steps c.next_fresh.new.steps
-    c.loop-id.invariant.stands c.in-Some.id c.in-Some.ensures.meets c.in-Some.ensures.cost
+    c.loop-id.invariant.stands c.in-Some.id c.in-Some.ensures.meets (g.S.NameSet.names c.follow.new.set) c.in_err-follow.ensures.grows
+    c.follow.new.steps c.in-Some.ensures.cost c.in_err-follow.ensures.cost
 
 pub returns-clause-grows : goal.returns-clause-grows
 returns-clause-grows g c =

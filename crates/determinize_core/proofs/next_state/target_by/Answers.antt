@@ -8,5 +8,5 @@ use Rattle.determinize_core.proofs.next_state.target_by.Goals as goal
 
 pub returns-in-Sparse : goal.returns-in-Sparse
 returns-in-Sparse c =
-    ap option_to_list c.matches_byte-in-Sparse.ensures ∙ (sparse_leads (map range_of c.in-Sparse.sparse.transitions.items) c.args.byte
+    ap option_to_list c.matches_byte.ensures ∙ (sparse_leads (map range_of c.in-Sparse.sparse.transitions.items) c.args.byte
     ∙ sym (ap (λ (s : State). on_byte (node_of s) c.args.byte) c.in-Sparse.is))

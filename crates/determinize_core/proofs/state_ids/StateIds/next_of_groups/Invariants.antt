@@ -1,6 +1,6 @@
 use Rattle.std.proofs.Common.{◌≡◌, ◌<◌, length}
 use Rattle.determinize_core.specs.StateBytes.{ids_read}
-use Rattle.determinize_core.proofs.state_ids.StateIdsIterator.next.Given as goal
+use Rattle.determinize_core.proofs.state_ids.StateIds.next_of_groups.Given as goal
 
 -- what is left with the groups that were read is what was left
 abbrev pub invariant-loop-byte : goal.invariant-loop-byte
