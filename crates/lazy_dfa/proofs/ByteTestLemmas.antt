@@ -5,7 +5,7 @@ use Rattle.std.proofs.Common.{◌^◌, pow_mono, bit_or}
 use Rattle.std.proofs.lemmas.Bool.{cases_lt}
 use Rattle.std.proofs.lemmas.List.{get_or_past, length-map}
 use Rattle.std.proofs.lemmas.Nat.Bits.{bit_at-trailing_zeros}
-use Rattle.std.proofs.lemmas.Simd.{tops_compared, zip2_splat, map-map, length-chunk, trailing_mask_l, mask_l-lt, bit_mask_l}
+use Rattle.std.proofs.lemmas.Simd.{tops_compared, zip2_splat, length-zip2, map-map, length-chunk, trailing_mask_l, mask_l-lt, bit_mask_l}
 use Rattle.std.proofs.lemmas.Simd.{run_in_chunk_le, run_in_chunk_stops, run_in_chunk_fails, none_from_empty_mask}
 use Rattle.std.specs.Int.Count.{count_trailing_zeros}
 use Rattle.std.specs.List.{prefix_len}
@@ -55,6 +55,22 @@ pub marked_either : (p q : ℕ → Bool) (bytes : List ℕ) →
 marked_either p q [] = refl
 marked_either p q (x ∷ bytes) = λ i. either_bits (p x) (q x) i ∷ marked_either p q bytes i
 
+-- of lanes that are all bits or none, one in which either has bits
+abbrev flags : List Bool → List ℕ
+flags bs = map (λ b. cond b 255 0) bs
+
+abbrev both : List Bool → List Bool → List Bool
+both ks bs = zip2 (λ a b. a || b) ks bs
+
+flags_marked : (test : ℕ → Bool) (bytes : List ℕ) → marked test bytes ≡ flags (map test bytes)
+flags_marked test [] = refl
+flags_marked test (x ∷ bytes) = λ i. cond (test x) 255 0 ∷ flags_marked test bytes i
+
+flags_both : (ks bs : List Bool) → zip2 bit_or (flags ks) (flags bs) ≡ flags (both ks bs)
+flags_both [] bs = refl
+flags_both (a ∷ ks) [] = refl
+flags_both (a ∷ ks) (b ∷ bs) = λ i. either_bits a b i ∷ flags_both ks bs i
+
 -- a lane has bits where its byte passes
 has_marked : (b : Bool) → has_bits (cond b 255 0) ≡ b
 has_marked true = refl
@@ -63,6 +79,20 @@ has_marked false = refl
 bits_marked : (test : ℕ → Bool) (bytes : List ℕ) → map has_bits (marked test bytes) ≡ map test bytes
 bits_marked test [] = refl
 bits_marked test (x ∷ bytes) = λ i. has_marked (test x) i ∷ bits_marked test bytes i
+
+bits_flags : (bs : List Bool) → map has_bits (flags bs) ≡ bs
+bits_flags [] = refl
+bits_flags (b ∷ bs) = λ i. has_marked b i ∷ bits_flags bs i
+
+-- no bit in either is none in both
+none_of_both : (ks bs : List Bool) → length ks ≡ length bs → mask_l (both ks bs) ≡ 0 → (mask_l ks ≡ 0) × (mask_l bs ≡ 0)
+none_of_both [] [] long none = (refl, refl)
+none_of_both [] (b ∷ bs) long none = absurd (omega arith)
+none_of_both (a ∷ ks) [] long none = absurd (omega arith)
+none_of_both (true ∷ ks) (b ∷ bs) long none = absurd (omega arith)
+none_of_both (false ∷ ks) (true ∷ bs) long none = absurd (omega arith)
+none_of_both (false ∷ ks) (false ∷ bs) long none =
+    let rest = none_of_both ks bs (omega (arith, long)) (omega (arith, none)) in (omega (arith, rest.0), omega (arith, rest.1))
 
 -- the lowest bit stands for one of the lanes
 lowest_lane : (ms : List Bool) → length ms ≤ 32 → 0 < mask_l ms → count_trailing_zeros 64 (mask_l ms) < length ms
@@ -75,7 +105,7 @@ lowest_lane ms few some =
       | inr past ↦ absurd (omega (arith, sym set ∙ bit_mask_l ms n ∙ ap (λ (b : Bool). cond {A = ℕ} b 1 0) (get_or_past ms n false past)))
     ]
 
-joined : (test : ℕ → Bool) (h : List ℕ) (from at to : ℕ) → NonePasses test h from at → NonePasses test h at to →
+pub joined : (test : ℕ → Bool) (h : List ℕ) (from at to : ℕ) → NonePasses test h from at → NonePasses test h at to →
     NonePasses test h from to
 joined test h from at to before behind k low high = ⊎_elim (λ l. before k low l) (λ l. behind k l high) (cases_lt k at)
 
@@ -114,3 +144,55 @@ module _ (test : ℕ → Bool) (h : List ℕ) (from at : ℕ) (lanes : List ℕ)
   pub none_passes_over : bits ≡ 0 → NonePasses test h from at → NonePasses test h from (at + 32)
   none_passes_over none before =
       joined test h from at (at + 32) before (none_from_empty_mask test h at 32 0 room (sym bits_tell ∙ none))
+
+-- what four times 32 bytes from a place on tell, where the lanes of all are taken together
+module _ (test : ℕ → Bool) (h : List ℕ) (at : ℕ) (room : at + 128 ≤ length h) where
+  abbrev tests_at : ℕ → List Bool
+  tests_at k = map test (chunk k 32 h)
+
+  long_at : (k : ℕ) → k + 32 ≤ length h → length (tests_at k) ≡ 32
+  long_at k fits = length-map (chunk k 32 h) test ∙ length-chunk k 32 h fits
+
+  none_at : (k : ℕ) → k + 32 ≤ length h → mask_l (tests_at k) ≡ 0 → NonePasses test h k (k + 32)
+  none_at k fits none = none_from_empty_mask test h k 32 0 fits none
+
+  both_long : (j k : ℕ) → j + 32 ≤ length h → k + 32 ≤ length h → length (both (tests_at j) (tests_at k)) ≡ 32
+  both_long j k low high =
+      length-zip2 (λ a b. a || b) (tests_at j) (tests_at k) (long_at j low ∙ sym (long_at k high)) ∙ long_at j low
+
+  taken_together : (m0 m1 m2 m3 : List ℕ) → m0 ≡ marked test (chunk at 32 h) → m1 ≡ marked test (chunk (at + 32) 32 h) →
+      m2 ≡ marked test (chunk (at + 64) 32 h) → m3 ≡ marked test (chunk (at + 96) 32 h) →
+      map has_bits (zip2 bit_or (zip2 bit_or m0 m1) (zip2 bit_or m2 m3))
+      ≡ both (both (tests_at at) (tests_at (at + 32))) (both (tests_at (at + 64)) (tests_at (at + 96)))
+  taken_together m0 m1 m2 m3 e0 e1 e2 e3 =
+      let f0 = e0 ∙ flags_marked test (chunk at 32 h) in
+      let f1 = e1 ∙ flags_marked test (chunk (at + 32) 32 h) in
+      let f2 = e2 ∙ flags_marked test (chunk (at + 64) 32 h) in
+      let f3 = e3 ∙ flags_marked test (chunk (at + 96) 32 h) in
+      let low : zip2 bit_or m0 m1 ≡ flags (both (tests_at at) (tests_at (at + 32))) =
+      (λ i. zip2 bit_or (f0 i) (f1 i)) ∙ flags_both (tests_at at) (tests_at (at + 32)) in
+      let high : zip2 bit_or m2 m3 ≡ flags (both (tests_at (at + 64)) (tests_at (at + 96))) =
+      (λ i. zip2 bit_or (f2 i) (f3 i)) ∙ flags_both (tests_at (at + 64)) (tests_at (at + 96)) in
+      (λ i. map has_bits (zip2 bit_or (low i) (high i)))
+      ∙ ap (map has_bits) (flags_both (both (tests_at at) (tests_at (at + 32))) (both (tests_at (at + 64)) (tests_at (at + 96))))
+      ∙ bits_flags (both (both (tests_at at) (tests_at (at + 32))) (both (tests_at (at + 64)) (tests_at (at + 96))))
+
+  pub none_in_four : (m0 m1 m2 m3 : List ℕ) → m0 ≡ marked test (chunk at 32 h) → m1 ≡ marked test (chunk (at + 32) 32 h) →
+      m2 ≡ marked test (chunk (at + 64) 32 h) → m3 ≡ marked test (chunk (at + 96) 32 h) →
+      mask_l (map has_bits (zip2 bit_or (zip2 bit_or m0 m1) (zip2 bit_or m2 m3))) ≡ 0 → NonePasses test h at (at + 128)
+  none_in_four m0 m1 m2 m3 e0 e1 e2 e3 none =
+      let r0 : at + 32 ≤ length h = omega (arith, room) in
+      let r1 : (at + 32) + 32 ≤ length h = omega (arith, room) in
+      let r2 : (at + 64) + 32 ≤ length h = omega (arith, room) in
+      let r3 : (at + 96) + 32 ≤ length h = omega (arith, room) in
+      let whole = sym (ap mask_l (taken_together m0 m1 m2 m3 e0 e1 e2 e3)) ∙ none in
+      let parts = none_of_both (both (tests_at at) (tests_at (at + 32))) (both (tests_at (at + 64)) (tests_at (at + 96)))
+      (both_long at (at + 32) r0 r1 ∙ sym (both_long (at + 64) (at + 96) r2 r3)) whole in
+      let low = none_of_both (tests_at at) (tests_at (at + 32)) (long_at at r0 ∙ sym (long_at (at + 32) r1)) parts.0 in
+      let high = none_of_both (tests_at (at + 64)) (tests_at (at + 96)) (long_at (at + 64) r2 ∙ sym (long_at (at + 96) r3)) parts.1 in
+      let n1 = joined test h at (at + 32) (at + 64) (none_at at r0 low.0)
+      (subst (λ n. NonePasses test h (at + 32) n) (omega arith) (none_at (at + 32) r1 low.1)) in
+      let n2 = joined test h at (at + 64) (at + 96) n1
+      (subst (λ n. NonePasses test h (at + 64) n) (omega arith) (none_at (at + 64) r2 high.0)) in
+      joined test h at (at + 96) (at + 128) n2
+      (subst (λ n. NonePasses test h (at + 96) n) (omega arith) (none_at (at + 96) r3 high.1))

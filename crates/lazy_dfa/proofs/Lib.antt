@@ -46,6 +46,8 @@ pub mod SpanLemmas
 pub mod LingerLemmas
 pub mod SpanTurnLemmas
 pub mod TurnStepLemmas
+pub mod KnownStepLemmas
+pub mod DeadTurnLemmas
 pub mod PassStartLemmas
 pub mod RunLemmas
 pub mod TurnToldLemmas

@@ -1,12 +1,18 @@
 //! Tests of bytes, of 32 at once too, and the search for the first byte that passes one.
-ghost use Rattle.std.specs.Prelude.{◌≡◌, ◌<◌, ◌≤◌, ◌==◌, ◌||◌, ℕ, Bool, true, length, map, slice_index_or};
-ghost use Rattle.std.specs.Simd.Lanes.{mask_l};
+ghost use Rattle.std.specs.Prelude.{◌≡◌, ◌+◌, ◌<◌, ◌≤◌, ◌==◌, ◌||◌, ℕ, Bool, true, length, map, slice_index_or};
+ghost use Rattle.std.specs.Simd.Lanes.{chunk, mask_l};
 ghost use Rattle.lazy_dfa.specs.ByteTests.{has_bits, in_range, marked, NonePasses};
 
 use std::simd::prelude::*;
 
 /// How many bytes are tested at once.
 const LANES: usize = 32;
+
+/// How many bytes are looked at before it is taken that the byte that is looked for stands far off.
+const NEAR: usize = 8 * LANES;
+
+/// How many bytes are passed over at once from there on.
+const FAR: usize = 4 * LANES;
 
 /// A test of bytes.
 pub(crate) trait ByteTest {
@@ -99,9 +105,46 @@ fn bits_of(lanes: u8x32) -> u64
     lanes.simd_ne(u8x32::splat(0)).to_bitmask()
 }
 
-/// The first place from `from` on, before `end`, whose byte passes, or `end`.
+/// The marks of the 32 bytes from a place on.
 #[inline(always)]
-pub(crate) fn find_by<T: ByteTest>(test: &T, haystack: &[u8], from: usize, end: usize) -> usize
+fn marks_at<T: ByteTest>(test: &T, haystack: &[u8], at: usize) -> u8x32
+    requires { at + 32 ≤ length haystack.now }
+    ensures { result ≡ marked (T.passes test.now) (chunk at 32 haystack.now) }
+{
+    test.lanes(u8x32::from_slice(&haystack[at..]))
+}
+
+/// Whether none of the 128 bytes from a place on passes.
+#[inline(always)]
+fn none_passes<T: ByteTest>(test: &T, haystack: &[u8], at: usize) -> bool
+    requires { at + 128 ≤ length haystack.now }
+    ensures { result ≡ true → NonePasses (T.passes test.now) haystack.now at (at + 128) }
+{
+    let first = marks_at(test, haystack, at) | marks_at(test, haystack, at + LANES);
+    let second = marks_at(test, haystack, at + 2 * LANES)
+        | marks_at(test, haystack, at + 3 * LANES);
+    bits_of(first | second) == 0
+}
+
+/// A place from which on, and before `end`, looking goes on: 128 bytes at a time were passed over, none of which passes.
+#[inline(always)]
+fn pass_far<T: ByteTest>(test: &T, haystack: &[u8], from: usize, end: usize) -> usize
+    requires fits { from ≤ end }
+    requires within { end ≤ length haystack.now }
+    ensures low { from ≤ result }
+    ensures high { result ≤ end }
+    ensures passed { NonePasses (T.passes test.now) haystack.now from result }
+{
+    let mut at = from;
+    'far: while end - at >= FAR && none_passes(test, haystack, at) {
+        at += FAR;
+    }
+    at
+}
+
+/// The first place from `from` on, before `end`, whose byte passes, or `end`; 32 bytes are looked at at once.
+#[inline(always)]
+fn find_wide<T: ByteTest>(test: &T, haystack: &[u8], from: usize, end: usize) -> usize
     requires fits { from ≤ end }
     requires within { end ≤ length haystack.now }
     ensures low { from ≤ result }
@@ -121,4 +164,24 @@ pub(crate) fn find_by<T: ByteTest>(test: &T, haystack: &[u8], from: usize, end: 
         at += 1;
     }
     at
+}
+
+/// The first place from `from` on, before `end`, whose byte passes, or `end`. The next few bytes are looked at first, since most
+/// searches end there.
+#[inline(always)]
+pub(crate) fn find_by<T: ByteTest>(test: &T, haystack: &[u8], from: usize, end: usize) -> usize
+    requires fits { from ≤ end }
+    requires within { end ≤ length haystack.now }
+    ensures low { from ≤ result }
+    ensures high { result ≤ end }
+    ensures passed { NonePasses (T.passes test.now) haystack.now from result }
+    ensures found { result < end → T.passes test.now (slice_index_or haystack.now result 0) ≡ true }
+{
+    let near_end = from + (end - from).min(NEAR);
+    let near = find_wide(test, haystack, from, near_end);
+    if near < near_end {
+        return near;
+    }
+    let far = pass_far(test, haystack, near, end);
+    find_wide(test, haystack, far, end)
 }

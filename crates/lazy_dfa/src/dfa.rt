@@ -149,6 +149,7 @@ impl DFA {
     }
 
     /// The class of the end of the input.
+    #[inline(always)]
     pub(crate) fn end_class(&self) -> usize
         ensures value { result ≡ class_of self.now.classes None }
         ensures in_range { result ≤ 256 }
@@ -157,6 +158,7 @@ impl DFA {
     }
 
     /// Whether a search gives up at the byte.
+    #[inline(always)]
     pub(crate) fn is_quit(&self, byte: u8) -> bool
         ensures { result ≡ is_quit self.now.quits (Some byte) }
     {
@@ -164,6 +166,7 @@ impl DFA {
     }
 
     /// The start behind a byte.
+    #[inline(always)]
     pub(crate) fn start_behind(&self, byte: u8) -> Start
         ensures { result ≡ start_of self.now.nfa.terminator (Some byte) }
     {

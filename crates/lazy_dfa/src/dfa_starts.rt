@@ -21,6 +21,7 @@ use search_types::Anchored;
 use std::sync::ledger::Ledger;
 
 /// Refuses a start whatever the cache holds.
+#[inline(always)]
 fn check_start(dfa: &DFA, look_behind: Option<u8>, mode: Anchored) -> Option<StartError>
     ensures { result ≡ behind_refusal dfa.now look_behind (mode_refusal dfa.now mode) }
 {
@@ -41,6 +42,7 @@ fn check_start(dfa: &DFA, look_behind: Option<u8>, mode: Anchored) -> Option<Sta
 }
 
 /// What stands before the place.
+#[inline(always)]
 fn start_behind(dfa: &DFA, look_behind: Option<u8>) -> Start
     ensures { result ≡ start_of dfa.now.nfa.terminator look_behind }
 {
@@ -51,6 +53,7 @@ fn start_behind(dfa: &DFA, look_behind: Option<u8>) -> Start
 }
 
 /// The number of a mode.
+#[inline(always)]
 fn mode_number(mode: Anchored) -> usize
     ensures value { result ≡ mode_of mode }
     ensures in_range { result ≤ 0x8000_0000 }
@@ -63,6 +66,7 @@ fn mode_number(mode: Anchored) -> usize
 }
 
 /// The state of the NFA in which a search in a mode starts; `None` where there is no such pattern.
+#[inline(always)]
 fn name_of(dfa: &DFA, mode: Anchored) -> Option<StateID>
     ensures name { result ≡ start_in dfa.now (mode_of mode) }
     ensures below { IfSome result (λ q. q < length dfa.now.nfa.automaton.states) }
@@ -94,6 +98,7 @@ impl DFA {
     /// cache is cleared only where the start isn't known and its state isn't held and has no room: the start is held alone
     /// then, and the IDs from before are to be asked of [`holds_id`](DFA::holds_id) again. A start that is known is answered
     /// at once.
+    #[inline(always)]
     pub fn start_state<L: Ledger, M: Ledger>(
         &self,
         cache: &mut Cache,

@@ -135,6 +135,14 @@ impl LazyStateID {
         self.0 < START
     }
 
+    /// Whether it is the dead sentinel, of an ID that stands in a cache.
+    #[inline(always)]
+    pub(crate) fn is_dead_cell(self) -> bool
+        ensures { result ≡ true → (self < unknown_id) × (has_tag dead_tag self ≡ true) }
+    {
+        self.0 / DEAD == 1
+    }
+
     /// Whether it is the unknown sentinel, of an ID that stands in a cache.
     #[inline(always)]
     pub(crate) fn is_not_known(self) -> bool

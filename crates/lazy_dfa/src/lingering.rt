@@ -30,6 +30,13 @@ struct Lingered {
     met: Met,
 }
 
+/// How far a run stayed in a state, and which one that matches it met last.
+#[derive(Clone, Copy)]
+struct Stayed {
+    at: usize,
+    met: Met,
+}
+
 /// Which state that matches was met last, where the unit at a place leads to this one.
 #[inline(always)]
 fn meet(met: Met, next: LazyStateID, at: usize) -> Met
@@ -43,7 +50,50 @@ fn meet(met: Met, next: LazyStateID, at: usize) -> Met
     }
 }
 
+/// Goes on forward over known steps while each leads back to the state.
+///
+/// A search waits for no step here: which cell is read next doesn't depend on the one that was read before.
+#[inline(always)]
+fn stay_forward(
+    dfa: &DFA,
+    cache: &Cache,
+    haystack: &[u8],
+    id: LazyStateID,
+    met: Met,
+    from: usize,
+    end: usize,
+) -> Stayed
+    requires own { IsCacheOf dfa.now cache.now }
+    requires is_forward { dfa.now.nfa.automaton.reverse ≡ false }
+    requires row { IsRow cache.now id }
+    requires fits { from ≤ end }
+    requires within { end ≤ length haystack.now }
+    ensures past { from ≤ result.at }
+    ensures within { result.at ≤ end }
+    ensures lingers { (start first : ℕ) → start ≤ from → IsRow cache.now first →
+        Lingers dfa.now haystack.now cache.now start first from id met.id met.last (from - start) →
+        Lingers dfa.now haystack.now cache.now start first result.at id result.met.id result.met.last (result.at - start) }
+{
+    dfa.is_made();
+    let mut at = from;
+    let mut now = met;
+    while at < end {
+        let next = cache.cell(id, dfa.class(haystack[at]));
+        let stays = next == id;
+        if !stays {
+            return Stayed { at, met: now };
+        }
+        if !next.is_of_row() {
+            return Stayed { at, met: now };
+        }
+        now = meet(now, id, at);
+        at += 1;
+    }
+    Stayed { at, met: now }
+}
+
 /// Goes on forward over known steps while each leads to a state that isn't dead.
+#[inline(always)]
 fn linger_forward(
     dfa: &DFA,
     cache: &Cache,
@@ -74,14 +124,64 @@ fn linger_forward(
         if !next.is_of_row() {
             return Lingered { at, id: sid, met };
         }
-        met = meet(met, next, at);
-        sid = next;
-        at += 1;
+        let now = meet(met, next, at);
+        if next == sid {
+            let stayed = stay_forward(dfa, cache, haystack, sid, now, at + 1, end);
+            met = stayed.met;
+            at = stayed.at;
+        } else {
+            met = now;
+            sid = next;
+            at += 1;
+        }
     }
     Lingered { at, id: sid, met }
 }
 
+/// Goes on in reverse over known steps while each leads back to the state.
+///
+/// A search waits for no step here: which cell is read next doesn't depend on the one that was read before.
+#[inline(always)]
+fn stay_reverse(
+    dfa: &DFA,
+    cache: &Cache,
+    haystack: &[u8],
+    id: LazyStateID,
+    met: Met,
+    from: usize,
+    end: usize,
+) -> Stayed
+    requires own { IsCacheOf dfa.now cache.now }
+    requires is_reverse { dfa.now.nfa.automaton.reverse ≡ true }
+    requires row { IsRow cache.now id }
+    requires fits { end ≤ from }
+    requires within { from ≤ length haystack.now }
+    ensures past { result.at ≤ from }
+    ensures within { end ≤ result.at }
+    ensures lingers { (start first : ℕ) → from ≤ start → IsRow cache.now first →
+        Lingers dfa.now haystack.now cache.now start first from id met.id met.last (start - from) →
+        Lingers dfa.now haystack.now cache.now start first result.at id result.met.id result.met.last (start - result.at) }
+{
+    dfa.is_made();
+    let mut at = from;
+    let mut now = met;
+    while at > end {
+        let next = cache.cell(id, dfa.class(haystack[at - 1]));
+        let stays = next == id;
+        if !stays {
+            return Stayed { at, met: now };
+        }
+        if !next.is_of_row() {
+            return Stayed { at, met: now };
+        }
+        now = meet(now, id, at);
+        at -= 1;
+    }
+    Stayed { at, met: now }
+}
+
 /// Goes on in reverse over known steps while each leads to a state that isn't dead.
+#[inline(always)]
 fn linger_reverse(
     dfa: &DFA,
     cache: &Cache,
@@ -112,9 +212,16 @@ fn linger_reverse(
         if !next.is_of_row() {
             return Lingered { at, id: sid, met };
         }
-        met = meet(met, next, at);
-        sid = next;
-        at -= 1;
+        let now = meet(met, next, at);
+        if next == sid {
+            let stayed = stay_reverse(dfa, cache, haystack, sid, now, at - 1, end);
+            met = stayed.met;
+            at = stayed.at;
+        } else {
+            met = now;
+            sid = next;
+            at -= 1;
+        }
     }
     Lingered { at, id: sid, met }
 }

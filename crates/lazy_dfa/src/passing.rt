@@ -1,5 +1,5 @@
 //! One pass of a half search.
-ghost use Rattle.std.specs.Prelude.{◌≡◌, ◌≢◌, ◌&&◌, ℕ, ◌+◌, ◌-◌, ◌<◌, ◌≤◌, Bool, true, None, Option, Some, IsSome};
+ghost use Rattle.std.specs.Prelude.{◌≡◌, ◌≢◌, ◌&&◌, ℕ, ◌+◌, ◌-◌, ◌<◌, ◌≤◌, Bool, false, true, None, Option, Some, IsSome};
 ghost use Rattle.nfa_core.specs.Ways.{place_of};
 ghost use Rattle.determinize_core.specs.States.{StateValue};
 ghost use Rattle.determinize_core.specs.Steps.{unit_at};
@@ -40,6 +40,7 @@ pub(crate) struct Turned {
 // ---- places
 
 /// Where one who reads forward or in reverse through the span begins.
+#[inline(always)]
 pub(crate) fn first_place(input: &Input<'_>, is_reverse: bool) -> usize
     ensures { result ≡ first_place is_reverse input.now.start input.now.end }
 {
@@ -50,6 +51,7 @@ pub(crate) fn first_place(input: &Input<'_>, is_reverse: bool) -> usize
 }
 
 /// Where one ends.
+#[inline(always)]
 pub(crate) fn last_place(input: &Input<'_>, is_reverse: bool) -> usize
     ensures { result ≡ last_place is_reverse input.now }
 {
@@ -60,6 +62,7 @@ pub(crate) fn last_place(input: &Input<'_>, is_reverse: bool) -> usize
 }
 
 /// The index of the byte that is read next at a place.
+#[inline(always)]
 pub(crate) fn index_at(at: usize, is_reverse: bool) -> usize
     ensures { result ≡ index_at is_reverse at }
 {
@@ -67,6 +70,7 @@ pub(crate) fn index_at(at: usize, is_reverse: bool) -> usize
 }
 
 /// The place behind the byte at a place.
+#[inline(always)]
 pub(crate) fn next_place(at: usize, is_reverse: bool) -> usize
     requires { at < 0xFFFF_FFFF_FFFF_FFFF }
     ensures { result ≡ place_of is_reverse at 1 }
@@ -79,6 +83,7 @@ pub(crate) fn next_place(at: usize, is_reverse: bool) -> usize
 }
 
 /// The unit at a place: a byte, or none at the end of the input.
+#[inline(always)]
 pub(crate) fn unit_at(haystack: &[u8], at: usize, is_reverse: bool) -> Option<u8>
     ensures { result ≡ unit_at is_reverse haystack.now at }
 {
@@ -92,6 +97,7 @@ pub(crate) fn unit_at(haystack: &[u8], at: usize, is_reverse: bool) -> Option<u8
 }
 
 /// Whether a pass tells its cache how far it comes.
+#[inline(always)]
 fn tells(input: &Input<'_>, is_reverse: bool) -> bool
     ensures { result ≡ tells is_reverse input.now }
 {
@@ -100,6 +106,7 @@ fn tells(input: &Input<'_>, is_reverse: bool) -> bool
 
 /// Whether it tells that before its last turn: in reverse it does, where it tells anything, since its last byte is read by
 /// then.
+#[inline(always)]
 fn tells_before(input: &Input<'_>, is_reverse: bool) -> bool
     ensures { result ≡ is_reverse && tells is_reverse input.now }
 {
@@ -107,6 +114,7 @@ fn tells_before(input: &Input<'_>, is_reverse: bool) -> bool
 }
 
 /// Where it is wanted, ends the search that goes on at this place.
+#[inline(always)]
 pub(crate) fn finish_where(cache: &mut Cache, at: usize, wanted: bool)
     requires { wanted ≡ true → IsSome cache.old.progress }
     ensures { cache.new ≡ finished_where wanted at cache.old }
@@ -212,8 +220,33 @@ fn run_known(
     linger(dfa, cache, input, is_reverse, next)
 }
 
-/// A turn by a byte of the span.
-fn byte_turn<L: Ledger, M: Ledger>(
+/// The same behind a turn, which is seldom wanted, so that a pass has the loops of runs but once.
+#[inline(never)]
+fn run_further(
+    dfa: &DFA,
+    cache: &mut Cache,
+    input: &Input<'_>,
+    is_reverse: bool,
+    position: Position,
+) -> Position
+    requires own { IsCacheOf dfa.now cache.old }
+    requires is_reverse { is_reverse ≡ dfa.now.nfa.automaton.reverse }
+    requires row { IsRow cache.old position.id }
+    requires within { IsWithinSpan input.now position.at }
+    ensures same { cache.new ≡ cache.old }
+    ensures row { IsRow cache.old result.id }
+    ensures within { IsWithinSpan input.now result.at }
+    ensures closer { left_at is_reverse input.now result.at ≤ left_at is_reverse input.now position.at }
+    ensures goes { (m n : ℕ) → GoesBetween dfa.now input.now.earliest input.now.haystack
+        (point cache.old m n position.at position.id (pair_of position.best)) (point cache.old m n result.at result.id (pair_of result.best))
+        (left_at is_reverse input.now position.at - left_at is_reverse input.now result.at) }
+{
+    run_known(dfa, cache, input, is_reverse, position)
+}
+
+/// A turn by a byte of the span, wherever it leads.
+#[inline(never)]
+fn living_turn<L: Ledger, M: Ledger>(
     dfa: &DFA,
     cache: &mut Cache,
     input: &Input<'_>,
@@ -273,7 +306,43 @@ fn byte_turn<L: Ledger, M: Ledger>(
     }
 }
 
+/// A turn by a byte of the span. One that is known to lead to the dead state, as those do with which most passes end, is told
+/// the cache once.
+#[inline(always)]
+fn byte_turn<L: Ledger, M: Ledger>(
+    dfa: &DFA,
+    cache: &mut Cache,
+    input: &Input<'_>,
+    is_reverse: bool,
+    position: Position,
+    work: &mut Work<L, M>,
+) -> Result<Turned, MatchError>
+    requires own { IsCacheOf dfa.now cache.old }
+    requires is_reverse { is_reverse ≡ dfa.now.nfa.automaton.reverse }
+    requires row { IsRow cache.old position.id }
+    requires within { IsWithinSpan input.now position.at }
+    requires left { position.at ≢ last_place is_reverse input.now }
+    requires running { IsSome cache.old.progress }
+    ensures own { IsCacheOf dfa.now cache.new }
+    ensures turn { TurnsTo dfa.now input.now (point cache.old work.old.determinized work.old.inserted position.at position.id (pair_of position.best)) cache.new work.new.determinized work.new.inserted result }
+{
+    dfa.is_made();
+    let haystack = input.haystack();
+    see_bytes(haystack);
+    let here = index_at(position.at, is_reverse);
+    let next = cache.cell(position.id, dfa.class(haystack[here]));
+    if !next.is_dead_cell() {
+        return living_turn(dfa, cache, input, is_reverse, position, work);
+    }
+    cache.search_finish(here);
+    Ok(Turned {
+        position,
+        has_ended: true,
+    })
+}
+
 /// The last turn, by the unit behind the span.
+#[inline(always)]
 fn last_turn<L: Ledger, M: Ledger>(
     dfa: &DFA,
     cache: &mut Cache,
@@ -324,6 +393,7 @@ fn last_turn<L: Ledger, M: Ledger>(
 }
 
 /// A turn by the unit at a place.
+#[inline(always)]
 fn turn_at<L: Ledger, M: Ledger>(
     dfa: &DFA,
     cache: &mut Cache,
@@ -350,6 +420,7 @@ fn turn_at<L: Ledger, M: Ledger>(
 // ---- passes
 
 /// The pass from its first state on, which isn't dead.
+#[inline(always)]
 fn go_on<L: Ledger, M: Ledger>(
     dfa: &DFA,
     cache: &mut Cache,
@@ -383,11 +454,12 @@ fn go_on<L: Ledger, M: Ledger>(
         if turned.has_ended {
             return Ok(turned.position.best);
         }
-        position = run_known(dfa, cache, input, is_reverse, turned.position);
+        position = run_further(dfa, cache, input, is_reverse, turned.position);
     }
 }
 
 /// The ID of the state in which a pass starts.
+#[inline(always)]
 pub(crate) fn start_of_pass<L: Ledger, M: Ledger>(
     dfa: &DFA,
     cache: &mut Cache,
@@ -408,6 +480,7 @@ pub(crate) fn start_of_pass<L: Ledger, M: Ledger>(
 }
 
 /// Tells a cache where a pass begins.
+#[inline(always)]
 fn begin_at_first(cache: &mut Cache, input: &Input<'_>, is_reverse: bool)
     ensures moved { IsMoved cache.old cache.new }
     ensures told { told_of cache.new ≡ told_begun is_reverse input.now (told_of cache.old) }
@@ -420,6 +493,7 @@ fn begin_at_first(cache: &mut Cache, input: &Input<'_>, is_reverse: bool)
 }
 
 /// Tells it that one begins there and reads nothing.
+#[inline(always)]
 fn end_at_first(cache: &mut Cache, input: &Input<'_>, is_reverse: bool)
     ensures moved { IsMoved cache.old cache.new }
     ensures told { told_of cache.new ≡ told_behind is_reverse (span_len input.now) (told_begun is_reverse input.now (told_of cache.old)) 0 }
@@ -432,20 +506,22 @@ fn end_at_first(cache: &mut Cache, input: &Input<'_>, is_reverse: bool)
     cache.search_finish(index);
 }
 
-/// A pass over a whole span.
-pub(crate) fn pass<L: Ledger, M: Ledger>(
+/// A pass over a whole span, in a direction that its caller knows.
+#[inline(always)]
+fn pass_in<L: Ledger, M: Ledger>(
     dfa: &DFA,
     cache: &mut Cache,
     input: &Input<'_>,
+    is_reverse: bool,
     work: &mut Work<L, M>,
 ) -> Result<Option<HalfMatch>, MatchError>
     requires own { IsCacheOf dfa.now cache.old }
+    requires is_reverse { is_reverse ≡ dfa.now.nfa.automaton.reverse }
     requires begun { input.now.start ≤ input.now.end }
     ensures own { IsCacheOf dfa.now cache.new }
     ensures pass { MakesPass dfa.now input.now cache.old cache.new work.old.determinized work.new.determinized work.old.inserted work.new.inserted result }
 {
     dfa.is_made();
-    let is_reverse = dfa.get_nfa().is_reverse();
     let id = match start_of_pass(dfa, cache, input, is_reverse, work) {
         Ok(id) => id,
         Err(e) => return Err(e),
@@ -456,4 +532,60 @@ pub(crate) fn pass<L: Ledger, M: Ledger>(
     }
     begin_at_first(cache, input, is_reverse);
     go_on(dfa, cache, input, is_reverse, id, work)
+}
+
+/// A pass forward: its code asks nowhere in which direction it reads.
+#[inline(never)]
+fn pass_forward<L: Ledger, M: Ledger>(
+    dfa: &DFA,
+    cache: &mut Cache,
+    input: &Input<'_>,
+    work: &mut Work<L, M>,
+) -> Result<Option<HalfMatch>, MatchError>
+    requires own { IsCacheOf dfa.now cache.old }
+    requires is_forward { dfa.now.nfa.automaton.reverse ≡ false }
+    requires begun { input.now.start ≤ input.now.end }
+    ensures own { IsCacheOf dfa.now cache.new }
+    ensures pass { MakesPass dfa.now input.now cache.old cache.new work.old.determinized work.new.determinized work.old.inserted work.new.inserted result }
+{
+    pass_in(dfa, cache, input, false, work)
+}
+
+/// A pass in reverse, likewise.
+#[inline(never)]
+fn pass_reverse<L: Ledger, M: Ledger>(
+    dfa: &DFA,
+    cache: &mut Cache,
+    input: &Input<'_>,
+    work: &mut Work<L, M>,
+) -> Result<Option<HalfMatch>, MatchError>
+    requires own { IsCacheOf dfa.now cache.old }
+    requires is_reverse { dfa.now.nfa.automaton.reverse ≡ true }
+    requires begun { input.now.start ≤ input.now.end }
+    ensures own { IsCacheOf dfa.now cache.new }
+    ensures pass { MakesPass dfa.now input.now cache.old cache.new work.old.determinized work.new.determinized work.old.inserted work.new.inserted result }
+{
+    pass_in(dfa, cache, input, true, work)
+}
+
+/// A pass over a whole span.
+#[inline(always)]
+pub(crate) fn pass<L: Ledger, M: Ledger>(
+    dfa: &DFA,
+    cache: &mut Cache,
+    input: &Input<'_>,
+    is_reverse: bool,
+    work: &mut Work<L, M>,
+) -> Result<Option<HalfMatch>, MatchError>
+    requires own { IsCacheOf dfa.now cache.old }
+    requires is_reverse { is_reverse ≡ dfa.now.nfa.automaton.reverse }
+    requires begun { input.now.start ≤ input.now.end }
+    ensures own { IsCacheOf dfa.now cache.new }
+    ensures pass { MakesPass dfa.now input.now cache.old cache.new work.old.determinized work.new.determinized work.old.inserted work.new.inserted result }
+{
+    if is_reverse {
+        pass_reverse(dfa, cache, input, work)
+    } else {
+        pass_forward(dfa, cache, input, work)
+    }
 }

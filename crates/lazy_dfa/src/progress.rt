@@ -12,6 +12,7 @@ pub(crate) struct Progress {
 
 impl Progress {
     /// How far it came.
+    #[inline(always)]
     fn len(self) -> usize
         ensures { result ≡ distance self.start self.at }
     {
@@ -39,6 +40,7 @@ pub(crate) fn begun_anew(progress: Option<Progress>) -> Option<Progress>
 /// How far searches came. A cache is told it, so that it knows whether clears pay off. Sums stop at [`usize::MAX`].
 impl Cache {
     /// Begins a search at this place, as `Cache::search_start`. One that goes on ends, and its length is added.
+    #[inline(always)]
     pub fn search_start(&mut self, at: usize)
         ensures { self.new ≡ record self.old {
           searched = min (self.old.searched + progress_len self.old.progress) greatest;
@@ -50,6 +52,7 @@ impl Cache {
     }
 
     /// The search that goes on has come to this place, as `Cache::search_update`.
+    #[inline(always)]
     pub fn search_update(&mut self, at: usize)
         requires { IsSome self.old.progress }
         ensures { self.new ≡ record self.old { progress = moved_to at self.old.progress } }
@@ -63,6 +66,7 @@ impl Cache {
     }
 
     /// The search that goes on ends at this place, as `Cache::search_finish`. Its length is added.
+    #[inline(always)]
     pub fn search_finish(&mut self, at: usize)
         requires { IsSome self.old.progress }
         ensures { self.new ≡ record self.old {
@@ -84,6 +88,7 @@ impl Cache {
 
     /// How many bytes were searched since the last clear, as `Cache::search_total_len`, those of the search that goes on
     /// too.
+    #[inline(always)]
     pub fn search_total_len(&self) -> usize
         ensures { result ≡ search_total_len self.now }
     {

@@ -81,6 +81,7 @@ fn walk_forward(
 }
 
 /// Goes on forward over known steps while no state has a tag, past bytes that leave the state to stop at as it is.
+#[inline(never)]
 fn skip_forward(
     dfa: &DFA,
     cache: &mut Cache,
@@ -119,7 +120,38 @@ fn skip_forward(
     }
 }
 
-/// Goes on forward over known steps while no state has a tag; a search that isn't anchored passes over bytes.
+/// Goes on forward byte by byte over known steps while no state has a tag. The loop stands in a function of its own, since how
+/// fast it is depends on where its code lies.
+#[inline(never)]
+fn read_forward(
+    dfa: &DFA,
+    cache: &Cache,
+    haystack: &[u8],
+    id: LazyStateID,
+    from: usize,
+    end: usize,
+) -> Moved
+    requires own { IsCacheOf dfa.now cache.now }
+    requires is_forward { dfa.now.nfa.automaton.reverse ≡ false }
+    requires row { IsRow cache.now id }
+    requires untagged { id < tag }
+    requires fits { from ≤ end }
+    requires within { end ≤ length haystack.now }
+    ensures row { IsRow cache.now result.id }
+    ensures untagged { result.id < tag }
+    ensures past { from ≤ result.at }
+    ensures within { result.at ≤ end }
+    ensures goes { (m n : ℕ) (best : Option (ℕ × ℕ)) → GoesTo dfa.now haystack.now (point cache.now m n from id best) (point cache.now m n result.at result.id best) (result.at - from) }
+{
+    let walked = walk_forward(dfa, cache, haystack, id, from, end, LazyStateID::unknown());
+    Moved {
+        at: walked.at,
+        id: walked.id,
+    }
+}
+
+/// Goes on forward over known steps while no state has a tag; a search that isn't anchored passes over bytes, unless that didn't
+/// pay off.
 #[inline(always)]
 pub(crate) fn run_forward(
     dfa: &DFA,
@@ -143,14 +175,11 @@ pub(crate) fn run_forward(
     ensures within { result.at ≤ end }
     ensures goes { (m n : ℕ) (best : Option (ℕ × ℕ)) → GoesTo dfa.now haystack.now (point cache.old m n from id best) (point cache.old m n result.at result.id best) (result.at - from) }
 {
-    if !is_anchored {
+    let reads_all = is_anchored || cache.reads_all();
+    if !reads_all {
         return skip_forward(dfa, cache, haystack, id, from, end);
     }
-    let walked = walk_forward(dfa, cache, haystack, id, from, end, LazyStateID::unknown());
-    Moved {
-        at: walked.at,
-        id: walked.id,
-    }
+    read_forward(dfa, cache, haystack, id, from, end)
 }
 
 /// Goes on in reverse over known steps while no state has a tag.

@@ -29,6 +29,7 @@ fn match_error(err: StartError, quit_place: usize, place: usize) -> MatchError
 }
 
 /// The start of a search at a place, with the refusals of searches.
+#[inline(always)]
 fn start_at<L: Ledger, M: Ledger>(
     dfa: &DFA,
     cache: &mut Cache,
@@ -69,6 +70,7 @@ impl DFA {
     /// The ID of the state in which a search forward over the input starts, as `DFA::start_state_forward`. It is refused
     /// as [`start_state`](DFA::start_state) is: a quit byte stands one place before the span's start, and a search gives
     /// up at that start.
+    #[inline(always)]
     pub fn start_state_forward<L: Ledger, M: Ledger>(
         &self,
         cache: &mut Cache,
@@ -102,6 +104,7 @@ impl DFA {
 
     /// The ID of the state in which a search in reverse over the input starts, as `DFA::start_state_reverse`. It is refused
     /// as [`start_state`](DFA::start_state) is: a quit byte stands at the span's end, where a search gives up too.
+    #[inline(always)]
     pub fn start_state_reverse<L: Ledger, M: Ledger>(
         &self,
         cache: &mut Cache,

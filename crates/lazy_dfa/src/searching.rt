@@ -50,7 +50,8 @@ pub(crate) fn is_between_characters(dfa: &DFA) -> bool
 }
 
 /// A half search: a pass, and while its end doesn't count another one over a byte less.
-fn search<L: Ledger, M: Ledger>(
+#[inline(never)]
+fn search_again<L: Ledger, M: Ledger>(
     dfa: &DFA,
     cache: &mut Cache,
     input: &Input<'_>,
@@ -68,7 +69,7 @@ fn search<L: Ledger, M: Ledger>(
     let between_characters = is_between_characters(dfa);
     let mut rest = same_input(input);
     while !rest.is_done() {
-        let found = match pass(dfa, cache, &rest, work) {
+        let found = match pass(dfa, cache, &rest, is_reverse, work) {
             Ok(found) => found,
             Err(e) => return Err(e),
         };
@@ -95,6 +96,40 @@ fn search<L: Ledger, M: Ledger>(
         }
     }
     Ok(None)
+}
+
+/// A half search: one pass where each end counts, else as many as it takes.
+#[inline(always)]
+fn search<L: Ledger, M: Ledger>(
+    dfa: &DFA,
+    cache: &mut Cache,
+    input: &Input<'_>,
+    is_reverse: bool,
+    work: &mut Work<L, M>,
+) -> Result<Option<HalfMatch>, MatchError>
+    requires own { IsCacheOf dfa.now cache.old }
+    requires is_reverse { is_reverse ≡ dfa.now.nfa.automaton.reverse }
+    ensures made { IsDfa dfa.now }
+    ensures within { IsWithin input.now }
+    ensures own { IsCacheOf dfa.now cache.new }
+    ensures search { MakesSearch dfa.now input.now cache.old cache.new work.old.determinized work.new.determinized work.old.inserted work.new.inserted result }
+{
+    dfa.is_made();
+    see_bytes(input.haystack());
+    if is_between_characters(dfa) {
+        return search_again(dfa, cache, input, work);
+    }
+    if input.is_done() {
+        return Ok(None);
+    }
+    let found = match pass(dfa, cache, input, is_reverse, work) {
+        Ok(found) => found,
+        Err(e) => return Err(e),
+    };
+    let Some(half) = found else {
+        return Ok(None);
+    };
+    Ok(Some(half))
 }
 
 impl DFA {
@@ -148,12 +183,13 @@ impl DFA {
         ensures determinized { work.new.determinized ≤ work.old.determinized + (pass_count (reader self.now) input.now + unit_count (reader self.now) input.now) }
         ensures inserted { work.new.inserted ≤ work.old.inserted + (pass_count (reader self.now) input.now + unit_count (reader self.now) input.now) * most_inserts self.now }
     {
-        search(self, cache, input, work)
+        search(self, cache, input, false, work)
     }
 
     /// The start of the match in a span that the kind of match prefers, or none, as `DFA::try_search_rev`. The automaton
     /// reads in reverse, from the span's end. All else is as [`try_search_fwd`](DFA::try_search_fwd) has it; a match, or none,
     /// comes with a place down to which it was looked for, from the byte behind the span on.
+    #[inline(always)]
     pub fn try_search_rev<L: Ledger, M: Ledger>(
         &self,
         cache: &mut Cache,
@@ -181,6 +217,6 @@ impl DFA {
         ensures determinized { work.new.determinized ≤ work.old.determinized + (pass_count (reader self.now) input.now + unit_count (reader self.now) input.now) }
         ensures inserted { work.new.inserted ≤ work.old.inserted + (pass_count (reader self.now) input.now + unit_count (reader self.now) input.now) * most_inserts self.now }
     {
-        search(self, cache, input, work)
+        search(self, cache, input, true, work)
     }
 }

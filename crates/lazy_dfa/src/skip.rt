@@ -94,6 +94,12 @@ impl Cache {
         self.skip.stop
     }
 
+    /// Whether a search reads all bytes one by one, since the credit is used up and no state to stop at is noted.
+    #[inline(always)]
+    pub(crate) fn reads_all(&self) -> bool {
+        self.skip.stop.is_tagged() && self.skip.credit < SKIP_COST
+    }
+
     /// How far bytes are read one by one: to the end, or a stretch in which a state to stop at is looked for.
     #[inline(always)]
     pub(crate) fn stretch_end(&self, from: usize, end: usize) -> usize

@@ -47,6 +47,7 @@ fn room_alone(dfa: &DFA, cache: &mut Cache, state: &State) -> Result<(), CacheEr
 }
 
 /// The ID of a state in which a search starts, which is added where it isn't held.
+#[inline(never)]
 fn place_start(dfa: &DFA, cache: &mut Cache, state: State) -> Result<LazyStateID, CacheError>
     requires own { IsCacheOf dfa.now cache.old }
     requires is { IsStateOf dfa.now state }
@@ -78,6 +79,7 @@ fn place_start(dfa: &DFA, cache: &mut Cache, state: State) -> Result<LazyStateID
 }
 
 /// The state in which a search starts from a state of the NFA.
+#[inline(never)]
 fn first_of<L: Ledger, M: Ledger>(
     dfa: &DFA,
     cache: &mut Cache,
@@ -101,6 +103,7 @@ fn first_of<L: Ledger, M: Ledger>(
 
 /// The ID of the state in which a search starts in a mode, from the NFA's state for that mode. Of modes 0 is the one of
 /// unanchored searches, 1 that of anchored ones, and the others are those of patterns.
+#[inline(always)]
 pub(crate) fn start_in_mode<L: Ledger, M: Ledger>(
     dfa: &DFA,
     cache: &mut Cache,

@@ -2,6 +2,7 @@
 ghost use Rattle.std.specs.Prelude.{◌≡◌, ℕ, List};
 ghost use Rattle.determinize_core.specs.Steps.{unit_at};
 ghost use Rattle.lazy_dfa.specs.Caches.{IsCacheOf, IsRow};
+ghost use Rattle.lazy_dfa.specs.Dfas.{IsUnit, class_of};
 ghost use Rattle.lazy_dfa.specs.Points.{point};
 ghost use Rattle.lazy_dfa.specs.SearchAnswers.{pair_of};
 ghost use Rattle.lazy_dfa.specs.Steps.{IsHeld};
@@ -34,7 +35,8 @@ pub(crate) struct Seen {
 }
 
 /// The step by a unit: a byte, or the end of the input.
-pub(crate) fn step_by<L: Ledger, M: Ledger>(
+#[inline(never)]
+fn step_by<L: Ledger, M: Ledger>(
     dfa: &DFA,
     cache: &mut Cache,
     current: LazyStateID,
@@ -56,6 +58,41 @@ pub(crate) fn step_by<L: Ledger, M: Ledger>(
             Err(e) => Err(e),
         },
     }
+}
+
+/// The class of a unit.
+#[inline(always)]
+fn class_of_unit(dfa: &DFA, unit: Option<u8>) -> usize
+    ensures unit { IsUnit unit }
+    ensures class { result ≡ class_of dfa.now.classes unit }
+{
+    match unit {
+        Some(byte) => dfa.class(byte),
+        None => dfa.end_class(),
+    }
+}
+
+/// The step by a unit from a state that isn't dead: it is read where it is known, and else it is made.
+#[inline(always)]
+fn step_row<L: Ledger, M: Ledger>(
+    dfa: &DFA,
+    cache: &mut Cache,
+    current: LazyStateID,
+    unit: Option<u8>,
+    work: &mut Work<L, M>,
+) -> Result<LazyStateID, CacheError>
+    requires own { IsCacheOf dfa.now cache.old }
+    requires row { IsRow cache.old current }
+    ensures own { IsCacheOf dfa.now cache.new }
+    ensures step { IsStep dfa.now cache.old cache.new work.old.determinized work.new.determinized work.old.inserted work.new.inserted current unit result }
+{
+    dfa.is_made();
+    let class = class_of_unit(dfa, unit);
+    let cell = cache.cell(current, class);
+    if !cell.is_not_known() {
+        return Ok(cell);
+    }
+    step_by(dfa, cache, current, unit, work)
 }
 
 /// What the state to which the unit at a place led says of a pass.
@@ -100,6 +137,7 @@ fn see(
 }
 
 /// Reads the unit at a place, from a state that isn't dead.
+#[inline(always)]
 pub(crate) fn make_turn<L: Ledger, M: Ledger>(
     dfa: &DFA,
     cache: &mut Cache,
@@ -115,7 +153,7 @@ pub(crate) fn make_turn<L: Ledger, M: Ledger>(
     ensures own { IsCacheOf dfa.now cache.new }
     ensures turn { (h : List ℕ) → unit ≡ unit_at dfa.now.nfa.automaton.reverse h place → IsTurn dfa.now earliest h unit (point cache.old work.old.determinized work.old.inserted place current (pair_of best)) cache.new work.new.determinized work.new.inserted result }
 {
-    let id = match step_by(dfa, cache, current, unit, work) {
+    let id = match step_row(dfa, cache, current, unit, work) {
         Ok(id) => id,
         Err(e) => return Err(e),
     };

@@ -17,6 +17,7 @@ use std::marker::Brand;
 use std::sync::ledger::{Blank, Ledger};
 
 /// A search, with a count of its work that is made for it.
+#[inline(always)]
 fn search_counted<L: Ledger, M: Ledger>(
     re: &Regex,
     cache: &mut Cache,
@@ -42,6 +43,7 @@ fn search_counted<L: Ledger, M: Ledger>(
 }
 
 /// A search whose work nobody counts.
+#[inline(always)]
 fn search_once(
     re: &Regex,
     cache: &mut Cache,
@@ -59,7 +61,25 @@ fn search_once(
     search_counted::<Brand, Brand>(re, cache, input, first, second)
 }
 
+/// One more search, as [`search_once`] makes it, which is seldom wanted.
+#[inline(never)]
+fn search_once_more(
+    re: &Regex,
+    cache: &mut Cache,
+    input: &Input<'_>,
+) -> Result<Option<Match>, MatchError>
+    requires own { AreCachesOf re.now cache.old }
+    ensures own { AreCachesOf re.now cache.new }
+    ensures answer { AnswersPair re.now cache.new input.now result }
+    ensures done { input.now.end < input.now.start → (result ≡ Ok None) × (cache.new ≡ cache.old) }
+    ensures kept { PairGrowsOrClears re.now cache.old cache.new }
+    ensures tells { TellsPair re.now input.now cache.old cache.new result }
+{
+    search_once(re, cache, input)
+}
+
 /// Whether an answer is empty at the end of the last match.
+#[inline(always)]
 fn is_repeat(last: Option<usize>, found: &Option<Match>) -> bool
     ensures { result ≡ is_repeat last found.now }
 {
@@ -73,6 +93,7 @@ fn is_repeat(last: Option<usize>, found: &Option<Match>) -> bool
 }
 
 /// A search, by its parts.
+#[inline(always)]
 fn search_over<'h>(haystack: &'h [u8], span: Span, anchored: Anchored, earliest: bool) -> Input<'h>
     requires { IsSpanOf haystack.now span.start span.end }
     ensures { result ≡ record { haystack = haystack.now; start = span.start; end = span.end; anchored = anchored; earliest = earliest } }
@@ -100,6 +121,7 @@ fn one_further<'h>(input: &Input<'h>) -> Input<'h>
 }
 
 /// What comes next: what a search answers, or where that is a repeat what it answers from one place further on.
+#[inline(always)]
 fn next_answer(
     re: &Regex,
     cache: &mut Cache,
@@ -121,7 +143,7 @@ fn next_answer(
         return Ok(found);
     }
     let further = one_further(input);
-    match search_once(re, cache, &further) {
+    match search_once_more(re, cache, &further) {
         Ok(found) => Ok(found),
         Err(e) => Err(e),
     }

@@ -24,6 +24,7 @@ use search_types::{Anchored, HalfMatch, Input, Match, MatchError, MatchErrorKind
 use std::sync::ledger::Ledger;
 
 /// Whether the start of a match that ends there is known without a search back.
+#[inline(always)]
 fn is_start_known(re: &Regex, input: &Input<'_>, end: usize) -> bool
     ensures { result ≡ is_start_known (reader re.now.forward) input.now end }
 {
@@ -34,6 +35,7 @@ fn is_start_known(re: &Regex, input: &Input<'_>, end: usize) -> bool
 }
 
 /// The match of the pattern of an end, from a place on.
+#[inline(always)]
 fn match_between(start: usize, end: HalfMatch) -> Match
     requires { start ≤ end.offset }
     ensures { result ≡ record { pattern = end.pattern; start = start; end = end.offset } }
@@ -46,6 +48,7 @@ fn match_between(start: usize, end: HalfMatch) -> Match
 }
 
 /// The search back from an end.
+#[inline(always)]
 fn back_input<'h>(input: &Input<'h>, end: usize) -> Input<'h>
     requires from { input.now.start ≤ end }
     requires within { end ≤ input.now.end }
@@ -74,6 +77,7 @@ fn match_input<'h>(re: &Regex, input: &Input<'h>) -> Input<'h>
 }
 
 /// A half search for an end.
+#[inline(always)]
 fn search_end<L: Ledger, M: Ledger>(
     re: &Regex,
     cache: &mut dfa::Cache,
@@ -88,6 +92,7 @@ fn search_end<L: Ledger, M: Ledger>(
 }
 
 /// A half search for a start.
+#[inline(always)]
 fn search_start<L: Ledger, M: Ledger>(
     re: &Regex,
     cache: &mut dfa::Cache,
@@ -102,6 +107,7 @@ fn search_start<L: Ledger, M: Ledger>(
 }
 
 /// The match with an end, by the search back from there.
+#[inline(always)]
 fn search_back<L: Ledger, M: Ledger>(
     re: &Regex,
     cache: &mut dfa::Cache,
@@ -128,6 +134,7 @@ fn search_back<L: Ledger, M: Ledger>(
 
 /// What is known of a regex and of an input: one automaton reads forward and the other in reverse, and the span lies in the
 /// haystack.
+#[inline(always)]
 fn see_pair(re: &Regex, input: &Input<'_>)
     ensures pair { IsPair re.now }
     ensures within { IsWithin input.now }
@@ -137,6 +144,7 @@ fn see_pair(re: &Regex, input: &Input<'_>)
 }
 
 /// A search over both automata.
+#[inline(always)]
 fn search<L: Ledger, M: Ledger>(
     re: &Regex,
     cache: &mut Cache,
@@ -161,6 +169,7 @@ fn search<L: Ledger, M: Ledger>(
 }
 
 /// A search over both automata; over a done span none is made.
+#[inline(always)]
 fn search_span<L: Ledger, M: Ledger>(
     re: &Regex,
     cache: &mut Cache,
@@ -252,6 +261,7 @@ impl Regex {
     ///
     /// A match, or none, comes with a place up to which the first automaton read: from the byte before the span to there stands
     /// no quit byte of it, and over each haystack with the same bytes there the answer is the same.
+    #[inline(always)]
     pub fn try_search<L: Ledger, M: Ledger>(
         &self,
         cache: &mut Cache,

@@ -72,10 +72,10 @@ loop-turned-preserved g c =
     c.loop-turned.invariant.row
     c.loop-turned.invariant.within c.loop-turned.invariant.goes c.turn_at.new.cache c.turn_at.new.work.determinized
     c.turn_at.new.work.inserted c.in-Ok.turned.position c.in-Ok.ensures.own on in
-    rw c.run_known-position-in-loop-turned.ensures.same (record {
+    rw c.run_further-position.ensures.same (record {
       own = c.in-Ok.ensures.own;
-      row = c.run_known-position-in-loop-turned.ensures.row;
-      within = c.run_known-position-in-loop-turned.ensures.within;
+      row = c.run_further-position.ensures.row;
+      within = c.run_further-position.ensures.within;
       running = λ e. on.0.running (c.loop-turned.invariant.running e);
       same = λ e. absurd (told_nothing c.args.is_reverse c.args.input.now c.loop-turned.position.at c.loop-turned.invariant.within further
           e);
@@ -84,22 +84,22 @@ loop-turned-preserved g c =
           c.loop-turned.invariant.row
           c.loop-turned.invariant.within c.loop-turned.invariant.goes c.turn_at.new.cache c.turn_at.new.work.determinized
           c.turn_at.new.work.inserted c.in-Ok.turned.position c.in-Ok.ensures.own on
-          c.run_known-position-in-loop-turned.result.at c.run_known-position-in-loop-turned.result.id
-          (pair_of c.run_known-position-in-loop-turned.result.best) c.run_known-position-in-loop-turned.ensures.within
-          c.run_known-position-in-loop-turned.ensures.closer
-          (c.run_known-position-in-loop-turned.ensures.goes c.turn_at.new.work.determinized c.turn_at.new.work.inserted);
+          c.run_further-position.result.at c.run_further-position.result.id
+          (pair_of c.run_further-position.result.best) c.run_further-position.ensures.within
+          c.run_further-position.ensures.closer
+          (c.run_further-position.ensures.goes c.turn_at.new.work.determinized c.turn_at.new.work.inserted);
       under = under_on c.args.dfa.now c.args.input.now c.args.is_reverse c.requires.is_reverse c.is_made.ensures
           (subst AreBytes c.haystack.ensures.value c.see_bytes.ensures) first here c.requires.own c.loop-turned.invariant.own c.requires.row
           c.loop-turned.invariant.row
           c.loop-turned.invariant.within c.loop-turned.invariant.goes c.turn_at.new.cache c.turn_at.new.work.determinized
           c.turn_at.new.work.inserted c.in-Ok.turned.position c.in-Ok.ensures.own on
           (first_place c.args.is_reverse c.args.input.now.start c.args.input.now.end) refl refl
-          c.run_known-position-in-loop-turned.result.at c.run_known-position-in-loop-turned.ensures.within
-          c.run_known-position-in-loop-turned.ensures.closer c.loop-turned.invariant.under;
+          c.run_further-position.result.at c.run_further-position.ensures.within
+          c.run_further-position.ensures.closer c.loop-turned.invariant.under;
     })
 
-pub run_known-position-requires-in-loop-turned-clause-within : goal.run_known-position-requires-in-loop-turned-clause-within
-run_known-position-requires-in-loop-turned-clause-within g c =
+pub run_further-position-requires-clause-within : goal.run_further-position-requires-clause-within
+run_further-position-requires-clause-within g c =
     let here : Point = point c.loop-turned.cache c.loop-turned.work.determinized c.loop-turned.work.inserted c.loop-turned.position.at
     c.loop-turned.position.id (pair_of c.loop-turned.position.best) in
     let on = subst (TurnsInto c.args.dfa.now c.args.input.now here c.turn_at.new.cache c.turn_at.new.work.determinized

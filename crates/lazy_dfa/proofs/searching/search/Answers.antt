@@ -1,220 +1,86 @@
-use Rattle.std.proofs.Common.{ℕ, ◌+◌, ◌-◌, ap, sym, ◌∙◌, subst}
-use Rattle.search_core.specs.Utf8.{is_boundary}
-use Rattle.search_types.specs.Inputs.{with_span}
-use Rattle.search_types.specs.Modes.{is_anchored}
+use Rattle.std.proofs.Common.{sym, ◌∙◌, subst, refl}
 use Rattle.lazy_dfa.specs.Dfas.{reader}
 use Rattle.lazy_dfa.proofs.LinkedLemmas.{AreBytes}
-use Rattle.lazy_dfa.proofs.KeepLemmas.{lower_span, upper_span}
 use Rattle.lazy_dfa.proofs.SearchLemmas.{begins}
-use Rattle.lazy_dfa.proofs.SearchEndLemmas.{not_done, is_over, each_counts, boundary_counts, inside_counts, above_none, lower_end}
-use Rattle.lazy_dfa.proofs.SearchEndLemmas.{done_ends, fails, none_ends, counted_ends, anchored_ends, lowest_ends, goes_forward}
-use Rattle.lazy_dfa.proofs.SearchEndLemmas.{goes_reverse}
+use Rattle.lazy_dfa.proofs.SearchEndLemmas.{not_done, is_over, each_counts, done_ends, fails, none_ends, counted_ends}
 use Rattle.lazy_dfa.proofs.searching.search.Goals as goal
 
-pub loop-rest-init : goal.loop-rest-init
-loop-rest-init g c = record {
-  own = c.requires;
-  stands = begins c.args.dfa.now c.args.input.now c.same_input-rest.result c.args.cache.now c.args.work.now.determinized
-      c.args.work.now.inserted c.same_input-rest.ensures;
+pub search_again-requires : goal.search_again-requires
+search_again-requires g c = c.requires.own
+
+pub returns-then-is_between_characters : goal.returns-then-is_between_characters
+returns-then-is_between_characters g c = record {
+  made = c.search_again.ensures.made;
+  within = c.search_again.ensures.within;
+  own = c.search_again.ensures.own;
+  search = c.search_again.ensures.search;
 }
 
-pub returns-in-Err-clause-search : goal.returns-in-Err-clause-search
-returns-in-Err-clause-search g c = fails c.args.dfa.now c.args.input.now c.loop-rest.rest c.args.cache.now c.loop-rest.cache
-    c.pass.new.cache c.args.work.now.determinized
-    c.loop-rest.work.determinized c.pass.new.work.determinized c.args.work.now.inserted c.loop-rest.work.inserted
-    c.pass.new.work.inserted c.is_made.ensures c.requires c.loop-rest.invariant.own
-    (subst AreBytes c.haystack.ensures.value c.see_bytes.ensures)
-    c.loop-rest.invariant.stands (not_done c.is_done.result c.loop-rest.rest.start c.loop-rest.rest.end c.is_done.ensures
-    c.loop-rest-test.true) c.in-Err.e c.in-Err.ensures.pass
-
-pub returns-in_default-clause-search : goal.returns-in_default-clause-search
-returns-in_default-clause-search g c = none_ends c.args.dfa.now c.args.input.now c.loop-rest.rest c.args.cache.now c.loop-rest.cache
-    c.pass.new.cache c.args.work.now.determinized
-    c.loop-rest.work.determinized c.pass.new.work.determinized c.args.work.now.inserted c.loop-rest.work.inserted
-    c.pass.new.work.inserted c.is_made.ensures c.requires c.loop-rest.invariant.own
-    (subst AreBytes c.haystack.ensures.value c.see_bytes.ensures)
-    c.loop-rest.invariant.stands (not_done c.is_done.result c.loop-rest.rest.start c.loop-rest.rest.end c.is_done.ensures
-    c.loop-rest-test.true) c.in-Ok.found c.in-Ok.ensures.pass c.in_default.is
-
-pub returns-then-not-between_characters-clause-search : goal.returns-then-not-between_characters-clause-search
-returns-then-not-between_characters-clause-search g c = counted_ends c.args.dfa.now c.args.input.now c.loop-rest.rest c.args.cache.now
-    c.loop-rest.cache c.pass.new.cache c.args.work.now.determinized
-    c.loop-rest.work.determinized c.pass.new.work.determinized c.args.work.now.inserted c.loop-rest.work.inserted
-    c.pass.new.work.inserted c.is_made.ensures c.requires c.loop-rest.invariant.own
-    (subst AreBytes c.haystack.ensures.value c.see_bytes.ensures)
-    c.loop-rest.invariant.stands (not_done c.is_done.result c.loop-rest.rest.start c.loop-rest.rest.end c.is_done.ensures
-    c.loop-rest-test.true) c.in-Ok.found c.in-Ok.ensures.pass
-    c.in-Some.half c.in-Some.is
-    (each_counts (reader c.args.dfa.now).between_characters c.loop-rest.rest.haystack c.in-Some.half.offset
-    (sym c.is_between_characters-between_characters.ensures ∙ c.if-not-between_characters.true))
-
-pub returns-then-is_char_boundary-clause-search : goal.returns-then-is_char_boundary-clause-search
-returns-then-is_char_boundary-clause-search g c = counted_ends c.args.dfa.now c.args.input.now c.loop-rest.rest c.args.cache.now
-    c.loop-rest.cache c.pass.new.cache c.args.work.now.determinized
-    c.loop-rest.work.determinized c.pass.new.work.determinized c.args.work.now.inserted c.loop-rest.work.inserted
-    c.pass.new.work.inserted c.is_made.ensures c.requires c.loop-rest.invariant.own
-    (subst AreBytes c.haystack.ensures.value c.see_bytes.ensures)
-    c.loop-rest.invariant.stands (not_done c.is_done.result c.loop-rest.rest.start c.loop-rest.rest.end c.is_done.ensures
-    c.loop-rest-test.true) c.in-Ok.found c.in-Ok.ensures.pass
-    c.in-Some.half c.in-Some.is
-    (boundary_counts (reader c.args.dfa.now).between_characters c.loop-rest.rest.haystack c.in-Some.half.offset
-    (ap (is_boundary c.loop-rest.rest.haystack) (sym c.offset.ensures) ∙ sym c.is_char_boundary.ensures ∙ c.if-is_char_boundary.true))
-
-pub returns-then-is_anchored-clause-search : goal.returns-then-is_anchored-clause-search
-returns-then-is_anchored-clause-search g c = anchored_ends c.args.dfa.now c.args.input.now c.loop-rest.rest c.args.cache.now
-    c.loop-rest.cache c.pass.new.cache c.args.work.now.determinized
-    c.loop-rest.work.determinized c.pass.new.work.determinized c.args.work.now.inserted c.loop-rest.work.inserted
-    c.pass.new.work.inserted c.is_made.ensures c.requires c.loop-rest.invariant.own
-    (subst AreBytes c.haystack.ensures.value c.see_bytes.ensures)
-    c.loop-rest.invariant.stands (not_done c.is_done.result c.loop-rest.rest.start c.loop-rest.rest.end c.is_done.ensures
-    c.loop-rest-test.true) c.in-Ok.found c.in-Ok.ensures.pass
-    c.in-Some.half c.in-Some.is
-    (inside_counts (reader c.args.dfa.now).between_characters c.loop-rest.rest.haystack c.in-Some.half.offset
-    (sym c.is_between_characters-between_characters.ensures ∙ c.if-not-between_characters.false)
-    (ap (is_boundary c.loop-rest.rest.haystack) (sym c.offset.ensures) ∙ sym c.is_char_boundary.ensures ∙ c.if-is_char_boundary.false))
-    (ap is_anchored (sym c.get_anchored.ensures) ∙ sym c.is_anchored.ensures ∙ c.if-is_anchored.true)
-
-pub returns-then-end-eq0-clause-search : goal.returns-then-end-eq0-clause-search
-returns-then-end-eq0-clause-search g c = lowest_ends c.args.dfa.now c.args.input.now c.loop-rest.rest c.args.cache.now c.loop-rest.cache
-    c.pass.new.cache c.args.work.now.determinized
-    c.loop-rest.work.determinized c.pass.new.work.determinized c.args.work.now.inserted c.loop-rest.work.inserted
-    c.pass.new.work.inserted c.is_made.ensures c.requires c.loop-rest.invariant.own
-    (subst AreBytes c.haystack.ensures.value c.see_bytes.ensures)
-    c.loop-rest.invariant.stands (not_done c.is_done.result c.loop-rest.rest.start c.loop-rest.rest.end c.is_done.ensures
-    c.loop-rest-test.true) c.in-Ok.found c.in-Ok.ensures.pass
-    c.in-Some.half c.in-Some.is
-    (inside_counts (reader c.args.dfa.now).between_characters c.loop-rest.rest.haystack c.in-Some.half.offset
-    (sym c.is_between_characters-between_characters.ensures ∙ c.if-not-between_characters.false)
-    (ap (is_boundary c.loop-rest.rest.haystack) (sym c.offset.ensures) ∙ sym c.is_char_boundary.ensures ∙ c.if-is_char_boundary.false))
-    (ap is_anchored (sym c.get_anchored.ensures) ∙ sym c.is_anchored.ensures ∙ c.if-is_anchored.false)
-    (sym c.end.ensures.value ∙ c.if-end-eq0.true)
-
-pub loop-rest-smaller-then-is_reverse : goal.loop-rest-smaller-then-is_reverse
-loop-rest-smaller-then-is_reverse g c = lower_end c.loop-rest.rest c.set_end.new.self
-    (not_done c.is_done.result c.loop-rest.rest.start c.loop-rest.rest.end c.is_done.ensures c.loop-rest-test.true)
-    (above_none c.end.result c.loop-rest.rest.end c.end.ensures.value c.if-end-eq0.false)
-    (c.set_end.ensures ∙ ap (λ (e : ℕ). with_span c.loop-rest.rest.start (e - 1) c.loop-rest.rest) c.end-then-is_reverse.ensures.value)
-
-pub loop-rest-preserved-then-is_reverse : goal.loop-rest-preserved-then-is_reverse
-loop-rest-preserved-then-is_reverse g c = record {
-  own = c.in-Ok.ensures.own;
-  stands = goes_reverse c.args.dfa.now c.args.input.now c.loop-rest.rest c.args.cache.now c.loop-rest.cache c.pass.new.cache
-      c.args.work.now.determinized
-      c.loop-rest.work.determinized c.pass.new.work.determinized c.args.work.now.inserted c.loop-rest.work.inserted
-      c.pass.new.work.inserted c.is_made.ensures c.requires c.loop-rest.invariant.own
-      (subst AreBytes c.haystack.ensures.value c.see_bytes.ensures)
-      c.loop-rest.invariant.stands (not_done c.is_done.result c.loop-rest.rest.start c.loop-rest.rest.end c.is_done.ensures
-      c.loop-rest-test.true) c.in-Ok.found c.in-Ok.ensures.pass
-      c.in-Some.half c.in-Some.is
-      (inside_counts (reader c.args.dfa.now).between_characters c.loop-rest.rest.haystack c.in-Some.half.offset
-      (sym c.is_between_characters-between_characters.ensures ∙ c.if-not-between_characters.false)
-      (ap (is_boundary c.loop-rest.rest.haystack) (sym c.offset.ensures) ∙ sym c.is_char_boundary.ensures ∙ c.if-is_char_boundary.false))
-      (ap is_anchored (sym c.get_anchored.ensures) ∙ sym c.is_anchored.ensures
-      ∙ c.if-is_anchored.false) (sym c.is_reverse-is_reverse.ensures ∙ c.if-is_reverse.true)
-      (above_none c.end.result c.loop-rest.rest.end c.end.ensures.value c.if-end-eq0.false) c.set_end.new.self
-      (c.set_end.ensures ∙ ap (λ (e : ℕ). with_span c.loop-rest.rest.start (e - 1) c.loop-rest.rest) c.end-then-is_reverse.ensures.value);
+pub returns-then-is_done : goal.returns-then-is_done
+returns-then-is_done g c = record {
+  made = c.is_made.ensures;
+  within = c.haystack.ensures.within;
+  own = c.requires.own;
+  search = done_ends c.args.dfa.now c.args.input.now c.args.input.now c.args.cache.now c.args.cache.now c.args.work.now.determinized
+      c.args.work.now.determinized c.args.work.now.inserted c.args.work.now.inserted
+      (begins c.args.dfa.now c.args.input.now c.args.input.now c.args.cache.now c.args.work.now.determinized
+      c.args.work.now.inserted refl)
+      (is_over c.is_done.result c.args.input.now.start c.args.input.now.end c.is_done.ensures c.if-is_done.true);
 }
-
-pub loop-rest-preserved : goal.loop-rest-preserved
-loop-rest-preserved g c = record {
-  own = c.in-Ok.ensures.own;
-  stands = goes_forward c.args.dfa.now c.args.input.now c.loop-rest.rest c.args.cache.now c.loop-rest.cache c.pass.new.cache
-      c.args.work.now.determinized
-      c.loop-rest.work.determinized c.pass.new.work.determinized c.args.work.now.inserted c.loop-rest.work.inserted
-      c.pass.new.work.inserted c.is_made.ensures c.requires c.loop-rest.invariant.own
-      (subst AreBytes c.haystack.ensures.value c.see_bytes.ensures)
-      c.loop-rest.invariant.stands (not_done c.is_done.result c.loop-rest.rest.start c.loop-rest.rest.end c.is_done.ensures
-      c.loop-rest-test.true) c.in-Ok.found c.in-Ok.ensures.pass
-      c.in-Some.half c.in-Some.is
-      (inside_counts (reader c.args.dfa.now).between_characters c.loop-rest.rest.haystack c.in-Some.half.offset
-      (sym c.is_between_characters-between_characters.ensures ∙ c.if-not-between_characters.false)
-      (ap (is_boundary c.loop-rest.rest.haystack) (sym c.offset.ensures) ∙ sym c.is_char_boundary.ensures ∙ c.if-is_char_boundary.false))
-      (ap is_anchored (sym c.get_anchored.ensures) ∙ sym c.is_anchored.ensures
-      ∙ c.if-is_anchored.false) (sym c.is_reverse-is_reverse.ensures ∙ c.if-is_reverse.false) c.set_start.new.self
-      (c.set_start.ensures ∙ ap (λ (b : ℕ). with_span (b + 1) c.loop-rest.rest.end c.loop-rest.rest) c.start.ensures.value);
-}
-
-pub returns-clause-search : goal.returns-clause-search
-returns-clause-search g c = done_ends c.args.dfa.now c.args.input.now c.loop-rest.rest c.args.cache.now c.loop-rest.cache
-    c.args.work.now.determinized
-    c.loop-rest.work.determinized c.args.work.now.inserted c.loop-rest.work.inserted c.loop-rest.invariant.stands
-    (is_over c.is_done.result c.loop-rest.rest.start c.loop-rest.rest.end c.is_done.ensures c.loop-rest-test.false)
-
-pub returns-in-Err-clause-made : goal.returns-in-Err-clause-made
-returns-in-Err-clause-made g c = c.is_made.ensures
-
-pub returns-in-Err-clause-within : goal.returns-in-Err-clause-within
-returns-in-Err-clause-within g c = c.haystack.ensures.within
-
-pub returns-in-Err-clause-own : goal.returns-in-Err-clause-own
-returns-in-Err-clause-own g c = c.in-Err.ensures.own
-
-pub returns-clause-made : goal.returns-clause-made
-returns-clause-made g c = c.is_made.ensures
-
-pub returns-clause-within : goal.returns-clause-within
-returns-clause-within g c = c.haystack.ensures.within
-
-pub returns-clause-own : goal.returns-clause-own
-returns-clause-own g c = c.loop-rest.invariant.own
-
-pub returns-in_default-clause-made : goal.returns-in_default-clause-made
-returns-in_default-clause-made g c = c.is_made.ensures
-
-pub returns-in_default-clause-within : goal.returns-in_default-clause-within
-returns-in_default-clause-within g c = c.haystack.ensures.within
-
-pub returns-in_default-clause-own : goal.returns-in_default-clause-own
-returns-in_default-clause-own g c = c.in-Ok.ensures.own
-
-pub returns-then-not-between_characters-clause-made : goal.returns-then-not-between_characters-clause-made
-returns-then-not-between_characters-clause-made g c = c.is_made.ensures
-
-pub returns-then-not-between_characters-clause-within : goal.returns-then-not-between_characters-clause-within
-returns-then-not-between_characters-clause-within g c = c.haystack.ensures.within
-
-pub returns-then-not-between_characters-clause-own : goal.returns-then-not-between_characters-clause-own
-returns-then-not-between_characters-clause-own g c = c.in-Ok.ensures.own
-
-pub returns-then-is_char_boundary-clause-made : goal.returns-then-is_char_boundary-clause-made
-returns-then-is_char_boundary-clause-made g c = c.is_made.ensures
-
-pub returns-then-is_char_boundary-clause-within : goal.returns-then-is_char_boundary-clause-within
-returns-then-is_char_boundary-clause-within g c = c.haystack.ensures.within
-
-pub returns-then-is_char_boundary-clause-own : goal.returns-then-is_char_boundary-clause-own
-returns-then-is_char_boundary-clause-own g c = c.in-Ok.ensures.own
-
-pub returns-then-is_anchored-clause-made : goal.returns-then-is_anchored-clause-made
-returns-then-is_anchored-clause-made g c = c.is_made.ensures
-
-pub returns-then-is_anchored-clause-within : goal.returns-then-is_anchored-clause-within
-returns-then-is_anchored-clause-within g c = c.haystack.ensures.within
-
-pub returns-then-is_anchored-clause-own : goal.returns-then-is_anchored-clause-own
-returns-then-is_anchored-clause-own g c = c.in-Ok.ensures.own
-
-pub returns-then-end-eq0-clause-made : goal.returns-then-end-eq0-clause-made
-returns-then-end-eq0-clause-made g c = c.is_made.ensures
-
-pub returns-then-end-eq0-clause-within : goal.returns-then-end-eq0-clause-within
-returns-then-end-eq0-clause-within g c = c.haystack.ensures.within
-
-pub returns-then-end-eq0-clause-own : goal.returns-then-end-eq0-clause-own
-returns-then-end-eq0-clause-own g c = c.in-Ok.ensures.own
 
 pub pass-requires-clause-own : goal.pass-requires-clause-own
-pass-requires-clause-own g c = c.loop-rest.invariant.own
+pass-requires-clause-own g c = c.requires.own
+
+pub pass-requires-clause-is_reverse : goal.pass-requires-clause-is_reverse
+pass-requires-clause-is_reverse g c = c.requires.is_reverse
 
 pub pass-requires-clause-begun : goal.pass-requires-clause-begun
-pass-requires-clause-begun g c = not_done c.is_done.result c.loop-rest.rest.start c.loop-rest.rest.end c.is_done.ensures c.loop-rest-test.true
+pass-requires-clause-begun g c = not_done c.is_done.result c.args.input.now.start c.args.input.now.end c.is_done.ensures
+    c.if-is_done.false
 
-pub set_end-requires : goal.set_end-requires
-set_end-requires g c = lower_span c.loop-rest.rest.haystack c.loop-rest.rest.start c.loop-rest.rest.end c.end-then-is_reverse.result
-    c.end-then-is_reverse.ensures.value c.end-then-is_reverse.ensures.within
-    (not_done c.is_done.result c.loop-rest.rest.start c.loop-rest.rest.end c.is_done.ensures c.loop-rest-test.true)
+pub returns-in-Err : goal.returns-in-Err
+returns-in-Err g c = record {
+  made = c.is_made.ensures;
+  within = c.haystack.ensures.within;
+  own = c.in-Err.ensures.own;
+  search = fails c.args.dfa.now c.args.input.now c.args.input.now c.args.cache.now c.args.cache.now c.pass.new.cache
+      c.args.work.now.determinized c.args.work.now.determinized c.pass.new.work.determinized c.args.work.now.inserted
+      c.args.work.now.inserted c.pass.new.work.inserted c.is_made.ensures c.requires.own c.requires.own
+      (subst AreBytes c.haystack.ensures.value c.see_bytes.ensures)
+      (begins c.args.dfa.now c.args.input.now c.args.input.now c.args.cache.now c.args.work.now.determinized
+      c.args.work.now.inserted refl)
+      (not_done c.is_done.result c.args.input.now.start c.args.input.now.end c.is_done.ensures c.if-is_done.false)
+      c.in-Err.e c.in-Err.ensures.pass;
+}
 
-pub set_start-requires : goal.set_start-requires
-set_start-requires g c = upper_span c.loop-rest.rest.haystack c.loop-rest.rest.start c.loop-rest.rest.end c.start.result
-    c.start.ensures.value c.start.ensures.within
-    (not_done c.is_done.result c.loop-rest.rest.start c.loop-rest.rest.end c.is_done.ensures c.loop-rest-test.true)
+pub returns-in_default : goal.returns-in_default
+returns-in_default g c = record {
+  made = c.is_made.ensures;
+  within = c.haystack.ensures.within;
+  own = c.in-Ok.ensures.own;
+  search = none_ends c.args.dfa.now c.args.input.now c.args.input.now c.args.cache.now c.args.cache.now c.pass.new.cache
+      c.args.work.now.determinized c.args.work.now.determinized c.pass.new.work.determinized c.args.work.now.inserted
+      c.args.work.now.inserted c.pass.new.work.inserted c.is_made.ensures c.requires.own c.requires.own
+      (subst AreBytes c.haystack.ensures.value c.see_bytes.ensures)
+      (begins c.args.dfa.now c.args.input.now c.args.input.now c.args.cache.now c.args.work.now.determinized
+      c.args.work.now.inserted refl)
+      (not_done c.is_done.result c.args.input.now.start c.args.input.now.end c.is_done.ensures c.if-is_done.false)
+      c.in-Ok.found c.in-Ok.ensures.pass c.in_default.is;
+}
+
+pub returns : goal.returns
+returns g c = record {
+  made = c.is_made.ensures;
+  within = c.haystack.ensures.within;
+  own = c.in-Ok.ensures.own;
+  search = counted_ends c.args.dfa.now c.args.input.now c.args.input.now c.args.cache.now c.args.cache.now c.pass.new.cache
+      c.args.work.now.determinized c.args.work.now.determinized c.pass.new.work.determinized c.args.work.now.inserted
+      c.args.work.now.inserted c.pass.new.work.inserted c.is_made.ensures c.requires.own c.requires.own
+      (subst AreBytes c.haystack.ensures.value c.see_bytes.ensures)
+      (begins c.args.dfa.now c.args.input.now c.args.input.now c.args.cache.now c.args.work.now.determinized
+      c.args.work.now.inserted refl)
+      (not_done c.is_done.result c.args.input.now.start c.args.input.now.end c.is_done.ensures c.if-is_done.false)
+      c.in-Ok.found c.in-Ok.ensures.pass c.in-Some.half c.in-Some.is
+      (each_counts (reader c.args.dfa.now).between_characters c.args.input.now.haystack c.in-Some.half.offset
+      (sym c.is_between_characters.ensures ∙ c.if-is_between_characters.false));
+}

@@ -1,3 +1,4 @@
+use Rattle.std.proofs.Common.{sym}
 use Rattle.lazy_dfa.proofs.SearchClauseLemmas.{is_sure, is_linked_then, is_told_then, is_left_then, is_told_since, few_determinized}
 use Rattle.lazy_dfa.proofs.SearchClauseLemmas.{few_changes, few_inserted, reaches}
 use Rattle.lazy_dfa.proofs.dfa.DFA.try_search_fwd.Goals as goal
@@ -63,3 +64,6 @@ pub returns-clause-changes : goal.returns-clause-changes
 returns-clause-changes g c = few_changes c.args.self.now c.args.input.now c.args.cache.now c.search.new.cache c.args.work.now.determinized
     c.search.new.work.determinized
     c.args.work.now.inserted c.search.new.work.inserted c.search.result c.search.ensures.search
+
+pub search-requires-clause-is_reverse : goal.search-requires-clause-is_reverse
+search-requires-clause-is_reverse g c = sym c.requires.is_forward

@@ -1,6 +1,6 @@
 use Rattle.std.proofs.Common.{◌-◌, ◌≤◌}
 use Rattle.lazy_dfa.specs.ByteTests.{NonePasses}
-use Rattle.lazy_dfa.proofs.byte_tests.find_by.Given as goal
+use Rattle.lazy_dfa.proofs.byte_tests.find_wide.Given as goal
 
 abbrev pub invariant-wide : goal.invariant-wide
 invariant-wide g l = (l.from ≤ l.at) × (l.at ≤ l.end) × NonePasses (g.T.ByteTest.passes l.test) l.haystack l.from l.at

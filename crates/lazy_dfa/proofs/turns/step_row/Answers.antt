@@ -1,0 +1,20 @@
+use Rattle.std.proofs.Common.{◌∙◌, sym, inr}
+use Rattle.lazy_dfa.proofs.IsCacheLemmas.{row_place}
+use Rattle.lazy_dfa.proofs.KnownStepLemmas.{known_step}
+use Rattle.lazy_dfa.proofs.turns.step_row.Goals as goal
+
+pub cell-cell-requires : goal.cell-cell-requires
+cell-cell-requires g c = row_place c.args.dfa.now c.args.cache.now c.args.current c.class_of_unit-class.result c.args.unit
+    c.is_made.ensures c.requires.own c.class_of_unit-class.ensures.unit c.class_of_unit-class.ensures.class c.requires.row
+
+pub returns-then-not-is_not_known-clause-step : goal.returns-then-not-is_not_known-clause-step
+returns-then-not-is_not_known-clause-step g c = known_step c.args.dfa.now c.args.cache.now c.args.current
+    c.class_of_unit-class.result c.cell-cell.result c.args.unit c.is_made.ensures c.requires.own c.requires.row
+    c.class_of_unit-class.ensures.unit c.class_of_unit-class.ensures.class c.cell-cell.ensures
+    (sym c.is_not_known.ensures ∙ c.if-not-is_not_known.true) c.args.work.now.determinized c.args.work.now.inserted
+
+pub step_by-requires-clause-held : goal.step_by-requires-clause-held
+step_by-requires-clause-held g c = inr (inr c.requires.row)
+
+pub returns-clause-step : goal.returns-clause-step
+returns-clause-step g c = c.step_by.ensures.step
