@@ -28,6 +28,10 @@
  *   - Nobody else writes to what a call reads, or reads or writes what it writes, while it runs; and what a call
  *     writes doesn't overlap with anything else that it is given.
  *
+ * Where automata give up, as at a byte above 0x7F beside a word boundary of Unicode, slower regexes of the same
+ * patterns answer, which are made when they are first needed. A search is refused there only where memory lacks or
+ * these are too large.
+ *
  * No call aborts, waits, prints, starts a thread or calls back. Memory comes from malloc, realloc and free.
  */
 #ifndef HANNEDDOIS_H
@@ -41,7 +45,7 @@ extern "C" {
 #endif
 
 /* The version of this header: 10000 times the major number, 100 times the minor one, and the patch. */
-#define HANNEDDOIS_VERSION 100
+#define HANNEDDOIS_VERSION 200
 
 /* Nothing, or a compiled regex with the caches of its searches. */
 typedef struct hanneddois_regex {
@@ -70,15 +74,11 @@ enum {
     HANNEDDOIS_NESTS_TOO_DEEP = 6,
     /* A pattern repeats without a bound what may match the empty text, as (a*)*: error.pattern is its number. */
     HANNEDDOIS_EMPTY_LOOP = 7,
-    /* The automata take more bytes than they may: error.limit is how many they may. */
+    /* The automata take more bytes than they may: error.limit is how many they may, where that is what was refused. Of
+       a search: the slower regexes that it needs are too large. */
     HANNEDDOIS_TOO_LARGE = 8,
     /* A cache may take fewer bytes than it needs: error.limit is how many it needs. */
     HANNEDDOIS_CAPACITY_TOO_SMALL = 9,
-    /* The regex can't be asked this, since an option that it needs wasn't set when it was made. */
-    HANNEDDOIS_UNSUPPORTED = 10,
-    /* A search met a byte at which it can't tell: error.byte is the byte, error.start its place in the haystack. It
-       happens only at bytes above 0x7F, where a pattern asks for a word boundary of Unicode, as \b does. */
-    HANNEDDOIS_GAVE_UP = 11,
     /* The haystack of a regex that is made with HANNEDDOIS_UTF8 is no UTF-8: error.start is the place of the first
        faulty byte. */
     HANNEDDOIS_HAYSTACK_NOT_UTF8 = 12
@@ -101,7 +101,6 @@ typedef struct hanneddois_error {
     size_t start;
     size_t end;
     size_t limit;
-    size_t byte;
 } hanneddois_error;
 
 /* Flags of options, to be joined by |. A flag in the text, as (?i), goes before the option from there on. */
@@ -128,7 +127,7 @@ enum {
     /* Patterns that repeat without a bound what may match the empty text aren't refused. The end of a match of such a
        pattern is one that it has, but may be another than the preferred one. */
     HANNEDDOIS_EMPTY_LOOPS = 1 << 9,
-    /* hanneddois_which will be called: a second automaton is made for it. */
+    /* The automaton that hanneddois_which needs is made by hanneddois_new rather than by the first call of it. */
     HANNEDDOIS_WHICH = 1 << 10,
     /* A capacity below the least one is raised to that rather than refused: with a capacity of 1, caches are as small
        as can be. */
@@ -205,15 +204,16 @@ hanneddois_status hanneddois_find_all(
     hanneddois_error *error);
 
 /*
- * Which patterns match anywhere in the haystack: writes 1 to matched[i] where pattern i does, and 0 elsewhere:
- * HANNEDDOIS_OK where some pattern matches, HANNEDDOIS_NONE, or a refusal, where all is 0. matched_length has to be
- * the number of patterns; else it is HANNEDDOIS_BAD_ARGUMENT. A regex that wasn't made with HANNEDDOIS_WHICH answers
- * HANNEDDOIS_UNSUPPORTED. In this version every regex does.
+ * Which patterns match anywhere in the haystack, also where their matches overlap: writes 1 to matched[i] where
+ * pattern i does, and 0 elsewhere, and to *count how many do: HANNEDDOIS_OK where some pattern matches,
+ * HANNEDDOIS_NONE, or a refusal, where all is 0. matched_length has to be the number of patterns; else it is
+ * HANNEDDOIS_BAD_ARGUMENT. The first call makes an automaton of its own for this.
  */
 hanneddois_status hanneddois_which(
     hanneddois_regex *regex,
     const uint8_t *haystack, size_t haystack_length,
     uint8_t *matched, size_t matched_length,
+    size_t *count,
     hanneddois_error *error);
 
 /* Words for an error: writes as many of their bytes as fit into `text`, without a 0 behind them, and returns how many

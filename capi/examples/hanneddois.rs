@@ -5,7 +5,9 @@
 pub const OK: u32 = 0;
 pub const NONE: u32 = 1;
 pub const NO_PATTERN: u32 = 5;
-pub const GAVE_UP: u32 = 11;
+pub const EMPTY_LOOP: u32 = 7;
+pub const TOO_LARGE: u32 = 8;
+pub const HAYSTACK_NOT_UTF8: u32 = 12;
 
 #[repr(C)]
 struct Handle {
@@ -21,7 +23,7 @@ pub struct Match {
 }
 
 #[repr(C)]
-#[derive(Clone, Copy, Debug, Default)]
+#[derive(Clone, Copy, Debug, Default, PartialEq, Eq)]
 pub struct Error {
     pub status: u32,
     pub cause: u32,
@@ -29,7 +31,6 @@ pub struct Error {
     pub start: usize,
     pub end: usize,
     pub limit: usize,
-    pub byte: usize,
 }
 
 #[repr(C)]
@@ -47,6 +48,9 @@ unsafe extern "C" {
     fn hanneddois_is_match(regex: &mut Handle, haystack: *const u8, haystack_length: usize, error: &mut Error) -> u32;
     fn hanneddois_find_at(regex: &mut Handle, haystack: *const u8, haystack_length: usize, from: usize, found: &mut Match, error: &mut Error) -> u32;
     fn hanneddois_find_all(regex: &mut Handle, haystack: *const u8, haystack_length: usize, matches: *mut Match, matches_length: usize, count: &mut usize, error: &mut Error) -> u32;
+    fn hanneddois_which(regex: &mut Handle, haystack: *const u8, haystack_length: usize, matched: *mut u8, matched_length: usize, count: &mut usize, error: &mut Error) -> u32;
+    fn hanneddois_pattern_count(regex: &mut Handle) -> usize;
+    fn hanneddois_clear_count(regex: &mut Handle) -> usize;
     fn hanneddois_error_text(error: &Error, text: *mut u8, text_length: usize) -> usize;
 }
 
@@ -116,6 +120,27 @@ impl Regex {
             }
             rows.resize(count, Match::default());
         }
+    }
+
+    /// Of each pattern whether it matches anywhere.
+    pub fn which(&mut self, haystack: &[u8]) -> Result<Vec<bool>, Error> {
+        let mut matched = vec![0; self.pattern_count()];
+        let mut count = 0;
+        let mut error = Error::default();
+        let status = unsafe { hanneddois_which(&mut self.0, haystack.as_ptr(), haystack.len(), matched.as_mut_ptr(), matched.len(), &mut count, &mut error) };
+        if status > NONE {
+            return Err(error);
+        }
+        Ok(matched.iter().map(|it| *it == 1).collect())
+    }
+
+    pub fn pattern_count(&mut self) -> usize {
+        unsafe { hanneddois_pattern_count(&mut self.0) }
+    }
+
+    /// How often its caches were cleared.
+    pub fn clear_count(&mut self) -> usize {
+        unsafe { hanneddois_clear_count(&mut self.0) }
     }
 }
 

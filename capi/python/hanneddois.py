@@ -17,8 +17,8 @@ import pathlib
 (CASE_INSENSITIVE, MULTI_LINE, DOT_MATCHES_NEW_LINE, SWAP_GREED, IGNORE_WHITESPACE, CRLF, OCTAL, NO_UNICODE, UTF8, EMPTY_LOOPS, WHICH,
  RAISE_CAPACITY, NO_BYTE_CLASSES, SHRINK) = (1 << i for i in range(14))
 
-(OK, NONE, BAD_ARGUMENT, NO_MEMORY, NOT_UTF8, NO_PATTERN, NESTS_TOO_DEEP, EMPTY_LOOP, TOO_LARGE, CAPACITY_TOO_SMALL, UNSUPPORTED,
- GAVE_UP, HAYSTACK_NOT_UTF8) = range(13)
+(OK, NONE, BAD_ARGUMENT, NO_MEMORY, NOT_UTF8, NO_PATTERN, NESTS_TOO_DEEP, EMPTY_LOOP, TOO_LARGE, CAPACITY_TOO_SMALL) = range(10)
+HAYSTACK_NOT_UTF8 = 12
 
 
 class _Handle(ctypes.Structure):
@@ -31,7 +31,7 @@ class _Match(ctypes.Structure):
 
 class _Error(ctypes.Structure):
     _fields_ = [("status", ctypes.c_uint32), ("cause", ctypes.c_uint32)]
-    _fields_ += [(name, ctypes.c_size_t) for name in ("pattern", "start", "end", "limit", "byte")]
+    _fields_ += [(name, ctypes.c_size_t) for name in ("pattern", "start", "end", "limit")]
 
 
 class _Options(ctypes.Structure):
@@ -64,7 +64,7 @@ def _load():
         ("is_match", word, handle, data, size, error),
         ("find_at", word, handle, data, size, size, ctypes.POINTER(_Match), error),
         ("find_all", word, handle, data, size, ctypes.POINTER(_Match), size, ctypes.POINTER(size), error),
-        ("which", word, handle, data, size, ctypes.POINTER(ctypes.c_uint8), size, error),
+        ("which", word, handle, data, size, ctypes.POINTER(ctypes.c_uint8), size, ctypes.POINTER(size), error),
         ("error_text", size, error, ctypes.POINTER(ctypes.c_char), size),
         ("memory_usage", size, handle),
         ("clear_count", size, handle),
@@ -134,10 +134,10 @@ class Regex:
         return iter(self.find_all(haystack))
 
     def which(self, haystack):
-        """The numbers of the patterns that match anywhere, for a regex that is made with WHICH."""
-        haystack, count, told = self._bytes(haystack), self.pattern_count, _Error()
+        """The numbers of the patterns that match anywhere, ascending."""
+        haystack, count, found, told = self._bytes(haystack), self.pattern_count, ctypes.c_size_t(), _Error()
         matched = (ctypes.c_uint8 * count)()
-        self._asked(_library.hanneddois_which(self._handle, haystack, len(haystack), matched, count, told), told)
+        self._asked(_library.hanneddois_which(self._handle, haystack, len(haystack), matched, count, found, told), told)
         return [number for number in range(count) if matched[number]]
 
     @property

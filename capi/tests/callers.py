@@ -71,6 +71,20 @@ def main():
     check("python, str", [tuple(match) for match in regex.find_iter("aééb")], [(0, 1, 5)])
     check("python, several", [tuple(match) for match in hanneddois.Regex(["b+", "a"]).find_iter(b"abba")], [(1, 0, 1), (0, 1, 3), (1, 3, 4)])
     check("python, many", len(hanneddois.compile("a").find_all(b"ab" * 1000)), 1000)
+    check("python, which", hanneddois.Regex(["b+", "x", "ab", "^b", "$"]).which(b"abba"), [0, 2, 4])
+    check("python, which of none", hanneddois.Regex(["b", "c"]).which(b"aaa"), [])
+    for haystack in HAYSTACKS:
+        wanted = [number for number, pattern in enumerate(PATTERNS) if by_re(pattern, haystack)]
+        check(f"python, which in {haystack}", hanneddois.Regex(PATTERNS, hanneddois.NO_UNICODE).which(haystack), wanted)
+    # Python's words over str are Unicode's too; places are those of the characters there, and of bytes here.
+    for pattern in (r"\b\w+\b", r"\bk", r"k\b", r"\Bk"):
+        for haystack in ("ék k", "k—k", "kék", "日k本 k", "k"):
+            places = [len(haystack[:place].encode()) for place in range(len(haystack) + 1)]
+            wanted = [(places[match.start()], places[match.end()]) for match in re.compile(pattern).finditer(haystack)]
+            for flags in (0, hanneddois.UTF8):
+                found = [(match.start, match.end) for match in hanneddois.compile(pattern, flags).find_iter(haystack)]
+                check(f"python, {pattern} in {haystack}", found, wanted)
+                check(f"python, which of {pattern} in {haystack}", hanneddois.Regex([pattern, "z"], flags).which(haystack), [0] if wanted else [])
     check("python, from a place", tuple(hanneddois.compile("^a|b").find(b"aab", 1)), (0, 2, 3))
     try:
         hanneddois.compile("[z-a]")

@@ -38,7 +38,7 @@ static void empty_handles(void)
     CHECK(hanneddois_find_at(&none, bytes("a"), 1, 0, &match, &error) == HANNEDDOIS_BAD_ARGUMENT);
     CHECK(match.pattern == 0 && match.start == 0 && match.end == 0);
     CHECK(hanneddois_find_all(&none, bytes("a"), 1, &match, 1, &count, &error) == HANNEDDOIS_BAD_ARGUMENT && count == 0);
-    CHECK(hanneddois_which(&none, bytes("a"), 1, matched, 1, &error) == HANNEDDOIS_BAD_ARGUMENT && matched[0] == 0);
+    CHECK(hanneddois_which(&none, bytes("a"), 1, matched, 1, &count, &error) == HANNEDDOIS_BAD_ARGUMENT && matched[0] == 0 && count == 0);
     CHECK(hanneddois_pattern_count(&none) == 0 && hanneddois_memory_usage(&none) == 0 && hanneddois_clear_count(&none) == 0);
     hanneddois_free(&none);
     hanneddois_free(&none);
@@ -116,8 +116,12 @@ static void searches(void)
 
     CHECK(make(&regex, "\\bk\\b", &options) == HANNEDDOIS_OK);
     CHECK(hanneddois_is_match(&regex, bytes("a k b"), 5, &error) == HANNEDDOIS_OK);
-    CHECK(hanneddois_is_match(&regex, bytes("a \xc3\xa9 b"), 6, &error) == HANNEDDOIS_GAVE_UP && error.byte == 0xc3 && error.start == 2);
-    CHECK(hanneddois_find_all(&regex, bytes("k k \xc3\xa9"), 6, rows, 3, &count, &error) == HANNEDDOIS_GAVE_UP && count >= 1 && rows[0].end == 1);
+    /* Beside what isn't ASCII the automata give up, and other regexes answer. */
+    CHECK(hanneddois_is_match(&regex, bytes("a \xc3\xa9 b"), 6, &error) == HANNEDDOIS_NONE && error.status == HANNEDDOIS_NONE);
+    CHECK(hanneddois_is_match(&regex, bytes("\xc3\xa9k"), 3, &error) == HANNEDDOIS_NONE);
+    CHECK(hanneddois_find_at(&regex, bytes("\xc3\xa9 k"), 4, 0, &match, &error) == HANNEDDOIS_OK && match.start == 3 && match.end == 4);
+    CHECK(hanneddois_find_all(&regex, bytes("k k \xc3\xa9k \xe2\x80\x94k"), 12, rows, 3, &count, &error) == HANNEDDOIS_OK && count == 3);
+    CHECK(rows[0].end == 1 && rows[1].start == 2 && rows[2].start == 11 && rows[2].end == 12);
 
     CHECK(make(&regex, "^a|(?-u:\\xff)", &options) == HANNEDDOIS_OK);
     CHECK(hanneddois_find_at(&regex, bytes("ba\xff"), 3, 1, &match, &error) == HANNEDDOIS_OK && match.start == 2);
@@ -134,12 +138,31 @@ static void patterns(void)
     hanneddois_regex regex = HANNEDDOIS_EMPTY;
     hanneddois_options options = {0};
     hanneddois_match rows[4];
-    size_t count, lengths[3] = {2, 1, 2};
-    uint8_t matched[3];
+    size_t count, lengths[4] = {2, 1, 2, 5};
+    uint8_t matched[4];
     CHECK(hanneddois_new(&regex, bytes("abacd"), 5, lengths, 3, &options, &error) == HANNEDDOIS_OK);
     CHECK(hanneddois_find_all(&regex, bytes("cdxabaa"), 7, rows, 4, &count, &error) == HANNEDDOIS_OK && count == 4);
     CHECK(rows[0].pattern == 2 && rows[1].pattern == 0 && rows[2].pattern == 1 && rows[3].pattern == 1);
-    CHECK(hanneddois_which(&regex, bytes("cd"), 2, matched, 3, &error) == HANNEDDOIS_UNSUPPORTED);
+
+    /* In "xab" both "ab" and "a" match, though the one overlaps with the other. */
+    memset(matched, 7, sizeof matched);
+    CHECK(hanneddois_which(&regex, bytes("xab"), 3, matched, 3, &count, &error) == HANNEDDOIS_OK && count == 2);
+    CHECK(matched[0] == 1 && matched[1] == 1 && matched[2] == 0 && matched[3] == 7);
+    CHECK(hanneddois_which(&regex, bytes("cd"), 2, matched, 3, &count, &error) == HANNEDDOIS_OK && count == 1 && matched[2] == 1);
+    CHECK(hanneddois_which(&regex, bytes("xyz"), 3, matched, 3, &count, &error) == HANNEDDOIS_NONE && count == 0 && matched[2] == 0);
+    CHECK(hanneddois_which(&regex, bytes("cd"), 2, matched, 2, &count, &error) == HANNEDDOIS_BAD_ARGUMENT && count == 0 && matched[0] == 0);
+    CHECK(hanneddois_which(&regex, bytes("cd"), 2, matched, 4, &count, &error) == HANNEDDOIS_BAD_ARGUMENT && matched[3] == 0);
+
+    /* Looks beside what isn't ASCII, an empty match at the end, and a pattern that never matches. */
+    options.flags = HANNEDDOIS_WHICH;
+    CHECK(hanneddois_new(&regex, bytes("\\bk$kkzzzzz"), 11, (size_t[]){3, 1, 2, 5}, 4, &options, &error) == HANNEDDOIS_OK);
+    CHECK(hanneddois_which(&regex, bytes("\xc3\xa9k"), 3, matched, 4, &count, &error) == HANNEDDOIS_OK && count == 1);
+    CHECK(matched[0] == 0 && matched[1] == 1 && matched[2] == 0 && matched[3] == 0);
+    CHECK(hanneddois_which(&regex, bytes("\xe2\x80\x94kk"), 5, matched, 4, &count, &error) == HANNEDDOIS_OK && count == 3 && matched[0] == 1 && matched[2] == 1);
+    options.flags = HANNEDDOIS_UTF8;
+    CHECK(hanneddois_new(&regex, bytes("a.b"), 3, (size_t[]){1, 1, 1}, 3, &options, &error) == HANNEDDOIS_OK);
+    CHECK(hanneddois_which(&regex, bytes("\xc3\xa9" "b"), 3, matched, 3, &count, &error) == HANNEDDOIS_OK && count == 2 && matched[0] == 0);
+    CHECK(hanneddois_which(&regex, bytes("a\xff"), 2, matched, 3, &count, &error) == HANNEDDOIS_HAYSTACK_NOT_UTF8 && error.start == 1 && matched[0] == 0);
     hanneddois_free(&regex);
 }
 

@@ -1,5 +1,5 @@
 -- What is told of a haystack, by what searches promise.
-use Rattle.std.proofs.Common.{map, ◌≡◌, ◌<◌, ◌≤◌, ℕ, Bool, true, List, [], ◌∷◌, All, length, Option, Some, None, Ok, ap, ap₂, sym, subst, ◌∙◌, refl, arith}
+use Rattle.std.proofs.Common.{◌≡◌, ◌<◌, ◌≤◌, ℕ, suc, Bool, true, false, List, [], ◌∷◌, All, length, map, replicate, Option, Some, None, Ok, ap, ap₂, sym, subst, ◌∙◌, refl, arith}
 use Rattle.std.specs.Prelude.{is_some, option_map, IsSomeAnd, IfSome, chars}
 use Rattle.regex_hir.specs.Re.{Re}
 use Rattle.regex_hir.specs.Meaning.{alt_all}
@@ -9,19 +9,24 @@ use Rattle.search_core.specs.Utf8.{IsValidText}
 use Rattle.look_core.specs.Terminators.{one_of}
 use Rattle.hir_core.specs.Facts.{LoopsRead}
 use Rattle.hir_core.specs.Tree.{Tree}
+use Rattle.search_types.specs.declared.match_kind.MatchKind.{MatchKind}
+use Rattle.search_types.specs.declared.match_kind.MatchKind.TheVariants.{LeftmostFirst, All as AllMatches}
 use Rattle.search_types.specs.Found.{Found}
-use Rattle.regex_pair.specs.Pairs.{PairCache}
+use Rattle.lazy_dfa.specs.Caches.{CacheValue}
+use Rattle.lazy_dfa.specs.ConfigValue.{kind_of}
+use Rattle.lazy_dfa.specs.WalkAnswers.{AnswersWhich}
+use Rattle.regex_pair.specs.Pairs.{Pair, PairCache}
 use Rattle.regex_pair.specs.PairAnswers.{AnswersPair}
 use Rattle.hirscan.specs.declared.settings.Settings.{Settings}
 use Rattle.hirscan.specs.Built.{IsBuilt, FindsFirst}
 use Rattle.hirscan.specs.Regexes.{IsSearchOf}
-use Rattle.pattern_search.specs.Searches.{whole_search, found_from, all_found, span_of_match, span_of_found, IsOfFirstPattern}
+use Rattle.pattern_search.specs.Searches.{whole_search, found_from, which_match, span_of_match, span_of_found, IsOfFirstPattern}
 use Rattle.pattern_search.specs.Texts.{AreRead, AllMean}
 use Rattle.pattern_search.specs.Written.{AnswersWhatIsWritten}
 use Rattle.capi.specs.declared.failure.FoundMatch.{FoundMatch}
-use Rattle.capi.specs.Compiled.{Regexed, IsRegexOf, IsFound, IsPreferred, IsTold, IsWholeList, AreAll, overlaid, span_of_row}
+use Rattle.capi.specs.Compiled.{AreBuiltOf, AreMarked, AreWhich, IsFound, IsPreferred, IsTold, found_of, hits, mark, overlaid, span_of_row}
 use Rattle.capi.specs.Failures.{row_of}
-use Rattle.capi.proofs.ListLemmas.{map_laid, same_spans, length_map}
+use Rattle.capi.proofs.ListLemmas.{length_map, whole_laid}
 
 -- what is read of one text is one pattern
 one_value : {A : Type 0} (o : Option A) (of : A → Re) (D : A → Type 0) (a b : Re) →
@@ -48,67 +53,116 @@ starts f (Some a) = refl
 alike_some : {A B : Type 0} (f : A → ℕ) (g : B → ℕ) (x : Option A) (y : Option B) → option_map f x ≡ option_map g y → is_some x ≡ is_some y
 alike_some f g x y e = sym (starts f x) ∙ ap is_some e ∙ starts g y
 
-of_some : {A : Type 0} (P : A → Type 0) (o : Option A) → ((a : A) → o ≡ Some a → P a) → IfSome o P
-of_some P None each = tt
-of_some P (Some a) each = each a refl
+-- a match as a row
+row_start : (o : Option Found) → option_map (λ f. f.start) o ≡ option_map (λ r. FoundMatch.start r) (option_map row_of o)
+row_start None = refl
+row_start (Some f) = refl
+
+row_span : (o : Option Found) → option_map span_of_found o ≡ option_map span_of_row (option_map row_of o)
+row_span None = refl
+row_span (Some f) = refl
+
+row_pattern : (res : List Re) (h : List ℕ) (o : Option Found) → ((f : Found) → o ≡ Some f → IsOfFirstPattern res h f) →
+    IfSome (option_map row_of o) (λ r. IsOfFirstPattern res h (found_of r))
+row_pattern res h None each = tt
+row_pattern res h (Some f) each = each f refl
 
 -- what the laws of searches say of regexes of texts
-abbrev pub Law : Config → List (List ℕ) → Regexed → Type 0
-Law config texts v = (xs : List Tree) → AllMean config texts xs → (s : Settings) → IsBuilt xs s v.pair → FindsFirst s → s.line_terminator ≡ one_of 10 →
-    AnswersWhatIsWritten config texts xs s v.pair
+abbrev pub Law : Config → List (List ℕ) → Pair → Type 0
+Law config texts p = (xs : List Tree) → AllMean config texts xs → (s : Settings) → IsBuilt xs s p → FindsFirst s → s.line_terminator ≡ one_of 10 →
+    AnswersWhatIsWritten config texts xs s p
 
-module _ (config : Config) (texts : List (List ℕ)) (v : Regexed) (law : Law config texts v) (it : IsRegexOf config texts v)
-    (h : List ℕ) (bytes : All (λ b. b < 256) h) (valid : v.utf8 ≡ true → IsValidText h) where
-  pub written : AnswersWhatIsWritten config texts it.trees it.settings v.pair
-  written = law it.trees it.mean it.settings it.built it.finds it.lines
+-- a search of a whole haystack is one of the laws'
+pub is_search : (config : Config) (texts : List (List ℕ)) (kind : MatchKind) (p : Pair) (it : AreBuiltOf config texts kind p)
+    (h : List ℕ) → All (λ b. b < 256) h → (config.utf8 ≡ true → IsValidText h) → (at : ℕ) → IsSearchOf it.trees it.settings.utf8 (whole_search h at)
+is_search config texts kind p it h bytes valid at = record {
+  within = omega arith;
+  whole = refl;
+  bytes = bytes;
+  valid = λ on. valid (sym it.mode ∙ on);
+  utf8_trees = λ on. it.utf8_trees (sym it.mode ∙ on);
+}
 
-  pub is_search : (at : ℕ) → IsSearchOf it.trees it.settings.utf8 (whole_search h at)
-  is_search at = record {
-    within = omega arith;
-    whole = refl;
-    bytes = bytes;
-    valid = λ on. valid (it.told_mode ∙ sym it.mode ∙ on);
-    utf8_trees = λ on. it.utf8_trees (sym it.mode ∙ on);
+module _ (config : Config) (texts : List (List ℕ)) (p : Pair) (law : Law config texts p) (it : AreBuiltOf config texts LeftmostFirst p)
+    (h : List ℕ) (bytes : All (λ b. b < 256) h) (valid : config.utf8 ≡ true → IsValidText h)
+    (at : ℕ) (c : PairCache) (o : Option Found) (answer : AnswersPair p c (whole_search h at) (Ok o)) where
+  written : AnswersWhatIsWritten config texts it.trees it.settings p
+  written = law it.trees it.mean it.settings it.built it.kind_is it.lines
+
+  searched : IsSearchOf it.trees it.settings.utf8 (whole_search h at)
+  searched = is_search config texts LeftmostFirst p it h bytes valid at
+
+  start_of : (res : List Re) → AreRead config texts res →
+      option_map (λ m. m.start) (found_from config.utf8 (alt_all res) h at) ≡ option_map (λ f. f.start) o
+  start_of res read =
+      subst (λ (rs : List Re). option_map (λ m. m.start) (found_from config.utf8 (alt_all rs) h at) ≡ option_map (λ f. f.start) o)
+      (same_patterns config texts written.patterns res written.are_read read)
+      (subst (λ (u : Bool). option_map (λ m. m.start) (found_from u (alt_all written.patterns) h at) ≡ option_map (λ f. f.start) o) it.mode
+      (written.answers.starts h at searched c o answer))
+
+  pattern_of : (res : List Re) → AreRead config texts res → (f : Found) → o ≡ Some f → IsOfFirstPattern res h f
+  pattern_of res read f is =
+      subst (λ (rs : List Re). IsOfFirstPattern rs h f) (same_patterns config texts written.patterns res written.are_read read)
+      (written.answers.pattern h at searched c f (subst (λ (p' : Option Found). AnswersPair p c (whole_search h at) (Ok p')) is answer))
+
+  pub row_found : IsFound config texts h at (option_map row_of o)
+  row_found = record {
+    start = λ res read. start_of res read ∙ row_start o;
+    pattern = λ res read. row_pattern res h o (pattern_of res read);
   }
 
-  module _ (at : ℕ) (c : PairCache) (o : Option Found) (answer : AnswersPair v.pair c (whole_search h at) (Ok o)) where
-    start_of : (res : List Re) → AreRead config texts res →
-        option_map (λ m. m.start) (found_from config.utf8 (alt_all res) h at) ≡ option_map (λ f. f.start) o
-    start_of res read =
-        subst (λ (rs : List Re). option_map (λ m. m.start) (found_from config.utf8 (alt_all rs) h at) ≡ option_map (λ f. f.start) o)
-        (same_patterns config texts written.patterns res written.are_read read)
-        (subst (λ (u : Bool). option_map (λ m. m.start) (found_from u (alt_all written.patterns) h at) ≡ option_map (λ f. f.start) o) it.mode
-        (written.answers.starts h at (is_search at) c o answer))
+  pub row_preferred : All LoopsRead it.trees → IsPreferred config texts h at (option_map row_of o)
+  row_preferred loops res read =
+      subst (λ (rs : List Re). option_map span_of_match (found_from config.utf8 (alt_all rs) h at) ≡ option_map span_of_found o)
+      (same_patterns config texts written.patterns res written.are_read read)
+      (subst (λ (u : Bool). option_map span_of_match (found_from u (alt_all written.patterns) h at) ≡ option_map span_of_found o) it.mode
+      (written.answers.found loops h at searched c o answer))
+      ∙ row_span o
 
-    pattern_of : (res : List Re) → AreRead config texts res → IfSome o (λ f. IsOfFirstPattern res h f)
-    pattern_of res read = of_some (λ f. IsOfFirstPattern res h f) o (λ f is.
-        subst (λ (rs : List Re). IsOfFirstPattern rs h f) (same_patterns config texts written.patterns res written.are_read read)
-        (written.answers.pattern h at (is_search at) c f (subst (λ (p : Option Found). AnswersPair v.pair c (whole_search h at) (Ok p)) is answer)))
+-- whether there is a match
+pub told_of : (config : Config) (texts : List (List ℕ)) (h : List ℕ) (o : Option FoundMatch) → IsFound config texts h 0 o → IsTold config texts h (is_some o)
+told_of config texts h o found res read = sym (alike_some _ _ _ _ (found.start res read))
 
-    pub found_of : IsFound config texts h at o
-    found_of = record { start = start_of; pattern = pattern_of }
+-- ---- which patterns match
+texts_as_many : (config : Config) (texts : List (List ℕ)) (xs : List Tree) → AllMean config texts xs → length xs ≡ length texts
+texts_as_many config [] [] m = refl
+texts_as_many config [] (x ∷ xs) m = absurd m
+texts_as_many config (t ∷ ts) [] m = absurd m
+texts_as_many config (t ∷ ts) (x ∷ xs) m = ap suc (texts_as_many config ts xs m.1)
 
-    pub preferred_of : All LoopsRead it.trees → IsPreferred config texts h at o
-    preferred_of loops res read =
-        subst (λ (rs : List Re). option_map span_of_match (found_from config.utf8 (alt_all rs) h at) ≡ option_map span_of_found o)
-        (same_patterns config texts written.patterns res written.are_read read)
-        (subst (λ (u : Bool). option_map span_of_match (found_from u (alt_all written.patterns) h at) ≡ option_map span_of_found o) it.mode
-        (written.answers.found loops h at (is_search at) c o answer))
+pub read_as_many : (config : Config) (texts : List (List ℕ)) (res : List Re) → AreRead config texts res → length res ≡ length texts
+read_as_many config [] [] m = refl
+read_as_many config [] (a ∷ res) m = absurd m
+read_as_many config (t ∷ ts) [] m = absurd m
+read_as_many config (t ∷ ts) (a ∷ res) m = ap suc (read_as_many config ts res m.1)
 
-  pub told_of : (c : PairCache) (o : Option Found) → AnswersPair v.pair c (whole_search h 0) (Ok o) → IsTold config texts h (is_some o)
-  told_of c o answer res read = sym (alike_some _ _ _ _ (start_of 0 c o answer res read))
+-- what the laws of walks say of regexes of texts
+abbrev pub WalkLaw : Config → List (List ℕ) → Pair → Type 0
+WalkLaw config texts p = (xs : List Tree) → AllMean config texts xs → (s : Settings) → IsBuilt xs s p → kind_of s.dfa ≡ AllMatches → s.line_terminator ≡ one_of 10 →
+    (h : List ℕ) → IsSearchOf xs s.utf8 (whole_search h 0) → (v : CacheValue) (set : List Bool) →
+    AnswersWhich p.forward v (whole_search h 0) (replicate (length xs) false) set (Ok tt) →
+    (res : List Re) × AreRead config texts res × (set ≡ which_match s.utf8 res h)
 
-  module _ (fs : List Found) (loops : All LoopsRead it.trees) (l : IsWholeList v.pair (whole_search h 0) fs) where
-    spans_of : (res : List Re) → AreRead config texts res → map span_of_match (all_found config.utf8 (alt_all res) h) ≡ map span_of_found fs
-    spans_of res read =
-        subst (λ (rs : List Re). map span_of_match (all_found config.utf8 (alt_all rs) h) ≡ map span_of_found fs)
-        (same_patterns config texts written.patterns res written.are_read read)
-        (subst (λ (u : Bool). map span_of_match (all_found u (alt_all written.patterns) h) ≡ map span_of_found fs) it.mode
-        (written.answers.all loops h (is_search 0) fs l.old l.new l.regex l.taken l.over))
+pub walk_told : (config : Config) (texts : List (List ℕ)) (p : Pair) → WalkLaw config texts p → (it : AreBuiltOf config texts AllMatches p) →
+    (h : List ℕ) → All (λ b. b < 256) h → (config.utf8 ≡ true → IsValidText h) → (v : CacheValue) (old set : List Bool) →
+    old ≡ replicate (length texts) false → AnswersWhich p.forward v (whole_search h 0) old set (Ok tt) → AreWhich config texts h set
+walk_told config texts p law it h bytes valid v old set empty answer res read =
+    let begins : old ≡ replicate (length it.trees) false = empty ∙ ap (λ n. replicate n false) (sym (texts_as_many config texts it.trees it.mean)) in
+    let told = law it.trees it.mean it.settings it.built it.kind_is it.lines h (is_search config texts AllMatches p it h bytes valid 0) v set
+    (subst (λ (s : List Bool). AnswersWhich p.forward v (whole_search h 0) s set (Ok tt)) begins answer) in
+    told.2
+    ∙ ap (λ (u : Bool). which_match u told.0 h) it.mode
+    ∙ ap (λ (rs : List Re). which_match config.utf8 rs h) (same_patterns config texts told.0 res told.1 read)
 
-    pub all_of : (n : ℕ) (old new : List FoundMatch) → n ≡ length fs → new ≡ overlaid (map row_of fs) old → AreAll config texts h n old new
-    all_of n old new counted is = record {
-      count = λ res read. counted ∙ sym (length_map span_of_found fs) ∙ ap length (sym (spans_of res read)) ∙ length_map span_of_match (all_found config.utf8 (alt_all res) h);
-      rows = λ res read. ap (map span_of_row) is ∙ map_laid span_of_row (map row_of fs) old
-          ∙ ap (λ (xs : List (ℕ × ℕ)). overlaid xs (map span_of_row old)) (same_spans fs ∙ sym (spans_of res read));
-    }
+-- the marks of what is told lie in the places of the patterns
+pub marked_of : (config : Config) (texts : List (List ℕ)) (h : List ℕ) (told : List Bool) (n : ℕ) (old new : List ℕ) → AreWhich config texts h told →
+    length old ≡ length texts → new ≡ overlaid (map mark told) old → n ≡ hits told → AreMarked config texts h n new
+marked_of config texts h told n old new which places is counted = record {
+  marked = λ res read. is ∙ whole_laid (map mark told) old (as_many res read) ∙ ap (map mark) (which res read);
+  count = λ res read. counted ∙ ap hits (which res read);
+}
+  where
+    as_many : (res : List Re) → AreRead config texts res → length (map mark told) ≡ length old
+    as_many res read =
+        length_map mark told ∙ ap length (which res read) ∙ length_map (λ re. is_some (found_from config.utf8 re h 0)) res
+        ∙ read_as_many config texts res read ∙ sym places

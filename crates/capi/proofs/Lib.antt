@@ -1,4 +1,7 @@
+mod BestLemmas
+mod FallbackLemmas
 mod FoundLemmas
 mod ListLemmas
 mod LoopLemmas
+mod NextLemmas
 mod TextLemmas

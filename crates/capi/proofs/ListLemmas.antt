@@ -1,10 +1,8 @@
 -- Lists that are laid over others, one by one.
-use Rattle.std.proofs.Common.{◌≡◌, ℕ, zero, suc, ◌+◌, ◌<◌, ◌≤◌, List, [], ◌∷◌, ◌++◌, length, map, take, slice_set, slice_index_or, refl, sym, ap, ◌∙◌, arith, length-append, length-take-le, take-suc, take_all}
-use Rattle.search_types.specs.Found.{Found}
-use Rattle.pattern_search.specs.Searches.{span_of_found}
+use Rattle.std.proofs.Common.{◌≡◌, ℕ, zero, suc, ◌+◌, ◌<◌, ◌≤◌, List, [], ◌∷◌, ◌++◌, length, map, take, slice_get, slice_set, slice_index_or, Some, refl, sym, ap, ◌∙◌, arith, length-append, length-take-le, take-suc, take_all}
+use Rattle.std.proofs.lemmas.Option.{none-some, same_Some}
 use Rattle.capi.specs.declared.failure.FoundMatch.{FoundMatch}
-use Rattle.capi.specs.Compiled.{overlaid, span_of_row}
-use Rattle.capi.specs.Failures.{row_of}
+use Rattle.capi.specs.Compiled.{overlaid}
 
 pub one_more_laid : {A : Type 0} (xs ys : List A) (x : A) → overlaid (xs ++ x ∷ []) ys ≡ slice_set (overlaid xs ys) (length xs) x
 unfolding overlaid
@@ -23,9 +21,13 @@ map_laid f [] ys = refl
 map_laid f (x ∷ xs) [] = refl
 map_laid f (x ∷ xs) (y ∷ ys) = ap (λ (zs : List _). f x ∷ zs) (map_laid f xs ys)
 
-pub same_spans : (fs : List Found) → map span_of_row (map row_of fs) ≡ map span_of_found fs
-same_spans [] = refl
-same_spans (f ∷ fs) = ap (λ (zs : List (ℕ × ℕ)). (f.start, f.end) ∷ zs) (same_spans fs)
+-- as many as there are places cover all of them
+pub whole_laid : {A : Type 0} (xs ys : List A) → length xs ≡ length ys → overlaid xs ys ≡ xs
+unfolding overlaid
+whole_laid [] [] e = refl
+whole_laid [] (y ∷ ys) e = absurd (omega (arith, e))
+whole_laid (x ∷ xs) [] e = absurd (omega (arith, e))
+whole_laid (x ∷ xs) (y ∷ ys) e = ap (λ (zs : List _). x ∷ zs) (whole_laid xs ys (omega (arith, e)))
 
 pub map_more : {A B : Type 0} (f : A → B) (xs : List A) (x : A) → map f (xs ++ x ∷ []) ≡ map f xs ++ f x ∷ []
 map_more f [] x = refl
@@ -35,27 +37,34 @@ pub length_map : {A B : Type 0} (f : A → B) (xs : List A) → length (map f xs
 length_map f [] = refl
 length_map f (x ∷ xs) = ap suc (length_map f xs)
 
--- as many as there is room for are laid
-pub enough_laid : {A : Type 0} (xs ys : List A) (n : ℕ) → length ys ≤ n → overlaid (take n xs) ys ≡ overlaid xs ys
-unfolding overlaid
-enough_laid [] ys zero above = refl
-enough_laid [] ys (suc n) above = refl
-enough_laid (x ∷ xs) [] zero above = refl
-enough_laid (x ∷ xs) [] (suc n) above = refl
-enough_laid (x ∷ xs) (y ∷ ys) zero above = absurd (omega (arith, above))
-enough_laid (x ∷ xs) (y ∷ ys) (suc n) above = ap (λ (zs : List _). x ∷ zs) (enough_laid xs ys n (omega (arith, above)))
+pub mapped_at : {A B : Type 0} (f : A → B) (xs : List A) (n : ℕ) (d : A) (e : B) → n < length xs →
+    slice_index_or (map f xs) n e ≡ f (slice_index_or xs n d)
+mapped_at f [] n d e below = absurd (omega arith)
+mapped_at f (x ∷ xs) zero d e below = refl
+mapped_at f (x ∷ xs) (suc n) d e below = mapped_at f xs n d e (omega (arith, below))
+
+-- what stands at a place of a list that is made of another
+pub mapped_get : {A B : Type 0} (f : A → B) (xs : List A) (n : ℕ) (y : B) → slice_get (map f xs) n ≡ Some y →
+    (x : A) × (slice_get xs n ≡ Some x) × (f x ≡ y)
+mapped_get f [] n y is = absurd (none-some y is)
+mapped_get f (x ∷ xs) zero y is = (x, refl, same_Some (f x) y is)
+mapped_get f (x ∷ xs) (suc n) y is = mapped_get f xs n y is
+
+pub get_mapped : {A B : Type 0} (f : A → B) (xs : List A) (n : ℕ) (x : A) → slice_get xs n ≡ Some x → slice_get (map f xs) n ≡ Some (f x)
+get_mapped f [] n x is = absurd (none-some x is)
+get_mapped f (y ∷ xs) zero x is = ap (λ z. Some (f z)) (same_Some y x is)
+get_mapped f (y ∷ xs) (suc n) x is = get_mapped f xs n x is
 
 -- one more match was taken, and lies in its row
-pub one_more_row : (fs : List Found) (f : Found) (n : ℕ) (old rows now : List FoundMatch) → n ≡ length fs → rows ≡ overlaid (map row_of fs) old →
-    now ≡ slice_set rows n (row_of f) → now ≡ overlaid (map row_of (fs ++ f ∷ [])) old
+pub one_more_row : (fs : List FoundMatch) (f : FoundMatch) (n : ℕ) (old rows now : List FoundMatch) → n ≡ length fs → rows ≡ overlaid fs old →
+    now ≡ slice_set rows n f → now ≡ overlaid (fs ++ f ∷ []) old
 one_more_row fs f n old rows now count is put =
     put
-    ∙ ap (λ (rs : List FoundMatch). slice_set rs n (row_of f)) is
-    ∙ ap (λ (k : ℕ). slice_set (overlaid (map row_of fs) old) k (row_of f)) (count ∙ sym (length_map row_of fs))
-    ∙ sym (one_more_laid (map row_of fs) old (row_of f))
-    ∙ ap (λ (rs : List FoundMatch). overlaid rs old) (sym (map_more row_of fs f))
+    ∙ ap (λ (rs : List FoundMatch). slice_set rs n f) is
+    ∙ ap (λ (k : ℕ). slice_set (overlaid fs old) k f) count
+    ∙ sym (one_more_laid fs old f)
 
-pub one_more_counted : (fs : List Found) (f : Found) (n : ℕ) → n ≡ length fs → n + 1 ≡ length (fs ++ f ∷ [])
+pub one_more_counted : (fs : List FoundMatch) (f : FoundMatch) (n : ℕ) → n ≡ length fs → n + 1 ≡ length (fs ++ f ∷ [])
 one_more_counted fs f n count = ap (λ (k : ℕ). k + 1) count ∙ sym (length-append fs (f ∷ []))
 
 -- one more byte lies in its place

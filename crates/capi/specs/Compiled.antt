@@ -1,22 +1,22 @@
 -- What a compiled regex is of, and what it tells.
-use Rattle.std.specs.Prelude.{◌≡◌, ◌⊎◌, ℕ, Bool, true, false, List, [], ◌∷◌, All, Option, Some, None, IfSome, map, length, option_map, is_some, ⊤}
+use Rattle.std.specs.Prelude.{◌≡◌, ◌⊎◌, ◌↔◌, ℕ, Bool, true, false, List, [], ◌∷◌, All, Option, Some, IfSome, map, length, option_map, is_some, ⊤}
+use Rattle.std.specs.List.{filter}
 use Rattle.regex_hir.specs.Re.{Re}
 use Rattle.regex_hir.specs.Meaning.{alt_all}
+use Rattle.regex_hir.specs.Find.{find_after}
 use Rattle.regex_syntax.specs.declared.Config.{Config}
 use Rattle.look_core.specs.Terminators.{one_of}
-use Rattle.hir_core.specs.Facts.{is_utf8_tree}
+use Rattle.hir_core.specs.Facts.{LoopsRead, is_utf8_tree}
 use Rattle.hir_core.specs.Tree.{Tree}
+use Rattle.search_types.specs.declared.match_kind.MatchKind.{MatchKind}
 use Rattle.search_types.specs.Found.{Found}
-use Rattle.search_types.specs.Inputs.{Search}
+use Rattle.lazy_dfa.specs.ConfigValue.{kind_of}
 use Rattle.lazy_dfa.specs.declared.build_error.BuildError.TheVariants.{NoMemory as NoRoom}
-use Rattle.regex_pair.specs.declared.find_matches.FindMatches.{FindMatches}
-use Rattle.regex_pair.specs.FindSteps.{FindsNext, finds_from, searches_by}
-use Rattle.regex_pair.specs.Pairs.{Pair, PairCache}
-use Rattle.regex_pair.specs.Taken.{AreTaken}
+use Rattle.regex_pair.specs.Pairs.{Pair}
 use Rattle.hirscan.specs.declared.settings.Settings.{Settings}
-use Rattle.hirscan.specs.Built.{IsBuilt, FindsFirst, RefusesBuild}
+use Rattle.hirscan.specs.Built.{IsBuilt, RefusesBuild}
 use Rattle.hirscan.specs.Loops.{first_empty_loop}
-use Rattle.pattern_search.specs.Searches.{found_from, all_found, span_of_match, span_of_found, IsOfFirstPattern}
+use Rattle.pattern_search.specs.Searches.{found_from, all_found, which_match, span_of_match, IsOfFirstPattern}
 use Rattle.pattern_search.specs.Texts.{AreRead, AllMean, IsFirstFault}
 use Rattle.capi.specs.declared.failure.FoundMatch.{FoundMatch}
 use Rattle.capi.specs.declared.failure.NewError.{NewError}
@@ -24,30 +24,41 @@ use Rattle.capi.specs.declared.failure.NewError.TheVariants.{BadArgument, NoMemo
 use Rattle.capi.specs.declared.options.Options.{Options}
 use Rattle.capi.specs.Options.{config_of, is_known, allows_empty_loops}
 
--- what a contract sees of a compiled regex: its automata and their caches, whether haystacks have to be UTF-8, and how many patterns it has
+-- what a contract sees of a compiled regex: the options and the texts that it is made of, and whether each repetition without a bound in
+-- these has a body that reads
 pub record Regexed : Type 0 where
-  pub pair : Pair
-  pub caches : PairCache
-  pub utf8 : Bool
-  pub count : ℕ
+  pub options : Options
+  pub texts : List (List ℕ)
+  pub loops : Bool
 
--- all but the caches is the same
-pub record IsSameRegex (old new : Regexed) : Type 0 where
-  pub pair : new.pair ≡ old.pair
-  pub utf8 : new.utf8 ≡ old.utf8
-  pub count : new.count ≡ old.count
+-- how its texts are read
+abbrev pub config_by : Regexed → Config
+config_by v = config_of v.options
 
--- its automata are built of trees of these texts, as they are read under these options
-pub record IsRegexOf (config : Config) (texts : List (List ℕ)) (v : Regexed) : Type 0 where
+-- Automata that are built of trees of these texts, as they are read under these options. They find matches of this kind.
+pub record AreBuiltOf (config : Config) (texts : List (List ℕ)) (kind : MatchKind) (p : Pair) : Type 0 where
   pub trees : List Tree
   pub settings : Settings
   pub mean : AllMean config texts trees
-  pub built : IsBuilt trees settings v.pair
-  pub finds : FindsFirst settings
+  pub built : IsBuilt trees settings p
+  pub kind_is : kind_of settings.dfa ≡ kind
   pub lines : settings.line_terminator ≡ one_of 10
   pub mode : settings.utf8 ≡ config.utf8
-  pub told_mode : v.utf8 ≡ config.utf8
   pub utf8_trees : config.utf8 ≡ true → All (λ x. is_utf8_tree x ≡ true) trees
+
+-- the same, and whether the loops of their trees read is told
+abbrev pub AreToldOf : Config → List (List ℕ) → MatchKind → Bool → Pair → Type 0
+AreToldOf config texts kind loops p = (it : AreBuiltOf config texts kind p) × ((loops ≡ true) ↔ All LoopsRead it.trees)
+
+-- A regex is made of these texts under these options. Its texts mean trees, of which it knows whether their loops read; all do where those
+-- that don't are refused.
+pub record IsMadeOf (o : Options) (texts : List (List ℕ)) (v : Regexed) : Type 0 where
+  pub options_are : v.options ≡ o
+  pub texts_are : v.texts ≡ texts
+  pub trees : List Tree
+  pub mean : AllMean (config_of o) texts trees
+  pub loops_told : (v.loops ≡ true) ↔ All LoopsRead trees
+  pub loops_read : allows_empty_loops o ≡ false → v.loops ≡ true
 
 -- Why there is no regex of texts under these options.
 abbrev pub IsRefused : Options → List (List ℕ) → NewError → Type 0
@@ -58,17 +69,28 @@ IsRefused o texts (Text e) = IsFirstFault (config_of o) texts e.number e.error
 IsRefused o texts (EmptyLoop number) = (allows_empty_loops o ≡ false) × ((xs : List Tree) × AllMean (config_of o) texts xs × (first_empty_loop xs ≡ Some number))
 IsRefused o texts (Build e) = (e ≡ NoRoom) ⊎ ((xs : List Tree) × AllMean (config_of o) texts xs × ((s : Settings) × RefusesBuild xs s e))
 
+abbrev pub span_of_row : FoundMatch → ℕ × ℕ
+span_of_row r = (r.start, r.end)
+
+abbrev pub found_of : FoundMatch → Found
+found_of r = record { pattern = r.pattern; start = r.start; end = r.end }
+
 -- What is told of a search from a place on has the start that the toolchain's matcher finds for what the texts are read as, if it finds
 -- one, and is of the first pattern that matches from there.
-pub record IsFound (config : Config) (texts : List (List ℕ)) (h : List ℕ) (at : ℕ) (o : Option Found) : Type 0 where
+pub record IsFound (config : Config) (texts : List (List ℕ)) (h : List ℕ) (at : ℕ) (o : Option FoundMatch) : Type 0 where
   pub start : (res : List Re) → AreRead config texts res →
       option_map (λ m. m.start) (found_from config.utf8 (alt_all res) h at) ≡ option_map (λ f. f.start) o
-  pub pattern : (res : List Re) → AreRead config texts res → IfSome o (λ f. IsOfFirstPattern res h f)
+  pub pattern : (res : List Re) → AreRead config texts res → IfSome o (λ f. IsOfFirstPattern res h (found_of f))
 
 -- and also the end that it finds
-abbrev pub IsPreferred : Config → List (List ℕ) → List ℕ → ℕ → Option Found → Type 0
+abbrev pub IsPreferred : Config → List (List ℕ) → List ℕ → ℕ → Option FoundMatch → Type 0
 IsPreferred config texts h at o = (res : List Re) → AreRead config texts res →
-    option_map span_of_match (found_from config.utf8 (alt_all res) h at) ≡ option_map span_of_found o
+    option_map span_of_match (found_from config.utf8 (alt_all res) h at) ≡ option_map span_of_row o
+
+-- the match behind one that ended at this place, where an empty one there isn't taken
+abbrev pub IsNext : Config → List (List ℕ) → List ℕ → ℕ → Option FoundMatch → Type 0
+IsNext config texts h end o = (res : List Re) → AreRead config texts res →
+    option_map span_of_match (find_after (found_from config.utf8 (alt_all res) h) end) ≡ option_map span_of_row o
 
 -- whether there is a match is told as the matcher finds one
 abbrev pub IsTold : Config → List (List ℕ) → List ℕ → Bool → Type 0
@@ -76,22 +98,11 @@ IsTold config texts h told = (res : List Re) → AreRead config texts res → to
 
 -- ---- all matches
 
--- an iterator over the matches of the search gave these, and then came to its end
-pub record IsWholeList (p : Pair) (q : Search) (fs : List Found) : Type 0 where
-  pub old : FindMatches
-  pub new : FindMatches
-  pub regex : searches_by old ≡ p
-  pub taken : AreTaken p q fs (finds_from old)
-  pub over : FindsNext old None new
-
 -- the first list, and behind its end what the second has there; no more than the second has
 unfoldable pub overlaid : {A : Type 0} → List A → List A → List A
 overlaid [] ys = ys
 overlaid (x ∷ xs) [] = []
 overlaid (x ∷ xs) (y ∷ ys) = x ∷ overlaid xs ys
-
-abbrev pub span_of_row : FoundMatch → ℕ × ℕ
-span_of_row r = (r.start, r.end)
 
 -- These are all matches that the matcher finds, so many: the first of them lie in the rows, as far as these have room, and the rows
 -- behind them are what they were.
@@ -99,3 +110,22 @@ pub record AreAll (config : Config) (texts : List (List ℕ)) (h : List ℕ) (n 
   pub count : (res : List Re) → AreRead config texts res → n ≡ length (all_found config.utf8 (alt_all res) h)
   pub rows : (res : List Re) → AreRead config texts res →
       map span_of_row new ≡ overlaid (map span_of_match (all_found config.utf8 (alt_all res) h)) (map span_of_row old)
+
+-- ---- which patterns match
+
+-- of each pattern is told whether the matcher finds a match of it anywhere
+abbrev pub AreWhich : Config → List (List ℕ) → List ℕ → List Bool → Type 0
+AreWhich config texts h told = (res : List Re) → AreRead config texts res → told ≡ which_match config.utf8 res h
+
+abbrev pub mark : Bool → ℕ
+mark true = 1
+mark false = 0
+
+-- how many of the tests pass
+abbrev pub hits : List Bool → ℕ
+hits told = length (filter (λ b. b) told)
+
+-- each pattern that matches is marked, and each other one isn't; and so many match
+pub record AreMarked (config : Config) (texts : List (List ℕ)) (h : List ℕ) (n : ℕ) (marks : List ℕ) : Type 0 where
+  pub marked : (res : List Re) → AreRead config texts res → marks ≡ map mark (which_match config.utf8 res h)
+  pub count : (res : List Re) → AreRead config texts res → n ≡ hits (which_match config.utf8 res h)

@@ -2,8 +2,6 @@
 use Rattle.std.specs.Prelude.{ℕ, Option, Some, None}
 use Rattle.regex_syntax.specs.declared.error.ErrorKind.{ErrorKind}
 use Rattle.regex_syntax.specs.declared.error.ErrorKind.TheVariants.{NestLimitExceeded}
-use Rattle.search_types.specs.declared.match_error.MatchErrorKind.{MatchErrorKind}
-use Rattle.search_types.specs.declared.match_error.MatchErrorKind.TheVariants.{Quit, GaveUp, HaystackTooLong, UnsupportedAnchored, NotAPair, NoMemory as NoMemoryLeft}
 use Rattle.search_types.specs.Found.{Found}
 use Rattle.nfa_core.specs.BuildErrors.{size_limit_of}
 use Rattle.lazy_dfa.specs.declared.build_error.BuildError.{BuildError}
@@ -16,13 +14,13 @@ use Rattle.capi.specs.declared.failure.FoundMatch.{FoundMatch}
 use Rattle.capi.specs.declared.failure.NewError.{NewError}
 use Rattle.capi.specs.declared.failure.NewError.TheVariants.{BadArgument, NoMemory, NotUtf8, Text, EmptyLoop, Build}
 use Rattle.capi.specs.declared.failure.SearchError.{SearchError}
-use Rattle.capi.specs.declared.failure.SearchError.TheVariants.{BadArgument as BadSearch, NotUtf8 as NoText, Unsupported as NotAsked, Search}
+use Rattle.capi.specs.declared.failure.SearchError.TheVariants.{BadArgument as BadSearch, NoMemory as NoneFree, NotUtf8 as NoText, TooLarge as TooGreat}
 
 abbrev pub row_of : Found → FoundMatch
 row_of f = record { pattern = f.pattern; start = f.start; end = f.end }
 
 abbrev pub plain : ℕ → Failure
-plain status = record { status = status; cause = 0; pattern = 0; start = 0; end = 0; limit = 0; byte = 0 }
+plain status = record { status = status; cause = 0; pattern = 0; start = 0; end = 0; limit = 0 }
 
 -- which cause a text is refused for is told by words alone
 abbrev pub without_cause : Failure → Failure
@@ -58,16 +56,8 @@ failure_of_new (Text e) = failure_of_text e
 failure_of_new (EmptyLoop pattern) = record (plain 7) { pattern = pattern }
 failure_of_new (Build e) = failure_of_build e
 
-abbrev pub failure_of_match : MatchErrorKind → Failure
-failure_of_match (Quit byte at) = record (plain 11) { start = at; byte = byte }
-failure_of_match (GaveUp at) = record (plain 11) { start = at }
-failure_of_match (HaystackTooLong len) = plain 8
-failure_of_match (UnsupportedAnchored mode) = plain 10
-failure_of_match NotAPair = plain 10
-failure_of_match NoMemoryLeft = plain 3
-
 abbrev pub failure_of_search : SearchError → Failure
 failure_of_search BadSearch = plain 2
+failure_of_search NoneFree = plain 3
 failure_of_search (NoText at) = record (plain 12) { start = at }
-failure_of_search NotAsked = plain 10
-failure_of_search (Search kind) = failure_of_match kind
+failure_of_search TooGreat = plain 8

@@ -1,4 +1,5 @@
 pub mod Options
 pub mod Texts
 pub mod Compiled
+pub mod Fallbacks
 pub mod Failures

@@ -1,103 +1,182 @@
 //! A compiled regex.
-ghost use Rattle.std.specs.Prelude.{◌≡◌, false, All, Some, IfErr, IfNone, IfOk, IfSome, length, map};
-ghost use Rattle.hir_core.specs.Facts.{LoopsRead};
-ghost use Rattle.hirscan.specs.Loops.{first_empty_loop};
-ghost use Rattle.capi.specs.Compiled.{IsRegexOf, IsRefused};
-ghost use Rattle.capi.specs.Options.{config_of, allows_empty_loops};
+ghost use Rattle.std.specs.Prelude.{◌≡◌, false, Some, IfErr, IfOk, IfSome, length, map, string_bytes};
+ghost use Rattle.search_types.specs.declared.match_kind.MatchKind.TheVariants.{All as AllMatches};
+ghost use Rattle.capi.specs.Compiled.{AreBuiltOf, IsMadeOf, IsRefused, config_by};
+ghost use Rattle.capi.specs.Fallbacks.{AreFallbacksOf};
+ghost use Rattle.capi.specs.Options.{config_of};
 
-use crate::failure::NewError;
+use crate::automata::{Automata, regex_of};
+use crate::failure::{NewError, SearchError};
+use crate::fallback::{Fallback, fallbacks_of};
 use crate::options::Options;
-use hir_core::Hir;
-use hirscan::laws::loops_read_tells;
-use hirscan::{build, first_empty_loop};
-use pattern_search::parse_all;
-use regex_pair::regex::{Cache, Regex};
+use crate::texts::{lent, owned};
+use crate::walker::Walker;
+use search_types::MatchKind;
 use std::alloc::Global;
 use std::marker::Model;
 
 /// A regex of texts, and the caches of its searches.
+///
+/// Automata search but in haystacks in which these give up at a byte, as where `\b` stands beside what isn't ASCII: there the toolchain's
+/// regexes of the same texts do, which are made when the first such haystack comes. The automaton that tells which patterns match is made
+/// when this is first asked.
 #[derive(Drop)]
 pub struct Compiled {
-    pub(crate) regex: Regex,
-    pub(crate) cache: Cache,
-    pub(crate) utf8: bool,
-    count: usize,
+    pub(crate) automata: Automata,
+    pub(crate) walker: Option<Walker>,
+    pub(crate) regexes: Option<Vec<Fallback>>,
+    pub(crate) texts: Vec<String>,
+    pub(crate) options: Options,
+    pub(crate) loops: bool,
 }
 
 impl Model for Compiled {
-    ghost use Rattle.regex_pair.specs.Pairs.{AreCachesOf};
-    ghost use Rattle.capi.specs.Compiled.{Regexed};
+    ghost use Rattle.std.specs.Prelude.{IfSome, map, string_bytes};
+    ghost use Rattle.search_types.specs.declared.match_kind.MatchKind.TheVariants.{LeftmostFirst, All};
+    ghost use Rattle.capi.specs.Compiled.{Regexed, AreBuiltOf, AreToldOf};
+    ghost use Rattle.capi.specs.Fallbacks.{AreFallbacksOf};
+    ghost use Rattle.capi.specs.Options.{config_of};
 
     ghost Value = { Regexed };
 
-    ghost view = { λ c. record { pair = c.regex; caches = c.cache; utf8 = c.utf8; count = c.count } };
+    ghost view = { λ c. record { options = c.options; texts = map string_bytes c.texts.items; loops = c.loops } };
 
-    ghost invariant = { λ c. AreCachesOf c.regex c.cache };
+    ghost invariant = { λ c. AreToldOf (config_of c.options) (map string_bytes c.texts.items) LeftmostFirst c.loops c.automata
+        × IfSome c.walker (AreBuiltOf (config_of c.options) (map string_bytes c.texts.items) All)
+        × IfSome c.regexes (λ rs. AreFallbacksOf (config_of c.options) (map string_bytes c.texts.items) rs.items) };
 }
 
-/// The number of the first pattern that is refused for an unbounded repetition of what may match the empty text.
-fn refused_loop(trees: &[Hir], options: &Options) -> Option<usize>
-    ensures none { IfNone result (allows_empty_loops options.now ≡ false → All LoopsRead trees.now) }
-    ensures some { IfSome result (λ number. (allows_empty_loops options.now ≡ false) × (first_empty_loop trees.now ≡ Some number)) }
+/// The automaton that tells which patterns match, where it can be made.
+fn walker_of(alloc: Global, texts: &[&str], options: &Options) -> Option<Walker>
+    ensures { IfSome result (AreBuiltOf (config_of options.now) (map (λ t. t.now) texts.now) AllMatches) }
 {
-    loops_read_tells();
-    if options.allows_empty_loops() {
-        None
+    match regex_of(alloc, texts, options, MatchKind::All) {
+        Ok(made) => match Walker::of(alloc, made.regex) {
+            Ok(walker) => Some(walker),
+            Err(_) => None,
+        },
+        Err(_) => None,
+    }
+}
+
+/// The same, where it is asked for at once.
+fn first_walker(alloc: Global, texts: &[&str], options: &Options) -> Option<Walker>
+    ensures { IfSome result (AreBuiltOf (config_of options.now) (map (λ t. t.now) texts.now) AllMatches) }
+{
+    if options.asks_which() {
+        walker_of(alloc, texts, options)
     } else {
-        first_empty_loop(trees)
+        None
     }
 }
 
 impl Compiled {
     /// A regex of texts. Of matches that start at the same place the one of the earlier text is preferred.
     pub fn new(alloc: Global, texts: &[&str], options: &Options) -> Result<Compiled, NewError>
-        ensures made { IfOk result (λ c. (it : IsRegexOf (config_of options.now) (map (λ t. t.now) texts.now) c) × (allows_empty_loops options.now ≡ false → All LoopsRead it.trees)) }
-        ensures count { IfOk result (λ c. c.count ≡ length texts.now) }
+        ensures made { IfOk result (IsMadeOf options.now (map (λ t. t.now) texts.now)) }
         ensures refused { IfErr result (IsRefused options.now (map (λ t. t.now) texts.now)) }
     {
         if !options.is_known() {
             return Err(NewError::BadArgument);
         }
-        let config = options.config();
-        let trees = match parse_all(alloc, texts, &config) {
-            Ok(trees) => trees,
-            Err(e) => return Err(NewError::Text(e)),
+        let made = match regex_of(alloc, texts, options, MatchKind::LeftmostFirst) {
+            Ok(made) => made,
+            Err(e) => return Err(e),
         };
-        if let Some(number) = refused_loop(&trees, options) {
-            return Err(NewError::EmptyLoop(number));
-        }
-        let settings = options.settings();
-        let regex = match build(alloc, &trees, &settings) {
-            Ok(regex) => regex,
-            Err(e) => return Err(NewError::Build(e)),
+        let automata = match Automata::of(alloc, made.regex) {
+            Ok(automata) => automata,
+            Err(_) => return Err(NewError::NoMemory),
         };
-        match Cache::new(alloc, &regex) {
-            Ok(cache) => Ok(Compiled {
-                regex,
-                cache,
-                utf8: settings.utf8,
-                count: texts.len(),
-            }),
-            Err(_) => Err(NewError::NoMemory),
-        }
+        let copies = match owned(alloc, texts) {
+            Ok(copies) => copies,
+            Err(_) => return Err(NewError::NoMemory),
+        };
+        let walker = first_walker(alloc, texts, options);
+        Ok(Compiled {
+            automata,
+            walker,
+            regexes: None,
+            texts: copies,
+            options: *options,
+            loops: made.loops,
+        })
     }
 
     /// How many patterns it has.
     pub fn pattern_count(&self) -> usize
-        ensures { result ≡ self.now.count }
+        ensures { result ≡ length self.now.texts }
     {
-        self.count
+        self.texts.as_slice().len()
     }
 
-    /// How often the caches of both automata were cleared; the greatest number stands for any above it.
+    /// How often the caches of its automata were cleared; the greatest number stands for any above it.
     pub fn clear_count(&self) -> usize {
-        let forward = self.cache.forward().clear_count();
-        let reverse = self.cache.reverse().clear_count();
-        forward.saturating_add(reverse)
+        let clears = self.automata.clear_count();
+        match &self.walker {
+            Some(walker) => clears.saturating_add(walker.clear_count()),
+            None => clears,
+        }
     }
 
-    /// The bytes that both caches are taken to need.
+    /// The bytes that these caches are taken to need.
     pub fn memory_usage(&self) -> usize {
-        self.cache.memory_usage()
+        let usage = self.automata.memory_usage();
+        match &self.walker {
+            Some(walker) => usage.saturating_add(walker.memory_usage()),
+            None => usage,
+        }
+    }
+
+    /// The automaton that tells which patterns match, made anew.
+    fn make_walker(&self, alloc: Global) -> Option<Walker>
+        ensures { IfSome result (AreBuiltOf (config_by self.now) self.now.texts AllMatches) }
+    {
+        match lent(alloc, &self.texts) {
+            Ok(texts) => walker_of(alloc, &texts, &self.options),
+            Err(_) => None,
+        }
+    }
+
+    /// Makes that automaton where it isn't yet, if it can be made.
+    pub(crate) fn ready_walker(&mut self, alloc: Global)
+        ensures { self.new ≡ self.old }
+    {
+        if self.walker.is_some() {
+            return;
+        }
+        let walker = self.make_walker(alloc);
+        self.walker = walker;
+    }
+
+    /// The toolchain's regexes, made anew.
+    fn make_regexes(&self, alloc: Global) -> Result<Vec<Fallback>, SearchError>
+        ensures { IfOk result (λ rs. AreFallbacksOf (config_by self.now) self.now.texts rs.items) }
+    {
+        match fallbacks_of(alloc, &self.texts, &self.options.config()) {
+            Ok(regexes) => Ok(regexes),
+            Err(e) => Err(e),
+        }
+    }
+
+    /// Takes these out, and makes them where they aren't yet.
+    pub(crate) fn take_regexes(&mut self, alloc: Global) -> Result<Vec<Fallback>, SearchError>
+        ensures same { self.new ≡ self.old }
+        ensures regexes { IfOk result (λ rs. AreFallbacksOf (config_by self.old) self.old.texts rs.items) }
+    {
+        if let Some(regexes) = self.regexes.take() {
+            return Ok(regexes);
+        }
+        match self.make_regexes(alloc) {
+            Ok(regexes) => Ok(regexes),
+            Err(e) => Err(e),
+        }
+    }
+
+    /// Puts them back.
+    pub(crate) fn keep_regexes(&mut self, regexes: Vec<Fallback>)
+        requires { AreFallbacksOf (config_by self.old) self.old.texts regexes.items }
+        ensures { self.new ≡ self.old }
+    {
+        self.regexes = Some(regexes);
     }
 }

@@ -1,12 +1,12 @@
 //! Refusals by numbers, as callers of C read them.
 ghost use Rattle.std.specs.Prelude.{◌≡◌};
-ghost use Rattle.capi.specs.Failures.{plain, failure_of_text, failure_of_build, failure_of_new, failure_of_match, failure_of_search, without_cause, row_of};
+ghost use Rattle.capi.specs.Failures.{plain, failure_of_text, failure_of_build, failure_of_new, failure_of_search, without_cause, row_of};
 
 use lazy_dfa::BuildError;
 use pattern_search::TextError;
 use pattern_text::ParseError;
 use regex_syntax::ErrorKind;
-use search_types::{Match, MatchError, MatchErrorKind};
+use search_types::Match;
 
 pub(crate) const BAD_ARGUMENT: u32 = 2;
 
@@ -25,8 +25,6 @@ pub(crate) const TOO_LARGE: u32 = 8;
 pub(crate) const CAPACITY_TOO_SMALL: u32 = 9;
 
 pub(crate) const UNSUPPORTED: u32 = 10;
-
-pub(crate) const GAVE_UP: u32 = 11;
 
 pub(crate) const HAYSTACK_NOT_UTF8: u32 = 12;
 
@@ -72,7 +70,6 @@ pub struct Failure {
     pub start: usize,
     pub end: usize,
     pub limit: usize,
-    pub byte: usize,
 }
 
 impl Failure {
@@ -87,7 +84,6 @@ impl Failure {
             start: 0,
             end: 0,
             limit: 0,
-            byte: 0,
         }
     }
 }
@@ -114,12 +110,12 @@ pub enum NewError {
 pub enum SearchError {
     /// An argument isn't one that the call takes.
     BadArgument,
+    /// Memory lacked.
+    NoMemory,
     /// The haystack is no UTF-8 from this place on, and the regex asks for that.
     NotUtf8(usize),
-    /// The regex wasn't made to be asked this.
-    Unsupported,
-    /// The search was refused.
-    Search(MatchErrorKind),
+    /// A regex of the toolchain, which is asked where the automata give up, is larger than it may be.
+    TooLarge,
 }
 
 /// What may be wrong with a text. The number of each is its place, counted from 1.
@@ -250,37 +246,6 @@ impl NewError {
     }
 }
 
-impl From<MatchError> for SearchError {
-    ghost use Rattle.std.specs.Prelude.{◌≡◌};
-    ghost use Rattle.capi.specs.declared.failure.SearchError.TheVariants.{Search};
-
-    ghost from_gives = { λ e refusal. refusal ≡ Search e };
-
-    fn from(error: MatchError) -> SearchError {
-        SearchError::Search(*error.kind())
-    }
-}
-
-fn failure_of_match(kind: &MatchErrorKind) -> Failure
-    ensures { result ≡ failure_of_match kind.now }
-{
-    match kind {
-        MatchErrorKind::Quit { byte, offset } => Failure {
-            start: *offset,
-            byte: usize::from(*byte),
-            ..Failure::plain(GAVE_UP)
-        },
-        MatchErrorKind::GaveUp { offset } => Failure {
-            start: *offset,
-            ..Failure::plain(GAVE_UP)
-        },
-        MatchErrorKind::HaystackTooLong { .. } => Failure::plain(TOO_LARGE),
-        MatchErrorKind::UnsupportedAnchored { .. } => Failure::plain(UNSUPPORTED),
-        MatchErrorKind::NotAPair => Failure::plain(UNSUPPORTED),
-        MatchErrorKind::NoMemory => Failure::plain(NO_MEMORY),
-    }
-}
-
 impl SearchError {
     /// The refusal by numbers.
     pub fn failure(&self) -> Failure
@@ -288,12 +253,12 @@ impl SearchError {
     {
         match self {
             SearchError::BadArgument => Failure::plain(BAD_ARGUMENT),
+            SearchError::NoMemory => Failure::plain(NO_MEMORY),
             SearchError::NotUtf8(at) => Failure {
                 start: *at,
                 ..Failure::plain(HAYSTACK_NOT_UTF8)
             },
-            SearchError::Unsupported => Failure::plain(UNSUPPORTED),
-            SearchError::Search(kind) => failure_of_match(kind),
+            SearchError::TooLarge => Failure::plain(TOO_LARGE),
         }
     }
 }

@@ -1,90 +1,109 @@
 //! All matches.
-ghost use Rattle.std.specs.Prelude.{◌≡◌, ◌≤◌, ℕ, List, All, IfNone, IfOk, OnOk, length, map, slice_set, None, Ok};
-ghost use Rattle.regex_syntax.specs.declared.Config.{Config as TextConfig};
-ghost use Rattle.hir_core.specs.Facts.{LoopsRead};
-ghost use Rattle.search_types.specs.Found.{Found};
-ghost use Rattle.regex_pair.specs.Pairs.{AreCachesOf};
-ghost use Rattle.capi.specs.Compiled.{IsSameRegex, IsRegexOf, IsWholeList, AreAll, overlaid};
-ghost use Rattle.capi.specs.Failures.{row_of};
+ghost use Rattle.std.specs.Prelude.{◌≡◌, ◌≤◌, ◌==◌, IfOk, length, slice_set, true};
+ghost use Rattle.regex_hir.specs.Text.{is_some_and};
+ghost use Rattle.search_core.specs.Utf8.{IsValidText};
+ghost use Rattle.capi.specs.Compiled.{AreAll, IsNext, config_by};
 
 use crate::compiled::Compiled;
 use crate::failure::{FoundMatch, SearchError};
-use crate::searching::{check_text, search_from, see_bytes};
-use pattern_search::regex_laws::regexes_answer_what_is_written;
-use regex_pair::regex::{Cache, Regex};
-use regex_pair::taken_laws::{a_step_takes_one_more, nothing_is_taken_at_first};
-use search_types::{Input, Match, MatchError};
-
-/// How many matches were written, and why there may be more.
-#[derive(Drop)]
-struct Listed {
-    count: usize,
-    refusal: Option<MatchError>,
-}
+use std::alloc::Global;
 
 /// Writes a match into its row, where there is one.
-fn put(rows: &mut [FoundMatch], number: usize, found: &Match)
-    ensures { rows.new ≡ slice_set rows.old number (row_of found.now) }
+fn put(rows: &mut [FoundMatch], number: usize, found: FoundMatch)
+    ensures { rows.new ≡ slice_set rows.old number found }
 {
     if number < rows.len() {
-        rows[number] = FoundMatch::of(found);
+        rows[number] = found;
     }
 }
 
-/// Writes the first of the matches that the iterator gives into the rows, and tells how many it gave.
-fn write_all(re: &Regex, cache: &mut Cache, input: Input<'_>, rows: &mut [FoundMatch]) -> Listed
-    requires own { AreCachesOf re.now cache.old }
-    ensures own { AreCachesOf re.now cache.new }
-    ensures whole { IfNone result.refusal ((fs : List Found) × IsWholeList re.now input.entry fs × (result.count ≡ length fs)
-        × (rows.new ≡ overlaid (map row_of fs) rows.old)) }
+/// Whether there is one, and it ends at this place.
+fn ends_at(next: Option<FoundMatch>, end: usize) -> bool
+    ensures { result ≡ is_some_and next (λ f. f.end == end) }
 {
-    nothing_is_taken_at_first();
-    a_step_takes_one_more();
-    let mut count = 0;
-    for item in re.find_iter(cache, input) {
-        match item {
-            Ok(found) => {
-                if count == usize::MAX {
-                    let refusal = Some(MatchError::haystack_too_long(count));
-                    return Listed { count, refusal };
-                }
-                put(rows, count, &found);
-                count += 1;
-            }
-            Err(e) => {
-                let refusal = Some(e);
-                return Listed { count, refusal };
-            }
-        }
-    }
-    Listed {
-        count,
-        refusal: None,
+    match next {
+        Some(found) => found.end == end,
+        None => false,
     }
 }
 
 impl Compiled {
+    /// The match behind one that ended at this place.
+    fn find_next(
+        &mut self,
+        alloc: Global,
+        haystack: &[u8],
+        end: usize,
+    ) -> Result<Option<FoundMatch>, SearchError>
+        requires valid { (config_by self.old).utf8 ≡ true → IsValidText haystack.now }
+        ensures same { self.new ≡ self.old }
+        ensures next { self.old.loops ≡ true → IfOk result (IsNext (config_by self.old) self.old.texts haystack.now end) }
+    {
+        if haystack.len() < end {
+            return Ok(None);
+        }
+        let next = match self.search(alloc, haystack, end) {
+            Ok(next) => next,
+            Err(e) => return Err(e),
+        };
+        if !ends_at(next, end) {
+            return Ok(next);
+        }
+        if haystack.len() == end {
+            return Ok(None);
+        }
+        let later = match self.search(alloc, haystack, end + 1) {
+            Ok(later) => later,
+            Err(e) => return Err(e),
+        };
+        Ok(later)
+    }
+
+    /// Writes the first of all matches into the rows.
+    fn list(
+        &mut self,
+        alloc: Global,
+        haystack: &[u8],
+        rows: &mut [FoundMatch],
+    ) -> (usize, Result<(), SearchError>)
+        requires valid { (config_by self.old).utf8 ≡ true → IsValidText haystack.now }
+        ensures same { self.new ≡ self.old }
+        ensures all { self.old.loops ≡ true →
+            IfOk result.1 (λ _. AreAll (config_by self.old) self.old.texts haystack.now result.0 rows.old rows.new) }
+    {
+        let mut next = match self.search(alloc, haystack, 0) {
+            Ok(next) => next,
+            Err(e) => return (0, Err(e)),
+        };
+        let most = haystack.len() + 1;
+        for count in 0..most {
+            let Some(found) = next else {
+                return (count, Ok(()));
+            };
+            put(rows, count, found);
+            next = match self.find_next(alloc, haystack, found.end) {
+                Ok(next) => next,
+                Err(e) => return (count + 1, Err(e)),
+            };
+        }
+        (most, Ok(()))
+    }
+
     /// Writes the first of all matches, from left to right, into the rows, as many as these have room for, and tells how many there are
     /// in all. Where it is refused, that many were found before the refusal, and are written.
     pub fn find_all(
         &mut self,
+        alloc: Global,
         haystack: &[u8],
         rows: &mut [FoundMatch],
     ) -> (usize, Result<(), SearchError>)
-        ensures same { IsSameRegex self.old self.new }
-        ensures all { (config : TextConfig) (texts : List (List ℕ)) → (it : IsRegexOf config texts self.old) → All LoopsRead it.trees →
-            IfOk result.1 (λ _. AreAll config texts haystack.now result.0 rows.old rows.new) }
+        ensures same { self.new ≡ self.old }
+        ensures all { self.old.loops ≡ true →
+            IfOk result.1 (λ _. AreAll (config_by self.old) self.old.texts haystack.now result.0 rows.old rows.new) }
     {
-        see_bytes(haystack);
-        regexes_answer_what_is_written();
-        match check_text(haystack, self.utf8) {
-            Ok(()) => {}
-            Err(e) => return (0, Err(e)),
-        }
-        let listed = write_all(&self.regex, &mut self.cache, search_from(haystack, 0), rows);
-        match listed.refusal {
-            None => (listed.count, Ok(())),
-            Some(e) => (listed.count, Err(SearchError::from(e))),
+        match self.check(haystack) {
+            Ok(()) => self.list(alloc, haystack, rows),
+            Err(e) => (0, Err(e)),
         }
     }
 }

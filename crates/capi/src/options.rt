@@ -1,9 +1,7 @@
 //! What a caller may set.
 ghost use Rattle.std.specs.Prelude.{◌≡◌, ◌<◌, ◌+◌, ◌≤◌, Bool};
 ghost use Rattle.look_core.specs.Terminators.{one_of};
-ghost use Rattle.search_types.specs.declared.match_kind.MatchKind.TheVariants.{LeftmostFirst};
 ghost use Rattle.lazy_dfa.specs.ConfigValue.{kind_of};
-ghost use Rattle.hirscan.specs.Built.{FindsFirst};
 ghost use Rattle.capi.specs.Options.{has_flag, is_known, config_of, nest_limit_of, allows_empty_loops};
 
 use hirscan::Settings;
@@ -81,7 +79,7 @@ impl Options {
         self.has(EMPTY_LOOPS)
     }
 
-    /// Whether it will be asked which patterns match.
+    /// Whether the automaton that tells which patterns match is made at once.
     pub fn asks_which(&self) -> bool {
         self.has(WHICH)
     }
@@ -113,12 +111,12 @@ impl Options {
             .nest_limit(self.nest_limit())
     }
 
-    /// The options of both automata.
-    fn dfa(&self) -> dfa::Config
-        ensures { kind_of result ≡ LeftmostFirst }
+    /// The options of both automata, which find matches of this kind.
+    fn dfa(&self, kind: MatchKind) -> dfa::Config
+        ensures { kind_of result ≡ kind }
     {
         let config = dfa::Config::new()
-            .match_kind(MatchKind::LeftmostFirst)
+            .match_kind(kind)
             .unicode_word_boundary(true)
             .byte_classes(!self.has(NO_BYTE_CLASSES))
             .skip_cache_capacity_check(self.has(RAISE_CAPACITY));
@@ -137,9 +135,9 @@ impl Options {
         }
     }
 
-    /// How regexes are built.
-    pub fn settings(&self) -> Settings
-        ensures finds { FindsFirst result }
+    /// How regexes that find matches of this kind are built.
+    pub fn settings(&self, kind: MatchKind) -> Settings
+        ensures kind { kind_of result.dfa ≡ kind }
         ensures lines { result.line_terminator ≡ one_of 10 }
         ensures mode { result.utf8 ≡ (config_of self.now).utf8 }
     {
@@ -147,7 +145,7 @@ impl Options {
             utf8: self.has(UTF8),
             shrink: self.has(SHRINK),
             size_limit: Some(self.size_limit()),
-            dfa: self.dfa(),
+            dfa: self.dfa(kind),
             ..Settings::new()
         }
     }

@@ -1,21 +1,14 @@
 //! Searches for one match.
-ghost use Rattle.std.specs.Prelude.{◌≡◌, ◌<◌, ◌≤◌, ℕ, List, All, IfOk, IsTrue, length, true};
-ghost use Rattle.regex_syntax.specs.declared.Config.{Config as TextConfig};
+ghost use Rattle.std.specs.Prelude.{◌≡◌, ◌≤◌, IfOk, length, true};
 ghost use Rattle.search_core.specs.Utf8.{IsValidText};
-ghost use Rattle.hir_core.specs.Facts.{LoopsRead};
-ghost use Rattle.pattern_search.specs.Searches.{whole_search};
-ghost use Rattle.capi.specs.Compiled.{IsSameRegex, IsRegexOf, IsFound, IsPreferred, IsTold};
+ghost use Rattle.capi.specs.Compiled.{IsFound, IsPreferred, IsTold, config_by};
 
+use crate::automata::see_bytes;
 use crate::compiled::Compiled;
-use crate::failure::SearchError;
-use hirscan::find;
-use pattern_search::regex_laws::regexes_answer_what_is_written;
-use search_types::{Input, Match};
-
-/// What a haystack has are bytes.
-pub(crate) fn see_bytes(bytes: &[u8])
-    ensures { All (λ byte. byte < 256) bytes.now }
-{}
+use crate::failure::{FoundMatch, SearchError};
+use crate::fallback::find_best;
+use search_types::{MatchError, MatchErrorKind};
+use std::alloc::Global;
 
 /// Searches may have to read text alone.
 pub(crate) fn check_text(haystack: &[u8], utf8: bool) -> Result<(), SearchError>
@@ -30,50 +23,126 @@ pub(crate) fn check_text(haystack: &[u8], utf8: bool) -> Result<(), SearchError>
     }
 }
 
-/// A search of the haystack from a place on.
-pub(crate) fn search_from(haystack: &[u8], from: usize) -> Input<'_>
-    requires { from ≤ length haystack.now }
-    ensures { result ≡ whole_search haystack.now from }
-{
-    Input::new(haystack).range(from..haystack.len())
+/// Whether a search was refused for want of memory.
+pub(crate) fn lacks_memory(error: &MatchError) -> bool {
+    match error.kind() {
+        MatchErrorKind::NoMemory => true,
+        _ => false,
+    }
 }
 
 impl Compiled {
-    /// The leftmost match from a place on, and of these the preferred one. Looks see what stands before the place.
-    pub fn find_at(&mut self, haystack: &[u8], from: usize) -> Result<Option<Match>, SearchError>
+    /// Refuses a haystack that isn't text where it has to be.
+    pub(crate) fn check(&self, haystack: &[u8]) -> Result<(), SearchError>
+        ensures { IfOk result (λ _. (config_by self.now).utf8 ≡ true → IsValidText haystack.now) }
+    {
+        match check_text(haystack, self.options.config().options().utf8) {
+            Ok(()) => Ok(()),
+            Err(e) => Err(e),
+        }
+    }
+
+    /// A search by the automata.
+    fn search_quickly(
+        &mut self,
+        haystack: &[u8],
+        from: usize,
+    ) -> Result<Option<FoundMatch>, MatchError>
         requires within { from ≤ length haystack.now }
-        ensures same { IsSameRegex self.old self.new }
-        ensures found { (config : TextConfig) (texts : List (List ℕ)) → IsRegexOf config texts self.old → IfOk result (IsFound config texts haystack.now from) }
-        ensures preferred { (config : TextConfig) (texts : List (List ℕ)) → (it : IsRegexOf config texts self.old) → All LoopsRead it.trees →
-            IfOk result (IsPreferred config texts haystack.now from) }
+        requires valid { (config_by self.old).utf8 ≡ true → IsValidText haystack.now }
+        ensures same { self.new ≡ self.old }
+        ensures found { IfOk result (IsFound (config_by self.old) self.old.texts haystack.now from) }
+        ensures preferred { self.old.loops ≡ true → IfOk result (IsPreferred (config_by self.old) self.old.texts haystack.now from) }
+    {
+        let found = match self.automata.find(haystack, from) {
+            Ok(found) => found,
+            Err(e) => return Err(e),
+        };
+        Ok(found)
+    }
+
+    /// A search by the toolchain's regexes.
+    fn search_slowly(
+        &mut self,
+        alloc: Global,
+        haystack: &[u8],
+        from: usize,
+    ) -> Result<Option<FoundMatch>, SearchError>
+        ensures same { self.new ≡ self.old }
+        ensures found { IfOk result (IsFound (config_by self.old) self.old.texts haystack.now from) }
+        ensures preferred { IfOk result (IsPreferred (config_by self.old) self.old.texts haystack.now from) }
     {
         see_bytes(haystack);
-        regexes_answer_what_is_written();
-        match check_text(haystack, self.utf8) {
+        let regexes = match self.take_regexes(alloc) {
+            Ok(regexes) => regexes,
+            Err(e) => return Err(e),
+        };
+        let told = find_best(alloc, &regexes, haystack, from);
+        self.keep_regexes(regexes);
+        let found = match told {
+            Ok(found) => found,
+            Err(e) => return Err(e),
+        };
+        Ok(found)
+    }
+
+    /// A search of a haystack that is text where it has to be.
+    pub(crate) fn search(
+        &mut self,
+        alloc: Global,
+        haystack: &[u8],
+        from: usize,
+    ) -> Result<Option<FoundMatch>, SearchError>
+        requires within { from ≤ length haystack.now }
+        requires valid { (config_by self.old).utf8 ≡ true → IsValidText haystack.now }
+        ensures same { self.new ≡ self.old }
+        ensures found { IfOk result (IsFound (config_by self.old) self.old.texts haystack.now from) }
+        ensures preferred { self.old.loops ≡ true → IfOk result (IsPreferred (config_by self.old) self.old.texts haystack.now from) }
+    {
+        let error = match self.search_quickly(haystack, from) {
+            Ok(found) => return Ok(found),
+            Err(error) => error,
+        };
+        if lacks_memory(&error) {
+            return Err(SearchError::NoMemory);
+        }
+        match self.search_slowly(alloc, haystack, from) {
+            Ok(found) => Ok(found),
+            Err(e) => Err(e),
+        }
+    }
+
+    /// The leftmost match from a place on, and of these the preferred one. Looks see what stands before the place.
+    pub fn find_at(
+        &mut self,
+        alloc: Global,
+        haystack: &[u8],
+        from: usize,
+    ) -> Result<Option<FoundMatch>, SearchError>
+        requires within { from ≤ length haystack.now }
+        ensures same { self.new ≡ self.old }
+        ensures found { IfOk result (IsFound (config_by self.old) self.old.texts haystack.now from) }
+        ensures preferred { self.old.loops ≡ true → IfOk result (IsPreferred (config_by self.old) self.old.texts haystack.now from) }
+    {
+        match self.check(haystack) {
             Ok(()) => {}
             Err(e) => return Err(e),
         }
-        let found = match find(&self.regex, &mut self.cache, &search_from(haystack, from)) {
+        let found = match self.search(alloc, haystack, from) {
             Ok(found) => found,
-            Err(e) => return Err(SearchError::from(e)),
+            Err(e) => return Err(e),
         };
         Ok(found)
     }
 
     /// Whether there is a match.
-    pub fn is_match(&mut self, haystack: &[u8]) -> Result<bool, SearchError>
-        ensures same { IsSameRegex self.old self.new }
-        ensures told { (config : TextConfig) (texts : List (List ℕ)) → IsRegexOf config texts self.old → IfOk result (IsTold config texts haystack.now) }
+    pub fn is_match(&mut self, alloc: Global, haystack: &[u8]) -> Result<bool, SearchError>
+        ensures same { self.new ≡ self.old }
+        ensures told { IfOk result (IsTold (config_by self.old) self.old.texts haystack.now) }
     {
-        see_bytes(haystack);
-        regexes_answer_what_is_written();
-        match check_text(haystack, self.utf8) {
-            Ok(()) => {}
-            Err(e) => return Err(e),
-        }
-        let found = match find(&self.regex, &mut self.cache, &search_from(haystack, 0)) {
+        let found = match self.find_at(alloc, haystack, 0) {
             Ok(found) => found,
-            Err(e) => return Err(SearchError::from(e)),
+            Err(e) => return Err(e),
         };
         Ok(found.is_some())
     }

@@ -1,5 +1,5 @@
 //! Texts that stand one behind the other.
-ghost use Rattle.std.specs.Prelude.{◌≡◌, ◌≢◌, ◌<◌, ◌++◌, ◌∷◌, [], ℕ, map, length, IfOk, IfErr, OnOk, take, drop};
+ghost use Rattle.std.specs.Prelude.{◌≡◌, ◌≢◌, ◌<◌, ◌++◌, ◌∷◌, [], ℕ, map, length, IfOk, IfErr, OnOk, take, drop, string_bytes};
 ghost use Rattle.capi.specs.Texts.{cut};
 
 use crate::failure::NewError;
@@ -51,4 +51,40 @@ pub fn texts_of<'t>(
     } else {
         Err(NewError::BadArgument)
     }
+}
+
+fn push_owned(texts: &mut Vec<String>, text: String) -> Result<(), AllocError>
+    ensures { OnOk result (texts.new.items ≡ texts.old.items ++ text ∷ []) }
+{
+    texts.push(text)?;
+    Ok(())
+}
+
+/// Copies of texts.
+pub(crate) fn owned(alloc: Global, texts: &[&str]) -> Result<Vec<String>, AllocError>
+    ensures { IfOk result (λ ts. map string_bytes ts.items ≡ map (λ t. t.now) texts.now) }
+{
+    let mut copies = Vec::new(alloc);
+    for text in texts {
+        push_owned(&mut copies, String::from_str(alloc, text)?)?;
+    }
+    Ok(copies)
+}
+
+fn push_lent<'t>(texts: &mut Vec<&'t str>, text: &'t str) -> Result<(), AllocError>
+    ensures { OnOk result (map (λ t. t.now) texts.new.items ≡ map (λ t. t.now) texts.old.items ++ text.now ∷ []) }
+{
+    texts.push(text)?;
+    Ok(())
+}
+
+/// Texts as they are read.
+pub(crate) fn lent<'t>(alloc: Global, texts: &'t [String]) -> Result<Vec<&'t str>, AllocError>
+    ensures { IfOk result (λ ts. map (λ t. t.now) ts.items ≡ map string_bytes texts.now) }
+{
+    let mut read = Vec::new(alloc);
+    for text in texts {
+        push_lent(&mut read, text.as_str())?;
+    }
+    Ok(read)
 }

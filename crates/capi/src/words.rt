@@ -3,8 +3,8 @@ ghost use Rattle.std.specs.Prelude.{◌≡◌, slice_set};
 ghost use Rattle.capi.specs.Compiled.{overlaid};
 
 use crate::failure::{
-    BAD_ARGUMENT, CAPACITY_TOO_SMALL, EMPTY_LOOP, Failure, GAVE_UP, HAYSTACK_NOT_UTF8,
-    NESTS_TOO_DEEP, NO_MEMORY, NO_PATTERN, NOT_UTF8, TOO_LARGE, UNSUPPORTED, kind_of,
+    BAD_ARGUMENT, CAPACITY_TOO_SMALL, EMPTY_LOOP, Failure, HAYSTACK_NOT_UTF8, NESTS_TOO_DEEP,
+    NO_MEMORY, NO_PATTERN, NOT_UTF8, TOO_LARGE, UNSUPPORTED, kind_of,
 };
 
 /// Words for what is wrong with a text.
@@ -26,15 +26,14 @@ fn words_of(failure: &Failure) -> &'static str {
         EMPTY_LOOP => "the pattern repeats without a bound what may match the empty text",
         TOO_LARGE => "the automata are larger than they may be",
         CAPACITY_TOO_SMALL => "a cache may take fewer bytes than it needs",
-        UNSUPPORTED => "the regex wasn't made to be asked this",
-        GAVE_UP => "the search met a byte above 0x7F beside a word boundary of Unicode",
+        UNSUPPORTED => "words by characters need their automata to give up at bytes above 0x7F",
         HAYSTACK_NOT_UTF8 => "the haystack is no UTF-8",
         _ => "unknown status",
     }
 }
 
 /// Writes a byte into its place, where there is one.
-fn put(room: &mut [u8], at: usize, byte: u8)
+pub(crate) fn put(room: &mut [u8], at: usize, byte: u8)
     ensures { room.new ≡ slice_set room.old at byte }
 {
     if at < room.len() {

@@ -2,20 +2,19 @@
 //!
 //! What the calls are and what a caller has to keep is in the header, `capi/hanneddois.h`. Its rules are those of Rust's types: a
 //! handle holds what its ghost field says, slices have the lengths that stand beside them, and what is lent to a call is the call's alone.
+//! What each answer means is in `specs/Answers.antt`, in terms of the texts and options of which the handle's regex is made.
 #![tactic(auto)]
 
 mod apart;
 mod handle;
 
-ghost use Rattle.std.specs.Prelude.{◌≡◌, ◌≢◌, ◌≤◌, ℕ, List, Some, None, IfSome, All, true, false, Ok};
-ghost use Rattle.regex_syntax.specs.declared.Config.{Config as TextConfig};
-ghost use Rattle.hir_core.specs.Facts.{LoopsRead};
-ghost use Rattle.capi.specs.Compiled.{Regexed, IsRegexOf, IsTold, IsFound, IsPreferred, AreAll};
-ghost use Rattle.capi.specs.Options.{config_of, allows_empty_loops};
-ghost use Rattle.capi.specs.Texts.{cut};
+ghost use Rattle.std.specs.Prelude.{◌≡◌, ◌≢◌, ◌<◌, Some, None, IfSome, IfOk, length, replicate};
+ghost use Rattle.capi.specs.Compiled.{IsMadeOf};
 ghost use Rattle.capi.specs.Failures.{plain};
+ghost use Rattle.capi.specs.Texts.{cut};
+ghost use Rattle.hanneddois.specs.Answers.{AnswersIsMatch, AnswersFind, AnswersAll, AnswersWhich, pattern_count_of};
 
-use capi::{Compiled, Failure, FoundMatch, NewError, Options, SearchError, error_text, texts_of};
+use capi::{Compiled, Failure, FoundMatch, NewError, Options, error_text, texts_of};
 use handle::Handle;
 use std::alloc::Global;
 
@@ -25,7 +24,7 @@ const NONE: u32 = 1;
 
 const BAD_ARGUMENT: u32 = 2;
 
-const VERSION: u32 = 100;
+const VERSION: u32 = 200;
 
 /// What the header says of a status, with no refusal.
 fn end(status: u32, error: &mut Failure) -> u32
@@ -50,9 +49,17 @@ fn made(
     texts: &[u8],
     lengths: &[usize],
     options: &Options,
-) -> Result<Box<Compiled>, NewError> {
-    let texts = texts_of(alloc, texts, lengths)?;
-    let compiled = Compiled::new(alloc, &texts, options)?;
+) -> Result<Box<Compiled>, NewError>
+    ensures { IfOk result (λ b. IsMadeOf options.now (cut lengths.now texts.now) b.value) }
+{
+    let texts = match texts_of(alloc, texts, lengths) {
+        Ok(texts) => texts,
+        Err(e) => return Err(e),
+    };
+    let compiled = match Compiled::new(alloc, &texts, options) {
+        Ok(compiled) => compiled,
+        Err(e) => return Err(e),
+    };
     match Box::new(alloc, compiled) {
         Ok(inside) => Ok(inside),
         Err(_) => Err(NewError::NoMemory),
@@ -70,7 +77,8 @@ pub extern "C" fn hanneddois_new(
     error: &mut Failure,
 ) -> u32
     ensures told { error.new.status ≡ result }
-    ensures made { result ≡ 0 → regex.new.value ≢ None }
+    ensures holds { result ≡ 0 → regex.new.value ≢ None }
+    ensures made { IfSome regex.new.value (IsMadeOf options.now (cut lengths.now texts.now)) }
     ensures refused { result ≢ 0 → regex.new.value ≡ None }
 {
     drop(regex.take(alloc));
@@ -95,6 +103,7 @@ pub extern "C" fn hanneddois_free(alloc: Global, regex: &mut Handle)
 #[unsafe(no_mangle)]
 pub extern "C" fn hanneddois_pattern_count(alloc: Global, regex: &mut Handle) -> usize
     ensures same { regex.new.value ≡ regex.old.value }
+    ensures count { result ≡ pattern_count_of regex.old.value }
 {
     let Some(inside) = regex.take(alloc) else {
         return 0;
@@ -139,12 +148,14 @@ pub extern "C" fn hanneddois_is_match(
     error: &mut Failure,
 ) -> u32
     ensures told { error.new.status ≡ result }
+    ensures same { regex.new.value ≡ regex.old.value }
     ensures empty { regex.old.value ≡ None → result ≡ 2 }
+    ensures answer { IfSome regex.old.value (λ v. AnswersIsMatch v haystack.now result) }
 {
     let Some(mut inside) = regex.take(alloc) else {
         return end(BAD_ARGUMENT, error);
     };
-    let told = inside.is_match(haystack);
+    let told = inside.is_match(alloc, haystack);
     regex.put(alloc, inside);
     match told {
         Ok(true) => end(OK, error),
@@ -164,7 +175,10 @@ pub extern "C" fn hanneddois_find_at(
     error: &mut Failure,
 ) -> u32
     ensures told { error.new.status ≡ result }
+    ensures same { regex.new.value ≡ regex.old.value }
     ensures empty { regex.old.value ≡ None → result ≡ 2 }
+    ensures behind { length haystack.now < from → result ≡ 2 }
+    ensures answer { IfSome regex.old.value (λ v. AnswersFind v haystack.now from found.new result) }
 {
     *found = FoundMatch::zero();
     if haystack.len() < from {
@@ -173,11 +187,11 @@ pub extern "C" fn hanneddois_find_at(
     let Some(mut inside) = regex.take(alloc) else {
         return end(BAD_ARGUMENT, error);
     };
-    let told = inside.find_at(haystack, from);
+    let told = inside.find_at(alloc, haystack, from);
     regex.put(alloc, inside);
     match told {
         Ok(Some(it)) => {
-            *found = FoundMatch::of(&it);
+            *found = it;
             end(OK, error)
         }
         Ok(None) => end(NONE, error),
@@ -196,13 +210,15 @@ pub extern "C" fn hanneddois_find_all(
     error: &mut Failure,
 ) -> u32
     ensures told { error.new.status ≡ result }
+    ensures same { regex.new.value ≡ regex.old.value }
     ensures empty { regex.old.value ≡ None → result ≡ 2 }
+    ensures answer { IfSome regex.old.value (λ v. AnswersAll v haystack.now count.new matches.old matches.new result) }
 {
     *count = 0;
     let Some(mut inside) = regex.take(alloc) else {
         return end(BAD_ARGUMENT, error);
     };
-    let (found, told) = inside.find_all(haystack, matches);
+    let (found, told) = inside.find_all(alloc, haystack, matches);
     regex.put(alloc, inside);
     *count = found;
     match told {
@@ -217,21 +233,31 @@ pub extern "C" fn hanneddois_find_all(
 pub extern "C" fn hanneddois_which(
     alloc: Global,
     regex: &mut Handle,
-    _haystack: &[u8],
+    haystack: &[u8],
     matched: &mut [u8],
+    count: &mut usize,
     error: &mut Failure,
 ) -> u32
     ensures told { error.new.status ≡ result }
+    ensures same { regex.new.value ≡ regex.old.value }
     ensures empty { regex.old.value ≡ None → result ≡ 2 }
+    ensures refused { 1 < result → matched.new ≡ replicate (length matched.old) 0 }
+    ensures answer { IfSome regex.old.value (λ v. AnswersWhich v haystack.now count.new matched.new result) }
 {
-    for mark in matched.iter_mut() {
-        *mark = 0;
-    }
-    let Some(inside) = regex.take(alloc) else {
+    *count = 0;
+    let Some(mut inside) = regex.take(alloc) else {
+        matched.fill(0);
         return end(BAD_ARGUMENT, error);
     };
+    let told = inside.which(alloc, haystack, matched);
     regex.put(alloc, inside);
-    refuse(SearchError::Unsupported.failure(), error)
+    match told {
+        Ok(found) => {
+            *count = found;
+            end(if found > 0 { OK } else { NONE }, error)
+        }
+        Err(e) => refuse(e.failure(), error),
+    }
 }
 
 /// Words for an error.
@@ -243,7 +269,7 @@ pub extern "C" fn hanneddois_error_text(error: &Failure, text: &mut [u8]) -> usi
 /// The version of the library.
 #[unsafe(no_mangle)]
 pub extern "C" fn hanneddois_version() -> u32
-    ensures { result ≡ 100 }
+    ensures { result ≡ 200 }
 {
     VERSION
 }

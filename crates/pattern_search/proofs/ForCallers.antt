@@ -10,3 +10,6 @@ pub use Rattle.pattern_search.proofs.FindLemmas.{finds_as_read}
 pub use Rattle.pattern_search.proofs.AllMatchLemmas.{lists_from, lists_as_read}
 -- the patterns that texts are read as, with what their trees find
 pub use Rattle.pattern_search.proofs.ReadLemmas.{finds_what_is_written}
+-- what the matcher tries at a place, and what it finds by that
+pub use Rattle.pattern_search.proofs.FindLemmas.{tried, found_is}
+pub use Rattle.pattern_search.proofs.BoundaryLemmas.{may_begin}

@@ -1,4 +1,5 @@
 pub mod TextLemmas
+pub mod WhichLemmas
 pub mod ChoiceLemmas
 pub mod BoundaryLemmas
 pub mod FindLemmas

@@ -28,7 +28,7 @@ of_text : (config : Config) (t : List ℕ) (x : Tree) → MeansText config t x �
 unfolding MeansText
 of_text config t x m = one_read config x (read config (chars t)) m
 
-all_read : (config : Config) (ts : List (List ℕ)) (xs : List Tree) → AllMean config ts xs →
+pub all_read : (config : Config) (ts : List (List ℕ)) (xs : List Tree) → AllMean config ts xs →
     (res : List Re) × AreRead config ts res × AreSameEnds res xs × AreSameSpans res xs
 all_read config [] [] m = ([], tt, tt, tt)
 all_read config [] (x ∷ xs) m = absurd m

@@ -28,14 +28,14 @@ use Rattle.pattern_search.proofs.ChoiceLemmas.{answer_is_loose}
 use Rattle.pattern_search.proofs.FindLemmas.{tried, found_is}
 
 -- ---- the tree and the pattern of one number
-tree_at : (res : List Re) (xs : List Tree) → AreSameSpans res xs → (p : ℕ) (a : Re) → slice_get res p ≡ Some a →
+pub tree_at : (res : List Re) (xs : List Tree) → AreSameSpans res xs → (p : ℕ) (a : Re) → slice_get res p ≡ Some a →
     (x : Tree) × (slice_get xs p ≡ Some x) × SameSpans a x
 tree_at [] xs same p a listed = absurd (omega (arith, slice_get_within [] p a listed))
 tree_at (b ∷ res) [] same p a listed = absurd same
 tree_at (b ∷ res) (x ∷ xs) same zero a listed = (x, refl, subst (λ r. SameSpans r x) (same_Some b a listed) same.0)
 tree_at (b ∷ res) (x ∷ xs) same (suc p) a listed = tree_at res xs same.1 p a listed
 
-pattern_at : (res : List Re) (xs : List Tree) → AreSameSpans res xs → (p : ℕ) (x : Tree) → slice_get xs p ≡ Some x →
+pub pattern_at : (res : List Re) (xs : List Tree) → AreSameSpans res xs → (p : ℕ) (x : Tree) → slice_get xs p ≡ Some x →
     (a : Re) × (slice_get res p ≡ Some a) × SameSpans a x
 pattern_at res [] same p x listed = absurd (omega (arith, slice_get_within [] p x listed))
 pattern_at [] (y ∷ xs) same p x listed = absurd same
@@ -66,7 +66,7 @@ module _ (h : List ℕ) (i j : ℕ) where
   any_of (b ∷ res) (suc p) a listed m = inr (any_of res p a listed m)
 
 -- ---- where the matcher finds a match, a span counts, and the other way round
-holds_of : (xs : List Tree) (p : ℕ) (x : Tree) → slice_get xs p ≡ Some x → All (λ y. is_utf8_tree y ≡ true) xs → is_utf8_tree x ≡ true
+pub holds_of : (xs : List Tree) (p : ℕ) (x : Tree) → slice_get xs p ≡ Some x → All (λ y. is_utf8_tree y ≡ true) xs → is_utf8_tree x ≡ true
 holds_of xs p x listed all =
     subst (λ y. is_utf8_tree y ≡ true) (get_or_from_slice_get xs p x x listed) (all p x (slice_get_within xs p x listed))
 

@@ -1,6 +1,6 @@
 -- What the trees of several patterns find in a whole haystack, in the words of the toolchain's matcher: `find` in any bytes, and
 -- `find_str` in text, where no match starts inside a character. It takes one pattern: several are their alternation, the first preferred.
-use Rattle.std.specs.Prelude.{◌≡◌, ◌↔◌, ℕ, ◌+◌, ◌-◌, ◌<◌, ◌≤◌, Bool, true, false, List, map, length, slice_get, All, Option, Some, option_map}
+use Rattle.std.specs.Prelude.{◌≡◌, ◌↔◌, ℕ, ◌+◌, ◌-◌, ◌<◌, ◌≤◌, Bool, true, false, List, map, length, slice_get, All, Option, Some, option_map, is_some}
 use Rattle.regex_hir.specs.Re.{Re}
 use Rattle.regex_hir.specs.Matches.{Matches}
 use Rattle.regex_hir.specs.Meaning.{alt_all}
@@ -31,6 +31,10 @@ found_from true re h s = find_str re h s
 abbrev pub all_found : Bool → Re → List ℕ → List Match
 all_found false re h = find_all re h
 all_found true re h = find_all_str re h
+
+-- for each pattern, whether it finds a match of that one anywhere
+abbrev pub which_match : Bool → List Re → List ℕ → List Bool
+which_match utf8 res h = map (λ re. is_some (found_from utf8 re h 0)) res
 
 abbrev pub span_of_match : Match → ℕ × ℕ
 span_of_match m = (m.start, m.trace.end)

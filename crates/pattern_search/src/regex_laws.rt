@@ -8,23 +8,30 @@
 //!     regexes_answer_what_is_written();
 //! }
 //! ```
-ghost use Rattle.std.specs.Prelude.{◌≡◌, ℕ, List};
+ghost use Rattle.std.specs.Prelude.{◌≡◌, ℕ, Bool, false, List, Ok, length, replicate};
 ghost use Rattle.regex_hir.specs.Re.{Re};
 ghost use Rattle.regex_syntax.specs.declared.Config.{Config};
 ghost use Rattle.look_core.specs.Terminators.{one_of};
 ghost use Rattle.hir_core.specs.Tree.{Tree};
+ghost use Rattle.search_types.specs.declared.match_kind.MatchKind.TheVariants.{All as AllMatches};
+ghost use Rattle.lazy_dfa.specs.Caches.{CacheValue};
+ghost use Rattle.lazy_dfa.specs.ConfigValue.{kind_of};
+ghost use Rattle.lazy_dfa.specs.WalkAnswers.{AnswersWhich};
 ghost use Rattle.regex_pair.specs.Pairs.{Pair};
 ghost use Rattle.hirscan.specs.declared.settings.Settings.{Settings};
 ghost use Rattle.hirscan.specs.Built.{IsBuilt, FindsFirst};
+ghost use Rattle.hirscan.specs.Regexes.{IsSearchOf};
 ghost use Rattle.pattern_text.specs.SameEnds.{AreSameEnds, AreSameSpans};
 ghost use Rattle.pattern_search.specs.RegexAnswers.{AnswersAsRead};
-ghost use Rattle.pattern_search.specs.Texts.{AllMean};
+ghost use Rattle.pattern_search.specs.Searches.{whole_search, which_match};
+ghost use Rattle.pattern_search.specs.Texts.{AllMean, AreRead};
 ghost use Rattle.pattern_search.specs.Written.{AnswersWhatIsWritten};
 
 use hirscan::headline::{
     iterators_list_the_answers, matches_are_told_as_trees_define,
     searches_answer_leftmost_whatever_the_loops, searches_answer_what_trees_define,
 };
+use hirscan::tree_walk_laws::{built_automata_are_walked, sets_get_the_patterns_of_spans};
 
 /// A regex that is built of the trees of patterns, and whose lines end at a line feed, answers what the toolchain's matcher finds for
 /// the patterns.
@@ -44,4 +51,26 @@ pub fn regexes_answer_what_is_written()
         IsBuilt xs s p → FindsFirst s → s.line_terminator ≡ one_of 10 → AnswersWhatIsWritten config texts xs s p }
 {
     regexes_answer_what_patterns_say();
+}
+
+/// Where all matches are looked for, a call for the patterns of all ends that answers Ok and began with an empty set has exactly the
+/// patterns of which the toolchain's matcher finds a match in the haystack, whatever the loops read.
+pub fn walks_tell_which_patterns_match()
+    ensures { (res : List Re) (xs : List Tree) → AreSameSpans res xs → (s : Settings) (p : Pair) →
+        IsBuilt xs s p → kind_of s.dfa ≡ AllMatches → s.line_terminator ≡ one_of 10 → (h : List ℕ) → IsSearchOf xs s.utf8 (whole_search h 0) →
+        (v : CacheValue) (set : List Bool) → AnswersWhich p.forward v (whole_search h 0) (replicate (length xs) false) set (Ok tt) →
+        set ≡ which_match s.utf8 res h }
+{
+    built_automata_are_walked();
+    sets_get_the_patterns_of_spans();
+}
+
+/// So it has for trees that [`parse_all`](crate::parse_all) made of texts.
+pub fn walks_tell_which_texts_match()
+    ensures { (config : Config) (texts : List (List ℕ)) (xs : List Tree) → AllMean config texts xs → (s : Settings) (p : Pair) →
+        IsBuilt xs s p → kind_of s.dfa ≡ AllMatches → s.line_terminator ≡ one_of 10 → (h : List ℕ) → IsSearchOf xs s.utf8 (whole_search h 0) →
+        (v : CacheValue) (set : List Bool) → AnswersWhich p.forward v (whole_search h 0) (replicate (length xs) false) set (Ok tt) →
+        (res : List Re) × AreRead config texts res × (set ≡ which_match s.utf8 res h) }
+{
+    walks_tell_which_patterns_match();
 }

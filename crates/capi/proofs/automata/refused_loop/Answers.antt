@@ -1,6 +1,6 @@
 use Rattle.capi.specs.Options.{allows_empty_loops}
 use Rattle.capi.proofs.LoopLemmas.{none_refused}
-use Rattle.capi.proofs.compiled.refused_loop.Goals as goal
+use Rattle.capi.proofs.automata.refused_loop.Goals as goal
 
 pub returns-else-allows_empty_loops-clause-none : goal.returns-else-allows_empty_loops-clause-none
 returns-else-allows_empty_loops-clause-none c =

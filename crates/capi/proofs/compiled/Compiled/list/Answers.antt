@@ -1,0 +1,37 @@
+use Rattle.std.proofs.Common.{◌≡◌, ℕ, ◌+◌, ◌-◌, ◌∙◌, arith, length, subst, sym, true}
+use Rattle.capi.specs.Compiled.{Regexed, AreAll, IsNext, config_by}
+use Rattle.capi.proofs.ListLemmas.{none_laid}
+use Rattle.capi.proofs.NextLemmas.{listing_begins, listing_ends, listing_goes_on, listing_runs_out}
+use Rattle.capi.proofs.compiled.Compiled.list.Goals as goal
+
+pub loop-count-init : goal.loop-count-init
+loop-count-init c = (
+  c.search.ensures.same,
+  λ on. listing_begins (config_by c.args.self.now) c.args.self.now.texts c.args.haystack.now c.args.rows.now c.in-Ok.next (sym (none_laid c.args.rows.now))
+      (c.in-Ok.ensures.preferred on),
+)
+
+pub loop-count-preserved : goal.loop-count-preserved
+loop-count-preserved c = (
+  c.find_next.ensures.same ∙ c.loop-count.invariant.0,
+  λ on. listing_goes_on (config_by c.args.self.now) c.args.self.now.texts c.args.haystack.now c.args.rows.now
+      (length c.args.haystack.now + 1 - c.loop-count.count) (length c.args.haystack.now + 1 - (c.loop-count.count + 1)) c.loop-count.count
+      c.loop-count.rows c.put.new.rows c.loop-count.next c.in-Ok-find_next.next c.in-Some.found
+      (omega (arith, c.loop-count-test.true)) c.in-Some.is c.put.ensures
+      (subst (λ (v : Regexed). v.loops ≡ true → IsNext (config_by v) v.texts c.args.haystack.now c.in-Some.found.end c.in-Ok-find_next.next) c.loop-count.invariant.0
+      c.in-Ok-find_next.ensures.next on)
+      (c.loop-count.invariant.1 on),
+)
+
+pub returns-in_default-clause-all : goal.returns-in_default-clause-all
+returns-in_default-clause-all c on =
+    listing_ends (config_by c.args.self.now) c.args.self.now.texts c.args.haystack.now c.args.rows.now
+    (length c.args.haystack.now + 1 - c.loop-count.count) c.loop-count.count c.loop-count.rows c.loop-count.next c.in_default.is (c.loop-count.invariant.1 on)
+
+pub returns-clause-all : goal.returns-clause-all
+returns-clause-all c on =
+    let last : c.loop-count.count ≡ length c.args.haystack.now + 1 = omega (arith, c.loop-count-test.false, c.loop-count.auto.count-end) in
+    subst (λ (n : ℕ). AreAll (config_by c.args.self.now) c.args.self.now.texts c.args.haystack.now n c.args.rows.now c.loop-count.rows) last
+    (listing_runs_out (config_by c.args.self.now) c.args.self.now.texts c.args.haystack.now c.args.rows.now
+    (length c.args.haystack.now + 1 - c.loop-count.count) c.loop-count.count c.loop-count.rows c.loop-count.next
+    (omega (arith, c.loop-count-test.false)) (c.loop-count.invariant.1 on))

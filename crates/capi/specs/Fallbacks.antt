@@ -1,0 +1,48 @@
+-- The toolchain's regexes of texts, which search where automata give up.
+use Rattle.std.specs.Prelude.{◌≡◌, ℕ, ◌+◌, Bool, true, false, nat_lt, List, [], ◌∷◌, Option, Some, None, option_map, is_some, if◌then◌else◌, ⊤}
+use Rattle.regex_hir.specs.Find.{Match, find, find_str}
+use Rattle.regex_syntax.specs.declared.Config.{Config}
+use Rattle.regex.specs.Bytes as raw
+use Rattle.regex.specs.Strings as text
+use Rattle.pattern_search.specs.Searches.{span_of_match}
+use Rattle.capi.specs.declared.failure.FoundMatch.{FoundMatch}
+use Rattle.capi.specs.declared.fallback.Fallback.{Fallback}
+use Rattle.capi.specs.declared.fallback.Fallback.TheVariants.{Bytes, Text}
+
+-- A regex is read from this text, with these options: one for text in UTF-8 mode, and else one for any bytes.
+abbrev pub IsFallbackOf : Config → List ℕ → Fallback → Type 0
+IsFallbackOf config t (Bytes r) = (config.utf8 ≡ false) × (raw.regex_source r ≡ t) × (raw.regex_config r ≡ config) × raw.IsReadFromSource r
+IsFallbackOf config t (Text r) = (config.utf8 ≡ true) × (text.regex_source r ≡ t) × (text.regex_config r ≡ config) × text.IsReadFromSource r
+
+-- each regex is read from the text in its place
+abbrev pub AreFallbacksOf : Config → List (List ℕ) → List Fallback → Type 0
+AreFallbacksOf config [] [] = ⊤
+AreFallbacksOf config (t ∷ ts) (r ∷ rs) = IsFallbackOf config t r × AreFallbacksOf config ts rs
+AreFallbacksOf config _ _ = ⊥
+
+-- what it finds from a place on
+abbrev pub found_by : Fallback → List ℕ → ℕ → Option Match
+found_by (Bytes r) h at = find (raw.regex_pattern r) h at
+found_by (Text r) h at = find_str (text.regex_pattern r) h at
+
+abbrev pub span_by : List ℕ → ℕ → Fallback → Option (ℕ × ℕ)
+span_by h at r = option_map span_of_match (found_by r h at)
+
+-- whether it finds anything
+abbrev pub finds_any : List ℕ → Fallback → Bool
+finds_any h r = is_some (found_by r h 0)
+
+-- a span of the pattern of this number
+abbrev pub numbered : ℕ → ℕ × ℕ → FoundMatch
+numbered n s = record { pattern = n; start = s.0; end = s.1 }
+
+-- of two matches the one with the lesser start, and else the first
+abbrev pub better : Option FoundMatch → Option FoundMatch → Option FoundMatch
+better None b = b
+better (Some a) None = Some a
+better (Some a) (Some b) = if nat_lt b.start a.start then Some b else Some a
+
+-- the best of what each of several patterns has, of which the first has this number
+abbrev pub best_of : ℕ → List (Option (ℕ × ℕ)) → Option FoundMatch
+best_of n [] = None
+best_of n (s ∷ ss) = better (option_map (numbered n) s) (best_of (n + 1) ss)

@@ -1,0 +1,213 @@
+//! Haystacks in which automata give up, searched by the toolchain's regexes of the same texts.
+ghost use Rattle.std.specs.Prelude.{◌≡◌, ◌≤◌, ◌++◌, ◌∷◌, [], IfOk, OnOk, false, length, map, option_map, string_bytes};
+ghost use Rattle.regex.specs.Views.{builder_source, builder_config};
+ghost use Rattle.capi.specs.Fallbacks.{AreFallbacksOf, IsFallbackOf, best_of, better, finds_any, numbered, span_by};
+
+use crate::failure::{FoundMatch, SearchError};
+use pattern_text::Config;
+use regex::{Error, RegexBuilder};
+use std::alloc::{AllocError, Global};
+
+/// A regex of the toolchain, of text where haystacks have to be text.
+#[derive(Drop)]
+pub(crate) enum Fallback {
+    Bytes(regex::bytes::Regex),
+    Text(regex::Regex),
+}
+
+/// A builder that reads the text under these options.
+fn builder_of<'s>(text: &'s str, config: &Config) -> RegexBuilder<'s>
+    ensures source { builder_source result ≡ text.now }
+    ensures config { (record (builder_config result) { utf8 = false }) ≡ (record (config.now) { utf8 = false }) }
+{
+    let options = config.options();
+    let flags = options.flags;
+    RegexBuilder::new(text)
+        .case_insensitive(flags.case_insensitive)
+        .multi_line(flags.multi_line)
+        .dot_matches_new_line(flags.dot_matches_new_line)
+        .swap_greed(flags.swap_greed)
+        .unicode(flags.unicode)
+        .crlf(flags.crlf)
+        .ignore_whitespace(flags.ignore_whitespace)
+        .octal(options.octal)
+        .nest_limit(options.nest_limit)
+        .size_limit(1 << 34)
+}
+
+/// The cause of a refusal. The text is a pattern, since it has a regex of ours.
+fn cause_of(error: Error) -> SearchError {
+    match error {
+        Error::OutOfMemory => SearchError::NoMemory,
+        _ => SearchError::TooLarge,
+    }
+}
+
+/// The regex of a text.
+fn fallback_of(alloc: Global, text: &str, config: &Config) -> Result<Fallback, SearchError>
+    ensures { IfOk result (IsFallbackOf config.now text.now) }
+{
+    let builder = builder_of(text, config);
+    if config.options().utf8 {
+        match builder.build(alloc) {
+            Ok(regex) => Ok(Fallback::Text(regex)),
+            Err(e) => Err(cause_of(e)),
+        }
+    } else {
+        match builder.build_bytes(alloc) {
+            Ok(regex) => Ok(Fallback::Bytes(regex)),
+            Err(e) => Err(cause_of(e)),
+        }
+    }
+}
+
+/// The regexes of texts, one for each and in their order.
+pub(crate) fn fallbacks_of(
+    alloc: Global,
+    texts: &[String],
+    config: &Config,
+) -> Result<Vec<Fallback>, SearchError>
+    ensures { IfOk result (λ rs. AreFallbacksOf config.now (map string_bytes texts.now) rs.items) }
+{
+    let mut regexes = Vec::new(alloc);
+    for text in texts {
+        let regex = match fallback_of(alloc, text.as_str(), config) {
+            Ok(regex) => regex,
+            Err(e) => return Err(e),
+        };
+        match regexes.push(regex) {
+            Ok(()) => {}
+            Err(_) => return Err(SearchError::NoMemory),
+        }
+    }
+    Ok(regexes)
+}
+
+/// The haystack as text.
+fn as_text(haystack: &[u8]) -> Result<&str, SearchError>
+    ensures { IfOk result (λ t. t.now ≡ haystack.now) }
+{
+    match str::from_utf8(haystack) {
+        Ok(text) => Ok(text),
+        Err(e) => Err(SearchError::NotUtf8(e.valid_up_to())),
+    }
+}
+
+impl From<AllocError> for SearchError {
+    fn from(_: AllocError) -> SearchError {
+        SearchError::NoMemory
+    }
+}
+
+/// The match from a place on, of the pattern of this number.
+fn find_one(
+    alloc: Global,
+    regex: &Fallback,
+    number: usize,
+    haystack: &[u8],
+    from: usize,
+) -> Result<Option<FoundMatch>, SearchError>
+    ensures { IfOk result (λ o. o ≡ option_map (numbered number) (span_by haystack.now from regex.now)) }
+{
+    match regex {
+        Fallback::Bytes(regex) => {
+            let mut matcher = regex.matcher(alloc)?;
+            match matcher.find_at(haystack, from) {
+                Some(found) => Ok(Some(FoundMatch {
+                    pattern: number,
+                    start: found.start(),
+                    end: found.end(),
+                })),
+                None => Ok(None),
+            }
+        }
+        Fallback::Text(regex) => {
+            let text = as_text(haystack)?;
+            let mut matcher = regex.matcher(alloc)?;
+            match matcher.find_at(text, from) {
+                Some(found) => Ok(Some(FoundMatch {
+                    pattern: number,
+                    start: found.start(),
+                    end: found.end(),
+                })),
+                None => Ok(None),
+            }
+        }
+    }
+}
+
+/// Of two matches the one with the lesser start, and else the first.
+fn better(first: Option<FoundMatch>, second: Option<FoundMatch>) -> Option<FoundMatch>
+    ensures { result ≡ better first second }
+{
+    match (first, second) {
+        (None, second) => second,
+        (Some(a), Some(b)) if b.start < a.start => Some(b),
+        (Some(a), _) => Some(a),
+    }
+}
+
+/// The best match from a place on.
+pub(crate) fn find_best(
+    alloc: Global,
+    regexes: &[Fallback],
+    haystack: &[u8],
+    from: usize,
+) -> Result<Option<FoundMatch>, SearchError>
+    ensures { IfOk result (λ o. o ≡ best_of 0 (map (span_by haystack.now from) regexes.now)) }
+{
+    let mut best = None;
+    for number in (0..regexes.len()).rev() {
+        let found = match find_one(alloc, &regexes[number], number, haystack, from) {
+            Ok(found) => found,
+            Err(e) => return Err(e),
+        };
+        best = better(found, best);
+    }
+    Ok(best)
+}
+
+/// Whether there is a match.
+fn has_one(alloc: Global, regex: &Fallback, haystack: &[u8]) -> Result<bool, SearchError>
+    ensures { IfOk result (λ told. told ≡ finds_any haystack.now regex.now) }
+{
+    match regex {
+        Fallback::Bytes(regex) => {
+            let mut matcher = regex.matcher(alloc)?;
+            Ok(matcher.is_match(haystack))
+        }
+        Fallback::Text(regex) => {
+            let text = as_text(haystack)?;
+            let mut matcher = regex.matcher(alloc)?;
+            Ok(matcher.is_match(text))
+        }
+    }
+}
+
+fn push(tests: &mut Vec<bool>, test: bool) -> Result<(), SearchError>
+    ensures { OnOk result (tests.new.items ≡ tests.old.items ++ test ∷ []) }
+{
+    match tests.push(test) {
+        Ok(()) => Ok(()),
+        Err(_) => Err(SearchError::NoMemory),
+    }
+}
+
+/// Of each regex whether there is a match.
+pub(crate) fn have_each(
+    alloc: Global,
+    regexes: &[Fallback],
+    haystack: &[u8],
+) -> Result<Vec<bool>, SearchError>
+    ensures { IfOk result (λ told. told.items ≡ map (finds_any haystack.now) regexes.now) }
+{
+    let mut told = Vec::new(alloc);
+    for regex in regexes {
+        let has = match has_one(alloc, regex, haystack) {
+            Ok(has) => has,
+            Err(e) => return Err(e),
+        };
+        push(&mut told, has)?;
+    }
+    Ok(told)
+}
