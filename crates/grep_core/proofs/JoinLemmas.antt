@@ -42,7 +42,7 @@ pub no_feed : (text : List ℕ) → ((i : ℕ) → slice_get text i ≡ Some 10 
 no_feed text none = none_by text none (nat_lt (position_or_len is_feed text) (length text)) refl
 
 -- a place that holds a byte is below the end
-got_within : (xs : List ℕ) (i b : ℕ) → slice_get xs i ≡ Some b → i < length xs
+pub got_within : (xs : List ℕ) (i b : ℕ) → slice_get xs i ≡ Some b → i < length xs
 got_within [] i b e = absurd (none-some b e)
 got_within (x ∷ xs) zero b e = omega arith
 got_within (x ∷ xs) (suc i) b e = let less = got_within xs i b e in omega (arith, less)
@@ -68,7 +68,7 @@ ends_line first some =
     let last : length (first ++ 10 ∷ []) - 1 ≡ length first = omega (arith, length-append first (10 ∷ [])) in
     ap (slice_get (first ++ 10 ∷ [])) last ∙ last_at first
 
-whole_ends : (block : List ℕ) → AreWhole block → IsLineStart block (length block)
+pub whole_ends : (block : List ℕ) → AreWhole block → IsLineStart block (length block)
 whole_ends block (inl none) some = absurd (omega (arith, some, ap length none))
 whole_ends block (inr it) some = subst (λ (t : List ℕ). IsLineStart t (length t)) (sym it.1) (ends_line it.0) some
 

@@ -1,6 +1,7 @@
 mod BlockLemmas
 mod CourseLemmas
 mod FallbackLemmas
+mod HeldLemmas
 mod JoinLemmas
 mod ListLemmas
 mod LoopLemmas

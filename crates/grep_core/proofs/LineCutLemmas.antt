@@ -135,7 +135,7 @@ take_one_more [] k b e = absurd (none-some b e)
 take_one_more (x ∷ xs) zero b e = ap (λ c. c ∷ []) (same_Some x b e)
 take_one_more (x ∷ xs) (suc k) b e = ap (λ (t : List ℕ). x ∷ t) (take_one_more xs k b e)
 
-get_taken : (n : ℕ) (xs : List ℕ) (k : ℕ) → k < n → slice_get (take n xs) k ≡ slice_get xs k
+pub get_taken : (n : ℕ) (xs : List ℕ) (k : ℕ) → k < n → slice_get (take n xs) k ≡ slice_get xs k
 get_taken zero xs k less = absurd (omega (arith, less))
 get_taken (suc n) [] k less = refl
 get_taken (suc n) (x ∷ xs) zero less = refl

@@ -1,55 +1,33 @@
--- Lines without a match of which none is told: what is told goes on behind all of them at once.
-use Rattle.std.proofs.Common.{◌≡◌, ℕ, zero, suc, ◌+◌, Bool, true, false, not, ◌&&◌, List, [], ◌∷◌, ◌++◌, All, length, map, count_by}
-use Rattle.std.proofs.Common.{if◌then◌else◌, refl, sym, ap, ap₂, ◌∙◌, arith}
-use Rattle.std.proofs.lemmas.List.{nil_from_length}
-use Rattle.std.proofs.lemmas.List.Elements.{All-head, All-tail}
+-- Lines without a match of which none is told: what is told goes on behind all of them at once, but for the last ones.
+use Rattle.std.proofs.Common.{◌≡◌, ◌≤◌, ◌<◌, inl, inr, ℕ, zero, suc, ◌+◌, Bool, true, false, not, ◌&&◌, List, [], ◌∷◌, ◌++◌, All, length, map}
+use Rattle.std.proofs.Common.{◌-◌, cond, count_by, take, drop, slice_range, Some, None, if◌then◌else◌, refl, sym, ap, ap₂, ◌∙◌, subst, arith, append_assoc, take-append-drop, length-drop}
+use Rattle.std.proofs.lemmas.List.{length-take-le, take_rest}
+use Rattle.std.proofs.lemmas.List.Elements.{All-nil, All-cons, All-head, All-tail}
+use Rattle.std.proofs.lemmas.List.Folds.{drop_split}
+use Rattle.std.proofs.lemmas.List.Sums.{sum_by-append}
+use Rattle.std.specs.List.{position}
+use Rattle.std.specs.Prelude.{nat_lt}
+use Rattle.grep_core.specs.declared.blocks.Progress.{Progress}
+use Rattle.grep_core.specs.declared.blocks.Task.{Task}
 use Rattle.grep_core.specs.declared.course.Course.{Course}
-use Rattle.grep_core.specs.declared.course.Waiting.{Waiting}
 use Rattle.grep_core.specs.declared.known.Known.{Known}
-use Rattle.grep_core.specs.declared.known.Known.TheVariants.{NonePrinted, LastPrinted, EarlierPrinted}
-use Rattle.grep_core.specs.declared.role.Role.{Role}
 use Rattle.grep_core.specs.declared.what.Print.{Print}
 use Rattle.grep_core.specs.declared.what.Print.TheVariants.{Lines, Matches, Count, NameIfAny, NameIfNone, Nothing}
 use Rattle.grep_core.specs.declared.what.What.{What}
-use Rattle.grep_core.specs.Courses.{Item, Waits, print_item, waiting_item}
+use Rattle.grep_core.specs.Blocks.{tells_lines, counts_lines}
+use Rattle.grep_core.specs.Candidates.{IsLineStart}
+use Rattle.grep_core.specs.Courses.{Item, print_item, still, waiting_item}
 use Rattle.grep_core.specs.Lines.{numbered, split_lines}
-use Rattle.grep_core.specs.Passing.{AreWhole, Hides, Lacks, known_behind}
-use Rattle.grep_core.specs.Report.{Finds, before_of, after_of, behind_hidden, told_spans}
+use Rattle.grep_core.specs.Passing.{AreWhole, Lacks, MayPass, PassesTo, held_of}
+use Rattle.grep_core.specs.Report.{Finds, before_of, after_of, behind_hidden, count_line, name_line}
 use Rattle.grep_core.specs.Selecting.{count}
 use Rattle.grep_core.specs.Telling.{shown, told_item, prints_lines, tells_as, may_select, flags_behind}
-use Rattle.grep_core.proofs.BlockLemmas.{is_feed}
-use Rattle.grep_core.proofs.StepLemmas.{rest}
-use Rattle.grep_core.proofs.TellingLemmas.{line_told, line_counted, selects}
-use Rattle.grep_core.proofs.WholeLemmas.{all_bytes, whole_joins, whole_counts, whole_bytes}
-
--- ---- one line that isn't selected, where none is printed beside a selected one
-hidden_line : (w : What) (print : Role → Item → List ℕ) (before after left : ℕ) (b : Known) (queue : List Waiting)
-    (flags : List Bool) (it : Item) (items : List Item) →
-    before ≡ 0 → left ≡ 0 → queue ≡ [] →
-    rest w print before after b left (map waiting_item queue) (false ∷ flags) (it ∷ items)
-    ≡ rest w print before after (behind_hidden b) left (map waiting_item queue) flags items
-hidden_line w print before after left b queue flags it items no_before no_left none =
-    ap (λ n. rest w print before after b n (map waiting_item queue) (false ∷ flags) (it ∷ items)) no_left
-    ∙ ap₂ (λ n q. rest w print n after b 0 (map waiting_item q) (false ∷ flags) (it ∷ items)) no_before none
-    ∙ sym (ap₂ (λ n q. rest w print n after (behind_hidden b) 0 (map waiting_item q) flags items) no_before none)
-    ∙ sym (ap (λ n. rest w print before after (behind_hidden b) n (map waiting_item queue) flags items) no_left)
-
-hidden_as : (p : Print) (w : What) (name : List ℕ) (with_name : Bool) (c : Course) (b : Known) (n : ℕ) (flags : List Bool) (it : Item)
-    (items : List Item) →
-    (prints_lines p ≡ true → before_of w.context ≡ 0) → (prints_lines p ≡ true → c.left ≡ 0) →
-    (prints_lines p ≡ true → c.waiting.items ≡ []) →
-    tells_as p w name with_name (record c { known = b }) n (false ∷ flags) (it ∷ items)
-    ≡ tells_as p w name with_name (record c { known = behind_hidden b }) n flags items
-hidden_as Lines w name with_name c b n flags it items no_before no_left none =
-    hidden_line w (print_item w (shown with_name name)) (before_of w.context) (after_of w.context) c.left b c.waiting.items flags it items
-    (no_before refl) (no_left refl) (none refl)
-hidden_as Matches w name with_name c b n flags it items no_before no_left none =
-    hidden_line w (print_item w (shown with_name name)) (before_of w.context) (after_of w.context) c.left b c.waiting.items flags it items
-    (no_before refl) (no_left refl) (none refl)
-hidden_as Count w name with_name c b n flags it items no_before no_left none = refl
-hidden_as NameIfAny w name with_name c b n flags it items no_before no_left none = refl
-hidden_as NameIfNone w name with_name c b n flags it items no_before no_left none = refl
-hidden_as Nothing w name with_name c b n flags it items no_before no_left none = refl
+use Rattle.grep_core.proofs.BlockLemmas.{is_feed, turn, turn_counted}
+use Rattle.grep_core.proofs.JoinLemmas.{whole_start, whole_range}
+use Rattle.grep_core.proofs.RunLemmas.{one_lacks, others_lack}
+use Rattle.grep_core.proofs.StepLemmas.{rest, passes, known_behind, known_some}
+use Rattle.grep_core.proofs.TellingLemmas.{flags_step, selects}
+use Rattle.grep_core.proofs.WholeLemmas.{all_bytes, whole_joins, whole_counts, whole_bytes, whole_behind, whole_none, some_whole}
 
 unselected : (w : What) (n : ℕ) → w.invert ≡ false → false ≡ selects w n false
 unselected w n kept = sym (ap (λ v. (if v then not false else false) && may_select w.most n) kept)
@@ -57,94 +35,267 @@ unselected w n kept = sym (ap (λ v. (if v then not false else false) && may_sel
 no_more : (n : ℕ) → n ≡ n + 0
 no_more n = omega arith
 
-none_waits : (w : What) (c : Course) → Waits w c → before_of w.context ≡ 0 → c.waiting.items ≡ []
-none_waits w c waits no_before = nil_from_length c.waiting.items (omega (arith, waits.few, no_before))
-
-hidden_again : (b : Known) → behind_hidden (behind_hidden b) ≡ behind_hidden b
-hidden_again NonePrinted = refl
-hidden_again LastPrinted = refl
-hidden_again EarlierPrinted = refl
-
-known_again : (b : Known) (n : ℕ) → known_behind (behind_hidden b) n ≡ behind_hidden b
-known_again b zero = refl
-known_again b (suc n) = hidden_again b
-
 more_first : (a n : ℕ) → (a + 1) + n ≡ a + suc n
 more_first a n = omega arith
 
 more_bytes : (a n m : ℕ) → (a + n + 1) + m ≡ a + (n + 1 + m)
 more_bytes a n m = omega arith
 
--- ---- and many
-module _ (w : What) (f : Finds) (name : List ℕ) (with_name : Bool) (c : Course) (n : ℕ) (hides : Hides w c) (waits : Waits w c) where
-  abbrev tells : Known → ℕ → ℕ → List (List ℕ) → List ℕ
-  tells b number place lines =
-      tells_as w.print w name with_name (record c { known = b }) n (flags_behind w f n (numbered number place lines))
-      (map (told_item f) (numbered number place lines))
+-- ---- parts of lists
+all_first : {X : Type 0} (P : X → Type 0) (xs ys : List X) → All P (xs ++ ys) → All P xs
+all_first P [] ys all = All-nil P
+all_first P (x ∷ xs) ys all = All-cons P x xs (All-head P x (xs ++ ys) all) (all_first P xs ys (All-tail P x (xs ++ ys) all))
 
-  abbrev counts : ℕ → ℕ → List (List ℕ) → ℕ
-  counts number place lines = n + count (flags_behind w f n (numbered number place lines))
+all_last : {X : Type 0} (P : X → Type 0) (xs ys : List X) → All P (xs ++ ys) → All P ys
+all_last P [] ys all = all
+all_last P (x ∷ xs) ys all = all_last P xs ys (All-tail P x (xs ++ ys) all)
 
-  one_told : (b : Known) (number place : ℕ) (line : List ℕ) (lines : List (List ℕ)) → Lacks f line →
-      tells b number place (line ∷ lines) ≡ tells (behind_hidden b) (number + 1) (place + length line + 1) lines
-  one_told b number place line lines lacks =
-      line_told w.print w f name with_name (record c { known = b }) (record c { known = behind_hidden b }) n n false false
-      (record { number = number; place = place; bytes = line }) (told_spans f (record { number = number; place = place; bytes = line }))
-      [] []
-      (numbered (number + 1) (place + length line + 1) lines) (unselected w n hides.kept) (sym lacks.no_match) refl (no_more n)
-      (λ flags items.
-      hidden_as w.print w name with_name c b n flags (told_item f (record { number = number; place = place; bytes = line })) items
-      hides.none_before hides.none_behind (λ is. none_waits w c waits (hides.none_before is)))
+abbrev none_of : List Item → List Bool
+none_of items = map (λ _. false) items
 
-  one_counted : (number place : ℕ) (line : List ℕ) (lines : List (List ℕ)) → Lacks f line →
-      counts (number + 1) (place + length line + 1) lines ≡ counts number place (line ∷ lines)
-  one_counted number place line lines lacks =
-      line_counted w f n n false false (record { number = number; place = place; bytes = line })
-      (numbered (number + 1) (place + length line + 1) lines)
-      (unselected w n hides.kept) (sym lacks.no_match) (no_more n)
+none_counted : (items : List Item) (flags : List Bool) → count (none_of items ++ flags) ≡ count flags
+none_counted [] flags = refl
+none_counted (x ∷ xs) flags = none_counted xs flags
 
-  all_told : (b : Known) (number place : ℕ) (lines more : List (List ℕ)) → All (Lacks f) lines →
-      tells b number place (lines ++ more) ≡ tells (known_behind b (length lines)) (number + length lines) (place + all_bytes lines) more
-  all_told b number place [] more lack = ap₂ (λ i k. tells b i k more) (no_more number) (no_more place)
-  all_told b number place (line ∷ lines) more lack =
-      one_told b number place line (lines ++ more) (All-head (Lacks f) line lines lack)
-      ∙ all_told (behind_hidden b) (number + 1) (place + length line + 1) lines more (All-tail (Lacks f) line lines lack)
-      ∙ ap (λ known. tells known ((number + 1) + length lines) ((place + length line + 1) + all_bytes lines) more)
-      (known_again b (length lines))
-      ∙ ap₂ (λ i k. tells (behind_hidden b) i k more) (more_first number (length lines))
-      (more_bytes place (length line) (all_bytes lines))
+-- ---- what is told of lines of which the first ones aren't selected
+module _ (w : What) (name : List ℕ) (with_name : Bool) (c d : Course) (n : ℕ) (front last items : List Item) (flags : List Bool) where
+  abbrev IsPassed : Print → Type 0
+  IsPassed p = tells_as p w name with_name c n (none_of front ++ (none_of last ++ flags)) (front ++ (last ++ items))
+      ≡ tells_as p w name with_name d n (none_of last ++ flags) (last ++ items)
 
-  all_counted : (number place : ℕ) (lines more : List (List ℕ)) → All (Lacks f) lines →
-      counts (number + length lines) (place + all_bytes lines) more ≡ counts number place (lines ++ more)
-  all_counted number place [] more lack = sym (ap₂ (λ i k. counts i k more) (no_more number) (no_more place))
-  all_counted number place (line ∷ lines) more lack =
-      sym (ap₂ (λ i k. counts i k more) (more_first number (length lines)) (more_bytes place (length line) (all_bytes lines)))
-      ∙ all_counted (number + 1) (place + length line + 1) lines more (All-tail (Lacks f) line lines lack)
-      ∙ one_counted number place line (lines ++ more) (All-head (Lacks f) line lines lack)
+  passed_lines : before_of w.context ≤ length last → c.left ≡ 0 → d.left ≡ c.left → d.waiting.items ≡ [] →
+      d.known ≡ known_behind c.known (length (map waiting_item c.waiting.items) + length front) →
+      still w (shown with_name name) c (none_of front ++ (none_of last ++ flags)) (front ++ (last ++ items))
+      ≡ still w (shown with_name name) d (none_of last ++ flags) (last ++ items)
+  passed_lines many none same empty known =
+      let print = print_item w (shown with_name name) in
+      let queue : List Item = map waiting_item c.waiting.items in
+      let before : ℕ = before_of w.context in
+      let after : ℕ = after_of w.context in
+      ap (λ k. rest w print before after c.known k queue (none_of front ++ (none_of last ++ flags)) (front ++ (last ++ items))) none
+      ∙ passes w print before after c.known queue front last flags items many
+      ∙ ap₂ (λ b k. rest w print before after b k [] (none_of last ++ flags) (last ++ items)) (sym known) (sym (same ∙ none))
+      ∙ ap (λ ws. rest w print before after d.known d.left (map waiting_item ws) (none_of last ++ flags) (last ++ items)) (sym empty)
 
-  module _ (text : List ℕ) (whole : AreWhole text) (feeds number place next_number next_place : ℕ) (counted : feeds ≡ count_by is_feed text)
-      (numbers : next_number ≡ number + feeds) (places : next_place ≡ place + length text) (lack : All (Lacks f) (split_lines text)) where
-    as_many : number + length (split_lines text) ≡ next_number
-    as_many = omega (arith, whole_counts text whole, counted, numbers)
+  fewer : (n + count (none_of front ++ (none_of last ++ flags))) ≡ n + count (none_of last ++ flags)
+  fewer = ap (λ k. n + k) (none_counted front (none_of last ++ flags))
 
-    as_far : place + all_bytes (split_lines text) ≡ next_place
-    as_far = omega (arith, whole_bytes text whole, places)
+  passed_as : (p : Print) → (prints_lines p ≡ true → before_of w.context ≤ length last) → (prints_lines p ≡ true → c.left ≡ 0) →
+      d.left ≡ c.left → d.waiting.items ≡ [] →
+      d.known ≡ known_behind c.known (length (map waiting_item c.waiting.items) + length front) → IsPassed p
+  passed_as Lines many none same empty known = passed_lines (many refl) (none refl) same empty known
+  passed_as Matches many none same empty known = passed_lines (many refl) (none refl) same empty known
+  passed_as Count many none same empty known = ap (count_line w (shown with_name name)) fewer
+  passed_as NameIfAny many none same empty known = ap (λ k. if nat_lt 0 k then name_line w name else []) fewer
+  passed_as NameIfNone many none same empty known = ap (λ k. if nat_lt 0 k then [] else name_line w name) fewer
+  passed_as Nothing many none same empty known = refl
 
-    pub hidden_told : (b : Known) → b ≡ known_behind c.known feeds → (more : List ℕ) →
-        tells c.known number place (split_lines (text ++ more)) ≡ tells b next_number next_place (split_lines more)
-    hidden_told b known more =
-        ap (tells c.known number place) (whole_joins text more whole)
-        ∙ all_told c.known number place (split_lines text) (split_lines more) lack
-        ∙ ap (λ k. tells (known_behind c.known k) (number + length (split_lines text)) (place + all_bytes (split_lines text))
-        (split_lines more))
-        (whole_counts text whole ∙ sym counted)
-        ∙ ap (λ k. tells k (number + length (split_lines text)) (place + all_bytes (split_lines text)) (split_lines more))
-        (sym known)
-        ∙ ap₂ (λ i k. tells b i k (split_lines more)) as_many as_far
+-- ---- lines without a match aren't selected
+module _ (w : What) (f : Finds) (n : ℕ) (kept : w.invert ≡ false) where
+  abbrev items : ℕ → ℕ → List (List ℕ) → List Item
+  items number place lines = map (told_item f) (numbered number place lines)
 
-    pub hidden_counted : (more : List ℕ) →
-        counts next_number next_place (split_lines more) ≡ counts number place (split_lines (text ++ more))
-    hidden_counted more =
-        sym (ap₂ (λ i k. counts i k (split_lines more)) as_many as_far)
-        ∙ all_counted number place (split_lines text) (split_lines more) lack
-        ∙ sym (ap (counts number place) (whole_joins text more whole))
+  abbrev flags : ℕ → ℕ → List (List ℕ) → List Bool
+  flags number place lines = flags_behind w f n (numbered number place lines)
+
+  items_on : (number place : ℕ) (lines more : List (List ℕ)) →
+      items number place (lines ++ more) ≡ items number place lines ++ items (number + length lines) (place + all_bytes lines) more
+  items_on number place [] more = ap₂ (λ i k. items i k more) (no_more number) (no_more place)
+  items_on number place (line ∷ lines) more =
+      ap (λ rest. told_item f (record { number = number; place = place; bytes = line }) ∷ rest)
+      (items_on (number + 1) (place + length line + 1) lines more
+      ∙ ap₂ (λ i k. items (number + 1) (place + length line + 1) lines ++ items i k more)
+      (more_first number (length lines)) (more_bytes place (length line) (all_bytes lines)))
+
+  as_many : (number place : ℕ) (lines : List (List ℕ)) → length (items number place lines) ≡ length lines
+  as_many number place [] = refl
+  as_many number place (line ∷ lines) = ap suc (as_many (number + 1) (place + length line + 1) lines)
+
+  flags_on : (number place : ℕ) (lines more : List (List ℕ)) → All (Lacks f) lines →
+      flags number place (lines ++ more)
+      ≡ none_of (items number place lines) ++ flags (number + length lines) (place + all_bytes lines) more
+  flags_on number place [] more lack = ap₂ (λ i k. flags i k more) (no_more number) (no_more place)
+  flags_on number place (line ∷ lines) more lack =
+      flags_step w f n n false false (record { number = number; place = place; bytes = line })
+      (numbered (number + 1) (place + length line + 1) (lines ++ more)) (unselected w n kept)
+      (sym ((All-head (Lacks f) line lines lack).no_match)) (no_more n)
+      ∙ ap (λ rest. false ∷ rest)
+      (flags_on (number + 1) (place + length line + 1) lines more (All-tail (Lacks f) line lines lack)
+      ∙ ap₂ (λ i k. none_of (items (number + 1) (place + length line + 1) lines) ++ flags i k more)
+      (more_first number (length lines)) (more_bytes place (length line) (all_bytes lines)))
+
+  module _ (name : List ℕ) (with_name : Bool) (c d : Course) (front last more : List (List ℕ)) (number place next_number next_place : ℕ)
+      (lack : All (Lacks f) front) (also : All (Lacks f) last)
+      (numbers : next_number ≡ number + length front) (places : next_place ≡ place + all_bytes front) where
+    abbrev tells : Course → ℕ → ℕ → List (List ℕ) → List ℕ
+    tells e i k lines = tells_as w.print w name with_name e n (flags i k lines) (items i k lines)
+
+    flags_two : flags number place (front ++ (last ++ more))
+        ≡ none_of (items number place front) ++ flags next_number next_place (last ++ more)
+    flags_two = flags_on number place front (last ++ more) lack
+        ∙ sym (ap₂ (λ i k. none_of (items number place front) ++ flags i k (last ++ more)) numbers places)
+
+    run_counted : n + count (flags next_number next_place (last ++ more)) ≡ n + count (flags number place (front ++ (last ++ more)))
+    run_counted = ap (λ k. n + k)
+        (sym (ap count flags_two ∙ none_counted (items number place front) (flags next_number next_place (last ++ more))))
+
+    run_told : (prints_lines w.print ≡ true → before_of w.context ≤ length last) → (prints_lines w.print ≡ true → c.left ≡ 0) →
+        d.left ≡ c.left → d.waiting.items ≡ [] →
+        d.known ≡ known_behind c.known (length (map waiting_item c.waiting.items) + length (items number place front)) →
+        tells c number place (front ++ (last ++ more)) ≡ tells d next_number next_place (last ++ more)
+    run_told many none same empty known =
+        let i : ℕ = next_number + length last in
+        let k : ℕ = next_place + all_bytes last in
+        let now : flags next_number next_place (last ++ more) ≡ none_of (items next_number next_place last) ++ flags i k more =
+        flags_on next_number next_place last more also in
+        let ones : items next_number next_place (last ++ more) ≡ items next_number next_place last ++ items i k more =
+        items_on next_number next_place last more in
+        let before : items number place (front ++ (last ++ more)) ≡ items number place front ++ items next_number next_place (last ++ more) =
+        items_on number place front (last ++ more)
+        ∙ sym (ap₂ (λ i k. items number place front ++ items i k (last ++ more)) numbers places) in
+        let enough : prints_lines w.print ≡ true → before_of w.context ≤ length (items next_number next_place last) =
+        λ is. subst (λ m. before_of w.context ≤ m) (sym (as_many next_number next_place last)) (many is) in
+        ap₂ (λ fs its. tells_as w.print w name with_name c n fs its)
+        (flags_two ∙ ap (λ fs. none_of (items number place front) ++ fs) now)
+        (before ∙ ap (λ its. items number place front ++ its) ones)
+        ∙ passed_as w name with_name c d n (items number place front) (items next_number next_place last) (items i k more) (flags i k more)
+        w.print enough none same empty known
+        ∙ sym (ap₂ (λ fs its. tells_as w.print w name with_name d n fs its) now ones)
+
+-- ---- texts of such lines
+module _ (text : List ℕ) (start : ℕ) (whole : AreWhole text) (starts : IsLineStart text start) where
+  front_whole : AreWhole (take start text)
+  front_whole = whole_start text start starts
+
+  last_whole : AreWhole (drop start text)
+  last_whole = whole_behind text start whole
+
+  both : split_lines text ≡ split_lines (take start text) ++ split_lines (drop start text)
+  both = ap split_lines (sym (take-append-drop start text)) ∙ whole_joins (take start text) (drop start text) front_whole
+
+  both_more : (more : List ℕ) →
+      split_lines (text ++ more) ≡ split_lines (take start text) ++ (split_lines (drop start text) ++ split_lines more)
+  both_more more = whole_joins text more whole ∙ ap (λ lines. lines ++ split_lines more) both
+      ∙ append_assoc (split_lines (take start text)) (split_lines (drop start text)) (split_lines more)
+
+  last_more : (more : List ℕ) → split_lines (drop start text ++ more) ≡ split_lines (drop start text) ++ split_lines more
+  last_more more = whole_joins (drop start text) more last_whole
+
+  module _ (f : Finds) (lack : All (Lacks f) (split_lines text)) where
+    parted : All (Lacks f) (split_lines (take start text) ++ split_lines (drop start text))
+    parted = subst (λ (lines : List (List ℕ)). All (Lacks f) lines) both lack
+
+    front_lack : All (Lacks f) (split_lines (take start text))
+    front_lack = all_first (Lacks f) (split_lines (take start text)) (split_lines (drop start text)) parted
+
+    last_lack : All (Lacks f) (split_lines (drop start text))
+    last_lack = all_last (Lacks f) (split_lines (take start text)) (split_lines (drop start text)) parted
+
+held_lines : (w : What) (held n : ℕ) → held ≡ held_of w → held ≤ n → prints_lines w.print ≡ true → before_of w.context ≤ n
+held_lines w held n is few lines =
+    subst (λ m. m ≤ n) (is ∙ ap (λ b. if b then before_of w.context else 0) lines) few
+
+pub passed_over : (t : Task) (f : Finds) (p : Progress) (c : Course) (number place held feeds start : ℕ) (text part : List ℕ)
+    (out : List ℕ) → MayPass t.what.now p.telling.course → AreWhole text → start ≤ length text → 0 < start → IsLineStart text start →
+    held ≡ held_of t.what.now → held ≤ count_by is_feed (drop start text) → part ≡ take start text → feeds ≡ count_by is_feed part →
+    number ≡ p.number + feeds → place ≡ p.place + start → c.left ≡ p.telling.course.left → c.waiting.items ≡ [] →
+    c.known ≡ behind_hidden p.telling.course.known →
+    PassesTo t f p (record p { number = number; place = place; telling = record (p.telling) { course = c } }) text (drop start text) out out
+passed_over t f p c number place held feeds start text part out may whole within some starts held_is enough cut counted numbers places
+    same empty known =
+    let w : What = t.what.now in
+    let front : List (List ℕ) = split_lines (take start text) in
+    let last : List (List ℕ) = split_lines (drop start text) in
+    let long = length-take-le start text within in
+    let as_far : place ≡ p.place + all_bytes front =
+    places ∙ ap (λ k. p.place + k) (sym (whole_bytes (take start text) (front_whole text start whole starts) ∙ long)) in
+    let as_many_lines : number ≡ p.number + length front =
+    numbers ∙ ap (λ k. p.number + k)
+    (counted ∙ ap (count_by is_feed) cut ∙ sym (whole_counts (take start text) (front_whole text start whole starts))) in
+    let many : held ≤ length last =
+    subst (λ m. held ≤ m) (sym (whole_counts (drop start text) (last_whole text start whole starts))) enough in
+    let some_front : 0 < length front =
+    some_whole (take start text) (front_whole text start whole starts) (omega (arith, some, long)) in
+    let known_so : c.known ≡ known_behind p.telling.course.known
+    (length (map waiting_item p.telling.course.waiting.items) + length (items w f p.telling.count may.kept p.number p.place front)) =
+    known ∙ sym (known_some p.telling.course.known _
+    (let m = as_many w f p.telling.count may.kept p.number p.place front in omega (arith, some_front, m))) in
+    record {
+      lack = λ lack. last_lack text start whole starts f lack;
+      printed = λ lack more. ap (λ l. out ++ l)
+          (ap (λ lines. tells_lines t f p lines) (both_more text start whole starts more)
+          ∙ run_told w f p.telling.count may.kept t.name.now t.with_name p.telling.course c front last (split_lines more)
+          p.number p.place number place (front_lack text start whole starts f lack) (last_lack text start whole starts f lack)
+          as_many_lines as_far (held_lines w held (length last) held_is many) may.none_owed same empty known_so
+          ∙ sym (ap (λ lines. tells_lines t f
+          (record p { number = number; place = place; telling = record (p.telling) { course = c } }) lines)
+          (last_more text start whole starts more)));
+      counted = λ lack more.
+          ap (λ lines. counts_lines t f (record p { number = number; place = place; telling = record (p.telling) { course = c } }) lines)
+          (last_more text start whole starts more)
+          ∙ run_counted w f p.telling.count may.kept t.name.now t.with_name p.telling.course c front last (split_lines more)
+          p.number p.place number place (front_lack text start whole starts f lack) (last_lack text start whole starts f lack)
+          as_many_lines as_far
+          ∙ sym (ap (λ lines. counts_lines t f p lines) (both_more text start whole starts more));
+    }
+
+-- ---- where the last lines start
+pub falls : (new start : ℕ) → 0 < start → (0 < new → new ≤ start - 1) → new < start
+falls zero start some before = some
+falls (suc n) start some before = let less = before (omega arith) in omega (arith, less, some)
+
+pub feeds_more : (text : List ℕ) (new start found : ℕ) → new < start → start ≤ length text → IsLineStart text start →
+    found ≤ count_by is_feed (drop start text) → found + 1 ≤ count_by is_feed (drop new text)
+feeds_more text new start found less within starts few =
+    let low : new ≤ start = omega (arith, less) in
+    let piece : List ℕ = slice_range text new start in
+    let long : length piece ≡ start - new =
+    length-take-le (start - new) (drop new text) (omega (arith, within, less, length-drop new text)) in
+    let whole : AreWhole piece = whole_range text new start low starts in
+    let some : 0 < length (split_lines piece) = some_whole piece whole (omega (arith, long, less)) in
+    let all : count_by is_feed (drop new text) ≡ count_by is_feed piece + count_by is_feed (drop start text) =
+    ap (count_by is_feed) (drop_split text new start low)
+    ∙ sum_by-append (λ b. cond (is_feed b) 1 0) piece (drop start text) in
+    omega (arith, all, few, some, whole_counts piece whole)
+
+-- ---- runs of such lines
+-- where no line feed stands behind those that were told, all were
+pub all_told : (block : List ℕ) (done : ℕ) → AreWhole block →
+    position is_feed (take (length block - done) (drop done block)) ≡ None → length block ≤ done
+all_told block done whole none =
+    let rest : take (length block - done) (drop done block) ≡ drop done block = take_rest block done in
+    let empty : length (drop done block) ≡ 0 =
+    whole_none (drop done block) (whole_behind block done whole) (ap (position is_feed) (sym rest) ∙ none) in
+    omega (arith, empty, length-drop done block)
+
+pub passes_none : (t : Task) (f : Finds) (p : Progress) (lines out : List ℕ) → PassesTo t f p p lines lines out out
+passes_none t f p lines out = record { lack = λ lack. lack; printed = λ lack more. refl; counted = λ lack more. refl }
+
+pub then_passes : (t : Task) (f : Finds) (p q r : Progress) (lines rest last out mid now : List ℕ) →
+    PassesTo t f p q lines rest out mid → PassesTo t f q r rest last mid now → PassesTo t f p r lines last out now
+then_passes t f p q r lines rest last out mid now a b = record {
+  lack = λ lack. b.lack (a.lack lack);
+  printed = λ lack more. a.printed lack more ∙ b.printed (a.lack lack) more;
+  counted = λ lack more. b.counted (a.lack lack) more ∙ a.counted lack more;
+}
+
+pub passes_line : (t : Task) (f : Finds) (p q : Progress) (block text piece out now : List ℕ) (done len : ℕ) →
+    text ≡ drop done block → position is_feed text ≡ Some len → piece ≡ take len text →
+    (Lacks f piece → (lines : List (List ℕ)) → out ++ tells_lines t f p (piece ∷ lines) ≡ now ++ tells_lines t f q lines) →
+    (Lacks f piece → (lines : List (List ℕ)) → counts_lines t f q lines ≡ counts_lines t f p (piece ∷ lines)) →
+    PassesTo t f p q (drop done block) (drop (done + (len + 1)) block) out now
+passes_line t f p q block text piece out now done len rest found cut told counts = record {
+  lack = λ lack. others_lack f block text piece done len rest found cut lack;
+  printed = λ lack more.
+      turn (tells_lines t f) p q block more text piece (out ++ tells_lines t f p (split_lines (drop done block ++ more))) out now done len
+      rest found cut refl (told (one_lacks f block text piece done len rest found cut lack));
+  counted = λ lack more.
+      turn_counted (counts_lines t f) p q block more text piece (counts_lines t f p (split_lines (drop done block ++ more))) done len
+      rest found cut refl (counts (one_lacks f block text piece done len rest found cut lack));
+}
+
+-- of the same texts
+pub passes_same : (t : Task) (f : Finds) (p q : Progress) (lines same rest also out now : List ℕ) → lines ≡ same → rest ≡ also →
+    PassesTo t f p q lines rest out now → PassesTo t f p q same also out now
+passes_same t f p q lines same rest also out now one two a =
+    subst (λ (l : List ℕ). PassesTo t f p q l also out now) one (subst (λ (l : List ℕ). PassesTo t f p q lines l out now) two a)

@@ -1,6 +1,5 @@
 -- A run of lines without a match, line by line.
-use Rattle.std.proofs.Common.{◌≡◌, ℕ, ◌+◌, List, [], ◌∷◌, ◌++◌, All, Some, false, refl, length, take, drop, drop-drop, append-nil, sym, ap, ap₂, ◌∙◌, subst}
-use Rattle.std.proofs.lemmas.List.{nil_from_length}
+use Rattle.std.proofs.Common.{◌≡◌, ℕ, ◌+◌, List, [], ◌∷◌, ◌++◌, All, Some, false, refl, take, drop, drop-drop, append-nil, sym, ap, ap₂, ◌∙◌, subst}
 use Rattle.std.proofs.lemmas.List.Elements.{All-head, All-tail, All-weaker}
 use Rattle.std.specs.List.{position}
 use Rattle.grep_core.specs.declared.blocks.Task.{Task}
@@ -39,32 +38,3 @@ module _ (f : Finds) (block text piece : List ℕ) (done len : ℕ) (rest : text
 
   pub others_lack : All (Lacks f) (split_lines (drop (done + (len + 1)) block))
   others_lack = All-tail (Lacks f) piece (split_lines (drop (done + (len + 1)) block)) both_lack
-
--- all that are left
-pub others_told : {P : Type 0} (tells : P → List (List ℕ) → List ℕ) (p q : P) (block text more all out : List ℕ) (done : ℕ) →
-    text ≡ drop done block → all ≡ out ++ tells p (split_lines (drop done block ++ more)) →
-    tells p (split_lines (text ++ more)) ≡ tells q (split_lines more) → all ≡ out ++ tells q (split_lines more)
-others_told tells p q block text more all out done rest so_far goes_on =
-    so_far ∙ ap (λ t. out ++ tells p (split_lines (t ++ more))) (sym rest) ∙ ap (λ t. out ++ t) goes_on
-
-pub others_counted : {P : Type 0} (counts : P → List (List ℕ) → ℕ) (p q : P) (block text more : List ℕ) (all done : ℕ) →
-    text ≡ drop done block → counts p (split_lines (drop done block ++ more)) ≡ all →
-    counts q (split_lines more) ≡ counts p (split_lines (text ++ more)) → counts q (split_lines more) ≡ all
-others_counted counts p q block text more all done rest so_far goes_on =
-    goes_on ∙ ap (λ t. counts p (split_lines (t ++ more))) rest ∙ so_far
-
--- or none is left
-none_left : (block text more : List ℕ) (done : ℕ) → text ≡ drop done block → length text ≡ 0 →
-    split_lines (drop done block ++ more) ≡ split_lines more
-none_left block text more done rest none = ap (λ t. split_lines (t ++ more)) (sym rest ∙ nil_from_length text none)
-
-pub none_told : {P : Type 0} (tells : P → List (List ℕ) → List ℕ) (p : P) (block text more all out : List ℕ) (done : ℕ) →
-    text ≡ drop done block → length text ≡ 0 → all ≡ out ++ tells p (split_lines (drop done block ++ more)) →
-    all ≡ out ++ tells p (split_lines more)
-none_told tells p block text more all out done rest none so_far =
-    so_far ∙ ap (λ lines. out ++ tells p lines) (none_left block text more done rest none)
-
-pub none_counted : {P : Type 0} (counts : P → List (List ℕ) → ℕ) (p : P) (block text more : List ℕ) (all done : ℕ) →
-    text ≡ drop done block → length text ≡ 0 → counts p (split_lines (drop done block ++ more)) ≡ all → counts p (split_lines more) ≡ all
-none_counted counts p block text more all done rest none so_far =
-    sym (ap (counts p) (none_left block text more done rest none)) ∙ so_far

@@ -1,15 +1,33 @@
 -- What is still to be printed, line by line. Lines that wait for one that is selected stand in a queue.
 use Rattle.std.proofs.Common.{inl, inr, ◌≡◌, ◌≤◌, ◌<◌, ℕ, zero, suc, Bool, true, false, List, [], ◌∷◌, ◌++◌, map, length, take, refl, sym}
-use Rattle.std.proofs.Common.{ap, ap₂, ◌∙◌, if◌then◌else◌, ◌⊎◌, rules, arith}
+use Rattle.std.proofs.Common.{ap, ap₂, ◌∙◌, ◌+◌, if◌then◌else◌, ◌⊎◌, rules, arith, append_assoc, append-nil, length-append}
 use Rattle.std.proofs.lemmas.Grind.{common_steps}
 use Rattle.grep_core.specs.declared.role.Role.{Role}
 use Rattle.grep_core.specs.declared.role.Role.TheVariants.{Selected, Beside, Hidden}
 use Rattle.grep_core.specs.declared.what.What.{What}
 use Rattle.grep_core.specs.declared.known.Known.{Known}
-use Rattle.grep_core.specs.declared.known.Known.TheVariants.{LastPrinted}
+use Rattle.grep_core.specs.declared.known.Known.TheVariants.{NonePrinted, LastPrinted, EarlierPrinted}
 use Rattle.grep_core.specs.Selecting.{any, roles_from}
 use Rattle.grep_core.specs.Courses.{queued, behind_queue}
 use Rattle.grep_core.specs.Report.{behind_hidden, parting, print_lines}
+
+-- what is known behind so many lines of which none is printed
+abbrev pub known_behind : Known → ℕ → Known
+known_behind b zero = b
+known_behind b (suc n) = behind_hidden b
+
+hidden_again : (b : Known) → behind_hidden (behind_hidden b) ≡ behind_hidden b
+hidden_again NonePrinted = refl
+hidden_again LastPrinted = refl
+hidden_again EarlierPrinted = refl
+
+known_again : (b : Known) (n : ℕ) → known_behind (behind_hidden b) n ≡ behind_hidden b
+known_again b zero = refl
+known_again b (suc n) = hidden_again b
+
+pub known_some : (b : Known) (n : ℕ) → 0 < n → known_behind b n ≡ behind_hidden b
+known_some b zero some = absurd (omega (arith, some))
+known_some b (suc n) some = refl
 
 module _ {X : Type 0} (w : What) (print : Role → X → List ℕ) (before after : ℕ) where
   -- none of these lines is selected
@@ -110,3 +128,32 @@ module _ {X : Type 0} (w : What) (print : Role → X → List ℕ) (before after
       ∙ selects_soon b left flags line lines
       ∙ sym (ap (λ q. queued w print b q ++ (parting w (behind_queue b q)
       ++ (print Selected line ++ rest LastPrinted after [] flags lines))) empty)
+
+  -- lines that aren't selected wait, one after the other
+  wait_all : (b : Known) (queue next : List X) (flags : List Bool) (lines : List X) →
+      rest b 0 queue (none_of next ++ flags) (next ++ lines) ≡ rest b 0 (queue ++ next) flags lines
+  wait_all b queue [] flags lines = ap (λ q. rest b 0 q flags lines) (sym (append-nil queue))
+  wait_all b queue (x ∷ next) flags lines =
+      waits b queue (none_of next ++ flags) x (next ++ lines)
+      ∙ wait_all b (queue ++ x ∷ []) next flags lines
+      ∙ ap (λ q. rest b 0 q flags lines) (append_assoc queue (x ∷ []) next)
+
+  -- and the first ones aren't printed, where enough stand behind them
+  forgets_all : (b : Known) (front last : List X) (flags : List Bool) (lines : List X) → before ≤ length last →
+      rest b 0 (front ++ last) flags lines ≡ rest (known_behind b (length front)) 0 last flags lines
+  forgets_all b [] last flags lines many = refl
+  forgets_all b (q ∷ front) last flags lines many =
+      forgets b q (front ++ last) flags lines (omega (arith, many, length-append front last))
+      ∙ forgets_all (behind_hidden b) front last flags lines many
+      ∙ ap (λ k. rest k 0 last flags lines) (known_again b (length front))
+
+  -- so of lines that aren't selected the last ones alone count, where they are as many as stand before a selected one
+  pub passes : (b : Known) (queue front last : List X) (flags : List Bool) (lines : List X) → before ≤ length last →
+      rest b 0 queue (none_of front ++ (none_of last ++ flags)) (front ++ (last ++ lines))
+      ≡ rest (known_behind b (length queue + length front)) 0 [] (none_of last ++ flags) (last ++ lines)
+  passes b queue front last flags lines many =
+      wait_all b queue front (none_of last ++ flags) (last ++ lines)
+      ∙ wait_all b (queue ++ front) last flags lines
+      ∙ forgets_all b (queue ++ front) last flags lines many
+      ∙ ap (λ n. rest (known_behind b n) 0 last flags lines) (length-append queue front)
+      ∙ sym (wait_all (known_behind b (length queue + length front)) [] last flags lines)

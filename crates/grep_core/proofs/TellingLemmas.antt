@@ -13,7 +13,7 @@ use Rattle.grep_core.specs.declared.what.What.{What}
 use Rattle.grep_core.specs.Courses.{Item, item, still, print_as, print_item, waiting_item}
 use Rattle.grep_core.specs.Lines.{TextLine}
 use Rattle.grep_core.specs.Report.{Finds, before_of, after_of, roles_of, parting, behind_hidden, print_lines, count_line, name_line}
-use Rattle.grep_core.specs.Report.{report_as, selected, told_spans, is_wanted}
+use Rattle.grep_core.specs.Report.{report_as, selected, told_spans, is_wanted, counted_as}
 use Rattle.grep_core.specs.Selecting.{limited, count, any, roles, roles_from}
 use Rattle.grep_core.specs.Telling.{shown, told_item, prints_lines, tells_as, left_of, may_select, flags_behind}
 
@@ -109,7 +109,7 @@ limited_step (Some m) n b bs = limited_some m n (nat_lt n m) refl b bs
 abbrev pub selects : What → ℕ → Bool → Bool
 selects w n has = (if w.invert then not has else has) && may_select w.most n
 
-flags_step : (w : What) (f : Finds) (n m : ℕ) (sel has : Bool) (line : TextLine) (lines : List TextLine) → sel ≡ selects w n has →
+pub flags_step : (w : What) (f : Finds) (n m : ℕ) (sel has : Bool) (line : TextLine) (lines : List TextLine) → sel ≡ selects w n has →
     has ≡ f.has_match line.bytes →
     m ≡ n + (if sel then 1 else 0) → flags_behind w f n (line ∷ lines) ≡ sel ∷ flags_behind w f m lines
 flags_step w f n m sel has line lines is seen more =
@@ -243,6 +243,28 @@ some_counted w f n lines more = is_some_more n (count (flags_behind w f n lines)
 -- it asks for no more than whether a line is selected
 abbrev pub IsOfNames : Print → Type 0
 IsOfNames p = (p ≡ NameIfAny) ⊎ ((p ≡ NameIfNone) ⊎ (p ≡ Nothing))
+
+alike_counted : (p : Print) (m n : ℕ) → IsOfNames p → nat_lt 0 m ≡ nat_lt 0 n → counted_as p m ≡ counted_as p n
+alike_counted p m n (inl e) same =
+    subst (λ (q : Print). counted_as q m ≡ counted_as q n) (sym e) (ap (λ b. if b then 1 else 0) same)
+alike_counted p m n (inr (inl e)) same =
+    subst (λ (q : Print). counted_as q m ≡ counted_as q n) (sym e) (ap (λ b. if b then 1 else 0) same)
+alike_counted p m n (inr (inr e)) same =
+    subst (λ (q : Print). counted_as q m ≡ counted_as q n) (sym e) (ap (λ b. if b then 1 else 0) same)
+
+pub names_counted : (w : What) (f : Finds) (n : ℕ) (lines : List TextLine) → IsOfNames w.print → 0 < n →
+    counted_as w.print (n + count (flags_behind w f n lines)) ≡ counted_as w.print (n + count (flags_behind w f n []))
+names_counted w f n lines names more =
+    alike_counted w.print (n + count (flags_behind w f n lines)) (n + count (flags_behind w f n [])) names (some_counted w f n lines more)
+
+-- behind the last line none more is selected
+none_limited : (most : Option ℕ) → count (limited most []) ≡ 0
+none_limited None = refl
+none_limited (Some zero) = refl
+none_limited (Some (suc n)) = refl
+
+pub all_counted : (w : What) (f : Finds) (n : ℕ) → n + count (flags_behind w f n []) ≡ n
+all_counted w f n = ap (λ k. n + k) (none_limited (left_of w.most n)) ∙ (let e : n + 0 ≡ n = omega arith in e)
 
 abbrev IsToldSo : What → Finds → List ℕ → Bool → Course → ℕ → List TextLine → Print → Type 0
 IsToldSo w f name with_name c n lines p =

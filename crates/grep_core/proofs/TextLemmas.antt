@@ -1,13 +1,12 @@
 -- What is told of a whole text.
-use Rattle.std.proofs.Common.{◌≡◌, ℕ, Bool, List, [], ◌++◌, take, Option, ap, ◌∙◌, subst}
-use Rattle.std.specs.Prelude.{nat_lt}
+use Rattle.std.proofs.Common.{◌≡◌, ℕ, List, [], ◌++◌, take, Option, ap, ◌∙◌, subst}
 use Rattle.std.specs.Io.KnownBytes.{Appends}
 use Rattle.grep_core.specs.declared.blocks.Progress.{Progress}
 use Rattle.grep_core.specs.declared.blocks.Task.{Task}
 use Rattle.grep_core.specs.declared.known.Known.{Known}
 use Rattle.grep_core.specs.Blocks.{tells_lines, counts_lines, ReadsOn, WritesPart}
 use Rattle.grep_core.specs.Lines.{lines_of, split_lines}
-use Rattle.grep_core.specs.Report.{Finds, report, report_as, selected, selected_count}
+use Rattle.grep_core.specs.Report.{Finds, counted_as, report, report_as, selected, selected_count}
 use Rattle.grep_core.specs.Selecting.{count}
 use Rattle.grep_core.specs.Telling.{needed}
 use Rattle.grep_core.proofs.NeededLemmas.{needed_report}
@@ -52,14 +51,14 @@ module _ (t : Task) (f : Finds) where
       text_part known o x text u v none starts (all_part t wanted o p x y text now u w v a
       (subst (λ l. WritesPart t wanted p (l ++ a.rest) w v) shown part))
 
-  pub text_counted : (o p : Progress) (x y z text : List ℕ) (now u w : Option (List ℕ)) (any last : Bool) → x ≡ [] → z ≡ y →
+  pub text_counted : (o p : Progress) (x y z text : List ℕ) (now u w : Option (List ℕ)) (n last : ℕ) → x ≡ [] → z ≡ y →
       ((l : List ℕ) → counts_lines t (needed t.what.now f) o (split_lines l)
       ≡ count (selected t.what.now (needed t.what.now f) (lines_of l))) →
-      (a : ReadsOn t (needed t.what.now f) o p x y text now u w) → any ≡ last →
-      last ≡ nat_lt 0 (counts_lines t (needed t.what.now f) p (split_lines (z ++ a.rest))) →
-      any ≡ nat_lt 0 (selected_count t.what.now f text)
-  text_counted o p x y z text now u w any last none shown starts a is rest =
+      (a : ReadsOn t (needed t.what.now f) o p x y text now u w) → n ≡ last →
+      last ≡ counted_as t.what.now.print (counts_lines t (needed t.what.now f) p (split_lines (z ++ a.rest))) →
+      n ≡ counted_as t.what.now.print (selected_count t.what.now f text)
+  text_counted o p x y z text now u w n last none shown starts a is rest =
       is
       ∙ rest
-      ∙ ap (λ l. nat_lt 0 (counts_lines t wanted p (split_lines (l ++ a.rest)))) shown
-      ∙ ap (nat_lt 0) (a.writes.on.counted ∙ ap (λ l. counts_lines t wanted o (split_lines (l ++ text))) none ∙ starts text)
+      ∙ ap (λ l. counted_as t.what.now.print (counts_lines t wanted p (split_lines (l ++ a.rest)))) shown
+      ∙ ap (counted_as t.what.now.print) (a.writes.on.counted ∙ ap (λ l. counts_lines t wanted o (split_lines (l ++ text))) none ∙ starts text)

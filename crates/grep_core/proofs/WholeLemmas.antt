@@ -34,6 +34,10 @@ some_lines : (first : List ℕ) → 0 < length (split_lines (first ++ 10 ∷ [])
 some_lines [] = omega arith
 some_lines (x ∷ xs) = some_by x (xs ++ 10 ∷ []) (is_feed x) refl
 
+pub some_whole : (text : List ℕ) → AreWhole text → 0 < length text → 0 < length (split_lines text)
+some_whole text (inl none) some = absurd (omega (arith, some, ap length none))
+some_whole text (inr it) some = subst (λ (t : List ℕ). 0 < length (split_lines t)) (sym it.1) (some_lines it.0)
+
 -- ---- its lines stand before those of what follows
 put_before : (b : ℕ) (lines more : List (List ℕ)) → 0 < length lines → put_first b (lines ++ more) ≡ put_first b lines ++ more
 put_before b [] more some = absurd (omega (arith, some))

@@ -6,12 +6,12 @@ use Rattle.std.proofs.KnownBytes.{Appends-nil, Appends-trans}
 use Rattle.std.proofs.lemmas.List.{take_rest, take-append-drop}
 use Rattle.std.proofs.lemmas.Option.{none-some, same_Some}
 use Rattle.std.specs.Io.KnownBytes.{Appends, Consumes, IsAtEnd, Keeps}
-use Rattle.std.specs.Prelude.{IfSome, nat_lt}
+use Rattle.std.specs.Prelude.{IfSome}
 use Rattle.grep_core.specs.declared.blocks.Progress.{Progress}
 use Rattle.grep_core.specs.declared.blocks.Task.{Task}
 use Rattle.grep_core.specs.Blocks.{tells_lines, counts_lines, IsOver, Writes, ReadsOn, WritesPart}
 use Rattle.grep_core.specs.Lines.{split_lines}
-use Rattle.grep_core.specs.Report.{Finds}
+use Rattle.grep_core.specs.Report.{Finds, counted_as}
 
 pub more_in_text : (text : List ℕ) (done n : ℕ) → done ≤ length text → n ≤ length (take (length text - done) (drop done text)) →
     done + n ≤ length text
@@ -183,9 +183,9 @@ module _ (t : Task) (f : Finds) where
       (sym (append-nil read) ∙ ap (λ m. read ++ m) (sym none)) written
 
   pub ended_counted : (p q : Progress) (read more : List ℕ) → more ≡ [] → counts_lines t f q [] ≡ counts_lines t f p (split_lines read) →
-      nat_lt 0 (counts_lines t f q []) ≡ nat_lt 0 (counts_lines t f p (split_lines (read ++ more)))
+      counted_as t.what.now.print (counts_lines t f q []) ≡ counted_as t.what.now.print (counts_lines t f p (split_lines (read ++ more)))
   ended_counted p q read more none counted =
-      ap (nat_lt 0) (counted ∙ ap (λ l. counts_lines t f p (split_lines l)) (sym (append-nil read) ∙ ap (λ m. read ++ m) (sym none)))
+      ap (counted_as t.what.now.print) (counted ∙ ap (λ l. counts_lines t f p (split_lines l)) (sym (append-nil read) ∙ ap (λ m. read ++ m) (sym none)))
 
   pub ended_part : (p : Progress) (read more : List ℕ) (w v : Option (List ℕ)) → more ≡ [] → WritesPart t f p read w v →
       WritesPart t f p (read ++ more) w v

@@ -1,10 +1,10 @@
 -- What is still told of a text behind some of its lines, and how a task goes on by some bytes.
-use Rattle.std.specs.Prelude.{◌≡◌, ℕ, List, [], ◌++◌, Option, Some, nat_lt, take}
+use Rattle.std.specs.Prelude.{◌≡◌, ℕ, List, [], ◌++◌, Option, Some, take}
 use Rattle.std.specs.Io.KnownBytes.{Appends}
 use Rattle.grep_core.specs.declared.blocks.Progress.{Progress}
 use Rattle.grep_core.specs.declared.blocks.Task.{Task}
 use Rattle.grep_core.specs.Lines.{TextLine, numbered, split_lines}
-use Rattle.grep_core.specs.Report.{Finds}
+use Rattle.grep_core.specs.Report.{Finds, counted_as}
 use Rattle.grep_core.specs.Searchers.{Sought, SearchesFor, found_by}
 use Rattle.grep_core.specs.Telling.{needs_spans, needed, still_told, count_in_all}
 
@@ -50,4 +50,5 @@ WritesPart t f p text empty full = (n : ℕ) × Appends empty full (take n (tell
 -- nothing of the next lines is told, whatever they are
 pub record IsOver (t : Task) (p : Progress) : Type 0 where
   pub printed : (f : Finds) (lines : List (List ℕ)) → tells_lines t f p lines ≡ tells_lines t f p []
-  pub counted : (f : Finds) (lines : List (List ℕ)) → nat_lt 0 (counts_lines t f p lines) ≡ nat_lt 0 (counts_lines t f p [])
+  pub counted : (f : Finds) (lines : List (List ℕ)) →
+      counted_as t.what.now.print (counts_lines t f p lines) ≡ counted_as t.what.now.print (counts_lines t f p [])

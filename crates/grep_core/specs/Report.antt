@@ -92,3 +92,12 @@ report w f name with_name known text = report_as w.print w f name with_name know
 -- how many lines of the text are selected
 abbrev pub selected_count : What → Finds → List ℕ → ℕ
 selected_count w f text = count (selected w f (lines_of text))
+
+-- of so many selected lines, as many as are counted: one where no more is asked for than whether there is one
+abbrev pub counted_as : Print → ℕ → ℕ
+counted_as Lines n = n
+counted_as Matches n = n
+counted_as Count n = n
+counted_as NameIfAny n = if nat_lt 0 n then 1 else 0
+counted_as NameIfNone n = if nat_lt 0 n then 1 else 0
+counted_as Nothing n = if nat_lt 0 n then 1 else 0

@@ -196,6 +196,15 @@ fn forget_first(course: &mut Course)
     course.known = behind_hidden(course.known);
 }
 
+/// Lets no line wait any more: none of them is printed.
+pub(crate) fn forget_waiting(course: &mut Course)
+    ensures none { course.new.waiting.items ≡ [] }
+    ensures known { course.new.known ≡ course.old.known }
+    ensures left { course.new.left ≡ course.old.left }
+{
+    course.waiting.clear();
+}
+
 /// Goes on by a line that isn't selected, where none is owed to the last selected one.
 fn wait(
     alloc: Global,

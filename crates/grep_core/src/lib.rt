@@ -11,6 +11,7 @@ mod course;
 mod fallback;
 mod fault;
 mod finder;
+mod held;
 mod items;
 mod known;
 mod line;

@@ -1,16 +1,17 @@
 //! Lines of which it is known that none has a match are told without a search.
-ghost use Rattle.std.specs.Prelude.{◌≡◌, ◌==◌, ◌++◌, ◌∷◌, ◌+◌, ◌≤◌, ℕ, All, List, OnOk, IsTrue, count_by, false, length};
+ghost use Rattle.std.specs.Prelude.{◌≡◌, ◌==◌, ◌++◌, ◌∷◌, [], ◌+◌, ◌<◌, ◌≤◌, ℕ, All, List, IfOk, OnOk, IsTrue, count_by, drop, false, true, length};
 ghost use Rattle.grep_core.specs.Blocks.{SearchesBy, finds_by, tells_lines, counts_lines};
+ghost use Rattle.grep_core.specs.Candidates.{IsLineStart};
 ghost use Rattle.grep_core.specs.Courses.{Waits};
 ghost use Rattle.grep_core.specs.Lines.{split_lines};
-ghost use Rattle.grep_core.specs.Passing.{AreWhole, Hides, Lacks, known_behind};
+ghost use Rattle.grep_core.specs.Passing.{AreWhole, Lacks, MayPass, PassesTo, held_of};
 ghost use Rattle.grep_core.specs.Report.{Finds};
 ghost use Rattle.grep_core.specs.Searchers.{Sought, found_by};
 
 use crate::blocks::{Progress, Task, feed_at, pass, sum};
-use crate::course::{Course, before_of, behind_hidden};
+use crate::candidates::line_start;
+use crate::course::{Course, before_of, behind_hidden, forget_waiting};
 use crate::fault::Fault;
-use crate::known::Known;
 use crate::line::Line;
 use crate::telling::{prints_lines, tell_line};
 use crate::what::What;
@@ -47,44 +48,78 @@ fn count_feeds(text: &[u8]) -> usize
     feeds
 }
 
-/// What is known behind so many lines of which none is told.
-fn known_behind(known: Known, lines: usize) -> Known
-    ensures { result ≡ known_behind known lines }
+/// How many lines before a selected one are told with it.
+fn held_of(what: &What) -> u64
+    ensures { result ≡ held_of what.now }
 {
-    if lines == 0 {
-        return known;
+    if prints_lines(what.print) {
+        before_of(what)
+    } else {
+        0
     }
-    behind_hidden(known)
 }
 
-/// Whether a line without a match isn't told at this place, whatever comes behind it.
-fn hides(what: &What, course: &Course) -> bool
-    ensures { IsTrue result → Hides what.now course.now }
+/// Where the last so many of whole lines start, or the first place where there are no more.
+fn last_lines(lines: &[u8], count: u64) -> usize
+    requires { AreWhole lines.now }
+    ensures within { result ≤ length lines.now }
+    ensures starts { IsLineStart lines.now result }
+    ensures enough { 0 < result → count ≤ count_by (λ b. b == 10) (drop result lines.now) }
+{
+    let mut start = lines.len();
+    let mut found = 0u64;
+    while found < count {
+        if start == 0 {
+            return 0;
+        }
+        start = line_start(lines, 0, start - 1);
+        found += 1;
+    }
+    start
+}
+
+/// Whether a line without a match is neither selected at this place nor owed to a selected one.
+fn may_pass(what: &What, course: &Course) -> bool
+    ensures { IsTrue result → MayPass what.now course.now }
 {
     if what.invert {
         return false;
     }
-    !prints_lines(what.print) || before_of(what) == 0 && course.left == 0
+    !prints_lines(what.print) || course.left == 0
 }
 
-/// Passes over lines without a match that aren't told: only what stands behind them is counted.
-fn pass_hidden(task: Task<'_>, progress: &mut Progress, lines: &[u8]) -> Result<(), Fault>
+/// Whether lines without a match are told one by one no more: where they can be passed over, unless all of them are told so.
+fn stops(what: &What, course: &Course, all: bool) -> bool
+    ensures may { IsTrue result → MayPass what.now course.now }
+    ensures some { IsTrue result → all ≡ false }
+{
+    if all {
+        return false;
+    }
+    may_pass(what, course)
+}
+
+/// Passes over lines without a match, but for the last ones that would be told with a selected one behind them: what stands behind them is
+/// counted, and no other line waits any more. The answer is where the first line starts that wasn't passed over.
+fn pass_over(task: Task<'_>, progress: &mut Progress, lines: &[u8]) -> Result<usize, Fault>
     requires waits { Waits task.what.now progress.old.telling.course }
     requires whole { AreWhole lines.now }
-    requires hides { Hides task.what.now progress.old.telling.course }
+    requires may { MayPass task.what.now progress.old.telling.course }
     ensures waits { OnOk result (Waits task.entry.what.now progress.new.telling.course) }
-    ensures goes_on { OnOk result ((f : Finds) → All (Lacks f) (split_lines lines.now) → (more : List ℕ) →
-        tells_lines task.entry f progress.old (split_lines (lines.now ++ more))
-        ≡ tells_lines task.entry f progress.new (split_lines more)) }
-    ensures counts { OnOk result ((f : Finds) → All (Lacks f) (split_lines lines.now) → (more : List ℕ) →
-        counts_lines task.entry f progress.new (split_lines more)
-        ≡ counts_lines task.entry f progress.old (split_lines (lines.now ++ more))) }
+    ensures within { IfOk result (λ start. start ≤ length lines.now) }
+    ensures passes { IfOk result (λ start. (f : Finds) (out : List ℕ) →
+        PassesTo task.entry f progress.old progress.new lines.now (drop start lines.now) out out) }
 {
-    let feeds = count_feeds(lines);
+    let start = last_lines(lines, held_of(task.what));
+    if start == 0 {
+        return Ok(0);
+    }
+    let feeds = count_feeds(&lines[..start]);
     progress.number = sum(progress.number, feeds as u64)?;
-    progress.place = sum(progress.place, lines.len() as u64)?;
-    progress.telling.course.known = known_behind(progress.telling.course.known, feeds);
-    Ok(())
+    progress.place = sum(progress.place, start as u64)?;
+    forget_waiting(&mut progress.telling.course);
+    progress.telling.course.known = behind_hidden(progress.telling.course.known);
+    Ok(start)
 }
 
 /// Tells a line without a match, which is given without its line feed.
@@ -122,7 +157,37 @@ fn tell_without(
     pass(progress, bytes.len())
 }
 
-/// Tells lines without a match: one after the other while such lines may be told, and then all others at once.
+/// Tells lines without a match one by one: all of them, or else those before the first one from which on they can be passed over. The answer
+/// is the place behind them.
+fn tell_each(
+    alloc: Global,
+    out: &mut Vec<u8>,
+    task: Task<'_>,
+    progress: &mut Progress,
+    lines: &[u8],
+    all: bool,
+) -> Result<usize, Fault>
+    requires waits { Waits task.what.now progress.old.telling.course }
+    requires whole { AreWhole lines.now }
+    ensures waits { OnOk result (Waits task.entry.what.now progress.new.telling.course) }
+    ensures within { IfOk result (λ done. done ≤ length lines.now) }
+    ensures all { all ≡ true → IfOk result (λ done. length lines.now ≤ done) }
+    ensures may { IfOk result (λ done. done < length lines.now → MayPass task.entry.what.now progress.new.telling.course) }
+    ensures passes { IfOk result (λ done. (f : Finds) →
+        PassesTo task.entry f progress.old progress.new lines.now (drop done lines.now) out.old.items out.new.items) }
+{
+    let mut done = 0usize;
+    while !stops(task.what, &progress.telling.course, all) {
+        let Some(len) = feed_at(&lines[done..]) else {
+            return Ok(done);
+        };
+        tell_without(alloc, out, task, progress, &lines[done..done + len])?;
+        done += len + 1;
+    }
+    Ok(done)
+}
+
+/// Tells lines without a match: one by one those that may be printed, whatever stands behind them, and all others at once.
 fn tell_lacking(
     alloc: Global,
     out: &mut Vec<u8>,
@@ -133,22 +198,16 @@ fn tell_lacking(
     requires waits { Waits task.what.now progress.old.telling.course }
     requires whole { AreWhole lines.now }
     ensures waits { OnOk result (Waits task.entry.what.now progress.new.telling.course) }
-    ensures goes_on { OnOk result ((f : Finds) → All (Lacks f) (split_lines lines.now) → (more : List ℕ) →
-        out.old.items ++ tells_lines task.entry f progress.old (split_lines (lines.now ++ more))
-        ≡ out.new.items ++ tells_lines task.entry f progress.new (split_lines more)) }
-    ensures counts { OnOk result ((f : Finds) → All (Lacks f) (split_lines lines.now) → (more : List ℕ) →
-        counts_lines task.entry f progress.new (split_lines more)
-        ≡ counts_lines task.entry f progress.old (split_lines (lines.now ++ more))) }
+    ensures passes { OnOk result ((f : Finds) →
+        PassesTo task.entry f progress.old progress.new lines.now [] out.old.items out.new.items) }
 {
-    let mut done = 0usize;
-    while !hides(task.what, &progress.telling.course) {
-        let Some(len) = feed_at(&lines[done..]) else {
-            return Ok(());
-        };
-        tell_without(alloc, out, task, progress, &lines[done..done + len])?;
-        done += len + 1;
+    let done = tell_each(alloc, out, task, progress, lines, false)?;
+    if done == lines.len() {
+        return Ok(());
     }
-    pass_hidden(task, progress, &lines[done..])
+    let start = pass_over(task, progress, &lines[done..])?;
+    let _ = tell_each(alloc, out, task, progress, &lines[done + start..], true)?;
+    Ok(())
 }
 
 /// Tells lines without a match: a text that is empty or ends with a line feed.

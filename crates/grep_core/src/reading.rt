@@ -1,13 +1,12 @@
 //! A text is read in blocks, and its lines are told one after the other.
 ghost use Rattle.std.specs.Prelude.{◌≡◌, ◌==◌, None, ◌++◌, ◌<◌, ◌≤◌, ℕ, [], List, Some, Ok, OnOk, IfOk, IfErr, IfSome, IsTrue, drop, take};
-ghost use Rattle.std.specs.Prelude.{true, false, length, nat_lt};
+ghost use Rattle.std.specs.Prelude.{true, false, length};
 ghost use Rattle.std.specs.Io.KnownBytes.{Appends, IsAtEnd, Keeps};
 ghost use Rattle.std.specs.List.{position};
-ghost use Rattle.hirscan.specs.Runs.{ReadsSome};
 ghost use Rattle.grep_core.specs.Blocks.{SearchesBy, finds_by, tells_lines, counts_lines, Writes, ReadsOn, WritesPart, IsOver};
 ghost use Rattle.grep_core.specs.Courses.{Waits};
 ghost use Rattle.grep_core.specs.Lines.{split_lines};
-ghost use Rattle.grep_core.specs.Report.{Finds, report, selected_count};
+ghost use Rattle.grep_core.specs.Report.{Finds, counted_as, report, selected_count};
 ghost use Rattle.grep_core.specs.Searchers.{SearchesFor, found_by};
 ghost use Rattle.grep_core.specs.Telling.{needs_spans};
 ghost use Rattle.grep_core.specs.declared.blocks.Task.{Task as TheTask};
@@ -15,10 +14,11 @@ ghost use Rattle.grep_core.specs.declared.blocks.Task.{Task as TheTask};
 use crate::blocks::{Progress, Task, feed_at, tell_block, tell_one};
 use crate::fault::Fault;
 use crate::finder::Finder;
+use crate::held::Held;
 use crate::known::Known;
-use crate::telling::{Telling, is_over, tell_end};
-use crate::what::What;
-use std::alloc::{AllocError, Global};
+use crate::telling::{Telling, counted_as, is_over, tell_end};
+use crate::what::{Print, What};
+use std::alloc::Global;
 use std::io::{ErrorKind, Read, Write};
 
 /// How many bytes are asked of the reader at once, at most.
@@ -37,27 +37,6 @@ enum Next {
     End,
     /// Nothing of the next lines is told, whatever they are.
     Over,
-}
-
-fn make_chunk(alloc: Global) -> Result<Vec<u8>, AllocError>
-    ensures { IfOk result (λ chunk. 0 < length chunk.items) }
-{
-    vec![in alloc; 0u8; BLOCK]
-}
-
-/// Appends the bytes of one read to the text. The answer counts them; 0 is the reader's end.
-fn read_some<R: Read>(reader: &mut R, chunk: &mut [u8], text: &mut Vec<u8>) -> Result<usize, Fault>
-    requires { 0 < length chunk.old }
-    ensures ok { IfOk result (λ n. ReadsSome (R.remaining reader.old) (R.remaining reader.new) text.old.items text.new.items n) }
-    ensures chunk { length chunk.new ≡ length chunk.old }
-{
-    match reader.read(chunk) {
-        Ok(n) => {
-            text.extend_from_slice(&chunk[..n])?;
-            Ok(n)
-        }
-        Err(e) => Err(Fault::Read(e.kind())),
-    }
 }
 
 /// Writes all bytes. Where it fails, those that were written begin them.
@@ -85,15 +64,6 @@ fn flush<W: Write>(writer: &mut W) -> Result<(), Fault>
     }
 }
 
-/// A copy of what stands behind the first bytes.
-fn behind(alloc: Global, text: &[u8], done: usize) -> Result<Vec<u8>, AllocError>
-    requires { done ≤ length text.now }
-    ensures { IfOk result (λ rest. rest.items ≡ drop done text.now) }
-{
-    let rest = text[done..].to_vec(alloc)?;
-    Ok(rest)
-}
-
 /// Whether nothing of the next lines is told.
 fn is_task_over(task: Task<'_>, progress: &Progress) -> bool
     ensures { IsTrue result → IsOver task.entry progress.now }
@@ -107,48 +77,42 @@ fn tell_read<W: Write>(
     writer: &mut W,
     finder: &mut Finder<'_>,
     task: Task<'_>,
-    read: &mut Vec<u8>,
+    read: &mut Held,
     progress: &mut Progress,
 ) -> Result<bool, Fault>
     requires { Waits task.what.now progress.old.telling.course }
     ensures same { finder.new ≡ finder.old }
     ensures waits { OnOk result (Waits task.entry.what.now progress.new.telling.course) }
     ensures writes { OnOk result ((by : SearchesBy task.entry finder.old) (more : List ℕ) →
-        Writes task.entry (finds_by task.entry by) progress.old progress.new (read.old.items ++ more) (read.new.items ++ more)
+        Writes task.entry (finds_by task.entry by) progress.old progress.new (read.old ++ more) (read.new ++ more)
         (W.contents writer.old) (W.contents writer.new)) }
     ensures over { IfOk result (λ over. IsTrue over → IsOver task.entry progress.new) }
     ensures fault { IfErr result (λ _. (by : SearchesBy task.entry finder.old) (more : List ℕ) →
-        WritesPart task.entry (finds_by task.entry by) progress.old (read.old.items ++ more) (W.contents writer.old)
+        WritesPart task.entry (finds_by task.entry by) progress.old (read.old ++ more) (W.contents writer.old)
         (W.contents writer.new)) }
 {
     let mut out = Vec::new(alloc);
-    let done = match tell_block(alloc, &mut out, finder, task, progress, read) {
+    let done = match tell_block(alloc, &mut out, finder, task, progress, read.bytes()) {
         Ok(done) => done,
         Err(e) => return Err(e),
-    };
-    let rest = match behind(alloc, read, done) {
-        Ok(rest) => rest,
-        Err(_) => return Err(Fault::NoMemory),
     };
     match write_out(writer, &out) {
         Ok(()) => {}
         Err(e) => return Err(e),
     }
-    *read = rest;
+    read.forget(done);
     Ok(is_task_over(task, progress))
 }
 
-/// How many bytes are asked of the reader, where so many were told before and so many can be held; some are.
-fn block_len(told: u64, room: usize) -> usize
-    requires { 0 < room }
+/// How many bytes are asked of the reader, where so many were told before.
+fn block_len(told: u64) -> usize
     ensures some { 0 < result }
-    ensures fits { result ≤ room }
+    ensures most { result ≤ 65536 }
 {
-    let few = FIRST_BLOCK.min(room);
     if told < BLOCK as u64 {
-        return few.max(told as usize).min(room);
+        return FIRST_BLOCK.max(told as usize);
     }
-    room
+    BLOCK
 }
 
 /// Reads one block more, and tells the lines that end in it.
@@ -158,37 +122,33 @@ fn next_block<R: Read, W: Write>(
     writer: &mut W,
     finder: &mut Finder<'_>,
     task: Task<'_>,
-    chunk: &mut [u8],
-    read: &mut Vec<u8>,
+    read: &mut Held,
     progress: &mut Progress,
 ) -> Result<Next, Fault>
     requires waits { Waits task.what.now progress.old.telling.course }
-    requires chunk { 0 < length chunk.old }
     ensures same { finder.new ≡ finder.old }
     ensures waits { OnOk result (Waits task.entry.what.now progress.new.telling.course) }
-    ensures chunk { length chunk.new ≡ length chunk.old }
     ensures reads { OnOk result ((by : SearchesBy task.entry finder.old) (text : List ℕ) → R.remaining reader.old ≡ Some text →
-        ReadsOn task.entry (finds_by task.entry by) progress.old progress.new read.old.items read.new.items text (R.remaining reader.new)
+        ReadsOn task.entry (finds_by task.entry by) progress.old progress.new read.old read.new text (R.remaining reader.new)
         (W.contents writer.old) (W.contents writer.new)) }
     ensures end { result ≡ Ok Next.End → IsAtEnd (R.remaining reader.new) }
     ensures over { result ≡ Ok Next.Over → IsOver task.entry progress.new }
     ensures fault { IfErr result (λ _. (by : SearchesBy task.entry finder.old) (text : List ℕ) → R.remaining reader.old ≡ Some text →
-        WritesPart task.entry (finds_by task.entry by) progress.old (read.old.items ++ text) (W.contents writer.old)
+        WritesPart task.entry (finds_by task.entry by) progress.old (read.old ++ text) (W.contents writer.old)
         (W.contents writer.new)) }
 {
-    let before = read.len();
-    let len = block_len(progress.place, chunk.len());
-    let taken = match read_some(reader, &mut chunk[..len], read) {
+    let before = read.bytes().len();
+    let taken = match read.read_some(reader, block_len(progress.place)) {
         Ok(taken) => taken,
         Err(e) => return Err(e),
     };
     if taken == 0 {
         return Ok(Next::End);
     }
-    if read.len() > LONGEST {
+    if read.bytes().len() > LONGEST {
         return Err(Fault::TooLong);
     }
-    if feed_at(&read[before..]).is_none() {
+    if feed_at(&read.bytes()[before..]).is_none() {
         return Ok(Next::More);
     }
     match tell_read(alloc, writer, finder, task, read, progress) {
@@ -205,25 +165,23 @@ fn tell_blocks<R: Read, W: Write>(
     writer: &mut W,
     finder: &mut Finder<'_>,
     task: Task<'_>,
-    chunk: &mut [u8],
-    read: &mut Vec<u8>,
+    read: &mut Held,
     progress: &mut Progress,
 ) -> Result<bool, Fault>
     requires waits { Waits task.what.now progress.old.telling.course }
-    requires chunk { 0 < length chunk.old }
     ensures same { finder.new ≡ finder.old }
     ensures waits { OnOk result (Waits task.entry.what.now progress.new.telling.course) }
     ensures reads { OnOk result ((by : SearchesBy task.entry finder.old) (text : List ℕ) → R.remaining reader.old ≡ Some text →
-        ReadsOn task.entry (finds_by task.entry by) progress.old progress.new read.old.items read.new.items text (R.remaining reader.new)
+        ReadsOn task.entry (finds_by task.entry by) progress.old progress.new read.old read.new text (R.remaining reader.new)
         (W.contents writer.old) (W.contents writer.new)) }
     ensures end { IfOk result (λ ended. ended ≡ true → IsAtEnd (R.remaining reader.new)) }
     ensures over { IfOk result (λ ended. ended ≡ false → IsOver task.entry progress.new) }
     ensures fault { IfErr result (λ _. (by : SearchesBy task.entry finder.old) (text : List ℕ) → R.remaining reader.old ≡ Some text →
-        WritesPart task.entry (finds_by task.entry by) progress.old (read.old.items ++ text) (W.contents writer.old)
+        WritesPart task.entry (finds_by task.entry by) progress.old (read.old ++ text) (W.contents writer.old)
         (W.contents writer.new)) }
 {
     for _ in 0..u64::MAX {
-        match next_block(alloc, reader, writer, finder, task, chunk, read, progress) {
+        match next_block(alloc, reader, writer, finder, task, read, progress) {
             Ok(Next::More) => {}
             Ok(Next::End) => return Ok(true),
             Ok(Next::Over) => return Ok(false),
@@ -379,8 +337,8 @@ fn write_rest<W: Write>(
         Appends (W.contents writer.old) (W.contents writer.new)
         (tells_lines task.entry (finds_by task.entry by) progress.old (split_lines (read.now ++ more)))) }
     ensures counts { OnOk result ((by : SearchesBy task.entry finder.old) (more : List ℕ) → (ended ≡ true → more ≡ []) →
-        nat_lt 0 (counts_lines task.entry (finds_by task.entry by) progress.new [])
-        ≡ nat_lt 0 (counts_lines task.entry (finds_by task.entry by) progress.old (split_lines (read.now ++ more)))) }
+        counted_as task.entry.what.now.print (counts_lines task.entry (finds_by task.entry by) progress.new [])
+        ≡ counted_as task.entry.what.now.print (counts_lines task.entry (finds_by task.entry by) progress.old (split_lines (read.now ++ more)))) }
     ensures fault { IfErr result (λ _. (by : SearchesBy task.entry finder.old) (more : List ℕ) → (ended ≡ true → more ≡ []) →
         WritesPart task.entry (finds_by task.entry by) progress.old (read.now ++ more) (W.contents writer.old) (W.contents writer.new)) }
 {
@@ -413,8 +371,8 @@ fn finish<W: Write>(
         Appends (W.contents writer.old) (W.contents writer.new)
         (tells_lines task.entry (finds_by task.entry by) progress.old (split_lines (read.now ++ more)))) }
     ensures counts { OnOk result ((by : SearchesBy task.entry finder.old) (more : List ℕ) → (ended ≡ true → more ≡ []) →
-        nat_lt 0 (counts_lines task.entry (finds_by task.entry by) progress.new [])
-        ≡ nat_lt 0 (counts_lines task.entry (finds_by task.entry by) progress.old (split_lines (read.now ++ more)))) }
+        counted_as task.entry.what.now.print (counts_lines task.entry (finds_by task.entry by) progress.new [])
+        ≡ counted_as task.entry.what.now.print (counts_lines task.entry (finds_by task.entry by) progress.old (split_lines (read.now ++ more)))) }
     ensures fault { IfErr result (λ _. (by : SearchesBy task.entry finder.old) (more : List ℕ) → (ended ≡ true → more ≡ []) →
         WritesPart task.entry (finds_by task.entry by) progress.old (read.now ++ more) (W.contents writer.old) (W.contents writer.new)) }
 {
@@ -428,14 +386,15 @@ fn finish<W: Write>(
     }
 }
 
-/// Whether a line is selected.
-fn has_selected(progress: &Progress) -> bool
-    ensures { (t : TheTask) → (f : Finds) → result ≡ nat_lt 0 (counts_lines t f progress.now []) }
+/// How many selected lines are counted behind the last line.
+fn count_of(print: Print, progress: &Progress) -> u64
+    ensures { (t : TheTask) → (f : Finds) → result ≡ counted_as print (counts_lines t f progress.now []) }
 {
-    progress.telling.count > 0
+    counted_as(print, progress.telling.count)
 }
 
-/// Reads a text, line by line, and writes what is told of it. The answer says whether a line is selected.
+/// Reads a text, line by line, and writes what is told of it. The answer is how many lines are selected; where names of texts are asked for,
+/// or nothing, one stands for all of them, since no more is read then than tells whether there is one.
 ///
 /// It reads blocks of 64 KiB, and tells the lines that end in one before it reads the next; it reads no more where nothing more is told
 /// whatever comes. A line is held whole, and one above 1 GiB is refused. Where it fails, a beginning of what is told was written.
@@ -453,12 +412,12 @@ pub fn tell_text<R: Read, W: Write>(
     known: Known,
     reader: &mut R,
     writer: &mut W,
-) -> Result<bool, Fault>
+) -> Result<u64, Fault>
     ensures same { finder.new ≡ finder.old }
     ensures told { OnOk result ((by : SearchesFor finder.old (needs_spans what.now)) → IfSome (R.remaining reader.old) (λ text.
         Appends (W.contents writer.old) (W.contents writer.new) (report what.now (found_by by) name.now with_name known text))) }
-    ensures selected { IfOk result (λ any. (by : SearchesFor finder.old (needs_spans what.now)) → IfSome (R.remaining reader.old) (λ text.
-        any ≡ nat_lt 0 (selected_count what.now (found_by by) text))) }
+    ensures selected { IfOk result (λ n. (by : SearchesFor finder.old (needs_spans what.now)) → IfSome (R.remaining reader.old) (λ text.
+        n ≡ counted_as what.now.print (selected_count what.now (found_by by) text))) }
     ensures fault { IfErr result (λ _. (by : SearchesFor finder.old (needs_spans what.now)) → IfSome (R.remaining reader.old) (λ text.
         (n : ℕ) × Appends (W.contents writer.old) (W.contents writer.new)
         (take n (report what.now (found_by by) name.now with_name known text)))) }
@@ -468,27 +427,30 @@ pub fn tell_text<R: Read, W: Write>(
         name,
         with_name,
     };
-    let mut chunk = match make_chunk(alloc) {
-        Ok(chunk) => chunk,
-        Err(_) => return Err(Fault::NoMemory),
-    };
     let mut progress = Progress::new(alloc, known);
-    let mut read = Vec::new(alloc);
+    let mut read = Held::new(alloc);
     let ended = match tell_blocks(
         alloc,
         reader,
         writer,
         finder,
         task,
-        &mut chunk,
         &mut read,
         &mut progress,
     ) {
         Ok(ended) => ended,
         Err(e) => return Err(e),
     };
-    match finish(alloc, writer, finder, task, ended, &read, &mut progress) {
-        Ok(()) => Ok(has_selected(&progress)),
+    match finish(
+        alloc,
+        writer,
+        finder,
+        task,
+        ended,
+        read.bytes(),
+        &mut progress,
+    ) {
+        Ok(()) => Ok(count_of(what.print, &progress)),
         Err(e) => Err(e),
     }
 }

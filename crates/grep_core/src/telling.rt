@@ -4,7 +4,7 @@ ghost use Rattle.std.specs.Prelude.{option_map, if◌then◌else◌};
 ghost use Rattle.grep_core.specs.Courses.{Item, Waits, item};
 ghost use Rattle.grep_core.specs.Lines.{TextLine};
 ghost use Rattle.grep_core.specs.Printing.{span_pair, text_line};
-ghost use Rattle.grep_core.specs.Report.{Finds, told_spans, report_as, selected, count_line, name_line};
+ghost use Rattle.grep_core.specs.Report.{Finds, told_spans, report_as, selected, count_line, name_line, counted_as};
 ghost use Rattle.grep_core.specs.Selecting.{count};
 ghost use Rattle.grep_core.specs.Telling.{shown, prints_lines, tells_as, may_select, still_told, count_in_all};
 ghost use Rattle.grep_core.specs.declared.what.What.{What as TheWhat};
@@ -218,12 +218,29 @@ pub(crate) fn tell_end(
     }
 }
 
+fn one_of(count: u64) -> u64
+    ensures { result ≡ (if nat_lt 0 count then 1 else 0) }
+{
+    if count > 0 { 1 } else { 0 }
+}
+
+/// As many of so many selected lines as are counted: one where no more is asked for than whether there is one.
+pub(crate) fn counted_as(print: Print, count: u64) -> u64
+    ensures { result ≡ counted_as print count }
+{
+    match print {
+        Print::Lines | Print::Matches | Print::Count => count,
+        Print::NameIfAny | Print::NameIfNone | Print::Nothing => one_of(count),
+    }
+}
+
 /// Whether nothing of the next lines is told, whatever they are.
 pub(crate) fn is_over(what: &What, telling: &Telling) -> bool
     ensures told { IsTrue result → (f : Finds) (name : List ℕ) (with_name : Bool) (lines : List TextLine) →
         still_told what.now f name with_name telling.now lines ≡ still_told what.now f name with_name telling.now [] }
     ensures counted { IsTrue result → (f : Finds) (lines : List TextLine) →
-        nat_lt 0 (count_in_all what.now f telling.now lines) ≡ nat_lt 0 (count_in_all what.now f telling.now []) }
+        counted_as what.now.print (count_in_all what.now f telling.now lines)
+        ≡ counted_as what.now.print (count_in_all what.now f telling.now []) }
 {
     let is_spent = !may_select(what, telling.count);
     match what.print {

@@ -85,6 +85,22 @@ const NUMBERS: [(&str, char, &str); 3] = [
     ),
 ];
 
+/// The options that take patterns.
+const LISTS: [(&str, char, &str, &str); 2] = [
+    (
+        "regexp",
+        'e',
+        "PATTERN",
+        "a pattern, or several, one a line; may be given several times",
+    ),
+    (
+        "file",
+        'f',
+        "FILE",
+        "a file of patterns, one a line; may be given several times",
+    ),
+];
+
 /// The options that have no letter and take no value.
 const LONG: [(&str, &str); 2] = [
     (
@@ -93,7 +109,7 @@ const LONG: [(&str, &str); 2] = [
     ),
     (
         "stats",
-        "tell on standard error, at the end, what the search took",
+        "tell on standard error, at the end, how many lines were selected and what the search took",
     ),
 ];
 
@@ -104,64 +120,81 @@ fn flag<'a>(alloc: Global, id: &'a str, help: &'a str) -> Arg<'a> {
         .action(ArgAction::SetTrue)
 }
 
-fn with_flags<'a>(alloc: Global, mut command: Command<'a>) -> Result<Command<'a>, AllocError> {
+/// Appends an option. It is the one function that drops one for which there is no room.
+fn push<'a>(args: &mut Vec<Arg<'a>>, arg: Arg<'a>) -> Result<(), AllocError> {
+    args.push(arg)?;
+    Ok(())
+}
+
+fn push_flags<'a>(alloc: Global, args: &mut Vec<Arg<'a>>) -> Result<(), AllocError> {
     for (id, short, help) in FLAGS {
-        command = command.arg(flag(alloc, id, help).short(short))?;
+        push(args, flag(alloc, id, help).short(short))?;
     }
-    Ok(command)
+    Ok(())
 }
 
-fn with_pairs<'a>(alloc: Global, mut command: Command<'a>) -> Result<Command<'a>, AllocError> {
+fn push_pair<'a>(
+    alloc: Global,
+    args: &mut Vec<Arg<'a>>,
+    id: &'a str,
+    short: char,
+    other: &'a str,
+    help: &'a str,
+) -> Result<(), AllocError> {
+    let arg = flag(alloc, id, help).short(short).overrides_with(other)?;
+    push(args, arg)
+}
+
+fn push_pairs<'a>(alloc: Global, args: &mut Vec<Arg<'a>>) -> Result<(), AllocError> {
     for (id, short, other, help) in PAIRS {
-        let arg = flag(alloc, id, help).short(short).overrides_with(other)?;
-        command = command.arg(arg)?;
+        push_pair(alloc, args, id, short, other, help)?;
     }
-    Ok(command)
+    Ok(())
 }
 
-fn with_long<'a>(alloc: Global, mut command: Command<'a>) -> Result<Command<'a>, AllocError> {
+fn push_long<'a>(alloc: Global, args: &mut Vec<Arg<'a>>) -> Result<(), AllocError> {
     for (id, help) in LONG {
-        command = command.arg(flag(alloc, id, help))?;
+        push(args, flag(alloc, id, help))?;
     }
-    Ok(command)
+    Ok(())
 }
 
-fn with_quiet<'a>(alloc: Global, command: Command<'a>) -> Result<Command<'a>, AllocError> {
+fn push_quiet<'a>(alloc: Global, args: &mut Vec<Arg<'a>>) -> Result<(), AllocError> {
     let arg = flag(
         alloc,
         "quiet",
         "print nothing, and end at the first line that is selected",
     );
     let arg = arg.short('q').alias("silent")?;
-    let command = command.arg(arg)?;
-    Ok(command)
+    push(args, arg)
 }
 
-fn with_numbers<'a>(alloc: Global, mut command: Command<'a>) -> Result<Command<'a>, AllocError> {
-    for (id, short, help) in NUMBERS {
-        let arg = Arg::new(alloc, id)
-            .long(id)
-            .short(short)
-            .help(help)
-            .action(ArgAction::Set)
-            .value_name("N")
-            .value_parser(value_parser!(u64));
-        command = command.arg(arg)?;
-    }
-    Ok(command)
-}
-
-fn with_most<'a>(alloc: Global, command: Command<'a>) -> Result<Command<'a>, AllocError> {
-    let arg = Arg::new(alloc, "max-count")
-        .long("max-count")
-        .short('m')
-        .help("select no more lines of a file than so many; a negative number is no limit")
+fn number<'a>(alloc: Global, id: &'a str, short: char, help: &'a str) -> Arg<'a> {
+    Arg::new(alloc, id)
+        .long(id)
+        .short(short)
+        .help(help)
         .action(ArgAction::Set)
-        .allow_negative_numbers(true)
         .value_name("N")
-        .value_parser(value_parser!(i64));
-    let command = command.arg(arg)?;
-    Ok(command)
+}
+
+fn push_numbers<'a>(alloc: Global, args: &mut Vec<Arg<'a>>) -> Result<(), AllocError> {
+    for (id, short, help) in NUMBERS {
+        let arg = number(alloc, id, short, help);
+        push(args, arg.value_parser(value_parser!(u64)))?;
+    }
+    Ok(())
+}
+
+fn push_most<'a>(alloc: Global, args: &mut Vec<Arg<'a>>) -> Result<(), AllocError> {
+    let arg = number(
+        alloc,
+        "max-count",
+        'm',
+        "select no more lines of a file than so many; a negative number is no limit",
+    );
+    let arg = arg.allow_negative_numbers(true);
+    push(args, arg.value_parser(value_parser!(i64)))
 }
 
 /// An option that may be given several times, whose values may look like options.
@@ -174,33 +207,25 @@ fn list<'a>(alloc: Global, id: &'a str, value: &'a str, help: &'a str) -> Arg<'a
         .value_name(value)
 }
 
-fn with_lists<'a>(alloc: Global, command: Command<'a>) -> Result<Command<'a>, AllocError> {
-    let regexp = list(
-        alloc,
-        "regexp",
-        "PATTERN",
-        "a pattern, or several, one a line; may be given several times",
-    );
-    let file = list(
-        alloc,
-        "file",
-        "FILE",
-        "a file of patterns, one a line; may be given several times",
-    );
-    let directory = list(
+fn push_lists<'a>(alloc: Global, args: &mut Vec<Arg<'a>>) -> Result<(), AllocError> {
+    for (id, short, value, help) in LISTS {
+        push(args, list(alloc, id, value, help).short(short))?;
+    }
+    Ok(())
+}
+
+fn push_directory<'a>(alloc: Global, args: &mut Vec<Arg<'a>>) -> Result<(), AllocError> {
+    let arg = list(
         alloc,
         "directory",
         "FOLDER",
         "search as if run in this folder; of several each is found from the one before",
     );
-    let command = command.arg(regexp.short('e'))?;
-    let command = command.arg(file.short('f'))?;
-    let command = command.arg(directory)?;
-    Ok(command)
+    push(args, arg)
 }
 
-fn with_color<'a>(alloc: Global, command: Command<'a>) -> Result<Command<'a>, AllocError> {
-    let color = Arg::new(alloc, "color")
+fn push_color<'a>(alloc: Global, args: &mut Vec<Arg<'a>>) -> Result<(), AllocError> {
+    let arg = Arg::new(alloc, "color")
         .long("color")
         .help("mark names, numbers and matches for a terminal; auto: where the reply goes to one")
         .action(ArgAction::Set)
@@ -209,48 +234,59 @@ fn with_color<'a>(alloc: Global, command: Command<'a>) -> Result<Command<'a>, Al
         .default_missing_value("auto")
         .value_parser(["auto", "always", "never"].as_slice())
         .value_name("WHEN");
-    let color = color.alias("colour")?;
-    let command = command.arg(color)?;
-    Ok(command)
+    let arg = arg.alias("colour")?;
+    push(args, arg)
 }
 
-fn with_help<'a>(alloc: Global, command: Command<'a>) -> Result<Command<'a>, AllocError> {
-    let help = Arg::new(alloc, "help")
-        .long("help")
-        .help("print this")
-        .action(ArgAction::Help);
-    let version = Arg::new(alloc, "version")
-        .long("version")
-        .short('V')
-        .help("print the version")
-        .action(ArgAction::Version);
-    let command = command.arg(help)?;
-    let command = command.arg(version)?;
-    Ok(command)
+fn push_help<'a>(alloc: Global, args: &mut Vec<Arg<'a>>) -> Result<(), AllocError> {
+    let arg = Arg::new(alloc, "help").long("help").help("print this");
+    push(args, arg.action(ArgAction::Help))
+}
+
+fn push_version<'a>(alloc: Global, args: &mut Vec<Arg<'a>>) -> Result<(), AllocError> {
+    let arg = Arg::new(alloc, "version").long("version").short('V');
+    push(
+        args,
+        arg.help("print the version").action(ArgAction::Version),
+    )
 }
 
 /// What the script gives that runs the program unproved: such a run has no terminal, so the script has to know whether one was wanted.
-fn with_hidden<'a>(alloc: Global, command: Command<'a>) -> Result<Command<'a>, AllocError> {
-    let arg = flag(alloc, "tell-input", "tell where standard input is read").hide(true);
-    let command = command.arg(arg)?;
-    Ok(command)
+fn push_hidden<'a>(alloc: Global, args: &mut Vec<Arg<'a>>) -> Result<(), AllocError> {
+    let arg = flag(alloc, "tell-input", "tell where standard input is read");
+    push(args, arg.hide(true))
 }
 
-fn with_words<'a>(alloc: Global, command: Command<'a>) -> Result<Command<'a>, AllocError> {
-    let words = Arg::new(alloc, "words")
+fn push_words<'a>(alloc: Global, args: &mut Vec<Arg<'a>>) -> Result<(), AllocError> {
+    let arg = Arg::new(alloc, "words")
         .help(
             "the pattern, where none is given by -e or -f, and the files; - or none is standard input",
         )
         .action(ArgAction::Append)
         .num_args(0..)
         .value_name("PATTERN and FILES");
-    let command = command.arg(words)?;
-    Ok(command)
+    push(args, arg)
 }
 
-/// The command line.
-pub fn command<'a>(alloc: Global) -> Result<Command<'a>, AllocError> {
-    let command = Command::new(alloc, "hirgrep")
+/// All options, in the order in which they are listed.
+fn push_all<'a>(alloc: Global, args: &mut Vec<Arg<'a>>) -> Result<(), AllocError> {
+    push_lists(alloc, args)?;
+    push_directory(alloc, args)?;
+    push_flags(alloc, args)?;
+    push_quiet(alloc, args)?;
+    push_pairs(alloc, args)?;
+    push_most(alloc, args)?;
+    push_numbers(alloc, args)?;
+    push_color(alloc, args)?;
+    push_long(alloc, args)?;
+    push_help(alloc, args)?;
+    push_version(alloc, args)?;
+    push_hidden(alloc, args)?;
+    push_words(alloc, args)
+}
+
+fn without_options<'a>(alloc: Global) -> Result<Command<'a>, AllocError> {
+    Command::new(alloc, "hirgrep")
         .version("1.0")
         .about(
             "Prints the lines of files in which a pattern matches, a pattern in the syntax of the crate regex",
@@ -260,18 +296,13 @@ pub fn command<'a>(alloc: Global) -> Result<Command<'a>, AllocError> {
         )
         .disable_help_flag(true)
         .disable_version_flag(true)
-        .args_override_self(true);
-    let command = command.bin_name("hirgrep")?;
-    let command = with_lists(alloc, command)?;
-    let command = with_flags(alloc, command)?;
-    let command = with_quiet(alloc, command)?;
-    let command = with_pairs(alloc, command)?;
-    let command = with_most(alloc, command)?;
-    let command = with_numbers(alloc, command)?;
-    let command = with_color(alloc, command)?;
-    let command = with_long(alloc, command)?;
-    let command = with_help(alloc, command)?;
-    let command = with_hidden(alloc, command)?;
-    let command = with_words(alloc, command)?;
-    Ok(command)
+        .args_override_self(true)
+        .bin_name("hirgrep")
+}
+
+/// The command line.
+pub fn command<'a>(alloc: Global) -> Result<Command<'a>, AllocError> {
+    let mut args = Vec::new(alloc);
+    push_all(alloc, &mut args)?;
+    without_options(alloc)?.args(args)
 }

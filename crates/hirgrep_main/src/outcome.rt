@@ -1,5 +1,5 @@
 //! What comes of a search.
-ghost use Rattle.std.specs.Prelude.{◌≡◌};
+ghost use Rattle.std.specs.Prelude.{◌≡◌, ◌||◌, nat_lt};
 ghost use Rattle.hirgrep_main.specs.Decisions.{counted, prints_nothing, status};
 
 use crate::asked::Asked;
@@ -24,6 +24,8 @@ pub struct Outcome {
     pub files: u64,
     /// How many bytes were read of them.
     pub bytes: u64,
+    /// How many lines were selected; of a file of which no more is asked than whether it has one, one stands for all.
+    pub lines: u64,
 }
 
 /// Whether what is printed can't be written.
@@ -62,11 +64,22 @@ impl Outcome {
         self.bytes = self.bytes.saturating_add(bytes);
     }
 
-    /// Keeps that this text was or wasn't told, and whether a line of it was selected.
-    pub fn keep(&mut self, rt: &HostRuntime, asked: &Asked, name: &str, told: Result<bool, Fault>) {
+    /// Counts the lines that were selected of a file. The answer says whether there are any.
+    fn count_lines(&mut self, lines: u64) -> bool
+        ensures any { result ≡ nat_lt 0 lines }
+        ensures counted { self.new ≡ record (self.old) { selected = self.old.selected || nat_lt 0 lines; lines = counted self.old.lines lines } }
+    {
+        let any = lines > 0;
+        self.selected |= any;
+        self.lines = self.lines.saturating_add(lines);
+        any
+    }
+
+    /// Keeps that this text was told, with so many lines that are selected, or that it wasn't.
+    pub fn keep(&mut self, rt: &HostRuntime, asked: &Asked, name: &str, told: Result<u64, Fault>) {
         match told {
-            Ok(any) => {
-                self.selected |= any;
+            Ok(lines) => {
+                let any = self.count_lines(lines);
                 self.ended |= any && asked.what.print == Print::Nothing;
             }
             Err(fault) => {
@@ -112,10 +125,12 @@ impl Outcome {
     pub fn tell_stats(&self, rt: &HostRuntime, finder: &Finder<'_>) {
         let files = self.files;
         let bytes = self.bytes;
+        let selected = self.lines;
         let clears = finder.clear_count();
         let kept = finder.memory_usage();
         let lines = finder.slow_lines();
         let _ = eprintln!(rt; "hirgrep: files read: {files}\nhirgrep: bytes read: {bytes}");
+        let _ = eprintln!(rt; "hirgrep: lines selected: {selected}");
         let _ = eprintln!(rt;
             "hirgrep: caches cleared: {clears}\nhirgrep: bytes in caches: {kept}"
         );

@@ -327,6 +327,29 @@ fn search_by(
     Ok(outcome.status(asked))
 }
 
+/// Searches files for the texts of patterns. The finder is the only value of its kind that it owns, since proofs of what a function drops
+/// grow faster than what it owns.
+fn search_texts(
+    rt: &HostRuntime,
+    asked: &Asked,
+    patterns: &[&str],
+    texts: &[&str],
+    files: &[&str],
+) -> Result<u8, AllocError> {
+    let config = config_of(&asked.how);
+    match Finder::new(rt.alloc(), texts, &config, needs_spans(&asked.what)) {
+        Ok(mut finder) => {
+            let status = search_by(rt, &mut finder, asked, files);
+            drop(finder);
+            status
+        }
+        Err(error) => {
+            tell_no_finder(rt, &config, patterns, texts, error)?;
+            Ok(2)
+        }
+    }
+}
+
 /// Makes the regexes of the patterns, and searches files by them.
 pub fn search(
     rt: &HostRuntime,
@@ -334,19 +357,10 @@ pub fn search(
     patterns: &[String],
     files: &[&str],
 ) -> Result<u8, AllocError> {
-    let alloc = rt.alloc();
-    let config = config_of(&asked.how);
-    let with_spans = needs_spans(&asked.what);
-    let patterns = strs_of(alloc, patterns)?;
+    let patterns = strs_of(rt.alloc(), patterns)?;
     let Some(texts) = texts_of(rt, asked, patterns.as_slice())? else {
         return Ok(2);
     };
-    let words = strs_of(alloc, texts.as_slice())?;
-    match Finder::new(alloc, words.as_slice(), &config, with_spans) {
-        Ok(mut finder) => search_by(rt, &mut finder, asked, files),
-        Err(error) => {
-            tell_no_finder(rt, &config, patterns.as_slice(), words.as_slice(), error)?;
-            Ok(2)
-        }
-    }
+    let words = strs_of(rt.alloc(), texts.as_slice())?;
+    search_texts(rt, asked, patterns.as_slice(), words.as_slice(), files)
 }

@@ -7,11 +7,11 @@ use Rattle.grep_core.proofs.passing.pass_lines.Goals as goal
 pub returns-clause-goes_on : goal.returns-clause-goes_on
 returns-clause-goes_on c =
     on_ok_weaker c.tell_lacking.result
-    (λ goes_on s by none. goes_on (finds_by c.args.task by) (all_lack c.args.task s by (split_lines c.args.lines.now) none))
-    c.tell_lacking.ensures.goes_on
+    (λ passes s by none. (passes (finds_by c.args.task by)).printed (all_lack c.args.task s by (split_lines c.args.lines.now) none))
+    c.tell_lacking.ensures.passes
 
 pub returns-clause-counts : goal.returns-clause-counts
 returns-clause-counts c =
     on_ok_weaker c.tell_lacking.result
-    (λ goes_on s by none. goes_on (finds_by c.args.task by) (all_lack c.args.task s by (split_lines c.args.lines.now) none))
-    c.tell_lacking.ensures.counts
+    (λ passes s by none. (passes (finds_by c.args.task by)).counted (all_lack c.args.task s by (split_lines c.args.lines.now) none))
+    c.tell_lacking.ensures.passes

@@ -1,86 +1,45 @@
-use Rattle.std.proofs.Common.{◌≡◌, ◌<◌, ◌+◌, ◌-◌, ◌∙◌, ◌==◌, ℕ, List, All, Some, length, take, drop, sym, ap₂, subst, arith}
-use Rattle.std.proofs.lemmas.List.{take_rest, length-drop}
-use Rattle.std.proofs.lemmas.Result.{on_ok_weaker}
-use Rattle.std.specs.List.{position}
-use Rattle.grep_core.specs.Blocks.{tells_lines, counts_lines}
-use Rattle.grep_core.specs.Lines.{split_lines}
-use Rattle.grep_core.specs.Passing.{AreWhole, Lacks}
-use Rattle.grep_core.proofs.BlockLemmas.{turn, turn_counted, first_within}
-use Rattle.grep_core.proofs.RunLemmas.{one_lacks, others_lack, others_told, others_counted, none_told, none_counted}
-use Rattle.grep_core.proofs.WholeLemmas.{whole_behind, whole_none}
+use Rattle.std.proofs.Common.{◌≡◌, ◌≤◌, ◌+◌, ◌-◌, ◌∙◌, ℕ, List, [], drop, drop-drop, length, take, arith, refl, sym, ap, subst}
+use Rattle.std.proofs.lemmas.List.{take_rest, drop_all}
+use Rattle.grep_core.specs.Passing.{AreWhole}
+use Rattle.grep_core.proofs.PassLemmas.{passes_same, then_passes}
+use Rattle.grep_core.proofs.WholeLemmas.{whole_behind}
 use Rattle.grep_core.proofs.passing.tell_lacking.Goals as goal
 
-pub loop-alloc-preserved : goal.loop-alloc-preserved
-loop-alloc-preserved c =
+pub pass_over-requires-clause-whole : goal.pass_over-requires-clause-whole
+pass_over-requires-clause-whole c =
     let block : List ℕ = c.args.lines.now in
-    let done : ℕ = c.loop-alloc.done in
-    let len : ℕ = c.in-Some.len in
-    let text : List ℕ = take (length block - done) (drop done block) in
-    let rest : text ≡ drop done block = take_rest block done in
-    let found : position (λ b. b == 10) text ≡ Some len = sym c.feed_at.ensures ∙ c.in-Some.is in
-    let short : done + len - done ≡ len = omega arith in
-    let piece : List ℕ = take (done + len - done) (drop done block) in
-    let cut : piece ≡ take len text = ap₂ (λ k t. take k t) short (sym rest) in
-    let within : len < length (drop done block) = subst (λ t. len < length t) rest (first_within text len found) in
-    record {
-      in_lines = omega (arith, within, length-drop done block);
-      waits = c.in_ok-tell_without.ensures.waits;
-      lack = λ f lack. others_lack f block text piece done len rest found cut (c.loop-alloc.invariant.lack f lack);
-      printed = λ f lack more.
-          turn (tells_lines c.args.task f) c.loop-alloc.progress c.tell_without.new.progress block more text piece
-          _ c.loop-alloc.out.items c.tell_without.new.out.items done len rest found cut (c.loop-alloc.invariant.printed f lack more)
-          (c.in_ok-tell_without.ensures.goes_on f
-          (one_lacks f block text piece done len rest found cut (c.loop-alloc.invariant.lack f lack)));
-      counted = λ f lack more.
-          turn_counted (counts_lines c.args.task f) c.loop-alloc.progress c.tell_without.new.progress block more text piece
-          _ done len rest found cut (c.loop-alloc.invariant.counted f lack more)
-          (c.in_ok-tell_without.ensures.counts f
-          (one_lacks f block text piece done len rest found cut (c.loop-alloc.invariant.lack f lack)));
-    }
+    subst (λ (t : List ℕ). AreWhole t) (sym (take_rest block c.in_ok-done.done)) (whole_behind block c.in_ok-done.done c.requires.whole)
 
-pub returns-in_default-clause-goes_on : goal.returns-in_default-clause-goes_on
-returns-in_default-clause-goes_on c f lack more =
+pub tell_each-requires-2-clause-whole : goal.tell_each-requires-2-clause-whole
+tell_each-requires-2-clause-whole c =
     let block : List ℕ = c.args.lines.now in
-    let done : ℕ = c.loop-alloc.done in
-    let text : List ℕ = take (length block - done) (drop done block) in
-    let rest : text ≡ drop done block = take_rest block done in
-    let whole : AreWhole text = subst (λ (t : List ℕ). AreWhole t) (sym rest) (whole_behind block done c.requires.whole) in
-    none_told (tells_lines c.args.task f) c.loop-alloc.progress block text more _ c.loop-alloc.out.items done rest
-    (whole_none text whole (sym c.feed_at.ensures ∙ c.in_default.is)) (c.loop-alloc.invariant.printed f lack more)
+    let at : ℕ = c.in_ok-done.done + c.in_ok-start.start in
+    subst (λ (t : List ℕ). AreWhole t) (sym (take_rest block at)) (whole_behind block at c.requires.whole)
 
-pub returns-in_default-clause-counts : goal.returns-in_default-clause-counts
-returns-in_default-clause-counts c f lack more =
+pub returns-then-done-lines-clause-passes : goal.returns-then-done-lines-clause-passes
+returns-then-done-lines-clause-passes c f =
     let block : List ℕ = c.args.lines.now in
-    let done : ℕ = c.loop-alloc.done in
-    let text : List ℕ = take (length block - done) (drop done block) in
-    let rest : text ≡ drop done block = take_rest block done in
-    let whole : AreWhole text = subst (λ (t : List ℕ). AreWhole t) (sym rest) (whole_behind block done c.requires.whole) in
-    none_counted (counts_lines c.args.task f) c.loop-alloc.progress block text more _ done rest
-    (whole_none text whole (sym c.feed_at.ensures ∙ c.in_default.is)) (c.loop-alloc.invariant.counted f lack more)
+    let over : length block ≤ c.in_ok-done.done = omega (arith, c.if-done-lines.true) in
+    passes_same c.args.task f c.args.progress.now c.tell_each.new.progress block block (drop c.in_ok-done.done block) []
+    c.args.out.now.items c.tell_each.new.out.items refl (drop_all c.in_ok-done.done block over) (c.in_ok-done.ensures.passes f)
 
-pub returns-clause-goes_on : goal.returns-clause-goes_on
-returns-clause-goes_on c =
+pub returns-clause-passes : goal.returns-clause-passes
+returns-clause-passes c f =
     let block : List ℕ = c.args.lines.now in
-    let done : ℕ = c.loop-alloc.done in
-    let text : List ℕ = take (length block - done) (drop done block) in
-    let rest : text ≡ drop done block = take_rest block done in
-    on_ok_weaker c.pass_hidden.result
-    (λ goes_on f lack more.
-    others_told (tells_lines c.args.task f) c.loop-alloc.progress c.pass_hidden.new.progress block text more _ c.loop-alloc.out.items done
-    rest
-    (c.loop-alloc.invariant.printed f lack more)
-    (goes_on f (subst (λ (t : List ℕ). All (Lacks f) (split_lines t)) (sym rest) (c.loop-alloc.invariant.lack f lack)) more))
-    c.pass_hidden.ensures.goes_on
-
-pub returns-clause-counts : goal.returns-clause-counts
-returns-clause-counts c =
-    let block : List ℕ = c.args.lines.now in
-    let done : ℕ = c.loop-alloc.done in
-    let text : List ℕ = take (length block - done) (drop done block) in
-    let rest : text ≡ drop done block = take_rest block done in
-    on_ok_weaker c.pass_hidden.result
-    (λ goes_on f lack more.
-    others_counted (counts_lines c.args.task f) c.loop-alloc.progress c.pass_hidden.new.progress block text more _ done rest
-    (c.loop-alloc.invariant.counted f lack more)
-    (goes_on f (subst (λ (t : List ℕ). All (Lacks f) (split_lines t)) (sym rest) (c.loop-alloc.invariant.lack f lack)) more))
-    c.pass_hidden.ensures.counts
+    let done : ℕ = c.in_ok-done.done in
+    let start : ℕ = c.in_ok-start.start in
+    let one : List ℕ = take (length block - done) (drop done block) in
+    let two : List ℕ = take (length block - (done + start)) (drop (done + start) block) in
+    let rest : one ≡ drop done block = take_rest block done in
+    let last : two ≡ drop (done + start) block = take_rest block (done + start) in
+    then_passes c.args.task f c.args.progress.now c.tell_each.new.progress c.tell_each-2.new.progress block (drop done block) []
+    c.args.out.now.items c.tell_each.new.out.items c.tell_each-2.new.out.items (c.in_ok-done.ensures.passes f)
+    (then_passes c.args.task f c.tell_each.new.progress c.pass_over.new.progress c.tell_each-2.new.progress
+    (drop done block) (drop (done + start) block) [] c.tell_each.new.out.items c.tell_each.new.out.items
+    c.tell_each-2.new.out.items
+    (passes_same c.args.task f c.tell_each.new.progress c.pass_over.new.progress one (drop done block) (drop start one)
+    (drop (done + start) block) c.tell_each.new.out.items c.tell_each.new.out.items rest
+    (ap (drop start) rest ∙ drop-drop start done block) (c.in_ok-start.ensures.passes f c.tell_each.new.out.items))
+    (passes_same c.args.task f c.pass_over.new.progress c.tell_each-2.new.progress two (drop (done + start) block)
+    (drop c.in_ok-tell_each.field-0 two) [] c.tell_each.new.out.items c.tell_each-2.new.out.items last
+    (drop_all c.in_ok-tell_each.field-0 two (c.in_ok-tell_each.ensures.all refl)) (c.in_ok-tell_each.ensures.passes f)))

@@ -1,4 +1,4 @@
-use Rattle.std.proofs.Common.{◌++◌, ◌∙◌, ◌<◌, refl, sym, subst}
+use Rattle.std.proofs.Common.{◌++◌, ◌∙◌, refl}
 use Rattle.grep_core.specs.Blocks.{finds_by}
 use Rattle.grep_core.proofs.SeenLemmas.{moved_by}
 use Rattle.grep_core.proofs.WriteLemmas.{reads_none, then_reads, then_part, reads_part}
@@ -8,17 +8,16 @@ pub loop-init : goal.loop-init
 loop-init g c = record {
   same = refl;
   waits = c.requires.waits;
-  some_chunk = c.requires.chunk;
   reads = λ by text is.
-      reads_none c.args.task (finds_by c.args.task by) c.args.progress.now c.args.read.now.items text (g.R.Read.remaining c.args.reader.now)
+      reads_none c.args.task (finds_by c.args.task by) c.args.progress.now c.args.read.now text (g.R.Read.remaining c.args.reader.now)
       (g.W.Write.contents c.args.writer.now) is;
 }
 
 pub returns-in-Ok-End-clause-reads : goal.returns-in-Ok-End-clause-reads
 returns-in-Ok-End-clause-reads g c by text is =
     let a = c.loop.invariant.reads by text is in
-    then_reads c.args.task (finds_by c.args.task by) c.args.progress.now c.loop.progress c.next_block.new.progress c.args.read.now.items
-    c.loop.read.items c.next_block.new.read.items text
+    then_reads c.args.task (finds_by c.args.task by) c.args.progress.now c.loop.progress c.next_block.new.progress c.args.read.now
+    c.loop.read c.next_block.new.read text
     (g.R.Read.remaining c.loop.reader) (g.R.Read.remaining c.next_block.new.reader) (g.W.Write.contents c.args.writer.now)
     (g.W.Write.contents c.loop.writer) (g.W.Write.contents c.next_block.new.writer)
     a (c.in-Ok-End.ensures.reads (moved_by c.loop.invariant.same by) a.rest a.is_left)
@@ -26,8 +25,8 @@ returns-in-Ok-End-clause-reads g c by text is =
 pub returns-in-Ok-Over-clause-reads : goal.returns-in-Ok-Over-clause-reads
 returns-in-Ok-Over-clause-reads g c by text is =
     let a = c.loop.invariant.reads by text is in
-    then_reads c.args.task (finds_by c.args.task by) c.args.progress.now c.loop.progress c.next_block.new.progress c.args.read.now.items
-    c.loop.read.items c.next_block.new.read.items text
+    then_reads c.args.task (finds_by c.args.task by) c.args.progress.now c.loop.progress c.next_block.new.progress c.args.read.now
+    c.loop.read c.next_block.new.read text
     (g.R.Read.remaining c.loop.reader) (g.R.Read.remaining c.next_block.new.reader) (g.W.Write.contents c.args.writer.now)
     (g.W.Write.contents c.loop.writer) (g.W.Write.contents c.next_block.new.writer)
     a (c.in-Ok-Over.ensures.reads (moved_by c.loop.invariant.same by) a.rest a.is_left)
@@ -35,8 +34,8 @@ returns-in-Ok-Over-clause-reads g c by text is =
 pub returns-in-Err-clause-fault : goal.returns-in-Err-clause-fault
 returns-in-Err-clause-fault g c by text is =
     let a = c.loop.invariant.reads by text is in
-    then_part c.args.task (finds_by c.args.task by) c.args.progress.now c.loop.progress (c.args.read.now.items ++ text)
-    (c.loop.read.items ++ a.rest)
+    then_part c.args.task (finds_by c.args.task by) c.args.progress.now c.loop.progress (c.args.read.now ++ text)
+    (c.loop.read ++ a.rest)
     (g.W.Write.contents c.args.writer.now) (g.W.Write.contents c.loop.writer) (g.W.Write.contents c.next_block.new.writer)
     a.writes (c.in-Err.ensures.fault (moved_by c.loop.invariant.same by) a.rest a.is_left)
 
@@ -44,11 +43,10 @@ pub loop-preserved : goal.loop-preserved
 loop-preserved g c = record {
   same = c.in-Ok-More.ensures.same ∙ c.loop.invariant.same;
   waits = c.in-Ok-More.ensures.waits;
-  some_chunk = subst (λ n. 0 < n) (sym c.in-Ok-More.ensures.chunk) c.loop.invariant.some_chunk;
   reads = λ by text is.
       let a = c.loop.invariant.reads by text is in
-      then_reads c.args.task (finds_by c.args.task by) c.args.progress.now c.loop.progress c.next_block.new.progress c.args.read.now.items
-      c.loop.read.items c.next_block.new.read.items text
+      then_reads c.args.task (finds_by c.args.task by) c.args.progress.now c.loop.progress c.next_block.new.progress c.args.read.now
+      c.loop.read c.next_block.new.read text
       (g.R.Read.remaining c.loop.reader) (g.R.Read.remaining c.next_block.new.reader) (g.W.Write.contents c.args.writer.now)
       (g.W.Write.contents c.loop.writer) (g.W.Write.contents c.next_block.new.writer)
       a (c.in-Ok-More.ensures.reads (moved_by c.loop.invariant.same by) a.rest a.is_left);
@@ -56,6 +54,6 @@ loop-preserved g c = record {
 
 pub returns-clause-fault : goal.returns-clause-fault
 returns-clause-fault g c by text is =
-    reads_part c.args.task (finds_by c.args.task by) c.args.progress.now c.loop.progress c.args.read.now.items c.loop.read.items text
+    reads_part c.args.task (finds_by c.args.task by) c.args.progress.now c.loop.progress c.args.read.now c.loop.read text
     (g.R.Read.remaining c.loop.reader)
     (g.W.Write.contents c.args.writer.now) (g.W.Write.contents c.loop.writer) (c.loop.invariant.reads by text is)

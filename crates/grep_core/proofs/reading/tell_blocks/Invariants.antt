@@ -1,4 +1,4 @@
-use Rattle.std.proofs.Common.{◌≡◌, ◌<◌, ℕ, List, Some, length}
+use Rattle.std.proofs.Common.{◌≡◌, ℕ, List, Some}
 use Rattle.grep_core.specs.Blocks.{SearchesBy, finds_by, ReadsOn}
 use Rattle.grep_core.specs.Courses.{Waits}
 use Rattle.grep_core.proofs.reading.tell_blocks.Given as goal
@@ -7,8 +7,7 @@ abbrev pub invariant-loop : goal.invariant-loop
 invariant-loop g l = record {
   same : l.finder ≡ l.initial.finder;
   waits : Waits l.task.what.now l.progress.telling.course;
-  some_chunk : 0 < length l.chunk;
   reads : (by : SearchesBy l.task l.initial.finder) (text : List ℕ) → g.R.Read.remaining l.initial.reader ≡ Some text →
-      ReadsOn l.task (finds_by l.task by) l.initial.progress l.progress l.initial.read.items l.read.items text
+      ReadsOn l.task (finds_by l.task by) l.initial.progress l.progress l.initial.read l.read text
       (g.R.Read.remaining l.reader) (g.W.Write.contents l.initial.writer) (g.W.Write.contents l.writer);
 }

@@ -1,4 +1,5 @@
-use Rattle.std.proofs.Common.{◌≡◌, ◌∙◌, false, sym, ap, nat_lt, []}
+use Rattle.std.proofs.Common.{◌≡◌, ◌∙◌, false, sym, ap, []}
+use Rattle.grep_core.specs.Report.{counted_as}
 use Rattle.grep_core.specs.Telling.{may_select}
 use Rattle.grep_core.proofs.TellingLemmas.{is_zero, is_false, over_told, over_counted, not_lines, names_not_lines}
 use Rattle.grep_core.proofs.telling.is_over.Goals as goal
@@ -12,7 +13,7 @@ returns-then-is_spent-clause-told c none f name with_name lines =
 pub returns-then-is_spent-clause-counted : goal.returns-then-is_spent-clause-counted
 returns-then-is_spent-clause-counted c none f lines =
     let spent : may_select c.args.what.now.most c.args.telling.now.count ≡ false = sym c.may_select-is_spent.ensures ∙ c.if-is_spent.true in
-    ap (nat_lt 0) (over_counted c.args.what.now f [] false c.args.telling.now.course c.args.telling.now.count spent lines)
+    ap (counted_as c.args.what.now.print) (over_counted c.args.what.now f [] false c.args.telling.now.course c.args.telling.now.count spent lines)
 
 pub returns-in-Count-clause-told : goal.returns-in-Count-clause-told
 returns-in-Count-clause-told c told f name with_name lines =
@@ -25,7 +26,7 @@ pub returns-in-Count-clause-counted : goal.returns-in-Count-clause-counted
 returns-in-Count-clause-counted c told f lines =
     let spent : may_select c.args.what.now.most c.args.telling.now.count ≡ false = sym c.may_select-is_spent.ensures
     ∙ is_false c.may_select-is_spent.result told in
-    ap (nat_lt 0) (over_counted c.args.what.now f [] false c.args.telling.now.course c.args.telling.now.count spent lines)
+    ap (counted_as c.args.what.now.print) (over_counted c.args.what.now f [] false c.args.telling.now.course c.args.telling.now.count spent lines)
 
 pub returns-then-is_spent-2-clause-told : goal.returns-then-is_spent-2-clause-told
 returns-then-is_spent-2-clause-told c told f name with_name lines =
@@ -38,4 +39,4 @@ pub returns-then-is_spent-2-clause-counted : goal.returns-then-is_spent-2-clause
 returns-then-is_spent-2-clause-counted c told f lines =
     let spent : may_select c.args.what.now.most c.args.telling.now.count ≡ false = sym c.may_select-is_spent.ensures
     ∙ c.if-is_spent-2.true in
-    ap (nat_lt 0) (over_counted c.args.what.now f [] false c.args.telling.now.course c.args.telling.now.count spent lines)
+    ap (counted_as c.args.what.now.print) (over_counted c.args.what.now f [] false c.args.telling.now.course c.args.telling.now.count spent lines)
