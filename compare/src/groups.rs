@@ -19,6 +19,7 @@ pub enum Kind {
     Random,
     Published,
     Several,
+    Large,
 }
 
 /// The patterns of one group, the options, and a haystack that its test has.
@@ -27,7 +28,11 @@ struct Group {
     patterns: Vec<String>,
     settings: Settings,
     given: Option<Vec<u8>>,
+    is_large: bool,
 }
+
+/// Large patterns have up to so many states.
+const LARGE: usize = 20_000;
 
 /// What all groups have in common.
 pub struct Run {
@@ -57,7 +62,7 @@ impl Run {
         let kind = self.kinds[(number % self.kinds.len() as u64) as usize];
         let turn = number / self.kinds.len() as u64;
         let mut settings = Settings::in_turn(turn).with_meaning(random);
-        settings.which = true;
+        settings.which = number % 2 == 0;
         let mut given = None;
         let patterns = match kind {
             Kind::Random => vec![Patterns::new(random, !settings.utf8).pattern()],
@@ -67,8 +72,14 @@ impl Run {
                 vec![it.pattern.clone()]
             }
             Kind::Several => self.several(random, !settings.utf8),
+            Kind::Large => {
+                // A cache of the least capacity would make a large state anew for each byte.
+                settings.least = false;
+                let count = if random.once_in(3) { random.between(2, 4) } else { 1 };
+                (0..count).map(|_| Patterns::new(random, !settings.utf8).large()).collect()
+            }
         };
-        Group { name: format!("group {number}"), patterns, settings, given }
+        Group { name: format!("group {number}"), patterns, settings, given, is_large: kind == Kind::Large }
     }
 
     fn several(&self, random: &mut Random, bytes: bool) -> Vec<String> {
@@ -89,7 +100,8 @@ impl Run {
         let mut random = Random::new(self.seed.wrapping_mul(0x1_0000_0001).wrapping_add(number));
         let group = self.group(number, &mut random);
         report.add("patterns", group.patterns.len() as u64);
-        match compiled(&group.patterns, group.settings, self.largest) {
+        let largest = if group.is_large { self.largest.max(LARGE) } else { self.largest };
+        match compiled(&group.patterns, group.settings, largest) {
             Compiled::Refused(how) => {
                 report.count_with(&how, || format!("{}: {:?} {:?}", group.name, group.patterns, group.settings));
                 1

@@ -84,7 +84,7 @@ impl Both {
         }
     }
 
-    /// A search may give up at a byte above 7F, where a pattern looks for words of Unicode.
+    /// By heads a search may give up at a byte above 7F, where a pattern looks for words of Unicode.
     fn may_give_up(&self, haystack: &[u8], refusal: &Refusal) -> bool {
         let byte = haystack.get(refusal.start).copied();
         refusal.status == GAVE_UP

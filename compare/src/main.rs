@@ -46,7 +46,8 @@ fn kinds(arguments: &Arguments) -> Vec<Kind> {
             "random" => Kind::Random,
             "published" => Kind::Published,
             "several" => Kind::Several,
-            _ => panic!("--kinds takes random, published and several"),
+            "large" => Kind::Large,
+            _ => panic!("--kinds takes random, published, several and large"),
         })
         .collect()
 }

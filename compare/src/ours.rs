@@ -1,35 +1,25 @@
 //! What both ways to the stack have in common: matches and refusals, by the numbers of the header for C.
 
+#[path = "../../capi/examples/hanneddois.rs"]
+pub mod hanneddois;
+
 #[cfg(not(feature = "heads"))]
 pub use crate::library::Ours;
 #[cfg(feature = "heads")]
 pub use crate::heads::Ours;
+pub use hanneddois::{Match, EMPTY_LOOP, HAYSTACK_NOT_UTF8, TOO_LARGE};
 
-pub const EMPTY_LOOP: u32 = 7;
-pub const TOO_LARGE: u32 = 8;
+/// What heads can't be asked, and where a search for them gives up, by numbers that the library doesn't use.
 pub const UNSUPPORTED: u32 = 10;
 pub const GAVE_UP: u32 = 11;
-pub const HAYSTACK_NOT_UTF8: u32 = 12;
 
-/// One match: the number of its pattern, and where it starts and ends.
-#[repr(C)]
-#[derive(Clone, Copy, Debug, Default, PartialEq, Eq)]
-pub struct Match {
-    pub pattern: usize,
-    pub start: usize,
-    pub end: usize,
-}
-
-/// Why a call failed; its status is 0 or 1 where it didn't.
-#[repr(C)]
+/// Why a call failed.
 #[derive(Clone, Copy, Debug, Default, PartialEq, Eq)]
 pub struct Refusal {
     pub status: u32,
     pub cause: u32,
     pub pattern: usize,
     pub start: usize,
-    pub end: usize,
-    pub limit: usize,
     pub byte: usize,
 }
 

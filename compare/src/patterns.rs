@@ -45,6 +45,30 @@ impl Patterns<'_> {
         format!("{start}{body}{end}")
     }
 
+    /// A pattern with some hundreds of states or more: many words, or a repetition with a large bound.
+    pub fn large(&mut self) -> String {
+        self.named = 0;
+        if self.random.once_in(2) {
+            let count = self.random.between(50, 400);
+            let words: Vec<String> = (0..count).map(|_| self.long_word()).collect();
+            return words.join("|");
+        }
+        let part = if self.random.once_in(2) { self.random.pick(&SHORT_CLASSES).to_string() } else { self.word() };
+        let least = self.random.between(2, 40);
+        let most = least + self.random.below(60);
+        let lazy = if self.random.once_in(4) { "?" } else { "" };
+        let body = self.word();
+        format!("(?:{part}){{{least},{most}}}{lazy}{}", if self.random.once_in(2) { "" } else { &body })
+    }
+
+    fn long_word(&mut self) -> String {
+        let length = self.random.between(2, 9);
+        let letter = |random: &mut Random| {
+            if random.once_in(30) { *random.pick(&OTHERS[..8]) } else { *random.pick(&LETTERS[..6]) }
+        };
+        (0..length).map(|_| letter(self.random)).collect()
+    }
+
     /// Words that are alternatives of each other, of which some begin with others.
     fn words(&mut self) -> String {
         let count = self.random.between(2, 12);
