@@ -21,9 +21,34 @@ program_of() {
     echo "$top/crates/$1_main/out/$1_main"
 }
 
-# A program is built where it is newer than all that rt makes it of: documents and wrong edits are no part of it.
+# Whether this processor has vectors of 32 bytes, and what else the toolchain takes for granted of one that has them.
+has_wide_vectors() {
+    [ -r /proc/cpuinfo ] || return 1
+    while read -r word flags; do
+        [ "$word" = flags ] || continue
+        for feature in avx avx2 bmi1 bmi2 f16c fma abm movbe; do
+            case " $flags " in
+            *" $feature "*) ;;
+            *) return 1 ;;
+            esac
+        done
+        return 0
+    done </proc/cpuinfo
+    return 1
+}
+
+# What stands beside a program, and is newer, where it was built for such processors alone.
+mark_of() {
+    echo "$top/crates/$1_main/out/wide"
+}
+
+# A program is built where it is newer than all that rt makes it of: documents and wrong edits are no part of it. One that asks for
+# more than this processor has isn't.
 is_built() {
     [ -x "$(program_of "$1")" ] || return 1
+    if [ "$(mark_of "$1")" -nt "$(program_of "$1")" ]; then
+        has_wide_vectors || return 1
+    fi
     set -- "$(program_of "$1")" "$top/crates.txt" "$top/HANDLES" $(crates_of "$1" | sed "s,.*,$top/crates/&/src $top/crates/&/specs $top/crates/&/proofs,")
     program=$1
     shift
@@ -97,10 +122,15 @@ run_unproved() {
     try_program "$1" <"$folder/input"
 }
 
-# Answers by the program as it was built, or else with nothing proved.
+# Answers by the program as it was built, or else with nothing proved. The program holds all that it reads and writes, so it asks for
+# its memory in large pages, of which it takes fewer; not where addresses are scarce, since it asks for some that it doesn't use.
 answer() {
     if is_built "$1"; then
         tell_terminal "$1"
+        if [ "$(ulimit -v)" = unlimited ]; then
+            GLIBC_TUNABLES=${GLIBC_TUNABLES:-glibc.malloc.hugetlb=1:glibc.malloc.top_pad=67108864}
+            export GLIBC_TUNABLES
+        fi
         exec "$(program_of "$1")"
     fi
     need_rt "$1"
