@@ -1,6 +1,7 @@
 mod BlockLemmas
 mod CourseLemmas
 mod FallbackLemmas
+mod FeedLemmas
 mod HeldLemmas
 mod JoinLemmas
 mod ListLemmas
@@ -8,6 +9,7 @@ mod LoopLemmas
 mod MarkLemmas
 mod MeantLemmas
 mod NeededLemmas
+mod NumberLemmas
 mod PassLemmas
 mod RegexLemmas
 mod ReportRows

@@ -14,6 +14,7 @@ ghost use Rattle.grep_core.specs.declared.what.What.{What as TheWhat};
 
 use crate::candidates::line_start;
 use crate::fault::Fault;
+use crate::feeds::feed_at;
 use crate::finder::Finder;
 use crate::known::Known;
 use crate::line::Line;
@@ -32,7 +33,7 @@ pub(crate) struct Task<'a> {
     pub with_name: bool,
 }
 
-/// Where the next line stands, and what was told of those before it.
+/// Where the next line stands, if lines are printed, and what was told of those before it.
 #[derive(Drop)]
 pub(crate) struct Progress {
     pub number: u64,
@@ -54,13 +55,6 @@ impl Progress {
             telling: Telling::new(alloc, known),
         }
     }
-}
-
-/// The first place of a line feed.
-pub(crate) fn feed_at(text: &[u8]) -> Option<usize>
-    ensures { result ≡ position (λ b. b == 10) text.now }
-{
-    text.iter().position(|b| *b == b'\n')
 }
 
 pub(crate) fn sum(a: u64, b: u64) -> Result<u64, Fault>

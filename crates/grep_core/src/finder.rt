@@ -113,9 +113,16 @@ impl<'t> Finder<'t> {
     fn grow_candidates(&mut self, alloc: Global)
         ensures { self.new ≡ self.old }
     {
-        let Some(size) = self.block_size.take_larger() else {
-            return;
-        };
+        if let Some(size) = self.block_size.take_larger() {
+            self.enlarge_candidates(alloc, size);
+        }
+    }
+
+    /// The same, where it is known which size they get. It is seldom called, and what it sets up would cost every line else.
+    #[inline(never)]
+    fn enlarge_candidates(&mut self, alloc: Global, size: Size)
+        ensures { self.new ≡ self.old }
+    {
         let clears = clears_of(&self.candidates);
         if let Some(larger) = candidates_of(alloc, self.texts, &self.config, Some(size.capacity)) {
             self.candidates = Some(larger);
@@ -128,9 +135,16 @@ impl<'t> Finder<'t> {
     fn grow_searcher(&mut self, alloc: Global)
         ensures { self.new ≡ self.old }
     {
-        let Some(size) = self.line_size.take_larger() else {
-            return;
-        };
+        if let Some(size) = self.line_size.take_larger() {
+            self.enlarge_searcher(alloc, size);
+        }
+    }
+
+    /// The same, where it is known which size they get.
+    #[inline(never)]
+    fn enlarge_searcher(&mut self, alloc: Global, size: Size)
+        ensures { self.new ≡ self.old }
+    {
         let clears = self.searcher.clear_count();
         let capacity = Some(size.capacity);
         if let Ok(larger) = Searcher::sized(

@@ -10,6 +10,7 @@ mod candidates;
 mod course;
 mod fallback;
 mod fault;
+mod feeds;
 mod finder;
 mod held;
 mod items;

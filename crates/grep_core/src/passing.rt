@@ -7,14 +7,16 @@ ghost use Rattle.grep_core.specs.Lines.{split_lines};
 ghost use Rattle.grep_core.specs.Passing.{AreWhole, Lacks, MayPass, PassesTo, held_of};
 ghost use Rattle.grep_core.specs.Report.{Finds};
 ghost use Rattle.grep_core.specs.Searchers.{Sought, found_by};
+ghost use Rattle.grep_core.specs.Telling.{prints_lines};
 
-use crate::blocks::{Progress, Task, feed_at, pass, sum};
+use crate::blocks::{Progress, Task, pass, sum};
 use crate::candidates::line_start;
 use crate::course::{Course, before_of, behind_hidden, forget_waiting};
 use crate::fault::Fault;
+use crate::feeds::feed_at;
 use crate::line::Line;
 use crate::telling::{prints_lines, tell_line};
-use crate::what::What;
+use crate::what::{Print, What};
 use std::alloc::Global;
 
 /// As many bytes as a count in one byte holds.
@@ -99,8 +101,23 @@ fn stops(what: &What, course: &Course, all: bool) -> bool
     may_pass(what, course)
 }
 
-/// Passes over lines without a match, but for the last ones that would be told with a selected one behind them: what stands behind them is
-/// counted, and no other line waits any more. The answer is where the first line starts that wasn't passed over.
+/// Counts whole lines that are passed over, where lines are printed: else nothing that is told hangs on their numbers.
+fn count_over(print: Print, progress: &mut Progress, lines: &[u8]) -> Result<(), Fault>
+    ensures number { prints_lines print ≡ true → OnOk result (progress.new.number ≡ progress.old.number + count_by (λ b. b == 10) lines.now) }
+    ensures place { prints_lines print ≡ true → OnOk result (progress.new.place ≡ progress.old.place + length lines.now) }
+    ensures telling { OnOk result (progress.new.telling ≡ progress.old.telling) }
+{
+    if !prints_lines(print) {
+        return Ok(());
+    }
+    let feeds = count_feeds(lines);
+    progress.number = sum(progress.number, feeds as u64)?;
+    progress.place = sum(progress.place, lines.len() as u64)?;
+    Ok(())
+}
+
+/// Passes over lines without a match, but for the last ones that would be told with a selected one behind them: no other line waits any more,
+/// and where lines are printed it is counted how many were passed over. The answer is where the first line starts that wasn't.
 fn pass_over(task: Task<'_>, progress: &mut Progress, lines: &[u8]) -> Result<usize, Fault>
     requires waits { Waits task.what.now progress.old.telling.course }
     requires whole { AreWhole lines.now }
@@ -114,9 +131,7 @@ fn pass_over(task: Task<'_>, progress: &mut Progress, lines: &[u8]) -> Result<us
     if start == 0 {
         return Ok(0);
     }
-    let feeds = count_feeds(&lines[..start]);
-    progress.number = sum(progress.number, feeds as u64)?;
-    progress.place = sum(progress.place, start as u64)?;
+    count_over(task.what.print, progress, &lines[..start])?;
     forget_waiting(&mut progress.telling.course);
     progress.telling.course.known = behind_hidden(progress.telling.course.known);
     Ok(start)

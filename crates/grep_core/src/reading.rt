@@ -11,8 +11,9 @@ ghost use Rattle.grep_core.specs.Searchers.{SearchesFor, found_by};
 ghost use Rattle.grep_core.specs.Telling.{needs_spans};
 ghost use Rattle.grep_core.specs.declared.blocks.Task.{Task as TheTask};
 
-use crate::blocks::{Progress, Task, feed_at, tell_block, tell_one};
+use crate::blocks::{Progress, Task, tell_block, tell_one};
 use crate::fault::Fault;
+use crate::feeds::feed_at;
 use crate::finder::Finder;
 use crate::held::Held;
 use crate::known::Known;

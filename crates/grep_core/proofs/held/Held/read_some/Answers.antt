@@ -1,4 +1,4 @@
-use Rattle.std.proofs.Common.{◌≡◌, ◌≤◌, ◌+◌, ◌∙◌, ℕ, List, length, length-drop, take, drop, sym, arith}
+use Rattle.std.proofs.Common.{◌≡◌, ◌≤◌, ◌∙◌, ℕ, List, length, length-drop, take, drop, arith}
 use Rattle.std.proofs.lemmas.List.{length-take-le}
 use Rattle.grep_core.proofs.HeldLemmas.{read_behind}
 use Rattle.grep_core.proofs.held.Held.read_some.Goals as goal

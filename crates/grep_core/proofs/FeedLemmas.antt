@@ -1,0 +1,94 @@
+-- The first line feed of a text, behind bytes that are none.
+use Rattle.std.proofs.Common.{◌≡◌, ◌≤◌, ◌<◌, ◌*◌, ℕ, zero, suc, ◌+◌, Bool, true, false, not, cond, List, [], ◌∷◌, length, drop, get_or, map, nat_lt}
+use Rattle.std.proofs.Common.{Some, None, refl, sym, ap, ◌∙◌, subst, arith, ⊎_elim, length-drop}
+use Rattle.std.proofs.lemmas.Bool.{cases_lt, ltb-true, lt-ltb, cond-true, true≢false}
+use Rattle.std.proofs.lemmas.List.Sums.{prefix_len_is}
+use Rattle.std.proofs.lemmas.Option.{none-some}
+use Rattle.std.proofs.lemmas.Simd.{trailing_mask_l, length-chunk, run_in_chunk_stops, run_in_chunk_fails, none_from_empty_mask}
+use Rattle.std.specs.Int.Count.{count_trailing_zeros}
+use Rattle.std.specs.List.{position, position_or_len, prefix_len}
+use Rattle.std.specs.Simd.Lanes.{chunk, mask_l}
+use Rattle.grep_core.proofs.BlockLemmas.{is_feed, first_at, some_at}
+
+-- none of the first bytes is a line feed
+abbrev pub NoneBefore : List ℕ → ℕ → Type 0
+NoneBefore text n = (k : ℕ) → k < n → is_feed (get_or text k 0) ≡ false
+
+-- behind them the first one is looked for
+passed : (text : List ℕ) (n : ℕ) → n ≤ length text → NoneBefore text n →
+    position_or_len is_feed text ≡ n + position_or_len is_feed (drop n text)
+passed text zero room none = omega arith
+passed [] (suc n) room none = absurd (omega (arith, room))
+passed (x ∷ xs) (suc n) room none =
+    let rest = passed xs n (omega (arith, room)) (λ k less. none (suc k) (omega (arith, less))) in
+    let first = first_at x xs false (none 0 (omega arith)) in omega (arith, first, rest)
+
+at_place : (text : List ℕ) (n : ℕ) → position_or_len is_feed text ≡ n → n < length text → position is_feed text ≡ Some n
+at_place text n e room =
+    ap (λ k. cond (nat_lt k (length text)) (Some k) None) e ∙ cond-true (nat_lt n (length text)) (Some n) None (lt-ltb n (length text) room)
+
+-- the first one of what is left is the first one of all
+pub found_behind : (text : List ℕ) (n k : ℕ) → n ≤ length text → NoneBefore text n → position is_feed (drop n text) ≡ Some k →
+    position is_feed text ≡ Some (n + k)
+found_behind text n k room none e =
+    let rest = drop n text in
+    let at = some_at (nat_lt (position_or_len is_feed rest) (length rest)) (position_or_len is_feed rest) k e in
+    let within = ltb-true (position_or_len is_feed rest) (length rest) at.0 in
+    at_place text (n + k) (passed text n room none ∙ ap (λ j. n + j) at.1) (omega (arith, at.1, within, length-drop n text))
+
+-- where none is left there is none at all
+none_by : (text rest : List ℕ) (n : ℕ) → position_or_len is_feed text ≡ n + position_or_len is_feed rest → length text ≡ n + length rest →
+    (v : Bool) → nat_lt (position_or_len is_feed rest) (length rest) ≡ v →
+    cond v (Some (position_or_len is_feed rest)) None ≡ None → position is_feed text ≡ None
+none_by text rest n first long true e none = absurd (none-some (position_or_len is_feed rest) (sym none))
+none_by text rest n first long false e none =
+    past (nat_lt (position_or_len is_feed text) (length text)) refl
+  where
+    past : (w : Bool) → nat_lt (position_or_len is_feed text) (length text) ≡ w → cond w (Some (position_or_len is_feed text)) None ≡ None
+    past true is =
+        let less = ltb-true (position_or_len is_feed text) (length text) is in
+        absurd (true≢false (sym (lt-ltb (position_or_len is_feed rest) (length rest) (omega (arith, less, first, long))) ∙ e))
+    past false is = refl
+
+pub none_left : (text : List ℕ) (n : ℕ) → n ≤ length text → NoneBefore text n → position is_feed (drop n text) ≡ None →
+    position is_feed text ≡ None
+none_left text n room none e =
+    let rest = drop n text in
+    none_by text rest n (passed text n room none) (omega (arith, room, length-drop n text))
+    (nat_lt (position_or_len is_feed rest) (length rest)) refl e
+
+-- a bit stands for one of the bytes
+some_within : (bytes : List ℕ) → 0 < mask_l (map is_feed bytes) → prefix_len (λ x. not (is_feed x)) bytes < length bytes
+some_within [] some = absurd (omega (arith, some))
+some_within (x ∷ xs) some = by (is_feed x) some (some_within xs)
+  where
+    by : (v : Bool) → 0 < cond v 1 0 + 2 * mask_l (map is_feed xs) →
+        (0 < mask_l (map is_feed xs) → prefix_len (λ y. not (is_feed y)) xs < length xs) →
+        cond (not v) (1 + prefix_len (λ y. not (is_feed y)) xs) 0 < length (x ∷ xs)
+    by true some rest = omega arith
+    by false some rest = let less = rest (omega (arith, some)) in omega (arith, less)
+
+-- what the bits of 32 bytes from a place on tell
+module _ (text : List ℕ) (at : ℕ) (room : at + 32 ≤ length text) (bits : ℕ) (told : bits ≡ mask_l (map is_feed (chunk at 32 text)))
+    (before : NoneBefore text at) where
+  joined : (n : ℕ) → ((k : ℕ) → at ≤ k → k < n → is_feed (get_or text k 0) ≡ false) → NoneBefore text n
+  joined n behind k less = ⊎_elim (λ low. before k low) (λ high. behind k high less) (cases_lt k at)
+
+  pub passed_over : bits ≡ 0 → NoneBefore text (at + 32)
+  passed_over none = joined (at + 32) (none_from_empty_mask is_feed text at 32 0 room (sym told ∙ none))
+
+  pub found_within : 0 < bits → position is_feed text ≡ Some (at + count_trailing_zeros 64 bits)
+  found_within some =
+      let bytes = chunk at 32 text in
+      let long = length-chunk at 32 text room in
+      let first = prefix_len (λ x. not (is_feed x)) bytes in
+      let has : 0 < mask_l (map is_feed bytes) = subst (λ n. 0 < n) told some in
+      let counted : count_trailing_zeros 64 bits ≡ first =
+      ap (count_trailing_zeros 64) told ∙ trailing_mask_l is_feed 64 bytes (omega (arith, long)) has in
+      let within = some_within bytes has in
+      let none = joined (at + first) (run_in_chunk_fails is_feed text at 32 first 0 room refl) in
+      let is = run_in_chunk_stops is_feed text at 32 first 0 room refl (omega (arith, within, long)) in
+      at_place text (at + first)
+      (prefix_len_is (λ x. not (is_feed x)) text (at + first) 0 (omega (arith, room, within, long)) (λ k less. ap not (none k less)) (λ _. ap not is))
+      (omega (arith, room, within, long))
+      ∙ ap (λ n. Some (at + n)) (sym counted)
