@@ -1,13 +1,14 @@
 -- The first line feed of a text, behind bytes that are none.
-use Rattle.std.proofs.Common.{◌≡◌, ◌≤◌, ◌<◌, ◌*◌, ℕ, zero, suc, ◌+◌, Bool, true, false, not, cond, List, [], ◌∷◌, length, drop, get_or, map, nat_lt}
+use Rattle.std.proofs.Common.{◌≡◌, ◌≤◌, ◌<◌, ◌*◌, ℕ, zero, suc, ◌+◌, Bool, true, false, not, cond, List, [], ◌∷◌, length, drop, get_or, slice_get, map, nat_lt}
 use Rattle.std.proofs.Common.{Some, None, refl, sym, ap, ◌∙◌, subst, arith, ⊎_elim, length-drop}
-use Rattle.std.proofs.lemmas.Bool.{cases_lt, ltb-true, lt-ltb, cond-true, true≢false}
+use Rattle.std.proofs.lemmas.Bool.{cases_lt, ltb-true, lt-ltb, eq-eqb, cond-true, true≢false}
 use Rattle.std.proofs.lemmas.List.Sums.{prefix_len_is}
-use Rattle.std.proofs.lemmas.Option.{none-some}
+use Rattle.std.proofs.lemmas.Option.{none-some, same_Some}
 use Rattle.std.proofs.lemmas.Simd.{trailing_mask_l, length-chunk, run_in_chunk_stops, run_in_chunk_fails, none_from_empty_mask}
 use Rattle.std.specs.Int.Count.{count_trailing_zeros}
 use Rattle.std.specs.List.{position, position_or_len, prefix_len}
 use Rattle.std.specs.Simd.Lanes.{chunk, mask_l}
+use Rattle.grep_core.specs.Candidates.{HasNoFeedFrom}
 use Rattle.grep_core.proofs.BlockLemmas.{is_feed, first_at, some_at}
 
 -- none of the first bytes is a line feed
@@ -92,3 +93,15 @@ module _ (text : List ℕ) (at : ℕ) (room : at + 32 ≤ length text) (bits : �
       (prefix_len_is (λ x. not (is_feed x)) text (at + first) 0 (omega (arith, room, within, long)) (λ k less. ap not (none k less)) (λ _. ap not is))
       (omega (arith, room, within, long))
       ∙ ap (λ n. Some (at + n)) (sym counted)
+
+-- ---- how far back there is none
+got : (xs : List ℕ) (i b : ℕ) → slice_get xs i ≡ Some b → get_or xs i 0 ≡ b
+got [] i b e = absurd (none-some b e)
+got (x ∷ xs) zero b e = same_Some x b e
+got (x ∷ xs) (suc i) b e = got xs i b e
+
+pub none_of_marks : (text : List ℕ) (at bits : ℕ) → at + 32 ≤ length text → bits ≡ mask_l (map is_feed (chunk at 32 text)) → bits ≡ 0 →
+    HasNoFeedFrom text at (at + 32)
+none_of_marks text at bits room told none i low high is =
+    absurd (true≢false (sym (eq-eqb (get_or text i 0) 10 (got text i 10 is))
+    ∙ none_from_empty_mask is_feed text at 32 0 room (sym told ∙ none) i low high))

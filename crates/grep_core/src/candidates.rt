@@ -14,6 +14,7 @@ ghost use Rattle.grep_core.specs.Searchers.{line_settings, sized_settings};
 ghost use Rattle.grep_core.specs.declared.fault.Fault.TheVariants.{NoMemory};
 
 use crate::fault::Fault;
+use crate::feeds::pass_back;
 use crate::searcher::{see_bytes, settings};
 use earliest_ends::find_earliest_end;
 use hir_core::Hir;
@@ -75,7 +76,7 @@ pub(crate) fn line_start(block: &[u8], at: usize, place: usize) -> usize
     ensures starts { at < result → slice_get block.now (result - 1) ≡ Some 10 }
     ensures last { HasNoFeedFrom block.now result place }
 {
-    let mut start = place.min(block.len());
+    let mut start = pass_back(block, at, place.min(block.len()));
     while at < start {
         if block[start - 1] == b'\n' {
             return start;

@@ -1,7 +1,8 @@
-//! The first line feed of a text. Many bytes are looked at at once.
-ghost use Rattle.std.specs.Prelude.{◌≡◌, ◌==◌, map};
+//! Line feeds of a text: the first one, and how far back there is none. Many bytes are looked at at once.
+ghost use Rattle.std.specs.Prelude.{◌≡◌, ◌==◌, ◌+◌, ◌≤◌, length, map, true};
 ghost use Rattle.std.specs.List.{position};
 ghost use Rattle.std.specs.Simd.Lanes.{mask_l};
+ghost use Rattle.grep_core.specs.Candidates.{HasNoFeedFrom};
 
 use std::simd::prelude::*;
 
@@ -39,4 +40,27 @@ pub(crate) fn feed_at(text: &[u8]) -> Option<usize>
         Some(behind) => Some(at + behind),
         None => None,
     }
+}
+
+/// Whether none of the 32 bytes from a place on is a line feed.
+#[inline(always)]
+fn have_none(text: &[u8], at: usize) -> bool
+    requires { at + 32 ≤ length text.now }
+    ensures { result ≡ true → HasNoFeedFrom text.now at (at + 32) }
+{
+    marks_of(u8x32::from_slice(&text[at..])) == 0
+}
+
+/// A place from which on, and before the given one, no line feed stands: many bytes at a time are passed over, but none before `at`.
+pub(crate) fn pass_back(text: &[u8], at: usize, place: usize) -> usize
+    requires { place ≤ length text.now }
+    ensures from { at ≤ place → at ≤ result }
+    ensures within { result ≤ place }
+    ensures none { HasNoFeedFrom text.now result place }
+{
+    let mut start = place;
+    'wide: while start.saturating_sub(at) >= LANES && have_none(text, start - LANES) {
+        start -= LANES;
+    }
+    start
 }
