@@ -4,4 +4,5 @@ mod FoundLemmas
 mod ListLemmas
 mod LoopLemmas
 mod NextLemmas
+mod RefusalLemmas
 mod TextLemmas

@@ -1,7 +1,8 @@
 //! A compiled regex.
-ghost use Rattle.std.specs.Prelude.{◌≡◌, false, Some, IfErr, IfOk, IfSome, length, map, string_bytes};
+ghost use Rattle.std.specs.Prelude.{◌≡◌, false, Some, IfErr, IfOk, IfSome, ℕ, List, length, map, string_bytes};
+ghost use Rattle.regex_syntax.specs.declared.Config.{Config as TextConfig};
 ghost use Rattle.search_types.specs.declared.match_kind.MatchKind.TheVariants.{All as AllMatches};
-ghost use Rattle.capi.specs.Compiled.{AreBuiltOf, IsMadeOf, IsRefused, config_by};
+ghost use Rattle.capi.specs.Compiled.{AreBuiltOf, IsMadeOf, IsRefused, IsSearchRefused, config_by};
 ghost use Rattle.capi.specs.Fallbacks.{AreFallbacksOf};
 ghost use Rattle.capi.specs.Options.{config_of};
 
@@ -150,7 +151,8 @@ impl Compiled {
 
     /// The toolchain's regexes, made anew.
     fn make_regexes(&self, alloc: Global) -> Result<Vec<Fallback>, SearchError>
-        ensures { IfOk result (λ rs. AreFallbacksOf (config_by self.now) self.now.texts rs.items) }
+        ensures made { IfOk result (λ rs. AreFallbacksOf (config_by self.now) self.now.texts rs.items) }
+        ensures refused { IfErr result (λ e. (config : TextConfig) → (h : List ℕ) → IsSearchRefused config h e) }
     {
         match fallbacks_of(alloc, &self.texts, &self.options.config()) {
             Ok(regexes) => Ok(regexes),
@@ -162,6 +164,7 @@ impl Compiled {
     pub(crate) fn take_regexes(&mut self, alloc: Global) -> Result<Vec<Fallback>, SearchError>
         ensures same { self.new ≡ self.old }
         ensures regexes { IfOk result (λ rs. AreFallbacksOf (config_by self.old) self.old.texts rs.items) }
+        ensures refused { IfErr result (λ e. (config : TextConfig) → (h : List ℕ) → IsSearchRefused config h e) }
     {
         if let Some(regexes) = self.regexes.take() {
             return Ok(regexes);

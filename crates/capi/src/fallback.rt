@@ -1,6 +1,8 @@
 //! Haystacks in which automata give up, searched by the toolchain's regexes of the same texts.
-ghost use Rattle.std.specs.Prelude.{◌≡◌, ◌≤◌, ◌++◌, ◌∷◌, [], IfOk, OnOk, false, length, map, option_map, string_bytes};
+ghost use Rattle.std.specs.Prelude.{◌≡◌, ◌≤◌, ◌++◌, ◌∷◌, [], ℕ, List, IfErr, IfOk, OnOk, false, true, length, map, option_map, string_bytes};
 ghost use Rattle.regex.specs.Views.{builder_source, builder_config};
+ghost use Rattle.regex_syntax.specs.declared.Config.{Config as TextConfig};
+ghost use Rattle.capi.specs.Compiled.{IsSearchRefused};
 ghost use Rattle.capi.specs.Fallbacks.{AreFallbacksOf, IsFallbackOf, best_of, better, finds_any, numbered, span_by};
 
 use crate::failure::{FoundMatch, SearchError};
@@ -36,7 +38,9 @@ fn builder_of<'s>(text: &'s str, config: &Config) -> RegexBuilder<'s>
 }
 
 /// The cause of a refusal. The text is a pattern, since it has a regex of ours.
-fn cause_of(error: Error) -> SearchError {
+fn cause_of(error: Error) -> SearchError
+    ensures { (config : TextConfig) → (h : List ℕ) → IsSearchRefused config h result }
+{
     match error {
         Error::OutOfMemory => SearchError::NoMemory,
         _ => SearchError::TooLarge,
@@ -45,7 +49,8 @@ fn cause_of(error: Error) -> SearchError {
 
 /// The regex of a text.
 fn fallback_of(alloc: Global, text: &str, config: &Config) -> Result<Fallback, SearchError>
-    ensures { IfOk result (IsFallbackOf config.now text.now) }
+    ensures made { IfOk result (IsFallbackOf config.now text.now) }
+    ensures refused { IfErr result (λ e. (config : TextConfig) → (h : List ℕ) → IsSearchRefused config h e) }
 {
     let builder = builder_of(text, config);
     if config.options().utf8 {
@@ -67,7 +72,8 @@ pub(crate) fn fallbacks_of(
     texts: &[String],
     config: &Config,
 ) -> Result<Vec<Fallback>, SearchError>
-    ensures { IfOk result (λ rs. AreFallbacksOf config.now (map string_bytes texts.now) rs.items) }
+    ensures made { IfOk result (λ rs. AreFallbacksOf config.now (map string_bytes texts.now) rs.items) }
+    ensures refused { IfErr result (λ e. (config : TextConfig) → (h : List ℕ) → IsSearchRefused config h e) }
 {
     let mut regexes = Vec::new(alloc);
     for text in texts {
@@ -85,7 +91,8 @@ pub(crate) fn fallbacks_of(
 
 /// The haystack as text.
 fn as_text(haystack: &[u8]) -> Result<&str, SearchError>
-    ensures { IfOk result (λ t. t.now ≡ haystack.now) }
+    ensures same { IfOk result (λ t. t.now ≡ haystack.now) }
+    ensures refused { (config : TextConfig) → config.utf8 ≡ true → IfErr result (IsSearchRefused config haystack.now) }
 {
     match str::from_utf8(haystack) {
         Ok(text) => Ok(text),
@@ -94,6 +101,11 @@ fn as_text(haystack: &[u8]) -> Result<&str, SearchError>
 }
 
 impl From<AllocError> for SearchError {
+    ghost use Rattle.std.specs.Prelude.{◌≡◌};
+    ghost use Rattle.capi.specs.declared.failure.SearchError.TheVariants.{NoMemory};
+
+    ghost from_gives = { λ _ e. e ≡ NoMemory };
+
     fn from(_: AllocError) -> SearchError {
         SearchError::NoMemory
     }
@@ -107,7 +119,8 @@ fn find_one(
     haystack: &[u8],
     from: usize,
 ) -> Result<Option<FoundMatch>, SearchError>
-    ensures { IfOk result (λ o. o ≡ option_map (numbered number) (span_by haystack.now from regex.now)) }
+    ensures found { IfOk result (λ o. o ≡ option_map (numbered number) (span_by haystack.now from regex.now)) }
+    ensures refused { (config : TextConfig) → (t : List ℕ) → IsFallbackOf config t regex.now → IfErr result (IsSearchRefused config haystack.now) }
 {
     match regex {
         Fallback::Bytes(regex) => {
@@ -122,7 +135,10 @@ fn find_one(
             }
         }
         Fallback::Text(regex) => {
-            let text = as_text(haystack)?;
+            let text = match as_text(haystack) {
+                Ok(text) => text,
+                Err(e) => return Err(e),
+            };
             let mut matcher = regex.matcher(alloc)?;
             match matcher.find_at(text, from) {
                 Some(found) => Ok(Some(FoundMatch {
@@ -154,7 +170,8 @@ pub(crate) fn find_best(
     haystack: &[u8],
     from: usize,
 ) -> Result<Option<FoundMatch>, SearchError>
-    ensures { IfOk result (λ o. o ≡ best_of 0 (map (span_by haystack.now from) regexes.now)) }
+    ensures best { IfOk result (λ o. o ≡ best_of 0 (map (span_by haystack.now from) regexes.now)) }
+    ensures refused { (config : TextConfig) → (texts : List (List ℕ)) → AreFallbacksOf config texts regexes.now → IfErr result (IsSearchRefused config haystack.now) }
 {
     let mut best = None;
     for number in (0..regexes.len()).rev() {
@@ -169,7 +186,8 @@ pub(crate) fn find_best(
 
 /// Whether there is a match.
 fn has_one(alloc: Global, regex: &Fallback, haystack: &[u8]) -> Result<bool, SearchError>
-    ensures { IfOk result (λ told. told ≡ finds_any haystack.now regex.now) }
+    ensures told { IfOk result (λ told. told ≡ finds_any haystack.now regex.now) }
+    ensures refused { (config : TextConfig) → (t : List ℕ) → IsFallbackOf config t regex.now → IfErr result (IsSearchRefused config haystack.now) }
 {
     match regex {
         Fallback::Bytes(regex) => {
@@ -177,7 +195,10 @@ fn has_one(alloc: Global, regex: &Fallback, haystack: &[u8]) -> Result<bool, Sea
             Ok(matcher.is_match(haystack))
         }
         Fallback::Text(regex) => {
-            let text = as_text(haystack)?;
+            let text = match as_text(haystack) {
+                Ok(text) => text,
+                Err(e) => return Err(e),
+            };
             let mut matcher = regex.matcher(alloc)?;
             Ok(matcher.is_match(text))
         }
@@ -185,7 +206,8 @@ fn has_one(alloc: Global, regex: &Fallback, haystack: &[u8]) -> Result<bool, Sea
 }
 
 fn push(tests: &mut Vec<bool>, test: bool) -> Result<(), SearchError>
-    ensures { OnOk result (tests.new.items ≡ tests.old.items ++ test ∷ []) }
+    ensures pushed { OnOk result (tests.new.items ≡ tests.old.items ++ test ∷ []) }
+    ensures refused { IfErr result (λ e. (config : TextConfig) → (h : List ℕ) → IsSearchRefused config h e) }
 {
     match tests.push(test) {
         Ok(()) => Ok(()),
@@ -199,7 +221,8 @@ pub(crate) fn have_each(
     regexes: &[Fallback],
     haystack: &[u8],
 ) -> Result<Vec<bool>, SearchError>
-    ensures { IfOk result (λ told. told.items ≡ map (finds_any haystack.now) regexes.now) }
+    ensures told { IfOk result (λ told. told.items ≡ map (finds_any haystack.now) regexes.now) }
+    ensures refused { (config : TextConfig) → (texts : List (List ℕ)) → AreFallbacksOf config texts regexes.now → IfErr result (IsSearchRefused config haystack.now) }
 {
     let mut told = Vec::new(alloc);
     for regex in regexes {
@@ -207,7 +230,10 @@ pub(crate) fn have_each(
             Ok(has) => has,
             Err(e) => return Err(e),
         };
-        push(&mut told, has)?;
+        match push(&mut told, has) {
+            Ok(()) => {}
+            Err(e) => return Err(e),
+        }
     }
     Ok(told)
 }

@@ -1,8 +1,8 @@
 //! All matches.
-ghost use Rattle.std.specs.Prelude.{◌≡◌, ◌≤◌, ◌==◌, IfOk, length, slice_set, true};
+ghost use Rattle.std.specs.Prelude.{◌≡◌, ◌≤◌, ◌==◌, IfErr, IfOk, length, slice_set, true};
 ghost use Rattle.regex_hir.specs.Text.{is_some_and};
 ghost use Rattle.search_core.specs.Utf8.{IsValidText};
-ghost use Rattle.capi.specs.Compiled.{AreAll, IsNext, config_by};
+ghost use Rattle.capi.specs.Compiled.{AreAll, IsNext, IsSearchRefused, config_by};
 
 use crate::compiled::Compiled;
 use crate::failure::{FoundMatch, SearchError};
@@ -38,6 +38,7 @@ impl Compiled {
         requires valid { (config_by self.old).utf8 ≡ true → IsValidText haystack.now }
         ensures same { self.new ≡ self.old }
         ensures next { self.old.loops ≡ true → IfOk result (IsNext (config_by self.old) self.old.texts haystack.now end) }
+        ensures refused { IfErr result (IsSearchRefused (config_by self.old) haystack.now) }
     {
         if haystack.len() < end {
             return Ok(None);
@@ -70,6 +71,7 @@ impl Compiled {
         ensures same { self.new ≡ self.old }
         ensures all { self.old.loops ≡ true →
             IfOk result.1 (λ _. AreAll (config_by self.old) self.old.texts haystack.now result.0 rows.old rows.new) }
+        ensures refused { IfErr result.1 (IsSearchRefused (config_by self.old) haystack.now) }
     {
         let mut next = match self.search(alloc, haystack, 0) {
             Ok(next) => next,
@@ -100,6 +102,7 @@ impl Compiled {
         ensures same { self.new ≡ self.old }
         ensures all { self.old.loops ≡ true →
             IfOk result.1 (λ _. AreAll (config_by self.old) self.old.texts haystack.now result.0 rows.old rows.new) }
+        ensures refused { IfErr result.1 (IsSearchRefused (config_by self.old) haystack.now) }
     {
         match self.check(haystack) {
             Ok(()) => self.list(alloc, haystack, rows),

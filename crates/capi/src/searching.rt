@@ -1,7 +1,8 @@
 //! Searches for one match.
-ghost use Rattle.std.specs.Prelude.{◌≡◌, ◌≤◌, IfOk, length, true};
+ghost use Rattle.std.specs.Prelude.{◌≡◌, ◌≤◌, IfErr, IfOk, length, true};
+ghost use Rattle.regex_syntax.specs.declared.Config.{Config as TextConfig};
 ghost use Rattle.search_core.specs.Utf8.{IsValidText};
-ghost use Rattle.capi.specs.Compiled.{IsFound, IsPreferred, IsTold, config_by};
+ghost use Rattle.capi.specs.Compiled.{IsFound, IsPreferred, IsSearchRefused, IsTold, config_by};
 
 use crate::automata::see_bytes;
 use crate::compiled::Compiled;
@@ -12,7 +13,8 @@ use std::alloc::Global;
 
 /// Searches may have to read text alone.
 pub(crate) fn check_text(haystack: &[u8], utf8: bool) -> Result<(), SearchError>
-    ensures { IfOk result (λ _. utf8 ≡ true → IsValidText haystack.now) }
+    ensures text { IfOk result (λ _. utf8 ≡ true → IsValidText haystack.now) }
+    ensures refused { (config : TextConfig) → utf8 ≡ config.utf8 → IfErr result (IsSearchRefused config haystack.now) }
 {
     if !utf8 {
         return Ok(());
@@ -34,7 +36,8 @@ pub(crate) fn lacks_memory(error: &MatchError) -> bool {
 impl Compiled {
     /// Refuses a haystack that isn't text where it has to be.
     pub(crate) fn check(&self, haystack: &[u8]) -> Result<(), SearchError>
-        ensures { IfOk result (λ _. (config_by self.now).utf8 ≡ true → IsValidText haystack.now) }
+        ensures text { IfOk result (λ _. (config_by self.now).utf8 ≡ true → IsValidText haystack.now) }
+        ensures refused { IfErr result (IsSearchRefused (config_by self.now) haystack.now) }
     {
         match check_text(haystack, self.options.config().options().utf8) {
             Ok(()) => Ok(()),
@@ -71,6 +74,7 @@ impl Compiled {
         ensures same { self.new ≡ self.old }
         ensures found { IfOk result (IsFound (config_by self.old) self.old.texts haystack.now from) }
         ensures preferred { IfOk result (IsPreferred (config_by self.old) self.old.texts haystack.now from) }
+        ensures refused { IfErr result (IsSearchRefused (config_by self.old) haystack.now) }
     {
         see_bytes(haystack);
         let regexes = match self.take_regexes(alloc) {
@@ -98,6 +102,7 @@ impl Compiled {
         ensures same { self.new ≡ self.old }
         ensures found { IfOk result (IsFound (config_by self.old) self.old.texts haystack.now from) }
         ensures preferred { self.old.loops ≡ true → IfOk result (IsPreferred (config_by self.old) self.old.texts haystack.now from) }
+        ensures refused { IfErr result (IsSearchRefused (config_by self.old) haystack.now) }
     {
         let error = match self.search_quickly(haystack, from) {
             Ok(found) => return Ok(found),
@@ -123,6 +128,7 @@ impl Compiled {
         ensures same { self.new ≡ self.old }
         ensures found { IfOk result (IsFound (config_by self.old) self.old.texts haystack.now from) }
         ensures preferred { self.old.loops ≡ true → IfOk result (IsPreferred (config_by self.old) self.old.texts haystack.now from) }
+        ensures refused { IfErr result (IsSearchRefused (config_by self.old) haystack.now) }
     {
         match self.check(haystack) {
             Ok(()) => {}
@@ -139,6 +145,7 @@ impl Compiled {
     pub fn is_match(&mut self, alloc: Global, haystack: &[u8]) -> Result<bool, SearchError>
         ensures same { self.new ≡ self.old }
         ensures told { IfOk result (IsTold (config_by self.old) self.old.texts haystack.now) }
+        ensures refused { IfErr result (IsSearchRefused (config_by self.old) haystack.now) }
     {
         let found = match self.find_at(alloc, haystack, 0) {
             Ok(found) => found,

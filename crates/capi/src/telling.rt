@@ -1,7 +1,7 @@
 //! Which patterns match.
 ghost use Rattle.std.specs.Prelude.{◌≡◌, IfErr, IfOk, IfSome, length, map, replicate, false, true};
 ghost use Rattle.search_core.specs.Utf8.{IsValidText};
-ghost use Rattle.capi.specs.Compiled.{AreMarked, AreWhich, config_by, hits, mark, overlaid};
+ghost use Rattle.capi.specs.Compiled.{AreMarked, AreWhich, IsSearchRefused, IsWhichRefused, config_by, hits, mark, overlaid};
 
 use crate::automata::see_bytes;
 use crate::compiled::Compiled;
@@ -82,6 +82,7 @@ impl Compiled {
     fn tell_slowly(&mut self, alloc: Global, haystack: &[u8]) -> Result<Vec<bool>, SearchError>
         ensures same { self.new ≡ self.old }
         ensures told { IfOk result (λ told. AreWhich (config_by self.old) self.old.texts haystack.now told.items) }
+        ensures refused { IfErr result (IsSearchRefused (config_by self.old) haystack.now) }
     {
         see_bytes(haystack);
         let regexes = match self.take_regexes(alloc) {
@@ -102,6 +103,7 @@ impl Compiled {
         requires valid { (config_by self.old).utf8 ≡ true → IsValidText haystack.now }
         ensures same { self.new ≡ self.old }
         ensures told { IfOk result (λ told. AreWhich (config_by self.old) self.old.texts haystack.now told.items) }
+        ensures refused { IfErr result (IsSearchRefused (config_by self.old) haystack.now) }
     {
         self.ready_walker(alloc);
         if let Some(tests) = self.tell_quickly(alloc, haystack) {
@@ -125,6 +127,7 @@ impl Compiled {
         ensures same { self.new ≡ self.old }
         ensures marked { IfOk result (λ n. AreMarked (config_by self.old) self.old.texts haystack.now n marks.new) }
         ensures refused { IfErr result (λ _. marks.new ≡ replicate (length marks.old) 0) }
+        ensures cause { IfErr result (IsWhichRefused (config_by self.old) self.old.texts haystack.now marks.old) }
     {
         marks.fill(0);
         if marks.len() != self.pattern_count() {
