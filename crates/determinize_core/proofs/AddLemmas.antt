@@ -8,7 +8,7 @@ use Rattle.std.specs.Int.Bits.{bit_or}
 use Rattle.search_core.specs.Index.{greatest_index}
 use Rattle.determinize_core.specs.States.{StateValue, IsState}
 use Rattle.determinize_core.specs.Added.{with_match}
-use Rattle.determinize_core.specs.StateBytes.{has_flag, number_at, four_bytes, four_bytes_each, pattern_bytes, flag_byte, is_match}
+use Rattle.determinize_core.specs.StateBytes.{has_flag, number_at, in_four_bytes, four_bytes_each, pattern_bytes, flag_byte, is_match}
 use Rattle.determinize_core.specs.StateBytes.{is_listed, unfinished, decoded_unfinished, IsUnfinished}
 use Rattle.determinize_core.proofs.FlagLemmas.{set_match, set_listed, set_both, match_back, listed_back}
 use Rattle.determinize_core.proofs.DecodeLemmas.{nine, past_13, length-four_bytes_each}
@@ -37,10 +37,10 @@ once_more (x ∷ xs) p once absent =
     let parts = either_none (nat_eq p x) (list_any (nat_eq p) xs) absent in
     (other_more x p xs once.0 (turned x p parts.0), once_more xs p once.1 parts.1)
 
-each_more : (ns : List ℕ) (n : ℕ) → four_bytes_each (ns ++ n ∷ []) ≡ four_bytes_each ns ++ four_bytes n
-each_more [] n = append-nil (four_bytes n)
-each_more (m ∷ ns) n = ap (λ (xs : List ℕ). four_bytes m ++ xs) (each_more ns n)
-    ∙ sym (append_assoc (four_bytes m) (four_bytes_each ns) (four_bytes n))
+each_more : (ns : List ℕ) (n : ℕ) → four_bytes_each (ns ++ n ∷ []) ≡ four_bytes_each ns ++ in_four_bytes n
+each_more [] n = append-nil (in_four_bytes n)
+each_more (m ∷ ns) n = ap (λ (xs : List ℕ). in_four_bytes m ++ xs) (each_more ns n)
+    ∙ sym (append_assoc (in_four_bytes m) (four_bytes_each ns) (in_four_bytes n))
 
 more_state : (v : StateValue) (p : ℕ) → IsState v → p ≤ greatest_index → list_any (nat_eq p) v.matches ≡ false → IsState (with_match v p)
 more_state v p state within absent = record {
@@ -81,24 +81,24 @@ nine_with v m l = nine (flags_with v m l) v.look_have v.look_need
 -- behind others that are listed
 behind_listed : (v : StateValue) (ps : List ℕ) (p : ℕ) → is_listed ps ≡ true →
     (nine_with v (is_match ps) (is_listed ps) ++ pattern_bytes (is_listed ps) 0 ps)
-    ++ four_bytes p ≡ nine_with v (is_match (ps ++ p ∷ [])) (is_listed (ps ++ p ∷ []))
+    ++ in_four_bytes p ≡ nine_with v (is_match (ps ++ p ∷ [])) (is_listed (ps ++ p ∷ []))
     ++ pattern_bytes (is_listed (ps ++ p ∷ [])) 0 (ps ++ p ∷ [])
 behind_listed v [] p listed = cc
 behind_listed v (q ∷ []) p listed =
-    ap (λ (l : Bool). (nine_with v true l ++ pattern_bytes l 0 (q ∷ [])) ++ four_bytes p) listed
-    ∙ ap (λ (xs : List ℕ). nine_with v true true ++ (four_bytes 0 ++ (four_bytes q ++ xs))) (sym (append-nil (four_bytes p)))
+    ap (λ (l : Bool). (nine_with v true l ++ pattern_bytes l 0 (q ∷ [])) ++ in_four_bytes p) listed
+    ∙ ap (λ (xs : List ℕ). nine_with v true true ++ (in_four_bytes 0 ++ (in_four_bytes q ++ xs))) (sym (append-nil (in_four_bytes p)))
 behind_listed v (q ∷ r ∷ ps) p listed =
-    ap (λ (xs : List ℕ). nine_with v true true ++ (four_bytes 0 ++ (four_bytes q ++ (four_bytes r ++ xs)))) (sym (each_more ps p))
+    ap (λ (xs : List ℕ). nine_with v true true ++ (in_four_bytes 0 ++ (in_four_bytes q ++ (in_four_bytes r ++ xs)))) (sym (each_more ps p))
 
 -- behind pattern 0 alone
 behind_alone : (v : StateValue) (ps : List ℕ) (p : ℕ) → is_listed ps ≡ false → is_match ps ≡ true →
     slice_set ((nine_with v (is_match ps) (is_listed ps) ++ pattern_bytes (is_listed ps) 0 ps)
-    ++ (four_bytes 0 ++ (four_bytes 0 ++ four_bytes p))) 0
+    ++ (in_four_bytes 0 ++ (in_four_bytes 0 ++ in_four_bytes p))) 0
     (bit_or (flags_with v (is_match ps) (is_listed ps)) 2)
     ≡ nine_with v (is_match (ps ++ p ∷ [])) (is_listed (ps ++ p ∷ [])) ++ pattern_bytes (is_listed (ps ++ p ∷ [])) 0 (ps ++ p ∷ [])
 behind_alone v [] p unlisted matching = cc
 behind_alone v (zero ∷ []) p unlisted matching =
-    ap (λ (f : ℕ). f ∷ ((four_bytes v.look_have ++ four_bytes v.look_need) ++ (four_bytes 0 ++ (four_bytes 0 ++ four_bytes p))))
+    ap (λ (f : ℕ). f ∷ ((in_four_bytes v.look_have ++ in_four_bytes v.look_need) ++ (in_four_bytes 0 ++ (in_four_bytes 0 ++ in_four_bytes p))))
     (set_listed true false v.is_from_word v.is_half_crlf)
 behind_alone v (suc q ∷ []) p unlisted matching = let never : (suc q == 0) ≡ false = grind arith in let e : true ≡ false =
     (rw never at unlisted) in cc
@@ -106,12 +106,12 @@ behind_alone v (q ∷ r ∷ ps) p unlisted matching = cc
 
 -- where none was
 first_listed : (v : StateValue) (ps : List ℕ) (p : ℕ) → is_match ps ≡ false → (p == 0) ≡ false →
-    slice_set ((nine_with v (is_match ps) (is_listed ps) ++ pattern_bytes (is_listed ps) 0 ps) ++ (four_bytes 0 ++ four_bytes p)) 0
+    slice_set ((nine_with v (is_match ps) (is_listed ps) ++ pattern_bytes (is_listed ps) 0 ps) ++ (in_four_bytes 0 ++ in_four_bytes p)) 0
     (bit_or (flags_with v (is_match ps) (is_listed ps)) 3)
     ≡ nine_with v (is_match (ps ++ p ∷ [])) (is_listed (ps ++ p ∷ [])) ++ pattern_bytes (is_listed (ps ++ p ∷ [])) 0 (ps ++ p ∷ [])
 first_listed v [] p none other =
     let l : is_listed (p ∷ []) ≡ true = rw other refl in
-    ap (λ (f : ℕ). f ∷ ((four_bytes v.look_have ++ four_bytes v.look_need) ++ (four_bytes 0 ++ four_bytes p)))
+    ap (λ (f : ℕ). f ∷ ((in_four_bytes v.look_have ++ in_four_bytes v.look_need) ++ (in_four_bytes 0 ++ in_four_bytes p)))
     (set_both false false v.is_from_word v.is_half_crlf)
     ∙ ap (λ (b : Bool). nine_with v true b ++ pattern_bytes b 0 (p ∷ [])) (sym l)
 first_listed v (q ∷ ps) p none other = cc
@@ -122,7 +122,7 @@ first_told : (v : StateValue) (ps : List ℕ) (p : ℕ) → is_match ps ≡ fals
     ≡ nine_with v (is_match (ps ++ p ∷ [])) (is_listed (ps ++ p ∷ [])) ++ pattern_bytes (is_listed (ps ++ p ∷ [])) 0 (ps ++ p ∷ [])
 first_told v [] p none zero_is =
     let l : is_listed (p ∷ []) ≡ false = rw zero_is refl in
-    ap (λ (f : ℕ). f ∷ (four_bytes v.look_have ++ four_bytes v.look_need)) (set_match false false v.is_from_word v.is_half_crlf)
+    ap (λ (f : ℕ). f ∷ (in_four_bytes v.look_have ++ in_four_bytes v.look_need)) (set_match false false v.is_from_word v.is_half_crlf)
     ∙ ap (λ (b : Bool). nine_with v true b ++ pattern_bytes b 0 (p ∷ [])) (sym l)
 first_told v (q ∷ ps) p none zero_is = cc
 
@@ -139,23 +139,23 @@ module _ (old new : List ℕ) (p : ℕ) (of : IsUnfinished old) (within : p ≤ 
   keeps : new ≡ unfinished (with_match value p) → Kept
   keeps e = told_unfinished (with_match value p) new (more_state value p of.state within absent) refl e
 
-  pub keeps_listed : has_flag (slice_index old 0) 2 ≡ true → new ≡ old ++ four_bytes p → Kept
-  keeps_listed flag e = keeps (e ∙ (ap (λ (xs : List ℕ). xs ++ four_bytes p) of.same
+  pub keeps_listed : has_flag (slice_index old 0) 2 ≡ true → new ≡ old ++ in_four_bytes p → Kept
+  keeps_listed flag e = keeps (e ∙ (ap (λ (xs : List ℕ). xs ++ in_four_bytes p) of.same
       ∙ behind_listed value value.matches p (unfinished_listed old true of flag)))
 
   pub keeps_second : has_flag (slice_index old 0) 2 ≡ false → has_flag (slice_index old 0) 1 ≡ true →
-      new ≡ slice_set (old ++ (four_bytes 0 ++ (four_bytes 0 ++ four_bytes p))) 0
-      (bit_or (slice_index (old ++ (four_bytes 0 ++ (four_bytes 0 ++ four_bytes p))) 0) 2) → Kept
+      new ≡ slice_set (old ++ (in_four_bytes 0 ++ (in_four_bytes 0 ++ in_four_bytes p))) 0
+      (bit_or (slice_index (old ++ (in_four_bytes 0 ++ (in_four_bytes 0 ++ in_four_bytes p))) 0) 2) → Kept
   keeps_second flag match_flag e =
-      keeps (e ∙ (ap (λ (xs : List ℕ). slice_set (xs ++ (four_bytes 0 ++ (four_bytes 0 ++ four_bytes p))) 0
-      (bit_or (slice_index (xs ++ (four_bytes 0 ++ (four_bytes 0 ++ four_bytes p))) 0) 2)) of.same
+      keeps (e ∙ (ap (λ (xs : List ℕ). slice_set (xs ++ (in_four_bytes 0 ++ (in_four_bytes 0 ++ in_four_bytes p))) 0
+      (bit_or (slice_index (xs ++ (in_four_bytes 0 ++ (in_four_bytes 0 ++ in_four_bytes p))) 0) 2)) of.same
       ∙ behind_alone value value.matches p (unfinished_listed old false of flag) (unfinished_match old true of match_flag)))
 
   pub keeps_first : has_flag (slice_index old 0) 1 ≡ false → (p == 0) ≡ false →
-      new ≡ slice_set (old ++ (four_bytes 0 ++ four_bytes p)) 0 (bit_or (slice_index (old ++ (four_bytes 0 ++ four_bytes p)) 0) 3) → Kept
+      new ≡ slice_set (old ++ (in_four_bytes 0 ++ in_four_bytes p)) 0 (bit_or (slice_index (old ++ (in_four_bytes 0 ++ in_four_bytes p)) 0) 3) → Kept
   keeps_first match_flag other e =
-      keeps (e ∙ (ap (λ (xs : List ℕ). slice_set (xs ++ (four_bytes 0 ++ four_bytes p)) 0
-      (bit_or (slice_index (xs ++ (four_bytes 0 ++ four_bytes p)) 0) 3)) of.same
+      keeps (e ∙ (ap (λ (xs : List ℕ). slice_set (xs ++ (in_four_bytes 0 ++ in_four_bytes p)) 0
+      (bit_or (slice_index (xs ++ (in_four_bytes 0 ++ in_four_bytes p)) 0) 3)) of.same
       ∙ first_listed value value.matches p (unfinished_match old false of match_flag) other))
 
   pub keeps_told : has_flag (slice_index old 0) 1 ≡ false → (p == 0) ≡ true → new ≡ slice_set old 0 (bit_or (slice_index old 0) 1) → Kept
@@ -167,7 +167,7 @@ module _ (old new : List ℕ) (p : ℕ) (of : IsUnfinished old) (within : p ≤ 
 
 -- the bytes where the patterns are listed
 listed_form : (v : StateValue) → is_listed v.matches ≡ true → unfinished v ≡ nine_with v (is_match v.matches) (is_listed v.matches)
-    ++ (four_bytes 0 ++ four_bytes_each v.matches)
+    ++ (in_four_bytes 0 ++ four_bytes_each v.matches)
 listed_form v listed = ap (λ (l : Bool). nine_with v (is_match v.matches) (is_listed v.matches) ++ pattern_bytes l 0 v.matches) listed
 
 module _ (v : StateValue) (bytes : List ℕ) (is : decoded_unfinished bytes ≡ v) (of : IsUnfinished bytes)

@@ -5,7 +5,7 @@ use Rattle.std.specs.Prelude.{All}
 use Rattle.std.proofs.Math.Seq.{drop-append-add, drop-append_seam, take-append_seam}
 use Rattle.determinize_core.specs.States.{StateValue}
 use Rattle.determinize_core.specs.StateBytes.{
-  four_bytes,
+  in_four_bytes,
   number_at,
   four_bytes_each,
   numbers,
@@ -77,7 +77,7 @@ same_made e f g h i j = rw e (rw f (rw g (rw h (rw i (rw j refl)))))
 
 -- the bytes of a state, with what its byte of flags says
 abbrev pub nine : ℕ → ℕ → ℕ → List ℕ
-nine flags have need = flags ∷ (four_bytes have ++ four_bytes need)
+nine flags have need = flags ∷ (in_four_bytes have ++ in_four_bytes need)
 
 pub decoded_listed : (flags have need : ℕ) (ps ids : List ℕ) → have < 2 ^ 32 → need < 2 ^ 32 → length ps < 2 ^ 32 →
     All (λ p. p < 2 ^ 32) ps → has_flag flags 2 ≡ true →
@@ -87,7 +87,7 @@ decoded_listed flags have need ps ids have_small need_small few small listed =
     let count : number_at 9 (nine flags have need ++ (pattern_bytes true (length ps) ps ++ id_bytes 0 ids)) ≡ length ps =
     number_back (length ps) (four_bytes_each ps ++ id_bytes 0 ids) few in
     let first : number_at 1 (nine flags have need ++ (pattern_bytes true (length ps) ps ++ id_bytes 0 ids)) ≡ have =
-    number_back have (four_bytes need ++ (pattern_bytes true (length ps) ps ++ id_bytes 0 ids)) have_small in
+    number_back have (in_four_bytes need ++ (pattern_bytes true (length ps) ps ++ id_bytes 0 ids)) have_small in
     let second : number_at 5 (nine flags have need ++ (pattern_bytes true (length ps) ps ++ id_bytes 0 ids)) ≡ need =
     number_back need (pattern_bytes true (length ps) ps ++ id_bytes 0 ids) need_small in
     let patterns : numbers (take (4 * number_at 9 (nine flags have need ++ (pattern_bytes true (length ps) ps ++ id_bytes 0 ids)))
@@ -112,7 +112,7 @@ pub decoded_unlisted : (m : Bool) (flags have need : ℕ) (ps ids : List ℕ) �
     (has_flag flags 8) have need (patterns_told false m ps) ids
 decoded_unlisted m flags have need ps ids have_small need_small unlisted matching =
     let first : number_at 1 (nine flags have need ++ id_bytes 0 ids) ≡ have =
-    number_back have (four_bytes need ++ id_bytes 0 ids) have_small in
+    number_back have (in_four_bytes need ++ id_bytes 0 ids) have_small in
     let second : number_at 5 (nine flags have need ++ id_bytes 0 ids) ≡ need = number_back need (id_bytes 0 ids) need_small in
     let told : (xs : List ℕ) → patterns_told (has_flag flags 2) (has_flag flags 1) xs ≡ patterns_told false m ps =
     λ xs. rw unlisted (rw matching (told_unlisted m xs ps)) in

@@ -6,7 +6,7 @@ use Rattle.std.specs.Int.Bits.{bit_or}
 use Rattle.look_core.specs.LookSets.{IsLookSet}
 use Rattle.search_core.specs.Index.{greatest_index}
 use Rattle.determinize_core.specs.States.{StateValue, IsState, last_id}
-use Rattle.determinize_core.specs.StateBytes.{has_flag, first_bytes, four_bytes, four_bytes_each, pattern_bytes, id_bytes, groups, zigzag}
+use Rattle.determinize_core.specs.StateBytes.{has_flag, first_bytes, in_four_bytes, four_bytes_each, pattern_bytes, id_bytes, groups, zigzag}
 use Rattle.determinize_core.specs.StateBytes.{is_match, is_listed, encoded, decoded, IsEncoded, unfinished, decoded_unfinished}
 use Rattle.determinize_core.specs.StateBytes.{IsUnfinished}
 use Rattle.determinize_core.proofs.FlagLemmas.{set_word, set_half, listed_back}
@@ -15,7 +15,7 @@ use Rattle.determinize_core.proofs.ValueLemmas.{decoded_unfinished_back, is_enco
 
 -- the bytes with the number of the patterns, where they are listed
 abbrev pub with_count : Bool → List ℕ → List ℕ
-with_count true bytes = take 9 bytes ++ (four_bytes ((length bytes - 13) / 4) ++ drop 13 bytes)
+with_count true bytes = take 9 bytes ++ (in_four_bytes ((length bytes - 13) / 4) ++ drop 13 bytes)
 with_count false bytes = bytes
 
 -- what bytes are, is what they stand for
@@ -42,7 +42,7 @@ keeps_word old new of e = told_unfinished (record (decoded_unfinished old) { is_
   where
     written : (v : StateValue) → slice_set (unfinished v) 0 (bit_or (slice_index (unfinished v) 0) 4) ≡ unfinished
         (record v { is_from_word = true })
-    written v = ap (λ (f : ℕ). f ∷ ((four_bytes v.look_have ++ four_bytes v.look_need) ++ pattern_bytes (is_listed v.matches) 0 v.matches))
+    written v = ap (λ (f : ℕ). f ∷ ((in_four_bytes v.look_have ++ in_four_bytes v.look_need) ++ pattern_bytes (is_listed v.matches) 0 v.matches))
         (set_word (is_match v.matches) (is_listed v.matches) v.is_from_word v.is_half_crlf)
 
 pub keeps_half : (old new : List ℕ) → IsUnfinished old → new ≡ slice_set old 0 (bit_or (slice_index old 0) 8) → IsUnfinished new ×
@@ -58,18 +58,18 @@ keeps_half old new of e = told_unfinished (record (decoded_unfinished old) { is_
   where
     written : (v : StateValue) → slice_set (unfinished v) 0 (bit_or (slice_index (unfinished v) 0) 8) ≡ unfinished
         (record v { is_half_crlf = true })
-    written v = ap (λ (f : ℕ). f ∷ ((four_bytes v.look_have ++ four_bytes v.look_need) ++ pattern_bytes (is_listed v.matches) 0 v.matches))
+    written v = ap (λ (f : ℕ). f ∷ ((in_four_bytes v.look_have ++ in_four_bytes v.look_need) ++ pattern_bytes (is_listed v.matches) 0 v.matches))
         (set_half (is_match v.matches) (is_listed v.matches) v.is_from_word v.is_half_crlf)
 
 -- the looks
 pub keeps_have_unfinished : (old new : List ℕ) (looks : ℕ) → IsUnfinished old → IsLookSet looks →
-    new ≡ take 1 old ++ (four_bytes looks ++ drop 5 old) → IsUnfinished new ×
+    new ≡ take 1 old ++ (in_four_bytes looks ++ drop 5 old) → IsUnfinished new ×
     (decoded_unfinished new ≡ record (decoded_unfinished old) { look_have = looks })
 keeps_have_unfinished old new looks of within e = told_unfinished (record (decoded_unfinished old) { look_have = looks }) new
     (record { have = within; need = of.state.need; patterns = of.state.patterns; once = of.state.once; states = of.state.states }) refl
-    (e ∙ ap (λ (xs : List ℕ). take 1 xs ++ (four_bytes looks ++ drop 5 xs)) of.same)
+    (e ∙ ap (λ (xs : List ℕ). take 1 xs ++ (in_four_bytes looks ++ drop 5 xs)) of.same)
 
-pub keeps_have : (old new : List ℕ) (looks : ℕ) → IsEncoded old → IsLookSet looks → new ≡ take 1 old ++ (four_bytes looks ++ drop 5 old) →
+pub keeps_have : (old new : List ℕ) (looks : ℕ) → IsEncoded old → IsLookSet looks → new ≡ take 1 old ++ (in_four_bytes looks ++ drop 5 old) →
     IsEncoded new × (decoded new ≡ record (decoded old) { look_have = looks })
 keeps_have old new looks of within e = told_encoded (record (decoded old) { look_have = looks }) new (record {
   have = within;
@@ -78,9 +78,9 @@ keeps_have old new looks of within e = told_encoded (record (decoded old) { look
   once = of.state.once;
   states = of.state.states;
 })
-    (e ∙ ap (λ (xs : List ℕ). take 1 xs ++ (four_bytes looks ++ drop 5 xs)) of.same)
+    (e ∙ ap (λ (xs : List ℕ). take 1 xs ++ (in_four_bytes looks ++ drop 5 xs)) of.same)
 
-pub keeps_need : (old new : List ℕ) (looks : ℕ) → IsEncoded old → IsLookSet looks → new ≡ take 5 old ++ (four_bytes looks ++ drop 9 old) →
+pub keeps_need : (old new : List ℕ) (looks : ℕ) → IsEncoded old → IsLookSet looks → new ≡ take 5 old ++ (in_four_bytes looks ++ drop 9 old) →
     IsEncoded new × (decoded new ≡ record (decoded old) { look_need = looks })
 keeps_need old new looks of within e = told_encoded (record (decoded old) { look_need = looks }) new (record {
   have = of.state.have;
@@ -89,7 +89,7 @@ keeps_need old new looks of within e = told_encoded (record (decoded old) { look
   once = of.state.once;
   states = of.state.states;
 })
-    (e ∙ ap (λ (xs : List ℕ). take 5 xs ++ (four_bytes looks ++ drop 9 xs)) of.same)
+    (e ∙ ap (λ (xs : List ℕ). take 5 xs ++ (in_four_bytes looks ++ drop 9 xs)) of.same)
 
 -- a state comes last
 ids_more : (before : ℕ) (ids : List ℕ) (q : ℕ) → id_bytes before (ids ++ q ∷ []) ≡ id_bytes before ids
@@ -137,15 +137,15 @@ written_count : (l : Bool) (v : StateValue) (bytes : List ℕ) → v.ids ≡ [] 
     bytes ≡ first_bytes v ++ pattern_bytes l 0 v.matches →
     first_bytes v ++ (pattern_bytes l (length v.matches) v.matches ++ id_bytes 0 v.ids) ≡ with_count l bytes
 written_count true v bytes none listed e =
-    let tail : (four_bytes (length v.matches) ++ four_bytes_each v.matches) ++ id_bytes 0 v.ids ≡ four_bytes (length v.matches)
+    let tail : (in_four_bytes (length v.matches) ++ four_bytes_each v.matches) ++ id_bytes 0 v.ids ≡ in_four_bytes (length v.matches)
     ++ four_bytes_each v.matches =
-    ap (λ (qs : List ℕ). (four_bytes (length v.matches) ++ four_bytes_each v.matches) ++ id_bytes 0 qs) none
-    ∙ append-nil (four_bytes (length v.matches) ++ four_bytes_each v.matches) in
+    ap (λ (qs : List ℕ). (in_four_bytes (length v.matches) ++ four_bytes_each v.matches) ++ id_bytes 0 qs) none
+    ∙ append-nil (in_four_bytes (length v.matches) ++ four_bytes_each v.matches) in
     let len : length bytes ≡ 13 + 4 * length v.matches = ap length e ∙ omega (arith, length-four_bytes_each v.matches) in
     let count : (length bytes - 13) / 4 ≡ length v.matches = omega (arith, len) in
     ap (λ (xs : List ℕ). first_bytes v ++ xs) tail
-    ∙ (ap (λ (n : ℕ). first_bytes v ++ (four_bytes n ++ four_bytes_each v.matches)) (sym count)
-    ∙ ap (λ (xs : List ℕ). take 9 xs ++ (four_bytes ((length bytes - 13) / 4) ++ drop 13 xs)) (sym e))
+    ∙ (ap (λ (n : ℕ). first_bytes v ++ (in_four_bytes n ++ four_bytes_each v.matches)) (sym count)
+    ∙ ap (λ (xs : List ℕ). take 9 xs ++ (in_four_bytes ((length bytes - 13) / 4) ++ drop 13 xs)) (sym e))
 written_count false v bytes none listed e = ap (λ (qs : List ℕ). first_bytes v ++ id_bytes 0 qs) none ∙ sym e
 
 pub keeps_all : (old new : List ℕ) (l : Bool) → IsUnfinished old → has_flag (slice_index old 0) 2 ≡ l → new ≡ with_count l old →

@@ -17,7 +17,7 @@ use Rattle.nfa_core.proofs.ForCallers.{one_value, no_value}
 use Rattle.determinize_core.specs.States.{StateValue}
 use Rattle.determinize_core.specs.Starts.{start_of}
 use Rattle.determinize_core.specs.Steps.{start_value, step_value, unit_at, unit_behind, walk_value}
-use Rattle.determinize_core.specs.WalkLists.{walked, units_of, haystack_of, first_place, low_edge, high_edge, text_of}
+use Rattle.determinize_core.specs.WalkLists.{walked, units_of, haystack_of, walk_start, low_edge, high_edge, text_of}
 use Rattle.determinize_core.proofs.ListedLemmas.{all_listed, one_listed, some_listed, never_listed}
 
 -- ---- units
@@ -63,12 +63,12 @@ reads_forward None bytes k = let is : 0 + k ≡ k = omega arith in ap (byte_at b
 reads_forward (Some b) bytes k = let is : 1 + k ≡ suc k = omega arith in ap (byte_at (b ∷ bytes)) is
 
 reads_bytes : (r : Bool) (behind : Option ℕ) (bytes : List ℕ) (k : ℕ) →
-    unit_at r (haystack_of r behind bytes) (place_of r (first_place r behind bytes) k) ≡ slice_get bytes k
+    unit_at r (haystack_of r behind bytes) (place_of r (walk_start r behind bytes) k) ≡ slice_get bytes k
 reads_bytes false behind bytes k = reads_forward behind bytes k
 reads_bytes true behind bytes k = reads_reverse bytes (option_to_list behind) k
 
 stands_behind : (r : Bool) (behind : Option ℕ) (bytes : List ℕ) → unit_behind r (haystack_of r behind bytes)
-    (first_place r behind bytes) ≡ behind
+    (walk_start r behind bytes) ≡ behind
 stands_behind false None bytes = refl
 stands_behind false (Some b) bytes = refl
 stands_behind true None bytes =
@@ -78,7 +78,7 @@ stands_behind true (Some b) bytes = next_to_turned bytes b []
 
 -- ---- the bytes as a span of the haystack
 
-first_is_inside : (r : Bool) (behind : Option ℕ) (bytes : List ℕ) → first_place r behind bytes ≤ high_edge r behind bytes
+first_is_inside : (r : Bool) (behind : Option ℕ) (bytes : List ℕ) → walk_start r behind bytes ≤ high_edge r behind bytes
 first_is_inside false behind bytes = let e = length-append (option_to_list behind) bytes in omega (arith, e)
 first_is_inside true behind bytes = omega arith
 
@@ -89,7 +89,7 @@ edge_is_inside true behind bytes =
     let f = length-reverse bytes in omega (arith, e, f)
 
 all_are_left : (r : Bool) (t : Terminator) (behind : Option ℕ) (bytes : List ℕ) →
-    bytes_left r (text_of r t behind bytes) (first_place r behind bytes) ≡ length bytes
+    bytes_left r (text_of r t behind bytes) (walk_start r behind bytes) ≡ length bytes
 all_are_left false t behind bytes = let e = length-append (option_to_list behind) bytes in omega (arith, e)
 all_are_left true t behind bytes = omega arith
 
@@ -112,7 +112,7 @@ module _ (a : Automaton) (t : Terminator) (kind : MatchKind) where
 
   module _ (q : ℕ) (behind : Option ℕ) (bytes : List ℕ) where
     abbrev state : ℕ → StateValue
-    state k = walk_value a t kind (haystack_of a.reverse behind bytes) (first_place a.reverse behind bytes) q k
+    state k = walk_value a t kind (haystack_of a.reverse behind bytes) (walk_start a.reverse behind bytes) q k
 
     pub state_there : (k : ℕ) → k ≤ length bytes + 1 → slice_get (walked a t kind (start_value a t (start_of t behind) q) (units_of bytes))
         k ≡ Some (state k)
@@ -141,7 +141,7 @@ module _ (a : Automaton) (t : Terminator) (kind : MatchKind) where
       is_state k v there = one_value (slice_get states k) v (state k) there (found k (is_within k v there))
 
       pub is_left : (k : ℕ) (v : StateValue) → slice_get states (suc k) ≡ Some v →
-          k ≤ bytes_left a.reverse (text_of a.reverse t behind bytes) (first_place a.reverse behind bytes)
+          k ≤ bytes_left a.reverse (text_of a.reverse t behind bytes) (walk_start a.reverse behind bytes)
       is_left k v there =
           let within = is_within (suc k) v there in
           let left = all_are_left a.reverse t behind bytes in omega (arith, within, left)
@@ -153,7 +153,7 @@ module _ (a : Automaton) (t : Terminator) (q : ℕ) (behind : Option ℕ) (bytes
   h = haystack_of a.reverse behind bytes
 
   abbrev i : ℕ
-  i = first_place a.reverse behind bytes
+  i = walk_start a.reverse behind bytes
 
   abbrev s : ℕ
   s = low_edge a.reverse behind bytes

@@ -6,7 +6,7 @@ use Rattle.std.specs.Int.{w32, from_le_bytes}
 use Rattle.std.proofs.Math.Seq.{drop-append-add, take-length}
 use Rattle.search_core.specs.Index.{greatest_index}
 use Rattle.determinize_core.specs.States.{StateValue, IsState}
-use Rattle.determinize_core.specs.StateBytes.{IsEncoded, last_weight, moved, four_bytes, number_at, four_bytes_each, pattern_bytes}
+use Rattle.determinize_core.specs.StateBytes.{IsEncoded, last_weight, moved, in_four_bytes, number_at, four_bytes_each, pattern_bytes}
 use Rattle.determinize_core.specs.StateBytes.{id_bytes, ids_read, ids_start, has_flag, flag_byte, is_match, is_listed, encoded, decoded}
 use Rattle.determinize_core.proofs.StateLemmas.{number_back, read_last}
 use Rattle.determinize_core.proofs.FlagLemmas.{match_back, listed_back}
@@ -19,8 +19,8 @@ pub number_of : (i : ℕ) (ns rest : List ℕ) → i < length ns → All (λ n. 
 number_of zero (n ∷ ns) rest within all = number_back n (four_bytes_each ns ++ rest) (all 0 0 (omega arith))
 number_of (suc i) (n ∷ ns) rest within all =
     let place : 4 * suc i ≡ 4 + 4 * i = omega arith in
-    let skip : drop (4 + 4 * i) (four_bytes n ++ (four_bytes_each ns ++ rest)) ≡ drop (4 * i) (four_bytes_each ns ++ rest) =
-    drop-append-add (four_bytes n) (four_bytes_each ns ++ rest) (4 * i) in
+    let skip : drop (4 + 4 * i) (in_four_bytes n ++ (four_bytes_each ns ++ rest)) ≡ drop (4 * i) (four_bytes_each ns ++ rest) =
+    drop-append-add (in_four_bytes n) (four_bytes_each ns ++ rest) (4 * i) in
     let there : from_le_bytes w32 (drop (4 * i) (four_bytes_each ns ++ rest)) ≡ get_or ns i 0 =
     number_of i ns rest (omega arith) (λ k d p. all (suc k) d (omega arith)) in
     ap (λ (k : ℕ). from_le_bytes w32 (drop k (four_bytes_each (n ∷ ns) ++ rest))) place ∙ (ap (from_le_bytes w32) skip ∙ there)
@@ -29,7 +29,7 @@ number_of i [] rest within all = grind arith
 -- the bytes where the patterns are listed
 listed_form : (v : StateValue) → is_listed v.matches ≡ true →
     encoded v ≡ nine (flag_byte (is_match v.matches) (is_listed v.matches) v.is_from_word v.is_half_crlf) v.look_have v.look_need
-    ++ ((four_bytes (length v.matches) ++ four_bytes_each v.matches) ++ id_bytes 0 v.ids)
+    ++ ((in_four_bytes (length v.matches) ++ four_bytes_each v.matches) ++ id_bytes 0 v.ids)
 listed_form v listed = ap (λ (l : Bool). nine (flag_byte (is_match v.matches) (is_listed v.matches) v.is_from_word v.is_half_crlf)
     v.look_have v.look_need ++ (pattern_bytes l (length v.matches) v.matches ++ id_bytes 0 v.ids)) listed
 

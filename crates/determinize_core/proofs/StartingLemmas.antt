@@ -10,7 +10,7 @@ use Rattle.nfa_core.proofs.ForCallers.{none_in, of_cons, names_equal, has_from_a
 use Rattle.determinize_core.specs.States.{StateValue, dead}
 use Rattle.determinize_core.specs.LookBehind.{with_look_behind}
 use Rattle.determinize_core.specs.Costs.{known_ways, free_ways}
-use Rattle.determinize_core.specs.Steps.{known_steps, closed, with_states, behind, start_value}
+use Rattle.determinize_core.specs.Steps.{known_steps, closed, with_states, behind_of_start, start_value}
 use Rattle.determinize_core.specs.declared.start.Start.{Start}
 use Rattle.determinize_core.proofs.KnownStateLemmas.{fresh_with_known}
 use Rattle.determinize_core.proofs.CloseAllLemmas.{closed_is, once_from_distinct, ways_once}
@@ -25,16 +25,16 @@ module _ (a : Automaton) (formed : IsWellFormed a) (q : ℕ) (low : q < length a
       (subst (λ (l : List ℕ). Visits nat_eq (known_steps a looks) (q ∷ []) l set) none v)
 
 module _ (a : Automaton) (q looks : ℕ) (set : List ℕ) (closes : set ≡ closed a looks (q ∷ [])) where
-  pub start_builds : (t : Terminator) (s : Start) (w x m b : StateValue) → w ≡ dead → x ≡ with_look_behind (behind a t s) w →
+  pub start_builds : (t : Terminator) (s : Start) (w x m b : StateValue) → w ≡ dead → x ≡ with_look_behind (behind_of_start a t s) w →
       looks ≡ x.look_have → m ≡ x → b ≡ with_states a set m →
       b ≡ start_value a t s q
   start_builds t s w x m b begun told known same built =
-      let first : x ≡ with_look_behind (behind a t s) dead = told ∙ ap (with_look_behind (behind a t s)) begun in
-      let looks_are : looks ≡ (behind a t s).look_have = known ∙ ap (λ (y : StateValue). y.look_have) (first
-      ∙ fresh_with_known (behind a t s)) in
+      let first : x ≡ with_look_behind (behind_of_start a t s) dead = told ∙ ap (with_look_behind (behind_of_start a t s)) begun in
+      let looks_are : looks ≡ (behind_of_start a t s).look_have = known ∙ ap (λ (y : StateValue). y.look_have) (first
+      ∙ fresh_with_known (behind_of_start a t s)) in
       built ∙ (ap (with_states a set) (same ∙ first)
-      ∙ (ap (λ (qs : List ℕ). with_states a qs (with_look_behind (behind a t s) dead)) closes
-      ∙ ap (λ (l : ℕ). with_states a (closed a l (q ∷ [])) (with_look_behind (behind a t s) dead)) looks_are))
+      ∙ (ap (λ (qs : List ℕ). with_states a qs (with_look_behind (behind_of_start a t s) dead)) closes
+      ∙ ap (λ (l : ℕ). with_states a (closed a l (q ∷ [])) (with_look_behind (behind_of_start a t s) dead)) looks_are))
 
 -- what the walk from a start has cost, wherever it was cut off
 pub start_costs : (a : Automaton) (looks : ℕ) (old set : List ℕ) → old ≡ [] → IsDistinct nat_eq set → All (λ q. q < length a.states) set →

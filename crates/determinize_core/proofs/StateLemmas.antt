@@ -5,17 +5,17 @@ use Rattle.std.specs.Prelude.{All}
 use Rattle.std.specs.Int.{w32, from_le_bytes}
 use Rattle.std.proofs.lemmas.Nat.{from_le_bytes-to_le_bytes_4}
 use Rattle.std.proofs.Math.Nat.{pow-suc, one-le-pow, mul-le-mul_left}
-use Rattle.determinize_core.specs.StateBytes.{four_bytes, four_bytes_each, numbers, zigzag, moved, groups, id_bytes, last_weight, ids_read}
+use Rattle.determinize_core.specs.StateBytes.{in_four_bytes, four_bytes_each, numbers, zigzag, moved, groups, id_bytes, last_weight, ids_read}
 
 -- a number is read back, whatever follows
-pub number_back : (n : ℕ) (rest : List ℕ) → n < 2 ^ 32 → from_le_bytes w32 (four_bytes n ++ rest) ≡ n
+pub number_back : (n : ℕ) (rest : List ℕ) → n < 2 ^ 32 → from_le_bytes w32 (in_four_bytes n ++ rest) ≡ n
 number_back n rest small = from_le_bytes-to_le_bytes_4 n small
 
 -- numbers are read back
 pub numbers_back : (ns : List ℕ) → All (λ n. n < 2 ^ 32) ns → numbers (four_bytes_each ns) ≡ ns
 numbers_back [] small = refl
 numbers_back (n ∷ ns) small =
-    let first : from_le_bytes w32 (four_bytes n) ≡ n = from_le_bytes-to_le_bytes_4 n (small 0 0 (omega arith)) in
+    let first : from_le_bytes w32 (in_four_bytes n) ≡ n = from_le_bytes-to_le_bytes_4 n (small 0 0 (omega arith)) in
     let rest : numbers (four_bytes_each ns) ≡ ns = numbers_back ns (λ k d p. small (suc k) d (omega arith)) in
     cc
 

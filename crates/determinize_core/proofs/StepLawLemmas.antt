@@ -20,7 +20,7 @@ use Rattle.nfa_core.proofs.ForCallers.{not_both, has_first, has_later, of_cons, 
 use Rattle.determinize_core.specs.States.{StateValue, dead}
 use Rattle.determinize_core.specs.Steps.{is_kept, kept, looks_with, have_if, is_some_kept, closed, known_before, known_behind, gains}
 use Rattle.determinize_core.specs.Steps.{ids_before, families, first_half, pattern_at, patterns_in, reading, unit_steps, states_behind}
-use Rattle.determinize_core.specs.Steps.{step_value, behind, start_value}
+use Rattle.determinize_core.specs.Steps.{step_value, behind_of_start, start_value}
 use Rattle.determinize_core.specs.declared.start.Start.{Start}
 use Rattle.determinize_core.proofs.CloseAllLemmas.{closed_once, closed_below, distinct_from_once, all_from_below}
 use Rattle.determinize_core.proofs.DecodeLemmas.{same_made}
@@ -72,10 +72,10 @@ module _ (a : Automaton) (t : Terminator) (kind : MatchKind) (v : StateValue) (u
 
 pub start_below : (a : Automaton) (t : Terminator) (s : Start) (q : ℕ) → IsWellFormed a → q < length a.states →
     All (λ r. r < length a.states) (start_value a t s q).ids
-start_below a t s q formed low = kept_below a (behind a t s).look_have (q ∷ []) formed (one_inside (length a.states) q low)
+start_below a t s q formed low = kept_below a (behind_of_start a t s).look_have (q ∷ []) formed (one_inside (length a.states) q low)
 
 pub start_once : (a : Automaton) (t : Terminator) (s : Start) (q : ℕ) → IsDistinct nat_eq (start_value a t s q).ids
-start_once a t s q = kept_distinct a (behind a t s).look_have (q ∷ [])
+start_once a t s q = kept_distinct a (behind_of_start a t s).look_have (q ∷ [])
 
 one_at_most : (o : Option ℕ) → length (option_to_list o) ≤ 1
 one_at_most None = omega arith

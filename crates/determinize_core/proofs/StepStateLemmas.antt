@@ -20,7 +20,7 @@ use Rattle.nfa_core.proofs.ForCallers.{none_in, has_first, of_flat_map, join_onc
 use Rattle.determinize_core.specs.States.{StateValue, IsState, dead}
 use Rattle.determinize_core.specs.LookBehind.{with_look_behind}
 use Rattle.determinize_core.specs.Steps.{looks_with, have_if, closed, known_behind, ids_before, families, second_half, pattern_of}
-use Rattle.determinize_core.specs.Steps.{pattern_at, patterns_in, states_behind, step_value, behind, start_value}
+use Rattle.determinize_core.specs.Steps.{pattern_at, patterns_in, states_behind, step_value, behind_of_start, start_value}
 use Rattle.determinize_core.specs.declared.start.Start.{Start}
 use Rattle.determinize_core.specs.declared.lookbehind.Families.{Families}
 use Rattle.determinize_core.proofs.CloseAllLemmas.{distinct_from_once, all_from_below}
@@ -119,12 +119,12 @@ step_state a t kind v u sound = record {
 
 pub start_state : (a : Automaton) (t : Terminator) (s : Start) (q : ℕ) → IsSound a → q < length a.states → IsState (start_value a t s q)
 start_state a t s q sound low =
-    let begun : IsState (with_look_behind (behind a t s) dead) = state_with_known (behind a t s) dead
+    let begun : IsState (with_look_behind (behind_of_start a t s) dead) = state_with_known (behind_of_start a t s) dead
     (known-lt (families a) a.reverse t s) dead_state in
     record {
-      have = have_if-lt (looks_with a 0 (closed a (behind a t s).look_have (q ∷ [])))
-          (with_look_behind (behind a t s) dead).look_have begun.have;
-      need = looks_with-lt a 0 (closed a (behind a t s).look_have (q ∷ [])) (omega arith);
+      have = have_if-lt (looks_with a 0 (closed a (behind_of_start a t s).look_have (q ∷ [])))
+          (with_look_behind (behind_of_start a t s) dead).look_have begun.have;
+      need = looks_with-lt a 0 (closed a (behind_of_start a t s).look_have (q ∷ [])) (omega arith);
       patterns = begun.patterns;
       once = begun.once;
       states = at_most (length a.states) (start_value a t s q).ids sound.states_numbered (start_below a t s q sound.named low);

@@ -16,7 +16,7 @@ use Rattle.nfa_core.proofs.ForCallers.{looks_any, not_both, has_from_all}
 use Rattle.determinize_core.specs.States.{StateValue, dead}
 use Rattle.determinize_core.specs.StateBytes.{encoded}
 use Rattle.determinize_core.specs.Stepped.{IsStepped, widest}
-use Rattle.determinize_core.specs.Steps.{looks_with, closed, ids_before, patterns_in, states_behind, step_value, behind, start_value}
+use Rattle.determinize_core.specs.Steps.{looks_with, closed, ids_before, patterns_in, states_behind, step_value, behind_of_start, start_value}
 use Rattle.determinize_core.specs.declared.start.Start.{Start}
 use Rattle.determinize_core.proofs.CloseAllLemmas.{all_from_below, few_once}
 use Rattle.determinize_core.proofs.LengthLemmas.{length-encoded}
@@ -83,7 +83,7 @@ start_stepped a t s q sound low = record {
   state = start_state a t s q sound low;
   below = start_below a t s q sound.named low;
   once = start_once a t s q;
-  looks = looks_from_none a (closed a (behind a t s).look_have (q ∷ []));
+  looks = looks_from_none a (closed a (behind_of_start a t s).look_have (q ∷ []));
   patterns = λ k d p. absurd (omega (arith, p));
 }
 

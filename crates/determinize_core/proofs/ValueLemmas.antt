@@ -7,7 +7,7 @@ use Rattle.std.proofs.lemmas.Slice.Eq.{bytes_eq-Decides}
 use Rattle.std.proofs.lemmas.Map.Steps.{length-le_from_distinct_below}
 use Rattle.search_core.specs.Index.{greatest_index}
 use Rattle.determinize_core.specs.States.{StateValue, IsState, dead}
-use Rattle.determinize_core.specs.StateBytes.{has_same_bytes, four_bytes, four_bytes_each, numbers, pattern_bytes, id_bytes, has_flag}
+use Rattle.determinize_core.specs.StateBytes.{has_same_bytes, in_four_bytes, four_bytes_each, numbers, pattern_bytes, id_bytes, has_flag}
 use Rattle.determinize_core.specs.StateBytes.{flag_byte, patterns_told, is_match, is_listed, encoded, decoded, unfinished}
 use Rattle.determinize_core.specs.StateBytes.{decoded_unfinished, IsEncoded}
 use Rattle.determinize_core.proofs.StateLemmas.{number_back, numbers_back}
@@ -71,7 +71,7 @@ unfinished_by true v state none listed =
     (let e : has_flag (flag_byte (is_match v.matches) (is_listed v.matches) v.is_from_word v.is_half_crlf) 2 ≡ true =
     listed_back (is_match v.matches) (is_listed v.matches) v.is_from_word v.is_half_crlf ∙ listed in
     cc) in
-    same_made (word_back _ _ _ _) (half_back _ _ _ _) (number_back v.look_have (four_bytes v.look_need
+    same_made (word_back _ _ _ _) (half_back _ _ _ _) (number_back v.look_have (in_four_bytes v.look_need
     ++ pattern_bytes true 0 v.matches) (let h = state.have in omega (arith, h)))
     (number_back v.look_need (pattern_bytes true 0 v.matches) (let h = state.need in omega (arith, h))) told (sym none)
 unfinished_by false v state none listed =
@@ -85,7 +85,7 @@ unfinished_by false v state none listed =
     let f : has_flag (flag_byte (is_match v.matches) (is_listed v.matches) v.is_from_word v.is_half_crlf) 1 ≡ is_match v.matches =
     match_back (is_match v.matches) (is_listed v.matches) v.is_from_word v.is_half_crlf in
     cc) in
-    same_made (word_back _ _ _ _) (half_back _ _ _ _) (number_back v.look_have (four_bytes v.look_need) (let h = state.have in
+    same_made (word_back _ _ _ _) (half_back _ _ _ _) (number_back v.look_have (in_four_bytes v.look_need) (let h = state.have in
     omega (arith, h))) (number_back v.look_need [] (let h = state.need in omega (arith, h))) told (sym none)
 
 -- the same while patterns are added

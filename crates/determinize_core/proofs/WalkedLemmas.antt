@@ -15,7 +15,7 @@ use Rattle.nfa_core.proofs.ForCallers.{names_equal, stays_closed, place_zero, no
 use Rattle.determinize_core.specs.States.{StateValue}
 use Rattle.determinize_core.specs.Starts.{start_of}
 use Rattle.determinize_core.specs.Steps.{known_behind, closed, unit_steps, reading, patterns_in, kept, have_if, looks_with, ids_before}
-use Rattle.determinize_core.specs.Steps.{families, states_behind, is_some_kept, behind, start_value, step_value, unit_at, unit_behind}
+use Rattle.determinize_core.specs.Steps.{families, states_behind, is_some_kept, behind_of_start, start_value, step_value, unit_at, unit_behind}
 use Rattle.determinize_core.specs.Steps.{walk_value}
 use Rattle.determinize_core.specs.Walked.{closed_by, cut_of, walked_lists}
 use Rattle.determinize_core.proofs.KnownStateLemmas.{known-lt, starts_of-lt}
@@ -45,9 +45,9 @@ lists_are_lists kind a text i q formed low = record {
 -- ---- states of walks
 
 start_stands : (a : Automaton) (t : Terminator) (o : Option ℕ) (q : ℕ) → q < length a.states →
-    IsStateOf a t o (behind a t (start_of t o)).look_have (q ∷ []) (start_value a t (start_of t o) q)
+    IsStateOf a t o (behind_of_start a t (start_of t o)).look_have (q ∷ []) (start_value a t (start_of t o) q)
 start_stands a t o q low =
-    let have : ℕ = (behind a t (start_of t o)).look_have in record {
+    let have : ℕ = (behind_of_start a t (start_of t o)).look_have in record {
       ids = refl;
       need = refl;
       has = ap (have_if (looks_with a 0 (closed a have (q ∷ [])))) (or_zero_l have);
@@ -114,9 +114,9 @@ module _ (kind : MatchKind) (a : Automaton) (t : Terminator) (h : List ℕ) (s e
 
   pub states_are : (k : ℕ) → k ≤ len → kept a (ids_before a t (state k) (unit k)) ≡ kept a (list k)
   states_are zero l =
-      let S : Option ℕ → Type 0 = λ o. IsStateOf a t o (behind a t (start_of t (unit_behind a.reverse h i))).look_have (q ∷ [])
+      let S : Option ℕ → Type 0 = λ o. IsStateOf a t o (behind_of_start a t (start_of t (unit_behind a.reverse h i))).look_have (q ∷ [])
       (state zero) in
-      comes_to zero l (behind a t (start_of t (unit_behind a.reverse h i))).look_have (q ∷ [])
+      comes_to zero l (behind_of_start a t (start_of t (unit_behind a.reverse h i))).look_have (q ∷ [])
       (subst S (ap (unit_behind a.reverse h) (sym (place_zero a.reverse i))) (start_stands a t (unit_behind a.reverse h i) q low))
   states_are (suc k) l =
       let less : k < len = omega (arith, l) in

@@ -31,12 +31,12 @@ start_of t None = Text
 start_of t (Some b) = if b == 0x0A then LineLF else if b == 0x0D then LineCR else start_by (ends_line t b) (is_word_byte b)
 
 -- the start of each byte by a table of all bytes; a byte outside of it has none, and reads as `Text`
-abbrev pub start_in : List Start → ℕ → Start
-start_in table b = slice_index_or table b Text
+abbrev pub start_by_table : List Start → ℕ → Start
+start_by_table table b = slice_index_or table b Text
 
 -- the table gives each byte its start
 abbrev pub IsStartTable : Terminator → List Start → Type 0
-IsStartTable t table = (b : ℕ) → b < 256 → start_in table b ≡ start_of t (Some b)
+IsStartTable t table = (b : ℕ) → b < 256 → start_by_table table b ≡ start_of t (Some b)
 
 -- what a search is told of its start: the byte before its first place, if there is one, and the mode
 pub record StartValue : Type 0 where

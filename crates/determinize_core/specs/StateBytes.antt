@@ -9,8 +9,8 @@ use Rattle.std.specs.Str.{bytes_eq}
 use Rattle.determinize_core.specs.States.{StateValue, IsState}
 
 -- a number in four bytes, the least one first
-abbrev pub four_bytes : ℕ → List ℕ
-four_bytes n = to_le_bytes w32 n
+abbrev pub in_four_bytes : ℕ → List ℕ
+in_four_bytes n = to_le_bytes w32 n
 
 -- the number in four bytes from a place on
 abbrev pub number_at : ℕ → List ℕ → ℕ
@@ -19,7 +19,7 @@ number_at at bytes = from_le_bytes w32 (drop at bytes)
 -- numbers one after another, four bytes each, and what they are
 abbrev pub four_bytes_each : List ℕ → List ℕ
 four_bytes_each [] = []
-four_bytes_each (n ∷ ns) = four_bytes n ++ four_bytes_each ns
+four_bytes_each (n ∷ ns) = in_four_bytes n ++ four_bytes_each ns
 
 abbrev pub numbers : List ℕ → List ℕ
 numbers [] = []
@@ -53,12 +53,12 @@ has_flag flags flag = not (bit_and flags flag == 0)
 abbrev pub first_bytes : StateValue → List ℕ
 first_bytes v =
     flag_byte (is_match v.matches) (is_listed v.matches) v.is_from_word v.is_half_crlf
-    ∷ (four_bytes v.look_have ++ four_bytes v.look_need)
+    ∷ (in_four_bytes v.look_have ++ in_four_bytes v.look_need)
 
 -- the patterns, where they are listed: how many there are and then each
 abbrev pub pattern_bytes : Bool → ℕ → List ℕ → List ℕ
 pattern_bytes false count ps = []
-pattern_bytes true count ps = four_bytes count ++ four_bytes_each ps
+pattern_bytes true count ps = in_four_bytes count ++ four_bytes_each ps
 
 -- the difference from one number to the next as a number: the even ones for steps up, the odd ones for steps down
 abbrev pub zigzag : ℕ → ℕ → ℕ

@@ -136,12 +136,12 @@ abbrev pub step_value : Automaton → Terminator → MatchKind → StateValue �
 step_value a t kind v u = with_states a (states_behind a t kind v u) (begun a t kind v u)
 
 -- the looks and flags of a start
-abbrev pub behind : Automaton → Terminator → Start → LookBehind
-behind a t s = look_behind (looks_of a.states) a.reverse t s
+abbrev pub behind_of_start : Automaton → Terminator → Start → LookBehind
+behind_of_start a t s = look_behind (looks_of a.states) a.reverse t s
 
 -- the state in which a search starts, from state q of the automaton
 abbrev pub start_value : Automaton → Terminator → Start → ℕ → StateValue
-start_value a t s q = with_states a (closed a (behind a t s).look_have (q ∷ [])) (with_look_behind (behind a t s) dead)
+start_value a t s q = with_states a (closed a (behind_of_start a t s).look_have (q ∷ [])) (with_look_behind (behind_of_start a t s) dead)
 
 -- ---- walks
 

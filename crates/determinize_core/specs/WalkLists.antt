@@ -24,18 +24,18 @@ abbrev pub haystack_of : Bool → Option ℕ → List ℕ → List ℕ
 haystack_of false behind bytes = option_to_list behind ++ bytes
 haystack_of true behind bytes = reverse bytes ++ option_to_list behind
 
-abbrev pub first_place : Bool → Option ℕ → List ℕ → ℕ
-first_place false behind bytes = length (option_to_list behind)
-first_place true behind bytes = length bytes
+abbrev pub walk_start : Bool → Option ℕ → List ℕ → ℕ
+walk_start false behind bytes = length (option_to_list behind)
+walk_start true behind bytes = length bytes
 
 -- the edges of the bytes in it
 abbrev pub low_edge : Bool → Option ℕ → List ℕ → ℕ
-low_edge false behind bytes = first_place false behind bytes
+low_edge false behind bytes = walk_start false behind bytes
 low_edge true behind bytes = 0
 
 abbrev pub high_edge : Bool → Option ℕ → List ℕ → ℕ
 high_edge false behind bytes = length (haystack_of false behind bytes)
-high_edge true behind bytes = first_place true behind bytes
+high_edge true behind bytes = walk_start true behind bytes
 
 -- the bytes as a span of it
 abbrev pub text_of : Bool → Terminator → Option ℕ → List ℕ → Text

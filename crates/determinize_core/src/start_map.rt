@@ -1,6 +1,6 @@
 ghost use Rattle.std.specs.Prelude.{◌≡◌, Some, length};
 ghost use Rattle.look_core.specs.Terminators.{Terminator};
-ghost use Rattle.determinize_core.specs.Starts.{start_by, start_of, start_in, IsStartTable};
+ghost use Rattle.determinize_core.specs.Starts.{start_by, start_of, start_by_table, IsStartTable};
 
 use crate::start::Start;
 use look_core::{LineTerm, LookMatcher, WordClass};
@@ -42,7 +42,7 @@ impl StartByteMap {
     /// The start where this byte stands before the place, as `StartByteMap::get`.
     #[inline]
     pub fn get(&self, byte: u8) -> Start
-        ensures value { result ≡ start_in self.now byte }
+        ensures value { result ≡ start_by_table self.now byte }
         ensures start { (t : Terminator) → IsStartTable t self.now → result ≡ start_of t (Some byte) }
     {
         self.map[usize::from(byte)]

@@ -1,7 +1,7 @@
 ghost use Rattle.std.specs.Prelude.{◌≡◌, ◌+◌, ◌<◌, ◌≤◌, [], ◌∷◌, length, OnOk, IfOk};
 ghost use Rattle.determinize_core.specs.Costs.{free_ways};
 ghost use Rattle.determinize_core.specs.LookBehind.{with_look_behind};
-ghost use Rattle.determinize_core.specs.Steps.{behind, closed, start_value};
+ghost use Rattle.determinize_core.specs.Steps.{behind_of_start, closed, start_value};
 
 use crate::closure::epsilon_closure;
 use crate::lookbehind::set_lookbehind_from_start;
@@ -57,7 +57,7 @@ fn close_start<S: NameSet, L: Ledger>(
     requires bound { S.bound set.old ≡ length nfa.now.automaton.states }
     requires none { S.names set.old ≡ [] }
     requires empty { stack.old.items ≡ [] }
-    ensures told { builder.new ≡ with_look_behind (behind nfa.now.automaton nfa.now.terminator start) builder.old }
+    ensures told { builder.new ≡ with_look_behind (behind_of_start nfa.now.automaton nfa.now.terminator start) builder.old }
     ensures closed { OnOk result (S.names set.new ≡ closed nfa.now.automaton builder.new.look_have (id ∷ [])) }
     ensures stack { OnOk result (stack.new.items ≡ []) }
     ensures bound { S.bound set.new ≡ S.bound set.old }

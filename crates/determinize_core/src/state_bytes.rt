@@ -1,7 +1,7 @@
 //! What the bytes of a state say at a place.
 
 ghost use Rattle.std.specs.Prelude.{◌≡◌, ◌<◌, ◌≤◌, ◌+◌, length, slice_index, ◌++◌, ◌%◌, take, drop, slice_set, OnOk, OnErr};
-ghost use Rattle.determinize_core.specs.StateBytes.{has_flag, number_at, ids_start, IsEncoded, four_bytes, groups};
+ghost use Rattle.determinize_core.specs.StateBytes.{has_flag, number_at, ids_start, IsEncoded, in_four_bytes, groups};
 ghost use Rattle.std.specs.Int.Bits.{bit_or};
 
 use std::alloc::AllocError;
@@ -57,14 +57,14 @@ pub(crate) fn set_flag(bytes: &mut Vec<u8>, flag: u8)
 /// Writes a number over four bytes.
 pub(crate) fn write_number(bytes: &mut Vec<u8>, at: usize, number: u32)
     requires { at + 4 ≤ length bytes.old.items }
-    ensures { bytes.new.items ≡ take at bytes.old.items ++ (four_bytes number ++ drop (at + 4) bytes.old.items) }
+    ensures { bytes.new.items ≡ take at bytes.old.items ++ (in_four_bytes number ++ drop (at + 4) bytes.old.items) }
 {
     bytes[at..at + 4].copy_from_slice(&number.to_le_bytes());
 }
 
 /// Adds a number in four bytes, or leaves the bytes as they are where there is no memory.
 pub(crate) fn push_number(bytes: &mut Vec<u8>, number: u32) -> Result<(), AllocError>
-    ensures ok { OnOk result (bytes.new.items ≡ bytes.old.items ++ four_bytes number) }
+    ensures ok { OnOk result (bytes.new.items ≡ bytes.old.items ++ in_four_bytes number) }
     ensures err { OnErr result (bytes.new.items ≡ bytes.old.items) }
 {
     bytes.extend_from_slice(&number.to_le_bytes())
@@ -72,7 +72,7 @@ pub(crate) fn push_number(bytes: &mut Vec<u8>, number: u32) -> Result<(), AllocE
 
 /// The same with a 0 in four bytes in front of it.
 pub(crate) fn push_behind_four(bytes: &mut Vec<u8>, number: u32) -> Result<(), AllocError>
-    ensures ok { OnOk result (bytes.new.items ≡ bytes.old.items ++ (four_bytes 0 ++ four_bytes number)) }
+    ensures ok { OnOk result (bytes.new.items ≡ bytes.old.items ++ (in_four_bytes 0 ++ in_four_bytes number)) }
     ensures err { OnErr result (bytes.new.items ≡ bytes.old.items) }
 {
     let [a, b, c, d] = number.to_le_bytes();
@@ -81,7 +81,7 @@ pub(crate) fn push_behind_four(bytes: &mut Vec<u8>, number: u32) -> Result<(), A
 
 /// The same with two of them.
 pub(crate) fn push_behind_eight(bytes: &mut Vec<u8>, number: u32) -> Result<(), AllocError>
-    ensures ok { OnOk result (bytes.new.items ≡ bytes.old.items ++ (four_bytes 0 ++ (four_bytes 0 ++ four_bytes number))) }
+    ensures ok { OnOk result (bytes.new.items ≡ bytes.old.items ++ (in_four_bytes 0 ++ (in_four_bytes 0 ++ in_four_bytes number))) }
     ensures err { OnErr result (bytes.new.items ≡ bytes.old.items) }
 {
     let [a, b, c, d] = number.to_le_bytes();

@@ -22,7 +22,7 @@ ghost use Rattle.determinize_core.specs.States.{StateValue};
 ghost use Rattle.determinize_core.specs.Starts.{start_of};
 ghost use Rattle.determinize_core.specs.Steps.{kept, ids_before, patterns_in, start_value, unit_at, unit_behind, walk_value};
 ghost use Rattle.determinize_core.specs.Walked.{cut_of, walked_lists, latest_listed};
-ghost use Rattle.determinize_core.specs.WalkLists.{walked, units_of, haystack_of, first_place, text_of};
+ghost use Rattle.determinize_core.specs.WalkLists.{walked, units_of, haystack_of, walk_start, text_of};
 
 /// The states that a search under all looks is in place by place are the lists of a walk.
 pub fn walked_lists_are_lists()
@@ -88,7 +88,7 @@ pub fn walks_depend_on_what_they_read()
 pub fn walks_go_over_haystacks()
     ensures states { (a : Automaton) (t : Terminator) (kind : MatchKind) (q : ℕ) (behind : Option ℕ) (bytes : List ℕ) (k : ℕ) → k ≤ length bytes + 1 →
         slice_get (walked a t kind (start_value a t (start_of t behind) q) (units_of bytes)) k ≡
-        Some (walk_value a t kind (haystack_of a.reverse behind bytes) (first_place a.reverse behind bytes) q k) }
+        Some (walk_value a t kind (haystack_of a.reverse behind bytes) (walk_start a.reverse behind bytes) q k) }
     ensures len { (a : Automaton) (t : Terminator) (kind : MatchKind) (q : ℕ) (behind : Option ℕ) (bytes : List ℕ) →
         length (walked a t kind (start_value a t (start_of t behind) q) (units_of bytes)) ≡ length bytes + 2 }
 {}
@@ -101,18 +101,18 @@ pub fn walks_list_what_runs_find()
     ensures all { (a : Automaton) (t : Terminator) (q : ℕ) (behind : Option ℕ) (bytes : List ℕ) (states : List StateValue) → IsWellFormed a → q < length a.states →
         states ≡ walked a t AllMatches (start_value a t (start_of t behind) q) (units_of bytes) →
         (k : ℕ) (v : StateValue) → slice_get states (suc k) ≡ Some v →
-        v.matches ≡ map (λ (x : ℕ × ℕ). x.1) (filter (λ x. nat_eq x.0 (place_of a.reverse (first_place a.reverse behind bytes) k))
-        (ends_from a (text_of a.reverse t behind bytes) (first_place a.reverse behind bytes, q))) }
+        v.matches ≡ map (λ (x : ℕ × ℕ). x.1) (filter (λ x. nat_eq x.0 (place_of a.reverse (walk_start a.reverse behind bytes) k))
+        (ends_from a (text_of a.reverse t behind bytes) (walk_start a.reverse behind bytes, q))) }
     ensures one { (a : Automaton) (t : Terminator) (q : ℕ) (behind : Option ℕ) (bytes : List ℕ) (states : List StateValue) →
         states ≡ walked a t LeftmostFirst (start_value a t (start_of t behind) q) (units_of bytes) →
         (k : ℕ) (v : StateValue) → slice_get states k ≡ Some v → length v.matches ≤ 1 }
     ensures some { (a : Automaton) (t : Terminator) (q : ℕ) (behind : Option ℕ) (bytes : List ℕ) (states : List StateValue) → IsWellFormed a → q < length a.states →
         states ≡ walked a t LeftmostFirst (start_value a t (start_of t behind) q) (units_of bytes) →
-        (j p : ℕ) → first (ends_from a (text_of a.reverse t behind bytes) (first_place a.reverse behind bytes, q)) ≡ Some (j, p) →
-        (k : ℕ) × (v : StateValue) × (j ≡ place_of a.reverse (first_place a.reverse behind bytes) k) × (slice_get states (suc k) ≡ Some v) × (v.matches ≡ p ∷ []) ×
+        (j p : ℕ) → first (ends_from a (text_of a.reverse t behind bytes) (walk_start a.reverse behind bytes, q)) ≡ Some (j, p) →
+        (k : ℕ) × (v : StateValue) × (j ≡ place_of a.reverse (walk_start a.reverse behind bytes) k) × (slice_get states (suc k) ≡ Some v) × (v.matches ≡ p ∷ []) ×
         ((m : ℕ) (w : StateValue) → k < m → slice_get states (suc m) ≡ Some w → w.matches ≡ []) }
     ensures none { (a : Automaton) (t : Terminator) (q : ℕ) (behind : Option ℕ) (bytes : List ℕ) (states : List StateValue) → IsWellFormed a → q < length a.states →
         states ≡ walked a t LeftmostFirst (start_value a t (start_of t behind) q) (units_of bytes) →
-        first (ends_from a (text_of a.reverse t behind bytes) (first_place a.reverse behind bytes, q)) ≡ None →
+        first (ends_from a (text_of a.reverse t behind bytes) (walk_start a.reverse behind bytes, q)) ≡ None →
         (k : ℕ) (v : StateValue) → slice_get states (suc k) ≡ Some v → v.matches ≡ [] }
 {}

@@ -21,7 +21,7 @@ use Rattle.nfa_core.specs.Reaches.{read_by}
 use Rattle.nfa_core.specs.Walks.{Has}
 use Rattle.nfa_core.specs.Ways.{place_of, ends_from}
 use Rattle.nfa_core.proofs.ForCallers.{none_in, has_same, has_filter, pairs_equal}
-use Rattle.thompson_nfa.specs.Compilations.{IsRead, FindsSpans}
+use Rattle.thompson_nfa.specs.Compilations.{IsPlainText, FindsSpans}
 use Rattle.lazy_dfa.specs.Dfas.{reader}
 use Rattle.lazy_dfa.specs.PassLaws.{best_at, is_past, IsNearestEnd}
 use Rattle.lazy_dfa.specs.Readers.{Reader, found, quit, unsupported}
@@ -103,7 +103,7 @@ module _ (xs : List Tree) (t : Terminator) (p : Pair) (regex : IsRegexOf xs fals
       let forward = span_forward looks h span.tree i j span.means in
       let from = span.from in let within = span.within in (forward, omega (arith, forward, from, within))
 
-  module _ (looks : Looks) (s e : ℕ) (read : IsRead (read_by looks h s e)) (l : s ≤ e) where
+  module _ (looks : Looks) (s e : ℕ) (read : IsPlainText (read_by looks h s e)) (l : s ≤ e) where
     -- runs find the end of each span, and no other places
     span_is_found : (k i j : ℕ) → IsSpanFrom xs looks h s e k i j → Has same_pair (j, k) (ends_in looks s e)
     span_is_found k i j span =
@@ -140,10 +140,10 @@ module _ (xs : List Tree) (t : Terminator) (p : Pair) (regex : IsRegexOf xs fals
     abbrev by_bytes : Looks
     by_bytes = holds_ascii p.forward.nfa.terminator h
 
-    read_words : (s e : ℕ) → e ≤ length h → IsRead (read_by by_words h s e)
+    read_words : (s e : ℕ) → e ≤ length h → IsPlainText (read_by by_words h s e)
     read_words s e inside = record { within = inside; bytes = bytes; at_start = λ i. refl; at_end = λ i. refl }
 
-    read_bytes : (s e : ℕ) → e ≤ length h → IsRead (read_by by_bytes h s e)
+    read_bytes : (s e : ℕ) → e ≤ length h → IsPlainText (read_by by_bytes h s e)
     read_bytes s e inside = record { within = inside; bytes = bytes; at_start = λ i. refl; at_end = λ i. refl }
 
     -- ---- nothing is found

@@ -285,7 +285,7 @@ LoopsRead never = Unit {0}
 LoopsRead (alt x y) = LoopsRead x × LoopsRead y
 
 -- what a `Hir` keeps beside its node
-pub record Keeps (x : Tree) (known : Facts) (levels states : ℕ) : Type 0 where
+pub record KeepsFacts (x : Tree) (known : Facts) (levels states : ℕ) : Type 0 where
   pub known_facts : known ≡ facts x
   pub height_is : levels ≡ height x
   pub count_is : states ≡ count x

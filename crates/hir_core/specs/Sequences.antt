@@ -72,8 +72,8 @@ abbrev pub bytes_of : Utf8Range → ℕ × ℕ
 bytes_of r = (r.start, r.end)
 
 -- and of each range of a sequence
-abbrev pub ranges_of : Utf8Sequence → List (ℕ × ℕ)
-ranges_of s = map bytes_of (ranges_in s)
+abbrev pub ranges_of_sequence : Utf8Sequence → List (ℕ × ℕ)
+ranges_of_sequence s = map bytes_of (ranges_in s)
 
 -- the bytes are as many as the ranges, each in its range
 abbrev pub is_in_ranges : List (ℕ × ℕ) → List ℕ → Bool

@@ -36,10 +36,10 @@ tree_gv (look l) = gcons (gnum 9) (look_code.code l)
 tree_gv (capture index name x) = gcons (gnum 10) (gcons (gnum index) (gcons (name_code.code name) (tree_gv x)))
 
 -- the number in front, 0 where there is none
-abbrev pub tag : Gv → ℕ
-tag gnil = 0
-tag (gnum n) = 0
-tag (gcons a b) = num a
+abbrev pub code_tag : Gv → ℕ
+code_tag gnil = 0
+code_tag (gnum n) = 0
+code_tag (gcons a b) = num a
 
 -- two trees with one ghost value are one tree
 pub tree_one : (x y : Tree) → tree_gv x ≡ tree_gv y → x ≡ y
@@ -69,7 +69,7 @@ tree_one (alt a x) (alt b y) e =
     let first = tree_one a b cc in
     let others = tree_one x y cc in
     cc
-tree_one _ _ e = absurd (omega (arith, ap tag e))
+tree_one _ _ e = absurd (omega (arith, ap code_tag e))
 
 -- the code of trees, from both
 abbrev pub tree_code : Coded Tree

@@ -64,13 +64,13 @@ impl Model for Hir {
 
     ghost coded = { tree_code };
 
-    ghost use Rattle.hir_core.specs.Facts.{Keeps};
+    ghost use Rattle.hir_core.specs.Facts.{KeepsFacts};
     ghost use Rattle.hir_core.specs.Weight.{weight};
     ghost use Rattle.hir_core.specs.Node.{node};
 
     ghost view = { λ a. node a.kind };
 
-    ghost invariant = { λ a. Keeps (node a.kind) a.properties a.height a.count };
+    ghost invariant = { λ a. KeepsFacts (node a.kind) a.properties a.height a.count };
 
     ghost size = { weight };
 

@@ -4,7 +4,7 @@
 ghost use Rattle.std.specs.Prelude.{◌≡◌, ◌≤◌, ◌<◌, ◌+◌, length, reverse};
 ghost use Rattle.std.specs.Int.{is_in_range};
 ghost use Rattle.std.specs.Iterator.{YieldsFirstBy, item_count};
-ghost use Rattle.hir_core.specs.Sequences.{scalar_from, row_end, block_end, piece_end, byte_ranges, utf8_sequences, ranges_in, ranges_of, begins_in_ranges};
+ghost use Rattle.hir_core.specs.Sequences.{scalar_from, row_end, block_end, piece_end, byte_ranges, utf8_sequences, ranges_in, ranges_of_sequence, begins_in_ranges};
 
 use std::marker::Model;
 
@@ -49,7 +49,7 @@ impl Utf8Sequence {
 
     /// How many bytes each string has, one to four.
     pub fn len(&self) -> usize
-        ensures { result ≡ length (ranges_of self.now) }
+        ensures { result ≡ length (ranges_of_sequence self.now) }
     {
         self.as_slice().len()
     }
@@ -57,7 +57,7 @@ impl Utf8Sequence {
     /// Whether the bytes begin with one of the strings.
     #[tactic(auto, using(crate::proofs::SequenceSteps::begins_past, crate::proofs::SequenceSteps::begins_ended, crate::proofs::SequenceSteps::begins_more))]
     pub fn matches(&self, bytes: &[u8]) -> bool
-        ensures { result ≡ begins_in_ranges (ranges_of self.now) bytes.now }
+        ensures { result ≡ begins_in_ranges (ranges_of_sequence self.now) bytes.now }
     {
         let ranges = self.as_slice();
         for i in 0..ranges.len() {
@@ -72,7 +72,7 @@ impl Utf8Sequence {
     /// Puts the last range first, and so on, for an automaton that reads in reverse.
     #[tactic(auto, using(crate::proofs::SequenceSteps::ranges_turned))]
     pub fn reverse(&mut self)
-        ensures { ranges_of self.new ≡ reverse (ranges_of self.old) }
+        ensures { ranges_of_sequence self.new ≡ reverse (ranges_of_sequence self.old) }
     {
         match self {
             Utf8Sequence::One(_) => {}
@@ -118,7 +118,7 @@ impl Utf8Sequences {
 impl Iterator for Utf8Sequences {
     type Item = Utf8Sequence;
 
-    ghost next_gives = { YieldsFirstBy ranges_of (λ rest. rest) };
+    ghost next_gives = { YieldsFirstBy ranges_of_sequence (λ rest. rest) };
 
     ghost remaining = { item_count (λ rest. rest) };
 
@@ -197,7 +197,7 @@ fn block_end(size: u32, first: u32, end: u32) -> u32
 fn sequence(first: u32, last: u32) -> Utf8Sequence
     requires ordered { first ≤ last }
     requires one_row { last ≤ row_end first }
-    ensures { ranges_of result ≡ byte_ranges (first, last) }
+    ensures { ranges_of_sequence result ≡ byte_ranges (first, last) }
 {
     if first <= 0x7F {
         Utf8Sequence::One(range(0, first, last))

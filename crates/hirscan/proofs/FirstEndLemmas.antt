@@ -21,7 +21,7 @@ use Rattle.nfa_core.specs.Ways.{Text, ends_from}
 use Rattle.nfa_core.proofs.ForCallers.{first_distinct}
 use Rattle.thompson_nfa.specs.Configs.{Options, reverse_of}
 use Rattle.thompson_nfa.specs.Denotes.{seen}
-use Rattle.thompson_nfa.specs.Compilations.{IsCompiled, IsRead, FindsInOrder, choices_from, start_of}
+use Rattle.thompson_nfa.specs.Compilations.{IsCompiled, IsPlainText, FindsInOrder, choices_from, pattern_start}
 use Rattle.thompson_nfa.specs.Compilations.{places_from as read_places}
 use Rattle.lazy_dfa.specs.Passes.{start_name}
 use Rattle.hirscan.proofs.EndLemmas.{listed_has}
@@ -73,7 +73,7 @@ start_has_tree o xs n compiled p q is =
     slice_get-get_or xs p empty (omega (arith, inside, compiled.patterns))
 
 module _ (o : Options) (xs : List Tree) (n : Nfa) (compiled : IsCompiled o xs n) (up : reverse_of o ≡ false) (loops : All LoopsRead xs)
-    (looks : Looks) (h : List ℕ) (s e : ℕ) (read : IsRead (read_by looks h s e)) where
+    (looks : Looks) (h : List ℕ) (s e : ℕ) (read : IsPlainText (read_by looks h s e)) where
   abbrev t : Text
   t = read_by looks h s e
 
@@ -102,10 +102,10 @@ module _ (o : Options) (xs : List Tree) (n : Nfa) (compiled : IsCompiled o xs n)
       first (ends_from n.automaton t (i, name)) ≡ first_of
       (flat_map (mode_offers looks (take e h) xs (Pattern p)) (places_from i (suc i - i)))
   named p i name high is =
-      let here : start_of n.automaton p ≡ name = get_or_from_slice_get n.automaton.start_pattern p name 0 is in
+      let here : pattern_start n.automaton p ≡ name = get_or_from_slice_get n.automaton.start_pattern p name 0 is in
       let listed = start_has_tree o xs n compiled p name is in
       ap (λ k. first (ends_from n.automaton t (i, k))) (sym here)
-      ∙ first_of_ends (ends_from n.automaton t (i, start_of n.automaton p))
+      ∙ first_of_ends (ends_from n.automaton t (i, pattern_start n.automaton p))
       (paired p (preferred_ends looks (take e h) (get_or xs p empty) i))
       (order.patterns p (get_or xs p empty) listed (listed_has LoopsRead xs loops p (get_or xs p empty) listed) t i high)
       ∙ ap first_of (ap (λ y. pattern_offers looks (take e h) p y i) (sym listed)

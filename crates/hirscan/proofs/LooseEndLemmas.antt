@@ -22,7 +22,7 @@ use Rattle.nfa_core.specs.Reaches.{read_by}
 use Rattle.nfa_core.specs.Ways.{Text, ends_from}
 use Rattle.nfa_core.proofs.ForCallers.{none_in, has_first, pairs_equal}
 use Rattle.thompson_nfa.specs.Configs.{Options, reverse_of}
-use Rattle.thompson_nfa.specs.Compilations.{IsCompiled, IsRead, FindsSpans, HasStarts, start_of}
+use Rattle.thompson_nfa.specs.Compilations.{IsCompiled, IsPlainText, FindsSpans, HasStarts, pattern_start}
 use Rattle.thompson_nfa.specs.Compilations.{places_from as read_places}
 use Rattle.lazy_dfa.specs.Passes.{start_name}
 use Rattle.hirscan.specs.Choices.{Query}
@@ -80,7 +80,7 @@ first_some : (l others : List (ℕ × ℕ)) (c : ℕ × ℕ) (r : Option (ℕ ×
 first_some l others c r is same = sym same ∙ ap first is
 
 module _ (o : Options) (xs : List Tree) (n : Nfa) (compiled : IsCompiled o xs n) (up : reverse_of o ≡ false)
-    (looks : Looks) (h : List ℕ) (s e : ℕ) (read : IsRead (read_by looks h s e)) (utf8 : Bool) where
+    (looks : Looks) (h : List ℕ) (s e : ℕ) (read : IsPlainText (read_by looks h s e)) (utf8 : Bool) where
   abbrev t : Text
   t = read_by looks h s e
 
@@ -97,7 +97,7 @@ module _ (o : Options) (xs : List Tree) (n : Nfa) (compiled : IsCompiled o xs n)
   loose_offers mode i = ends_in n.automaton t i (anchored_in n.automaton mode)
 
   abbrev by_pattern : ℕ → ℕ → List (ℕ × ℕ)
-  by_pattern i p = ends_from n.automaton t (i, start_of n.automaton p)
+  by_pattern i p = ends_from n.automaton t (i, pattern_start n.automaton p)
 
   abbrev all_ends : ℕ → List (ℕ × ℕ)
   all_ends i = ends_from n.automaton t (i, n.automaton.start_anchored)
@@ -173,7 +173,7 @@ module _ (o : Options) (xs : List Tree) (n : Nfa) (compiled : IsCompiled o xs n)
     first = λ i j m others l e. cc;
   }
   told_named p (Some k) is =
-      let here : start_of n.automaton p ≡ k = get_or_from_slice_get n.automaton.start_pattern p k 0 is in
+      let here : pattern_start n.automaton p ≡ k = get_or_from_slice_get n.automaton.start_pattern p k 0 is in
       let listed = start_has_tree o xs n compiled p k is in
       let at_start : (i : ℕ) → by_pattern i p ≡ ends_from n.automaton t (i, k) = λ i. ap (λ m. ends_from n.automaton t (i, m)) here in
       record {

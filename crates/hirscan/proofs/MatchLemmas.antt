@@ -23,7 +23,7 @@ use Rattle.nfa_core.specs.Walks.{Has}
 use Rattle.nfa_core.specs.Nfa.{Automaton}
 use Rattle.nfa_core.specs.Places.{same_pair}
 use Rattle.nfa_core.specs.Ways.{Text, span, place_of, ends_from}
-use Rattle.thompson_nfa.specs.Compilations.{FindsSpans, IsRead, start_of}
+use Rattle.thompson_nfa.specs.Compilations.{FindsSpans, IsPlainText, pattern_start}
 use Rattle.lazy_dfa.specs.Dfas.{reader}
 use Rattle.lazy_dfa.specs.Passes.{start_name}
 use Rattle.lazy_dfa.specs.Readers.{Reader, HalfAnswer, found, quit, unsupported}
@@ -82,7 +82,7 @@ module _ (xs : List Tree) (utf8 : Bool) (t : Terminator) (p : Pair) (regex : IsR
   spans : FindsSpans false xs p.forward.nfa
   spans = let P : Bool → Type 0 = λ b. FindsSpans b xs p.forward.nfa in subst P regex.reads_forward regex.is_forward.spans
 
-  is_read : IsRead text
+  is_read : IsPlainText text
   is_read = record { within = asked.within; bytes = asked.bytes; at_start = λ i. refl; at_end = λ i. refl }
 
   module _ (c : ℕ × ℕ) (l : q.start ≤ q.end) where
@@ -107,7 +107,7 @@ module _ (xs : List Tree) (utf8 : Bool) (t : Terminator) (p : Pair) (regex : IsR
         let u = (spans.anchored text q.start c l).0 (subst P same has) in
         span_of Yes q.start u.0 (omega arith) (omega arith) l (all_allowed (length xs) c.1 (slice_get_within xs c.1 u.0 u.1)).1 u.1 u.2
     by_mode (Pattern k) name named has =
-        let here : start_of a k ≡ name = get_or_from_slice_get a.start_pattern k name 0 named in
+        let here : pattern_start a k ≡ name = get_or_from_slice_get a.start_pattern k name 0 named in
         let listed = start_has_tree regex.forward_options xs p.forward.nfa regex.is_forward k name named in
         let P : ℕ → Type 0 = λ n. Has same_pair c (ends_from a text (q.start, n)) in
         let u = (spans.patterns k (get_or xs k empty) listed text q.start c l).0 (subst P (sym here) has) in

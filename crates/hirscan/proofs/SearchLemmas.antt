@@ -9,14 +9,14 @@ use Rattle.hir_core.specs.Means.{Looks}
 use Rattle.hir_core.specs.Facts.{LoopsRead}
 use Rattle.search_types.specs.declared.anchored.Anchored.{Anchored}
 use Rattle.search_types.specs.declared.match_error.MatchErrorKind.TheVariants.{Quit, UnsupportedAnchored, NotAPair}
-use Rattle.search_types.specs.Chains.{IsChain, IsWholeChain}
+use Rattle.search_types.specs.Chains.{IsTakenList, IsWholeTakenList}
 use Rattle.search_types.specs.Found.{Found}
 use Rattle.search_types.specs.Inputs.{Search}
 use Rattle.search_types.specs.LeftmostAnswer.{IsAnswer}
 use Rattle.search_types.specs.Modes.{is_supported}
 use Rattle.search_types.proofs.ForCallers.{computed_is_answer, chains_begin_the_list, whole_chains_are_the_list, one_answer}
 use Rattle.nfa_core.specs.Reaches.{read_by}
-use Rattle.thompson_nfa.specs.Compilations.{IsRead}
+use Rattle.thompson_nfa.specs.Compilations.{IsPlainText}
 use Rattle.lazy_dfa.specs.Dfas.{reader}
 use Rattle.lazy_dfa.specs.Readers.{found, quit, unsupported}
 use Rattle.lazy_dfa.specs.Scans.{scan}
@@ -68,7 +68,7 @@ module _ (xs : List Tree) (utf8 : Bool) (t : Terminator) (p : Pair) (regex : IsR
   abbrev asks : Query
   asks = query_of xs utf8 looks q
 
-  is_read : IsRead (read_by looks q.haystack q.start q.end)
+  is_read : IsPlainText (read_by looks q.haystack q.start q.end)
   is_read = record { within = asked.within; bytes = asked.bytes; at_start = λ i. refl; at_end = λ i. refl }
 
   -- ---- whatever the loops read
@@ -160,13 +160,13 @@ module _ (xs : List Tree) (utf8 : Bool) (t : Terminator) (p : Pair) (regex : IsR
   one_told : (s : ℕ) (o : Option Found) → q.start ≤ s → s ≤ q.end + 1 → AnswersAt p q s o → o ≡ answer_from chain_asks s
   one_told s o low high e = answer_is_of_trees xs utf8 t p regex (search_at q s) (asked_at xs utf8 q asked s) words set loops o e
 
-  pub chain_is_list : q.start ≤ q.end + 1 → (fs : List Found) → IsWholeChain (AnswersAt p q) None q.start fs →
+  pub chain_is_list : q.start ≤ q.end + 1 → (fs : List Found) → IsWholeTakenList (AnswersAt p q) None q.start fs →
       fs ≡ answers_of chain_asks q.start
   chain_is_list l fs c =
       sym (whole_chains_are_the_list (answer_from chain_asks) q.start q.end (AnswersAt p q) one_told
       (answers_within chain_asks) q.start fs (omega arith) l c)
 
-  pub chain_begins_list : q.start ≤ q.end + 1 → (fs : List Found) → IsChain (AnswersAt p q) None q.start fs →
+  pub chain_begins_list : q.start ≤ q.end + 1 → (fs : List Found) → IsTakenList (AnswersAt p q) None q.start fs →
       (rest : List Found) × (answers_of chain_asks q.start ≡ fs ++ rest)
   chain_begins_list l fs c =
       chains_begin_the_list (answer_from chain_asks) q.start q.end (AnswersAt p q) one_told (answers_within chain_asks) q.start fs

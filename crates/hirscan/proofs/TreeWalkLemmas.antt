@@ -20,7 +20,7 @@ use Rattle.nfa_core.specs.Places.{same_pair}
 use Rattle.nfa_core.specs.Walks.{Has}
 use Rattle.nfa_core.specs.Reaches.{read_by}
 use Rattle.nfa_core.specs.Ways.{Text, place_of, ends_from}
-use Rattle.thompson_nfa.specs.Compilations.{IsChoice, IsRead, IsReadTo, FindsSpans, start_of}
+use Rattle.thompson_nfa.specs.Compilations.{IsChoice, IsPlainText, IsReadTo, FindsSpans, pattern_start}
 use Rattle.thompson_nfa.specs.Denotes.{IsMeant}
 use Rattle.lazy_dfa.specs.Dfas.{Dfa}
 use Rattle.lazy_dfa.specs.Passes.{start_name}
@@ -118,7 +118,7 @@ module _ (xs : List Tree) (b utf8 : Bool) (t : Terminator) (d : Dfa) (w : IsWalk
   spans : FindsSpans b xs d.nfa
   spans = let P : Bool → Type 0 = λ c. FindsSpans c xs d.nfa in subst P w.reads w.compiled.spans
 
-  module _ (looks : Looks) (h : List ℕ) (s e : ℕ) (read : IsRead (read_by looks h s e)) where
+  module _ (looks : Looks) (h : List ℕ) (s e : ℕ) (read : IsPlainText (read_by looks h s e)) where
     abbrev text : Text
     text = read_by looks h s e
 
@@ -143,7 +143,7 @@ module _ (xs : List Tree) (b utf8 : Bool) (t : Terminator) (d : Dfa) (w : IsWalk
         )
 
     met_named : (p name i : ℕ) (x : ℕ × ℕ) → slice_get a.start_pattern p ≡ Some name → i ≤ e →
-        Has same_pair x (ends_from a text (i, start_of a p)) ↔ Met (Pattern p) i x
+        Has same_pair x (ends_from a text (i, pattern_start a p)) ↔ Met (Pattern p) i x
     met_named p name i x is high =
         let listed = start_has_tree w.options xs d.nfa w.compiled p name is in
         let inside = slice_get_within xs p (get_or xs p empty) listed in (

@@ -20,7 +20,7 @@ use Rattle.nfa_core.specs.NfaValue.{has_empty}
 use Rattle.nfa_core.specs.Places.{same_pair}
 use Rattle.nfa_core.specs.Walks.{Has, HasNoneTwice}
 use Rattle.nfa_core.specs.Reaches.{read_by}
-use Rattle.thompson_nfa.specs.Compilations.{IsRead}
+use Rattle.thompson_nfa.specs.Compilations.{IsPlainText}
 use Rattle.nfa_core.specs.Ways.{place_of, span, ends_from}
 use Rattle.nfa_core.proofs.ForCallers.{none_in, option_cases}
 use Rattle.lazy_dfa.specs.Dfas.{Dfa, reader}
@@ -109,7 +109,7 @@ module _ (xs : List Tree) (b utf8 : Bool) (t : Terminator) (d : Dfa) (w : IsWalk
       abbrev Told : ℕ × ℕ → Type 0
       Told x = IsToldOf b asks q.start x
 
-      read : IsRead (read_by looks q.haystack q.start q.end)
+      read : IsPlainText (read_by looks q.haystack q.start q.end)
       read = record { within = asked.within; bytes = asked.bytes; at_start = at_start; at_end = at_end }
 
       counted_same : (l : q.start ≤ q.end) (x : ℕ × ℕ) → Meets xs utf8 looks q l asked.within b x →

@@ -4,7 +4,7 @@ use Rattle.std.specs.List.{flat_map}
 use Rattle.hex.specs.Hex.{encode_upper}
 use Rattle.look_core.specs.Looks.{IsWordSet}
 use Rattle.hir_core.specs.Tree.{Tree}
-use Rattle.search_types.specs.Chains.{IsChain}
+use Rattle.search_types.specs.Chains.{IsTakenList}
 use Rattle.search_types.specs.Found.{Found}
 use Rattle.search_types.specs.Inputs.{Search}
 use Rattle.nfa_core.specs.declared.build_error.BuildError.TheVariants.{ExceededSizeLimit}
@@ -94,7 +94,7 @@ finding_behind q fs = finding_from q (last_end fs)
 pub record QuitsBehind (setup : Setup) (xs : List Tree) (h : List ℕ) (fs : List Found) (b x : ℕ) : Type 0 where
   pub regex : Pair
   pub built : IsBuilt xs (program_settings setup.settings) regex
-  pub found : IsChain (AnswersAt regex (search_of setup h)) None (search_of setup h).start fs
+  pub found : IsTakenList (AnswersAt regex (search_of setup h)) None (search_of setup h).start fs
   pub from : ℕ
   pub asked : IsAskedAt regex (finding_behind (search_of setup h) fs) from
   pub reads : scan (reader regex.forward) (search_at (search_of setup h) from) ≡ quit b x

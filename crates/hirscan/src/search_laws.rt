@@ -17,7 +17,7 @@ ghost use Rattle.hir_core.specs.Tree.{Tree};
 ghost use Rattle.search_types.specs.declared.anchored.Anchored.{Anchored};
 ghost use Rattle.search_types.specs.declared.match_error.MatchErrorKind.TheVariants.{Quit, UnsupportedAnchored, NotAPair};
 ghost use Rattle.search_types.specs.declared.match_kind.MatchKind.TheVariants.{LeftmostFirst};
-ghost use Rattle.search_types.specs.Chains.{IsChain, IsWholeChain};
+ghost use Rattle.search_types.specs.Chains.{IsTakenList, IsWholeTakenList};
 ghost use Rattle.search_types.specs.Found.{Found};
 ghost use Rattle.search_types.specs.Inputs.{Search, with_earliest};
 ghost use Rattle.search_types.specs.Modes.{is_supported};
@@ -85,12 +85,12 @@ pub fn lists_are_those_of_the_trees()
     ensures whole { (xs : List Tree) (utf8 : Bool) (t : Terminator) (p : Pair) → IsRegexOf xs utf8 t p →
         (q : Search) → IsSearchOf xs utf8 q →
         (words : ℕ → Bool) → IsWordSet words → All LoopsRead xs → q.start ≤ q.end + 1 → (fs : List Found) →
-        IsWholeChain (AnswersAt p q) None q.start fs →
+        IsWholeTakenList (AnswersAt p q) None q.start fs →
         fs ≡ answers_of (query_of xs utf8 (holds words t q.haystack) q) q.start }
     ensures begins { (xs : List Tree) (utf8 : Bool) (t : Terminator) (p : Pair) → IsRegexOf xs utf8 t p →
         (q : Search) → IsSearchOf xs utf8 q →
         (words : ℕ → Bool) → IsWordSet words → All LoopsRead xs → q.start ≤ q.end + 1 → (fs : List Found) →
-        IsChain (AnswersAt p q) None q.start fs →
+        IsTakenList (AnswersAt p q) None q.start fs →
         (rest : List Found) × (answers_of (query_of xs utf8 (holds words t q.haystack) q) q.start ≡ fs ++ rest) }
 {}
 

@@ -15,7 +15,7 @@ use Rattle.search_core.proofs.ForCallers.{length-recorded, own_marks, marks_stay
 use Rattle.look_core.specs.Terminators.{Terminator}
 use Rattle.nfa_core.specs.Alike.{marks_of}
 use Rattle.nfa_core.specs.Nfa.{Node}
-use Rattle.nfa_core.specs.NfaValue.{Nfa, IsSound, told_by}
+use Rattle.nfa_core.specs.NfaValue.{Nfa, IsSound, told_apart_by}
 use Rattle.nfa_core.proofs.ForCallers.{bytes_alike, all_unmarked}
 use Rattle.determinize_core.specs.Steps.{step_value}
 use Rattle.determinize_core.proofs.ForCallers.{units_step_alike}
@@ -50,7 +50,7 @@ marks_few m b = let short = count_by-le-length (λ (x : Bool). x) (take b m) in 
 
 length-marks_of : (t : Terminator) (nodes : List Node) → length (marks_of t nodes) ≡ 256
 unfolding marks_of
-length-marks_of t nodes = length-recorded (replicate 256 false) (flat_map (told_by t) nodes) ∙ length-replicate 256 false
+length-marks_of t nodes = length-recorded (replicate 256 false) (flat_map (told_apart_by t) nodes) ∙ length-replicate 256 false
 
 same_set : (zeros set : List Bool) (rs : List (ℕ × ℕ)) (b c : ℕ) → IsUnmarked zeros → length zeros ≡ 256 → b < 256 → c < 256 →
     marks_below (recorded (recorded zeros rs) (ranges_from set 0)) b ≡ marks_below (recorded (recorded zeros rs) (ranges_from set 0)) c →
@@ -65,7 +65,7 @@ same_quits : (t : Terminator) (nodes : List Node) (set : List Bool) (b c : ℕ) 
     has set b ≡ has set c
 unfolding marks_of
 same_quits t nodes set b c small little e =
-    same_set (replicate 256 false) set (flat_map (told_by t) nodes) b c (all_unmarked 256) (length-replicate 256 false) small little e
+    same_set (replicate 256 false) set (flat_map (told_apart_by t) nodes) b c (all_unmarked 256) (length-replicate 256 false) small little e
 
 -- ---- the classes of what is built
 

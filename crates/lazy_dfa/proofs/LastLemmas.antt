@@ -9,7 +9,7 @@ use Rattle.nfa_core.specs.Walks.{has, Has}
 use Rattle.nfa_core.specs.Places.{same_pair, first}
 use Rattle.nfa_core.specs.Ways.{place_of}
 use Rattle.nfa_core.proofs.ForCallers.{none_in, has_first, pairs_equal, one_value, no_value, has_filter}
-use Rattle.nfa_core.specs.Reaches.{IsInside}
+use Rattle.nfa_core.specs.Reaches.{IsWithinReach}
 use Rattle.determinize_core.specs.States.{StateValue}
 use Rattle.determinize_core.specs.Walked.{latest_listed}
 use Rattle.determinize_core.proofs.ForCallers.{none_listed, last_listed}
@@ -56,7 +56,7 @@ not_past false i k m l = le-ltb (i + m) (i + k) (omega (arith, l))
 not_past true i k m l = le-ltb (i - k) (i - m) (omega (arith, l))
 
 module _ (is_reverse : Bool) (i len : ℕ) (ends : List (ℕ × ℕ)) (states : ℕ → StateValue)
-    (inside : (x : ℕ × ℕ) → Has same_pair x ends → IsInside is_reverse i len x.0)
+    (inside : (x : ℕ × ℕ) → Has same_pair x ends → IsWithinReach is_reverse i len x.0)
     (all : (k : ℕ) → k ≤ len → (states (suc k)).matches ≡ map pattern (filter (is_at (place_of is_reverse i k)) ends)) where
   abbrev place : ℕ → ℕ
   place k = place_of is_reverse i k

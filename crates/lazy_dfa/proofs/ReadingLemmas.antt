@@ -22,7 +22,7 @@ use Rattle.nfa_core.specs.Ways.{Text, span, reads, is_passed, on_read, byte_step
 use Rattle.nfa_core.proofs.ForCallers.{first_same, alike_by_looks, place_zero}
 use Rattle.determinize_core.specs.States.{StateValue}
 use Rattle.determinize_core.specs.Starts.{start_of}
-use Rattle.determinize_core.specs.Steps.{closed, known_steps, kept, unit_steps, reading, ids_before, behind, start_value, step_value}
+use Rattle.determinize_core.specs.Steps.{closed, known_steps, kept, unit_steps, reading, ids_before, behind_of_start, start_value, step_value}
 use Rattle.determinize_core.specs.Steps.{unit_at, unit_behind}
 use Rattle.determinize_core.specs.Walked.{cut_of, walked_lists}
 use Rattle.determinize_core.proofs.ForCallers.{lists_are_lists, states_are, entries_alike}
@@ -78,7 +78,7 @@ module _ (a : Automaton) (none : list_any is_capture a.states ≡ false) (some :
 
   start_lives : (t : Terminator) (o : Option ℕ) (q : ℕ) → is_dead (start_value a t (start_of t o) q) ≡ true → ⊥
   start_lives t o q dead =
-      no_list q (none_met (behind a t (start_of t o)).look_have (q ∷ [])
+      no_list q (none_met (behind_of_start a t (start_of t o)).look_have (q ∷ [])
       (ap (λ (w : StateValue). w.ids) (dead_is (start_value a t (start_of t o) q) dead)))
     where
       no_list : (q : ℕ) → q ∷ [] ≡ [] → ⊥

@@ -8,7 +8,7 @@ use Rattle.std.specs.List.{sum_by}
 use Rattle.std.proofs.lemmas.Bool.{lt-ltb}
 use Rattle.std.proofs.lemmas.List.{map-append, length-map, take_more, drop_more, drop_all}
 use Rattle.search_core.specs.Index.{greatest_index}
-use Rattle.nfa_core.specs.BuilderStates.{Assembly, DraftNode, with_draft, bytes_of, draft_bytes, way_bytes, draft_at, patched_at}
+use Rattle.nfa_core.specs.BuilderStates.{Assembly, DraftNode, with_draft, bytes_of_drafts, draft_bytes, way_bytes, draft_at, patched_at}
 use Rattle.nfa_core.specs.BuilderFaults.{add_fault, limit_fault, patch_fault, too_many_states}
 use Rattle.nfa_core.proofs.BuilderLemmas.{bytes_pushed, bytes_patched}
 use Rattle.nfa_core.proofs.OrderLemmas.{limit_holds}
@@ -31,37 +31,37 @@ on_err (Err e) x = x
 
 pub no_name : (b : Assembly) (draft : DraftNode) (n : ℕ) → n ≡ length b.drafts → greatest_index < n → add_fault b draft ≡ Some too_many_states
 no_name b draft n e more =
-    ap (λ t. option_or (if t then Some too_many_states else None) (limit_fault b.size_limit (bytes_of (b.drafts ++ draft ∷ []))))
+    ap (λ t. option_or (if t then Some too_many_states else None) (limit_fault b.size_limit (bytes_of_drafts (b.drafts ++ draft ∷ []))))
     (lt-ltb greatest_index (length b.drafts) (subst (λ (k : ℕ). greatest_index < k) e more))
 
 pub bytes_added : {D : Type 0} (view : D → DraftNode) (drafts : List D) (draft : DraftNode) (old own new : ℕ) →
-    new ≡ min (old + own) 18446744073709551615 → old ≡ bytes_of (map view drafts) → own ≡ min (draft_bytes draft) 18446744073709551615 →
-    new ≡ bytes_of (map view drafts ++ draft ∷ [])
+    new ≡ min (old + own) 18446744073709551615 → old ≡ bytes_of_drafts (map view drafts) → own ≡ min (draft_bytes draft) 18446744073709551615 →
+    new ≡ bytes_of_drafts (map view drafts ++ draft ∷ [])
 bytes_added view drafts draft old own new sum was one =
     sum
     ∙ (ap (λ (m : ℕ). min (m + own) 18446744073709551615) was
-    ∙ (ap (λ (n : ℕ). min (bytes_of (map view drafts) + n) 18446744073709551615) one
+    ∙ (ap (λ (n : ℕ). min (bytes_of_drafts (map view drafts) + n) 18446744073709551615) one
     ∙ bytes_pushed (map view drafts) draft))
 
 pub fault_in_room : {D : Type 0} (view : D → DraftNode) (drafts : List D) (draft : DraftNode) (b : Assembly) (limit : Option ℕ) (bytes : ℕ) →
-    map view drafts ≡ b.drafts → limit ≡ b.size_limit → length drafts ≤ greatest_index → bytes ≡ bytes_of (map view drafts ++ draft ∷ []) →
+    map view drafts ≡ b.drafts → limit ≡ b.size_limit → length drafts ≤ greatest_index → bytes ≡ bytes_of_drafts (map view drafts ++ draft ∷ []) →
     add_fault b draft ≡ limit_fault limit bytes
 fault_in_room view drafts draft b limit bytes seen same room sum =
     let below : length b.drafts ≤ greatest_index = subst (λ (n : ℕ). n ≤ greatest_index) (sym (length-map drafts view) ∙ ap length seen) room in
-    ap (λ t. option_or (if t then Some too_many_states else None) (limit_fault b.size_limit (bytes_of (b.drafts ++ draft ∷ []))))
+    ap (λ t. option_or (if t then Some too_many_states else None) (limit_fault b.size_limit (bytes_of_drafts (b.drafts ++ draft ∷ []))))
     (le-ltb greatest_index (length b.drafts) below)
-    ∙ (ap (λ l. limit_fault l (bytes_of (b.drafts ++ draft ∷ []))) (sym same)
-    ∙ ap (limit_fault limit) (ap (λ l. bytes_of (l ++ draft ∷ [])) (sym seen) ∙ sym sum))
+    ∙ (ap (λ l. limit_fault l (bytes_of_drafts (b.drafts ++ draft ∷ []))) (sym same)
+    ∙ ap (limit_fault limit) (ap (λ l. bytes_of_drafts (l ++ draft ∷ [])) (sym seen) ∙ sym sum))
 
 -- ---- one more way
 
 pub way_added : (drafts : List DraftNode) (from to old own new : ℕ) → from < length drafts →
-    new ≡ min (old + own) 18446744073709551615 → old ≡ bytes_of drafts → own ≡ way_bytes (draft_at drafts from) →
-    new ≡ bytes_of (patched_at drafts from to)
+    new ≡ min (old + own) 18446744073709551615 → old ≡ bytes_of_drafts drafts → own ≡ way_bytes (draft_at drafts from) →
+    new ≡ bytes_of_drafts (patched_at drafts from to)
 way_added drafts from to old own new inside sum was one =
     sum
     ∙ (ap (λ (m : ℕ). min (m + own) 18446744073709551615) was
-    ∙ (ap (λ (n : ℕ). min (bytes_of drafts + n) 18446744073709551615) one
+    ∙ (ap (λ (n : ℕ). min (bytes_of_drafts drafts + n) 18446744073709551615) one
     ∙ bytes_patched drafts from to inside))
 
 -- the builder's states as they were, with one more, and with one that was changed
@@ -79,7 +79,7 @@ drafts_patched old now new from to e patched =
     ap (λ (l : List DraftNode). record old { drafts = l }) patched
     ∙ ap (λ (b : Assembly). record b { drafts = patched_at b.drafts from to }) e
 
-pub way_fault : (old now : Assembly) (from to bytes : ℕ) → old ≡ now → bytes ≡ bytes_of (patched_at old.drafts from to) →
+pub way_fault : (old now : Assembly) (from to bytes : ℕ) → old ≡ now → bytes ≡ bytes_of_drafts (patched_at old.drafts from to) →
     patch_fault now from to ≡ limit_fault old.size_limit bytes
 way_fault old now from to bytes e sum = ap (λ (b : Assembly). patch_fault b from to) (sym e) ∙ ap (limit_fault old.size_limit) (sym sum)
 
@@ -88,11 +88,11 @@ capped_none m s w none = grind arith
 
 -- a way that takes no bytes passes no limit
 pub free_way : (drafts : List DraftNode) (limit : Option ℕ) (old own new : ℕ) → new ≡ min (old + own) 18446744073709551615 →
-    old ≡ bytes_of drafts → own ≡ 0 → MatchOption limit ⊤ (λ most. bytes_of drafts ≤ most) → limit_fault limit new ≡ None
+    old ≡ bytes_of_drafts drafts → own ≡ 0 → MatchOption limit ⊤ (λ most. bytes_of_drafts drafts ≤ most) → limit_fault limit new ≡ None
 free_way drafts limit old own new sum was none within =
     ap (limit_fault limit)
     (sum ∙ ap (λ (m : ℕ). min (m + own) 18446744073709551615) was ∙ capped_none 18446744073709551615 (sum_by draft_bytes drafts) own none)
-    ∙ limit_holds limit (bytes_of drafts) within
+    ∙ limit_holds limit (bytes_of_drafts drafts) within
 
 pub never : false ≡ true → ⊥
 never e = cc

@@ -8,7 +8,7 @@ use Rattle.std.specs.List.{flat_map}
 use Rattle.std.specs.Bool.{nat_eq}
 use Rattle.nfa_core.specs.Walks.{distinct, chain_ends, IsEquality}
 use Rattle.nfa_core.specs.Runs.{run_ends}
-use Rattle.nfa_core.specs.Places.{same_pair, nexts, arrivals, IsListed, answers_at, only_at, IsGraph}
+use Rattle.nfa_core.specs.Places.{same_pair, nexts, arrivals, AreWalkLists, answers_at, only_at, IsGraph}
 use Rattle.nfa_core.proofs.MemberLemmas.{flat_map_same, flat_map_twice}
 use Rattle.nfa_core.proofs.JoinLemmas.{join_flat_map}
 use Rattle.nfa_core.proofs.PairLemmas.{names_equal}
@@ -59,7 +59,7 @@ module _ {B : Type 0} (eps step : ℕ → ℕ → List ℕ) (n len : ℕ) (graph
 
   -- the matches of the list at place k are the ends of runs there
   pub list_has_ends : (same_end : B → B → Bool) → IsEquality same_end → (start : ℕ) → start < n → (lists : ℕ → List ℕ) →
-      IsListed eps step (λ j xs. xs) len start lists → k ≤ len →
+      AreWalkLists eps step (λ j xs. xs) len start lists → k ≤ len →
       distinct same_end (answers_at answer k (lists k)) ≡ run_ends same_pair same_end (nexts eps step) (only_at k answer) (suc len * n) (
         0,
         start,

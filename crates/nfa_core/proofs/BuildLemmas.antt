@@ -19,7 +19,7 @@ use Rattle.nfa_core.specs.BuilderStates.{AscendsFrom, pattern_count}
 use Rattle.nfa_core.specs.InOrder.{IsDraftOf, IsInOrder}
 use Rattle.nfa_core.specs.CanBuild.{CanBuild, names_of}
 use Rattle.nfa_core.specs.Renaming.{stands_for, past, kept, new_name, renamed, ways_node, ranges_node, automaton_of}
-use Rattle.nfa_core.specs.Pasts.{IsReached, IsNaming, name_in}
+use Rattle.nfa_core.specs.Pasts.{HasPasts, IsNaming, name_in}
 use Rattle.nfa_core.proofs.MemberLemmas.{none_in, of_cons}
 use Rattle.nfa_core.proofs.PairLemmas.{names_equal}
 use Rattle.nfa_core.proofs.NamingLemmas.{is_kept, past_inside, kept_more}
@@ -91,7 +91,7 @@ kept_up_to drafts i =
 kept_one : (o : Option ℕ) → o ≡ None → is_none o ≡ true
 kept_one o e = ap is_none e
 
-pub name_inside : (drafts : List DraftNode) (q : ℕ) → IsReached drafts → q < length drafts → new_name drafts q < length (kept drafts)
+pub name_inside : (drafts : List DraftNode) (q : ℕ) → HasPasts drafts → q < length drafts → new_name drafts q < length (kept drafts)
 name_inside drafts q reached inside =
     let there = past_inside drafts q reached inside in
     let more = kept_more drafts (past drafts q) fail_draft there in
@@ -189,7 +189,7 @@ node_of_draft name groups patterns fail_draft good = tt
 node_of_draft name groups patterns (match_draft pattern) good = good
 
 -- what the automaton is, which every NFA is
-pub sound : (b : Assembly) (x y : ℕ) → CanBuild b x y → IsReached b.drafts → IsInOrder b.drafts (pattern_count b) b.size_limit →
+pub sound : (b : Assembly) (x y : ℕ) → CanBuild b x y → HasPasts b.drafts → IsInOrder b.drafts (pattern_count b) b.size_limit →
     IsSound (automaton_of b x y)
 sound b x y can reached order =
     let name = new_name b.drafts in

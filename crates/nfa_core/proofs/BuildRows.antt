@@ -2,7 +2,7 @@
 use Rattle.std.proofs.Common.{◌≡◌, List, [], ◌∷◌, refl, false, true, Some, None}
 use Rattle.look_core.specs.Terminators.{one_of}
 use Rattle.nfa_core.specs.BuilderStates.{Assembly, DraftNode, empty_draft, range_draft, sparse_draft, union_draft, union_reverse_draft}
-use Rattle.nfa_core.specs.BuilderStates.{match_draft, blank, with_group, patched, bytes_of, draft_at}
+use Rattle.nfa_core.specs.BuilderStates.{match_draft, blank, with_group, patched, bytes_of_drafts, draft_at}
 use Rattle.nfa_core.specs.BuilderFaults.{limit_fault, exceeded_size_limit}
 use Rattle.nfa_core.specs.Drafted.{table_match}
 use Rattle.nfa_core.specs.Nfa.{Automaton, byte_range, binary_union, match_node}
@@ -39,7 +39,7 @@ past_the_empty_state = refl
 name_of_the_match : new_name byte_a 4 ≡ 3
 name_of_the_match = refl
 
-five_states : bytes_of byte_a ≡ 136
+five_states : bytes_of_drafts byte_a ≡ 136
 five_states = refl
 
 four_states : memory_of byte_a_automaton.states ≡ 96
@@ -66,6 +66,6 @@ one_way_more = refl
 another_way : patched 5 (range_draft 0x61 0x61 0) ≡ range_draft 0x61 0x61 5
 another_way = refl
 
-fourth_state : limit_fault (Some 72) (bytes_of (match_draft 0 ∷ match_draft 0 ∷ match_draft 0 ∷ match_draft 0 ∷ [])) ≡ Some
+fourth_state : limit_fault (Some 72) (bytes_of_drafts (match_draft 0 ∷ match_draft 0 ∷ match_draft 0 ∷ match_draft 0 ∷ [])) ≡ Some
     (exceeded_size_limit 72)
 fourth_state = refl

@@ -8,13 +8,13 @@ use Rattle.std.proofs.lemmas.List.Sums.{sum_by_push, sum_by-set}
 use Rattle.search_types.specs.Groups.{Name}
 use Rattle.nfa_core.specs.BuilderStates.{filled, with_name, up_to_pattern, with_group, DraftNode, empty_draft, range_draft, sparse_draft}
 use Rattle.nfa_core.specs.BuilderStates.{look_draft, capture_start_draft, capture_end_draft, union_draft, union_reverse_draft, fail_draft}
-use Rattle.nfa_core.specs.BuilderStates.{match_draft, draft_bytes, way_bytes, bytes_of, patched, draft_at, patched_at}
+use Rattle.nfa_core.specs.BuilderStates.{match_draft, draft_bytes, way_bytes, bytes_of_drafts, patched, draft_at, patched_at}
 
 capped_sum : (m a b : ℕ) → min (min a m + min b m) m ≡ min (a + b) m
 capped_sum m a b = grind arith
 
 pub bytes_pushed : (drafts : List DraftNode) (draft : DraftNode) →
-    min (bytes_of drafts + min (draft_bytes draft) 18446744073709551615) 18446744073709551615 ≡ bytes_of (drafts ++ draft ∷ [])
+    min (bytes_of_drafts drafts + min (draft_bytes draft) 18446744073709551615) 18446744073709551615 ≡ bytes_of_drafts (drafts ++ draft ∷ [])
 bytes_pushed drafts draft =
     capped_sum 18446744073709551615 (sum_by draft_bytes drafts) (draft_bytes draft)
     ∙ ap (λ n. min n 18446744073709551615) (sym (sum_by_push draft_bytes drafts draft))
@@ -41,7 +41,7 @@ capped_change : (m s s' b w : ℕ) → s' + b ≡ s + (b + w) → min (min s m +
 capped_change m s s' b w e = grind arith
 
 pub bytes_patched : (drafts : List DraftNode) (from to : ℕ) → from < length drafts →
-    min (bytes_of drafts + way_bytes (draft_at drafts from)) 18446744073709551615 ≡ bytes_of (patched_at drafts from to)
+    min (bytes_of_drafts drafts + way_bytes (draft_at drafts from)) 18446744073709551615 ≡ bytes_of_drafts (patched_at drafts from to)
 bytes_patched drafts from to inside =
     let draft = draft_at drafts from in
     let sums = sum_by-set draft_bytes drafts from (patched to draft) fail_draft inside in

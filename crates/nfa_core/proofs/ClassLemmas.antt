@@ -20,17 +20,17 @@ use Rattle.look_core.proofs.ForCallers.{LieAlike, same_class_alike, same_end, sa
 use Rattle.nfa_core.specs.Alike.{marks_of, AreReadAlike, AreAlike}
 use Rattle.nfa_core.specs.Nfa.{Node, byte_range, sparse_node, dense_node, look_node, union_node, binary_union, capture_node, fail_node}
 use Rattle.nfa_core.specs.Nfa.{match_node, Automaton, node_at}
-use Rattle.nfa_core.specs.NfaValue.{IsSound, IsNodeOf, told_by}
+use Rattle.nfa_core.specs.NfaValue.{IsSound, IsNodeOf, told_apart_by}
 use Rattle.nfa_core.specs.Ways.{on_byte, in_ranges}
 use Rattle.nfa_core.proofs.LookedLemmas.{looks_any}
 
 -- ---- what holds of all of a joined list
 
-told_at : (t : Terminator) (P : ℕ × ℕ → Type 0) (nodes : List Node) (q : ℕ) → All P (flat_map (told_by t) nodes) →
-    All P (told_by t (get_or nodes q fail_node))
+told_at : (t : Terminator) (P : ℕ × ℕ → Type 0) (nodes : List Node) (q : ℕ) → All P (flat_map (told_apart_by t) nodes) →
+    All P (told_apart_by t (get_or nodes q fail_node))
 told_at t P [] q all = λ k d h. absurd (omega (arith, h))
-told_at t P (node ∷ nodes) zero all = All-left P (told_by t node) (flat_map (told_by t) nodes) all
-told_at t P (node ∷ nodes) (suc q) all = told_at t P nodes q (All-right P (told_by t node) (flat_map (told_by t) nodes) all)
+told_at t P (node ∷ nodes) zero all = All-left P (told_apart_by t node) (flat_map (told_apart_by t) nodes) all
+told_at t P (node ∷ nodes) (suc q) all = told_at t P nodes q (All-right P (told_apart_by t node) (flat_map (told_apart_by t) nodes) all)
 
 pub sound_at : (p : ℕ) (nodes : List Node) (q : ℕ) → All (IsNodeOf p) nodes → IsNodeOf p (get_or nodes q fail_node)
 sound_at p [] q all = tt
@@ -54,7 +54,7 @@ module _ (b c : ℕ) where
       (λ (f : lies low high c ≡ false). rw (e, f) (alike_ranges others (λ j d g. all (suc j) d (omega (arith, g)))))
       (cases_Bool (lies low high c))
 
-  alike_node : (t : Terminator) (p : ℕ) (node : Node) → IsNodeOf p node → All (LieAlike b c) (told_by t node) →
+  alike_node : (t : Terminator) (p : ℕ) (node : Node) → IsNodeOf p node → All (LieAlike b c) (told_apart_by t node) →
       on_byte node b ≡ on_byte node c
   alike_node t p (byte_range low high next) sound all = let e : lies low high b ≡ lies low high c =
       same_side b c low high (all zero (low, high) (omega arith)) in rw e refl
@@ -156,9 +156,9 @@ unmarked_is (suc n) (x ∷ xs) len none =
 -- what is marked from no marks on are the marks of the states
 pub marks_are : (t : Terminator) (nodes : List Node) (none : List Bool) → length none ≡ 256 →
     ((b : ℕ) → b < 256 → get_or none b false ≡ false) →
-    recorded none (flat_map (told_by t) nodes) ≡ marks_of t nodes
+    recorded none (flat_map (told_apart_by t) nodes) ≡ marks_of t nodes
 unfolding marks_of
-marks_are t nodes none len is = ap (λ m. recorded m (flat_map (told_by t) nodes))
+marks_are t nodes none len is = ap (λ m. recorded m (flat_map (told_apart_by t) nodes))
     (unmarked_is 256 none len (λ b h. is b (omega (arith, h, len))))
 
 -- bytes of one class lie alike in all ranges that states tell apart, for any number of bytes
@@ -172,22 +172,22 @@ lie_alike_among n ranges marks b c has low_b low_c same =
     (same_class_of_finer marks (recorded (replicate n false) ranges) b c has (omega (arith, low_b, len)) (omega (arith, low_c, len)) same)
 
 pub lie_alike : (a : Automaton) (t : Terminator) (marks : List Bool) (b c : ℕ) → HasMarks marks (marks_of t a.states) → b < 256 → c < 256 →
-    marks_below marks b ≡ marks_below marks c → (q : ℕ) → All (LieAlike b c) (told_by t (node_at a q))
+    marks_below marks b ≡ marks_below marks c → (q : ℕ) → All (LieAlike b c) (told_apart_by t (node_at a q))
 unfolding marks_of
 lie_alike a t marks b c has low_b low_c same q =
-    told_at t (LieAlike b c) a.states q (lie_alike_among 256 (flat_map (told_by t) a.states) marks b c has low_b low_c same)
+    told_at t (LieAlike b c) a.states q (lie_alike_among 256 (flat_map (told_apart_by t) a.states) marks b c has low_b low_c same)
 
 -- ---- bytes of one class are alike for the automaton
 
 look_at : (t : Terminator) (b c q : ℕ) (a : Automaton) (l : Look) (next : ℕ) → node_at a q ≡ look_node l next →
-    All (LieAlike b c) (told_by t (node_at a q)) → All (LieAlike b c) (told_apart t l)
-look_at t b c q a l next e all = let P : Node → Type 0 = λ node. All (LieAlike b c) (told_by t node) in subst P e all
+    All (LieAlike b c) (told_apart_by t (node_at a q)) → All (LieAlike b c) (told_apart t l)
+look_at t b c q a l next e all = let P : Node → Type 0 = λ node. All (LieAlike b c) (told_apart_by t node) in subst P e all
 
 pub bytes_alike : (a : Automaton) (t : Terminator) (marks : List Bool) (b c : ℕ) → IsSound a → HasMarks marks (marks_of t a.states) →
     b < 256 → c < 256 →
     marks_below marks b ≡ marks_below marks c → AreAlike t a b c
 bytes_alike a t marks b c sound has low_b low_c same =
-    let all : (q : ℕ) → All (LieAlike b c) (told_by t (node_at a q)) = lie_alike a t marks b c has low_b low_c same in record {
+    let all : (q : ℕ) → All (LieAlike b c) (told_apart_by t (node_at a q)) = lie_alike a t marks b c has low_b low_c same in record {
       led = λ q. alike_node b c t (length a.start_pattern) (node_at a q) (sound_at (length a.start_pattern) a.states q sound.nodes) (all q);
       looks = λ l there. let r = (looks_any l a).0 there in read_alike t l b c (look_at t b c r.0 a l r.1 r.2 (all r.0));
     }

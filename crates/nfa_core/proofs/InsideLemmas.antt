@@ -5,7 +5,7 @@ use Rattle.nfa_core.specs.Walks.{Has}
 use Rattle.nfa_core.specs.Runs.{IsChain, last_or}
 use Rattle.nfa_core.specs.Places.{same_pair}
 use Rattle.nfa_core.specs.Nfa.{Automaton, node_at, IsWellFormed}
-use Rattle.nfa_core.specs.Reaches.{IsInside}
+use Rattle.nfa_core.specs.Reaches.{IsWithinReach}
 use Rattle.nfa_core.specs.Ways.{Text, reads, is_passed, on_read, on_nothing, place_behind, ways, place_of, bytes_left, IsPairOf}
 use Rattle.nfa_core.specs.Ways.{ends_from}
 use Rattle.nfa_core.proofs.MemberLemmas.{has_append}
@@ -16,14 +16,14 @@ use Rattle.nfa_core.proofs.BehindLemmas.{place_zero, match_place}
 
 read_inside : (is_reverse : Bool) (t : Text) (i k : ℕ) (read : Option (ℕ × ℕ)) → k ≤ bytes_left is_reverse t i →
     IsBeside is_reverse t (place_of is_reverse i k) read →
-    IsInside is_reverse i (bytes_left is_reverse t i) (place_behind (place_of is_reverse i k) read)
+    IsWithinReach is_reverse i (bytes_left is_reverse t i) (place_behind (place_of is_reverse i k) read)
 read_inside is_reverse t i k None l beside = (k, l, refl)
 read_inside false t i k (Some (b, j)) l beside = (suc k, omega (arith, beside.1), omega (arith, beside.0))
 read_inside true t i k (Some (b, j)) l beside = (suc k, omega (arith, beside.0, beside.1), omega (arith, beside.0))
 
 module _ (a : Automaton) (t : Text) (i : ℕ) where
   abbrev Inside : ℕ → Type 0
-  Inside j = IsInside a.reverse i (bytes_left a.reverse t i) j
+  Inside j = IsWithinReach a.reverse i (bytes_left a.reverse t i) j
 
   moved : (j x : ℕ) → Inside j → Inside (place_behind j (reads a.reverse t j))
   moved j x there =
@@ -52,15 +52,15 @@ module _ (a : Automaton) (t : Text) (i : ℕ) where
       (chain_inside run.0 (i, q) (0, omega arith, sym (place_zero a.reverse i)) run.1.0)
 
 pub inside_forward : (a : Automaton) (t : Text) (i j : ℕ) → a.reverse ≡ false → i ≤ t.end →
-    IsInside a.reverse i (bytes_left a.reverse t i) j → (i ≤ j) × (j ≤ t.end)
+    IsWithinReach a.reverse i (bytes_left a.reverse t i) j → (i ≤ j) × (j ≤ t.end)
 inside_forward a t i j up here is =
-    let I : Bool → Type 0 = λ b. IsInside b i (bytes_left b t i) j in
+    let I : Bool → Type 0 = λ b. IsWithinReach b i (bytes_left b t i) j in
     let k : I false = subst I up is in
     (omega (arith, k.1, k.2), omega (arith, k.1, k.2, here))
 
 pub inside_reverse : (a : Automaton) (t : Text) (i j : ℕ) → a.reverse ≡ true → t.start ≤ i →
-    IsInside a.reverse i (bytes_left a.reverse t i) j → (t.start ≤ j) × (j ≤ i)
+    IsWithinReach a.reverse i (bytes_left a.reverse t i) j → (t.start ≤ j) × (j ≤ i)
 inside_reverse a t i j is_reverse here is =
-    let I : Bool → Type 0 = λ b. IsInside b i (bytes_left b t i) j in
+    let I : Bool → Type 0 = λ b. IsWithinReach b i (bytes_left b t i) j in
     let k : I true = subst I is_reverse is in
     (omega (arith, k.1, k.2, here), omega (arith, k.1, k.2))

@@ -8,7 +8,7 @@ use Rattle.std.specs.Option.{option_or, option_to_list}
 use Rattle.std.specs.Bool.{nat_eq}
 use Rattle.nfa_core.specs.Walks.{Has, chain_ends, join, Visits, done, held, fresh, IsEquality}
 use Rattle.nfa_core.specs.Runs.{answers, run_ends}
-use Rattle.nfa_core.specs.Places.{same_pair, nexts, StaysBelow, arrivals, IsListed, before_answer, answers_at, first, latest, IsGraph}
+use Rattle.nfa_core.specs.Places.{same_pair, nexts, StaysBelow, arrivals, AreWalkLists, before_answer, answers_at, first, latest, IsGraph}
 use Rattle.nfa_core.proofs.MemberLemmas.{none_in, has_first, has_later, of_cons, of_push, of_flat_map, flat_map_same, flat_map_twice}
 use Rattle.nfa_core.proofs.JoinLemmas.{join_flat_map}
 use Rattle.nfa_core.proofs.WalkLemmas.{walk_is_join}
@@ -72,7 +72,7 @@ module _ (eps step : ℕ → ℕ → List ℕ) (n len : ℕ) (graph : IsGraph ep
   pub one_low : (start : ℕ) → start < n → (q : ℕ) → Has nat_eq q (start ∷ []) → q < n
   one_low start low = of_cons nat_eq names_equal (λ q. q < n) start [] low (λ q h. none_in nat_eq q _ h)
 
-  module _ (start : ℕ) (start_low : start < n) (lists : ℕ → List ℕ) (listed : IsListed eps step (λ k xs. xs) len start lists) where
+  module _ (start : ℕ) (start_low : start < n) (lists : ℕ → List ℕ) (listed : AreWalkLists eps step (λ k xs. xs) len start lists) where
     lists_low : (k : ℕ) → k ≤ len → (q : ℕ) → Has nat_eq q (lists k) → q < n
     lists_low zero h = stays (eps 0) n (graph.eps_below 0) listed.first (one_low start start_low) (λ q g. none_in nat_eq q _ g)
     lists_low (suc k) h = stays (eps (suc k)) n (graph.eps_below (suc k)) (listed.later k (omega (arith, h)))
@@ -97,7 +97,7 @@ module _ (eps step : ℕ → ℕ → List ℕ) (n len : ℕ) (graph : IsGraph ep
     no_more k xs = flat_map_same nat_eq names_equal (found eps step answer n 0 k) (here eps step answer n k) xs
         (λ y h. append-nil (here eps step answer n k y))
 
-    module _ (start : ℕ) (lists : ℕ → List ℕ) (listed : IsListed eps step (λ k xs. before_answer (λ x. answer (k, x)) xs) len start lists)
+    module _ (start : ℕ) (lists : ℕ → List ℕ) (listed : AreWalkLists eps step (λ k xs. before_answer (λ x. answer (k, x)) xs) len start lists)
       where
         latest_from : (d k : ℕ) (xs : List ℕ) → k + d ≤ len → ((q : ℕ) → Has nat_eq q xs → q < n) → Visits nat_eq (eps k) xs [] (lists k) →
             latest answer lists d k ≡ first (flat_map (found eps step answer n d k) (flat_map (chain_ends nat_eq (eps k) n []) xs))

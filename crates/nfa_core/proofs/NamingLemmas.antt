@@ -7,7 +7,7 @@ use Rattle.std.proofs.lemmas.Bool.{cases_eq}
 use Rattle.std.proofs.lemmas.List.Elements.{filter-append}
 use Rattle.nfa_core.specs.BuilderStates.{DraftNode, draft_at, fail_draft}
 use Rattle.nfa_core.specs.Renaming.{stands_for, past_within, going_on, past, kept}
-use Rattle.nfa_core.specs.Pasts.{IsReached, IsPastTable, is_settled, IsNaming, IsRanking, name_in}
+use Rattle.nfa_core.specs.Pasts.{HasPasts, IsPastTable, is_settled, IsNaming, IsRanking, name_in}
 use Rattle.nfa_core.proofs.PastLemmas.{known_end}
 
 abbrev pub is_kept : DraftNode → Bool
@@ -15,17 +15,17 @@ is_kept draft = is_none (stands_for draft)
 
 -- the states past states are states
 past_inside_by : (drafts : List DraftNode) (n q : ℕ) (o : Option ℕ) → q < length drafts → stands_for (draft_at drafts q) ≡ o →
-    IsReached drafts →
+    HasPasts drafts →
     ((next : ℕ) → next < length drafts → past_within drafts n next < length drafts) → going_on q (past_within drafts n) o < length drafts
 past_inside_by drafts n q None inside e reached fewer = inside
 past_inside_by drafts n q (Some next) inside e reached fewer = fewer next (reached.stays q next inside e)
 
-past_within_inside : (drafts : List DraftNode) → IsReached drafts → (n q : ℕ) → q < length drafts → past_within drafts n q < length drafts
+past_within_inside : (drafts : List DraftNode) → HasPasts drafts → (n q : ℕ) → q < length drafts → past_within drafts n q < length drafts
 past_within_inside drafts reached zero q inside = inside
 past_within_inside drafts reached (suc n) q inside = past_inside_by drafts n q (stands_for (draft_at drafts q)) inside refl reached
     (past_within_inside drafts reached n)
 
-pub past_inside : (drafts : List DraftNode) (q : ℕ) → IsReached drafts → q < length drafts → past drafts q < length drafts
+pub past_inside : (drafts : List DraftNode) (q : ℕ) → HasPasts drafts → q < length drafts → past drafts q < length drafts
 past_inside drafts q reached inside = past_within_inside drafts reached (length drafts) q inside
 
 -- one state more
@@ -84,14 +84,14 @@ pub settled_past : (drafts : List DraftNode) (table : List (Option ℕ)) (q : �
     unwrap_or (get_or table q None) q ≡ past drafts q
 settled_past drafts table q told there = known_end drafts table q told (inl there)
 
-pub past_is_inside : (drafts : List DraftNode) (table : List (Option ℕ)) (q : ℕ) → IsReached drafts → IsPastTable drafts table →
+pub past_is_inside : (drafts : List DraftNode) (table : List (Option ℕ)) (q : ℕ) → HasPasts drafts → IsPastTable drafts table →
     is_settled table q ≡ true → q < length drafts →
     unwrap_or (get_or table q None) q < length drafts
 past_is_inside drafts table q reached told there inside =
     let e = settled_past drafts table q told there in
     let h = past_inside drafts q reached inside in omega (arith, e, h)
 
-pub naming_done : (drafts : List DraftNode) (table : List (Option ℕ)) (ranks names : List ℕ) → IsReached drafts → IsPastTable drafts table →
+pub naming_done : (drafts : List DraftNode) (table : List (Option ℕ)) (ranks names : List ℕ) → HasPasts drafts → IsPastTable drafts table →
     ((q : ℕ) → q < length drafts → is_settled table q ≡ true) →
     IsRanking drafts ranks → length names ≡ length ranks → ((q : ℕ) → q < length ranks →
     name_in names q ≡ name_in ranks (unwrap_or (get_or table q None) q)) → IsNaming drafts names

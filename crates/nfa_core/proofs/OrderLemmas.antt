@@ -7,7 +7,7 @@ use Rattle.std.proofs.lemmas.List.{map-append, length-map, length-set}
 use Rattle.std.proofs.lemmas.List.Elements.{All-push, All-set, All-get_or, All-weaker}
 use Rattle.search_core.specs.Index.{greatest_index}
 use Rattle.nfa_core.specs.BuilderStates.{DraftNode, empty_draft, range_draft, sparse_draft, look_draft, capture_start_draft}
-use Rattle.nfa_core.specs.BuilderStates.{capture_end_draft, union_draft, union_reverse_draft, fail_draft, match_draft, bytes_of, patched}
+use Rattle.nfa_core.specs.BuilderStates.{capture_end_draft, union_draft, union_reverse_draft, fail_draft, match_draft, bytes_of_drafts, patched}
 use Rattle.nfa_core.specs.BuilderStates.{draft_at, patched_at}
 use Rattle.nfa_core.specs.BuilderFaults.{limit_fault, index_fault, captures_refused, exceeded_size_limit}
 use Rattle.search_types.specs.GroupFaults.{TooManyGroups}
@@ -25,14 +25,14 @@ limit_holds (Some most) bytes within = ap (λ b. if b then Some (exceeded_size_l
 pub order_added : {D : Type 0} (view : D → DraftNode) (old new : List D) (one : D) (patterns : ℕ) (limit : Option ℕ) →
     new ≡ old ++ one ∷ [] →
     IsInOrder (map view old) patterns limit → IsDraftOf patterns (view one) → length old ≤ greatest_index →
-    limit_fault limit (bytes_of (map view old ++ view one ∷ [])) ≡ None →
+    limit_fault limit (bytes_of_drafts (map view old ++ view one ∷ [])) ≡ None →
     IsInOrder (map view new) patterns limit
 order_added view old new one patterns limit pushed order good room within =
     let seen : map view new ≡ map view old ++ view one ∷ [] = ap (map view) pushed ∙ map-append view old (one ∷ []) in
     let len : length (map view old) ≡ length old = length-map old view in
     let more : length (map view old ++ view one ∷ []) ≡ length (map view old) + 1 = length-append (map view old) (view one ∷ []) in
     let moved : IsInOrder (map view old ++ view one ∷ []) patterns limit = record {
-      within = limit_kept limit (bytes_of (map view old ++ view one ∷ [])) within;
+      within = limit_kept limit (bytes_of_drafts (map view old ++ view one ∷ [])) within;
       parts_of = All-push (IsDraftOf patterns) (map view old) (view one) order.parts_of good;
       states_numbered = omega arith;
       patterns_numbered = order.patterns_numbered;
@@ -53,11 +53,11 @@ draft_patched patterns to (match_draft pattern) good = good
 
 pub order_patched : (old new : List DraftNode) (from to patterns : ℕ) (limit : Option ℕ) → new ≡ patched_at old from to →
     from < length old →
-    IsInOrder old patterns limit → limit_fault limit (bytes_of (patched_at old from to)) ≡ None → IsInOrder new patterns limit
+    IsInOrder old patterns limit → limit_fault limit (bytes_of_drafts (patched_at old from to)) ≡ None → IsInOrder new patterns limit
 order_patched old new from to patterns limit e inside order within =
     let len : length (patched_at old from to) ≡ length old = length-set old from (patched to (draft_at old from)) in
     let moved : IsInOrder (patched_at old from to) patterns limit = record {
-      within = limit_kept limit (bytes_of (patched_at old from to)) within;
+      within = limit_kept limit (bytes_of_drafts (patched_at old from to)) within;
       parts_of = All-set (IsDraftOf patterns) old from (patched to (draft_at old from)) (draft_patched patterns to (draft_at old from)
           (All-get_or (IsDraftOf patterns) old from fail_draft inside order.parts_of)) order.parts_of;
       states_numbered = omega (arith, order.states_numbered, len);
@@ -67,9 +67,9 @@ order_patched old new from to patterns limit e inside order within =
 
 -- the limit is another one
 pub order_limited : (drafts : List DraftNode) (patterns : ℕ) (old new : Option ℕ) → IsInOrder drafts patterns old →
-    limit_fault new (bytes_of drafts) ≡ None → IsInOrder drafts patterns new
+    limit_fault new (bytes_of_drafts drafts) ≡ None → IsInOrder drafts patterns new
 order_limited drafts patterns old new order within = record {
-  within = limit_kept new (bytes_of drafts) within;
+  within = limit_kept new (bytes_of_drafts drafts) within;
   parts_of = order.parts_of;
   states_numbered = order.states_numbered;
   patterns_numbered = order.patterns_numbered;

@@ -12,7 +12,7 @@ use Rattle.nfa_core.specs.Ways.{Text, IsPairOf, AreLists, matched_behind, bytes_
 use Rattle.nfa_core.proofs.BehindLemmas.{latest_is_preferred}
 use Rattle.nfa_core.proofs.StepLemmas.{stays_closed}
 use Rattle.nfa_core.proofs.PairLemmas.{names_equal}
-use Rattle.nfa_core.specs.Reaches.{IsAlike, IsOver}
+use Rattle.nfa_core.specs.Reaches.{LeadAlike, LeadsNoFurther}
 
 flat_same : (f g : ℕ → List ℕ) (xs : List ℕ) → ((x : ℕ) → f x ≡ g x) → flat_map f xs ≡ flat_map g xs
 flat_same f g [] same = refl
@@ -38,7 +38,7 @@ module _ (a : Automaton) (t u : Text) (i q d : ℕ) (lists : ℕ → List ℕ) w
   abbrev cut : ℕ → List ℕ → List ℕ
   cut k xs = before_answer (λ x. matched_behind a i (k, x)) xs
 
-  module _ (alike : IsAlike a t u i d) (listed : AreLists a t (i, q) cut lists) (over : IsOver a t i d (cut d (lists d))) where
+  module _ (alike : LeadAlike a t u i d) (listed : AreLists a t (i, q) cut lists) (over : LeadsNoFurther a t i d (cut d (lists d))) where
     walk_alike : (k : ℕ) → k ≤ d → (stack : List ℕ) → Visits nat_eq (plain_steps a t (place_of a.reverse i k)) stack [] (lists k) →
         Visits nat_eq (plain_steps a u (place_of a.reverse i k)) stack [] (lists k)
     walk_alike k l stack v = stays_closed nat_eq names_equal (plain_steps a t (place_of a.reverse i k))

@@ -8,7 +8,7 @@ use Rattle.std.proofs.lemmas.List.{length-set}
 use Rattle.std.proofs.lemmas.List.Sums.{sum_by-set}
 use Rattle.nfa_core.specs.BuilderStates.{DraftNode, draft_at}
 use Rattle.nfa_core.specs.Renaming.{stands_for, past_within, going_on, past}
-use Rattle.nfa_core.specs.Pasts.{IsReached, is_settled, IsPastTable, IsOpen, IsEnd, settled_count}
+use Rattle.nfa_core.specs.Pasts.{HasPasts, is_settled, IsPastTable, IsOpen, EndsWay, settled_count}
 use Rattle.nfa_core.proofs.RenamingLemmas.{past_itself}
 
 -- how many steps are made from the state on, up to a number of them
@@ -56,11 +56,11 @@ step_at : (drafts : List DraftNode) (len q next : ℕ) → q < len → stands_fo
 step_at drafts zero q next inside e there = absurd (omega (arith, inside))
 step_at drafts (suc n) q next inside e there = step_by drafts n q next e there
 
-pub past_next : (drafts : List DraftNode) (q next : ℕ) → IsReached drafts → q < length drafts → stands_for (draft_at drafts q) ≡ Some next →
+pub past_next : (drafts : List DraftNode) (q next : ℕ) → HasPasts drafts → q < length drafts → stands_for (draft_at drafts q) ≡ Some next →
     past drafts q ≡ past drafts next
 past_next drafts q next reached inside e = (step_at drafts (length drafts) q next inside e (reached.ends q inside)).0
 
-pub steps_fall : (drafts : List DraftNode) (q next : ℕ) → IsReached drafts → q < length drafts →
+pub steps_fall : (drafts : List DraftNode) (q next : ℕ) → HasPasts drafts → q < length drafts →
     stands_for (draft_at drafts q) ≡ Some next → steps_from drafts q ≡ suc (steps_from drafts next)
 steps_fall drafts q next reached inside e = (step_at drafts (length drafts) q next inside e (reached.ends q inside)).1
 
@@ -69,7 +69,7 @@ settled_other : (table : List (Option ℕ)) (at q : ℕ) (p : ℕ) → q ≢ at 
     is_settled (set table at (Some p)) q ≡ false
 settled_other table at q p other e = ap is_some (get_or-set_other table at q (Some p) None other) ∙ e
 
-open_other : (drafts : List DraftNode) (table : List (Option ℕ)) (n q at p : ℕ) → IsReached drafts → q < length drafts →
+open_other : (drafts : List DraftNode) (table : List (Option ℕ)) (n q at p : ℕ) → HasPasts drafts → q < length drafts →
     steps_from drafts q < steps_from drafts at →
     IsOpen drafts table n q → IsOpen drafts (set table at (Some p)) n q
 open_other drafts table zero q at p reached inside nearer opened = tt
@@ -86,7 +86,7 @@ open_other drafts table (suc n) q at p reached inside nearer opened =
     )
 
 -- the states behind the first are still open where the first is told of
-pub open_behind : (drafts : List DraftNode) (table : List (Option ℕ)) (n q next p : ℕ) → IsReached drafts → q < length drafts →
+pub open_behind : (drafts : List DraftNode) (table : List (Option ℕ)) (n q next p : ℕ) → HasPasts drafts → q < length drafts →
     stands_for (draft_at drafts q) ≡ Some next →
     IsOpen drafts table n next → IsOpen drafts (set table q (Some p)) n next
 open_behind drafts table n q next p reached inside e opened =
@@ -99,7 +99,7 @@ known_by : (drafts : List DraftNode) (at : ℕ) (o : Option ℕ) → ((p : ℕ) 
 known_by drafts at None right = (λ (e : false ≡ true). cc, λ e. sym (past_itself drafts (length drafts) at e))
 known_by drafts at (Some p) right = (λ e. right p refl, λ e. right p refl)
 
-pub known_end : (drafts : List DraftNode) (table : List (Option ℕ)) (at : ℕ) → IsPastTable drafts table → IsEnd drafts table at →
+pub known_end : (drafts : List DraftNode) (table : List (Option ℕ)) (at : ℕ) → IsPastTable drafts table → EndsWay drafts table at →
     unwrap_or (get_or table at None) at ≡ past drafts at
 known_end drafts table at told end = let cases = known_by drafts at (get_or table at None) (λ p e. told.right at p e) in
     ⊎_elim cases.0 cases.1 end
@@ -132,7 +132,7 @@ underway_start drafts table q inside = record {
   opened = λ m behind. let none : m ≡ 0 + m = omega arith in subst (λ (k : ℕ). IsOpen drafts table k q) none behind;
 }
 
-pub underway_next : (drafts : List DraftNode) (table : List (Option ℕ)) (q at next len : ℕ) → IsReached drafts →
+pub underway_next : (drafts : List DraftNode) (table : List (Option ℕ)) (q at next len : ℕ) → HasPasts drafts →
     is_settled table at ≡ false → stands_for (draft_at drafts at) ≡ Some next →
     IsUnderway drafts table q at len → IsUnderway drafts table q next (len + 1)
 underway_next drafts table q at next len reached free e way = record {
@@ -211,7 +211,7 @@ settling_start drafts table end q len left inside e told opened all = record {
   kept = λ r there. there;
 }
 
-pub settling_next : (drafts : List DraftNode) (first table new : List (Option ℕ)) (end at next done left rest : ℕ) → IsReached drafts →
+pub settling_next : (drafts : List DraftNode) (first table new : List (Option ℕ)) (end at next done left rest : ℕ) → HasPasts drafts →
     new ≡ set table at (Some end) → stands_for (draft_at drafts at) ≡ Some next → left ≡ suc rest →
     IsSettling drafts first table end at done left → IsSettling drafts first new end next (done + 1) rest
 settling_next drafts first table new end at next done left rest reached is_new e more way =

@@ -7,7 +7,7 @@ use Rattle.nfa_core.specs.Nfa.{match_node, Automaton, node_at}
 use Rattle.nfa_core.specs.NfaValue.{looks_of}
 use Rattle.nfa_core.specs.Ways.{reads, is_passed, on_nothing, on_read, place_of}
 use Rattle.nfa_core.proofs.LookedLemmas.{looks_any}
-use Rattle.nfa_core.specs.Reaches.{IsAlike, read_by}
+use Rattle.nfa_core.specs.Reaches.{LeadAlike, read_by}
 
 pub nothing_same : (node : Node) (f g : Look → Bool) → ((l : Look) (next : ℕ) → node ≡ look_node l next → f l ≡ g l) →
     on_nothing node f ≡ on_nothing node g
@@ -31,7 +31,7 @@ pub alike_by_looks : (a : Automaton) (f g : Look → ℕ → Bool) (h : List ℕ
     ((l : Look) (k : ℕ) → has_look (looks_of a.states) l ≡ true → k ≤ d →
     is_passed a.reverse (read_by f h start end) l (place_of a.reverse i k) ≡ is_passed a.reverse (read_by g h start end) l
     (place_of a.reverse i k)) →
-    IsAlike a (read_by f h start end) (read_by g h start end) i d
+    LeadAlike a (read_by f h start end) (read_by g h start end) i d
 alike_by_looks a f g h start end i d same = record {
   same_start = refl;
   same_end = refl;
@@ -53,7 +53,7 @@ place_forward true i k up = cc
 
 pub alike_forward : (a : Automaton) (f g : Look → ℕ → Bool) (h : List ℕ) (start end i d : ℕ) → a.reverse ≡ false →
     ((l : Look) (j : ℕ) → has_look (looks_of a.states) l ≡ true → i ≤ j → j ≤ i + d → f l j ≡ g l j) →
-    IsAlike a (read_by f h start end) (read_by g h start end) i d
+    LeadAlike a (read_by f h start end) (read_by g h start end) i d
 alike_forward a f g h start end i d up same = alike_by_looks a f g h start end i d
     (λ l k there low. let at : place_of a.reverse i k ≡ i + k = place_forward a.reverse i k up in
     passed_forward a.reverse f g h start end l (place_of a.reverse i k) up

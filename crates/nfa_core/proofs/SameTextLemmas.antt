@@ -21,7 +21,7 @@ use Rattle.look_core.proofs.ForCallers.{LieAlike, AtEach, same_at, same_before, 
 use Rattle.nfa_core.specs.Alike.{marks_of}
 use Rattle.nfa_core.specs.Nfa.{Node, byte_range, sparse_node, dense_node, look_node, union_node, binary_union, capture_node, fail_node}
 use Rattle.nfa_core.specs.Nfa.{match_node, Automaton, node_at}
-use Rattle.nfa_core.specs.NfaValue.{IsSound, told_by, looks_of}
+use Rattle.nfa_core.specs.NfaValue.{IsSound, told_apart_by, looks_of}
 use Rattle.nfa_core.specs.Places.{same_pair}
 use Rattle.nfa_core.specs.Runs.{run_ends}
 use Rattle.nfa_core.specs.Ways.{span, reads, with_place, is_passed, on_byte, on_nothing, on_read, place_behind, ways, matched, ends_from}
@@ -76,7 +76,7 @@ module _ (t : Terminator) (h g : List ℕ) (len : length h ≡ length g) where
         same_look (reversed l) (λ k low. let P : List (ℕ × ℕ) → Type 0 = All (LieAlike (get_or h k 0) (get_or g k 0)) in
         let e : told_apart t l ≡ told_apart t (reversed l) = sym (turned_alike t l) in subst P e (at k low)) i
 
-    nothing_alike : (is_reverse : Bool) (node : Node) → AtEach (λ b c. All (LieAlike b c) (told_by t node)) h g → (i : ℕ) →
+    nothing_alike : (is_reverse : Bool) (node : Node) → AtEach (λ b c. All (LieAlike b c) (told_apart_by t node)) h g → (i : ℕ) →
         on_nothing node (λ l. is_passed is_reverse (span t h start end) l i) ≡ on_nothing node
         (λ l. is_passed is_reverse (span t g start end) l i)
     nothing_alike is_reverse (byte_range low high next) at i = refl
@@ -120,7 +120,7 @@ module _ (a : Automaton) (t : Terminator) (marks : List Bool) (h g : List ℕ) (
       (read_alike t h g classes.0 start end node (at_each (λ b c. on_byte node b ≡ on_byte node c)
       (λ b c lb lc same. (bytes_alike a t marks b c sound has lb lc same).led p.1)) a.reverse p.0)
       (ap (map (λ q. (p.0, q)))
-      (nothing_alike t h g classes.0 start end a.reverse node (at_each (λ b c. All (LieAlike b c) (told_by t node))
+      (nothing_alike t h g classes.0 start end a.reverse node (at_each (λ b c. All (LieAlike b c) (told_apart_by t node))
       (λ b c lb lc same. lie_alike a t marks b c has lb lc same p.1)) p.0))
 
   pub ends_alike : (p : ℕ × ℕ) → ends_from a (span t h start end) p ≡ ends_from a (span t g start end) p
@@ -132,4 +132,4 @@ module _ (a : Automaton) (t : Terminator) (marks : List Bool) (h g : List ℕ) (
   looks_alike l there i =
       let r = (looks_any l a).0 there in
       same_look t h g classes.0 l (at_each (λ b c. All (LieAlike b c) (told_apart t l)) (λ b c lb lc same.
-      let P : Node → Type 0 = λ node. All (LieAlike b c) (told_by t node) in subst P r.2 (lie_alike a t marks b c has lb lc same r.0))) i
+      let P : Node → Type 0 = λ node. All (LieAlike b c) (told_apart_by t node) in subst P r.2 (lie_alike a t marks b c has lb lc same r.0))) i

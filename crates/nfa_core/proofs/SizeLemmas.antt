@@ -11,7 +11,7 @@ use Rattle.nfa_core.specs.InOrder.{IsInOrder}
 use Rattle.nfa_core.specs.States.{node_memory}
 use Rattle.nfa_core.specs.BuilderStates.{DraftNode, empty_draft, range_draft, sparse_draft, look_draft, capture_start_draft}
 use Rattle.nfa_core.specs.BuilderStates.{capture_end_draft, union_draft, union_reverse_draft, fail_draft, match_draft, draft_bytes}
-use Rattle.nfa_core.specs.BuilderStates.{bytes_of, Assembly, pattern_count}
+use Rattle.nfa_core.specs.BuilderStates.{bytes_of_drafts, Assembly, pattern_count}
 use Rattle.nfa_core.specs.Renaming.{kept, new_name, renamed, ways_node, ranges_node, automaton_of}
 use Rattle.nfa_core.proofs.BuildLemmas.{range_named}
 use Rattle.nfa_core.proofs.NamingLemmas.{is_kept}
@@ -58,7 +58,7 @@ all_smaller : (name : ℕ → ℕ) (groups : Groups) (drafts : List DraftNode) �
 all_smaller name groups [] = omega arith
 all_smaller name groups (draft ∷ drafts) = kept_smaller name groups draft drafts (all_smaller name groups drafts) (is_kept draft)
 
-pub smaller : (b : Assembly) (anchored unanchored : ℕ) → memory_of (automaton_of b anchored unanchored).states ≤ bytes_of b.drafts
+pub smaller : (b : Assembly) (anchored unanchored : ℕ) → memory_of (automaton_of b anchored unanchored).states ≤ bytes_of_drafts b.drafts
 smaller b anchored unanchored = let h = all_smaller (new_name b.drafts) b.groups b.drafts in omega (arith, h)
 
 limit_kept_below : (limit : Option ℕ) (less more : ℕ) → less ≤ more → MatchOption limit ⊤ (λ most. more ≤ most) →
@@ -69,5 +69,5 @@ limit_kept_below (Some most) less more below kept = omega (arith, below, kept)
 -- an automaton that is built keeps to the builder's limit
 pub within_limit : (b : Assembly) (x y : ℕ) (n : Nfa) → n ≡ nfa_of b x y → IsInOrder b.drafts (pattern_count b) b.size_limit →
     MatchOption b.size_limit ⊤ (λ most. memory_of n.automaton.states ≤ most)
-within_limit b x y n is order = limit_kept_below b.size_limit (memory_of n.automaton.states) (bytes_of b.drafts)
-    (subst (λ (n : Nfa). memory_of n.automaton.states ≤ bytes_of b.drafts) (sym is) (smaller b x y)) order.within
+within_limit b x y n is order = limit_kept_below b.size_limit (memory_of n.automaton.states) (bytes_of_drafts b.drafts)
+    (subst (λ (n : Nfa). memory_of n.automaton.states ≤ bytes_of_drafts b.drafts) (sym is) (smaller b x y)) order.within

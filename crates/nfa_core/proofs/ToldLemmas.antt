@@ -7,7 +7,7 @@ use Rattle.look_core.specs.Terminators.{Terminator}
 use Rattle.std.proofs.lemmas.List.{drop_all, get_or-map, length-map}
 use Rattle.nfa_core.specs.Nfa.{Node, fail_node}
 use Rattle.nfa_core.specs.BuilderStates.{AscendsFrom}
-use Rattle.nfa_core.specs.NfaValue.{told_by}
+use Rattle.nfa_core.specs.NfaValue.{told_apart_by}
 use Rattle.nfa_core.specs.Transitions.{range_of}
 use Rattle.nfa_core.specs.States.{node_of}
 use Rattle.nfa_core.specs.declared.state.State.{State}
@@ -40,8 +40,8 @@ module _ (x : ℕ) (rest old : List ℕ) (e : old ≡ x ∷ rest) where
 
 -- where a loop has marked the ranges of all states
 pub marked_all : (t : Terminator) (states : List State) (set all : List Bool) (i : ℕ) → length states ≤ i →
-    recorded set (flat_map (told_by t) (map node_of (drop i states))) ≡ all → set ≡ all
+    recorded set (flat_map (told_apart_by t) (map node_of (drop i states))) ≡ all → set ≡ all
 marked_all t states set all i past same =
-    let left : recorded set (flat_map (told_by t) (map node_of (drop i states))) ≡ set =
-    ap (λ l. recorded set (flat_map (told_by t) (map node_of l))) (drop_all i states past) in
+    let left : recorded set (flat_map (told_apart_by t) (map node_of (drop i states))) ≡ set =
+    ap (λ l. recorded set (flat_map (told_apart_by t) (map node_of l))) (drop_all i states past) in
     sym left ∙ same

@@ -8,12 +8,12 @@ use Rattle.look_core.specs.LookSets.{has_look}
 use Rattle.look_core.specs.Terminators.{Terminator, ends_line}
 use Rattle.look_core.specs.declared.look.Look.{Look}
 use Rattle.nfa_core.specs.Nfa.{Node, Automaton, node_at}
-use Rattle.nfa_core.specs.NfaValue.{told_by, looks_of}
+use Rattle.nfa_core.specs.NfaValue.{told_apart_by, looks_of}
 use Rattle.nfa_core.specs.Ways.{on_byte}
 
 -- the marks of the states: of all ranges of bytes that a state or its look tells apart
 unfoldable pub marks_of : Terminator → List Node → List Bool
-marks_of t nodes = recorded (replicate 256 false) (flat_map (told_by t) nodes)
+marks_of t nodes = recorded (replicate 256 false) (flat_map (told_apart_by t) nodes)
 
 -- what a look asks of a byte beside its place is the same of both bytes
 pub record AreReadAlike (t : Terminator) (l : Look) (b c : ℕ) : Type 0 where

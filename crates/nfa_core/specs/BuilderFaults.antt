@@ -2,7 +2,7 @@
 use Rattle.std.specs.Prelude.{◌≡◌, ◌<◌, ◌⊎◌, ℕ, nat_lt, List, [], ◌∷◌, ◌++◌, length, Option, Some, None, if◌then◌else◌, Result, MatchResult}
 use Rattle.std.specs.Option.{option_or}
 use Rattle.search_core.specs.Index.{greatest_index}
-use Rattle.nfa_core.specs.BuilderStates.{DraftNode, Assembly, bytes_of, with_draft, with_group, patched_at}
+use Rattle.nfa_core.specs.BuilderStates.{DraftNode, Assembly, bytes_of_drafts, with_draft, with_group, patched_at}
 use Rattle.search_types.specs.Groups.{Name}
 use Rattle.search_types.specs.GroupFaults.{GroupFault, TooManyGroups, group_fault}
 use Rattle.search_types.specs.GroupRefusals as group
@@ -32,12 +32,12 @@ limit_fault None bytes = None
 limit_fault (Some limit) bytes = if nat_lt limit bytes then Some (exceeded_size_limit limit) else None
 
 -- whether there is no name for one more state
-abbrev pub name_fault : List DraftNode → Option BuildFault
-name_fault drafts = if nat_lt greatest_index (length drafts) then Some too_many_states else None
+abbrev pub state_count_fault : List DraftNode → Option BuildFault
+state_count_fault drafts = if nat_lt greatest_index (length drafts) then Some too_many_states else None
 
 -- what refuses one more state
 abbrev pub add_fault : Assembly → DraftNode → Option BuildFault
-add_fault b draft = option_or (name_fault b.drafts) (limit_fault b.size_limit (bytes_of (b.drafts ++ draft ∷ [])))
+add_fault b draft = option_or (state_count_fault b.drafts) (limit_fault b.size_limit (bytes_of_drafts (b.drafts ++ draft ∷ [])))
 
 -- The state comes last, and the result is its name; or the builder stays as it was, and the error tells what refuses it.
 abbrev pub Adds : Assembly → Assembly → Result ℕ BuildError → DraftNode → Type 0
@@ -46,12 +46,12 @@ Adds old new result draft = MatchResult result
     (λ e. (new ≡ old) × Tells e (add_fault old draft))
 
 -- whether there is no number for one more pattern
-abbrev pub pattern_fault : Assembly → Option BuildFault
-pattern_fault b = if nat_lt greatest_index (length b.starts) then Some too_many_patterns else None
+abbrev pub pattern_count_fault : Assembly → Option BuildFault
+pattern_count_fault b = if nat_lt greatest_index (length b.starts) then Some too_many_patterns else None
 
 -- what refuses one more way of a state
 abbrev pub patch_fault : Assembly → ℕ → ℕ → Option BuildFault
-patch_fault b from to = limit_fault b.size_limit (bytes_of (patched_at b.drafts from to))
+patch_fault b from to = limit_fault b.size_limit (bytes_of_drafts (patched_at b.drafts from to))
 
 -- whether there is no index for the group
 abbrev pub index_fault : ℕ → ℕ → Option BuildFault

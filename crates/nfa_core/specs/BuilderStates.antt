@@ -97,8 +97,8 @@ way_bytes (union_reverse_draft names) = 4
 way_bytes _ = 0
 
 -- the bytes of all states; the count stops at the largest number of 64 bits
-abbrev pub bytes_of : List DraftNode → ℕ
-bytes_of drafts = min (sum_by draft_bytes drafts) 18446744073709551615
+abbrev pub bytes_of_drafts : List DraftNode → ℕ
+bytes_of_drafts drafts = min (sum_by draft_bytes drafts) 18446744073709551615
 
 abbrev pub is_sparse : DraftNode → Bool
 is_sparse (sparse_draft ranges) = true

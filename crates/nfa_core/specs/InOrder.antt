@@ -1,7 +1,7 @@
 -- What every builder keeps to: its size limit, ranges of bytes that ascend, and matches of patterns that there are.
 use Rattle.std.specs.Prelude.{ℕ, ◌+◌, ◌<◌, ◌≤◌, Bool, List, length, Option, All, MatchOption, ⊤, if◌then◌else◌}
 use Rattle.search_core.specs.Index.{greatest_index}
-use Rattle.nfa_core.specs.BuilderStates.{DraftNode, range_draft, sparse_draft, match_draft, AscendsFrom, bytes_of}
+use Rattle.nfa_core.specs.BuilderStates.{DraftNode, range_draft, sparse_draft, match_draft, AscendsFrom, bytes_of_drafts}
 
 -- ranges of bytes that ascend; a match of a pattern that there is
 abbrev pub IsDraftOf : ℕ → DraftNode → Type 0
@@ -16,7 +16,7 @@ patterns_of is_open starts = if is_open then length starts + 1 else length start
 
 -- the states, the number of the patterns, and the limit
 pub record IsInOrder (drafts : List DraftNode) (patterns : ℕ) (limit : Option ℕ) : Type 0 where
-  pub within : MatchOption limit ⊤ (λ most. bytes_of drafts ≤ most)
+  pub within : MatchOption limit ⊤ (λ most. bytes_of_drafts drafts ≤ most)
   pub parts_of : All (IsDraftOf patterns) drafts
   pub states_numbered : length drafts ≤ greatest_index + 1
   pub patterns_numbered : patterns ≤ greatest_index + 1

@@ -4,12 +4,12 @@ use Rattle.std.specs.List.{list_any}
 use Rattle.std.specs.Bool.{nat_eq}
 
 -- a set: its numbers in the order in which they came, and a number above all that it may hold
-pub record Names : Type 0 where
+pub record NameSetValue : Type 0 where
   pub names : List ℕ
   pub bound : ℕ
 
 -- the set for the numbers below the bound with none of them in it
-abbrev pub empty_below : ℕ → Names
+abbrev pub empty_below : ℕ → NameSetValue
 empty_below bound = record { names = []; bound = bound }
 
 -- whether the number stands in the list

@@ -39,9 +39,9 @@ pub record AreFacts (t : Terminator) (a : Automaton) (facts : Facts) : Type 0 wh
   pub memory : facts.memory ≡ memory_of a.states
 
 -- so many numbers, from the first one on
-abbrev pub counted : ℕ → ℕ → List ℕ
-counted first zero = []
-counted first (suc n) = first ∷ counted (suc first) n
+abbrev pub numbered_from : ℕ → ℕ → List ℕ
+numbered_from first zero = []
+numbered_from first (suc n) = first ∷ numbered_from (suc first) n
 
 -- the NFA of one pattern that matches at each place without a byte: the whole match's start and end, and the match
 abbrev pub always_matching : Nfa

@@ -22,11 +22,11 @@ pub record Nfa : Type 0 where
   pub terminator : Terminator
 
 -- the ranges of bytes that a state tells apart
-abbrev pub told_by : Terminator → Node → List (ℕ × ℕ)
-told_by t (byte_range low high next) = (low, high) ∷ []
-told_by t (sparse_node ranges) = map (λ r. (r.0, r.1)) ranges
-told_by t (look_node l next) = told_apart t l
-told_by t _ = []
+abbrev pub told_apart_by : Terminator → Node → List (ℕ × ℕ)
+told_apart_by t (byte_range low high next) = (low, high) ∷ []
+told_apart_by t (sparse_node ranges) = map (λ r. (r.0, r.1)) ranges
+told_apart_by t (look_node l next) = told_apart t l
+told_apart_by t _ = []
 
 -- the look of a state, as a set
 abbrev pub look_of : Node → ℕ

@@ -5,7 +5,7 @@ use Rattle.nfa_core.specs.BuilderStates.{DraftNode, draft_at}
 use Rattle.nfa_core.specs.Renaming.{stands_for, past, kept, new_name}
 
 -- past each state there is one that stands for itself, and what a state stands for is a state
-pub record IsReached (drafts : List DraftNode) : Type 0 where
+pub record HasPasts (drafts : List DraftNode) : Type 0 where
   pub ends : (q : ℕ) → q < length drafts → stands_for (draft_at drafts (past drafts q)) ≡ None
   pub stays : (q next : ℕ) → q < length drafts → stands_for (draft_at drafts q) ≡ Some next → next < length drafts
 
@@ -14,8 +14,8 @@ abbrev pub is_settled : List (Option ℕ) → ℕ → Bool
 is_settled table q = is_some (get_or table q None)
 
 -- the table tells of the state, or it stands for itself
-abbrev pub IsEnd : List DraftNode → List (Option ℕ) → ℕ → Type 0
-IsEnd drafts table q = (is_settled table q ≡ true) ⊎ (stands_for (draft_at drafts q) ≡ None)
+abbrev pub EndsWay : List DraftNode → List (Option ℕ) → ℕ → Type 0
+EndsWay drafts table q = (is_settled table q ≡ true) ⊎ (stands_for (draft_at drafts q) ≡ None)
 
 -- what the table tells is so
 pub record IsPastTable (drafts : List DraftNode) (table : List (Option ℕ)) : Type 0 where

@@ -24,7 +24,7 @@ arrivals eps step n start zero = chain_ends nat_eq (eps 0) n [] start
 arrivals eps step n start (suc k) = flat_map (chain_ends nat_eq (eps (suc k)) n []) (flat_map (step k) (arrivals eps step n start k))
 
 -- the lists of states that one walk a place makes, each from the byte ways of the one before, as far as `cut` keeps it
-pub record IsListed (eps step : ℕ → ℕ → List ℕ) (cut : ℕ → List ℕ → List ℕ) (len start : ℕ) (lists : ℕ → List ℕ) : Type 0 where
+pub record AreWalkLists (eps step : ℕ → ℕ → List ℕ) (cut : ℕ → List ℕ → List ℕ) (len start : ℕ) (lists : ℕ → List ℕ) : Type 0 where
   pub first : Visits nat_eq (eps 0) (start ∷ []) [] (lists 0)
   pub later : (k : ℕ) → k < len → Visits nat_eq (eps (suc k)) (flat_map (step k) (cut k (lists k))) [] (lists (suc k))
 

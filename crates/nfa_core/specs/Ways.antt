@@ -9,7 +9,7 @@ use Rattle.look_core.specs.Terminators.{Terminator}
 use Rattle.look_core.specs.Looks.{holds_ascii}
 use Rattle.nfa_core.specs.Nfa.{Node, byte_range, sparse_node, dense_node, look_node, union_node, binary_union, capture_node, match_node}
 use Rattle.nfa_core.specs.Nfa.{Automaton, node_at}
-use Rattle.nfa_core.specs.Places.{same_pair, IsListed}
+use Rattle.nfa_core.specs.Places.{same_pair, AreWalkLists}
 use Rattle.nfa_core.specs.Runs.{run_ends}
 
 -- what is read: the bytes of the haystack between two places, and where looks hold
@@ -123,7 +123,7 @@ ends_from a t p = run_ends same_pair same_pair (ways a t) (matched a) (suc t.end
 
 -- the lists of states that one walk a place makes from state q at place i, each as far as `cut` keeps the one before
 abbrev pub AreLists : Automaton → Text → ℕ × ℕ → (ℕ → List ℕ → List ℕ) → (ℕ → List ℕ) → Type 0
-AreLists a t p cut lists = IsListed (λ k. plain_steps a t (place_of a.reverse p.0 k)) (λ k. byte_steps a t (place_of a.reverse p.0 k)) cut
+AreLists a t p cut lists = AreWalkLists (λ k. plain_steps a t (place_of a.reverse p.0 k)) (λ k. byte_steps a t (place_of a.reverse p.0 k)) cut
     (bytes_left a.reverse t p.0) p.1 lists
 
 -- what matches in a state behind k bytes that were read from place i

@@ -1,6 +1,6 @@
 ghost use Rattle.std.specs.Prelude.{◌≡◌, ◌≢◌, ◌<◌, ◌≤◌, true, false, [], None, MatchResult, MatchOption, ⊤};
 ghost use Rattle.look_core.specs.Terminators.{one_of};
-ghost use Rattle.nfa_core.specs.BuilderStates.{blank, bytes_of, pattern_count};
+ghost use Rattle.nfa_core.specs.BuilderStates.{blank, bytes_of_drafts, pattern_count};
 ghost use Rattle.nfa_core.specs.BuilderFaults.{Adds, Tells, limit_fault};
 ghost use Rattle.nfa_core.specs.Drafts.{draft_of};
 ghost use Rattle.nfa_core.specs.InOrder.{IsDraftOf};
@@ -36,7 +36,7 @@ impl Model for Builder {
     ghost use Rattle.std.specs.Prelude.{◌≡◌, ◌≤◌, true, length, map};
     ghost use Rattle.search_core.specs.Index.{greatest_index};
     ghost use Rattle.search_types.specs.GroupFaults.{groups_in};
-    ghost use Rattle.nfa_core.specs.BuilderStates.{Assembly, bytes_of};
+    ghost use Rattle.nfa_core.specs.BuilderStates.{Assembly, bytes_of_drafts};
     ghost use Rattle.nfa_core.specs.Drafts.{draft_of};
     ghost use Rattle.nfa_core.specs.InOrder.{IsInOrder, patterns_of};
 
@@ -44,7 +44,7 @@ impl Model for Builder {
 
     ghost view = { λ b. record { drafts = map draft_of b.drafts.items; starts = b.starts.items; groups = groups_in b.groups.items; is_open = b.is_open; utf8 = b.utf8; reverse = b.reverse; terminator = b.look_matcher.terminator; size_limit = b.size_limit } };
 
-    ghost invariant = { λ b. (b.memory ≡ bytes_of (map draft_of b.drafts.items)) × (b.is_open ≡ true → length b.starts.items ≤ greatest_index) × IsInOrder (map draft_of b.drafts.items) (patterns_of b.is_open b.starts.items) b.size_limit };
+    ghost invariant = { λ b. (b.memory ≡ bytes_of_drafts (map draft_of b.drafts.items)) × (b.is_open ≡ true → length b.starts.items ≤ greatest_index) × IsInOrder (map draft_of b.drafts.items) (patterns_of b.is_open b.starts.items) b.size_limit };
 }
 
 /// Refuses more bytes than the limit allows.
@@ -90,7 +90,7 @@ impl Builder {
     /// The bytes that the states are taken to need: 24 for each, 8 for each transition of a sparse one and
     /// 4 for each alternate of a union. A greater number than [`usize::MAX`] is given as that.
     pub fn memory_usage(&self) -> usize
-        ensures value { result ≡ bytes_of self.now.drafts }
+        ensures value { result ≡ bytes_of_drafts self.now.drafts }
         ensures within { MatchOption self.now.size_limit ⊤ (λ most. result ≤ most) }
     {
         self.memory
@@ -158,8 +158,8 @@ impl Builder {
     /// take more already.
     pub fn set_size_limit(&mut self, limit: Option<usize>) -> Result<(), BuildError>
         ensures { MatchResult result
-            (λ _. (self.new ≡ record self.old { size_limit = limit }) × (limit_fault limit (bytes_of self.old.drafts) ≡ None))
-            (λ e. (self.new ≡ self.old) × Tells e (limit_fault limit (bytes_of self.old.drafts)) × (limit_fault limit (bytes_of self.old.drafts) ≢ None)) }
+            (λ _. (self.new ≡ record self.old { size_limit = limit }) × (limit_fault limit (bytes_of_drafts self.old.drafts) ≡ None))
+            (λ e. (self.new ≡ self.old) × Tells e (limit_fault limit (bytes_of_drafts self.old.drafts)) × (limit_fault limit (bytes_of_drafts self.old.drafts) ≢ None)) }
     {
         check_limit(limit, self.memory)?;
         self.size_limit = limit;

@@ -1,7 +1,7 @@
 ghost use Rattle.std.specs.Prelude.{◌≡◌, ◌≤◌, ◌∷◌, [], ◌++◌, true, false, length, None, Some, MatchResult};
 ghost use Rattle.search_core.specs.Index.{greatest_index};
 ghost use Rattle.nfa_core.specs.BuilderStates.{pattern_count};
-ghost use Rattle.nfa_core.specs.BuilderFaults.{pattern_fault, too_many_patterns};
+ghost use Rattle.nfa_core.specs.BuilderFaults.{pattern_count_fault, too_many_patterns};
 ghost use Rattle.nfa_core.specs.declared.build_error.BuildError.TheVariants.{NoMemory, TooManyPatterns};
 
 use crate::build_error::BuildError;
@@ -39,8 +39,8 @@ impl Builder {
     pub fn start_pattern(&mut self) -> Result<PatternID, BuildError>
         requires { self.old.is_open ≡ false }
         ensures { MatchResult result
-            (λ id. (id ≡ length self.old.starts) × (self.new ≡ record self.old { is_open = true }) × (pattern_fault self.old ≡ None))
-            (λ e. (self.new ≡ self.old) × (e ≡ TooManyPatterns) × (pattern_fault self.old ≡ Some too_many_patterns)) }
+            (λ id. (id ≡ length self.old.starts) × (self.new ≡ record self.old { is_open = true }) × (pattern_count_fault self.old ≡ None))
+            (λ e. (self.new ≡ self.old) × (e ≡ TooManyPatterns) × (pattern_count_fault self.old ≡ Some too_many_patterns)) }
     {
         let Ok(id) = PatternID::new(self.starts.len()) else {
             return Err(BuildError::TooManyPatterns);

@@ -1,7 +1,7 @@
 ghost use Rattle.std.specs.Prelude.{◌≡◌, ℕ, ◌+◌, ◌*◌, ◌<◌, ◌≤◌, true, length, map, get_or, IfOk, None, unwrap_or};
 ghost use Rattle.search_core.specs.Index.{greatest_index};
 ghost use Rattle.nfa_core.specs.Drafts.{draft_of};
-ghost use Rattle.nfa_core.specs.Pasts.{IsReached, IsNaming, IsRanking, name_in};
+ghost use Rattle.nfa_core.specs.Pasts.{HasPasts, IsNaming, IsRanking, name_in};
 
 use crate::draft::Draft;
 use crate::pasts::{Pasts, settle_all};
@@ -48,7 +48,7 @@ pub(crate) fn name_all<L: Ledger>(
     drafts: &[Draft],
     steps: &mut Steps<L>,
 ) -> Result<Vec<StateID>, AllocError>
-    requires reached { IsReached (map draft_of drafts.now) }
+    requires reached { HasPasts (map draft_of drafts.now) }
     requires numbered { length drafts.now ≤ greatest_index + 1 }
     ensures names { IfOk result (λ names. IsNaming (map draft_of drafts.now) names.items) }
     ensures moves { steps.new ≤ steps.old + 2 * length drafts.now }

@@ -5,7 +5,7 @@ ghost use Rattle.search_core.specs.Index.{greatest_index};
 ghost use Rattle.search_core.specs.Marks.{marks_below};
 ghost use Rattle.nfa_core.specs.Alike.{marks_of};
 ghost use Rattle.nfa_core.specs.Nfa.{node_at};
-ghost use Rattle.nfa_core.specs.NfaParts.{automaton_in, nfa_in, counted, always_matching, never_matching};
+ghost use Rattle.nfa_core.specs.NfaParts.{automaton_in, nfa_in, numbered_from, always_matching, never_matching};
 ghost use Rattle.nfa_core.specs.NfaValue.{IsSound, looks_of, is_capture, has_empty, prefix_looks, memory_of};
 ghost use Rattle.nfa_core.specs.States.{node_of};
 
@@ -61,7 +61,7 @@ impl NFA {
 
     /// The numbers of the patterns, ascending, as `NFA::patterns`.
     pub fn patterns(&self) -> PatternIter
-        ensures { result ≡ counted 0 (length self.now.automaton.start_pattern) }
+        ensures { result ≡ numbered_from 0 (length self.now.automaton.start_pattern) }
     {
         PatternIter::new(self.pattern_len())
     }

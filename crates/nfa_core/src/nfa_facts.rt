@@ -6,7 +6,7 @@ ghost use Rattle.look_core.specs.Terminators.{Terminator};
 ghost use Rattle.nfa_core.specs.Alike.{marks_of};
 ghost use Rattle.nfa_core.specs.Nfa.{fail_node};
 ghost use Rattle.nfa_core.specs.NfaParts.{automaton_in, AreFacts};
-ghost use Rattle.nfa_core.specs.NfaValue.{IsSound, IsNodeOf, told_by, look_of, looks_of, is_capture, is_match, memory_of};
+ghost use Rattle.nfa_core.specs.NfaValue.{IsSound, IsNodeOf, told_apart_by, look_of, looks_of, is_capture, is_match, memory_of};
 ghost use Rattle.nfa_core.specs.Reached.{AreBelow};
 ghost use Rattle.nfa_core.specs.States.{node_of};
 ghost use Rattle.nfa_core.specs.Transitions.{range_of};
@@ -139,7 +139,7 @@ fn class_set(states: &[State], matcher: &LookMatcher<AsciiWord>) -> ByteClassSet
 /// Marks the ranges of bytes that a state tells apart.
 fn add_told(state: &State, matcher: &LookMatcher<AsciiWord>, set: &mut ByteClassSet)
     requires { (patterns : ℕ) × IsNodeOf patterns (node_of state.now) }
-    ensures { set.new ≡ recorded set.old (told_by matcher.now.terminator (node_of state.now)) }
+    ensures { set.new ≡ recorded set.old (told_apart_by matcher.now.terminator (node_of state.now)) }
 {
     match state {
         State::ByteRange { trans } => set.set_range(trans.start, trans.end),

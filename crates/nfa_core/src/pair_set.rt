@@ -22,10 +22,10 @@ pub struct PairSet {
 impl Model for PairSet {
     ghost use Rattle.std.specs.Prelude.{take, length};
     ghost use Rattle.search_core.specs.Index.{greatest_index};
-    ghost use Rattle.nfa_core.specs.NameSets.{Names, empty_below};
+    ghost use Rattle.nfa_core.specs.NameSets.{NameSetValue, empty_below};
     ghost use Rattle.nfa_core.specs.Paired.{IsPaired};
 
-    ghost Value = { Names };
+    ghost Value = { NameSetValue };
 
     ghost view = { λ s. record { names = take s.len s.dense.items; bound = length s.places.items } };
 

@@ -3,7 +3,7 @@ ghost use Rattle.search_core.specs.Index.{greatest_index};
 ghost use Rattle.nfa_core.specs.BuilderStates.{draft_at};
 ghost use Rattle.nfa_core.specs.Drafts.{draft_of};
 ghost use Rattle.nfa_core.specs.Renaming.{stands_for, past};
-ghost use Rattle.nfa_core.specs.Pasts.{IsReached, IsPastTable, IsOpen, IsEnd, is_settled, settled_count};
+ghost use Rattle.nfa_core.specs.Pasts.{HasPasts, IsPastTable, IsOpen, EndsWay, is_settled, settled_count};
 
 use crate::draft::Draft;
 use crate::steps::Steps;
@@ -69,7 +69,7 @@ impl Pasts {
     ) -> Option<StateID>
         requires table { at < length self.now.table.items }
         requires inside { at < length drafts.now }
-        ensures value { MatchOption result (IsEnd (map draft_of drafts.now) self.now.table.items at)
+        ensures value { MatchOption result (EndsWay (map draft_of drafts.now) self.now.table.items at)
             (λ next. (is_settled self.now.table.items at ≡ false) × (stands_for (draft_at (map draft_of drafts.now) at) ≡ Some next)) }
         ensures moves { MatchOption result (steps.new ≡ steps.old) (λ _. steps.new ≡ steps.old + 1) }
     {
@@ -90,7 +90,7 @@ impl Pasts {
     /// Follows the states from `q` on to one that stands for itself, or of which the table tells.
     #[tactic(auto, using(crate::proofs::PastLemmas::known_end))]
     fn find_end<L: Ledger>(&self, drafts: &[Draft], q: StateID, steps: &mut Steps<L>) -> Way
-        requires reached { IsReached (map draft_of drafts.now) }
+        requires reached { HasPasts (map draft_of drafts.now) }
         requires numbered { length drafts.now ≤ greatest_index + 1 }
         requires table { IsPastTable (map draft_of drafts.now) self.now.table.items }
         requires inside { q < length drafts.now }
@@ -119,7 +119,7 @@ impl Pasts {
         len: usize,
         steps: &mut Steps<L>,
     )
-        requires reached { IsReached (map draft_of drafts.now) }
+        requires reached { HasPasts (map draft_of drafts.now) }
         requires table { IsPastTable (map draft_of drafts.now) self.old.table.items }
         requires inside { q < length drafts.now }
         requires end { end ≡ past (map draft_of drafts.now) q }
@@ -141,7 +141,7 @@ impl Pasts {
 
     /// Notes what `q` leads past to, and with it all states that are met before the table tells more.
     fn settle_from<L: Ledger>(&mut self, drafts: &[Draft], q: StateID, steps: &mut Steps<L>)
-        requires reached { IsReached (map draft_of drafts.now) }
+        requires reached { HasPasts (map draft_of drafts.now) }
         requires numbered { length drafts.now ≤ greatest_index + 1 }
         requires table { IsPastTable (map draft_of drafts.now) self.old.table.items }
         requires inside { q < length drafts.now }
@@ -163,7 +163,7 @@ pub(crate) fn settle_all<L: Ledger>(
     drafts: &[Draft],
     steps: &mut Steps<L>,
 ) -> Result<Pasts, AllocError>
-    requires reached { IsReached (map draft_of drafts.now) }
+    requires reached { HasPasts (map draft_of drafts.now) }
     requires numbered { length drafts.now ≤ greatest_index + 1 }
     ensures table { IfOk result (λ p. IsPastTable (map draft_of drafts.now) p.table.items) }
     ensures there { IfOk result (λ p. (q : ℕ) → q < length drafts.now → is_settled p.table.items q ≡ true) }

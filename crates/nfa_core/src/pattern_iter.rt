@@ -1,7 +1,7 @@
 ghost use Rattle.std.specs.Prelude.{◌≡◌, ◌≤◌, ◌+◌};
 ghost use Rattle.std.specs.Iterator.{YieldsFirst, item_count};
 ghost use Rattle.search_core.specs.Index.{greatest_index};
-ghost use Rattle.nfa_core.specs.NfaParts.{counted};
+ghost use Rattle.nfa_core.specs.NfaParts.{numbered_from};
 
 use search_core::PatternID;
 use std::marker::Model;
@@ -18,11 +18,11 @@ pub struct PatternIter {
 impl Model for PatternIter {
     ghost use Rattle.std.specs.Prelude.{List, ℕ, ◌≤◌, ◌+◌};
     ghost use Rattle.search_core.specs.Index.{greatest_index};
-    ghost use Rattle.nfa_core.specs.NfaParts.{counted};
+    ghost use Rattle.nfa_core.specs.NfaParts.{numbered_from};
 
     ghost Value = { List ℕ };
 
-    ghost view = { λ it. counted it.next it.left };
+    ghost view = { λ it. numbered_from it.next it.left };
 
     ghost invariant = { λ it. it.next + it.left ≤ greatest_index + 1 };
 }
@@ -30,7 +30,7 @@ impl Model for PatternIter {
 impl PatternIter {
     pub(crate) fn new(len: usize) -> PatternIter
         requires { len ≤ greatest_index + 1 }
-        ensures { result ≡ counted 0 len }
+        ensures { result ≡ numbered_from 0 len }
     {
         PatternIter { next: 0, left: len }
     }

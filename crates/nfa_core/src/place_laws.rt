@@ -3,7 +3,7 @@
 //! ```rust
 //! pub fn lists_are_joined()
 //!     ensures { (eps step : ℕ → ℕ → List ℕ) (n len q : ℕ) (ls : ℕ → List ℕ) → IsGraph eps step n len → q < n →
-//!         IsListed eps step (λ k xs. xs) len q ls → (k : ℕ) → k ≤ len → ls k ≡ join nat_eq [] (arrivals eps step n q k) }
+//!         AreWalkLists eps step (λ k xs. xs) len q ls → (k : ℕ) → k ≤ len → ls k ≡ join nat_eq [] (arrivals eps step n q k) }
 //! {
 //!     lists_join_what_arrives();
 //! }
@@ -12,14 +12,14 @@ ghost use Rattle.std.specs.Prelude.{◌≡◌, ℕ, ◌<◌, ◌≤◌, List, []
 ghost use Rattle.std.specs.Bool.{nat_eq};
 ghost use Rattle.std.specs.List.{filter};
 ghost use Rattle.nfa_core.specs.Walks.{join, distinct};
-ghost use Rattle.nfa_core.specs.Places.{same_pair, arrivals, IsListed, IsGraph, before_answer, answers_at, first, latest};
+ghost use Rattle.nfa_core.specs.Places.{same_pair, arrivals, AreWalkLists, IsGraph, before_answer, answers_at, first, latest};
 ghost use Rattle.nfa_core.specs.Nfa.{Automaton, IsWellFormed};
 ghost use Rattle.nfa_core.specs.Ways.{Text, IsPairOf, AreLists, matched_behind, bytes_left, place_of, ends_from};
 
 /// The list at each place is the join of what arrives there.
 pub fn lists_join_what_arrives()
     ensures { (eps step : ℕ → ℕ → List ℕ) (n len start : ℕ) (lists : ℕ → List ℕ) → IsGraph eps step n len → start < n →
-        IsListed eps step (λ k xs. xs) len start lists → (k : ℕ) → k ≤ len → lists k ≡ join nat_eq [] (arrivals eps step n start k) }
+        AreWalkLists eps step (λ k xs. xs) len start lists → (k : ℕ) → k ≤ len → lists k ≡ join nat_eq [] (arrivals eps step n start k) }
 {}
 
 /// Where each list is cut behind its first match before its states read a byte, the latest match is the

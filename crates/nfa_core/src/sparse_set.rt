@@ -25,10 +25,10 @@ pub struct SparseSet {
 
 impl Model for SparseSet {
     ghost use Rattle.std.specs.Prelude.{◌≤◌, vec_capacity};
-    ghost use Rattle.nfa_core.specs.NameSets.{Names};
+    ghost use Rattle.nfa_core.specs.NameSets.{NameSetValue};
     ghost use Rattle.nfa_core.specs.Marked.{IsMarked};
 
-    ghost Value = { Names };
+    ghost Value = { NameSetValue };
 
     ghost view = { λ s. record { names = s.names.items; bound = s.capacity } };
 

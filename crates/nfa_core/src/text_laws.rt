@@ -16,14 +16,14 @@ ghost use Rattle.nfa_core.specs.Walks.{Has};
 ghost use Rattle.nfa_core.specs.Places.{same_pair, before_answer, first};
 ghost use Rattle.nfa_core.specs.Nfa.{Automaton, IsWellFormed};
 ghost use Rattle.nfa_core.specs.NfaValue.{IsSound, looks_of, has_empty};
-ghost use Rattle.nfa_core.specs.Reaches.{read_by, IsInside, IsAlike, IsOver};
+ghost use Rattle.nfa_core.specs.Reaches.{read_by, IsWithinReach, LeadAlike, LeadsNoFurther};
 ghost use Rattle.nfa_core.specs.Ways.{Text, is_passed, place_of, bytes_left, IsPairOf, AreLists, matched_behind, ends_from};
 
 /// Runs end at places to which one comes by reading bytes of the text: within it, and not in front of the place
 /// where they begin.
 pub fn ends_lie_inside()
     ensures reached { (a : Automaton) (t : Text) (i q : ℕ) (e : ℕ × ℕ) → IsWellFormed a → IsPairOf a t (i, q) →
-        Has same_pair e (ends_from a t (i, q)) → IsInside a.reverse i (bytes_left a.reverse t i) e.0 }
+        Has same_pair e (ends_from a t (i, q)) → IsWithinReach a.reverse i (bytes_left a.reverse t i) e.0 }
     ensures is_forward { (a : Automaton) (t : Text) (i q : ℕ) (e : ℕ × ℕ) → IsWellFormed a → IsPairOf a t (i, q) → a.reverse ≡ false →
         Has same_pair e (ends_from a t (i, q)) → (i ≤ e.0) × (e.0 ≤ t.end) }
     ensures is_reverse { (a : Automaton) (t : Text) (i q : ℕ) (e : ℕ × ℕ) → IsWellFormed a → IsPairOf a t (i, q) → a.reverse ≡ true → t.start ≤ i →
@@ -38,9 +38,9 @@ pub fn no_run_is_empty()
 
 /// Where a walk is over behind d bytes, the first end of runs is that in each text which is alike up to there.
 pub fn first_ends_depend_on_what_was_read()
-    ensures { (a : Automaton) (t u : Text) (i q d : ℕ) (lists : ℕ → List ℕ) → IsAlike a t u i d →
+    ensures { (a : Automaton) (t u : Text) (i q d : ℕ) (lists : ℕ → List ℕ) → LeadAlike a t u i d →
         AreLists a t (i, q) (λ k xs. before_answer (λ x. matched_behind a i (k, x)) xs) lists →
-        IsOver a t i d (before_answer (λ x. matched_behind a i (d, x)) (lists d)) → IsWellFormed a → IsPairOf a t (i, q) →
+        LeadsNoFurther a t i d (before_answer (λ x. matched_behind a i (d, x)) (lists d)) → IsWellFormed a → IsPairOf a t (i, q) →
         first (ends_from a t (i, q)) ≡ first (ends_from a u (i, q)) }
 {}
 
@@ -49,8 +49,8 @@ pub fn texts_are_alike_by_the_looks_of_states()
     ensures either { (a : Automaton) (f g : Look → ℕ → Bool) (h : List ℕ) (start end i d : ℕ) →
         ((l : Look) (k : ℕ) → has_look (looks_of a.states) l ≡ true → k ≤ d →
         is_passed a.reverse (read_by f h start end) l (place_of a.reverse i k) ≡ is_passed a.reverse (read_by g h start end) l (place_of a.reverse i k)) →
-        IsAlike a (read_by f h start end) (read_by g h start end) i d }
+        LeadAlike a (read_by f h start end) (read_by g h start end) i d }
     ensures is_forward { (a : Automaton) (f g : Look → ℕ → Bool) (h : List ℕ) (start end i d : ℕ) → a.reverse ≡ false →
         ((l : Look) (j : ℕ) → has_look (looks_of a.states) l ≡ true → i ≤ j → j ≤ i + d → f l j ≡ g l j) →
-        IsAlike a (read_by f h start end) (read_by g h start end) i d }
+        LeadAlike a (read_by f h start end) (read_by g h start end) i d }
 {}

@@ -3,7 +3,7 @@
 use Rattle.std.proofs.Common.{◌≡◌, ℕ, ◌+◌, ◌≤◌, Bool, true, false, List, ◌++◌, length, Option, Some, None, Ok, refl, sym, ap, ◌∙◌, inl, inr}
 use Rattle.std.proofs.Common.{subst, arith, if◌then◌else◌}
 use Rattle.search_types.specs.AllAnswers.{AnswersWithin, EndsRise, all_answers}
-use Rattle.search_types.specs.Chains.{IsChain, IsWholeChain}
+use Rattle.search_types.specs.Chains.{IsTakenList, IsWholeTakenList}
 use Rattle.search_types.specs.Found.{Found}
 use Rattle.search_types.specs.Inputs.{Search}
 use Rattle.search_types.proofs.ForCallers.{chains_begin_the_list, whole_chains_are_the_list, ends_rise}
@@ -68,13 +68,13 @@ answers_within p q = record {
 told_answer : (p : Pair) (q : Search) (k : ℕ) (o : Option Found) → AnswersAt p q k o → o ≡ answer_at p q k
 told_answer p q k o is = sym (ap found_of is)
 
-pub chain_begins : (p : Pair) (q : Search) (fs : List Found) → q.start ≤ q.end + 1 → IsChain (AnswersAt p q) None q.start fs →
+pub chain_begins : (p : Pair) (q : Search) (fs : List Found) → q.start ≤ q.end + 1 → IsTakenList (AnswersAt p q) None q.start fs →
     (rest : List Found) × (all_answers (answer_at p q) q.start q.end ≡ fs ++ rest)
 chain_begins p q fs fits chain =
     chains_begin_the_list (answer_at p q) 0 q.end (AnswersAt p q) (λ k o low high is. told_answer p q k o is) (answers_within p q)
     q.start fs (omega arith) fits chain
 
-pub chain_is_whole : (p : Pair) (q : Search) (fs : List Found) → q.start ≤ q.end + 1 → IsWholeChain (AnswersAt p q) None q.start fs →
+pub chain_is_whole : (p : Pair) (q : Search) (fs : List Found) → q.start ≤ q.end + 1 → IsWholeTakenList (AnswersAt p q) None q.start fs →
     all_answers (answer_at p q) q.start q.end ≡ fs
 chain_is_whole p q fs fits chain =
     whole_chains_are_the_list (answer_at p q) 0 q.end (AnswersAt p q) (λ k o low high is. told_answer p q k o is) (answers_within p q)

@@ -4,7 +4,7 @@ use Rattle.std.proofs.Common.{◌≡◌, ℕ, ◌+◌, ◌≤◌, Bool, true, fa
 use Rattle.std.proofs.Common.{◌∙◌, subst, arith, append-nil, append_assoc, inl, inr}
 use Rattle.search_types.specs.declared.match_error.MatchErrorKind.{MatchErrorKind}
 use Rattle.search_types.specs.AllAnswers.{all_answers, is_repeat}
-use Rattle.search_types.specs.Chains.{IsTaken, IsNext, IsChain, IsWholeChain}
+use Rattle.search_types.specs.Chains.{IsTaken, IsNextTaken, IsTakenList, IsWholeTakenList}
 use Rattle.search_types.specs.Found.{Found}
 use Rattle.search_types.specs.Inputs.{Search}
 use Rattle.regex_pair.specs.declared.find_matches.FindMatches.{FindMatches}
@@ -22,8 +22,8 @@ none_taken p q = record { begun = refl; here = refl; from = omega arith; chain =
 
 -- what comes next is the next answer to the search as it was asked
 next_of_search : (p : Pair) (q : Search) (at : Finding) (o : Option Found) → at.search ≡ search_at q at.search.start → IsNextFound p at o →
-    IsNext (AnswersAt p q) at.last at.search.start o
-next_of_search p q at o here next = subst (λ (s : Search). IsNext (AnswersAt p s) at.last at.search.start o) here next
+    IsNextTaken (AnswersAt p q) at.last at.search.start o
+next_of_search p q at o here next = subst (λ (s : Search). IsNextTaken (AnswersAt p s) at.last at.search.start o) here next
 
 -- and it ends behind where the search is
 taken_is_behind : (p : Pair) (q : Search) (k : ℕ) (o : Option Found) (b : Bool) (f : Found) → AnswersAt p q k o →
@@ -34,7 +34,7 @@ taken_is_behind p q k o false f first taken =
 taken_is_behind p q k o true f first taken =
     let lies = match_lies p (search_at q (k + 1)) f taken in let low = lies.0 in let high = lies.1 in omega (arith, low, high)
 
-next_is_behind : (p : Pair) (q : Search) (last : Option ℕ) (k : ℕ) (f : Found) → IsNext (AnswersAt p q) last k (Some f) → k ≤ f.end
+next_is_behind : (p : Pair) (q : Search) (last : Option ℕ) (k : ℕ) (f : Found) → IsNextTaken (AnswersAt p q) last k (Some f) → k ≤ f.end
 next_is_behind p q last k f next = taken_is_behind p q k next.0 (is_repeat last next.0) f next.1 next.2
 
 one_behind : (p : Pair) (q : Search) (fs : List Found) (at : Finding) (f : Found) → AreTaken p q fs at → IsNextFound p at (Some f) →
@@ -46,9 +46,9 @@ one_behind p q fs at f taken next =
       begun = refl;
       here = ap (λ (s : Search). search_at s f.end) taken.here;
       from = omega (arith, behind_it, so_far);
-      chain = λ rest c. subst (λ (gs : List Found). IsChain (AnswersAt p q) None q.start gs) (sym (append_assoc fs (f ∷ []) rest))
+      chain = λ rest c. subst (λ (gs : List Found). IsTakenList (AnswersAt p q) None q.start gs) (sym (append_assoc fs (f ∷ []) rest))
           (taken.chain (f ∷ rest) (first, c));
-      whole = λ rest c. subst (λ (gs : List Found). IsWholeChain (AnswersAt p q) None q.start gs) (sym (append_assoc fs (f ∷ []) rest))
+      whole = λ rest c. subst (λ (gs : List Found). IsWholeTakenList (AnswersAt p q) None q.start gs) (sym (append_assoc fs (f ∷ []) rest))
           (taken.whole (f ∷ rest) (first, c));
     }
 
@@ -81,19 +81,19 @@ one_more_taken p q fs at new before after f taken (fails k e begun asked refused
 one_more_taken p q fs at new before after f taken (is_over over item there same) = absurd (match_is_no_end (answer_of f) item)
 
 pub all_taken : (p : Pair) (q : Search) (fs : List Found) (at new : Finding) (before after : PairCache) → AreTaken p q fs at →
-    Finds p at new before after None → IsWholeChain (AnswersAt p q) None q.start fs
+    Finds p at new before after None → IsWholeTakenList (AnswersAt p q) None q.start fs
 all_taken p q fs at new before after taken (finds_next g begun next item there) = absurd (match_is_no_end (answer_of g) (sym item))
 all_taken p q fs at new before after taken (finds_none begun next item over) =
-    subst (λ (gs : List Found). IsWholeChain (AnswersAt p q) None q.start gs) (append-nil fs)
+    subst (λ (gs : List Found). IsWholeTakenList (AnswersAt p q) None q.start gs) (append-nil fs)
     (taken.whole [] (next_of_search p q at None taken.here next))
 all_taken p q fs at new before after taken (fails k e begun asked refused item over) = absurd (match_is_no_end (refusal_of e) (sym item))
 all_taken p q fs at new before after taken (is_over over item there same) =
     let never : true ≡ false = sym over ∙ taken.begun in absurd (grind (arith, never))
 
 -- whatever comes next, what was taken is a chain
-pub some_taken : (p : Pair) (q : Search) (fs : List Found) (at : Finding) → AreTaken p q fs at → IsChain (AnswersAt p q) None q.start fs
+pub some_taken : (p : Pair) (q : Search) (fs : List Found) (at : Finding) → AreTaken p q fs at → IsTakenList (AnswersAt p q) None q.start fs
 some_taken p q fs at taken =
-    subst (λ (gs : List Found). IsChain (AnswersAt p q) None q.start gs) (append-nil fs) (taken.chain [] tt)
+    subst (λ (gs : List Found). IsTakenList (AnswersAt p q) None q.start gs) (append-nil fs) (taken.chain [] tt)
 
 -- ---- by the steps of an iterator over this pair
 
@@ -104,7 +104,7 @@ one_more_by_step p q fs old new f same taken step =
     (subst (λ (r : Pair). Finds r (finds_from old) (finds_from new) (caches_of old) (caches_of new) (Some (Ok f))) same step.finds)
 
 pub all_by_step : (p : Pair) (q : Search) (fs : List Found) (old new : FindMatches) → searches_by old ≡ p →
-    AreTaken p q fs (finds_from old) → FindsNext old None new → IsWholeChain (AnswersAt p q) None q.start fs
+    AreTaken p q fs (finds_from old) → FindsNext old None new → IsWholeTakenList (AnswersAt p q) None q.start fs
 all_by_step p q fs old new same taken step =
     all_taken p q fs (finds_from old) (finds_from new) (caches_of old) (caches_of new) taken
     (subst (λ (r : Pair). Finds r (finds_from old) (finds_from new) (caches_of old) (caches_of new) None) same step.finds)

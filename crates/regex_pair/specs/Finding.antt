@@ -2,7 +2,7 @@
 use Rattle.std.specs.Prelude.{◌≡◌, ◌⊎◌, ℕ, suc, ◌+◌, ◌-◌, ◌≤◌, Bool, true, false, Option, Some, None, Result, Ok, Err, if◌then◌else◌}
 use Rattle.search_types.specs.declared.match_error.MatchErrorKind.{MatchErrorKind}
 use Rattle.search_types.specs.AllAnswers.{is_repeat}
-use Rattle.search_types.specs.Chains.{IsNext}
+use Rattle.search_types.specs.Chains.{IsNextTaken}
 use Rattle.search_types.specs.Found.{Found}
 use Rattle.search_types.specs.Inputs.{Search, IsWithin, with_span}
 use Rattle.regex_pair.specs.Joined.{joined}
@@ -29,7 +29,7 @@ AnswersAt p q k o = joined p (search_at q k) ≡ Ok o
 
 -- the next match, or none
 abbrev pub IsNextFound : Pair → Finding → Option Found → Type 0
-IsNextFound p at o = IsNext (AnswersAt p at.search) at.last at.search.start o
+IsNextFound p at o = IsNextTaken (AnswersAt p at.search) at.last at.search.start o
 
 -- the next match is searched for from this place: where the search is, or where the answer from there is a repeat, one
 -- place further

@@ -1,6 +1,6 @@
 -- Which matches were taken one after the other, as a loop over an iterator keeps it.
 use Rattle.std.specs.Prelude.{◌≡◌, ◌≤◌, false, List, ◌++◌, None}
-use Rattle.search_types.specs.Chains.{IsChain, IsWholeChain}
+use Rattle.search_types.specs.Chains.{IsTakenList, IsWholeTakenList}
 use Rattle.search_types.specs.Found.{Found}
 use Rattle.search_types.specs.Inputs.{Search}
 use Rattle.regex_pair.specs.Finding.{Finding, AnswersAt, search_at}
@@ -13,6 +13,6 @@ pub record AreTaken (p : Pair) (q : Search) (fs : List Found) (at : Finding) : T
   pub begun : at.is_over ≡ false
   pub here : at.search ≡ search_at q at.search.start
   pub from : q.start ≤ at.search.start
-  pub chain : (rest : List Found) → IsChain (AnswersAt p q) at.last at.search.start rest → IsChain (AnswersAt p q) None q.start (fs ++ rest)
-  pub whole : (rest : List Found) → IsWholeChain (AnswersAt p q) at.last at.search.start rest →
-      IsWholeChain (AnswersAt p q) None q.start (fs ++ rest)
+  pub chain : (rest : List Found) → IsTakenList (AnswersAt p q) at.last at.search.start rest → IsTakenList (AnswersAt p q) None q.start (fs ++ rest)
+  pub whole : (rest : List Found) → IsWholeTakenList (AnswersAt p q) at.last at.search.start rest →
+      IsWholeTakenList (AnswersAt p q) None q.start (fs ++ rest)

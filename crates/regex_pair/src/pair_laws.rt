@@ -9,7 +9,7 @@
 ghost use Rattle.std.specs.Prelude.{◌≡◌, ◌<◌, ◌≤◌, ℕ, ◌+◌, ◌++◌, Bool, false, List, length, Option, Some, Result, Ok};
 ghost use Rattle.search_types.specs.declared.match_error.MatchErrorKind.{MatchErrorKind};
 ghost use Rattle.search_types.specs.AllAnswers.{AnswersWithin, EndsRise, all_answers};
-ghost use Rattle.search_types.specs.Chains.{IsChain, IsWholeChain};
+ghost use Rattle.search_types.specs.Chains.{IsTakenList, IsWholeTakenList};
 ghost use Rattle.search_types.specs.Found.{Found};
 ghost use Rattle.search_types.specs.Inputs.{Search, with_earliest};
 ghost use Rattle.nfa_core.specs.Nfa.{IsWellFormed};
@@ -37,9 +37,9 @@ pub fn matches_lie_in_their_span()
 #[tactic(auto, using(crate::proofs::JoinedLemmas::answers_within, crate::proofs::JoinedLemmas::chain_begins, crate::proofs::JoinedLemmas::chain_is_whole))]
 pub fn matches_one_after_the_other_are_the_list()
     ensures within { (p : Pair) (q : Search) → AnswersWithin (answer_at p q) q.end }
-    ensures begins { (p : Pair) (q : Search) (fs : List Found) → q.start ≤ q.end + 1 → IsChain (AnswersAt p q) None q.start fs →
+    ensures begins { (p : Pair) (q : Search) (fs : List Found) → q.start ≤ q.end + 1 → IsTakenList (AnswersAt p q) None q.start fs →
         (rest : List Found) × (all_answers (answer_at p q) q.start q.end ≡ fs ++ rest) }
-    ensures whole { (p : Pair) (q : Search) (fs : List Found) → q.start ≤ q.end + 1 → IsWholeChain (AnswersAt p q) None q.start fs →
+    ensures whole { (p : Pair) (q : Search) (fs : List Found) → q.start ≤ q.end + 1 → IsWholeTakenList (AnswersAt p q) None q.start fs →
         all_answers (answer_at p q) q.start q.end ≡ fs }
 {}
 

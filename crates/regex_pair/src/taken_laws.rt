@@ -13,7 +13,7 @@
 ghost use Rattle.std.specs.Prelude.{◌≡◌, ◌≤◌, ℕ, ◌+◌, [], ◌∷◌, ◌++◌, true, List, Option, Some, None, Result, Ok, Err};
 ghost use Rattle.search_types.specs.declared.match_error.MatchErrorKind.{MatchErrorKind};
 ghost use Rattle.search_types.specs.AllAnswers.{all_answers};
-ghost use Rattle.search_types.specs.Chains.{IsChain, IsWholeChain};
+ghost use Rattle.search_types.specs.Chains.{IsTakenList, IsWholeTakenList};
 ghost use Rattle.search_types.specs.Found.{Found};
 ghost use Rattle.search_types.specs.Inputs.{Search};
 ghost use Rattle.regex_pair.specs.declared.find_matches.FindMatches.{FindMatches};
@@ -38,7 +38,7 @@ pub fn a_step_takes_one_more()
 
 /// What was taken is a chain of answers to the search, each the next one behind the last, and a beginning of the list of all.
 pub fn what_was_taken_begins_the_list()
-    ensures chain { (p : Pair) (q : Search) (fs : List Found) (at : Finding) → AreTaken p q fs at → IsChain (AnswersAt p q) None q.start fs }
+    ensures chain { (p : Pair) (q : Search) (fs : List Found) (at : Finding) → AreTaken p q fs at → IsTakenList (AnswersAt p q) None q.start fs }
     ensures begins { (p : Pair) (q : Search) (fs : List Found) (at : Finding) → q.start ≤ q.end + 1 → AreTaken p q fs at →
         (rest : List Found) × (all_answers (answer_at p q) q.start q.end ≡ fs ++ rest) }
 {}
@@ -46,7 +46,7 @@ pub fn what_was_taken_begins_the_list()
 /// Where a step gives nothing, what was taken is the whole list.
 pub fn what_was_taken_at_the_end_is_the_list()
     ensures chain { (p : Pair) (q : Search) (fs : List Found) (old new : FindMatches) → searches_by old ≡ p →
-        AreTaken p q fs (finds_from old) → FindsNext old None new → IsWholeChain (AnswersAt p q) None q.start fs }
+        AreTaken p q fs (finds_from old) → FindsNext old None new → IsWholeTakenList (AnswersAt p q) None q.start fs }
     ensures all { (p : Pair) (q : Search) (fs : List Found) (old new : FindMatches) → q.start ≤ q.end + 1 → searches_by old ≡ p →
         AreTaken p q fs (finds_from old) → FindsNext old None new → all_answers (answer_at p q) q.start q.end ≡ fs }
 {}

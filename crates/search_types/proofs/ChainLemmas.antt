@@ -4,7 +4,7 @@ use Rattle.std.proofs.Common.{refl, sym, ap, ◌∙◌, arith, append-nil}
 use Rattle.search_types.specs.Found.{Found}
 use Rattle.search_types.specs.AllAnswers.{is_repeat, and_on, next_answer, answers_from, all_answers, AnswersWithin}
 use Rattle.search_types.proofs.AllAnswersLemmas.{no_answer_is_cut_off}
-use Rattle.search_types.specs.Chains.{IsTaken, IsNext, IsChain, IsWholeChain, TellsAnswers}
+use Rattle.search_types.specs.Chains.{IsTaken, IsNextTaken, IsTakenList, IsWholeTakenList, TellsAnswers}
 
 module _ (answer : ℕ → Option Found) (low e : ℕ) (answers : ℕ → Option Found → Type 0)
     (one : TellsAnswers answers answer low e) (ok : AnswersWithin answer e) where
@@ -24,7 +24,7 @@ module _ (answer : ℕ → Option Found) (low e : ℕ) (answers : ℕ → Option
   taken_is None at o taken true is p same t = cc
   taken_is (Some last) at o taken true is p same t = one (at + 1) taken (omega (arith, p.0)) (omega (arith, p.1)) t
 
-  next_is : (last : Option ℕ) (at : ℕ) (taken : Option Found) → IsPlace last at → IsNext answers last at taken →
+  next_is : (last : Option ℕ) (at : ℕ) (taken : Option Found) → IsPlace last at → IsNextTaken answers last at taken →
       taken ≡ next_answer answer last at
   next_is last at taken p n =
       let within = place_within last at p in
@@ -45,7 +45,7 @@ module _ (answer : ℕ → Option Found) (low e : ℕ) (answers : ℕ → Option
   chain_on last at f fs rest n next on = ap (λ o. and_on o (λ g. answers_from answer n (Some g.end) g.end)) (sym next)
       ∙ ap (λ gs. f ∷ gs) on
 
-  chain_begins : (last : Option ℕ) (at : ℕ) (fs : List Found) (n : ℕ) → length fs ≤ n → IsPlace last at → IsChain answers last at fs →
+  chain_begins : (last : Option ℕ) (at : ℕ) (fs : List Found) (n : ℕ) → length fs ≤ n → IsPlace last at → IsTakenList answers last at fs →
       (rest : List Found) × (answers_from answer n last at ≡ fs ++ rest)
   chain_begins last at [] n l p c = (answers_from answer n last at, refl)
   chain_begins last at (f ∷ fs) zero l p c = absurd (omega arith)
@@ -59,7 +59,7 @@ module _ (answer : ℕ → Option Found) (low e : ℕ) (answers : ℕ → Option
   none_next last at zero next = refl
   none_next last at (suc n) next = ap (λ o. and_on o (λ g. answers_from answer n (Some g.end) g.end)) (sym next)
 
-  chain_is_all : (last : Option ℕ) (at : ℕ) (fs : List Found) (n : ℕ) → length fs ≤ n → IsPlace last at → IsWholeChain answers last at fs →
+  chain_is_all : (last : Option ℕ) (at : ℕ) (fs : List Found) (n : ℕ) → length fs ≤ n → IsPlace last at → IsWholeTakenList answers last at fs →
       answers_from answer n last at ≡ fs
   chain_is_all last at [] n l p c = none_next last at n (next_is last at None p c)
   chain_is_all last at (f ∷ fs) zero l p c = absurd (omega arith)
@@ -70,14 +70,14 @@ module _ (answer : ℕ → Option Found) (low e : ℕ) (answers : ℕ → Option
       chain_on last at f fs [] n next (more ∙ sym (append-nil fs)) ∙ ap (λ gs. f ∷ gs) (append-nil fs)
 
   -- a chain is a beginning of the list of all answers, and it is all of it where nothing more is answered
-  pub chains_begin_the_list : (s : ℕ) (fs : List Found) → low ≤ s → s ≤ e + 1 → IsChain answers None s fs → (rest : List Found) ×
+  pub chains_begin_the_list : (s : ℕ) (fs : List Found) → low ≤ s → s ≤ e + 1 → IsTakenList answers None s fs → (rest : List Found) ×
       (all_answers answer s e ≡ fs ++ rest)
   chains_begin_the_list s fs from l c =
       let n : ℕ = e + 2 - s + length fs in
       let more = chain_begins None s fs n (omega arith) (from, l) c in
       (more.0, sym (no_answer_is_cut_off answer e ok s n (omega arith)) ∙ more.1)
 
-  pub whole_chains_are_the_list : (s : ℕ) (fs : List Found) → low ≤ s → s ≤ e + 1 → IsWholeChain answers None s fs →
+  pub whole_chains_are_the_list : (s : ℕ) (fs : List Found) → low ≤ s → s ≤ e + 1 → IsWholeTakenList answers None s fs →
       all_answers answer s e ≡ fs
   whole_chains_are_the_list s fs from l c =
       let n : ℕ = e + 2 - s + length fs in

@@ -41,12 +41,12 @@ abbrev pub named_span : CapturesValue → Name → Option Span
 named_span c name = option_and_then (λ p. option_and_then (group_span c) (to_index c.groups p name)) c.pattern
 
 -- the match of the pattern p over this span
-abbrev pub found_at : ℕ → Span → Found
-found_at p s = record { pattern = p; start = s.start; end = s.end }
+abbrev pub found_over : ℕ → Span → Found
+found_over p s = record { pattern = p; start = s.start; end = s.end }
 
 -- the matched pattern, over the span of its first group
 abbrev pub whole_match : CapturesValue → Option Found
-whole_match c = option_and_then (λ p. option_map (found_at p) (group_span c 0)) c.pattern
+whole_match c = option_and_then (λ p. option_map (found_over p) (group_span c 0)) c.pattern
 
 -- how many groups the matched pattern has
 abbrev pub matched_group_len : Groups → Option ℕ → ℕ

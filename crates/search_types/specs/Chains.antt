@@ -10,18 +10,18 @@ IsTaken answers at o false taken = taken ≡ o
 IsTaken answers at o true taken = answers (at + 1) taken
 
 -- what is taken at the present place, where the last answer ended there
-abbrev pub IsNext : (ℕ → Option Found → Type 0) → Option ℕ → ℕ → Option Found → Type 0
-IsNext answers last at taken = (o : Option Found) × answers at o × IsTaken answers at o (is_repeat last o) taken
+abbrev pub IsNextTaken : (ℕ → Option Found → Type 0) → Option ℕ → ℕ → Option Found → Type 0
+IsNextTaken answers last at taken = (o : Option Found) × answers at o × IsTaken answers at o (is_repeat last o) taken
 
 -- these are taken one after the other
-abbrev pub IsChain : (ℕ → Option Found → Type 0) → Option ℕ → ℕ → List Found → Type 0
-IsChain answers last at [] = Unit {0}
-IsChain answers last at (f ∷ fs) = IsNext answers last at (Some f) × IsChain answers (Some f.end) f.end fs
+abbrev pub IsTakenList : (ℕ → Option Found → Type 0) → Option ℕ → ℕ → List Found → Type 0
+IsTakenList answers last at [] = Unit {0}
+IsTakenList answers last at (f ∷ fs) = IsNextTaken answers last at (Some f) × IsTakenList answers (Some f.end) f.end fs
 
 -- and then nothing more
-abbrev pub IsWholeChain : (ℕ → Option Found → Type 0) → Option ℕ → ℕ → List Found → Type 0
-IsWholeChain answers last at [] = IsNext answers last at None
-IsWholeChain answers last at (f ∷ fs) = IsNext answers last at (Some f) × IsWholeChain answers (Some f.end) f.end fs
+abbrev pub IsWholeTakenList : (ℕ → Option Found → Type 0) → Option ℕ → ℕ → List Found → Type 0
+IsWholeTakenList answers last at [] = IsNextTaken answers last at None
+IsWholeTakenList answers last at (f ∷ fs) = IsNextTaken answers last at (Some f) × IsWholeTakenList answers (Some f.end) f.end fs
 
 -- the relation tells what a function answers, from each place that a search up to e may be asked from, `low` the first
 abbrev pub TellsAnswers : (ℕ → Option Found → Type 0) → (ℕ → Option Found) → ℕ → ℕ → Type 0

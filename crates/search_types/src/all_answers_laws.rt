@@ -11,7 +11,7 @@ ghost use Rattle.std.specs.Prelude.{◌≡◌, ◌≤◌, ℕ, suc, ◌+◌, ◌
 ghost use Rattle.std.specs.List.{All, flat_map};
 ghost use Rattle.search_types.specs.Found.{Found};
 ghost use Rattle.search_types.specs.AllAnswers.{next_answer, answers_from, all_answers, AnswersWithin, EndsRise};
-ghost use Rattle.search_types.specs.Chains.{IsChain, IsWholeChain, TellsAnswers};
+ghost use Rattle.search_types.specs.Chains.{IsTakenList, IsWholeTakenList, TellsAnswers};
 ghost use Rattle.search_types.specs.FirstFound.{first_of, places_from, IsFirstOffer};
 
 /// In the list of all answers each end is above the one before, and each span stands between the start
@@ -45,10 +45,10 @@ pub fn the_list_goes_by_steps()
 pub fn chains_are_the_list()
     ensures begins { (told : ℕ → Option Found → Bool) (answer : ℕ → Option Found) (low s e : ℕ) (fs : List Found) →
         TellsAnswers (λ k o. told k o ≡ true) answer low e → AnswersWithin answer e → low ≤ s → s ≤ e + 1 →
-        IsChain (λ k o. told k o ≡ true) None s fs → (rest : List Found) × (all_answers answer s e ≡ fs ++ rest) }
+        IsTakenList (λ k o. told k o ≡ true) None s fs → (rest : List Found) × (all_answers answer s e ≡ fs ++ rest) }
     ensures whole { (told : ℕ → Option Found → Bool) (answer : ℕ → Option Found) (low s e : ℕ) (fs : List Found) →
         TellsAnswers (λ k o. told k o ≡ true) answer low e → AnswersWithin answer e → low ≤ s → s ≤ e + 1 →
-        IsWholeChain (λ k o. told k o ≡ true) None s fs → all_answers answer s e ≡ fs }
+        IsWholeTakenList (λ k o. told k o ≡ true) None s fs → all_answers answer s e ≡ fs }
 {}
 
 /// The first of all that places offer, one after the other, is the first offer of the least place that

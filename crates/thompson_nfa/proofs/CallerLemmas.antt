@@ -14,7 +14,7 @@ use Rattle.nfa_core.specs.Places.{same_pair}
 use Rattle.nfa_core.specs.Walks.{distinct}
 use Rattle.nfa_core.specs.Ways.{Text, ends_from, span}
 use Rattle.nfa_core.proofs.ForCallers.{join_distinct_each, pairs_equal}
-use Rattle.thompson_nfa.specs.Compilations.{IsCompiled, HasStarts, IsRead, places_from, start_of}
+use Rattle.thompson_nfa.specs.Compilations.{IsCompiled, HasStarts, IsPlainText, places_from, pattern_start}
 use Rattle.thompson_nfa.specs.Compiled.{turned}
 use Rattle.thompson_nfa.specs.Configs.{Options, reverse_of}
 
@@ -54,7 +54,7 @@ looks_are_used o xs n compiled l = (
 module _ (count : ℕ) (n : Nfa) (starts : HasStarts false count n) (t : Text) where
   -- what the patterns' starts find at a place, one after the other
   abbrev pub by_patterns : ℕ → List (ℕ × ℕ)
-  by_patterns k = flat_map (λ p. ends_from n.automaton t (k, start_of n.automaton p)) (places_from 0 count)
+  by_patterns k = flat_map (λ p. ends_from n.automaton t (k, pattern_start n.automaton p)) (places_from 0 count)
 
   each_place : (m k : ℕ) → k + m ≤ suc t.end →
       flat_map (λ i. ends_from n.automaton t (i, n.automaton.start_anchored)) (places_from k m)
@@ -64,7 +64,7 @@ module _ (count : ℕ) (n : Nfa) (starts : HasStarts false count n) (t : Text) w
       ap₂ (λ (xs ys : List (ℕ × ℕ)). xs ++ ys) (starts.anchored t k (omega (arith, l))) (each_place m (suc k) (omega (arith, l)))
 
   -- read forward, the unanchored start finds what the patterns find at one place after the other, repeats dropped
-  pub unanchored_by_patterns : (i : ℕ) → IsRead t → t.start ≤ i → i ≤ t.end →
+  pub unanchored_by_patterns : (i : ℕ) → IsPlainText t → t.start ≤ i → i ≤ t.end →
       ends_from n.automaton t (i, n.automaton.start_unanchored)
       ≡ distinct same_pair (flat_map by_patterns (places_from i (suc t.end - i)))
   unanchored_by_patterns i read low high =
@@ -75,5 +75,5 @@ module _ (count : ℕ) (n : Nfa) (starts : HasStarts false count n) (t : Text) w
 -- ---- texts
 
 -- a span of a haystack of bytes, with words read as bytes, is a text whose edges are read as they are
-pub span_is_read : (t : Terminator) (h : List ℕ) (s e : ℕ) → e ≤ length h → All (λ byte. byte < 256) h → IsRead (span t h s e)
+pub span_is_read : (t : Terminator) (h : List ℕ) (s e : ℕ) → e ≤ length h → All (λ byte. byte < 256) h → IsPlainText (span t h s e)
 span_is_read t h s e within bytes = record { within = within; bytes = bytes; at_start = λ i. refl; at_end = λ i. refl }

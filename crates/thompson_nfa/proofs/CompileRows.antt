@@ -8,7 +8,7 @@ use Rattle.nfa_core.specs.Nfa.{Automaton, byte_range, binary_union, match_node}
 use Rattle.nfa_core.specs.Places.{same_pair}
 use Rattle.nfa_core.specs.Walks.{distinct}
 use Rattle.nfa_core.specs.Ways.{ends_from, whole}
-use Rattle.thompson_nfa.specs.Compilations.{places_from, start_of}
+use Rattle.thompson_nfa.specs.Compilations.{places_from, pattern_start}
 use Rattle.thompson_nfa.specs.Compiled.{turned, uses}
 
 -- ---- looks
@@ -54,7 +54,7 @@ one_place_after_the_other : (t : Terminator) → distinct same_pair (flat_map (�
 one_place_after_the_other t = refl
 
 one_pattern_after_the_other : (t : Terminator) →
-    distinct same_pair (flat_map (λ p. ends_from a_and_b (whole t (0x61 ∷ 0x62 ∷ [])) (0, start_of a_and_b p)) (places_from 0 2)) ≡ (
+    distinct same_pair (flat_map (λ p. ends_from a_and_b (whole t (0x61 ∷ 0x62 ∷ [])) (0, pattern_start a_and_b p)) (places_from 0 2)) ≡ (
       1,
       0,
     ) ∷ []

@@ -50,7 +50,7 @@ ComesBefore reverse xs table u c = (AllAnchored reverse xs × (table u ≡ empty
 
 -- what the patterns do depends neither on states below `low` nor on one hole: the state that leads to them, where it isn't
 -- the start of the only one
-pub record IsFree (reverse : Bool) (low first : ℕ) (drafts : List DraftNode) (c : ℕ) (starts : List ℕ) (xs : List Tree) : Type 0 where
+pub record IsIndependent (reverse : Bool) (low first : ℕ) (drafts : List DraftNode) (c : ℕ) (starts : List ℕ) (xs : List Tree) : Type 0 where
   pub hole : ℕ
   pub hole_is : (hole ≡ c) ⊎ (starts ≡ c ∷ [])
   pub accept : (table : Table) → ((q : ℕ) → low ≤ q → q < length drafts → q ≢ hole → table q ≡ draft_at drafts q) →
@@ -70,7 +70,7 @@ pub record IsAssembled (o : Options) (xs : List Tree) (b : Assembly) (anchored u
   pub low : ℕ
   pub below : unanchored < low
   pub above : low ≤ anchored
-  pub free : IsFree (reverse_of o) low 0 b.drafts anchored b.starts xs
+  pub free : IsIndependent (reverse_of o) low 0 b.drafts anchored b.starts xs
   pub one_match : (q r p : ℕ) → draft_at b.drafts q ≡ match_draft p → draft_at b.drafts r ≡ match_draft p → q ≡ r
   pub groups : b.groups ≡ noted_from (captures_of o) 0 xs []
   pub looks : (l : Look) → looks_in b.drafts l ≡ any_uses (reverse_of o) xs l

@@ -45,11 +45,11 @@ abbrev pub is_anchored_tree : Bool → Tree → Bool
 is_anchored_tree false x = has_look (look_set_prefix x) Start
 is_anchored_tree true x = has_look (look_set_suffix x) End
 
-abbrev pub start_of : Automaton → ℕ → ℕ
-start_of a p = get_or a.start_pattern p 0
+abbrev pub pattern_start : Automaton → ℕ → ℕ
+pattern_start a p = get_or a.start_pattern p 0
 
 -- a text of bytes that ends in its haystack, and whose looks at the haystack's edges are read as they are
-pub record IsRead (t : Text) : Type 0 where
+pub record IsPlainText (t : Text) : Type 0 where
   pub within : t.end ≤ length t.haystack
   pub bytes : All (λ byte. byte < 256) t.haystack
   pub at_start : (i : ℕ) → t.holds Start i ≡ (i == 0)
@@ -59,20 +59,20 @@ pub record IsRead (t : Text) : Type 0 where
 -- is read to; the text is then one of bytes whose edges are read as they are.
 pub record FindsSpans (reverse : Bool) (xs : List Tree) (n : Nfa) : Type 0 where
   pub patterns : (p : ℕ) (x : Tree) → slice_get xs p ≡ Some x → (t : Text) (i : ℕ) (e : ℕ × ℕ) → i ≤ t.end →
-      Has same_pair e (ends_from n.automaton t (i, start_of n.automaton p)) ↔ ((e.1 ≡ p) × IsMeant reverse t x i e.0)
+      Has same_pair e (ends_from n.automaton t (i, pattern_start n.automaton p)) ↔ ((e.1 ≡ p) × IsMeant reverse t x i e.0)
   pub anchored : (t : Text) (i : ℕ) (e : ℕ × ℕ) → i ≤ t.end →
       Has same_pair e (ends_from n.automaton t (i, n.automaton.start_anchored)) ↔ IsChoice reverse xs t i e
-  pub unanchored : (t : Text) (i : ℕ) (e : ℕ × ℕ) → IsRead t → t.start ≤ i → i ≤ t.end →
+  pub unanchored : (t : Text) (i : ℕ) (e : ℕ × ℕ) → IsPlainText t → t.start ≤ i → i ≤ t.end →
       Has same_pair e (ends_from n.automaton t (i, n.automaton.start_unanchored))
       ↔ ((k : ℕ) × IsReadTo reverse t i k × IsChoice reverse xs t k e)
 
 -- In which order they find them, for one who reads forward, where the loops of all trees read.
 pub record FindsInOrder (xs : List Tree) (n : Nfa) : Type 0 where
   pub patterns : (p : ℕ) (x : Tree) → slice_get xs p ≡ Some x → LoopsRead x → (t : Text) (i : ℕ) → i ≤ t.end →
-      ends_from n.automaton t (i, start_of n.automaton p) ≡ distinct same_pair (map (λ j. (j, p)) (preferred_ends t.holds (seen t) x i))
+      ends_from n.automaton t (i, pattern_start n.automaton p) ≡ distinct same_pair (map (λ j. (j, p)) (preferred_ends t.holds (seen t) x i))
   pub anchored : All LoopsRead xs → (t : Text) (i : ℕ) → i ≤ t.end →
       ends_from n.automaton t (i, n.automaton.start_anchored) ≡ distinct same_pair (choices_from 0 xs t i)
-  pub unanchored : All LoopsRead xs → (t : Text) (i : ℕ) → IsRead t → t.start ≤ i → i ≤ t.end →
+  pub unanchored : All LoopsRead xs → (t : Text) (i : ℕ) → IsPlainText t → t.start ≤ i → i ≤ t.end →
       ends_from n.automaton t (i, n.automaton.start_unanchored)
       ≡ distinct same_pair (flat_map (choices_from 0 xs t) (places_from i (suc t.end - i)))
 
@@ -88,8 +88,8 @@ HasNoReturn n = (t : Text) (i : ℕ) (r : List (ℕ × ℕ)) → i ≤ t.end →
 -- one who reads forward, to the anchored one at one place after the other.
 pub record HasStarts (reverse : Bool) (count : ℕ) (n : Nfa) : Type 0 where
   pub anchored : (t : Text) (i : ℕ) → i ≤ t.end → ends_from n.automaton t (i, n.automaton.start_anchored)
-      ≡ distinct same_pair (flat_map (λ p. ends_from n.automaton t (i, start_of n.automaton p)) (places_from 0 count))
-  pub unanchored : reverse ≡ false → (t : Text) (i : ℕ) → IsRead t → t.start ≤ i → i ≤ t.end →
+      ≡ distinct same_pair (flat_map (λ p. ends_from n.automaton t (i, pattern_start n.automaton p)) (places_from 0 count))
+  pub unanchored : reverse ≡ false → (t : Text) (i : ℕ) → IsPlainText t → t.start ≤ i → i ≤ t.end →
       ends_from n.automaton t (i, n.automaton.start_unanchored)
       ≡ distinct same_pair (flat_map (λ k. ends_from n.automaton t (k, n.automaton.start_anchored)) (places_from i (suc t.end - i)))
 

@@ -119,7 +119,7 @@ pub record IsFragment (old new : Assembly) (start end : ℕ) : Type 0 where
   pub can_be_led_on : is_sparse (draft_at new.drafts end) ≡ false
 
 -- At most n states were added, with 4096 bytes for each and eight less for all; there are names for all states.
-pub record IsWithin (old new : Assembly) (n : ℕ) : Type 0 where
+pub record TakesAtMost (old new : Assembly) (n : ℕ) : Type 0 where
   pub states : length new.drafts ≤ length old.drafts + n
   pub bytes : sum_of_bytes new + 8 + 4096 * length old.drafts ≤ sum_of_bytes old + 4096 * length new.drafts
   pub numbered : length new.drafts ≤ greatest_index + 1
@@ -135,7 +135,7 @@ pub record Makes (old new : Assembly) (start end n : ℕ) : Type 0 where
   pub comes_out : (table : Table) (target : ℕ) → Finished (length old.drafts) new.drafts end target table →
       AllComeOut table target (length old.drafts) (length new.drafts)
   pub tame : AllTame false (length old.drafts) new
-  pub within : IsWithin old new n
+  pub within : TakesAtMost old new n
 
 -- Once its end is led on to a target, the fragment does what the tree means on the way from its start to there.
 pub record Does (old new : Assembly) (start end : ℕ) (x : Tree) : Type 0 where

@@ -32,11 +32,11 @@ IsMeant false t x i j = Means t.holds (seen t) x i j
 IsMeant true t x i j = Means t.holds t.haystack x j i × (min i t.start ≤ j)
 
 -- a chain of ways from p to q
-abbrev pub Leads : Bool → Text → Table → ℕ × ℕ → ℕ × ℕ → Type 0
-Leads reverse t table p q = (r : List (ℕ × ℕ)) × IsChain same_pair (table_ways reverse t table) p r × (last_or p r ≡ q)
+abbrev pub LeadsTo : Bool → Text → Table → ℕ × ℕ → ℕ × ℕ → Type 0
+LeadsTo reverse t table p q = (r : List (ℕ × ℕ)) × IsChain same_pair (table_ways reverse t table) p r × (last_or p r ≡ q)
 
 -- the chain r from p passes the state e at a place to which something leads that is meant from place i
-pub record Passes (reverse : Bool) (t : Text) (table : Table) (meant : ℕ → ℕ → Type 0) (i e : ℕ) (p : ℕ ×
+pub record PassesBy (reverse : Bool) (t : Text) (table : Table) (meant : ℕ → ℕ → Type 0) (i e : ℕ) (p : ℕ ×
     ℕ) (r : List (ℕ × ℕ)) : Type 0 where
   pub middle : ℕ
   pub rest : List (ℕ × ℕ)
@@ -47,9 +47,9 @@ pub record Passes (reverse : Bool) (t : Text) (table : Table) (meant : ℕ → �
 
 -- From s one comes to e behind what is meant, and each chain to a match comes past e behind something that is meant.
 pub record Reaches (reverse : Bool) (t : Text) (table : Table) (s e : ℕ) (meant : ℕ → ℕ → Type 0) : Type 0 where
-  pub complete : (i j : ℕ) → meant i j → Leads reverse t table (i, s) (j, e)
+  pub complete : (i j : ℕ) → meant i j → LeadsTo reverse t table (i, s) (j, e)
   pub sound : (i : ℕ) (r : List (ℕ × ℕ)) (m : ℕ × ℕ) → IsChain same_pair (table_ways reverse t table) (i, s) r →
-      table_match table (last_or (i, s) r) ≡ Some m → Passes reverse t table meant i e (i, s) r
+      table_match table (last_or (i, s) r) ≡ Some m → PassesBy reverse t table meant i e (i, s) r
 
 -- the two lists are the same, repeats dropped
 abbrev pub HasSameFirsts : List (ℕ × ℕ) → List (ℕ × ℕ) → Type 0

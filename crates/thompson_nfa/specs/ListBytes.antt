@@ -9,5 +9,5 @@ bytes_for shrink [] = 0
 bytes_for shrink (x ∷ xs) = byte_room shrink x + 88 + bytes_for shrink xs
 
 -- and what stands before them, and leads to them
-abbrev pub list_bytes : Bool → List Tree → ℕ
-list_bytes shrink xs = bytes_for shrink xs + 124
+abbrev pub patterns_bytes : Bool → List Tree → ℕ
+patterns_bytes shrink xs = bytes_for shrink xs + 124

@@ -39,18 +39,18 @@ run_of ([] ∷ ws) = 0
 run_of ((b ∷ w) ∷ ws) = suc (run_of ws)
 
 -- all of them, each behind the byte
-abbrev pub behind_byte : ℕ → List (List ℕ) → List (List ℕ)
-behind_byte b [] = []
-behind_byte b (w ∷ ws) = (b ∷ w) ∷ behind_byte b ws
+abbrev pub each_behind : ℕ → List (List ℕ) → List (List ℕ)
+each_behind b [] = []
+each_behind b (w ∷ ws) = (b ∷ w) ∷ each_behind b ws
 
 -- the strings of each group, where groups hold references
-abbrev pub groups_of : {V : Type 0} → (V → List (Bor (List ℕ))) → List V → List (List (List ℕ))
-groups_of items groups = map (λ g. texts (items g)) groups
+abbrev pub texts_of_groups : {V : Type 0} → (V → List (Bor (List ℕ))) → List V → List (List (List ℕ))
+texts_of_groups items groups = map (λ g. texts (items g)) groups
 
 -- the strings of edges, each of which leads to a group by its number
 abbrev pub chunk_strings : List (List (List ℕ)) → List Edge → List (List ℕ)
 chunk_strings groups [] = []
-chunk_strings groups (e ∷ es) = behind_byte e.byte (get_or groups e.next []) ++ chunk_strings groups es
+chunk_strings groups (e ∷ es) = each_behind e.byte (get_or groups e.next []) ++ chunk_strings groups es
 
 -- what is left between two bytes: each edge has a byte of its own, and they ascend
 abbrev pub Ascends : ℕ → List Edge → ℕ → Type 0
@@ -58,9 +58,9 @@ Ascends low [] high = low ≤ high
 Ascends low (e ∷ es) high = (low ≤ e.byte) × (e.byte < 256) × Ascends (e.byte + 1) es high
 
 -- each edge leads to a group with such a number
-abbrev pub AreInside : ℕ → ℕ → List Edge → Type 0
-AreInside first end [] = Unit {0}
-AreInside first end (e ∷ es) = (first ≤ e.next) × (e.next < end) × AreInside first end es
+abbrev pub LeadWithin : ℕ → ℕ → List Edge → Type 0
+LeadWithin first end [] = Unit {0}
+LeadWithin first end (e ∷ es) = (first ≤ e.next) × (e.next < end) × LeadWithin first end es
 
 -- how many bytes there are in all
 abbrev pub bytes_in : List (List ℕ) → ℕ
@@ -79,7 +79,7 @@ strings_in_all (g ∷ gs) = length g + strings_in_all gs
 -- Edges to groups with numbers from `first` on, which have the strings that begin with a byte.
 pub record IsChunk (first : ℕ) (groups : List (List (List ℕ))) (edges : List Edge) (strings : List (List ℕ)) : Type 0 where
   pub ascends : Ascends 0 edges 256
-  pub inside : AreInside first (length groups) edges
+  pub inside : LeadWithin first (length groups) edges
   pub same_tails : (c : ℕ) → tails c (chunk_strings groups edges) ≡ tails c strings
 
 -- each of the groups has a string

@@ -15,12 +15,12 @@ abbrev pub node_value : Node → NodeValue
 node_value n = record { stem = n.stem.now; items = map (λ x. x.items) n.items.items }
 
 -- how many bytes stand in the stem and on the edges
-abbrev pub weight : NodeValue → ℕ
-weight n = length n.stem + edges_in n.items
+abbrev pub node_weight : NodeValue → ℕ
+node_weight n = length n.stem + edges_in n.items
 
 abbrev pub weight_in_all : List NodeValue → ℕ
 weight_in_all [] = 0
-weight_in_all (n ∷ ns) = weight n + weight_in_all ns
+weight_in_all (n ∷ ns) = node_weight n + weight_in_all ns
 
 -- how many matches there are
 abbrev pub matches_in_all : List NodeValue → ℕ
@@ -47,7 +47,7 @@ pub record LaysNode (first : ℕ) (old new : List (List (List ℕ))) (node : Nod
 
 -- The nodes of all groups, of which the first has all strings. Edges lead to later nodes, bytes of stems and edges are no more
 -- than those of the strings, and matches no more than the strings.
-pub record IsTrie (nodes : List NodeValue) (strings : List (List ℕ)) : Type 0 where
+pub record IsLaidTrie (nodes : List NodeValue) (strings : List (List ℕ)) : Type 0 where
   pub groups : List (List (List ℕ))
   pub as_many : length groups ≡ length nodes
   pub some : 1 ≤ length nodes

@@ -12,9 +12,9 @@ BeginAll t [] = Unit {0}
 BeginAll t (w ∷ ws) = (w ≡ t ++ drop (length t) w) × BeginAll t ws
 
 -- the strings without so many bytes at their beginning
-abbrev pub without : ℕ → List (List ℕ) → List (List ℕ)
-without n [] = []
-without n (w ∷ ws) = drop n w ∷ without n ws
+abbrev pub without_first : ℕ → List (List ℕ) → List (List ℕ)
+without_first n [] = []
+without_first n (w ∷ ws) = drop n w ∷ without_first n ws
 
 -- all of them, each behind the text
 abbrev pub behind_text : List ℕ → List (List ℕ) → List (List ℕ)

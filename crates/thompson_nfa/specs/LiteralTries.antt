@@ -2,17 +2,17 @@
 use Rattle.std.specs.Prelude.{◌≡◌, ℕ, suc, ◌+◌, ◌*◌, ◌≤◌, List, [], ◌∷◌, ◌++◌, length, nat_eq, if◌then◌else◌}
 use Rattle.hir_core.specs.Means.{stands}
 use Rattle.nfa_core.specs.Walks.{distinct}
-use Rattle.thompson_nfa.specs.LiteralGroups.{chunk_strings, Ascends, AreInside}
+use Rattle.thompson_nfa.specs.LiteralGroups.{chunk_strings, Ascends, LeadWithin}
 use Rattle.thompson_nfa.specs.declared.literal_groups.Edge.{Edge}
 
 -- where the strings end that stand at the place, in order
-abbrev pub ends_of : List (List ℕ) → List ℕ → ℕ → List ℕ
-ends_of [] h i = []
-ends_of (w ∷ ws) h i = (if stands h i w then (i + length w) ∷ [] else []) ++ ends_of ws h i
+abbrev pub literal_ends_of : List (List ℕ) → List ℕ → ℕ → List ℕ
+literal_ends_of [] h i = []
+literal_ends_of (w ∷ ws) h i = (if stands h i w then (i + length w) ∷ [] else []) ++ literal_ends_of ws h i
 
 -- at each place the same ends first
 abbrev pub IsLike : List (List ℕ) → List (List ℕ) → Type 0
-IsLike vs ws = (h : List ℕ) (i : ℕ) → distinct nat_eq (ends_of vs h i) ≡ distinct nat_eq (ends_of ws h i)
+IsLike vs ws = (h : List ℕ) (i : ℕ) → distinct nat_eq (literal_ends_of vs h i) ≡ distinct nat_eq (literal_ends_of ws h i)
 
 -- the strings of an item: one without edges is a match, which is the end of a string
 abbrev pub item_strings : List (List (List ℕ)) → List Edge → List (List ℕ)
@@ -43,7 +43,7 @@ matches_in ((e ∷ es) ∷ xs) = matches_in xs
 -- the edges of each item ascend, and lead to groups with such numbers
 abbrev pub AreChunks : ℕ → ℕ → List (List Edge) → Type 0
 AreChunks first end [] = Unit {0}
-AreChunks first end (x ∷ xs) = Ascends 0 x 256 × AreInside first end x × AreChunks first end xs
+AreChunks first end (x ∷ xs) = Ascends 0 x 256 × LeadWithin first end x × AreChunks first end xs
 
 -- The items have the strings, those of the groups to which edges lead, from number `first` on; no two matches stand side by side,
 -- and no two others.

@@ -13,19 +13,19 @@ keeps_group which.Implicit index = index == 0
 keeps_group which.None index = false
 
 -- the groups with those of pattern p's tree
-abbrev pub noted : WhichCaptures → ℕ → Tree → Groups → Groups
-noted kept p empty groups = groups
-noted kept p (literal bytes) groups = groups
-noted kept p (byte_class ranges) groups = groups
-noted kept p (char_class ranges) groups = groups
-noted kept p (look l) groups = groups
-noted kept p (repetition min (Some zero) greedy x) groups = groups
-noted kept p (repetition min most greedy x) groups = noted kept p x groups
-noted kept p (capture index name x) groups = noted kept p x (if keeps_group kept index then with_group groups p index name else groups)
-noted kept p nothing groups = groups
-noted kept p (cat x y) groups = noted kept p y (noted kept p x groups)
-noted kept p never groups = groups
-noted kept p (alt x y) groups = noted kept p y (noted kept p x groups)
+abbrev pub with_groups_of : WhichCaptures → ℕ → Tree → Groups → Groups
+with_groups_of kept p empty groups = groups
+with_groups_of kept p (literal bytes) groups = groups
+with_groups_of kept p (byte_class ranges) groups = groups
+with_groups_of kept p (char_class ranges) groups = groups
+with_groups_of kept p (look l) groups = groups
+with_groups_of kept p (repetition min (Some zero) greedy x) groups = groups
+with_groups_of kept p (repetition min most greedy x) groups = with_groups_of kept p x groups
+with_groups_of kept p (capture index name x) groups = with_groups_of kept p x (if keeps_group kept index then with_group groups p index name else groups)
+with_groups_of kept p nothing groups = groups
+with_groups_of kept p (cat x y) groups = with_groups_of kept p y (with_groups_of kept p x groups)
+with_groups_of kept p never groups = groups
+with_groups_of kept p (alt x y) groups = with_groups_of kept p y (with_groups_of kept p x groups)
 
 -- a group with this index, which is kept, stands in the tree
 abbrev pub HasGroup : WhichCaptures → ℕ → Tree → Type 0
@@ -38,4 +38,4 @@ HasGroup kept index _ = ⊥
 -- all patterns' groups, from pattern p on; each pattern's whole match is its group 0
 abbrev pub noted_from : WhichCaptures → ℕ → List Tree → Groups → Groups
 noted_from kept p [] groups = groups
-noted_from kept p (x ∷ xs) groups = noted_from kept (suc p) xs (noted kept p (capture 0 None x) groups)
+noted_from kept p (x ∷ xs) groups = noted_from kept (suc p) xs (with_groups_of kept p (capture 0 None x) groups)

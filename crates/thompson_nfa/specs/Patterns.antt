@@ -12,7 +12,7 @@ use Rattle.nfa_core.specs.declared.build_error.BuildError.{BuildError}
 use Rattle.nfa_core.specs.declared.build_error.BuildError.TheVariants as error
 use Rattle.thompson_nfa.specs.Added.{Added}
 use Rattle.thompson_nfa.specs.Compiled.{past_in, sum_of_bytes, looks_in, any_uses}
-use Rattle.thompson_nfa.specs.Assembled.{AcceptAll, LeadsToAll, IsFree}
+use Rattle.thompson_nfa.specs.Assembled.{AcceptAll, LeadsToAll, IsIndependent}
 use Rattle.thompson_nfa.specs.Configs.{Options, utf8_of, reverse_of, limit_of, terminator_of}
 use Rattle.thompson_nfa.specs.NotedGroups.{HasGroup, noted_from}
 use Rattle.thompson_nfa.specs.Prefix.{HasPrefix}
@@ -71,7 +71,7 @@ abbrev pub LeadsToPatterns : WhichCaptures → Assembly → Assembly → ℕ →
 LeadsToPatterns which old new c xs n =
     (starts : List ℕ) × HasAll which old new starts xs n 0 × LeadsToAll (draft_at new.drafts) c starts × (c < length new.drafts) ×
     (length old.drafts ≤ c)
-    × IsFree old.reverse (length old.drafts) (length old.starts) new.drafts c starts xs
+    × IsIndependent old.reverse (length old.drafts) (length old.starts) new.drafts c starts xs
 
 -- The union led to some states, and leads to the starts of further patterns too.
 abbrev pub LeadsToFurther : WhichCaptures → ℕ → Assembly → Assembly → List Tree → ℕ → Type 0
@@ -105,7 +105,7 @@ RefusesPatterns which b n xs (error.Captures err) =
 RefusesPatterns which b n xs e = RefusesStates b n e
 
 -- where the limit has no room for as many states as can be numbered, it is passed before the numbers run out
-abbrev pub told_by : Option ℕ → BuildError → BuildError
-told_by (Some limit) error.TooManyStates = if nat_lt limit (24 * (greatest_index + 1)) then error.ExceededSizeLimit limit
+abbrev pub told_under : Option ℕ → BuildError → BuildError
+told_under (Some limit) error.TooManyStates = if nat_lt limit (24 * (greatest_index + 1)) then error.ExceededSizeLimit limit
     else error.TooManyStates
-told_by limit e = e
+told_under limit e = e

@@ -14,8 +14,8 @@ abbrev pub piece : ℕ → ℕ → Next → List Edge
 piece start stop next = if nat_lt start stop then edge_of start (stop - 1) next ∷ [] else []
 
 -- the gap before an edge, from a byte on, and the edge before, in and behind the range
-abbrev pub cut : ℕ → ℕ → ℕ → Edge → List Edge
-cut from start stop e =
+abbrev pub cut_edge : ℕ → ℕ → ℕ → Edge → List Edge
+cut_edge from start stop e =
     piece (max from start) (min e.range.start stop) Nothing
     ++ (piece e.range.start (min (e.range.end + 1) start) e.next
     ++ (piece (max e.range.start start) (min (e.range.end + 1) stop) e.next
@@ -23,4 +23,4 @@ cut from start stop e =
 
 abbrev pub cover_from : ℕ → ℕ → ℕ → List Edge → List Edge
 cover_from from start stop [] = piece (max from start) stop Nothing
-cover_from from start stop (e ∷ es) = cut from start stop e ++ cover_from (e.range.end + 1) start stop es
+cover_from from start stop (e ∷ es) = cut_edge from start stop e ++ cover_from (e.range.end + 1) start stop es

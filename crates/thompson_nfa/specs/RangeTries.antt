@@ -4,9 +4,9 @@ use Rattle.std.specs.Prelude.{◌≡◌, ◌⊎◌, ℕ, ◌<◌, ◌≤◌, ◌
 use Rattle.hir_core.specs.Sequences.{is_in_ranges}
 
 -- the string has a byte in each range of one of the sequences
-abbrev pub IsIn : List (List (ℕ × ℕ)) → List ℕ → Type 0
-IsIn [] s = ⊥
-IsIn (q ∷ qs) s = (is_in_ranges q s ≡ true) ⊎ IsIn qs s
+abbrev pub IsInSome : List (List (ℕ × ℕ)) → List ℕ → Type 0
+IsInSome [] s = ⊥
+IsInSome (q ∷ qs) s = (is_in_ranges q s ≡ true) ⊎ IsInSome qs s
 
 -- at the first place where they differ the one ends before the other begins
 abbrev pub IsBefore : List (ℕ × ℕ) → List (ℕ × ℕ) → Type 0
@@ -30,11 +30,11 @@ IsTrie (q ∷ qs) = AreRanges q × IsBeforeAll q qs × IsTrie qs
 
 -- no string of the sequences is a proper prefix of one of the ranges' strings, nor the other way round
 pub record IsApart (qs : List (List (ℕ × ℕ))) (ranges : List (ℕ × ℕ)) : Type 0 where
-  pub short : (s rest : List ℕ) → IsIn qs s → is_in_ranges ranges (s ++ rest) ≡ true → rest ≡ []
-  pub long : (s rest : List ℕ) → is_in_ranges ranges s ≡ true → IsIn qs (s ++ rest) → rest ≡ []
+  pub short : (s rest : List ℕ) → IsInSome qs s → is_in_ranges ranges (s ++ rest) ≡ true → rest ≡ []
+  pub long : (s rest : List ℕ) → is_in_ranges ranges s ≡ true → IsInSome qs (s ++ rest) → rest ≡ []
 
 -- the strings of the new sequences are those of the old ones and those of the ranges
 pub record IsWith (old : List (List (ℕ × ℕ))) (ranges : List (ℕ × ℕ)) (new : List (List (ℕ × ℕ))) : Type 0 where
-  pub only : (s : List ℕ) → IsIn new s → IsIn old s ⊎ (is_in_ranges ranges s ≡ true)
-  pub kept : (s : List ℕ) → IsIn old s → IsIn new s
-  pub added : (s : List ℕ) → is_in_ranges ranges s ≡ true → IsIn new s
+  pub only : (s : List ℕ) → IsInSome new s → IsInSome old s ⊎ (is_in_ranges ranges s ≡ true)
+  pub kept : (s : List ℕ) → IsInSome old s → IsInSome new s
+  pub added : (s : List ℕ) → is_in_ranges ranges s ≡ true → IsInSome new s

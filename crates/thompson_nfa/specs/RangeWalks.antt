@@ -11,8 +11,8 @@ abbrev pub paths_of : List (Vec Utf8Range Global) → List (List (ℕ × ℕ))
 paths_of paths = map (λ v. map bytes_of v.items) paths
 
 -- the path followed by each of the sequences
-abbrev pub behind : List (ℕ × ℕ) → List (List (ℕ × ℕ)) → List (List (ℕ × ℕ))
-behind path qs = map (λ q. path ++ q) qs
+abbrev pub path_then : List (ℕ × ℕ) → List (List (ℕ × ℕ)) → List (List (ℕ × ℕ))
+path_then path qs = map (λ q. path ++ q) qs
 
 -- how far a node is from the first
 abbrev pub depth_of : Next → ℕ

@@ -52,7 +52,7 @@ pub record Stays (old new : Assembly) (n bytes : ℕ) (e : BuildError) : Type 0 
   pub passed : Passes old bytes e
 
 -- a fragment of n states for the tree is refused, and the builder has its settings
-pub record Refuses (kept : WhichCaptures) (old new : Assembly) (n : ℕ) (x : Tree) (e : BuildError) : Type 0 where
+pub record RefusesFragment (kept : WhichCaptures) (old new : Assembly) (n : ℕ) (x : Tree) (e : BuildError) : Type 0 where
   pub settings : new ≡ record old { drafts = new.drafts; groups = new.groups }
   pub cause : RefusesTree kept (length old.starts) old n x e
 

@@ -5,15 +5,15 @@ use Rattle.thompson_nfa.specs.declared.trie_nodes.Next.{Next}
 use Rattle.thompson_nfa.specs.declared.trie_nodes.Next.TheVariants.{Nothing, End, Node}
 
 -- what follows an edge: no string, the empty one, or what the node emits
-abbrev pub below : List (List (List (ℕ × ℕ))) → Next → List (List (ℕ × ℕ))
-below emitted Nothing = []
-below emitted End = [] ∷ []
-below emitted (Node n) = get_or emitted n []
+abbrev pub following : List (List (List (ℕ × ℕ))) → Next → List (List (ℕ × ℕ))
+following emitted Nothing = []
+following emitted End = [] ∷ []
+following emitted (Node n) = get_or emitted n []
 
 -- what the edges emit
 abbrev pub along : List (List (List (ℕ × ℕ))) → List Edge → List (List (ℕ × ℕ))
 along emitted [] = []
-along emitted (e ∷ es) = map (λ q. (e.range.start, e.range.end) ∷ q) (below emitted e.next) ++ along emitted es
+along emitted (e ∷ es) = map (λ q. (e.range.start, e.range.end) ∷ q) (following emitted e.next) ++ along emitted es
 
 -- what each node emits, where those before them emit what is given
 abbrev pub emitted_from : List (List (List (ℕ × ℕ))) → List (List Edge) → List (List (List (ℕ × ℕ)))

@@ -118,7 +118,7 @@ pub record IsCompiling (old new : Assembly) (end : ℕ) (compiled : SlotTable (L
   pub reads : ReadsAs (whole_tree old.reverse limbs) (alternation (map (read_tree old.reverse) qs))
 
 -- a class is being compiled: some sequences were added since some builder
-pub record IsOpen (b : Assembly) (end : ℕ) (compiled : SlotTable (List Transition)) (nodes : List Stage) : Type 0 where
+pub record IsBeingCompiled (b : Assembly) (end : ℕ) (compiled : SlotTable (List Transition)) (nodes : List Stage) : Type 0 where
   pub old : Assembly
   pub before : List (List (ℕ × ℕ))
   pub is : IsCompiling old b end compiled nodes before

@@ -62,15 +62,15 @@ left_bytes (n ∷ ns) = open_bytes (n ∷ ns)
 -- ---- states that were made
 
 -- what a place holds is a state behind the end, with this content
-abbrev pub IsKept : Assembly → ℕ → Option (List Transition × ℕ) → Type 0
-IsKept b end None = Unit {0}
-IsKept b end (Some (key, id)) = (end < id) × (id < length b.drafts) × (draft_at b.drafts id ≡ sparse_draft (map range_of key))
+abbrev pub HoldsState : Assembly → ℕ → Option (List Transition × ℕ) → Type 0
+HoldsState b end None = Unit {0}
+HoldsState b end (Some (key, id)) = (end < id) × (id < length b.drafts) × (draft_at b.drafts id ≡ sparse_draft (map range_of key))
 
 -- the end is there, and all that the table keeps is too
 pub record Keeps (b : Assembly) (end : ℕ) (table : SlotTable (List Transition)) : Type 0 where
   pub end_there : end < length b.drafts
   pub ready : IsTrue (is_ready table)
-  pub kept : (at : ℕ) → IsKept b end (held_at table at)
+  pub kept : (at : ℕ) → HoldsState b end (held_at table at)
 
 -- a state with this content is there: nothing was done, or it was added
 pub record Compiles (old new : Assembly) (end : ℕ) (trans : List (ℕ × ℕ × ℕ)) (id : ℕ) : Type 0 where

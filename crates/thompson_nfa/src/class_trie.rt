@@ -1,7 +1,7 @@
 //! Classes of scalars in a trie of ranges, for an automaton that reads in reverse.
 ghost use Rattle.std.specs.Prelude.{◌≡◌, ℕ, List, [], ◌∷◌, true, reverse, OnOk};
 ghost use Rattle.hir_core.specs.BySequences.{sequences_of};
-ghost use Rattle.hir_core.specs.Sequences.{is_in_ranges, ranges_of, utf8_sequences};
+ghost use Rattle.hir_core.specs.Sequences.{is_in_ranges, ranges_of_sequence, utf8_sequences};
 ghost use Rattle.thompson_nfa.specs.ClassTries.{HasTurned, GainsTurned, IsTurnedSpelling, AreTurnedSpellings};
 ghost use Rattle.thompson_nfa.specs.RangeTries.{AreRanges, IsTrie};
 
@@ -15,10 +15,10 @@ fn insert_turned(
     alloc: Global,
     sequence: Utf8Sequence,
 ) -> Result<(), AllocError>
-    requires ordered { AreRanges (ranges_of sequence) }
+    requires ordered { AreRanges (ranges_of_sequence sequence) }
     requires old { AreTurnedSpellings trie.old }
-    requires new { (s : List ℕ) → is_in_ranges (reverse (ranges_of sequence)) s ≡ true → IsTurnedSpelling s }
-    ensures { OnOk result (GainsTurned trie.old (ranges_of sequence ∷ []) trie.new) }
+    requires new { (s : List ℕ) → is_in_ranges (reverse (ranges_of_sequence sequence)) s ≡ true → IsTurnedSpelling s }
+    ensures { OnOk result (GainsTurned trie.old (ranges_of_sequence sequence ∷ []) trie.new) }
 {
     let mut turned = sequence;
     turned.reverse();

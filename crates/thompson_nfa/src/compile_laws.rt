@@ -1,7 +1,7 @@
 //! Laws of the automata that trees are compiled to. The contract of each function is the law; none has work to do.
 //! ```rust
 //! pub fn spans_are_texts()
-//!     ensures { (t : Terminator) (h : List ℕ) (s e : ℕ) → e ≤ length h → All (λ b. b < 256) h → IsRead (span t h s e) }
+//!     ensures { (t : Terminator) (h : List ℕ) (s e : ℕ) → e ≤ length h → All (λ b. b < 256) h → IsPlainText (span t h s e) }
 //! {
 //!     spans_have_edges_that_are_read_as_they_are();
 //! }
@@ -17,7 +17,7 @@ ghost use Rattle.nfa_core.specs.NfaValue.{Nfa, looks_of};
 ghost use Rattle.nfa_core.specs.Places.{same_pair};
 ghost use Rattle.nfa_core.specs.Walks.{Has, distinct};
 ghost use Rattle.nfa_core.specs.Ways.{Text, span, ends_from};
-ghost use Rattle.thompson_nfa.specs.Compilations.{HasStarts, IsCompiled, IsRead, places_from, start_of};
+ghost use Rattle.thompson_nfa.specs.Compilations.{HasStarts, IsCompiled, IsPlainText, places_from, pattern_start};
 ghost use Rattle.thompson_nfa.specs.Compiled.{turned};
 ghost use Rattle.thompson_nfa.specs.Configs.{Options, reverse_of};
 ghost use Rattle.thompson_nfa.specs.Directions.{AreBothWays};
@@ -26,7 +26,7 @@ use hir_core::cut_laws::cut_haystacks_have_the_spans_within;
 
 /// A span of a haystack of bytes, with words read as bytes, is a text whose edges are read as they are.
 pub fn spans_have_edges_that_are_read_as_they_are()
-    ensures { (t : Terminator) (h : List ℕ) (s e : ℕ) → e ≤ length h → All (λ byte. byte < 256) h → IsRead (span t h s e) }
+    ensures { (t : Terminator) (h : List ℕ) (s e : ℕ) → e ≤ length h → All (λ byte. byte < 256) h → IsPlainText (span t h s e) }
 {}
 
 /// A state has a look exactly where one of the trees uses it; where the automaton reads in reverse, the look that
@@ -41,9 +41,9 @@ pub fn states_have_the_looks_that_trees_use()
 /// one place after the other, repeats dropped, whatever the loops read. So what is said of the orders of the
 /// patterns' ends alone tells all orders.
 pub fn unanchored_ends_are_those_of_the_patterns()
-    ensures { (count : ℕ) (n : Nfa) → HasStarts false count n → (t : Text) (i : ℕ) → IsRead t → t.start ≤ i → i ≤ t.end →
+    ensures { (count : ℕ) (n : Nfa) → HasStarts false count n → (t : Text) (i : ℕ) → IsPlainText t → t.start ≤ i → i ≤ t.end →
         ends_from n.automaton t (i, n.automaton.start_unanchored)
-        ≡ distinct same_pair (flat_map (λ k. flat_map (λ p. ends_from n.automaton t (k, start_of n.automaton p)) (places_from 0 count))
+        ≡ distinct same_pair (flat_map (λ k. flat_map (λ p. ends_from n.automaton t (k, pattern_start n.automaton p)) (places_from 0 count))
         (places_from i (suc t.end - i))) }
 {}
 
@@ -54,14 +54,14 @@ pub fn unanchored_ends_are_those_of_the_patterns()
 pub fn both_directions_find_the_same_spans()
     ensures patterns { (o r : Options) (xs : List Tree) (n m : Nfa) → AreBothWays o r xs n m →
         (t : Text) (p i j : ℕ) → p < length xs → t.start ≤ i → i ≤ t.end → j ≤ t.end →
-        Has same_pair (j, p) (ends_from n.automaton t (i, start_of n.automaton p))
-        ↔ Has same_pair (i, p) (ends_from m.automaton t (j, start_of m.automaton p)) }
+        Has same_pair (j, p) (ends_from n.automaton t (i, pattern_start n.automaton p))
+        ↔ Has same_pair (i, p) (ends_from m.automaton t (j, pattern_start m.automaton p)) }
     ensures anchored { (o r : Options) (xs : List Tree) (n m : Nfa) → AreBothWays o r xs n m →
         (t : Text) (p i j : ℕ) → t.start ≤ i → i ≤ t.end → j ≤ t.end →
         Has same_pair (j, p) (ends_from n.automaton t (i, n.automaton.start_anchored))
         ↔ Has same_pair (i, p) (ends_from m.automaton t (j, m.automaton.start_anchored)) }
     ensures unanchored { (o r : Options) (xs : List Tree) (n m : Nfa) → AreBothWays o r xs n m →
-        (t : Text) (p s j : ℕ) → IsRead t → t.start ≤ s → s ≤ t.end → j ≤ t.end →
+        (t : Text) (p s j : ℕ) → IsPlainText t → t.start ≤ s → s ≤ t.end → j ≤ t.end →
         Has same_pair (j, p) (ends_from n.automaton t (s, n.automaton.start_unanchored))
         ↔ ((i : ℕ) × (s ≤ i) × (i ≤ t.end) × Has same_pair (i, p) (ends_from m.automaton t (j, m.automaton.start_anchored))) }
 {

@@ -1,7 +1,7 @@
 //! The nodes of a trie of strings.
 ghost use Rattle.std.specs.Prelude.{◌≡◌, ◌≤◌, ◌+◌, ◌++◌, ◌<◌, length, map, drop, get_or, ℕ, List, IfOk, [], ◌∷◌, if◌then◌else◌};
-ghost use Rattle.thompson_nfa.specs.LiteralGroups.{texts, groups_of, strings_in_all, AddsGroups};
-ghost use Rattle.thompson_nfa.specs.LiteralLaid.{NodeValue, node_value, LaysNode, IsTrie};
+ghost use Rattle.thompson_nfa.specs.LiteralGroups.{texts, texts_of_groups, strings_in_all, AddsGroups};
+ghost use Rattle.thompson_nfa.specs.LiteralLaid.{NodeValue, node_value, LaysNode, IsLaidTrie};
 ghost use Rattle.thompson_nfa.specs.LiteralTries.{edges_in, matches_in, IsNode};
 
 use crate::literal_groups::{Edge, chunk, turn_len};
@@ -31,10 +31,10 @@ fn items<'a>(
 ) -> Result<Vec<Vec<Edge>>, AllocError>
     requires few { first ≤ 9223372036854775807 }
     requires some { 1 ≤ length strings.now }
-    ensures adds { IfOk result (λ v. AddsGroups (groups_of (λ g. g.items) groups.old.items) (groups_of (λ g. g.items) groups.new.items) (edges_in (map (λ x. x.items) v.items)) (texts strings.now)) }
-    ensures ended { IfOk result (λ v. matches_in (map (λ x. x.items) v.items) + strings_in_all (groups_of (λ g. g.items) groups.new.items) ≤
-        strings_in_all (groups_of (λ g. g.items) groups.old.items) + length (texts strings.now)) }
-    ensures node { IfOk result (λ v. (before : List (List (List ℕ))) → length before ≡ first → IsNode first (before ++ groups_of (λ g. g.items) groups.new.items) (map (λ x. x.items) v.items) (texts strings.now)) }
+    ensures adds { IfOk result (λ v. AddsGroups (texts_of_groups (λ g. g.items) groups.old.items) (texts_of_groups (λ g. g.items) groups.new.items) (edges_in (map (λ x. x.items) v.items)) (texts strings.now)) }
+    ensures ended { IfOk result (λ v. matches_in (map (λ x. x.items) v.items) + strings_in_all (texts_of_groups (λ g. g.items) groups.new.items) ≤
+        strings_in_all (texts_of_groups (λ g. g.items) groups.old.items) + length (texts strings.now)) }
+    ensures node { IfOk result (λ v. (before : List (List (List ℕ))) → length before ≡ first → IsNode first (before ++ texts_of_groups (λ g. g.items) groups.new.items) (map (λ x. x.items) v.items) (texts strings.now)) }
 {
     let mut items = Vec::new(alloc);
     let mut rest = strings;
@@ -70,7 +70,7 @@ fn lay<'a>(
 ) -> Result<Node<'a>, AllocError>
     requires few { first ≤ 9223372036854775807 }
     requires some { 1 ≤ length strings.now }
-    ensures { IfOk result (λ n. LaysNode first (groups_of (λ g. g.items) groups.old.items) (groups_of (λ g. g.items) groups.new.items) (node_value n) (texts strings.now)) }
+    ensures { IfOk result (λ n. LaysNode first (texts_of_groups (λ g. g.items) groups.old.items) (texts_of_groups (λ g. g.items) groups.new.items) (node_value n) (texts strings.now)) }
 {
     let stem = stem(strings);
     let rest = behind_stem(alloc, strings, stem)?;
@@ -81,9 +81,9 @@ fn lay<'a>(
 /// Takes the group at the place, and leaves none there.
 fn take_group<'a>(alloc: Global, groups: &mut Vec<Vec<&'a [u8]>>, at: usize) -> Vec<&'a [u8]>
     requires { at < length groups.old.items }
-    ensures taken { texts result.items ≡ get_or (groups_of (λ g. g.items) groups.old.items) at [] }
-    ensures as_many { length (groups_of (λ g. g.items) groups.new.items) ≡ length (groups_of (λ g. g.items) groups.old.items) }
-    ensures later { drop (at + 1) (groups_of (λ g. g.items) groups.new.items) ≡ drop (at + 1) (groups_of (λ g. g.items) groups.old.items) }
+    ensures taken { texts result.items ≡ get_or (texts_of_groups (λ g. g.items) groups.old.items) at [] }
+    ensures as_many { length (texts_of_groups (λ g. g.items) groups.new.items) ≡ length (texts_of_groups (λ g. g.items) groups.old.items) }
+    ensures later { drop (at + 1) (texts_of_groups (λ g. g.items) groups.new.items) ≡ drop (at + 1) (texts_of_groups (λ g. g.items) groups.old.items) }
 {
     mem::replace(&mut groups[at], Vec::new(alloc))
 }
@@ -96,12 +96,12 @@ fn lay_next<'a>(
     nodes: &mut Vec<Node<'a>>,
 ) -> Result<(), AllocError>
     requires there { length nodes.old.items < length groups.old.items }
-    requires some { 1 ≤ length (get_or (groups_of (λ g. g.items) groups.old.items) (length nodes.old.items) []) }
+    requires some { 1 ≤ length (get_or (texts_of_groups (λ g. g.items) groups.old.items) (length nodes.old.items) []) }
     ensures { IfOk result (λ _. (kept : List (List (List ℕ))) × (fresh : List (List (List ℕ))) × (node : NodeValue) ×
-        (length kept ≡ length (groups_of (λ g. g.items) groups.old.items)) ×
-        (drop (length nodes.old.items + 1) kept ≡ drop (length nodes.old.items + 1) (groups_of (λ g. g.items) groups.old.items)) ×
-        LaysNode (length (groups_of (λ g. g.items) groups.old.items)) [] fresh node (get_or (groups_of (λ g. g.items) groups.old.items) (length nodes.old.items) []) ×
-        (map node_value nodes.new.items ≡ map node_value nodes.old.items ++ node ∷ []) × (groups_of (λ g. g.items) groups.new.items ≡ kept ++ fresh)) }
+        (length kept ≡ length (texts_of_groups (λ g. g.items) groups.old.items)) ×
+        (drop (length nodes.old.items + 1) kept ≡ drop (length nodes.old.items + 1) (texts_of_groups (λ g. g.items) groups.old.items)) ×
+        LaysNode (length (texts_of_groups (λ g. g.items) groups.old.items)) [] fresh node (get_or (texts_of_groups (λ g. g.items) groups.old.items) (length nodes.old.items) []) ×
+        (map node_value nodes.new.items ≡ map node_value nodes.old.items ++ node ∷ []) × (texts_of_groups (λ g. g.items) groups.new.items ≡ kept ++ fresh)) }
 {
     let strings = take_group(alloc, groups, nodes.len());
     let mut more = Vec::new(alloc);
@@ -114,7 +114,7 @@ fn lay_next<'a>(
 /// The nodes: the first has all strings, and edges lead to later ones, by their numbers.
 pub(crate) fn nodes<'a>(alloc: Global, strings: Vec<&'a [u8]>) -> Result<Vec<Node<'a>>, AllocError>
     requires { 1 ≤ length strings.items }
-    ensures { IfOk result (λ v. IsTrie (map node_value v.items) (texts strings.entry.items)) }
+    ensures { IfOk result (λ v. IsLaidTrie (map node_value v.items) (texts strings.entry.items)) }
 {
     let mut groups = Vec::new(alloc);
     groups.push(strings)?;

@@ -3,7 +3,7 @@ ghost use Rattle.std.specs.Prelude.{◌≡◌, ◌≤◌, ◌<◌, ◌+◌, ◌*
 ghost use Rattle.nfa_core.specs.BuilderStates.{sparse_draft, union_draft};
 ghost use Rattle.nfa_core.specs.Transitions.{range_of};
 ghost use Rattle.thompson_nfa.specs.Added.{Added};
-ghost use Rattle.thompson_nfa.specs.LiteralGroups.{Ascends, AreInside};
+ghost use Rattle.thompson_nfa.specs.LiteralGroups.{Ascends, LeadWithin};
 ghost use Rattle.thompson_nfa.specs.LiteralStates.{edge_ranges, AddsItem, AddsNode};
 ghost use Rattle.thompson_nfa.specs.LiteralTries.{edges_in, chunks_in, matches_in, AreChunks};
 ghost use Rattle.thompson_nfa.specs.Refusals.{Stays, Quits, Passes};
@@ -19,7 +19,7 @@ fn transitions(
     edges: &[Edge],
     names: &[StateID],
 ) -> Result<Vec<Transition>, AllocError>
-    requires { AreInside 0 (length names.now) edges.now }
+    requires { LeadWithin 0 (length names.now) edges.now }
     ensures { IfOk result (λ v. map range_of v.items ≡ edge_ranges names.now edges.now) }
 {
     let mut all = Vec::new(alloc);
@@ -40,7 +40,7 @@ fn add_chunk(
     edges: &[Edge],
     names: &[StateID],
 ) -> Result<StateID, BuildError>
-    requires inside { AreInside 0 (length names.now) edges.now }
+    requires inside { LeadWithin 0 (length names.now) edges.now }
     requires ascending { Ascends 0 edges.now 256 }
     ensures added { IfOk result (λ id. Added builder.old builder.new id (sparse_draft (edge_ranges names.now edges.now)) builder.old.groups) }
     ensures refused { IfErr result (λ e. Stays builder.old builder.new 1 (24 + 8 * length edges.now) e) }
@@ -58,7 +58,7 @@ fn add_item(
     names: &[StateID],
     end: StateID,
 ) -> Result<StateID, BuildError>
-    requires inside { AreInside 0 (length names.now) item.now }
+    requires inside { LeadWithin 0 (length names.now) item.now }
     requires ascending { Ascends 0 item.now 256 }
     ensures added { IfOk result (λ id. AddsItem builder.old builder.new names.now end item.now id) }
     ensures refused { IfErr result (λ e. (1 ≤ length item.now) × Stays builder.old builder.new 1 (24 + 8 * length item.now) e) }

@@ -1,7 +1,7 @@
 //! The stem of strings: what all of them begin with.
 ghost use Rattle.std.specs.Prelude.{◌≡◌, ◌<◌, ◌≤◌, length, take, get_or, IfOk, IsTrue};
 ghost use Rattle.thompson_nfa.specs.LiteralGroups.{texts};
-ghost use Rattle.thompson_nfa.specs.LiteralStems.{HaveAll, BeginAll, without};
+ghost use Rattle.thompson_nfa.specs.LiteralStems.{HaveAll, BeginAll, without_first};
 
 use std::alloc::{AllocError, Global};
 
@@ -53,7 +53,7 @@ pub(crate) fn behind_stem<'a>(
     stem: &[u8],
 ) -> Result<Vec<&'a [u8]>, AllocError>
     requires { BeginAll stem.now (texts strings.now) }
-    ensures { IfOk result (λ v. texts v.items ≡ without (length stem.now) (texts strings.now)) }
+    ensures { IfOk result (λ v. texts v.items ≡ without_first (length stem.now) (texts strings.now)) }
 {
     let mut all = Vec::new(alloc);
     for string in strings {

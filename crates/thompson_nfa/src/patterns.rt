@@ -10,7 +10,7 @@ ghost use Rattle.thompson_nfa.specs.Assembled.{IsAssembled};
 ghost use Rattle.thompson_nfa.specs.ByteRoom.{byte_room};
 ghost use Rattle.thompson_nfa.specs.Compiled.{Weighs};
 ghost use Rattle.thompson_nfa.specs.Configs.{reverse_of, captures_of, is_any, is_shrunk};
-ghost use Rattle.thompson_nfa.specs.ListBytes.{bytes_for, list_bytes};
+ghost use Rattle.thompson_nfa.specs.ListBytes.{bytes_for, patterns_bytes};
 ghost use Rattle.thompson_nfa.specs.Patterns.{HasAll, HasStart, LeadsToFurther, LeadsToPatterns, RefusesPatterns, begun_with, room_for};
 ghost use Rattle.thompson_nfa.specs.Refusals.{Stays, Passes};
 ghost use Rattle.thompson_nfa.specs.RefusedTrees.{Breaks};
@@ -158,7 +158,7 @@ pub(crate) fn compile_all(
     ensures assembled { IfOk result (λ s. IsAssembled config.now exprs.now builder.new s.anchored s.unanchored) }
     ensures apart { IfOk result (λ s. past builder.new.drafts s.anchored ≢ s.unanchored) }
     ensures refused { IfErr result (λ e. RefusesPatterns (captures_of config.now) builder.old (room_for (is_shrunk config.now) exprs.now + 4) exprs.now e) }
-    ensures passed { IfErr result (λ e. Passes builder.old (list_bytes (is_shrunk config.now) exprs.now) e) }
+    ensures passed { IfErr result (λ e. Passes builder.old (patterns_bytes (is_shrunk config.now) exprs.now) e) }
 {
     let which = config.get_which_captures();
     let shrink = config.is_shrunk();

@@ -1,7 +1,7 @@
 //! Copies of the nodes of a trie of ranges: those to which its root comes, and no others.
 ghost use Rattle.std.specs.Prelude.{◌≡◌, ◌≤◌, length, map, IfOk, OnErr};
 ghost use Rattle.thompson_nfa.specs.NodeCopies.{AreCopies, AreNone};
-ghost use Rattle.thompson_nfa.specs.TrieNodes.{below, IsInside, IsLater};
+ghost use Rattle.thompson_nfa.specs.TrieNodes.{following, IsInside, IsLater};
 
 use crate::trie_nodes::{Edge, Next, Nodes};
 use std::alloc::{AllocError, Global};
@@ -30,7 +30,7 @@ fn copy_below(
     ensures later { IsLater copy.old copy.new }
     ensures copies { IfOk result (λ _. AreCopies nodes.now copy.new names.new.items) }
     ensures inside { IfOk result (λ n. IsInside (length copy.new) n) }
-    ensures same { IfOk result (λ n. below copy.new n ≡ below nodes.now next) }
+    ensures same { IfOk result (λ n. following copy.new n ≡ following nodes.now next) }
 {
     let Next::Node(number) = next else {
         return Ok(next);
@@ -56,7 +56,7 @@ fn copy_below(
 pub(crate) fn keep_below(nodes: &mut Nodes, alloc: Global, next: Next) -> Result<Next, AllocError>
     requires { IsInside (length nodes.old) next }
     ensures inside { IfOk result (λ n. IsInside (length nodes.new) n) }
-    ensures same { IfOk result (λ n. below nodes.new n ≡ below nodes.old next) }
+    ensures same { IfOk result (λ n. following nodes.new n ≡ following nodes.old next) }
     ensures err { OnErr result (nodes.new ≡ nodes.old) }
 {
     let mut copy = Nodes::new(alloc);

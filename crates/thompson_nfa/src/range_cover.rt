@@ -1,6 +1,6 @@
 //! The edges of a node, divided at both ends of a range.
 ghost use Rattle.std.specs.Prelude.{◌≡◌, ◌≤◌, ◌+◌, ◌++◌, IfOk, OnOk};
-ghost use Rattle.thompson_nfa.specs.RangeCovers.{piece, cut, cover_from};
+ghost use Rattle.thompson_nfa.specs.RangeCovers.{piece, cut_edge, cover_from};
 
 use crate::trie_nodes::{Edge, Next};
 use hir_core::Utf8Range;
@@ -32,7 +32,7 @@ fn push_cut(
     edge: Edge,
 ) -> Result<(), AllocError>
     requires { stop ≤ 256 }
-    ensures { OnOk result (pieces.new.items ≡ pieces.old.items ++ cut from start stop edge) }
+    ensures { OnOk result (pieces.new.items ≡ pieces.old.items ++ cut_edge from start stop edge) }
 {
     let low = u16::from(edge.range.start);
     let high = u16::from(edge.range.end) + 1;

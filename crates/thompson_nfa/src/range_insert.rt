@@ -2,8 +2,8 @@
 ghost use Rattle.std.specs.Prelude.{◌≡◌, ◌≤◌, ◌+◌, ◌↔◌, IfOk, IsTrue, length, map};
 ghost use Rattle.hir_core.specs.Sequences.{bytes_of};
 ghost use Rattle.thompson_nfa.specs.RangeTries.{AreRanges, IsApart, IsWith};
-ghost use Rattle.thompson_nfa.specs.TrieNodes.{below, IsInside, IsLater};
-ghost use Rattle.thompson_nfa.specs.TrieSteps.{IsCover, IsWithin};
+ghost use Rattle.thompson_nfa.specs.TrieNodes.{following, IsInside, IsLater};
+ghost use Rattle.thompson_nfa.specs.TrieSteps.{IsCover, LiesWithin};
 
 use crate::range_cover::cover;
 use crate::trie_nodes::{Edge, Next, Nodes};
@@ -30,7 +30,7 @@ fn pieces(
 
 /// Whether the edge lies in the range.
 fn is_within(edge: &Edge, range: &Utf8Range) -> bool
-    ensures { IsTrue result ↔ IsWithin range.now.start (range.now.end + 1) edge.now }
+    ensures { IsTrue result ↔ LiesWithin range.now.start (range.now.end + 1) edge.now }
 {
     range.start <= edge.range.start && edge.range.end <= range.end
 }
@@ -44,10 +44,10 @@ pub(crate) fn insert_below(
 ) -> Result<Next, AllocError>
     requires inside { IsInside (length nodes.old) next }
     requires ordered { AreRanges (map bytes_of ranges.now) }
-    requires apart { IsApart (below nodes.old next) (map bytes_of ranges.now) }
+    requires apart { IsApart (following nodes.old next) (map bytes_of ranges.now) }
     ensures later { IsLater nodes.old nodes.new }
     ensures inside { IfOk result (λ n. IsInside (length nodes.new) n) }
-    ensures more { IfOk result (λ n. IsWith (below nodes.old next) (map bytes_of ranges.now) (below nodes.new n)) }
+    ensures more { IfOk result (λ n. IsWith (following nodes.old next) (map bytes_of ranges.now) (following nodes.new n)) }
 {
     let Some((first, rest)) = ranges.split_first() else {
         return Ok(Next::End);

@@ -35,9 +35,9 @@ impl Model for RangeTrie {
 
     ghost Value = { List (List (ℕ × ℕ)) };
 
-    ghost use Rattle.thompson_nfa.specs.TrieNodes.{below, IsInside};
+    ghost use Rattle.thompson_nfa.specs.TrieNodes.{following, IsInside};
 
-    ghost view = { λ t. below t.nodes t.root };
+    ghost view = { λ t. following t.nodes t.root };
 
     ghost invariant = { λ t. IsInside (length t.nodes) t.root };
 }

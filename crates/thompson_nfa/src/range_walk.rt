@@ -2,8 +2,8 @@
 ghost use Rattle.std.specs.Prelude.{◌≡◌, ◌++◌, ◌∷◌, [], IfOk, IfErr, OnOk, map, length};
 ghost use Rattle.thompson_nfa.specs.RangeCalls.{CallsAll, CallsUpTo};
 ghost use Rattle.hir_core.specs.Sequences.{bytes_of};
-ghost use Rattle.thompson_nfa.specs.TrieNodes.{below, IsInside};
-ghost use Rattle.thompson_nfa.specs.RangeWalks.{paths_of, behind};
+ghost use Rattle.thompson_nfa.specs.TrieNodes.{following, IsInside};
+ghost use Rattle.thompson_nfa.specs.RangeWalks.{paths_of, path_then};
 
 use crate::trie_nodes::{Edge, Next, Nodes};
 use hir_core::Utf8Range;
@@ -28,7 +28,7 @@ pub(crate) fn emit(
     paths: &mut Vec<Vec<Utf8Range>>,
 ) -> Result<(), AllocError>
     requires { IsInside (length nodes.now) next }
-    ensures { OnOk result (paths_of paths.new.items ≡ paths_of paths.old.items ++ behind (map bytes_of path.now) (below nodes.now next)) }
+    ensures { OnOk result (paths_of paths.new.items ≡ paths_of paths.old.items ++ path_then (map bytes_of path.now) (following nodes.now next)) }
 {
     match next {
         Next::Nothing => Ok(()),

@@ -2,14 +2,14 @@
 ghost use Rattle.std.specs.Prelude.{◌≡◌, ◌≤◌, ◌+◌, ◌*◌, ◌++◌, ◌∷◌, [], ℕ, List, true, false, length, IfOk, IfErr};
 ghost use Rattle.hir_core.specs.Facts.{count, is_ascending};
 ghost use Rattle.hir_core.specs.BySequences.{sequences_of};
-ghost use Rattle.hir_core.specs.Sequences.{ranges_of, utf8_sequences};
+ghost use Rattle.hir_core.specs.Sequences.{ranges_of_sequence, utf8_sequences};
 ghost use Rattle.hir_core.specs.Tree.{char_class};
 ghost use Rattle.nfa_core.specs.BuilderStates.{Assembly};
 ghost use Rattle.thompson_nfa.specs.ByteRoom.{sequence_bytes};
 ghost use Rattle.thompson_nfa.specs.Compiled.{Makes, Weighs, Does, sum_of_bytes};
 ghost use Rattle.thompson_nfa.specs.Refusals.{Quits, Passes};
 ghost use Rattle.thompson_nfa.specs.Utf8Stacks.{path_of, StagesRise, AreBytes, ComesAfter, left_bytes, Keeps};
-ghost use Rattle.thompson_nfa.specs.Utf8Compiles.{IsCompiling, IsOpen, CanFollow};
+ghost use Rattle.thompson_nfa.specs.Utf8Compiles.{IsCompiling, IsBeingCompiled, CanFollow};
 
 use crate::compiling::Fragment;
 use crate::utf8_compiler::{add, begin, finish};
@@ -25,17 +25,17 @@ fn add_sequence(
     state: &mut Utf8State,
     sequence: &Utf8Sequence,
 ) -> Result<(), BuildError>
-    requires some { 1 ≤ length (ranges_of sequence.now) }
-    requires few { length (ranges_of sequence.now) ≤ 4 }
-    requires bytes { AreBytes (ranges_of sequence.now) }
-    requires after { ComesAfter (path_of state.old.nodes.items) (ranges_of sequence.now) }
+    requires some { 1 ≤ length (ranges_of_sequence sequence.now) }
+    requires few { length (ranges_of_sequence sequence.now) ≤ 4 }
+    requires bytes { AreBytes (ranges_of_sequence sequence.now) }
+    requires after { ComesAfter (path_of state.old.nodes.items) (ranges_of_sequence sequence.now) }
     requires rising { StagesRise state.old.nodes.items }
     requires keeps { Keeps builder.old state.old.end state.old.compiled }
     ensures added { IfOk result (λ _. (old : Assembly) (qs : List (List (ℕ × ℕ))) →
         IsCompiling old builder.old state.old.end state.old.compiled state.old.nodes.items qs →
-        IsCompiling old builder.new state.new.end state.new.compiled state.new.nodes.items (qs ++ ranges_of sequence.now ∷ [])) }
+        IsCompiling old builder.new state.new.end state.new.compiled state.new.nodes.items (qs ++ ranges_of_sequence sequence.now ∷ [])) }
     ensures weighs { IfOk result (λ _. sum_of_bytes builder.new + left_bytes state.new.nodes.items ≤
-        sum_of_bytes builder.old + left_bytes state.old.nodes.items + (24 * length (ranges_of sequence.now) + 8)) }
+        sum_of_bytes builder.old + left_bytes state.old.nodes.items + (24 * length (ranges_of_sequence sequence.now) + 8)) }
     ensures refused { IfErr result (λ e. (old : Assembly) (qs : List (List (ℕ × ℕ))) →
         IsCompiling old builder.old state.old.end state.old.compiled state.old.nodes.items qs → Quits old builder.new (2 + 4 * length qs) e) }
     ensures passed { IfErr result (λ e. Passes builder.old (left_bytes state.old.nodes.items) e) }
@@ -52,7 +52,7 @@ fn add_sequences(
     first: char,
     last: char,
 ) -> Result<(), BuildError>
-    requires begun { IsOpen builder.old state.old.end state.old.compiled state.old.nodes.items }
+    requires begun { IsBeingCompiled builder.old state.old.end state.old.compiled state.old.nodes.items }
     requires order { CanFollow (path_of state.old.nodes.items) (utf8_sequences first last) }
     ensures added { IfOk result (λ _. (old : Assembly) (qs : List (List (ℕ × ℕ))) →
         IsCompiling old builder.old state.old.end state.old.compiled state.old.nodes.items qs →

@@ -4,7 +4,7 @@
 ghost use Rattle.std.specs.Prelude.{◌≡◌, ◌<◌, ◌≤◌, ◌+◌, ◌*◌, true, false, length, map, take, All, IfOk, IfErr, IsTrue};
 ghost use Rattle.hir_core.specs.BySequences.{sequences_of};
 ghost use Rattle.hir_core.specs.Facts.{count, is_ascending};
-ghost use Rattle.hir_core.specs.Sequences.{bytes_of, ranges_of, utf8_sequences};
+ghost use Rattle.hir_core.specs.Sequences.{bytes_of, ranges_of_sequence, utf8_sequences};
 ghost use Rattle.hir_core.specs.Tree.{char_class};
 ghost use Rattle.nfa_core.specs.BuilderStates.{draft_at, is_sparse};
 ghost use Rattle.thompson_nfa.specs.ByteRoom.{sequence_bytes};
@@ -136,13 +136,13 @@ fn add_sequence_reverse(
     requires places { 0 < suffixes.old.capacity }
     requires choice { choice < length builder.old.drafts }
     requires kind { is_sparse (draft_at builder.old.drafts choice) ≡ false }
-    requires some { 1 ≤ length (ranges_of sequence.now) }
-    requires few { length (ranges_of sequence.now) ≤ 4 }
-    requires rising { All (λ r. r.0 ≤ r.1) (ranges_of sequence.now) }
-    ensures added { IfOk result (λ _. AddsSequence builder.old builder.new suffixes.old suffixes.new choice end (ranges_of sequence.now)) }
+    requires some { 1 ≤ length (ranges_of_sequence sequence.now) }
+    requires few { length (ranges_of_sequence sequence.now) ≤ 4 }
+    requires rising { All (λ r. r.0 ≤ r.1) (ranges_of_sequence sequence.now) }
+    ensures added { IfOk result (λ _. AddsSequence builder.old builder.new suffixes.old suffixes.new choice end (ranges_of_sequence sequence.now)) }
     ensures capacity { suffixes.new.capacity ≡ suffixes.old.capacity }
     ensures refused { IfErr result (λ e. Quits builder.old builder.new 4 e) }
-    ensures passed { IfErr result (λ e. Passes builder.old (24 * length (ranges_of sequence.now) + 4) e) }
+    ensures passed { IfErr result (λ e. Passes builder.old (24 * length (ranges_of_sequence sequence.now) + 4) e) }
 {
     let ranges = sequence.as_slice();
     let last = ranges.len() - 1;

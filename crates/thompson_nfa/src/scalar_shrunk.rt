@@ -3,7 +3,7 @@
 ghost use Rattle.std.specs.Prelude.{◌≡◌, ◌<◌, ◌+◌, ◌*◌, ℕ, [], true, length, map, get_or, IfOk, IfErr};
 ghost use Rattle.hir_core.specs.Tree.{alternation, char_class};
 ghost use Rattle.thompson_nfa.specs.ByteRoom.{sequence_bytes};
-ghost use Rattle.thompson_nfa.specs.ClassTries.{IsShort};
+ghost use Rattle.thompson_nfa.specs.ClassTries.{IsShortSequence};
 ghost use Rattle.thompson_nfa.specs.Compiled.{Makes, Weighs, Does};
 ghost use Rattle.thompson_nfa.specs.RangeTries.{IsTrie};
 ghost use Rattle.thompson_nfa.specs.RangeWalks.{paths_of};
@@ -28,7 +28,7 @@ fn compile_paths(
     paths: &[Vec<Utf8Range>],
 ) -> Result<Fragment, BuildError>
     requires ascending { IsTrie (paths_of paths.now) }
-    requires short { (k : ℕ) → k < length (paths_of paths.now) → IsShort (get_or (paths_of paths.now) k []) }
+    requires short { (k : ℕ) → k < length (paths_of paths.now) → IsShortSequence (get_or (paths_of paths.now) k []) }
     ensures made { IfOk result (λ f. Makes builder.old builder.new f.start f.end (2 + 4 * length paths.now)) }
     ensures does { IfOk result (λ f. Does builder.old builder.new f.start f.end (alternation (map (read_tree builder.old.reverse) (paths_of paths.now)))) }
     ensures weighs { IfOk result (λ _. Weighs builder.old builder.new (48 + sequence_bytes (paths_of paths.now))) }

@@ -10,7 +10,7 @@ ghost use Rattle.nfa_core.specs.declared.build_error.BuildError.TheVariants.{NoM
 ghost use Rattle.thompson_nfa.specs.Assembled.{IsAssembled};
 ghost use Rattle.thompson_nfa.specs.Compilations.{IsCompiled};
 ghost use Rattle.thompson_nfa.specs.Configs.{reverse_of, captures_of, is_any};
-ghost use Rattle.thompson_nfa.specs.Patterns.{begun_with, told_by};
+ghost use Rattle.thompson_nfa.specs.Patterns.{begun_with, told_under};
 ghost use Rattle.thompson_nfa.specs.RefusedTrees.{RefusesTrees};
 
 use crate::compiling::Shared;
@@ -62,7 +62,7 @@ fn start_over(builder: &mut Builder, config: &Config) -> Result<(), BuildError>
 
 /// Where the limit has no room for as many states as can be numbered, it is told before the want of numbers.
 fn told(limit: Option<usize>, err: BuildError) -> BuildError
-    ensures { result ≡ told_by limit err }
+    ensures { result ≡ told_under limit err }
 {
     match (limit, err) {
         (Some(limit), BuildError::TooManyStates) if limit < ALL_STATES => {

@@ -3,7 +3,7 @@ ghost use Rattle.std.specs.Prelude.{◌≡◌, ◌<◌, ◌≤◌, ◌+◌, ◌+
 ghost use Rattle.hir_core.specs.Sequences.{bytes_of};
 ghost use Rattle.thompson_nfa.specs.declared.trie_nodes.Next.TheVariants.{Nothing, End, Node};
 ghost use Rattle.thompson_nfa.specs.RangeTries.{IsTrie};
-ghost use Rattle.thompson_nfa.specs.TrieNodes.{along, below, IsInside, AreInside, Rises};
+ghost use Rattle.thompson_nfa.specs.TrieNodes.{along, following, IsInside, AreInside, Rises};
 
 use hir_core::Utf8Range;
 use std::alloc::{AllocError, Global};

@@ -4,10 +4,10 @@ ghost use Rattle.std.specs.List.{flat_map};
 ghost use Rattle.search_core.specs.Marks.{marks_below, HasMarks};
 ghost use Rattle.look_core.specs.Terminators.{Terminator};
 ghost use Rattle.nfa_core.specs.Alike.{marks_of, AreAlike};
-ghost use Rattle.nfa_core.specs.BuilderStates.{Assembly, DraftNode, bytes_of, draft_at};
+ghost use Rattle.nfa_core.specs.BuilderStates.{Assembly, DraftNode, bytes_of_drafts, draft_at};
 ghost use Rattle.nfa_core.specs.Nfa.{Automaton, IsWellFormed};
 ghost use Rattle.nfa_core.specs.NfaValue.{memory_of, IsSound};
-ghost use Rattle.nfa_core.specs.Places.{arrivals, same_pair, IsGraph, IsListed};
+ghost use Rattle.nfa_core.specs.Places.{arrivals, same_pair, IsGraph, AreWalkLists};
 ghost use Rattle.nfa_core.specs.Renaming.{automaton_of, past, stands_for};
 ghost use Rattle.nfa_core.specs.Returns.{IsLeftForGood};
 ghost use Rattle.nfa_core.specs.Walks.{distinct, join, Has, Visits};
@@ -36,7 +36,7 @@ pub fn kept_states_keep_their_place()
 }
 
 pub fn automata_need_no_more()
-    ensures { (b : Assembly) (x y : ℕ) → memory_of (automaton_of b x y).states ≤ bytes_of b.drafts }
+    ensures { (b : Assembly) (x y : ℕ) → memory_of (automaton_of b x y).states ≤ bytes_of_drafts b.drafts }
 {
     automata_need_no_more_than_builders();
 }
@@ -50,7 +50,7 @@ pub fn bytes_are_alike()
 
 pub fn lists_are_joined()
     ensures { (eps step : ℕ → ℕ → List ℕ) (n len q : ℕ) (ls : ℕ → List ℕ) → IsGraph eps step n len → q < n →
-        IsListed eps step (λ k xs. xs) len q ls → (k : ℕ) → k ≤ len → ls k ≡ join nat_eq [] (arrivals eps step n q k) }
+        AreWalkLists eps step (λ k xs. xs) len q ls → (k : ℕ) → k ≤ len → ls k ≡ join nat_eq [] (arrivals eps step n q k) }
 {
     lists_join_what_arrives();
 }

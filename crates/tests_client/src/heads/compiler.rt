@@ -3,7 +3,7 @@ ghost use Rattle.look_core.specs.Terminators.{Terminator};
 ghost use Rattle.hir_core.specs.Facts.{count};
 ghost use Rattle.hir_core.specs.Tree.{Tree};
 ghost use Rattle.nfa_core.specs.Ways.{span};
-ghost use Rattle.thompson_nfa.specs.Compilations.{IsRead};
+ghost use Rattle.thompson_nfa.specs.Compilations.{IsPlainText};
 ghost use Rattle.thompson_nfa.specs.Room.{room};
 
 use hir_core::Hir;
@@ -19,7 +19,7 @@ pub fn automaton_of(alloc: Global, trees: &[Hir]) -> Result<NFA, BuildError> {
 }
 
 pub fn spans_are_texts()
-    ensures { (t : Terminator) (h : List ℕ) (s e : ℕ) → e ≤ length h → All (λ b. b < 256) h → IsRead (span t h s e) }
+    ensures { (t : Terminator) (h : List ℕ) (s e : ℕ) → e ≤ length h → All (λ b. b < 256) h → IsPlainText (span t h s e) }
 {
     spans_have_edges_that_are_read_as_they_are();
 }

@@ -15,7 +15,7 @@ use Rattle.nfa_core.proofs.ForCallers.{smaller}
 use Rattle.thompson_nfa.specs.Compiled.{sum_of_bytes}
 use Rattle.thompson_nfa.specs.Configs.{Options, reverse_of, limit_of, is_shrunk}
 use Rattle.thompson_nfa.specs.Room.{list_room}
-use Rattle.thompson_nfa.specs.Compilations.{HasOneMatch, IsCompiled, places_from, start_of}
+use Rattle.thompson_nfa.specs.Compilations.{HasOneMatch, IsCompiled, places_from, pattern_start}
 use Rattle.thompson_nfa.specs.Assembled.{IsAssembled, AllAnchored}
 use Rattle.look_core.specs.declared.look.Look.{Look}
 use Rattle.look_core.specs.LookSets.{has_look}
@@ -68,7 +68,7 @@ assembled_is_compiled o xs b A U is apart reached n same utf8 terminator groups 
     anchored = λ t i place.
         let P : Automaton → Type 0 =
         λ a. ends_from a t (i, a.start_anchored)
-        ≡ distinct same_pair (flat_map (λ p. ends_from a t (i, start_of a p)) (places_from 0 (length xs))) in
+        ≡ distinct same_pair (flat_map (λ p. ends_from a t (i, pattern_start a p)) (places_from 0 (length xs))) in
         subst P (sym same) (anchored_starts o xs b A U is t i place);
     unanchored = λ up t i read low high.
         let P : Automaton → Type 0 =

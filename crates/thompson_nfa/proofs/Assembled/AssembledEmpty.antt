@@ -20,7 +20,7 @@ use Rattle.nfa_core.proofs.ForCallers.{none_in, has_cons, has_same, has_first, h
 use Rattle.nfa_core.proofs.ForCallers.{listed_run, chain_listed, name_inside, is_well_formed}
 use Rattle.thompson_nfa.specs.Configs.{Options, reverse_of}
 use Rattle.thompson_nfa.specs.Denotes.{IsMeant}
-use Rattle.thompson_nfa.specs.Compilations.{start_of}
+use Rattle.thompson_nfa.specs.Compilations.{pattern_start}
 use Rattle.thompson_nfa.specs.Assembled.{IsAssembled}
 use Rattle.thompson_nfa.proofs.Walks.ChoiceLemmas.{accept_at, accept_of}
 use Rattle.thompson_nfa.proofs.Assembled.AssembledSpans.{start_is, start_inside, patterns_found}
@@ -137,19 +137,19 @@ module _ (o : Options) (xs : List Tree) (b : Assembly) (A U : ℕ) (is : IsAssem
   IsEmptyMeant = (p : ℕ) × (x : Tree) × (slice_get xs p ≡ Some x) × Means (λ l i. true) [] x 0 0
 
   -- each start is that of a tree
-  start_of_tree : (s : ℕ) → Has nat_eq s auto.start_pattern → (p : ℕ) × (x : Tree) × (slice_get xs p ≡ Some x) × (start_of auto p ≡ s)
+  start_of_tree : (s : ℕ) → Has nat_eq s auto.start_pattern → (p : ℕ) × (x : Tree) × (slice_get xs p ≡ Some x) × (pattern_start auto p ≡ s)
   start_of_tree s h =
       let m = map_has (new_name b.drafts) b.starts s h in
       let r = accept_of (reverse_of o) (draft_at b.drafts) 0 b.starts xs is.accept m.0 m.1 in
       (r.0, r.1, r.2, start_is o xs b A U is r.0 r.1 r.2 ∙ ap (new_name b.drafts) r.3 ∙ m.2)
 
-  start_named : (p : ℕ) (x : Tree) → slice_get xs p ≡ Some x → Has nat_eq (start_of auto p) auto.start_pattern
+  start_named : (p : ℕ) (x : Tree) → slice_get xs p ≡ Some x → Has nat_eq (pattern_start auto p) auto.start_pattern
   start_named p x got =
       let a = accept_at (reverse_of o) (draft_at b.drafts) 0 b.starts xs is.accept p p x (omega arith) got in
       let P : ℕ → Type 0 = λ q. Has nat_eq q auto.start_pattern in
       subst P (sym (start_is o xs b A U is p x got)) (has_map (new_name b.drafts) b.starts (get_or b.starts p 0) a.there)
 
-  start_below : (p : ℕ) (x : Tree) → slice_get xs p ≡ Some x → start_of auto p < length auto.states
+  start_below : (p : ℕ) (x : Tree) → slice_get xs p ≡ Some x → pattern_start auto p < length auto.states
   start_below p x got =
       let e = start_is o xs b A U is p x got in
       let l = name_inside b A U is.can_build (get_or b.starts p 0) (start_inside o xs b A U is p x got) in
@@ -159,7 +159,7 @@ module _ (o : Options) (xs : List Tree) (b : Assembly) (A U : ℕ) (is : IsAssem
   reached_is_meant q p (s, has, r, chain, last) node =
       let tree = start_of_tree s has in
       let P : ℕ → Type 0 = λ k. IsChain nat_eq (free_steps auto) k r in
-      let k : ℕ = start_of auto tree.0 in
+      let k : ℕ = pattern_start auto tree.0 in
       let c = chain_here auto k r (subst P (sym tree.3) chain) in
       let ends : last_or (here k) (map here r) ≡ here q = last_here auto k r ∙ ap (λ (n : ℕ). here (last_or n r)) tree.3 ∙ ap here last in
       let final : matched auto (last_or (here k) (map here r)) ≡ Some (0, p) =
@@ -173,7 +173,7 @@ module _ (o : Options) (xs : List Tree) (b : Assembly) (A U : ℕ) (is : IsAssem
 
   meant_is_reached : IsEmptyMeant → (q : ℕ) × IsReached q × (is_match (node_at auto q) ≡ true)
   meant_is_reached (p, x, got, means) =
-      let k : ℕ = start_of auto p in
+      let k : ℕ = pattern_start auto p in
       let listed = (patterns_found o xs b A U is p x got free_text 0 (0, p) (omega arith)).1 (refl, there_meant (reverse_of o) x means) in
       let run = listed_run auto free_text (here k) (is_well_formed b A U is.can_build) (omega arith, start_below p x got) (0, p) listed in
       let w = chain_freely auto k (here k) run.0 refl run.1.0 in

@@ -17,7 +17,7 @@ use Rattle.nfa_core.specs.Drafted.{table_ways, table_match}
 use Rattle.nfa_core.proofs.ForCallers.{ends_listed}
 use Rattle.thompson_nfa.specs.Configs.{Options, reverse_of}
 use Rattle.thompson_nfa.specs.Denotes.{seen}
-use Rattle.thompson_nfa.specs.Compilations.{choices_from, places_from, start_of, IsRead, FindsInOrder}
+use Rattle.thompson_nfa.specs.Compilations.{choices_from, places_from, pattern_start, IsPlainText, FindsInOrder}
 use Rattle.thompson_nfa.specs.Assembled.{AcceptAll, IsAssembled, ComesBefore}
 use Rattle.thompson_nfa.proofs.Walks.OrderLemmas.{Listed, ListedFirsts}
 use Rattle.thompson_nfa.proofs.Walks.FindLemmas.{accepts_lists}
@@ -52,7 +52,7 @@ module _ (o : Options) (xs : List Tree) (b : Assembly) (A U : ℕ) (is : IsAssem
   before_forward = let P : Bool → Type 0 = λ r. ComesBefore r xs (draft_at b.drafts) U A in subst P up is.before
 
   patterns_listed : (p : ℕ) (x : Tree) → slice_get xs p ≡ Some x → LoopsRead x → (t : Text) (i : ℕ) → i ≤ t.end →
-      ends_from auto t (i, start_of auto p) ≡ distinct same_pair (map (λ j. (j, p)) (preferred_ends t.holds (seen t) x i))
+      ends_from auto t (i, pattern_start auto p) ≡ distinct same_pair (map (λ j. (j, p)) (preferred_ends t.holds (seen t) x i))
   patterns_listed p x got reading t i place =
       let q : ℕ = get_or b.starts p 0 in
       let a = accept_at false (draft_at b.drafts) 0 b.starts xs accept_forward p p x (omega arith) got in
@@ -70,7 +70,7 @@ module _ (o : Options) (xs : List Tree) (b : Assembly) (A U : ℕ) (is : IsAssem
     ) ≡ distinct same_pair (choices_from 0 xs t i)
     anchored_listed t i place = ends_are_listed t A i (choices_from 0 xs t i) is.can_build.anchored_there place (anchored_walk t i)
 
-    all_walked : (t : Text) (i : ℕ) → IsRead t → i ≤ t.end →
+    all_walked : (t : Text) (i : ℕ) → IsPlainText t → i ≤ t.end →
         ListedFirsts t (draft_at b.drafts) ((i, U) ∷ []) (flat_map (choices_from 0 xs t) (places_from i (suc t.end - i)))
     all_walked t i read high =
         let P : List (ℕ × ℕ) → Type 0 = λ l. ListedFirsts t (draft_at b.drafts) ((i, U) ∷ []) l in
@@ -84,7 +84,7 @@ module _ (o : Options) (xs : List Tree) (b : Assembly) (A U : ℕ) (is : IsAssem
               (tries_in_order t (draft_at b.drafts) U A x.1))
         ]
 
-    unanchored_listed : (t : Text) (i : ℕ) → IsRead t → i ≤ t.end →
+    unanchored_listed : (t : Text) (i : ℕ) → IsPlainText t → i ≤ t.end →
         ends_from auto t (i, new_name b.drafts U) ≡ distinct same_pair (flat_map (choices_from 0 xs t) (places_from i (suc t.end - i)))
     unanchored_listed t i read high =
         ends_are_listed t U i (flat_map (choices_from 0 xs t) (places_from i (suc t.end - i))) is.can_build.unanchored_there high
@@ -93,7 +93,7 @@ module _ (o : Options) (xs : List Tree) (b : Assembly) (A U : ℕ) (is : IsAssem
   finds_in_order : (n : Nfa) → n.automaton ≡ auto → FindsInOrder xs n
   finds_in_order n same = record {
     patterns = λ p x got reading t i place.
-        let P : Automaton → Type 0 = λ a. ends_from a t (i, start_of a p) ≡ distinct same_pair
+        let P : Automaton → Type 0 = λ a. ends_from a t (i, pattern_start a p) ≡ distinct same_pair
         (map (λ j. (j, p)) (preferred_ends t.holds (seen t) x i)) in
         subst P (sym same) (patterns_listed p x got reading t i place);
     anchored = λ reading t i place.

@@ -16,7 +16,7 @@ use Rattle.nfa_core.specs.Drafted.{Table}
 use Rattle.nfa_core.proofs.ForCallers.{ends_found, found_end}
 use Rattle.thompson_nfa.specs.Configs.{Options, reverse_of}
 use Rattle.thompson_nfa.specs.Denotes.{IsMeant}
-use Rattle.thompson_nfa.specs.Compilations.{IsChoice, IsReadTo, IsRead, start_of, FindsSpans}
+use Rattle.thompson_nfa.specs.Compilations.{IsChoice, IsReadTo, IsPlainText, pattern_start, FindsSpans}
 use Rattle.thompson_nfa.specs.Assembled.{IsAssembled}
 use Rattle.thompson_nfa.proofs.Walks.AcceptLemmas.{Finds}
 use Rattle.thompson_nfa.proofs.Walks.FindLemmas.{FindsChoices, finds_behind, accepts_finds}
@@ -48,7 +48,7 @@ module _ (o : Options) (xs : List Tree) (b : Assembly) (A U : ℕ) (is : IsAssem
       )
 
   -- the name of a pattern's start
-  pub start_is : (p : ℕ) (x : Tree) → slice_get xs p ≡ Some x → start_of built p ≡ new_name b.drafts (get_or b.starts p 0)
+  pub start_is : (p : ℕ) (x : Tree) → slice_get xs p ≡ Some x → pattern_start built p ≡ new_name b.drafts (get_or b.starts p 0)
   start_is p x got =
       let n = accept_count (reverse_of o) drafts 0 b.starts xs is.accept in
       let inside = slice_get_within xs p x got in
@@ -61,7 +61,7 @@ module _ (o : Options) (xs : List Tree) (b : Assembly) (A U : ℕ) (is : IsAssem
       All-get_or (λ q. q < length b.drafts) b.starts p 0 (omega arith) is.can_build.starts_there
 
   pub patterns_found : (p : ℕ) (x : Tree) → slice_get xs p ≡ Some x → (t : Text) (i : ℕ) (e : ℕ × ℕ) → i ≤ t.end →
-      Has same_pair e (ends_from built t (i, start_of built p)) ↔ ((e.1 ≡ p) × IsMeant (reverse_of o) t x i e.0)
+      Has same_pair e (ends_from built t (i, pattern_start built p)) ↔ ((e.1 ≡ p) × IsMeant (reverse_of o) t x i e.0)
   patterns_found p x got t i e place =
       let q : ℕ = get_or b.starts p 0 in
       let P : ℕ → Type 0 = λ s. Has same_pair e (ends_from built t (i, s)) ↔ ((e.1 ≡ p) × IsMeant (reverse_of o) t x i e.0) in
@@ -77,7 +77,7 @@ module _ (o : Options) (xs : List Tree) (b : Assembly) (A U : ℕ) (is : IsAssem
       ↔ IsChoice (reverse_of o) xs t i e
   anchored_found t i e place = ends_are_found t A (IsChoice (reverse_of o) xs t) is.can_build.anchored_there (choices t) i e place
 
-  module _ (t : Text) (i : ℕ) (e : ℕ × ℕ) (read_well : IsRead t) (low : t.start ≤ i) (high : i ≤ t.end) where
+  module _ (t : Text) (i : ℕ) (e : ℕ × ℕ) (read_well : IsPlainText t) (low : t.start ≤ i) (high : i ≤ t.end) where
     abbrev Somewhere : Type 0
     Somewhere = (k : ℕ) × IsReadTo (reverse_of o) t i k × IsChoice (reverse_of o) xs t k e
 
@@ -111,7 +111,7 @@ module _ (o : Options) (xs : List Tree) (b : Assembly) (A U : ℕ) (is : IsAssem
   finds_spans : (n : Nfa) → n.automaton ≡ built → FindsSpans (reverse_of o) xs n
   finds_spans n same = record {
     patterns = λ p x got t i e place.
-        let P : Automaton → Type 0 = λ a. Has same_pair e (ends_from a t (i, start_of a p)) ↔
+        let P : Automaton → Type 0 = λ a. Has same_pair e (ends_from a t (i, pattern_start a p)) ↔
         ((e.1 ≡ p) × IsMeant (reverse_of o) t x i e.0) in
         subst P (sym same) (patterns_found p x got t i e place);
     anchored = λ t i e place.

@@ -17,7 +17,7 @@ use Rattle.nfa_core.specs.Ways.{Text, ways, matched, ends_from}
 use Rattle.nfa_core.proofs.ForCallers.{none_in, pairs_equal, from_map, state_match, name_inside, is_well_formed, past_next, join_once_more}
 use Rattle.nfa_core.proofs.ForCallers.{ends_by_ways, renamed_pair, state_ways, from_mapped, every_of_all, chain_to, unequal}
 use Rattle.thompson_nfa.specs.Assembled.{AcceptAll, IsAssembled}
-use Rattle.thompson_nfa.specs.Compilations.{places_from, start_of}
+use Rattle.thompson_nfa.specs.Compilations.{places_from, pattern_start}
 use Rattle.thompson_nfa.specs.Configs.{Options}
 use Rattle.thompson_nfa.proofs.Walks.ApartLemmas.{kept_off}
 use Rattle.thompson_nfa.proofs.Walks.ChoiceLemmas.{accept_count}
@@ -113,11 +113,11 @@ module _ (o : Options) (xs : List Tree) (b : Assembly) (A U : ℕ) (is : IsAssem
 
   all_listed : (t : Text) (i : ℕ) →
       flat_map (ends t) (map (renamed_pair b.drafts) (each_at b.starts i))
-      ≡ flat_map (λ p. ends t (i, start_of auto p)) (places_from 0 (length xs))
+      ≡ flat_map (λ p. ends t (i, pattern_start auto p)) (places_from 0 (length xs))
   all_listed t i =
       starts_listed t i (map (new_name b.drafts) b.starts) b.starts 0
       (λ n l. ap (λ (m : ℕ). get_or (map (new_name b.drafts) b.starts) m 0) (let e : 0 + n ≡ n = omega arith in e))
-      ∙ ap (λ (n : ℕ). flat_map (λ p. ends t (i, start_of auto p)) (places_from 0 n))
+      ∙ ap (λ (n : ℕ). flat_map (λ p. ends t (i, pattern_start auto p)) (places_from 0 n))
       (accept_count b.reverse T 0 b.starts xs (accept_free T (λ q e. refl)))
 
   -- one start alone
@@ -152,7 +152,7 @@ module _ (o : Options) (xs : List Tree) (b : Assembly) (A U : ℕ) (is : IsAssem
       (nowhere ∙ ap (λ (ss : List ℕ). map (renamed_pair b.drafts) (each_at ss i)) (sym none))
 
   pub anchored_starts : (t : Text) (i : ℕ) → i ≤ t.end →
-      ends t (i, new_name b.drafts A) ≡ distinct same_pair (flat_map (λ p. ends t (i, start_of auto p)) (places_from 0 (length xs)))
+      ends t (i, new_name b.drafts A) ≡ distinct same_pair (flat_map (λ p. ends t (i, pattern_start auto p)) (places_from 0 (length xs)))
   anchored_starts t i place =
       (elim is.leads [
         | inl one ↦ one_listed t i A one refl

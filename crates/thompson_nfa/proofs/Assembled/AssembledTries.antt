@@ -22,7 +22,7 @@ use Rattle.nfa_core.proofs.ForCallers.{join_once_more, of_append, ends_by_ways, 
 use Rattle.nfa_core.proofs.ForCallers.{has_first, has_cons, names_equal, pairs_equal, from_map, state_match, one_state, name_inside}
 use Rattle.nfa_core.proofs.ForCallers.{is_well_formed, past_next}
 use Rattle.thompson_nfa.specs.Assembled.{IsAssembled, TriesEachPlace, AllAnchored}
-use Rattle.thompson_nfa.specs.Compilations.{places_from, IsReadTo, IsRead}
+use Rattle.thompson_nfa.specs.Compilations.{places_from, IsReadTo, IsPlainText}
 use Rattle.thompson_nfa.specs.Configs.{Options, reverse_of}
 use Rattle.thompson_nfa.specs.Denotes.{at}
 use Rattle.thompson_nfa.proofs.Walks.AnchorLemmas.{anchored_place}
@@ -239,7 +239,7 @@ module _ (o : Options) (xs : List Tree) (b : Assembly) (A U : ℕ) (is : IsAssem
 
   -- ---- all trees are anchored
 
-  module _ (all : AllAnchored (reverse_of o) xs) (at_once : draft_at b.drafts U ≡ empty_draft A) (read : IsRead t) where
+  module _ (all : AllAnchored (reverse_of o) xs) (at_once : draft_at b.drafts U ≡ empty_draft A) (read : IsPlainText t) where
     abbrev anchored_from : ℕ → List (ℕ × ℕ)
     anchored_from k = from (k, new_name b.drafts A)
 
@@ -268,7 +268,7 @@ module _ (o : Options) (xs : List Tree) (b : Assembly) (A U : ℕ) (is : IsAssem
         ∙ ap (λ (l : List (ℕ × ℕ)). distinct same_pair (anchored_from i ++ l))
         (sym (nothing_later i low n (suc i) (omega arith) (omega (arith, e))))
 
-  pub unanchored_starts : (i : ℕ) → IsRead t → t.start ≤ i → i ≤ t.end →
+  pub unanchored_starts : (i : ℕ) → IsPlainText t → t.start ≤ i → i ≤ t.end →
       from (i, new_name b.drafts U) ≡ distinct same_pair (flat_map (λ k. from (k, new_name b.drafts A)) (places_from i (suc t.end - i)))
   unanchored_starts i read low high =
       let sum : i + (t.end - i) ≡ t.end = omega (arith, high) in

@@ -6,7 +6,7 @@ use Rattle.std.proofs.lemmas.List.{reverse-append, reverse-reverse, map-append, 
 use Rattle.hir_core.specs.Sequences.{is_in_ranges, utf8_sequences}
 use Rattle.hir_core.specs.BySequences.{sequences_of}
 use Rattle.hir_core.proofs.ForCallers.{sequence_short}
-use Rattle.thompson_nfa.specs.RangeTries.{IsIn, IsWith, AreRanges}
+use Rattle.thompson_nfa.specs.RangeTries.{IsInSome, IsWith, AreRanges}
 use Rattle.thompson_nfa.specs.ClassTries.{turned_round, HasTurned, GainsTurned, IsTurnedSpelling, AreTurnedSpellings}
 use Rattle.thompson_nfa.proofs.Tries.TrieLemmas.{in_append, in_left, in_right}
 use Rattle.thompson_nfa.proofs.Classes.TurnedStrings.{turned_round_in, spelling_turned, turned_spell}
@@ -40,10 +40,10 @@ turned_append xs ys = map-append reverse xs ys
 pub gained_more : (old mid new xs ys : List (List (ℕ × ℕ))) → GainsTurned old xs mid → GainsTurned mid ys new →
     GainsTurned old (xs ++ ys) new
 gained_more old mid new xs ys a b =
-    let whole : (s : List ℕ) → IsIn (turned_round xs ++ turned_round ys) s → IsIn (turned_round (xs ++ ys)) s =
-    λ s h. subst (λ (l : List (List (ℕ × ℕ))). IsIn l s) (sym (turned_append xs ys)) h in
-    let parts : (s : List ℕ) → IsIn (turned_round (xs ++ ys)) s → IsIn (turned_round xs ++ turned_round ys) s =
-    λ s h. subst (λ (l : List (List (ℕ × ℕ))). IsIn l s) (turned_append xs ys) h in
+    let whole : (s : List ℕ) → IsInSome (turned_round xs ++ turned_round ys) s → IsInSome (turned_round (xs ++ ys)) s =
+    λ s h. subst (λ (l : List (List (ℕ × ℕ))). IsInSome l s) (sym (turned_append xs ys)) h in
+    let parts : (s : List ℕ) → IsInSome (turned_round (xs ++ ys)) s → IsInSome (turned_round xs ++ turned_round ys) s =
+    λ s h. subst (λ (l : List (List (ℕ × ℕ))). IsInSome l s) (turned_append xs ys) h in
     record {
       only = λ s h. elim (b.only s h) [
         | inl before ↦ elim (a.only s before) [
@@ -63,14 +63,14 @@ gained_more old mid new xs ys a b =
 
 -- ---- the strings stay spellings
 
-class_turned : (rs : List (ℕ × ℕ)) (s : List ℕ) → IsIn (turned_round (sequences_of rs)) s → IsTurnedSpelling s
+class_turned : (rs : List (ℕ × ℕ)) (s : List ℕ) → IsInSome (turned_round (sequences_of rs)) s → IsTurnedSpelling s
 class_turned rs s h =
     let p = class_spells rs (reverse s) (turned_round_in (sequences_of rs) s h) in
     subst IsTurnedSpelling (reverse-reverse s) (spelling_turned p.0 (reverse s) p.2)
 
-range_turned : (lo hi : ℕ) (s : List ℕ) → IsIn (turned_round (utf8_sequences lo hi)) s → IsTurnedSpelling s
+range_turned : (lo hi : ℕ) (s : List ℕ) → IsInSome (turned_round (utf8_sequences lo hi)) s → IsTurnedSpelling s
 range_turned lo hi s h =
-    class_turned ((lo, hi) ∷ []) s (subst (λ (l : List (List (ℕ × ℕ))). IsIn (turned_round l) s)
+    class_turned ((lo, hi) ∷ []) s (subst (λ (l : List (List (ℕ × ℕ))). IsInSome (turned_round l) s)
     (sym (append-nil (utf8_sequences lo hi))) h)
 
 -- ---- the sequences of one range
@@ -125,7 +125,7 @@ module _ (old mid left rest : List (List (ℕ × ℕ))) (lo hi : ℕ) (q : List 
   met_turned before s h = elim (so_far.gained.only s h) [
     | inl first ↦ before s first
     | inr met ↦ range_turned lo hi s
-        (subst (λ (l : List (List (ℕ × ℕ))). IsIn l s) (sym (turned_append so_far.met left)
+        (subst (λ (l : List (List (ℕ × ℕ))). IsInSome l s) (sym (turned_append so_far.met left)
         ∙ ap turned_round so_far.split) (in_left (turned_round so_far.met) (turned_round left) s met))
   ]
 

@@ -20,7 +20,7 @@ use Rattle.thompson_nfa.specs.Refusals.{Quits}
 use Rattle.thompson_nfa.specs.Shared.{read_tree}
 use Rattle.thompson_nfa.specs.SlotTables.{SlotTable}
 use Rattle.thompson_nfa.specs.Utf8Stacks.{Stage, path_of, StagesRise, AreBytes, ComesAfter, Keeps}
-use Rattle.thompson_nfa.specs.Utf8Compiles.{ReadsAs, last_of, IsCompiling, IsOpen, CanFollow}
+use Rattle.thompson_nfa.specs.Utf8Compiles.{ReadsAs, last_of, IsCompiling, IsBeingCompiled, CanFollow}
 use Rattle.thompson_nfa.proofs.Steps.LookLemmas.{uses_reads, uses_sequences}
 use Rattle.thompson_nfa.proofs.Fragments.DoesCases.{does_scalars}
 use Rattle.thompson_nfa.proofs.Fragments.JoinLemmas.{does_same}
@@ -138,7 +138,7 @@ none_added b e c n left all is order =
     }
 
 module _ (b0 b : Assembly) (e0 e : ℕ) (c0 c : SlotTable (List Transition)) (n0 n : List Stage) (left all : List (List (ℕ × ℕ)))
-    (a : AddsTo b0 b e0 e c0 c n0 n left all) (o : IsOpen b0 e0 c0 n0) where
+    (a : AddsTo b0 b e0 e c0 c n0 n left all) (o : IsBeingCompiled b0 e0 c0 n0) where
   now_compiling : IsCompiling o.old b e c n (o.before ++ a.met)
   now_compiling = a.later o.old o.before o.is
 
@@ -216,7 +216,7 @@ module _ (a b : Assembly) (e : ℕ) (c : SlotTable (List Transition)) (n : List 
   abbrev rest : List (List (ℕ × ℕ))
   rest = sequences_of (drop (i + 1) ranges)
 
-  pub is_open : IsOpen b e c n
+  pub is_open : IsBeingCompiled b e c n
   is_open = record { old = a; before = sequences_of (take i ranges); is = so_far.is }
 
   both_follow : CanFollow (path_of n) (utf8_sequences here.0 here.1 ++ rest)

@@ -19,7 +19,7 @@ use Rattle.thompson_nfa.specs.Denotes.{Denotes}
 use Rattle.thompson_nfa.specs.Refusals.{Quits}
 use Rattle.thompson_nfa.specs.Shared.{read_tree}
 use Rattle.thompson_nfa.specs.SlotTables.{SlotTable, empty_table}
-use Rattle.thompson_nfa.specs.Utf8Stacks.{Stage, fresh, advanced, path_of, StagesRise, AreBytes, IsKept, Keeps, Compiles, Pops, pops_none}
+use Rattle.thompson_nfa.specs.Utf8Stacks.{Stage, fresh, advanced, path_of, StagesRise, AreBytes, HoldsState, Keeps, Compiles, Pops, pops_none}
 use Rattle.thompson_nfa.specs.Utf8Stacks.{Turns, PopsUntil, PartsAt}
 use Rattle.thompson_nfa.specs.Utf8Compiles.{Limb, edge, stage_of, fresh_limb, grown, limb_tree, whole_tree, LimbsLead, LimbsBelow, ReadsAs}
 use Rattle.thompson_nfa.specs.Utf8Compiles.{last_of, HasStates, IsCompiling}
@@ -307,7 +307,7 @@ none_held (suc n) (suc at) = none_held n at
 
 empty_keeps : (b : Assembly) (end capacity : ℕ) → end < length b.drafts → Keeps b end (empty_table capacity)
 empty_keeps b end capacity there =
-    let P : Option (List Transition × ℕ) → Type 0 = λ o. IsKept b end o in
+    let P : Option (List Transition × ℕ) → Type 0 = λ o. HoldsState b end o in
     record {
       end_there = there;
       ready = eq-eqb (length (replicate capacity nothing_held)) capacity (length-replicate capacity nothing_held);

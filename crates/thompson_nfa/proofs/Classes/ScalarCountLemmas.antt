@@ -7,7 +7,7 @@ use Rattle.search_core.specs.Utf8.{Spells}
 use Rattle.hir_core.specs.Sequences.{spelling_of, is_in_ranges, utf8_sequences}
 use Rattle.hir_core.specs.BySequences.{sequences_of}
 use Rattle.hir_core.proofs.ForCallers.{spelled_by}
-use Rattle.thompson_nfa.specs.RangeTries.{IsIn, IsBefore, IsBeforeAll, AreRanges, IsTrie}
+use Rattle.thompson_nfa.specs.RangeTries.{IsInSome, IsBefore, IsBeforeAll, AreRanges, IsTrie}
 use Rattle.thompson_nfa.specs.ClassTries.{turned_round, HasTurned}
 use Rattle.thompson_nfa.specs.ScalarCounts.{scalars_in}
 use Rattle.thompson_nfa.proofs.Tries.TrieLemmas.{spells, in_append}
@@ -103,7 +103,7 @@ number_from first (suc n) c l h = elim (equal_or_above first c l) [
 
 -- ---- the strings of a class are spellings of its numbers
 
-pub class_spells : (rs : List (ℕ × ℕ)) (s : List ℕ) → IsIn (sequences_of rs) s → (c : ℕ) × Among (numbers rs) c × Spells c s
+pub class_spells : (rs : List (ℕ × ℕ)) (s : List ℕ) → IsInSome (sequences_of rs) s → (c : ℕ) × Among (numbers rs) c × Spells c s
 class_spells [] s h = absurd h
 class_spells (r ∷ rs) s h = elim (in_append (utf8_sequences r.0 r.1) (sequences_of rs) s h) [
   | inl here ↦
@@ -121,7 +121,7 @@ class_spells (r ∷ rs) s h = elim (in_append (utf8_sequences r.0 r.1) (sequence
 abbrev turned_spelling : ℕ → List ℕ
 turned_spelling c = reverse (spelling_of c)
 
-turned_among : (rs : List (ℕ × ℕ)) (s : List ℕ) → IsIn (turned_round (sequences_of rs)) s → Among (map turned_spelling (numbers rs)) s
+turned_among : (rs : List (ℕ × ℕ)) (s : List ℕ) → IsInSome (turned_round (sequences_of rs)) s → Among (map turned_spelling (numbers rs)) s
 turned_among rs s h =
     let p = class_spells rs (reverse s) (turned_round_in (sequences_of rs) s h) in
     among_map turned_spelling (numbers rs) p.0 s p.1 (ap reverse (spelled_by p.0 (reverse s) p.2) ∙ reverse-reverse s)
@@ -153,7 +153,7 @@ all_apart : (qs : List (List (ℕ × ℕ))) → IsTrie qs → AreApart (map lowe
 all_apart [] t = tt
 all_apart (q ∷ qs) t = (no_other q qs t.0 t.1, all_apart qs t.2)
 
-lowest_of : (qs : List (List (ℕ × ℕ))) (s : List ℕ) → IsTrie qs → Among (map lowest qs) s → IsIn qs s
+lowest_of : (qs : List (List (ℕ × ℕ))) (s : List ℕ) → IsTrie qs → Among (map lowest qs) s → IsInSome qs s
 lowest_of [] s t h = h
 lowest_of (q ∷ qs) s t h = elim h [
   | inl here ↦ inl (subst (λ (l : List ℕ). is_in_ranges q l ≡ true) here (lowest_in q t.0))

@@ -16,7 +16,7 @@ use Rattle.nfa_core.specs.Places.{same_pair}
 use Rattle.nfa_core.specs.Ways.{Text, reads, in_ranges, on_read, place_behind, node_ways, match_of}
 use Rattle.nfa_core.specs.Drafted.{drafted, Table, table_match}
 use Rattle.nfa_core.proofs.ForCallers.{none_in, has_one, has_same, pairs_equal}
-use Rattle.thompson_nfa.specs.Denotes.{at, seen, IsMeant, Leads, Passes, Reaches, ComesToEnd, Halts, Orders, Denotes}
+use Rattle.thompson_nfa.specs.Denotes.{at, seen, IsMeant, LeadsTo, PassesBy, Reaches, ComesToEnd, Halts, Orders, Denotes}
 use Rattle.thompson_nfa.specs.Shared.{read_then, branch_trees, LeadAll}
 use Rattle.thompson_nfa.proofs.Walks.WayLemmas.{each_at, byte_ends, Goes}
 use Rattle.thompson_nfa.proofs.Walks.LeadLemmas.{Chain, goes_begins, goes_leads, passes_later}
@@ -118,10 +118,10 @@ module _ (back : Bool) (t : Text) (T : Table) (e : ℕ) where
   pub record ByWay (ws : List (ℕ × ℕ)) (j : ℕ) : Type 0 where
     pub way : ℕ × ℕ
     pub is_way : Has same_pair way ws
-    pub on : Leads back t T way (j, e)
+    pub on : LeadsTo back t T way (j, e)
 
   way_first : (low high next : ℕ) (trans : List (ℕ × ℕ × ℕ)) (o : Option (ℕ × ℕ)) (k j : ℕ) → ReadsIn low high o k →
-      Leads back t T (k, next) (j, e) → ByWay (sparse_to ((low, high, next) ∷ trans) o) j
+      LeadsTo back t T (k, next) (j, e) → ByWay (sparse_to ((low, high, next) ∷ trans) o) j
   way_first low high next trans o k j r on =
       let P : Option (ℕ × ℕ) → Type 0 = λ p. ByWay (sparse_to ((low, high, next) ∷ trans) p) j in
       let Q : List ℕ → Type 0 = λ qs. Has same_pair (k, next) (each_at qs k) in
@@ -197,7 +197,7 @@ module _ (back : Bool) (t : Text) (T : Table) (e : ℕ) where
   branch_sound : (trans : List (ℕ × ℕ × ℕ)) (ys : List Tree) → LeadAll back T e trans ys →
       (i : ℕ) (w : ℕ × ℕ) (r : List (ℕ × ℕ)) (m : ℕ × ℕ) →
       Has same_pair w (sparse_to trans (reads back t i)) → Chain back t T w r → table_match T (last_or w r) ≡ Some m →
-      Passes back t T (IsMeant back t (alternation (branch_trees back trans ys))) i e w r
+      PassesBy back t T (IsMeant back t (alternation (branch_trees back trans ys))) i e w r
   branch_sound [] ys all i w r m h c final = none_in same_pair w _ (none_to (reads back t i) w h)
   branch_sound ((low, high, next) ∷ trans) [] all i w r m h c final = absurd all
   branch_sound ((low, high, next) ∷ trans) (y ∷ ys) all i w r m h c final =

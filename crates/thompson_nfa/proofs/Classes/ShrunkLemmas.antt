@@ -9,7 +9,7 @@ use Rattle.hir_core.specs.Tree.{char_class, alternation}
 use Rattle.hir_core.specs.declared.utf8_sequences.Utf8Range.{Utf8Range}
 use Rattle.nfa_core.specs.BuilderStates.{Assembly}
 use Rattle.nfa_core.specs.declared.build_error.BuildError.{BuildError}
-use Rattle.thompson_nfa.specs.ClassTries.{HasTurned, IsShort}
+use Rattle.thompson_nfa.specs.ClassTries.{HasTurned, IsShortSequence}
 use Rattle.thompson_nfa.specs.Compiled.{Makes, Does, looks_in}
 use Rattle.thompson_nfa.specs.RangeTries.{IsTrie}
 use Rattle.thompson_nfa.specs.RangeWalks.{paths_of}
@@ -38,7 +38,7 @@ module _ (ranges : List (ℕ × ℕ)) (trie : List (List (ℕ × ℕ))) (ascends
   paths_have : HasTurned (paths_of paths) (sequences_of ranges)
   paths_have = subst (λ (qs : List (List (ℕ × ℕ))). HasTurned qs (sequences_of ranges)) (sym same) has
 
-  pub paths_short : (k : ℕ) → k < length (paths_of paths) → IsShort (get_or (paths_of paths) k [])
+  pub paths_short : (k : ℕ) → k < length (paths_of paths) → IsShortSequence (get_or (paths_of paths) k [])
   paths_short k l = turned_short (paths_of paths) ranges paths_ascend paths_have k l
 
   pub few_paths : length paths ≤ scalars_in ranges

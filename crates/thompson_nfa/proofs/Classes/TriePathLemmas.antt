@@ -6,7 +6,7 @@ use Rattle.std.specs.Prelude.{Vec}
 use Rattle.std.specs.declared.alloc.Global.{Global}
 use Rattle.hir_core.specs.Sequences.{bytes_of}
 use Rattle.hir_core.specs.declared.utf8_sequences.Utf8Range.{Utf8Range}
-use Rattle.thompson_nfa.specs.ClassTries.{AreByteRanges, IsShort}
+use Rattle.thompson_nfa.specs.ClassTries.{AreByteRanges, IsShortSequence}
 use Rattle.thompson_nfa.specs.RangeTries.{AreRanges, IsTrie}
 use Rattle.thompson_nfa.specs.RangeWalks.{paths_of}
 use Rattle.thompson_nfa.specs.Utf8Compiles.{last_of}
@@ -51,15 +51,15 @@ module _ (paths : List (Vec Utf8Range Global)) (i : ℕ) (v : Vec Utf8Range Glob
       ∙ ap path_of_items (sym is)
       ∙ ap (map bytes_of) (sym value)
 
-  pub path_bytes : IsTrie (paths_of paths) → ((k : ℕ) → k < length (paths_of paths) → IsShort (get_or (paths_of paths) k [])) →
+  pub path_bytes : IsTrie (paths_of paths) → ((k : ℕ) → k < length (paths_of paths) → IsShortSequence (get_or (paths_of paths) k [])) →
       AreBytes (map bytes_of shown)
   path_bytes t short = subst AreBytes path_here (ranges_of_bytes (get_or (paths_of paths) i []) (ranges_at (paths_of paths) i t inside)
       (short i inside).2)
 
-  pub path_some : ((k : ℕ) → k < length (paths_of paths) → IsShort (get_or (paths_of paths) k [])) → 1 ≤ length shown
+  pub path_some : ((k : ℕ) → k < length (paths_of paths) → IsShortSequence (get_or (paths_of paths) k [])) → 1 ≤ length shown
   path_some short = let s = (short i inside).0 in let e = ap length path_here in let n = length-map shown bytes_of in omega (arith, s, e, n)
 
-  pub path_few : ((k : ℕ) → k < length (paths_of paths) → IsShort (get_or (paths_of paths) k [])) → length shown ≤ 4
+  pub path_few : ((k : ℕ) → k < length (paths_of paths) → IsShortSequence (get_or (paths_of paths) k [])) → length shown ≤ 4
   path_few short = let s = (short i inside).1 in let e = ap length path_here in let n = length-map shown bytes_of in omega (arith, s, e, n)
 
   pub path_after : IsTrie (paths_of paths) → ComesAfter (last_of (take i (paths_of paths))) (map bytes_of shown)

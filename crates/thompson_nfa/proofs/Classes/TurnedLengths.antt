@@ -8,8 +8,8 @@ use Rattle.search_core.specs.Utf8.Spells.{from_0000, from_0080, from_0800, from_
 use Rattle.search_core.specs.Utf8.Spells.{from_100000}
 use Rattle.hir_core.specs.Sequences.{is_in_ranges}
 use Rattle.hir_core.specs.BySequences.{sequences_of}
-use Rattle.thompson_nfa.specs.RangeTries.{IsIn, AreRanges, IsTrie}
-use Rattle.thompson_nfa.specs.ClassTries.{turned_round, HasTurned, AreByteRanges, IsShort}
+use Rattle.thompson_nfa.specs.RangeTries.{IsInSome, AreRanges, IsTrie}
+use Rattle.thompson_nfa.specs.ClassTries.{turned_round, HasTurned, AreByteRanges, IsShortSequence}
 use Rattle.thompson_nfa.proofs.Tries.TrieLemmas.{spells}
 use Rattle.thompson_nfa.proofs.Classes.TurnedStrings.{turned_round_in}
 use Rattle.thompson_nfa.proofs.Classes.ScalarCountLemmas.{class_spells}
@@ -71,7 +71,7 @@ ranges_of_bytes : (q : List (ℕ × ℕ)) → AreBytes (highest q) → AreByteRa
 ranges_of_bytes [] a = tt
 ranges_of_bytes (r ∷ q) a = (a.0, ranges_of_bytes q a.1)
 
-short_of : (rs : List (ℕ × ℕ)) (q : List (ℕ × ℕ)) → IsIn (turned_round (sequences_of rs)) (highest q) → IsShort q
+short_of : (rs : List (ℕ × ℕ)) (q : List (ℕ × ℕ)) → IsInSome (turned_round (sequences_of rs)) (highest q) → IsShortSequence q
 short_of rs q h =
     let p = class_spells rs (reverse (highest q)) (turned_round_in (sequences_of rs) (highest q) h) in
     let short = spelling_short p.0 (reverse (highest q)) p.2 in
@@ -85,11 +85,11 @@ short_of rs q h =
     )
 
 all_short : (rs : List (ℕ × ℕ)) (qs : List (List (ℕ × ℕ))) → IsTrie qs →
-    ((s : List ℕ) → IsIn qs s → IsIn (turned_round (sequences_of rs)) s) → (k : ℕ) → k < length qs → IsShort (get_or qs k [])
+    ((s : List ℕ) → IsInSome qs s → IsInSome (turned_round (sequences_of rs)) s) → (k : ℕ) → k < length qs → IsShortSequence (get_or qs k [])
 all_short rs [] t f k l = absurd (omega (arith, l))
 all_short rs (q ∷ qs) t f zero l = short_of rs q (f (highest q) (inl (highest_in q t.0)))
 all_short rs (q ∷ qs) t f (suc k) l = all_short rs qs t.2 (λ s h. f s (inr h)) k (omega (arith, l))
 
 pub turned_short : (qs : List (List (ℕ × ℕ))) (rs : List (ℕ × ℕ)) → IsTrie qs → HasTurned qs (sequences_of rs) → (k : ℕ) → k < length qs →
-    IsShort (get_or qs k [])
+    IsShortSequence (get_or qs k [])
 turned_short qs rs t h k l = all_short rs qs t h.only k l

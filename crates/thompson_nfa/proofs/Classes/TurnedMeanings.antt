@@ -12,7 +12,7 @@ use Rattle.hir_core.specs.BySequences.{sequence_tree, range_tree, sequences_of}
 use Rattle.hir_core.proofs.ForCallers.{class_to_sequences, sequences_to_class, member_of_one}
 use Rattle.nfa_core.specs.Drafted.{Table}
 use Rattle.thompson_nfa.specs.Denotes.{Denotes}
-use Rattle.thompson_nfa.specs.RangeTries.{IsIn}
+use Rattle.thompson_nfa.specs.RangeTries.{IsInSome}
 use Rattle.thompson_nfa.specs.ClassTries.{HasTurned}
 use Rattle.thompson_nfa.specs.Shared.{read_tree}
 use Rattle.thompson_nfa.proofs.Walks.DenoteLemmas.{denotes_like_meaning}
@@ -121,27 +121,27 @@ module _ (looks : Looks) (h : List ℕ) where
   -- ---- one of several sequences
 
   all_read_first : (ss : List (List (ℕ × ℕ))) (i j : ℕ) → Means looks h (alternation (map sequence_tree ss)) i j → (s : List ℕ) ×
-      IsIn ss s × StandsAt h i s × (j ≡ i + length s)
+      IsInSome ss s × StandsAt h i s × (j ≡ i + length s)
   all_read_first [] i j m = absurd m
   all_read_first (q ∷ ss) i j m = elim m [
     | inl here ↦ (let p = sequence_reads q i j here in (p.0, inl p.1, p.2, p.3))
     | inr later ↦ (let p = all_read_first ss i j later in (p.0, inr p.1, p.2, p.3))
   ]
 
-  first_read : (ss : List (List (ℕ × ℕ))) (s : List ℕ) (i : ℕ) → IsIn ss s → StandsAt h i s →
+  first_read : (ss : List (List (ℕ × ℕ))) (s : List ℕ) (i : ℕ) → IsInSome ss s → StandsAt h i s →
       Means looks h (alternation (map sequence_tree ss)) i (i + length s)
   first_read [] s i k f = k
   first_read (q ∷ ss) s i k f = elim k [ inl here ↦ inl (reads_sequence q s i here f) | inr later ↦ inr (first_read ss s i later f) ]
 
   all_read_last : (qs : List (List (ℕ × ℕ))) (i j : ℕ) → Means looks h (alternation (map (read_tree true) qs)) i j → (u : List ℕ) ×
-      IsIn qs u × StandsAt h i (reverse u) × (j ≡ i + length u)
+      IsInSome qs u × StandsAt h i (reverse u) × (j ≡ i + length u)
   all_read_last [] i j m = absurd m
   all_read_last (q ∷ qs) i j m = elim m [
     | inl here ↦ (let p = tree_reads q i j here in (p.0, inl p.1, p.2, p.3))
     | inr later ↦ (let p = all_read_last qs i j later in (p.0, inr p.1, p.2, p.3))
   ]
 
-  last_read : (qs : List (List (ℕ × ℕ))) (u : List ℕ) (i : ℕ) → IsIn qs u → StandsAt h i (reverse u) →
+  last_read : (qs : List (List (ℕ × ℕ))) (u : List ℕ) (i : ℕ) → IsInSome qs u → StandsAt h i (reverse u) →
       Means looks h (alternation (map (read_tree true) qs)) i (i + length u)
   last_read [] u i k f = k
   last_read (q ∷ qs) u i k f = elim k [ inl here ↦ inl (reads_tree q u i here f) | inr later ↦ inr (last_read qs u i later f) ]

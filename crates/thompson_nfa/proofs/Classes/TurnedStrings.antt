@@ -8,7 +8,7 @@ use Rattle.search_core.specs.Utf8.Spells.{from_0000, from_0080, from_0800, from_
 use Rattle.search_core.specs.Utf8.Spells.{from_100000}
 use Rattle.hir_core.specs.Sequences.{is_in_ranges, utf8_sequences}
 use Rattle.hir_core.proofs.ForCallers.{string_is_spelling}
-use Rattle.thompson_nfa.specs.RangeTries.{IsIn, IsApart}
+use Rattle.thompson_nfa.specs.RangeTries.{IsInSome, IsApart}
 use Rattle.thompson_nfa.specs.ClassTries.{turned_round, IsTurnedSpelling, AreTurnedSpellings}
 use Rattle.thompson_nfa.proofs.Tries.TrieLemmas.{spelled, spells}
 
@@ -36,11 +36,11 @@ in_turned (r ∷ q) (b ∷ s) e =
 pub turned_in : (q : List (ℕ × ℕ)) (s : List ℕ) → is_in_ranges (reverse q) s ≡ true → is_in_ranges q (reverse s) ≡ true
 turned_in q s e = subst (λ (p : List (ℕ × ℕ)). is_in_ranges p (reverse s) ≡ true) (reverse-reverse q) (in_turned (reverse q) s e)
 
-pub in_turned_round : (ss : List (List (ℕ × ℕ))) (s : List ℕ) → IsIn ss s → IsIn (turned_round ss) (reverse s)
+pub in_turned_round : (ss : List (List (ℕ × ℕ))) (s : List ℕ) → IsInSome ss s → IsInSome (turned_round ss) (reverse s)
 in_turned_round [] s h = h
 in_turned_round (q ∷ ss) s h = elim h [ inl here ↦ inl (in_turned q s here) | inr later ↦ inr (in_turned_round ss s later) ]
 
-pub turned_round_in : (ss : List (List (ℕ × ℕ))) (s : List ℕ) → IsIn (turned_round ss) s → IsIn ss (reverse s)
+pub turned_round_in : (ss : List (List (ℕ × ℕ))) (s : List ℕ) → IsInSome (turned_round ss) s → IsInSome ss (reverse s)
 turned_round_in [] s h = h
 turned_round_in (q ∷ ss) s h = elim h [ inl here ↦ inl (turned_in q s here) | inr later ↦ inr (turned_round_in ss s later) ]
 
@@ -94,7 +94,7 @@ turned_apart qs ranges old new = record {
 -- ---- the sequences of a range of scalars
 
 -- the place of a sequence that has the string
-pub in_place : (ss : List (List (ℕ × ℕ))) (s : List ℕ) → IsIn ss s → (i : ℕ) × (q : List (ℕ × ℕ)) × (slice_get ss i ≡ Some q) ×
+pub in_place : (ss : List (List (ℕ × ℕ))) (s : List ℕ) → IsInSome ss s → (i : ℕ) × (q : List (ℕ × ℕ)) × (slice_get ss i ≡ Some q) ×
     (is_in_ranges q s ≡ true)
 in_place [] s h = absurd h
 in_place (q ∷ ss) s h = elim h [
@@ -102,7 +102,7 @@ in_place (q ∷ ss) s h = elim h [
   | inr later ↦ let p = in_place ss s later in (suc p.0, p.1, p.2, p.3)
 ]
 
-pub strings_spell : (lo hi : ℕ) (s : List ℕ) → IsIn (utf8_sequences lo hi) s → (c : ℕ) × (lo ≤ c) × (c ≤ hi) × Spells c s
+pub strings_spell : (lo hi : ℕ) (s : List ℕ) → IsInSome (utf8_sequences lo hi) s → (c : ℕ) × (lo ≤ c) × (c ≤ hi) × Spells c s
 strings_spell lo hi s h = let p = in_place (utf8_sequences lo hi) s h in string_is_spelling lo hi p.0 p.1 s p.2 p.3
 
 pub turned_spell : (lo hi i : ℕ) (q : List (ℕ × ℕ)) → slice_get (utf8_sequences lo hi) i ≡ Some q → (s : List ℕ) →

@@ -8,8 +8,8 @@ use Rattle.nfa_core.specs.BuilderStates.{Assembly, empty_draft, union_draft}
 use Rattle.nfa_core.specs.declared.build_error.BuildError.{BuildError}
 use Rattle.thompson_nfa.specs.Compiled.{Makes, Weighs, Does, sum_of_bytes}
 use Rattle.thompson_nfa.specs.Added.{Added, Led}
-use Rattle.thompson_nfa.specs.NotedGroups.{noted}
-use Rattle.thompson_nfa.specs.Refusals.{Refuses, Stays}
+use Rattle.thompson_nfa.specs.NotedGroups.{with_groups_of}
+use Rattle.thompson_nfa.specs.Refusals.{RefusesFragment, Stays}
 use Rattle.thompson_nfa.specs.Room.{room}
 use Rattle.thompson_nfa.specs.ByteRoom.{byte_room}
 use Rattle.thompson_nfa.specs.LiteralParts.{are_literals}
@@ -30,7 +30,7 @@ pub record Cases (how : How) (old mid : Assembly) (u z i : ℕ) (xs : List Tree)
   pub n : ℕ
   pub branches : Branches old mid u z n (take i xs)
   pub fits : n + rooms how.shrink (drop i xs) ≤ rooms how.shrink xs + 2
-  pub groups : noted how.which (length old.starts) (alternation (drop i xs)) mid.groups ≡ noted how.which (length old.starts)
+  pub groups : with_groups_of how.which (length old.starts) (alternation (drop i xs)) mid.groups ≡ with_groups_of how.which (length old.starts)
       (alternation xs) old.groups
   pub bytes : sum_of_bytes mid + part_bytes 8 how.shrink (drop i xs) ≤ sum_of_bytes old + part_bytes 8 how.shrink xs + 48
 
@@ -46,8 +46,8 @@ module _ (how : How) (t0 t1 t2 : Assembly) (s1 e1 s2 e2 : ℕ) (x y : Tree) (xs 
   counted : rooms how.shrink xs ≡ room how.shrink x + (room how.shrink y + rooms how.shrink (drop 2 xs))
   counted = ap (rooms how.shrink) (two_first xs x y two is_x is_y)
 
-  pub second_refused : (new : Assembly) (e : BuildError) → Refuses how.which t1 new (room how.shrink y) y e →
-      Refuses how.which t0 new (room how.shrink (alternation xs)) (alternation xs) e
+  pub second_refused : (new : Assembly) (e : BuildError) → RefusesFragment how.which t1 new (room how.shrink y) y e →
+      RefusesFragment how.which t0 new (room how.shrink (alternation xs)) (alternation xs) e
   second_refused new e r =
       let c = room_of_alternation how.shrink xs in let d = counted in
       first_refuses (room how.shrink (alternation xs)) (alternation xs)
@@ -58,7 +58,7 @@ module _ (how : How) (t0 t1 t2 : Assembly) (s1 e1 s2 e2 : ℕ) (x y : Tree) (xs 
     -- a step behind the first two parts is refused
     pub later_refused : {mid new : Assembly} {k s n bytes : ℕ} {e : BuildError} → Progress false t0 mid k s → Stays mid new n bytes e →
         k + n ≤ room how.shrink x + room how.shrink y + 2 → bytes ≤ s + 4096 * n →
-        Refuses how.which t0 new (room how.shrink (alternation xs)) (alternation xs) e
+        RefusesFragment how.which t0 new (room how.shrink (alternation xs)) (alternation xs) e
     later_refused p r le lb =
         let c = room_of_alternation how.shrink xs in let d = counted in
         refuses how.which (room how.shrink (alternation xs)) (alternation xs) (then_quits (rooms how.shrink xs + 2) p r (omega arith) lb)
@@ -68,11 +68,11 @@ module _ (how : How) (t0 t1 t2 : Assembly) (s1 e1 s2 e2 : ℕ) (x y : Tree) (xs 
     begun = then_made 8 (first_made first) second (omega arith)
 
     pub union_refused : (new : Assembly) (e : BuildError) → Stays t2 new 1 24 e →
-        Refuses how.which t0 new (room how.shrink (alternation xs)) (alternation xs) e
+        RefusesFragment how.which t0 new (room how.shrink (alternation xs)) (alternation xs) e
     union_refused new e r = later_refused begun r (omega arith) (omega arith)
 
     pub end_refused : (t3 new : Assembly) (u : ℕ) (e : BuildError) → Added t2 t3 u (union_draft []) t2.groups → Stays t3 new 1 24 e →
-        Refuses how.which t0 new (room how.shrink (alternation xs)) (alternation xs) e
+        RefusesFragment how.which t0 new (room how.shrink (alternation xs)) (alternation xs) e
     end_refused t3 new u e union r = later_refused (choice_then true begun union) r (omega arith) (omega arith)
 
     module _ (t3 t4 : Assembly) (u z : ℕ) (union : Added t2 t3 u (union_draft []) t2.groups)
@@ -91,20 +91,20 @@ module _ (how : How) (t0 t1 t2 : Assembly) (s1 e1 s2 e2 : ℕ) (x y : Tree) (xs 
       with_two p5 p6 = then_led 16 (with_one p5) p6 (omega (arith, both_sizes)) (omega (arith, both_sizes, p5.size)) (omega arith)
 
       pub first_lead_refused : (new : Assembly) (e : BuildError) → Stays t4 new 0 4 e →
-          Refuses how.which t0 new (room how.shrink (alternation xs)) (alternation xs) e
+          RefusesFragment how.which t0 new (room how.shrink (alternation xs)) (alternation xs) e
       first_lead_refused new e r = later_refused both r (omega arith) (omega arith)
 
       pub second_lead_refused : (t5 new : Assembly) (e : BuildError) → Led t4 t5 u s1 → Stays t5 new 0 4 e →
-          Refuses how.which t0 new (room how.shrink (alternation xs)) (alternation xs) e
+          RefusesFragment how.which t0 new (room how.shrink (alternation xs)) (alternation xs) e
       second_lead_refused t5 new e p5 r = later_refused (with_one p5) r (omega arith) (omega arith)
 
       pub third_lead_refused : (t5 t6 new : Assembly) (e : BuildError) → Led t4 t5 u s1 → Led t5 t6 e1 z → Stays t6 new 0 4 e →
-          Refuses how.which t0 new (room how.shrink (alternation xs)) (alternation xs) e
+          RefusesFragment how.which t0 new (room how.shrink (alternation xs)) (alternation xs) e
       third_lead_refused t5 t6 new e p5 p6 r = later_refused (with_two p5 p6) r (omega arith) (omega arith)
 
       pub fourth_lead_refused : (t5 t6 t7 new : Assembly) (e : BuildError) → Led t4 t5 u s1 → Led t5 t6 e1 z → Led t6 t7 u s2 →
           Stays t7 new 0 4 e →
-          Refuses how.which t0 new (room how.shrink (alternation xs)) (alternation xs) e
+          RefusesFragment how.which t0 new (room how.shrink (alternation xs)) (alternation xs) e
       fourth_lead_refused t5 t6 t7 new e p5 p6 p7 r =
           later_refused (then_led 12 (with_two p5 p6) p7 (omega (arith, both_sizes)) (omega (arith, both_sizes, p5.size, p6.size)) (omega
           arith)) r
@@ -113,8 +113,8 @@ module _ (how : How) (t0 t1 t2 : Assembly) (s1 e1 s2 e2 : ℕ) (x y : Tree) (xs 
     module _ (t3 t4 t5 t6 t7 t8 : Assembly) (u z : ℕ) (union : Added t2 t3 u (union_draft []) t2.groups)
         (last : Added t3 t4 z (empty_draft 0) t3.groups) (p5 : Led t4 t5 u s1) (p6 : Led t5 t6 e1 z)
         (p7 : Led t6 t7 u s2) (p8 : Led t7 t8 e2 z) where
-      pub cases_open : Does t0 t1 s1 e1 x → Does t1 t2 s2 e2 y → t1.groups ≡ noted how.which (length t0.starts) x t0.groups →
-          t2.groups ≡ noted how.which (length t1.starts) y t1.groups →
+      pub cases_open : Does t0 t1 s1 e1 x → Does t1 t2 s2 e2 y → t1.groups ≡ with_groups_of how.which (length t0.starts) x t0.groups →
+          t2.groups ≡ with_groups_of how.which (length t1.starts) y t1.groups →
           Weighs t0 t1 (byte_room how.shrink x) → Weighs t1 t2 (byte_room how.shrink y) → Cases how t0 t8 u z 2 xs
       cases_open does1 does2 g1 g2 w1 w2 =
           let same = two_first xs x y two is_x is_y in
@@ -122,18 +122,18 @@ module _ (how : How) (t0 t1 t2 : Assembly) (s1 e1 s2 e2 : ℕ) (x y : Tree) (xs 
           let P : List Tree → Type 0 = λ ys. Branches t0 t8 u z (room how.shrink x + room how.shrink y + 1 + 1) ys in
           let front : x ∷ y ∷ [] ≡ take 2 xs = sym (ap (take 2) same) in
           let starts : length t1.starts ≡ length t0.starts = ap (λ (b : Assembly). length b.starts) first.fragment.grows.settings in
-          let groups : t8.groups ≡ noted how.which (length t0.starts) y (noted how.which (length t0.starts) x t0.groups) =
+          let groups : t8.groups ≡ with_groups_of how.which (length t0.starts) y (with_groups_of how.which (length t0.starts) x t0.groups) =
           ap (λ (b : Assembly). b.groups) p8.settings ∙ ap (λ (b : Assembly). b.groups) p7.settings
           ∙ ap (λ (b : Assembly). b.groups) p6.settings ∙ ap (λ (b : Assembly). b.groups) p5.settings
-          ∙ last.groups_are ∙ union.groups_are ∙ g2 ∙ ap (λ p. noted how.which p y t1.groups) starts
-          ∙ ap (noted how.which (length t0.starts) y) g1 in
+          ∙ last.groups_are ∙ union.groups_are ∙ g2 ∙ ap (λ p. with_groups_of how.which p y t1.groups) starts
+          ∙ ap (with_groups_of how.which (length t0.starts) y) g1 in
           record {
             n = room how.shrink x + room how.shrink y + 1 + 1;
             branches = subst P front (branches_open t0 t1 t2 t3 t4 t5 t6 t7 t8 s1 e1 (room how.shrink x) s2 e2
                 (room how.shrink y) u z x y first second union last p5 p6 p7 p8 does1 does2);
             fits = omega arith;
-            groups = ap (noted how.which (length t0.starts) (alternation (drop 2 xs))) groups
-                ∙ sym (ap (λ ys. noted how.which (length t0.starts) (alternation ys) t0.groups) same);
+            groups = ap (with_groups_of how.which (length t0.starts) (alternation (drop 2 xs))) groups
+                ∙ sym (ap (λ ys. with_groups_of how.which (length t0.starts) (alternation ys) t0.groups) same);
             bytes = omega (
               arith,
               w1,
@@ -150,7 +150,7 @@ module _ (how : How) (t0 t1 t2 : Assembly) (s1 e1 s2 e2 : ℕ) (x y : Tree) (xs 
 
 module _ (how : How) (old b : Assembly) (u z i : ℕ) (xs : List Tree) (cs : Cases how old b u z i xs) where
   pub cases_then : (c d f : Assembly) (s e : ℕ) (x : Tree) → i < length xs → x ≡ get_or xs i x → Makes b c s e (room how.shrink x) →
-      Does b c s e x → c.groups ≡ noted how.which (length b.starts) x b.groups →
+      Does b c s e x → c.groups ≡ with_groups_of how.which (length b.starts) x b.groups →
       Led c d u s → Led d f e z → Weighs b c (byte_room how.shrink x) → Cases how old f u z (i + 1) xs
   cases_then c d f s e x l is m does g p1 p2 w =
       let sized : part_bytes 8 how.shrink (drop i xs) ≡ byte_room how.shrink x + 8 + part_bytes 8 how.shrink (drop (i + 1) xs) =
@@ -162,15 +162,15 @@ module _ (how : How) (old b : Assembly) (u z i : ℕ) (xs : List Tree) (cs : Cas
       let more : take i xs ++ x ∷ [] ≡ take (i + 1) xs = ap (λ (y : Tree). take i xs ++ y ∷ []) is ∙ sym (take_more xs i x l) in
       let starts : length b.starts ≡ length old.starts = ap (λ (w : Assembly). length w.starts)
       cs.branches.progress.partly.grows.settings in
-      let groups : f.groups ≡ noted how.which (length old.starts) x b.groups =
+      let groups : f.groups ≡ with_groups_of how.which (length old.starts) x b.groups =
       ap (λ (w : Assembly). w.groups) p2.settings ∙ ap (λ (w : Assembly). w.groups) p1.settings ∙ g
-      ∙ ap (λ p. noted how.which p x b.groups) starts in
+      ∙ ap (λ p. with_groups_of how.which p x b.groups) starts in
       record {
         n = cs.n + room how.shrink x;
         branches = subst P more (branches_then old b c d f u z cs.n s e (room how.shrink x) (take i xs) x cs.branches m p1 p2 does);
         fits = omega arith;
-        groups = ap (noted how.which (length old.starts) (alternation (drop (i + 1) xs))) groups
-            ∙ sym (ap (λ ys. noted how.which (length old.starts) (alternation ys) b.groups) split) ∙ cs.groups;
+        groups = ap (with_groups_of how.which (length old.starts) (alternation (drop (i + 1) xs))) groups
+            ∙ sym (ap (λ ys. with_groups_of how.which (length old.starts) (alternation ys) b.groups) split) ∙ cs.groups;
         bytes = omega (arith, w, cs.bytes, p1.bytes, p2.bytes, sized);
       }
 
@@ -187,7 +187,7 @@ module _ (how : How) (old b : Assembly) (u z i : ℕ) (xs : List Tree) (cs : Cas
   cases_left other x l is = omega (arith, cs.bytes, sized x l is, bytes_of_alternation how.shrink xs other)
 
   pub cases_refused : (new : Assembly) (x : Tree) (e : BuildError) → i < length xs → x ≡ get_or xs i x →
-      Refuses how.which b new (room how.shrink x) x e → Refuses how.which old new (room how.shrink (alternation xs)) (alternation xs) e
+      RefusesFragment how.which b new (room how.shrink x) x e → RefusesFragment how.which old new (room how.shrink (alternation xs)) (alternation xs) e
   cases_refused new x e l is r =
       let fits = cs.fits in
       let counted : rooms how.shrink (drop i xs) ≡ room how.shrink x + rooms how.shrink (drop (i + 1) xs) =
@@ -203,7 +203,7 @@ module _ (how : How) (old b : Assembly) (u z i : ℕ) (xs : List Tree) (cs : Cas
 
   pub cases_lead_refused : (c new : Assembly) (s t : ℕ) (x : Tree) (e : BuildError) → i < length xs → x ≡ get_or xs i x →
       Makes b c s t (room how.shrink x) → Stays c new 0 4 e →
-      Refuses how.which old new (room how.shrink (alternation xs)) (alternation xs) e
+      RefusesFragment how.which old new (room how.shrink (alternation xs)) (alternation xs) e
   cases_lead_refused c new s t x e l is m r =
       let fits = cs.fits in
       let counted : rooms how.shrink (drop i xs) ≡ room how.shrink x + rooms how.shrink (drop (i + 1) xs) =
@@ -214,7 +214,7 @@ module _ (how : How) (old b : Assembly) (u z i : ℕ) (xs : List Tree) (cs : Cas
 
   pub cases_end_refused : (c d new : Assembly) (s t : ℕ) (x : Tree) (e : BuildError) → i < length xs → x ≡ get_or xs i x →
       Makes b c s t (room how.shrink x) → Led c d u s → Stays d new 0 4 e →
-      Refuses how.which old new (room how.shrink (alternation xs)) (alternation xs) e
+      RefusesFragment how.which old new (room how.shrink (alternation xs)) (alternation xs) e
   cases_end_refused c d new s t x e l is m p1 r =
       let fits = cs.fits in
       let v = cs.branches.u_new in
@@ -234,8 +234,8 @@ module _ (how : How) (old b : Assembly) (u z i : ℕ) (xs : List Tree) (cs : Cas
       let P : List Tree → Type 0 = λ ys. Does old b u z (alternation ys) in
       subst P (take_all i xs over) (branches_does old b u z cs.n (take i xs) cs.branches)
 
-  pub cases_groups : length xs ≤ i → b.groups ≡ noted how.which (length old.starts) (alternation xs) old.groups
-  cases_groups over = sym (ap (λ ys. noted how.which (length old.starts) (alternation ys) b.groups) (drop_of_length-le xs over)) ∙ cs.groups
+  pub cases_groups : length xs ≤ i → b.groups ≡ with_groups_of how.which (length old.starts) (alternation xs) old.groups
+  cases_groups over = sym (ap (λ ys. with_groups_of how.which (length old.starts) (alternation ys) b.groups) (drop_of_length-le xs over)) ∙ cs.groups
 
 -- a part takes no more than all
 part_room : (shrink : Bool) (xs : List Tree) (i : ℕ) (x : Tree) → i < length xs → x ≡ get_or xs i x → room shrink x ≤ rooms shrink xs
@@ -255,8 +255,8 @@ single_does a b s e x xs l is d = let P : List Tree → Type 0 = λ ys. Does a b
     subst P (sym (one_of xs x l is)) (does_same a b s e x (alternation (x ∷ [])) (same_alternation_one x) d)
 
 pub single_groups : (kept : WhichCaptures) (p : ℕ) (x : Tree) (xs : List Tree) (old now : Groups) → length xs ≡ 1 → x ≡ get_or xs 0 x →
-    now ≡ noted kept p x old → now ≡ noted kept p (alternation xs) old
-single_groups kept p x xs old now l is g = g ∙ sym (ap (λ ys. noted kept p (alternation ys) old) (one_of xs x l is))
+    now ≡ with_groups_of kept p x old → now ≡ with_groups_of kept p (alternation xs) old
+single_groups kept p x xs old now l is g = g ∙ sym (ap (λ ys. with_groups_of kept p (alternation ys) old) (one_of xs x l is))
 
 pub single_made : (shrink : Bool) (a b : Assembly) (s e : ℕ) (x : Tree) (xs : List Tree) → length xs ≡ 1 → x ≡ get_or xs 0 x →
     Makes a b s e (room shrink x) → Makes a b s e (room shrink (alternation xs))
@@ -265,8 +265,8 @@ single_made shrink a b s e x xs l is m =
     made_capped (room shrink (alternation xs)) m (omega arith)
 
 pub part_refused : (how : How) (old new : Assembly) (i : ℕ) (x : Tree) (xs : List Tree) (e : BuildError) → i < length xs →
-    x ≡ get_or xs i x → Refuses how.which old new (room how.shrink x) x e →
-    Refuses how.which old new (room how.shrink (alternation xs)) (alternation xs) e
+    x ≡ get_or xs i x → RefusesFragment how.which old new (room how.shrink x) x e →
+    RefusesFragment how.which old new (room how.shrink (alternation xs)) (alternation xs) e
 part_refused how old new i x xs e l is r =
     let c = room_of_alternation how.shrink xs in
     let most = part_room how.shrink xs i x l is in

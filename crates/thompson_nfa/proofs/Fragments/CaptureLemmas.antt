@@ -19,8 +19,8 @@ use Rattle.nfa_core.specs.declared.build_error.BuildError.{BuildError}
 use Rattle.nfa_core.specs.declared.build_error.BuildError.TheVariants as error
 use Rattle.thompson_nfa.specs.Compiled.{Finished, AllComeOut, IsTame, Makes, Does, sum_of_bytes}
 use Rattle.thompson_nfa.specs.Added.{Added, Led}
-use Rattle.thompson_nfa.specs.NotedGroups.{noted, keeps_group}
-use Rattle.thompson_nfa.specs.Refusals.{RefusesGroup, QuitsGroup, Refuses, RefusesTree, RefusesStep, Stays}
+use Rattle.thompson_nfa.specs.NotedGroups.{with_groups_of, keeps_group}
+use Rattle.thompson_nfa.specs.Refusals.{RefusesGroup, QuitsGroup, RefusesFragment, RefusesTree, RefusesStep, Stays}
 use Rattle.thompson_nfa.specs.declared.which_captures.WhichCaptures.{WhichCaptures}
 use Rattle.thompson_nfa.proofs.Steps.LookLemmas.{quiet_led, quiet_added, adds_around}
 use Rattle.thompson_nfa.proofs.Steps.SizeLemmas.{AddedAt, added_at, MadeAt, made_at, LedAt}
@@ -136,7 +136,7 @@ group_later kept p index name x old mid k m error.NoMemory size keeps states le 
 
 pub start_quits : (kept : WhichCaptures) (old new : Assembly) (index m : ℕ) (name : Option Name) (x : Tree) (e : BuildError) →
     keeps_group kept index ≡ true → 1 ≤ m → QuitsGroup old new index e →
-    Refuses kept old new m (capture index name x) e
+    RefusesFragment kept old new m (capture index name x) e
 start_quits kept old new index m name x e keeps le r = record {
   settings = r.settings;
   cause = group_later kept (length old.starts) index name x old old 0 m e refl keeps (omega arith) (omega arith) r.cause (omega arith);
@@ -144,7 +144,7 @@ start_quits kept old new index m name x e keeps le r = record {
 
 pub end_quits : {kept : WhichCaptures} {old mid new : Assembly} {k s : ℕ} {e : BuildError} (index m : ℕ) (name : Option Name)
     (x : Tree) → Progress false old mid k s → keeps_group kept index ≡ true → k < m →
-    QuitsGroup mid new index e → Refuses kept old new m (capture index name x) e
+    QuitsGroup mid new index e → RefusesFragment kept old new m (capture index name x) e
 end_quits {kept} {old} {mid} {new} {k} {s} {e} index m name x p keeps le r =
     let starts : length mid.starts ≡ length old.starts = ap (λ (b : Assembly). length b.starts) p.partly.grows.settings in
     let P : ℕ → Type 0 = λ pattern. RefusesGroup pattern index mid e in
@@ -157,14 +157,14 @@ end_quits {kept} {old} {mid} {new} {k} {s} {e} index m name x p keeps le r =
 -- the groups of a capture whose states are made, and of another
 pub capture_groups : (kept : WhichCaptures) (p q index : ℕ) (name shown : Option Name) (x : Tree) (old begun now : Groups) →
     keeps_group kept index ≡ true → begun ≡ with_group old p index name → name ≡ shown → q ≡ p →
-    now ≡ noted kept q x begun → now ≡ noted kept p (capture index shown x) old
+    now ≡ with_groups_of kept q x begun → now ≡ with_groups_of kept p (capture index shown x) old
 capture_groups kept p q index name shown x old begun now keeps first same here is =
-    is ∙ ap (λ k. noted kept k x begun) here ∙ ap (noted kept p x) (first ∙ ap (with_group old p index) same)
-    ∙ sym (ap (λ (b : Bool). noted kept p x (if b then with_group old p index shown else old)) keeps)
+    is ∙ ap (λ k. with_groups_of kept k x begun) here ∙ ap (with_groups_of kept p x) (first ∙ ap (with_group old p index) same)
+    ∙ sym (ap (λ (b : Bool). with_groups_of kept p x (if b then with_group old p index shown else old)) keeps)
 
 pub plain_groups : (kept : WhichCaptures) (p index : ℕ) (shown : Option Name) (x : Tree) (old now : Groups) →
-    keeps_group kept index ≡ false → now ≡ noted kept p x old → now ≡ noted kept p (capture index shown x) old
-plain_groups kept p index shown x old now drops is = is ∙ sym (ap (λ (b : Bool). noted kept p x (if b then with_group old p index shown
+    keeps_group kept index ≡ false → now ≡ with_groups_of kept p x old → now ≡ with_groups_of kept p (capture index shown x) old
+plain_groups kept p index shown x old now drops is = is ∙ sym (ap (λ (b : Bool). with_groups_of kept p x (if b then with_group old p index shown
     else old)) drops)
 
 pub plain_does : (old new : Assembly) (s e index : ℕ) (name : Option Name) (x : Tree) → Does old new s e x →
@@ -192,7 +192,7 @@ module _ {t0 t1 : Assembly} {a index : ℕ} (name : Option Name)
   )) start_known refl) (omega arith)
 
   pub body_refused : {new : Assembly} {n : ℕ} {err : BuildError} (kept : WhichCaptures) (shown : Option Name) (x : Tree) →
-      Refuses kept t1 new n x err → Refuses kept t0 new (n + 2) (capture index shown x) err
+      RefusesFragment kept t1 new n x err → RefusesFragment kept t0 new (n + 2) (capture index shown x) err
   body_refused {new} {n} kept shown x r = then_refuses (n + 2) (capture index shown x) with_start r (λ other h. inr h) (omega arith)
 
   module _ {t2 : Assembly} {s e n : ℕ} (body : Makes t1 t2 s e n) where
@@ -200,7 +200,7 @@ module _ {t0 t1 : Assembly} {a index : ℕ} (name : Option Name)
     with_body = then_made 4000 with_start body (omega arith)
 
     pub end_step_refused : {new : Assembly} {err : BuildError} (kept : WhichCaptures) (shown : Option Name) (x : Tree) →
-        keeps_group kept index ≡ true → QuitsGroup t2 new index err → Refuses kept t0 new (n + 2) (capture index shown x) err
+        keeps_group kept index ≡ true → QuitsGroup t2 new index err → RefusesFragment kept t0 new (n + 2) (capture index shown x) err
     end_step_refused kept shown x keeps r = end_quits index (n + 2) shown x with_body keeps (omega arith) r
 
     module _ {t3 : Assembly} {z pattern : ℕ} (last : Added t2 t3 z (capture_end_draft pattern index 0) t2.groups)
@@ -220,12 +220,12 @@ module _ {t0 t1 : Assembly} {a index : ℕ} (name : Option Name)
           (omega arith)
 
       pub lead_refused : {new : Assembly} {err : BuildError} (kept : WhichCaptures) (shown : Option Name) (x : Tree) →
-          Stays t3 new 0 4 err → Refuses kept t0 new (n + 2) (capture index shown x) err
+          Stays t3 new 0 4 err → RefusesFragment kept t0 new (n + 2) (capture index shown x) err
       lead_refused kept shown x r = refuses kept (n + 2) (capture index shown x)
           (then_quits (n + 2) with_end r (omega arith) (omega arith)) (omega arith)
 
       pub lead_on_refused : {t4 new : Assembly} {err : BuildError} (kept : WhichCaptures) (shown : Option Name) (x : Tree) →
-          Led t3 t4 a s → Stays t4 new 0 4 err → Refuses kept t0 new (n + 2) (capture index shown x) err
+          Led t3 t4 a s → Stays t4 new 0 4 err → RefusesFragment kept t0 new (n + 2) (capture index shown x) err
       lead_on_refused kept shown x led r = refuses kept (n + 2) (capture index shown x)
           (then_quits (n + 2) (with_lead led) r (omega arith) (omega arith)) (omega arith)
 

@@ -10,7 +10,7 @@ use Rattle.nfa_core.specs.Places.{same_pair}
 use Rattle.nfa_core.specs.Ways.{Text}
 use Rattle.nfa_core.specs.Drafted.{Table, table_match}
 use Rattle.nfa_core.proofs.ForCallers.{none_in, has_cons, has_same, has_later, pairs_equal}
-use Rattle.thompson_nfa.specs.Denotes.{at, seen, IsMeant, Leads, Passes, Reaches, ComesToEnd, Halts, Orders, Denotes}
+use Rattle.thompson_nfa.specs.Denotes.{at, seen, IsMeant, LeadsTo, PassesBy, Reaches, ComesToEnd, Halts, Orders, Denotes}
 use Rattle.thompson_nfa.proofs.Walks.WayLemmas.{each_at, at_append, Goes, goes_union}
 use Rattle.thompson_nfa.proofs.Walks.LeadLemmas.{Chain, goes_begins, goes_leads, passes_later}
 use Rattle.thompson_nfa.proofs.Walks.HaltLemmas.{Ended, ended_none, ended_append, ended_on}
@@ -43,7 +43,7 @@ module _ (back : Bool) (T : Table) (t : Text) (e : ℕ) where
   pub record Chosen (qs : List ℕ) (i j : ℕ) : Type 0 where
     pub by : ℕ
     pub is_way : Has same_pair (i, by) (each_at qs i)
-    pub on : Leads back t T (i, by) (j, e)
+    pub on : LeadsTo back t T (i, by) (j, e)
 
   all_complete : (qs : List ℕ) (xs : List Tree) → AllDenote back T e qs xs → (i j : ℕ) → IsMeant back t (alternation xs) i j → Chosen qs i j
   all_complete _ _ none_denote i j m = absurd (meant_never back t i j m)
@@ -59,7 +59,7 @@ module _ (back : Bool) (T : Table) (t : Text) (e : ℕ) where
 
   all_sound : (qs : List ℕ) (xs : List Tree) → AllDenote back T e qs xs → (i : ℕ) (w : ℕ × ℕ) (r : List (ℕ × ℕ)) (m : ℕ × ℕ) →
       Has same_pair w (each_at qs i) →
-      Chain back t T w r → table_match T (last_or w r) ≡ Some m → Passes back t T (IsMeant back t (alternation xs)) i e w r
+      Chain back t T w r → table_match T (last_or w r) ≡ Some m → PassesBy back t T (IsMeant back t (alternation xs)) i e w r
   all_sound _ _ none_denote i w r m h c final = none_in same_pair w _ h
   all_sound _ _ (more_denote q x qs xs d ds) i w r m h c final = elim (has_cons same_pair pairs_equal w (i, q) (each_at qs i) h) [
     | inl is ↦

@@ -8,8 +8,8 @@ use Rattle.nfa_core.specs.BuilderStates.{Assembly}
 use Rattle.nfa_core.specs.declared.build_error.BuildError.{BuildError}
 use Rattle.thompson_nfa.specs.Compiled.{Makes, Weighs, Does, DoesFirst, IsReady, sum_of_bytes}
 use Rattle.thompson_nfa.specs.Added.{Led}
-use Rattle.thompson_nfa.specs.NotedGroups.{noted, HasGroup}
-use Rattle.thompson_nfa.specs.Refusals.{Refuses, Stays}
+use Rattle.thompson_nfa.specs.NotedGroups.{with_groups_of, HasGroup}
+use Rattle.thompson_nfa.specs.Refusals.{RefusesFragment, Stays}
 use Rattle.thompson_nfa.specs.Turned.{turned_place, left_after}
 use Rattle.thompson_nfa.specs.Room.{room}
 use Rattle.thompson_nfa.specs.ByteRoom.{byte_room}
@@ -83,29 +83,29 @@ left_room shrink true xs i x l e = let p = rooms_push shrink (take (length xs - 
 -- the groups of the parts that are left
 pub left_groups : (kept : WhichCaptures) (p : ℕ) (back : Bool) (xs : List Tree) (i : ℕ) (x : Tree) (was now whole : Groups) →
     (back ≡ true → kept ≡ which.None) → i < length xs →
-    x ≡ get_or xs (turned_place back i (length xs)) x → now ≡ noted kept p x was →
-    noted kept p (concat (left_after back i xs)) was ≡ whole → noted kept p (concat (left_after back (i + 1) xs)) now ≡ whole
+    x ≡ get_or xs (turned_place back i (length xs)) x → now ≡ with_groups_of kept p x was →
+    with_groups_of kept p (concat (left_after back i xs)) was ≡ whole → with_groups_of kept p (concat (left_after back (i + 1) xs)) now ≡ whole
 left_groups kept p false xs i x was now whole none l e is so_far =
-    ap (noted kept p (concat (drop (i + 1) xs))) is ∙ sym (ap (λ ys. noted kept p (concat ys) was) (first_left xs i x x l e)) ∙ so_far
+    ap (with_groups_of kept p (concat (drop (i + 1) xs))) is ∙ sym (ap (λ ys. with_groups_of kept p (concat ys) was) (first_left xs i x x l e)) ∙ so_far
 left_groups kept p true xs i x was now whole none l e is so_far =
     let no : kept ≡ which.None = none refl in
     let rest = concat (take (length xs - (i + 1)) xs) in
     let all = concat (take (length xs - i) xs) in
-    ap (λ k. noted k p rest now) no ∙ none_noted p rest now ∙ is ∙ ap (λ k. noted k p x was) no ∙ none_noted p x was
-    ∙ sym (none_noted p all was) ∙ sym (ap (λ k. noted k p all was) no) ∙ so_far
+    ap (λ k. with_groups_of k p rest now) no ∙ none_noted p rest now ∙ is ∙ ap (λ k. with_groups_of k p x was) no ∙ none_noted p x was
+    ∙ sym (none_noted p all was) ∙ sym (ap (λ k. with_groups_of k p all was) no) ∙ so_far
 
 pub record Parts (how : How) (old mid : Assembly) (start end i : ℕ) (xs : List Tree) : Type 0 where
   pub n : ℕ
   pub made : Makes old mid start end n
   pub fits : n + rooms how.shrink (left_after old.reverse i xs) ≤ rooms how.shrink xs
   pub does : DoesFirst old mid start end (concat (left_after old.reverse i xs)) (concat xs)
-  pub groups : noted how.which (length old.starts) (concat (left_after old.reverse i xs)) mid.groups ≡ noted how.which (length old.starts)
+  pub groups : with_groups_of how.which (length old.starts) (concat (left_after old.reverse i xs)) mid.groups ≡ with_groups_of how.which (length old.starts)
       (concat xs) old.groups
   pub bytes : sum_of_bytes mid + part_bytes 4 how.shrink (left_after old.reverse i xs) ≤ sum_of_bytes old + part_bytes 4 how.shrink xs
 
 pub parts_first : (how : How) (old mid : Assembly) (s e : ℕ) (x : Tree) (xs : List Tree) → IsReady how.which old → 0 < length xs →
     x ≡ get_or xs (turned_place old.reverse 0 (length xs)) x →
-    Makes old mid s e (room how.shrink x) → Does old mid s e x → mid.groups ≡ noted how.which (length old.starts) x old.groups →
+    Makes old mid s e (room how.shrink x) → Does old mid s e x → mid.groups ≡ with_groups_of how.which (length old.starts) x old.groups →
     Weighs old mid (byte_room how.shrink x) → Parts how old mid s e 1 xs
 parts_first how old mid s e x xs ready some is m d g w =
     let sized = left_bytes 4 how.shrink old.reverse xs 0 x some is in
@@ -122,8 +122,8 @@ parts_first how old mid s e x xs ready some is m d g w =
           (concat_begun old.reverse xs x some is)
           (does_same old mid s e x (concat (x ∷ [])) (same_concat_one x) d);
       groups = left_groups how.which (length old.starts) old.reverse xs 0 x old.groups mid.groups
-          (noted how.which (length old.starts) (concat xs) old.groups) ready.forward some is g
-          (ap (λ ys. noted how.which (length old.starts) (concat ys) old.groups) (left_all old.reverse xs));
+          (with_groups_of how.which (length old.starts) (concat xs) old.groups) ready.forward some is g
+          (ap (λ ys. with_groups_of how.which (length old.starts) (concat ys) old.groups) (left_all old.reverse xs));
       bytes = omega arith;
     }
 
@@ -134,14 +134,14 @@ starts_kept ps = ap (λ (b : Assembly). length b.starts) ps.made.fragment.grows.
 pub parts_then : (how : How) (old b c d : Assembly) (start end s e i : ℕ) (x : Tree) (xs : List Tree) → IsReady how.which old →
     i < length xs → x ≡ get_or xs (turned_place old.reverse i (length xs)) x →
     Parts how old b start end i xs → Makes b c s e (room how.shrink x) → Does b c s e x →
-    c.groups ≡ noted how.which (length b.starts) x b.groups → Led c d end s → Weighs b c (byte_room how.shrink x) →
+    c.groups ≡ with_groups_of how.which (length b.starts) x b.groups → Led c d end s → Weighs b c (byte_room how.shrink x) →
     Parts how old d start e (i + 1) xs
 parts_then how old b c d start end s e i x xs ready inside is ps m does g led w =
     let sized = left_bytes 4 how.shrink old.reverse xs i x inside is in
     let counted = left_room how.shrink old.reverse xs i x inside is in
     let fits = ps.fits in
-    let groups : d.groups ≡ noted how.which (length old.starts) x b.groups =
-    ap (λ (z : Assembly). z.groups) led.settings ∙ g ∙ ap (λ p. noted how.which p x b.groups) (starts_kept ps) in
+    let groups : d.groups ≡ with_groups_of how.which (length old.starts) x b.groups =
+    ap (λ (z : Assembly). z.groups) led.settings ∙ g ∙ ap (λ p. with_groups_of how.which p x b.groups) (starts_kept ps) in
     record {
       n = ps.n + room how.shrink x;
       made = join_made old b c d start end ps.n s e (room how.shrink x) ps.made m led;
@@ -150,7 +150,7 @@ parts_then how old b c d start end s e i x xs ready inside is ps m does g led w 
           (concat (left_after old.reverse (i + 1) xs)) (concat (left_after old.reverse i xs)) (concat xs)
           (concat_joins old.reverse xs i x inside is) ps.does (does_same b c s e x (concat (x ∷ [])) (same_concat_one x) does);
       groups = left_groups how.which (length old.starts) old.reverse xs i x b.groups d.groups
-          (noted how.which (length old.starts) (concat xs) old.groups) ready.forward inside is groups ps.groups;
+          (with_groups_of how.which (length old.starts) (concat xs) old.groups) ready.forward inside is groups ps.groups;
       bytes = omega (arith, sized, ps.bytes, w, led.bytes);
     }
 
@@ -162,8 +162,8 @@ module _ (how : How) (old mid : Assembly) (start end i : ℕ) (xs : List Tree) (
   parts_does over = does_all old mid start end (concat (left_after old.reverse i xs)) (concat xs)
       (concat_ended old.reverse i xs over) ps.does
 
-  pub parts_groups : length xs ≤ i → mid.groups ≡ noted how.which (length old.starts) (concat xs) old.groups
-  parts_groups over = sym (ap (λ ys. noted how.which (length old.starts) (concat ys) mid.groups) (left_none old.reverse i xs over))
+  pub parts_groups : length xs ≤ i → mid.groups ≡ with_groups_of how.which (length old.starts) (concat xs) old.groups
+  parts_groups over = sym (ap (λ ys. with_groups_of how.which (length old.starts) (concat ys) mid.groups) (left_none old.reverse i xs over))
       ∙ ps.groups
 
   pub parts_weigh : Weighs old mid (byte_room how.shrink (concat xs))
@@ -182,7 +182,7 @@ module _ (how : How) (old mid : Assembly) (start end i : ℕ) (xs : List Tree) (
   -- the next part is refused, or that it is led to
   pub parts_refused : (new : Assembly) (x : Tree) (e : BuildError) → i < length xs →
       x ≡ get_or xs (turned_place old.reverse i (length xs)) x →
-      Refuses how.which mid new (room how.shrink x) x e → Refuses how.which old new (room how.shrink (concat xs)) (concat xs) e
+      RefusesFragment how.which mid new (room how.shrink x) x e → RefusesFragment how.which old new (room how.shrink (concat xs)) (concat xs) e
   parts_refused new x e inside is r =
       let counted = left_room how.shrink old.reverse xs i x inside is in
       let fits = ps.fits in
@@ -194,7 +194,7 @@ module _ (how : How) (old mid : Assembly) (start end i : ℕ) (xs : List Tree) (
 
   pub parts_lead_refused : (b new : Assembly) (s t : ℕ) (x : Tree) (e : BuildError) → i < length xs →
       x ≡ get_or xs (turned_place old.reverse i (length xs)) x →
-      Makes mid b s t (room how.shrink x) → Stays b new 0 4 e → Refuses how.which old new (room how.shrink (concat xs)) (concat xs) e
+      Makes mid b s t (room how.shrink x) → Stays b new 0 4 e → RefusesFragment how.which old new (room how.shrink (concat xs)) (concat xs) e
   parts_lead_refused b new s t x e inside is m r =
       let counted = left_room how.shrink old.reverse xs i x inside is in
       let fits = ps.fits in
@@ -215,7 +215,7 @@ first_part_bytes shrink back x xs some is = omega (
 -- the first part is refused
 pub first_part_refused : (how : How) (old new : Assembly) (x : Tree) (xs : List Tree) (e : BuildError) → 0 < length xs →
     x ≡ get_or xs (turned_place old.reverse 0 (length xs)) x →
-    Refuses how.which old new (room how.shrink x) x e → Refuses how.which old new (room how.shrink (concat xs)) (concat xs) e
+    RefusesFragment how.which old new (room how.shrink x) x e → RefusesFragment how.which old new (room how.shrink (concat xs)) (concat xs) e
 first_part_refused how old new x xs e some is r =
     let counted = left_room how.shrink old.reverse xs 0 x some is in
     let all : rooms how.shrink (left_after old.reverse 0 xs) ≡ rooms how.shrink xs = ap (rooms how.shrink) (left_all old.reverse xs) in

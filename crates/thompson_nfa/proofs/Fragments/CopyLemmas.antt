@@ -7,8 +7,8 @@ use Rattle.nfa_core.specs.BuilderStates.{Assembly, empty_draft}
 use Rattle.nfa_core.specs.declared.build_error.BuildError.{BuildError}
 use Rattle.thompson_nfa.specs.Compiled.{Makes, Weighs, Does, DoesFirst, DoesCopies, DoesOption, raised, looks_in, uses, sum_of_bytes}
 use Rattle.thompson_nfa.specs.Added.{Added, Led}
-use Rattle.thompson_nfa.specs.NotedGroups.{noted}
-use Rattle.thompson_nfa.specs.Refusals.{Refuses, Stays}
+use Rattle.thompson_nfa.specs.NotedGroups.{with_groups_of}
+use Rattle.thompson_nfa.specs.Refusals.{RefusesFragment, Stays}
 use Rattle.thompson_nfa.specs.Room.{room}
 use Rattle.thompson_nfa.specs.ByteRoom.{byte_room, repeated_bytes}
 use Rattle.thompson_nfa.specs.declared.compiling.How.{How}
@@ -62,11 +62,11 @@ copies_more a b c d s1 e1 n1 s2 e2 n2 n x first second led copies does = record 
 pub record Copies (how : How) (old mid : Assembly) (start end i : ℕ) (x : Tree) : Type 0 where
   pub made : Makes old mid start end (i * room how.shrink x)
   pub does : DoesCopies old mid start end i x
-  pub groups : mid.groups ≡ noted how.which (length old.starts) x old.groups
+  pub groups : mid.groups ≡ with_groups_of how.which (length old.starts) x old.groups
   pub weighs : Weighs old mid (i * (byte_room how.shrink x + 4))
 
 pub copies_first : (how : How) (old mid : Assembly) (s e : ℕ) (x : Tree) → Makes old mid s e (room how.shrink x) → Does old mid s e x →
-    mid.groups ≡ noted how.which (length old.starts) x old.groups →
+    mid.groups ≡ with_groups_of how.which (length old.starts) x old.groups →
     Weighs old mid (byte_room how.shrink x) → Copies how old mid s e 1 x
 copies_first how old mid s e x m d g w = record {
   made = made_capped (1 * room how.shrink x) m (omega arith);
@@ -76,14 +76,14 @@ copies_first how old mid s e x m d g w = record {
 }
 
 -- the groups of one more copy
-pub groups_again : (kept : WhichCaptures) (p q : ℕ) (x : Tree) (old was now : Groups) → q ≡ p → was ≡ noted kept p x old →
-    now ≡ noted kept q x was → now ≡ noted kept p x old
-groups_again kept p q x old was now same before is = is ∙ ap (λ k. noted kept k x was) same ∙ ap (noted kept p x) before
+pub groups_again : (kept : WhichCaptures) (p q : ℕ) (x : Tree) (old was now : Groups) → q ≡ p → was ≡ with_groups_of kept p x old →
+    now ≡ with_groups_of kept q x was → now ≡ with_groups_of kept p x old
+groups_again kept p q x old was now same before is = is ∙ ap (λ k. with_groups_of kept k x was) same ∙ ap (with_groups_of kept p x) before
     ∙ noted_twice kept p x old
 
 pub copies_then : (how : How) (old b c d : Assembly) (start end s e i : ℕ) (x : Tree) → Copies how old b start end i x →
     Makes b c s e (room how.shrink x) → Does b c s e x →
-    c.groups ≡ noted how.which (length b.starts) x b.groups → Led c d end s → Weighs b c (byte_room how.shrink x) →
+    c.groups ≡ with_groups_of how.which (length b.starts) x b.groups → Led c d end s → Weighs b c (byte_room how.shrink x) →
     Copies how old d start e (i + 1) x
 copies_then how old b c d start end s e i x cs m does g led w = record {
   made = made_capped ((i + 1) * room how.shrink x) (join_made old b c d start end (i * room how.shrink x) s e
@@ -111,14 +111,14 @@ copies_weigh how old b start end i n x cs le ge = let same : i ≡ n = omega ari
     let P : ℕ → Type 0 = λ k. Weighs old b (k * (byte_room how.shrink x + 4)) in subst P same cs.weighs
 
 pub copies_refused : (how : How) (old b new : Assembly) (start end i n : ℕ) (x : Tree) (e : BuildError) → Copies how old b start end i x →
-    i < n → Refuses how.which b new (room how.shrink x) x e →
-    Refuses how.which old new (n * room how.shrink x) x e
+    i < n → RefusesFragment how.which b new (room how.shrink x) x e →
+    RefusesFragment how.which old new (n * room how.shrink x) x e
 copies_refused how old b new start end i n x e cs l r = let fits = one_fits i n (room how.shrink x) l in
     then_refuses (n * room how.shrink x) x (first_made cs.made) r (λ index h. h) fits
 
 pub copies_lead_refused : (how : How) (old b c new : Assembly) (start end s t i n : ℕ) (x : Tree) (e : BuildError) →
     Copies how old b start end i x → i < n → Makes b c s t (room how.shrink x) → Stays c new 0 4 e →
-    Refuses how.which old new (n * room how.shrink x) x e
+    RefusesFragment how.which old new (n * room how.shrink x) x e
 copies_lead_refused how old b c new start end s t i n x e cs l m r =
     let fits = one_fits i n (room how.shrink x) l in
     refuses how.which (n * room how.shrink x) x (then_quits (n * room how.shrink x) (then_made 8 (first_made cs.made) m (omega arith)) r
@@ -158,13 +158,13 @@ pub record Rounds (how : How) (old mid : Assembly) (start end z i low most total
   pub n : ℕ
   pub options : Options old mid start end z n (most - i) low most greedy x
   pub fits : n + (most - i) * (room how.shrink x + 1) ≤ total
-  pub groups : mid.groups ≡ noted how.which (length old.starts) x old.groups
+  pub groups : mid.groups ≡ with_groups_of how.which (length old.starts) x old.groups
   pub bytes : sum_of_bytes mid + (most - i) * (byte_room how.shrink x + 36) + 4 ≤ sum_of_bytes old + repeated_bytes low (Some most)
       (byte_room how.shrink x)
 
 pub rounds_owed : (how : How) (t0 t1 t2 : Assembly) (s e z low most : ℕ) (greedy : Bool) (x : Tree) → low ≤ most →
     Makes t0 t1 s e (low * room how.shrink x) → DoesCopies t0 t1 s e low x →
-    t1.groups ≡ noted how.which (length t0.starts) x t0.groups → Added t1 t2 z (empty_draft 0) t1.groups →
+    t1.groups ≡ with_groups_of how.which (length t0.starts) x t0.groups → Added t1 t2 z (empty_draft 0) t1.groups →
     Weighs t0 t1 (low * (byte_room how.shrink x + 4)) →
     Rounds how t0 t2 s e z low low most (low * room how.shrink x + (most - low) * (room how.shrink x + 1) + 1) greedy x
 rounds_owed how t0 t1 t2 s e z low most greedy x le m copies g added w = record {
@@ -177,15 +177,15 @@ rounds_owed how t0 t1 t2 s e z low most greedy x le m copies g added w = record 
 
 pub rounds_first : (how : How) (t0 t1 t2 : Assembly) (u e z most : ℕ) (greedy : Bool) (x : Tree) → 0 < most →
     Added t0 t1 z (empty_draft 0) t0.groups → Makes t1 t2 u e (room how.shrink x + 1) →
-    DoesOption t1 t2 u e z greedy x → t2.groups ≡ noted how.which (length t1.starts) x t1.groups →
+    DoesOption t1 t2 u e z greedy x → t2.groups ≡ with_groups_of how.which (length t1.starts) x t1.groups →
     Weighs t1 t2 (byte_room how.shrink x + 32) → Rounds how t0 t2 u e z 1 0 most (most * (room how.shrink x + 1) + 1) greedy x
 rounds_first how t0 t1 t2 u e z zero greedy x some added m does g w = absurd (omega arith)
 rounds_first how t0 t1 t2 u e z (suc left) greedy x some added m does g w = record {
   n = 1 + (room how.shrink x + 1);
   options = options_first t0 t1 t2 u e (room how.shrink x + 1) z (suc left - 1) (suc left) greedy x added m does (omega arith);
   fits = let e : suc left - 1 ≡ left = omega arith in let f = ap (λ k. k * (room how.shrink x + 1)) e in omega arith;
-  groups = g ∙ ap (λ p. noted how.which p x t1.groups) (ap (λ (b : Assembly). length b.starts) added.grows.settings)
-      ∙ ap (noted how.which (length t0.starts) x) added.groups_are;
+  groups = g ∙ ap (λ p. with_groups_of how.which p x t1.groups) (ap (λ (b : Assembly). length b.starts) added.grows.settings)
+      ∙ ap (with_groups_of how.which (length t0.starts) x) added.groups_are;
   bytes = omega (arith, w, added.bytes, round_bytes 0 (suc left) (byte_room how.shrink x + 36) some);
 }
 
@@ -195,7 +195,7 @@ round_less i most k l = let e : most - i ≡ suc (most - (i + 1)) = omega arith 
 module _ (how : How) (old b : Assembly) (start end z i low most total : ℕ) (greedy : Bool) (x : Tree)
     (rs : Rounds how old b start end z i low most total greedy x) where
   pub rounds_then : (c d : Assembly) (u e : ℕ) → i < most → Makes b c u e (room how.shrink x + 1) → DoesOption b c u e z greedy x →
-      c.groups ≡ noted how.which (length b.starts) x b.groups → Led c d end u → Weighs b c (byte_room how.shrink x + 32) →
+      c.groups ≡ with_groups_of how.which (length b.starts) x b.groups → Led c d end u → Weighs b c (byte_room how.shrink x + 32) →
       Rounds how old d start e z (i + 1) low most total greedy x
   rounds_then c d u e l m does g led w =
       let step = round_less i most (room how.shrink x + 1) l in
@@ -223,22 +223,22 @@ module _ (how : How) (old b : Assembly) (start end z i low most total : ℕ) (gr
   pub rounds_weigh : (new : Assembly) → Led b new end z → Weighs old new (repeated_bytes low (Some most) (byte_room how.shrink x))
   rounds_weigh new led = omega (arith, led.bytes, rs.bytes)
 
-  pub rounds_refused : (new : Assembly) (e : BuildError) → i < most → Refuses how.which b new (room how.shrink x + 1) x e →
-      Refuses how.which old new total x e
+  pub rounds_refused : (new : Assembly) (e : BuildError) → i < most → RefusesFragment how.which b new (room how.shrink x + 1) x e →
+      RefusesFragment how.which old new total x e
   rounds_refused new e l r =
       let step = round_less i most (room how.shrink x + 1) l in
       let fits = rs.fits in
       then_refuses total x rs.options.progress r (λ index h. h) (omega arith)
 
   pub rounds_lead_refused : (c new : Assembly) (u t : ℕ) (e : BuildError) → i < most → Makes b c u t (room how.shrink x + 1) →
-      Stays c new 0 4 e → Refuses how.which old new total x e
+      Stays c new 0 4 e → RefusesFragment how.which old new total x e
   rounds_lead_refused c new u t e l m r =
       let step = round_less i most (room how.shrink x + 1) l in
       let fits = rs.fits in
       refuses how.which total x (then_quits total (then_made 8 rs.options.progress m (omega arith)) r (omega arith) (omega arith))
       (omega arith)
 
-  pub rounds_last_refused : (new : Assembly) (e : BuildError) → Stays b new 0 4 e → Refuses how.which old new total x e
+  pub rounds_last_refused : (new : Assembly) (e : BuildError) → Stays b new 0 4 e → RefusesFragment how.which old new total x e
   rounds_last_refused new e r = let fits = rs.fits in refuses how.which total x
       (then_quits total rs.options.progress r (omega arith) (omega arith)) (omega arith)
 

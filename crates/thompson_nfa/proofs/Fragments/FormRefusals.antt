@@ -8,8 +8,8 @@ use Rattle.nfa_core.specs.declared.build_error.BuildError.{BuildError}
 use Rattle.thompson_nfa.specs.Choice.{no_choice}
 use Rattle.thompson_nfa.specs.Compiled.{Grows, Makes, Does}
 use Rattle.thompson_nfa.specs.Added.{Added, Led}
-use Rattle.thompson_nfa.specs.NotedGroups.{noted}
-use Rattle.thompson_nfa.specs.Refusals.{Refuses, Stays}
+use Rattle.thompson_nfa.specs.NotedGroups.{with_groups_of}
+use Rattle.thompson_nfa.specs.Refusals.{RefusesFragment, Stays}
 use Rattle.thompson_nfa.specs.Room.{room}
 use Rattle.thompson_nfa.specs.declared.which_captures.WhichCaptures.{WhichCaptures}
 use Rattle.thompson_nfa.proofs.Fragments.RepeatLemmas.{choice_first, choice_then, empty_then, empty_tame}
@@ -20,20 +20,20 @@ use Rattle.thompson_nfa.proofs.Steps.NotedLemmas.{noted_bounded}
 
 -- the first step is refused, or a later one
 pub first_step : {old new : Assembly} {n bytes : ℕ} {e : BuildError} (kept : WhichCaptures) (m : ℕ) (x : Tree) → Stays old new n bytes e →
-    n ≤ m → bytes ≤ 4096 * m → Refuses kept old new m x e
+    n ≤ m → bytes ≤ 4096 * m → RefusesFragment kept old new m x e
 first_step kept m x r le lb = refuses kept m x (first_quits m r le lb) (omega arith)
 
 pub later_step : {plain : Bool} {old mid new : Assembly} {k s n bytes : ℕ} {e : BuildError} (kept : WhichCaptures) (m : ℕ) (x : Tree) →
-    Progress plain old mid k s → Stays mid new n bytes e → k + n ≤ m → bytes ≤ s + 4096 * n → Refuses kept old new m x e
+    Progress plain old mid k s → Stays mid new n bytes e → k + n ≤ m → bytes ≤ s + 4096 * n → RefusesFragment kept old new m x e
 later_step kept m x p r le lb = refuses kept m x (then_quits m p r le lb) (omega arith)
 
 -- the tree is refused with fewer states, at once or later
-pub fewer_states : {old new : Assembly} {n : ℕ} {e : BuildError} {kept : WhichCaptures} {x : Tree} (m : ℕ) → Refuses kept old new n x e →
-    n ≤ m → Refuses kept old new m x e
+pub fewer_states : {old new : Assembly} {n : ℕ} {e : BuildError} {kept : WhichCaptures} {x : Tree} (m : ℕ) → RefusesFragment kept old new n x e →
+    n ≤ m → RefusesFragment kept old new m x e
 fewer_states {old} {new} {n} {e} {kept} {x} m r le = first_refuses m x r (λ index h. h) (omega (arith, le))
 
 pub later_tree : {plain : Bool} {old mid new : Assembly} {k s n : ℕ} {e : BuildError} {kept : WhichCaptures} {x : Tree} (m : ℕ) →
-    Progress plain old mid k s → Refuses kept mid new n x e → k + n ≤ m → Refuses kept old new m x e
+    Progress plain old mid k s → RefusesFragment kept mid new n x e → k + n ≤ m → RefusesFragment kept old new m x e
 later_tree {plain} {old} {mid} {new} {k} {s} {n} {e} {kept} {x} m p r le = then_refuses m x p r (λ index h. h) le
 
 -- ---- how far a form has come
@@ -89,9 +89,9 @@ same_starts g = ap (λ (z : Assembly). length z.starts) g.settings
 
 -- a state without a group was added before the tree
 pub groups_behind : {a b : Assembly} {id : ℕ} {draft : DraftNode} {now : Groups} (kept : WhichCaptures) (x : Tree) →
-    Added a b id draft a.groups → now ≡ noted kept (length b.starts) x b.groups → now ≡ noted kept (length a.starts) x a.groups
+    Added a b id draft a.groups → now ≡ with_groups_of kept (length b.starts) x b.groups → now ≡ with_groups_of kept (length a.starts) x a.groups
 groups_behind {a} {b} kept x added is =
-    is ∙ ap (λ p. noted kept p x b.groups) (same_starts added.grows) ∙ ap (noted kept (length a.starts) x) added.groups_are
+    is ∙ ap (λ p. with_groups_of kept p x b.groups) (same_starts added.grows) ∙ ap (with_groups_of kept (length a.starts) x) added.groups_are
 
 -- ---- rounds
 
@@ -102,21 +102,21 @@ module _ (kept : WhichCaptures) (shrink : Bool) (low : ℕ) (greedy : Bool) (x :
       let most : max low 1 ≡ low = omega (arith, some) in
       omega (arith, before_last low (room shrink x) (omega (arith, some)), ap (λ n. n * room shrink x) most)
 
-  pub prefix_refused : {a new : Assembly} {e : BuildError} → Refuses kept a new ((low - 1) * room shrink x) x e →
-      Refuses kept a new (room shrink (repetition low None greedy x)) (repetition low None greedy x) e
+  pub prefix_refused : {a new : Assembly} {e : BuildError} → RefusesFragment kept a new ((low - 1) * room shrink x) x e →
+      RefusesFragment kept a new (room shrink (repetition low None greedy x)) (repetition low None greedy x) e
   prefix_refused r = first_refuses (room shrink (repetition low None greedy x)) (repetition low None greedy x) r (λ index h. h)
       (omega (arith, loop_room))
 
   module _ {a b : Assembly} {s e : ℕ} (prefix : Makes a b s e ((low - 1) * room shrink x)) where
-    pub last_refused : {new : Assembly} {err : BuildError} → Refuses kept b new (room shrink x + 1) x err →
-        Refuses kept a new (room shrink (repetition low None greedy x)) (repetition low None greedy x) err
+    pub last_refused : {new : Assembly} {err : BuildError} → RefusesFragment kept b new (room shrink x + 1) x err →
+        RefusesFragment kept a new (room shrink (repetition low None greedy x)) (repetition low None greedy x) err
     last_refused r =
         first_refuses (room shrink (repetition low None greedy x)) (repetition low None greedy x)
         (then_refuses (max low 1 * room shrink x + 3) (repetition low None greedy x) (first_made prefix) r (λ index h. h)
         (omega (arith, loop_room))) (λ index h. h) (omega arith)
 
     pub last_lead_refused : {c new : Assembly} {s2 e2 : ℕ} {err : BuildError} → Makes b c s2 e2 (room shrink x + 1) → Stays c new 0 4 err →
-        Refuses kept a new (room shrink (repetition low None greedy x)) (repetition low None greedy x) err
+        RefusesFragment kept a new (room shrink (repetition low None greedy x)) (repetition low None greedy x) err
     last_lead_refused last r =
         refuses kept (room shrink (repetition low None greedy x)) (repetition low None greedy x)
         (then_quits (max low 1 * room shrink x + 3) (then_made 8 (first_made prefix) last (omega arith)) r (omega (arith, loop_room))
@@ -127,30 +127,30 @@ loop_of_one : (low k : ℕ) → k ≤ max low 1 * k
 loop_of_one low k = omega (arith, one_fits 0 (max low 1) k (omega arith))
 
 pub loop_refused : {old new : Assembly} {n : ℕ} {e : BuildError} {kept : WhichCaptures} (shrink : Bool) (low : ℕ) (greedy : Bool)
-    (x : Tree) → Refuses kept old new n x e → n ≤ room shrink x + 3 →
-    Refuses kept old new (room shrink (repetition low None greedy x)) (repetition low None greedy x) e
+    (x : Tree) → RefusesFragment kept old new n x e → n ≤ room shrink x + 3 →
+    RefusesFragment kept old new (room shrink (repetition low None greedy x)) (repetition low None greedy x) e
 loop_refused shrink low greedy x r le = first_refuses (room shrink (repetition low None greedy x)) (repetition low None greedy x) r
     (λ index h. h) (omega (arith, le, loop_of_one low (room shrink x)))
 
 -- with both bounds
 pub bounded_refused : {old new : Assembly} {n : ℕ} {e : BuildError} {kept : WhichCaptures} (shrink : Bool) (low most : ℕ) (greedy : Bool)
-    (x : Tree) → Refuses kept old new n x e → n ≤ low * room shrink x + (most - low) * (room shrink x + 1) + 1 →
-    Refuses kept old new (room shrink (repetition low (Some most) greedy x)) (repetition low (Some most) greedy x) e
+    (x : Tree) → RefusesFragment kept old new n x e → n ≤ low * room shrink x + (most - low) * (room shrink x + 1) + 1 →
+    RefusesFragment kept old new (room shrink (repetition low (Some most) greedy x)) (repetition low (Some most) greedy x) e
 bounded_refused shrink low most greedy x r le =
     first_refuses (room shrink (repetition low (Some most) greedy x)) (repetition low (Some most) greedy x) r (λ index h. h)
     (omega (arith, le))
 
 pub none_owed_refused : {old new : Assembly} {e : BuildError} {kept : WhichCaptures} (shrink : Bool) (low most : ℕ) (greedy : Bool)
-    (x : Tree) → low ≡ 0 → Refuses kept old new (most * (room shrink x + 1) + 1) x e →
-    Refuses kept old new (room shrink (repetition low (Some most) greedy x)) (repetition low (Some most) greedy x) e
+    (x : Tree) → low ≡ 0 → RefusesFragment kept old new (most * (room shrink x + 1) + 1) x e →
+    RefusesFragment kept old new (room shrink (repetition low (Some most) greedy x)) (repetition low (Some most) greedy x) e
 none_owed_refused shrink low most greedy x none r =
     let left : most ≡ most - low = omega (arith, none) in
     bounded_refused shrink low most greedy x r (omega (arith, ap (λ n. n * (room shrink x + 1)) left))
 
 -- the first of so many rounds that may be passed by
 pub first_round_refused : {t0 t1 new : Assembly} {z : ℕ} {e : BuildError} {kept : WhichCaptures} (shrink : Bool) (most : ℕ) (x : Tree) →
-    0 < most → Added t0 t1 z (empty_draft 0) t0.groups → Refuses kept t1 new (room shrink x + 1) x e →
-    Refuses kept t0 new (most * (room shrink x + 1) + 1) x e
+    0 < most → Added t0 t1 z (empty_draft 0) t0.groups → RefusesFragment kept t1 new (room shrink x + 1) x e →
+    RefusesFragment kept t0 new (most * (room shrink x + 1) + 1) x e
 first_round_refused shrink most x some exit r =
     later_tree (most * (room shrink x + 1) + 1) (first_added 4000 exit (empty_tame exit) (omega arith)) r
     (omega (arith, one_fits 0 most (room shrink x + 1) some))
@@ -181,22 +181,22 @@ none_owed_made shrink low most greedy x none m =
 
 -- the groups of a repetition with a bound
 pub stopped_groups : {was now : Groups} (kept : WhichCaptures) (p low most : ℕ) (greedy : Bool) (x : Tree) → most ≡ 0 → now ≡ was →
-    now ≡ noted kept p (repetition low (Some most) greedy x) was
+    now ≡ with_groups_of kept p (repetition low (Some most) greedy x) was
 stopped_groups {was} kept p low most greedy x none is =
-    is ∙ sym (ap (λ k. noted kept p (repetition low (Some k) greedy x) was) none)
+    is ∙ sym (ap (λ k. with_groups_of kept p (repetition low (Some k) greedy x) was) none)
 
 pub bounded_groups : {now : Groups} (kept : WhichCaptures) (p low most : ℕ) (greedy : Bool) (x : Tree) (was : Groups) → 0 < most →
-    now ≡ noted kept p x was → now ≡ noted kept p (repetition low (Some most) greedy x) was
+    now ≡ with_groups_of kept p x was → now ≡ with_groups_of kept p (repetition low (Some most) greedy x) was
 bounded_groups kept p low most greedy x was some is = is ∙ sym (noted_bounded kept p x was low most greedy some)
 
 -- no parts
 pub no_parts_groups : {was now : Groups} (kept : WhichCaptures) (p : ℕ) (xs : List Tree) → length xs ≡ 0 → now ≡ was →
-    now ≡ noted kept p (concat xs) was
+    now ≡ with_groups_of kept p (concat xs) was
 no_parts_groups kept p [] none is = is
 no_parts_groups kept p (x ∷ xs) none is = absurd (omega arith)
 
 pub no_cases_groups : {was now : Groups} (kept : WhichCaptures) (p : ℕ) (xs : List Tree) → length xs ≡ 0 → now ≡ was →
-    now ≡ noted kept p (alternation xs) was
+    now ≡ with_groups_of kept p (alternation xs) was
 no_cases_groups kept p [] none is = is
 no_cases_groups kept p (x ∷ xs) none is = absurd (omega arith)
 

@@ -7,8 +7,8 @@ use Rattle.nfa_core.specs.BuilderStates.{Assembly}
 use Rattle.nfa_core.specs.declared.build_error.BuildError.{BuildError}
 use Rattle.thompson_nfa.specs.ByteRoom.{byte_room}
 use Rattle.thompson_nfa.specs.Compiled.{Makes, Weighs, Does}
-use Rattle.thompson_nfa.specs.NotedGroups.{noted}
-use Rattle.thompson_nfa.specs.Refusals.{Refuses, Quits, Passes}
+use Rattle.thompson_nfa.specs.NotedGroups.{with_groups_of}
+use Rattle.thompson_nfa.specs.Refusals.{RefusesFragment, Quits, Passes}
 use Rattle.thompson_nfa.specs.Room.{room}
 use Rattle.thompson_nfa.specs.declared.compiling.Fragment.{Fragment}
 use Rattle.thompson_nfa.specs.declared.compiling.How.{How}
@@ -18,8 +18,8 @@ pub record Compiles (how : How) (old new : Assembly) (r : Result Fragment BuildE
   pub made : IfOk r (λ f. Makes old new f.start f.end (room how.shrink x))
   pub denotes : IfOk r (λ f. Does old new f.start f.end x)
   pub weighs : IfOk r (λ _. Weighs old new (byte_room how.shrink x))
-  pub groups : IfOk r (λ _. new.groups ≡ noted how.which (length old.starts) x old.groups)
-  pub refused : IfErr r (λ e. Refuses how.which old new (room how.shrink x) x e)
+  pub groups : IfOk r (λ _. new.groups ≡ with_groups_of how.which (length old.starts) x old.groups)
+  pub refused : IfErr r (λ e. RefusesFragment how.which old new (room how.shrink x) x e)
   pub passed : IfErr r (λ e. Passes old (byte_room how.shrink x) e)
 
 -- the tree at hand is this one
@@ -32,7 +32,7 @@ pub leaf_compiles : (how : How) (old new : Assembly) (r : Result Fragment BuildE
     IfOk r (λ f. Makes old new f.start f.end n) → IfOk r (λ f. Does old new f.start f.end x) →
     IfOk r (λ _. Weighs old new (byte_room how.shrink x)) → IfOk r (λ _. new.groups ≡ old.groups) → IfErr r (λ e. Quits old new n e) →
     IfErr r (λ e. Passes old (byte_room how.shrink x) e) → min n 18446744073709551615 ≤ room how.shrink x →
-    noted how.which (length old.starts) x old.groups ≡ old.groups → Compiles how old new r x
+    with_groups_of how.which (length old.starts) x old.groups ≡ old.groups → Compiles how old new r x
 leaf_compiles how old new (Ok f) x n m d w g q p fits none = record {
   made = made_capped (room how.shrink x) m fits;
   denotes = d;
@@ -59,8 +59,8 @@ repetition_is {most} {bound} {x} {y} min greedy e f = ap (repetition min bound g
 pub capture_compiles : (how : How) (old new : Assembly) (r : Result Fragment BuildError) (index : ℕ) (name : Option Name) (x : Tree) →
     IfOk r (λ f. Makes old new f.start f.end (room how.shrink x + 2)) → IfOk r (λ f. Does old new f.start f.end (capture index name x)) →
     IfOk r (λ _. Weighs old new (byte_room how.shrink x + 56)) →
-    IfOk r (λ _. new.groups ≡ noted how.which (length old.starts) (capture index name x) old.groups) →
-    IfErr r (λ e. Refuses how.which old new (room how.shrink x + 2) (capture index name x) e) →
+    IfOk r (λ _. new.groups ≡ with_groups_of how.which (length old.starts) (capture index name x) old.groups) →
+    IfErr r (λ e. RefusesFragment how.which old new (room how.shrink x + 2) (capture index name x) e) →
     IfErr r (λ e. Passes old (byte_room how.shrink x + 56) e) → Compiles how old new r (capture index name x)
 capture_compiles how old new (Ok f) index name x m d w g r p = record {
   made = made_capped (room how.shrink (capture index name x)) m (omega arith);

@@ -8,8 +8,8 @@ use Rattle.thompson_nfa.specs.declared.literal_groups.Edge.{Edge}
 use denote.Ref.{Bor}
 use Rattle.std.proofs.lemmas.List.{map-append, length-map}
 use Rattle.thompson_nfa.proofs.Fragments.TurnLemmas.{first_left}
-use Rattle.thompson_nfa.specs.LiteralGroups.{texts, groups_of, with_tail, tails, lesser, with_first, next_of, behind_byte, chunk_strings}
-use Rattle.thompson_nfa.specs.LiteralGroups.{Ascends, AreInside, bytes_in, bytes_in_all, strings_in_all, AllSome, IsChunk}
+use Rattle.thompson_nfa.specs.LiteralGroups.{texts, texts_of_groups, with_tail, tails, lesser, with_first, next_of, each_behind, chunk_strings}
+use Rattle.thompson_nfa.specs.LiteralGroups.{Ascends, LeadWithin, bytes_in, bytes_in_all, strings_in_all, AllSome, IsChunk}
 
 -- the bytes of those that begin with `low` or above
 abbrev pub bytes_from : ℕ → List (List ℕ) → ℕ
@@ -33,7 +33,7 @@ pub record Chunking (first : ℕ) (old new : List (List (List ℕ))) (low : ℕ)
   pub room : length new + bytes_in_all new + bytes_from low strings ≤ length old + bytes_in_all old + bytes_in strings
   pub no_more : strings_in_all new + many_from low strings ≤ strings_in_all old + length strings
   pub ascends : Ascends 0 edges low
-  pub inside : AreInside (first + length old) (first + length new) edges
+  pub inside : LeadWithin (first + length old) (first + length new) edges
   pub below : (before : List (List (List ℕ))) → length before ≡ first → (c : ℕ) → c < low →
       tails c (chunk_strings (before ++ new) edges) ≡ tails c strings
   pub above : (before : List (List (List ℕ))) → length before ≡ first → (c : ℕ) → low ≤ c →
@@ -126,20 +126,20 @@ pub tails_append : (b : ℕ) (us vs : List (List ℕ)) → tails b (us ++ vs) �
 tails_append b [] vs = refl
 tails_append b (w ∷ us) vs = ap (with_tail b w) (tails_append b us vs) ∙ tail_append b w (tails b us) (tails b vs)
 
-tails_behind : (b : ℕ) (ws : List (List ℕ)) → tails b (behind_byte b ws) ≡ ws
+tails_behind : (b : ℕ) (ws : List (List ℕ)) → tails b (each_behind b ws) ≡ ws
 tails_behind b [] = refl
-tails_behind b (w ∷ ws) = tail_same b b w (tails b (behind_byte b ws)) refl ∙ ap (λ (r : List (List ℕ)). w ∷ r) (tails_behind b ws)
+tails_behind b (w ∷ ws) = tail_same b b w (tails b (each_behind b ws)) refl ∙ ap (λ (r : List (List ℕ)). w ∷ r) (tails_behind b ws)
 
-tails_behind_other : (a b : ℕ) (ws : List (List ℕ)) → (a ≡ b → ⊥) → tails b (behind_byte a ws) ≡ []
+tails_behind_other : (a b : ℕ) (ws : List (List ℕ)) → (a ≡ b → ⊥) → tails b (each_behind a ws) ≡ []
 tails_behind_other a b [] ne = refl
-tails_behind_other a b (w ∷ ws) ne = tail_other a b w (tails b (behind_byte a ws)) ne ∙ tails_behind_other a b ws ne
+tails_behind_other a b (w ∷ ws) ne = tail_other a b w (tails b (each_behind a ws)) ne ∙ tails_behind_other a b ws ne
 
 pub chunk_append : (groups : List (List (List ℕ))) (es fs : List Edge) →
     chunk_strings groups (es ++ fs) ≡ chunk_strings groups es ++ chunk_strings groups fs
 chunk_append groups [] fs = refl
 chunk_append groups (e ∷ es) fs =
-    ap (λ (r : List (List ℕ)). behind_byte e.byte (get_or groups e.next []) ++ r) (chunk_append groups es fs)
-    ∙ sym (append_assoc (behind_byte e.byte (get_or groups e.next [])) (chunk_strings groups es) (chunk_strings groups fs))
+    ap (λ (r : List (List ℕ)). each_behind e.byte (get_or groups e.next []) ++ r) (chunk_append groups es fs)
+    ∙ sym (append_assoc (each_behind e.byte (get_or groups e.next [])) (chunk_strings groups es) (chunk_strings groups fs))
 
 pub ascends_push : (low high b : ℕ) (next : ℕ) (es : List Edge) → Ascends low es high → high ≤ b → b < 256 →
     Ascends low (es ++ (record { byte = b; next = next }) ∷ []) (b + 1)
@@ -150,12 +150,12 @@ pub ascends_wider : (low high most : ℕ) (es : List Edge) → Ascends low es hi
 ascends_wider low high most [] a le = omega arith
 ascends_wider low high most (e ∷ es) a le = (a.0, a.1, ascends_wider (e.byte + 1) high most es a.2 le)
 
-pub inside_push : (first end more next b : ℕ) (es : List Edge) → AreInside first end es → end ≤ more → first ≤ next → next < more →
-    AreInside first more (es ++ (record { byte = b; next = next }) ∷ [])
+pub inside_push : (first end more next b : ℕ) (es : List Edge) → LeadWithin first end es → end ≤ more → first ≤ next → next < more →
+    LeadWithin first more (es ++ (record { byte = b; next = next }) ∷ [])
 inside_push first end more next b [] a le l h = (l, h, tt)
 inside_push first end more next b (e ∷ es) a le l h = let x = a.1 in (a.0, omega arith, inside_push first end more next b es a.2 le l h)
 
-pub inside_wider : (first end less more : ℕ) (es : List Edge) → AreInside first end es → less ≤ first → end ≤ more → AreInside less more es
+pub inside_wider : (first end less more : ℕ) (es : List Edge) → LeadWithin first end es → less ≤ first → end ≤ more → LeadWithin less more es
 inside_wider first end less more [] a le l = tt
 inside_wider first end less more (e ∷ es) a le l = let x = a.0 in let y = a.1 in
     (omega arith, omega arith, inside_wider first end less more es a.2 le l)
@@ -171,14 +171,14 @@ get_last A (x ∷ xs) y d zero e = absurd (omega arith)
 get_last A (x ∷ xs) y d (suc k) e = get_last A xs y d k (omega arith)
 
 -- groups that are added later change no strings
-pub chunk_kept : (groups more : List (List (List ℕ))) (first end : ℕ) (es : List Edge) → AreInside first end es → end ≤ length groups →
+pub chunk_kept : (groups more : List (List (List ℕ))) (first end : ℕ) (es : List Edge) → LeadWithin first end es → end ≤ length groups →
     chunk_strings (groups ++ more) es ≡ chunk_strings groups es
 chunk_kept groups more first end [] a le = refl
 chunk_kept groups more first end (e ∷ es) a le =
     let x = a.1 in
-    ap (λ (g : List (List ℕ)). behind_byte e.byte g ++ chunk_strings (groups ++ more) es)
+    ap (λ (g : List (List ℕ)). each_behind e.byte g ++ chunk_strings (groups ++ more) es)
     (get_before (List (List ℕ)) groups more e.next [] (omega arith))
-    ∙ ap (λ (r : List (List ℕ)). behind_byte e.byte (get_or groups e.next []) ++ r) (chunk_kept groups more first end es a.2 le)
+    ∙ ap (λ (r : List (List ℕ)). each_behind e.byte (get_or groups e.next []) ++ r) (chunk_kept groups more first end es a.2 le)
 
 -- ---- bytes
 
@@ -296,24 +296,24 @@ module _ (first : ℕ) (old new : List (List (List ℕ))) (low : ℕ) (edges : L
 
     -- the strings of all edges are those so far and those of this one
     joined : (before : List (List (List ℕ))) → length before ≡ first →
-        chunk_strings (before ++ more) (edges ++ edge ∷ []) ≡ chunk_strings (before ++ new) edges ++ behind_byte b (tails b strings)
+        chunk_strings (before ++ more) (edges ++ edge ∷ []) ≡ chunk_strings (before ++ new) edges ++ each_behind b (tails b strings)
     joined before len =
         let all : before ++ more ≡ (before ++ new) ++ tails b strings ∷ [] = sym (append_assoc before new (tails b strings ∷ [])) in
         let both : length (before ++ new) ≡ first + length new = omega (arith, length-append before new, len) in
         chunk_append (before ++ more) edges (edge ∷ [])
         ∙ ap (λ (r : List (List ℕ)). chunk_strings (before ++ more) edges
-        ++ r) (append-nil (behind_byte b (get_or (before ++ more) (first + length new) []))
-        ∙ ap (behind_byte b) (ap (λ (gs : List (List (List ℕ))). get_or gs (first + length new) []) all
+        ++ r) (append-nil (each_behind b (get_or (before ++ more) (first + length new) []))
+        ∙ ap (each_behind b) (ap (λ (gs : List (List (List ℕ))). get_or gs (first + length new) []) all
         ∙ get_last (List (List ℕ)) (before ++ new) (tails b strings) [] (first + length new) (sym both)))
-        ∙ ap (λ (gs : List (List (List ℕ))). chunk_strings gs edges ++ behind_byte b (tails b strings)) all
-        ∙ ap (λ (r : List (List ℕ)). r ++ behind_byte b (tails b strings))
+        ∙ ap (λ (gs : List (List (List ℕ))). chunk_strings gs edges ++ each_behind b (tails b strings)) all
+        ∙ ap (λ (r : List (List ℕ)). r ++ each_behind b (tails b strings))
         (chunk_kept (before ++ new) (tails b strings ∷ []) (first + length old) (first + length new) edges so_far.inside (omega arith))
 
     tails_joined : (before : List (List (List ℕ))) → length before ≡ first → (c : ℕ) →
         tails c (chunk_strings (before ++ more) (edges ++ edge ∷ [])) ≡ tails c (chunk_strings (before ++ new) edges)
-        ++ tails c (behind_byte b (tails b strings))
+        ++ tails c (each_behind b (tails b strings))
     tails_joined before len c = ap (tails c) (joined before len) ∙ tails_append c (chunk_strings (before ++ new) edges)
-        (behind_byte b (tails b strings))
+        (each_behind b (tails b strings))
 
     -- of a byte but b nothing is added
     apart : (before : List (List (List ℕ))) → length before ≡ first → (c : ℕ) → (b ≡ c → ⊥) →
@@ -325,7 +325,7 @@ module _ (first : ℕ) (old new : List (List (List ℕ))) (low : ℕ) (edges : L
     here : (before : List (List (List ℕ))) → length before ≡ first → tails b
         (chunk_strings (before ++ more) (edges ++ edge ∷ [])) ≡ tails b strings
     here before len =
-        tails_joined before len b ∙ ap (λ (r : List (List ℕ)). r ++ tails b (behind_byte b (tails b strings)))
+        tails_joined before len b ∙ ap (λ (r : List (List ℕ)). r ++ tails b (each_behind b (tails b strings)))
         (so_far.above before len b next.0) ∙ tails_behind b (tails b strings)
 
     -- the bytes between `low` and b begin no string
@@ -383,12 +383,12 @@ module _ (first : ℕ) (old new : List (List (List ℕ))) (low : ℕ) (edges : L
 
 pub group_pushed : {V : Type 0} (items : V → List (Bor (List ℕ))) (olds news : List V) (g : V) (strings : List (List ℕ)) →
     news ≡ olds ++ g ∷ [] → texts (items g) ≡ strings →
-    groups_of items news ≡ groups_of items olds ++ strings ∷ []
+    texts_of_groups items news ≡ texts_of_groups items olds ++ strings ∷ []
 group_pushed {V} items olds news g strings e same =
-    ap (groups_of items) e ∙ map-append (λ (v : V). texts (items v)) olds (g ∷ [])
-    ∙ ap (λ (s : List (List ℕ)). groups_of items olds ++ s ∷ []) same
+    ap (texts_of_groups items) e ∙ map-append (λ (v : V). texts (items v)) olds (g ∷ [])
+    ∙ ap (λ (s : List (List ℕ)). texts_of_groups items olds ++ s ∷ []) same
 
-pub group_count : {V : Type 0} (items : V → List (Bor (List ℕ))) (gs : List V) → length (groups_of items gs) ≡ length gs
+pub group_count : {V : Type 0} (items : V → List (Bor (List ℕ))) (gs : List V) → length (texts_of_groups items gs) ≡ length gs
 group_count {V} items gs = length-map gs (λ (v : V). texts (items v))
 
 pub next_above : (low b : ℕ) (strings : List (List ℕ)) → next_of low strings ≡ Some b → low ≤ b

@@ -7,10 +7,10 @@ use Rattle.std.proofs.Math.Seq.{drop-nil}
 use denote.Ref.{Bor}
 use Rattle.nfa_core.specs.Walks.{distinct}
 use Rattle.thompson_nfa.specs.declared.literal_groups.Edge.{Edge}
-use Rattle.thompson_nfa.specs.LiteralGroups.{texts, groups_of, bytes_in, bytes_in_all, strings_in_all, AllSome}
-use Rattle.thompson_nfa.specs.LiteralLaid.{NodeValue, no_node, weight, weight_in_all, matches_in_all, HasStrings, LaysNode, IsTrie}
-use Rattle.thompson_nfa.specs.LiteralStems.{BeginAll, without, behind_text}
-use Rattle.thompson_nfa.specs.LiteralTries.{ends_of, edges_in, matches_in, IsNode}
+use Rattle.thompson_nfa.specs.LiteralGroups.{texts, texts_of_groups, bytes_in, bytes_in_all, strings_in_all, AllSome}
+use Rattle.thompson_nfa.specs.LiteralLaid.{NodeValue, no_node, node_weight, weight_in_all, matches_in_all, HasStrings, LaysNode, IsLaidTrie}
+use Rattle.thompson_nfa.specs.LiteralStems.{BeginAll, without_first, behind_text}
+use Rattle.thompson_nfa.specs.LiteralTries.{literal_ends_of, edges_in, matches_in, IsNode}
 use Rattle.thompson_nfa.proofs.LiteralTries.LiteralGroupLemmas.{group_count, all_some_append, all_bytes_append, all_strings_append}
 use Rattle.thompson_nfa.proofs.LiteralTries.LiteralNodeLemmas.{are_wider, strings_kept, texts_long}
 use Rattle.thompson_nfa.proofs.LiteralTries.LiteralStemLemmas.{behind_long, behind_bytes, behind_without}
@@ -44,7 +44,7 @@ pub record NodesTo (nodes : List NodeValue) (groups : List (List (List ℕ))) (s
 node_kept : (first less : ℕ) (groups more : List (List (List ℕ))) (items : List (List Edge)) (strings : List (List ℕ)) → less ≤ first →
     IsNode first groups items strings → IsNode less (groups ++ more) items strings
 node_kept first less groups more items strings le node = record {
-  like = λ h i. ap (λ (l : List (List ℕ)). distinct nat_eq (ends_of l h i))
+  like = λ h i. ap (λ (l : List (List ℕ)). distinct nat_eq (literal_ends_of l h i))
       (strings_kept groups more first (length groups) items node.chunks (omega arith)) ∙ node.like h i;
   chunks = are_wider first (length groups) less (length (groups ++ more)) items node.chunks le (omega (arith, length-append groups more));
   some = node.some;
@@ -62,7 +62,7 @@ node_first first less groups items strings le node = record {
   parted = node.parted;
 }
 
-weight_push : (nodes : List NodeValue) (node : NodeValue) → weight_in_all (nodes ++ node ∷ []) ≡ weight_in_all nodes + weight node
+weight_push : (nodes : List NodeValue) (node : NodeValue) → weight_in_all (nodes ++ node ∷ []) ≡ weight_in_all nodes + node_weight node
 weight_push [] node = omega arith
 weight_push (n ∷ nodes) node = omega (arith, weight_push nodes node)
 
@@ -107,7 +107,7 @@ module _ (nodes : List NodeValue) (groups : List (List (List ℕ))) (strings : L
   rest_some = omega (arith, some_at groups k so_far.filled less, ap length lays.is, behind_long node.stem lays.rest)
 
   -- a node's stem and edges and the bytes of the new groups are paid for by its group's bytes
-  paid : weight node + bytes_in_all fresh ≤ bytes_in (get_or groups k [])
+  paid : node_weight node + bytes_in_all fresh ≤ bytes_in (get_or groups k [])
   paid = omega (arith, fresh_count, lays.adds.room, behind_bytes node.stem lays.rest rest_some, ap bytes_in lays.is)
 
   wait : bytes_in_all (drop (k + 1) (groups ++ fresh)) + bytes_in (get_or groups k []) ≡ bytes_in_all
@@ -233,7 +233,7 @@ module _ (nodes : List NodeValue) (held : List (List (List ℕ))) (strings : Lis
       let some = some_at so_far.groups k so_far.to.filled (omega (arith, so_far.as_many)) in
       omega (arith, some, ap length (got_of_drop k so_far.groups held (subst Q (sym at) so_far.left)))
 
-  pub held_done : length held ≤ length nodes → IsTrie nodes strings
+  pub held_done : length held ≤ length nodes → IsLaidTrie nodes strings
   held_done past = let w = so_far.to.within in let s = so_far.to.some in record {
     groups = so_far.groups;
     as_many = omega (arith, so_far.as_many);
@@ -304,7 +304,7 @@ module _ (nodes : List NodeValue) (held : List (List (List ℕ))) (strings : Lis
 
 -- what follows the stem, in references
 module _ (stem : List ℕ) (strings rest row : List (Bor (List ℕ))) (begins : BeginAll stem (texts strings))
-    (rest_is : texts rest ≡ without (length stem) (texts strings)) (row_is : row ≡ rest) where
+    (rest_is : texts rest ≡ without_first (length stem) (texts strings)) (row_is : row ≡ rest) where
   pub stem_split : behind_text stem (texts row) ≡ texts strings
   stem_split = ap (λ (r : List (Bor (List ℕ))). behind_text stem (texts r)) row_is ∙ ap (behind_text stem) rest_is
       ∙ behind_without stem (texts strings) begins
@@ -325,37 +325,37 @@ next_held nodes held strings nodes2 held2 k so_far at less x = taken_next nodes 
     nodes2 held2 x.6 x.7
 
 module _ {W V : Type 0} (value : W → NodeValue) (items_of : V → List (Bor (List ℕ))) (groups kept : List V) (k : ℕ)
-    (row taken : List (Bor (List ℕ))) (row_is : row ≡ taken) (taken_is : texts taken ≡ get_or (groups_of items_of groups) k []) where
-  texts_are : texts row ≡ get_or (groups_of items_of groups) k []
+    (row taken : List (Bor (List ℕ))) (row_is : row ≡ taken) (taken_is : texts taken ≡ get_or (texts_of_groups items_of groups) k []) where
+  texts_are : texts row ≡ get_or (texts_of_groups items_of groups) k []
   texts_are = ap texts row_is ∙ taken_is
 
-  pub row_some : 1 ≤ length (get_or (groups_of items_of groups) k []) → 1 ≤ length row
+  pub row_some : 1 ≤ length (get_or (texts_of_groups items_of groups) k []) → 1 ≤ length row
   row_some some = omega (arith, texts_long row, ap length texts_are, some)
 
-  module _ (n : ℕ) (is_n : n ≡ length kept) (as_many : length (groups_of items_of kept) ≡ length (groups_of items_of groups))
-      (later : drop (k + 1) (groups_of items_of kept) ≡ drop (k + 1) (groups_of items_of groups))
-      (none fresh : List V) (is_none : none ≡ []) (node : W) (lays : LaysNode n (groups_of items_of none) (groups_of items_of fresh)
+  module _ (n : ℕ) (is_n : n ≡ length kept) (as_many : length (texts_of_groups items_of kept) ≡ length (texts_of_groups items_of groups))
+      (later : drop (k + 1) (texts_of_groups items_of kept) ≡ drop (k + 1) (texts_of_groups items_of groups))
+      (none fresh : List V) (is_none : none ≡ []) (node : W) (lays : LaysNode n (texts_of_groups items_of none) (texts_of_groups items_of fresh)
       (value node) (texts row)) where
-    lays_row : LaysNode (length (groups_of items_of groups)) [] (groups_of items_of fresh) (value node)
-        (get_or (groups_of items_of groups) k [])
+    lays_row : LaysNode (length (texts_of_groups items_of groups)) [] (texts_of_groups items_of fresh) (value node)
+        (get_or (texts_of_groups items_of groups) k [])
     lays_row =
-        let P : List V → Type 0 = λ vs. LaysNode n (groups_of items_of vs) (groups_of items_of fresh) (value node) (texts row) in
-        let Q : List (List ℕ) → Type 0 = λ ws. LaysNode n [] (groups_of items_of fresh) (value node) ws in
-        let R : ℕ → Type 0 = λ m. LaysNode m [] (groups_of items_of fresh) (value node) (get_or (groups_of items_of groups) k []) in
-        let same : n ≡ length (groups_of items_of groups) = omega (arith, is_n, as_many, group_count items_of kept) in
+        let P : List V → Type 0 = λ vs. LaysNode n (texts_of_groups items_of vs) (texts_of_groups items_of fresh) (value node) (texts row) in
+        let Q : List (List ℕ) → Type 0 = λ ws. LaysNode n [] (texts_of_groups items_of fresh) (value node) ws in
+        let R : ℕ → Type 0 = λ m. LaysNode m [] (texts_of_groups items_of fresh) (value node) (get_or (texts_of_groups items_of groups) k []) in
+        let same : n ≡ length (texts_of_groups items_of groups) = omega (arith, is_n, as_many, group_count items_of kept) in
         subst R same (subst Q texts_are (subst P is_none lays))
 
     pub next_laid : (rows rows2 : List W) (groups2 : List V) → k ≡ length rows → rows2 ≡ rows ++ node ∷ [] → groups2 ≡ kept ++ fresh →
-        LaidNext (map value rows) (groups_of items_of groups) (map value rows2) (groups_of items_of groups2) (length rows)
+        LaidNext (map value rows) (texts_of_groups items_of groups) (map value rows2) (texts_of_groups items_of groups2) (length rows)
     next_laid rows rows2 groups2 at e1 e2 =
-        let P : ℕ → Type 0 = λ j. LaidNext (map value rows) (groups_of items_of groups) (map value rows2) (groups_of items_of groups2) j in
+        let P : ℕ → Type 0 = λ j. LaidNext (map value rows) (texts_of_groups items_of groups) (map value rows2) (texts_of_groups items_of groups2) j in
         subst P at (
-          groups_of items_of kept,
-          groups_of items_of fresh,
+          texts_of_groups items_of kept,
+          texts_of_groups items_of fresh,
           value node,
           as_many,
           later,
           lays_row,
           ap (map value) e1 ∙ map-append value rows (node ∷ []),
-          ap (groups_of items_of) e2 ∙ map-append (λ (v : V). texts (items_of v)) kept fresh,
+          ap (texts_of_groups items_of) e2 ∙ map-append (λ (v : V). texts (items_of v)) kept fresh,
         )

@@ -10,8 +10,8 @@ use Rattle.nfa_core.specs.BuilderStates.{Assembly}
 use Rattle.nfa_core.specs.declared.build_error.BuildError.{BuildError}
 use Rattle.thompson_nfa.specs.Compiled.{Makes}
 use Rattle.thompson_nfa.specs.LiteralParts.{is_literal, are_literals}
-use Rattle.thompson_nfa.specs.NotedGroups.{noted}
-use Rattle.thompson_nfa.specs.Refusals.{Quits, Refuses}
+use Rattle.thompson_nfa.specs.NotedGroups.{with_groups_of}
+use Rattle.thompson_nfa.specs.Refusals.{Quits, RefusesFragment}
 use Rattle.thompson_nfa.specs.Room.{room}
 use Rattle.thompson_nfa.specs.declared.which_captures.WhichCaptures.{WhichCaptures}
 use Rattle.thompson_nfa.proofs.Steps.ProgressLemmas.{refuses}
@@ -31,7 +31,7 @@ literal_room shrink (cat x y) is = absurd (cc)
 literal_room shrink never is = absurd (cc)
 literal_room shrink (alt x y) is = absurd (cc)
 
-literal_noted : (kept : WhichCaptures) (p : ℕ) (x : Tree) (groups : Groups) → is_literal x ≡ true → noted kept p x groups ≡ groups
+literal_noted : (kept : WhichCaptures) (p : ℕ) (x : Tree) (groups : Groups) → is_literal x ≡ true → with_groups_of kept p x groups ≡ groups
 literal_noted kept p empty groups is = absurd (cc)
 literal_noted kept p (literal bytes) groups is = refl
 literal_noted kept p (byte_class ranges) groups is = absurd (cc)
@@ -51,11 +51,11 @@ all_room shrink (x ∷ xs) all =
     ap₂ (λ m n. capped (m + n)) (literal_room shrink x both.0) (all_room shrink xs both.1)
 
 all_noted : (kept : WhichCaptures) (p : ℕ) (xs : List Tree) (groups : Groups) → list_all is_literal xs ≡ true →
-    noted kept p (alternation xs) groups ≡ groups
+    with_groups_of kept p (alternation xs) groups ≡ groups
 all_noted kept p [] groups all = refl
 all_noted kept p (x ∷ xs) groups all =
     let both = and_parts (is_literal x) (list_all is_literal xs) all in
-    ap (noted kept p (alternation xs)) (literal_noted kept p x groups both.0) ∙ all_noted kept p xs groups both.1
+    ap (with_groups_of kept p (alternation xs)) (literal_noted kept p x groups both.0) ∙ all_noted kept p xs groups both.1
 
 only_literals : (xs : List Tree) → are_literals xs ≡ true → list_all is_literal xs ≡ true
 only_literals xs are = (and_parts (nat_lt 1 (length xs)) (list_all is_literal xs) are).1
@@ -66,7 +66,7 @@ literals_room shrink xs are = all_room shrink xs (only_literals xs are)
 
 -- they have no groups
 pub literals_noted : (kept : WhichCaptures) (p : ℕ) (xs : List Tree) (old now : Groups) → are_literals xs ≡ true → now ≡ old →
-    now ≡ noted kept p (alternation xs) old
+    now ≡ with_groups_of kept p (alternation xs) old
 literals_noted kept p xs old now are same = same ∙ sym (all_noted kept p xs old (only_literals xs are))
 
 pub literals_made : (shrink : Bool) (a b : Assembly) (s e : ℕ) (xs : List Tree) → are_literals xs ≡ true →
@@ -75,6 +75,6 @@ literals_made shrink a b s e xs are m = let P : ℕ → Type 0 = λ n. Makes a b
 
 pub literals_refused : (kept : WhichCaptures) (shrink : Bool) (a b : Assembly) (xs : List Tree) (err : BuildError) →
     are_literals xs ≡ true → Quits a b (count (alternation xs)) err →
-    Refuses kept a b (room shrink (alternation xs)) (alternation xs) err
+    RefusesFragment kept a b (room shrink (alternation xs)) (alternation xs) err
 literals_refused kept shrink a b xs err are q = let same = literals_room shrink xs are in
     refuses kept (room shrink (alternation xs)) (alternation xs) q (omega arith)

@@ -10,19 +10,19 @@ use denote.Ref.{Bor}
 use Rattle.hir_core.specs.Means.{stands}
 use Rattle.nfa_core.specs.Walks.{has, join, distinct}
 use Rattle.thompson_nfa.specs.declared.literal_groups.Edge.{Edge}
-use Rattle.thompson_nfa.specs.LiteralGroups.{texts, tails, run_of, behind_byte, chunk_strings, Ascends, AreInside, bytes_in, bytes_in_all}
+use Rattle.thompson_nfa.specs.LiteralGroups.{texts, tails, run_of, each_behind, chunk_strings, Ascends, LeadWithin, bytes_in, bytes_in_all}
 use Rattle.thompson_nfa.specs.LiteralGroups.{strings_in_all, AllSome, IsChunk, AddsGroups}
-use Rattle.thompson_nfa.specs.LiteralTries.{ends_of, IsLike, item_strings, node_strings, edges_in, chunks_in, matches_in, AreChunks}
+use Rattle.thompson_nfa.specs.LiteralTries.{literal_ends_of, IsLike, item_strings, node_strings, edges_in, chunks_in, matches_in, AreChunks}
 use Rattle.thompson_nfa.specs.LiteralTries.{IsNode}
 use Rattle.thompson_nfa.proofs.LiteralTries.LiteralGroupLemmas.{all_some_append, chunk_kept, inside_wider}
 
 -- ---- ends
 
-pub ends_append : (us vs : List (List ℕ)) (h : List ℕ) (i : ℕ) → ends_of (us ++ vs) h i ≡ ends_of us h i ++ ends_of vs h i
+pub ends_append : (us vs : List (List ℕ)) (h : List ℕ) (i : ℕ) → literal_ends_of (us ++ vs) h i ≡ literal_ends_of us h i ++ literal_ends_of vs h i
 ends_append [] vs h i = refl
 ends_append (w ∷ us) vs h i =
     let here : List ℕ = if stands h i w then (i + length w) ∷ [] else [] in
-    ap (λ (l : List ℕ). here ++ l) (ends_append us vs h i) ∙ sym (append_assoc here (ends_of us h i) (ends_of vs h i))
+    ap (λ (l : List ℕ). here ++ l) (ends_append us vs h i) ∙ sym (append_assoc here (literal_ends_of us h i) (literal_ends_of vs h i))
 
 -- none of the strings is empty
 abbrev pub NoneEnds : List (List ℕ) → Type 0
@@ -35,53 +35,53 @@ none_end_append [] vs a b = b
 none_end_append ([] ∷ us) vs a b = absurd a
 none_end_append ((c ∷ w) ∷ us) vs a b = none_end_append us vs a b
 
-none_end_behind : (b : ℕ) (ws : List (List ℕ)) → NoneEnds (behind_byte b ws)
+none_end_behind : (b : ℕ) (ws : List (List ℕ)) → NoneEnds (each_behind b ws)
 none_end_behind b [] = tt
 none_end_behind b (w ∷ ws) = none_end_behind b ws
 
 pub chunk_none_end : (groups : List (List (List ℕ))) (es : List Edge) → NoneEnds (chunk_strings groups es)
 chunk_none_end groups [] = tt
-chunk_none_end groups (e ∷ es) = none_end_append (behind_byte e.byte (get_or groups e.next [])) (chunk_strings groups es)
+chunk_none_end groups (e ∷ es) = none_end_append (each_behind e.byte (get_or groups e.next [])) (chunk_strings groups es)
     (none_end_behind e.byte (get_or groups e.next [])) (chunk_none_end groups es)
 
 -- strings that begin with the byte that stands at the place go on behind it
 abbrev going : Option ℕ → List (List ℕ) → List ℕ → ℕ → List ℕ
 going None ws h i = []
-going (Some c) ws h i = ends_of (tails c ws) h (i + 1)
+going (Some c) ws h i = literal_ends_of (tails c ws) h (i + 1)
 
 one_end : (t s : Bool) (i n : ℕ) (w : List ℕ) (rest : List (List ℕ)) (h : List ℕ) (others : List ℕ) → s ≡ stands h (i + 1) w →
-    n ≡ length w → others ≡ ends_of rest h (i + 1) →
-    (if t && s then (i + suc n) ∷ [] else []) ++ others ≡ ends_of (if t then w ∷ rest else rest) h (i + 1)
+    n ≡ length w → others ≡ literal_ends_of rest h (i + 1) →
+    (if t && s then (i + suc n) ∷ [] else []) ++ others ≡ literal_ends_of (if t then w ∷ rest else rest) h (i + 1)
 one_end true s i n w rest h others e m o =
     let place : i + suc n ≡ i + 1 + length w = omega (arith, m) in
     ap (λ (l : List ℕ). (if s then (i + suc n) ∷ [] else []) ++ l) o
-    ∙ ap (λ (k : ℕ). (if s then k ∷ [] else []) ++ ends_of rest h (i + 1)) place
-    ∙ ap (λ (b : Bool). (if b then (i + 1 + length w) ∷ [] else []) ++ ends_of rest h (i + 1)) e
+    ∙ ap (λ (k : ℕ). (if s then k ∷ [] else []) ++ literal_ends_of rest h (i + 1)) place
+    ∙ ap (λ (b : Bool). (if b then (i + 1 + length w) ∷ [] else []) ++ literal_ends_of rest h (i + 1)) e
 one_end false s i n w rest h others e m o = o
 
 ends_at_byte : (ws : List (List ℕ)) (h : List ℕ) (i c : ℕ) → NoneEnds ws → drop i h ≡ c ∷ drop (i + 1) h →
-    ends_of ws h i ≡ ends_of (tails c ws) h (i + 1)
+    literal_ends_of ws h i ≡ literal_ends_of (tails c ws) h (i + 1)
 ends_at_byte [] h i c none e = refl
 ends_at_byte ([] ∷ ws) h i c none e = absurd none
 ends_at_byte ((a ∷ w) ∷ ws) h i c none e =
-    ap (λ (d : List ℕ). (if starts_with nat_eq d (a ∷ w) then (i + suc (length w)) ∷ [] else []) ++ ends_of ws h i) e
-    ∙ one_end (nat_eq a c) (stands h (i + 1) w) i (length w) w (tails c ws) h (ends_of ws h i) refl refl (ends_at_byte ws h i c none e)
+    ap (λ (d : List ℕ). (if starts_with nat_eq d (a ∷ w) then (i + suc (length w)) ∷ [] else []) ++ literal_ends_of ws h i) e
+    ∙ one_end (nat_eq a c) (stands h (i + 1) w) i (length w) w (tails c ws) h (literal_ends_of ws h i) refl refl (ends_at_byte ws h i c none e)
 
-ends_at_end : (ws : List (List ℕ)) (h : List ℕ) (i : ℕ) → NoneEnds ws → drop i h ≡ [] → ends_of ws h i ≡ []
+ends_at_end : (ws : List (List ℕ)) (h : List ℕ) (i : ℕ) → NoneEnds ws → drop i h ≡ [] → literal_ends_of ws h i ≡ []
 ends_at_end [] h i none e = refl
 ends_at_end ([] ∷ ws) h i none e = absurd none
 ends_at_end ((a ∷ w) ∷ ws) h i none e =
-    ap (λ (d : List ℕ). (if starts_with nat_eq d (a ∷ w) then (i + suc (length w)) ∷ [] else []) ++ ends_of ws h i) e
+    ap (λ (d : List ℕ). (if starts_with nat_eq d (a ∷ w) then (i + suc (length w)) ∷ [] else []) ++ literal_ends_of ws h i) e
     ∙ ends_at_end ws h i none e
 
 -- strings none of which is empty end at the same places where the same strings go on behind each byte
 pub same_ends : (us vs : List (List ℕ)) → NoneEnds us → NoneEnds vs → ((c : ℕ) → tails c us ≡ tails c vs) → (h : List ℕ) (i : ℕ) →
-    ends_of us h i ≡ ends_of vs h i
+    literal_ends_of us h i ≡ literal_ends_of vs h i
 same_ends us vs a b same h i = elim (slice_get_cases h i).1 [
   | inl x ↦
       let e : drop i h ≡ x.0 ∷ drop (i + 1) h = drop-cons h i x.0 x.1 ∙ ap (λ (c : ℕ). c ∷ drop (suc i) h) x.3
       ∙ ap (λ (k : ℕ). x.0 ∷ drop k h) (let k : suc i ≡ i + 1 = omega arith in k) in
-      ends_at_byte us h i x.0 a e ∙ ap (λ (ws : List (List ℕ)). ends_of ws h (i + 1)) (same x.0) ∙ sym (ends_at_byte vs h i x.0 b e)
+      ends_at_byte us h i x.0 a e ∙ ap (λ (ws : List (List ℕ)). literal_ends_of ws h (i + 1)) (same x.0) ∙ sym (ends_at_byte vs h i x.0 b e)
   | inr o ↦
       let e : drop i h ≡ [] = drop_of_length-le h o.0 in
       ends_at_end us h i a e ∙ sym (ends_at_end vs h i b e)
@@ -97,13 +97,13 @@ join_append seen (x ∷ xs) ys = elim (has nat_eq x seen) as
     [ true ↦ join_append seen xs ys | false ↦ join_append (seen ++ x ∷ []) xs ys ]
 
 -- what follows may be replaced by what ends at the same places
-pub like_then : (us vs xs ys : List (List ℕ)) → IsLike us vs → ((h : List ℕ) (i : ℕ) → ends_of xs h i ≡ ends_of ys h i) →
+pub like_then : (us vs xs ys : List (List ℕ)) → IsLike us vs → ((h : List ℕ) (i : ℕ) → literal_ends_of xs h i ≡ literal_ends_of ys h i) →
     IsLike (us ++ xs) (vs ++ ys)
 like_then us vs xs ys like same h i =
-    ap (distinct nat_eq) (ends_append us xs h i) ∙ join_append [] (ends_of us h i) (ends_of xs h i)
-    ∙ ap (λ (l : List ℕ). join nat_eq (distinct nat_eq (ends_of us h i)) l) (same h i)
-    ∙ ap (λ (l : List ℕ). join nat_eq l (ends_of ys h i)) (like h i)
-    ∙ sym (join_append [] (ends_of vs h i) (ends_of ys h i)) ∙ ap (distinct nat_eq) (sym (ends_append vs ys h i))
+    ap (distinct nat_eq) (ends_append us xs h i) ∙ join_append [] (literal_ends_of us h i) (literal_ends_of xs h i)
+    ∙ ap (λ (l : List ℕ). join nat_eq (distinct nat_eq (literal_ends_of us h i)) l) (same h i)
+    ∙ ap (λ (l : List ℕ). join nat_eq l (literal_ends_of ys h i)) (like h i)
+    ∙ sym (join_append [] (literal_ends_of vs h i) (literal_ends_of ys h i)) ∙ ap (distinct nat_eq) (sym (ends_append vs ys h i))
 
 has_pushed : (x : ℕ) (seen : List ℕ) → has nat_eq x (seen ++ x ∷ []) ≡ true
 has_pushed x [] = grind (arith, common_steps)
@@ -126,12 +126,12 @@ join_twice x seen =
 -- one more match behind a match
 pub match_twice : (ws : List (List ℕ)) → IsLike ((ws ++ [] ∷ []) ++ [] ∷ []) (ws ++ [] ∷ [])
 match_twice ws h i =
-    let here : List ℕ = ends_of ([] ∷ []) h i in
+    let here : List ℕ = literal_ends_of ([] ∷ []) h i in
     let is : here ≡ (i + 0) ∷ [] = refl in
     ap (distinct nat_eq) (ends_append (ws ++ [] ∷ []) ([] ∷ []) h i ∙ ap (λ (l : List ℕ). l ++ (i + 0) ∷ []) (ends_append ws ([] ∷ []) h i)
-    ∙ append_assoc (ends_of ws h i) ((i + 0) ∷ []) ((i + 0) ∷ []))
-    ∙ join_append [] (ends_of ws h i) ((i + 0) ∷ (i + 0) ∷ []) ∙ join_twice (i + 0) (distinct nat_eq (ends_of ws h i))
-    ∙ sym (join_append [] (ends_of ws h i) ((i + 0) ∷ [])) ∙ ap (distinct nat_eq) (sym (ends_append ws ([] ∷ []) h i))
+    ∙ append_assoc (literal_ends_of ws h i) ((i + 0) ∷ []) ((i + 0) ∷ []))
+    ∙ join_append [] (literal_ends_of ws h i) ((i + 0) ∷ (i + 0) ∷ []) ∙ join_twice (i + 0) (distinct nat_eq (literal_ends_of ws h i))
+    ∙ sym (join_append [] (literal_ends_of ws h i) ((i + 0) ∷ [])) ∙ ap (distinct nat_eq) (sym (ends_append ws ([] ∷ []) h i))
 
 -- ---- items
 
@@ -165,12 +165,12 @@ are_wider first end less more (x ∷ xs) a le l = (
   are_wider first end less more xs a.2 le l,
 )
 
-are_pushed : (first end : ℕ) (xs : List (List Edge)) (x : List Edge) → AreChunks first end xs → Ascends 0 x 256 → AreInside first end x →
+are_pushed : (first end : ℕ) (xs : List (List Edge)) (x : List Edge) → AreChunks first end xs → Ascends 0 x 256 → LeadWithin first end x →
     AreChunks first end (xs ++ x ∷ [])
 are_pushed first end [] x a b c = (b, c, tt)
 are_pushed first end (y ∷ ys) x a b c = (a.0, a.1, are_pushed first end ys x a.2 b c)
 
-item_kept : (groups more : List (List (List ℕ))) (first end : ℕ) (x : List Edge) → AreInside first end x → end ≤ length groups →
+item_kept : (groups more : List (List (List ℕ))) (first end : ℕ) (x : List Edge) → LeadWithin first end x → end ≤ length groups →
     item_strings (groups ++ more) x ≡ item_strings groups x
 item_kept groups more first end [] a le = refl
 item_kept groups more first end (e ∷ es) a le = chunk_kept groups more first end (e ∷ es) a le
@@ -359,7 +359,7 @@ module _ (first : ℕ) (old new : List (List (List ℕ))) (items : List (List Ed
         twice = λ t. match_twice so_far.met;
         chunks = λ before len. are_pushed first (length (before ++ new)) items [] (so_far.chunks before len) (omega arith) tt;
         like = λ before len h i.
-            ap (λ (l : List (List ℕ)). distinct nat_eq (ends_of l h i)) (strings_append (before ++ new) items ([] ∷ []))
+            ap (λ (l : List (List ℕ)). distinct nat_eq (literal_ends_of l h i)) (strings_append (before ++ new) items ([] ∷ []))
             ∙ like_then (node_strings (before ++ new) items) so_far.met ([] ∷ []) ([] ∷ []) (so_far.like before len) (λ g k. refl) h i;
       }
 
@@ -427,13 +427,13 @@ module _ (first : ℕ) (old new : List (List (List ℕ))) (items : List (List Ed
             (length (before ++ more)) items (so_far.chunks before len) (omega arith) (longer before))
             (chunk before len).ascends (chunk before len).inside;
         like = λ before len h i.
-            ap (λ (l : List (List ℕ)). distinct nat_eq (ends_of l h i)) (strings_append (before ++ more) items (edges ∷ []))
+            ap (λ (l : List (List ℕ)). distinct nat_eq (literal_ends_of l h i)) (strings_append (before ++ more) items (edges ∷ []))
             ∙ like_then (node_strings (before ++ more) items) so_far.met (node_strings (before ++ more) (edges ∷ [])) run
-            (λ g k. ap (λ (l : List (List ℕ)). distinct nat_eq (ends_of l g k))
+            (λ g k. ap (λ (l : List (List ℕ)). distinct nat_eq (literal_ends_of l g k))
             (ap (λ (gs : List (List (List ℕ))). node_strings gs items) (wider before)
             ∙ strings_kept (before ++ new) adds.added first (length (before ++ new)) items (so_far.chunks before len) (omega arith))
             ∙ so_far.like before len g k)
-            (λ g k. ap (λ (l : List (List ℕ)). ends_of l g k) (append-nil (item_strings (before ++ more) edges)
+            (λ g k. ap (λ (l : List (List ℕ)). literal_ends_of l g k) (append-nil (item_strings (before ++ more) edges)
             ∙ item_chunk (before ++ more) edges an_edge)
             ∙ same_ends (chunk_strings (before ++ more) edges) run (chunk_none_end (before ++ more) edges) none
             (chunk before len).same_tails g k) h i;

@@ -16,7 +16,7 @@ use Rattle.nfa_core.specs.declared.build_error.BuildError.{BuildError}
 use Rattle.thompson_nfa.specs.Added.{Added}
 use Rattle.thompson_nfa.specs.Compiled.{Grows, IsTame, Weighs, sum_of_bytes}
 use Rattle.thompson_nfa.specs.Denotes.{Denotes}
-use Rattle.thompson_nfa.specs.LiteralGroups.{Ascends, AreInside}
+use Rattle.thompson_nfa.specs.LiteralGroups.{Ascends, LeadWithin}
 use Rattle.thompson_nfa.specs.LiteralTries.{edges_in, chunks_in, matches_in, AreChunks}
 use Rattle.thompson_nfa.specs.LiteralStates.{edge_ranges, AddsItem, AddsNode, edge_trees, item_tree, item_trees, IsLed}
 use Rattle.thompson_nfa.specs.Refusals.{Stays, Quits, Passes}
@@ -62,7 +62,7 @@ bytes_of_chunk names es ranges e = let P : List (ℕ × ℕ × ℕ) → Type 0 =
     subst P (sym e) (chunk_weighs names es)
 
 -- the state names states that are there
-chunk_names : (names : List ℕ) (n first : ℕ) (es : List Edge) → All (λ q. q < n) names → AreInside first (length names) es → (k d : ℕ) →
+chunk_names : (names : List ℕ) (n first : ℕ) (es : List Edge) → All (λ q. q < n) names → LeadWithin first (length names) es → (k d : ℕ) →
     k < length (names_of (sparse_draft (edge_ranges names es))) →
     get_or (names_of (sparse_draft (edge_ranges names es))) k d < n
 chunk_names names n first [] all a k d l = absurd (omega arith)
@@ -71,7 +71,7 @@ chunk_names names n first (e ∷ es) all a (suc k) d l = chunk_names names n fir
 
 -- where the nodes to which edges lead do what trees mean, the chunk does what the alternation of these means behind their bytes
 lead_edges : (back : Bool) (T : Table) (end first : ℕ) (names : List ℕ) (x : ℕ → Tree) (es : List Edge) → IsLed back T end first names x →
-    AreInside first (length names) es →
+    LeadWithin first (length names) es →
     LeadAll back T end (edge_ranges names es) (edge_trees x es)
 lead_edges back T end first names x [] led a = tt
 lead_edges back T end first names x (e ∷ es) led a = (led e.next a.0 a.1, lead_edges back T end first names x es led a.2)
@@ -157,7 +157,7 @@ module _ (old mid : Assembly) (names : List ℕ) (end : ℕ) (items : List (List
 
   module _ (new : Assembly) (id : ℕ) (e : Edge) (es : List Edge) (added : Added mid new id
       (sparse_draft (edge_ranges names (e ∷ es))) mid.groups) (names_there : All (λ q. q < length old.drafts) names)
-      (inside : AreInside 0 (length names) (e ∷ es)) (ascends : Ascends 0 (e ∷ es) 256) where
+      (inside : LeadWithin 0 (length names) (e ∷ es)) (ascends : Ascends 0 (e ∷ es) 256) where
     abbrev draft : DraftNode
     draft = sparse_draft (edge_ranges names (e ∷ es))
 
@@ -214,7 +214,7 @@ module _ (old mid : Assembly) (names : List ℕ) (end : ℕ) (items : List (List
         }
 
   pub item_added : (new : Assembly) (id : ℕ) (item : List Edge) → AddsItem mid new names end item id →
-      All (λ q. q < length old.drafts) names → AreInside 0 (length names) item → Ascends 0 item 256 →
+      All (λ q. q < length old.drafts) names → LeadWithin 0 (length names) item → Ascends 0 item 256 →
       ItemsTo old new names end (items ++ item ∷ []) (ways ++ id ∷ [])
   item_added new id [] a there inside ascends =
       let P : Assembly → Type 0 = λ b. ItemsTo old b names end (items ++ [] ∷ []) (ways ++ id ∷ []) in
@@ -339,9 +339,9 @@ module _ (old mid : Assembly) (names : List ℕ) (end : ℕ) (all items others :
 -- ---- places in the list of items
 
 pub chunk_at : (first end : ℕ) (xs : List (List Edge)) (k : ℕ) (row : List Edge) → AreChunks first end xs → k < length xs →
-    get_or xs k [] ≡ row → AreInside first end row × Ascends 0 row 256
+    get_or xs k [] ≡ row → LeadWithin first end row × Ascends 0 row 256
 chunk_at first end [] k row a l e = absurd (omega arith)
-chunk_at first end (x ∷ xs) zero row a l e = let P : List Edge → Type 0 = λ r. AreInside first end r × Ascends 0 r 256 in
+chunk_at first end (x ∷ xs) zero row a l e = let P : List Edge → Type 0 = λ r. LeadWithin first end r × Ascends 0 r 256 in
     subst P e (a.1, a.0)
 chunk_at first end (x ∷ xs) (suc k) row a l e = chunk_at first end xs k row a.2 (omega arith) e
 
@@ -370,7 +370,7 @@ module _ {V : Type 0} (items_of : V → List Edge) (rows : List V) (k : ℕ) (v 
   here : get_or (map items_of rows) k [] ≡ row
   here = get_or-map items_of rows k v [] less ∙ ap items_of (sym got) ∙ sym is_row
 
-  pub row_chunk : (end : ℕ) → AreChunks 0 end (map items_of rows) → AreInside 0 end row × Ascends 0 row 256
+  pub row_chunk : (end : ℕ) → AreChunks 0 end (map items_of rows) → LeadWithin 0 end row × Ascends 0 row 256
   row_chunk end a = chunk_at 0 end (map items_of rows) k row a inside here
 
   pub row_added : (old mid new : Assembly) (names : List ℕ) (end id : ℕ) (ways ways2 : List ℕ) →

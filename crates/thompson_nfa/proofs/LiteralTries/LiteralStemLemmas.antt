@@ -3,8 +3,8 @@ use Rattle.std.proofs.Common.{◌≡◌, ℕ, zero, suc, ◌+◌, ◌<◌, ◌�
 use Rattle.std.proofs.Common.{arith, length-append, append_assoc}
 use Rattle.std.proofs.lemmas.List.{take_more, take_all, length-take-le, drop_more, map-append}
 use denote.Ref.{Bor}
-use Rattle.thompson_nfa.specs.LiteralGroups.{texts, behind_byte, bytes_in}
-use Rattle.thompson_nfa.specs.LiteralStems.{HaveAll, BeginAll, without, behind_text}
+use Rattle.thompson_nfa.specs.LiteralGroups.{texts, each_behind, bytes_in}
+use Rattle.thompson_nfa.specs.LiteralStems.{HaveAll, BeginAll, without_first, behind_text}
 
 -- all begin with no byte
 pub begin_none : (ws : List (List ℕ)) → BeginAll [] ws
@@ -41,13 +41,13 @@ begins_long_at t (v ∷ ws) zero d a l = omega (arith, ap length a.0, length-app
 begins_long_at t (v ∷ ws) (suc k) d a l = begins_long_at t ws k d a.1 (omega arith)
 
 -- the strings are those behind the stem
-pub behind_without : (t : List ℕ) (ws : List (List ℕ)) → BeginAll t ws → behind_text t (without (length t) ws) ≡ ws
+pub behind_without : (t : List ℕ) (ws : List (List ℕ)) → BeginAll t ws → behind_text t (without_first (length t) ws) ≡ ws
 behind_without t [] a = refl
-behind_without t (w ∷ ws) a = ap (λ (v : List ℕ). v ∷ behind_text t (without (length t) ws)) (sym a.0)
+behind_without t (w ∷ ws) a = ap (λ (v : List ℕ). v ∷ behind_text t (without_first (length t) ws)) (sym a.0)
     ∙ ap (λ (l : List (List ℕ)). w ∷ l) (behind_without t ws a.1)
 
 -- a text's first byte comes before the others
-pub text_byte : (b : ℕ) (t : List ℕ) (ws : List (List ℕ)) → behind_byte b (behind_text t ws) ≡ behind_text (b ∷ t) ws
+pub text_byte : (b : ℕ) (t : List ℕ) (ws : List (List ℕ)) → each_behind b (behind_text t ws) ≡ behind_text (b ∷ t) ws
 text_byte b t [] = refl
 text_byte b t (w ∷ ws) = ap (λ (l : List (List ℕ)). (b ∷ t ++ w) ∷ l) (text_byte b t ws)
 

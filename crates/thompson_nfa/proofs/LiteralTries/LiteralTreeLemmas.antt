@@ -16,9 +16,9 @@ use Rattle.nfa_core.specs.Walks.{Has, distinct}
 use Rattle.nfa_core.specs.Ways.{Text}
 use Rattle.nfa_core.proofs.ForCallers.{join_brings, of_join, none_in, has_cons, has_same, has_later, names_equal}
 use Rattle.thompson_nfa.specs.Denotes.{seen, IsMeant, Orders, Denotes}
-use Rattle.thompson_nfa.specs.LiteralGroups.{behind_byte, chunk_strings}
+use Rattle.thompson_nfa.specs.LiteralGroups.{each_behind, chunk_strings}
 use Rattle.thompson_nfa.specs.LiteralStates.{spelt_literal, literals, edge_ranges, edge_trees, item_tree, item_trees}
-use Rattle.thompson_nfa.specs.LiteralTries.{ends_of, IsLike, item_strings, node_strings}
+use Rattle.thompson_nfa.specs.LiteralTries.{literal_ends_of, IsLike, item_strings, node_strings}
 use Rattle.thompson_nfa.specs.Shared.{read_then, branch_trees}
 use Rattle.thompson_nfa.specs.declared.literal_groups.Edge.{Edge}
 use Rattle.thompson_nfa.proofs.Walks.DenoteLemmas.{denotes_like, denotes_join, denotes_range}
@@ -98,7 +98,7 @@ module _ (looks : Looks) (h : List ℕ) where
   one_forward b w i = ap (flat_map (ends (literal w))) (byte_here b i) ∙ (same_literal_append (b ∷ []) w).ends looks h i
 
   forward : (b : ℕ) (ws : List (List ℕ)) (i : ℕ) → flat_map (ends (literals false ws)) (ends (range_tree (b, b)) i) ≡ ends
-      (literals false (behind_byte b ws)) i
+      (literals false (each_behind b ws)) i
   forward b [] i = no_places (ends (range_tree (b, b)) i)
   forward b (w ∷ ws) i =
       ap (flat_map (λ p. ends (literal w) p ++ ends (literals false ws) p)) (byte_here b i)
@@ -115,7 +115,7 @@ module _ (looks : Looks) (h : List ℕ) where
       (sym (reverse-append (b ∷ []) w))
 
   backward : (b : ℕ) (ws : List (List ℕ)) (i : ℕ) → flat_map (ends (range_tree (b, b))) (ends (literals true ws) i) ≡ ends
-      (literals true (behind_byte b ws)) i
+      (literals true (each_behind b ws)) i
   backward b [] i = refl
   backward b (w ∷ ws) i =
       flat_map-append (ends (range_tree (b, b))) (ends (literal (reverse w)) i) (ends (literals true ws) i)
@@ -123,7 +123,7 @@ module _ (looks : Looks) (h : List ℕ) where
       ∙ ap (λ (l : List ℕ). ends (literal (reverse (b ∷ w))) i ++ l) (backward b ws i)
 
   read_ends : (back : Bool) (b : ℕ) (ws : List (List ℕ)) (i : ℕ) → ends (read_then back (b, b) (literals back ws)) i ≡ ends
-      (literals back (behind_byte b ws)) i
+      (literals back (each_behind b ws)) i
   read_ends false b ws i = forward b ws i
   read_ends true b ws i = backward b ws i
 
@@ -133,7 +133,7 @@ module _ (looks : Looks) (h : List ℕ) where
     chunk_ends [] i = refl
     chunk_ends (e ∷ es) i =
         let later : List Tree = branch_trees back (edge_ranges names es) (edge_trees (node_tree back groups) es) in
-        let first : List (List ℕ) = behind_byte e.byte (get_or groups e.next []) in
+        let first : List (List ℕ) = each_behind e.byte (get_or groups e.next []) in
         ap (λ (l : List ℕ). l ++ ends (alternation later) i) (read_ends back e.byte (get_or groups e.next []) i)
         ∙ ap (λ (l : List ℕ). ends (literals back first) i ++ l) (chunk_ends es i)
         ∙ sym (literals_append back first (chunk_strings groups es) i)
@@ -155,7 +155,7 @@ module _ (looks : Looks) (h : List ℕ) where
         ∙ ap (λ (l : List ℕ). ends (literals back (item_strings groups x)) i ++ l) (items_ends xs i)
         ∙ sym (literals_append back (item_strings groups x) (node_strings groups xs) i)
 
-  string_ends : (ws : List (List ℕ)) (i : ℕ) → ends (literals false ws) i ≡ ends_of ws h i
+  string_ends : (ws : List (List ℕ)) (i : ℕ) → ends (literals false ws) i ≡ literal_ends_of ws h i
   string_ends [] i = refl
   string_ends (w ∷ ws) i = ap (λ (l : List ℕ). (if stands h i w then (i + length w) ∷ [] else []) ++ l) (string_ends ws i)
 
@@ -180,19 +180,19 @@ equal_stands (a ∷ v) (b ∷ w) s l =
     let same : a ≡ b = (names_equal a b).0 x.0 in
     ap (λ (c : ℕ). c ∷ v) same ∙ ap (λ (u : List ℕ). b ∷ u) (equal_stands v w x.1 (omega arith))
 
-member_ends : (w : List ℕ) (ws : List (List ℕ)) → Member w ws → HasEnd (ends_of ws w 0) (length w)
+member_ends : (w : List ℕ) (ws : List (List ℕ)) → Member w ws → HasEnd (literal_ends_of ws w 0) (length w)
 member_ends w [] m = elim m [ ]
 member_ends w (v ∷ ws) (inl e) =
-    let P : List ℕ → Type 0 = λ u. HasEnd (ends_of (u ∷ ws) w 0) (length w) in
+    let P : List ℕ → Type 0 = λ u. HasEnd (literal_ends_of (u ∷ ws) w 0) (length w) in
     let here : HasEnd (if stands w 0 w then (0 + length w) ∷ [] else []) (length w) =
     Has-then (stands w 0 w) (0 + length w) (length w) (all_same w) (omega arith) in
-    subst P (sym e) (Has-left (if stands w 0 w then (0 + length w) ∷ [] else []) (ends_of ws w 0) (length w) here)
+    subst P (sym e) (Has-left (if stands w 0 w then (0 + length w) ∷ [] else []) (literal_ends_of ws w 0) (length w) here)
 member_ends w (v ∷ ws) (inr m) = Has-right (if stands w 0 v then (0 + length v) ∷ []
-    else []) (ends_of ws w 0) (length w) (member_ends w ws m)
+    else []) (literal_ends_of ws w 0) (length w) (member_ends w ws m)
 
-ends_member : (w : List ℕ) (ws : List (List ℕ)) → HasEnd (ends_of ws w 0) (length w) → Member w ws
+ends_member : (w : List ℕ) (ws : List (List ℕ)) → HasEnd (literal_ends_of ws w 0) (length w) → Member w ws
 ends_member w [] h = elim h [ ]
-ends_member w (v ∷ ws) h = elim (Has-append (if stands w 0 v then (0 + length v) ∷ [] else []) (ends_of ws w 0) (length w) h) [
+ends_member w (v ∷ ws) h = elim (Has-append (if stands w 0 v then (0 + length v) ∷ [] else []) (literal_ends_of ws w 0) (length w) h) [
   | inl a ↦ let x = Has-if (stands w 0 v) (0 + length v) (length w) a in let e = x.1 in inl (equal_stands v w x.0 (omega arith))
   | inr b ↦ inr (ends_member w ws b)
 ]
@@ -209,8 +209,8 @@ end_of_has (j ∷ js) k h = elim (has_cons nat_eq names_equal k j js h) [ inl e 
 -- strings that end at the same places first have the same members
 pub like_members : (us vs : List (List ℕ)) → IsLike us vs → (w : List ℕ) → Member w us → Member w vs
 like_members us vs like w m =
-    let js : List ℕ = ends_of us w 0 in
-    let ks : List ℕ = ends_of vs w 0 in
+    let js : List ℕ = literal_ends_of us w 0 in
+    let ks : List ℕ = literal_ends_of vs w 0 in
     let P : List ℕ → Type 0 = λ places. Has nat_eq (length w) places in
     let found : Has nat_eq (length w) (distinct nat_eq ks) = subst P (like w 0)
     (join_brings nat_eq names_equal [] js (length w) (has_of_end js (length w) (member_ends w us m))) in
@@ -278,10 +278,10 @@ denotes_node back T s e names groups items strings like d =
 
 -- a byte, and then what is read behind it
 pub denotes_byte_then : (back : Bool) (T : Table) (s q e b : ℕ) (ws : List (List ℕ)) → T s ≡ range_draft b b q →
-    Denotes back T q e (literals back ws) → Denotes back T s e (literals back (behind_byte b ws))
+    Denotes back T q e (literals back ws) → Denotes back T s e (literals back (each_behind b ws))
 denotes_byte_then back T s q e b ws is d =
     let both : Tree = read_then back (b, b) (literals back ws) in
-    denotes_like back T s e both (literals back (behind_byte b ws)) (λ f. read_reads back (b, b) (literals back ws) (literals_read back ws))
+    denotes_like back T s e both (literals back (each_behind b ws)) (λ f. read_reads back (b, b) (literals back ws) (literals_read back ws))
     (λ looks h i. read_ends looks h back b ws i)
     (denotes_join back T s q e (range_tree (b, b)) (literals back ws) both (joins_read back (b, b) (literals back ws))
     (denotes_range back T s q b b is) d)

@@ -15,7 +15,7 @@ use Rattle.thompson_nfa.specs.Compiled.{Finished, ComesOut, Makes, Weighs, Does,
 use Rattle.thompson_nfa.specs.Denotes.{Denotes}
 use Rattle.thompson_nfa.specs.LiteralGroups.{bytes_in}
 use Rattle.thompson_nfa.specs.LiteralStates.{AddsNode, literals, IsLed, item_trees}
-use Rattle.thompson_nfa.specs.LiteralLaid.{NodeValue, no_node, weight, weight_in_all, matches_in_all, HasStrings, IsTrie}
+use Rattle.thompson_nfa.specs.LiteralLaid.{NodeValue, no_node, node_weight, weight_in_all, matches_in_all, HasStrings, IsLaidTrie}
 use Rattle.thompson_nfa.specs.LiteralTexts.{AddsText}
 use Rattle.thompson_nfa.specs.LiteralTries.{edges_in, chunks_in, matches_in, AreChunks}
 use Rattle.thompson_nfa.specs.Refusals.{Quits, Passes}
@@ -42,7 +42,7 @@ HasOthers old mid table = (q : ℕ) → length old.drafts < q → q < length mid
 
 -- the nodes from number k on are compiled
 pub record TrieTo (old mid : Assembly) (end : ℕ) (nodes : List NodeValue) (strings : List (List ℕ)) (names : List ℕ) (k : ℕ) : Type 0 where
-  pub trie : IsTrie nodes strings
+  pub trie : IsLaidTrie nodes strings
   pub within : k ≤ length nodes
   pub end_is : end ≡ length old.drafts
   pub partly : Partly true old mid
@@ -59,12 +59,12 @@ pub record TrieTo (old mid : Assembly) (end : ℕ) (nodes : List NodeValue) (str
   pub denotes : (table : Table) → HasOthers old mid table → (n : ℕ) → k ≤ n → n < length nodes →
       Denotes old.reverse table (get_or names n 0) end (literals old.reverse (get_or trie.groups n []))
 
-weight_from : (nodes : List NodeValue) (k : ℕ) → k < length nodes → weight_in_all (drop k nodes) ≡ weight
+weight_from : (nodes : List NodeValue) (k : ℕ) → k < length nodes → weight_in_all (drop k nodes) ≡ node_weight
     (get_or nodes k no_node) + weight_in_all (drop (k + 1) nodes)
 weight_from [] k l = absurd (omega arith)
 weight_from (n ∷ nodes) zero l = refl
 weight_from (n ∷ nodes) (suc k) l =
-    let P : ℕ → Type 0 = λ m. weight_in_all (drop k nodes) ≡ weight (get_or nodes k no_node) + weight_in_all (drop m (n ∷ nodes)) in
+    let P : ℕ → Type 0 = λ m. weight_in_all (drop k nodes) ≡ node_weight (get_or nodes k no_node) + weight_in_all (drop m (n ∷ nodes)) in
     let same : suc (k + 1) ≡ suc k + 1 = omega arith in
     subst P same (weight_from nodes k (omega arith))
 
@@ -89,7 +89,7 @@ matches_left [] (suc k) = omega arith
 matches_left (n ∷ nodes) (suc k) = omega (arith, matches_left nodes k)
 
 pub trie_begun : (old mid : Assembly) (end : ℕ) (nodes : List NodeValue) (strings : List (List ℕ)) (names : List ℕ) (k : ℕ) →
-    IsTrie nodes strings → Added old mid end (empty_draft 0) old.groups → length names ≡ length nodes →
+    IsLaidTrie nodes strings → Added old mid end (empty_draft 0) old.groups → length names ≡ length nodes →
     All (λ q. q ≡ end) names → k ≡ length nodes → TrieTo old mid end nodes strings names k
 trie_begun old mid end nodes strings names k trie added long same past =
     let is = added.is in let size = added.size in
@@ -147,14 +147,14 @@ module _ (old mid : Assembly) (end : ℕ) (nodes : List NodeValue) (strings : Li
   end_below : end < length mid.drafts
   end_below = omega (arith, so_far.end_is, so_far.longer)
 
-  weight_now : weight_in_all (drop k nodes) ≡ weight node + weight_in_all (drop (k + 1) nodes)
-  weight_now = weight_from nodes k less ∙ ap (λ (n : NodeValue). weight n + weight_in_all (drop (k + 1) nodes)) node_is
+  weight_now : weight_in_all (drop k nodes) ≡ node_weight node + weight_in_all (drop (k + 1) nodes)
+  weight_now = weight_from nodes k less ∙ ap (λ (n : NodeValue). node_weight n + weight_in_all (drop (k + 1) nodes)) node_is
 
   matches_now : matches_in_all (drop k nodes) ≡ matches_in node.items + matches_in_all (drop (k + 1) nodes)
   matches_now = matches_from nodes k less ∙ ap (λ (n : NodeValue). matches_in n.items + matches_in_all (drop (k + 1) nodes)) node_is
 
   -- what this node and those behind it take
-  node_fits : 32 * (weight node + weight_in_all (drop (k + 1) nodes)) + 36 * (matches_in node.items + matches_in_all (drop (k + 1) nodes))
+  node_fits : 32 * (node_weight node + weight_in_all (drop (k + 1) nodes)) + 36 * (matches_in node.items + matches_in_all (drop (k + 1) nodes))
       ≤ 32 * bytes_in strings + 36 * length strings
   node_fits = omega (
     arith,

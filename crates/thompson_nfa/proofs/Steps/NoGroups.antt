@@ -4,7 +4,7 @@ use Rattle.search_types.specs.Groups.{Groups}
 use Rattle.search_types.specs.GroupFaults.{GroupFault, group_fault}
 use Rattle.hir_core.specs.Tree.{Tree, empty, literal, byte_class, char_class, look, repetition, capture, nothing, cat, never, alt}
 use Rattle.thompson_nfa.specs.Configs.{is_any}
-use Rattle.thompson_nfa.specs.NotedGroups.{noted, noted_from, HasGroup}
+use Rattle.thompson_nfa.specs.NotedGroups.{with_groups_of, noted_from, HasGroup}
 use Rattle.thompson_nfa.specs.declared.which_captures.WhichCaptures.{WhichCaptures}
 use Rattle.thompson_nfa.specs.declared.which_captures.WhichCaptures.TheVariants as which
 
@@ -32,7 +32,7 @@ no_group index (alt x y) h = ⊎_elim
     (λ (in_x : HasGroup which.None index x). no_group index x in_x)
     (λ (in_y : HasGroup which.None index y). no_group index y in_y) h
 
-pub none_noted : (p : ℕ) (x : Tree) (groups : Groups) → noted which.None p x groups ≡ groups
+pub none_noted : (p : ℕ) (x : Tree) (groups : Groups) → with_groups_of which.None p x groups ≡ groups
 none_noted p empty groups = refl
 none_noted p (literal bytes) groups = refl
 none_noted p (byte_class ranges) groups = refl
@@ -43,14 +43,14 @@ none_noted p (repetition least (Some zero) greedy x) groups = refl
 none_noted p (repetition least (Some (suc most)) greedy x) groups = none_noted p x groups
 none_noted p (capture index name x) groups = none_noted p x groups
 none_noted p nothing groups = refl
-none_noted p (cat x y) groups = none_noted p y (noted which.None p x groups) ∙ none_noted p x groups
+none_noted p (cat x y) groups = none_noted p y (with_groups_of which.None p x groups) ∙ none_noted p x groups
 none_noted p never groups = refl
-none_noted p (alt x y) groups = none_noted p y (noted which.None p x groups) ∙ none_noted p x groups
+none_noted p (alt x y) groups = none_noted p y (with_groups_of which.None p x groups) ∙ none_noted p x groups
 
 none_noted_from : (p : ℕ) (xs : List Tree) (groups : Groups) → noted_from which.None p xs groups ≡ groups
 none_noted_from p [] groups = refl
 none_noted_from p (x ∷ xs) groups =
-    none_noted_from (suc p) xs (noted which.None p (capture 0 None x) groups) ∙ none_noted p (capture 0 None x) groups
+    none_noted_from (suc p) xs (with_groups_of which.None p (capture 0 None x) groups) ∙ none_noted p (capture 0 None x) groups
 
 pub no_group_kept : (kept : WhichCaptures) (index : ℕ) (x : Tree) → kept ≡ which.None → HasGroup kept index x → ⊥
 no_group_kept kept index x none h =

@@ -10,7 +10,7 @@ use Rattle.nfa_core.specs.BuilderStates.{DraftNode, empty_draft, range_draft, sp
 use Rattle.nfa_core.specs.BuilderStates.{fail_draft, match_draft, capture_start_draft, capture_end_draft, filled, with_name, up_to_pattern}
 use Rattle.nfa_core.specs.BuilderStates.{with_group}
 use Rattle.nfa_core.specs.CanBuild.{is_known}
-use Rattle.thompson_nfa.specs.NotedGroups.{keeps_group, noted}
+use Rattle.thompson_nfa.specs.NotedGroups.{keeps_group, with_groups_of}
 use Rattle.thompson_nfa.specs.declared.which_captures.WhichCaptures.{WhichCaptures}
 
 front_kept : {A : Type 0} (xs ys : List A) (k : ℕ) (d : A) → k < length xs → get_or (xs ++ ys) k d ≡ get_or xs k d
@@ -119,7 +119,7 @@ module _ (kept : WhichCaptures) (p : ℕ) where
   capture_kept true groups index name q j l = group_kept groups p index name q j l
   capture_kept false groups index name q j l = l
 
-  pub noted_kept : (x : Tree) (groups : Groups) (q j : ℕ) → IsIn groups q j → IsIn (noted kept p x groups) q j
+  pub noted_kept : (x : Tree) (groups : Groups) (q j : ℕ) → IsIn groups q j → IsIn (with_groups_of kept p x groups) q j
   noted_kept empty groups q j l = l
   noted_kept (literal bytes) groups q j l = l
   noted_kept (byte_class ranges) groups q j l = l
@@ -132,16 +132,16 @@ module _ (kept : WhichCaptures) (p : ℕ) where
       noted_kept x (if keeps_group kept index then with_group groups p index name
       else groups) q j (capture_kept (keeps_group kept index) groups index name q j l)
   noted_kept nothing groups q j l = l
-  noted_kept (cat x y) groups q j l = noted_kept y (noted kept p x groups) q j (noted_kept x groups q j l)
+  noted_kept (cat x y) groups q j l = noted_kept y (with_groups_of kept p x groups) q j (noted_kept x groups q j l)
   noted_kept never groups q j l = l
-  noted_kept (alt x y) groups q j l = noted_kept y (noted kept p x groups) q j (noted_kept x groups q j l)
+  noted_kept (alt x y) groups q j l = noted_kept y (with_groups_of kept p x groups) q j (noted_kept x groups q j l)
 
   capture_in : (b : Bool) (groups : Groups) (index : ℕ) (name : Option Name) → b ≡ true →
       IsIn (if b then with_group groups p index name else groups) p index
   capture_in true groups index name e = group_in groups p index name
   capture_in false groups index name e = absurd (cc)
 
-  noted_in : (x : Tree) (groups : Groups) (j : ℕ) → Notes kept j x → IsIn (noted kept p x groups) p j
+  noted_in : (x : Tree) (groups : Groups) (j : ℕ) → Notes kept j x → IsIn (with_groups_of kept p x groups) p j
   noted_in empty groups j n = absurd n
   noted_in (literal bytes) groups j n = absurd n
   noted_in (byte_class ranges) groups j n = absurd n
@@ -154,22 +154,22 @@ module _ (kept : WhichCaptures) (p : ℕ) where
       let after = if keeps_group kept index then with_group groups p index name else groups in
       ⊎_elim
       (λ (h : (j ≡ index) × (keeps_group kept index ≡ true)).
-      let P : ℕ → Type 0 = λ k. IsIn (noted kept p x after) p k in
+      let P : ℕ → Type 0 = λ k. IsIn (with_groups_of kept p x after) p k in
       subst P (sym h.0) (noted_kept x after p index (capture_in (keeps_group kept index) groups index name h.1)))
       (λ (h : Notes kept j x). noted_in x after j h) n
   noted_in nothing groups j n = absurd n
-  noted_in (cat x y) groups j n = ⊎_elim (λ (h : Notes kept j x). noted_kept y (noted kept p x groups) p j (noted_in x groups j h))
-      (λ (h : Notes kept j y). noted_in y (noted kept p x groups) j h) n
+  noted_in (cat x y) groups j n = ⊎_elim (λ (h : Notes kept j x). noted_kept y (with_groups_of kept p x groups) p j (noted_in x groups j h))
+      (λ (h : Notes kept j y). noted_in y (with_groups_of kept p x groups) j h) n
   noted_in never groups j n = absurd n
-  noted_in (alt x y) groups j n = ⊎_elim (λ (h : Notes kept j x). noted_kept y (noted kept p x groups) p j (noted_in x groups j h))
-      (λ (h : Notes kept j y). noted_in y (noted kept p x groups) j h) n
+  noted_in (alt x y) groups j n = ⊎_elim (λ (h : Notes kept j x). noted_kept y (with_groups_of kept p x groups) p j (noted_in x groups j h))
+      (λ (h : Notes kept j y). noted_in y (with_groups_of kept p x groups) j h) n
 
   capture_same : (b : Bool) (groups : Groups) (index : ℕ) (name : Option Name) → (b ≡ true → IsIn groups p index) →
       (if b then with_group groups p index name else groups) ≡ groups
   capture_same true groups index name there = group_same groups p index name (there refl)
   capture_same false groups index name there = refl
 
-  noted_same : (x : Tree) (groups : Groups) → ((j : ℕ) → Notes kept j x → IsIn groups p j) → noted kept p x groups ≡ groups
+  noted_same : (x : Tree) (groups : Groups) → ((j : ℕ) → Notes kept j x → IsIn groups p j) → with_groups_of kept p x groups ≡ groups
   noted_same empty groups all = refl
   noted_same (literal bytes) groups all = refl
   noted_same (byte_class ranges) groups all = refl
@@ -179,21 +179,21 @@ module _ (kept : WhichCaptures) (p : ℕ) where
   noted_same (repetition min (Some zero) greedy x) groups all = refl
   noted_same (repetition min (Some (suc most)) greedy x) groups all = noted_same x groups all
   noted_same (capture index name x) groups all =
-      ap (noted kept p x) (capture_same (keeps_group kept index) groups index name (λ e. all index (inl (refl, e))))
+      ap (with_groups_of kept p x) (capture_same (keeps_group kept index) groups index name (λ e. all index (inl (refl, e))))
       ∙ noted_same x groups (λ j n. all j (inr n))
   noted_same nothing groups all = refl
-  noted_same (cat x y) groups all = ap (noted kept p y) (noted_same x groups (λ j n. all j (inl n)))
+  noted_same (cat x y) groups all = ap (with_groups_of kept p y) (noted_same x groups (λ j n. all j (inl n)))
       ∙ noted_same y groups (λ j n. all j (inr n))
   noted_same never groups all = refl
-  noted_same (alt x y) groups all = ap (noted kept p y) (noted_same x groups (λ j n. all j (inl n)))
+  noted_same (alt x y) groups all = ap (with_groups_of kept p y) (noted_same x groups (λ j n. all j (inl n)))
       ∙ noted_same y groups (λ j n. all j (inr n))
 
   -- to note the groups of a tree again changes nothing
-  pub noted_twice : (x : Tree) (groups : Groups) → noted kept p x (noted kept p x groups) ≡ noted kept p x groups
-  noted_twice x groups = noted_same x (noted kept p x groups) (λ j n. noted_in x groups j n)
+  pub noted_twice : (x : Tree) (groups : Groups) → with_groups_of kept p x (with_groups_of kept p x groups) ≡ with_groups_of kept p x groups
+  noted_twice x groups = noted_same x (with_groups_of kept p x groups) (λ j n. noted_in x groups j n)
 
   pub noted_bounded : (x : Tree) (groups : Groups) (min most : ℕ) (greedy : Bool) → 0 < most →
-      noted kept p (repetition min (Some most) greedy x) groups ≡ noted kept p x groups
+      with_groups_of kept p (repetition min (Some most) greedy x) groups ≡ with_groups_of kept p x groups
   noted_bounded x groups min zero greedy l = absurd (omega arith)
   noted_bounded x groups min (suc most) greedy l = refl
 

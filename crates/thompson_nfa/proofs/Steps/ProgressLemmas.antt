@@ -10,7 +10,7 @@ use Rattle.nfa_core.specs.declared.build_error.BuildError.TheVariants as error
 use Rattle.thompson_nfa.specs.Compiled.{Grows, Finished, AllComeOut, IsTame, Makes, sum_of_bytes}
 use Rattle.thompson_nfa.specs.Added.{Added, Led}
 use Rattle.thompson_nfa.specs.NotedGroups.{HasGroup}
-use Rattle.thompson_nfa.specs.Refusals.{RefusesStep, RefusesStates, RefusesTree, Stays, Refuses, Quits}
+use Rattle.thompson_nfa.specs.Refusals.{RefusesStep, RefusesStates, RefusesTree, Stays, RefusesFragment, Quits}
 use Rattle.thompson_nfa.specs.declared.which_captures.WhichCaptures.{WhichCaptures}
 use Rattle.thompson_nfa.proofs.Steps.GrowLemmas.{grows_refl, grows_trans, Partly, tame_anyhow, partly_joined, partly_added, partly_led}
 
@@ -161,7 +161,7 @@ then_quits {plain} {old} {mid} {new} {k} {s} {n} {bytes} {e} m p r le lb = recor
 }
 
 pub refuses : {old new : Assembly} {n : ℕ} {e : BuildError} (kept : WhichCaptures) (m : ℕ) (x : Tree) → Quits old new n e →
-    min n 18446744073709551615 ≤ m → Refuses kept old new m x e
+    min n 18446744073709551615 ≤ m → RefusesFragment kept old new m x e
 refuses {old} {new} {n} {e} kept m x q cap = record {
   settings = q.settings;
   cause = tree_later kept (length old.starts) old m x e (step_later old old n (4096 * n) n m e refl (omega arith)
@@ -169,8 +169,8 @@ refuses {old} {new} {n} {e} kept m x q cap = record {
 }
 
 pub first_refuses : {old new : Assembly} {n : ℕ} {e : BuildError} {kept : WhichCaptures} {x : Tree} (m : ℕ) (y : Tree) →
-    Refuses kept old new n x e → Includes kept x y → min n 18446744073709551615 ≤ m →
-    Refuses kept old new m y e
+    RefusesFragment kept old new n x e → Includes kept x y → min n 18446744073709551615 ≤ m →
+    RefusesFragment kept old new m y e
 first_refuses {old} {new} {n} {e} {kept} {x} m y r inside cap = record {
   settings = r.settings;
   cause = call_later kept (length old.starts) old old n n m x y e refl (omega arith) (omega arith) cap inside r.cause;
@@ -178,8 +178,8 @@ first_refuses {old} {new} {n} {e} {kept} {x} m y r inside cap = record {
 
 -- a later call is refused
 pub then_refuses : {plain : Bool} {old mid new : Assembly} {k s n : ℕ} {e : BuildError} {kept : WhichCaptures} {x : Tree} (m : ℕ)
-    (y : Tree) → Progress plain old mid k s → Refuses kept mid new n x e → Includes kept x y →
-    k + n ≤ m → Refuses kept old new m y e
+    (y : Tree) → Progress plain old mid k s → RefusesFragment kept mid new n x e → Includes kept x y →
+    k + n ≤ m → RefusesFragment kept old new m y e
 then_refuses {plain} {old} {mid} {new} {k} {s} {n} {e} {kept} {x} m y p r inside le =
     let starts : length mid.starts ≡ length old.starts = ap (λ (b : Assembly). length b.starts) p.partly.grows.settings in
     let P : ℕ → Type 0 = λ pattern. RefusesTree kept pattern mid n x e in

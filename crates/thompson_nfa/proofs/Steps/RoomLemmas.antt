@@ -16,7 +16,7 @@ use Rattle.hir_core.specs.Sequences.{utf8_sequences, byte_ranges, spelling_of}
 use Rattle.nfa_core.specs.BuilderStates.{DraftNode, empty_draft, range_draft, sparse_draft, look_draft, capture_start_draft}
 use Rattle.nfa_core.specs.BuilderStates.{capture_end_draft, union_draft, union_reverse_draft, fail_draft, match_draft, Assembly, draft_at}
 use Rattle.nfa_core.specs.BuilderStates.{patched, patched_at, draft_bytes, list_bytes}
-use Rattle.nfa_core.specs.BuilderFaults.{too_many_states, add_fault, name_fault}
+use Rattle.nfa_core.specs.BuilderFaults.{too_many_states, add_fault, state_count_fault}
 use Rattle.thompson_nfa.specs.Compiled.{sum_of_bytes}
 
 -- ---- numbers of copies
@@ -229,7 +229,7 @@ refused_and_not (Some y) x e f = absurd (grind (arith, e))
 -- a state that was not refused could be numbered
 pub numbered : (b : Assembly) (draft : DraftNode) → add_fault b draft ≡ None → length b.drafts ≤ greatest_index
 numbered b draft h = elim (cases_lt greatest_index (length b.drafts)) [
-  | inl l ↦ absurd (refused_and_not (name_fault b.drafts) too_many_states (none_first (name_fault b.drafts) _ h)
+  | inl l ↦ absurd (refused_and_not (state_count_fault b.drafts) too_many_states (none_first (state_count_fault b.drafts) _ h)
       (cond-true (nat_lt greatest_index (length b.drafts)) _ _ (lt-ltb greatest_index (length b.drafts) l)))
   | inr l ↦ l
 ]

@@ -9,7 +9,7 @@ use Rattle.std.proofs.lemmas.List.Sums.{sum_by_push, sum_by-set}
 use Rattle.search_core.specs.Index.{greatest_index}
 use Rattle.search_types.specs.Groups.{Groups}
 use Rattle.nfa_core.specs.CanBuild.{is_known}
-use Rattle.nfa_core.specs.BuilderStates.{DraftNode, Assembly, draft_at, patched, patched_at, draft_bytes, bytes_of, with_draft, fail_draft}
+use Rattle.nfa_core.specs.BuilderStates.{DraftNode, Assembly, draft_at, patched, patched_at, draft_bytes, bytes_of_drafts, with_draft, fail_draft}
 use Rattle.nfa_core.specs.BuilderStates.{union_draft, union_reverse_draft, empty_draft, range_draft, sparse_draft, look_draft}
 use Rattle.nfa_core.specs.BuilderStates.{capture_start_draft, capture_end_draft, match_draft}
 use Rattle.nfa_core.specs.BuilderFaults.{Tells, add_fault, patch_fault, limit_fault, BuildFault, exceeded_size_limit, too_many_states}
@@ -91,9 +91,9 @@ never_other (Some given) bytes fault e other = never (nat_lt given bytes) given 
 pub lead_refused : (old new : Assembly) (from to : ℕ) (e : BuildError) → from < length old.drafts → new ≡ old →
     Tells e (patch_fault old from to) → Stays old new 0 4 e
 lead_refused old new from to error.TooManyPatterns inside same told = absurd
-    (never_other old.size_limit (bytes_of (patched_at old.drafts from to)) too_many_patterns told tt)
+    (never_other old.size_limit (bytes_of_drafts (patched_at old.drafts from to)) too_many_patterns told tt)
 lead_refused old new from to error.TooManyStates inside same told = absurd
-    (never_other old.size_limit (bytes_of (patched_at old.drafts from to)) too_many_states told tt)
+    (never_other old.size_limit (bytes_of_drafts (patched_at old.drafts from to)) too_many_states told tt)
 lead_refused old new from to (error.ExceededSizeLimit limit) inside same told = record {
   same = same;
   cause = limit_passed old.size_limit limit (sum_by draft_bytes (patched_at old.drafts from to)) (sum_of_bytes old + 4) told
@@ -102,9 +102,9 @@ lead_refused old new from to (error.ExceededSizeLimit limit) inside same told = 
       (sum_patched old.drafts from to inside) in omega (arith, most.1);
 }
 lead_refused old new from to error.UnsupportedCaptures inside same told =
-    absurd (never_other old.size_limit (bytes_of (patched_at old.drafts from to)) unsupported_captures told tt)
+    absurd (never_other old.size_limit (bytes_of_drafts (patched_at old.drafts from to)) unsupported_captures told tt)
 lead_refused old new from to (error.Captures err) inside same told = absurd
-    (never_other old.size_limit (bytes_of (patched_at old.drafts from to)) (captures_refused told.0) told.1 tt)
+    (never_other old.size_limit (bytes_of_drafts (patched_at old.drafts from to)) (captures_refused told.0) told.1 tt)
 lead_refused old new from to error.NoMemory inside same told = record { same = same; cause = tt; passed = omega arith }
 
 -- a name is there
@@ -155,7 +155,7 @@ added_of old new id draft shown is e none same =
 -- what refuses one more state
 pub refused_name : (b : Bool) (old : Assembly) (draft : DraftNode) (bytes : ℕ) (e : BuildError) →
     b ≡ nat_lt greatest_index (length old.drafts) →
-    Tells e (option_or (if b then Some too_many_states else None) (limit_fault old.size_limit (bytes_of (old.drafts ++ draft ∷ [])))) →
+    Tells e (option_or (if b then Some too_many_states else None) (limit_fault old.size_limit (bytes_of_drafts (old.drafts ++ draft ∷ [])))) →
     draft_bytes draft ≤ bytes → RefusesStep old 1 bytes e
 refused_name true old draft bytes error.TooManyPatterns test told le = absurd (cc)
 refused_name true old draft bytes error.TooManyStates test told le = let less : greatest_index < length old.drafts =
@@ -166,18 +166,18 @@ refused_name true old draft bytes (error.Captures err) test told le = let same :
     told.1 in absurd (cc)
 refused_name true old draft bytes error.NoMemory test told le = tt
 refused_name false old draft bytes error.TooManyPatterns test told le =
-    never_other old.size_limit (bytes_of (old.drafts ++ draft ∷ [])) too_many_patterns told tt
+    never_other old.size_limit (bytes_of_drafts (old.drafts ++ draft ∷ [])) too_many_patterns told tt
 refused_name false old draft bytes error.TooManyStates test told le = absurd
-    (never_other old.size_limit (bytes_of (old.drafts ++ draft ∷ [])) too_many_states told tt)
+    (never_other old.size_limit (bytes_of_drafts (old.drafts ++ draft ∷ [])) too_many_states told tt)
 refused_name false old draft bytes (error.ExceededSizeLimit limit) test told le =
     limit_passed old.size_limit limit (sum_by draft_bytes (old.drafts ++ draft ∷ [])) (sum_of_bytes old + bytes) told (omega (
       arith,
       sum_by_push draft_bytes old.drafts draft,
     ))
 refused_name false old draft bytes error.UnsupportedCaptures test told le =
-    never_other old.size_limit (bytes_of (old.drafts ++ draft ∷ [])) unsupported_captures told tt
+    never_other old.size_limit (bytes_of_drafts (old.drafts ++ draft ∷ [])) unsupported_captures told tt
 refused_name false old draft bytes (error.Captures err) test told le =
-    never_other old.size_limit (bytes_of (old.drafts ++ draft ∷ [])) (captures_refused told.0) told.1 tt
+    never_other old.size_limit (bytes_of_drafts (old.drafts ++ draft ∷ [])) (captures_refused told.0) told.1 tt
 refused_name false old draft bytes error.NoMemory test told le = tt
 
 pub add_refused : (old new : Assembly) (draft : DraftNode) (bytes : ℕ) (e : BuildError) → new ≡ old → Tells e (add_fault old draft) →

@@ -4,7 +4,7 @@ use Rattle.std.proofs.Common.{ap, ◌∙◌, subst}
 use Rattle.std.proofs.lemmas.Result.{on_ok_weaker}
 use Rattle.hir_core.specs.declared.utf8_sequences.Utf8Range.{Utf8Range}
 use Rattle.hir_core.specs.Sequences.{bytes_of}
-use Rattle.thompson_nfa.specs.RangeWalks.{paths_of, behind}
+use Rattle.thompson_nfa.specs.RangeWalks.{paths_of, path_then}
 use Rattle.thompson_nfa.specs.RangeCalls.{CallsAll, CallsUpTo}
 
 module _ {F E : Type 0} (step : F → Bor (List Utf8Range) → Result (Unit {0}) E → F →
@@ -30,16 +30,16 @@ module _ {F E : Type 0} (step : F → Bor (List Utf8Range) → Result (Unit {0})
   calls_refused e s = subst (λ (xs : List (Vec Utf8Range Global)). CallsUpTo step f (paths_of xs) e) (sym is) (inl (shown, g, here, s))
 
 -- no path stands before the sequences
-pub behind_nothing : (qs : List (List (ℕ × ℕ))) → behind [] qs ≡ qs
+pub behind_nothing : (qs : List (List (ℕ × ℕ))) → path_then [] qs ≡ qs
 behind_nothing [] = refl
 behind_nothing (q ∷ qs) = ap (λ xs. q ∷ xs) (behind_nothing qs)
 
 -- what is emitted behind no path, after nothing
 pub paths_whole : (old : List (Vec Utf8Range Global)) (path : List Utf8Range) (now qs all : List (List (ℕ × ℕ))) →
-    now ≡ paths_of old ++ behind (map bytes_of path) qs →
+    now ≡ paths_of old ++ path_then (map bytes_of path) qs →
     old ≡ [] → path ≡ [] → qs ≡ all → now ≡ all
 paths_whole old path now qs all e a b f =
-    e ∙ ap (λ x. paths_of x ++ behind (map bytes_of path) qs) a ∙ ap (λ x. behind (map bytes_of x) qs) b ∙ behind_nothing qs ∙ f
+    e ∙ ap (λ x. paths_of x ++ path_then (map bytes_of path) qs) a ∙ ap (λ x. path_then (map bytes_of x) qs) b ∙ behind_nothing qs ∙ f
 
 -- the calls of the last function, at equal sequences
 pub calls_all_if : {F E : Type 0} → (step : F → Bor (List Utf8Range) → Result (Unit {0}) E → F →

@@ -6,10 +6,10 @@ use Rattle.std.proofs.lemmas.Bool.Decides.{nat_tests}
 use Rattle.thompson_nfa.specs.declared.trie_nodes.Edge.{Edge}
 use Rattle.thompson_nfa.specs.declared.trie_nodes.Next.{Next}
 use Rattle.thompson_nfa.specs.declared.trie_nodes.Next.TheVariants.{Nothing}
-use Rattle.thompson_nfa.specs.RangeTries.{IsIn}
-use Rattle.thompson_nfa.specs.TrieNodes.{below, IsInside, AreInside, Rises}
-use Rattle.thompson_nfa.specs.RangeCovers.{edge_of, piece, cut, cover_from}
-use Rattle.thompson_nfa.specs.TrieSteps.{Has, HasEdge, AreDivided}
+use Rattle.thompson_nfa.specs.RangeTries.{IsInSome}
+use Rattle.thompson_nfa.specs.TrieNodes.{following, IsInside, AreInside, Rises}
+use Rattle.thompson_nfa.specs.RangeCovers.{edge_of, piece, cut_edge, cover_from}
+use Rattle.thompson_nfa.specs.TrieSteps.{EdgesRead, HasEdge, AreDivided}
 
 -- a piece is one edge, or none
 pub piece_cases : (lo hi : ℕ) (n : Next) → ((lo < hi) × (piece lo hi n ≡ edge_of lo (hi - 1) n ∷ [])) ⊎ ((hi ≤ lo) × (piece lo hi n ≡ []))
@@ -19,38 +19,38 @@ piece_cases lo hi n = elim (cases_lt lo hi) [
 ]
 
 -- ---- strings
-pub has_append : (v : List (List (List (ℕ × ℕ)))) (xs ys : List Edge) (b : ℕ) (t : List ℕ) → Has v (xs ++ ys) b t → Has v xs b t ⊎
-    Has v ys b t
+pub has_append : (v : List (List (List (ℕ × ℕ)))) (xs ys : List Edge) (b : ℕ) (t : List ℕ) → EdgesRead v (xs ++ ys) b t → EdgesRead v xs b t ⊎
+    EdgesRead v ys b t
 has_append v [] ys b t h = inr h
 has_append v (x ∷ xs) ys b t h = elim h [
   | inl here ↦ inl (inl here)
   | inr later ↦ elim (has_append v xs ys b t later) [ inl l ↦ inl (inr l) | inr r ↦ inr r ]
 ]
 
-pub has_left : (v : List (List (List (ℕ × ℕ)))) (xs ys : List Edge) (b : ℕ) (t : List ℕ) → Has v xs b t → Has v (xs ++ ys) b t
+pub has_left : (v : List (List (List (ℕ × ℕ)))) (xs ys : List Edge) (b : ℕ) (t : List ℕ) → EdgesRead v xs b t → EdgesRead v (xs ++ ys) b t
 has_left v [] ys b t h = absurd h
 has_left v (x ∷ xs) ys b t h = elim h [ inl here ↦ inl here | inr later ↦ inr (has_left v xs ys b t later) ]
 
-pub has_right : (v : List (List (List (ℕ × ℕ)))) (xs ys : List Edge) (b : ℕ) (t : List ℕ) → Has v ys b t → Has v (xs ++ ys) b t
+pub has_right : (v : List (List (List (ℕ × ℕ)))) (xs ys : List Edge) (b : ℕ) (t : List ℕ) → EdgesRead v ys b t → EdgesRead v (xs ++ ys) b t
 has_right v [] ys b t h = h
 has_right v (x ∷ xs) ys b t h = inr (has_right v xs ys b t h)
 
-pub piece_has : (v : List (List (List (ℕ × ℕ)))) (lo hi : ℕ) (n : Next) (b : ℕ) (t : List ℕ) → Has v (piece lo hi n) b t → (lo ≤ b) ×
-    (b < hi) × IsIn (below v n) t
+pub piece_has : (v : List (List (List (ℕ × ℕ)))) (lo hi : ℕ) (n : Next) (b : ℕ) (t : List ℕ) → EdgesRead v (piece lo hi n) b t → (lo ≤ b) ×
+    (b < hi) × IsInSome (following v n) t
 piece_has v lo hi n b t h = elim (piece_cases lo hi n) [
   | inl c ↦ (let g = rw c.1 at h in elim g [ inl here ↦ (here.0, omega arith, here.2) | inr none ↦ absurd none ])
   | inr c ↦ absurd (rw c.1 at h)
 ]
 
-pub has_piece : (v : List (List (List (ℕ × ℕ)))) (lo hi : ℕ) (n : Next) (b : ℕ) (t : List ℕ) → lo ≤ b → b < hi → IsIn (below v n) t →
-    Has v (piece lo hi n) b t
+pub has_piece : (v : List (List (List (ℕ × ℕ)))) (lo hi : ℕ) (n : Next) (b : ℕ) (t : List ℕ) → lo ≤ b → b < hi → IsInSome (following v n) t →
+    EdgesRead v (piece lo hi n) b t
 has_piece v lo hi n b t l h i = elim (piece_cases lo hi n) [
   | inl c ↦ rw c.1 (inl (l, omega arith, i))
   | inr c ↦ absurd (omega arith)
 ]
 
 module _ (v : List (List (List (ℕ × ℕ)))) (b : ℕ) (t : List ℕ) (from start stop : ℕ) (ordered : start < stop) (e : Edge) where
-  pub cut_has : Has v (cut from start stop e) b t → (e.range.start ≤ b) × (b ≤ e.range.end) × IsIn (below v e.next) t
+  pub cut_has : EdgesRead v (cut_edge from start stop e) b t → (e.range.start ≤ b) × (b ≤ e.range.end) × IsInSome (following v e.next) t
   cut_has h =
       let low = e.range.start in
       let high = e.range.end + 1 in
@@ -69,7 +69,7 @@ module _ (v : List (List (List (ℕ × ℕ)))) (b : ℕ) (t : List ℕ) (from st
         ]
       ]
 
-  pub has_cut : e.range.start ≤ b → b ≤ e.range.end → IsIn (below v e.next) t → Has v (cut from start stop e) b t
+  pub has_cut : e.range.start ≤ b → b ≤ e.range.end → IsInSome (following v e.next) t → EdgesRead v (cut_edge from start stop e) b t
   has_cut l h i =
       let low = e.range.start in
       let high = e.range.end + 1 in
@@ -86,19 +86,19 @@ module _ (v : List (List (List (ℕ × ℕ)))) (b : ℕ) (t : List ℕ) (from st
       ])
 
 module _ (v : List (List (List (ℕ × ℕ)))) (b : ℕ) (t : List ℕ) (start stop : ℕ) (ordered : start < stop) where
-  pub cover_has : (from : ℕ) (es : List Edge) → Has v (cover_from from start stop es) b t → Has v es b t
+  pub cover_has : (from : ℕ) (es : List Edge) → EdgesRead v (cover_from from start stop es) b t → EdgesRead v es b t
   cover_has from [] h = absurd (piece_has v (max from start) stop Nothing b t h).2
-  cover_has from (e ∷ es) h = elim (has_append v (cut from start stop e) (cover_from (e.range.end + 1) start stop es) b t h) [
+  cover_has from (e ∷ es) h = elim (has_append v (cut_edge from start stop e) (cover_from (e.range.end + 1) start stop es) b t h) [
     | inl a ↦ inl (cut_has v b t from start stop ordered e a)
     | inr r ↦ inr (cover_has (e.range.end + 1) es r)
   ]
 
-  pub has_cover : (from : ℕ) (es : List Edge) → Has v es b t → Has v (cover_from from start stop es) b t
+  pub has_cover : (from : ℕ) (es : List Edge) → EdgesRead v es b t → EdgesRead v (cover_from from start stop es) b t
   has_cover from [] h = absurd h
   has_cover from (e ∷ es) h = elim h [
-    | inl a ↦ has_left v (cut from start stop e) (cover_from (e.range.end + 1) start stop es) b t
+    | inl a ↦ has_left v (cut_edge from start stop e) (cover_from (e.range.end + 1) start stop es) b t
         (has_cut v b t from start stop ordered e a.0 a.1 a.2)
-    | inr r ↦ has_right v (cut from start stop e) (cover_from (e.range.end + 1) start stop es) b t (has_cover (e.range.end + 1) es r)
+    | inr r ↦ has_right v (cut_edge from start stop e) (cover_from (e.range.end + 1) start stop es) b t (has_cover (e.range.end + 1) es r)
   ]
 
 -- ---- each byte of the range has an edge
@@ -164,7 +164,7 @@ divided_cover start stop from [] = divided_within start stop (max from start) st
 divided_cover start stop from (e ∷ es) =
     let low = e.range.start in
     let high = e.range.end + 1 in
-    divided_append start stop (cut from start stop e) (cover_from high start stop es)
+    divided_append start stop (cut_edge from start stop e) (cover_from high start stop es)
     (divided_append start stop (piece (max from start) (min low stop) Nothing) (piece low (min high start) e.next
     ++ (piece (max low start) (min high stop) e.next ++ piece (max low stop) high e.next))
     (divided_within start stop (max from start) (min low stop) Nothing (omega arith) (omega arith))
@@ -221,7 +221,7 @@ inside_cover k start stop from [] i = inside_piece k (max from start) stop Nothi
 inside_cover k start stop from (e ∷ es) i =
     let low = e.range.start in
     let high = e.range.end + 1 in
-    inside_append k (cut from start stop e) (cover_from high start stop es)
+    inside_append k (cut_edge from start stop e) (cover_from high start stop es)
     (inside_append k (piece (max from start) (min low stop) Nothing) (piece low (min high start) e.next
     ++ (piece (max low start) (min high stop) e.next ++ piece (max low stop) high e.next))
     (inside_piece k (max from start) (min low stop) Nothing tt)

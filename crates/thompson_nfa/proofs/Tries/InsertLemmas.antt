@@ -9,10 +9,10 @@ use Rattle.hir_core.specs.declared.utf8_sequences.Utf8Range.{Utf8Range}
 use Rattle.thompson_nfa.specs.declared.trie_nodes.Edge.{Edge}
 use Rattle.thompson_nfa.specs.declared.trie_nodes.Next.{Next}
 use Rattle.thompson_nfa.specs.declared.trie_nodes.Next.TheVariants.{Nothing, End, Node}
-use Rattle.thompson_nfa.specs.RangeTries.{IsIn, IsApart, IsWith, AreRanges}
-use Rattle.thompson_nfa.specs.TrieNodes.{below, along, IsInside, AreInside, Rises, IsLater}
+use Rattle.thompson_nfa.specs.RangeTries.{IsInSome, IsApart, IsWith, AreRanges}
+use Rattle.thompson_nfa.specs.TrieNodes.{following, along, IsInside, AreInside, Rises, IsLater}
 use Rattle.thompson_nfa.specs.RangeCovers.{cover_from}
-use Rattle.thompson_nfa.specs.TrieSteps.{Has, IsWithin, IsBeside, AreDivided, IsCover, IsStep}
+use Rattle.thompson_nfa.specs.TrieSteps.{EdgesRead, LiesWithin, IsBeside, AreDivided, IsCover, GainsStrings}
 use Rattle.thompson_nfa.proofs.Tries.NodeLemmas.{are_inside_more, inside_more, below_same}
 use Rattle.thompson_nfa.proofs.Tries.CoverLemmas.{cover_has, has_cover, edge_cover, divided_cover, rises_cover, inside_cover, inside_append}
 use Rattle.thompson_nfa.proofs.Tries.TrieLemmas.{steps_rise, spells, spelled, in_along, along_in, none_along, steps_only, steps_kept}
@@ -25,8 +25,8 @@ use Rattle.thompson_nfa.proofs.Tries.EmptyString.{empty_alone}
 -- ---- the pieces of what follows
 module _ (v : List (List (List (ℕ × ℕ)))) (start end : ℕ) (ordered : start ≤ end) (pieces : List Edge) where
   pub cover_of_edges : (next : Next) (es : List Edge) → pieces ≡ cover_from 0 start (end + 1) es → Rises 0 es → AreInside (length v) es →
-      ((b : ℕ) (t : List ℕ) → Has v es b t → IsIn (below v next) (b ∷ t)) →
-      ((b : ℕ) (t : List ℕ) → IsIn (below v next) (b ∷ t) → Has v es b t) →
+      ((b : ℕ) (t : List ℕ) → EdgesRead v es b t → IsInSome (following v next) (b ∷ t)) →
+      ((b : ℕ) (t : List ℕ) → IsInSome (following v next) (b ∷ t) → EdgesRead v es b t) →
       IsCover v next start (end + 1) pieces
   cover_of_edges next es e rising inside only kept = rw e (record {
     rising = rises_cover start (end + 1) (omega arith) 0 es rising;
@@ -42,8 +42,8 @@ module _ (v : List (List (List (ℕ × ℕ)))) (start end : ℕ) (ordered : star
       IsCover v (Node n) start (end + 1) pieces
   cover_of_node n es e emits inside l rising =
       cover_of_edges (Node n) es e rising (are_inside_more n (length v) es (omega arith) inside)
-      (λ b t h. subst (λ (qs : List (List (ℕ × ℕ))). IsIn qs (b ∷ t)) emits (along_in v es b t h))
-      (λ b t h. in_along v es b t (subst (λ (qs : List (List (ℕ × ℕ))). IsIn qs (b ∷ t)) (sym emits) h))
+      (λ b t h. subst (λ (qs : List (List (ℕ × ℕ))). IsInSome qs (b ∷ t)) emits (along_in v es b t h))
+      (λ b t h. in_along v es b t (subst (λ (qs : List (List (ℕ × ℕ))). IsInSome qs (b ∷ t)) (sym emits) h))
 
   pub cover_of_nothing : pieces ≡ cover_from 0 start (end + 1) [] → IsCover v Nothing start (end + 1) pieces
   cover_of_nothing e = cover_of_edges Nothing [] e tt tt (λ b t h. h) (λ b t h. h)
@@ -66,7 +66,7 @@ witness_spelled (r ∷ rs) ok = spells r rs r.0 (witness rs) (omega arith) ok.0 
 
 -- ---- the ranges that are left stay apart from what follows a piece in the first one
 pub has_at : (v : List (List (List (ℕ × ℕ)))) (es : List Edge) (i : ℕ) (e : Edge) (b : ℕ) (t : List ℕ) → i < length es → e ≡ get_or es i e →
-    e.range.start ≤ b → b ≤ e.range.end → IsIn (below v e.next) t → Has v es b t
+    e.range.start ≤ b → b ≤ e.range.end → IsInSome (following v e.next) t → EdgesRead v es b t
 has_at v [] i e b t l at low high h = absurd (omega arith)
 has_at v (x ∷ es) zero e b t l at low high h = inl (rw (← at) (low, high, h))
 has_at v (x ∷ es) (suc i) e b t l at low high h = inr (has_at v es i e b t (omega arith) at low high h)
@@ -83,18 +83,18 @@ next_at k (x ∷ es) zero e l at r = subst (λ (y : Edge). IsInside k y.next) (s
 next_at k (x ∷ es) (suc i) e l at r = next_at k es i e (omega arith) at r.1
 
 pub divided_at : (start stop : ℕ) (es : List Edge) (i : ℕ) (e : Edge) → i < length es → e ≡ get_or es i e → AreDivided start stop es →
-    IsWithin start stop e ⊎ IsBeside start stop e
+    LiesWithin start stop e ⊎ IsBeside start stop e
 divided_at start stop [] i e l at r = absurd (omega arith)
-divided_at start stop (x ∷ es) zero e l at r = subst (λ (y : Edge). IsWithin start stop y ⊎ IsBeside start stop y) (sym at) r.0
+divided_at start stop (x ∷ es) zero e l at r = subst (λ (y : Edge). LiesWithin start stop y ⊎ IsBeside start stop y) (sym at) r.0
 divided_at start stop (x ∷ es) (suc i) e l at r = divided_at start stop es i e (omega arith) at r.1
 
 cons≢nil : {x : ℕ} {xs : List ℕ} → x ∷ xs ≡ [] → ⊥
 cons≢nil e = cc
 
 module _ (v : List (List (List (ℕ × ℕ)))) (next : Next) (first : ℕ × ℕ) (rest : List (ℕ × ℕ)) (pieces : List Edge)
-    (cover : IsCover v next first.0 (first.1 + 1) pieces) (apart : IsApart (below v next) (first ∷ rest)) where
-  pub apart_below : (i : ℕ) (p : Edge) → i < length pieces → p ≡ get_or pieces i p → IsWithin first.0 (first.1 + 1) p →
-      IsApart (below v p.next) rest
+    (cover : IsCover v next first.0 (first.1 + 1) pieces) (apart : IsApart (following v next) (first ∷ rest)) where
+  pub apart_below : (i : ℕ) (p : Edge) → i < length pieces → p ≡ get_or pieces i p → LiesWithin first.0 (first.1 + 1) p →
+      IsApart (following v p.next) rest
   apart_below i p l at within =
       let b = p.range.start in
       let some = range_at 0 pieces i p l at cover.rising in
@@ -109,26 +109,26 @@ module _ (v : List (List (List (ℕ × ℕ)))) (next : Next) (first : ℕ × ℕ
 
   -- ---- the edges of the new node have the strings
   pub with_steps : (w : List (List (List (ℕ × ℕ)))) (es : List Edge) → AreRanges (first ∷ rest) →
-      AllZip (IsStep v w first.0 (first.1 + 1) rest) pieces es →
-      IsWith (below v next) (first ∷ rest) (along w es)
+      AllZip (GainsStrings v w first.0 (first.1 + 1) rest) pieces es →
+      IsWith (following v next) (first ∷ rest) (along w es)
   with_steps w es ok z = record {
     only = λ s h. only s h;
     kept = λ s h. kept s h;
     added = λ s h. added s h;
   }
     where
-      only : (s : List ℕ) → IsIn (along w es) s → IsIn (below v next) s ⊎ (is_in_ranges (first ∷ rest) s ≡ true)
+      only : (s : List ℕ) → IsInSome (along w es) s → IsInSome (following v next) s ⊎ (is_in_ranges (first ∷ rest) s ≡ true)
       only [] h = absurd (none_along w es h)
       only (b ∷ t) h = elim (steps_only v w first.0 (first.1 + 1) rest pieces es b t z (in_along w es b t h)) [
         | inl old ↦ inl (cover.only b t old)
         | inr new ↦ inr (spells first rest b t new.0 (omega (arith, new.1)) new.2)
       ]
 
-      kept : (s : List ℕ) → IsIn (below v next) s → IsIn (along w es) s
+      kept : (s : List ℕ) → IsInSome (following v next) s → IsInSome (along w es) s
       kept [] h = absurd (cons≢nil (apart.short [] (witness (first ∷ rest)) h (witness_spelled (first ∷ rest) ok)))
       kept (b ∷ t) h = along_in w es b t (steps_kept v w first.0 (first.1 + 1) rest pieces es b t z (cover.kept b t h))
 
-      added : (s : List ℕ) → is_in_ranges (first ∷ rest) s ≡ true → IsIn (along w es) s
+      added : (s : List ℕ) → is_in_ranges (first ∷ rest) s ≡ true → IsInSome (along w es) s
       added [] h = absurd (false≢true h)
       added (b ∷ t) h =
           let g = spelled first rest b t h in
@@ -140,7 +140,7 @@ module _ (v : List (List (List (ℕ × ℕ)))) (next : Next) (first : ℕ × ℕ
 pub record IsInserting (v w : List (List (List (ℕ × ℕ)))) (start stop : ℕ) (rest : List (ℕ × ℕ)) (ps es : List Edge) : Type 0 where
   pub later : IsLater v w
   pub inside : AreInside (length w) es
-  pub steps : AllZip (IsStep v w start stop rest) ps es
+  pub steps : AllZip (GainsStrings v w start stop rest) ps es
 
 pub later_itself : (v : List (List (List (ℕ × ℕ)))) → IsLater v v
 later_itself v = record { len = omega arith; same = λ i l. refl }
@@ -177,43 +177,43 @@ inside_pushed w x row (Err e) is ok = tt
 module _ (v w x : List (List (List (ℕ × ℕ)))) (start stop : ℕ) (rest : List (ℕ × ℕ)) (ps es : List Edge) (i : ℕ) (p e : Edge)
     (l : i < length ps) (at : p ≡ get_or ps i p)
     (here : IsInserting v w start stop rest (take i ps) es) (later : IsLater w x) where
-  pub inserting_more : IsStep v x start stop rest p e → IsInside (length x) e.next →
+  pub inserting_more : GainsStrings v x start stop rest p e → IsInside (length x) e.next →
       IsInserting v x start stop rest (take (i + 1) ps) (es ++ e ∷ [])
   inserting_more step inside = record {
     later = later_more v w x here.later later;
     inside = inside_append (length x) es (e ∷ []) (are_inside_more (length w) (length x) es later.len here.inside) (inside, tt);
-    steps = all_zip_more (IsStep v x start stop rest) ps es i p e l at
+    steps = all_zip_more (GainsStrings v x start stop rest) ps es i p e l at
         (steps_later v w start stop rest x (take i ps) es later here.inside here.steps) step;
   }
 
   module _ (inside : AreInside (length v) ps) where
-    pub next_kept : below w p.next ≡ below v p.next
+    pub next_kept : following w p.next ≡ following v p.next
     next_kept = below_same v w (length v) p.next here.later.same (next_at (length v) ps i p l at inside)
 
     -- a piece in the range, with what was made of what follows it
-    pub inserting_within : (n : Next) → e ≡ record { range = p.range; next = n } → IsWithin start stop p → IsInside (length x) n →
-        IsWith (below w p.next) rest (below x n) →
+    pub inserting_within : (n : Next) → e ≡ record { range = p.range; next = n } → LiesWithin start stop p → IsInside (length x) n →
+        IsWith (following w p.next) rest (following x n) →
         IsInserting v x start stop rest (take (i + 1) ps) (es ++ e ∷ [])
     inserting_within n is within inner more =
         inserting_more (
           ap (λ y. y.range) is,
           inl (
             within,
-            subst (λ (qs : List (List (ℕ × ℕ))). IsWith (below v p.next) rest qs) (ap (λ y. below x y.next) (sym is))
-                (subst (λ (qs : List (List (ℕ × ℕ))). IsWith qs rest (below x n)) next_kept more),
+            subst (λ (qs : List (List (ℕ × ℕ))). IsWith (following v p.next) rest qs) (ap (λ y. following x y.next) (sym is))
+                (subst (λ (qs : List (List (ℕ × ℕ))). IsWith qs rest (following x n)) next_kept more),
           ),
         )
         (subst (λ (y : Edge). IsInside (length x) y.next) (sym is) inner)
 
     -- a piece that is not in the range
-    pub inserting_beside : e ≡ p → x ≡ w → AreDivided start stop ps → (IsWithin start stop p → ⊥) →
+    pub inserting_beside : e ≡ p → x ≡ w → AreDivided start stop ps → (LiesWithin start stop p → ⊥) →
         IsInserting v x start stop rest (take (i + 1) ps) (es ++ e ∷ [])
     inserting_beside is same divided out =
         let beside : IsBeside start stop p = elim (divided_at start stop ps i p l at divided) [ inl h ↦ absurd (out h) | inr h ↦ h ] in
         let inner : IsInside (length w) p.next = inside_more (length v) (length w) p.next here.later.len
         (next_at (length v) ps i p l at inside) in
         inserting_more
-        (ap (λ y. y.range) is, inr (beside, ap (λ y. below x y.next) is ∙ ap (λ y. below y p.next) same ∙ next_kept))
+        (ap (λ y. y.range) is, inr (beside, ap (λ y. following x y.next) is ∙ ap (λ y. following y p.next) same ∙ next_kept))
         (subst (λ (y : Edge). IsInside (length x) y.next) (sym is) (inside_more (length w) (length x) p.next later.len inner))
 
 -- ---- what the code does at its end
@@ -225,36 +225,36 @@ with_none qs rs e apart =
 
 module _ (v w x : List (List (List (ℕ × ℕ)))) (next made : Next) (rs rest : List Utf8Range) (first : Utf8Range) (e : rs ≡ first ∷ rest)
     (pieces edges : List Edge)
-    (cover : IsCover v next first.start (first.end + 1) pieces) (apart : IsApart (below v next) (map bytes_of rs))
+    (cover : IsCover v next first.start (first.end + 1) pieces) (apart : IsApart (following v next) (map bytes_of rs))
     (ok : AreRanges (map bytes_of rs)) where
-  first_apart : IsApart (below v next) ((first.start, first.end) ∷ map bytes_of rest)
-  first_apart = subst (λ (y : List Utf8Range). IsApart (below v next) (map bytes_of y)) e apart
+  first_apart : IsApart (following v next) ((first.start, first.end) ∷ map bytes_of rest)
+  first_apart = subst (λ (y : List Utf8Range). IsApart (following v next) (map bytes_of y)) e apart
 
   pub first_ok : AreRanges ((first.start, first.end) ∷ map bytes_of rest)
   first_ok = subst (λ (y : List Utf8Range). AreRanges (map bytes_of y)) e ok
 
-  pub rest_apart : (i : ℕ) (p : Edge) → i < length pieces → p ≡ get_or pieces i p → IsWithin first.start (first.end + 1) p →
-      below w p.next ≡ below v p.next →
-      IsApart (below w p.next) (map bytes_of rest)
+  pub rest_apart : (i : ℕ) (p : Edge) → i < length pieces → p ≡ get_or pieces i p → LiesWithin first.start (first.end + 1) p →
+      following w p.next ≡ following v p.next →
+      IsApart (following w p.next) (map bytes_of rest)
   rest_apart i p l at within same =
       subst (λ (qs : List (List (ℕ × ℕ))). IsApart qs (map bytes_of rest)) (sym same)
       (apart_below v next (first.start, first.end) (map bytes_of rest) pieces cover first_apart i p l at within)
 
   module _ (n : ℕ) (here : IsInserting v w first.start (first.end + 1) (map bytes_of rest) (take n pieces) edges)
       (whole : length pieces ≤ n) where
-    all_steps : AllZip (IsStep v w first.start (first.end + 1) (map bytes_of rest)) pieces edges
-    all_steps = subst (λ (ps : List Edge). AllZip (IsStep v w first.start (first.end + 1) (map bytes_of rest)) ps edges)
+    all_steps : AllZip (GainsStrings v w first.start (first.end + 1) (map bytes_of rest)) pieces edges
+    all_steps = subst (λ (ps : List Edge). AllZip (GainsStrings v w first.start (first.end + 1) (map bytes_of rest)) ps edges)
         (take_all n pieces whole) here.steps
 
     pub edges_rise : Rises 0 edges
     edges_rise = steps_rise v w first.start (first.end + 1) (map bytes_of rest) 0 pieces edges all_steps cover.rising
 
-    pub with_pushed : made ≡ Node (length w) → x ≡ w ++ along w edges ∷ [] → IsWith (below v next) (map bytes_of rs) (below x made)
+    pub with_pushed : made ≡ Node (length w) → x ≡ w ++ along w edges ∷ [] → IsWith (following v next) (map bytes_of rs) (following x made)
     with_pushed a b =
-        let emits : along w edges ≡ below x made = sym (ap (λ m. below x m) a ∙ ap (λ y. get_or y (length w) []) b
+        let emits : along w edges ≡ following x made = sym (ap (λ m. following x m) a ∙ ap (λ y. get_or y (length w) []) b
         ∙ get_or-append_seam w (along w edges) [] []) in
-        subst (λ (y : List Utf8Range). IsWith (below v next) (map bytes_of y) (below x made)) (sym e)
-        (subst (λ (qs : List (List (ℕ × ℕ))). IsWith (below v next) ((first.start, first.end) ∷ map bytes_of rest) qs) emits
+        subst (λ (y : List Utf8Range). IsWith (following v next) (map bytes_of y) (following x made)) (sym e)
+        (subst (λ (qs : List (List (ℕ × ℕ))). IsWith (following v next) ((first.start, first.end) ∷ map bytes_of rest) qs) emits
         (with_steps v next (first.start, first.end) (map bytes_of rest) pieces cover first_apart w edges first_ok all_steps))
 
 -- ---- reads of a list
@@ -270,11 +270,11 @@ nil_of_length (x ∷ xs) e = absurd (omega arith)
 -- what the call that makes the node answers
 pub with_pushed_if : (v w x : List (List (List (ℕ × ℕ)))) (next : Next) (rs rest : List Utf8Range) (first : Utf8Range)
     (e : rs ≡ first ∷ rest) (pieces edges : List Edge) →
-    IsCover v next first.start (first.end + 1) pieces → IsApart (below v next) (map bytes_of rs) → AreRanges (map bytes_of rs) → (n : ℕ) →
+    IsCover v next first.start (first.end + 1) pieces → IsApart (following v next) (map bytes_of rs) → AreRanges (map bytes_of rs) → (n : ℕ) →
     IsInserting v w first.start (first.end + 1) (map bytes_of rest) (take n pieces) edges → length pieces ≤ n →
     (made : Result Next AllocError) →
     IfOk made (λ m. m ≡ Node (length w)) → IfOk made (λ _. x ≡ w ++ along w edges ∷ []) →
-    IfOk made (λ m. IsWith (below v next) (map bytes_of rs) (below x m))
+    IfOk made (λ m. IsWith (following v next) (map bytes_of rs) (following x m))
 with_pushed_if v w x next rs rest first e pieces edges cover apart ok n here whole (Ok m) a b =
     with_pushed v w x next m rs rest first e pieces edges cover apart ok n here whole a b
 with_pushed_if v w x next rs rest first e pieces edges cover apart ok n here whole (Err m) a b = tt

@@ -9,7 +9,7 @@ use Rattle.thompson_nfa.specs.declared.trie_nodes.Edge.{Edge}
 use Rattle.thompson_nfa.specs.declared.trie_nodes.Next.{Next}
 use Rattle.thompson_nfa.specs.declared.trie_nodes.Next.TheVariants.{Nothing, Node}
 use Rattle.thompson_nfa.specs.NodeCopies.{AreCopies, AreNone}
-use Rattle.thompson_nfa.specs.TrieNodes.{below, along, IsInside, AreInside, Rises, IsLater}
+use Rattle.thompson_nfa.specs.TrieNodes.{following, along, IsInside, AreInside, Rises, IsLater}
 use Rattle.thompson_nfa.proofs.Tries.CoverLemmas.{inside_append}
 use Rattle.thompson_nfa.proofs.Tries.InsertLemmas.{later_itself, later_more, later_push}
 use Rattle.thompson_nfa.proofs.Tries.NodeLemmas.{along_same, are_inside_more}
@@ -28,7 +28,7 @@ none_copied nodes count names e none = record { len = none.len ∙ e; same = λ 
 -- what an earlier copy emits
 pub copy_found : (nodes copy : List (List (List (ℕ × ℕ)))) (names : List Next) (number made : ℕ) (d : Next) → AreCopies nodes copy names →
     number < length nodes → get_or names number d ≡ Node made →
-    (made < length copy) × (below copy (Node made) ≡ below nodes (Node number))
+    (made < length copy) × (following copy (Node made) ≡ following nodes (Node number))
 copy_found nodes copy names number made d copies l is = copies.same number made (same_got names number Nothing d (omega (arith, copies.len))
     ∙ is)
   where
@@ -54,13 +54,13 @@ copying_none nodes copy names edges none copies =
 along_append : (v : List (List (List (ℕ × ℕ)))) (es fs : List Edge) → along v (es ++ fs) ≡ along v es ++ along v fs
 along_append v [] fs = refl
 along_append v (e ∷ es) fs =
-    let here : List (List (ℕ × ℕ)) = map (λ q. (e.range.start, e.range.end) ∷ q) (below v e.next) in
+    let here : List (List (ℕ × ℕ)) = map (λ q. (e.range.start, e.range.end) ∷ q) (following v e.next) in
     ap (λ (l : List (List (ℕ × ℕ))). here ++ l) (along_append v es fs) ∙ sym (append_assoc here (along v es) (along v fs))
 
 -- one more edge, with a copy of what follows it
 pub copying_more : (nodes old copy copy2 : List (List (List (ℕ × ℕ)))) (names names2 : List Next) (es edges edges2 : List Edge) (e : Edge)
     (n : Next) → IsCopying nodes old copy names es edges → IsLater copy copy2 → AreCopies nodes copy2 names2 →
-    IsInside (length copy2) n → below copy2 n ≡ below nodes e.next → edges2 ≡ edges ++ record { range = e.range; next = n } ∷ [] →
+    IsInside (length copy2) n → following copy2 n ≡ following nodes e.next → edges2 ≡ edges ++ record { range = e.range; next = n } ∷ [] →
     IsCopying nodes old copy2 names2 (es ++ e ∷ []) edges2
 copying_more nodes old copy copy2 names names2 es edges edges2 e n so_far later copies inside same is =
     let P : List Edge → Type 0 = λ fs. IsCopying nodes old copy2 names2 (es ++ e ∷ []) fs in
@@ -81,7 +81,7 @@ copying_more nodes old copy copy2 names names2 es edges edges2 e n so_far later 
 -- the edge at a place
 pub copying_next : (nodes old copy copy2 : List (List (List (ℕ × ℕ)))) (names names2 : List Next) (all edges edges2 : List Edge) (i : ℕ)
     (d : Edge) (n : Next) → i < length all → IsCopying nodes old copy names (take i all) edges → IsLater copy copy2 →
-    AreCopies nodes copy2 names2 → IsInside (length copy2) n → below copy2 n ≡ below nodes (get_or all i d).next →
+    AreCopies nodes copy2 names2 → IsInside (length copy2) n → following copy2 n ≡ following nodes (get_or all i d).next →
     edges2 ≡ edges ++ record { range = (get_or all i d).range; next = n } ∷ [] →
     IsCopying nodes old copy2 names2 (take (i + 1) all) edges2
 copying_next nodes old copy copy2 names names2 all edges edges2 i d n l so_far later copies inside same is =
@@ -127,8 +127,8 @@ module _ (nodes old copy : List (List (List (ℕ × ℕ)))) (names : List Next) 
     pub copied_inside : IsInside (length copy2) made
     copied_inside = let P : Next → Type 0 = IsInside (length copy2) in subst P (sym is) longer
 
-    pub copied_same : below copy2 made ≡ below nodes (Node number)
-    copied_same = ap (below copy2) is ∙ emitted
+    pub copied_same : following copy2 made ≡ following nodes (Node number)
+    copied_same = ap (following copy2) is ∙ emitted
 
     pub copied_names : (names2 : List Next) → names2 ≡ set names number made → AreCopies nodes copy2 names2
     copied_names names2 e =

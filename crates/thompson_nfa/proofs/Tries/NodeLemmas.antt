@@ -7,7 +7,7 @@ use Rattle.std.proofs.Math.Seq.{get_or-append_seam}
 use Rattle.thompson_nfa.specs.declared.trie_nodes.Edge.{Edge}
 use Rattle.thompson_nfa.specs.declared.trie_nodes.Next.{Next}
 use Rattle.thompson_nfa.specs.declared.trie_nodes.Next.TheVariants.{Nothing, End, Node}
-use Rattle.thompson_nfa.specs.TrieNodes.{below, along, emitted_from, IsInside, AreInside, Rises, AreNodes}
+use Rattle.thompson_nfa.specs.TrieNodes.{following, along, emitted_from, IsInside, AreInside, Rises, AreNodes}
 
 pub emitted_push : (v : List (List (List (ℕ × ℕ)))) (ns : List (List Edge)) (n : List Edge) →
     emitted_from v (ns ++ n ∷ []) ≡ emitted_from v ns ++ along (emitted_from v ns) n ∷ []
@@ -27,7 +27,7 @@ emitted_kept v (m ∷ ns) i l =
     emitted_kept (v ++ along v m ∷ []) ns i more ∙ here
 
 pub below_same : (v w : List (List (List (ℕ × ℕ)))) (k : ℕ) (next : Next) → ((i : ℕ) → i < k → get_or w i [] ≡ get_or v i []) →
-    IsInside k next → below w next ≡ below v next
+    IsInside k next → following w next ≡ following v next
 below_same v w k Nothing same l = refl
 below_same v w k End same l = refl
 below_same v w k (Node n) same l = same n l

@@ -4,7 +4,7 @@ use Rattle.thompson_nfa.specs.declared.trie_nodes.Edge.{Edge}
 use Rattle.thompson_nfa.specs.declared.trie_nodes.Next.{Next}
 use Rattle.thompson_nfa.specs.declared.trie_nodes.Next.TheVariants.{Nothing, End, Node}
 use Rattle.thompson_nfa.specs.RangeTries.{IsBeforeAll, IsTrie}
-use Rattle.thompson_nfa.specs.TrieNodes.{below, along, emitted_from, Rises, AreNodes}
+use Rattle.thompson_nfa.specs.TrieNodes.{following, along, emitted_from, Rises, AreNodes}
 
 before_append : (q : List (ℕ × ℕ)) (xs ys : List (List (ℕ × ℕ))) → IsBeforeAll q xs → IsBeforeAll q ys → IsBeforeAll q (xs ++ ys)
 before_append q [] ys f g = g
@@ -28,8 +28,8 @@ before_along v r q low [] l rise = tt
 before_along v r q low (e ∷ es) l rise =
     let start : low ≤ e.range.start = rise.0 in
     let end : e.range.start ≤ e.range.end = rise.1 in
-    before_append (r ∷ q) (map (λ p. (e.range.start, e.range.end) ∷ p) (below v e.next)) (along v es)
-    (before_behind r (e.range.start, e.range.end) q (below v e.next) (omega arith))
+    before_append (r ∷ q) (map (λ p. (e.range.start, e.range.end) ∷ p) (following v e.next)) (along v es)
+    (before_behind r (e.range.start, e.range.end) q (following v e.next) (omega arith))
     (before_along v r q (e.range.end + 1) es (omega arith) rise.2)
 
 append_along : (v : List (List (List (ℕ × ℕ)))) (r : ℕ × ℕ) (qs : List (List (ℕ × ℕ))) (low : ℕ) (es : List Edge) → r.1 < low →
@@ -42,7 +42,7 @@ append_along v r (q ∷ qs) low es l rise a b = (
   append_along v r qs low es l rise a.2 b,
 )
 
-pub trie_below : (v : List (List (List (ℕ × ℕ)))) (next : Next) → ((i : ℕ) → IsTrie (get_or v i [])) → IsTrie (below v next)
+pub trie_below : (v : List (List (List (ℕ × ℕ)))) (next : Next) → ((i : ℕ) → IsTrie (get_or v i [])) → IsTrie (following v next)
 trie_below v Nothing all = tt
 trie_below v End all = (tt, tt, tt)
 trie_below v (Node n) all = all n
@@ -51,8 +51,8 @@ pub trie_along : (v : List (List (List (ℕ × ℕ)))) (low : ℕ) (es : List Ed
     IsTrie (along v es)
 trie_along v low [] all rise = tt
 trie_along v low (e ∷ es) all rise =
-    append_along v (e.range.start, e.range.end) (below v e.next) (e.range.end + 1) es (omega arith) rise.2
-    (trie_behind (e.range.start, e.range.end) (below v e.next) rise.1 (trie_below v e.next all))
+    append_along v (e.range.start, e.range.end) (following v e.next) (e.range.end + 1) es (omega arith) rise.2
+    (trie_behind (e.range.start, e.range.end) (following v e.next) rise.1 (trie_below v e.next all))
     (trie_along v (e.range.end + 1) es all rise.2)
 
 tries_push : (v : List (List (List (ℕ × ℕ)))) (x : List (List (ℕ × ℕ))) → ((i : ℕ) → IsTrie (get_or v i [])) → IsTrie x → (i : ℕ) →

@@ -14,7 +14,7 @@ use Rattle.nfa_core.specs.Ways.{Text}
 use Rattle.nfa_core.specs.Drafted.{Table}
 use Rattle.nfa_core.specs.BuilderStates.{empty_draft}
 use Rattle.thompson_nfa.specs.Denotes.{seen, IsMeant, Reaches, Halts, Orders}
-use Rattle.thompson_nfa.specs.Compilations.{IsChoice, choices_from, places_from, IsReadTo, IsRead, is_anchored_tree}
+use Rattle.thompson_nfa.specs.Compilations.{IsChoice, choices_from, places_from, IsReadTo, IsPlainText, is_anchored_tree}
 use Rattle.thompson_nfa.specs.Assembled.{AllAnchored}
 use Rattle.thompson_nfa.proofs.Walks.WayLemmas.{goes_empty}
 use Rattle.thompson_nfa.proofs.Walks.ReachLemmas.{reaches_pass}
@@ -34,7 +34,7 @@ halts_at_once back t T u c is = halts_pass back t T u c (goes_empty back t T u c
 pub orders_at_once : (t : Text) (T : Table) (u c : ℕ) → T u ≡ empty_draft c → Orders t T u c (λ i. i ∷ [])
 orders_at_once t T u c is = orders_leaf t T u c (λ i. i ∷ []) (goes_empty false t T u c is)
 
-module _ (t : Text) (is : IsRead t) where
+module _ (t : Text) (is : IsPlainText t) where
   meant_at_start : (x : Tree) (k j : ℕ) → is_anchored_tree false x ≡ true → IsMeant false t x k j → k ≡ 0
   meant_at_start x k j anchored meant = eqb-true k 0 (sym (is.at_start k) ∙ prefix_sound t.holds (seen t) Start x k j meant anchored)
 

@@ -13,7 +13,7 @@ use Rattle.nfa_core.specs.Places.{same_pair}
 use Rattle.nfa_core.specs.Ways.{Text}
 use Rattle.nfa_core.specs.Drafted.{Table, table_match}
 use Rattle.nfa_core.proofs.ForCallers.{none_in, has_cons, has_same, has_first, has_later, has_one, pairs_equal, names_equal, from_map}
-use Rattle.thompson_nfa.specs.Denotes.{seen, Leads, ComesToEnd}
+use Rattle.thompson_nfa.specs.Denotes.{seen, LeadsTo, ComesToEnd}
 use Rattle.thompson_nfa.specs.Compilations.{IsChoice, choices_from}
 use Rattle.thompson_nfa.specs.Assembled.{Accepts, AcceptAll, LeadsToAll}
 use Rattle.thompson_nfa.proofs.Walks.WayLemmas.{each_at, Goes, goes_union, goes_fail}
@@ -66,7 +66,7 @@ module _ (back : Bool) (T : Table) where
 
 -- from c one comes to the starts at the same place, and to nothing else
 pub record Enters (back : Bool) (t : Text) (T : Table) (c : ℕ) (starts : List ℕ) : Type 0 where
-  pub to : (i s : ℕ) → Has nat_eq s starts → Leads back t T (i, c) (i, s)
+  pub to : (i s : ℕ) → Has nat_eq s starts → LeadsTo back t T (i, c) (i, s)
   pub from : (i : ℕ) (e : ℕ × ℕ) → Finds back t T (i, c) e → (s : ℕ) × Has nat_eq s starts × Finds back t T (i, s) e
 
 has_each : (i s : ℕ) (qs : List ℕ) → Has nat_eq s qs → Has same_pair (i, s) (each_at qs i)

@@ -7,7 +7,7 @@ use Rattle.nfa_core.specs.NfaValue.{Nfa}
 use Rattle.nfa_core.specs.Places.{same_pair}
 use Rattle.nfa_core.specs.Walks.{Has}
 use Rattle.nfa_core.specs.Ways.{Text, ends_from}
-use Rattle.thompson_nfa.specs.Compilations.{FindsSpans, IsRead, start_of}
+use Rattle.thompson_nfa.specs.Compilations.{FindsSpans, IsPlainText, pattern_start}
 use Rattle.thompson_nfa.specs.Configs.{Options}
 use Rattle.thompson_nfa.specs.Denotes.{IsMeant}
 use Rattle.thompson_nfa.specs.Directions.{AreBothWays}
@@ -28,8 +28,8 @@ module _ (whole : (looks : Looks) (h : List ℕ) (e : ℕ) (x : Tree) (i j : ℕ
     spans_reverse = let P : Bool → Type 0 = λ back. FindsSpans back xs m in subst P both.reads_reverse both.is_reverse.spans
 
     pub same_patterns : (t : Text) (p i j : ℕ) → p < length xs → t.start ≤ i → i ≤ t.end → j ≤ t.end →
-        Has same_pair (j, p) (ends_from n.automaton t (i, start_of n.automaton p))
-        ↔ Has same_pair (i, p) (ends_from m.automaton t (j, start_of m.automaton p))
+        Has same_pair (j, p) (ends_from n.automaton t (i, pattern_start n.automaton p))
+        ↔ Has same_pair (i, p) (ends_from m.automaton t (j, pattern_start m.automaton p))
     same_patterns t p i j inside low high to =
         let x : Tree = get_or xs p empty in
         let listed = slice_get-get_or xs p empty inside in
@@ -48,7 +48,7 @@ module _ (whole : (looks : Looks) (h : List ℕ) (e : ℕ) (x : Tree) (i j : ℕ
           λ h. let c = back.0 h in found.1 (c.0, c.1, (same_meant t c.0 i j low high to).1 c.2),
         )
 
-    pub same_unanchored : (t : Text) (p s j : ℕ) → IsRead t → t.start ≤ s → s ≤ t.end → j ≤ t.end →
+    pub same_unanchored : (t : Text) (p s j : ℕ) → IsPlainText t → t.start ≤ s → s ≤ t.end → j ≤ t.end →
         Has same_pair (j, p) (ends_from n.automaton t (s, n.automaton.start_unanchored))
         ↔ ((i : ℕ) × (s ≤ i) × (i ≤ t.end) × Has same_pair (i, p) (ends_from m.automaton t (j, m.automaton.start_anchored)))
     same_unanchored t p s j read low high to =

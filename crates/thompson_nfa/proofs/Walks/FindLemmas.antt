@@ -6,7 +6,7 @@ use Rattle.hir_core.specs.Facts.{LoopsRead}
 use Rattle.nfa_core.specs.Runs.{last_or}
 use Rattle.nfa_core.specs.Ways.{Text}
 use Rattle.nfa_core.specs.Drafted.{Table, table_match}
-use Rattle.thompson_nfa.specs.Denotes.{seen, IsMeant, Leads, Reaches, ComesToEnd}
+use Rattle.thompson_nfa.specs.Denotes.{seen, IsMeant, LeadsTo, Reaches, ComesToEnd}
 use Rattle.thompson_nfa.specs.Assembled.{Accepts}
 use Rattle.thompson_nfa.proofs.Walks.LeadLemmas.{leads_trans}
 use Rattle.thompson_nfa.proofs.Walks.OrderLemmas.{ListedFirsts}
@@ -22,7 +22,7 @@ pair_of (a, b) p is = ap (λ (k : ℕ). (a, k)) (sym is)
 
 module _ (back : Bool) (t : Text) (T : Table) where
   -- what is found behind a chain is found
-  pub found_behind : (p q e : ℕ × ℕ) → Leads back t T p q → Finds back t T q e → Finds back t T p e
+  pub found_behind : (p q e : ℕ × ℕ) → LeadsTo back t T p q → Finds back t T q e → Finds back t T p e
   found_behind p q e a b =
       let all = leads_trans back t T p q (last_or q b.0) a (b.0, b.1, refl) in
       (all.0, all.1, ap (table_match T) all.2 ∙ b.2)

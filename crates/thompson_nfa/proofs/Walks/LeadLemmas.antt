@@ -5,7 +5,7 @@ use Rattle.nfa_core.specs.Runs.{IsChain, last_or}
 use Rattle.nfa_core.specs.Places.{same_pair}
 use Rattle.nfa_core.specs.Ways.{Text}
 use Rattle.nfa_core.specs.Drafted.{Table, table_ways, table_match}
-use Rattle.thompson_nfa.specs.Denotes.{Leads, Passes}
+use Rattle.thompson_nfa.specs.Denotes.{LeadsTo, PassesBy}
 use Rattle.thompson_nfa.proofs.Walks.WayLemmas.{Goes}
 
 module _ (back : Bool) (t : Text) (T : Table) where
@@ -24,15 +24,15 @@ module _ (back : Bool) (t : Text) (T : Table) where
   last_append p [] s = refl
   last_append p (q ∷ r) s = last_append q r s
 
-  pub leads_trans : (p q o : ℕ × ℕ) → Leads back t T p q → Leads back t T q o → Leads back t T p o
+  pub leads_trans : (p q o : ℕ × ℕ) → LeadsTo back t T p q → LeadsTo back t T q o → LeadsTo back t T p o
   leads_trans p q o a b =
       let P : ℕ × ℕ → Type 0 = λ w. Chain w b.0 in
       (a.0 ++ b.0, chain_append p a.0 b.0 a.1 (subst P (sym a.2) b.1), last_append p a.0 b.0 ∙ ap (λ (w : ℕ × ℕ). last_or w b.0) a.2 ∙ b.2)
 
-  pub leads_here : (p q : ℕ × ℕ) → p ≡ q → Leads back t T p q
+  pub leads_here : (p q : ℕ × ℕ) → p ≡ q → LeadsTo back t T p q
   leads_here p q e = ([], tt, e)
 
-  pub leads_way : (p q o : ℕ × ℕ) → Has same_pair q (table_ways back t T p) → Leads back t T q o → Leads back t T p o
+  pub leads_way : (p q o : ℕ × ℕ) → Has same_pair q (table_ways back t T p) → LeadsTo back t T q o → LeadsTo back t T p o
   leads_way p q o h b = (q ∷ b.0, (h, b.1), b.2)
 
   -- the chain begins with one of these ways
@@ -58,7 +58,7 @@ module _ (back : Bool) (t : Text) (T : Table) where
       record { way = b.way; rest = b.rest; one_less = b.one_less; same_end = b.same_end; has = subst P (g.ways i) b.has; chain = b.chain }
 
   pub goes_leads : (s : ℕ) (to : ℕ → List (ℕ × ℕ)) (i : ℕ) (q o : ℕ × ℕ) → Goes back t T s to → Has same_pair q (to i) →
-      Leads back t T q o → Leads back t T (i, s) o
+      LeadsTo back t T q o → LeadsTo back t T (i, s) o
   goes_leads s to i q o g h b =
       let P : List (ℕ × ℕ) → Type 0 = λ ws. Has same_pair q ws in
       leads_way (i, s) q o (subst P (sym (g.ways i)) h) b
@@ -66,8 +66,8 @@ module _ (back : Bool) (t : Text) (T : Table) where
   -- what a chain passes behind its first way it passes itself
   pub passes_later : (M N : ℕ → ℕ → Type 0) (ws : List (ℕ × ℕ)) (i k e : ℕ) (p q : ℕ × ℕ) (r : List (ℕ × ℕ)) (b : Begins ws p r) →
       b.way ≡ q →
-      (Chain q b.rest → last_or q b.rest ≡ last_or p r → Passes back t T M k e q b.rest) → ((j : ℕ) → M k j → N i j) →
-      Passes back t T N i e p r
+      (Chain q b.rest → last_or q b.rest ≡ last_or p r → PassesBy back t T M k e q b.rest) → ((j : ℕ) → M k j → N i j) →
+      PassesBy back t T N i e p r
   passes_later M N ws i k e p q r b is on wider =
       let C : ℕ × ℕ → Type 0 = λ w. Chain w b.rest in
       let ends : last_or q b.rest ≡ last_or p r = ap (λ (w : ℕ × ℕ). last_or w b.rest) (sym is) ∙ b.same_end in

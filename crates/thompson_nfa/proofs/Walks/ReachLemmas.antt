@@ -7,18 +7,18 @@ use Rattle.nfa_core.specs.Places.{same_pair}
 use Rattle.nfa_core.specs.Ways.{Text}
 use Rattle.nfa_core.specs.Drafted.{Table, table_match}
 use Rattle.nfa_core.proofs.ForCallers.{none_in}
-use Rattle.thompson_nfa.specs.Denotes.{at, Leads, Passes, Reaches}
+use Rattle.thompson_nfa.specs.Denotes.{at, LeadsTo, PassesBy, Reaches}
 use Rattle.thompson_nfa.proofs.Walks.WayLemmas.{both_at, has_at, at_has, has_both, both_has_body, both_has_exit, Goes}
 use Rattle.thompson_nfa.proofs.Walks.LeadLemmas.{Chain, leads_trans, leads_here, goes_begins, goes_leads, passes_later}
 
 module _ (back : Bool) (t : Text) (T : Table) where
   -- the chain itself passes where it begins
-  passes_here : (M : ℕ → ℕ → Type 0) (i e : ℕ) (r : List (ℕ × ℕ)) → M i i → Chain back t T (i, e) r → Passes back t T M i e (i, e) r
+  passes_here : (M : ℕ → ℕ → Type 0) (i e : ℕ) (r : List (ℕ × ℕ)) → M i i → Chain back t T (i, e) r → PassesBy back t T M i e (i, e) r
   passes_here M i e r m c = record { middle = i; rest = r; is_meant = m; chain = c; fewer = omega arith; same_end = refl }
 
   -- what passes m, and behind it e
-  passes_then : (M N K : ℕ → ℕ → Type 0) (i m e : ℕ) (q : ℕ × ℕ) (r : List (ℕ × ℕ)) (p : Passes back t T M i m q r) →
-      Passes back t T N p.middle e (p.middle, m) p.rest → ((j : ℕ) → N p.middle j → K i j) → Passes back t T K i e q r
+  passes_then : (M N K : ℕ → ℕ → Type 0) (i m e : ℕ) (q : ℕ × ℕ) (r : List (ℕ × ℕ)) (p : PassesBy back t T M i m q r) →
+      PassesBy back t T N p.middle e (p.middle, m) p.rest → ((j : ℕ) → N p.middle j → K i j) → PassesBy back t T K i e q r
   passes_then M N K i m e q r p x wider =
       let u = p.fewer in
       let v = x.fewer in
@@ -123,7 +123,7 @@ module _ (back : Bool) (t : Text) (T : Table) where
     abbrev Loops : ℕ → ℕ → Type 0
     Loops i j = (n : ℕ) × Rounds M n i j
 
-    loop_complete : (n q i j : ℕ) → Goes back t T q (both_at greedy a e) → Rounds M n i j → Leads back t T (i, q) (j, e)
+    loop_complete : (n q i j : ℕ) → Goes back t T q (both_at greedy a e) → Rounds M n i j → LeadsTo back t T (i, q) (j, e)
     loop_complete zero q i j g r =
         goes_leads back t T q (both_at greedy a e) i (i, e) (j, e) g (both_has_exit greedy a e i) (leads_here back t T (i, e) (
           j,
@@ -135,7 +135,7 @@ module _ (back : Bool) (t : Text) (T : Table) where
 
     loop_sound : (room q i : ℕ) (r : List (ℕ × ℕ)) (m : ℕ × ℕ) → length r ≤ room → Goes back t T q (both_at greedy a e) →
         Chain back t T (i, q) r →
-        table_match T (last_or (i, q) r) ≡ Some m → Passes back t T Loops i e (i, q) r
+        table_match T (last_or (i, q) r) ≡ Some m → PassesBy back t T Loops i e (i, q) r
     loop_sound zero q i r m le g c final =
         let b = goes_begins back t T q (both_at greedy a e) i r m g c final in
         let o = b.one_less in absurd (omega arith)

@@ -12,7 +12,7 @@ use Rattle.nfa_core.specs.CanBuild.{names_of, is_known, CanBuild}
 use Rattle.nfa_core.specs.Renaming.{stands_for, past, past_within, HasNoLoop}
 use Rattle.nfa_core.specs.Drafted.{Table}
 use Rattle.thompson_nfa.specs.Added.{Led}
-use Rattle.thompson_nfa.specs.Assembled.{IsAssembled, AcceptAll, LeadsToAll, IsFree}
+use Rattle.thompson_nfa.specs.Assembled.{IsAssembled, AcceptAll, LeadsToAll, IsIndependent}
 use Rattle.thompson_nfa.specs.Compilations.{is_anchored_tree}
 use Rattle.thompson_nfa.specs.Compiled.{sum_of_bytes}
 use Rattle.thompson_nfa.specs.Configs.{Options, reverse_of, captures_of, is_shrunk, is_any}
@@ -169,7 +169,7 @@ module _ (o : Options) (xs : List Tree) (b0 b1 b2 b3 : Assembly) (u c : ℕ) (be
       let turn : b1.reverse ≡ reverse_of o = ap (λ (z : Assembly). z.reverse) before.settings ∙ ap (λ (z : Assembly). z.reverse) begun in
       subst R (sym starts_are) (subst Q starts_0 (subst P turn (has.accept (draft_at b3.drafts) holding)))
 
-  free : IsFree (reverse_of o) (length b1.drafts) 0 b3.drafts c b3.starts xs
+  free : IsIndependent (reverse_of o) (length b1.drafts) 0 b3.drafts c b3.starts xs
   free =
       let f = patterns.5 in
       let z = size in

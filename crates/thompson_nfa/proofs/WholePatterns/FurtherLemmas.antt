@@ -14,7 +14,7 @@ use Rattle.nfa_core.specs.Drafted.{Table}
 use Rattle.thompson_nfa.specs.Added.{Added, Led}
 use Rattle.thompson_nfa.specs.Assembled.{AcceptAll}
 use Rattle.thompson_nfa.specs.Compiled.{IsTame}
-use Rattle.thompson_nfa.specs.NotedGroups.{noted, noted_from}
+use Rattle.thompson_nfa.specs.NotedGroups.{with_groups_of, noted_from}
 use Rattle.thompson_nfa.specs.Patterns.{Holds, ComesToKept, HasPatterns, HasAll, room_for}
 use Rattle.thompson_nfa.specs.declared.which_captures.WhichCaptures.{WhichCaptures}
 use Rattle.look_core.specs.declared.look.Look.{Look}
@@ -30,8 +30,8 @@ noted_joined : (which : WhichCaptures) (p : ℕ) (xs ys : List Tree) (groups : G
 noted_joined which p [] ys groups = ap (λ (k : ℕ). noted_from which k ys groups) (omega arith)
 noted_joined which p (x ∷ xs) ys groups =
     let e : suc p + length xs ≡ p + suc (length xs) = omega arith in
-    noted_joined which (suc p) xs ys (noted which p (capture 0 None x) groups)
-    ∙ ap (λ (k : ℕ). noted_from which k ys (noted_from which (suc p) xs (noted which p (capture 0 None x) groups))) e
+    noted_joined which (suc p) xs ys (with_groups_of which p (capture 0 None x) groups)
+    ∙ ap (λ (k : ℕ). noted_from which k ys (noted_from which (suc p) xs (with_groups_of which p (capture 0 None x) groups))) e
 
 accept_joined : (reverse : Bool) (table : Table) (p : ℕ) (ss ts : List ℕ) (xs ys : List Tree) → AcceptAll reverse table p ss xs →
     AcceptAll reverse table (p + length ss) ts ys →

@@ -12,7 +12,7 @@ use Rattle.nfa_core.specs.Drafted.{Table}
 use Rattle.thompson_nfa.specs.Added.{Added, Led}
 use Rattle.thompson_nfa.specs.Assembled.{AcceptAll}
 use Rattle.thompson_nfa.specs.Compiled.{Finished, Makes, Does, IsTame, is_match_draft, sum_of_bytes}
-use Rattle.thompson_nfa.specs.NotedGroups.{noted}
+use Rattle.thompson_nfa.specs.NotedGroups.{with_groups_of}
 use Rattle.thompson_nfa.specs.Patterns.{Holds, ComesToKept, HasAll}
 use Rattle.thompson_nfa.specs.Room.{room}
 use Rattle.thompson_nfa.specs.declared.compiling.How.{How}
@@ -43,7 +43,7 @@ capture_is x = record { reading = λ reads. reads; ends = λ looks h i. refl; me
 module _ (how : How) (b0 b1 b2 b3 b4 b5 : Assembly) (x : Tree) (s e m : ℕ) (closed : b0.is_open ≡ false)
     (begun : b1 ≡ record b0 { is_open = true })
     (made : Makes b1 b2 s e (room how.shrink x + 2)) (does : Does b1 b2 s e (capture 0 None x))
-    (noted_here : b2.groups ≡ noted how.which (length b1.starts) (capture 0 None x) b1.groups)
+    (noted_here : b2.groups ≡ with_groups_of how.which (length b1.starts) (capture 0 None x) b1.groups)
     (added : Added b2 b3 m (match_draft (length b2.starts)) b2.groups) (led : Led b3 b4 e m)
     (done : b5 ≡ record b4 { starts = b4.starts ++ s ∷ []; is_open = false }) where
   parts_end : b5.drafts ≡ b4.drafts
@@ -213,7 +213,7 @@ module _ (how : How) (b0 b1 b2 b3 b4 b5 : Assembly) (x : Tree) (s e m : ℕ) (cl
         settings = settings_end;
         starts_are = starts_end;
         as_many = refl;
-        groups = groups_end ∙ noted_here ∙ ap (λ (z : Assembly). noted how.which (length z.starts) (capture 0 None x) z.groups) begun;
+        groups = groups_end ∙ noted_here ∙ ap (λ (z : Assembly). with_groups_of how.which (length z.starts) (capture 0 None x) z.groups) begun;
         known_more = λ draft k. ap (λ gs. is_known gs draft) groups_end
             ∙ made.fragment.grows.known draft (ap (λ (z : Assembly). is_known z.groups draft) begun ∙ k);
         longer = omega arith;

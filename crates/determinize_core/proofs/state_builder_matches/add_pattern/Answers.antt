@@ -2,7 +2,7 @@ use Rattle.std.proofs.Common.{◌≡◌, ℕ, ◌≤◌, ◌++◌, List, true, f
 use Rattle.std.specs.Prelude.{slice_index, slice_set, nat_eq}
 use Rattle.std.specs.Int.Bits.{bit_or}
 use Rattle.search_core.specs.Index.{greatest_index}
-use Rattle.determinize_core.specs.StateBytes.{has_flag, four_bytes}
+use Rattle.determinize_core.specs.StateBytes.{has_flag, in_four_bytes}
 use Rattle.determinize_core.proofs.AddLemmas.{keeps_listed, keeps_second, keeps_first, keeps_told}
 use Rattle.determinize_core.proofs.state_builder_matches.add_pattern.Goals as goal
 
@@ -11,7 +11,7 @@ returns-then-has_flag-clause-ok c =
     let listed = sym (ap (λ (xs : List ℕ). has_flag (slice_index xs 0) 2) c.deref.ensures.value)
     ∙ (sym c.has_flag.ensures ∙ c.if-has_flag.true) in
     let small : c.args.pid ≤ greatest_index = omega (arith, c.as_u32.ensures.in_range, c.as_u32.ensures.value) in
-    let form = c.in_ok-push_number.ensures.ok ∙ ap (λ (n : ℕ). c.args.bytes.now.items ++ four_bytes n) c.as_u32.ensures.value in
+    let form = c.in_ok-push_number.ensures.ok ∙ ap (λ (n : ℕ). c.args.bytes.now.items ++ in_four_bytes n) c.as_u32.ensures.value in
     keeps_listed c.args.bytes.now.items c.push_number.new.bytes.items c.args.pid c.requires.form small c.requires.absent listed form
 
 pub returns-then-has_flag-2-clause-ok : goal.returns-then-has_flag-2-clause-ok
@@ -26,7 +26,7 @@ returns-then-has_flag-2-clause-ok c =
       c.as_u32-then-has_flag-2.ensures.value,
     ) in
     let added = c.in_ok-push_behind_eight.ensures.ok ∙ ap (λ (n : ℕ). c.args.bytes.now.items
-    ++ (four_bytes 0 ++ (four_bytes 0 ++ four_bytes n))) c.as_u32-then-has_flag-2.ensures.value in
+    ++ (in_four_bytes 0 ++ (in_four_bytes 0 ++ in_four_bytes n))) c.as_u32-then-has_flag-2.ensures.value in
     let form = c.set_flag.ensures ∙ ap (λ (xs : List ℕ). slice_set xs 0 (bit_or (slice_index xs 0) 2)) added in
     keeps_second c.args.bytes.now.items c.set_flag.new.bytes.items c.args.pid c.requires.form small c.requires.absent listed matching form
 
@@ -46,6 +46,6 @@ returns-clause-ok c =
     let other : nat_eq c.args.pid 0 ≡ false = sym c.eq.ensures ∙ c.if-eq.false in
     let small : c.args.pid ≤ greatest_index = omega (arith, c.as_u32-2.ensures.in_range, c.as_u32-2.ensures.value) in
     let added = c.in_ok-push_behind_four.ensures.ok ∙ ap (λ (n : ℕ). c.args.bytes.now.items
-    ++ (four_bytes 0 ++ four_bytes n)) c.as_u32-2.ensures.value in
+    ++ (in_four_bytes 0 ++ in_four_bytes n)) c.as_u32-2.ensures.value in
     let form = c.set_flag-2.ensures ∙ ap (λ (xs : List ℕ). slice_set xs 0 (bit_or (slice_index xs 0) 3)) added in
     keeps_first c.args.bytes.now.items c.set_flag-2.new.bytes.items c.args.pid c.requires.form small c.requires.absent matching other form

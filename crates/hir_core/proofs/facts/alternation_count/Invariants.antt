@@ -1,8 +1,8 @@
 use Rattle.std.proofs.Common.{◌≡◌}
 use Rattle.hir_core.specs.Tree.{alternation}
 use Rattle.hir_core.specs.Facts.{count}
-use Rattle.hir_core.specs.Backward.{behind}
+use Rattle.hir_core.specs.Backward.{met_backward}
 use Rattle.hir_core.proofs.facts.alternation_count.Given as goal
 
 abbrev pub invariant-loop-sub : goal.invariant-loop-sub
-invariant-loop-sub l = l.states ≡ count (alternation (behind l.yielded))
+invariant-loop-sub l = l.states ≡ count (alternation (met_backward l.yielded))

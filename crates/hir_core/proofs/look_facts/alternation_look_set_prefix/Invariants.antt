@@ -1,10 +1,10 @@
 use Rattle.std.proofs.Common.{◌≡◌, false, List, ◌++◌}
 use Rattle.hir_core.specs.Tree.{Tree, alternation}
 use Rattle.hir_core.specs.Facts.{is_never, look_set_prefix}
-use Rattle.hir_core.specs.Backward.{behind}
+use Rattle.hir_core.specs.Backward.{met_backward}
 use Rattle.hir_core.proofs.look_facts.alternation_look_set_prefix.Given as goal
 
 -- whatever parts the loop began with, it has come to those and what it met before them
 abbrev pub invariant-loop-sub : goal.invariant-loop-sub
 invariant-loop-sub l = (parts : List Tree) → l.initial.looks ≡ look_set_prefix (alternation parts) → is_never (alternation parts) ≡ false →
-    (l.looks ≡ look_set_prefix (alternation (behind l.yielded ++ parts))) × (is_never (alternation (behind l.yielded ++ parts)) ≡ false)
+    (l.looks ≡ look_set_prefix (alternation (met_backward l.yielded ++ parts))) × (is_never (alternation (met_backward l.yielded ++ parts)) ≡ false)

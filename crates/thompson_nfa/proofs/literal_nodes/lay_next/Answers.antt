@@ -1,5 +1,5 @@
 use Rattle.std.proofs.Common.{arith, get_or, subst, ◌≡◌, [], ◌≤◌, length, ℕ}
-use Rattle.thompson_nfa.specs.LiteralGroups.{texts, groups_of}
+use Rattle.thompson_nfa.specs.LiteralGroups.{texts, texts_of_groups}
 use Rattle.thompson_nfa.specs.LiteralLaid.{node_value}
 use Rattle.thompson_nfa.proofs.LiteralTries.LiteralLaidLemmas.{row_some, next_laid}
 use Rattle.thompson_nfa.proofs.literal_nodes.lay_next.Goals as goal
@@ -8,7 +8,7 @@ pub lay-requires-clause-some : goal.lay-requires-clause-some
 lay-requires-clause-some c = row_some node_value (λ g. g.items) c.args.groups.now.items c.args.groups.now.items c.len.result
     c.deref.result.now
     c.take_group-strings.result.items c.deref.ensures.value c.take_group-strings.ensures.taken
-    (let P : ℕ → Type 0 = λ k. 1 ≤ length (get_or (groups_of (λ g. g.items) c.args.groups.now.items) k []) in
+    (let P : ℕ → Type 0 = λ k. 1 ≤ length (get_or (texts_of_groups (λ g. g.items) c.args.groups.now.items) k []) in
     let e : length c.args.nodes.now.items ≡ c.len.result = omega (arith, c.len.ensures) in subst P e c.requires.some)
 
 pub returns : goal.returns

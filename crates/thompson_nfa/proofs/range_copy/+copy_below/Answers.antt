@@ -2,7 +2,7 @@
 use Rattle.std.proofs.Common.{◌<◌, length, get_or, arith, subst, refl, sym, ap, ◌∙◌}
 use Rattle.thompson_nfa.specs.declared.trie_nodes.Next.{Next}
 use Rattle.thompson_nfa.specs.declared.trie_nodes.Next.TheVariants.{Nothing}
-use Rattle.thompson_nfa.specs.TrieNodes.{below, IsInside}
+use Rattle.thompson_nfa.specs.TrieNodes.{following, IsInside}
 use Rattle.thompson_nfa.specs.RangeCovers.{edge_of}
 use Rattle.thompson_nfa.specs.RangeWalks.{depth_of}
 use Rattle.thompson_nfa.proofs.Tries.NodeLemmas.{inside_more}
@@ -67,5 +67,5 @@ returns t c =
       same = copied_same c.args.nodes.now c.args.copy.now c.loop-edge.copy c.loop-edge.names.items c.edges-old.result.now
           c.loop-edge.edges.items c.loop-edge.edge-index c.loop-edge.invariant c.loop-edge-test.false c.push-2.new.self
           c.in_ok-made.made c.in-Node.number c.in_ok-made.ensures.node c.in_ok-made.ensures.ok c.edges-old.ensures.emits here
-          ∙ ap (λ n. below c.args.nodes.now n) (sym c.in-Node.is);
+          ∙ ap (λ n. following c.args.nodes.now n) (sym c.in-Node.is);
     }

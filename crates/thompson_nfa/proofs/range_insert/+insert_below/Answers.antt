@@ -4,7 +4,7 @@ use Rattle.std.proofs.lemmas.Bool.{false≢true}
 use Rattle.hir_core.specs.Sequences.{bytes_of}
 use Rattle.thompson_nfa.specs.declared.trie_nodes.Edge.{Edge}
 use Rattle.thompson_nfa.specs.declared.trie_nodes.Next.TheVariants.{Nothing}
-use Rattle.thompson_nfa.specs.TrieNodes.{below}
+use Rattle.thompson_nfa.specs.TrieNodes.{following}
 use Rattle.thompson_nfa.specs.TrieSteps.{IsCover}
 use Rattle.thompson_nfa.specs.RangeCovers.{edge_of}
 use Rattle.thompson_nfa.proofs.Tries.NodeLemmas.{inside_more}
@@ -17,7 +17,7 @@ use Rattle.thompson_nfa.proofs.range_insert.+insert_below.Goals.{then-is_within+
 
 pub returns-in_default-clause-more : goal.returns-in_default-clause-more
 returns-in_default-clause-more t c =
-    with_none (below c.args.nodes.now c.args.next) c.args.ranges.now (nil_of_length c.args.ranges.now c.in_default.ensures.cases)
+    with_none (following c.args.nodes.now c.args.next) c.args.ranges.now (nil_of_length c.args.ranges.now c.in_default.ensures.cases)
     c.requires.apart
 
 pub insert_below-requires : goal.insert_below-requires

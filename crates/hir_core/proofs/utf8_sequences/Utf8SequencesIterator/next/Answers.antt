@@ -1,5 +1,5 @@
 use Rattle.std.proofs.Common.{arith, rules}
-use Rattle.hir_core.specs.Sequences.{ranges_of}
+use Rattle.hir_core.specs.Sequences.{ranges_of_sequence}
 use Rattle.hir_core.proofs.SequenceSteps.{next_sequence, piece_row}
 use Rattle.hir_core.proofs.utf8_sequences.Utf8SequencesIterator.next.Goals as goal
 
@@ -17,7 +17,7 @@ returns-clause-steps c = next_sequence c.self.inside.next c.self.inside.end c.sc
 pub returns-clause-goes : goal.returns-clause-goes
 returns-clause-goes c =
     let e = next_sequence c.self.inside.next c.self.inside.end c.scalar_from-first.result c.piece_end-last.result
-    c.args.self.now (ranges_of c.sequence.result) c.self.view_is c.scalar_from-first.ensures c.if-first-self.false c.self.invariant
+    c.args.self.now (ranges_of_sequence c.sequence.result) c.self.view_is c.scalar_from-first.ensures c.if-first-self.false c.self.invariant
     c.piece_end-last.ensures.value c.sequence.ensures in
     search rules
 

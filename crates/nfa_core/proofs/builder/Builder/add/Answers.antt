@@ -2,7 +2,7 @@ use Rattle.std.proofs.Common.{ℕ, ◌∷◌, [], ◌≡◌, ◌≤◌, length, 
 use Rattle.std.proofs.lemmas.List.{map-append, length-map}
 use Rattle.search_core.specs.Index.{greatest_index}
 use Rattle.nfa_core.specs.BuilderFaults.{limit_fault, Tells}
-use Rattle.nfa_core.specs.BuilderStates.{bytes_of, Assembly}
+use Rattle.nfa_core.specs.BuilderStates.{bytes_of_drafts, Assembly}
 use Rattle.nfa_core.specs.Drafts.{draft_of}
 use Rattle.nfa_core.specs.InOrder.{patterns_of}
 use Rattle.nfa_core.proofs.OrderLemmas.{order_added}
@@ -51,7 +51,7 @@ invariant_of-self-2 c =
     let pushed = c.in_ok-push.ensures.items in
     let bytes = bytes_added draft_of drafts (draft_of c.args.draft) c.self.inside.memory c.memory_usage.result c.saturating_add-memory.result
     c.saturating_add-memory.ensures own.0 c.memory_usage.ensures in (
-      bytes ∙ sym (ap bytes_of (ap (map draft_of) pushed ∙ map-append draft_of drafts (c.args.draft ∷ []))),
+      bytes ∙ sym (ap bytes_of_drafts (ap (map draft_of) pushed ∙ map-append draft_of drafts (c.args.draft ∷ []))),
       own.1,
       order_added draft_of drafts c.push.new.self.items c.args.draft
           (patterns_of c.self.inside.is_open c.self.inside.starts.items) c.self.inside.size_limit pushed own.2

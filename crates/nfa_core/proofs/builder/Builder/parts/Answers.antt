@@ -8,7 +8,7 @@ use Rattle.nfa_core.specs.Drafts.{draft_of}
 use Rattle.nfa_core.specs.InOrder.{IsInOrder}
 use Rattle.nfa_core.specs.Nfa.{Automaton}
 use Rattle.nfa_core.specs.NfaValue.{Nfa, IsSound}
-use Rattle.nfa_core.specs.Pasts.{IsReached, IsNaming, name_in}
+use Rattle.nfa_core.specs.Pasts.{HasPasts, IsNaming, name_in}
 use Rattle.nfa_core.specs.Renaming.{kept, renamed}
 use Rattle.nfa_core.specs.States.{node_of}
 use Rattle.nfa_core.specs.declared.draft.Draft.{Draft}
@@ -82,7 +82,7 @@ returns-clause-moves g c =
 pub name_all-requires-clause-reached : goal.name_all-requires-clause-reached
 name_all-requires-clause-reached g c =
     let seen = ap (map draft_of) c.deref.ensures.value ∙ ap (λ (b : Assembly). b.drafts) c.self.view_is in
-    subst (λ (parts : List DraftNode). IsReached parts) (sym seen) (can_reach c.args.self.now c.args.start_anchored c.args.start_unanchored
+    subst (λ (parts : List DraftNode). HasPasts parts) (sym seen) (can_reach c.args.self.now c.args.start_anchored c.args.start_unanchored
     c.requires.can)
 
 pub returns-clause-value : goal.returns-clause-value

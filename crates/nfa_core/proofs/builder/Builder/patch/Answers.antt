@@ -1,7 +1,7 @@
 use Rattle.std.proofs.Common.{ℕ, ◌<◌, List, length, map, ap, sym, subst, refl, ◌∙◌}
 use Rattle.std.proofs.lemmas.List.{length-map}
 use Rattle.nfa_core.specs.BuilderFaults.{limit_fault, Tells, patch_fault}
-use Rattle.nfa_core.specs.BuilderStates.{Assembly, DraftNode, draft_at, way_bytes, bytes_of}
+use Rattle.nfa_core.specs.BuilderStates.{Assembly, DraftNode, draft_at, way_bytes, bytes_of_drafts}
 use Rattle.nfa_core.specs.Drafts.{draft_of}
 use Rattle.nfa_core.specs.InOrder.{patterns_of, IsInOrder}
 use Rattle.nfa_core.specs.declared.build_error.BuildError.TheVariants.{the_data as BuildError}
@@ -38,7 +38,7 @@ patch-requires c =
 
 pub invariant_of-self : goal.invariant_of-self
 invariant_of-self c = (
-  c.self.invariant.0 ∙ ap bytes_of (sym c.in_err-patch.ensures.value.0),
+  c.self.invariant.0 ∙ ap bytes_of_drafts (sym c.in_err-patch.ensures.value.0),
   c.self.invariant.1,
   subst (λ (l : List DraftNode). IsInOrder l (patterns_of c.self.inside.is_open c.self.inside.starts.items) c.self.inside.size_limit)
       (sym c.in_err-patch.ensures.value.0) c.self.invariant.2,
@@ -70,7 +70,7 @@ invariant_of-self-2 c =
     let bytes = way_added drafts c.args.from c.args.to c.self.inside.memory c.way_memory.result c.saturating_add-memory.result inside
     c.saturating_add-memory.ensures c.self.invariant.0
     (c.way_memory.ensures ∙ ap (λ (l : List Draft). way_bytes (draft_at (map draft_of l) c.args.from)) c.deref.ensures.value) in (
-      bytes ∙ ap bytes_of (sym c.in_ok-patch.ensures.value),
+      bytes ∙ ap bytes_of_drafts (sym c.in_ok-patch.ensures.value),
       c.self.invariant.1,
       order_patched drafts (map draft_of c.patch.new.drafts.items) c.args.from c.args.to
           (patterns_of c.self.inside.is_open c.self.inside.starts.items) c.self.inside.size_limit c.in_ok-patch.ensures.value inside
