@@ -11,7 +11,7 @@ use Rattle.nfa_core.specs.Nfa.{match_node, Automaton, node_at}
 use Rattle.nfa_core.specs.NfaValue.{look_of, looks_of, is_capture}
 use Rattle.nfa_core.proofs.ForCallers.{looks_any, not_both}
 use Rattle.determinize_core.specs.States.{StateValue}
-use Rattle.determinize_core.specs.Steps.{is_kept, kept, looks_with}
+use Rattle.determinize_core.specs.Steps.{is_kept, kept_among, looks_with}
 
 -- a list from a member on
 pub from_member : (qs : List ℕ) (k : ℕ) → k < length qs → drop k qs ≡ get_or qs k 0 ∷ drop (suc k) qs
@@ -35,8 +35,8 @@ kept_by : (b : Bool) (q : ℕ) (xs ys zs : List ℕ) → zs ≡ (cond b (q ∷ [
 kept_by true q xs ys zs e = ap (λ l. l) (sym (append_assoc xs (q ∷ []) ys)) ∙ ap (λ (l : List ℕ). (xs ++ l) ++ ys) (sym e)
 kept_by false q xs ys zs e = ap (λ (l : List ℕ). l ++ ys) (sym (append-nil xs)) ∙ ap (λ (l : List ℕ). (xs ++ l) ++ ys) (sym e)
 
-kept_first : (a : Automaton) (q : ℕ) (qs xs : List ℕ) → xs ++ kept a (q ∷ qs) ≡ (xs ++ kept a (q ∷ [])) ++ kept a qs
-kept_first a q qs xs = kept_by (is_kept a q) q xs (kept a qs) (kept a (q ∷ [])) refl
+kept_first : (a : Automaton) (q : ℕ) (qs xs : List ℕ) → xs ++ kept_among a (q ∷ qs) ≡ (xs ++ kept_among a (q ∷ [])) ++ kept_among a qs
+kept_first a q qs xs = kept_by (is_kept a q) q xs (kept_among a qs) (kept_among a (q ∷ [])) refl
 
 -- the state with more states
 abbrev with_ids : StateValue → List ℕ → StateValue
@@ -57,17 +57,17 @@ module _ (qs : List ℕ) (k : ℕ) (v w : StateValue) where
 
   -- the same of those that are kept
   module _ (a : Automaton) where
-    pub kept_left : (q : ℕ) (x : StateValue) → drop k qs ≡ q ∷ drop (k + 1) qs → x ≡ with_ids v (kept a (q ∷ [])) →
-        with_ids v (kept a (drop k qs)) ≡ w →
-        with_ids x (kept a (drop (k + 1) qs)) ≡ w
+    pub kept_left : (q : ℕ) (x : StateValue) → drop k qs ≡ q ∷ drop (k + 1) qs → x ≡ with_ids v (kept_among a (q ∷ [])) →
+        with_ids v (kept_among a (drop k qs)) ≡ w →
+        with_ids x (kept_among a (drop (k + 1) qs)) ≡ w
     kept_left q x left e all =
-        ap (λ (y : StateValue). with_ids y (kept a (drop (k + 1) qs))) e
+        ap (λ (y : StateValue). with_ids y (kept_among a (drop (k + 1) qs))) e
         ∙ (ap (λ (l : List ℕ). record v { ids = l }) (sym (kept_first a q (drop (k + 1) qs) v.ids))
-        ∙ (ap (λ (l : List ℕ). with_ids v (kept a l)) (sym left) ∙ all))
+        ∙ (ap (λ (l : List ℕ). with_ids v (kept_among a l)) (sym left) ∙ all))
 
-    pub kept_done : drop k qs ≡ [] → with_ids v (kept a (drop k qs)) ≡ w → v ≡ w
+    pub kept_done : drop k qs ≡ [] → with_ids v (kept_among a (drop k qs)) ≡ w → v ≡ w
     kept_done none all = ap (λ (l : List ℕ). record v { ids = l }) (sym (append-nil v.ids))
-        ∙ (ap (λ (l : List ℕ). with_ids v (kept a l)) (sym none) ∙ all)
+        ∙ (ap (λ (l : List ℕ). with_ids v (kept_among a l)) (sym none) ∙ all)
 
 module _ (a : Automaton) (qs : List ℕ) (k s all : ℕ) where
   -- the looks of a state more were joined
@@ -111,7 +111,7 @@ none_captures [] none q = refl
 none_captures (node ∷ nodes) none zero = (neither (is_capture node) (list_any is_capture nodes) none).0
 none_captures (node ∷ nodes) none (suc q) = none_captures nodes (neither (is_capture node) (list_any is_capture nodes) none).1 q
 
-pub all_kept : (a : Automaton) → list_any is_capture a.states ≡ false → (qs : List ℕ) → kept a qs ≡ qs
+pub all_kept : (a : Automaton) → list_any is_capture a.states ≡ false → (qs : List ℕ) → kept_among a qs ≡ qs
 all_kept a none [] = refl
 all_kept a none (q ∷ qs) =
     let keeps : is_kept a q ≡ true = ap not (none_captures a.states none q) in

@@ -19,7 +19,7 @@ use Rattle.nfa_core.specs.Ways.{on_nothing}
 use Rattle.nfa_core.proofs.ForCallers.{none_in, not_both, has_cons, has_first, has_later, of_cons, names_equal, nothing_led, looks_any}
 use Rattle.nfa_core.proofs.ForCallers.{one_after, stays_closed, kept_close_anew, nothing_same}
 use Rattle.determinize_core.specs.States.{StateValue}
-use Rattle.determinize_core.specs.Steps.{known_before, known_steps, closed, is_kept, kept, looks_with, have_if, gains, ids_before}
+use Rattle.determinize_core.specs.Steps.{known_before, known_steps, closed, is_kept, kept_among, looks_with, have_if, gains, ids_before}
 use Rattle.determinize_core.specs.Steps.{is_some_kept}
 use Rattle.determinize_core.proofs.MadeLemmas.{AreBelow, walk_made}
 use Rattle.determinize_core.proofs.CaptureLemmas.{to, rank, to_self, to_kept, passed_through}
@@ -117,7 +117,7 @@ nothing_gained known have need l small none m f =
 
 -- the state was made of entries that were closed under these looks, at a place with o behind it
 pub record IsStateOf (a : Automaton) (t : Terminator) (o : Option ℕ) (have : ℕ) (entries : List ℕ) (v : StateValue) : Type 0 where
-  pub ids : v.ids ≡ kept a (closed a have entries)
+  pub ids : v.ids ≡ kept_among a (closed a have entries)
   pub need : v.look_need ≡ looks_with a 0 (closed a have entries)
   pub has : v.look_have ≡ have_if v.look_need have
   pub small : IsLookSet have
@@ -210,22 +210,22 @@ module _ (a : Automaton) (formed : IsWellFormed a) (t : Terminator) (o u : Optio
   gained_needs g = ⊎_elim (λ (z : (v.look_need == 0) ≡ true). absurd (no_zero (without known v.look_have) v.look_need
       (eqb-true v.look_need 0 z) g)) (λ z. z) (cases_Bool (v.look_need == 0))
 
-  kept_low : AreBelow (length a.states) states → AreBelow (length a.states) (kept a states)
+  kept_low : AreBelow (length a.states) states → AreBelow (length a.states) (kept_among a states)
   kept_low low q h = low q (has_kept (is_kept a) states q h)
 
   pub closes : AreBelow (length a.states) states → (after : List ℕ) → Visits nat_eq full entries [] after →
-      kept a (ids_before a t v u) ≡ kept a after
+      kept_among a (ids_before a t v u) ≡ kept_among a after
   closes low after w = ⊎_elim
       (λ (g : gains v known ≡ true).
       let some = gained_needs g in
-      let again : List ℕ = closed a known (kept a states) in
-      let by_known : Visits nat_eq (known_steps a known) (kept a states) [] again =
-      walk_made (known_steps a known) (length a.states) (stays_below a formed (has_look known)) (kept a states) (kept_low low) in
-      let by_full : Visits nat_eq full (kept a states) [] again =
+      let again : List ℕ = closed a known (kept_among a states) in
+      let by_known : Visits nat_eq (known_steps a known) (kept_among a states) [] again =
+      walk_made (known_steps a known) (length a.states) (stays_below a formed (has_look known)) (kept_among a states) (kept_low low) in
+      let by_full : Visits nat_eq full (kept_among a states) [] again =
       stays_closed nat_eq names_equal (known_steps a known) full by_known
       (λ x h. nothing_same (node_at a x) (has_look known) passed (λ l next e. knows some l (is_asked x l next e))) in
       let e : ids_before a t v u ≡ again = rw g (ap (closed a known) s.ids) in
-      ap (kept a) e
+      ap (kept_among a) e
       ∙ kept_close_anew nat_eq names_equal (is_kept a) (to a formed) (rank a formed) (to_self a formed) (to_kept a formed)
       (known_steps a have) full grows
       (passed_through a formed (has_look have)) (passed_through a formed passed) entries states after again first_visits w by_full)
@@ -233,6 +233,6 @@ module _ (a : Automaton) (formed : IsWellFormed a) (t : Terminator) (o u : Optio
       let by_full : Visits nat_eq full entries [] states = stays_closed nat_eq names_equal (known_steps a have) full first_visits
       (alike_there none) in
       let same : states ≡ after = one_after nat_eq full by_full after w in
-      let e : ids_before a t v u ≡ kept a states = rw none s.ids in
-      ap (kept a) e ∙ kept_twice (is_kept a) states ∙ ap (kept a) same)
+      let e : ids_before a t v u ≡ kept_among a states = rw none s.ids in
+      ap (kept_among a) e ∙ kept_twice (is_kept a) states ∙ ap (kept_among a) same)
       (cases_Bool (gains v known))

@@ -20,7 +20,7 @@ use Rattle.nfa_core.specs.Nfa.{match_node, Automaton, node_at, IsWellFormed}
 use Rattle.nfa_core.specs.NfaValue.{is_capture}
 use Rattle.nfa_core.specs.Ways.{Text, span, reads, with_place, on_byte, on_read, byte_steps, match_of, matched_behind, place_of, bytes_left}
 use Rattle.nfa_core.proofs.ForCallers.{none_in, of_flat_map, names_equal, read_led, option_cases}
-use Rattle.determinize_core.specs.Steps.{unit_steps, pattern_of, pattern_at, reading, patterns_in, is_kept, kept, unit_at, unit_behind}
+use Rattle.determinize_core.specs.Steps.{unit_steps, pattern_of, pattern_at, reading, patterns_in, is_kept, kept_among, unit_at, unit_behind}
 use Rattle.determinize_core.specs.Walked.{cut_of}
 use Rattle.determinize_core.proofs.MadeLemmas.{AreBelow}
 
@@ -74,15 +74,15 @@ module _ (a : Automaton) where
   no_match : (x : ℕ) → is_kept a x ≡ false → pattern_at a x ≡ None
   no_match x k = capture_matches (node_at a x) k
 
-  pub kept_read : (kind : MatchKind) (u : Option ℕ) (xs : List ℕ) → flat_map (unit_steps a u) (reading kind a (kept a xs)) ≡ flat_map
+  pub kept_read : (kind : MatchKind) (u : Option ℕ) (xs : List ℕ) → flat_map (unit_steps a u) (reading kind a (kept_among a xs)) ≡ flat_map
       (unit_steps a u) (reading kind a xs)
   kept_read AllMatches u xs = flat_map_kept (is_kept a) (unit_steps a u) (no_unit u) xs
   kept_read LeftmostFirst u xs = before_kept (is_kept a) (unit_steps a u) (pattern_at a) (no_unit u) no_match xs
 
-  kept_answers : (xs : List ℕ) → answers (pattern_at a) (kept a xs) ≡ answers (pattern_at a) xs
+  kept_answers : (xs : List ℕ) → answers (pattern_at a) (kept_among a xs) ≡ answers (pattern_at a) xs
   kept_answers xs = flat_map_kept (is_kept a) (λ x. option_to_list (pattern_at a x)) (λ x k. ap option_to_list (no_match x k)) xs
 
-  pub kept_match : (kind : MatchKind) (xs : List ℕ) → patterns_in kind a (kept a xs) ≡ patterns_in kind a xs
+  pub kept_match : (kind : MatchKind) (xs : List ℕ) → patterns_in kind a (kept_among a xs) ≡ patterns_in kind a xs
   kept_match AllMatches xs = ap (distinct nat_eq) (kept_answers xs)
   kept_match LeftmostFirst xs = ap (λ l. option_to_list (first l)) (kept_answers xs)
 
@@ -164,7 +164,7 @@ module _ (a : Automaton) (kind : MatchKind) (t : Terminator) (h : List ℕ) (s e
       ap (on_read (node_at a x)) r.1 ∙ read_unit (node_at a x) r.0 unit a x refl
 
   -- where two lists are the same but for captures, the next entries are
-  pub entries_alike : (ids list : List ℕ) → kept a ids ≡ kept a list →
+  pub entries_alike : (ids list : List ℕ) → kept_among a ids ≡ kept_among a list →
       flat_map (unit_steps a unit) (reading kind a ids) ≡ flat_map (byte_steps a (span t h s e) (place_of a.reverse i k))
       (cut_of kind a i k list)
   entries_alike ids list alike =

@@ -18,7 +18,7 @@ use Rattle.nfa_core.specs.NfaValue.{look_of}
 use Rattle.nfa_core.specs.Reached.{AreBelow}
 use Rattle.nfa_core.proofs.ForCallers.{not_both, has_first, has_later, of_cons, names_equal}
 use Rattle.determinize_core.specs.States.{StateValue, dead}
-use Rattle.determinize_core.specs.Steps.{is_kept, kept, looks_with, have_if, is_some_kept, closed, known_before, known_behind, gains}
+use Rattle.determinize_core.specs.Steps.{is_kept, kept_among, looks_with, have_if, is_some_kept, closed, known_before, known_behind, gains}
 use Rattle.determinize_core.specs.Steps.{ids_before, families, first_half, pattern_at, patterns_in, reading, unit_steps, states_behind}
 use Rattle.determinize_core.specs.Steps.{step_value, behind_of_start, start_value}
 use Rattle.determinize_core.specs.declared.start.Start.{Start}
@@ -31,32 +31,32 @@ use Rattle.determinize_core.proofs.EntriesLemmas.{capture_looks}
 
 -- ---- what is kept of a list
 
-kept_has : (a : Automaton) (q : ℕ) (xs : List ℕ) → Has nat_eq q (kept a xs) → Has nat_eq q xs
+kept_has : (a : Automaton) (q : ℕ) (xs : List ℕ) → Has nat_eq q (kept_among a xs) → Has nat_eq q xs
 kept_has a q [] h = h
 kept_has a q (x ∷ xs) h = ⊎_elim
-    (λ (e : is_kept a x ≡ true). let g : Has nat_eq q (x ∷ kept a xs) = (rw e at h) in
-    of_cons nat_eq names_equal (λ p. Has nat_eq p (x ∷ xs)) x (kept a xs) (has_first nat_eq names_equal x xs)
+    (λ (e : is_kept a x ≡ true). let g : Has nat_eq q (x ∷ kept_among a xs) = (rw e at h) in
+    of_cons nat_eq names_equal (λ p. Has nat_eq p (x ∷ xs)) x (kept_among a xs) (has_first nat_eq names_equal x xs)
     (λ p i. has_later nat_eq p x xs (kept_has a p xs i)) q g)
-    (λ (e : is_kept a x ≡ false). let g : Has nat_eq q (kept a xs) = (rw e at h) in
+    (λ (e : is_kept a x ≡ false). let g : Has nat_eq q (kept_among a xs) = (rw e at h) in
     has_later nat_eq q x xs (kept_has a q xs g)) (cases_Bool (is_kept a x))
 
-kept_lacks : (a : Automaton) (q : ℕ) (xs : List ℕ) → has nat_eq q xs ≡ false → has nat_eq q (kept a xs) ≡ false
-kept_lacks a q xs absent = ⊎_elim (λ (h : Has nat_eq q (kept a xs)). not_both (has nat_eq q xs) _ (kept_has a q xs h) absent) (λ e. e)
-    (cases_Bool (has nat_eq q (kept a xs)))
+kept_lacks : (a : Automaton) (q : ℕ) (xs : List ℕ) → has nat_eq q xs ≡ false → has nat_eq q (kept_among a xs) ≡ false
+kept_lacks a q xs absent = ⊎_elim (λ (h : Has nat_eq q (kept_among a xs)). not_both (has nat_eq q xs) _ (kept_has a q xs h) absent) (λ e. e)
+    (cases_Bool (has nat_eq q (kept_among a xs)))
 
-kept_once : (a : Automaton) (xs : List ℕ) → HasNoneTwice nat_eq xs → HasNoneTwice nat_eq (kept a xs)
+kept_once : (a : Automaton) (xs : List ℕ) → HasNoneTwice nat_eq xs → HasNoneTwice nat_eq (kept_among a xs)
 kept_once a [] once = tt
 kept_once a (x ∷ xs) once = ⊎_elim
     (λ (e : is_kept a x ≡ true). rw e (kept_lacks a x xs once.0, kept_once a xs once.1))
     (λ (e : is_kept a x ≡ false). rw e (kept_once a xs once.1)) (cases_Bool (is_kept a x))
 
-pub kept_distinct : (a : Automaton) (looks : ℕ) (qs : List ℕ) → IsDistinct nat_eq (kept a (closed a looks qs))
-kept_distinct a looks qs = distinct_from_once (kept a (closed a looks qs)) (kept_once a (closed a looks qs) (closed_once a looks qs))
+pub kept_distinct : (a : Automaton) (looks : ℕ) (qs : List ℕ) → IsDistinct nat_eq (kept_among a (closed a looks qs))
+kept_distinct a looks qs = distinct_from_once (kept_among a (closed a looks qs)) (kept_once a (closed a looks qs) (closed_once a looks qs))
 
 pub kept_below : (a : Automaton) (looks : ℕ) (qs : List ℕ) → IsWellFormed a → AreBelow (length a.states) qs →
-    All (λ q. q < length a.states) (kept a (closed a looks qs))
+    All (λ q. q < length a.states) (kept_among a (closed a looks qs))
 kept_below a looks qs formed below =
-    all_from_below (length a.states) (kept a (closed a looks qs)) (λ q h. closed_below a looks formed qs below q
+    all_from_below (length a.states) (kept_among a (closed a looks qs)) (λ q h. closed_below a looks formed qs below q
     (kept_has a q (closed a looks qs) h))
 
 -- ---- laws
@@ -95,16 +95,16 @@ none_matches AllMatches a = refl
 none_matches LeftmostFirst a = refl
 
 module _ (a : Automaton) where
-  first_not_kept : (q : ℕ) (qs : List ℕ) → kept a (q ∷ qs) ≡ [] → (is_kept a q ≡ false) × (kept a qs ≡ [])
+  first_not_kept : (q : ℕ) (qs : List ℕ) → kept_among a (q ∷ qs) ≡ [] → (is_kept a q ≡ false) × (kept_among a qs ≡ [])
   first_not_kept q qs none = ⊎_elim
-      (λ (e : is_kept a q ≡ true). let some : q ∷ kept a qs ≡ [] = (rw e at none) in cc)
-      (λ (e : is_kept a q ≡ false). let rest : kept a qs ≡ [] = (rw e at none) in (e, rest)) (cases_Bool (is_kept a q))
+      (λ (e : is_kept a q ≡ true). let some : q ∷ kept_among a qs ≡ [] = (rw e at none) in cc)
+      (λ (e : is_kept a q ≡ false). let rest : kept_among a qs ≡ [] = (rw e at none) in (e, rest)) (cases_Bool (is_kept a q))
 
-  none_is_kept : (qs : List ℕ) → kept a qs ≡ [] → is_some_kept a qs ≡ false
+  none_is_kept : (qs : List ℕ) → kept_among a qs ≡ [] → is_some_kept a qs ≡ false
   none_is_kept [] none = refl
   none_is_kept (q ∷ qs) none = let parts = first_not_kept q qs none in rw parts.0 (none_is_kept qs parts.1)
 
-  none_looks : (looks : ℕ) (qs : List ℕ) → kept a qs ≡ [] → looks_with a looks qs ≡ looks
+  none_looks : (looks : ℕ) (qs : List ℕ) → kept_among a qs ≡ [] → looks_with a looks qs ≡ looks
   none_looks looks [] none = refl
   none_looks looks (q ∷ qs) none =
       let parts = first_not_kept q qs none in
@@ -133,6 +133,6 @@ module _ (a : Automaton) where
       let before : ids_before a t dead u ≡ [] = dead_before_by t u (gains dead (known_before a.reverse t dead u)) refl in
       let no_match : patterns_in kind a (ids_before a t dead u) ≡ [] = ap (patterns_in kind a) before ∙ none_matches kind a in
       let reads : reading kind a (ids_before a t dead u) ≡ [] = ap (reading kind a) before ∙ reading_none kind a in
-      let no_state : kept a (states_behind a t kind dead u) ≡ [] =
-      ap (λ (qs : List ℕ). kept a (closed a (known_behind (families a) a.reverse t u) (flat_map (unit_steps a u) qs))) reads in
+      let no_state : kept_among a (states_behind a t kind dead u) ≡ [] =
+      ap (λ (qs : List ℕ). kept_among a (closed a (known_behind (families a) a.reverse t u) (flat_map (unit_steps a u) qs))) reads in
       comes_to_none t kind dead u no_match no_state

@@ -14,7 +14,7 @@ use Rattle.nfa_core.specs.Ways.{Text, span, is_passed, on_nothing, plain_steps, 
 use Rattle.nfa_core.proofs.ForCallers.{names_equal, stays_closed, place_zero, nothing_same}
 use Rattle.determinize_core.specs.States.{StateValue}
 use Rattle.determinize_core.specs.Starts.{start_of}
-use Rattle.determinize_core.specs.Steps.{known_behind, closed, unit_steps, reading, patterns_in, kept, have_if, looks_with, ids_before}
+use Rattle.determinize_core.specs.Steps.{known_behind, closed, unit_steps, reading, patterns_in, kept_among, have_if, looks_with, ids_before}
 use Rattle.determinize_core.specs.Steps.{families, states_behind, is_some_kept, behind_of_start, start_value, step_value, unit_at, unit_behind}
 use Rattle.determinize_core.specs.Steps.{walk_value}
 use Rattle.determinize_core.specs.Walked.{closed_by, cut_of, walked_lists}
@@ -105,14 +105,14 @@ module _ (kind : MatchKind) (a : Automaton) (t : Terminator) (h : List ℕ) (s e
 
   -- a state that stands there has the states that its entries come to
   comes_to : (k : ℕ) → k ≤ len → (have : ℕ) (entries : List ℕ) → IsStateOf a t (unit_behind a.reverse h (place k)) have entries (state k) →
-      kept a (ids_before a t (state k) (unit k)) ≡ kept a (closed_by a (plain_steps a text (place k)) entries)
+      kept_among a (ids_before a t (state k) (unit k)) ≡ kept_among a (closed_by a (plain_steps a text (place k)) entries)
   comes_to k l have entries stands =
       closes a formed t (unit_behind a.reverse h (place k)) (unit k) have entries (state k) stands
       (made_below (λ x. on_nothing (node_at a x) (has_look have)) (length a.states)
       (stays_below a formed (has_look have)) entries stands.low)
       (closed_by a (plain_steps a text (place k)) entries) (visits_by k l entries stands.low)
 
-  pub states_are : (k : ℕ) → k ≤ len → kept a (ids_before a t (state k) (unit k)) ≡ kept a (list k)
+  pub states_are : (k : ℕ) → k ≤ len → kept_among a (ids_before a t (state k) (unit k)) ≡ kept_among a (list k)
   states_are zero l =
       let S : Option ℕ → Type 0 = λ o. IsStateOf a t o (behind_of_start a t (start_of t (unit_behind a.reverse h i))).look_have (q ∷ [])
       (state zero) in
@@ -127,7 +127,7 @@ module _ (kind : MatchKind) (a : Automaton) (t : Terminator) (h : List ℕ) (s e
       let S : Option ℕ → Type 0 = λ o. IsStateOf a t o have entries (state (suc k)) in
       comes_to (suc k) l have entries
       (subst S (sym (unit_passes t h s e i k below within a.reverse less)) (step_stands a formed t kind (state k) (unit k) is.0 is.1))
-      ∙ ap (λ x. kept a (closed_by a (plain_steps a text (place (suc k))) x))
+      ∙ ap (λ x. kept_among a (closed_by a (plain_steps a text (place (suc k))) x))
       (entries_alike a kind t h s e i k below within less (ids_before a t (state k) (unit k)) (list k) before)
 
   pub matches_are : (k : ℕ) → k ≤ len → (state (suc k)).matches ≡ patterns_in kind a (list k)

@@ -78,8 +78,8 @@ patterns_in LeftmostFirst a qs = option_to_list (first (answers (pattern_at a) q
 abbrev pub is_kept : Automaton → ℕ → Bool
 is_kept a q = not (is_capture (node_at a q))
 
-abbrev pub kept : Automaton → List ℕ → List ℕ
-kept a qs = filter (is_kept a) qs
+abbrev pub kept_among : Automaton → List ℕ → List ℕ
+kept_among a qs = filter (is_kept a) qs
 
 -- the looks of these states, with those of a set
 abbrev pub looks_with : Automaton → ℕ → List ℕ → ℕ
@@ -96,7 +96,7 @@ abbrev pub with_states : Automaton → List ℕ → StateValue → StateValue
 with_states a qs v = record v {
   look_have = have_if (looks_with a v.look_need qs) v.look_have;
   look_need = looks_with a v.look_need qs;
-  ids = v.ids ++ kept a qs;
+  ids = v.ids ++ kept_among a qs;
 }
 
 -- whether a needed look is among these that wasn't known to hold

@@ -1,7 +1,7 @@
 ghost use Rattle.std.specs.Prelude.{◌≡◌, ◌<◌, ◌++◌, ◌∷◌, [], length, OnOk};
 ghost use Rattle.nfa_core.specs.NfaValue.{look_of, is_capture};
 ghost use Rattle.nfa_core.specs.States.{node_of};
-ghost use Rattle.determinize_core.specs.Steps.{kept, looks_with, with_states};
+ghost use Rattle.determinize_core.specs.Steps.{kept_among, looks_with, with_states};
 
 use crate::state_builder_nfa::StateBuilderNFA;
 use look_core::LookSet;
@@ -55,7 +55,7 @@ fn looks_with<S: NameSet>(nfa: &NFA, set: &S, looks: LookSet) -> LookSet
 /// Adds the states of a set, but for captures. Where the automaton has no captures, no state is asked.
 fn add_kept<S: NameSet>(nfa: &NFA, set: &S, builder: &mut StateBuilderNFA) -> Result<(), AllocError>
     requires { S.bound set.now ≡ length nfa.now.automaton.states }
-    ensures { OnOk result (builder.new ≡ record builder.old { ids = builder.old.ids ++ kept nfa.now.automaton (S.names set.now) }) }
+    ensures { OnOk result (builder.new ≡ record builder.old { ids = builder.old.ids ++ kept_among nfa.now.automaton (S.names set.now) }) }
 {
     if !nfa.has_capture() {
         add_all(set, builder)?;
@@ -80,7 +80,7 @@ fn add_all<S: NameSet>(set: &S, builder: &mut StateBuilderNFA) -> Result<(), All
 /// Adds a state, unless it is a capture.
 fn add_state(nfa: &NFA, id: StateID, builder: &mut StateBuilderNFA) -> Result<(), AllocError>
     requires { id < length nfa.now.automaton.states }
-    ensures { OnOk result (builder.new ≡ record builder.old { ids = builder.old.ids ++ kept nfa.now.automaton (id ∷ []) }) }
+    ensures { OnOk result (builder.new ≡ record builder.old { ids = builder.old.ids ++ kept_among nfa.now.automaton (id ∷ []) }) }
 {
     if is_capture(nfa.state(id)) {
         return Ok(());

@@ -20,7 +20,7 @@ ghost use Rattle.nfa_core.specs.Nfa.{Automaton, IsWellFormed};
 ghost use Rattle.nfa_core.specs.Ways.{Text, span, ways, matched, AreLists, bytes_left, place_of, ends_from};
 ghost use Rattle.determinize_core.specs.States.{StateValue};
 ghost use Rattle.determinize_core.specs.Starts.{start_of};
-ghost use Rattle.determinize_core.specs.Steps.{kept, ids_before, patterns_in, start_value, unit_at, unit_behind, walk_value};
+ghost use Rattle.determinize_core.specs.Steps.{kept_among, ids_before, patterns_in, start_value, unit_at, unit_behind, walk_value};
 ghost use Rattle.determinize_core.specs.Walked.{cut_of, walked_lists, latest_listed};
 ghost use Rattle.determinize_core.specs.WalkLists.{walked, units_of, haystack_of, walk_start, text_of};
 
@@ -35,7 +35,7 @@ pub fn walked_lists_are_lists()
 pub fn states_are_those_of_the_walk_under_all_looks()
     ensures states { (kind : MatchKind) (a : Automaton) (t : Terminator) (h : List ℕ) (s i e q k : ℕ) → IsWellFormed a → i ≤ e → e ≤ length h →
         q < length a.states → k ≤ bytes_left a.reverse (span t h s e) i →
-        kept a (ids_before a t (walk_value a t kind h i q k) (unit_at a.reverse h (place_of a.reverse i k))) ≡ kept a (walked_lists kind a (span t h s e) i q k) }
+        kept_among a (ids_before a t (walk_value a t kind h i q k) (unit_at a.reverse h (place_of a.reverse i k))) ≡ kept_among a (walked_lists kind a (span t h s e) i q k) }
     ensures matches { (kind : MatchKind) (a : Automaton) (t : Terminator) (h : List ℕ) (s i e q k : ℕ) → IsWellFormed a → i ≤ e → e ≤ length h →
         q < length a.states → k ≤ bytes_left a.reverse (span t h s e) i →
         (walk_value a t kind h i q (suc k)).matches ≡ patterns_in kind a (walked_lists kind a (span t h s e) i q k) }

@@ -23,7 +23,7 @@ use Rattle.nfa_core.specs.Ways.{ends_from}
 use Rattle.nfa_core.proofs.ForCallers.{none_in, has_filter, names_equal, pairs_equal, stays_closed, list_matches, ends_inside, looks_any}
 use Rattle.nfa_core.proofs.ForCallers.{nothing_same}
 use Rattle.determinize_core.specs.States.{StateValue}
-use Rattle.determinize_core.specs.Steps.{is_kept, kept, walk_value, unit_at}
+use Rattle.determinize_core.specs.Steps.{is_kept, kept_among, walk_value, unit_at}
 use Rattle.determinize_core.specs.Walked.{walked_lists}
 use Rattle.determinize_core.proofs.ForCallers.{lists_are_lists, states_are}
 use Rattle.hirscan.proofs.WalkReadLemmas.{none_before}
@@ -52,7 +52,7 @@ left_same false f g h s e i = refl
 left_same true f g h s e i = refl
 
 -- of a list without kept states each is a capture
-none_kept : (a : Automaton) (x : ℕ) (xs : List ℕ) → kept a xs ≡ [] → Has nat_eq x xs → is_kept a x ≡ false
+none_kept : (a : Automaton) (x : ℕ) (xs : List ℕ) → kept_among a xs ≡ [] → Has nat_eq x xs → is_kept a x ≡ false
 none_kept a x xs none there = ⊎_elim
     (λ (is : is_kept a x ≡ true).
     none_in nat_eq x _ (subst (λ (l : List ℕ). Has nat_eq x l) none (has_filter nat_eq names_equal (is_kept a) x xs is ∙ there)))
@@ -84,10 +84,10 @@ module _ (a : Automaton) (t : Terminator) (h : List ℕ) (s e i q : ℕ) (formed
   lists : AreLists a text (i, q) (λ k xs. xs) list
   lists = lists_are_lists AllMatches a text i q formed low
 
-  none_there : (k : ℕ) → k ≤ bytes_left a.reverse text i → (state k).ids ≡ [] → kept a (list k) ≡ []
+  none_there : (k : ℕ) → k ≤ bytes_left a.reverse text i → (state k).ids ≡ [] → kept_among a (list k) ≡ []
   none_there k l none =
       sym (states_are AllMatches a t h s e i q formed below within low k l)
-      ∙ ap (kept a) (none_before a t (state k) (unit_at a.reverse h (place k)) none)
+      ∙ ap (kept_among a) (none_before a t (state k) (unit_at a.reverse h (place k)) none)
 
   bytes_same : (k x : ℕ) → byte_steps a text (place k) x ≡ byte_steps a other (place k) x
   bytes_same k x = ap (on_read (node_at a x)) (reads_same a.reverse (holds_ascii t h) looks h s e (place k))

@@ -17,7 +17,7 @@ use Rattle.nfa_core.specs.Nfa.{Automaton}
 use Rattle.nfa_core.specs.Ways.{place_of}
 use Rattle.determinize_core.specs.States.{StateValue}
 use Rattle.determinize_core.specs.Starts.{start_of}
-use Rattle.determinize_core.specs.Steps.{closed, kept, unit_steps, reading, ids_before, gains, known_before, known_behind, families}
+use Rattle.determinize_core.specs.Steps.{closed, kept_among, unit_steps, reading, ids_before, gains, known_before, known_behind, families}
 use Rattle.determinize_core.specs.Steps.{step_value, start_value, walk_value, unit_at, unit_behind}
 use Rattle.lazy_dfa.specs.Passes.{is_empty, is_dead, index_at, index_behind, next_value, next_place, start_or_dead, first_value}
 use Rattle.lazy_dfa.specs.Readers.{Reader, is_quit}
@@ -51,7 +51,7 @@ none_before a t v u e = none_closed a (gains v (known_before a.reverse t v u)) (
 none_next : (a : Automaton) (t : Terminator) (kind : MatchKind) (v : StateValue) (u : Option ℕ) → v.ids ≡ [] →
     (step_value a t kind v u).ids ≡ []
 none_next a t kind v u e =
-    ap (λ (l : List ℕ). kept a (closed a (known_behind (families a) a.reverse t u) (flat_map (unit_steps a u) l)))
+    ap (λ (l : List ℕ). kept_among a (closed a (known_behind (families a) a.reverse t u) (flat_map (unit_steps a u) l)))
     (ap (reading kind a) (none_before a t v u e) ∙ reading_none kind a)
 
 -- ---- a unit

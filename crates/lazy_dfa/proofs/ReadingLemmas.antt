@@ -22,7 +22,7 @@ use Rattle.nfa_core.specs.Ways.{Text, span, reads, is_passed, on_read, byte_step
 use Rattle.nfa_core.proofs.ForCallers.{first_same, alike_by_looks, place_zero}
 use Rattle.determinize_core.specs.States.{StateValue}
 use Rattle.determinize_core.specs.Starts.{start_of}
-use Rattle.determinize_core.specs.Steps.{closed, known_steps, kept, unit_steps, reading, ids_before, behind_of_start, start_value, step_value}
+use Rattle.determinize_core.specs.Steps.{closed, known_steps, kept_among, unit_steps, reading, ids_before, behind_of_start, start_value, step_value}
 use Rattle.determinize_core.specs.Steps.{unit_at, unit_behind}
 use Rattle.determinize_core.specs.Walked.{cut_of, walked_lists}
 use Rattle.determinize_core.proofs.ForCallers.{lists_are_lists, states_are, entries_alike}
@@ -62,12 +62,12 @@ some_met ways (suc n) (x ∷ xs) l e =
     nothing never = let no_way : true ≡ false = cc in absurd (grind (arith, no_way))
 
 module _ (a : Automaton) (none : list_any is_capture a.states ≡ false) (some : 0 < length a.states) where
-  kept_all : (xs : List ℕ) → kept a xs ≡ xs
+  kept_all : (xs : List ℕ) → kept_among a xs ≡ xs
   kept_all [] = refl
-  kept_all (x ∷ xs) = ap (λ (c : Bool). if not c then x ∷ kept a xs else kept a xs) (none_of_nodes a.states x none)
+  kept_all (x ∷ xs) = ap (λ (c : Bool). if not c then x ∷ kept_among a xs else kept_among a xs) (none_of_nodes a.states x none)
       ∙ ap (λ (l : List ℕ). x ∷ l) (kept_all xs)
 
-  none_met : (looks : ℕ) (xs : List ℕ) → kept a (closed a looks xs) ≡ [] → xs ≡ []
+  none_met : (looks : ℕ) (xs : List ℕ) → kept_among a (closed a looks xs) ≡ [] → xs ≡ []
   none_met looks xs e = some_met (known_steps a looks) (length a.states) xs some (sym (kept_all (closed a looks xs)) ∙ e)
 
   step_dead : (t : Terminator) (kind : MatchKind) (v : StateValue) (u : Option ℕ) → is_dead (step_value a t kind v u) ≡ true →

@@ -6,7 +6,7 @@ use Rattle.nfa_core.specs.BuilderStates.{DraftNode, Assembly, draft_at, patched,
 use Rattle.thompson_nfa.specs.Compiled.{Grows, sum_of_bytes}
 
 -- the state comes last, and the groups are these
-pub record Added (old new : Assembly) (id : ℕ) (draft : DraftNode) (groups : Groups) : Type 0 where
+pub record AddsDraft (old new : Assembly) (id : ℕ) (draft : DraftNode) (groups : Groups) : Type 0 where
   pub is : id ≡ length old.drafts
   pub size : length new.drafts ≡ length old.drafts + 1
   pub grows : Grows old new

@@ -5,7 +5,7 @@ use Rattle.hir_core.specs.Tree.{Tree, empty, literal, alternation}
 use Rattle.nfa_core.specs.BuilderStates.{Assembly, draft_at, sparse_draft}
 use Rattle.nfa_core.specs.Drafted.{Table}
 use Rattle.nfa_core.specs.Renaming.{stands_for}
-use Rattle.thompson_nfa.specs.Added.{Added}
+use Rattle.thompson_nfa.specs.Added.{AddsDraft}
 use Rattle.thompson_nfa.specs.Compiled.{Grows, AllTame, Weighs, sum_of_bytes}
 use Rattle.thompson_nfa.specs.Denotes.{Denotes}
 use Rattle.thompson_nfa.specs.LiteralTries.{edges_in, matches_in, AreChunks}
@@ -20,7 +20,7 @@ edge_ranges names (e ∷ es) = (e.byte, e.byte, get_or names e.next 0) ∷ edge_
 -- an item is a state of its own, or, where it is a match, the common end
 abbrev pub AddsItem : Assembly → Assembly → List ℕ → ℕ → List Edge → ℕ → Type 0
 AddsItem old new names end [] id = (new ≡ old) × (id ≡ end)
-AddsItem old new names end (e ∷ es) id = Added old new id (sparse_draft (edge_ranges names (e ∷ es))) old.groups
+AddsItem old new names end (e ∷ es) id = AddsDraft old new id (sparse_draft (edge_ranges names (e ∷ es))) old.groups
 
 -- a string that was read forward, or from its last byte on
 abbrev pub spelt : Bool → List ℕ → List ℕ

@@ -10,7 +10,7 @@ use Rattle.nfa_core.specs.CanBuild.{names_of, is_known}
 use Rattle.nfa_core.specs.Drafted.{Table}
 use Rattle.nfa_core.specs.declared.build_error.BuildError.{BuildError}
 use Rattle.nfa_core.specs.declared.build_error.BuildError.TheVariants as error
-use Rattle.thompson_nfa.specs.Added.{Added}
+use Rattle.thompson_nfa.specs.Added.{AddsDraft}
 use Rattle.thompson_nfa.specs.Compiled.{past_in, sum_of_bytes, looks_in, any_uses}
 use Rattle.thompson_nfa.specs.Assembled.{AcceptAll, LeadsToAll, IsIndependent}
 use Rattle.thompson_nfa.specs.Configs.{Options, utf8_of, reverse_of, limit_of, terminator_of}
@@ -81,7 +81,7 @@ LeadsToFurther which union old new xs n =
 
 -- What stands before the patterns: one state that is led on to them, where all are anchored, or a prefix.
 abbrev pub HasStart : Bool → Assembly → Assembly → ℕ → Type 0
-HasStart true old new u = Added old new u (empty_draft 0) old.groups
+HasStart true old new u = AddsDraft old new u (empty_draft 0) old.groups
 HasStart false old new u = HasPrefix old new u
 
 -- a builder without states and patterns, with what these options say

@@ -2,7 +2,7 @@
 -- a range and leads to the state of the ranges before it; the first range's state leads to the end that all have in common.
 use Rattle.std.specs.Prelude.{◌≡◌, ℕ, ◌<◌, ◌≤◌, List, [], ◌∷◌, ◌++◌, length, Some}
 use Rattle.nfa_core.specs.BuilderStates.{Assembly, range_draft}
-use Rattle.thompson_nfa.specs.Added.{Added, Led}
+use Rattle.thompson_nfa.specs.Added.{AddsDraft, Led}
 use Rattle.thompson_nfa.specs.SlotTables.{SlotTable, held_at, with_held}
 use Rattle.thompson_nfa.specs.declared.utf8_suffix_map.Utf8SuffixKey.{Utf8SuffixKey}
 
@@ -14,7 +14,7 @@ key_of next range = record { from = next; start = range.0; end = range.1 }
 pub record AddsRange (old new : Assembly) (map changed : SlotTable Utf8SuffixKey) (next : ℕ) (range : ℕ × ℕ) (id : ℕ) : Type 0 where
   pub place : ℕ
   pub inside : place < map.capacity
-  pub added : Added old new id (range_draft range.0 range.1 next) old.groups
+  pub added : AddsDraft old new id (range_draft range.0 range.1 next) old.groups
   pub kept : changed ≡ with_held map place (key_of next range) id
 
 -- a state for the range that leads to `next` is kept at a place, or was added

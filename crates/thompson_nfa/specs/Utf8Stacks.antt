@@ -5,7 +5,7 @@ use Rattle.nfa_core.specs.BuilderStates.{Assembly, draft_at, sparse_draft}
 use Rattle.nfa_core.specs.Transitions.{range_of}
 use Rattle.nfa_core.specs.declared.transition.Transition.{Transition}
 use Rattle.nfa_core.specs.declared.build_error.BuildError.{BuildError}
-use Rattle.thompson_nfa.specs.Added.{Added}
+use Rattle.thompson_nfa.specs.Added.{AddsDraft}
 use Rattle.thompson_nfa.specs.RangeTries.{IsBefore}
 use Rattle.thompson_nfa.specs.Refusals.{Stays}
 use Rattle.thompson_nfa.specs.SlotTables.{SlotTable, held_at, is_ready}
@@ -78,7 +78,7 @@ pub record Compiles (old new : Assembly) (end : ℕ) (trans : List (ℕ × ℕ �
   pub behind : end < id
   pub there : id < length new.drafts
   pub here : draft_at new.drafts id ≡ sparse_draft trans
-  pub how : (new ≡ old) ⊎ Added old new id (sparse_draft trans) old.groups
+  pub how : (new ≡ old) ⊎ AddsDraft old new id (sparse_draft trans) old.groups
 
 -- the state of the path's top node was made, whose last range leads to the next state
 pub record MakesTop (old new : Assembly) (end : ℕ) (ns0 ns1 : List Stage) (next id : ℕ) : Type 0 where

@@ -2,7 +2,7 @@
 ghost use Rattle.std.specs.Prelude.{◌≡◌, ◌≤◌, ◌<◌, ◌+◌, ◌*◌, ◌++◌, [], ◌∷◌, length, map, All, IfOk, IfErr, MatchResult};
 ghost use Rattle.nfa_core.specs.BuilderStates.{sparse_draft, union_draft};
 ghost use Rattle.nfa_core.specs.Transitions.{range_of};
-ghost use Rattle.thompson_nfa.specs.Added.{Added};
+ghost use Rattle.thompson_nfa.specs.Added.{AddsDraft};
 ghost use Rattle.thompson_nfa.specs.LiteralGroups.{Ascends, LeadWithin};
 ghost use Rattle.thompson_nfa.specs.LiteralStates.{edge_ranges, AddsItem, AddsNode};
 ghost use Rattle.thompson_nfa.specs.LiteralTries.{edges_in, chunks_in, matches_in, AreChunks};
@@ -42,7 +42,7 @@ fn add_chunk(
 ) -> Result<StateID, BuildError>
     requires inside { LeadWithin 0 (length names.now) edges.now }
     requires ascending { Ascends 0 edges.now 256 }
-    ensures added { IfOk result (λ id. Added builder.old builder.new id (sparse_draft (edge_ranges names.now edges.now)) builder.old.groups) }
+    ensures added { IfOk result (λ id. AddsDraft builder.old builder.new id (sparse_draft (edge_ranges names.now edges.now)) builder.old.groups) }
     ensures refused { IfErr result (λ e. Stays builder.old builder.new 1 (24 + 8 * length edges.now) e) }
 {
     let all = transitions(alloc, edges, names)?;
@@ -73,7 +73,7 @@ fn add_item(
 /// Adds a state that leads to each of these, the preferred first.
 #[tactic(auto, using(crate::proofs::Steps::StepLemmas::added_of, crate::proofs::Steps::StepLemmas::add_refused))]
 fn add_ways(builder: &mut Builder, ways: Vec<StateID>) -> Result<StateID, BuildError>
-    ensures { MatchResult result (λ id. Added builder.old builder.new id (union_draft ways.items) builder.old.groups) (λ e. Stays builder.old builder.new 1 (24 + 4 * length ways.items) e) }
+    ensures { MatchResult result (λ id. AddsDraft builder.old builder.new id (union_draft ways.items) builder.old.groups) (λ e. Stays builder.old builder.new 1 (24 + 4 * length ways.items) e) }
 {
     builder.add_union(ways)
 }

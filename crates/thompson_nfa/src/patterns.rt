@@ -5,7 +5,7 @@ ghost use Rattle.std.specs.List.{list_all};
 ghost use Rattle.search_core.specs.Index.{greatest_index};
 ghost use Rattle.nfa_core.specs.BuilderStates.{match_draft, union_draft, draft_at, is_sparse, sparse_draft};
 ghost use Rattle.nfa_core.specs.Renaming.{past};
-ghost use Rattle.thompson_nfa.specs.Added.{Added};
+ghost use Rattle.thompson_nfa.specs.Added.{AddsDraft};
 ghost use Rattle.thompson_nfa.specs.Assembled.{IsAssembled};
 ghost use Rattle.thompson_nfa.specs.ByteRoom.{byte_room};
 ghost use Rattle.thompson_nfa.specs.Compiled.{Weighs};
@@ -40,7 +40,7 @@ pub(crate) struct Starts {
 #[tactic(auto, using(crate::proofs::Steps::StepLemmas::added_of, crate::proofs::Steps::StepLemmas::add_refused))]
 fn add_match(builder: &mut Builder) -> Result<StateID, BuildError>
     requires { builder.old.is_open ≡ true }
-    ensures { MatchResult result (λ id. Added builder.old builder.new id (match_draft (length builder.old.starts)) builder.old.groups) (λ e. Stays builder.old builder.new 1 24 e) }
+    ensures { MatchResult result (λ id. AddsDraft builder.old builder.new id (match_draft (length builder.old.starts)) builder.old.groups) (λ e. Stays builder.old builder.new 1 24 e) }
 {
     builder.add_match()
 }
@@ -201,7 +201,7 @@ fn is_anchored(expr: &Hir, reverse: bool) -> bool
 /// Adds a state that reads any byte.
 #[tactic(auto, using(crate::proofs::Steps::StepLemmas::added_of, crate::proofs::Steps::StepLemmas::add_refused))]
 fn add_any_byte(builder: &mut Builder, alloc: Global, next: StateID) -> Result<StateID, BuildError>
-    ensures { MatchResult result (λ id. Added builder.old builder.new id (sparse_draft ((0, 255, next) ∷ [])) builder.old.groups) (λ e. Stays builder.old builder.new 1 32 e) }
+    ensures { MatchResult result (λ id. AddsDraft builder.old builder.new id (sparse_draft ((0, 255, next) ∷ [])) builder.old.groups) (λ e. Stays builder.old builder.new 1 32 e) }
 {
     let mut transitions = Vec::new(alloc);
     transitions.push(Transition {

@@ -4,7 +4,7 @@ ghost use Rattle.hir_core.specs.Sequences.{bytes_of};
 ghost use Rattle.nfa_core.specs.BuilderStates.{Assembly, sparse_draft};
 ghost use Rattle.nfa_core.specs.Transitions.{range_of};
 ghost use Rattle.nfa_core.specs.declared.build_error.BuildError.TheVariants.{NoMemory};
-ghost use Rattle.thompson_nfa.specs.Added.{Added};
+ghost use Rattle.thompson_nfa.specs.Added.{AddsDraft};
 ghost use Rattle.thompson_nfa.specs.Compiled.{Makes, Weighs, Does, sum_of_bytes};
 ghost use Rattle.thompson_nfa.specs.Refusals.{Quits, Stays, Passes};
 ghost use Rattle.thompson_nfa.specs.Shared.{read_tree};
@@ -26,7 +26,7 @@ use std::alloc::Global;
 #[tactic(auto, using(crate::proofs::Classes::StackLemmas::rises_ascends, crate::proofs::Classes::StackLemmas::few_bytes, crate::proofs::Steps::StepLemmas::added_of, crate::proofs::Steps::StepLemmas::add_refused))]
 fn add_state(builder: &mut Builder, trans: Vec<Transition>) -> Result<StateID, BuildError>
     requires { RisesIn 0 (map range_of trans.items) }
-    ensures added { IfOk result (λ id. Added builder.old builder.new id (sparse_draft (map range_of trans.items)) builder.old.groups) }
+    ensures added { IfOk result (λ id. AddsDraft builder.old builder.new id (sparse_draft (map range_of trans.items)) builder.old.groups) }
     ensures refused { IfErr result (λ e. Stays builder.old builder.new 1 2072 e) }
     ensures passed { IfErr result (λ e. Passes builder.old (24 + 8 * length (map range_of trans.items)) e) }
 {

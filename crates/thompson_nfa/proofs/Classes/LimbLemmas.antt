@@ -10,7 +10,7 @@ use Rattle.nfa_core.specs.Renaming.{stands_for}
 use Rattle.nfa_core.specs.Drafted.{Table}
 use Rattle.nfa_core.specs.declared.transition.Transition.{Transition}
 use Rattle.nfa_core.specs.declared.build_error.BuildError.{BuildError}
-use Rattle.thompson_nfa.specs.Added.{Added}
+use Rattle.thompson_nfa.specs.Added.{AddsDraft}
 use Rattle.thompson_nfa.specs.Compiled.{Grows, Finishes, IsTame}
 use Rattle.thompson_nfa.specs.Denotes.{Denotes}
 use Rattle.thompson_nfa.specs.Refusals.{Quits}
@@ -31,7 +31,7 @@ pub has_progress : {old b : Assembly} {end most : ℕ} → HasStates old b end m
 has_progress h = record { partly = record { grows = h.grows; tame = h.tame }; states = h.states; bytes = h.bytes; numbered = h.numbered }
 
 has_added : (old b c : Assembly) (end most id : ℕ) (trans : List (ℕ × ℕ × ℕ)) → HasStates old b end most →
-    Added b c id (sparse_draft trans) b.groups → RisesIn 0 trans →
+    AddsDraft b c id (sparse_draft trans) b.groups → RisesIn 0 trans →
     All (λ q. q < length c.drafts) (names_of (sparse_draft trans)) → HasStates old c end (most + 1)
 has_added old b c end most id trans h x up named =
     let few = few_bytes trans up in
@@ -65,7 +65,7 @@ pub record More (old b c : Assembly) (end most : ℕ) : Type 0 where
 
 pub more_states : (old b c : Assembly) (end most id : ℕ) (trans : List (ℕ × ℕ × ℕ)) → HasStates old b end most → RisesIn 0 trans →
     All (λ q. q < length c.drafts) (names_of (sparse_draft trans)) →
-    (c ≡ b) ⊎ Added b c id (sparse_draft trans) b.groups → More old b c end most
+    (c ≡ b) ⊎ AddsDraft b c id (sparse_draft trans) b.groups → More old b c end most
 more_states old b c end most id trans h up named (inl same) =
     let P : Assembly → Type 0 = λ z. More old b z end most in
     subst P (sym same) (record { now = most; least = omega arith; has = h; grows = grows_refl b })
@@ -244,7 +244,7 @@ module _ (old b c : Assembly) (end : ℕ) (ls0 : List Limb) (ns ms : List Stage)
       subst P (sym at_top.top_is) (names_below (length c.drafts) at_top.last.last.0 at_top.last.last.1 next at_top.last.branches
       (branches_wider (length b.drafts) (length c.drafts) at_top.last.branches longer branches) (omega arith))
 
-  longer_by : (c ≡ b) ⊎ Added b c id (sparse_draft (frozen_with next top.top)) b.groups → length b.drafts ≤ length c.drafts
+  longer_by : (c ≡ b) ⊎ AddsDraft b c id (sparse_draft (frozen_with next top.top)) b.groups → length b.drafts ≤ length c.drafts
   longer_by (inl same) = let e : length c.drafts ≡ length b.drafts = ap (λ (z : Assembly). length z.drafts) same in omega arith
   longer_by (inr x) = x.grows.longer
 

@@ -13,7 +13,7 @@ use Rattle.nfa_core.specs.Drafted.{Table}
 use Rattle.nfa_core.specs.declared.transition.Transition.{Transition}
 use Rattle.nfa_core.specs.declared.build_error.BuildError.{BuildError}
 use Rattle.nfa_core.specs.declared.build_error.BuildError.TheVariants.{NoMemory}
-use Rattle.thompson_nfa.specs.Added.{Added}
+use Rattle.thompson_nfa.specs.Added.{AddsDraft}
 use Rattle.thompson_nfa.specs.Compiled.{Finished, Finishes, ComesOut, Makes, Does, uses}
 use Rattle.thompson_nfa.specs.Denotes.{Denotes}
 use Rattle.thompson_nfa.specs.Refusals.{Quits}
@@ -315,7 +315,7 @@ empty_keeps b end capacity there =
     }
 
 pub compile_begun : (a b : Assembly) (end capacity : ℕ) (compiled : SlotTable (List Transition)) (ns : List Stage) →
-    Added a b end (empty_draft 0) a.groups → compiled ≡ empty_table capacity → ns ≡ [] →
+    AddsDraft a b end (empty_draft 0) a.groups → compiled ≡ empty_table capacity → ns ≡ [] →
     IsCompiling a b end compiled ns []
 compile_begun a b end capacity compiled ns x is none =
     let p = first_added 8 x (tame_one b (empty_draft 0) 0 refl (omega arith) refl refl) (omega arith) in

@@ -6,7 +6,7 @@ use Rattle.hir_core.specs.Tree.{Tree, alternation, never}
 use Rattle.nfa_core.specs.BuilderStates.{Assembly, draft_at, patched, is_sparse, empty_draft, union_draft}
 use Rattle.nfa_core.specs.Drafted.{Table}
 use Rattle.nfa_core.specs.Renaming.{stands_for}
-use Rattle.thompson_nfa.specs.Added.{Added, Led}
+use Rattle.thompson_nfa.specs.Added.{AddsDraft, Led}
 use Rattle.thompson_nfa.specs.Choice.{no_choice}
 use Rattle.thompson_nfa.specs.Compiled.{Finished, Makes, Does, ComesOut}
 use Rattle.thompson_nfa.proofs.Steps.LookLemmas.{AddsLooks, adds_none, adds_both, quiet_led, quiet_added, quiet_choice, uses_alternation}
@@ -101,7 +101,7 @@ module _ (b0 b1 b2 b3 b4 : Assembly) (u m n s e k : ℕ) (xs : List Tree) (x : T
 
 -- ---- none as yet
 
-pub branched_begun : {b0 b1 b2 : Assembly} {u m : ℕ} → Added b0 b1 u (no_choice true) b0.groups → Added b1 b2 m (empty_draft 0) b1.groups →
+pub branched_begun : {b0 b1 b2 : Assembly} {u m : ℕ} → AddsDraft b0 b1 u (no_choice true) b0.groups → AddsDraft b1 b2 m (empty_draft 0) b1.groups →
     Branched b0 b2 u m 2 []
 branched_begun {b0} {b1} {b2} {u} {m} a1 a2 =
     let iu = a1.is in let im = a2.is in let n1 = a1.size in let n2 = a2.size in

@@ -16,7 +16,7 @@ use Rattle.nfa_core.specs.BuilderStates.{DraftNode, Assembly, draft_at, patched,
 use Rattle.nfa_core.specs.BuilderStates.{look_draft, capture_start_draft, capture_end_draft, union_draft, union_reverse_draft, fail_draft}
 use Rattle.nfa_core.specs.BuilderStates.{match_draft}
 use Rattle.nfa_core.specs.declared.build_error.BuildError.{BuildError}
-use Rattle.thompson_nfa.specs.Added.{Added, Led}
+use Rattle.thompson_nfa.specs.Added.{AddsDraft, Led}
 use Rattle.thompson_nfa.specs.Branches.{AddsBranch, AddsAll, adds_none, adds_more}
 use Rattle.thompson_nfa.specs.Choice.{no_choice}
 use Rattle.thompson_nfa.specs.Compiled.{Makes, Does, DoesFirst, sum_of_bytes}
@@ -276,8 +276,8 @@ pub record RangesTo (a b : Assembly) (u m i : ℕ) (ranges : List (ℕ × ℕ)) 
   pub groups : b.groups ≡ a.groups
   pub within : i ≤ length ranges
 
-pub no_range : (a b c : Assembly) (u m : ℕ) (ranges : List (ℕ × ℕ)) → Added a b u (no_choice true) a.groups →
-    Added b c m (empty_draft 0) b.groups → RangesTo a c u m 0 ranges
+pub no_range : (a b c : Assembly) (u m : ℕ) (ranges : List (ℕ × ℕ)) → AddsDraft a b u (no_choice true) a.groups →
+    AddsDraft b c m (empty_draft 0) b.groups → RangesTo a c u m 0 ranges
 no_range a b c u m ranges x y = record { branched = branched_begun x y; groups = y.groups_are ∙ x.groups_are; within = omega arith }
 
 counted : (rs : List (ℕ × ℕ)) → length (map sequence_tree (sequences_of rs)) ≡ sequence_count rs

@@ -5,7 +5,7 @@ use Rattle.std.proofs.lemmas.List.{length-map}
 use Rattle.nfa_core.specs.BuilderStates.{Assembly, empty_draft, sparse_draft}
 use Rattle.nfa_core.specs.declared.build_error.BuildError.{BuildError}
 use Rattle.nfa_core.specs.declared.build_error.BuildError.TheVariants.{NoMemory}
-use Rattle.thompson_nfa.specs.Added.{Added}
+use Rattle.thompson_nfa.specs.Added.{AddsDraft}
 use Rattle.thompson_nfa.specs.Compiled.{Weighs, sum_of_bytes}
 use Rattle.thompson_nfa.specs.Refusals.{Passes}
 use Rattle.thompson_nfa.specs.Utf8Stacks.{Stage, frozen_with, fresh, advanced, open_bytes, left_bytes, Compiles, MakesTop, Pops, pops_none}
@@ -38,7 +38,7 @@ pub compiles_weigh : (b c : Assembly) (end id : ℕ) (trans : List (ℕ × ℕ �
     Weighs b c (24 + 8 * length trans)
 compiles_weigh b c end id trans x = ⊎_elim
     (λ (same : c ≡ b). let P : Assembly → Type 0 = λ z. Weighs b z (24 + 8 * length trans) in subst P (sym same) (omega arith))
-    (λ (added : Added b c id (sparse_draft trans) b.groups). omega (arith, added.bytes))
+    (λ (added : AddsDraft b c id (sparse_draft trans) b.groups). omega (arith, added.bytes))
     x.how
 
 top_open : (next : ℕ) (ns ms : List Stage) (top : Stage) → ns ≡ ms ++ top ∷ [] →
@@ -58,7 +58,7 @@ pops_weigh end b0 ns0 _ _ _ (pops_more b c ns ms next id before top) =
 
 -- ---- the end alone
 
-pub begun_weighs : (a b : Assembly) (end : ℕ) (ns : List Stage) → Added a b end (empty_draft 0) a.groups → ns ≡ [] →
+pub begun_weighs : (a b : Assembly) (end : ℕ) (ns : List Stage) → AddsDraft a b end (empty_draft 0) a.groups → ns ≡ [] →
     sum_of_bytes b + left_bytes ns ≤ sum_of_bytes a + 48
 begun_weighs a b end ns x none = omega (arith, x.bytes, ap left_bytes none)
 

@@ -10,7 +10,7 @@ use Rattle.hir_core.specs.Tree.{Tree, concat, alternation}
 use Rattle.nfa_core.specs.BuilderStates.{Assembly, draft_at, patched, range_draft}
 use Rattle.nfa_core.specs.Drafted.{Table}
 use Rattle.nfa_core.specs.Renaming.{stands_for}
-use Rattle.thompson_nfa.specs.Added.{Added, Led}
+use Rattle.thompson_nfa.specs.Added.{AddsDraft, Led}
 use Rattle.thompson_nfa.specs.Denotes.{Denotes}
 use Rattle.thompson_nfa.specs.SharedSuffixes.{key_of, AddsRange, SharesRange, finds_state, adds_state, SharesRanges, shares_none}
 use Rattle.thompson_nfa.specs.SharedSuffixes.{shares_more, AddsSequence, AddsSequences, sequences_none, sequences_more}
@@ -90,7 +90,7 @@ range_then true T id s m r rs e is d =
 -- ---- a state that is added to branches
 
 module _ (b0 b c : Assembly) (u m n id lo hi q : ℕ) (xs : List Tree) (so_far : Branched b0 b u m n xs)
-    (x : Added b c id (range_draft lo hi q) b.groups) (named : q < length b.drafts) where
+    (x : AddsDraft b c id (range_draft lo hi q) b.groups) (named : q < length b.drafts) where
   older : (T : Table) → Agrees b0 c u m T → Agrees b0 b u m T
   older T agrees p l h not_u not_m = let s = x.size in agrees p l (omega arith) not_u not_m ∙ x.grows.same p h
 
@@ -130,7 +130,7 @@ module _ (b0 b c : Assembly) (u m n id lo hi q : ℕ) (xs : List Tree) (so_far :
       }
 
 module _ (b0 b c d : Assembly) (u m n id lo hi q : ℕ) (xs : List Tree) (so_far : Branched b0 b u m n xs)
-    (x : Added b c id (range_draft lo hi q) b.groups) (named : q < length b.drafts) (led : Led c d u id) where
+    (x : AddsDraft b c id (range_draft lo hi q) b.groups) (named : q < length b.drafts) (led : Led c d u id) where
   -- the choice leads to the new state, too
   pub branched_way : (y : Tree) → ((l : Look) → uses b0.reverse y l ≡ false) →
       ((T : Table) → Agrees b0 c u m T → Denotes b0.reverse T id m y) → Branched b0 d u m (n + 1) (xs ++ y ∷ [])

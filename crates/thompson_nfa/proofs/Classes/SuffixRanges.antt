@@ -8,7 +8,7 @@ use Rattle.hir_core.specs.Facts.{sequence_count}
 use Rattle.hir_core.specs.Sequences.{utf8_sequences}
 use Rattle.hir_core.specs.Tree.{Tree}
 use Rattle.nfa_core.specs.BuilderStates.{Assembly, empty_draft}
-use Rattle.thompson_nfa.specs.Added.{Added}
+use Rattle.thompson_nfa.specs.Added.{AddsDraft}
 use Rattle.thompson_nfa.specs.Choice.{no_choice}
 use Rattle.thompson_nfa.specs.SharedSuffixes.{AddsSequences}
 use Rattle.thompson_nfa.specs.SlotTables.{SlotTable, is_ready, empty_table}
@@ -32,7 +32,7 @@ empty_ready capacity = eq-eqb (length (empty_table {K = Utf8SuffixKey} capacity)
 
 pub reverse_begun : (a b c : Assembly) (capacity : ℕ) (table : SlotTable Utf8SuffixKey) (u m : ℕ) (ranges : List (ℕ × ℕ)) →
     table ≡ empty_table capacity →
-    Added a b u (no_choice true) a.groups → Added b c m (empty_draft 0) b.groups → RangesReverse a c capacity table u m 0 ranges
+    AddsDraft a b u (no_choice true) a.groups → AddsDraft b c m (empty_draft 0) b.groups → RangesReverse a c capacity table u m 0 ranges
 reverse_begun a b c capacity table u m ranges e x y =
     let P : SlotTable Utf8SuffixKey → Type 0 = λ t. RangesReverse a c capacity t u m 0 ranges in
     subst P (sym e) (record {

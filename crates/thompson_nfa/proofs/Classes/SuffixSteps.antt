@@ -11,7 +11,7 @@ use Rattle.hir_core.specs.declared.utf8_sequences.Utf8Range.{Utf8Range}
 use Rattle.hir_core.proofs.ForCallers.{sequence_short}
 use Rattle.nfa_core.specs.BuilderStates.{DraftNode, Assembly, draft_at, draft_bytes, is_sparse}
 use Rattle.nfa_core.specs.declared.build_error.BuildError.{BuildError}
-use Rattle.thompson_nfa.specs.Added.{Added, Led}
+use Rattle.thompson_nfa.specs.Added.{AddsDraft, Led}
 use Rattle.thompson_nfa.specs.Compiled.{Grows}
 use Rattle.thompson_nfa.specs.Refusals.{Stays, Quits}
 use Rattle.thompson_nfa.specs.SharedSuffixes.{key_of, AddsRange, SharesRange, finds_state, adds_state, SharesRanges, shares_none}
@@ -51,14 +51,14 @@ spent_then {a} {b} {c} {n} {k} x y =
       bytes = omega arith;
     }
 
-spent_added : {a b : Assembly} {id : ℕ} {draft : DraftNode} {groups : Groups} → Added a b id draft groups → draft_bytes draft ≤ 4096 →
+spent_added : {a b : Assembly} {id : ℕ} {draft : DraftNode} {groups : Groups} → AddsDraft a b id draft groups → draft_bytes draft ≤ 4096 →
     Spent a b 1
 spent_added x le =
     let n = x.size in let s = x.bytes in
     record { settings = x.grows.settings; longer = x.grows.longer; states = omega arith; bytes = omega arith }
 
 -- a state was added, and one has one more way
-spent_led : {a b c : Assembly} {id from to : ℕ} {draft : DraftNode} {groups : Groups} → Added a b id draft groups → Led b c from to →
+spent_led : {a b c : Assembly} {id from to : ℕ} {draft : DraftNode} {groups : Groups} → AddsDraft a b id draft groups → Led b c from to →
     draft_bytes draft ≤ 4000 → Spent a c 1
 spent_led {a} {b} {c} x l le =
     let n = x.size in let s = x.bytes in let m = l.size in let t = l.bytes in

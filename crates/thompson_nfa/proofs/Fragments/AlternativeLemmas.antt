@@ -7,7 +7,7 @@ use Rattle.hir_core.specs.Tree.{Tree, alternation}
 use Rattle.nfa_core.specs.BuilderStates.{Assembly, empty_draft, union_draft}
 use Rattle.nfa_core.specs.declared.build_error.BuildError.{BuildError}
 use Rattle.thompson_nfa.specs.Compiled.{Makes, Weighs, Does, sum_of_bytes}
-use Rattle.thompson_nfa.specs.Added.{Added, Led}
+use Rattle.thompson_nfa.specs.Added.{AddsDraft, Led}
 use Rattle.thompson_nfa.specs.NotedGroups.{with_groups_of}
 use Rattle.thompson_nfa.specs.Refusals.{RefusesFragment, Stays}
 use Rattle.thompson_nfa.specs.Room.{room}
@@ -71,12 +71,12 @@ module _ (how : How) (t0 t1 t2 : Assembly) (s1 e1 s2 e2 : ℕ) (x y : Tree) (xs 
         RefusesFragment how.which t0 new (room how.shrink (alternation xs)) (alternation xs) e
     union_refused new e r = later_refused begun r (omega arith) (omega arith)
 
-    pub end_refused : (t3 new : Assembly) (u : ℕ) (e : BuildError) → Added t2 t3 u (union_draft []) t2.groups → Stays t3 new 1 24 e →
+    pub end_refused : (t3 new : Assembly) (u : ℕ) (e : BuildError) → AddsDraft t2 t3 u (union_draft []) t2.groups → Stays t3 new 1 24 e →
         RefusesFragment how.which t0 new (room how.shrink (alternation xs)) (alternation xs) e
     end_refused t3 new u e union r = later_refused (choice_then true begun union) r (omega arith) (omega arith)
 
-    module _ (t3 t4 : Assembly) (u z : ℕ) (union : Added t2 t3 u (union_draft []) t2.groups)
-        (last : Added t3 t4 z (empty_draft 0) t3.groups) where
+    module _ (t3 t4 : Assembly) (u z : ℕ) (union : AddsDraft t2 t3 u (union_draft []) t2.groups)
+        (last : AddsDraft t3 t4 z (empty_draft 0) t3.groups) where
       both : Progress false t0 t4 (room how.shrink x + room how.shrink y + 1 + 1) 4000
       both = empty_then (choice_then true begun union) last
 
@@ -110,8 +110,8 @@ module _ (how : How) (t0 t1 t2 : Assembly) (s1 e1 s2 e2 : ℕ) (x y : Tree) (xs 
           arith)) r
           (omega arith) (omega arith)
 
-    module _ (t3 t4 t5 t6 t7 t8 : Assembly) (u z : ℕ) (union : Added t2 t3 u (union_draft []) t2.groups)
-        (last : Added t3 t4 z (empty_draft 0) t3.groups) (p5 : Led t4 t5 u s1) (p6 : Led t5 t6 e1 z)
+    module _ (t3 t4 t5 t6 t7 t8 : Assembly) (u z : ℕ) (union : AddsDraft t2 t3 u (union_draft []) t2.groups)
+        (last : AddsDraft t3 t4 z (empty_draft 0) t3.groups) (p5 : Led t4 t5 u s1) (p6 : Led t5 t6 e1 z)
         (p7 : Led t6 t7 u s2) (p8 : Led t7 t8 e2 z) where
       pub cases_open : Does t0 t1 s1 e1 x → Does t1 t2 s2 e2 y → t1.groups ≡ with_groups_of how.which (length t0.starts) x t0.groups →
           t2.groups ≡ with_groups_of how.which (length t1.starts) y t1.groups →

@@ -7,7 +7,7 @@ use Rattle.nfa_core.specs.BuilderStates.{DraftNode, Assembly, draft_at, patched,
 use Rattle.nfa_core.specs.Renaming.{stands_for}
 use Rattle.nfa_core.specs.Drafted.{Table}
 use Rattle.thompson_nfa.specs.Compiled.{Finished, ComesOut, Makes, Does, uses}
-use Rattle.thompson_nfa.specs.Added.{Added, Led}
+use Rattle.thompson_nfa.specs.Added.{AddsDraft, Led}
 use Rattle.thompson_nfa.proofs.Steps.LookLemmas.{AddsLooks, quiet_led, quiet_added, adds_both, uses_alternation, or_none}
 use Rattle.thompson_nfa.proofs.Steps.SizeLemmas.{AddedAt, added_at, MadeAt, made_at, LedAt}
 use Rattle.thompson_nfa.proofs.Steps.OutLemmas.{out_here, out_next, out_at, out_on}
@@ -42,8 +42,8 @@ branches_at : {old mid : Assembly} {u z n : ℕ} {done : List Tree} → Branches
 branches_at bs = (bs.progress.partly.grows.longer, bs.u_new, bs.u_z, bs.z_there)
 
 module _ (t0 t1 t2 t3 t4 t5 t6 t7 t8 : Assembly) (s1 e1 n1 s2 e2 n2 u z : ℕ) (x y : Tree) (first : Makes t0 t1 s1 e1 n1)
-    (second : Makes t1 t2 s2 e2 n2) (union : Added t2 t3 u (union_draft []) t2.groups)
-    (last : Added t3 t4 z (empty_draft 0) t3.groups) (p5 : Led t4 t5 u s1) (p6 : Led t5 t6 e1 z) (p7 : Led t6 t7 u s2)
+    (second : Makes t1 t2 s2 e2 n2) (union : AddsDraft t2 t3 u (union_draft []) t2.groups)
+    (last : AddsDraft t3 t4 z (empty_draft 0) t3.groups) (p5 : Led t4 t5 u s1) (p6 : Led t5 t6 e1 z) (p7 : Led t6 t7 u s2)
     (p8 : Led t7 t8 e2 z) where
   open_sizes : MadeAt t0 t1 s1 e1 × MadeAt t1 t2 s2 e2 × AddedAt t2 t3 u × AddedAt t3 t4 z × LedAt t4 t5 × LedAt t5 t6 × LedAt t6 t7 ×
       LedAt t7 t8

@@ -18,7 +18,7 @@ use Rattle.nfa_core.specs.Drafted.{Table}
 use Rattle.nfa_core.specs.declared.build_error.BuildError.{BuildError}
 use Rattle.nfa_core.specs.declared.build_error.BuildError.TheVariants as error
 use Rattle.thompson_nfa.specs.Compiled.{Finished, AllComeOut, IsTame, Makes, Does, sum_of_bytes}
-use Rattle.thompson_nfa.specs.Added.{Added, Led}
+use Rattle.thompson_nfa.specs.Added.{AddsDraft, Led}
 use Rattle.thompson_nfa.specs.NotedGroups.{with_groups_of, keeps_group}
 use Rattle.thompson_nfa.specs.Refusals.{RefusesGroup, QuitsGroup, RefusesFragment, RefusesTree, RefusesStep, Stays}
 use Rattle.thompson_nfa.specs.declared.which_captures.WhichCaptures.{WhichCaptures}
@@ -46,7 +46,7 @@ pub start_added : (old new : Assembly) (id index : ℕ) (name : Option Name) →
           with_group old.groups (length old.starts) index name;
     } →
     option_or (index_fault (length old.starts) index) (add_fault old (capture_start_draft (length old.starts) index 0)) ≡ None →
-    Added old new id (capture_start_draft (length old.starts) index 0) (with_group old.groups (length old.starts) index name)
+    AddsDraft old new id (capture_start_draft (length old.starts) index 0) (with_group old.groups (length old.starts) index name)
 start_added old new id index name is e none =
     let draft = capture_start_draft (length old.starts) index 0 in
     added_group old new id draft (with_group old.groups (length old.starts) index name) is e
@@ -56,7 +56,7 @@ start_added old new id index name is e none =
 pub end_added : (old new : Assembly) (id index : ℕ) → id ≡ length old.drafts →
     new ≡ with_draft old (capture_end_draft (length old.starts) index 0) →
     option_or (index_fault (length old.starts) index) (add_fault old (capture_end_draft (length old.starts) index 0)) ≡ None →
-    Added old new id (capture_end_draft (length old.starts) index 0) old.groups
+    AddsDraft old new id (capture_end_draft (length old.starts) index 0) old.groups
 end_added old new id index is e none =
     let draft = capture_end_draft (length old.starts) index 0 in
     added_of old new id draft draft is e (both_none (index_fault (length old.starts) index) (add_fault old draft) none) refl
@@ -179,7 +179,7 @@ plain_does old new s e index name x does =
 
 -- how far a capture has come, and that a step of it is refused
 module _ {t0 t1 : Assembly} {a index : ℕ} (name : Option Name)
-    (first : Added t0 t1 a (capture_start_draft (length t0.starts) index 0) (with_group t0.groups (length t0.starts) index name)) where
+    (first : AddsDraft t0 t1 a (capture_start_draft (length t0.starts) index 0) (with_group t0.groups (length t0.starts) index name)) where
   start_known : is_known t1.groups (capture_start_draft (length t0.starts) index 0) ≡ true
   start_known = ap (λ (gs : Groups). is_known gs (capture_start_draft (length t0.starts) index 0)) first.groups_are
       ∙ known_of_in (with_group t0.groups (length t0.starts) index name) (length t0.starts) index
@@ -203,7 +203,7 @@ module _ {t0 t1 : Assembly} {a index : ℕ} (name : Option Name)
         keeps_group kept index ≡ true → QuitsGroup t2 new index err → RefusesFragment kept t0 new (n + 2) (capture index shown x) err
     end_step_refused kept shown x keeps r = end_quits index (n + 2) shown x with_body keeps (omega arith) r
 
-    module _ {t3 : Assembly} {z pattern : ℕ} (last : Added t2 t3 z (capture_end_draft pattern index 0) t2.groups)
+    module _ {t3 : Assembly} {z pattern : ℕ} (last : AddsDraft t2 t3 z (capture_end_draft pattern index 0) t2.groups)
         (same_pattern : pattern ≡ length t0.starts) where
       end_tame : IsTame false t3 (capture_end_draft pattern index 0)
       end_tame =
@@ -230,8 +230,8 @@ module _ {t0 t1 : Assembly} {a index : ℕ} (name : Option Name)
           (then_quits (n + 2) (with_lead led) r (omega arith) (omega arith)) (omega arith)
 
 module _ (t0 t1 t2 t3 t4 t5 : Assembly) (a s e z n index pattern : ℕ) (name : Option Name)
-    (first : Added t0 t1 a (capture_start_draft (length t0.starts) index 0) (with_group t0.groups (length t0.starts) index name))
-    (body : Makes t1 t2 s e n) (last : Added t2 t3 z (capture_end_draft pattern index 0) t2.groups)
+    (first : AddsDraft t0 t1 a (capture_start_draft (length t0.starts) index 0) (with_group t0.groups (length t0.starts) index name))
+    (body : Makes t1 t2 s e n) (last : AddsDraft t2 t3 z (capture_end_draft pattern index 0) t2.groups)
     (same_pattern : pattern ≡ length t0.starts) (p4 : Led t3 t4 a s) (p5 : Led t4 t5 e z) where
   capture_sizes : AddedAt t0 t1 a × MadeAt t1 t2 s e × AddedAt t2 t3 z × LedAt t3 t4 × LedAt t4 t5
   capture_sizes = (added_at first, made_at body, added_at last, p4.size, p5.size)

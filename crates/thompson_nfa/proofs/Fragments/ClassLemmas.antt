@@ -11,7 +11,7 @@ use Rattle.nfa_core.specs.Renaming.{stands_for}
 use Rattle.nfa_core.specs.CanBuild.{names_of}
 use Rattle.nfa_core.specs.declared.build_error.BuildError.{BuildError}
 use Rattle.thompson_nfa.specs.Compiled.{AllComeOut, IsTame, Makes, Does}
-use Rattle.thompson_nfa.specs.Added.{Added}
+use Rattle.thompson_nfa.specs.Added.{AddsDraft}
 use Rattle.thompson_nfa.specs.Refusals.{Stays, Quits}
 use Rattle.thompson_nfa.proofs.Steps.LookLemmas.{quiet_added, adds_none}
 use Rattle.thompson_nfa.proofs.Walks.WayLemmas.{to_one}
@@ -56,8 +56,8 @@ pub bytes_to_one : (next : ℕ) (ranges : List (ℕ × ℕ)) → length ranges �
 bytes_to_one next ranges few = let e : length (to_one next ranges) ≡ length ranges = length-map ranges (λ r. (r.0, r.1, next)) in
     omega arith
 
-module _ (a b c : Assembly) (end start : ℕ) (ranges : List (ℕ × ℕ)) (first : Added a b end (empty_draft 0) a.groups)
-    (second : Added b c start (sparse_draft (to_one end ranges)) b.groups) (few : length ranges ≤ 256) where
+module _ (a b c : Assembly) (end start : ℕ) (ranges : List (ℕ × ℕ)) (first : AddsDraft a b end (empty_draft 0) a.groups)
+    (second : AddsDraft b c start (sparse_draft (to_one end ranges)) b.groups) (few : length ranges ≤ 256) where
   abbrev class_part : DraftNode
   class_part = sparse_draft (to_one end ranges)
 
@@ -90,7 +90,7 @@ module _ (a b c : Assembly) (end start : ℕ) (ranges : List (ℕ × ℕ)) (firs
         (λ l. refl);
   }
 
-pub class_quits : (a b c : Assembly) (end : ℕ) (e : BuildError) → Added a b end (empty_draft 0) a.groups → Stays b c 1 2072 e →
+pub class_quits : (a b c : Assembly) (end : ℕ) (e : BuildError) → AddsDraft a b end (empty_draft 0) a.groups → Stays b c 1 2072 e →
     Quits a c 2 e
 class_quits a b c end e first r =
     then_quits 2 (first_added 8 first (tame_one {plain = true} b (empty_draft 0) 0 refl (omega arith) refl refl) (omega arith)) r

@@ -6,7 +6,7 @@ use Rattle.hir_core.specs.Tree.{Tree, empty, repetition}
 use Rattle.nfa_core.specs.BuilderStates.{Assembly, empty_draft}
 use Rattle.nfa_core.specs.declared.build_error.BuildError.{BuildError}
 use Rattle.thompson_nfa.specs.Compiled.{Makes, Weighs, Does, DoesFirst, DoesCopies, DoesOption, raised, looks_in, uses, sum_of_bytes}
-use Rattle.thompson_nfa.specs.Added.{Added, Led}
+use Rattle.thompson_nfa.specs.Added.{AddsDraft, Led}
 use Rattle.thompson_nfa.specs.NotedGroups.{with_groups_of}
 use Rattle.thompson_nfa.specs.Refusals.{RefusesFragment, Stays}
 use Rattle.thompson_nfa.specs.Room.{room}
@@ -164,7 +164,7 @@ pub record Rounds (how : How) (old mid : Assembly) (start end z i low most total
 
 pub rounds_owed : (how : How) (t0 t1 t2 : Assembly) (s e z low most : ℕ) (greedy : Bool) (x : Tree) → low ≤ most →
     Makes t0 t1 s e (low * room how.shrink x) → DoesCopies t0 t1 s e low x →
-    t1.groups ≡ with_groups_of how.which (length t0.starts) x t0.groups → Added t1 t2 z (empty_draft 0) t1.groups →
+    t1.groups ≡ with_groups_of how.which (length t0.starts) x t0.groups → AddsDraft t1 t2 z (empty_draft 0) t1.groups →
     Weighs t0 t1 (low * (byte_room how.shrink x + 4)) →
     Rounds how t0 t2 s e z low low most (low * room how.shrink x + (most - low) * (room how.shrink x + 1) + 1) greedy x
 rounds_owed how t0 t1 t2 s e z low most greedy x le m copies g added w = record {
@@ -176,7 +176,7 @@ rounds_owed how t0 t1 t2 s e z low most greedy x le m copies g added w = record 
 }
 
 pub rounds_first : (how : How) (t0 t1 t2 : Assembly) (u e z most : ℕ) (greedy : Bool) (x : Tree) → 0 < most →
-    Added t0 t1 z (empty_draft 0) t0.groups → Makes t1 t2 u e (room how.shrink x + 1) →
+    AddsDraft t0 t1 z (empty_draft 0) t0.groups → Makes t1 t2 u e (room how.shrink x + 1) →
     DoesOption t1 t2 u e z greedy x → t2.groups ≡ with_groups_of how.which (length t1.starts) x t1.groups →
     Weighs t1 t2 (byte_room how.shrink x + 32) → Rounds how t0 t2 u e z 1 0 most (most * (room how.shrink x + 1) + 1) greedy x
 rounds_first how t0 t1 t2 u e z zero greedy x some added m does g w = absurd (omega arith)

@@ -6,7 +6,7 @@ use Rattle.hir_core.specs.Facts.{is_ascending}
 use Rattle.hir_core.specs.BySequences.{by_sequences, sequences_of}
 use Rattle.nfa_core.specs.BuilderStates.{DraftNode, Assembly, draft_at, patched, empty_draft, union_draft}
 use Rattle.nfa_core.specs.Drafted.{Table}
-use Rattle.thompson_nfa.specs.Added.{Added, Led}
+use Rattle.thompson_nfa.specs.Added.{AddsDraft, Led}
 use Rattle.thompson_nfa.specs.Compiled.{Grows, Finishes, IsFragment, Does, looks_in}
 use Rattle.thompson_nfa.proofs.Steps.LookLemmas.{AddsLooks, uses_sequences}
 use Rattle.thompson_nfa.proofs.Fragments.CaseLemmas.{AllDenote, none_denote, more_denote, all_denote_push, denotes_alternation}
@@ -48,7 +48,7 @@ next_branch {b0} {b1} {b2} {b3} {b4} {u} {m} {s} {e} {qs} {xs} {x} un ut mn mt g
 -- the first two branches, which stand before the union and the common end
 pub first_branches : {b0 b1 b2 b3 b4 b5 b6 b7 b8 : Assembly} {u m s e s' e' : ℕ} {x y : Tree} {g2 g3 : Groups} {choice : DraftNode} →
     IsFragment b0 b1 s e → Does b0 b1 s e x → IsFragment b1 b2 s' e' → Does b1 b2 s' e' y →
-    Added b2 b3 u choice g2 → Added b3 b4 m (empty_draft 0) g3 → Led b4 b5 u s → Led b5 b6 e m → Led b6 b7 u s' → Led b7 b8 e' m →
+    AddsDraft b2 b3 u choice g2 → AddsDraft b3 b4 m (empty_draft 0) g3 → Led b4 b5 u s → Led b5 b6 e m → Led b6 b7 u s' → Led b7 b8 e' m →
     DoBranches b0 b8 u m (s ∷ s' ∷ []) (x ∷ y ∷ [])
 first_branches {b0} {b1} {b2} {b3} {b4} {b5} {b6} {b7} {b8} {u} {m} {s} {e} {s'} {e'} {x} {y} f1 d1 f2 d2 a3 a4 l5 l6 l7 l8 = record {
   all = λ T agrees.

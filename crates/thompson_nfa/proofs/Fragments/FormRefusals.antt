@@ -7,7 +7,7 @@ use Rattle.nfa_core.specs.BuilderStates.{DraftNode, Assembly, empty_draft}
 use Rattle.nfa_core.specs.declared.build_error.BuildError.{BuildError}
 use Rattle.thompson_nfa.specs.Choice.{no_choice}
 use Rattle.thompson_nfa.specs.Compiled.{Grows, Makes, Does}
-use Rattle.thompson_nfa.specs.Added.{Added, Led}
+use Rattle.thompson_nfa.specs.Added.{AddsDraft, Led}
 use Rattle.thompson_nfa.specs.NotedGroups.{with_groups_of}
 use Rattle.thompson_nfa.specs.Refusals.{RefusesFragment, Stays}
 use Rattle.thompson_nfa.specs.Room.{room}
@@ -39,7 +39,7 @@ later_tree {plain} {old} {mid} {new} {k} {s} {n} {e} {kept} {x} m p r le = then_
 -- ---- how far a form has come
 
 -- a choice, a body behind it, and the way to that
-module _ {t0 t1 t2 : Assembly} {u s e n : ℕ} (greedy : Bool) (added : Added t0 t1 u (no_choice greedy) t0.groups)
+module _ {t0 t1 t2 : Assembly} {u s e n : ℕ} (greedy : Bool) (added : AddsDraft t0 t1 u (no_choice greedy) t0.groups)
     (body : Makes t1 t2 s e n) where
   pub choice_body : Progress false t0 t2 (1 + n) 4000
   choice_body = then_made 4000 (choice_first greedy added) body (omega arith)
@@ -49,7 +49,7 @@ module _ {t0 t1 t2 : Assembly} {u s e n : ℕ} (greedy : Bool) (added : Added t0
 
 -- a body, a choice behind it, and the way to that and back
 module _ {t0 t1 t2 : Assembly} {u s e n : ℕ} (greedy : Bool) (body : Makes t0 t1 s e n)
-    (added : Added t1 t2 u (no_choice greedy) t1.groups) where
+    (added : AddsDraft t1 t2 u (no_choice greedy) t1.groups) where
   pub body_choice : Progress false t0 t2 (n + 1) 4000
   body_choice = choice_then greedy (first_made body) added
 
@@ -63,7 +63,7 @@ module _ {t0 t1 t2 : Assembly} {u s e n : ℕ} (greedy : Bool) (body : Makes t0 
 
 -- the same before another choice, an exit, and the ways from that choice
 module _ {t0 t4 t5 t6 : Assembly} {q z n : ℕ} (greedy : Bool) (p : Progress false t0 t4 n 3992)
-    (choice : Added t4 t5 q (no_choice greedy) t4.groups) (exit : Added t5 t6 z (empty_draft 0) t5.groups) where
+    (choice : AddsDraft t4 t5 q (no_choice greedy) t4.groups) (exit : AddsDraft t5 t6 z (empty_draft 0) t5.groups) where
   pub with_exit : Progress false t0 t6 (n + 1 + 1) 4000
   with_exit = empty_then (choice_then greedy p choice) exit
 
@@ -89,7 +89,7 @@ same_starts g = ap (λ (z : Assembly). length z.starts) g.settings
 
 -- a state without a group was added before the tree
 pub groups_behind : {a b : Assembly} {id : ℕ} {draft : DraftNode} {now : Groups} (kept : WhichCaptures) (x : Tree) →
-    Added a b id draft a.groups → now ≡ with_groups_of kept (length b.starts) x b.groups → now ≡ with_groups_of kept (length a.starts) x a.groups
+    AddsDraft a b id draft a.groups → now ≡ with_groups_of kept (length b.starts) x b.groups → now ≡ with_groups_of kept (length a.starts) x a.groups
 groups_behind {a} {b} kept x added is =
     is ∙ ap (λ p. with_groups_of kept p x b.groups) (same_starts added.grows) ∙ ap (with_groups_of kept (length a.starts) x) added.groups_are
 
@@ -149,7 +149,7 @@ none_owed_refused shrink low most greedy x none r =
 
 -- the first of so many rounds that may be passed by
 pub first_round_refused : {t0 t1 new : Assembly} {z : ℕ} {e : BuildError} {kept : WhichCaptures} (shrink : Bool) (most : ℕ) (x : Tree) →
-    0 < most → Added t0 t1 z (empty_draft 0) t0.groups → RefusesFragment kept t1 new (room shrink x + 1) x e →
+    0 < most → AddsDraft t0 t1 z (empty_draft 0) t0.groups → RefusesFragment kept t1 new (room shrink x + 1) x e →
     RefusesFragment kept t0 new (most * (room shrink x + 1) + 1) x e
 first_round_refused shrink most x some exit r =
     later_tree (most * (room shrink x + 1) + 1) (first_added 4000 exit (empty_tame exit) (omega arith)) r

@@ -10,7 +10,7 @@ use Rattle.look_core.specs.declared.look.Look.{Look}
 use Rattle.look_core.specs.Codes.{repr}
 use Rattle.look_core.specs.LookSets.{has_look}
 use Rattle.thompson_nfa.specs.Compiled.{AllComeOut, IsTame, Makes, Does, is_barred, turned, looks_in}
-use Rattle.thompson_nfa.specs.Added.{Added}
+use Rattle.thompson_nfa.specs.Added.{AddsDraft}
 use Rattle.hir_core.specs.Tree.{empty, literal, byte_class, look, never}
 use Rattle.thompson_nfa.proofs.Steps.LookLemmas.{looks_added}
 use Rattle.thompson_nfa.proofs.Walks.DenoteLemmas.{denotes_empty, denotes_never, denotes_look, denotes_range}
@@ -38,7 +38,7 @@ tame_none b draft e known no_match =
     let P : List ℕ → Type 0 = λ names. All (λ k. k < length b.drafts) names in
     record { named = subst P (sym e) (λ k d h. absurd (omega arith)); known = known; not_barred = no_match }
 
-leaf : (old new : Assembly) (id : ℕ) (draft : DraftNode) → Added old new id draft old.groups → draft_bytes draft ≤ 24 →
+leaf : (old new : Assembly) (id : ℕ) (draft : DraftNode) → AddsDraft old new id draft old.groups → draft_bytes draft ≤ 24 →
     is_sparse draft ≡ false →
     IsTame false new draft →
     ((target : ℕ) → (stands_for (patched target draft) ≡ None) ⊎ (stands_for (patched target draft) ≡ Some target)) → Makes old new id id 1
@@ -54,22 +54,22 @@ leaf old new id draft x le kind tame goes =
     (λ (n : stands_for (patched target draft) ≡ Some target). out_next table target id target (ap stands_for is ∙ n) (out_at table target))
     (goes target))))
 
-pub empty_made : (old new : Assembly) (id : ℕ) → Added old new id (empty_draft 0) old.groups → Makes old new id id 1
+pub empty_made : (old new : Assembly) (id : ℕ) → AddsDraft old new id (empty_draft 0) old.groups → Makes old new id id 1
 empty_made old new id x = leaf old new id (empty_draft 0) x (omega arith) refl (tame_one new (empty_draft 0) 0 refl (omega arith) refl refl)
     (λ target. inr refl)
 
-pub fail_made : (old new : Assembly) (id : ℕ) → Added old new id fail_draft old.groups → Makes old new id id 1
+pub fail_made : (old new : Assembly) (id : ℕ) → AddsDraft old new id fail_draft old.groups → Makes old new id id 1
 fail_made old new id x = leaf old new id fail_draft x (omega arith) refl (tame_none new fail_draft refl refl refl) (λ target. inl refl)
 
-pub range_made : (old new : Assembly) (id low high : ℕ) → Added old new id (range_draft low high 0) old.groups → Makes old new id id 1
+pub range_made : (old new : Assembly) (id low high : ℕ) → AddsDraft old new id (range_draft low high 0) old.groups → Makes old new id id 1
 range_made old new id low high x = leaf old new id (range_draft low high 0) x (omega arith) refl
     (tame_one new (range_draft low high 0) 0 refl (omega arith) refl refl) (λ target. inl refl)
 
-pub look_made : (old new : Assembly) (id : ℕ) (l : Look) → Added old new id (look_draft l 0) old.groups → Makes old new id id 1
+pub look_made : (old new : Assembly) (id : ℕ) (l : Look) → AddsDraft old new id (look_draft l 0) old.groups → Makes old new id id 1
 look_made old new id l x = leaf old new id (look_draft l 0) x (omega arith) refl
     (tame_one new (look_draft l 0) 0 refl (omega arith) refl refl) (λ target. inl refl)
 
-pub empty_does : (old new : Assembly) (id : ℕ) → Added old new id (empty_draft 0) old.groups → Does old new id id empty
+pub empty_does : (old new : Assembly) (id : ℕ) → AddsDraft old new id (empty_draft 0) old.groups → Does old new id id empty
 empty_does old new id x =
     record {
       denotes = λ table target fin. denotes_empty old.reverse table id target (fin.led ∙ ap (patched target) x.here);
@@ -77,7 +77,7 @@ empty_does old new id x =
           λ l. looks_added x l;
     }
 
-pub fail_does : (old new : Assembly) (id : ℕ) → Added old new id fail_draft old.groups → Does old new id id never
+pub fail_does : (old new : Assembly) (id : ℕ) → AddsDraft old new id fail_draft old.groups → Does old new id id never
 fail_does old new id x =
     record {
       denotes = λ table target fin. denotes_never old.reverse table id target (fin.led ∙ ap (patched target) x.here);
@@ -85,7 +85,7 @@ fail_does old new id x =
           λ l. looks_added x l;
     }
 
-pub range_does : (old new : Assembly) (id low high : ℕ) → Added old new id (range_draft low high 0) old.groups →
+pub range_does : (old new : Assembly) (id low high : ℕ) → AddsDraft old new id (range_draft low high 0) old.groups →
     Does old new id id (byte_class ((low, high) ∷ []))
 range_does old new id low high x =
     record {
@@ -95,7 +95,7 @@ range_does old new id low high x =
           λ l. looks_added x l;
     }
 
-pub byte_does : (old new : Assembly) (id b : ℕ) → Added old new id (range_draft b b 0) old.groups → Does old new id id (literal (b ∷ []))
+pub byte_does : (old new : Assembly) (id b : ℕ) → AddsDraft old new id (range_draft b b 0) old.groups → Does old new id id (literal (b ∷ []))
 byte_does old new id b x =
     record {
       denotes = λ table target fin. denotes_byte old.reverse table id target b (fin.led ∙ ap (patched target) x.here);
@@ -103,7 +103,7 @@ byte_does old new id b x =
           λ l. looks_added x l;
     }
 
-pub look_does : (old new : Assembly) (id : ℕ) (l m : Look) → m ≡ turned old.reverse l → Added old new id (look_draft m 0) old.groups →
+pub look_does : (old new : Assembly) (id : ℕ) (l m : Look) → m ≡ turned old.reverse l → AddsDraft old new id (look_draft m 0) old.groups →
     Does old new id id (look l)
 look_does old new id l m e x = record {
   denotes = λ table target fin.

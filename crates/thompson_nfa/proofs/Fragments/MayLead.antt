@@ -7,7 +7,7 @@ use Rattle.nfa_core.specs.BuilderStates.{DraftNode, patched, with_group}
 use Rattle.search_types.specs.Groups.{Groups}
 use Rattle.thompson_nfa.specs.Choice.{no_choice}
 use Rattle.thompson_nfa.specs.Compiled.{Makes}
-use Rattle.thompson_nfa.specs.Added.{Added, Led}
+use Rattle.thompson_nfa.specs.Added.{AddsDraft, Led}
 use Rattle.thompson_nfa.proofs.Steps.SizeLemmas.{AddedAt, added_at, MadeAt, made_at}
 use Rattle.thompson_nfa.proofs.Fragments.RepeatLemmas.{choice_kind, no_choice_kind}
 use Rattle.thompson_nfa.proofs.Fragments.OptionLemmas.{Options}
@@ -27,7 +27,7 @@ parts_lead {e = e} first second = record {
 }
 
 -- a choice to the body behind it, and that back, or the choice to a state that was there before
-module _ {t0 t1 t2 : Assembly} {u s e n : ℕ} (greedy : Bool) (added : Added t0 t1 u (no_choice greedy) t0.groups)
+module _ {t0 t1 t2 : Assembly} {u s e n : ℕ} (greedy : Bool) (added : AddsDraft t0 t1 u (no_choice greedy) t0.groups)
     (body : Makes t1 t2 s e n) where
   choice_at : AddedAt t0 t1 u × MadeAt t1 t2 s e
   choice_at = (added_at added, made_at body)
@@ -58,7 +58,7 @@ module _ {t0 t1 t2 : Assembly} {u s e n : ℕ} (greedy : Bool) (added : Added t0
 
 -- a body to the choice behind it, and that back
 module _ {t0 t1 t2 : Assembly} {u s e n : ℕ} (greedy : Bool) (body : Makes t0 t1 s e n)
-    (added : Added t1 t2 u (no_choice greedy) t1.groups) where
+    (added : AddsDraft t1 t2 u (no_choice greedy) t1.groups) where
   body_at : MadeAt t0 t1 s e × AddedAt t1 t2 u
   body_at = (made_at body, added_at added)
 
@@ -78,7 +78,7 @@ module _ {t0 t1 t2 : Assembly} {u s e n : ℕ} (greedy : Bool) (body : Makes t0 
 
   -- the choice once more, behind another one and an exit, to which that was led on
   module _ {t3 t4 t5 t6 : Assembly} {q z : ℕ} (led : Led t2 t3 e u) (back : Led t3 t4 u s)
-      (choice : Added t4 t5 q (no_choice greedy) t4.groups) (exit : Added t5 t6 z (empty_draft 0) t5.groups) where
+      (choice : AddsDraft t4 t5 q (no_choice greedy) t4.groups) (exit : AddsDraft t5 t6 z (empty_draft 0) t5.groups) where
     exit_at : MadeAt t0 t1 s e × AddedAt t1 t2 u × (length t3.drafts ≡ length t2.drafts) × (length t4.drafts ≡ length t3.drafts) ×
         AddedAt t4 t5 q × AddedAt t5 t6 z
     exit_at = (made_at body, added_at added, led.size, back.size, added_at choice, added_at exit)
@@ -110,9 +110,9 @@ module _ {t0 t1 t2 : Assembly} {u s e n : ℕ} (greedy : Bool) (body : Makes t0 
     }
 
 -- the states at both ends of a group
-module _ {t0 t1 t2 t3 : Assembly} {a s e z n p p2 index : ℕ} {groups : Groups} (first : Added t0 t1 a (capture_start_draft p index 0)
+module _ {t0 t1 t2 t3 : Assembly} {a s e z n p p2 index : ℕ} {groups : Groups} (first : AddsDraft t0 t1 a (capture_start_draft p index 0)
     groups)
-    (body : Makes t1 t2 s e n) (last : Added t2 t3 z (capture_end_draft p2 index 0) t2.groups) where
+    (body : Makes t1 t2 s e n) (last : AddsDraft t2 t3 z (capture_end_draft p2 index 0) t2.groups) where
   group_at : AddedAt t0 t1 a × MadeAt t1 t2 s e × AddedAt t2 t3 z
   group_at = (added_at first, made_at body, added_at last)
 
@@ -146,7 +146,7 @@ module _ {old mid : Assembly} {start end z n left low most : ℕ} {greedy : Bool
 
 -- the first two branches
 module _ {t0 t1 t2 t3 t4 : Assembly} {s1 e1 n1 s2 e2 n2 u z : ℕ} (first : Makes t0 t1 s1 e1 n1) (second : Makes t1 t2 s2 e2 n2)
-    (union : Added t2 t3 u (union_draft []) t2.groups) (last : Added t3 t4 z (empty_draft 0) t3.groups) where
+    (union : AddsDraft t2 t3 u (union_draft []) t2.groups) (last : AddsDraft t3 t4 z (empty_draft 0) t3.groups) where
   two_at : MadeAt t0 t1 s1 e1 × MadeAt t1 t2 s2 e2 × AddedAt t2 t3 u × AddedAt t3 t4 z
   two_at = (made_at first, made_at second, added_at union, added_at last)
 

@@ -9,7 +9,7 @@ use Rattle.nfa_core.specs.Drafted.{Table}
 use Rattle.thompson_nfa.specs.Choice.{no_choice}
 use Rattle.thompson_nfa.specs.Denotes.{Denotes, choice}
 use Rattle.thompson_nfa.specs.Compiled.{Finished, AllComeOut, ComesOut, Makes, Does, DoesCopies, DoesOption, looks_in, uses}
-use Rattle.thompson_nfa.specs.Added.{Added, Led}
+use Rattle.thompson_nfa.specs.Added.{AddsDraft, Led}
 use Rattle.thompson_nfa.proofs.Steps.LookLemmas.{quiet_led, quiet_added, quiet_choice, adds_around, left_used, or_none}
 use Rattle.thompson_nfa.proofs.Steps.SizeLemmas.{AddedAt, added_at, MadeAt, made_at, LedAt}
 use Rattle.thompson_nfa.proofs.Steps.OutLemmas.{out_here, out_next, out_at, out_on, all_here, all_join}
@@ -22,7 +22,7 @@ use Rattle.thompson_nfa.proofs.Walks.DenoteLemmas.{denotes_empty}
 use Rattle.thompson_nfa.proofs.Fragments.DoesLemmas.{chosen}
 
 -- one round, which may be passed by
-module _ (t0 t1 t2 t3 t4 : Assembly) (greedy : Bool) (u s e n z : ℕ) (added : Added t0 t1 u (no_choice greedy) t0.groups)
+module _ (t0 t1 t2 t3 t4 : Assembly) (greedy : Bool) (u s e n z : ℕ) (added : AddsDraft t0 t1 u (no_choice greedy) t0.groups)
     (body : Makes t1 t2 s e n) (p3 : Led t2 t3 u s) (p4 : Led t3 t4 u z) (there : z < length t0.drafts) where
   option_sizes : AddedAt t0 t1 u × MadeAt t1 t2 s e × LedAt t2 t3 × LedAt t3 t4
   option_sizes = (added_at added, made_at body, p3.size, p4.size)
@@ -105,7 +105,7 @@ options_at os = (os.progress.partly.grows.longer, os.start_new, os.start_there, 
 
 -- behind copies that are owed
 module _ (t0 t1 t2 : Assembly) (s e n z left min most : ℕ) (greedy : Bool) (x : Tree) (prefix : Makes t0 t1 s e n)
-    (copies : DoesCopies t0 t1 s e min x) (added : Added t1 t2 z (empty_draft 0) t1.groups)
+    (copies : DoesCopies t0 t1 s e min x) (added : AddsDraft t1 t2 z (empty_draft 0) t1.groups)
     (sum : min + left ≡ most) where
   owed_sizes : MadeAt t0 t1 s e × AddedAt t1 t2 z
   owed_sizes = (made_at prefix, added_at added)
@@ -151,7 +151,7 @@ module _ (t0 t1 t2 : Assembly) (s e n z left min most : ℕ) (greedy : Bool) (x 
   }
 
 -- from a first round on
-module _ (t0 t1 t2 : Assembly) (u e n z left most : ℕ) (greedy : Bool) (x : Tree) (added : Added t0 t1 z (empty_draft 0) t0.groups)
+module _ (t0 t1 t2 : Assembly) (u e n z left most : ℕ) (greedy : Bool) (x : Tree) (added : AddsDraft t0 t1 z (empty_draft 0) t0.groups)
     (option : Makes t1 t2 u e n) (does : DoesOption t1 t2 u e z greedy x) (sum : suc left ≡ most) where
   first_sizes : AddedAt t0 t1 z × MadeAt t1 t2 u e
   first_sizes = (added_at added, made_at option)

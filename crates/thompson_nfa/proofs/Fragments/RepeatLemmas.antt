@@ -9,7 +9,7 @@ use Rattle.nfa_core.specs.Drafted.{Table}
 use Rattle.thompson_nfa.specs.Choice.{no_choice}
 use Rattle.thompson_nfa.specs.Denotes.{Denotes, choice}
 use Rattle.thompson_nfa.specs.Compiled.{Grows, Finished, AllComeOut, IsTame, Makes, Does, is_above_zero}
-use Rattle.thompson_nfa.specs.Added.{Added, Led}
+use Rattle.thompson_nfa.specs.Added.{AddsDraft, Led}
 use Rattle.thompson_nfa.proofs.Steps.LookLemmas.{quiet_led, quiet_added, quiet_choice, adds_around}
 use Rattle.thompson_nfa.proofs.Steps.SizeLemmas.{AddedAt, added_at, MadeAt, made_at, LedAt}
 use Rattle.thompson_nfa.proofs.Steps.OutLemmas.{out_here, out_next, out_at, all_here, all_join, all_on}
@@ -40,19 +40,19 @@ pub no_choice_tame : (b : Assembly) (greedy : Bool) → IsTame false b (no_choic
 no_choice_tame b true = tame_none b (no_choice true) refl refl refl
 no_choice_tame b false = tame_none b (no_choice false) refl refl refl
 
-pub empty_tame : {a b : Assembly} {id : ℕ} {draft : DraftNode} {groups : Groups} → Added a b id draft groups →
+pub empty_tame : {a b : Assembly} {id : ℕ} {draft : DraftNode} {groups : Groups} → AddsDraft a b id draft groups →
     IsTame false b (empty_draft 0)
 empty_tame {a} {b} x = tame_one b (empty_draft 0) 0 refl (omega arith) refl refl
 
-pub choice_first : {a b : Assembly} {id : ℕ} {groups : Groups} (greedy : Bool) → Added a b id (no_choice greedy) groups →
+pub choice_first : {a b : Assembly} {id : ℕ} {groups : Groups} (greedy : Bool) → AddsDraft a b id (no_choice greedy) groups →
     Progress false a b 1 4000
 choice_first {a} {b} greedy x = let e = no_choice_bytes greedy in first_added 4000 x (no_choice_tame b greedy) (omega arith)
 
 pub choice_then : {a b c : Assembly} {id n s : ℕ} {groups : Groups} (greedy : Bool) → Progress false a b n s →
-    Added b c id (no_choice greedy) groups → Progress false a c (n + 1) 4000
+    AddsDraft b c id (no_choice greedy) groups → Progress false a c (n + 1) 4000
 choice_then {a} {b} {c} greedy p x = let e = no_choice_bytes greedy in then_added 4000 p x (no_choice_tame c greedy) (omega arith)
 
-pub empty_then : {a b c : Assembly} {id n s : ℕ} {groups : Groups} → Progress false a b n s → Added b c id (empty_draft 0) groups →
+pub empty_then : {a b c : Assembly} {id n s : ℕ} {groups : Groups} → Progress false a b n s → AddsDraft b c id (empty_draft 0) groups →
     Progress false a c (n + 1) 4000
 empty_then p x = then_added 4000 p x (empty_tame x) (omega arith)
 
@@ -62,7 +62,7 @@ reads_as a b table s e x g d = let P : Bool → Type 0 = λ back. Denotes back t
     subst P (ap (λ (z : Assembly). z.reverse) g.settings) d
 
 -- a loop whose body reads
-module _ (t0 t1 t2 t3 t4 : Assembly) (greedy : Bool) (u s e n : ℕ) (added : Added t0 t1 u (no_choice greedy) t0.groups)
+module _ (t0 t1 t2 t3 t4 : Assembly) (greedy : Bool) (u s e n : ℕ) (added : AddsDraft t0 t1 u (no_choice greedy) t0.groups)
     (body : Makes t1 t2 s e n) (led : Led t2 t3 u s) (back : Led t3 t4 e u) where
   star_sizes : AddedAt t0 t1 u × MadeAt t1 t2 s e × LedAt t2 t3 × LedAt t3 t4
   star_sizes = (added_at added, made_at body, led.size, back.size)
@@ -117,7 +117,7 @@ module _ (t0 t1 t2 t3 t4 : Assembly) (greedy : Bool) (u s e n : ℕ) (added : Ad
 
 -- a body, and then a loop
 module _ (t0 t1 t2 t3 t4 : Assembly) (greedy : Bool) (u s e n : ℕ) (body : Makes t0 t1 s e n)
-    (added : Added t1 t2 u (no_choice greedy) t1.groups) (back : Led t2 t3 e u) (led : Led t3 t4 u s) where
+    (added : AddsDraft t1 t2 u (no_choice greedy) t1.groups) (back : Led t2 t3 e u) (led : Led t3 t4 u s) where
   plus_sizes : MadeAt t0 t1 s e × AddedAt t1 t2 u × LedAt t2 t3 × LedAt t3 t4
   plus_sizes = (made_at body, added_at added, back.size, led.size)
 
@@ -169,8 +169,8 @@ module _ (t0 t1 t2 t3 t4 : Assembly) (greedy : Bool) (u s e n : ℕ) (body : Mak
 
 -- a loop whose body may read nothing
 module _ (t0 t1 t2 t3 t4 t5 t6 t7 t8 t9 : Assembly) (greedy : Bool) (s e u q z n : ℕ) (body : Makes t0 t1 s e n)
-    (p1 : Added t1 t2 u (no_choice greedy) t1.groups) (p2 : Led t2 t3 e u) (p3 : Led t3 t4 u s)
-    (p4 : Added t4 t5 q (no_choice greedy) t4.groups) (p5 : Added t5 t6 z (empty_draft 0) t5.groups) (p6 : Led t6 t7 q s)
+    (p1 : AddsDraft t1 t2 u (no_choice greedy) t1.groups) (p2 : Led t2 t3 e u) (p3 : Led t3 t4 u s)
+    (p4 : AddsDraft t4 t5 q (no_choice greedy) t4.groups) (p5 : AddsDraft t5 t6 z (empty_draft 0) t5.groups) (p6 : Led t6 t7 q s)
     (p7 : Led t7 t8 q z) (p8 : Led t8 t9 u z) where
   loop_sizes : MadeAt t0 t1 s e × AddedAt t1 t2 u × LedAt t2 t3 × LedAt t3 t4 × AddedAt t4 t5 q × AddedAt t5 t6 z × LedAt t6 t7 × LedAt t7
       t8 × LedAt t8 t9
@@ -270,8 +270,8 @@ pub other_form : (same some : Bool) (least : Option ℕ) → same ≡ false → 
 other_form same some least apart is none = apart ∙ sym none ∙ is
 
 -- the choice at the start and the state at the end are two
-pub loops_apart : {a b c : Assembly} {q z : ℕ} {draft last : DraftNode} {groups more : Groups} → Added a b q draft groups →
-    Added b c z last more → (q == z) ≡ false
+pub loops_apart : {a b c : Assembly} {q z : ℕ} {draft last : DraftNode} {groups more : Groups} → AddsDraft a b q draft groups →
+    AddsDraft b c z last more → (q == z) ≡ false
 loops_apart {a} {b} {c} {q} {z} x y =
     ⊎_elim (λ (same : (q == z) ≡ true). let e : q ≡ z = eqb-true q z same in absurd (omega (arith, e, x.is, x.size, y.is)))
     (λ other. other) (cases_Bool (q == z))

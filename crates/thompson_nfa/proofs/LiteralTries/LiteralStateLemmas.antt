@@ -13,7 +13,7 @@ use Rattle.nfa_core.specs.CanBuild.{names_of}
 use Rattle.nfa_core.specs.Drafted.{Table}
 use Rattle.nfa_core.specs.Renaming.{stands_for}
 use Rattle.nfa_core.specs.declared.build_error.BuildError.{BuildError}
-use Rattle.thompson_nfa.specs.Added.{Added}
+use Rattle.thompson_nfa.specs.Added.{AddsDraft}
 use Rattle.thompson_nfa.specs.Compiled.{Grows, IsTame, Weighs, sum_of_bytes}
 use Rattle.thompson_nfa.specs.Denotes.{Denotes}
 use Rattle.thompson_nfa.specs.LiteralGroups.{Ascends, LeadWithin}
@@ -155,7 +155,7 @@ module _ (old mid : Assembly) (names : List ℕ) (end : ℕ) (items : List (List
             (denotes_empty_here old.reverse table end));
       }
 
-  module _ (new : Assembly) (id : ℕ) (e : Edge) (es : List Edge) (added : Added mid new id
+  module _ (new : Assembly) (id : ℕ) (e : Edge) (es : List Edge) (added : AddsDraft mid new id
       (sparse_draft (edge_ranges names (e ∷ es))) mid.groups) (names_there : All (λ q. q < length old.drafts) names)
       (inside : LeadWithin 0 (length names) (e ∷ es)) (ascends : Ascends 0 (e ∷ es) 256) where
     abbrev draft : DraftNode
@@ -255,7 +255,7 @@ module _ (old mid : Assembly) (names : List ℕ) (end : ℕ) (items : List (List
   }
 
   module _ (new : Assembly) (id : ℕ) (two : 2 ≤ length ways) (end_there : end < length old.drafts)
-      (added : Added mid new id (union_draft ways) mid.groups) where
+      (added : AddsDraft mid new id (union_draft ways) mid.groups) where
     some_chunk : 1 ≤ chunks_in items
     some_chunk = omega (arith, so_far.ways_long)
 
@@ -433,7 +433,7 @@ module _ {V : Type 0} (items_of : V → List Edge) (rows : List V) (k : ℕ) (ol
       subst P (got_same ways 0 q (omega arith) is) (one_item old mid names end (map items_of rows) ways whole few_rows parted_rows l)
 
   pub rows_union : (new : Assembly) (id n : ℕ) → n ≡ length ways → (n ≡ 1 → ⊥) → end < length old.drafts →
-      Added mid new id (union_draft ways) mid.groups → AddsNode old new names end (map items_of rows) id
+      AddsDraft mid new id (union_draft ways) mid.groups → AddsNode old new names end (map items_of rows) id
   rows_union new id n e ne there added = more_items old mid names end (map items_of rows) ways whole few_rows parted_rows new id
       (two_rows n e ne) there added
 

@@ -7,7 +7,7 @@ use Rattle.nfa_core.specs.BuilderStates.{Assembly, draft_at, range_draft}
 use Rattle.nfa_core.specs.Drafted.{Table}
 use Rattle.nfa_core.specs.Renaming.{stands_for}
 use Rattle.nfa_core.specs.declared.build_error.BuildError.{BuildError}
-use Rattle.thompson_nfa.specs.Added.{Added}
+use Rattle.thompson_nfa.specs.Added.{AddsDraft}
 use Rattle.thompson_nfa.specs.Compiled.{Grows, IsTame}
 use Rattle.thompson_nfa.specs.Denotes.{Denotes}
 use Rattle.thompson_nfa.specs.LiteralStates.{literals}
@@ -45,7 +45,7 @@ module _ (old mid : Assembly) (next : ℕ) (text : List ℕ) (id : ℕ) (so_far 
   id_there = let s = so_far.states in ⊎_elim (λ (e : id ≡ next). omega arith)
       (λ (h : (length old.drafts ≤ id) × (id < length mid.drafts)). h.1) so_far.there
 
-  module _ (new : Assembly) (b id2 : ℕ) (added : Added mid new id2 (range_draft b b id) mid.groups) where
+  module _ (new : Assembly) (b id2 : ℕ) (added : AddsDraft mid new id2 (range_draft b b id) mid.groups) where
     tame : IsTame true new (range_draft b b id)
     tame = tame_one new (range_draft b b id) id refl (omega (arith, id_there, added.size)) refl refl
 
@@ -81,7 +81,7 @@ module _ (old mid : Assembly) (next : ℕ) (text : List ℕ) (id : ℕ) (so_far 
 -- the byte at a place, before those behind it
 module _ (old mid : Assembly) (next : ℕ) (text : List ℕ) (id k m : ℕ) (at : k ≡ m - 1) (some : 1 ≤ m) (within : m ≤ length text)
     (so_far : AddsText old mid next (drop m text) id) (there : next < length old.drafts) where
-  pub text_more : (new : Assembly) (b id2 : ℕ) → get_or text k 0 ≡ b → Added mid new id2 (range_draft b b id) mid.groups →
+  pub text_more : (new : Assembly) (b id2 : ℕ) → get_or text k 0 ≡ b → AddsDraft mid new id2 (range_draft b b id) mid.groups →
       AddsText old new next (drop k text) id2
   text_more new b id2 is added =
       let more : k + 1 ≡ m = omega arith in

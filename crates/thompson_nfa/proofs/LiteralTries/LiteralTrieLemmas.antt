@@ -10,7 +10,7 @@ use Rattle.nfa_core.specs.BuilderStates.{Assembly, draft_at, patched, is_sparse,
 use Rattle.nfa_core.specs.Drafted.{Table}
 use Rattle.nfa_core.specs.Renaming.{stands_for}
 use Rattle.nfa_core.specs.declared.build_error.BuildError.{BuildError}
-use Rattle.thompson_nfa.specs.Added.{Added}
+use Rattle.thompson_nfa.specs.Added.{AddsDraft}
 use Rattle.thompson_nfa.specs.Compiled.{Finished, ComesOut, Makes, Weighs, Does, sum_of_bytes}
 use Rattle.thompson_nfa.specs.Denotes.{Denotes}
 use Rattle.thompson_nfa.specs.LiteralGroups.{bytes_in}
@@ -89,7 +89,7 @@ matches_left [] (suc k) = omega arith
 matches_left (n ∷ nodes) (suc k) = omega (arith, matches_left nodes k)
 
 pub trie_begun : (old mid : Assembly) (end : ℕ) (nodes : List NodeValue) (strings : List (List ℕ)) (names : List ℕ) (k : ℕ) →
-    IsLaidTrie nodes strings → Added old mid end (empty_draft 0) old.groups → length names ≡ length nodes →
+    IsLaidTrie nodes strings → AddsDraft old mid end (empty_draft 0) old.groups → length names ≡ length nodes →
     All (λ q. q ≡ end) names → k ≡ length nodes → TrieTo old mid end nodes strings names k
 trie_begun old mid end nodes strings names k trie added long same past =
     let is = added.is in let size = added.size in

@@ -8,7 +8,7 @@ use Rattle.nfa_core.specs.BuilderStates.{DraftNode, Assembly, draft_at, patched,
 use Rattle.nfa_core.specs.BuilderStates.{capture_start_draft, capture_end_draft, union_draft, union_reverse_draft, fail_draft, match_draft}
 use Rattle.nfa_core.specs.CanBuild.{names_of, is_known}
 use Rattle.thompson_nfa.specs.Compiled.{Grows, IsTame, AllTame, is_match_draft, is_barred, IsReady}
-use Rattle.thompson_nfa.specs.Added.{Added, Led}
+use Rattle.thompson_nfa.specs.Added.{AddsDraft, Led}
 use Rattle.thompson_nfa.specs.declared.which_captures.WhichCaptures.{WhichCaptures}
 
 pub grows_refl : (b : Assembly) → Grows b b
@@ -154,7 +154,7 @@ partly_joined {plain} {a} {b} {c} x y = record {
       (cases_lt q (length b.drafts));
 }
 
-pub partly_added : {plain : Bool} {a b : Assembly} {id : ℕ} {draft : DraftNode} {groups : Groups} → Added a b id draft groups →
+pub partly_added : {plain : Bool} {a b : Assembly} {id : ℕ} {draft : DraftNode} {groups : Groups} → AddsDraft a b id draft groups →
     IsTame plain b draft → Partly plain a b
 partly_added {plain} {a} {b} {id} {draft} {groups} x tame =
     let m = x.size in let n = x.is in

@@ -10,7 +10,7 @@ use Rattle.hir_core.specs.BySequences.{sequence_tree}
 use Rattle.nfa_core.specs.BuilderStates.{DraftNode, empty_draft, range_draft, sparse_draft, look_draft, capture_start_draft}
 use Rattle.nfa_core.specs.BuilderStates.{capture_end_draft, union_draft, union_reverse_draft, fail_draft, match_draft, Assembly, draft_at}
 use Rattle.nfa_core.specs.BuilderStates.{patched}
-use Rattle.thompson_nfa.specs.Added.{Added, Led}
+use Rattle.thompson_nfa.specs.Added.{AddsDraft, Led}
 use Rattle.thompson_nfa.specs.Choice.{no_choice}
 use Rattle.thompson_nfa.specs.Compiled.{Grows, AllTame, is_barred, is_look, looks_in, uses}
 use Rattle.thompson_nfa.specs.LiteralStates.{spelt_literal, literals}
@@ -108,7 +108,7 @@ quiet_led {a} {b} {from} {to} led l =
     (λ (ne : q ≡ from → ⊥). ap (is_look l) (led.same q ne)) (cases_eq q from))
     (λ q h k. absurd (omega arith))
 
-pub looks_added : {a b : Assembly} {id : ℕ} {draft : DraftNode} {groups : Groups} → Added a b id draft groups → (l : Look) →
+pub looks_added : {a b : Assembly} {id : ℕ} {draft : DraftNode} {groups : Groups} → AddsDraft a b id draft groups → (l : Look) →
     looks_in b.drafts l ≡ (looks_in a.drafts l || is_look l draft)
 looks_added {a} {b} {id} {draft} {groups} x l =
     let size = x.size in
@@ -116,12 +116,12 @@ looks_added {a} {b} {id} {draft} {groups} x l =
     ∙ ap (λ (k : ℕ). looks_in a.drafts l || is_look l (draft_at b.drafts k)) (sym x.is)
     ∙ ap (λ (p : DraftNode). looks_in a.drafts l || is_look l p) x.here
 
-pub quiet_added : {a b : Assembly} {id : ℕ} {draft : DraftNode} {groups : Groups} → Added a b id draft groups →
+pub quiet_added : {a b : Assembly} {id : ℕ} {draft : DraftNode} {groups : Groups} → AddsDraft a b id draft groups →
     ((l : Look) → is_look l draft ≡ false) → Quiet a b
 quiet_added {a} {b} {id} {draft} {groups} x none l = looks_added x l ∙ ap (λ (k : Bool). looks_in a.drafts l || k) (none l)
     ∙ or_none (looks_in a.drafts l)
 
-pub quiet_choice : {a b : Assembly} {id : ℕ} {groups : Groups} (greedy : Bool) → Added a b id (no_choice greedy) groups → Quiet a b
+pub quiet_choice : {a b : Assembly} {id : ℕ} {groups : Groups} (greedy : Bool) → AddsDraft a b id (no_choice greedy) groups → Quiet a b
 quiet_choice true x l = quiet_added x (λ k. refl) l
 quiet_choice false x l = quiet_added x (λ k. refl) l
 

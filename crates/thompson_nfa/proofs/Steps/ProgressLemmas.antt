@@ -8,7 +8,7 @@ use Rattle.nfa_core.specs.Drafted.{Table}
 use Rattle.nfa_core.specs.declared.build_error.BuildError.{BuildError}
 use Rattle.nfa_core.specs.declared.build_error.BuildError.TheVariants as error
 use Rattle.thompson_nfa.specs.Compiled.{Grows, Finished, AllComeOut, IsTame, Makes, sum_of_bytes}
-use Rattle.thompson_nfa.specs.Added.{Added, Led}
+use Rattle.thompson_nfa.specs.Added.{AddsDraft, Led}
 use Rattle.thompson_nfa.specs.NotedGroups.{HasGroup}
 use Rattle.thompson_nfa.specs.Refusals.{RefusesStep, RefusesStates, RefusesTree, Stays, RefusesFragment, Quits}
 use Rattle.thompson_nfa.specs.declared.which_captures.WhichCaptures.{WhichCaptures}
@@ -21,7 +21,7 @@ pub record Progress (plain : Bool) (old mid : Assembly) (n spare : ℕ) : Type 0
   pub bytes : sum_of_bytes mid + spare + 4096 * length old.drafts ≤ sum_of_bytes old + 4096 * length mid.drafts
   pub numbered : length mid.drafts ≤ greatest_index + 1
 
-pub first_added : {plain : Bool} {a b : Assembly} {id : ℕ} {draft : DraftNode} {groups : Groups} (spare : ℕ) → Added a b id draft groups →
+pub first_added : {plain : Bool} {a b : Assembly} {id : ℕ} {draft : DraftNode} {groups : Groups} (spare : ℕ) → AddsDraft a b id draft groups →
     IsTame plain b draft → draft_bytes draft + spare ≤ 4096 → Progress plain a b 1 spare
 first_added spare x tame le = record {
   partly = partly_added x tame;
@@ -39,7 +39,7 @@ first_made m = record {
 }
 
 pub then_added : {plain : Bool} {a b c : Assembly} {id n s : ℕ} {draft : DraftNode} {groups : Groups} (spare : ℕ) → Progress plain a b n s →
-    Added b c id draft groups → IsTame plain c draft → draft_bytes draft + spare ≤ s + 4096 →
+    AddsDraft b c id draft groups → IsTame plain c draft → draft_bytes draft + spare ≤ s + 4096 →
     Progress plain a c (n + 1) spare
 then_added spare p x tame le = record {
   partly = partly_joined p.partly (partly_added x tame);

@@ -3,12 +3,12 @@ use Rattle.std.proofs.Common.{◌≡◌, ℕ, ◌+◌, ◌<◌, ◌≤◌, lengt
 use Rattle.search_types.specs.Groups.{Groups}
 use Rattle.nfa_core.specs.BuilderStates.{DraftNode, Assembly}
 use Rattle.thompson_nfa.specs.Compiled.{Makes}
-use Rattle.thompson_nfa.specs.Added.{Added}
+use Rattle.thompson_nfa.specs.Added.{AddsDraft}
 
 abbrev pub AddedAt : Assembly → Assembly → ℕ → Type 0
 AddedAt a b id = (id ≡ length a.drafts) × (length b.drafts ≡ length a.drafts + 1)
 
-pub added_at : {a b : Assembly} {id : ℕ} {draft : DraftNode} {groups : Groups} → Added a b id draft groups → AddedAt a b id
+pub added_at : {a b : Assembly} {id : ℕ} {draft : DraftNode} {groups : Groups} → AddsDraft a b id draft groups → AddedAt a b id
 added_at x = (x.is, x.size)
 
 abbrev pub MadeAt : Assembly → Assembly → ℕ → ℕ → Type 0

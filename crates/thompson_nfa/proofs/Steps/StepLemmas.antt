@@ -17,7 +17,7 @@ use Rattle.nfa_core.specs.BuilderFaults.{unsupported_captures, too_many_patterns
 use Rattle.nfa_core.specs.declared.build_error.BuildError.{BuildError}
 use Rattle.nfa_core.specs.declared.build_error.BuildError.TheVariants as error
 use Rattle.thompson_nfa.specs.Compiled.{sum_of_bytes}
-use Rattle.thompson_nfa.specs.Added.{Added, Led}
+use Rattle.thompson_nfa.specs.Added.{AddsDraft, Led}
 use Rattle.thompson_nfa.specs.Refusals.{RefusesStep, Stays}
 use Rattle.thompson_nfa.proofs.Steps.ByteLemmas.{step_bytes}
 use Rattle.thompson_nfa.proofs.Steps.RoomLemmas.{numbered as room_for}
@@ -125,7 +125,7 @@ draft_last (x ∷ xs) draft = draft_last xs draft
 -- a state that was added, where groups were noted before
 pub added_group : (old new : Assembly) (id : ℕ) (draft : DraftNode) (groups : Groups) → id ≡ length old.drafts →
     new ≡ record (with_draft old draft) { groups = groups } → length old.drafts ≤ greatest_index →
-    ((one : DraftNode) → is_known old.groups one ≡ true → is_known groups one ≡ true) → Added old new id draft groups
+    ((one : DraftNode) → is_known old.groups one ≡ true → is_known groups one ≡ true) → AddsDraft old new id draft groups
 added_group old new id draft groups is e room known =
     let drafts_are : new.drafts ≡ old.drafts ++ draft ∷ [] = ap (λ (b : Assembly). b.drafts) e in
     let groups_are : new.groups ≡ groups = ap (λ (b : Assembly). b.groups) e in
@@ -148,7 +148,7 @@ added_group old new id draft groups is e room known =
     }
 
 pub added_of : (old new : Assembly) (id : ℕ) (draft shown : DraftNode) → id ≡ length old.drafts → new ≡ with_draft old draft →
-    add_fault old draft ≡ None → draft ≡ shown → Added old new id shown old.groups
+    add_fault old draft ≡ None → draft ≡ shown → AddsDraft old new id shown old.groups
 added_of old new id draft shown is e none same =
     added_group old new id shown old.groups is (e ∙ ap (λ one. with_draft old one) same) (room_for old draft none) (λ one k. k)
 

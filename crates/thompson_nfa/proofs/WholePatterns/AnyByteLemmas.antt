@@ -1,10 +1,10 @@
 -- What stands before the patterns, as its states are added one after the other.
 use Rattle.std.proofs.Common.{◌≡◌, ◌≢◌, ℕ, ◌+◌, [], ◌∷◌, length, sym, ap, ◌∙◌, arith}
 use Rattle.nfa_core.specs.BuilderStates.{DraftNode, Assembly, draft_at, patched, empty_draft, sparse_draft, union_reverse_draft}
-use Rattle.thompson_nfa.specs.Added.{Added, Led}
+use Rattle.thompson_nfa.specs.Added.{AddsDraft, Led}
 use Rattle.thompson_nfa.specs.Prefix.{HasPrefix}
 
-pub settings_added : (old new : Assembly) (id : ℕ) (draft : DraftNode) → Added old new id draft old.groups →
+pub settings_added : (old new : Assembly) (id : ℕ) (draft : DraftNode) → AddsDraft old new id draft old.groups →
     new ≡ record old { drafts = new.drafts }
 settings_added old new id draft a = a.grows.settings ∙ ap (λ gs. record old { drafts = new.drafts; groups = gs }) a.groups_are
 
@@ -16,9 +16,9 @@ settings_joined old mid new first second = second ∙ ap (λ (b : Assembly). rec
 apart : (n u e a : ℕ) → u ≡ n → e ≡ n + 1 → a ≡ n + 2 → (u ≢ e) × (e ≢ a) × (u ≢ a)
 apart n u e a is_u is_e is_a = (λ same. omega arith, λ same. omega arith, λ same. omega arith)
 
-pub prefix_of : (b0 b1 b2 b3 b4 b5 : Assembly) (u e a : ℕ) → Added b0 b1 u (union_reverse_draft []) b0.groups →
-    Added b1 b2 e (empty_draft 0) b1.groups →
-    Added b2 b3 a (sparse_draft ((0, 255, e) ∷ [])) b2.groups → Led b3 b4 u a → Led b4 b5 e u → HasPrefix b0 b5 u
+pub prefix_of : (b0 b1 b2 b3 b4 b5 : Assembly) (u e a : ℕ) → AddsDraft b0 b1 u (union_reverse_draft []) b0.groups →
+    AddsDraft b1 b2 e (empty_draft 0) b1.groups →
+    AddsDraft b2 b3 a (sparse_draft ((0, 255, e) ∷ [])) b2.groups → Led b3 b4 u a → Led b4 b5 e u → HasPrefix b0 b5 u
 prefix_of b0 b1 b2 b3 b4 b5 u e a s1 s2 s3 s4 s5 =
     let is_e : e ≡ length b0.drafts + 1 = s2.is ∙ s1.size in
     let is_a : a ≡ length b0.drafts + 2 = omega (arith, s3.is, s2.size, s1.size) in

@@ -11,7 +11,7 @@ use Rattle.nfa_core.specs.BuilderStates.{DraftNode, Assembly, match_draft, draft
 use Rattle.nfa_core.specs.CanBuild.{names_of, is_known}
 use Rattle.nfa_core.specs.Renaming.{stands_for}
 use Rattle.nfa_core.specs.Drafted.{Table}
-use Rattle.thompson_nfa.specs.Added.{Added, Led}
+use Rattle.thompson_nfa.specs.Added.{AddsDraft, Led}
 use Rattle.thompson_nfa.specs.Assembled.{AcceptAll}
 use Rattle.thompson_nfa.specs.Compiled.{IsTame}
 use Rattle.thompson_nfa.specs.NotedGroups.{with_groups_of, noted_from}
@@ -112,7 +112,7 @@ hole_moved which a b ss xs n spare hole out h =
 
 -- a state is added, which is the hole from now on
 pub patterns_added : (which : WhichCaptures) (a b c : Assembly) (ss : List ℕ) (xs : List Tree) (n spare more id : ℕ) (draft : DraftNode) →
-    HasAll which a b ss xs n spare → Added b c id draft b.groups →
+    HasAll which a b ss xs n spare → AddsDraft b c id draft b.groups →
     more + draft_bytes draft ≤ spare + 4096 → ((l : Look) → is_look l draft ≡ false) → HasPatterns which id a c ss xs (n + 1) more
 patterns_added which a b c ss xs n spare more id draft h x le no_look =
     let longer = h.longer in let is = x.is in let size = x.size in

@@ -9,7 +9,7 @@ use Rattle.nfa_core.specs.BuilderStates.{DraftNode, Assembly, match_draft, draft
 use Rattle.nfa_core.specs.CanBuild.{names_of, is_known}
 use Rattle.nfa_core.specs.Renaming.{stands_for}
 use Rattle.nfa_core.specs.Drafted.{Table}
-use Rattle.thompson_nfa.specs.Added.{Added, Led}
+use Rattle.thompson_nfa.specs.Added.{AddsDraft, Led}
 use Rattle.thompson_nfa.specs.Assembled.{AcceptAll}
 use Rattle.thompson_nfa.specs.Compiled.{Finished, Makes, Does, IsTame, is_match_draft, sum_of_bytes}
 use Rattle.thompson_nfa.specs.NotedGroups.{with_groups_of}
@@ -44,7 +44,7 @@ module _ (how : How) (b0 b1 b2 b3 b4 b5 : Assembly) (x : Tree) (s e m : ℕ) (cl
     (begun : b1 ≡ record b0 { is_open = true })
     (made : Makes b1 b2 s e (room how.shrink x + 2)) (does : Does b1 b2 s e (capture 0 None x))
     (noted_here : b2.groups ≡ with_groups_of how.which (length b1.starts) (capture 0 None x) b1.groups)
-    (added : Added b2 b3 m (match_draft (length b2.starts)) b2.groups) (led : Led b3 b4 e m)
+    (added : AddsDraft b2 b3 m (match_draft (length b2.starts)) b2.groups) (led : Led b3 b4 e m)
     (done : b5 ≡ record b4 { starts = b4.starts ++ s ∷ []; is_open = false }) where
   parts_end : b5.drafts ≡ b4.drafts
   parts_end = ap (λ (z : Assembly). z.drafts) done

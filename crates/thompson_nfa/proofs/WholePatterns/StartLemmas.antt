@@ -9,7 +9,7 @@ use Rattle.nfa_core.specs.BuilderStates.{DraftNode, Assembly, empty_draft, spars
 use Rattle.nfa_core.specs.Renaming.{stands_for, going_on, past_within, past, HasNoLoop}
 use Rattle.nfa_core.specs.Drafted.{Table}
 use Rattle.nfa_core.proofs.ForCallers.{past_itself, past_next}
-use Rattle.thompson_nfa.specs.Added.{Added}
+use Rattle.thompson_nfa.specs.Added.{AddsDraft}
 use Rattle.thompson_nfa.specs.Assembled.{ComesBefore}
 use Rattle.thompson_nfa.specs.Compilations.{is_anchored_tree}
 use Rattle.thompson_nfa.specs.Compiled.{past_in, sum_of_bytes, IsTame}
@@ -65,7 +65,7 @@ module _ (reverse : Bool) (xs : List Tree) (b0 b1 b3 : Assembly) (u c : ℕ) (no
     (longer : length b1.drafts ≤ length b3.drafts) (there : c < length b3.drafts)
     (same : (q : ℕ) → q < length b1.drafts → q ≢ u → draft_at b3.drafts q ≡ draft_at b1.drafts q)
     (led : draft_at b3.drafts u ≡ patched c (draft_at b1.drafts u)) (out : Out (draft_at b3.drafts) c) where
-  pub before_empty : list_all (is_anchored_tree reverse) xs ≡ true → Added b0 b1 u (empty_draft 0) b0.groups →
+  pub before_empty : list_all (is_anchored_tree reverse) xs ≡ true → AddsDraft b0 b1 u (empty_draft 0) b0.groups →
       IsBefore reverse xs b0 b1 b3 u c
   before_empty anchored x =
       let is = x.is in let size = x.size in let bytes = x.bytes in

@@ -5,7 +5,7 @@ use Rattle.hir_core.specs.Tree.{Tree}
 use Rattle.nfa_core.specs.BuilderStates.{DraftNode, Assembly, union_draft, fail_draft, draft_at, patched}
 use Rattle.nfa_core.specs.Renaming.{stands_for}
 use Rattle.nfa_core.specs.declared.build_error.BuildError.{BuildError}
-use Rattle.thompson_nfa.specs.Added.{Added, Led}
+use Rattle.thompson_nfa.specs.Added.{AddsDraft, Led}
 use Rattle.thompson_nfa.specs.Choice.{no_choice}
 use Rattle.thompson_nfa.specs.Compiled.{IsTame}
 use Rattle.thompson_nfa.specs.Patterns.{HasPatterns, HasAll, LeadsToPatterns, LeadsToFurther, RefusesPatterns, room_for}
@@ -44,7 +44,7 @@ patterns_wider which hole a b ss xs n m spare less more fewer h = record {
 
 -- ---- no pattern, and one
 
-pub none_compiled : (how : How) (a b : Assembly) (xs : List Tree) (id : ℕ) → length xs ≡ 0 → Added a b id fail_draft a.groups →
+pub none_compiled : (how : How) (a b : Assembly) (xs : List Tree) (id : ℕ) → length xs ≡ 0 → AddsDraft a b id fail_draft a.groups →
     LeadsToPatterns how.which a b id xs (room_for how.shrink xs + 1)
 none_compiled how a b [] id none x =
     let is = x.is in let size = x.size in (
@@ -97,7 +97,7 @@ second_refused how a b xs ys rest x y s e is more h r =
 module _ (how : How) (a b c d e f : Assembly) (x y : Tree) (s t u : ℕ)
     (first : HasAll how.which a b (s ∷ []) (x ∷ []) (room how.shrink x + 3) 4)
     (second : HasAll how.which b c (t ∷ []) (y ∷ []) (room how.shrink y + 3) 4)
-    (added : Added c d u (no_choice true) c.groups) (led : Led d e u s) (led_2 : Led e f u t) where
+    (added : AddsDraft c d u (no_choice true) c.groups) (led : Led d e u s) (led_2 : Led e f u t) where
   two : HasAll how.which a c (s ∷ t ∷ []) (x ∷ y ∷ []) ((room how.shrink x + 3) + (room how.shrink y + 3)) (4 + 4)
   two = let l = first.longer in let m = second.longer in
       patterns_joined how.which (length c.drafts) a b c (s ∷ []) (t ∷ []) (x ∷ []) (y ∷ []) (room how.shrink x + 3)
