@@ -98,7 +98,8 @@ behind_alone : (v : StateValue) (ps : List ℕ) (p : ℕ) → is_listed ps ≡ f
     ≡ nine_with v (is_match (ps ++ p ∷ [])) (is_listed (ps ++ p ∷ [])) ++ pattern_bytes (is_listed (ps ++ p ∷ [])) 0 (ps ++ p ∷ [])
 behind_alone v [] p unlisted matching = cc
 behind_alone v (zero ∷ []) p unlisted matching =
-    ap (λ (f : ℕ). f ∷ ((in_four_bytes v.look_have ++ in_four_bytes v.look_need) ++ (in_four_bytes 0 ++ (in_four_bytes 0 ++ in_four_bytes p))))
+    ap (λ (f : ℕ). f ∷ ((in_four_bytes v.look_have ++ in_four_bytes v.look_need)
+    ++ (in_four_bytes 0 ++ (in_four_bytes 0 ++ in_four_bytes p))))
     (set_listed true false v.is_from_word v.is_half_crlf)
 behind_alone v (suc q ∷ []) p unlisted matching = let never : (suc q == 0) ≡ false = grind arith in let e : true ≡ false =
     (rw never at unlisted) in cc
@@ -152,7 +153,8 @@ module _ (old new : List ℕ) (p : ℕ) (of : IsUnfinished old) (within : p ≤ 
       ∙ behind_alone value value.matches p (unfinished_listed old false of flag) (unfinished_match old true of match_flag)))
 
   pub keeps_first : has_flag (slice_index old 0) 1 ≡ false → (p == 0) ≡ false →
-      new ≡ slice_set (old ++ (in_four_bytes 0 ++ in_four_bytes p)) 0 (bit_or (slice_index (old ++ (in_four_bytes 0 ++ in_four_bytes p)) 0) 3) → Kept
+      new ≡ slice_set (old ++ (in_four_bytes 0 ++ in_four_bytes p)) 0
+      (bit_or (slice_index (old ++ (in_four_bytes 0 ++ in_four_bytes p)) 0) 3) → Kept
   keeps_first match_flag other e =
       keeps (e ∙ (ap (λ (xs : List ℕ). slice_set (xs ++ (in_four_bytes 0 ++ in_four_bytes p)) 0
       (bit_or (slice_index (xs ++ (in_four_bytes 0 ++ in_four_bytes p)) 0) 3)) of.same

@@ -1,5 +1,6 @@
 -- The walk with a stack over the states of an automaton, where some looks are known to hold.
-use Rattle.std.proofs.Common.{◌≡◌, ℕ, zero, suc, ◌+◌, ◌<◌, ◌≤◌, true, false, Bool, List, [], ◌∷◌, ◌++◌, length, drop, refl, sym, ap, ◌∙◌, arith, subst}
+use Rattle.std.proofs.Common.{◌≡◌, ℕ, zero, suc, ◌+◌, ◌<◌, ◌≤◌, true, false, Bool, List, [], ◌∷◌, ◌++◌}
+use Rattle.std.proofs.Common.{length, drop, refl, sym, ap, ◌∙◌, arith, subst}
 use Rattle.std.proofs.Common.{cond, Some, None, append_assoc, append-nil, length-append, not, get_or, length-drop, ◌-◌, ⊎_elim, take}
 use Rattle.std.proofs.lemmas.Bool.{cases_Bool}
 use Rattle.std.proofs.lemmas.List.Sums.{sum_by_push, sum_by-append}
@@ -130,7 +131,8 @@ module _ (a : Automaton) (looks q : ℕ) (stack seen : List ℕ) (before : ℕ) 
       GoesBehind a looks q stack seen before later seen before
   goes_by_stack node later is e =
       let all : later ≡ known_steps a looks q ++ stack = e ∙ ap (λ w. on_nothing w (has_look looks) ++ stack) is in
-      let len : length later ≡ length (known_steps a looks q) + length stack = ap length all ∙ length-append (known_steps a looks q) stack in
+      let len : length later ≡ length (known_steps a looks q) + length stack =
+      ap length all ∙ length-append (known_steps a looks q) stack in
       record {
         walk = λ after v. subst (λ (l : List ℕ). Visits nat_eq (known_steps a looks) l seen after) all v;
         grown = ([], sym (append-nil seen), omega arith);
@@ -187,7 +189,8 @@ module _ (a : Automaton) (looks start : ℕ) (seen : List ℕ) (before : ℕ) wh
           walk = λ after v. stands.walk after (m.1 (known_steps a looks) after (goes.walk after v));
           grown = (
             (stands.grown.0 ++ q ∷ []) ++ goes.grown.0,
-            goes.grown.1 ∙ (ap (λ (l : List ℕ). l ++ goes.grown.0) (met_with q m) ∙ append_assoc seen (stands.grown.0 ++ q ∷ []) goes.grown.0),
+            goes.grown.1 ∙ (ap (λ (l : List ℕ). l ++ goes.grown.0) (met_with q m)
+                ∙ append_assoc seen (stands.grown.0 ++ q ∷ []) goes.grown.0),
             omega (arith, cost, goes.count, goes.grown.2, sum, all, stands.grown.2),
           );
         }

@@ -6,7 +6,8 @@ use Rattle.std.specs.Int.Bits.{bit_or}
 use Rattle.look_core.specs.LookSets.{IsLookSet}
 use Rattle.search_core.specs.Index.{greatest_index}
 use Rattle.determinize_core.specs.States.{StateValue, IsState, last_id}
-use Rattle.determinize_core.specs.StateBytes.{has_flag, first_bytes, in_four_bytes, four_bytes_each, pattern_bytes, id_bytes, groups, zigzag}
+use Rattle.determinize_core.specs.StateBytes.{has_flag, first_bytes, in_four_bytes, four_bytes_each, pattern_bytes}
+use Rattle.determinize_core.specs.StateBytes.{id_bytes, groups, zigzag}
 use Rattle.determinize_core.specs.StateBytes.{is_match, is_listed, encoded, decoded, IsEncoded, unfinished, decoded_unfinished}
 use Rattle.determinize_core.specs.StateBytes.{IsUnfinished}
 use Rattle.determinize_core.proofs.FlagLemmas.{set_word, set_half, listed_back}
@@ -42,7 +43,8 @@ keeps_word old new of e = told_unfinished (record (decoded_unfinished old) { is_
   where
     written : (v : StateValue) → slice_set (unfinished v) 0 (bit_or (slice_index (unfinished v) 0) 4) ≡ unfinished
         (record v { is_from_word = true })
-    written v = ap (λ (f : ℕ). f ∷ ((in_four_bytes v.look_have ++ in_four_bytes v.look_need) ++ pattern_bytes (is_listed v.matches) 0 v.matches))
+    written v =
+        ap (λ (f : ℕ). f ∷ ((in_four_bytes v.look_have ++ in_four_bytes v.look_need) ++ pattern_bytes (is_listed v.matches) 0 v.matches))
         (set_word (is_match v.matches) (is_listed v.matches) v.is_from_word v.is_half_crlf)
 
 pub keeps_half : (old new : List ℕ) → IsUnfinished old → new ≡ slice_set old 0 (bit_or (slice_index old 0) 8) → IsUnfinished new ×
@@ -58,7 +60,8 @@ keeps_half old new of e = told_unfinished (record (decoded_unfinished old) { is_
   where
     written : (v : StateValue) → slice_set (unfinished v) 0 (bit_or (slice_index (unfinished v) 0) 8) ≡ unfinished
         (record v { is_half_crlf = true })
-    written v = ap (λ (f : ℕ). f ∷ ((in_four_bytes v.look_have ++ in_four_bytes v.look_need) ++ pattern_bytes (is_listed v.matches) 0 v.matches))
+    written v =
+        ap (λ (f : ℕ). f ∷ ((in_four_bytes v.look_have ++ in_four_bytes v.look_need) ++ pattern_bytes (is_listed v.matches) 0 v.matches))
         (set_half (is_match v.matches) (is_listed v.matches) v.is_from_word v.is_half_crlf)
 
 -- the looks
@@ -69,7 +72,8 @@ keeps_have_unfinished old new looks of within e = told_unfinished (record (decod
     (record { have = within; need = of.state.need; patterns = of.state.patterns; once = of.state.once; states = of.state.states }) refl
     (e ∙ ap (λ (xs : List ℕ). take 1 xs ++ (in_four_bytes looks ++ drop 5 xs)) of.same)
 
-pub keeps_have : (old new : List ℕ) (looks : ℕ) → IsEncoded old → IsLookSet looks → new ≡ take 1 old ++ (in_four_bytes looks ++ drop 5 old) →
+pub keeps_have : (old new : List ℕ) (looks : ℕ) → IsEncoded old → IsLookSet looks →
+    new ≡ take 1 old ++ (in_four_bytes looks ++ drop 5 old) →
     IsEncoded new × (decoded new ≡ record (decoded old) { look_have = looks })
 keeps_have old new looks of within e = told_encoded (record (decoded old) { look_have = looks }) new (record {
   have = within;
@@ -80,7 +84,8 @@ keeps_have old new looks of within e = told_encoded (record (decoded old) { look
 })
     (e ∙ ap (λ (xs : List ℕ). take 1 xs ++ (in_four_bytes looks ++ drop 5 xs)) of.same)
 
-pub keeps_need : (old new : List ℕ) (looks : ℕ) → IsEncoded old → IsLookSet looks → new ≡ take 5 old ++ (in_four_bytes looks ++ drop 9 old) →
+pub keeps_need : (old new : List ℕ) (looks : ℕ) → IsEncoded old → IsLookSet looks →
+    new ≡ take 5 old ++ (in_four_bytes looks ++ drop 9 old) →
     IsEncoded new × (decoded new ≡ record (decoded old) { look_need = looks })
 keeps_need old new looks of within e = told_encoded (record (decoded old) { look_need = looks }) new (record {
   have = of.state.have;

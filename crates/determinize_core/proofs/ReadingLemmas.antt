@@ -20,7 +20,8 @@ use Rattle.nfa_core.specs.Nfa.{match_node, Automaton, node_at, IsWellFormed}
 use Rattle.nfa_core.specs.NfaValue.{is_capture}
 use Rattle.nfa_core.specs.Ways.{Text, span, reads, with_place, on_byte, on_read, byte_steps, match_of, matched_behind, place_of, bytes_left}
 use Rattle.nfa_core.proofs.ForCallers.{none_in, of_flat_map, names_equal, read_led, option_cases}
-use Rattle.determinize_core.specs.Steps.{unit_steps, pattern_of, pattern_at, reading, patterns_in, is_kept, kept_among, unit_at, unit_behind}
+use Rattle.determinize_core.specs.Steps.{unit_steps, pattern_of, pattern_at, reading, patterns_in, is_kept}
+use Rattle.determinize_core.specs.Steps.{kept_among, unit_at, unit_behind}
 use Rattle.determinize_core.specs.Walked.{cut_of}
 use Rattle.determinize_core.proofs.MadeLemmas.{AreBelow}
 

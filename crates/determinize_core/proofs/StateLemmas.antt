@@ -5,7 +5,8 @@ use Rattle.std.specs.Prelude.{All}
 use Rattle.std.specs.Int.{w32, from_le_bytes}
 use Rattle.std.proofs.lemmas.Nat.{from_le_bytes-to_le_bytes_4}
 use Rattle.std.proofs.Math.Nat.{pow-suc, one-le-pow, mul-le-mul_left}
-use Rattle.determinize_core.specs.StateBytes.{in_four_bytes, four_bytes_each, numbers, zigzag, moved, groups, id_bytes, last_weight, ids_read}
+use Rattle.determinize_core.specs.StateBytes.{in_four_bytes, four_bytes_each, numbers, zigzag, moved, groups}
+use Rattle.determinize_core.specs.StateBytes.{id_bytes, last_weight, ids_read}
 
 -- a number is read back, whatever follows
 pub number_back : (n : ℕ) (rest : List ℕ) → n < 2 ^ 32 → from_le_bytes w32 (in_four_bytes n ++ rest) ≡ n

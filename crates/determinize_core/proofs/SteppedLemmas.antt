@@ -16,7 +16,8 @@ use Rattle.nfa_core.proofs.ForCallers.{looks_any, not_both, has_from_all}
 use Rattle.determinize_core.specs.States.{StateValue, dead}
 use Rattle.determinize_core.specs.StateBytes.{encoded}
 use Rattle.determinize_core.specs.Stepped.{IsStepped, widest}
-use Rattle.determinize_core.specs.Steps.{looks_with, closed, ids_before, patterns_in, states_behind, step_value, behind_of_start, start_value}
+use Rattle.determinize_core.specs.Steps.{looks_with, closed, ids_before, patterns_in, states_behind}
+use Rattle.determinize_core.specs.Steps.{step_value, behind_of_start, start_value}
 use Rattle.determinize_core.specs.declared.start.Start.{Start}
 use Rattle.determinize_core.proofs.CloseAllLemmas.{all_from_below, few_once}
 use Rattle.determinize_core.proofs.LengthLemmas.{length-encoded}

@@ -14,8 +14,10 @@ use Rattle.nfa_core.specs.Ways.{Text, span, is_passed, on_nothing, plain_steps, 
 use Rattle.nfa_core.proofs.ForCallers.{names_equal, stays_closed, place_zero, nothing_same}
 use Rattle.determinize_core.specs.States.{StateValue}
 use Rattle.determinize_core.specs.Starts.{start_of}
-use Rattle.determinize_core.specs.Steps.{known_behind, closed, unit_steps, reading, patterns_in, kept_among, have_if, looks_with, ids_before}
-use Rattle.determinize_core.specs.Steps.{families, states_behind, is_some_kept, behind_of_start, start_value, step_value, unit_at, unit_behind}
+use Rattle.determinize_core.specs.Steps.{known_behind, closed, unit_steps, reading, patterns_in, kept_among}
+use Rattle.determinize_core.specs.Steps.{have_if, looks_with, ids_before}
+use Rattle.determinize_core.specs.Steps.{families, states_behind, is_some_kept, behind_of_start, start_value}
+use Rattle.determinize_core.specs.Steps.{step_value, unit_at, unit_behind}
 use Rattle.determinize_core.specs.Steps.{walk_value}
 use Rattle.determinize_core.specs.Walked.{closed_by, cut_of, walked_lists}
 use Rattle.determinize_core.proofs.KnownStateLemmas.{known-lt, starts_of-lt}

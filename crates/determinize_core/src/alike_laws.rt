@@ -20,7 +20,8 @@ ghost use Rattle.determinize_core.specs.Steps.{step_value, start_value};
 /// Units that an automaton does not tell apart lead from each state to the same state, and a search starts behind them in
 /// the same state.
 pub fn alike_units_step_alike()
-    ensures step { (a : Automaton) (t : Terminator) (kind : MatchKind) (v : StateValue) (u w : Option ℕ) → IsStepped a v → AreUnitsAlike a t u w →
+    ensures step { (a : Automaton) (t : Terminator) (kind : MatchKind) (v : StateValue) (u w : Option ℕ) →
+        IsStepped a v → AreUnitsAlike a t u w →
         step_value a t kind v u ≡ step_value a t kind v w }
     ensures start { (a : Automaton) (t : Terminator) (q : ℕ) (u w : Option ℕ) → AreUnitsAlike a t u w →
         start_value a t (start_of t u) q ≡ start_value a t (start_of t w) q }

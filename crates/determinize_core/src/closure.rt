@@ -31,7 +31,8 @@ pub fn epsilon_closure<S: NameSet, L: Ledger>(
     requires inside { start < length nfa.now.automaton.states }
     requires bound { S.bound set.old ≡ length nfa.now.automaton.states }
     requires empty { stack.old.items ≡ [] }
-    ensures visits { OnOk result (Visits nat_eq (known_steps nfa.now.automaton look_have) (start ∷ []) (S.names set.old) (S.names set.new)) }
+    ensures visits { OnOk result (Visits nat_eq (known_steps nfa.now.automaton look_have)
+        (start ∷ []) (S.names set.old) (S.names set.new)) }
     ensures stack { OnOk result (stack.new.items ≡ []) }
     ensures bound { S.bound set.new ≡ S.bound set.old }
     ensures grows { (more : List ℕ) × (S.names set.new ≡ S.names set.old ++ more) }
@@ -61,7 +62,8 @@ fn follow<S: NameSet, L: Ledger>(
 ) -> Result<(), AllocError>
     requires inside { id < length nfa.now.automaton.states }
     requires bound { S.bound set.old ≡ length nfa.now.automaton.states }
-    ensures goes { OnOk result (GoesBehind nfa.now.automaton look_have id (reverse stack.old.items) (S.names set.old) steps.old (reverse stack.new.items) (S.names set.new) steps.new) }
+    ensures goes { OnOk result (GoesBehind nfa.now.automaton look_have id (reverse stack.old.items) (S.names set.old) steps.old
+        (reverse stack.new.items) (S.names set.new) steps.new) }
     ensures bound { S.bound set.new ≡ S.bound set.old }
     ensures fits { length (S.names set.new) ≤ S.bound set.new }
     ensures grows { AddsLeaves nfa.now.automaton look_have (S.names set.old) (S.names set.new) }

@@ -1,6 +1,7 @@
 ghost use Rattle.std.specs.Prelude.{◌≡◌, ◌||◌};
 ghost use Rattle.nfa_core.specs.NfaValue.{looks_of};
-ghost use Rattle.determinize_core.specs.LookBehind.{families_of, with_if, starts_of, behind_nothing, behind_line, behind_byte, look_behind, with_look_behind};
+ghost use Rattle.determinize_core.specs.LookBehind.{families_of, with_if, starts_of, behind_nothing, behind_line};
+ghost use Rattle.determinize_core.specs.LookBehind.{behind_byte, look_behind, with_look_behind};
 
 use crate::start::Start;
 use crate::state_builder_matches::StateBuilderMatches;
@@ -51,7 +52,8 @@ pub fn look_behind_of_start(nfa: &NFA, start: Start) -> LookBehind
 /// Tells a state that is begun what is known of the place where a search of the automaton starts, as
 /// `regex_automata::util::determinize::set_lookbehind_from_start`.
 pub fn set_lookbehind_from_start(nfa: &NFA, start: &Start, builder: &mut StateBuilderMatches)
-    ensures { builder.new ≡ with_look_behind (look_behind (looks_of nfa.now.automaton.states) nfa.now.automaton.reverse nfa.now.terminator start.now) builder.old }
+    ensures { builder.new ≡ with_look_behind
+        (look_behind (looks_of nfa.now.automaton.states) nfa.now.automaton.reverse nfa.now.terminator start.now) builder.old }
 {
     let behind = look_behind_of_start(nfa, *start);
     set_flags(behind.is_from_word, behind.is_half_crlf, builder);
@@ -60,7 +62,10 @@ pub fn set_lookbehind_from_start(nfa: &NFA, start: &Start, builder: &mut StateBu
 
 /// Sets the flags of a state that is begun that are wanted, and leaves the others.
 pub(crate) fn set_flags(is_from_word: bool, is_half_crlf: bool, builder: &mut StateBuilderMatches)
-    ensures { builder.new ≡ record builder.old { is_from_word = builder.old.is_from_word || is_from_word; is_half_crlf = builder.old.is_half_crlf || is_half_crlf } }
+    ensures { builder.new ≡ record builder.old {
+      is_from_word = builder.old.is_from_word || is_from_word;
+      is_half_crlf = builder.old.is_half_crlf || is_half_crlf;
+    } }
 {
     if is_from_word {
         builder.set_is_from_word();

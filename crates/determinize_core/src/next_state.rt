@@ -1,11 +1,13 @@
-ghost use Rattle.std.specs.Prelude.{◌≡◌, ◌+◌, ◌*◌, ◌<◌, ◌≤◌, ◌&&◌, ◌||◌, [], length, All, OnOk, IfOk, ℕ, List, ◌++◌, drop, IfSome, Some, option_to_list};
+ghost use Rattle.std.specs.Prelude.{◌≡◌, ◌+◌, ◌*◌, ◌<◌, ◌≤◌, ◌&&◌, ◌||◌, [], length, All, OnOk, IfOk};
+ghost use Rattle.std.specs.Prelude.{ℕ, List, ◌++◌, drop, IfSome, Some, option_to_list};
 ghost use Rattle.std.specs.Bool.{nat_eq};
 ghost use Rattle.std.specs.Int.{is_in_range};
 ghost use Rattle.std.specs.List.{IsDistinct, flat_map};
 ghost use Rattle.search_core.specs.Units.{unit_byte};
 ghost use Rattle.look_core.specs.Looks.{byte_side, is_word, is_byte};
 ghost use Rattle.determinize_core.specs.Costs.{free_ways, known_ways};
-ghost use Rattle.determinize_core.specs.Steps.{families, first_half, gains, ids_before, known_before, states_behind, begun, step_value, closed, is_some_kept, known_steps, pattern_at, patterns_in, reading, unit_steps};
+ghost use Rattle.determinize_core.specs.Steps.{families, first_half, gains, ids_before, known_before, states_behind, begun, step_value};
+ghost use Rattle.determinize_core.specs.Steps.{closed, is_some_kept, known_steps, pattern_at, patterns_in, reading, unit_steps};
 ghost use Rattle.nfa_core.specs.Walks.{distinct, Visits};
 ghost use Rattle.determinize_core.specs.Added.{listed_with, stops};
 ghost use Rattle.nfa_core.specs.States.{node_of};
@@ -89,8 +91,12 @@ fn step_all<S: NameSet, L: Ledger>(
     requires once { IsDistinct nat_eq state.now.ids }
     requires empty { stack.old.items ≡ [] }
     requires matches { builder.old.matches ≡ [] }
-    ensures matches { OnOk result (builder.new ≡ record builder.old { matches = patterns_in kind nfa.now.automaton (ids_before nfa.now.automaton nfa.now.terminator state.now (unit_byte unit)) }) }
-    ensures closed { OnOk result (S.names sets.new.set2 ≡ closed nfa.now.automaton looks (flat_map (unit_steps nfa.now.automaton (unit_byte unit)) (reading kind nfa.now.automaton (ids_before nfa.now.automaton nfa.now.terminator state.now (unit_byte unit))))) }
+    ensures matches { OnOk result (builder.new ≡ record builder.old {
+      matches = patterns_in kind nfa.now.automaton (ids_before nfa.now.automaton nfa.now.terminator state.now (unit_byte unit));
+    }) }
+    ensures closed { OnOk result (S.names sets.new.set2 ≡
+        closed nfa.now.automaton looks (flat_map (unit_steps nfa.now.automaton (unit_byte unit))
+        (reading kind nfa.now.automaton (ids_before nfa.now.automaton nfa.now.terminator state.now (unit_byte unit))))) }
     ensures stack { OnOk result (stack.new.items ≡ []) }
     ensures bound1 { S.bound sets.new.set1 ≡ length nfa.now.automaton.states }
     ensures bound2 { S.bound sets.new.set2 ≡ length nfa.now.automaton.states }
@@ -177,7 +183,8 @@ fn states_before<S: NameSet, L: Ledger>(
 fn tell_unit(nfa: &NFA, unit: Unit, is_some: bool, builder: &mut StateBuilderMatches)
     ensures { builder.new ≡ record builder.old {
       is_from_word = builder.old.is_from_word || ((families nfa.now.automaton).words && (is_word (byte_side (unit_byte unit)) && is_some));
-      is_half_crlf = builder.old.is_half_crlf || ((families nfa.now.automaton).crlf && (is_byte (first_half nfa.now.automaton.reverse) (unit_byte unit) && is_some));
+      is_half_crlf = builder.old.is_half_crlf
+          || ((families nfa.now.automaton).crlf && (is_byte (first_half nfa.now.automaton.reverse) (unit_byte unit) && is_some));
     } }
 {
     let families = Families::of(nfa.look_set_any());
@@ -258,7 +265,9 @@ pub(crate) fn step_each<S: NameSet, L: Ledger>(
     requires empty { stack.old.items ≡ [] }
     requires matches { builder.old.matches ≡ [] }
     ensures matches { OnOk result (builder.new ≡ record builder.old { matches = patterns_in kind nfa.now.automaton (S.names from.now) }) }
-    ensures closed { OnOk result (S.names set.new ≡ closed nfa.now.automaton looks (flat_map (unit_steps nfa.now.automaton (unit_byte unit)) (reading kind nfa.now.automaton (S.names from.now)))) }
+    ensures closed { OnOk result (S.names set.new ≡
+        closed nfa.now.automaton looks (flat_map (unit_steps nfa.now.automaton (unit_byte unit))
+        (reading kind nfa.now.automaton (S.names from.now)))) }
     ensures stack { OnOk result (stack.new.items ≡ []) }
     ensures bound { S.bound set.new ≡ S.bound set.old }
     ensures cost { steps.new ≤ steps.old + length nfa.now.automaton.states + free_ways nfa.now.automaton }
@@ -296,7 +305,9 @@ fn step_ids<S: NameSet, L: Ledger>(
     requires empty { stack.old.items ≡ [] }
     requires matches { builder.old.matches ≡ [] }
     ensures matches { OnOk result (builder.new ≡ record builder.old { matches = patterns_in kind nfa.now.automaton state.now.ids }) }
-    ensures closed { OnOk result (S.names set.new ≡ closed nfa.now.automaton looks (flat_map (unit_steps nfa.now.automaton (unit_byte unit)) (reading kind nfa.now.automaton state.now.ids))) }
+    ensures closed { OnOk result (S.names set.new ≡
+        closed nfa.now.automaton looks (flat_map (unit_steps nfa.now.automaton (unit_byte unit))
+        (reading kind nfa.now.automaton state.now.ids))) }
     ensures stack { OnOk result (stack.new.items ≡ []) }
     ensures bound { S.bound set.new ≡ S.bound set.old }
     ensures cost { steps.new ≤ steps.old + length nfa.now.automaton.states + free_ways nfa.now.automaton }
@@ -324,7 +335,8 @@ fn list_match(
     builder: &mut StateBuilderMatches,
 ) -> Result<bool, AllocError>
     requires { id < length nfa.now.automaton.states }
-    ensures listed { OnOk result (builder.new ≡ record builder.old { matches = listed_with (pattern_at nfa.now.automaton id) builder.old.matches }) }
+    ensures listed { OnOk result (builder.new ≡
+        record builder.old { matches = listed_with (pattern_at nfa.now.automaton id) builder.old.matches }) }
     ensures stops { IfOk result (λ last. last ≡ stops kind (pattern_at nfa.now.automaton id)) }
 {
     let Some(pattern) = pattern_at(nfa, id) else {
@@ -359,7 +371,8 @@ fn close_target<S: NameSet, L: Ledger>(
     requires inside { id < length nfa.now.automaton.states }
     requires bound { S.bound set.old ≡ length nfa.now.automaton.states }
     requires empty { stack.old.items ≡ [] }
-    ensures visits { OnOk result (Visits nat_eq (known_steps nfa.now.automaton looks) (unit_steps nfa.now.automaton (unit_byte unit) id) (S.names set.old) (S.names set.new)) }
+    ensures visits { OnOk result (Visits nat_eq (known_steps nfa.now.automaton looks) (unit_steps nfa.now.automaton (unit_byte unit) id)
+        (S.names set.old) (S.names set.new)) }
     ensures stack { OnOk result (stack.new.items ≡ []) }
     ensures bound { S.bound set.new ≡ S.bound set.old }
     ensures grows { (more : List ℕ) × (S.names set.new ≡ S.names set.old ++ more) }

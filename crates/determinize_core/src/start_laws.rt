@@ -29,7 +29,8 @@ pub fn what_is_known_forward_is_true()
     ensures looks { (looks : ℕ) (t : Terminator) (h : List ℕ) (l : Look) (i : ℕ) → i ≤ length h →
         has_look (look_behind looks false t (start_of t (byte_before h i))).look_have l ≡ true → holds_ascii t h l i ≡ true }
     ensures word { (looks : ℕ) (t : Terminator) (h : List ℕ) (i : ℕ) →
-        (look_behind looks false t (start_of t (byte_before h i))).is_from_word ≡ true → IsSomeAnd (byte_before h i) (λ b. is_word_byte b ≡ true) }
+        (look_behind looks false t (start_of t (byte_before h i))).is_from_word ≡ true →
+        IsSomeAnd (byte_before h i) (λ b. is_word_byte b ≡ true) }
     ensures half { (looks : ℕ) (t : Terminator) (h : List ℕ) (i : ℕ) →
         (look_behind looks false t (start_of t (byte_before h i))).is_half_crlf ≡ true → byte_before h i ≡ Some 0x0D }
 {}
@@ -49,10 +50,12 @@ pub fn what_is_known_in_reverse_is_true()
 /// has: whether the place is a start of the haystack, of a line, or behind no word; whether a line starts
 /// there by a line feed alone; and which half of a pair and whether a word byte stands there.
 pub fn what_is_decided_forward_is_known()
-    ensures looks { (looks : ℕ) (t : Terminator) (h : List ℕ) (l : Look) (i : ℕ) → i ≤ length h → is_decided l ≡ true → has_look looks l ≡ true →
+    ensures looks { (looks : ℕ) (t : Terminator) (h : List ℕ) (l : Look) (i : ℕ) → i ≤ length h →
+        is_decided l ≡ true → has_look looks l ≡ true →
         has_look (look_behind looks false t (start_of t (byte_before h i))).look_have l ≡ holds_ascii t h l i }
     ensures crlf { (looks : ℕ) (t : Terminator) (h : List ℕ) (i : ℕ) → i ≤ length h → has_any is_anchor_crlf looks ≡ true →
-        has_look (look_behind looks false t (start_of t (byte_before h i))).look_have StartCRLF ≡ ((i == 0) || is_byte 0x0A (byte_before h i)) }
+        has_look (look_behind looks false t (start_of t (byte_before h i))).look_have StartCRLF ≡
+        ((i == 0) || is_byte 0x0A (byte_before h i)) }
     ensures half { (looks : ℕ) (t : Terminator) (h : List ℕ) (i : ℕ) → has_any is_anchor_crlf looks ≡ true →
         (look_behind looks false t (start_of t (byte_before h i))).is_half_crlf ≡ is_byte 0x0D (byte_before h i) }
     ensures word { (looks : ℕ) (t : Terminator) (h : List ℕ) (i : ℕ) → has_any is_word_look looks ≡ true →
@@ -62,10 +65,12 @@ pub fn what_is_decided_forward_is_known()
 /// In reverse, all that is decided by the byte behind a place is known of the looks that the automaton has,
 /// each of which stands for its reverse.
 pub fn what_is_decided_in_reverse_is_known()
-    ensures looks { (looks : ℕ) (t : Terminator) (h : List ℕ) (l : Look) (i : ℕ) → i ≤ length h → is_decided l ≡ true → has_look looks l ≡ true →
+    ensures looks { (looks : ℕ) (t : Terminator) (h : List ℕ) (l : Look) (i : ℕ) → i ≤ length h →
+        is_decided l ≡ true → has_look looks l ≡ true →
         has_look (look_behind looks true t (start_of t (byte_at h i))).look_have l ≡ holds_ascii t h (reversed l) i }
     ensures crlf { (looks : ℕ) (t : Terminator) (h : List ℕ) (i : ℕ) → i ≤ length h → has_any is_anchor_crlf looks ≡ true →
-        has_look (look_behind looks true t (start_of t (byte_at h i))).look_have StartCRLF ≡ ((i == length h) || is_byte 0x0D (byte_at h i)) }
+        has_look (look_behind looks true t (start_of t (byte_at h i))).look_have StartCRLF ≡
+        ((i == length h) || is_byte 0x0D (byte_at h i)) }
     ensures half { (looks : ℕ) (t : Terminator) (h : List ℕ) (i : ℕ) → has_any is_anchor_crlf looks ≡ true →
         (look_behind looks true t (start_of t (byte_at h i))).is_half_crlf ≡ is_byte 0x0A (byte_at h i) }
     ensures word { (looks : ℕ) (t : Terminator) (h : List ℕ) (i : ℕ) → has_any is_word_look looks ≡ true →
@@ -77,5 +82,6 @@ pub fn what_is_decided_in_reverse_is_known()
 pub fn states_with_what_is_known_are_states()
     ensures set { (looks : ℕ) (reverse : Bool) (t : Terminator) (s : Start) → IsLookSet (look_behind looks reverse t s).look_have }
     ensures state { (b : LookBehind) (v : StateValue) → IsLookSet b.look_have → IsState v → IsState (with_look_behind b v) }
-    ensures fresh { (b : LookBehind) → with_look_behind b dead ≡ record dead { is_from_word = b.is_from_word; is_half_crlf = b.is_half_crlf; look_have = b.look_have } }
+    ensures fresh { (b : LookBehind) → with_look_behind b dead ≡
+        record dead { is_from_word = b.is_from_word; is_half_crlf = b.is_half_crlf; look_have = b.look_have } }
 {}

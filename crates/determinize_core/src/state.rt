@@ -145,7 +145,8 @@ impl State {
 
     /// The patterns that match, in order of preference, and `None` where none does, which takes no memory.
     pub fn match_pattern_ids(&self, alloc: Global) -> Result<Option<Vec<PatternID>>, AllocError>
-        ensures value { IfOk result (λ ids. MatchOption ids (self.now.matches ≡ []) (λ ps. (ps.items ≡ self.now.matches) × (is_match self.now.matches ≡ true))) }
+        ensures value { IfOk result (λ ids. MatchOption ids (self.now.matches ≡ [])
+            (λ ps. (ps.items ≡ self.now.matches) × (is_match self.now.matches ≡ true))) }
         ensures none { self.now.matches ≡ [] → IsOk result }
     {
         if !self.is_match() {
@@ -218,7 +219,8 @@ impl Ord for State {
 impl Hash for State {
     ghost hash_input = { λ s. fed.usize (length (encoded s)) ++ encoded s ∷ [] };
 
-    ghost respects_eq = { λ x y h. ap (λ (bytes : List ℕ). fed.usize (length bytes) ++ bytes ∷ []) ((bytes_eq-Decides (encoded x) (encoded y)).0 h) };
+    ghost respects_eq = { λ x y h. ap (λ (bytes : List ℕ). fed.usize (length bytes) ++ bytes ∷ [])
+        ((bytes_eq-Decides (encoded x) (encoded y)).0 h) };
 
     // All in one write, as the Rust crate's: a hasher takes sixteen bytes at once of it, and a byte of single ones.
     fn hash<H: Hasher>(&self, state: &mut H) {

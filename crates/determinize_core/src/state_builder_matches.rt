@@ -161,7 +161,8 @@ impl StateBuilderMatches {
 fn add_pattern(bytes: &mut Vec<u8>, pid: PatternID) -> Result<(), AllocError>
     requires form { IsUnfinished bytes.old.items }
     requires absent { list_any (nat_eq pid) (decoded_unfinished bytes.old.items).matches ≡ false }
-    ensures ok { OnOk result (IsUnfinished bytes.new.items × (decoded_unfinished bytes.new.items ≡ with_match (decoded_unfinished bytes.old.items) pid)) }
+    ensures ok { OnOk result (IsUnfinished bytes.new.items ×
+        (decoded_unfinished bytes.new.items ≡ with_match (decoded_unfinished bytes.old.items) pid)) }
     ensures err { OnErr result (bytes.new.items ≡ bytes.old.items) }
     ensures first { (decoded_unfinished bytes.old.items).matches ≡ [] → pid ≡ 0 → IsOk result }
 {

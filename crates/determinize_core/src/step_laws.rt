@@ -29,14 +29,16 @@ pub fn dead_states_stay_dead()
 /// A state in which a search starts lists no match, and under leftmost-first a step lists one at most.
 pub fn steps_list_few_matches()
     ensures start { (a : Automaton) (t : Terminator) (s : Start) (q : ℕ) → (start_value a t s q).matches ≡ [] }
-    ensures leftmost { (a : Automaton) (t : Terminator) (v : StateValue) (u : Option ℕ) → length (step_value a t LeftmostFirst v u).matches ≤ 1 }
+    ensures leftmost { (a : Automaton) (t : Terminator) (v : StateValue) (u : Option ℕ) →
+        length (step_value a t LeftmostFirst v u).matches ≤ 1 }
 {}
 
 /// A step may be made from what starts and steps come to: their states are those of the automaton, none twice.
 pub fn steps_come_to_states_of_the_automaton()
     ensures below { (a : Automaton) (t : Terminator) (kind : MatchKind) (v : StateValue) (u : Option ℕ) → IsWellFormed a →
         All (λ q. q < length a.states) (step_value a t kind v u).ids }
-    ensures once { (a : Automaton) (t : Terminator) (kind : MatchKind) (v : StateValue) (u : Option ℕ) → IsDistinct nat_eq (step_value a t kind v u).ids }
+    ensures once { (a : Automaton) (t : Terminator) (kind : MatchKind) (v : StateValue) (u : Option ℕ) →
+        IsDistinct nat_eq (step_value a t kind v u).ids }
     ensures start_below { (a : Automaton) (t : Terminator) (s : Start) (q : ℕ) → IsWellFormed a → q < length a.states →
         All (λ r. r < length a.states) (start_value a t s q).ids }
     ensures start_once { (a : Automaton) (t : Terminator) (s : Start) (q : ℕ) → IsDistinct nat_eq (start_value a t s q).ids }
@@ -44,6 +46,7 @@ pub fn steps_come_to_states_of_the_automaton()
 
 /// What starts and steps come to is a state.
 pub fn steps_come_to_states()
-    ensures step { (a : Automaton) (t : Terminator) (kind : MatchKind) (v : StateValue) (u : Option ℕ) → IsSound a → IsState (step_value a t kind v u) }
+    ensures step { (a : Automaton) (t : Terminator) (kind : MatchKind) (v : StateValue) (u : Option ℕ) → IsSound a →
+        IsState (step_value a t kind v u) }
     ensures start { (a : Automaton) (t : Terminator) (s : Start) (q : ℕ) → IsSound a → q < length a.states → IsState (start_value a t s q) }
 {}

@@ -20,8 +20,10 @@ ghost use Rattle.determinize_core.specs.declared.start.Start.{Start};
 /// What starts and steps come to is made of the automaton's states, patterns and looks, none twice, and so is the dead
 /// state. So a step may be made from it.
 pub fn starts_and_steps_are_stepped()
-    ensures step { (a : Automaton) (t : Terminator) (kind : MatchKind) (v : StateValue) (u : Option ℕ) → IsSound a → IsStepped a (step_value a t kind v u) }
-    ensures start { (a : Automaton) (t : Terminator) (s : Start) (q : ℕ) → IsSound a → q < length a.states → IsStepped a (start_value a t s q) }
+    ensures step { (a : Automaton) (t : Terminator) (kind : MatchKind) (v : StateValue) (u : Option ℕ) → IsSound a →
+        IsStepped a (step_value a t kind v u) }
+    ensures start { (a : Automaton) (t : Terminator) (s : Start) (q : ℕ) → IsSound a → q < length a.states →
+        IsStepped a (start_value a t s q) }
     ensures dead { (a : Automaton) → IsStepped a dead }
 {}
 

@@ -33,10 +33,13 @@ pub fn walked_lists_are_lists()
 /// A powerset state's states, closed anew by what the unit behind them decides, are the states of the walk
 /// under all looks, but for captures. So the state behind the unit lists the patterns that match in these.
 pub fn states_are_those_of_the_walk_under_all_looks()
-    ensures states { (kind : MatchKind) (a : Automaton) (t : Terminator) (h : List ℕ) (s i e q k : ℕ) → IsWellFormed a → i ≤ e → e ≤ length h →
+    ensures states { (kind : MatchKind) (a : Automaton) (t : Terminator) (h : List ℕ) (s i e q k : ℕ) →
+        IsWellFormed a → i ≤ e → e ≤ length h →
         q < length a.states → k ≤ bytes_left a.reverse (span t h s e) i →
-        kept_among a (ids_before a t (walk_value a t kind h i q k) (unit_at a.reverse h (place_of a.reverse i k))) ≡ kept_among a (walked_lists kind a (span t h s e) i q k) }
-    ensures matches { (kind : MatchKind) (a : Automaton) (t : Terminator) (h : List ℕ) (s i e q k : ℕ) → IsWellFormed a → i ≤ e → e ≤ length h →
+        kept_among a (ids_before a t (walk_value a t kind h i q k) (unit_at a.reverse h (place_of a.reverse i k))) ≡
+        kept_among a (walked_lists kind a (span t h s e) i q k) }
+    ensures matches { (kind : MatchKind) (a : Automaton) (t : Terminator) (h : List ℕ) (s i e q k : ℕ) →
+        IsWellFormed a → i ≤ e → e ≤ length h →
         q < length a.states → k ≤ bytes_left a.reverse (span t h s e) i →
         (walk_value a t kind h i q (suc k)).matches ≡ patterns_in kind a (walked_lists kind a (span t h s e) i q k) }
 {}
@@ -53,10 +56,12 @@ pub fn all_ends_are_listed()
 /// Under leftmost-first the last state that lists a match tells of the first end of runs, which is that of the
 /// most preferred one.
 pub fn the_last_listed_match_is_the_first_end()
-    ensures preferred { (a : Automaton) (t : Terminator) (h : List ℕ) (s i e q : ℕ) → IsWellFormed a → i ≤ e → e ≤ length h → q < length a.states →
+    ensures preferred { (a : Automaton) (t : Terminator) (h : List ℕ) (s i e q : ℕ) → IsWellFormed a → i ≤ e →
+        e ≤ length h → q < length a.states →
         IsMostPreferred same_pair (ways a (span t h s e)) (matched a) (i, q)
         (latest_listed (walk_value a t LeftmostFirst h i q) (place_of a.reverse i) (bytes_left a.reverse (span t h s e) i) 0) }
-    ensures first { (a : Automaton) (t : Terminator) (h : List ℕ) (s i e q : ℕ) → IsWellFormed a → i ≤ e → e ≤ length h → q < length a.states →
+    ensures first { (a : Automaton) (t : Terminator) (h : List ℕ) (s i e q : ℕ) → IsWellFormed a → i ≤ e →
+        e ≤ length h → q < length a.states →
         latest_listed (walk_value a t LeftmostFirst h i q) (place_of a.reverse i) (bytes_left a.reverse (span t h s e) i) 0 ≡
         first (ends_from a (span t h s e) (i, q)) }
 {}
@@ -66,11 +71,14 @@ pub fn the_last_listed_match_is_the_first_end()
 /// state lists a pattern.
 pub fn one_state_tells_of_the_first_end()
     ensures one { (a : Automaton) (t : Terminator) (h : List ℕ) (i q k : ℕ) → length (walk_value a t LeftmostFirst h i q k).matches ≤ 1 }
-    ensures some { (a : Automaton) (t : Terminator) (h : List ℕ) (s i e q : ℕ) → IsWellFormed a → i ≤ e → e ≤ length h → q < length a.states →
+    ensures some { (a : Automaton) (t : Terminator) (h : List ℕ) (s i e q : ℕ) → IsWellFormed a → i ≤ e →
+        e ≤ length h → q < length a.states →
         (j p : ℕ) → first (ends_from a (span t h s e) (i, q)) ≡ Some (j, p) →
-        (k : ℕ) × (k ≤ bytes_left a.reverse (span t h s e) i) × (j ≡ place_of a.reverse i k) × ((walk_value a t LeftmostFirst h i q (suc k)).matches ≡ p ∷ []) ×
+        (k : ℕ) × (k ≤ bytes_left a.reverse (span t h s e) i) × (j ≡ place_of a.reverse i k) ×
+        ((walk_value a t LeftmostFirst h i q (suc k)).matches ≡ p ∷ []) ×
         ((m : ℕ) → k < m → m ≤ bytes_left a.reverse (span t h s e) i → (walk_value a t LeftmostFirst h i q (suc m)).matches ≡ []) }
-    ensures none { (a : Automaton) (t : Terminator) (h : List ℕ) (s i e q : ℕ) → IsWellFormed a → i ≤ e → e ≤ length h → q < length a.states →
+    ensures none { (a : Automaton) (t : Terminator) (h : List ℕ) (s i e q : ℕ) → IsWellFormed a → i ≤ e →
+        e ≤ length h → q < length a.states →
         first (ends_from a (span t h s e) (i, q)) ≡ None →
         (k : ℕ) → k ≤ bytes_left a.reverse (span t h s e) i → (walk_value a t LeftmostFirst h i q (suc k)).matches ≡ [] }
 {}
@@ -86,7 +94,8 @@ pub fn walks_depend_on_what_they_read()
 /// A walk over bytes behind a byte, or at the edge, is the walk over a haystack that has them there and no more, from
 /// the place where they begin for one who reads forward, or in reverse.
 pub fn walks_go_over_haystacks()
-    ensures states { (a : Automaton) (t : Terminator) (kind : MatchKind) (q : ℕ) (behind : Option ℕ) (bytes : List ℕ) (k : ℕ) → k ≤ length bytes + 1 →
+    ensures states { (a : Automaton) (t : Terminator) (kind : MatchKind) (q : ℕ) (behind : Option ℕ) (bytes : List ℕ) (k : ℕ) →
+        k ≤ length bytes + 1 →
         slice_get (walked a t kind (start_value a t (start_of t behind) q) (units_of bytes)) k ≡
         Some (walk_value a t kind (haystack_of a.reverse behind bytes) (walk_start a.reverse behind bytes) q k) }
     ensures len { (a : Automaton) (t : Terminator) (kind : MatchKind) (q : ℕ) (behind : Option ℕ) (bytes : List ℕ) →
@@ -98,7 +107,8 @@ pub fn walks_go_over_haystacks()
 /// Under leftmost-first a state lists one pattern at most: where there is a run, the state behind the unit at the end of
 /// the most preferred one lists its pattern, and no later one lists any; where there is none, no state does.
 pub fn walks_list_what_runs_find()
-    ensures all { (a : Automaton) (t : Terminator) (q : ℕ) (behind : Option ℕ) (bytes : List ℕ) (states : List StateValue) → IsWellFormed a → q < length a.states →
+    ensures all { (a : Automaton) (t : Terminator) (q : ℕ) (behind : Option ℕ) (bytes : List ℕ) (states : List StateValue) →
+        IsWellFormed a → q < length a.states →
         states ≡ walked a t AllMatches (start_value a t (start_of t behind) q) (units_of bytes) →
         (k : ℕ) (v : StateValue) → slice_get states (suc k) ≡ Some v →
         v.matches ≡ map (λ (x : ℕ × ℕ). x.1) (filter (λ x. nat_eq x.0 (place_of a.reverse (walk_start a.reverse behind bytes) k))
@@ -106,12 +116,15 @@ pub fn walks_list_what_runs_find()
     ensures one { (a : Automaton) (t : Terminator) (q : ℕ) (behind : Option ℕ) (bytes : List ℕ) (states : List StateValue) →
         states ≡ walked a t LeftmostFirst (start_value a t (start_of t behind) q) (units_of bytes) →
         (k : ℕ) (v : StateValue) → slice_get states k ≡ Some v → length v.matches ≤ 1 }
-    ensures some { (a : Automaton) (t : Terminator) (q : ℕ) (behind : Option ℕ) (bytes : List ℕ) (states : List StateValue) → IsWellFormed a → q < length a.states →
+    ensures some { (a : Automaton) (t : Terminator) (q : ℕ) (behind : Option ℕ) (bytes : List ℕ) (states : List StateValue) →
+        IsWellFormed a → q < length a.states →
         states ≡ walked a t LeftmostFirst (start_value a t (start_of t behind) q) (units_of bytes) →
         (j p : ℕ) → first (ends_from a (text_of a.reverse t behind bytes) (walk_start a.reverse behind bytes, q)) ≡ Some (j, p) →
-        (k : ℕ) × (v : StateValue) × (j ≡ place_of a.reverse (walk_start a.reverse behind bytes) k) × (slice_get states (suc k) ≡ Some v) × (v.matches ≡ p ∷ []) ×
+        (k : ℕ) × (v : StateValue) × (j ≡ place_of a.reverse (walk_start a.reverse behind bytes) k) ×
+        (slice_get states (suc k) ≡ Some v) × (v.matches ≡ p ∷ []) ×
         ((m : ℕ) (w : StateValue) → k < m → slice_get states (suc m) ≡ Some w → w.matches ≡ []) }
-    ensures none { (a : Automaton) (t : Terminator) (q : ℕ) (behind : Option ℕ) (bytes : List ℕ) (states : List StateValue) → IsWellFormed a → q < length a.states →
+    ensures none { (a : Automaton) (t : Terminator) (q : ℕ) (behind : Option ℕ) (bytes : List ℕ) (states : List StateValue) →
+        IsWellFormed a → q < length a.states →
         states ≡ walked a t LeftmostFirst (start_value a t (start_of t behind) q) (units_of bytes) →
         first (ends_from a (text_of a.reverse t behind bytes) (walk_start a.reverse behind bytes, q)) ≡ None →
         (k : ℕ) (v : StateValue) → slice_get states (suc k) ≡ Some v → v.matches ≡ [] }

@@ -93,7 +93,8 @@ pub fn walk_with<S: NameSet, L: Ledger>(
         (start_value nfa.now.automaton nfa.now.terminator (start_of nfa.now.terminator look_behind) start) (units_of bytes.now)) }
     ensures bound1 { S.bound sets.new.set1 ≡ S.bound sets.old.set1 }
     ensures bound2 { S.bound sets.new.set2 ≡ S.bound sets.old.set2 }
-    ensures cost { steps.new ≤ steps.old + (1 + free_ways nfa.now.automaton) + (length bytes.now + 1) * (3 * length nfa.now.automaton.states + 2 * free_ways nfa.now.automaton) }
+    ensures cost { steps.new ≤ steps.old + (1 + free_ways nfa.now.automaton)
+        + (length bytes.now + 1) * (3 * length nfa.now.automaton.states + 2 * free_ways nfa.now.automaton) }
 {
     nfa.is_sound();
     let mut stack = Vec::new(alloc);
@@ -123,7 +124,8 @@ fn first_state<S: NameSet, L: Ledger>(
     requires inside { start < length nfa.now.automaton.states }
     requires bound { S.bound set.old ≡ length nfa.now.automaton.states }
     requires empty { stack.old.items ≡ [] }
-    ensures value { IfOk result (λ first. first ≡ start_value nfa.now.automaton nfa.now.terminator (start_of nfa.now.terminator look_behind) start) }
+    ensures value { IfOk result (λ first. first ≡
+        start_value nfa.now.automaton nfa.now.terminator (start_of nfa.now.terminator look_behind) start) }
     ensures stack { OnOk result (stack.new.items ≡ []) }
     ensures bound { S.bound set.new ≡ length nfa.now.automaton.states }
     ensures cost { steps.new ≤ steps.old + 1 + free_ways nfa.now.automaton }
@@ -154,7 +156,8 @@ fn walk_from<S: NameSet, L: Ledger>(
     ensures states { IfOk result (λ states. states.items ≡ walked nfa.now.automaton nfa.now.terminator kind first (units_of bytes.now)) }
     ensures bound1 { S.bound sets.new.set1 ≡ length nfa.now.automaton.states }
     ensures bound2 { S.bound sets.new.set2 ≡ length nfa.now.automaton.states }
-    ensures cost { steps.new ≤ steps.old + (length bytes.now + 1) * (3 * length nfa.now.automaton.states + 2 * free_ways nfa.now.automaton) }
+    ensures cost { steps.new ≤ steps.old
+        + (length bytes.now + 1) * (3 * length nfa.now.automaton.states + 2 * free_ways nfa.now.automaton) }
 {
     let mut states = Vec::new(alloc);
     walk_on(
@@ -188,10 +191,12 @@ fn walk_on<S: NameSet, L: Ledger>(
     requires below { All (λ q. q < length nfa.now.automaton.states) first.ids }
     requires once { IsDistinct nat_eq first.ids }
     requires empty { stack.old.items ≡ [] }
-    ensures states { OnOk result (states.new.items ≡ states.old.items ++ walked nfa.now.automaton nfa.now.terminator kind first (units_of bytes.now)) }
+    ensures states { OnOk result (states.new.items ≡
+        states.old.items ++ walked nfa.now.automaton nfa.now.terminator kind first (units_of bytes.now)) }
     ensures bound1 { S.bound sets.new.set1 ≡ length nfa.now.automaton.states }
     ensures bound2 { S.bound sets.new.set2 ≡ length nfa.now.automaton.states }
-    ensures cost { steps.new ≤ steps.old + (length bytes.now + 1) * (3 * length nfa.now.automaton.states + 2 * free_ways nfa.now.automaton) }
+    ensures cost { steps.new ≤ steps.old
+        + (length bytes.now + 1) * (3 * length nfa.now.automaton.states + 2 * free_ways nfa.now.automaton) }
 {
     nfa.is_sound();
     let mut last = first;

@@ -19,7 +19,8 @@ ghost use Rattle.hir_core.specs.Facts.{maximum_len, IsAtMost, is_utf8_tree, look
 /// No span of a haystack that fits in memory is longer than the maximum length.
 #[tactic(auto, using(crate::proofs::MaximumLenLemmas::maximum_len_sound))]
 pub fn spans_have_the_maximum_len()
-    ensures { (looks : Looks) (h : List ℕ) (x : Tree) (i j : ℕ) → length h < 2 ^ 64 → i ≤ length h → Means looks h x i j → IsAtMost (maximum_len x) i j }
+    ensures { (looks : Looks) (h : List ℕ) (x : Tree) (i j : ℕ) → length h < 2 ^ 64 → i ≤ length h → Means looks h x i j →
+        IsAtMost (maximum_len x) i j }
 {}
 
 /// Where the maximum length is 0, each span is empty.
@@ -31,14 +32,17 @@ pub fn spans_of_no_length_are_empty()
 /// Where a tree is seen to be UTF-8, each of its spans is a joining of spellings, the empty one too.
 #[tactic(auto, using(crate::proofs::ValidSpanLemmas::utf8_sound))]
 pub fn spans_of_utf8_trees_are_valid()
-    ensures { (looks : Looks) (h : List ℕ) (x : Tree) (i j : ℕ) → is_utf8_tree x ≡ true → Means looks h x i j → IsValidText (slice_range h i j) }
+    ensures { (looks : Looks) (h : List ℕ) (x : Tree) (i j : ℕ) → is_utf8_tree x ≡ true → Means looks h x i j →
+        IsValidText (slice_range h i j) }
 {}
 
 /// Each prefix look holds at each span's start, each suffix look at its end.
 #[tactic(auto, using(crate::proofs::LookFactLemmas::prefix_sound, crate::proofs::LookFactLemmas::suffix_sound))]
 pub fn looks_at_the_ends_hold()
-    ensures prefix { (looks : Looks) (h : List ℕ) (l : Look) (x : Tree) (i j : ℕ) → Means looks h x i j → has_look (look_set_prefix x) l ≡ true → looks l i ≡ true }
-    ensures suffix { (looks : Looks) (h : List ℕ) (l : Look) (x : Tree) (i j : ℕ) → Means looks h x i j → has_look (look_set_suffix x) l ≡ true → looks l j ≡ true }
+    ensures prefix { (looks : Looks) (h : List ℕ) (l : Look) (x : Tree) (i j : ℕ) → Means looks h x i j →
+        has_look (look_set_prefix x) l ≡ true → looks l i ≡ true }
+    ensures suffix { (looks : Looks) (h : List ℕ) (l : Look) (x : Tree) (i j : ℕ) → Means looks h x i j →
+        has_look (look_set_suffix x) l ≡ true → looks l j ≡ true }
 {}
 
 /// The set of a tree's looks has each look that stands in the tree, and no other.

@@ -3,7 +3,8 @@
 
 ghost use Rattle.std.specs.Prelude.{◌≡◌, ◌≤◌, IfSome};
 ghost use Rattle.hir_core.specs.Tree.{concat, alternation};
-ghost use Rattle.hir_core.specs.Facts.{minimum_len, maximum_len, is_utf8_tree, height, count, repeated_count, sum_of_both, least_of_either, greatest_of_both, times, times_most};
+ghost use Rattle.hir_core.specs.Facts.{minimum_len, maximum_len, is_utf8_tree, height, count, repeated_count, sum_of_both, least_of_either};
+ghost use Rattle.hir_core.specs.Facts.{greatest_of_both, times, times_most};
 
 use crate::hir::Hir;
 

@@ -4,7 +4,8 @@
 ghost use Rattle.std.specs.Prelude.{◌≡◌, ◌≤◌, ◌<◌, ◌+◌, length, reverse};
 ghost use Rattle.std.specs.Int.{is_in_range};
 ghost use Rattle.std.specs.Iterator.{YieldsFirstBy, item_count};
-ghost use Rattle.hir_core.specs.Sequences.{scalar_from, row_end, block_end, piece_end, byte_ranges, utf8_sequences, ranges_in, ranges_of_sequence, begins_in_ranges};
+ghost use Rattle.hir_core.specs.Sequences.{scalar_from, row_end, block_end, piece_end, byte_ranges, utf8_sequences};
+ghost use Rattle.hir_core.specs.Sequences.{ranges_in, ranges_of_sequence, begins_in_ranges};
 
 use std::marker::Model;
 

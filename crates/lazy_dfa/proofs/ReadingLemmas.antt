@@ -22,7 +22,8 @@ use Rattle.nfa_core.specs.Ways.{Text, span, reads, is_passed, on_read, byte_step
 use Rattle.nfa_core.proofs.ForCallers.{first_same, alike_by_looks, place_zero}
 use Rattle.determinize_core.specs.States.{StateValue}
 use Rattle.determinize_core.specs.Starts.{start_of}
-use Rattle.determinize_core.specs.Steps.{closed, known_steps, kept_among, unit_steps, reading, ids_before, behind_of_start, start_value, step_value}
+use Rattle.determinize_core.specs.Steps.{closed, known_steps, kept_among, unit_steps, reading, ids_before}
+use Rattle.determinize_core.specs.Steps.{behind_of_start, start_value, step_value}
 use Rattle.determinize_core.specs.Steps.{unit_at, unit_behind}
 use Rattle.determinize_core.specs.Walked.{cut_of, walked_lists}
 use Rattle.determinize_core.proofs.ForCallers.{lists_are_lists, states_are, entries_alike}

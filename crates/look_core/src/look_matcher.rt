@@ -278,7 +278,8 @@ impl<W: WordClass> LookMatcher<W> {
     #[tactic(auto, using(crate::proofs::MemberLemmas::members_pass, crate::proofs::MemberLemmas::all_members_pass))]
     pub fn matches_set(&self, set: LookSet, haystack: &[u8], at: usize) -> bool
         requires { at ≤ length haystack.now }
-        ensures { IsTrue result ↔ ((l : TheLook) → has_look set l ≡ true → holds (W.words self.now.words) self.now.terminator haystack.now l at ≡ true) }
+        ensures { IsTrue result ↔ ((l : TheLook) → has_look set l ≡ true →
+            holds (W.words self.now.words) self.now.terminator haystack.now l at ≡ true) }
     {
         self.matches_all(set.iter(), haystack, at)
     }

@@ -1,7 +1,9 @@
 ghost use Rattle.std.specs.Prelude.{◌≡◌, ◌↔◌, IsTrue, ℕ, length, Ok};
 ghost use Rattle.std.specs.List.{list_any};
-ghost use Rattle.look_core.specs.Codes.{repr, is_anchor, is_anchor_haystack, is_anchor_line, is_anchor_lf, is_anchor_crlf, is_word_look, is_word_unicode, is_word_ascii};
-ghost use Rattle.look_core.specs.LookSets.{IsLookSet, has_look, full_set, with_look, without_look, union_of, shared_by, without, members, has_any, IsFirstLook};
+ghost use Rattle.look_core.specs.Codes.{repr, is_anchor, is_anchor_haystack, is_anchor_line, is_anchor_lf, is_anchor_crlf};
+ghost use Rattle.look_core.specs.Codes.{is_word_look, is_word_unicode, is_word_ascii};
+ghost use Rattle.look_core.specs.LookSets.{IsLookSet, has_look, full_set, with_look, without_look, union_of, shared_by};
+ghost use Rattle.look_core.specs.LookSets.{without, members, has_any, IsFirstLook};
 
 use crate::look::Look;
 use crate::look_set_iter::LookSetIter;

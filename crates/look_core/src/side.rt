@@ -1,7 +1,8 @@
 ghost use Rattle.std.specs.Prelude.{◌≡◌, ◌≤◌, length};
 ghost use Rattle.search_core.specs.Text.{byte_at, byte_before};
 ghost use Rattle.search_core.specs.Characters.{character_at, character_before};
-ghost use Rattle.look_core.specs.Looks.{is_word, is_no_word, is_edge_of_word, is_no_edge_of_word, is_start_of_word, is_end_of_word, word_if, byte_side, character_side};
+ghost use Rattle.look_core.specs.Looks.{is_word, is_no_word, is_edge_of_word, is_no_edge_of_word, is_start_of_word, is_end_of_word};
+ghost use Rattle.look_core.specs.Looks.{word_if, byte_side, character_side};
 ghost use Rattle.look_core.specs.Sides.{side_of, decoded_side};
 
 use crate::word_class::WordClass;
@@ -56,7 +57,8 @@ impl Sides {
     #[tactic(auto, using(crate::proofs::SideLemmas::decoded_behind, crate::proofs::SideLemmas::decoded_in_front))]
     pub(crate) fn by_characters<W: WordClass>(words: &W, haystack: &[u8], at: usize) -> Sides
         requires { at ≤ length haystack.now }
-        ensures before { side_of result.before ≡ character_side (W.words words.now) (byte_before haystack.now at) (character_before haystack.now at) }
+        ensures before { side_of result.before ≡
+            character_side (W.words words.now) (byte_before haystack.now at) (character_before haystack.now at) }
         ensures after { side_of result.after ≡ character_side (W.words words.now) (byte_at haystack.now at) (character_at haystack.now at) }
     {
         Sides {

@@ -29,13 +29,15 @@ on_err (Err e) x = x
 
 -- ---- one more state
 
-pub no_name : (b : Assembly) (draft : DraftNode) (n : ℕ) → n ≡ length b.drafts → greatest_index < n → add_fault b draft ≡ Some too_many_states
+pub no_name : (b : Assembly) (draft : DraftNode) (n : ℕ) → n ≡ length b.drafts → greatest_index < n →
+    add_fault b draft ≡ Some too_many_states
 no_name b draft n e more =
     ap (λ t. option_or (if t then Some too_many_states else None) (limit_fault b.size_limit (bytes_of_drafts (b.drafts ++ draft ∷ []))))
     (lt-ltb greatest_index (length b.drafts) (subst (λ (k : ℕ). greatest_index < k) e more))
 
 pub bytes_added : {D : Type 0} (view : D → DraftNode) (drafts : List D) (draft : DraftNode) (old own new : ℕ) →
-    new ≡ min (old + own) 18446744073709551615 → old ≡ bytes_of_drafts (map view drafts) → own ≡ min (draft_bytes draft) 18446744073709551615 →
+    new ≡ min (old + own) 18446744073709551615 → old ≡ bytes_of_drafts (map view drafts) →
+    own ≡ min (draft_bytes draft) 18446744073709551615 →
     new ≡ bytes_of_drafts (map view drafts ++ draft ∷ [])
 bytes_added view drafts draft old own new sum was one =
     sum
@@ -43,11 +45,14 @@ bytes_added view drafts draft old own new sum was one =
     ∙ (ap (λ (n : ℕ). min (bytes_of_drafts (map view drafts) + n) 18446744073709551615) one
     ∙ bytes_pushed (map view drafts) draft))
 
-pub fault_in_room : {D : Type 0} (view : D → DraftNode) (drafts : List D) (draft : DraftNode) (b : Assembly) (limit : Option ℕ) (bytes : ℕ) →
-    map view drafts ≡ b.drafts → limit ≡ b.size_limit → length drafts ≤ greatest_index → bytes ≡ bytes_of_drafts (map view drafts ++ draft ∷ []) →
+pub fault_in_room : {D : Type 0} (view : D → DraftNode) (drafts : List D) (draft : DraftNode) (b : Assembly)
+    (limit : Option ℕ) (bytes : ℕ) →
+    map view drafts ≡ b.drafts → limit ≡ b.size_limit → length drafts ≤ greatest_index →
+    bytes ≡ bytes_of_drafts (map view drafts ++ draft ∷ []) →
     add_fault b draft ≡ limit_fault limit bytes
 fault_in_room view drafts draft b limit bytes seen same room sum =
-    let below : length b.drafts ≤ greatest_index = subst (λ (n : ℕ). n ≤ greatest_index) (sym (length-map drafts view) ∙ ap length seen) room in
+    let below : length b.drafts ≤ greatest_index =
+    subst (λ (n : ℕ). n ≤ greatest_index) (sym (length-map drafts view) ∙ ap length seen) room in
     ap (λ t. option_or (if t then Some too_many_states else None) (limit_fault b.size_limit (bytes_of_drafts (b.drafts ++ draft ∷ []))))
     (le-ltb greatest_index (length b.drafts) below)
     ∙ (ap (λ l. limit_fault l (bytes_of_drafts (b.drafts ++ draft ∷ []))) (sym same)

@@ -14,7 +14,8 @@ capped_sum : (m a b : ℕ) → min (min a m + min b m) m ≡ min (a + b) m
 capped_sum m a b = grind arith
 
 pub bytes_pushed : (drafts : List DraftNode) (draft : DraftNode) →
-    min (bytes_of_drafts drafts + min (draft_bytes draft) 18446744073709551615) 18446744073709551615 ≡ bytes_of_drafts (drafts ++ draft ∷ [])
+    min (bytes_of_drafts drafts + min (draft_bytes draft) 18446744073709551615) 18446744073709551615 ≡
+    bytes_of_drafts (drafts ++ draft ∷ [])
 bytes_pushed drafts draft =
     capped_sum 18446744073709551615 (sum_by draft_bytes drafts) (draft_bytes draft)
     ∙ ap (λ n. min n 18446744073709551615) (sym (sum_by_push draft_bytes drafts draft))

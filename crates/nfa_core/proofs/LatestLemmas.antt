@@ -97,7 +97,8 @@ module _ (eps step : ℕ → ℕ → List ℕ) (n len : ℕ) (graph : IsGraph ep
     no_more k xs = flat_map_same nat_eq names_equal (found eps step answer n 0 k) (here eps step answer n k) xs
         (λ y h. append-nil (here eps step answer n k y))
 
-    module _ (start : ℕ) (lists : ℕ → List ℕ) (listed : AreWalkLists eps step (λ k xs. before_answer (λ x. answer (k, x)) xs) len start lists)
+    module _ (start : ℕ) (lists : ℕ → List ℕ)
+        (listed : AreWalkLists eps step (λ k xs. before_answer (λ x. answer (k, x)) xs) len start lists)
       where
         latest_from : (d k : ℕ) (xs : List ℕ) → k + d ≤ len → ((q : ℕ) → Has nat_eq q xs → q < n) → Visits nat_eq (eps k) xs [] (lists k) →
             latest answer lists d k ≡ first (flat_map (found eps step answer n d k) (flat_map (chain_ends nat_eq (eps k) n []) xs))

@@ -7,7 +7,8 @@ use Rattle.std.proofs.lemmas.List.{map-append, length-map, length-set}
 use Rattle.std.proofs.lemmas.List.Elements.{All-push, All-set, All-get_or, All-weaker}
 use Rattle.search_core.specs.Index.{greatest_index}
 use Rattle.nfa_core.specs.BuilderStates.{DraftNode, empty_draft, range_draft, sparse_draft, look_draft, capture_start_draft}
-use Rattle.nfa_core.specs.BuilderStates.{capture_end_draft, union_draft, union_reverse_draft, fail_draft, match_draft, bytes_of_drafts, patched}
+use Rattle.nfa_core.specs.BuilderStates.{capture_end_draft, union_draft, union_reverse_draft, fail_draft}
+use Rattle.nfa_core.specs.BuilderStates.{match_draft, bytes_of_drafts, patched}
 use Rattle.nfa_core.specs.BuilderStates.{draft_at, patched_at}
 use Rattle.nfa_core.specs.BuilderFaults.{limit_fault, index_fault, captures_refused, exceeded_size_limit}
 use Rattle.search_types.specs.GroupFaults.{TooManyGroups}

@@ -132,4 +132,5 @@ module _ (a : Automaton) (t : Terminator) (marks : List Bool) (h g : List ℕ) (
   looks_alike l there i =
       let r = (looks_any l a).0 there in
       same_look t h g classes.0 l (at_each (λ b c. All (LieAlike b c) (told_apart t l)) (λ b c lb lc same.
-      let P : Node → Type 0 = λ node. All (LieAlike b c) (told_apart_by t node) in subst P r.2 (lie_alike a t marks b c has lb lc same r.0))) i
+      let P : Node → Type 0 = λ node. All (LieAlike b c) (told_apart_by t node) in
+      subst P r.2 (lie_alike a t marks b c has lb lc same r.0))) i

@@ -123,7 +123,8 @@ ends_from a t p = run_ends same_pair same_pair (ways a t) (matched a) (suc t.end
 
 -- the lists of states that one walk a place makes from state q at place i, each as far as `cut` keeps the one before
 abbrev pub AreLists : Automaton → Text → ℕ × ℕ → (ℕ → List ℕ → List ℕ) → (ℕ → List ℕ) → Type 0
-AreLists a t p cut lists = AreWalkLists (λ k. plain_steps a t (place_of a.reverse p.0 k)) (λ k. byte_steps a t (place_of a.reverse p.0 k)) cut
+AreLists a t p cut lists =
+    AreWalkLists (λ k. plain_steps a t (place_of a.reverse p.0 k)) (λ k. byte_steps a t (place_of a.reverse p.0 k)) cut
     (bytes_left a.reverse t p.0) p.1 lists
 
 -- what matches in a state behind k bytes that were read from place i

@@ -42,14 +42,26 @@ impl Model for Builder {
 
     ghost Value = { Assembly };
 
-    ghost view = { λ b. record { drafts = map draft_of b.drafts.items; starts = b.starts.items; groups = groups_in b.groups.items; is_open = b.is_open; utf8 = b.utf8; reverse = b.reverse; terminator = b.look_matcher.terminator; size_limit = b.size_limit } };
+    ghost view = { λ b. record {
+      drafts = map draft_of b.drafts.items;
+      starts = b.starts.items;
+      groups = groups_in b.groups.items;
+      is_open = b.is_open;
+      utf8 = b.utf8;
+      reverse = b.reverse;
+      terminator = b.look_matcher.terminator;
+      size_limit = b.size_limit;
+    } };
 
-    ghost invariant = { λ b. (b.memory ≡ bytes_of_drafts (map draft_of b.drafts.items)) × (b.is_open ≡ true → length b.starts.items ≤ greatest_index) × IsInOrder (map draft_of b.drafts.items) (patterns_of b.is_open b.starts.items) b.size_limit };
+    ghost invariant = { λ b. (b.memory ≡ bytes_of_drafts (map draft_of b.drafts.items)) ×
+        (b.is_open ≡ true → length b.starts.items ≤ greatest_index) ×
+        IsInOrder (map draft_of b.drafts.items) (patterns_of b.is_open b.starts.items) b.size_limit };
 }
 
 /// Refuses more bytes than the limit allows.
 pub(crate) fn check_limit(size_limit: Option<usize>, bytes: usize) -> Result<(), BuildError>
-    ensures { MatchResult result (λ _. limit_fault size_limit bytes ≡ None) (λ e. Tells e (limit_fault size_limit bytes) × (limit_fault size_limit bytes ≢ None)) }
+    ensures { MatchResult result (λ _. limit_fault size_limit bytes ≡ None)
+        (λ e. Tells e (limit_fault size_limit bytes) × (limit_fault size_limit bytes ≢ None)) }
 {
     match size_limit {
         Some(limit) if limit < bytes => Err(BuildError::ExceededSizeLimit { limit }),
@@ -159,7 +171,8 @@ impl Builder {
     pub fn set_size_limit(&mut self, limit: Option<usize>) -> Result<(), BuildError>
         ensures { MatchResult result
             (λ _. (self.new ≡ record self.old { size_limit = limit }) × (limit_fault limit (bytes_of_drafts self.old.drafts) ≡ None))
-            (λ e. (self.new ≡ self.old) × Tells e (limit_fault limit (bytes_of_drafts self.old.drafts)) × (limit_fault limit (bytes_of_drafts self.old.drafts) ≢ None)) }
+            (λ e. (self.new ≡ self.old) × Tells e (limit_fault limit (bytes_of_drafts self.old.drafts)) ×
+            (limit_fault limit (bytes_of_drafts self.old.drafts) ≢ None)) }
     {
         check_limit(limit, self.memory)?;
         self.size_limit = limit;

@@ -24,7 +24,8 @@ impl Builder {
         name: Option<String>,
     ) -> Result<StateID, BuildError>
         requires { self.old.is_open ≡ true }
-        ensures { AddsGroup self.old self.new result (length self.old.starts) group_index (option_map string_bytes name) (capture_start_draft (length self.old.starts) group_index next) }
+        ensures { AddsGroup self.old self.new result (length self.old.starts) group_index (option_map string_bytes name)
+            (capture_start_draft (length self.old.starts) group_index next) }
     {
         let pattern_id = self.current_pattern_id();
         let group_index = checked_index(pattern_id, group_index)?;
@@ -44,7 +45,8 @@ impl Builder {
         group_index: u32,
     ) -> Result<StateID, BuildError>
         requires { self.old.is_open ≡ true }
-        ensures { AddsGroupEnd self.old self.new result (length self.old.starts) group_index (capture_end_draft (length self.old.starts) group_index next) }
+        ensures { AddsGroupEnd self.old self.new result (length self.old.starts) group_index
+            (capture_end_draft (length self.old.starts) group_index next) }
     {
         let pattern_id = self.current_pattern_id();
         let group_index = checked_index(pattern_id, group_index)?;
@@ -59,7 +61,8 @@ impl Builder {
 /// The index of a group of the pattern; one above [`SmallIndex::MAX`] is refused.
 fn checked_index(pattern: PatternID, index: u32) -> Result<SmallIndex, BuildError>
     ensures { MatchResult result (λ i. (i ≡ index) × (index_fault pattern index ≡ None) × (index ≤ greatest_index))
-        (λ e. Tells e (index_fault pattern index) × (index_fault pattern index ≡ Some (captures_refused (TooManyGroups pattern index))) × TellsIndex e pattern index) }
+        (λ e. Tells e (index_fault pattern index) ×
+        (index_fault pattern index ≡ Some (captures_refused (TooManyGroups pattern index))) × TellsIndex e pattern index) }
 {
     let minimum = index as usize;
     let Ok(small) = SmallIndex::new(minimum) else {
@@ -76,7 +79,8 @@ fn note_group(
     index: SmallIndex,
     name: Option<String>,
 ) -> Result<(), BuildError>
-    ensures { MatchResult result (λ _. groups_in groups.new.items ≡ with_group (groups_in groups.old.items) pattern index (option_map string_bytes name)) (λ e. e ≡ NoMemory) }
+    ensures { MatchResult result (λ _. groups_in groups.new.items ≡
+        with_group (groups_in groups.old.items) pattern index (option_map string_bytes name)) (λ e. e ≡ NoMemory) }
 {
     fill_patterns(groups, pattern)?;
     note_name(&mut groups[pattern.as_usize()], index, name)?;
@@ -89,7 +93,8 @@ fn fill_patterns(
     groups: &mut Vec<Vec<Option<String>>>,
     pattern: PatternID,
 ) -> Result<(), BuildError>
-    ensures all { MatchResult result (λ _. groups_in groups.new.items ≡ up_to_pattern (groups_in groups.old.items) pattern) (λ e. e ≡ NoMemory) }
+    ensures all { MatchResult result (λ _. groups_in groups.new.items ≡ up_to_pattern (groups_in groups.old.items) pattern)
+        (λ e. e ≡ NoMemory) }
     ensures len { MatchResult result (λ _. pattern < length groups.new.items) (λ _. Unit {0}) }
 {
     let alloc = *groups.allocator();
@@ -106,7 +111,8 @@ fn note_name(
     index: SmallIndex,
     name: Option<String>,
 ) -> Result<(), BuildError>
-    ensures { MatchResult result (λ _. names_in names.new.items ≡ with_name (names_in names.old.items) index (option_map string_bytes name)) (λ e. e ≡ NoMemory) }
+    ensures { MatchResult result (λ _. names_in names.new.items ≡ with_name (names_in names.old.items) index (option_map string_bytes name))
+        (λ e. e ≡ NoMemory) }
 {
     if index.as_usize() < names.len() {
         return Ok(());

@@ -21,11 +21,14 @@ ghost use Rattle.nfa_core.specs.Ways.{Text, ways, matched, ends_from};
 /// that stand for others make no loop. A state that stands for another is passed to where that one is.
 pub fn past_states_stand_for_themselves()
     ensures itself { (drafts : List DraftNode) (q : ℕ) → stands_for (draft_at drafts q) ≡ None → past drafts q ≡ q }
-    ensures stands { (drafts : List DraftNode) (q : ℕ) → HasNoLoop drafts → q < length drafts → stands_for (draft_at drafts (past drafts q)) ≡ None }
-    ensures inside { (drafts : List DraftNode) (q : ℕ) → HasNoLoop drafts → All (λ draft. All (λ r. r < length drafts) (names_of draft)) drafts →
+    ensures stands { (drafts : List DraftNode) (q : ℕ) → HasNoLoop drafts → q < length drafts →
+        stands_for (draft_at drafts (past drafts q)) ≡ None }
+    ensures inside { (drafts : List DraftNode) (q : ℕ) → HasNoLoop drafts →
+        All (λ draft. All (λ r. r < length drafts) (names_of draft)) drafts →
         q < length drafts → past drafts q < length drafts }
     ensures twice { (drafts : List DraftNode) (q : ℕ) → HasNoLoop drafts → q < length drafts → past drafts (past drafts q) ≡ past drafts q }
-    ensures next { (drafts : List DraftNode) (q r : ℕ) → HasNoLoop drafts → stands_for (draft_at drafts q) ≡ Some r → past drafts q ≡ past drafts r }
+    ensures next { (drafts : List DraftNode) (q r : ℕ) → HasNoLoop drafts → stands_for (draft_at drafts q) ≡ Some r →
+        past drafts q ≡ past drafts r }
 {}
 
 /// A kept state is in the automaton under its new name, no two have one name, and each name of the automaton
@@ -61,7 +64,8 @@ pub fn lists_are_carried_over()
 /// What a chain of the table finds, one of the automaton finds, and the other way round.
 pub fn chains_are_carried_over()
     ensures forth { (b : Assembly) (x y : ℕ) (t : Text) (q i : ℕ) (r : List (ℕ × ℕ)) (e : ℕ × ℕ) → CanBuild b x y → q < length b.drafts →
-        IsChain same_pair (table_ways b.reverse t (draft_at b.drafts)) (i, q) r → table_match (draft_at b.drafts) (last_or (i, q) r) ≡ Some e →
+        IsChain same_pair (table_ways b.reverse t (draft_at b.drafts)) (i, q) r →
+        table_match (draft_at b.drafts) (last_or (i, q) r) ≡ Some e →
         (s : List (ℕ × ℕ)) × IsChain same_pair (ways (automaton_of b x y) t) (i, new_name b.drafts q) s
         × (matched (automaton_of b x y) (last_or (i, new_name b.drafts q) s) ≡ Some e) }
     ensures back { (b : Assembly) (x y : ℕ) (t : Text) (q i : ℕ) (s : List (ℕ × ℕ)) (e : ℕ × ℕ) → CanBuild b x y → q < length b.drafts →
@@ -73,7 +77,8 @@ pub fn chains_are_carried_over()
 
 /// All names of the automaton are names of its states.
 pub fn built_automata_are_well_formed()
-    ensures inside { (b : Assembly) (x y q : ℕ) → CanBuild b x y → q < length b.drafts → new_name b.drafts q < length (automaton_of b x y).states }
+    ensures inside { (b : Assembly) (x y q : ℕ) → CanBuild b x y → q < length b.drafts →
+        new_name b.drafts q < length (automaton_of b x y).states }
     ensures formed { (b : Assembly) (x y : ℕ) → CanBuild b x y → IsWellFormed (automaton_of b x y) }
 {}
 
@@ -94,8 +99,10 @@ pub fn ends_are_those_of_the_table()
         Has same_pair e (ends_from (automaton_of b x y) t (i, new_name b.drafts q)) →
         (r : List (ℕ × ℕ)) × IsChain same_pair (table_ways b.reverse t (draft_at b.drafts)) (i, q) r
         × (table_match (draft_at b.drafts) (last_or (i, q) r) ≡ Some e) }
-    ensures all { (b : Assembly) (x y : ℕ) (t : Text) (q i : ℕ) (e : ℕ × ℕ) (r : List (ℕ × ℕ)) → CanBuild b x y → q < length b.drafts → i ≤ t.end →
-        IsChain same_pair (table_ways b.reverse t (draft_at b.drafts)) (i, q) r → table_match (draft_at b.drafts) (last_or (i, q) r) ≡ Some e →
+    ensures all { (b : Assembly) (x y : ℕ) (t : Text) (q i : ℕ) (e : ℕ × ℕ) (r : List (ℕ × ℕ)) → CanBuild b x y →
+        q < length b.drafts → i ≤ t.end →
+        IsChain same_pair (table_ways b.reverse t (draft_at b.drafts)) (i, q) r →
+        table_match (draft_at b.drafts) (last_or (i, q) r) ≡ Some e →
         Has same_pair e (ends_from (automaton_of b x y) t (i, new_name b.drafts q)) }
     ensures once { (b : Assembly) (x y : ℕ) (t : Text) (q i : ℕ) (l r : List (ℕ × ℕ)) → CanBuild b x y → q < length b.drafts → i ≤ t.end →
         Lists (table_ways b.reverse t (draft_at b.drafts)) (table_match (draft_at b.drafts)) ((i, q) ∷ []) l →

@@ -1,5 +1,6 @@
 ghost use Rattle.std.specs.Prelude.{◌≡◌, ◌<◌, ◌≤◌, true, false, length, map, None, All, IsOk, MatchResult};
-ghost use Rattle.nfa_core.specs.BuilderStates.{empty_draft, range_draft, sparse_draft, look_draft, union_draft, union_reverse_draft, fail_draft, match_draft, AscendsFrom, draft_at, patched_at, way_bytes, is_sparse};
+ghost use Rattle.nfa_core.specs.BuilderStates.{empty_draft, range_draft, sparse_draft, look_draft, union_draft, union_reverse_draft};
+ghost use Rattle.nfa_core.specs.BuilderStates.{fail_draft, match_draft, AscendsFrom, draft_at, patched_at, way_bytes, is_sparse};
 ghost use Rattle.nfa_core.specs.BuilderFaults.{Adds, Tells, patch_fault};
 ghost use Rattle.nfa_core.specs.declared.build_error.BuildError.TheVariants.{NoMemory};
 ghost use Rattle.nfa_core.specs.Drafts.{draft_of};

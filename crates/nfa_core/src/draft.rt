@@ -116,7 +116,8 @@ impl Draft {
 
     /// Lets the state lead to `to`: a union has one more way, and any other state leads there alone.
     pub(crate) fn patch(&mut self, to: StateID) -> Result<(), AllocError>
-        ensures value { MatchResult result (λ _. draft_of self.new ≡ patched to (draft_of self.old)) (λ _. draft_of self.new ≡ draft_of self.old) }
+        ensures value { MatchResult result (λ _. draft_of self.new ≡ patched to (draft_of self.old))
+            (λ _. draft_of self.new ≡ draft_of self.old) }
         ensures free { way_bytes (draft_of self.old) ≡ 0 → IsOk result }
     {
         match self {

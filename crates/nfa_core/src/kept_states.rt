@@ -177,7 +177,8 @@ pub(crate) fn kept_states(
 ) -> Result<Vec<State>, AllocError>
     requires named { All (λ draft. All (λ q. q < length names.now) (names_of draft)) (map draft_of drafts.now) }
     requires known { All (λ draft. is_known groups.now draft ≡ true) (map draft_of drafts.now) }
-    ensures { IfOk result (λ states. map node_of states.items ≡ map (renamed (name_in names.now) groups.now) (kept (map draft_of drafts.now))) }
+    ensures { IfOk result (λ states. map node_of states.items ≡
+        map (renamed (name_in names.now) groups.now) (kept (map draft_of drafts.now))) }
 {
     let mut states = Vec::new(alloc);
     for draft in drafts {

@@ -56,7 +56,8 @@ pub fn texts_of_one_class_are_followed_alike()
 
 /// The sets of looks have the looks of states, and of those that patterns reach without a byte.
 pub fn look_sets_have_the_looks_of_states()
-    ensures any { (a : Automaton) (l : Look) → (has_look (looks_of a.states) l ≡ true) ↔ ((q : ℕ) × (next : ℕ) × (node_at a q ≡ look_node l next)) }
+    ensures any { (a : Automaton) (l : Look) →
+        (has_look (looks_of a.states) l ≡ true) ↔ ((q : ℕ) × (next : ℕ) × (node_at a q ≡ look_node l next)) }
     ensures prefix { (a : Automaton) (l : Look) → (has_look (prefix_looks a) l ≡ true) ↔
         ((q : ℕ) × (next : ℕ) × Has nat_eq q (reached_freely a) × (node_at a q ≡ look_node l next)) }
 {}

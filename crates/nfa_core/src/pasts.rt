@@ -1,4 +1,5 @@
-ghost use Rattle.std.specs.Prelude.{◌≡◌, ℕ, ◌+◌, ◌*◌, ◌<◌, ◌≤◌, true, false, length, map, set, get_or, IfOk, Some, None, MatchOption, unwrap_or};
+ghost use Rattle.std.specs.Prelude.{◌≡◌, ℕ, ◌+◌, ◌*◌, ◌<◌, ◌≤◌, true, false, length, map, set};
+ghost use Rattle.std.specs.Prelude.{get_or, IfOk, Some, None, MatchOption, unwrap_or};
 ghost use Rattle.search_core.specs.Index.{greatest_index};
 ghost use Rattle.nfa_core.specs.BuilderStates.{draft_at};
 ghost use Rattle.nfa_core.specs.Drafts.{draft_of};

@@ -34,5 +34,6 @@ pub fn cut_lists_end_with_the_first_run()
 pub fn uncut_lists_have_all_ends()
     ensures { (a : Automaton) (t : Text) (i q : ℕ) (lists : ℕ → List ℕ) → IsWellFormed a → IsPairOf a t (i, q) →
         AreLists a t (i, q) (λ k xs. xs) lists → (k : ℕ) → k ≤ bytes_left a.reverse t i →
-        distinct same_pair (answers_at (matched_behind a i) k (lists k)) ≡ filter (λ e. nat_eq e.0 (place_of a.reverse i k)) (ends_from a t (i, q)) }
+        distinct same_pair (answers_at (matched_behind a i) k (lists k)) ≡
+        filter (λ e. nat_eq e.0 (place_of a.reverse i k)) (ends_from a t (i, q)) }
 {}

@@ -58,7 +58,8 @@ impl Sets<SparseSet> {
         requires { capacity ≤ greatest_index + 1 }
         ensures set1 { OnOk result (self.new.set1 ≡ empty_below capacity) }
         ensures set2 { OnOk result (self.new.set2 ≡ empty_below capacity) }
-        ensures err { OnErr result (((self.new.set1 ≡ empty_below self.old.set1.bound) × (self.new.set2 ≡ self.old.set2)) ⊎ ((self.new.set1 ≡ empty_below capacity) × (self.new.set2 ≡ empty_below self.old.set2.bound))) }
+        ensures err { OnErr result (((self.new.set1 ≡ empty_below self.old.set1.bound) × (self.new.set2 ≡ self.old.set2)) ⊎
+            ((self.new.set1 ≡ empty_below capacity) × (self.new.set2 ≡ empty_below self.old.set2.bound))) }
         ensures shrinks { capacity ≤ self.old.set1.bound → capacity ≤ self.old.set2.bound → IsOk result }
     {
         self.set1.resize(capacity)?;

@@ -29,8 +29,10 @@ pub fn push(stack: &mut Vec<StateID>, id: StateID) -> Result<(), AllocError>
 /// Takes the number on top away.
 #[tactic(auto, using(crate::proofs::StackedLemmas::reverse_pushed))]
 pub fn pop(stack: &mut Vec<StateID>) -> Option<StateID>
-    ensures top { MatchOption result ((reverse stack.old.items ≡ []) × (reverse stack.new.items ≡ [])) (λ id. reverse stack.old.items ≡ id ∷ reverse stack.new.items) }
-    ensures len { MatchOption result (length stack.old.items ≡ length stack.new.items) (λ id. length stack.old.items ≡ length stack.new.items + 1) }
+    ensures top { MatchOption result ((reverse stack.old.items ≡ []) × (reverse stack.new.items ≡ []))
+        (λ id. reverse stack.old.items ≡ id ∷ reverse stack.new.items) }
+    ensures len { MatchOption result (length stack.old.items ≡ length stack.new.items)
+        (λ id. length stack.old.items ≡ length stack.new.items + 1) }
 {
     stack.pop()
 }

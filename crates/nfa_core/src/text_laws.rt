@@ -26,7 +26,8 @@ pub fn ends_lie_inside()
         Has same_pair e (ends_from a t (i, q)) → IsWithinReach a.reverse i (bytes_left a.reverse t i) e.0 }
     ensures is_forward { (a : Automaton) (t : Text) (i q : ℕ) (e : ℕ × ℕ) → IsWellFormed a → IsPairOf a t (i, q) → a.reverse ≡ false →
         Has same_pair e (ends_from a t (i, q)) → (i ≤ e.0) × (e.0 ≤ t.end) }
-    ensures is_reverse { (a : Automaton) (t : Text) (i q : ℕ) (e : ℕ × ℕ) → IsWellFormed a → IsPairOf a t (i, q) → a.reverse ≡ true → t.start ≤ i →
+    ensures is_reverse { (a : Automaton) (t : Text) (i q : ℕ) (e : ℕ × ℕ) → IsWellFormed a → IsPairOf a t (i, q) →
+        a.reverse ≡ true → t.start ≤ i →
         Has same_pair e (ends_from a t (i, q)) → (t.start ≤ e.0) × (e.0 ≤ i) }
 {}
 
@@ -48,7 +49,8 @@ pub fn first_ends_depend_on_what_was_read()
 pub fn texts_are_alike_by_the_looks_of_states()
     ensures either { (a : Automaton) (f g : Look → ℕ → Bool) (h : List ℕ) (start end i d : ℕ) →
         ((l : Look) (k : ℕ) → has_look (looks_of a.states) l ≡ true → k ≤ d →
-        is_passed a.reverse (read_by f h start end) l (place_of a.reverse i k) ≡ is_passed a.reverse (read_by g h start end) l (place_of a.reverse i k)) →
+        is_passed a.reverse (read_by f h start end) l (place_of a.reverse i k) ≡
+        is_passed a.reverse (read_by g h start end) l (place_of a.reverse i k)) →
         LeadAlike a (read_by f h start end) (read_by g h start end) i d }
     ensures is_forward { (a : Automaton) (f g : Look → ℕ → Bool) (h : List ℕ) (start end i d : ℕ) → a.reverse ≡ false →
         ((l : Look) (j : ℕ) → has_look (looks_of a.states) l ≡ true → i ≤ j → j ≤ i + d → f l j ≡ g l j) →

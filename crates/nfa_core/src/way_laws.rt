@@ -30,7 +30,8 @@ pub fn ends_come_by_the_ways()
 /// A chain of what is built that comes to a state which was kept comes from a chain of the builder's own states
 /// that comes there.
 pub fn chains_come_from_the_builders_states()
-    ensures { (b : Assembly) (x y : ℕ) → CanBuild b x y → (t : Text) (c : ℕ) → c < length b.drafts → stands_for (draft_at b.drafts c) ≡ None →
+    ensures { (b : Assembly) (x y : ℕ) → CanBuild b x y → (t : Text) (c : ℕ) → c < length b.drafts →
+        stands_for (draft_at b.drafts c) ≡ None →
         (q i : ℕ) (s : List (ℕ × ℕ)) → q < length b.drafts → IsChain same_pair (ways (automaton_of b x y) t) (i, new_name b.drafts q) s →
         (last_or (i, new_name b.drafts q) s).1 ≡ new_name b.drafts c →
         (r : List (ℕ × ℕ)) × IsChain same_pair (table_ways b.reverse t (draft_at b.drafts)) (i, q) r × ((last_or (i, q) r).1 ≡ c) }

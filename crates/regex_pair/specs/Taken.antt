@@ -13,6 +13,7 @@ pub record AreTaken (p : Pair) (q : Search) (fs : List Found) (at : Finding) : T
   pub begun : at.is_over ≡ false
   pub here : at.search ≡ search_at q at.search.start
   pub from : q.start ≤ at.search.start
-  pub chain : (rest : List Found) → IsTakenList (AnswersAt p q) at.last at.search.start rest → IsTakenList (AnswersAt p q) None q.start (fs ++ rest)
+  pub chain : (rest : List Found) → IsTakenList (AnswersAt p q) at.last at.search.start rest →
+      IsTakenList (AnswersAt p q) None q.start (fs ++ rest)
   pub whole : (rest : List Found) → IsWholeTakenList (AnswersAt p q) at.last at.search.start rest →
       IsWholeTakenList (AnswersAt p q) None q.start (fs ++ rest)

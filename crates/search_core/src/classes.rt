@@ -1,5 +1,6 @@
 ghost use Rattle.std.specs.Prelude.{◌≡◌, ℕ, ◌+◌, ◌<◌, ◌≤◌, ◌↔◌, ◌==◌, IsTrue, length, slice_set, slice_index};
-ghost use Rattle.search_core.specs.Classes.{unit_class, alphabet_size, IsRising, IsLeastExponent, all_units, elements_of, representatives_of, is_first, range_limit};
+ghost use Rattle.search_core.specs.Classes.{unit_class, alphabet_size, IsRising, IsLeastExponent, all_units, elements_of};
+ghost use Rattle.search_core.specs.Classes.{representatives_of, is_first, range_limit};
 ghost use Rattle.search_core.specs.ByteSets.{IsFirstWhere};
 
 use crate::class_iter::{ByteClassElements, ByteClassIter, ByteClassRepresentatives};

@@ -6,7 +6,8 @@
 //! ```
 ghost use Rattle.std.specs.Prelude.{◌≡◌, ◌<◌, ℕ, length, [], ◌∷◌, MatchOption};
 ghost use Rattle.std.specs.Int.{is_in_range};
-ghost use Rattle.search_core.specs.Utf8.{second_of_three, second_of_four, Spells, SpellsFirst, SpellsLast, Decodes, DecodesLast, is_boundary, is_word_byte};
+ghost use Rattle.search_core.specs.Utf8.{second_of_three, second_of_four, Spells, SpellsFirst, SpellsLast, Decodes};
+ghost use Rattle.search_core.specs.Utf8.{DecodesLast, is_boundary, is_word_byte};
 
 /// The first character of the bytes, or the first byte where no character begins them; `None` where
 /// there are no bytes.

@@ -97,6 +97,7 @@ pub fn characters_at_places()
 pub fn what_decode_reads()
     ensures behind { (h : List ℕ) (i : ℕ) (read : Option (Result ℕ ℕ)) → Decodes (drop i h) read → read ≡ read_at h i }
     ensures behind_decodes { (h : List ℕ) (i : ℕ) → Decodes (drop i h) (read_at h i) }
-    ensures before { (h : List ℕ) (i : ℕ) (read : Option (Result ℕ ℕ)) → i ≤ length h → DecodesLast (take i h) read → read ≡ read_before h i }
+    ensures before { (h : List ℕ) (i : ℕ) (read : Option (Result ℕ ℕ)) → i ≤ length h →
+        DecodesLast (take i h) read → read ≡ read_before h i }
     ensures before_decodes { (h : List ℕ) (i : ℕ) → i ≤ length h → DecodesLast (take i h) (read_before h i) }
 {}

@@ -59,7 +59,8 @@ module _ (answer : ℕ → Option Found) (low e : ℕ) (answers : ℕ → Option
   none_next last at zero next = refl
   none_next last at (suc n) next = ap (λ o. and_on o (λ g. answers_from answer n (Some g.end) g.end)) (sym next)
 
-  chain_is_all : (last : Option ℕ) (at : ℕ) (fs : List Found) (n : ℕ) → length fs ≤ n → IsPlace last at → IsWholeTakenList answers last at fs →
+  chain_is_all : (last : Option ℕ) (at : ℕ) (fs : List Found) (n : ℕ) → length fs ≤ n → IsPlace last at →
+      IsWholeTakenList answers last at fs →
       answers_from answer n last at ≡ fs
   chain_is_all last at [] n l p c = none_next last at n (next_is last at None p c)
   chain_is_all last at (f ∷ fs) zero l p c = absurd (omega arith)

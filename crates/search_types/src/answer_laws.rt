@@ -21,7 +21,8 @@ ghost use Rattle.search_types.specs.LeftmostAnswer.{leftmost_answer, IsAnswer};
 /// has one, and none where no such place has one.
 #[tactic(auto, using(crate::proofs::AnswerLemmas::computed_is_answer))]
 pub fn the_computed_answer_is_the_leftmost()
-    ensures { (choices_at : ℕ → List (ℕ × ℕ)) (mode : Anchored) (s e : ℕ) → IsAnswer choices_at mode s e (leftmost_answer choices_at mode s e) }
+    ensures { (choices_at : ℕ → List (ℕ × ℕ)) (mode : Anchored) (s e : ℕ) →
+        IsAnswer choices_at mode s e (leftmost_answer choices_at mode s e) }
 {}
 
 /// A search has one answer.

@@ -5,7 +5,8 @@ ghost use Rattle.std.specs.String.{string_bytes};
 ghost use Rattle.std.specs.List.{position};
 ghost use Rattle.search_core.specs.Index.{greatest_index};
 ghost use Rattle.search_types.specs.Groups.{is_named, implicit_slot_len};
-ghost use Rattle.search_types.specs.GroupFaults.{names_in, groups_in, group_fault_after, fault_after, numbered_fault, names_fault, slots_fault, group_fault};
+ghost use Rattle.search_types.specs.GroupFaults.{names_in, groups_in, group_fault_after, fault_after, numbered_fault};
+ghost use Rattle.search_types.specs.GroupFaults.{names_fault, slots_fault, group_fault};
 ghost use Rattle.search_types.specs.GroupRefusals.{fault_of, Tells};
 
 use crate::group_info_error::GroupInfoError;

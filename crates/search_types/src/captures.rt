@@ -3,7 +3,8 @@ ghost use Rattle.std.specs.Option.{ForSome, option_map};
 ghost use Rattle.std.specs.Borrow.{sem};
 ghost use Rattle.search_core.specs.Index.{greatest_index};
 ghost use Rattle.search_types.specs.Groups.{slot_len, implicit_slot_len};
-ghost use Rattle.search_types.specs.CapturesValue.{group_span, named_span, whole_match, matched_group_len, group_spans, slot_value, span_at, cut_spans, match_spans};
+ghost use Rattle.search_types.specs.CapturesValue.{group_span, named_span, whole_match, matched_group_len, group_spans, slot_value};
+ghost use Rattle.search_types.specs.CapturesValue.{span_at, cut_spans, match_spans};
 ghost use Rattle.search_types.specs.CapturesLends.{lends_slots};
 
 use crate::captures_iter::CapturesPatternIter;
@@ -50,7 +51,11 @@ impl Captures {
 
     /// No match, with room for the span of each pattern's first group, which is the whole match.
     pub fn matches(alloc: Global, group_info: GroupInfo) -> Result<Captures, AllocError>
-        ensures { IfOk result (λ c. c ≡ record { groups = group_info; pattern = None; slots = replicate (implicit_slot_len group_info) None }) }
+        ensures { IfOk result (λ c. c ≡ record {
+          groups = group_info;
+          pattern = None;
+          slots = replicate (implicit_slot_len group_info) None;
+        }) }
     {
         let slots = unset(alloc, group_info.implicit_slot_len())?;
         Ok(Captures {

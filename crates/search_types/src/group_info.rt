@@ -1,7 +1,8 @@
 ghost use Rattle.std.specs.Prelude.{◌≡◌, ◌+◌, ◌*◌, ◌<◌, ◌≤◌, [], length, None, IfOk, MatchResult, MatchOption};
 ghost use Rattle.std.specs.Option.{option_copied, option_map};
 ghost use Rattle.search_core.specs.Index.{greatest_index};
-ghost use Rattle.search_types.specs.Groups.{groups_of, to_index, to_name, slot, slot_len, implicit_slot_len, explicit_slot_len, all_group_len};
+ghost use Rattle.search_types.specs.Groups.{groups_of, to_index, to_name, slot, slot_len};
+ghost use Rattle.search_types.specs.Groups.{implicit_slot_len, explicit_slot_len, all_group_len};
 ghost use Rattle.search_types.specs.GroupFaults.{groups_in, names_fault, slots_fault, group_fault};
 ghost use Rattle.search_types.specs.GroupPlaces.{all_named, starts_from};
 ghost use Rattle.search_types.specs.GroupRefusals.{Tells};
@@ -234,7 +235,8 @@ fn lay_out(
 ) -> Result<(Vec<usize>, SmallIndex), AllocError>
     requires in_range { length patterns.now ≤ greatest_index + 1 }
     requires sound { slots_fault 0 (implicit_slot_len patterns.now) patterns.now ≡ None }
-    ensures { IfOk result (λ laid. (laid.0.items ≡ starts_from (implicit_slot_len patterns.now) patterns.now) × (laid.1 ≡ slot_len patterns.now)) }
+    ensures { IfOk result (λ laid. (laid.0.items ≡ starts_from (implicit_slot_len patterns.now) patterns.now) ×
+        (laid.1 ≡ slot_len patterns.now)) }
 {
     let mut starts = Vec::new(alloc);
     let mut end = patterns.len() * 2;

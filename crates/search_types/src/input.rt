@@ -28,7 +28,13 @@ impl<'h> Model for Input<'h> {
 
     ghost Value = { Search };
 
-    ghost view = { λ i. record { haystack = i.haystack.now; start = i.span.start; end = i.span.end; anchored = i.anchored; earliest = i.earliest } };
+    ghost view = { λ i. record {
+      haystack = i.haystack.now;
+      start = i.span.start;
+      end = i.span.end;
+      anchored = i.anchored;
+      earliest = i.earliest;
+    } };
 
     ghost invariant = { λ i. IsSpanOf i.haystack.now i.span.start i.span.end };
 }

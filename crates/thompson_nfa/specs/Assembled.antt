@@ -50,7 +50,8 @@ ComesBefore reverse xs table u c = (AllAnchored reverse xs × (table u ≡ empty
 
 -- what the patterns do depends neither on states below `low` nor on one hole: the state that leads to them, where it isn't
 -- the start of the only one
-pub record IsIndependent (reverse : Bool) (low first : ℕ) (drafts : List DraftNode) (c : ℕ) (starts : List ℕ) (xs : List Tree) : Type 0 where
+pub record IsIndependent (reverse : Bool) (low first : ℕ) (drafts : List DraftNode) (c : ℕ) (starts : List ℕ)
+    (xs : List Tree) : Type 0 where
   pub hole : ℕ
   pub hole_is : (hole ≡ c) ⊎ (starts ≡ c ∷ [])
   pub accept : (table : Table) → ((q : ℕ) → low ≤ q → q < length drafts → q ≢ hole → table q ≡ draft_at drafts q) →

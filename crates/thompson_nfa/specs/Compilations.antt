@@ -69,7 +69,8 @@ pub record FindsSpans (reverse : Bool) (xs : List Tree) (n : Nfa) : Type 0 where
 -- In which order they find them, for one who reads forward, where the loops of all trees read.
 pub record FindsInOrder (xs : List Tree) (n : Nfa) : Type 0 where
   pub patterns : (p : ℕ) (x : Tree) → slice_get xs p ≡ Some x → LoopsRead x → (t : Text) (i : ℕ) → i ≤ t.end →
-      ends_from n.automaton t (i, pattern_start n.automaton p) ≡ distinct same_pair (map (λ j. (j, p)) (preferred_ends t.holds (seen t) x i))
+      ends_from n.automaton t (i, pattern_start n.automaton p) ≡
+      distinct same_pair (map (λ j. (j, p)) (preferred_ends t.holds (seen t) x i))
   pub anchored : All LoopsRead xs → (t : Text) (i : ℕ) → i ≤ t.end →
       ends_from n.automaton t (i, n.automaton.start_anchored) ≡ distinct same_pair (choices_from 0 xs t i)
   pub unanchored : All LoopsRead xs → (t : Text) (i : ℕ) → IsPlainText t → t.start ≤ i → i ≤ t.end →

@@ -21,7 +21,8 @@ with_groups_of kept p (char_class ranges) groups = groups
 with_groups_of kept p (look l) groups = groups
 with_groups_of kept p (repetition min (Some zero) greedy x) groups = groups
 with_groups_of kept p (repetition min most greedy x) groups = with_groups_of kept p x groups
-with_groups_of kept p (capture index name x) groups = with_groups_of kept p x (if keeps_group kept index then with_group groups p index name else groups)
+with_groups_of kept p (capture index name x) groups =
+    with_groups_of kept p x (if keeps_group kept index then with_group groups p index name else groups)
 with_groups_of kept p nothing groups = groups
 with_groups_of kept p (cat x y) groups = with_groups_of kept p y (with_groups_of kept p x groups)
 with_groups_of kept p never groups = groups

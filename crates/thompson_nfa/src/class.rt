@@ -51,7 +51,8 @@ fn add_ranges(
     next: StateID,
 ) -> Result<StateID, BuildError>
     requires { IsTrue (is_ascending ranges.now) }
-    ensures added { IfOk result (λ id. AddsDraft builder.old builder.new id (sparse_draft (map (λ r. (r.0, r.1, next)) ranges.now)) builder.old.groups) }
+    ensures added { IfOk result (λ id. AddsDraft builder.old builder.new id
+        (sparse_draft (map (λ r. (r.0, r.1, next)) ranges.now)) builder.old.groups) }
     ensures few { IfOk result (λ _. length ranges.now ≤ 256) }
     ensures refused { IfErr result (λ e. Stays builder.old builder.new 1 2072 e) }
     ensures weighs { IfOk result (λ _. Weighs builder.old builder.new (24 + 8 * length ranges.now)) }

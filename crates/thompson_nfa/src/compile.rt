@@ -1,5 +1,6 @@
 //! Trees as fragments of states. Recursion goes into parts of the tree only.
-ghost use Rattle.std.specs.Prelude.{◌≡◌, ◌<◌, ◌≤◌, ◌+◌, ◌-◌, ◌*◌, ◌==◌, false, [], ◌∷◌, length, IfOk, IfErr, IfSome, Some, None, option_map, string_bytes};
+ghost use Rattle.std.specs.Prelude.{◌≡◌, ◌<◌, ◌≤◌, ◌+◌, ◌-◌, ◌*◌, ◌==◌, false, [], ◌∷◌, length, IfOk};
+ghost use Rattle.std.specs.Prelude.{IfErr, IfSome, Some, None, option_map, string_bytes};
 ghost use Rattle.hir_core.specs.Facts.{minimum_len};
 ghost use Rattle.hir_core.specs.Tree.{repetition, capture, concat, alternation};
 ghost use Rattle.thompson_nfa.specs.ByteRoom.{byte_room};
@@ -33,7 +34,8 @@ pub(crate) fn compile(
     ensures made { IfOk result (λ f. Makes builder.old builder.new f.start f.end (room how.shrink x.now)) }
     ensures denotes { IfOk result (λ f. Does builder.old builder.new f.start f.end (x.now)) }
     ensures weighs { IfOk result (λ _. Weighs builder.old builder.new (byte_room how.shrink x.now)) }
-    ensures groups { IfOk result (λ _. builder.new.groups ≡ with_groups_of how.which (length builder.old.starts) (x.now) builder.old.groups) }
+    ensures groups { IfOk result (λ _. builder.new.groups ≡
+        with_groups_of how.which (length builder.old.starts) (x.now) builder.old.groups) }
     ensures refused { IfErr result (λ e. RefusesFragment how.which builder.old builder.new (room how.shrink x.now) (x.now) e) }
     ensures passed { IfErr result (λ e. Passes builder.old (byte_room how.shrink x.now) e) }
 {
@@ -93,10 +95,13 @@ pub(crate) fn captured(
 ) -> Result<Fragment, BuildError>
     requires { IsReady how.which builder.old }
     ensures made { IfOk result (λ f. Makes builder.old builder.new f.start f.end (room how.shrink x.now + 2)) }
-    ensures denotes { IfOk result (λ f. Does builder.old builder.new f.start f.end (capture index (option_map string_bytes name.now) x.now)) }
+    ensures denotes { IfOk result (λ f. Does builder.old builder.new f.start f.end
+        (capture index (option_map string_bytes name.now) x.now)) }
     ensures weighs { IfOk result (λ _. Weighs builder.old builder.new (byte_room how.shrink x.now + 56)) }
-    ensures groups { IfOk result (λ _. builder.new.groups ≡ with_groups_of how.which (length builder.old.starts) (capture index (option_map string_bytes name.now) x.now) builder.old.groups) }
-    ensures refused { IfErr result (λ e. RefusesFragment how.which builder.old builder.new (room how.shrink x.now + 2) (capture index (option_map string_bytes name.now) x.now) e) }
+    ensures groups { IfOk result (λ _. builder.new.groups ≡
+        with_groups_of how.which (length builder.old.starts) (capture index (option_map string_bytes name.now) x.now) builder.old.groups) }
+    ensures refused { IfErr result (λ e. RefusesFragment how.which builder.old builder.new (room how.shrink x.now + 2)
+        (capture index (option_map string_bytes name.now) x.now) e) }
     ensures passed { IfErr result (λ e. Passes builder.old (byte_room how.shrink x.now + 56) e) }
 {
     if !keeps(how.which, index) {
@@ -125,8 +130,10 @@ fn concatenation(
     ensures made { IfOk result (λ f. Makes builder.old builder.new f.start f.end (room how.shrink (concat subs.now))) }
     ensures denotes { IfOk result (λ f. Does builder.old builder.new f.start f.end (concat subs.now)) }
     ensures weighs { IfOk result (λ _. Weighs builder.old builder.new (byte_room how.shrink (concat subs.now))) }
-    ensures groups { IfOk result (λ _. builder.new.groups ≡ with_groups_of how.which (length builder.old.starts) (concat subs.now) builder.old.groups) }
-    ensures refused { IfErr result (λ e. RefusesFragment how.which builder.old builder.new (room how.shrink (concat subs.now)) (concat subs.now) e) }
+    ensures groups { IfOk result (λ _. builder.new.groups ≡
+        with_groups_of how.which (length builder.old.starts) (concat subs.now) builder.old.groups) }
+    ensures refused { IfErr result (λ e. RefusesFragment how.which builder.old builder.new
+        (room how.shrink (concat subs.now)) (concat subs.now) e) }
     ensures passed { IfErr result (λ e. Passes builder.old (byte_room how.shrink (concat subs.now)) e) }
 {
     if subs.len() == 0 {
@@ -174,7 +181,8 @@ fn zero_or_more(
     ensures made { IfOk result (λ f. Makes builder.old builder.new f.start f.end (room how.shrink x.now + 3)) }
     ensures denotes { IfOk result (λ f. Does builder.old builder.new f.start f.end (repetition 0 None greedy x.now)) }
     ensures weighs { IfOk result (λ _. Weighs builder.old builder.new (byte_room how.shrink x.now + 92)) }
-    ensures groups { IfOk result (λ _. builder.new.groups ≡ with_groups_of how.which (length builder.old.starts) (x.now) builder.old.groups) }
+    ensures groups { IfOk result (λ _. builder.new.groups ≡
+        with_groups_of how.which (length builder.old.starts) (x.now) builder.old.groups) }
     ensures refused { IfErr result (λ e. RefusesFragment how.which builder.old builder.new (room how.shrink x.now + 3) (x.now) e) }
     ensures passed { IfErr result (λ e. Passes builder.old (byte_room how.shrink x.now + 92) e) }
     ensures form { IfOk result (λ f. (f.start == f.end) ≡ is_above_zero (minimum_len x.now)) }
@@ -208,7 +216,8 @@ fn zero_or_more_of_empty(
     ensures made { IfOk result (λ f. Makes builder.old builder.new f.start f.end (room how.shrink x.now + 3)) }
     ensures denotes { IfOk result (λ f. Does builder.old builder.new f.start f.end (repetition 0 None greedy x.now)) }
     ensures weighs { IfOk result (λ _. Weighs builder.old builder.new (byte_room how.shrink x.now + 92)) }
-    ensures groups { IfOk result (λ _. builder.new.groups ≡ with_groups_of how.which (length builder.old.starts) (x.now) builder.old.groups) }
+    ensures groups { IfOk result (λ _. builder.new.groups ≡
+        with_groups_of how.which (length builder.old.starts) (x.now) builder.old.groups) }
     ensures refused { IfErr result (λ e. RefusesFragment how.which builder.old builder.new (room how.shrink x.now + 3) (x.now) e) }
     ensures passed { IfErr result (λ e. Passes builder.old (byte_room how.shrink x.now + 92) e) }
     ensures apart { IfOk result (λ f. (f.start == f.end) ≡ false) }
@@ -242,7 +251,8 @@ fn one_or_more(
     ensures made { IfOk result (λ f. Makes builder.old builder.new f.start f.end (room how.shrink x.now + 1)) }
     ensures denotes { IfOk result (λ f. Does builder.old builder.new f.start f.end (repetition 1 None greedy x.now)) }
     ensures weighs { IfOk result (λ _. Weighs builder.old builder.new (byte_room how.shrink x.now + 32)) }
-    ensures groups { IfOk result (λ _. builder.new.groups ≡ with_groups_of how.which (length builder.old.starts) (x.now) builder.old.groups) }
+    ensures groups { IfOk result (λ _. builder.new.groups ≡
+        with_groups_of how.which (length builder.old.starts) (x.now) builder.old.groups) }
     ensures refused { IfErr result (λ e. RefusesFragment how.which builder.old builder.new (room how.shrink x.now + 1) (x.now) e) }
     ensures passed { IfErr result (λ e. Passes builder.old (byte_room how.shrink x.now + 32) e) }
 {
@@ -271,7 +281,8 @@ fn copies(
     ensures made { IfOk result (λ f. Makes builder.old builder.new f.start f.end (n * room how.shrink x.now)) }
     ensures denotes { IfOk result (λ f. DoesCopies builder.old builder.new f.start f.end n x.now) }
     ensures weighs { IfOk result (λ _. Weighs builder.old builder.new (n * (byte_room how.shrink x.now + 4))) }
-    ensures groups { IfOk result (λ _. builder.new.groups ≡ with_groups_of how.which (length builder.old.starts) (x.now) builder.old.groups) }
+    ensures groups { IfOk result (λ _. builder.new.groups ≡
+        with_groups_of how.which (length builder.old.starts) (x.now) builder.old.groups) }
     ensures refused { IfErr result (λ e. RefusesFragment how.which builder.old builder.new (n * room how.shrink x.now) (x.now) e) }
     ensures passed { IfErr result (λ e. Passes builder.old (n * (byte_room how.shrink x.now + 4)) e) }
 {
@@ -303,8 +314,10 @@ fn at_least(
     ensures made { IfOk result (λ f. Makes builder.old builder.new f.start f.end (room how.shrink (repetition min None greedy x.now))) }
     ensures denotes { IfOk result (λ f. Does builder.old builder.new f.start f.end (repetition min None greedy x.now)) }
     ensures weighs { IfOk result (λ _. Weighs builder.old builder.new (byte_room how.shrink (repetition min None greedy x.now))) }
-    ensures groups { IfOk result (λ _. builder.new.groups ≡ with_groups_of how.which (length builder.old.starts) (repetition min None greedy x.now) builder.old.groups) }
-    ensures refused { IfErr result (λ e. RefusesFragment how.which builder.old builder.new (room how.shrink (repetition min None greedy x.now)) (repetition min None greedy x.now) e) }
+    ensures groups { IfOk result (λ _. builder.new.groups ≡
+        with_groups_of how.which (length builder.old.starts) (repetition min None greedy x.now) builder.old.groups) }
+    ensures refused { IfErr result (λ e. RefusesFragment how.which builder.old builder.new
+        (room how.shrink (repetition min None greedy x.now)) (repetition min None greedy x.now) e) }
     ensures passed { IfErr result (λ e. Passes builder.old (byte_room how.shrink (repetition min None greedy x.now)) e) }
 {
     if min == 0 {
@@ -340,7 +353,8 @@ fn option(
     ensures made { IfOk result (λ f. Makes builder.old builder.new f.start f.end (room how.shrink x.now + 1)) }
     ensures denotes { IfOk result (λ f. DoesOption builder.old builder.new f.start f.end exit greedy x.now) }
     ensures weighs { IfOk result (λ _. Weighs builder.old builder.new (byte_room how.shrink x.now + 32)) }
-    ensures groups { IfOk result (λ _. builder.new.groups ≡ with_groups_of how.which (length builder.old.starts) (x.now) builder.old.groups) }
+    ensures groups { IfOk result (λ _. builder.new.groups ≡
+        with_groups_of how.which (length builder.old.starts) (x.now) builder.old.groups) }
     ensures refused { IfErr result (λ e. RefusesFragment how.which builder.old builder.new (room how.shrink x.now + 1) (x.now) e) }
     ensures passed { IfErr result (λ e. Passes builder.old (byte_room how.shrink x.now + 32) e) }
 {
@@ -370,8 +384,10 @@ fn up_to(
     ensures made { IfOk result (λ f. Makes builder.old builder.new f.start f.end (most * (room how.shrink x.now + 1) + 1)) }
     ensures denotes { IfOk result (λ f. Does builder.old builder.new f.start f.end (repetition 0 (Some most) greedy x.now)) }
     ensures weighs { IfOk result (λ _. Weighs builder.old builder.new (byte_room how.shrink (repetition 0 (Some most) greedy x.now))) }
-    ensures groups { IfOk result (λ _. builder.new.groups ≡ with_groups_of how.which (length builder.old.starts) (x.now) builder.old.groups) }
-    ensures refused { IfErr result (λ e. RefusesFragment how.which builder.old builder.new (most * (room how.shrink x.now + 1) + 1) (x.now) e) }
+    ensures groups { IfOk result (λ _. builder.new.groups ≡
+        with_groups_of how.which (length builder.old.starts) (x.now) builder.old.groups) }
+    ensures refused { IfErr result (λ e. RefusesFragment how.which builder.old builder.new
+        (most * (room how.shrink x.now + 1) + 1) (x.now) e) }
     ensures passed { IfErr result (λ e. Passes builder.old (byte_room how.shrink (repetition 0 (Some most) greedy x.now)) e) }
 {
     let exit = add_empty(builder)?;
@@ -404,11 +420,14 @@ fn owed_and_more(
     requires ready { IsReady how.which builder.old }
     requires some { 1 ≤ min }
     requires ordered { min ≤ most }
-    ensures made { IfOk result (λ f. Makes builder.old builder.new f.start f.end (min * room how.shrink x.now + (most - min) * (room how.shrink x.now + 1) + 1)) }
+    ensures made { IfOk result (λ f. Makes builder.old builder.new f.start f.end
+        (min * room how.shrink x.now + (most - min) * (room how.shrink x.now + 1) + 1)) }
     ensures denotes { IfOk result (λ f. Does builder.old builder.new f.start f.end (repetition min (Some most) greedy x.now)) }
     ensures weighs { IfOk result (λ _. Weighs builder.old builder.new (byte_room how.shrink (repetition min (Some most) greedy x.now))) }
-    ensures groups { IfOk result (λ _. builder.new.groups ≡ with_groups_of how.which (length builder.old.starts) (x.now) builder.old.groups) }
-    ensures refused { IfErr result (λ e. RefusesFragment how.which builder.old builder.new (min * room how.shrink x.now + (most - min) * (room how.shrink x.now + 1) + 1) (x.now) e) }
+    ensures groups { IfOk result (λ _. builder.new.groups ≡
+        with_groups_of how.which (length builder.old.starts) (x.now) builder.old.groups) }
+    ensures refused { IfErr result (λ e. RefusesFragment how.which builder.old builder.new
+        (min * room how.shrink x.now + (most - min) * (room how.shrink x.now + 1) + 1) (x.now) e) }
     ensures passed { IfErr result (λ e. Passes builder.old (byte_room how.shrink (repetition min (Some most) greedy x.now)) e) }
 {
     let prefix = copies(builder, alloc, how, shared, x, min)?;
@@ -440,11 +459,14 @@ fn between(
 ) -> Result<Fragment, BuildError>
     requires ready { IsReady how.which builder.old }
     requires ordered { min ≤ most }
-    ensures made { IfOk result (λ f. Makes builder.old builder.new f.start f.end (room how.shrink (repetition min (Some most) greedy x.now))) }
+    ensures made { IfOk result (λ f. Makes builder.old builder.new f.start f.end
+        (room how.shrink (repetition min (Some most) greedy x.now))) }
     ensures denotes { IfOk result (λ f. Does builder.old builder.new f.start f.end (repetition min (Some most) greedy x.now)) }
     ensures weighs { IfOk result (λ _. Weighs builder.old builder.new (byte_room how.shrink (repetition min (Some most) greedy x.now))) }
-    ensures groups { IfOk result (λ _. builder.new.groups ≡ with_groups_of how.which (length builder.old.starts) (repetition min (Some most) greedy x.now) builder.old.groups) }
-    ensures refused { IfErr result (λ e. RefusesFragment how.which builder.old builder.new (room how.shrink (repetition min (Some most) greedy x.now)) (repetition min (Some most) greedy x.now) e) }
+    ensures groups { IfOk result (λ _. builder.new.groups ≡
+        with_groups_of how.which (length builder.old.starts) (repetition min (Some most) greedy x.now) builder.old.groups) }
+    ensures refused { IfErr result (λ e. RefusesFragment how.which builder.old builder.new
+        (room how.shrink (repetition min (Some most) greedy x.now)) (repetition min (Some most) greedy x.now) e) }
     ensures passed { IfErr result (λ e. Passes builder.old (byte_room how.shrink (repetition min (Some most) greedy x.now)) e) }
 {
     if most == 0 {
@@ -476,8 +498,10 @@ fn alternatives(
     ensures made { IfOk result (λ f. Makes builder.old builder.new f.start f.end (room how.shrink (alternation subs.now))) }
     ensures denotes { IfOk result (λ f. Does builder.old builder.new f.start f.end (alternation subs.now)) }
     ensures weighs { IfOk result (λ _. Weighs builder.old builder.new (byte_room how.shrink (alternation subs.now))) }
-    ensures groups { IfOk result (λ _. builder.new.groups ≡ with_groups_of how.which (length builder.old.starts) (alternation subs.now) builder.old.groups) }
-    ensures refused { IfErr result (λ e. RefusesFragment how.which builder.old builder.new (room how.shrink (alternation subs.now)) (alternation subs.now) e) }
+    ensures groups { IfOk result (λ _. builder.new.groups ≡
+        with_groups_of how.which (length builder.old.starts) (alternation subs.now) builder.old.groups) }
+    ensures refused { IfErr result (λ e. RefusesFragment how.which builder.old builder.new
+        (room how.shrink (alternation subs.now)) (alternation subs.now) e) }
     ensures passed { IfErr result (λ e. Passes builder.old (byte_room how.shrink (alternation subs.now)) e) }
 {
     if subs.len() == 0 {

@@ -1,5 +1,6 @@
 ghost use Rattle.std.specs.Prelude.{◌≡◌, Some};
-ghost use Rattle.thompson_nfa.specs.Configs.{no_options, changed_by, utf8_of, reverse_of, limit_of, shrink_of, captures_of, terminator_of, is_any, is_shrunk, all_or_none};
+ghost use Rattle.thompson_nfa.specs.Configs.{no_options, changed_by, utf8_of, reverse_of, limit_of, shrink_of, captures_of, terminator_of};
+ghost use Rattle.thompson_nfa.specs.Configs.{is_any, is_shrunk, all_or_none};
 
 use crate::which_captures::WhichCaptures;
 use look_core::{AsciiWord, LineTerm, LookMatcher};
@@ -24,9 +25,23 @@ impl Model for Config {
 
     ghost Value = { Options };
 
-    ghost view = { λ c. record { utf8 = c.utf8; reverse = c.reverse; size_limit = c.nfa_size_limit; shrink = c.shrink; captures = c.which_captures; terminator = c.line_terminator } };
+    ghost view = { λ c. record {
+      utf8 = c.utf8;
+      reverse = c.reverse;
+      size_limit = c.nfa_size_limit;
+      shrink = c.shrink;
+      captures = c.which_captures;
+      terminator = c.line_terminator;
+    } };
 
-    ghost inverse = { λ o. record { utf8 = o.utf8; reverse = o.reverse; nfa_size_limit = o.size_limit; shrink = o.shrink; which_captures = o.captures; line_terminator = o.terminator } };
+    ghost inverse = { λ o. record {
+      utf8 = o.utf8;
+      reverse = o.reverse;
+      nfa_size_limit = o.size_limit;
+      shrink = o.shrink;
+      which_captures = o.captures;
+      line_terminator = o.terminator;
+    } };
 }
 
 impl Config {

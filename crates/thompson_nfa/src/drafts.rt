@@ -1,7 +1,9 @@
 //! The single steps of a compile: a state is added, or one is led on.
-ghost use Rattle.std.specs.Prelude.{◌≡◌, ◌<◌, ◌≤◌, true, false, length, map, MatchResult, IfOk, IfErr, string_bytes, [], ◌∷◌, if◌then◌else◌};
+ghost use Rattle.std.specs.Prelude.{◌≡◌, ◌<◌, ◌≤◌, true, false, length, map, MatchResult, IfOk};
+ghost use Rattle.std.specs.Prelude.{IfErr, string_bytes, [], ◌∷◌, if◌then◌else◌};
 ghost use Rattle.std.specs.Option.{option_map};
-ghost use Rattle.nfa_core.specs.BuilderStates.{capture_start_draft, capture_end_draft, with_group, empty_draft, range_draft, look_draft, fail_draft, union_draft, union_reverse_draft, draft_at, is_sparse};
+ghost use Rattle.nfa_core.specs.BuilderStates.{capture_start_draft, capture_end_draft, with_group, empty_draft, range_draft, look_draft};
+ghost use Rattle.nfa_core.specs.BuilderStates.{fail_draft, union_draft, union_reverse_draft, draft_at, is_sparse};
 ghost use Rattle.thompson_nfa.specs.Added.{AddsDraft, Led};
 ghost use Rattle.thompson_nfa.specs.Choice.{no_choice};
 ghost use Rattle.thompson_nfa.specs.Refusals.{Stays, QuitsGroup};
@@ -14,7 +16,8 @@ use std::alloc::Global;
 /// Adds a state that stands for another, which is named later.
 #[tactic(auto, using(crate::proofs::Steps::StepLemmas::added_of, crate::proofs::Steps::StepLemmas::add_refused))]
 pub(crate) fn add_empty(builder: &mut Builder) -> Result<StateID, BuildError>
-    ensures { MatchResult result (λ id. AddsDraft builder.old builder.new id (empty_draft 0) builder.old.groups) (λ e. Stays builder.old builder.new 1 24 e) }
+    ensures { MatchResult result (λ id. AddsDraft builder.old builder.new id (empty_draft 0) builder.old.groups)
+        (λ e. Stays builder.old builder.new 1 24 e) }
 {
     builder.add_empty()
 }
@@ -22,7 +25,8 @@ pub(crate) fn add_empty(builder: &mut Builder) -> Result<StateID, BuildError>
 /// Adds a state that leads nowhere.
 #[tactic(auto, using(crate::proofs::Steps::StepLemmas::added_of, crate::proofs::Steps::StepLemmas::add_refused))]
 pub(crate) fn add_fail(builder: &mut Builder) -> Result<StateID, BuildError>
-    ensures { MatchResult result (λ id. AddsDraft builder.old builder.new id fail_draft builder.old.groups) (λ e. Stays builder.old builder.new 1 24 e) }
+    ensures { MatchResult result (λ id. AddsDraft builder.old builder.new id fail_draft builder.old.groups)
+        (λ e. Stays builder.old builder.new 1 24 e) }
 {
     builder.add_fail()
 }
@@ -31,7 +35,8 @@ pub(crate) fn add_fail(builder: &mut Builder) -> Result<StateID, BuildError>
 #[tactic(auto, using(crate::proofs::Steps::StepLemmas::added_of, crate::proofs::Steps::StepLemmas::add_refused))]
 pub(crate) fn add_range(builder: &mut Builder, start: u8, end: u8) -> Result<StateID, BuildError>
     requires { start ≤ end }
-    ensures { MatchResult result (λ id. AddsDraft builder.old builder.new id (range_draft start end 0) builder.old.groups) (λ e. Stays builder.old builder.new 1 24 e) }
+    ensures { MatchResult result (λ id. AddsDraft builder.old builder.new id (range_draft start end 0) builder.old.groups)
+        (λ e. Stays builder.old builder.new 1 24 e) }
 {
     let next = StateID::ZERO;
     builder.add_range(Transition { start, end, next })
@@ -40,7 +45,8 @@ pub(crate) fn add_range(builder: &mut Builder, start: u8, end: u8) -> Result<Sta
 /// Adds a state that leads on where the look holds.
 #[tactic(auto, using(crate::proofs::Steps::StepLemmas::added_of, crate::proofs::Steps::StepLemmas::add_refused))]
 pub(crate) fn add_look(builder: &mut Builder, look: Look) -> Result<StateID, BuildError>
-    ensures { MatchResult result (λ id. AddsDraft builder.old builder.new id (look_draft look 0) builder.old.groups) (λ e. Stays builder.old builder.new 1 24 e) }
+    ensures { MatchResult result (λ id. AddsDraft builder.old builder.new id (look_draft look 0) builder.old.groups)
+        (λ e. Stays builder.old builder.new 1 24 e) }
 {
     builder.add_look(StateID::ZERO, look)
 }
@@ -53,7 +59,8 @@ pub(crate) fn add_choice(
     alloc: Global,
     greedy: bool,
 ) -> Result<StateID, BuildError>
-    ensures { MatchResult result (λ id. AddsDraft builder.old builder.new id (no_choice greedy) builder.old.groups) (λ e. Stays builder.old builder.new 1 24 e) }
+    ensures { MatchResult result (λ id. AddsDraft builder.old builder.new id (no_choice greedy) builder.old.groups)
+        (λ e. Stays builder.old builder.new 1 24 e) }
 {
     if greedy {
         builder.add_union(Vec::new(alloc))
@@ -82,7 +89,8 @@ pub(crate) fn start_group(
     name: Option<String>,
 ) -> Result<StateID, BuildError>
     requires { builder.old.is_open ≡ true }
-    ensures added { IfOk result (λ id. AddsDraft builder.old builder.new id (capture_start_draft (length builder.old.starts) index 0) (with_group builder.old.groups (length builder.old.starts) index (option_map string_bytes name))) }
+    ensures added { IfOk result (λ id. AddsDraft builder.old builder.new id (capture_start_draft (length builder.old.starts) index 0)
+        (with_group builder.old.groups (length builder.old.starts) index (option_map string_bytes name))) }
     ensures refused { IfErr result (λ e. QuitsGroup builder.old builder.new index e) }
 {
     let id = builder.add_capture_start(StateID::ZERO, index, name)?;
@@ -93,7 +101,8 @@ pub(crate) fn start_group(
 #[tactic(auto, using(crate::proofs::Fragments::CaptureLemmas::end_added, crate::proofs::Fragments::CaptureLemmas::end_refused))]
 pub(crate) fn end_group(builder: &mut Builder, index: u32) -> Result<StateID, BuildError>
     requires { builder.old.is_open ≡ true }
-    ensures added { IfOk result (λ id. AddsDraft builder.old builder.new id (capture_end_draft (length builder.old.starts) index 0) builder.old.groups) }
+    ensures added { IfOk result (λ id. AddsDraft builder.old builder.new id
+        (capture_end_draft (length builder.old.starts) index 0) builder.old.groups) }
     ensures refused { IfErr result (λ e. QuitsGroup builder.old builder.new index e) }
 {
     let id = builder.add_capture_end(StateID::ZERO, index)?;

@@ -92,8 +92,10 @@ pub(crate) fn chunk<'a>(
     groups: &mut Vec<Vec<&'a [u8]>>,
 ) -> Result<Vec<Edge>, AllocError>
     requires { first ≤ 9223372036854775807 }
-    ensures adds { IfOk result (λ edges. AddsGroups (texts_of_groups (λ g. g.items) groups.old.items) (texts_of_groups (λ g. g.items) groups.new.items) (length edges.items) (texts strings.now)) }
-    ensures chunk { IfOk result (λ edges. (before : List (List (List ℕ))) → length before ≡ first → IsChunk first (before ++ texts_of_groups (λ g. g.items) groups.new.items) edges.items (texts strings.now)) }
+    ensures adds { IfOk result (λ edges. AddsGroups (texts_of_groups (λ g. g.items) groups.old.items)
+        (texts_of_groups (λ g. g.items) groups.new.items) (length edges.items) (texts strings.now)) }
+    ensures chunk { IfOk result (λ edges. (before : List (List (List ℕ))) → length before ≡ first →
+        IsChunk first (before ++ texts_of_groups (λ g. g.items) groups.new.items) edges.items (texts strings.now)) }
 {
     let mut edges = Vec::new(alloc);
     let mut low = 0u16;

@@ -11,7 +11,8 @@ use std::mem;
 
 /// Adds a match, unless the last item is one.
 fn push_match(alloc: Global, items: &mut Vec<Vec<Edge>>, matched: bool) -> Result<(), AllocError>
-    ensures { IfOk result (λ _. map (λ x. x.items) items.new.items ≡ (if matched then map (λ x. x.items) items.old.items else map (λ x. x.items) items.old.items ++ [] ∷ [])) }
+    ensures { IfOk result (λ _. map (λ x. x.items) items.new.items ≡
+        (if matched then map (λ x. x.items) items.old.items else map (λ x. x.items) items.old.items ++ [] ∷ [])) }
 {
     if matched {
         return Ok(());
@@ -31,10 +32,13 @@ fn items<'a>(
 ) -> Result<Vec<Vec<Edge>>, AllocError>
     requires few { first ≤ 9223372036854775807 }
     requires some { 1 ≤ length strings.now }
-    ensures adds { IfOk result (λ v. AddsGroups (texts_of_groups (λ g. g.items) groups.old.items) (texts_of_groups (λ g. g.items) groups.new.items) (edges_in (map (λ x. x.items) v.items)) (texts strings.now)) }
-    ensures ended { IfOk result (λ v. matches_in (map (λ x. x.items) v.items) + strings_in_all (texts_of_groups (λ g. g.items) groups.new.items) ≤
+    ensures adds { IfOk result (λ v. AddsGroups (texts_of_groups (λ g. g.items) groups.old.items)
+        (texts_of_groups (λ g. g.items) groups.new.items) (edges_in (map (λ x. x.items) v.items)) (texts strings.now)) }
+    ensures ended { IfOk result (λ v.
+        matches_in (map (λ x. x.items) v.items) + strings_in_all (texts_of_groups (λ g. g.items) groups.new.items) ≤
         strings_in_all (texts_of_groups (λ g. g.items) groups.old.items) + length (texts strings.now)) }
-    ensures node { IfOk result (λ v. (before : List (List (List ℕ))) → length before ≡ first → IsNode first (before ++ texts_of_groups (λ g. g.items) groups.new.items) (map (λ x. x.items) v.items) (texts strings.now)) }
+    ensures node { IfOk result (λ v. (before : List (List (List ℕ))) → length before ≡ first →
+        IsNode first (before ++ texts_of_groups (λ g. g.items) groups.new.items) (map (λ x. x.items) v.items) (texts strings.now)) }
 {
     let mut items = Vec::new(alloc);
     let mut rest = strings;
@@ -70,7 +74,8 @@ fn lay<'a>(
 ) -> Result<Node<'a>, AllocError>
     requires few { first ≤ 9223372036854775807 }
     requires some { 1 ≤ length strings.now }
-    ensures { IfOk result (λ n. LaysNode first (texts_of_groups (λ g. g.items) groups.old.items) (texts_of_groups (λ g. g.items) groups.new.items) (node_value n) (texts strings.now)) }
+    ensures { IfOk result (λ n. LaysNode first (texts_of_groups (λ g. g.items) groups.old.items)
+        (texts_of_groups (λ g. g.items) groups.new.items) (node_value n) (texts strings.now)) }
 {
     let stem = stem(strings);
     let rest = behind_stem(alloc, strings, stem)?;
@@ -83,7 +88,8 @@ fn take_group<'a>(alloc: Global, groups: &mut Vec<Vec<&'a [u8]>>, at: usize) -> 
     requires { at < length groups.old.items }
     ensures taken { texts result.items ≡ get_or (texts_of_groups (λ g. g.items) groups.old.items) at [] }
     ensures as_many { length (texts_of_groups (λ g. g.items) groups.new.items) ≡ length (texts_of_groups (λ g. g.items) groups.old.items) }
-    ensures later { drop (at + 1) (texts_of_groups (λ g. g.items) groups.new.items) ≡ drop (at + 1) (texts_of_groups (λ g. g.items) groups.old.items) }
+    ensures later { drop (at + 1) (texts_of_groups (λ g. g.items) groups.new.items) ≡
+        drop (at + 1) (texts_of_groups (λ g. g.items) groups.old.items) }
 {
     mem::replace(&mut groups[at], Vec::new(alloc))
 }
@@ -100,8 +106,10 @@ fn lay_next<'a>(
     ensures { IfOk result (λ _. (kept : List (List (List ℕ))) × (fresh : List (List (List ℕ))) × (node : NodeValue) ×
         (length kept ≡ length (texts_of_groups (λ g. g.items) groups.old.items)) ×
         (drop (length nodes.old.items + 1) kept ≡ drop (length nodes.old.items + 1) (texts_of_groups (λ g. g.items) groups.old.items)) ×
-        LaysNode (length (texts_of_groups (λ g. g.items) groups.old.items)) [] fresh node (get_or (texts_of_groups (λ g. g.items) groups.old.items) (length nodes.old.items) []) ×
-        (map node_value nodes.new.items ≡ map node_value nodes.old.items ++ node ∷ []) × (texts_of_groups (λ g. g.items) groups.new.items ≡ kept ++ fresh)) }
+        LaysNode (length (texts_of_groups (λ g. g.items) groups.old.items)) [] fresh node
+        (get_or (texts_of_groups (λ g. g.items) groups.old.items) (length nodes.old.items) []) ×
+        (map node_value nodes.new.items ≡ map node_value nodes.old.items ++ node ∷ []) ×
+        (texts_of_groups (λ g. g.items) groups.new.items ≡ kept ++ fresh)) }
 {
     let strings = take_group(alloc, groups, nodes.len());
     let mut more = Vec::new(alloc);

@@ -42,7 +42,8 @@ fn add_chunk(
 ) -> Result<StateID, BuildError>
     requires inside { LeadWithin 0 (length names.now) edges.now }
     requires ascending { Ascends 0 edges.now 256 }
-    ensures added { IfOk result (λ id. AddsDraft builder.old builder.new id (sparse_draft (edge_ranges names.now edges.now)) builder.old.groups) }
+    ensures added { IfOk result (λ id. AddsDraft builder.old builder.new id
+        (sparse_draft (edge_ranges names.now edges.now)) builder.old.groups) }
     ensures refused { IfErr result (λ e. Stays builder.old builder.new 1 (24 + 8 * length edges.now) e) }
 {
     let all = transitions(alloc, edges, names)?;
@@ -73,7 +74,8 @@ fn add_item(
 /// Adds a state that leads to each of these, the preferred first.
 #[tactic(auto, using(crate::proofs::Steps::StepLemmas::added_of, crate::proofs::Steps::StepLemmas::add_refused))]
 fn add_ways(builder: &mut Builder, ways: Vec<StateID>) -> Result<StateID, BuildError>
-    ensures { MatchResult result (λ id. AddsDraft builder.old builder.new id (union_draft ways.items) builder.old.groups) (λ e. Stays builder.old builder.new 1 (24 + 4 * length ways.items) e) }
+    ensures { MatchResult result (λ id. AddsDraft builder.old builder.new id (union_draft ways.items) builder.old.groups)
+        (λ e. Stays builder.old builder.new 1 (24 + 4 * length ways.items) e) }
 {
     builder.add_union(ways)
 }
@@ -101,7 +103,8 @@ pub(crate) fn add_node(
     requires parted { length items.now ≤ 2 * matches_in (map (λ x. x.items) items.now) + 1 }
     ensures added { IfOk result (λ id. AddsNode builder.old builder.new names.now end (map (λ x. x.items) items.now) id) }
     ensures refused { IfErr result (λ e. Quits builder.old builder.new (2 * edges_in (map (λ x. x.items) items.now)) e) }
-    ensures passed { IfErr result (λ e. Passes builder.old (32 * edges_in (map (λ x. x.items) items.now) + 36 * matches_in (map (λ x. x.items) items.now)) e) }
+    ensures passed { IfErr result (λ e. Passes builder.old
+        (32 * edges_in (map (λ x. x.items) items.now) + 36 * matches_in (map (λ x. x.items) items.now)) e) }
 {
     let mut ways = Vec::new(alloc);
     for item in items {

@@ -11,7 +11,8 @@ use search_core::StateID;
 /// Adds a state that reads the byte and leads on to the state `next`.
 #[tactic(auto, using(crate::proofs::Steps::StepLemmas::added_of, crate::proofs::Steps::StepLemmas::add_refused))]
 fn add_byte(builder: &mut Builder, byte: u8, next: StateID) -> Result<StateID, BuildError>
-    ensures { MatchResult result (λ id. AddsDraft builder.old builder.new id (range_draft byte byte next) builder.old.groups) (λ e. Stays builder.old builder.new 1 24 e) }
+    ensures { MatchResult result (λ id. AddsDraft builder.old builder.new id (range_draft byte byte next) builder.old.groups)
+        (λ e. Stays builder.old builder.new 1 24 e) }
 {
     builder.add_range(Transition {
         start: byte,

@@ -35,9 +35,12 @@ fn compile_strings(
 ) -> Result<Fragment, BuildError>
     requires { 1 ≤ length strings.items }
     ensures made { IfOk result (λ f. Makes builder.old builder.new f.start f.end (1 + 2 * bytes_in (texts strings.entry.items))) }
-    ensures denotes { IfOk result (λ f. Does builder.old builder.new f.start f.end (literals builder.old.reverse (texts strings.entry.items))) }
-    ensures weighs { IfOk result (λ _. Weighs builder.old builder.new (24 + 32 * bytes_in (texts strings.entry.items) + 36 * length (texts strings.entry.items))) }
-    ensures passed { IfErr result (λ e. Passes builder.old (24 + 32 * bytes_in (texts strings.entry.items) + 36 * length (texts strings.entry.items)) e) }
+    ensures denotes { IfOk result (λ f. Does builder.old builder.new f.start f.end
+        (literals builder.old.reverse (texts strings.entry.items))) }
+    ensures weighs { IfOk result (λ _. Weighs builder.old builder.new
+        (24 + 32 * bytes_in (texts strings.entry.items) + 36 * length (texts strings.entry.items))) }
+    ensures passed { IfErr result (λ e. Passes builder.old
+        (24 + 32 * bytes_in (texts strings.entry.items) + 36 * length (texts strings.entry.items)) e) }
     ensures groups { IfOk result (λ _. builder.new.groups ≡ builder.old.groups) }
     ensures refused { IfErr result (λ e. Quits builder.old builder.new (1 + 2 * bytes_in (texts strings.entry.items)) e) }
 {
@@ -136,7 +139,8 @@ impl LiteralTrie {
         requires { 1 ≤ length self.now.strings }
         ensures made { IfOk result (λ f. Makes builder.old builder.new f.start f.end (1 + 2 * bytes_in self.now.strings)) }
         ensures denotes { IfOk result (λ f. Does builder.old builder.new f.start f.end (literals builder.old.reverse self.now.strings)) }
-        ensures weighs { IfOk result (λ _. Weighs builder.old builder.new (24 + 32 * bytes_in self.now.strings + 36 * length self.now.strings)) }
+        ensures weighs { IfOk result (λ _. Weighs builder.old builder.new
+            (24 + 32 * bytes_in self.now.strings + 36 * length self.now.strings)) }
         ensures passed { IfErr result (λ e. Passes builder.old (24 + 32 * bytes_in self.now.strings + 36 * length self.now.strings) e) }
         ensures groups { IfOk result (λ _. builder.new.groups ≡ builder.old.groups) }
         ensures refused { IfErr result (λ e. Quits builder.old builder.new (1 + 2 * bytes_in self.now.strings) e) }

@@ -40,7 +40,8 @@ pub(crate) struct Starts {
 #[tactic(auto, using(crate::proofs::Steps::StepLemmas::added_of, crate::proofs::Steps::StepLemmas::add_refused))]
 fn add_match(builder: &mut Builder) -> Result<StateID, BuildError>
     requires { builder.old.is_open ≡ true }
-    ensures { MatchResult result (λ id. AddsDraft builder.old builder.new id (match_draft (length builder.old.starts)) builder.old.groups) (λ e. Stays builder.old builder.new 1 24 e) }
+    ensures { MatchResult result (λ id. AddsDraft builder.old builder.new id (match_draft (length builder.old.starts)) builder.old.groups)
+        (λ e. Stays builder.old builder.new 1 24 e) }
 {
     builder.add_match()
 }
@@ -57,7 +58,8 @@ fn compile_pattern(
     requires closed { builder.old.is_open ≡ false }
     requires forward { builder.old.reverse ≡ true → how.which ≡ which_captures.None }
     requires numbered { length builder.old.starts ≤ greatest_index }
-    ensures has { IfOk result (λ start. HasAll how.which builder.old builder.new (start ∷ []) (expr.now ∷ []) (room how.shrink expr.now + 3) 4) }
+    ensures has { IfOk result (λ start. HasAll how.which builder.old builder.new
+        (start ∷ []) (expr.now ∷ []) (room how.shrink expr.now + 3) 4) }
     ensures refused { IfErr result (λ e. RefusesPatterns how.which builder.old (room how.shrink expr.now + 3) (expr.now ∷ []) e) }
     ensures weighs { IfOk result (λ _. Weighs builder.old builder.new (byte_room how.shrink expr.now + 84)) }
     ensures passed { IfErr result (λ e. Passes builder.old (byte_room how.shrink expr.now + 84) e) }
@@ -157,7 +159,8 @@ pub(crate) fn compile_all(
     requires numbered { length exprs.now ≤ greatest_index + 1 }
     ensures assembled { IfOk result (λ s. IsAssembled config.now exprs.now builder.new s.anchored s.unanchored) }
     ensures apart { IfOk result (λ s. past builder.new.drafts s.anchored ≢ s.unanchored) }
-    ensures refused { IfErr result (λ e. RefusesPatterns (captures_of config.now) builder.old (room_for (is_shrunk config.now) exprs.now + 4) exprs.now e) }
+    ensures refused { IfErr result (λ e. RefusesPatterns (captures_of config.now) builder.old
+        (room_for (is_shrunk config.now) exprs.now + 4) exprs.now e) }
     ensures passed { IfErr result (λ e. Passes builder.old (patterns_bytes (is_shrunk config.now) exprs.now) e) }
 {
     let which = config.get_which_captures();
@@ -201,7 +204,8 @@ fn is_anchored(expr: &Hir, reverse: bool) -> bool
 /// Adds a state that reads any byte.
 #[tactic(auto, using(crate::proofs::Steps::StepLemmas::added_of, crate::proofs::Steps::StepLemmas::add_refused))]
 fn add_any_byte(builder: &mut Builder, alloc: Global, next: StateID) -> Result<StateID, BuildError>
-    ensures { MatchResult result (λ id. AddsDraft builder.old builder.new id (sparse_draft ((0, 255, next) ∷ [])) builder.old.groups) (λ e. Stays builder.old builder.new 1 32 e) }
+    ensures { MatchResult result (λ id. AddsDraft builder.old builder.new id (sparse_draft ((0, 255, next) ∷ [])) builder.old.groups)
+        (λ e. Stays builder.old builder.new 1 32 e) }
 {
     let mut transitions = Vec::new(alloc);
     transitions.push(Transition {

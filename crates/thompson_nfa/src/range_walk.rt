@@ -28,7 +28,8 @@ pub(crate) fn emit(
     paths: &mut Vec<Vec<Utf8Range>>,
 ) -> Result<(), AllocError>
     requires { IsInside (length nodes.now) next }
-    ensures { OnOk result (paths_of paths.new.items ≡ paths_of paths.old.items ++ path_then (map bytes_of path.now) (following nodes.now next)) }
+    ensures { OnOk result (paths_of paths.new.items ≡
+        paths_of paths.old.items ++ path_then (map bytes_of path.now) (following nodes.now next)) }
 {
     match next {
         Next::Nothing => Ok(()),

@@ -44,10 +44,13 @@ pub fn repeated_classes_take_what_they_hold()
 /// for each of their bytes, and 32 each: `[0-9]|going|doing` takes no more than 456.
 #[tactic(auto, using(crate::proofs::Steps::ByteRows::two_literals, crate::proofs::Steps::ByteRows::two_words, crate::proofs::Steps::ByteRows::words_behind_digits, crate::proofs::Steps::ByteRows::literals_fit))]
 pub fn literals_take_what_they_hold()
-    ensures two { (shrink : Bool) (v w : List ℕ) → byte_room shrink (alternation (literal v ∷ literal w ∷ [])) ≡ 32 * (length v + length w) + 96 }
-    ensures words { (shrink : Bool) → byte_room shrink (alternation (literal (103 ∷ 111 ∷ 105 ∷ 110 ∷ 103 ∷ []) ∷ literal (100 ∷ 111 ∷ 105 ∷ 110 ∷ 103 ∷ []) ∷ [])) ≡ 416 }
+    ensures two { (shrink : Bool) (v w : List ℕ) →
+        byte_room shrink (alternation (literal v ∷ literal w ∷ [])) ≡ 32 * (length v + length w) + 96 }
+    ensures words { (shrink : Bool) → byte_room shrink
+        (alternation (literal (103 ∷ 111 ∷ 105 ∷ 110 ∷ 103 ∷ []) ∷ literal (100 ∷ 111 ∷ 105 ∷ 110 ∷ 103 ∷ []) ∷ [])) ≡ 416 }
     ensures behind { (shrink : Bool) →
-        byte_room shrink (alternation (byte_class ((48, 57) ∷ []) ∷ literal (103 ∷ 111 ∷ 105 ∷ 110 ∷ 103 ∷ []) ∷ literal (100 ∷ 111 ∷ 105 ∷ 110 ∷ 103 ∷ []) ∷ [])) ≡ 456 }
+        byte_room shrink (alternation (byte_class ((48, 57) ∷ []) ∷ literal (103 ∷ 111 ∷ 105 ∷ 110 ∷ 103 ∷ []) ∷
+        literal (100 ∷ 111 ∷ 105 ∷ 110 ∷ 103 ∷ []) ∷ [])) ≡ 456 }
     ensures fits { (o : Options) (limit : ℕ) (xs : List Tree) → are_literals xs ≡ true → choice_bytes (alternation xs) + 212 ≤ limit →
         RefusesTrees o (alternation xs ∷ []) (ExceededSizeLimit limit) → ⊥ }
 {}
@@ -58,11 +61,14 @@ pub fn literals_take_what_they_hold()
 /// compile of it alone.
 #[tactic(auto, using(crate::proofs::Steps::ByteRows::other_class, crate::proofs::Steps::ByteRows::class_most, crate::proofs::Steps::ByteRows::class_fits))]
 pub fn classes_of_scalars_take_what_they_hold()
-    ensures plain { (ranges : List (ℕ × ℕ)) → is_ascii ranges ≡ false → byte_room false (char_class ranges) ≡ 48 + sequence_bytes (sequences_of ranges) }
-    ensures most { (ranges : List (ℕ × ℕ)) → is_ascii ranges ≡ false → byte_room false (char_class ranges) ≤ 48 + 104 * sequence_count ranges }
+    ensures plain { (ranges : List (ℕ × ℕ)) → is_ascii ranges ≡ false →
+        byte_room false (char_class ranges) ≡ 48 + sequence_bytes (sequences_of ranges) }
+    ensures most { (ranges : List (ℕ × ℕ)) → is_ascii ranges ≡ false →
+        byte_room false (char_class ranges) ≤ 48 + 104 * sequence_count ranges }
     ensures shrunk { (ranges : List (ℕ × ℕ)) → is_ascii ranges ≡ false → byte_room true (char_class ranges) ≡ 48 + 104 * scalars_in ranges }
     ensures letters { byte_room false (char_class ((945, 969) ∷ [])) ≡ 160 }
     ensures shrunk_letters { byte_room true (char_class ((945, 969) ∷ [])) ≡ 2648 }
-    ensures fits { (o : Options) (limit : ℕ) (ranges : List (ℕ × ℕ)) → is_ascii ranges ≡ false → class_bytes (is_shrunk o) ranges + 212 ≤ limit →
+    ensures fits { (o : Options) (limit : ℕ) (ranges : List (ℕ × ℕ)) → is_ascii ranges ≡ false →
+        class_bytes (is_shrunk o) ranges + 212 ≤ limit →
         RefusesTrees o (char_class ranges ∷ []) (ExceededSizeLimit limit) → ⊥ }
 {}

@@ -37,7 +37,8 @@ fn add_sequence(
     ensures weighs { IfOk result (λ _. sum_of_bytes builder.new + left_bytes state.new.nodes.items ≤
         sum_of_bytes builder.old + left_bytes state.old.nodes.items + (24 * length (ranges_of_sequence sequence.now) + 8)) }
     ensures refused { IfErr result (λ e. (old : Assembly) (qs : List (List (ℕ × ℕ))) →
-        IsCompiling old builder.old state.old.end state.old.compiled state.old.nodes.items qs → Quits old builder.new (2 + 4 * length qs) e) }
+        IsCompiling old builder.old state.old.end state.old.compiled state.old.nodes.items qs →
+        Quits old builder.new (2 + 4 * length qs) e) }
     ensures passed { IfErr result (λ e. Passes builder.old (left_bytes state.old.nodes.items) e) }
 {
     add(builder, alloc, state, sequence.as_slice())?;
@@ -62,7 +63,8 @@ fn add_sequences(
     ensures refused { IfErr result (λ e. (old : Assembly) (qs : List (List (ℕ × ℕ))) →
         IsCompiling old builder.old state.old.end state.old.compiled state.old.nodes.items qs →
         Quits old builder.new (2 + 4 * length (qs ++ utf8_sequences first last)) e) }
-    ensures passed { IfErr result (λ e. Passes builder.old (left_bytes state.old.nodes.items + sequence_bytes (utf8_sequences first last)) e) }
+    ensures passed { IfErr result (λ e. Passes builder.old
+        (left_bytes state.old.nodes.items + sequence_bytes (utf8_sequences first last)) e) }
 {
     for sequence in Utf8Sequences::new(first, last) {
         add_sequence(builder, alloc, state, &sequence)?;

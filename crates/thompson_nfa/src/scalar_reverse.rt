@@ -112,7 +112,8 @@ fn share_ranges(
     requires places { 0 < suffixes.old.capacity }
     requires within { many ≤ length ranges.now }
     requires rising { All (λ r. r.0 ≤ r.1) (map bytes_of ranges.now) }
-    ensures shared { IfOk result (λ id. SharesRanges end builder.old suffixes.old builder.new suffixes.new id (take many (map bytes_of ranges.now))) }
+    ensures shared { IfOk result (λ id. SharesRanges end builder.old suffixes.old builder.new suffixes.new id
+        (take many (map bytes_of ranges.now))) }
     ensures capacity { suffixes.new.capacity ≡ suffixes.old.capacity }
     ensures refused { IfErr result (λ e. Quits builder.old builder.new many e) }
     ensures passed { IfErr result (λ e. Passes builder.old (24 * many) e) }
@@ -139,7 +140,8 @@ fn add_sequence_reverse(
     requires some { 1 ≤ length (ranges_of_sequence sequence.now) }
     requires few { length (ranges_of_sequence sequence.now) ≤ 4 }
     requires rising { All (λ r. r.0 ≤ r.1) (ranges_of_sequence sequence.now) }
-    ensures added { IfOk result (λ _. AddsSequence builder.old builder.new suffixes.old suffixes.new choice end (ranges_of_sequence sequence.now)) }
+    ensures added { IfOk result (λ _. AddsSequence builder.old builder.new suffixes.old suffixes.new choice end
+        (ranges_of_sequence sequence.now)) }
     ensures capacity { suffixes.new.capacity ≡ suffixes.old.capacity }
     ensures refused { IfErr result (λ e. Quits builder.old builder.new 4 e) }
     ensures passed { IfErr result (λ e. Passes builder.old (24 * length (ranges_of_sequence sequence.now) + 4) e) }
@@ -165,7 +167,8 @@ fn add_sequences_reverse(
     requires places { 0 < suffixes.old.capacity }
     requires choice { choice < length builder.old.drafts }
     requires kind { is_sparse (draft_at builder.old.drafts choice) ≡ false }
-    ensures added { IfOk result (λ _. AddsSequences choice end builder.old suffixes.old builder.new suffixes.new (utf8_sequences first last)) }
+    ensures added { IfOk result (λ _. AddsSequences choice end builder.old suffixes.old builder.new suffixes.new
+        (utf8_sequences first last)) }
     ensures capacity { suffixes.new.capacity ≡ suffixes.old.capacity }
     ensures refused { IfErr result (λ e. Quits builder.old builder.new (4 * length (utf8_sequences first last)) e) }
     ensures passed { IfErr result (λ e. Passes builder.old (sequence_bytes (utf8_sequences first last)) e) }

@@ -30,7 +30,8 @@ fn compile_paths(
     requires ascending { IsTrie (paths_of paths.now) }
     requires short { (k : ℕ) → k < length (paths_of paths.now) → IsShortSequence (get_or (paths_of paths.now) k []) }
     ensures made { IfOk result (λ f. Makes builder.old builder.new f.start f.end (2 + 4 * length paths.now)) }
-    ensures does { IfOk result (λ f. Does builder.old builder.new f.start f.end (alternation (map (read_tree builder.old.reverse) (paths_of paths.now)))) }
+    ensures does { IfOk result (λ f. Does builder.old builder.new f.start f.end
+        (alternation (map (read_tree builder.old.reverse) (paths_of paths.now)))) }
     ensures weighs { IfOk result (λ _. Weighs builder.old builder.new (48 + sequence_bytes (paths_of paths.now))) }
     ensures passed { IfErr result (λ e. Passes builder.old (48 + sequence_bytes (paths_of paths.now)) e) }
     ensures groups { IfOk result (λ _. builder.new.groups ≡ builder.old.groups) }

@@ -82,7 +82,8 @@ fn build_counted<L: Ledger>(
     requires name { blank.name ≡ L.name }
     requires parts { blank.parts ≡ L.parts }
     requires some { 0 < blank.parts }
-    ensures value { MatchResult result (λ n. n ≡ nfa_of builder.now starts.anchored starts.unanchored) (λ e. (e ≡ NoMemory) ⊎ Tells e (build_fault builder.now)) }
+    ensures value { MatchResult result (λ n. n ≡ nfa_of builder.now starts.anchored starts.unanchored)
+        (λ e. (e ≡ NoMemory) ⊎ Tells e (build_fault builder.now)) }
     ensures within { IfOk result (λ n. MatchOption builder.now.size_limit ⊤ (λ most. memory_of n.automaton.states ≤ most)) }
 {
     let mut steps = Steps::<L>::new(blank);
@@ -93,7 +94,8 @@ fn build_counted<L: Ledger>(
 /// Builds the automaton.
 fn build(builder: &Builder, starts: Starts) -> Result<NFA, BuildError>
     requires { CanBuild builder.now starts.anchored starts.unanchored }
-    ensures value { MatchResult result (λ n. n ≡ nfa_of builder.now starts.anchored starts.unanchored) (λ e. (e ≡ NoMemory) ⊎ Tells e (build_fault builder.now)) }
+    ensures value { MatchResult result (λ n. n ≡ nfa_of builder.now starts.anchored starts.unanchored)
+        (λ e. (e ≡ NoMemory) ⊎ Tells e (build_fault builder.now)) }
     ensures within { IfOk result (λ n. MatchOption builder.now.size_limit ⊤ (λ most. memory_of n.automaton.states ≤ most)) }
 {
     build_counted::<Brand>(builder, starts, Blank::new(1))

@@ -121,7 +121,8 @@ fn turn(
     requires below { from < length state.old.nodes.items }
     requires rising { StagesRise state.old.nodes.items }
     requires keeps { Keeps builder.old state.old.end state.old.compiled }
-    ensures turns { IfOk result (λ _. Turns state.old.end builder.old builder.new state.old.nodes.items state.new.nodes.items (bytes_of range) from) }
+    ensures turns { IfOk result (λ _. Turns state.old.end builder.old builder.new state.old.nodes.items
+        state.new.nodes.items (bytes_of range) from) }
     ensures keeps { IfOk result (λ _. Keeps builder.new state.old.end state.new.compiled) }
     ensures end { state.new.end ≡ state.old.end }
     ensures refused { IfErr result (λ e. PopsUntil state.old.end builder.old builder.new state.old.nodes.items e) }
@@ -212,7 +213,8 @@ pub(crate) fn add(
     ensures weighs { IfOk result (λ _. sum_of_bytes builder.new + left_bytes state.new.nodes.items ≤
         sum_of_bytes builder.old + left_bytes state.old.nodes.items + (24 * length (map bytes_of ranges.now) + 8)) }
     ensures refused { IfErr result (λ e. (old : Assembly) (qs : List (List (ℕ × ℕ))) →
-        IsCompiling old builder.old state.old.end state.old.compiled state.old.nodes.items qs → Quits old builder.new (2 + 4 * length qs) e) }
+        IsCompiling old builder.old state.old.end state.old.compiled state.old.nodes.items qs →
+        Quits old builder.new (2 + 4 * length qs) e) }
     ensures passed { IfErr result (λ e. Passes builder.old (left_bytes state.old.nodes.items) e) }
 {
     if state.nodes.is_empty() {
@@ -237,10 +239,12 @@ pub(crate) fn finish(
     requires keeps { Keeps builder.old state.old.end state.old.compiled }
     ensures closed { IfOk result (λ f. (old : Assembly) (qs : List (List (ℕ × ℕ))) →
         IsCompiling old builder.old state.old.end state.old.compiled state.old.nodes.items qs →
-        Makes old builder.new f.start f.end (2 + 4 * length qs) × Does old builder.new f.start f.end (alternation (map (read_tree old.reverse) qs)) × (builder.new.groups ≡ old.groups)) }
+        Makes old builder.new f.start f.end (2 + 4 * length qs) ×
+        Does old builder.new f.start f.end (alternation (map (read_tree old.reverse) qs)) × (builder.new.groups ≡ old.groups)) }
     ensures weighs { IfOk result (λ _. Weighs builder.old builder.new (left_bytes state.old.nodes.items)) }
     ensures refused { IfErr result (λ e. (old : Assembly) (qs : List (List (ℕ × ℕ))) →
-        IsCompiling old builder.old state.old.end state.old.compiled state.old.nodes.items qs → Quits old builder.new (2 + 4 * length qs) e) }
+        IsCompiling old builder.old state.old.end state.old.compiled state.old.nodes.items qs →
+        Quits old builder.new (2 + 4 * length qs) e) }
     ensures passed { IfErr result (λ e. Passes builder.old (left_bytes state.old.nodes.items) e) }
 {
     let end = state.end;

@@ -19,7 +19,8 @@ use Rattle.thompson_nfa.specs.Denotes.{Denotes}
 use Rattle.thompson_nfa.specs.Refusals.{Quits}
 use Rattle.thompson_nfa.specs.Shared.{read_tree}
 use Rattle.thompson_nfa.specs.SlotTables.{SlotTable, empty_table}
-use Rattle.thompson_nfa.specs.Utf8Stacks.{Stage, fresh, advanced, path_of, StagesRise, AreBytes, HoldsState, Keeps, Compiles, Pops, pops_none}
+use Rattle.thompson_nfa.specs.Utf8Stacks.{Stage, fresh, advanced, path_of, StagesRise, AreBytes, HoldsState}
+use Rattle.thompson_nfa.specs.Utf8Stacks.{Keeps, Compiles, Pops, pops_none}
 use Rattle.thompson_nfa.specs.Utf8Stacks.{Turns, PopsUntil, PartsAt}
 use Rattle.thompson_nfa.specs.Utf8Compiles.{Limb, edge, stage_of, fresh_limb, grown, limb_tree, whole_tree, LimbsLead, LimbsBelow, ReadsAs}
 use Rattle.thompson_nfa.specs.Utf8Compiles.{last_of, HasStates, IsCompiling}

@@ -101,7 +101,8 @@ module _ (b0 b1 b2 b3 b4 : Assembly) (u m n s e k : ℕ) (xs : List Tree) (x : T
 
 -- ---- none as yet
 
-pub branched_begun : {b0 b1 b2 : Assembly} {u m : ℕ} → AddsDraft b0 b1 u (no_choice true) b0.groups → AddsDraft b1 b2 m (empty_draft 0) b1.groups →
+pub branched_begun : {b0 b1 b2 : Assembly} {u m : ℕ} → AddsDraft b0 b1 u (no_choice true) b0.groups →
+    AddsDraft b1 b2 m (empty_draft 0) b1.groups →
     Branched b0 b2 u m 2 []
 branched_begun {b0} {b1} {b2} {u} {m} a1 a2 =
     let iu = a1.is in let im = a2.is in let n1 = a1.size in let n2 = a2.size in

@@ -85,7 +85,8 @@ short_of rs q h =
     )
 
 all_short : (rs : List (ℕ × ℕ)) (qs : List (List (ℕ × ℕ))) → IsTrie qs →
-    ((s : List ℕ) → IsInSome qs s → IsInSome (turned_round (sequences_of rs)) s) → (k : ℕ) → k < length qs → IsShortSequence (get_or qs k [])
+    ((s : List ℕ) → IsInSome qs s → IsInSome (turned_round (sequences_of rs)) s) → (k : ℕ) → k < length qs →
+    IsShortSequence (get_or qs k [])
 all_short rs [] t f k l = absurd (omega (arith, l))
 all_short rs (q ∷ qs) t f zero l = short_of rs q (f (highest q) (inl (highest_in q t.0)))
 all_short rs (q ∷ qs) t f (suc k) l = all_short rs qs t.2 (λ s h. f s (inr h)) k (omega (arith, l))

@@ -30,7 +30,8 @@ pub record Cases (how : How) (old mid : Assembly) (u z i : ℕ) (xs : List Tree)
   pub n : ℕ
   pub branches : Branches old mid u z n (take i xs)
   pub fits : n + rooms how.shrink (drop i xs) ≤ rooms how.shrink xs + 2
-  pub groups : with_groups_of how.which (length old.starts) (alternation (drop i xs)) mid.groups ≡ with_groups_of how.which (length old.starts)
+  pub groups : with_groups_of how.which (length old.starts) (alternation (drop i xs)) mid.groups ≡
+      with_groups_of how.which (length old.starts)
       (alternation xs) old.groups
   pub bytes : sum_of_bytes mid + part_bytes 8 how.shrink (drop i xs) ≤ sum_of_bytes old + part_bytes 8 how.shrink xs + 48
 
@@ -187,7 +188,8 @@ module _ (how : How) (old b : Assembly) (u z i : ℕ) (xs : List Tree) (cs : Cas
   cases_left other x l is = omega (arith, cs.bytes, sized x l is, bytes_of_alternation how.shrink xs other)
 
   pub cases_refused : (new : Assembly) (x : Tree) (e : BuildError) → i < length xs → x ≡ get_or xs i x →
-      RefusesFragment how.which b new (room how.shrink x) x e → RefusesFragment how.which old new (room how.shrink (alternation xs)) (alternation xs) e
+      RefusesFragment how.which b new (room how.shrink x) x e →
+      RefusesFragment how.which old new (room how.shrink (alternation xs)) (alternation xs) e
   cases_refused new x e l is r =
       let fits = cs.fits in
       let counted : rooms how.shrink (drop i xs) ≡ room how.shrink x + rooms how.shrink (drop (i + 1) xs) =
@@ -235,7 +237,8 @@ module _ (how : How) (old b : Assembly) (u z i : ℕ) (xs : List Tree) (cs : Cas
       subst P (take_all i xs over) (branches_does old b u z cs.n (take i xs) cs.branches)
 
   pub cases_groups : length xs ≤ i → b.groups ≡ with_groups_of how.which (length old.starts) (alternation xs) old.groups
-  cases_groups over = sym (ap (λ ys. with_groups_of how.which (length old.starts) (alternation ys) b.groups) (drop_of_length-le xs over)) ∙ cs.groups
+  cases_groups over =
+      sym (ap (λ ys. with_groups_of how.which (length old.starts) (alternation ys) b.groups) (drop_of_length-le xs over)) ∙ cs.groups
 
 -- a part takes no more than all
 part_room : (shrink : Bool) (xs : List Tree) (i : ℕ) (x : Tree) → i < length xs → x ≡ get_or xs i x → room shrink x ≤ rooms shrink xs

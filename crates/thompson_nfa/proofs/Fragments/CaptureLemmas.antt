@@ -164,7 +164,8 @@ capture_groups kept p q index name shown x old begun now keeps first same here i
 
 pub plain_groups : (kept : WhichCaptures) (p index : ℕ) (shown : Option Name) (x : Tree) (old now : Groups) →
     keeps_group kept index ≡ false → now ≡ with_groups_of kept p x old → now ≡ with_groups_of kept p (capture index shown x) old
-plain_groups kept p index shown x old now drops is = is ∙ sym (ap (λ (b : Bool). with_groups_of kept p x (if b then with_group old p index shown
+plain_groups kept p index shown x old now drops is =
+    is ∙ sym (ap (λ (b : Bool). with_groups_of kept p x (if b then with_group old p index shown
     else old)) drops)
 
 pub plain_does : (old new : Assembly) (s e index : ℕ) (name : Option Name) (x : Tree) → Does old new s e x →

@@ -84,9 +84,11 @@ left_room shrink true xs i x l e = let p = rooms_push shrink (take (length xs - 
 pub left_groups : (kept : WhichCaptures) (p : ℕ) (back : Bool) (xs : List Tree) (i : ℕ) (x : Tree) (was now whole : Groups) →
     (back ≡ true → kept ≡ which.None) → i < length xs →
     x ≡ get_or xs (turned_place back i (length xs)) x → now ≡ with_groups_of kept p x was →
-    with_groups_of kept p (concat (left_after back i xs)) was ≡ whole → with_groups_of kept p (concat (left_after back (i + 1) xs)) now ≡ whole
+    with_groups_of kept p (concat (left_after back i xs)) was ≡ whole →
+    with_groups_of kept p (concat (left_after back (i + 1) xs)) now ≡ whole
 left_groups kept p false xs i x was now whole none l e is so_far =
-    ap (with_groups_of kept p (concat (drop (i + 1) xs))) is ∙ sym (ap (λ ys. with_groups_of kept p (concat ys) was) (first_left xs i x x l e)) ∙ so_far
+    ap (with_groups_of kept p (concat (drop (i + 1) xs))) is
+    ∙ sym (ap (λ ys. with_groups_of kept p (concat ys) was) (first_left xs i x x l e)) ∙ so_far
 left_groups kept p true xs i x was now whole none l e is so_far =
     let no : kept ≡ which.None = none refl in
     let rest = concat (take (length xs - (i + 1)) xs) in
@@ -99,7 +101,8 @@ pub record Parts (how : How) (old mid : Assembly) (start end i : ℕ) (xs : List
   pub made : Makes old mid start end n
   pub fits : n + rooms how.shrink (left_after old.reverse i xs) ≤ rooms how.shrink xs
   pub does : DoesFirst old mid start end (concat (left_after old.reverse i xs)) (concat xs)
-  pub groups : with_groups_of how.which (length old.starts) (concat (left_after old.reverse i xs)) mid.groups ≡ with_groups_of how.which (length old.starts)
+  pub groups : with_groups_of how.which (length old.starts) (concat (left_after old.reverse i xs)) mid.groups ≡
+      with_groups_of how.which (length old.starts)
       (concat xs) old.groups
   pub bytes : sum_of_bytes mid + part_bytes 4 how.shrink (left_after old.reverse i xs) ≤ sum_of_bytes old + part_bytes 4 how.shrink xs
 
@@ -182,7 +185,8 @@ module _ (how : How) (old mid : Assembly) (start end i : ℕ) (xs : List Tree) (
   -- the next part is refused, or that it is led to
   pub parts_refused : (new : Assembly) (x : Tree) (e : BuildError) → i < length xs →
       x ≡ get_or xs (turned_place old.reverse i (length xs)) x →
-      RefusesFragment how.which mid new (room how.shrink x) x e → RefusesFragment how.which old new (room how.shrink (concat xs)) (concat xs) e
+      RefusesFragment how.which mid new (room how.shrink x) x e →
+      RefusesFragment how.which old new (room how.shrink (concat xs)) (concat xs) e
   parts_refused new x e inside is r =
       let counted = left_room how.shrink old.reverse xs i x inside is in
       let fits = ps.fits in
@@ -194,7 +198,8 @@ module _ (how : How) (old mid : Assembly) (start end i : ℕ) (xs : List Tree) (
 
   pub parts_lead_refused : (b new : Assembly) (s t : ℕ) (x : Tree) (e : BuildError) → i < length xs →
       x ≡ get_or xs (turned_place old.reverse i (length xs)) x →
-      Makes mid b s t (room how.shrink x) → Stays b new 0 4 e → RefusesFragment how.which old new (room how.shrink (concat xs)) (concat xs) e
+      Makes mid b s t (room how.shrink x) → Stays b new 0 4 e →
+      RefusesFragment how.which old new (room how.shrink (concat xs)) (concat xs) e
   parts_lead_refused b new s t x e inside is m r =
       let counted = left_room how.shrink old.reverse xs i x inside is in
       let fits = ps.fits in
@@ -215,7 +220,8 @@ first_part_bytes shrink back x xs some is = omega (
 -- the first part is refused
 pub first_part_refused : (how : How) (old new : Assembly) (x : Tree) (xs : List Tree) (e : BuildError) → 0 < length xs →
     x ≡ get_or xs (turned_place old.reverse 0 (length xs)) x →
-    RefusesFragment how.which old new (room how.shrink x) x e → RefusesFragment how.which old new (room how.shrink (concat xs)) (concat xs) e
+    RefusesFragment how.which old new (room how.shrink x) x e →
+    RefusesFragment how.which old new (room how.shrink (concat xs)) (concat xs) e
 first_part_refused how old new x xs e some is r =
     let counted = left_room how.shrink old.reverse xs 0 x some is in
     let all : rooms how.shrink (left_after old.reverse 0 xs) ≡ rooms how.shrink xs = ap (rooms how.shrink) (left_all old.reverse xs) in

@@ -28,7 +28,8 @@ pub later_step : {plain : Bool} {old mid new : Assembly} {k s n bytes : ℕ} {e 
 later_step kept m x p r le lb = refuses kept m x (then_quits m p r le lb) (omega arith)
 
 -- the tree is refused with fewer states, at once or later
-pub fewer_states : {old new : Assembly} {n : ℕ} {e : BuildError} {kept : WhichCaptures} {x : Tree} (m : ℕ) → RefusesFragment kept old new n x e →
+pub fewer_states : {old new : Assembly} {n : ℕ} {e : BuildError} {kept : WhichCaptures} {x : Tree} (m : ℕ) →
+    RefusesFragment kept old new n x e →
     n ≤ m → RefusesFragment kept old new m x e
 fewer_states {old} {new} {n} {e} {kept} {x} m r le = first_refuses m x r (λ index h. h) (omega (arith, le))
 
@@ -89,9 +90,11 @@ same_starts g = ap (λ (z : Assembly). length z.starts) g.settings
 
 -- a state without a group was added before the tree
 pub groups_behind : {a b : Assembly} {id : ℕ} {draft : DraftNode} {now : Groups} (kept : WhichCaptures) (x : Tree) →
-    AddsDraft a b id draft a.groups → now ≡ with_groups_of kept (length b.starts) x b.groups → now ≡ with_groups_of kept (length a.starts) x a.groups
+    AddsDraft a b id draft a.groups → now ≡ with_groups_of kept (length b.starts) x b.groups →
+    now ≡ with_groups_of kept (length a.starts) x a.groups
 groups_behind {a} {b} kept x added is =
-    is ∙ ap (λ p. with_groups_of kept p x b.groups) (same_starts added.grows) ∙ ap (with_groups_of kept (length a.starts) x) added.groups_are
+    is ∙ ap (λ p. with_groups_of kept p x b.groups) (same_starts added.grows)
+    ∙ ap (with_groups_of kept (length a.starts) x) added.groups_are
 
 -- ---- rounds
 

@@ -95,7 +95,8 @@ range_does old new id low high x =
           λ l. looks_added x l;
     }
 
-pub byte_does : (old new : Assembly) (id b : ℕ) → AddsDraft old new id (range_draft b b 0) old.groups → Does old new id id (literal (b ∷ []))
+pub byte_does : (old new : Assembly) (id b : ℕ) → AddsDraft old new id (range_draft b b 0) old.groups →
+    Does old new id id (literal (b ∷ []))
 byte_does old new id b x =
     record {
       denotes = λ table target fin. denotes_byte old.reverse table id target b (fin.led ∙ ap (patched target) x.here);

@@ -8,7 +8,8 @@ use Rattle.thompson_nfa.specs.declared.literal_groups.Edge.{Edge}
 use denote.Ref.{Bor}
 use Rattle.std.proofs.lemmas.List.{map-append, length-map}
 use Rattle.thompson_nfa.proofs.Fragments.TurnLemmas.{first_left}
-use Rattle.thompson_nfa.specs.LiteralGroups.{texts, texts_of_groups, with_tail, tails, lesser, with_first, next_of, each_behind, chunk_strings}
+use Rattle.thompson_nfa.specs.LiteralGroups.{texts, texts_of_groups, with_tail, tails, lesser, with_first}
+use Rattle.thompson_nfa.specs.LiteralGroups.{next_of, each_behind, chunk_strings}
 use Rattle.thompson_nfa.specs.LiteralGroups.{Ascends, LeadWithin, bytes_in, bytes_in_all, strings_in_all, AllSome, IsChunk}
 
 -- the bytes of those that begin with `low` or above
@@ -155,7 +156,8 @@ pub inside_push : (first end more next b : ℕ) (es : List Edge) → LeadWithin 
 inside_push first end more next b [] a le l h = (l, h, tt)
 inside_push first end more next b (e ∷ es) a le l h = let x = a.1 in (a.0, omega arith, inside_push first end more next b es a.2 le l h)
 
-pub inside_wider : (first end less more : ℕ) (es : List Edge) → LeadWithin first end es → less ≤ first → end ≤ more → LeadWithin less more es
+pub inside_wider : (first end less more : ℕ) (es : List Edge) → LeadWithin first end es → less ≤ first →
+    end ≤ more → LeadWithin less more es
 inside_wider first end less more [] a le l = tt
 inside_wider first end less more (e ∷ es) a le l = let x = a.0 in let y = a.1 in
     (omega arith, omega arith, inside_wider first end less more es a.2 le l)

@@ -334,21 +334,25 @@ module _ {W V : Type 0} (value : W → NodeValue) (items_of : V → List (Bor (L
 
   module _ (n : ℕ) (is_n : n ≡ length kept) (as_many : length (texts_of_groups items_of kept) ≡ length (texts_of_groups items_of groups))
       (later : drop (k + 1) (texts_of_groups items_of kept) ≡ drop (k + 1) (texts_of_groups items_of groups))
-      (none fresh : List V) (is_none : none ≡ []) (node : W) (lays : LaysNode n (texts_of_groups items_of none) (texts_of_groups items_of fresh)
+      (none fresh : List V) (is_none : none ≡ []) (node : W) (lays : LaysNode n (texts_of_groups items_of none)
+      (texts_of_groups items_of fresh)
       (value node) (texts row)) where
     lays_row : LaysNode (length (texts_of_groups items_of groups)) [] (texts_of_groups items_of fresh) (value node)
         (get_or (texts_of_groups items_of groups) k [])
     lays_row =
-        let P : List V → Type 0 = λ vs. LaysNode n (texts_of_groups items_of vs) (texts_of_groups items_of fresh) (value node) (texts row) in
+        let P : List V → Type 0 =
+        λ vs. LaysNode n (texts_of_groups items_of vs) (texts_of_groups items_of fresh) (value node) (texts row) in
         let Q : List (List ℕ) → Type 0 = λ ws. LaysNode n [] (texts_of_groups items_of fresh) (value node) ws in
-        let R : ℕ → Type 0 = λ m. LaysNode m [] (texts_of_groups items_of fresh) (value node) (get_or (texts_of_groups items_of groups) k []) in
+        let R : ℕ → Type 0 =
+        λ m. LaysNode m [] (texts_of_groups items_of fresh) (value node) (get_or (texts_of_groups items_of groups) k []) in
         let same : n ≡ length (texts_of_groups items_of groups) = omega (arith, is_n, as_many, group_count items_of kept) in
         subst R same (subst Q texts_are (subst P is_none lays))
 
     pub next_laid : (rows rows2 : List W) (groups2 : List V) → k ≡ length rows → rows2 ≡ rows ++ node ∷ [] → groups2 ≡ kept ++ fresh →
         LaidNext (map value rows) (texts_of_groups items_of groups) (map value rows2) (texts_of_groups items_of groups2) (length rows)
     next_laid rows rows2 groups2 at e1 e2 =
-        let P : ℕ → Type 0 = λ j. LaidNext (map value rows) (texts_of_groups items_of groups) (map value rows2) (texts_of_groups items_of groups2) j in
+        let P : ℕ → Type 0 =
+        λ j. LaidNext (map value rows) (texts_of_groups items_of groups) (map value rows2) (texts_of_groups items_of groups2) j in
         subst P at (
           texts_of_groups items_of kept,
           texts_of_groups items_of fresh,

@@ -1,5 +1,6 @@
 -- The nodes of a trie of strings: what one more item adds to a node.
-use Rattle.std.proofs.Common.{◌≡◌, ◌⊎◌, inl, inr, ⊎_elim, ℕ, zero, suc, ◌+◌, ◌*◌, ◌≤◌, max, Bool, true, false, List, [], ◌∷◌, ◌++◌, length, take, drop}
+use Rattle.std.proofs.Common.{◌≡◌, ◌⊎◌, inl, inr, ⊎_elim, ℕ, zero, suc, ◌+◌, ◌*◌, ◌≤◌, max, Bool, true}
+use Rattle.std.proofs.Common.{false, List, [], ◌∷◌, ◌++◌, length, take, drop}
 use Rattle.std.proofs.Common.{get_or, Option, Some, None, nat_eq, ◌&&◌, ◌||◌, ◌==◌, if◌then◌else◌, refl, sym, ap, ◌∙◌, subst, arith}
 use Rattle.std.proofs.Common.{length-append, replicate, append_assoc, append-nil, drop-cons, drop_of_length-le}
 use Rattle.std.proofs.lemmas.List.{length-replicate}
@@ -18,7 +19,8 @@ use Rattle.thompson_nfa.proofs.LiteralTries.LiteralGroupLemmas.{all_some_append,
 
 -- ---- ends
 
-pub ends_append : (us vs : List (List ℕ)) (h : List ℕ) (i : ℕ) → literal_ends_of (us ++ vs) h i ≡ literal_ends_of us h i ++ literal_ends_of vs h i
+pub ends_append : (us vs : List (List ℕ)) (h : List ℕ) (i : ℕ) →
+    literal_ends_of (us ++ vs) h i ≡ literal_ends_of us h i ++ literal_ends_of vs h i
 ends_append [] vs h i = refl
 ends_append (w ∷ us) vs h i =
     let here : List ℕ = if stands h i w then (i + length w) ∷ [] else [] in
@@ -65,7 +67,8 @@ ends_at_byte [] h i c none e = refl
 ends_at_byte ([] ∷ ws) h i c none e = absurd none
 ends_at_byte ((a ∷ w) ∷ ws) h i c none e =
     ap (λ (d : List ℕ). (if starts_with nat_eq d (a ∷ w) then (i + suc (length w)) ∷ [] else []) ++ literal_ends_of ws h i) e
-    ∙ one_end (nat_eq a c) (stands h (i + 1) w) i (length w) w (tails c ws) h (literal_ends_of ws h i) refl refl (ends_at_byte ws h i c none e)
+    ∙ one_end (nat_eq a c) (stands h (i + 1) w) i (length w) w (tails c ws) h (literal_ends_of ws h i) refl refl
+    (ends_at_byte ws h i c none e)
 
 ends_at_end : (ws : List (List ℕ)) (h : List ℕ) (i : ℕ) → NoneEnds ws → drop i h ≡ [] → literal_ends_of ws h i ≡ []
 ends_at_end [] h i none e = refl

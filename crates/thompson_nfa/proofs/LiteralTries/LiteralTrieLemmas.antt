@@ -154,7 +154,8 @@ module _ (old mid : Assembly) (end : ℕ) (nodes : List NodeValue) (strings : Li
   matches_now = matches_from nodes k less ∙ ap (λ (n : NodeValue). matches_in n.items + matches_in_all (drop (k + 1) nodes)) node_is
 
   -- what this node and those behind it take
-  node_fits : 32 * (node_weight node + weight_in_all (drop (k + 1) nodes)) + 36 * (matches_in node.items + matches_in_all (drop (k + 1) nodes))
+  node_fits : 32 * (node_weight node + weight_in_all (drop (k + 1) nodes))
+      + 36 * (matches_in node.items + matches_in_all (drop (k + 1) nodes))
       ≤ 32 * bytes_in strings + 36 * length strings
   node_fits = omega (
     arith,

@@ -21,7 +21,8 @@ pub record Progress (plain : Bool) (old mid : Assembly) (n spare : ℕ) : Type 0
   pub bytes : sum_of_bytes mid + spare + 4096 * length old.drafts ≤ sum_of_bytes old + 4096 * length mid.drafts
   pub numbered : length mid.drafts ≤ greatest_index + 1
 
-pub first_added : {plain : Bool} {a b : Assembly} {id : ℕ} {draft : DraftNode} {groups : Groups} (spare : ℕ) → AddsDraft a b id draft groups →
+pub first_added : {plain : Bool} {a b : Assembly} {id : ℕ} {draft : DraftNode} {groups : Groups} (spare : ℕ) →
+    AddsDraft a b id draft groups →
     IsTame plain b draft → draft_bytes draft + spare ≤ 4096 → Progress plain a b 1 spare
 first_added spare x tame le = record {
   partly = partly_added x tame;

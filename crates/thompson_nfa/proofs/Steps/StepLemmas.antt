@@ -9,7 +9,8 @@ use Rattle.std.proofs.lemmas.List.Sums.{sum_by_push, sum_by-set}
 use Rattle.search_core.specs.Index.{greatest_index}
 use Rattle.search_types.specs.Groups.{Groups}
 use Rattle.nfa_core.specs.CanBuild.{is_known}
-use Rattle.nfa_core.specs.BuilderStates.{DraftNode, Assembly, draft_at, patched, patched_at, draft_bytes, bytes_of_drafts, with_draft, fail_draft}
+use Rattle.nfa_core.specs.BuilderStates.{DraftNode, Assembly, draft_at, patched, patched_at, draft_bytes}
+use Rattle.nfa_core.specs.BuilderStates.{bytes_of_drafts, with_draft, fail_draft}
 use Rattle.nfa_core.specs.BuilderStates.{union_draft, union_reverse_draft, empty_draft, range_draft, sparse_draft, look_draft}
 use Rattle.nfa_core.specs.BuilderStates.{capture_start_draft, capture_end_draft, match_draft}
 use Rattle.nfa_core.specs.BuilderFaults.{Tells, add_fault, patch_fault, limit_fault, BuildFault, exceeded_size_limit, too_many_states}
@@ -155,7 +156,8 @@ added_of old new id draft shown is e none same =
 -- what refuses one more state
 pub refused_name : (b : Bool) (old : Assembly) (draft : DraftNode) (bytes : ℕ) (e : BuildError) →
     b ≡ nat_lt greatest_index (length old.drafts) →
-    Tells e (option_or (if b then Some too_many_states else None) (limit_fault old.size_limit (bytes_of_drafts (old.drafts ++ draft ∷ [])))) →
+    Tells e (option_or (if b then Some too_many_states else None)
+    (limit_fault old.size_limit (bytes_of_drafts (old.drafts ++ draft ∷ [])))) →
     draft_bytes draft ≤ bytes → RefusesStep old 1 bytes e
 refused_name true old draft bytes error.TooManyPatterns test told le = absurd (cc)
 refused_name true old draft bytes error.TooManyStates test told le = let less : greatest_index < length old.drafts =

@@ -19,7 +19,8 @@ piece_cases lo hi n = elim (cases_lt lo hi) [
 ]
 
 -- ---- strings
-pub has_append : (v : List (List (List (ℕ × ℕ)))) (xs ys : List Edge) (b : ℕ) (t : List ℕ) → EdgesRead v (xs ++ ys) b t → EdgesRead v xs b t ⊎
+pub has_append : (v : List (List (List (ℕ × ℕ)))) (xs ys : List Edge) (b : ℕ) (t : List ℕ) →
+    EdgesRead v (xs ++ ys) b t → EdgesRead v xs b t ⊎
     EdgesRead v ys b t
 has_append v [] ys b t h = inr h
 has_append v (x ∷ xs) ys b t h = elim h [
@@ -42,7 +43,8 @@ piece_has v lo hi n b t h = elim (piece_cases lo hi n) [
   | inr c ↦ absurd (rw c.1 at h)
 ]
 
-pub has_piece : (v : List (List (List (ℕ × ℕ)))) (lo hi : ℕ) (n : Next) (b : ℕ) (t : List ℕ) → lo ≤ b → b < hi → IsInSome (following v n) t →
+pub has_piece : (v : List (List (List (ℕ × ℕ)))) (lo hi : ℕ) (n : Next) (b : ℕ) (t : List ℕ) → lo ≤ b →
+    b < hi → IsInSome (following v n) t →
     EdgesRead v (piece lo hi n) b t
 has_piece v lo hi n b t l h i = elim (piece_cases lo hi n) [
   | inl c ↦ rw c.1 (inl (l, omega arith, i))

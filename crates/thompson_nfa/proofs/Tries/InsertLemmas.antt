@@ -270,7 +270,8 @@ nil_of_length (x ∷ xs) e = absurd (omega arith)
 -- what the call that makes the node answers
 pub with_pushed_if : (v w x : List (List (List (ℕ × ℕ)))) (next : Next) (rs rest : List Utf8Range) (first : Utf8Range)
     (e : rs ≡ first ∷ rest) (pieces edges : List Edge) →
-    IsCover v next first.start (first.end + 1) pieces → IsApart (following v next) (map bytes_of rs) → AreRanges (map bytes_of rs) → (n : ℕ) →
+    IsCover v next first.start (first.end + 1) pieces → IsApart (following v next) (map bytes_of rs) →
+    AreRanges (map bytes_of rs) → (n : ℕ) →
     IsInserting v w first.start (first.end + 1) (map bytes_of rest) (take n pieces) edges → length pieces ≤ n →
     (made : Result Next AllocError) →
     IfOk made (λ m. m ≡ Node (length w)) → IfOk made (λ _. x ≡ w ++ along w edges ∷ []) →

@@ -40,7 +40,8 @@ pub in_right : (xs ys : List (List (ℕ × ℕ))) (s : List ℕ) → IsInSome ys
 in_right [] ys s h = h
 in_right (x ∷ xs) ys s h = inr (in_right xs ys s h)
 
-pub in_behind : (r : ℕ × ℕ) (qs : List (List (ℕ × ℕ))) (b : ℕ) (t : List ℕ) → IsInSome (map (λ q. r ∷ q) qs) (b ∷ t) → (r.0 ≤ b) × (b ≤ r.1) ×
+pub in_behind : (r : ℕ × ℕ) (qs : List (List (ℕ × ℕ))) (b : ℕ) (t : List ℕ) →
+    IsInSome (map (λ q. r ∷ q) qs) (b ∷ t) → (r.0 ≤ b) × (b ≤ r.1) ×
     IsInSome qs t
 in_behind r [] b t h = absurd h
 in_behind r (q ∷ qs) b t h = elim h [
@@ -104,7 +105,8 @@ module _ (v w : List (List (List (ℕ × ℕ)))) (start stop : ℕ) (rest : List
     | inr later ↦ elim (steps_only ps es b t z.1 later) [ inl old ↦ inl (inr old) | inr new ↦ inr new ]
   ]
 
-  pub steps_kept : (ps es : List Edge) (b : ℕ) (t : List ℕ) → AllZip (GainsStrings v w start stop rest) ps es → EdgesRead v ps b t → EdgesRead w es b t
+  pub steps_kept : (ps es : List Edge) (b : ℕ) (t : List ℕ) → AllZip (GainsStrings v w start stop rest) ps es →
+      EdgesRead v ps b t → EdgesRead w es b t
   steps_kept [] [] b t z h = absurd h
   steps_kept [] (e ∷ es) b t z h = absurd z
   steps_kept (p ∷ ps) [] b t z h = absurd z

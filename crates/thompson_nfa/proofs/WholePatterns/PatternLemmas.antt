@@ -213,7 +213,8 @@ module _ (how : How) (b0 b1 b2 b3 b4 b5 : Assembly) (x : Tree) (s e m : ℕ) (cl
         settings = settings_end;
         starts_are = starts_end;
         as_many = refl;
-        groups = groups_end ∙ noted_here ∙ ap (λ (z : Assembly). with_groups_of how.which (length z.starts) (capture 0 None x) z.groups) begun;
+        groups =
+            groups_end ∙ noted_here ∙ ap (λ (z : Assembly). with_groups_of how.which (length z.starts) (capture 0 None x) z.groups) begun;
         known_more = λ draft k. ap (λ gs. is_known gs draft) groups_end
             ∙ made.fragment.grows.known draft (ap (λ (z : Assembly). is_known z.groups draft) begun ∙ k);
         longer = omega arith;

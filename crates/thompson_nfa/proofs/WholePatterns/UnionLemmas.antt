@@ -106,7 +106,8 @@ further_none how union a kind = record {
   weighs = omega arith;
 }
 
-bytes_joined : (shrink : Bool) (xs : List Tree) (x : Tree) → bytes_for shrink (xs ++ x ∷ []) ≡ bytes_for shrink xs + (byte_room shrink x + 88)
+bytes_joined : (shrink : Bool) (xs : List Tree) (x : Tree) →
+    bytes_for shrink (xs ++ x ∷ []) ≡ bytes_for shrink xs + (byte_room shrink x + 88)
 bytes_joined shrink [] x = omega arith
 bytes_joined shrink (y ∷ xs) x = omega (arith, bytes_joined shrink xs x)
 

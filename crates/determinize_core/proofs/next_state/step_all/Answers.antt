@@ -17,5 +17,6 @@ returns-then-not-asks_anew-clause-closed g c =
     let own = before_kept c.args.nfa.now.automaton c.args.nfa.now.terminator c.args.state.now (unit_byte c.args.unit) c.asks_anew.result
     c.asks_anew.ensures c.if-not-asks_anew.true in
     c.in_ok-step_ids.ensures.closed
-    ∙ ap (λ (qs : List ℕ). closed c.args.nfa.now.automaton c.args.looks (flat_map (unit_steps c.args.nfa.now.automaton (unit_byte c.args.unit))
+    ∙ ap (λ (qs : List ℕ). closed c.args.nfa.now.automaton c.args.looks
+    (flat_map (unit_steps c.args.nfa.now.automaton (unit_byte c.args.unit))
     (reading c.args.kind c.args.nfa.now.automaton qs))) (sym own)

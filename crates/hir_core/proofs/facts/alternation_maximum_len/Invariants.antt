@@ -7,4 +7,5 @@ use Rattle.hir_core.proofs.facts.alternation_maximum_len.Given as goal
 -- whatever parts the loop began with, it has come to those and what it met before them
 abbrev pub invariant-loop-sub : goal.invariant-loop-sub
 invariant-loop-sub l = (parts : List Tree) → l.initial.longest ≡ maximum_len (alternation parts) → is_never (alternation parts) ≡ false →
-    (l.longest ≡ maximum_len (alternation (met_backward l.yielded ++ parts))) × (is_never (alternation (met_backward l.yielded ++ parts)) ≡ false)
+    (l.longest ≡ maximum_len (alternation (met_backward l.yielded ++ parts))) ×
+    (is_never (alternation (met_backward l.yielded ++ parts)) ≡ false)

@@ -5,4 +5,5 @@ use Rattle.hir_core.specs.Backward.{met_backward}
 use Rattle.hir_core.proofs.facts.are_utf8.Given as goal
 
 abbrev pub invariant-loop-sub : goal.invariant-loop-sub
-invariant-loop-sub l = (l.all ≡ is_utf8_tree (concat (met_backward l.yielded))) × (l.all ≡ is_utf8_tree (alternation (met_backward l.yielded)))
+invariant-loop-sub l =
+    (l.all ≡ is_utf8_tree (concat (met_backward l.yielded))) × (l.all ≡ is_utf8_tree (alternation (met_backward l.yielded)))

@@ -7,4 +7,5 @@ use Rattle.hir_core.proofs.look_facts.alternation_look_set_suffix.Given as goal
 -- whatever parts the loop began with, it has come to those and what it met before them
 abbrev pub invariant-loop-sub : goal.invariant-loop-sub
 invariant-loop-sub l = (parts : List Tree) → l.initial.looks ≡ look_set_suffix (alternation parts) → is_never (alternation parts) ≡ false →
-    (l.looks ≡ look_set_suffix (alternation (met_backward l.yielded ++ parts))) × (is_never (alternation (met_backward l.yielded ++ parts)) ≡ false)
+    (l.looks ≡ look_set_suffix (alternation (met_backward l.yielded ++ parts))) ×
+    (is_never (alternation (met_backward l.yielded ++ parts)) ≡ false)

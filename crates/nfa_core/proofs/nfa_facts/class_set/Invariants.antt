@@ -6,5 +6,6 @@ use Rattle.nfa_core.specs.States.{node_of}
 use Rattle.nfa_core.proofs.nfa_facts.class_set.Given as goal
 
 abbrev pub invariant-loop-state : goal.invariant-loop-state
-invariant-loop-state l = recorded l.set (flat_map (told_apart_by l.matcher.terminator) (map node_of (drop l.state-index l.states))) ≡ recorded
+invariant-loop-state l = recorded l.set (flat_map (told_apart_by l.matcher.terminator) (map node_of (drop l.state-index l.states))) ≡
+    recorded
     l.initial.set (flat_map (told_apart_by l.matcher.terminator) (map node_of l.states))

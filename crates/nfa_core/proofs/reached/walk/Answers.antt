@@ -1,4 +1,5 @@
-use Rattle.std.proofs.Common.{◌≡◌, ◌∙◌, ◌++◌, ◌∷◌, ◌<◌, ◌≤◌, ◌+◌, ◌-◌, [], ℕ, ap, sym, subst, length, length-append, reverse, rules, arith, true}
+use Rattle.std.proofs.Common.{◌≡◌, ◌∙◌, ◌++◌, ◌∷◌, ◌<◌, ◌≤◌, ◌+◌, ◌-◌, [], ℕ, ap, sym}
+use Rattle.std.proofs.Common.{subst, length, length-append, reverse, rules, arith, true}
 use Rattle.nfa_core.specs.Nfa.{node_at}
 use Rattle.nfa_core.specs.NfaParts.{automaton_in}
 use Rattle.nfa_core.specs.States.{node_of}

@@ -20,7 +20,8 @@ returns-in_err-id-clause-refused c = handed _ _ c.in_err-id.field-0.0 c.from_res
 
 pub returns-clause-weighs : goal.returns-clause-weighs
 returns-clause-weighs c =
-    let added = added_of _ _ _ _ _ c.in_ok-id.ensures.0 c.in_ok-id.ensures.1 c.in_ok-id.ensures.2 (ap sparse_draft c.in_ok-all.ensures.each) in
+    let added =
+    added_of _ _ _ _ _ c.in_ok-id.ensures.0 c.in_ok-id.ensures.1 c.in_ok-id.ensures.2 (ap sparse_draft c.in_ok-all.ensures.each) in
     omega (arith, added.bytes, bytes_counted c.args.next c.args.ranges.now _ refl)
 
 pub returns-in_err-id-clause-passed : goal.returns-in_err-id-clause-passed

@@ -8,7 +8,8 @@ use Rattle.thompson_nfa.proofs.literal_nodes.nodes.Goals as goal
 
 pub lay_next-requires-clause-some : goal.lay_next-requires-clause-some
 lay_next-requires-clause-some c =
-    held_some (map node_value c.loop-alloc.nodes.items) (texts_of_groups (λ g. g.items) c.loop-alloc.groups.items) (texts c.args.strings.items)
+    held_some (map node_value c.loop-alloc.nodes.items)
+    (texts_of_groups (λ g. g.items) c.loop-alloc.groups.items) (texts c.args.strings.items)
     c.loop-alloc.invariant (length c.loop-alloc.nodes.items) (omega (arith, length-map c.loop-alloc.nodes.items node_value))
     (omega (arith, c.loop-alloc-test.true, group_count (λ g. g.items) c.loop-alloc.groups.items))
 

@@ -1,6 +1,7 @@
 use Rattle.std.proofs.Common.{refl, length, arith}
 use Rattle.thompson_nfa.proofs.Steps.ErrorLemmas.{handed}
-use Rattle.thompson_nfa.proofs.LiteralTries.LiteralStateLemmas.{no_items, row_chunk, row_added, row_refused, row_passed, rows_one, rows_union}
+use Rattle.thompson_nfa.proofs.LiteralTries.LiteralStateLemmas.{no_items, row_chunk, row_added, row_refused}
+use Rattle.thompson_nfa.proofs.LiteralTries.LiteralStateLemmas.{row_passed, rows_one, rows_union}
 use Rattle.thompson_nfa.proofs.LiteralTries.LiteralStateLemmas.{rows_refused, rows_passed}
 use Rattle.thompson_nfa.proofs.literal_states.add_node.Goals as goal
 
@@ -58,5 +59,6 @@ returns-in_err-id-2-clause-passed c = handed _ _ c.in_err-id-2.field-0.0 c.from_
 pub returns-clause-added : goal.returns-clause-added
 returns-clause-added c =
     rows_union (λ x. x.items) c.args.items.now c.loop-item.item-index _ _ _ _ c.loop-item.ways.items c.loop-item.invariant.0
-    c.loop-item-test.false c.requires.some c.requires.few c.requires.parted _ _ c.len.result (omega (arith, c.len.ensures)) c.if-len-eq1.false
+    c.loop-item-test.false c.requires.some c.requires.few c.requires.parted _ _ c.len.result
+    (omega (arith, c.len.ensures)) c.if-len-eq1.false
     c.requires.end c.in_ok-id-2.ensures

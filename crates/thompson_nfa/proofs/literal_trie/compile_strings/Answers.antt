@@ -3,8 +3,10 @@ use Rattle.std.proofs.lemmas.List.{length-map}
 use Rattle.thompson_nfa.specs.LiteralGroups.{texts}
 use Rattle.thompson_nfa.specs.LiteralLaid.{node_value}
 use Rattle.thompson_nfa.proofs.Steps.ErrorLemmas.{handed}
-use Rattle.thompson_nfa.proofs.LiteralTries.LiteralTrieLemmas.{trie_begun, turn_some, turn_few, turn_parted, turn_chunks, turn_refused, turn_passed}
-use Rattle.thompson_nfa.proofs.LiteralTries.LiteralTrieLemmas.{turn_there, turn_stem_refused, turn_stem_passed, turn_compiled, all_made, all_weigh, all_does}
+use Rattle.thompson_nfa.proofs.LiteralTries.LiteralTrieLemmas.{trie_begun, turn_some, turn_few, turn_parted}
+use Rattle.thompson_nfa.proofs.LiteralTries.LiteralTrieLemmas.{turn_chunks, turn_refused, turn_passed}
+use Rattle.thompson_nfa.proofs.LiteralTries.LiteralTrieLemmas.{turn_there, turn_stem_refused, turn_stem_passed, turn_compiled}
+use Rattle.thompson_nfa.proofs.LiteralTries.LiteralTrieLemmas.{all_made, all_weigh, all_does}
 use Rattle.thompson_nfa.proofs.literal_trie.compile_strings.Goals as goal
 
 pub loop-i-init : goal.loop-i-init

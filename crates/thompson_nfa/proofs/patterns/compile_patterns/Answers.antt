@@ -90,7 +90,8 @@ returns-in_err-lead-2-clause-passed c = handed _ _ c.in_err-lead-2.field-0.0 c.f
     ))
 
 pub returns-in_err-compile_further-clause-passed : goal.returns-in_err-compile_further-clause-passed
-returns-in_err-compile_further-clause-passed c = handed _ _ c.in_err-compile_further.field-0.0 c.from_residual-in_err-compile_further.ensures.1
+returns-in_err-compile_further-clause-passed c =
+    handed _ _ c.in_err-compile_further.field-0.0 c.from_residual-in_err-compile_further.ensures.1
     (omega (
       arith,
       ap (bytes_for c.args.how.shrink) c.in-Some.ensures.cases.0,

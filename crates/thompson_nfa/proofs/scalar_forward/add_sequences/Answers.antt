@@ -11,7 +11,8 @@ loop-sequence-init c =
     (none_added _ _ _ _ _ _ all c.requires.order, omega (arith, ap sequence_bytes all))
 
 pub add_sequence-requires-clause-some : goal.add_sequence-requires-clause-some
-add_sequence-requires-clause-some c = some_ranges _ _ _ _ _ _ _ _ _ _ c.loop-sequence.invariant.0 c.requires.begun _ _ c.in-Some.ensures.steps
+add_sequence-requires-clause-some c =
+    some_ranges _ _ _ _ _ _ _ _ _ _ c.loop-sequence.invariant.0 c.requires.begun _ _ c.in-Some.ensures.steps
 
 pub add_sequence-requires-clause-few : goal.add_sequence-requires-clause-few
 add_sequence-requires-clause-few c = few_ranges _ _ _ _ _ _ _ _ _ _ c.loop-sequence.invariant.0 c.requires.begun _ _ c.in-Some.ensures.steps
@@ -21,7 +22,8 @@ add_sequence-requires-clause-bytes c = byte_bounds _ _ _ _ _ _ _ _ _ _ c.loop-se
     c.in-Some.ensures.steps
 
 pub add_sequence-requires-clause-after : goal.add_sequence-requires-clause-after
-add_sequence-requires-clause-after c = after_last _ _ _ _ _ _ _ _ _ _ c.loop-sequence.invariant.0 c.requires.begun _ _ c.in-Some.ensures.steps
+add_sequence-requires-clause-after c =
+    after_last _ _ _ _ _ _ _ _ _ _ c.loop-sequence.invariant.0 c.requires.begun _ _ c.in-Some.ensures.steps
 
 pub add_sequence-requires-clause-rising : goal.add_sequence-requires-clause-rising
 add_sequence-requires-clause-rising c = still_rising _ _ _ _ _ _ _ _ _ _ c.loop-sequence.invariant.0 c.requires.begun

@@ -15,16 +15,19 @@ returns-in_default c =
     let drafts = c.self.inside.drafts.items in (
       refl,
       no_name c.args.self.now (draft_of c.args.draft) c.len.result
-          (c.len.ensures ∙ c.self.inside.drafts.ok.0 ∙ sym (length-map drafts draft_of) ∙ ap (λ (b : Assembly). length b.drafts) c.self.view_is)
+          (c.len.ensures ∙ c.self.inside.drafts.ok.0 ∙ sym (length-map drafts draft_of)
+          ∙ ap (λ (b : Assembly). length b.drafts) c.self.view_is)
           c.in_default.ensures.0,
     )
 
 pub returns-in_err-check_limit : goal.returns-in_err-check_limit
 returns-in_err-check_limit c =
     let drafts = c.self.inside.drafts.items in
-    let bytes = bytes_added draft_of drafts (draft_of c.args.draft) c.self.inside.memory c.memory_usage.result c.saturating_add-memory.result
+    let bytes =
+    bytes_added draft_of drafts (draft_of c.args.draft) c.self.inside.memory c.memory_usage.result c.saturating_add-memory.result
     c.saturating_add-memory.ensures c.self.invariant.0 c.memory_usage.ensures in
-    let fault = fault_in_room draft_of drafts (draft_of c.args.draft) c.args.self.now c.self.inside.size_limit c.saturating_add-memory.result
+    let fault =
+    fault_in_room draft_of drafts (draft_of c.args.draft) c.args.self.now c.self.inside.size_limit c.saturating_add-memory.result
     (ap (λ (b : Assembly). b.drafts) c.self.view_is) (ap (λ (b : Assembly). b.size_limit) c.self.view_is)
     (subst (λ (n : ℕ). n ≤ greatest_index) (c.len.ensures ∙ c.self.inside.drafts.ok.0) c.in-Ok.ensures.0) bytes in
     refused _ _ c.from_residual.result c.in_err-check_limit.field-0.0 c.from_residual.ensures.1
@@ -36,9 +39,11 @@ invariant_of-self c = rw c.in_err-push.ensures.items c.self.invariant
 pub returns-in_err-push : goal.returns-in_err-push
 returns-in_err-push c =
     let drafts = c.self.inside.drafts.items in
-    let bytes = bytes_added draft_of drafts (draft_of c.args.draft) c.self.inside.memory c.memory_usage.result c.saturating_add-memory.result
+    let bytes =
+    bytes_added draft_of drafts (draft_of c.args.draft) c.self.inside.memory c.memory_usage.result c.saturating_add-memory.result
     c.saturating_add-memory.ensures c.self.invariant.0 c.memory_usage.ensures in
-    let fault = fault_in_room draft_of drafts (draft_of c.args.draft) c.args.self.now c.self.inside.size_limit c.saturating_add-memory.result
+    let fault =
+    fault_in_room draft_of drafts (draft_of c.args.draft) c.args.self.now c.self.inside.size_limit c.saturating_add-memory.result
     (ap (λ (b : Assembly). b.drafts) c.self.view_is) (ap (λ (b : Assembly). b.size_limit) c.self.view_is)
     (subst (λ (n : ℕ). n ≤ greatest_index) (c.len.ensures ∙ c.self.inside.drafts.ok.0) c.in-Ok.ensures.0) bytes in
     refused _ _ c.from_residual-in_err-push.result NoMemory c.from_residual-in_err-push.ensures.1
@@ -49,7 +54,8 @@ invariant_of-self-2 c =
     let own = c.self.invariant in
     let drafts = c.self.inside.drafts.items in
     let pushed = c.in_ok-push.ensures.items in
-    let bytes = bytes_added draft_of drafts (draft_of c.args.draft) c.self.inside.memory c.memory_usage.result c.saturating_add-memory.result
+    let bytes =
+    bytes_added draft_of drafts (draft_of c.args.draft) c.self.inside.memory c.memory_usage.result c.saturating_add-memory.result
     c.saturating_add-memory.ensures own.0 c.memory_usage.ensures in (
       bytes ∙ sym (ap bytes_of_drafts (ap (map draft_of) pushed ∙ map-append draft_of drafts (c.args.draft ∷ []))),
       own.1,
@@ -63,10 +69,12 @@ invariant_of-self-2 c =
 pub returns : goal.returns
 returns c =
     let drafts = c.self.inside.drafts.items in
-    let bytes = bytes_added draft_of drafts (draft_of c.args.draft) c.self.inside.memory c.memory_usage.result c.saturating_add-memory.result
+    let bytes =
+    bytes_added draft_of drafts (draft_of c.args.draft) c.self.inside.memory c.memory_usage.result c.saturating_add-memory.result
     c.saturating_add-memory.ensures c.self.invariant.0 c.memory_usage.ensures in
     let seen : map draft_of drafts ≡ c.args.self.now.drafts = ap (λ (b : Assembly). b.drafts) c.self.view_is in
-    let fault = fault_in_room draft_of drafts (draft_of c.args.draft) c.args.self.now c.self.inside.size_limit c.saturating_add-memory.result
+    let fault =
+    fault_in_room draft_of drafts (draft_of c.args.draft) c.args.self.now c.self.inside.size_limit c.saturating_add-memory.result
     seen (ap (λ (b : Assembly). b.size_limit) c.self.view_is)
     (subst (λ (n : ℕ). n ≤ greatest_index) (c.len.ensures ∙ c.self.inside.drafts.ok.0) c.in-Ok.ensures.0) bytes in (
       c.in-Ok.ensures.1 ∙ (c.len.ensures ∙ c.self.inside.drafts.ok.0 ∙ sym (length-map drafts draft_of) ∙ ap length seen),

@@ -57,6 +57,7 @@ returns-then-not-are_below c =
 pub returns-then-not-are_named : goal.returns-then-not-are_named
 returns-then-not-are_named c =
     let seen = ap (λ (b : Assembly). b.drafts) c.self.view_is in
-    names_fail c.args.self.now c.args.start_anchored c.args.start_unanchored (length c.deref-2.result.now) (map draft_of c.deref-2.result.now)
+    names_fail c.args.self.now c.args.start_anchored c.args.start_unanchored (length c.deref-2.result.now)
+    (map draft_of c.deref-2.result.now)
     (ap length c.deref-2.ensures.value ∙ sym (length-map c.self.inside.drafts.items draft_of) ∙ ap length seen)
     (ap (map draft_of) c.deref-2.ensures.value ∙ seen) c.if-not-are_named.ensures

@@ -155,10 +155,12 @@ pub returns-in_err-states-clause-sound : goal.returns-in_err-states-clause-sound
 returns-in_err-states-clause-sound g c = failed _ _ c.from_residual-in_err-states.result c.from_residual-in_err-states.ensures.1
 
 pub returns-in_err-start_pattern-clause-value : goal.returns-in_err-start_pattern-clause-value
-returns-in_err-start_pattern-clause-value g c = failed _ _ c.from_residual-in_err-start_pattern.result c.from_residual-in_err-start_pattern.ensures.1
+returns-in_err-start_pattern-clause-value g c =
+    failed _ _ c.from_residual-in_err-start_pattern.result c.from_residual-in_err-start_pattern.ensures.1
 
 pub returns-in_err-start_pattern-clause-sound : goal.returns-in_err-start_pattern-clause-sound
-returns-in_err-start_pattern-clause-sound g c = failed _ _ c.from_residual-in_err-start_pattern.result c.from_residual-in_err-start_pattern.ensures.1
+returns-in_err-start_pattern-clause-sound g c =
+    failed _ _ c.from_residual-in_err-start_pattern.result c.from_residual-in_err-start_pattern.ensures.1
 
 pub returns-in_err-clone-clause-value : goal.returns-in_err-clone-clause-value
 returns-in_err-clone-clause-value g c = failed _ _ c.from_residual-in_err-clone.result c.from_residual-in_err-clone.ensures.1

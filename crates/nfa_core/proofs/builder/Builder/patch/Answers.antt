@@ -13,7 +13,8 @@ use Rattle.nfa_core.proofs.builder.Builder.patch.Goals as goal
 pub returns-in_err-check_limit-clause-value : goal.returns-in_err-check_limit-clause-value
 returns-in_err-check_limit-clause-value c =
     let drafts = map draft_of c.self.inside.drafts.items in
-    let inside : c.args.from < length drafts = subst (λ (b : Assembly). c.args.from < length b.drafts) (sym c.self.view_is) c.requires.from in
+    let inside : c.args.from < length drafts =
+    subst (λ (b : Assembly). c.args.from < length b.drafts) (sym c.self.view_is) c.requires.from in
     let bytes = way_added drafts c.args.from c.args.to c.self.inside.memory c.way_memory.result c.saturating_add-memory.result inside
     c.saturating_add-memory.ensures c.self.invariant.0
     (c.way_memory.ensures ∙ ap (λ (l : List Draft). way_bytes (draft_at (map draft_of l) c.args.from)) c.deref.ensures.value) in
@@ -47,7 +48,8 @@ invariant_of-self c = (
 pub returns-in_err-patch-clause-value : goal.returns-in_err-patch-clause-value
 returns-in_err-patch-clause-value c =
     let drafts = map draft_of c.self.inside.drafts.items in
-    let inside : c.args.from < length drafts = subst (λ (b : Assembly). c.args.from < length b.drafts) (sym c.self.view_is) c.requires.from in
+    let inside : c.args.from < length drafts =
+    subst (λ (b : Assembly). c.args.from < length b.drafts) (sym c.self.view_is) c.requires.from in
     let bytes = way_added drafts c.args.from c.args.to c.self.inside.memory c.way_memory.result c.saturating_add-memory.result inside
     c.saturating_add-memory.ensures c.self.invariant.0
     (c.way_memory.ensures ∙ ap (λ (l : List Draft). way_bytes (draft_at (map draft_of l) c.args.from)) c.deref.ensures.value) in
@@ -66,7 +68,8 @@ returns-in_err-patch-clause-free c free =
 pub invariant_of-self-2 : goal.invariant_of-self-2
 invariant_of-self-2 c =
     let drafts = map draft_of c.self.inside.drafts.items in
-    let inside : c.args.from < length drafts = subst (λ (b : Assembly). c.args.from < length b.drafts) (sym c.self.view_is) c.requires.from in
+    let inside : c.args.from < length drafts =
+    subst (λ (b : Assembly). c.args.from < length b.drafts) (sym c.self.view_is) c.requires.from in
     let bytes = way_added drafts c.args.from c.args.to c.self.inside.memory c.way_memory.result c.saturating_add-memory.result inside
     c.saturating_add-memory.ensures c.self.invariant.0
     (c.way_memory.ensures ∙ ap (λ (l : List Draft). way_bytes (draft_at (map draft_of l) c.args.from)) c.deref.ensures.value) in (
@@ -80,7 +83,8 @@ invariant_of-self-2 c =
 pub returns-clause-value : goal.returns-clause-value
 returns-clause-value c =
     let drafts = map draft_of c.self.inside.drafts.items in
-    let inside : c.args.from < length drafts = subst (λ (b : Assembly). c.args.from < length b.drafts) (sym c.self.view_is) c.requires.from in
+    let inside : c.args.from < length drafts =
+    subst (λ (b : Assembly). c.args.from < length b.drafts) (sym c.self.view_is) c.requires.from in
     let bytes = way_added drafts c.args.from c.args.to c.self.inside.memory c.way_memory.result c.saturating_add-memory.result inside
     c.saturating_add-memory.ensures c.self.invariant.0
     (c.way_memory.ensures ∙ ap (λ (l : List Draft). way_bytes (draft_at (map draft_of l) c.args.from)) c.deref.ensures.value) in

@@ -42,7 +42,8 @@ pub loop-next-preserved : goal.loop-next-preserved
 loop-next-preserved g c = record {
   way = underway_next (map draft_of c.args.drafts.now) c.args.self.now.table.items c.args.q c.loop-next.at c.in-Some.next c.loop-next.len
       c.requires.reached c.in-Some.ensures.value.0 c.in-Some.ensures.value.1 c.loop-next.invariant.way;
-  moves = one_more c.args.steps.now c.loop-next.len c.loop-next.steps c.next_open.new.steps c.loop-next.invariant.moves c.in-Some.ensures.moves;
+  moves =
+      one_more c.args.steps.now c.loop-next.len c.loop-next.steps c.next_open.new.steps c.loop-next.invariant.moves c.in-Some.ensures.moves;
 }
 
 pub returns-clause-opened : goal.returns-clause-opened

@@ -5,7 +5,8 @@ use Rattle.std.specs.String.{string_bytes}
 use Rattle.search_types.specs.Groups.{Name}
 use Rattle.search_types.specs.GroupFaults.{names_in, group_fault_after, pattern_fault}
 use Rattle.search_types.specs.GroupIndices.{FindsEach}
-use Rattle.search_types.proofs.GroupLoopLemmas.{failed, seen_pushed, all_seen, sound_first, sound_rest, room_pushed, all_read, some_read, room_seen}
+use Rattle.search_types.proofs.GroupLoopLemmas.{failed, seen_pushed, all_seen, sound_first, sound_rest, room_pushed}
+use Rattle.search_types.proofs.GroupLoopLemmas.{all_read, some_read, room_seen}
 use Rattle.search_types.proofs.pattern_groups.PatternGroups.new.Goals as goal
 
 abbrev see : Option (String Global) → Option Name
