@@ -1,10 +1,11 @@
 -- A pattern that is added to the bytes of a state that is being built, and whether it is there already.
-use Rattle.std.proofs.Common.{◌≡◌, ℕ, zero, suc, ◌+◌, ◌-◌, ◌*◌, ◌/◌, ◌<◌, ◌≤◌, ◌==◌, ◌||◌, Bool, true, false, List, [], ◌∷◌, ◌++◌, length}
+use Rattle.std.proofs.Common.{◌≡◌, ℕ, zero, suc, ◌+◌, ◌-◌, ◌*◌, ◌/◌, ◌<◌, ◌≤◌, ◌==◌, Bool, true, false, List, [], ◌∷◌, ◌++◌, length}
 use Rattle.std.proofs.Common.{drop, get_or, refl, sym, ap, ◌∙◌, arith, append_assoc, append-nil, subst}
 use Rattle.std.specs.Prelude.{All, slice_index, slice_set, nat_eq}
 use Rattle.std.specs.List.{list_any, IsDistinct, AllByRecursion}
 use Rattle.std.specs.Int.{w32, from_le_bytes}
 use Rattle.std.specs.Int.Bits.{bit_or}
+use Rattle.std.proofs.lemmas.Bool.{or_parts}
 use Rattle.search_core.specs.Index.{greatest_index}
 use Rattle.determinize_core.specs.States.{StateValue, IsState}
 use Rattle.determinize_core.specs.Added.{with_match}
@@ -18,10 +19,6 @@ use Rattle.determinize_core.proofs.EditLemmas.{told_unfinished, all_more}
 
 -- ---- the patterns with one more
 
-either_none : (a b : Bool) → (a || b) ≡ false → (a ≡ false) × (b ≡ false)
-either_none true b e = let never : true ≡ false = e in (e, cc)
-either_none false b e = (refl, e)
-
 turned : (x p : ℕ) → nat_eq p x ≡ false → nat_eq x p ≡ false
 turned x p e = grind arith
 
@@ -34,7 +31,7 @@ pub once_more : (xs : List ℕ) (p : ℕ) → IsDistinct nat_eq xs → list_any 
 unfolding IsDistinct
 once_more [] p once absent = (tt, tt)
 once_more (x ∷ xs) p once absent =
-    let parts = either_none (nat_eq p x) (list_any (nat_eq p) xs) absent in
+    let parts = or_parts (nat_eq p x) (list_any (nat_eq p) xs) absent in
     (other_more x p xs once.0 (turned x p parts.0), once_more xs p once.1 parts.1)
 
 each_more : (ns : List ℕ) (n : ℕ) → four_bytes_each (ns ++ n ∷ []) ≡ four_bytes_each ns ++ in_four_bytes n

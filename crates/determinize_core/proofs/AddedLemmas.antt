@@ -1,7 +1,8 @@
 -- States of an automaton are added one after another.
 use Rattle.std.proofs.Common.{◌≡◌, ℕ, zero, suc, ◌+◌, ◌<◌, ◌≤◌, Bool, true, false, List, [], ◌∷◌, ◌++◌, length, drop, get_or, refl, sym, ap}
-use Rattle.std.proofs.Common.{◌∙◌, arith, append_assoc, append-nil, cond, not, ◌||◌, subst}
+use Rattle.std.proofs.Common.{◌∙◌, arith, append_assoc, append-nil, cond, not, subst}
 use Rattle.std.specs.List.{list_any}
+use Rattle.std.proofs.lemmas.Bool.{or_parts}
 use lib.Bits.{or_zero_r}
 use Rattle.look_core.specs.declared.look.Look.{Look}
 use Rattle.look_core.specs.LookSets.{has_look, union_of}
@@ -102,14 +103,10 @@ module _ (a : Automaton) (none : looks_of a.states ≡ 0) where
       let same : union_of s (look_of (node_at a q)) ≡ s = ap (union_of s) (no_look_at q) ∙ or_zero_r s in
       ap (λ (n : ℕ). looks_with a n qs) same ∙ no_looks s qs
 
-neither : (x y : Bool) → (x || y) ≡ false → (x ≡ false) × (y ≡ false)
-neither true y e = let never : true ≡ false = e in (e, cc)
-neither false y e = (refl, e)
-
 none_captures : (nodes : List Node) → list_any is_capture nodes ≡ false → (q : ℕ) → is_capture (get_or nodes q fail_node) ≡ false
 none_captures [] none q = refl
-none_captures (node ∷ nodes) none zero = (neither (is_capture node) (list_any is_capture nodes) none).0
-none_captures (node ∷ nodes) none (suc q) = none_captures nodes (neither (is_capture node) (list_any is_capture nodes) none).1 q
+none_captures (node ∷ nodes) none zero = (or_parts (is_capture node) (list_any is_capture nodes) none).0
+none_captures (node ∷ nodes) none (suc q) = none_captures nodes (or_parts (is_capture node) (list_any is_capture nodes) none).1 q
 
 pub all_kept : (a : Automaton) → list_any is_capture a.states ≡ false → (qs : List ℕ) → kept_among a qs ≡ qs
 all_kept a none [] = refl

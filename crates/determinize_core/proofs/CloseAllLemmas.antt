@@ -27,9 +27,6 @@ abbrev pub but : ℕ → List ℕ → List ℕ
 but n [] = []
 but n (x ∷ xs) = cond (nat_eq x n) (but n xs) (x ∷ but n xs)
 
-differ_if : (b : Bool) (x n : ℕ) → nat_eq x n ≡ b → b ≡ false → (x ≡ n → ⊥)
-differ_if b x n e f = λ same. absurd (grind (arith, e, f, same))
-
 but_has : (n q : ℕ) (xs : List ℕ) → Has nat_eq q (but n xs) → Has nat_eq q xs
 but_has n q [] h = h
 but_has n q (x ∷ xs) h = ⊎_elim

@@ -20,11 +20,6 @@ use Rattle.determinize_core.specs.Steps.{known_steps}
 use Rattle.determinize_core.specs.Costs.{known_ways}
 use Rattle.determinize_core.proofs.AddedLemmas.{next_left}
 
--- the ways without a byte are names that the state has
-look_in_names : (b : Bool) (next r : ℕ) → Has nat_eq r (cond b (next ∷ []) []) → Has nat_eq r (next ∷ [])
-look_in_names true next r h = h
-look_in_names false next r h = none_in nat_eq r _ h
-
 pub known_below : (a : Automaton) (looks : ℕ) → IsWellFormed a → StaysBelow (length a.states) (known_steps a looks)
 known_below a looks formed = λ q low r way. formed q r (nothing_led (node_at a q) (has_look looks) r way)
 

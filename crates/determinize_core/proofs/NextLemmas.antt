@@ -1,5 +1,5 @@
 -- What a step of powerset states puts together.
-use Rattle.std.proofs.Common.{◌≡◌, ℕ, ◌≤◌, ◌==◌, true, false, not, Bool, List, length, Option, ◌&&◌, ◌||◌, [], refl, sym, ap, ◌∙◌, cond}
+use Rattle.std.proofs.Common.{◌≡◌, ℕ, ◌≤◌, ◌==◌, true, false, not, Bool, List, length, Option, ◌&&◌, ◌||◌, [], sym, ap, ◌∙◌, cond}
 use Rattle.std.proofs.Common.{All, ◌<◌, subst}
 use Rattle.std.specs.Bool.{nat_eq}
 use Rattle.std.specs.Int.Bits.{and_zero_r}
@@ -8,14 +8,13 @@ use Rattle.search_types.specs.declared.match_kind.MatchKind.{MatchKind}
 use Rattle.look_core.specs.Looks.{byte_side, is_word, is_byte}
 use Rattle.look_core.specs.LookSets.{shared_by, without}
 use Rattle.look_core.specs.Terminators.{Terminator}
-use Rattle.nfa_core.specs.Walks.{distinct, HasNoneTwice}
-use Rattle.nfa_core.specs.Nfa.{Automaton, IsWellFormed}
-use Rattle.nfa_core.specs.Reached.{AreBelow}
+use Rattle.nfa_core.specs.Walks.{distinct}
+use Rattle.nfa_core.specs.Nfa.{Automaton}
 use Rattle.nfa_core.proofs.ForCallers.{has_from_all}
 use Rattle.determinize_core.specs.States.{StateValue, dead}
 use Rattle.determinize_core.specs.Steps.{closed, known_before, gains, ids_before, families, first_half, patterns_in, known_behind}
 use Rattle.determinize_core.specs.Steps.{unit_steps, reading, states_behind, begun, is_some_kept, with_states, step_value}
-use Rattle.determinize_core.proofs.CloseAllLemmas.{distinct_already, once_from_distinct, distinct_from_once, closed_once, closed_below}
+use Rattle.determinize_core.proofs.CloseAllLemmas.{distinct_already}
 use Rattle.determinize_core.proofs.CloseAllLemmas.{few_once}
 
 module _ (a : Automaton) (t : Terminator) (v : StateValue) (u : Option ℕ) where
@@ -57,26 +56,6 @@ module _ (a : Automaton) (t : Terminator) (v : StateValue) (u : Option ℕ) wher
     pub put_few : All (λ q. q < length a.states) v.ids → length put ≤ length a.states
     put_few below = subst (λ (qs : List ℕ). length qs ≤ length a.states) (sym put_is)
         (few_once (length a.states) v.ids once (has_from_all (length a.states) v.ids below))
-
-  module _ (formed : IsWellFormed a) (once : IsDistinct nat_eq v.ids) (below : AreBelow (length a.states) v.ids) where
-    before_once_by : (b : Bool) → gains v (known_before a.reverse t v u) ≡ b → HasNoneTwice nat_eq (ids_before a t v u)
-    before_once_by true e = subst (λ (qs : List ℕ). HasNoneTwice nat_eq qs) (sym (by_gain true e))
-        (closed_once a (known_before a.reverse t v u) v.ids)
-    before_once_by false e = subst (λ (qs : List ℕ). HasNoneTwice nat_eq qs) (sym (by_gain false e)) (once_from_distinct v.ids once)
-
-    before_below_by : (b : Bool) → gains v (known_before a.reverse t v u) ≡ b → AreBelow (length a.states) (ids_before a t v u)
-    before_below_by true e = subst (λ (qs : List ℕ). AreBelow (length a.states) qs) (sym (by_gain true e))
-        (closed_below a (known_before a.reverse t v u) formed v.ids below)
-    before_below_by false e = subst (λ (qs : List ℕ). AreBelow (length a.states) qs) (sym (by_gain false e)) below
-
-    pub before_once : HasNoneTwice nat_eq (ids_before a t v u)
-    before_once = before_once_by (gains v (known_before a.reverse t v u)) refl
-
-    pub before_below : AreBelow (length a.states) (ids_before a t v u)
-    before_below = before_below_by (gains v (known_before a.reverse t v u)) refl
-
-    pub before_few : length (ids_before a t v u) ≤ length a.states
-    before_few = few_once (length a.states) (ids_before a t v u) (distinct_from_once (ids_before a t v u) before_once) before_below
 
 -- ---- the state behind
 

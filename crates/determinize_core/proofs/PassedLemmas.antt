@@ -2,6 +2,7 @@
 -- knows of them before its unit.
 use Rattle.std.proofs.Common.{◌≡◌, ℕ, ◌≤◌, ◌&&◌, ◌||◌, Bool, true, false, not, List, [], ◌∷◌, length, Option, Some, None, is_none, refl}
 use Rattle.std.proofs.Common.{sym, ap, ◌∙◌}
+use Rattle.std.proofs.Math.Bool.{or-false}
 use Rattle.search_core.specs.Text.{byte_at, byte_before}
 use Rattle.search_core.specs.Utf8.{is_word_byte}
 use Rattle.look_core.specs.Codes.{same_look, reversed, is_anchor_haystack, is_anchor_lf, is_anchor_crlf, is_word_look}
@@ -56,9 +57,6 @@ and_turned true true = refl
 and_turned true false = refl
 and_turned false true = refl
 and_turned false false = refl
-
-or_both : (a b c d : Bool) → a ≡ b → c ≡ d → (a || c) ≡ (b || d)
-or_both a b c d p q = λ i. p i || q i
 
 or_first : (a b c : Bool) → a ≡ b → (a || c) ≡ (b || c)
 or_first a b c p = ap (λ x. x || c) p
@@ -144,10 +142,6 @@ has_all_wanted [] s l = refl
 has_all_wanted ((b, k) ∷ ws) s l = with_one b k l (with_all ws s) ∙ ap (λ c. (same_look l k && b) || c) (has_all_wanted ws s l)
 
 -- ---- sets of starts
-
-or-false : (b : Bool) → (b || false) ≡ b
-or-false true = refl
-or-false false = refl
 
 abbrev starts_list : Families → List Wanted
 starts_list f = (f.words, WordStartHalfUnicode) ∷ (f.words, WordStartHalfAscii) ∷ (f.crlf, StartCRLF) ∷ (f.lines, StartLF) ∷ (

@@ -9,7 +9,7 @@ use Rattle.determinize_core.specs.States.{StateValue, IsState}
 use Rattle.determinize_core.specs.StateBytes.{IsEncoded, last_weight, moved, in_four_bytes, number_at, four_bytes_each, pattern_bytes}
 use Rattle.determinize_core.specs.StateBytes.{id_bytes, ids_read, ids_start, has_flag, flag_byte, is_match, is_listed, encoded, decoded}
 use Rattle.determinize_core.proofs.StateLemmas.{number_back, read_last}
-use Rattle.determinize_core.proofs.FlagLemmas.{match_back, listed_back}
+use Rattle.determinize_core.proofs.FlagLemmas.{listed_back}
 use Rattle.determinize_core.proofs.DecodeLemmas.{length-four_bytes_each, past_13, nine}
 use Rattle.determinize_core.proofs.ValueLemmas.{few, small, decoded_encoded}
 
@@ -54,28 +54,9 @@ length-listed v bytes e listed =
     ap length (e ∙ listed_form v listed) ∙ omega arith in
     omega (arith, whole, length-append (four_bytes_each v.matches) (id_bytes 0 v.ids), length-four_bytes_each v.matches)
 
-pub length-unlisted : (v : StateValue) (bytes : List ℕ) → bytes ≡ encoded v → 9 ≤ length bytes
-length-unlisted v bytes e =
-    let whole : length bytes ≡ 9 + length (pattern_bytes (is_listed v.matches) (length v.matches) v.matches ++ id_bytes 0 v.ids) =
-    ap length e ∙ omega arith in
-    omega (arith, whole)
-
 -- whether they are listed, as the flags tell
 pub told_listed : (v : StateValue) (bytes : List ℕ) → bytes ≡ encoded v → has_flag (slice_index bytes 0) 2 ≡ is_listed v.matches
 told_listed v bytes e = ap (λ (xs : List ℕ). has_flag (slice_index xs 0) 2) e ∙ listed_back _ _ _ _
-
-pub told_match : (v : StateValue) (bytes : List ℕ) → bytes ≡ encoded v → has_flag (slice_index bytes 0) 1 ≡ is_match v.matches
-told_match v bytes e = ap (λ (xs : List ℕ). has_flag (slice_index xs 0) 1) e ∙ match_back _ _ _ _
-
--- patterns that are not listed are none, or pattern 0
-pub length_alone : (ps : List ℕ) → is_listed ps ≡ false → is_match ps ≡ true → length ps ≡ 1
-length_alone [] unlisted matching = cc
-length_alone (p ∷ []) unlisted matching = refl
-length_alone (p ∷ q ∷ ps) unlisted matching = cc
-
-pub length_none : (ps : List ℕ) → is_match ps ≡ false → length ps ≡ 0
-length_none [] e = refl
-length_none (p ∷ ps) e = cc
 
 pub alone : (ps : List ℕ) (i : ℕ) → is_listed ps ≡ false → i < length ps → get_or ps i 0 ≡ 0
 alone [] i unlisted within = refl

@@ -12,14 +12,14 @@ use Rattle.search_core.specs.Text.{byte_at, byte_before}
 use Rattle.search_types.specs.declared.match_kind.MatchKind.{MatchKind}
 use Rattle.search_types.specs.declared.match_kind.MatchKind.TheVariants.{All as AllMatches, LeftmostFirst}
 use Rattle.look_core.specs.Terminators.{Terminator}
-use Rattle.nfa_core.specs.Walks.{Has, distinct}
+use Rattle.nfa_core.specs.Walks.{distinct}
 use Rattle.nfa_core.specs.Runs.{answers}
 use Rattle.nfa_core.specs.Places.{before_answer, unless_answered, first}
 use Rattle.nfa_core.specs.Nfa.{Node, byte_range, sparse_node, dense_node, look_node, union_node, binary_union, capture_node, fail_node}
 use Rattle.nfa_core.specs.Nfa.{match_node, Automaton, node_at, IsWellFormed}
 use Rattle.nfa_core.specs.NfaValue.{is_capture}
 use Rattle.nfa_core.specs.Ways.{Text, span, reads, with_place, on_byte, on_read, byte_steps, match_of, matched_behind, place_of, bytes_left}
-use Rattle.nfa_core.proofs.ForCallers.{none_in, of_flat_map, names_equal, read_led, option_cases}
+use Rattle.nfa_core.proofs.ForCallers.{of_flat_map, names_equal, read_led, option_cases}
 use Rattle.determinize_core.specs.Steps.{unit_steps, pattern_of, pattern_at, reading, patterns_in, is_kept}
 use Rattle.determinize_core.specs.Steps.{kept_among, unit_at, unit_behind}
 use Rattle.determinize_core.specs.Walked.{cut_of}
@@ -175,13 +175,6 @@ module _ (a : Automaton) (kind : MatchKind) (t : Terminator) (h : List ℕ) (s e
       ∙ ap (flat_map (unit_steps a unit)) (sym (cut_reads a i k kind list))
       ∙ sym (flat_map_alike (byte_steps a (span t h s e) (place_of a.reverse i k)) (unit_steps a unit) byte_steps_are
       (cut_of kind a i k list))
-
-pub unit_low : (a : Automaton) → IsWellFormed a → (u : Option ℕ) (xs : List ℕ) → AreBelow (length a.states) (flat_map (unit_steps a u) xs)
-unit_low a formed u xs = of_flat_map nat_eq names_equal nat_eq (unit_steps a u) (λ q. q < length a.states) xs (λ x there q h. led u x q h)
-  where
-    led : (u : Option ℕ) (x q : ℕ) → Has nat_eq q (unit_steps a u x) → q < length a.states
-    led None x q h = none_in nat_eq q _ h
-    led (Some b) x q h = formed x q (read_led (node_at a x) (Some (b, 0)) q h)
 
 pub bytes_low : (a : Automaton) → IsWellFormed a → (text : Text) (j : ℕ) (xs : List ℕ) →
     AreBelow (length a.states) (flat_map (byte_steps a text j) xs)

@@ -28,9 +28,6 @@ moved_zigzag from to = grind arith
 draft_of : (q r w part : ℕ) → (part + r * w) + q * (w * 128) ≡ part + (q * 128 + r) * w
 draft_of q r w part = omega arith
 
-split : (z : ℕ) → z / 128 * 128 + z % 128 ≡ z
-split z = omega arith
-
 -- the last group of a number, and a group that others follow
 pub read_last : (before part w b : ℕ) (rest : List ℕ) → (nat_lt b 128 || nat_le last_weight w) ≡ true →
     ids_read before part w (b ∷ rest) ≡ moved before (part + b * w) ∷ ids_read (moved before (part + b * w)) 0 1 rest

@@ -35,9 +35,6 @@ few v state =
 pub small : (bound : ℕ) (xs : List ℕ) → All (λ x. x ≤ bound) xs → bound < 2 ^ 32 → All (λ x. x < 2 ^ 32) xs
 small bound xs all below k d p = let h = all k d p in omega (arith, h, below)
 
-flags_of : StateValue → ℕ
-flags_of v = flag_byte (is_match v.matches) (is_listed v.matches) v.is_from_word v.is_half_crlf
-
 by_listed : (l : Bool) (v : StateValue) → IsState v → is_listed v.matches ≡ l →
     decoded (nine (flag_byte (is_match v.matches) (is_listed v.matches) v.is_from_word v.is_half_crlf) v.look_have v.look_need
     ++ (pattern_bytes l (length v.matches) v.matches ++ id_bytes 0 v.ids)) ≡ v

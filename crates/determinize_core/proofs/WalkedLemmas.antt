@@ -26,7 +26,8 @@ use Rattle.determinize_core.proofs.PassedLemmas.{passed_by, looks_passed, IsTold
 use Rattle.determinize_core.proofs.PassedLemmas.{behind_is_told, behind_is_flagged}
 use Rattle.determinize_core.proofs.EntriesLemmas.{stays_below, IsStateOf, closes}
 use Rattle.determinize_core.proofs.StartingLemmas.{one_inside}
-use Rattle.determinize_core.proofs.ReadingLemmas.{kept_match, unit_passes, unit_is, place_inside, entries_alike, unit_low, bytes_low}
+use Rattle.determinize_core.proofs.ReadingLemmas.{kept_match, unit_passes, unit_is, place_inside, entries_alike, bytes_low}
+use Rattle.determinize_core.proofs.TargetLemmas.{units_below}
 
 -- ---- the lists of the walk under all looks
 
@@ -70,7 +71,7 @@ step_stands a formed t kind v u b e =
       small = starts_of-lt (seen_behind (looks_of a.states) a.reverse t u);
       told = subst T (sym e) (behind_is_told (looks_of a.states) a.reverse t b);
       flagged = λ some. behind_is_flagged (looks_of a.states) a.reverse t u (is_some_kept a (states_behind a t kind v u)) some;
-      low = unit_low a formed u (reading kind a (ids_before a t v u));
+      low = units_below a formed u (reading kind a (ids_before a t v u));
     }
 
 module _ (kind : MatchKind) (a : Automaton) (t : Terminator) (h : List ℕ) (s e i q : ℕ) (formed : IsWellFormed a) (below : i ≤ e)

@@ -65,4 +65,3 @@ pub use Rattle.hir_core.proofs.LooksUsedLemmas.{rounds_map}
 pub use Rattle.hir_core.proofs.SequenceCountLemmas.{few_pieces}
 pub use Rattle.hir_core.proofs.SequenceLemmas.{spelled_one, spelled_two, spelled_three, spelled_four}
 pub use Rattle.hir_core.proofs.SequenceTreeLemmas.{member_of_one}
-pub use Rattle.hir_core.proofs.SequenceTreeLemmas.{same_test}

@@ -8,6 +8,7 @@ use Rattle.std.specs.List.{flat_map}
 use Rattle.std.proofs.lemmas.Bool.{and_parts, and_from, le-leb, leb-true, cases_Bool, false_from_ne_true, cond-true, cond-false, or_right}
 use Rattle.std.proofs.lemmas.List.{take-append-drop}
 use Rattle.std.proofs.lemmas.List.Concat.{flat_map-append}
+use Rattle.std.specs.Cmp.{both_ways}
 use Rattle.search_core.specs.Utf8.{SpellsFirst}
 use Rattle.search_core.specs.Characters.{character_at, spelling_len}
 use Rattle.search_core.proofs.ForCallers.{spelling_has_len, character_begins, begun_character}
@@ -188,14 +189,9 @@ member_there c zero (x ∷ ps) p e l m =
     || is_member ps c) (and_from _ _ (le-leb p.0 c l) (le-leb c p.1 m)))
 member_there c (suc k) (x ∷ ps) p e l m = or_right (leb x.0 c && leb c x.1) (is_member ps c) (member_there c k ps p e l m)
 
-pub same_test : (t u : Bool) → (t ≡ true → u ≡ true) → (u ≡ true → t ≡ true) → t ≡ u
-same_test true u f g = sym (f refl)
-same_test false true f g = g refl
-same_test false false f g = refl
-
 same_member : (lo hi c : ℕ) → InScalarRange c → is_member (pieces lo hi) c ≡ is_member ((lo, hi) ∷ []) c
 same_member lo hi c s =
-    same_test _ _
+    both_ways _ _
     (λ m. let q = rising_members lo hi (pieces lo hi) c (rises (hi + 1 - lo) lo hi) m in one_member (lo, hi) c q.0 q.1)
     (λ m.
     let q = member_of_one (lo, hi) c m in

@@ -7,12 +7,12 @@ use Rattle.std.proofs.lemmas.Bool.{cases_lt, and_parts, and_from, or_cases, or_l
 use Rattle.std.proofs.lemmas.List.Sorted.{All-permutation, list_any-IsPermutation}
 use Rattle.std.proofs.lemmas.List.Folds.{list_any-append}
 use Rattle.std.proofs.lemmas.List.Sums.{AllPass-from_list_all, list_all-from_AllPass}
+use Rattle.std.proofs.Math.Bool.{or-false}
 use Rattle.hir_core.specs.Means.{is_member}
 use Rattle.hirscan.specs.Words.{scalar_ranges}
 use Rattle.hirscan.specs.Readers.{hex_ends, the_hex_ends}
 use Rattle.hirscan.specs.LineFault.{first_of, scalar_item_fault}
 use Rattle.hirscan.proofs.ScalarRangeLemmas.{AreApart, in_order, ends_in_order, faultless_in_order, scalar_ranges_apart, scalar_members}
-use Rattle.thompson_nfa.proofs.ForCallers.{or_none}
 
 in_first : (r : ℕ × ℕ) (rs : List (ℕ × ℕ)) (c : ℕ) → r.0 ≤ c → c ≤ r.1 → is_member (r ∷ rs) c ≡ true
 in_first r rs c l h = or_left _ _ (and_from _ _ (le-leb r.0 c l) (le-leb c r.1 h))
@@ -130,7 +130,7 @@ pub same_ranges : (ws : List (List ℕ)) (items : List (ℕ × ℕ)) → first_o
 same_ranges ws items none ordered same =
     told_by_members 0 (scalar_ranges items) (scalar_ranges (map the_hex_ends ws)) (scalar_ranges_apart items ordered)
     (scalar_ranges_apart (map the_hex_ends ws) (faultless_in_order ws none))
-    (λ c. scalar_members items c ∙ (sym (same c ∙ or_none (is_member items c)) ∙ sym (scalar_members (map the_hex_ends ws) c)))
+    (λ c. scalar_members items c ∙ (sym (same c ∙ or-false (is_member items c)) ∙ sym (scalar_members (map the_hex_ends ws) c)))
 
 pub item_in_order : (w : List ℕ) (item : ℕ × ℕ) → scalar_item_fault w ≡ None → item ≡ the_hex_ends w → item.0 ≤ item.1
 item_in_order w item h e = rw e (leb-true (the_hex_ends w).0 (the_hex_ends w).1 (ends_in_order (hex_ends w) h))

@@ -5,6 +5,7 @@ use Rattle.std.specs.Prelude.{Ok}
 use Rattle.std.specs.List.{range_with_len}
 use Rattle.std.proofs.lemmas.List.Folds.{list_any_at, Any-from_list_any}
 use Rattle.std.proofs.lemmas.Option.{slice_get_within, slice_get_read, get_or_from_slice_get}
+use Rattle.std.specs.Cmp.{both_ways}
 use Rattle.look_core.specs.declared.look.Look.{Look}
 use Rattle.look_core.specs.Codes.{is_word_unicode}
 use Rattle.look_core.specs.LookSets.{has_look, has_any}
@@ -13,7 +14,8 @@ use Rattle.hir_core.specs.Tree.{Tree}
 use Rattle.nfa_core.specs.NfaValue.{Nfa, looks_of}
 use Rattle.thompson_nfa.specs.Compilations.{IsCompiled}
 use Rattle.thompson_nfa.specs.Compiled.{turned}
-use Rattle.thompson_nfa.proofs.ForCallers.{looks_are_used, reversed_twice}
+use Rattle.look_core.proofs.ForCallers.{reversed_twice}
+use Rattle.thompson_nfa.proofs.ForCallers.{looks_are_used}
 use Rattle.lazy_dfa.specs.Accounting.{Measures, measures_of, least_capacity, effective_capacity}
 use Rattle.lazy_dfa.specs.Building.{class_in, classes_of, measures_with, dfa_of}
 use Rattle.lazy_dfa.specs.ConfigValue.{Options, no_options, changed_by, starts_each_of, word_boundary_of, by_hand, capacity_of, skips_check}
@@ -25,7 +27,6 @@ use Rattle.hirscan.specs.Built.{IsBuilt, FindsFirst, HasRoom, compile_options, u
 use Rattle.hirscan.specs.Regexes.{IsRegexOf}
 use Rattle.hirscan.proofs.BuiltPairLemmas.{pair_is, turned_words, member_of_any, built_pair_is}
 use Rattle.search_types.proofs.ForCallers.{option_or-None}
-use Rattle.hir_core.proofs.ForCallers.{same_test}
 use Rattle.determinize_core.proofs.ForCallers.{has_family}
 
 -- ---- words by characters, of trees and of an automaton
@@ -60,7 +61,7 @@ module _ (xs : List Tree) (s : Settings) (reverse : Bool) (n : Nfa) (made : IsCo
       has_family is_word_unicode (looks_of n.automaton.states) (turned reverse l.0) there (words_either_way reverse l.0 ∙ l.2)
 
   words_are : has_unicode_word n.automaton ≡ use_unicode_words xs
-  words_are = same_test (has_unicode_word n.automaton) (use_unicode_words xs) of_a_tree of_a_state
+  words_are = both_ways (has_unicode_word n.automaton) (use_unicode_words xs) of_a_tree of_a_state
 
   pub quits_are : (o : Options) → quit_bytes n.automaton (word_boundary_of o) (by_hand o) ≡ quit_bytes_for xs o
   quits_are o = ap (λ (b : Bool). if b && word_boundary_of o then with_high_bytes (by_hand o) else by_hand o) words_are

@@ -4,6 +4,7 @@ use Rattle.std.proofs.Common.{◌≡◌, ℕ, Bool, true, false, ◌&&◌, ◌||
 use Rattle.std.specs.Prelude.{Result, Ok, Err}
 use Rattle.std.specs.List.{list_any}
 use Rattle.std.proofs.lemmas.Bool.{cases_Bool, and_parts}
+use Rattle.std.specs.Cmp.{both_ways}
 use Rattle.look_core.specs.declared.look.Look.{Look}
 use Rattle.look_core.specs.declared.look.Look.TheVariants.{Start, End, StartLF, EndLF, StartCRLF, EndCRLF, WordAscii, WordAsciiNegate}
 use Rattle.look_core.specs.declared.look.Look.TheVariants.{WordUnicode, WordUnicodeNegate, WordStartAscii, WordEndAscii, WordStartUnicode}
@@ -19,7 +20,8 @@ use Rattle.nfa_core.specs.NfaValue.{Nfa, is_capture, looks_of}
 use Rattle.thompson_nfa.specs.Configs.{Options, utf8_of, reverse_of, terminator_of}
 use Rattle.thompson_nfa.specs.Compilations.{IsCompiled}
 use Rattle.thompson_nfa.specs.Compiled.{turned}
-use Rattle.thompson_nfa.proofs.ForCallers.{looks_are_used, reversed_twice}
+use Rattle.look_core.proofs.ForCallers.{reversed_twice}
+use Rattle.thompson_nfa.proofs.ForCallers.{looks_are_used}
 use Rattle.lazy_dfa.specs.Accounting.{least_capacity}
 use Rattle.lazy_dfa.specs.Building.{measures_with, dfa_of, built, is_too_small}
 use Rattle.lazy_dfa.specs.ConfigValue.{kind_of, changed_by, word_boundary_of, by_hand, capacity_of}
@@ -30,7 +32,6 @@ use Rattle.lazy_dfa.specs.Dfas.{Dfa, IsDfa}
 use Rattle.lazy_dfa.specs.Quits.{quit_bytes, has_unicode_word, with_high_bytes, is_unsupported}
 use Rattle.regex_pair.specs.Pairs.{Pair, back_options, both_of, pair_built}
 use Rattle.hirscan.specs.Regexes.{IsRegexOf}
-use Rattle.hir_core.proofs.ForCallers.{same_test}
 use Rattle.determinize_core.proofs.ForCallers.{has_family}
 
 -- ---- what is built
@@ -133,7 +134,7 @@ module _ (o r : Options) (xs : List Tree) (n m : Nfa) (up : IsCompiled o xs n) (
       (turned_words l.0 ∙ l.2)
 
   same_words : has_unicode_word m.automaton ≡ has_unicode_word n.automaton
-  same_words = same_test (has_unicode_word m.automaton) (has_unicode_word n.automaton) forward_words reverse_words
+  same_words = both_ways (has_unicode_word m.automaton) (has_unicode_word n.automaton) forward_words reverse_words
 
   same_quit_bytes : (boundaries : Bool) (set : List Bool) → quit_bytes m.automaton boundaries set ≡ quit_bytes n.automaton boundaries set
   same_quit_bytes boundaries set = ap (λ b. if b && boundaries then with_high_bytes set else set) same_words

@@ -2,7 +2,7 @@
 use Rattle.std.proofs.Common.{◌≡◌, ℕ, zero, suc, ◌+◌, ◌-◌, ◌<◌, ◌≤◌, List, [], ◌∷◌, ◌++◌, map, length, take, drop, get_or}
 use Rattle.std.proofs.Common.{◌∙◌, arith, min, true, false, if◌then◌else◌, le-ltb, Option, Some, None, Result, Ok, Err}
 use Rattle.std.proofs.Common.{sym, ap, subst, length-append, length-drop}
-use Rattle.std.specs.Prelude.{MatchResult, MatchOption, ⊤, IfOk, OnErr, IsErrAnd}
+use Rattle.std.specs.Prelude.{MatchResult, MatchOption, ⊤, OnErr, IsErrAnd}
 use Rattle.std.specs.Option.{option_or}
 use Rattle.std.specs.List.{sum_by}
 use Rattle.std.proofs.lemmas.Bool.{lt-ltb}
@@ -19,10 +19,6 @@ refused P Q (Ok a) e is q = absurd is
 refused P Q (Err x) e is q = subst Q (sym is) q
 
 -- an error ensures nothing of a success
-pub failed : {A E : Type 0} (P : A → Type 0) (Q : E → Type 0) (r : Result A E) → IsErrAnd r Q → IfOk r P
-failed P Q (Ok a) is = absurd is
-failed P Q (Err e) is = tt
-
 pub on_err : {A E X : Type 0} (r : Result A E) → X → OnErr r X
 on_err (Ok a) x = tt
 on_err (Err e) x = x

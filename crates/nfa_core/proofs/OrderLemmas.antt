@@ -4,7 +4,7 @@ use Rattle.std.proofs.Common.{◌∙◌, arith, length-append, if◌then◌else�
 use Rattle.std.specs.Prelude.{MatchOption, ⊤}
 use Rattle.std.proofs.lemmas.Bool.{ltb-false, lt-ltb}
 use Rattle.std.proofs.lemmas.List.{map-append, length-map, length-set}
-use Rattle.std.proofs.lemmas.List.Elements.{All-push, All-set, All-get_or, All-weaker}
+use Rattle.std.proofs.lemmas.List.Elements.{All-push, All-set, All-get_or}
 use Rattle.search_core.specs.Index.{greatest_index}
 use Rattle.nfa_core.specs.BuilderStates.{DraftNode, empty_draft, range_draft, sparse_draft, look_draft, capture_start_draft}
 use Rattle.nfa_core.specs.BuilderStates.{capture_end_draft, union_draft, union_reverse_draft, fail_draft}
@@ -65,53 +65,6 @@ order_patched old new from to patterns limit e inside order within =
       patterns_numbered = order.patterns_numbered;
     } in
     subst (λ (drafts : List DraftNode). IsInOrder drafts patterns limit) (sym e) moved
-
--- the limit is another one
-pub order_limited : (drafts : List DraftNode) (patterns : ℕ) (old new : Option ℕ) → IsInOrder drafts patterns old →
-    limit_fault new (bytes_of_drafts drafts) ≡ None → IsInOrder drafts patterns new
-order_limited drafts patterns old new order within = record {
-  within = limit_kept new (bytes_of_drafts drafts) within;
-  parts_of = order.parts_of;
-  states_numbered = order.states_numbered;
-  patterns_numbered = order.patterns_numbered;
-}
-
-draft_of_more : (old new : ℕ) → old ≤ new → (draft : DraftNode) → IsDraftOf old draft → IsDraftOf new draft
-draft_of_more old new more (empty_draft next) good = tt
-draft_of_more old new more (range_draft low high next) good = good
-draft_of_more old new more (sparse_draft ranges) good = good
-draft_of_more old new more (look_draft look next) good = tt
-draft_of_more old new more (capture_start_draft pattern group next) good = tt
-draft_of_more old new more (capture_end_draft pattern group next) good = tt
-draft_of_more old new more (union_draft names) good = tt
-draft_of_more old new more (union_reverse_draft names) good = tt
-draft_of_more old new more fail_draft good = tt
-draft_of_more old new more (match_draft pattern) good = omega (arith, good)
-
--- there are more patterns, or as many
-pub order_more : (drafts : List DraftNode) (old new : ℕ) (limit : Option ℕ) → old ≤ new → new ≤ greatest_index + 1 →
-    IsInOrder drafts old limit → IsInOrder drafts new limit
-order_more drafts old new limit more numbered order = record {
-  within = order.within;
-  parts_of = All-weaker (IsDraftOf old) (IsDraftOf new) (draft_of_more old new more) drafts order.parts_of;
-  states_numbered = order.states_numbered;
-  patterns_numbered = numbered;
-}
-
--- a builder without states and patterns
-pub order_blank : (limit : Option ℕ) → IsInOrder [] 0 limit
-order_blank None = record {
-  within = tt;
-  parts_of = λ k d inside. absurd (omega (arith, inside));
-  states_numbered = omega arith;
-  patterns_numbered = omega arith;
-}
-order_blank (Some most) = record {
-  within = omega arith;
-  parts_of = λ k d inside. absurd (omega (arith, inside));
-  states_numbered = omega arith;
-  patterns_numbered = omega arith;
-}
 
 -- an index that is too great
 pub index_refused : (pattern index : ℕ) → greatest_index < index → index_fault pattern index ≡ Some

@@ -1,6 +1,6 @@
 -- A list of numbers beside a table of their places.
-use Rattle.std.proofs.Common.{◌≡◌, ◌≢◌, ℕ, ◌+◌, ◌<◌, ◌≤◌, Bool, true, false, List, [], ◌∷◌, ◌++◌, length, set, get_or, slice_index, take}
-use Rattle.std.proofs.Common.{refl, sym, ap, ◌∙◌, subst, ⊎_elim, arith, length-set, get_or-set_same, get_or-set_other, All}
+use Rattle.std.proofs.Common.{◌≡◌, ◌≢◌, ℕ, ◌+◌, ◌<◌, ◌≤◌, true, false, List, [], ◌∷◌, ◌++◌, length, set, get_or, slice_index, take}
+use Rattle.std.proofs.Common.{sym, ap, ◌∙◌, subst, ⊎_elim, arith, length-set, get_or-set_same, get_or-set_other, All}
 use Rattle.std.proofs.lemmas.Bool.{cases_eq, false_from_ne_true}
 use Rattle.std.proofs.lemmas.Bool.Decides.{Decides-eqb}
 use Rattle.std.proofs.lemmas.Cmp.{nat_eq_equiv}
@@ -10,6 +10,7 @@ use Rattle.std.proofs.lemmas.List.{get_or-take, get_or_default, take_more_set}
 use Rattle.std.proofs.lemmas.Grind.{common_steps}
 use Rattle.std.specs.List.{IsDistinct}
 use Rattle.std.specs.Bool.{nat_eq}
+use Rattle.std.specs.Cmp.{both_ways}
 use Rattle.nfa_core.specs.NameSets.{is_in}
 use Rattle.nfa_core.specs.Paired.{IsPaired}
 use Rattle.nfa_core.proofs.NameLemmas.{has_room}
@@ -19,11 +20,6 @@ length_of_first xs n h = grind (arith, common_steps)
 
 read_first : (xs : List ℕ) (n k d o : ℕ) → k < n → n ≤ length xs → get_or (take n xs) k d ≡ get_or xs k o
 read_first xs n k d o h within = grind (arith, common_steps, get_or-take)
-
-same_answer : (a b : Bool) → (a ≡ true → b ≡ true) → (b ≡ true → a ≡ true) → a ≡ b
-same_answer true b there back = sym (there refl)
-same_answer false true there back = back refl
-same_answer false false there back = refl
 
 -- a number of the list stands at its place
 held_at : (dense places : List ℕ) (n name : ℕ) → IsPaired dense places n → is_in name (take n dense) ≡ true →
@@ -52,7 +48,7 @@ pub held_inside : (dense places : List ℕ) (n name place read d o : ℕ) → Is
 held_inside dense places n name place read d o p h at inside reads =
     let here : place ≡ slice_index places name = at ∙ get_or_default places name d 0 h in
     let there : read ≡ slice_index dense place = reads ∙ get_or_default dense place o 0 (omega (arith, inside, p.within)) in
-    same_answer _ _
+    both_ways _ _
     (λ e. held_from dense places n name place p inside (sym there ∙ (Decides-eqb read name).0 e))
     (λ held. (Decides-eqb read name).1 (there ∙ ap (λ x. slice_index dense x) here ∙ (held_at dense places n name p held).1))
 

@@ -1,5 +1,5 @@
 -- The ranges of bytes of sound states, and steps over their lists.
-use Rattle.std.proofs.Common.{◌≡◌, ℕ, zero, suc, ◌+◌, ◌<◌, ◌≤◌, true, false, Bool, List, [], ◌∷◌, length, map, drop, All, get_or, sym, ap}
+use Rattle.std.proofs.Common.{◌≡◌, ℕ, zero, suc, ◌+◌, ◌<◌, ◌≤◌, false, Bool, List, [], ◌∷◌, length, map, drop, All, get_or, sym, ap}
 use Rattle.std.proofs.Common.{◌∙◌, subst, arith}
 use Rattle.std.specs.List.{list_any, flat_map, fold}
 use Rattle.search_core.specs.Marks.{recorded}
@@ -30,9 +30,6 @@ module _ (x : ℕ) (rest old : List ℕ) (e : old ≡ x ∷ rest) where
   -- a loop over names that looks for one with a property, and one that gathers a fold
   pub any_next : (test : ℕ → Bool) (all : Bool) → test x ≡ false → list_any test old ≡ all → list_any test rest ≡ all
   any_next test all none same = let f : list_any test (x ∷ rest) ≡ all = (rw e at same) in rw none at f
-
-  pub any_found : (test : ℕ → Bool) (all : Bool) → test x ≡ true → list_any test old ≡ all → true ≡ all
-  any_found test all some same = let f : list_any test (x ∷ rest) ≡ all = (rw e at same) in rw some at f
 
   pub fold_next : (node : ℕ → Node) (step : ℕ → Node → ℕ) (before now all : ℕ) → now ≡ step before (node x) →
       fold step before (map node old) ≡ all → fold step now (map node rest) ≡ all

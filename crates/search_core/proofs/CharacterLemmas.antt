@@ -1,5 +1,5 @@
 -- The computed characters of a text against the spellings that stand at its places.
-use Rattle.std.proofs.Common.{◌≡◌, ℕ, zero, suc, ◌+◌, ◌-◌, ◌<◌, ◌≤◌, ◌⊎◌, inl, inr, Bool, true, false, cond, ◌&&◌, leb, List, [], ◌∷◌}
+use Rattle.std.proofs.Common.{◌≡◌, ℕ, zero, suc, ◌+◌, ◌-◌, ◌<◌, ◌≤◌, ◌⊎◌, inl, inr, Bool, true, false, cond, ◌&&◌, List, [], ◌∷◌}
 use Rattle.std.proofs.Common.{length, get_or, take, drop, Option, Some, None, Result, Ok, Err, refl, sym, ap, subst, ◌∙◌, arith, lit<}
 use Rattle.std.proofs.Common.{length-append, length-drop, length-take-le}
 use Rattle.std.specs.Int.{IsInRange, is_in_range}
@@ -45,9 +45,6 @@ spelling_has_len c s (from_40000 a b d f r t u w e v) = ap length e ∙ sym (is_
 spelling_has_len c s (from_100000 a b d f r t u w e v) = ap length e ∙ sym (is_four c (omega arith))
 
 -- ---- what bytes of each length spell, as a value of the bytes alone
-abbrev one_value : ℕ → Option ℕ
-one_value a = cond (leb a 0x7F) (Some a) None
-
 abbrev two_value : ℕ → ℕ → Option ℕ
 two_value a b = cond (is_in_range 0xC2 0xDF a && is_in_range 0x80 0xBF b) (Some (scalar_of_two a b)) None
 

@@ -108,9 +108,6 @@ four_of (a ∷ s) h = ap (λ l. a ∷ l) (three_of s (omega arith))
 pub leads_some : (a n : ℕ) → Leads a n → 0 < n
 leads_some a n h = grind arith
 
-leads_one : (a n : ℕ) → Leads a n → a ≤ 0x7F → n ≡ 1
-leads_one a n h low = grind arith
-
 leads_two : (a n : ℕ) → Leads a n → 0x80 ≤ a → a ≤ 0xDF → n ≡ 2
 leads_two a n h low high = grind arith
 
@@ -132,12 +129,6 @@ module _ (bytes : List ℕ) (c : ℕ) (f : SpellsFirst c bytes) where
 
   pub first_fits : length f.spelling ≤ length bytes
   first_fits = omega (arith, ap length f.joined, length-append f.spelling f.rest)
-
-  pub first_is_one : get_or bytes 0 0 ≤ 0x7F → Spells c (get_or bytes 0 0 ∷ [])
-  first_is_one low =
-      let n = leads_one _ _ first_leads low in
-      let e0 = same_first bytes f.spelling f.rest 0 f.joined (omega arith) in
-      subst (Spells c) (one_of f.spelling n ∙ ap (λ a. a ∷ []) e0) f.spells
 
   pub first_is_two : 0x80 ≤ get_or bytes 0 0 → get_or bytes 0 0 ≤ 0xDF → (1 < length bytes) ×
       Spells c (get_or bytes 0 0 ∷ get_or bytes 1 0 ∷ [])

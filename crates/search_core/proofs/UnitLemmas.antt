@@ -19,15 +19,6 @@ units_byte n next h =
     ∙ ap (λ t. Byte next ∷ (map Byte (range_with_len (next + 1) (n - (next + 1))) ++ cond t (End n ∷ []) []))
     (le-leb next n (omega arith) ∙ sym (le-leb (next + 1) n (omega arith)))
 
-pub units_done : (n next : ℕ) → n < next → units_from n next ≡ []
-units_done n next h = units_cut n next 0 (omega arith) ∙ ap (λ t. cond t (End n ∷ []) []) (lt-leb next n h)
-
-pub units_end : (n next : ℕ) → next ≡ n → units_from n next ≡ End n ∷ units_from n (next + 1)
-units_end n next h =
-    units_cut n next 0 (omega arith)
-    ∙ ap (λ t. cond t (End n ∷ []) []) (le-leb next n (omega arith))
-    ∙ ap (λ us. End n ∷ us) (sym (units_done n (next + 1) (omega arith)))
-
 -- ---- the elements of a class
 pub elements_byte : (classes : List ℕ) (unit : InputUnit) (c from b : ℕ) (r : Option ℕ) → unit ≡ Byte c → r ≡ Some b →
     IsFirstWhere (λ x. eqb (get_or classes x 0) c) from 256 r → elements_from classes unit from ≡ Byte b ∷ elements_from classes unit

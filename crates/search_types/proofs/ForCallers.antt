@@ -23,3 +23,5 @@ pub use Rattle.search_types.proofs.ModeLemmas.{may_start_at}
 pub use Rattle.search_types.proofs.AnswerLemmas.{one_answer}
 pub use Rattle.search_types.proofs.IndexLemmas.{option_or-None}
 pub use Rattle.search_types.proofs.ModeLemmas.{both_left}
+-- what holds of a value that there is holds where there is none
+pub use Rattle.search_types.proofs.GroupLoopLemmas.{failed}

@@ -56,9 +56,6 @@ names_twice p (names ∷ rest) h =
 pub no_names_fault : (gs : Groups) → group_fault gs ≡ None → names_fault 0 gs ≡ None
 no_names_fault gs h = none_first (names_fault 0 gs) (slots_fault 0 (implicit_slot_len gs) gs) h
 
-pub no_slots_fault : (gs : Groups) → group_fault gs ≡ None → slots_fault 0 (implicit_slot_len gs) gs ≡ None
-no_slots_fault gs h = none_second (names_fault 0 gs) (slots_fault 0 (implicit_slot_len gs) gs) h
-
 -- each pattern has a group
 pub has_group : (gs : Groups) (p : ℕ) → group_fault gs ≡ None → p < length gs → 0 < length (groups_of gs p)
 has_group gs p h l = names_some 0 gs (no_names_fault gs h) p l

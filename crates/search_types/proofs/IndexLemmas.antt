@@ -1,5 +1,5 @@
 -- The first place at which a test passes, and a map that finds each name's place.
-use Rattle.std.proofs.Common.{◌≡◌, ℕ, suc, ◌<◌, ◌≤◌, Bool, true, false, List, [], ◌∷◌, ◌++◌, length, refl, sym, ap, ◌∙◌, subst, inl, inr}
+use Rattle.std.proofs.Common.{◌≡◌, ℕ, suc, ◌≤◌, Bool, true, false, List, [], ◌∷◌, ◌++◌, length, refl, sym, ap, ◌∙◌, subst, inl, inr}
 use Rattle.std.proofs.Common.{arith, Some, None, is_some}
 use Rattle.std.specs.Prelude.{Option, nat_lt, if◌then◌else◌, String, string_bytes}
 use Rattle.std.specs.Option.{option_or, option_map}
@@ -8,13 +8,13 @@ use Rattle.std.specs.Str.{bytes_eq}
 use Rattle.std.specs.Map.{update}
 use Rattle.std.specs.HashMap.{HashMap, get_by_text, Updates}
 use Rattle.std.specs.String.{string_eq}
-use Rattle.std.proofs.lemmas.Bool.{cases_Bool, cond-true, cond-false, lt-ltb, le-ltb}
+use Rattle.std.proofs.lemmas.Bool.{cases_Bool, cond-true, cond-false, le-ltb}
 use Rattle.std.proofs.lemmas.List.{length-map}
 use Rattle.std.proofs.lemmas.Slice.Eq.{bytes_eq-Decides}
 use Rattle.search_core.specs.Index.{greatest_index}
 use Rattle.std.proofs.lemmas.Map.Text.{hash_map_updates_text}
 use Rattle.search_types.specs.Groups.{Name, is_named}
-use Rattle.search_types.specs.GroupFaults.{names_in, TooManyGroups, Duplicate, name_fault, group_fault_after}
+use Rattle.search_types.specs.GroupFaults.{names_in, Duplicate, name_fault, group_fault_after}
 use Rattle.search_types.specs.GroupIndices.{FindsEach}
 
 -- ---- the first place
@@ -36,10 +36,6 @@ position_push p (x ∷ xs) y = elim (cases_Bool (p x)) [
 ]
 
 -- ---- a map that finds each name
--- a group without a name leaves what the map has to find
-pub finds_unnamed : {A S : Type 0} (names : List (Option Name)) (indices : HashMap (String A) ℕ S) → FindsEach names indices →
-    FindsEach (names ++ None ∷ []) indices
-finds_unnamed names indices h = λ name. grind (arith, h name, position_push (is_named name) names None)
 
 pub bytes_eq_path : (xs ys : Name) → bytes_eq xs ys ≡ true → xs ≡ ys
 bytes_eq_path xs ys h = (bytes_eq-Decides xs ys).0 h
@@ -96,16 +92,10 @@ finds_named names old new key text index h e i u none = λ name.
     named_at names (get_by_text old name) (get_by_text new name) (string_bytes key) text index name (h name) e i at none
 
 -- ---- what is wrong with a group
-pub fault_too_many : (p : ℕ) (names : List (Option Name)) (name : Option Name) → greatest_index < length names →
-    group_fault_after p names name ≡ Some (TooManyGroups p (length names))
-fault_too_many p names name h = cond-true (nat_lt greatest_index (length names)) _ _ (lt-ltb greatest_index (length names) h)
 
 fault_name : (p : ℕ) (names : List (Option Name)) (name : Option Name) → length names ≤ greatest_index →
     group_fault_after p names name ≡ name_fault p names name
 fault_name p names name h = cond-false (nat_lt greatest_index (length names)) _ _ (le-ltb greatest_index (length names) h)
-
-pub fault_unnamed : (p : ℕ) (names : List (Option Name)) → length names ≤ greatest_index → group_fault_after p names None ≡ None
-fault_unnamed p names h = fault_name p names None h
 
 pub fault_duplicate : (p : ℕ) (names : List (Option Name)) (text : Name) → length names ≤ greatest_index →
     is_some (position (is_named text) names) ≡ true

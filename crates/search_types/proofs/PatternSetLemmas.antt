@@ -1,7 +1,7 @@
 -- How many members a set of patterns has, and the list of them read from both ends.
 use Rattle.std.proofs.Common.{◌≡◌, ℕ, zero, suc, ◌+◌, ◌<◌, ◌≤◌, ◌==◌, ◌↔◌, IsTrue, Bool, true, false, cond, List, [], ◌∷◌, ◌++◌, length}
-use Rattle.std.proofs.Common.{get_or, set, refl, sym, ap, ◌∙◌, subst, arith, append-nil}
-use Rattle.std.proofs.lemmas.List.Sums.{sum_by-cons, sum_by-set, count_by-le-length}
+use Rattle.std.proofs.Common.{get_or, refl, sym, ap, ◌∙◌, arith, append-nil}
+use Rattle.std.proofs.lemmas.List.Sums.{sum_by-cons, count_by-le-length}
 use Rattle.std.proofs.lemmas.Bool.{eqb-true, eq-eqb}
 use Rattle.search_types.specs.PatternSets.{member_count, members_from, onto_members}
 
@@ -34,14 +34,6 @@ pub count_of_all : (bs : List Bool) → ((p : ℕ) → p < length bs → get_or 
 count_of_all [] h = refl
 count_of_all (false ∷ bs) h = let e = h 0 (omega arith) in cc
 count_of_all (true ∷ bs) h = omega (arith, count_cons true bs, count_of_all bs (λ p q. h (suc p) (omega arith)))
-
--- one more member where there was none
-pub count_insert : (bs : List Bool) (p : ℕ) → p < length bs → get_or bs p false ≡ false → member_count (set bs p true) ≡ member_count bs + 1
-count_insert bs p h e =
-    let s = sum_by-set (λ c. cond c 1 0) bs p true false h in
-    let n : member_count (set bs p true) + 0 ≡ member_count bs + 1 = subst
-    (λ (b : Bool). member_count (set bs p true) + cond b 1 0 ≡ member_count bs + 1) e s in
-    omega arith
 
 -- the members of a list and one test more
 pub members_push : (p : ℕ) (bs : List Bool) (b : Bool) → members_from p (bs ++ b ∷ []) ≡ members_from p bs

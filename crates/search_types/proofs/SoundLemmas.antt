@@ -90,22 +90,6 @@ sound_groups_fit gs ps h e = let fits = sound_patterns_fit 0 gs (omega arith) (n
     omega (arith, fits, ap length e)
 
 -- ---- the groups of one pattern, one after the other
-pub sound_opens : (names : List (Option Name)) → pattern_fault 0 names ≡ None → fault_after 0 [] names ≡ None
-sound_opens [] h = refl
-sound_opens (Some name ∷ rest) h = cc
-sound_opens (None ∷ rest) h = h
-
-pub sound_has_first : (names : List (Option Name)) → pattern_fault 0 names ≡ None → 0 < length names
-sound_has_first [] h = cc
-sound_has_first (name ∷ rest) h = omega arith
-
-pub next_is_sound : (earlier rest : List (Option Name)) (name : Option Name) → fault_after 0 earlier (name ∷ rest) ≡ None →
-    group_fault_after 0 earlier name ≡ None
-next_is_sound earlier rest name h = none_first (group_fault_after 0 earlier name) (fault_after 0 (earlier ++ name ∷ []) rest) h
-
-pub rest_is_sound : (earlier rest : List (Option Name)) (name : Option Name) → fault_after 0 earlier (name ∷ rest) ≡ None →
-    fault_after 0 (earlier ++ name ∷ []) rest ≡ None
-rest_is_sound earlier rest name h = none_second (group_fault_after 0 earlier name) (fault_after 0 (earlier ++ name ∷ []) rest) h
 
 pub sound_group_fits : {A : Type 0} (texts : List (Option (String A))) (name : Option Name) →
     group_fault_after 0 (names_in texts) name ≡ None → length texts ≤ greatest_index

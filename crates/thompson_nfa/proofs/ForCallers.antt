@@ -8,8 +8,6 @@ pub use Rattle.thompson_nfa.proofs.CallerLemmas.{looks_are_used}
 pub use Rattle.thompson_nfa.proofs.CallerLemmas.{by_patterns, unanchored_by_patterns}
 -- a span of a haystack of bytes, with words read as bytes, is a text whose edges are read as they are
 pub use Rattle.thompson_nfa.proofs.CallerLemmas.{span_is_read}
--- a look that is turned round twice is the look
-pub use Rattle.thompson_nfa.proofs.Assembled.AssembledLooks.{reversed_twice}
 -- over one text what is meant forward is meant in reverse; and what the automata of both directions find, from the starts of
 -- the patterns, the anchored ones, and the unanchored one. Each takes what trees mean in a haystack that is cut, which
 -- `hir_core::cut_laws` says.
@@ -17,4 +15,3 @@ pub use Rattle.thompson_nfa.proofs.Walks.DirectionLemmas.{same_meant, same_patte
 -- where no group is kept none is refused, and a limit below what all states take leaves no room for them: then, beside
 -- memory that lacks, the limit alone refuses
 pub use Rattle.thompson_nfa.proofs.CallerRefusals.{no_groups_refused, fits_no_limit, limit_alone_refuses}
-pub use Rattle.thompson_nfa.proofs.Steps.LookLemmas.{or_none}

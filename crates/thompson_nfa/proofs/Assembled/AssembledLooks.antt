@@ -1,18 +1,15 @@
 -- The looks of the automaton that is built of a compile's states.
 use Rattle.std.proofs.Common.{◌≡◌, ℕ, zero, suc, Bool, true, false, ◌||◌, List, [], ◌∷◌, map, reverse, Some, None, refl, sym, ap, ap₂, ◌∙◌}
 use Rattle.std.specs.List.{list_any}
+use Rattle.std.specs.Cmp.{both_ways}
 use Rattle.look_core.specs.declared.look.Look.{Look}
-use Rattle.look_core.specs.declared.look.Look.TheVariants.{Start, End, StartLF, EndLF, StartCRLF, EndCRLF, WordAscii, WordAsciiNegate}
-use Rattle.look_core.specs.declared.look.Look.TheVariants.{WordUnicode, WordUnicodeNegate, WordStartAscii, WordEndAscii, WordStartUnicode}
-use Rattle.look_core.specs.declared.look.Look.TheVariants.{WordEndUnicode, WordStartHalfAscii, WordEndHalfAscii, WordStartHalfUnicode}
-use Rattle.look_core.specs.declared.look.Look.TheVariants.{WordEndHalfUnicode}
 use Rattle.look_core.specs.Codes.{repr, reversed}
 use Rattle.look_core.specs.LookSets.{has_look}
-use Rattle.look_core.proofs.ForCallers.{has_look-union, has_look-none}
+use Rattle.look_core.proofs.ForCallers.{has_look-union, has_look-none, reversed_twice}
 use Rattle.search_types.specs.Groups.{Groups}
 use Rattle.hir_core.specs.Tree.{Tree, empty, literal, byte_class, char_class, look, repetition, capture, nothing, cat, never, alt}
 use Rattle.hir_core.specs.Facts.{looks_used}
-use Rattle.hir_core.proofs.ForCallers.{one_has, one_held, same_test}
+use Rattle.hir_core.proofs.ForCallers.{one_has, one_held}
 use Rattle.nfa_core.specs.Nfa.{Node}
 use Rattle.nfa_core.specs.NfaValue.{look_of, looks_of}
 use Rattle.nfa_core.specs.BuilderStates.{DraftNode, empty_draft, range_draft, sparse_draft, look_draft, capture_start_draft}
@@ -71,29 +68,9 @@ module _ (name : ℕ → ℕ) (groups : Groups) (l : Look) where
 
 -- ---- looks that are turned round
 
-pub reversed_twice : (l : Look) → reversed (reversed l) ≡ l
-reversed_twice Start = refl
-reversed_twice End = refl
-reversed_twice StartLF = refl
-reversed_twice EndLF = refl
-reversed_twice StartCRLF = refl
-reversed_twice EndCRLF = refl
-reversed_twice WordAscii = refl
-reversed_twice WordAsciiNegate = refl
-reversed_twice WordUnicode = refl
-reversed_twice WordUnicodeNegate = refl
-reversed_twice WordStartAscii = refl
-reversed_twice WordEndAscii = refl
-reversed_twice WordStartUnicode = refl
-reversed_twice WordEndUnicode = refl
-reversed_twice WordStartHalfAscii = refl
-reversed_twice WordEndHalfAscii = refl
-reversed_twice WordStartHalfUnicode = refl
-reversed_twice WordEndHalfUnicode = refl
-
 turned_look : (back : Bool) (m l : Look) → has_look (repr (turned back m)) l ≡ has_look (repr m) (turned back l)
 turned_look false m l = refl
-turned_look true m l = same_test (has_look (repr (reversed m)) l) (has_look (repr m) (reversed l))
+turned_look true m l = both_ways (has_look (repr (reversed m)) l) (has_look (repr m) (reversed l))
     (λ h. one_held m (reversed l) (ap reversed (one_has (reversed m) l h) ∙ reversed_twice m))
     (λ h. one_held (reversed m) l (sym (reversed_twice l) ∙ ap reversed (one_has m (reversed l) h)))
 

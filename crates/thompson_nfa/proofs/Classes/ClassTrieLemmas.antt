@@ -6,7 +6,7 @@ use Rattle.std.proofs.lemmas.List.{reverse-append, reverse-reverse, map-append, 
 use Rattle.hir_core.specs.Sequences.{is_in_ranges, utf8_sequences}
 use Rattle.hir_core.specs.BySequences.{sequences_of}
 use Rattle.hir_core.proofs.ForCallers.{sequence_short}
-use Rattle.thompson_nfa.specs.RangeTries.{IsInSome, IsWith, AreRanges}
+use Rattle.thompson_nfa.specs.RangeTries.{IsInSome, AreRanges}
 use Rattle.thompson_nfa.specs.ClassTries.{turned_round, HasTurned, GainsTurned, IsTurnedSpelling, AreTurnedSpellings}
 use Rattle.thompson_nfa.proofs.Tries.TrieLemmas.{in_append, in_left, in_right}
 use Rattle.thompson_nfa.proofs.Classes.TurnedStrings.{turned_round_in, spelling_turned, turned_spell}
@@ -21,13 +21,6 @@ ranges_push (x ∷ q) r a l = (a.0, ranges_push q r a.1 l)
 pub ranges_turned : (q : List (ℕ × ℕ)) → AreRanges q → AreRanges (reverse q)
 ranges_turned [] a = tt
 ranges_turned (r ∷ q) a = subst AreRanges (sym (reverse-append (r ∷ []) q)) (ranges_push (reverse q) r (ranges_turned q a.1) a.0)
-
-pub gained_one : (old new : List (List (ℕ × ℕ))) (q : List (ℕ × ℕ)) → IsWith old (reverse q) new → GainsTurned old (q ∷ []) new
-gained_one old new q w = record {
-  only = λ s h. elim (w.only s h) [ inl before ↦ inl before | inr here ↦ inr (inl here) ];
-  kept = w.kept;
-  added = λ s h. elim h [ inl here ↦ w.added s here | inr none ↦ absurd none ];
-}
 
 -- ---- one after the other
 

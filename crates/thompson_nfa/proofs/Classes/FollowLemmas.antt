@@ -216,9 +216,6 @@ module _ (a b : Assembly) (e : ℕ) (c : SlotTable (List Transition)) (n : List 
   abbrev rest : List (List (ℕ × ℕ))
   rest = sequences_of (drop (i + 1) ranges)
 
-  pub is_open : IsBeingCompiled b e c n
-  is_open = record { old = a; before = sequences_of (take i ranges); is = so_far.is }
-
   both_follow : CanFollow (path_of n) (utf8_sequences here.0 here.1 ++ rest)
   both_follow =
       let P : List (ℕ × ℕ) → Type 0 = λ l. CanFollow (path_of n) (sequences_of l) in

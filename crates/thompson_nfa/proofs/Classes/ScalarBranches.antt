@@ -1,19 +1,19 @@
--- Branches of a choice so far: that they are a fragment once no branch is to come, and what one more adds.
-use Rattle.std.proofs.Common.{◌≡◌, ◌≢◌, inr, ℕ, ◌+◌, ◌<◌, ◌≤◌, true, List, [], ◌∷◌, ◌++◌, length, refl, sym, ap, ◌∙◌, subst, arith, ⊎_elim}
+-- Branches of a choice so far: that they are a fragment once no branch is to come.
+use Rattle.std.proofs.Common.{◌≡◌, ◌≢◌, inr, ℕ, ◌<◌, ◌≤◌, true, List, [], ◌∷◌, ◌++◌, length, refl, sym, ap, ◌∙◌, subst, arith, ⊎_elim}
 use Rattle.std.proofs.Common.{false}
-use Rattle.std.proofs.lemmas.Bool.{cases_lt, cases_eq}
+use Rattle.std.proofs.lemmas.Bool.{cases_eq}
 use Rattle.hir_core.specs.Tree.{Tree, alternation, never}
 use Rattle.nfa_core.specs.BuilderStates.{Assembly, draft_at, patched, is_sparse, empty_draft, union_draft}
 use Rattle.nfa_core.specs.Drafted.{Table}
 use Rattle.nfa_core.specs.Renaming.{stands_for}
-use Rattle.thompson_nfa.specs.Added.{AddsDraft, Led}
+use Rattle.thompson_nfa.specs.Added.{AddsDraft}
 use Rattle.thompson_nfa.specs.Choice.{no_choice}
-use Rattle.thompson_nfa.specs.Compiled.{Finished, Makes, Does, ComesOut}
-use Rattle.thompson_nfa.proofs.Steps.LookLemmas.{AddsLooks, adds_none, adds_both, quiet_led, quiet_added, quiet_choice, uses_alternation}
-use Rattle.thompson_nfa.proofs.Fragments.DoesCases.{Agrees, DoBranches, no_branches, next_branch, does_alternation}
+use Rattle.thompson_nfa.specs.Compiled.{Makes, Does, ComesOut}
+use Rattle.thompson_nfa.proofs.Steps.LookLemmas.{AddsLooks, adds_none, quiet_added, quiet_choice}
+use Rattle.thompson_nfa.proofs.Fragments.DoesCases.{Agrees, DoBranches, no_branches, does_alternation}
 use Rattle.thompson_nfa.proofs.Fragments.LeafLemmas.{tame_one, tame_none}
-use Rattle.thompson_nfa.proofs.Steps.OutLemmas.{out_here, out_next, out_on}
-use Rattle.thompson_nfa.proofs.Steps.ProgressLemmas.{Progress, first_added, then_added, then_made, then_led, made}
+use Rattle.thompson_nfa.proofs.Steps.OutLemmas.{out_here, out_next}
+use Rattle.thompson_nfa.proofs.Steps.ProgressLemmas.{Progress, first_added, then_added, made}
 
 -- Whatever the choice u and the common end m become: from each other state one comes out where one does from the end.
 abbrev pub Others : Assembly → Assembly → ℕ → ℕ → Type 0
@@ -48,56 +48,6 @@ one_more_way [] s to low high u one l h ne e =
     subst P same (l, h, ne)
 one_more_way (a ∷ []) s to low high u one l h ne e = cc
 one_more_way (a ∷ b ∷ names) s to low high u one l h ne e = cc
-
-module _ (b0 b1 b2 b3 b4 : Assembly) (u m n s e k : ℕ) (xs : List Tree) (x : Tree) (so_far : Branched b0 b1 u m n xs)
-    (next : Makes b1 b2 s e k) (l3 : Led b2 b3 u s) (l4 : Led b3 b4 e m) where
-  others_next : Others b0 b4 u m
-  others_next T target agrees out q low high not_u =
-      let f = next.fragment in let g = f.grows.longer in let en = f.end_new in let et = f.end_there in let n3 = l3.size in let n4 =
-      l4.size in
-      let g0 = so_far.progress.partly.grows.longer in let ut = so_far.choice_there in let mt = so_far.end_there in let un =
-      so_far.choice_new in let mn = so_far.end_new in
-      let old : Agrees b0 b1 u m T = λ p l h not_u not_m.
-      agrees p l (omega arith) not_u not_m ∙ l4.same p (λ (same : p ≡ e). omega arith) ∙ l3.same p not_u ∙ f.grows.same p h in
-      let fin : Finished (length b1.drafts) b2.drafts e m T = record {
-        states = λ p l h not_e. agrees p (omega arith) (omega arith) (λ (same : p ≡ u). omega arith) (λ (same : p ≡ m). omega arith)
-            ∙ l4.same p not_e ∙ l3.same p (λ (same : p ≡ u). omega arith);
-        led = agrees e (omega arith) (omega arith) (λ (same : e ≡ u). omega arith) (λ (same : e ≡ m). omega arith) ∙ l4.here
-            ∙ ap (patched m) (l3.same e (λ (same : e ≡ u). omega arith));
-      } in
-      ⊎_elim (λ (h : q < length b1.drafts). so_far.others T target old out q low h not_u)
-      (λ (h : length b1.drafts ≤ q). let o = next.comes_out T m fin q h (omega arith) in out_on T target m o.0 q o.1 out)
-      (cases_lt q (length b1.drafts))
-
-  pub branched_next : Does b1 b2 s e x → Branched b0 b4 u m (n + k) (xs ++ x ∷ [])
-  branched_next d =
-      let f = next.fragment in let g = f.grows.longer in let en = f.end_new in let et = f.end_there in let sn = f.start_new in let st =
-      f.start_there in let n3 = l3.size in let n4 = l4.size in
-      let g0 = so_far.progress.partly.grows.longer in let ut = so_far.choice_there in let mt = so_far.end_there in let un =
-      so_far.choice_new in let mn = so_far.end_new in
-      let u2 : draft_at b2.drafts u ≡ union_draft so_far.ways = f.grows.same u ut ∙ so_far.is_choice in
-      let m2 : draft_at b2.drafts m ≡ empty_draft 0 = f.grows.same m mt ∙ so_far.is_end in
-      record {
-        ways = so_far.ways ++ s ∷ [];
-        progress = then_led 8 (then_led 12 (then_made 16 so_far.progress next (omega arith)) l3 un (omega arith) (omega arith)) l4
-            (omega arith) (omega arith) (omega arith);
-        choice_new = un;
-        choice_there = omega arith;
-        end_new = mn;
-        end_there = omega arith;
-        apart = so_far.apart;
-        is_choice = l4.same u (λ (same : u ≡ e). omega arith) ∙ l3.here ∙ ap (patched s) u2;
-        is_end = l4.same m (λ (same : m ≡ e). omega arith) ∙ l3.same m (λ (same : m ≡ u). so_far.apart (sym same)) ∙ m2;
-        branches = next_branch un ut mn mt so_far.progress.partly.grows so_far.branches f d l3 l4;
-        looks = λ l. quiet_led l4 l ∙ quiet_led l3 l
-            ∙ adds_both b0 b1 b2 (alternation xs) x (alternation (xs ++ x ∷ [])) so_far.looks
-            (ap (λ (z : Assembly). z.reverse) so_far.progress.partly.grows.settings) d.looks
-            (λ k. uses_alternation b0.reverse xs x k) l;
-        others = others_next;
-        one_way = λ to same. one_more_way so_far.ways s to (length b0.drafts) (length b4.drafts) u
-            (λ q is. let o = so_far.one_way q is in let a = o.0 in let b = o.1 in
-            (a, omega arith, o.2)) (omega arith) (omega arith) (λ (at_u : s ≡ u). omega arith) same;
-      }
 
 -- ---- none as yet
 

@@ -1,5 +1,5 @@
 -- What slots hold after a write, and after the version has gone up.
-use Rattle.std.proofs.Common.{◌≡◌, ℕ, zero, suc, ◌+◌, ◌≤◌, List, [], ◌∷◌, Option, Some, None, false, All, map, length, set, replicate, take}
+use Rattle.std.proofs.Common.{◌≡◌, ℕ, zero, suc, ◌+◌, List, [], ◌∷◌, Option, Some, None, false, All, map, length, set, replicate, take}
 use Rattle.std.proofs.Common.{drop, ◌++◌, refl, sym, ap, ◌∙◌, subst, nat_eq, eq-eqb, arith}
 use Rattle.std.proofs.lemmas.List.{map-set, length-replicate}
 use Rattle.std.proofs.lemmas.List.Elements.{All-head, All-tail, All-replicate, All-weaker, All-set}

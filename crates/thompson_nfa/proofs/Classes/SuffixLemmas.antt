@@ -4,6 +4,7 @@ use Rattle.std.proofs.Common.{map, get_or, set, replicate, Option, Some, None, r
 use Rattle.std.proofs.Common.{append-nil, length-append, ◌||◌}
 use Rattle.std.proofs.lemmas.Bool.{cases_lt}
 use Rattle.std.proofs.lemmas.List.{map-append}
+use Rattle.std.proofs.Math.Bool.{or-false}
 use Rattle.hir_core.specs.BySequences.{range_tree, sequence_tree}
 use Rattle.look_core.specs.declared.look.Look.{Look}
 use Rattle.hir_core.specs.Tree.{Tree, concat, alternation}
@@ -17,7 +18,7 @@ use Rattle.thompson_nfa.specs.SharedSuffixes.{shares_more, AddsSequence, AddsSeq
 use Rattle.thompson_nfa.specs.SlotTables.{SlotTable, held_at, empty_table, with_held}
 use Rattle.thompson_nfa.specs.declared.utf8_suffix_map.Utf8SuffixKey.{Utf8SuffixKey}
 use Rattle.thompson_nfa.specs.Compiled.{looks_in, uses}
-use Rattle.thompson_nfa.proofs.Steps.LookLemmas.{quiet_led, quiet_added, uses_alternation, uses_sequence, or_none}
+use Rattle.thompson_nfa.proofs.Steps.LookLemmas.{quiet_led, quiet_added, uses_alternation, uses_sequence}
 use Rattle.thompson_nfa.proofs.Walks.AheadLemmas.{joins_last_part, denotes_concat_one}
 use Rattle.thompson_nfa.proofs.Fragments.CaseLemmas.{all_denote_push}
 use Rattle.thompson_nfa.proofs.Walks.DenoteLemmas.{denotes_join, denotes_nothing_here, denotes_range}
@@ -156,7 +157,7 @@ module _ (b0 b c d : Assembly) (u m n id lo hi q : ℕ) (xs : List Tree) (so_far
         looks = λ l. quiet_led led l ∙ w.looks l
             ∙ ap (λ (k : Bool). looks_in b0.drafts l || k)
             (sym (uses_alternation b0.reverse xs y l ∙ ap (λ (k : Bool). uses b0.reverse (alternation xs) l || k) (none l)
-            ∙ or_none (uses b0.reverse (alternation xs) l)));
+            ∙ or-false (uses b0.reverse (alternation xs) l)));
         branches = record {
           all = λ T agrees. all_denote_push b0.reverse T m id y so_far.ways xs (w.branches.all T (old T agrees))
               (denotes T (old T agrees));

@@ -2,13 +2,14 @@
 use Rattle.std.proofs.Common.{◌≡◌, ◌≢◌, ℕ, ◌+◌, ◌<◌, ◌≤◌, true, List, [], ◌∷◌, ◌++◌, length, None, refl, sym, ap, ◌∙◌, subst, arith, ⊎_elim}
 use Rattle.std.proofs.Common.{length-append, Bool, ◌||◌, false}
 use Rattle.std.proofs.lemmas.Bool.{cases_lt, cases_eq}
+use Rattle.std.proofs.Math.Bool.{or-false}
 use Rattle.hir_core.specs.Tree.{Tree, alternation}
 use Rattle.nfa_core.specs.BuilderStates.{DraftNode, Assembly, draft_at, patched, is_sparse, empty_draft, union_draft}
 use Rattle.nfa_core.specs.Renaming.{stands_for}
 use Rattle.nfa_core.specs.Drafted.{Table}
 use Rattle.thompson_nfa.specs.Compiled.{Finished, ComesOut, Makes, Does, uses}
 use Rattle.thompson_nfa.specs.Added.{AddsDraft, Led}
-use Rattle.thompson_nfa.proofs.Steps.LookLemmas.{AddsLooks, quiet_led, quiet_added, adds_both, uses_alternation, or_none}
+use Rattle.thompson_nfa.proofs.Steps.LookLemmas.{AddsLooks, quiet_led, quiet_added, adds_both, uses_alternation}
 use Rattle.thompson_nfa.proofs.Steps.SizeLemmas.{AddedAt, added_at, MadeAt, made_at, LedAt}
 use Rattle.thompson_nfa.proofs.Steps.OutLemmas.{out_here, out_next, out_at, out_on}
 use Rattle.thompson_nfa.proofs.Steps.ProgressLemmas.{Progress, first_made, then_made, then_led, made}
@@ -119,7 +120,7 @@ module _ (t0 t1 t2 t3 t4 t5 t6 t7 t8 : Assembly) (s1 e1 n1 s2 e2 n2 u z : ℕ) (
         ∙ quiet_added union (λ k. refl) l
         ∙ adds_both t0 t1 t2 x y (alternation (x ∷ y ∷ [])) does1.looks
         (ap (λ (z : Assembly). z.reverse) first.fragment.grows.settings) does2.looks
-        (λ k. ap (λ (b : Bool). uses t0.reverse x k || b) (or_none (uses t0.reverse y k))) l;
+        (λ k. ap (λ (b : Bool). uses t0.reverse x k || b) (or-false (uses t0.reverse y k))) l;
   }
 
 module _ (old b c d f : Assembly) (u z n s e k : ℕ) (done : List Tree) (x : Tree) (bs : Branches old b u z n done) (draft : Makes b c s e k)

@@ -31,13 +31,6 @@ all_denote_push back T e q x _ _ none_denote d = more_denote q x [] [] d none_de
 all_denote_push back T e q x _ _ (more_denote p y qs xs c cs) d = more_denote p y (qs ++ q ∷ []) (xs
     ++ x ∷ []) c (all_denote_push back T e q x qs xs cs d)
 
-pub all_denote_append : (back : Bool) (T : Table) (e : ℕ) (ps qs : List ℕ) (xs ys : List Tree) → AllDenote back T e ps xs →
-    AllDenote back T e qs ys →
-    AllDenote back T e (ps ++ qs) (xs ++ ys)
-all_denote_append back T e _ qs _ ys none_denote ds = ds
-all_denote_append back T e _ qs _ ys (more_denote p y ps xs c cs) ds =
-    more_denote p y (ps ++ qs) (xs ++ ys) c (all_denote_append back T e ps qs xs ys cs ds)
-
 module _ (back : Bool) (T : Table) (t : Text) (e : ℕ) where
   -- one of the states leads on
   pub record Chosen (qs : List ℕ) (i j : ℕ) : Type 0 where

@@ -15,7 +15,7 @@ use Rattle.thompson_nfa.specs.declared.compiling.How.{How}
 use Rattle.thompson_nfa.specs.declared.which_captures.WhichCaptures.{WhichCaptures}
 use Rattle.thompson_nfa.proofs.Steps.LookLemmas.{quiet_led}
 use Rattle.thompson_nfa.proofs.Fragments.RoundLemmas.{one_more, joins_copy, same_stopped}
-use Rattle.thompson_nfa.proofs.Fragments.PartBytes.{copy_bytes, round_bytes}
+use Rattle.thompson_nfa.proofs.Fragments.PartBytes.{copy_bytes, copies_before, round_bytes}
 use Rattle.thompson_nfa.proofs.Fragments.JoinLemmas.{join_made, join_first, join_second, join_does, does_first, does_all, does_same}
 use Rattle.thompson_nfa.proofs.Steps.NotedLemmas.{noted_twice}
 use Rattle.thompson_nfa.proofs.Steps.ProgressLemmas.{first_made, then_made, made_capped, then_quits, refuses, then_refuses}
@@ -189,16 +189,13 @@ rounds_first how t0 t1 t2 u e z (suc left) greedy x some added m does g w = reco
   bytes = omega (arith, w, added.bytes, round_bytes 0 (suc left) (byte_room how.shrink x + 36) some);
 }
 
-round_less : (i most k : ℕ) → i < most → (most - i) * k ≡ (most - (i + 1)) * k + k
-round_less i most k l = let e : most - i ≡ suc (most - (i + 1)) = omega arith in ap (λ n. n * k) e ∙ omega arith
-
 module _ (how : How) (old b : Assembly) (start end z i low most total : ℕ) (greedy : Bool) (x : Tree)
     (rs : Rounds how old b start end z i low most total greedy x) where
   pub rounds_then : (c d : Assembly) (u e : ℕ) → i < most → Makes b c u e (room how.shrink x + 1) → DoesOption b c u e z greedy x →
       c.groups ≡ with_groups_of how.which (length b.starts) x b.groups → Led c d end u → Weighs b c (byte_room how.shrink x + 32) →
       Rounds how old d start e z (i + 1) low most total greedy x
   rounds_then c d u e l m does g led w =
-      let step = round_less i most (room how.shrink x + 1) l in
+      let step = round_bytes i most (room how.shrink x + 1) l in
       let fits = rs.fits in
       record {
         n = rs.n + (room how.shrink x + 1);
@@ -226,14 +223,14 @@ module _ (how : How) (old b : Assembly) (start end z i low most total : ℕ) (gr
   pub rounds_refused : (new : Assembly) (e : BuildError) → i < most → RefusesFragment how.which b new (room how.shrink x + 1) x e →
       RefusesFragment how.which old new total x e
   rounds_refused new e l r =
-      let step = round_less i most (room how.shrink x + 1) l in
+      let step = round_bytes i most (room how.shrink x + 1) l in
       let fits = rs.fits in
       then_refuses total x rs.options.progress r (λ index h. h) (omega arith)
 
   pub rounds_lead_refused : (c new : Assembly) (u t : ℕ) (e : BuildError) → i < most → Makes b c u t (room how.shrink x + 1) →
       Stays c new 0 4 e → RefusesFragment how.which old new total x e
   rounds_lead_refused c new u t e l m r =
-      let step = round_less i most (room how.shrink x + 1) l in
+      let step = round_bytes i most (room how.shrink x + 1) l in
       let fits = rs.fits in
       refuses how.which total x (then_quits total (then_made 8 rs.options.progress m (omega arith)) r (omega arith) (omega arith))
       (omega arith)
@@ -255,15 +252,11 @@ pub copies_done : (how : How) (old mid : Assembly) (start end i n : ℕ) (x : Tr
 copies_done how old mid start end i n x cs le ge = let same : i ≡ n = omega arith in let P : ℕ → Type 0 =
     λ k. DoesCopies old mid start end k x in subst P same cs.does
 
-pub before_last : (low k : ℕ) → 0 < low → (low - 1) * k + k ≡ low * k
-before_last zero k l = absurd (omega arith)
-before_last (suc low) k l = let e : suc low - 1 ≡ low = omega arith in ap (λ n. n * k + k) e ∙ omega arith
-
 pub at_least_made : (shrink : Bool) (a b c d : Assembly) (s1 e1 s2 e2 low : ℕ) (greedy : Bool) (x : Tree) → 1 < low →
     Makes a b s1 e1 ((low - 1) * room shrink x) → Makes b c s2 e2 (room shrink x + 1) → Led c d e1 s2 →
     Makes a d s1 e2 (room shrink (repetition low None greedy x))
 at_least_made shrink a b c d s1 e1 s2 e2 low greedy x some first second led =
-    let e = before_last low (room shrink x) (omega arith) in
+    let e = copies_before low (room shrink x) (omega arith) in
     let most : max low 1 ≡ low = omega arith in
     let f = ap (λ n. n * room shrink x) most in
     made_capped (room shrink (repetition low None greedy x)) (join_made a b c d s1 e1 ((low - 1) * room shrink x) s2 e2

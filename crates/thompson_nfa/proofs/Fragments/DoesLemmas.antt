@@ -1,21 +1,12 @@
 -- Small steps on the way from what was made to what it does: directions that stay, choices and ends that are led on.
-use Rattle.std.proofs.Common.{◌≡◌, ℕ, Bool, true, false, refl, ap, subst}
+use Rattle.std.proofs.Common.{◌≡◌, ℕ, Bool, true, false, refl, subst}
 use Rattle.hir_core.specs.Tree.{Tree}
-use Rattle.nfa_core.specs.BuilderStates.{Assembly, patched, empty_draft}
+use Rattle.nfa_core.specs.BuilderStates.{patched, empty_draft}
 use Rattle.nfa_core.specs.Drafted.{Table}
-use Rattle.thompson_nfa.specs.Added.{Led}
 use Rattle.thompson_nfa.specs.Choice.{no_choice}
-use Rattle.thompson_nfa.specs.Compiled.{Grows}
 use Rattle.thompson_nfa.specs.Denotes.{Denotes, choice}
 use Rattle.thompson_nfa.proofs.Walks.AheadLemmas.{denotes_then_empty}
 use Rattle.thompson_nfa.proofs.Walks.DenoteLemmas.{denotes_empty}
-
--- the direction stays
-pub way_of_grown : {a b : Assembly} → Grows a b → b.reverse ≡ a.reverse
-way_of_grown g = ap (λ (z : Assembly). z.reverse) g.settings
-
-pub way_of_led : {a b : Assembly} {from to : ℕ} → Led a b from to → b.reverse ≡ a.reverse
-way_of_led l = ap (λ (z : Assembly). z.reverse) l.settings
 
 pub turned_to : {a b : Bool} {T : Table} {s e : ℕ} {x : Tree} → a ≡ b → Denotes a T s e x → Denotes b T s e x
 turned_to {a} {b} {T} {s} {e} {x} same d = subst (λ (r : Bool). Denotes r T s e x) same d

@@ -1,5 +1,5 @@
 -- Forms of trees that are refused at one of their steps, and how far they have come before it.
-use Rattle.std.proofs.Common.{◌≡◌, inr, ℕ, ◌+◌, ◌-◌, ◌*◌, ◌<◌, ◌≤◌, max, min, Bool, true, false, List, [], ◌∷◌, length}
+use Rattle.std.proofs.Common.{◌≡◌, ℕ, ◌+◌, ◌-◌, ◌*◌, ◌<◌, ◌≤◌, max, Bool, false, List, [], ◌∷◌, length}
 use Rattle.std.proofs.Common.{Some, None, sym, ap, ◌∙◌, subst, arith}
 use Rattle.search_types.specs.Groups.{Groups}
 use Rattle.hir_core.specs.Tree.{Tree, repetition, concat, never, alternation}
@@ -13,7 +13,8 @@ use Rattle.thompson_nfa.specs.Refusals.{RefusesFragment, Stays}
 use Rattle.thompson_nfa.specs.Room.{room}
 use Rattle.thompson_nfa.specs.declared.which_captures.WhichCaptures.{WhichCaptures}
 use Rattle.thompson_nfa.proofs.Fragments.RepeatLemmas.{choice_first, choice_then, empty_then, empty_tame}
-use Rattle.thompson_nfa.proofs.Fragments.CopyLemmas.{one_fits, before_last}
+use Rattle.thompson_nfa.proofs.Fragments.PartBytes.{copies_before}
+use Rattle.thompson_nfa.proofs.Fragments.CopyLemmas.{one_fits}
 use Rattle.thompson_nfa.proofs.Steps.ProgressLemmas.{Progress, first_added, first_made, then_made, then_led, then_quits, first_quits}
 use Rattle.thompson_nfa.proofs.Steps.ProgressLemmas.{made_capped, refuses, first_refuses, then_refuses}
 use Rattle.thompson_nfa.proofs.Steps.NotedLemmas.{noted_bounded}
@@ -103,7 +104,7 @@ module _ (kept : WhichCaptures) (shrink : Bool) (low : ℕ) (greedy : Bool) (x :
   loop_room : (low - 1) * room shrink x + room shrink x ≤ max low 1 * room shrink x
   loop_room =
       let most : max low 1 ≡ low = omega (arith, some) in
-      omega (arith, before_last low (room shrink x) (omega (arith, some)), ap (λ n. n * room shrink x) most)
+      omega (arith, copies_before low (room shrink x) (omega (arith, some)), ap (λ n. n * room shrink x) most)
 
   pub prefix_refused : {a new : Assembly} {e : BuildError} → RefusesFragment kept a new ((low - 1) * room shrink x) x e →
       RefusesFragment kept a new (room shrink (repetition low None greedy x)) (repetition low None greedy x) e

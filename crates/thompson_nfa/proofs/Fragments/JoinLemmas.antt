@@ -1,11 +1,12 @@
 -- Two fragments, one after the other.
 use Rattle.std.proofs.Common.{◌≡◌, ℕ, ◌+◌, Bool, length, sym, ap, ◌∙◌, subst, arith, ◌||◌}
+use Rattle.std.proofs.Math.Bool.{or-false}
 use Rattle.nfa_core.specs.BuilderStates.{Assembly, patched, is_sparse}
 use Rattle.nfa_core.specs.Drafted.{Table}
 use Rattle.hir_core.specs.Tree.{Tree, empty}
 use Rattle.thompson_nfa.specs.Denotes.{Denotes}
 use Rattle.thompson_nfa.specs.Compiled.{Finished, AllComeOut, Makes, Does, DoesFirst, looks_in, uses}
-use Rattle.thompson_nfa.proofs.Steps.LookLemmas.{or_none, or_grouped, quiet_led}
+use Rattle.thompson_nfa.proofs.Steps.LookLemmas.{or_grouped, quiet_led}
 use Rattle.thompson_nfa.proofs.Walks.DenoteLemmas.{Joins, denotes_join, denotes_empty_here}
 use Rattle.thompson_nfa.proofs.Walks.SameLemmas.{IsSame, denotes_same}
 use Rattle.thompson_nfa.specs.Added.{Led}
@@ -79,7 +80,7 @@ pub does_all : (a b : Assembly) (s e : ℕ) (rest whole : Tree) → IsSame empty
 does_all a b s e rest whole none lead = record {
   denotes = λ table target fin. lead.before table target fin target (denotes_same a.reverse table target target empty rest none
       (denotes_empty_here a.reverse table target));
-  looks = λ l. sym (or_none (looks_in b.drafts l)) ∙ ap (λ (k : Bool). looks_in b.drafts l || k) (none.met a.reverse l) ∙ lead.looks l;
+  looks = λ l. sym (or-false (looks_in b.drafts l)) ∙ ap (λ (k : Bool). looks_in b.drafts l || k) (none.met a.reverse l) ∙ lead.looks l;
 }
 
 -- a tree that is the same to a table

@@ -1,9 +1,8 @@
 -- That a state may be led on: it is there, and so is the state that it is led to.
-use Rattle.std.proofs.Common.{◌≡◌, ℕ, ◌+◌, ◌<◌, ◌≤◌, Bool, true, false, List, [], length, refl, ap, ◌∙◌, arith, Option}
-use Rattle.search_types.specs.Groups.{Name}
+use Rattle.std.proofs.Common.{◌≡◌, ℕ, ◌<◌, Bool, false, List, [], length, ap, ◌∙◌, arith}
 use Rattle.hir_core.specs.Tree.{Tree}
 use Rattle.nfa_core.specs.BuilderStates.{Assembly, draft_at, is_sparse, empty_draft, union_draft, capture_start_draft, capture_end_draft}
-use Rattle.nfa_core.specs.BuilderStates.{DraftNode, patched, with_group}
+use Rattle.nfa_core.specs.BuilderStates.{patched}
 use Rattle.search_types.specs.Groups.{Groups}
 use Rattle.thompson_nfa.specs.Choice.{no_choice}
 use Rattle.thompson_nfa.specs.Compiled.{Makes}

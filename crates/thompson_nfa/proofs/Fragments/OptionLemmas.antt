@@ -1,6 +1,7 @@
 -- Fragments of repetitions with both bounds: the rounds so far, whose exit waits.
 use Rattle.std.proofs.Common.{◌≡◌, ◌≢◌, ℕ, suc, ◌+◌, ◌<◌, ◌≤◌, Bool, false, length, Some, sym, ap, ◌∙◌, subst, arith, ⊎_elim, ◌||◌, refl}
 use Rattle.std.proofs.lemmas.Bool.{cases_lt, cases_eq}
+use Rattle.std.proofs.Math.Bool.{or-false}
 use Rattle.look_core.specs.declared.look.Look.{Look}
 use Rattle.hir_core.specs.Tree.{Tree, repetition}
 use Rattle.nfa_core.specs.BuilderStates.{Assembly, draft_at, patched, is_sparse, empty_draft}
@@ -10,7 +11,7 @@ use Rattle.thompson_nfa.specs.Choice.{no_choice}
 use Rattle.thompson_nfa.specs.Denotes.{Denotes, choice}
 use Rattle.thompson_nfa.specs.Compiled.{Finished, AllComeOut, ComesOut, Makes, Does, DoesCopies, DoesOption, looks_in, uses}
 use Rattle.thompson_nfa.specs.Added.{AddsDraft, Led}
-use Rattle.thompson_nfa.proofs.Steps.LookLemmas.{quiet_led, quiet_added, quiet_choice, adds_around, left_used, or_none}
+use Rattle.thompson_nfa.proofs.Steps.LookLemmas.{quiet_led, quiet_added, quiet_choice, adds_around, left_used}
 use Rattle.thompson_nfa.proofs.Steps.SizeLemmas.{AddedAt, added_at, MadeAt, made_at, LedAt}
 use Rattle.thompson_nfa.proofs.Steps.OutLemmas.{out_here, out_next, out_at, out_on, all_here, all_join}
 use Rattle.thompson_nfa.proofs.Steps.ProgressLemmas.{Progress, first_added, first_made, then_made, then_led, made}
@@ -307,6 +308,6 @@ module _ (old mid new : Assembly) (start end z n left min most : ℕ) (greedy : 
         (os.does table z (last_but target table fin) (last_end target table fin)
         (subst Q (sym none) (denotes_stopped_here old.reverse table z greedy x)))
         (denotes_empty old.reverse table z target (fin.led ∙ ap (patched target) last_z));
-    looks = λ l. quiet_led led l ∙ sym (or_none (looks_in mid.drafts l))
+    looks = λ l. quiet_led led l ∙ sym (or-false (looks_in mid.drafts l))
         ∙ ap (λ (m : ℕ). looks_in mid.drafts l || uses old.reverse (repetition 0 (Some m) greedy x) l) (sym none) ∙ os.looks l;
   }

@@ -138,7 +138,7 @@ once (suc k) n l = omega arith
 pub repeated_once : (low n : ℕ) → n + 92 ≤ repeated_bytes low None n
 repeated_once low n = let e = once (max low 1) (n + 4) (omega arith) in omega arith
 
-copies_before : (low k : ℕ) → 0 < low → (low - 1) * k + k ≡ low * k
+pub copies_before : (low k : ℕ) → 0 < low → (low - 1) * k + k ≡ low * k
 copies_before zero k l = absurd (omega arith)
 copies_before (suc low) k l = let e : suc low - 1 ≡ low = omega arith in ap (λ n. n * k + k) e ∙ omega arith
 

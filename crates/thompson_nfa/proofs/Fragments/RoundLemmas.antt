@@ -2,6 +2,7 @@
 use Rattle.std.proofs.Common.{◌≡◌, ℕ, zero, suc, ◌-◌, ◌<◌, Bool, true, false, List, length, Option, Some, None, ◌⊎◌, inl, inr, refl, arith}
 use Rattle.std.proofs.Common.{◌||◌, sym}
 use Rattle.std.specs.List.{flat_map}
+use Rattle.std.proofs.Math.Bool.{or-false}
 use Rattle.look_core.specs.declared.look.Look.{Look}
 use Rattle.thompson_nfa.specs.Compiled.{uses}
 use Rattle.hir_core.specs.Tree.{Tree, empty, repetition}
@@ -12,7 +13,7 @@ use Rattle.hir_core.proofs.ForCallers.{IsSpan-Means, reads_a_byte, preferred_end
 use Rattle.nfa_core.specs.Ways.{Text}
 use Rattle.nfa_core.specs.Drafted.{Table}
 use Rattle.thompson_nfa.specs.Denotes.{seen, choice, IsMeant, Reaches, Halts, Orders, Denotes}
-use Rattle.thompson_nfa.proofs.Steps.LookLemmas.{or_none, or_twice}
+use Rattle.thompson_nfa.proofs.Steps.LookLemmas.{or_twice}
 use Rattle.thompson_nfa.proofs.Walks.WayLemmas.{both_at, Goes, goes_choice}
 use Rattle.thompson_nfa.proofs.Walks.ReachLemmas.{reaches_like, reaches_join, reaches_choice, reaches_rounds}
 use Rattle.thompson_nfa.proofs.Walks.OrderLemmas.{orders_like, orders_join, orders_choice, orders_rounds}
@@ -55,7 +56,7 @@ copy_ends looks h low (Some m) greedy x i = refl
 used_copy : (back : Bool) (low : ℕ) (most : Option ℕ) (greedy : Bool) (x : Tree) (l : Look) →
     uses back (repetition (suc low) (one_more most) greedy x) l ≡ (uses back x l || uses back (repetition low most greedy x) l)
 used_copy back low None greedy x l = or_twice (uses back x l)
-used_copy back low (Some zero) greedy x l = sym (or_none (uses back x l))
+used_copy back low (Some zero) greedy x l = sym (or-false (uses back x l))
 used_copy back low (Some (suc m)) greedy x l = or_twice (uses back x l)
 
 -- a copy and then the other rounds, in both directions
@@ -106,10 +107,6 @@ module _ (back : Bool) (T : Table) where
 
   pub denotes_stopped_here : (s : ℕ) (greedy : Bool) (x : Tree) → Denotes back T s s (repetition 0 (Some 0) greedy x)
   denotes_stopped_here s greedy x = denotes_stopped s s greedy x (denotes_empty_here back T s)
-
-  -- exactly one round
-  pub denotes_once : (s e : ℕ) (greedy : Bool) (x : Tree) → Denotes back T s e x → Denotes back T s e (repetition 1 (Some 1) greedy x)
-  denotes_once s e greedy x d = denotes_copy s e e 0 (Some 0) greedy x d (denotes_stopped_here e greedy x)
 
   -- ---- a round that may be left out, and then fewer rounds
 

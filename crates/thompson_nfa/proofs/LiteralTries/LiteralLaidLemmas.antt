@@ -2,13 +2,13 @@
 use Rattle.std.proofs.Common.{◌≡◌, ℕ, zero, suc, ◌+◌, ◌-◌, ◌<◌, ◌≤◌, List, [], ◌∷◌, ◌++◌, map, length, drop, get_or, nat_eq, refl, sym, ap}
 use Rattle.std.proofs.Common.{◌∙◌, subst, arith, length-append, ⊎_elim}
 use Rattle.std.proofs.lemmas.Bool.{cases_lt}
-use Rattle.std.proofs.lemmas.List.{map-append, drop-append-le, length-map}
+use Rattle.std.proofs.lemmas.List.{map-append, drop-append-le}
 use Rattle.std.proofs.Math.Seq.{drop-nil}
 use denote.Ref.{Bor}
 use Rattle.nfa_core.specs.Walks.{distinct}
 use Rattle.thompson_nfa.specs.declared.literal_groups.Edge.{Edge}
 use Rattle.thompson_nfa.specs.LiteralGroups.{texts, texts_of_groups, bytes_in, bytes_in_all, strings_in_all, AllSome}
-use Rattle.thompson_nfa.specs.LiteralLaid.{NodeValue, no_node, node_weight, weight_in_all, matches_in_all, HasStrings, LaysNode, IsLaidTrie}
+use Rattle.thompson_nfa.specs.LiteralLaid.{NodeValue, no_node, node_weight, weight_in_all, matches_in_all, HasStrings, LaysNode}
 use Rattle.thompson_nfa.specs.LiteralStems.{BeginAll, without_first, behind_text}
 use Rattle.thompson_nfa.specs.LiteralTries.{literal_ends_of, edges_in, matches_in, IsNode}
 use Rattle.thompson_nfa.proofs.LiteralTries.LiteralGroupLemmas.{group_count, all_some_append, all_bytes_append, all_strings_append}
@@ -207,42 +207,12 @@ drop_next (suc k) [] = drop-nil (suc k + 1)
 drop_next (suc k) (x ∷ xs) = let P : ℕ → Type 0 = λ n. drop n (x ∷ xs) ≡ drop 1 (drop k xs) in let same : suc (k + 1) ≡ suc k + 1 =
     omega arith in subst P same (drop_next k xs)
 
-pub held_begun : (held : List (List (List ℕ))) (nodes : List NodeValue) (strings : List (List ℕ)) → held ≡ strings ∷ [] → nodes ≡ [] →
-    1 ≤ length strings → NodesHeld nodes held strings
-held_begun held nodes strings e none some =
-    let P : List NodeValue → Type 0 = λ ns. NodesHeld ns held strings in
-    subst P (sym none) (record {
-      groups = strings ∷ [];
-      as_many = ap length (sym e);
-      left = sym e;
-      to = record {
-        within = omega arith;
-        some = omega arith;
-        filled = (some, tt);
-        root = refl;
-        each = λ i l. absurd (omega arith);
-        room = omega arith;
-        ended = omega arith;
-      };
-    })
-
 module _ (nodes : List NodeValue) (held : List (List (List ℕ))) (strings : List (List ℕ)) (so_far : NodesHeld nodes held strings) where
   pub held_some : (k : ℕ) → k ≡ length nodes → k < length held → 1 ≤ length (get_or held k [])
   held_some k at less =
       let Q : ℕ → Type 0 = λ n. drop n so_far.groups ≡ drop n held in
       let some = some_at so_far.groups k so_far.to.filled (omega (arith, so_far.as_many)) in
       omega (arith, some, ap length (got_of_drop k so_far.groups held (subst Q (sym at) so_far.left)))
-
-  pub held_done : length held ≤ length nodes → IsLaidTrie nodes strings
-  held_done past = let w = so_far.to.within in let s = so_far.to.some in record {
-    groups = so_far.groups;
-    as_many = omega (arith, so_far.as_many);
-    some = omega (arith, so_far.as_many);
-    root = so_far.to.root;
-    each = so_far.to.each;
-    room = omega (arith, so_far.to.room);
-    ended = omega (arith, so_far.to.ended);
-  }
 
   module _ (k : ℕ) (at : k ≡ length nodes) (less : k < length held) (kept fresh : List (List (List ℕ)))
       (as_long : length kept ≡ length held) (later : drop (k + 1) kept ≡ drop (k + 1) held) (node : NodeValue)

@@ -1,7 +1,7 @@
 -- The nodes of a trie of strings: what one more item adds to a node.
-use Rattle.std.proofs.Common.{◌≡◌, ◌⊎◌, inl, inr, ⊎_elim, ℕ, zero, suc, ◌+◌, ◌*◌, ◌≤◌, max, Bool, true}
-use Rattle.std.proofs.Common.{false, List, [], ◌∷◌, ◌++◌, length, take, drop}
-use Rattle.std.proofs.Common.{get_or, Option, Some, None, nat_eq, ◌&&◌, ◌||◌, ◌==◌, if◌then◌else◌, refl, sym, ap, ◌∙◌, subst, arith}
+use Rattle.std.proofs.Common.{◌≡◌, ◌⊎◌, inl, inr, ⊎_elim, ℕ, zero, suc, ◌+◌, ◌*◌, ◌≤◌, max, Bool, true, []}
+use Rattle.std.proofs.Common.{false, List, ◌∷◌, ◌++◌, length, take, drop}
+use Rattle.std.proofs.Common.{get_or, nat_eq, ◌&&◌, ◌||◌, ◌==◌, if◌then◌else◌, refl, sym, ap, ◌∙◌, subst, arith}
 use Rattle.std.proofs.Common.{length-append, replicate, append_assoc, append-nil, drop-cons, drop_of_length-le}
 use Rattle.std.proofs.lemmas.List.{length-replicate}
 use Rattle.std.proofs.lemmas.Grind.{common_steps}
@@ -45,11 +45,6 @@ pub chunk_none_end : (groups : List (List (List ℕ))) (es : List Edge) → None
 chunk_none_end groups [] = tt
 chunk_none_end groups (e ∷ es) = none_end_append (each_behind e.byte (get_or groups e.next [])) (chunk_strings groups es)
     (none_end_behind e.byte (get_or groups e.next [])) (chunk_none_end groups es)
-
--- strings that begin with the byte that stands at the place go on behind it
-abbrev going : Option ℕ → List (List ℕ) → List ℕ → ℕ → List ℕ
-going None ws h i = []
-going (Some c) ws h i = literal_ends_of (tails c ws) h (i + 1)
 
 one_end : (t s : Bool) (i n : ℕ) (w : List ℕ) (rest : List (List ℕ)) (h : List ℕ) (others : List ℕ) → s ≡ stands h (i + 1) w →
     n ≡ length w → others ≡ literal_ends_of rest h (i + 1) →

@@ -1,5 +1,5 @@
 -- Alternations of literals: what a trie of them means is what they mean, and how many states it takes.
-use Rattle.std.proofs.Common.{◌≡◌, ℕ, suc, ◌+◌, ◌*◌, ◌<◌, ◌≤◌, min, Bool, true, false, List, [], ◌∷◌, ◌++◌, length, take, get_or, nat_le}
+use Rattle.std.proofs.Common.{◌≡◌, ℕ, ◌+◌, ◌*◌, ◌<◌, ◌≤◌, min, Bool, true, false, List, [], ◌∷◌, ◌++◌, length, take, get_or, nat_le}
 use Rattle.std.proofs.Common.{refl, sym, ap, ◌∙◌, subst, arith}
 use Rattle.std.specs.Prelude.{Vec}
 use Rattle.std.specs.Global.{Global}
@@ -119,10 +119,6 @@ trie_bytes back (x ∷ xs) = omega (arith, trie_bytes back xs, length_spelt back
 read_append : (back : Bool) (xs ys : List Tree) → read_strings back (xs ++ ys) ≡ read_strings back xs ++ read_strings back ys
 read_append back [] ys = refl
 read_append back (x ∷ xs) ys = ap (λ (l : List (List ℕ)). spelt back (bytes_of_literal x) ∷ l) (read_append back xs ys)
-
-read_long : (back : Bool) (xs : List Tree) → length (read_strings back xs) ≡ length xs
-read_long back [] = refl
-read_long back (x ∷ xs) = ap (λ (n : ℕ). suc n) (read_long back xs)
 
 -- one literal more
 pub read_next : (trie next : Strings) (back : Bool) (xs : List Tree) (k : ℕ) (x : Tree) (bytes : List ℕ) →

@@ -1,7 +1,7 @@
 -- The stem of strings, byte by byte, and the strings behind it.
 use Rattle.std.proofs.Common.{◌≡◌, ℕ, zero, suc, ◌+◌, ◌<◌, ◌≤◌, List, [], ◌∷◌, ◌++◌, length, take, drop, get_or, refl, sym, ap, ◌∙◌, subst}
 use Rattle.std.proofs.Common.{arith, length-append, append_assoc}
-use Rattle.std.proofs.lemmas.List.{take_more, take_all, length-take-le, drop_more, map-append}
+use Rattle.std.proofs.lemmas.List.{take_more, length-take-le, drop_more, map-append}
 use denote.Ref.{Bor}
 use Rattle.thompson_nfa.specs.LiteralGroups.{texts, each_behind, bytes_in}
 use Rattle.thompson_nfa.specs.LiteralStems.{HaveAll, BeginAll, without_first, behind_text}
@@ -81,7 +81,3 @@ have_next k b xs i d l so_far has =
     let w : List ℕ = (get_or xs i d).now in
     subst P (sym (ap texts (take_more xs i d l) ∙ map-append (λ (x : Bor (List ℕ)). x.now) (take i xs) (get_or xs i d ∷ [])))
     (have_append k b (texts (take i xs)) (w ∷ []) so_far (has_byte w k b has.0 has.1, tt))
-
--- all strings, where as many were taken
-pub have_all : (k b : ℕ) (xs : List (Bor (List ℕ))) (i : ℕ) → length xs ≤ i → HaveAll k b (texts (take i xs)) → HaveAll k b (texts xs)
-have_all k b xs i l a = let P : List (Bor (List ℕ)) → Type 0 = λ ys. HaveAll k b (texts ys) in subst P (take_all i xs l) a

@@ -1,24 +1,21 @@
 -- The states of a text: what one more byte adds before it.
-use Rattle.std.proofs.Common.{◌≡◌, inl, inr, ℕ, ◌+◌, ◌*◌, ◌<◌, ◌≤◌, List, [], ◌∷◌, length, drop, get_or, ◌-◌, length-drop, None, refl, sym}
+use Rattle.std.proofs.Common.{◌≡◌, inl, inr, ℕ, ◌+◌, ◌<◌, ◌≤◌, List, [], ◌∷◌, length, drop, get_or, ◌-◌, None, refl, sym}
 use Rattle.std.proofs.Common.{ap, ◌∙◌, subst, arith, ⊎_elim, true, drop_of_length-le}
 use Rattle.std.proofs.lemmas.Bool.{cases_lt}
 use Rattle.std.proofs.lemmas.List.{drop_more}
 use Rattle.nfa_core.specs.BuilderStates.{Assembly, draft_at, range_draft}
 use Rattle.nfa_core.specs.Drafted.{Table}
 use Rattle.nfa_core.specs.Renaming.{stands_for}
-use Rattle.nfa_core.specs.declared.build_error.BuildError.{BuildError}
 use Rattle.thompson_nfa.specs.Added.{AddsDraft}
-use Rattle.thompson_nfa.specs.Compiled.{Grows, IsTame}
+use Rattle.thompson_nfa.specs.Compiled.{IsTame}
 use Rattle.thompson_nfa.specs.Denotes.{Denotes}
 use Rattle.thompson_nfa.specs.LiteralStates.{literals}
 use Rattle.thompson_nfa.specs.LiteralStems.{behind_text}
 use Rattle.thompson_nfa.specs.LiteralTexts.{AddsText}
-use Rattle.thompson_nfa.specs.Refusals.{Stays, Quits, Passes}
 use Rattle.thompson_nfa.proofs.Steps.GrowLemmas.{Partly, partly_joined, partly_added, grows_refl, grows_trans}
 use Rattle.thompson_nfa.proofs.Fragments.LeafLemmas.{tame_one}
 use Rattle.thompson_nfa.proofs.LiteralTries.LiteralStemLemmas.{text_byte, text_none}
 use Rattle.thompson_nfa.proofs.LiteralTries.LiteralTreeLemmas.{denotes_byte_then}
-use Rattle.thompson_nfa.proofs.Steps.ProgressLemmas.{step_later}
 
 no_byte : (old : Assembly) (next : ℕ) → AddsText old old next [] next
 no_byte old next = record {
@@ -89,19 +86,3 @@ module _ (old mid : Assembly) (next : ℕ) (text : List ℕ) (id k m : ℕ) (at 
       ∙ ap (λ (n : ℕ). b ∷ drop n text) more in
       let P : List ℕ → Type 0 = λ t. AddsText old new next t id2 in
       subst P (sym all) (byte_added old mid next (drop m text) id so_far there new b id2 added)
-
-  pub text_refused : (new : Assembly) (e : BuildError) → Stays mid new 1 24 e → Quits old new (length text) e
-  text_refused new e r =
-      let n : ℕ = length text in
-      record {
-        settings = (grows_trans so_far.grows (let P : Assembly → Type 0 = λ a. Grows mid a in
-            subst P (sym r.same) (grows_refl mid))).settings;
-        cause = step_later old mid 1 24 n n e (ap (λ (a : Assembly). a.size_limit) so_far.grows.settings) (omega (
-          arith,
-          so_far.states,
-          length-drop m text,
-        )) (omega (arith, so_far.states, so_far.bytes, length-drop m text)) (omega arith) r.cause;
-      }
-
-  pub text_passed : (e : BuildError) → Passes mid 24 e → Passes old (24 * length text) e
-  text_passed e p = omega (arith, so_far.weighs, length-drop m text, p)

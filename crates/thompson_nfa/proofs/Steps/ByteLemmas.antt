@@ -5,8 +5,7 @@ use Rattle.std.proofs.lemmas.List.Sums.{sum_by-cons}
 use Rattle.nfa_core.specs.BuilderStates.{DraftNode, Assembly, draft_bytes}
 use Rattle.nfa_core.specs.declared.build_error.BuildError.{BuildError}
 use Rattle.nfa_core.specs.declared.build_error.BuildError.TheVariants as error
-use Rattle.thompson_nfa.specs.Compiled.{Makes, Weighs}
-use Rattle.thompson_nfa.specs.Refusals.{RefusesStep, RefusesGroup, Quits, Passes}
+use Rattle.thompson_nfa.specs.Refusals.{RefusesStep, RefusesGroup, Passes}
 
 -- each state takes 24 bytes at least
 pub states_bytes : (drafts : List DraftNode) → 24 * length drafts ≤ sum_by draft_bytes drafts
@@ -29,10 +28,3 @@ group_bytes p index b (error.ExceededSizeLimit limit) r = step_bytes b 1 24 (err
 group_bytes p index b error.UnsupportedCaptures r = absurd r
 group_bytes p index b (error.Captures err) r = omega arith
 group_bytes p index b error.NoMemory r = omega arith
-
--- what a fragment of n states takes, and what it has where it is refused
-pub made_bytes : (a b : Assembly) (s e n : ℕ) → Makes a b s e n → Weighs a b (4096 * n)
-made_bytes a b s e n m = omega (arith, m.within.bytes, m.within.states)
-
-pub quits_bytes : (a b : Assembly) (n : ℕ) (e : BuildError) → Quits a b n e → Passes a (4096 * n) e
-quits_bytes a b n e q = step_bytes a n (4096 * n) e (omega arith) q.cause

@@ -45,18 +45,18 @@ tame_wider b c draft longer known tame = record {
   not_barred = tame.not_barred;
 }
 
-one_named : (n to : ℕ) → to < n → All (λ q. q < n) (to ∷ [])
-one_named n to l zero d k = l
-one_named n to l (suc i) d k = absurd (omega arith)
+pub one_below : (n to : ℕ) → to < n → All (λ q. q < n) (to ∷ [])
+one_below n to l zero d k = l
+one_below n to l (suc i) d k = absurd (omega arith)
 
 pub names_patched : (n to : ℕ) (draft : DraftNode) → to < n → All (λ q. q < n) (names_of draft) →
     All (λ q. q < n) (names_of (patched to draft))
-names_patched n to (empty_draft next) l a = one_named n to l
-names_patched n to (range_draft low high next) l a = one_named n to l
+names_patched n to (empty_draft next) l a = one_below n to l
+names_patched n to (range_draft low high next) l a = one_below n to l
 names_patched n to (sparse_draft ranges) l a = a
-names_patched n to (look_draft look next) l a = one_named n to l
-names_patched n to (capture_start_draft pattern group next) l a = one_named n to l
-names_patched n to (capture_end_draft pattern group next) l a = one_named n to l
+names_patched n to (look_draft look next) l a = one_below n to l
+names_patched n to (capture_start_draft pattern group next) l a = one_below n to l
+names_patched n to (capture_end_draft pattern group next) l a = one_below n to l
 names_patched n to (union_draft names) l a = All-push (λ q. q < n) names to a l
 names_patched n to (union_reverse_draft names) l a = All-push (λ q. q < n) names to a l
 names_patched n to fail_draft l a = a
@@ -138,9 +138,6 @@ tame_patched {plain} b to draft l tame = record {
 pub record Partly (plain : Bool) (old mid : Assembly) : Type 0 where
   pub grows : Grows old mid
   pub tame : AllTame plain (length old.drafts) mid
-
-pub partly_begun : {plain : Bool} (b : Assembly) → Partly plain b b
-partly_begun b = record { grows = grows_refl b; tame = λ q low high. absurd (omega arith) }
 
 -- the states of both halves are tame
 pub partly_joined : {plain : Bool} {a b c : Assembly} → Partly plain a b → Partly plain b c → Partly plain a c

@@ -3,6 +3,7 @@ use Rattle.std.proofs.Common.{◌≡◌, ℕ, zero, suc, ◌<◌, ◌≤◌, Boo
 use Rattle.std.proofs.Common.{ap₂, ◌∙◌, arith, ⊎_elim}
 use Rattle.std.specs.List.{list_any}
 use Rattle.std.proofs.lemmas.Bool.{cases_eq}
+use Rattle.std.proofs.Math.Bool.{or-false}
 use Rattle.look_core.specs.declared.look.Look.{Look}
 use Rattle.search_types.specs.Groups.{Groups}
 use Rattle.hir_core.specs.Tree.{Tree, repetition, alternation, concat}
@@ -17,10 +18,6 @@ use Rattle.thompson_nfa.specs.LiteralStates.{spelt_literal, literals}
 use Rattle.thompson_nfa.specs.Shared.{read_tree}
 
 -- ---- truth values
-
-pub or_none : (a : Bool) → (a || false) ≡ a
-or_none true = refl
-or_none false = refl
 
 pub or_once : (a b : Bool) → ((a || b) || b) ≡ (a || b)
 or_once true true = refl
@@ -62,7 +59,7 @@ any_one : (test : DraftNode → Bool) (xs ys : List DraftNode) → length ys ≡
     ((q : ℕ) → q < length xs → test (draft_at ys q) ≡ test (draft_at xs q)) →
     list_any test ys ≡ (list_any test xs || test (draft_at ys (length xs)))
 any_one test [] [] l same = absurd (omega arith)
-any_one test [] (y ∷ []) l same = or_none (test y)
+any_one test [] (y ∷ []) l same = or-false (test y)
 any_one test [] (y ∷ z ∷ ys) l same = absurd (omega arith)
 any_one test (x ∷ xs) [] l same = absurd (omega arith)
 any_one test (x ∷ xs) (y ∷ ys) l same =
@@ -119,7 +116,7 @@ looks_added {a} {b} {id} {draft} {groups} x l =
 pub quiet_added : {a b : Assembly} {id : ℕ} {draft : DraftNode} {groups : Groups} → AddsDraft a b id draft groups →
     ((l : Look) → is_look l draft ≡ false) → Quiet a b
 quiet_added {a} {b} {id} {draft} {groups} x none l = looks_added x l ∙ ap (λ (k : Bool). looks_in a.drafts l || k) (none l)
-    ∙ or_none (looks_in a.drafts l)
+    ∙ or-false (looks_in a.drafts l)
 
 pub quiet_choice : {a b : Assembly} {id : ℕ} {groups : Groups} (greedy : Bool) → AddsDraft a b id (no_choice greedy) groups → Quiet a b
 quiet_choice true x l = quiet_added x (λ k. refl) l
@@ -137,7 +134,7 @@ abbrev pub AddsLooks : Bool → Assembly → Assembly → Tree → Type 0
 AddsLooks back a b x = (l : Look) → looks_in b.drafts l ≡ (looks_in a.drafts l || uses back x l)
 
 pub adds_none : (back : Bool) (x : Tree) (a b : Assembly) → Quiet a b → ((l : Look) → uses back x l ≡ false) → AddsLooks back a b x
-adds_none back x a b q none l = q l ∙ sym (or_none (looks_in a.drafts l)) ∙ ap (λ (k : Bool). looks_in a.drafts l || k) (sym (none l))
+adds_none back x a b q none l = q l ∙ sym (or-false (looks_in a.drafts l)) ∙ ap (λ (k : Bool). looks_in a.drafts l || k) (sym (none l))
 
 -- quiet steps before and behind
 pub adds_around : (a b c d : Assembly) (x : Tree) → Quiet a b → b.reverse ≡ a.reverse → AddsLooks b.reverse b c x → Quiet c d →
@@ -154,7 +151,7 @@ adds_both a b c x y z first same second all l =
 
 pub uses_alternation : (back : Bool) (xs : List Tree) (x : Tree) (l : Look) →
     uses back (alternation (xs ++ x ∷ [])) l ≡ (uses back (alternation xs) l || uses back x l)
-uses_alternation back [] x l = or_none (uses back x l)
+uses_alternation back [] x l = or-false (uses back x l)
 uses_alternation back (y ∷ xs) x l =
     ap (λ (k : Bool). uses back y l || k) (uses_alternation back xs x l)
     ∙ sym (or_grouped (uses back y l) (uses back (alternation xs) l) (uses back x l))
@@ -196,5 +193,5 @@ uses_literals back is_reverse l ws = uses_each_none back l (spelt_literal is_rev
 
 pub left_used : (back greedy : Bool) (left : ℕ) (x : Tree) (l : Look) (a : Bool) →
     ((a || uses back x l) || uses back (repetition 0 (Some left) greedy x) l) ≡ (a || uses back x l)
-left_used back greedy zero x l a = or_none (a || uses back x l)
+left_used back greedy zero x l a = or-false (a || uses back x l)
 left_used back greedy (suc left) x l a = or_once a (uses back x l)

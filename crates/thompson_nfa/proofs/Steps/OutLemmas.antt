@@ -40,9 +40,6 @@ module _ (table : Table) where
   all_here target q high e o k low less = let P : ℕ → Type 0 = λ n. ComesOut table target n in let same : q ≡ k = omega arith in
       subst P same o
 
-  pub all_none : (target low high : ℕ) → high ≤ low → AllComeOut table target low high
-  all_none target low high e k l h = absurd (omega arith)
-
   pub all_join : (target low mid high : ℕ) → AllComeOut table target low mid → AllComeOut table target mid high →
       AllComeOut table target low high
   all_join target low mid high a b q l h = ⊎_elim (λ (x : q < mid). a q l x) (λ (x : mid ≤ q). b q x h) (cases_lt q mid)

@@ -1,9 +1,9 @@
 -- Where classes aren't shrunk, `room` is `count`; where they are, it has room for the plain form too.
-use Rattle.std.proofs.Common.{◌≡◌, ℕ, suc, ◌+◌, ◌-◌, ◌*◌, ◌≤◌, min, Bool, true, false, List, [], ◌∷◌, length, refl, ap, ap₂, arith}
+use Rattle.std.proofs.Common.{◌≡◌, ℕ, suc, ◌+◌, ◌-◌, ◌≤◌, min, Bool, true, false, List, [], ◌∷◌, length, refl, ap, ap₂, arith}
 use Rattle.std.proofs.lemmas.List.{length-map}
 use Rattle.hir_core.specs.Tree.{Tree, empty, literal, byte_class, char_class, look, repetition, capture, nothing, cat, never, alt}
 use Rattle.hir_core.specs.Facts.{count, list_count, capped, repeated_count, sequence_count}
-use Rattle.hir_core.specs.Sequences.{pieces, piece_end, scalar_from, utf8_sequences, byte_ranges}
+use Rattle.hir_core.specs.Sequences.{pieces, utf8_sequences, byte_ranges}
 use Rattle.nfa_core.specs.BuilderStates.{Assembly}
 use Rattle.nfa_core.specs.declared.build_error.BuildError.{BuildError}
 use Rattle.thompson_nfa.specs.Compiled.{Makes}
@@ -37,10 +37,6 @@ list_room_plain false xs plain = list_room_is_count xs
 list_room_plain true xs plain = absurd (cc)
 
 -- ---- a class has no more sequences than scalars
-few_pieces_by : (most lo hi : ℕ) (more : Bool) (rest : List (ℕ × ℕ)) → length rest ≤ most →
-    length (elim more as (λ _. List (ℕ × ℕ)) [ true ↦ (scalar_from lo, piece_end (scalar_from lo) hi) ∷ rest | false ↦ [] ]) ≤ suc most
-few_pieces_by most lo hi true rest l = omega (arith, l)
-few_pieces_by most lo hi false rest l = omega arith
 
 few_sequences : (first last : ℕ) → length (utf8_sequences first last) ≤ suc (last - first)
 few_sequences first last = omega (arith, length-map (pieces first last) byte_ranges, few_pieces (last + 1 - first) first last)
@@ -48,9 +44,6 @@ few_sequences first last = omega (arith, length-map (pieces first last) byte_ran
 pub sequences_below_scalars : (ranges : List (ℕ × ℕ)) → sequence_count ranges ≤ scalars_in ranges
 sequences_below_scalars [] = omega arith
 sequences_below_scalars ((first, last) ∷ ranges) = omega (arith, few_sequences first last, sequences_below_scalars ranges)
-
-pub plain_below_shrunk : (ranges : List (ℕ × ℕ)) → count (char_class ranges) ≤ 2 + 4 * scalars_in ranges
-plain_below_shrunk ranges = omega (arith, sequences_below_scalars ranges)
 
 pub plain_fits : (shrink : Bool) (ranges : List (ℕ × ℕ)) → count (char_class ranges) ≤ room shrink (char_class ranges)
 plain_fits false ranges = omega arith

@@ -3,7 +3,7 @@ use Rattle.std.proofs.Common.{◌≡◌, ℕ, zero, suc, ◌+◌, ◌*◌, ◌<�
 use Rattle.std.proofs.Common.{None, nat_lt, if◌then◌else◌, refl, sym, ap, ◌∙◌, subst, arith, length-append}
 use Rattle.std.specs.List.{sum_by}
 use Rattle.std.specs.Option.{option_or}
-use Rattle.std.proofs.lemmas.Bool.{ltb-false, ltb-true}
+use Rattle.std.proofs.lemmas.Bool.{ltb-true}
 use Rattle.std.proofs.lemmas.List.{length-set, get_or-set_same, get_or-set_other}
 use Rattle.std.proofs.lemmas.List.Sums.{sum_by_push, sum_by-set}
 use Rattle.search_core.specs.Index.{greatest_index}
@@ -107,12 +107,6 @@ lead_refused old new from to error.UnsupportedCaptures inside same told =
 lead_refused old new from to (error.Captures err) inside same told = absurd
     (never_other old.size_limit (bytes_of_drafts (patched_at old.drafts from to)) (captures_refused told.0) told.1 tt)
 lead_refused old new from to error.NoMemory inside same told = record { same = same; cause = tt; passed = omega arith }
-
--- a name is there
-name_there : (b : Bool) (n : ℕ) (fault : BuildFault) (other : Option BuildFault) → b ≡ nat_lt greatest_index n →
-    option_or (if b then Some fault else None) other ≡ None → n ≤ greatest_index
-name_there true n fault other e none = absurd (cc)
-name_there false n fault other e none = ltb-false greatest_index n (sym e)
 
 draft_below : (xs : List DraftNode) (draft : DraftNode) (q : ℕ) → q < length xs → draft_at (xs ++ draft ∷ []) q ≡ draft_at xs q
 draft_below [] draft q l = absurd (omega arith)

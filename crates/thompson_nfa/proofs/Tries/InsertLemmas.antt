@@ -8,7 +8,7 @@ use Rattle.hir_core.specs.Sequences.{is_in_ranges, bytes_of}
 use Rattle.hir_core.specs.declared.utf8_sequences.Utf8Range.{Utf8Range}
 use Rattle.thompson_nfa.specs.declared.trie_nodes.Edge.{Edge}
 use Rattle.thompson_nfa.specs.declared.trie_nodes.Next.{Next}
-use Rattle.thompson_nfa.specs.declared.trie_nodes.Next.TheVariants.{Nothing, End, Node}
+use Rattle.thompson_nfa.specs.declared.trie_nodes.Next.TheVariants.{Node}
 use Rattle.thompson_nfa.specs.RangeTries.{IsInSome, IsApart, IsWith, AreRanges}
 use Rattle.thompson_nfa.specs.TrieNodes.{following, along, IsInside, AreInside, Rises, IsLater}
 use Rattle.thompson_nfa.specs.RangeCovers.{cover_from}
@@ -44,16 +44,6 @@ module _ (v : List (List (List (ℕ × ℕ)))) (start end : ℕ) (ordered : star
       cover_of_edges (Node n) es e rising (are_inside_more n (length v) es (omega arith) inside)
       (λ b t h. subst (λ (qs : List (List (ℕ × ℕ))). IsInSome qs (b ∷ t)) emits (along_in v es b t h))
       (λ b t h. in_along v es b t (subst (λ (qs : List (List (ℕ × ℕ))). IsInSome qs (b ∷ t)) (sym emits) h))
-
-  pub cover_of_nothing : pieces ≡ cover_from 0 start (end + 1) [] → IsCover v Nothing start (end + 1) pieces
-  cover_of_nothing e = cover_of_edges Nothing [] e tt tt (λ b t h. h) (λ b t h. h)
-
-  pub cover_of_end : pieces ≡ cover_from 0 start (end + 1) [] → IsCover v End start (end + 1) pieces
-  cover_of_end e = cover_of_edges End [] e tt tt (λ b t h. absurd h) (λ b t h. elim h [
-    | inl here ↦ absurd (false≢true here)
-    | inr none ↦
-        none
-  ])
 
 -- ---- a string of the ranges
 abbrev pub witness : List (ℕ × ℕ) → List ℕ

@@ -8,22 +8,14 @@ use Rattle.hir_core.specs.declared.utf8_sequences.Utf8Range.{Utf8Range}
 use Rattle.thompson_nfa.specs.declared.trie_nodes.Edge.{Edge}
 use Rattle.thompson_nfa.specs.declared.trie_nodes.Next.{Next}
 use Rattle.thompson_nfa.specs.declared.trie_nodes.Next.TheVariants.{Nothing, Node}
-use Rattle.thompson_nfa.specs.NodeCopies.{AreCopies, AreNone}
+use Rattle.thompson_nfa.specs.NodeCopies.{AreCopies}
 use Rattle.thompson_nfa.specs.TrieNodes.{following, along, IsInside, AreInside, Rises, IsLater}
 use Rattle.thompson_nfa.proofs.Tries.CoverLemmas.{inside_append}
-use Rattle.thompson_nfa.proofs.Tries.InsertLemmas.{later_itself, later_more, later_push}
+use Rattle.thompson_nfa.proofs.Tries.InsertLemmas.{later_more, later_push}
 use Rattle.thompson_nfa.proofs.Tries.NodeLemmas.{along_same, are_inside_more}
-
-node≢nothing : {n : ℕ} → Nothing ≡ Node n → ⊥
-node≢nothing e = cc
 
 node_number : {m n : ℕ} → Node m ≡ Node n → m ≡ n
 node_number e = cc
-
--- where no node has a copy
-pub none_copied : (nodes : List (List (List (ℕ × ℕ)))) (count : ℕ) (names : List Next) → count ≡ length nodes → AreNone count names →
-    AreCopies nodes [] names
-none_copied nodes count names e none = record { len = none.len ∙ e; same = λ i n is. absurd (node≢nothing (sym (none.none i) ∙ is)) }
 
 -- what an earlier copy emits
 pub copy_found : (nodes copy : List (List (List (ℕ × ℕ)))) (names : List Next) (number made : ℕ) (d : Next) → AreCopies nodes copy names →
@@ -44,12 +36,6 @@ pub record IsCopying (nodes old copy : List (List (List (ℕ × ℕ)))) (names :
   pub inside : AreInside (length copy) edges
   pub ranges : map (λ e. e.range) edges ≡ map (λ e. e.range) es
   pub same : along copy edges ≡ along nodes es
-
-pub copying_none : (nodes copy : List (List (List (ℕ × ℕ)))) (names : List Next) (edges : List Edge) → edges ≡ [] →
-    AreCopies nodes copy names → IsCopying nodes copy copy names [] edges
-copying_none nodes copy names edges none copies =
-    let P : List Edge → Type 0 = λ es. IsCopying nodes copy copy names [] es in
-    subst P (sym none) (record { later = later_itself copy; copies = copies; inside = tt; ranges = refl; same = refl })
 
 along_append : (v : List (List (List (ℕ × ℕ)))) (es fs : List Edge) → along v (es ++ fs) ≡ along v es ++ along v fs
 along_append v [] fs = refl

@@ -120,9 +120,6 @@ module _ (back : Bool) (T : Table) where
   pub denotes_nothing_as_empty : (s e : ℕ) → Denotes back T s e empty → Denotes back T s e nothing
   denotes_nothing_as_empty s e a = denotes_like s e empty nothing (λ f. f) (λ looks h i. refl) a
 
-  pub denotes_nothing : (s e : ℕ) → T s ≡ empty_draft e → Denotes back T s e nothing
-  denotes_nothing s e is = denotes_nothing_as_empty s e (denotes_empty s e is)
-
   pub denotes_nothing_here : (s : ℕ) → Denotes back T s s nothing
   denotes_nothing_here s = denotes_nothing_as_empty s s (denotes_empty_here s)
 

@@ -16,10 +16,6 @@ module _ (back : Bool) (t : Text) (T : Table) where
   chain_append p [] s c d = d
   chain_append p (q ∷ r) s c d = (c.0, chain_append q r s c.1 d)
 
-  pub chain_split : (p : ℕ × ℕ) (r s : List (ℕ × ℕ)) → Chain p (r ++ s) → Chain p r × Chain (last_or p r) s
-  chain_split p [] s c = (tt, c)
-  chain_split p (q ∷ r) s c = let z = chain_split q r s c.1 in ((c.0, z.0), z.1)
-
   pub last_append : (p : ℕ × ℕ) (r s : List (ℕ × ℕ)) → last_or p (r ++ s) ≡ last_or (last_or p r) s
   last_append p [] s = refl
   last_append p (q ∷ r) s = last_append q r s

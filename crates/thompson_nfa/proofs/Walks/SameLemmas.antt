@@ -3,7 +3,7 @@ use Rattle.std.proofs.Common.{◌≡◌, ℕ, ◌+◌, Bool, true, false, List, 
 use Rattle.std.proofs.Common.{nat_eq, inl, inr, refl, sym, ap, ◌∙◌, subst, arith, append-nil, drop-drop, drop-cons, drop_of_length-le}
 use Rattle.std.proofs.lemmas.Grind.{common_steps}
 use Rattle.std.proofs.lemmas.Option.{slice_get_cases}
-use Rattle.std.proofs.Math.Bool.{and_assoc}
+use Rattle.std.proofs.Math.Bool.{and_assoc, or-false}
 use Rattle.std.specs.List.{flat_map, starts_with}
 use Rattle.hir_core.specs.Tree.{Tree, empty, literal, byte_class, capture, nothing, cat, concat, alternation}
 use Rattle.hir_core.specs.Means.{Looks, Means, stands, is_member}
@@ -12,7 +12,7 @@ use Rattle.hir_core.specs.Facts.{LoopsRead}
 use Rattle.hir_core.proofs.ForCallers.{flat_map-flat_map, flat_map_same, preferred_ends_sound, preferred_ends_complete}
 use Rattle.nfa_core.specs.Drafted.{Table}
 use Rattle.thompson_nfa.specs.Denotes.{Denotes}
-use Rattle.thompson_nfa.proofs.Steps.LookLemmas.{or_none, or_turned, uses_concat}
+use Rattle.thompson_nfa.proofs.Steps.LookLemmas.{or_turned, uses_concat}
 use Rattle.thompson_nfa.proofs.Walks.MeantLemmas.{meant_map, meant_cat_reverse, cat_meant_reverse}
 use Rattle.look_core.specs.declared.look.Look.{Look}
 use Rattle.thompson_nfa.specs.Compiled.{uses}
@@ -80,7 +80,7 @@ same_concat_one x =
       reading = λ f. f.0;
       ends = λ looks h i. sym (flat_map_each (preferred_ends looks h x i));
       met =
-          λ back l. sym (or_none (uses back x l));
+          λ back l. sym (or-false (uses back x l));
     }
 
 pub same_alternation_one : (x : Tree) → IsSame x (alternation (x ∷ []))
@@ -89,23 +89,11 @@ same_alternation_one x =
       reading = λ f. f.0;
       ends = λ looks h i. sym (append-nil (preferred_ends looks h x i));
       met =
-          λ back l. sym (or_none (uses back x l));
+          λ back l. sym (or-false (uses back x l));
     }
 
 pub same_capture : (index : ℕ) (name : Option (List ℕ)) (x : Tree) → IsSame x (capture index name x)
 same_capture index name x = record { reading = λ f. f; ends = λ looks h i. refl; met = λ back l. refl }
-
-pub same_empty_then : (x : Tree) → IsSame (cat empty x) x
-same_empty_then x = record { reading = λ f. (tt, f); ends = λ looks h i. append-nil (preferred_ends looks h x i); met = λ back l. refl }
-
-pub same_then_empty : (x : Tree) → IsSame (cat x empty) x
-same_then_empty x =
-    record {
-      reading = λ f. (f, tt);
-      ends = λ looks h i. flat_map_each (preferred_ends looks h x i);
-      met =
-          λ back l. or_none (uses back x l);
-    }
 
 concat_reading : (xs ys : List Tree) → LoopsRead (concat (xs ++ ys)) → LoopsRead (concat xs) × LoopsRead (concat ys)
 concat_reading [] ys f = (tt, f)

@@ -5,6 +5,7 @@ use Rattle.std.specs.Prelude.{All}
 use Rattle.std.proofs.lemmas.Bool.{cases_lt, cases_eq}
 use Rattle.std.proofs.lemmas.List.{append_assoc}
 use Rattle.std.proofs.lemmas.List.Elements.{All-weaker, All-nil, All-append}
+use Rattle.std.proofs.Math.Bool.{or-false}
 use Rattle.search_types.specs.Groups.{Groups}
 use Rattle.hir_core.specs.Tree.{Tree, capture}
 use Rattle.nfa_core.specs.BuilderStates.{DraftNode, Assembly, match_draft, draft_at, draft_bytes}
@@ -19,7 +20,7 @@ use Rattle.thompson_nfa.specs.Patterns.{Holds, ComesToKept, HasPatterns, HasAll,
 use Rattle.thompson_nfa.specs.declared.which_captures.WhichCaptures.{WhichCaptures}
 use Rattle.look_core.specs.declared.look.Look.{Look}
 use Rattle.thompson_nfa.specs.Compiled.{is_look, looks_in, uses, any_uses}
-use Rattle.thompson_nfa.proofs.Steps.LookLemmas.{quiet_led, quiet_added, or_none, or_grouped}
+use Rattle.thompson_nfa.proofs.Steps.LookLemmas.{quiet_led, quiet_added, or_grouped}
 use Rattle.thompson_nfa.proofs.Steps.GrowLemmas.{unmatched}
 use Rattle.thompson_nfa.proofs.WholePatterns.PatternLemmas.{no_match_is}
 
@@ -74,7 +75,7 @@ patterns_none which hole b = record {
   known = λ q low high ne. absurd (omega arith);
   numbered = λ q p low high ne found. absurd (omega arith);
   one_match = λ q r p low high ne l h n f g. absurd (omega arith);
-  looks = λ l. sym (or_none (looks_in b.drafts l));
+  looks = λ l. sym (or-false (looks_in b.drafts l));
   states = omega arith;
   bytes = omega arith;
   last = λ le. le;

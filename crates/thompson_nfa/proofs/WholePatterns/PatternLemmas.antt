@@ -4,6 +4,7 @@ use Rattle.std.proofs.Common.{ap, ◌∙◌, subst, arith, ⊎_elim, length-appe
 use Rattle.std.specs.Prelude.{All}
 use Rattle.std.proofs.lemmas.Bool.{cases_lt, cases_eq}
 use Rattle.std.proofs.lemmas.List.Elements.{All-weaker, All-nil}
+use Rattle.std.proofs.Math.Bool.{or-false}
 use Rattle.hir_core.specs.Tree.{Tree, capture}
 use Rattle.nfa_core.specs.BuilderStates.{DraftNode, Assembly, match_draft, draft_at, patched}
 use Rattle.nfa_core.specs.CanBuild.{names_of, is_known}
@@ -17,15 +18,11 @@ use Rattle.thompson_nfa.specs.Patterns.{Holds, ComesToKept, HasAll}
 use Rattle.thompson_nfa.specs.Room.{room}
 use Rattle.thompson_nfa.specs.declared.compiling.How.{How}
 use Rattle.thompson_nfa.specs.Compiled.{looks_in, uses}
-use Rattle.thompson_nfa.proofs.Steps.LookLemmas.{quiet_led, quiet_added, or_none}
+use Rattle.thompson_nfa.proofs.Steps.LookLemmas.{quiet_led, quiet_added}
 use Rattle.thompson_nfa.proofs.Fragments.DoesLemmas.{turned_to}
-use Rattle.thompson_nfa.proofs.Steps.GrowLemmas.{unmatched, names_patched, match_patched, known_patched}
+use Rattle.thompson_nfa.proofs.Steps.GrowLemmas.{one_below, unmatched, names_patched, match_patched, known_patched}
 use Rattle.thompson_nfa.proofs.Walks.SameLemmas.{IsSame, denotes_same}
 use Rattle.thompson_nfa.proofs.WholePatterns.StandLemmas.{fenced, fenced_above, stands_from}
-
-pub one_below : (n s : ℕ) → s < n → All (λ k. k < n) (s ∷ [])
-one_below n s l zero d h = l
-one_below n s l (suc i) d h = absurd (omega arith)
 
 one_above : (n s : ℕ) → n ≤ s → All (λ k. n ≤ k) (s ∷ [])
 one_above n s l zero d h = l
@@ -229,7 +226,7 @@ module _ (how : How) (b0 b1 b2 b3 b4 b5 : Assembly) (x : Tree) (s e m : ℕ) (cl
         one_match = λ q r p l h ne l2 h2 ne2 found found2. only_match q p l h found ∙ sym (only_match r p l2 h2 found2);
         looks = λ l. ap (λ (w : Assembly). looks_in w.drafts l) done ∙ quiet_led led l ∙ quiet_added added (λ k. refl) l ∙ does.looks l
             ∙ ap (λ (w : Assembly). looks_in w.drafts l || uses w.reverse x l) begun
-            ∙ ap (λ (k : Bool). looks_in b0.drafts l || k) (sym (or_none (uses b0.reverse x l)));
+            ∙ ap (λ (k : Bool). looks_in b0.drafts l || k) (sym (or-false (uses b0.reverse x l)));
         states = omega (arith, made.within.states, z, n);
         bytes = bytes_end;
         last = λ le. omega (arith, added.numbered, added.size, n);

@@ -16,7 +16,7 @@ use Rattle.thompson_nfa.specs.Compiled.{past_in, sum_of_bytes, IsTame}
 use Rattle.thompson_nfa.specs.Patterns.{HasStart}
 use Rattle.thompson_nfa.specs.Prefix.{HasPrefix}
 use Rattle.thompson_nfa.proofs.WholePatterns.AnyByteLemmas.{settings_added}
-use Rattle.thompson_nfa.proofs.WholePatterns.PatternLemmas.{one_below}
+use Rattle.thompson_nfa.proofs.Steps.GrowLemmas.{one_below}
 
 -- ---- past states that stand for others
 

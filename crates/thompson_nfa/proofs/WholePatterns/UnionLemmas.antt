@@ -11,7 +11,7 @@ use Rattle.nfa_core.specs.declared.build_error.BuildError.{BuildError}
 use Rattle.nfa_core.specs.declared.build_error.BuildError.TheVariants as error
 use Rattle.thompson_nfa.specs.Added.{Led}
 use Rattle.thompson_nfa.specs.Compiled.{sum_of_bytes, Weighs}
-use Rattle.thompson_nfa.specs.Patterns.{HasPatterns, HasAll, RefusesPatterns, LeadsToFurther, room_for}
+use Rattle.thompson_nfa.specs.Patterns.{HasPatterns, HasAll, RefusesPatterns, room_for}
 use Rattle.thompson_nfa.specs.Refusals.{RefusesStep, RefusesIndex, Passes, Stays}
 use Rattle.thompson_nfa.specs.Room.{room}
 use Rattle.thompson_nfa.specs.ByteRoom.{byte_room}
@@ -144,10 +144,6 @@ module _ (how : How) (union : ℕ) (a b c : Assembly) (xs : List Tree) (x : Tree
   pub way_refused : (d : Assembly) (whole : ℕ) (zs : List Tree) (e : BuildError) →
       room_for how.shrink xs + (room how.shrink x + 3) ≤ whole → Stays c d 0 4 e → RefusesPatterns how.which a whole zs e
   way_refused d whole zs e le r = later_stays 0 4 whole zs e both (omega arith) (omega arith) r
-
-pub further_is : (how : How) (union : ℕ) (a b : Assembly) (xs : List Tree) → IsFurther how union a b xs →
-    LeadsToFurther how.which union a b xs (room_for how.shrink xs)
-further_is how union a b xs f = (f.ways, f.has, f.leads)
 
 -- the first of the patterns that are left is refused
 only_one : (xs zs : List Tree) (i : ℕ) (y : Tree) → slice_get zs i ≡ Some y → length xs ≡ i → (k : ℕ) (x : Tree) →

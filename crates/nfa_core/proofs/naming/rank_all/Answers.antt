@@ -3,7 +3,7 @@ use Rattle.std.proofs.lemmas.List.{length-map}
 use Rattle.search_core.specs.Index.{greatest_index}
 use Rattle.nfa_core.specs.Drafts.{draft_of}
 use Rattle.nfa_core.proofs.NamingLemmas.{IsRankingTo, ranking_start, ranking_more, ranking_done}
-use Rattle.nfa_core.proofs.AddedLemmas.{failed}
+use Rattle.search_types.proofs.ForCallers.{failed}
 use Rattle.nfa_core.proofs.naming.rank_all.Goals as goal
 
 pub loop-draft-preserved : goal.loop-draft-preserved

@@ -1,7 +1,8 @@
 use Rattle.std.proofs.Common.{map, ap, ◌∙◌}
 use Rattle.std.proofs.lemmas.List.{take_all}
 use Rattle.nfa_core.specs.States.{node_of}
-use Rattle.nfa_core.proofs.AddedLemmas.{failed, seen_taken}
+use Rattle.search_types.proofs.ForCallers.{failed}
+use Rattle.nfa_core.proofs.AddedLemmas.{seen_taken}
 use Rattle.nfa_core.proofs.nfa.clone_states.Goals as goal
 
 pub loop-state-init : goal.loop-state-init

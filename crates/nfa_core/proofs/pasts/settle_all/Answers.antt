@@ -7,7 +7,7 @@ use Rattle.search_core.specs.Index.{greatest_index}
 use Rattle.nfa_core.specs.Drafts.{draft_of}
 use Rattle.nfa_core.specs.Pasts.{IsPastTable, is_settled, settled_count}
 use Rattle.nfa_core.specs.declared.draft.Draft.{Draft}
-use Rattle.nfa_core.proofs.AddedLemmas.{failed}
+use Rattle.search_types.proofs.ForCallers.{failed}
 use Rattle.nfa_core.proofs.pasts.settle_all.Goals as goal
 
 -- what a state more has cost

@@ -5,7 +5,7 @@ use Rattle.nfa_core.specs.NfaParts.{automaton_in}
 use Rattle.nfa_core.specs.States.{node_of}
 use Rattle.nfa_core.specs.Ways.{on_nothing}
 use Rattle.nfa_core.proofs.ReachedLemmas.{len_nodes, StandsAt, begins, goes_on, ends, met_below}
-use Rattle.nfa_core.proofs.AddedLemmas.{failed}
+use Rattle.search_types.proofs.ForCallers.{failed}
 use Rattle.nfa_core.proofs.reached.walk.Goals as goal
 
 pub loop-id-init : goal.loop-id-init

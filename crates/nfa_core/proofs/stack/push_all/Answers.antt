@@ -1,5 +1,6 @@
 use Rattle.std.proofs.Common.{ap, ◌∙◌, reverse}
-use Rattle.nfa_core.proofs.AddedLemmas.{failed, on_err, none_dropped, one_stacked, fewer_stacked, all_stacked}
+use Rattle.search_types.proofs.ForCallers.{failed}
+use Rattle.nfa_core.proofs.AddedLemmas.{on_err, none_dropped, one_stacked, fewer_stacked, all_stacked}
 use Rattle.nfa_core.proofs.stack.push_all.Goals as goal
 
 pub loop-i-init : goal.loop-i-init

@@ -1,4 +1,4 @@
-use Rattle.std.proofs.Common.{[], ◌++◌, ap, List, ℕ}
+use Rattle.std.proofs.Common.{[], ◌++◌, ap}
 use Rattle.thompson_nfa.specs.LiteralGroups.{texts, tails}
 use Rattle.thompson_nfa.proofs.LiteralTries.LiteralGroupLemmas.{tails_done, tails_empty, tails_other, tails_same}
 use Rattle.thompson_nfa.proofs.literal_groups.tails.Goals as goal

@@ -1,5 +1,5 @@
 use Rattle.std.proofs.Common.{arith, get_or, subst, ◌≡◌, [], ◌≤◌, length, ℕ}
-use Rattle.thompson_nfa.specs.LiteralGroups.{texts, texts_of_groups}
+use Rattle.thompson_nfa.specs.LiteralGroups.{texts_of_groups}
 use Rattle.thompson_nfa.specs.LiteralLaid.{node_value}
 use Rattle.thompson_nfa.proofs.LiteralTries.LiteralLaidLemmas.{row_some, next_laid}
 use Rattle.thompson_nfa.proofs.literal_nodes.lay_next.Goals as goal

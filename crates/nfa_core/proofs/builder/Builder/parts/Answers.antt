@@ -14,7 +14,7 @@ use Rattle.nfa_core.specs.States.{node_of}
 use Rattle.nfa_core.specs.declared.draft.Draft.{Draft}
 use Rattle.nfa_core.proofs.BuildLemmas.{sound, nfa_made}
 use Rattle.nfa_core.proofs.ReachLemmas.{can_reach}
-use Rattle.nfa_core.proofs.AddedLemmas.{failed}
+use Rattle.search_types.proofs.ForCallers.{failed}
 use Rattle.nfa_core.proofs.builder.Builder.parts.Goals as goal
 
 -- the names that the code holds are as many as the states
