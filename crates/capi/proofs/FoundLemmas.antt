@@ -1,5 +1,6 @@
 -- What is told of a haystack, by what searches promise.
-use Rattle.std.proofs.Common.{◌≡◌, ◌<◌, ◌≤◌, ℕ, suc, Bool, true, false, List, [], ◌∷◌, All, length, map, replicate, Option, Some, None, Ok, ap, ap₂, sym, subst, ◌∙◌, refl, arith}
+use Rattle.std.proofs.Common.{◌≡◌, ◌<◌, ◌≤◌, ℕ, suc, Bool, true, false, List, [], ◌∷◌, All, length, map, replicate, Option, Some, None, Ok}
+use Rattle.std.proofs.Common.{ap, ap₂, sym, subst, ◌∙◌, refl, arith}
 use Rattle.std.specs.Prelude.{is_some, option_map, IsSomeAnd, IfSome, chars}
 use Rattle.regex_hir.specs.Re.{Re}
 use Rattle.regex_hir.specs.Meaning.{alt_all}
@@ -34,7 +35,8 @@ one_value : {A : Type 0} (o : Option A) (of : A → Re) (D : A → Type 0) (a b 
 one_value None of D a b p q = elim p [ ]
 one_value (Some it) of D a b p q = sym p.1 ∙ q.1
 
-pub same_patterns : (config : Config) (texts : List (List ℕ)) (res others : List Re) → AreRead config texts res → AreRead config texts others → res ≡ others
+pub same_patterns : (config : Config) (texts : List (List ℕ)) (res others : List Re) → AreRead config texts res →
+    AreRead config texts others → res ≡ others
 same_patterns config [] [] [] p q = refl
 same_patterns config [] [] (b ∷ others) p q = elim q [ ]
 same_patterns config [] (a ∷ res) others p q = elim p [ ]
@@ -69,12 +71,14 @@ row_pattern res h (Some f) each = each f refl
 
 -- what the laws of searches say of regexes of texts
 abbrev pub Law : Config → List (List ℕ) → Pair → Type 0
-Law config texts p = (xs : List Tree) → AllMean config texts xs → (s : Settings) → IsBuilt xs s p → FindsFirst s → s.line_terminator ≡ one_of 10 →
+Law config texts p =
+    (xs : List Tree) → AllMean config texts xs → (s : Settings) → IsBuilt xs s p → FindsFirst s → s.line_terminator ≡ one_of 10 →
     AnswersWhatIsWritten config texts xs s p
 
 -- a search of a whole haystack is one of the laws'
 pub is_search : (config : Config) (texts : List (List ℕ)) (kind : MatchKind) (p : Pair) (it : AreBuiltOf config texts kind p)
-    (h : List ℕ) → All (λ b. b < 256) h → (config.utf8 ≡ true → IsValidText h) → (at : ℕ) → IsSearchOf it.trees it.settings.utf8 (whole_search h at)
+    (h : List ℕ) → All (λ b. b < 256) h → (config.utf8 ≡ true → IsValidText h) → (at : ℕ) →
+    IsSearchOf it.trees it.settings.utf8 (whole_search h at)
 is_search config texts kind p it h bytes valid at = record {
   within = omega arith;
   whole = refl;
@@ -120,7 +124,8 @@ module _ (config : Config) (texts : List (List ℕ)) (p : Pair) (law : Law confi
       ∙ row_span o
 
 -- whether there is a match
-pub told_of : (config : Config) (texts : List (List ℕ)) (h : List ℕ) (o : Option FoundMatch) → IsFound config texts h 0 o → IsTold config texts h (is_some o)
+pub told_of : (config : Config) (texts : List (List ℕ)) (h : List ℕ) (o : Option FoundMatch) → IsFound config texts h 0 o →
+    IsTold config texts h (is_some o)
 told_of config texts h o found res read = sym (alike_some _ _ _ _ (found.start res read))
 
 -- ---- which patterns match
@@ -138,24 +143,29 @@ read_as_many config (t ∷ ts) (a ∷ res) m = ap suc (read_as_many config ts re
 
 -- what the laws of walks say of regexes of texts
 abbrev pub WalkLaw : Config → List (List ℕ) → Pair → Type 0
-WalkLaw config texts p = (xs : List Tree) → AllMean config texts xs → (s : Settings) → IsBuilt xs s p → kind_of s.dfa ≡ AllMatches → s.line_terminator ≡ one_of 10 →
+WalkLaw config texts p = (xs : List Tree) → AllMean config texts xs → (s : Settings) → IsBuilt xs s p → kind_of s.dfa ≡ AllMatches →
+    s.line_terminator ≡ one_of 10 →
     (h : List ℕ) → IsSearchOf xs s.utf8 (whole_search h 0) → (v : CacheValue) (set : List Bool) →
     AnswersWhich p.forward v (whole_search h 0) (replicate (length xs) false) set (Ok tt) →
     (res : List Re) × AreRead config texts res × (set ≡ which_match s.utf8 res h)
 
-pub walk_told : (config : Config) (texts : List (List ℕ)) (p : Pair) → WalkLaw config texts p → (it : AreBuiltOf config texts AllMatches p) →
+pub walk_told : (config : Config) (texts : List (List ℕ)) (p : Pair) → WalkLaw config texts p →
+    (it : AreBuiltOf config texts AllMatches p) →
     (h : List ℕ) → All (λ b. b < 256) h → (config.utf8 ≡ true → IsValidText h) → (v : CacheValue) (old set : List Bool) →
     old ≡ replicate (length texts) false → AnswersWhich p.forward v (whole_search h 0) old set (Ok tt) → AreWhich config texts h set
 walk_told config texts p law it h bytes valid v old set empty answer res read =
-    let begins : old ≡ replicate (length it.trees) false = empty ∙ ap (λ n. replicate n false) (sym (texts_as_many config texts it.trees it.mean)) in
-    let told = law it.trees it.mean it.settings it.built it.kind_is it.lines h (is_search config texts AllMatches p it h bytes valid 0) v set
+    let begins : old ≡ replicate (length it.trees) false =
+    empty ∙ ap (λ n. replicate n false) (sym (texts_as_many config texts it.trees it.mean)) in
+    let told =
+    law it.trees it.mean it.settings it.built it.kind_is it.lines h (is_search config texts AllMatches p it h bytes valid 0) v set
     (subst (λ (s : List Bool). AnswersWhich p.forward v (whole_search h 0) s set (Ok tt)) begins answer) in
     told.2
     ∙ ap (λ (u : Bool). which_match u told.0 h) it.mode
     ∙ ap (λ (rs : List Re). which_match config.utf8 rs h) (same_patterns config texts told.0 res told.1 read)
 
 -- the marks of what is told lie in the places of the patterns
-pub marked_of : (config : Config) (texts : List (List ℕ)) (h : List ℕ) (told : List Bool) (n : ℕ) (old new : List ℕ) → AreWhich config texts h told →
+pub marked_of : (config : Config) (texts : List (List ℕ)) (h : List ℕ) (told : List Bool) (n : ℕ) (old new : List ℕ) →
+    AreWhich config texts h told →
     length old ≡ length texts → new ≡ overlaid (map mark told) old → n ≡ hits told → AreMarked config texts h n new
 marked_of config texts h told n old new which places is counted = record {
   marked = λ res read. is ∙ whole_laid (map mark told) old (as_many res read) ∙ ap (map mark) (which res read);

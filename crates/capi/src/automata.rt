@@ -1,5 +1,6 @@
 //! The automata of a regex, and the caches of their searches.
-ghost use Rattle.std.specs.Prelude.{◌≡◌, ◌≤◌, ◌<◌, ◌↔◌, ℕ, List, All, Some, false, true, IfErr, IfNone, IfOk, IfSome, length, map, option_map};
+ghost use Rattle.std.specs.Prelude.{◌≡◌, ◌≤◌, ◌<◌, ◌↔◌, ℕ, List, All, Some, false, true, IfErr, IfNone, IfOk, IfSome, length, map};
+ghost use Rattle.std.specs.Prelude.{option_map};
 ghost use Rattle.regex_syntax.specs.declared.Config.{Config as TextConfig};
 ghost use Rattle.search_core.specs.Utf8.{IsValidText};
 ghost use Rattle.hir_core.specs.Facts.{LoopsRead};
@@ -144,7 +145,8 @@ impl Automata {
         ensures found { (config : TextConfig) (texts : List (List ℕ)) → AreBuiltOf config texts LeftmostFirst self.old →
             (config.utf8 ≡ true → IsValidText haystack.now) → IfOk result (IsFound config texts haystack.now from) }
         ensures preferred { (config : TextConfig) (texts : List (List ℕ)) → (it : AreBuiltOf config texts LeftmostFirst self.old) →
-            (config.utf8 ≡ true → IsValidText haystack.now) → All LoopsRead it.trees → IfOk result (IsPreferred config texts haystack.now from) }
+            (config.utf8 ≡ true → IsValidText haystack.now) → All LoopsRead it.trees →
+            IfOk result (IsPreferred config texts haystack.now from) }
     {
         see_bytes(haystack);
         regexes_answer_what_is_written();

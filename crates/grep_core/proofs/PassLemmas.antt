@@ -1,6 +1,7 @@
 -- Lines without a match of which none is told: what is told goes on behind all of them at once, but for the last ones.
 use Rattle.std.proofs.Common.{◌≡◌, ◌≤◌, ◌<◌, ℕ, zero, suc, ◌+◌, Bool, true, false, not, ◌&&◌, List, [], ◌∷◌, ◌++◌, All, length, map}
-use Rattle.std.proofs.Common.{◌-◌, cond, count_by, take, drop, slice_range, Some, None, if◌then◌else◌, refl, sym, ap, ap₂, ◌∙◌, subst, arith, append_assoc, take-append-drop, length-drop}
+use Rattle.std.proofs.Common.{◌-◌, cond, count_by, take, drop, slice_range, Some, None, if◌then◌else◌, refl, sym, ap, ap₂, ◌∙◌, subst}
+use Rattle.std.proofs.Common.{arith, append_assoc, take-append-drop, length-drop}
 use Rattle.std.proofs.lemmas.List.{length-take-le, take_rest}
 use Rattle.std.proofs.lemmas.List.Elements.{All-nil, All-cons, All-head, All-tail}
 use Rattle.std.proofs.lemmas.List.Folds.{drop_split}
@@ -149,7 +150,8 @@ module _ (w : What) (f : Finds) (n : ℕ) (kept : w.invert ≡ false) where
         flags_on next_number next_place last more also in
         let ones : items next_number next_place (last ++ more) ≡ items next_number next_place last ++ items i k more =
         items_on next_number next_place last more in
-        let before : items number place (front ++ (last ++ more)) ≡ items number place front ++ items next_number next_place (last ++ more) =
+        let before : items number place (front ++ (last ++ more)) ≡
+        items number place front ++ items next_number next_place (last ++ more) =
         items_on number place front (last ++ more)
         ∙ sym (ap₂ (λ i k. items number place front ++ items i k (last ++ more)) numbers places) in
         let enough : prints_lines w.print ≡ true → before_of w.context ≤ length (items next_number next_place last) =

@@ -1,5 +1,6 @@
 -- A run of lines without a match, line by line.
-use Rattle.std.proofs.Common.{◌≡◌, ℕ, ◌+◌, List, [], ◌∷◌, All, Some, false, refl, take, drop, drop-drop, append-nil, sym, ap, ap₂, ◌∙◌, subst}
+use Rattle.std.proofs.Common.{◌≡◌, ℕ, ◌+◌, List, [], ◌∷◌, All, Some, false, refl, take, drop, drop-drop, append-nil, sym, ap, ap₂, ◌∙◌}
+use Rattle.std.proofs.Common.{subst}
 use Rattle.std.proofs.lemmas.List.Elements.{All-head, All-tail, All-weaker}
 use Rattle.std.specs.List.{position}
 use Rattle.grep_core.specs.declared.blocks.Task.{Task}

@@ -61,4 +61,5 @@ module _ (t : Task) (f : Finds) where
       is
       ∙ rest
       ∙ ap (λ l. counted_as t.what.now.print (counts_lines t wanted p (split_lines (l ++ a.rest)))) shown
-      ∙ ap (counted_as t.what.now.print) (a.writes.on.counted ∙ ap (λ l. counts_lines t wanted o (split_lines (l ++ text))) none ∙ starts text)
+      ∙ ap (counted_as t.what.now.print) (a.writes.on.counted
+      ∙ ap (λ l. counts_lines t wanted o (split_lines (l ++ text))) none ∙ starts text)

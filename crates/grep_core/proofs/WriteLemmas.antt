@@ -185,7 +185,8 @@ module _ (t : Task) (f : Finds) where
   pub ended_counted : (p q : Progress) (read more : List ℕ) → more ≡ [] → counts_lines t f q [] ≡ counts_lines t f p (split_lines read) →
       counted_as t.what.now.print (counts_lines t f q []) ≡ counted_as t.what.now.print (counts_lines t f p (split_lines (read ++ more)))
   ended_counted p q read more none counted =
-      ap (counted_as t.what.now.print) (counted ∙ ap (λ l. counts_lines t f p (split_lines l)) (sym (append-nil read) ∙ ap (λ m. read ++ m) (sym none)))
+      ap (counted_as t.what.now.print) (counted ∙ ap (λ l. counts_lines t f p (split_lines l)) (sym (append-nil read)
+      ∙ ap (λ m. read ++ m) (sym none)))
 
   pub ended_part : (p : Progress) (read more : List ℕ) (w v : Option (List ℕ)) → more ≡ [] → WritesPart t f p read w v →
       WritesPart t f p (read ++ more) w v

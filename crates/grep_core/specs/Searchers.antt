@@ -70,5 +70,6 @@ found_by by = finds_of by.patterns
 -- built of their trees, or memory lacked.
 abbrev pub IsRefused : Config → List (List ℕ) → Bool → SearcherError → Type 0
 IsRefused config texts spans (Text e) = IsFirstFault config texts e.number e.error
-IsRefused config texts spans (EmptyLoop number) = (spans ≡ true) × ((xs : List Tree) × AllMean config texts xs × (first_empty_loop xs ≡ Some number))
+IsRefused config texts spans (EmptyLoop number) =
+    (spans ≡ true) × ((xs : List Tree) × AllMean config texts xs × (first_empty_loop xs ≡ Some number))
 IsRefused config texts spans (Build e) = (e ≡ NoMemory) ⊎ ((xs : List Tree) × AllMean config texts xs × RefusesBuild xs line_settings e)

@@ -45,8 +45,10 @@ impl Progress {
     /// Before the first line, where this is known of the lines of earlier texts.
     pub(crate) fn new(alloc: Global, known: Known) -> Progress
         ensures starts { (t : TheTask) → (f : Finds) → (text : List ℕ) →
-            tells_lines t f result (split_lines text) ≡ report_as t.what.now.print t.what.now f t.name.now t.with_name known (lines_of text) (selected t.what.now f (lines_of text)) }
-        ensures counts { (t : TheTask) → (f : Finds) → (text : List ℕ) → counts_lines t f result (split_lines text) ≡ count (selected t.what.now f (lines_of text)) }
+            tells_lines t f result (split_lines text) ≡
+            report_as t.what.now.print t.what.now f t.name.now t.with_name known (lines_of text) (selected t.what.now f (lines_of text)) }
+        ensures counts { (t : TheTask) → (f : Finds) → (text : List ℕ) →
+            counts_lines t f result (split_lines text) ≡ count (selected t.what.now f (lines_of text)) }
         ensures waits { (w : TheWhat) → Waits w result.telling.course }
     {
         Progress {
@@ -95,7 +97,8 @@ pub(crate) fn tell_one(
         out.old.items ++ tells_lines task.entry (finds_by task.entry by) progress.old (bytes.now ∷ lines)
         ≡ out.new.items ++ tells_lines task.entry (finds_by task.entry by) progress.new lines) }
     ensures counts { OnOk result ((by : SearchesBy task.entry finder.old) (lines : List (List ℕ)) →
-        counts_lines task.entry (finds_by task.entry by) progress.new lines ≡ counts_lines task.entry (finds_by task.entry by) progress.old (bytes.now ∷ lines)) }
+        counts_lines task.entry (finds_by task.entry by) progress.new lines ≡
+        counts_lines task.entry (finds_by task.entry by) progress.old (bytes.now ∷ lines)) }
 {
     let seen = look_at(alloc, finder, task.what, bytes, is_known)?;
     let line = Line {

@@ -339,7 +339,8 @@ fn write_rest<W: Write>(
         (tells_lines task.entry (finds_by task.entry by) progress.old (split_lines (read.now ++ more)))) }
     ensures counts { OnOk result ((by : SearchesBy task.entry finder.old) (more : List ℕ) → (ended ≡ true → more ≡ []) →
         counted_as task.entry.what.now.print (counts_lines task.entry (finds_by task.entry by) progress.new [])
-        ≡ counted_as task.entry.what.now.print (counts_lines task.entry (finds_by task.entry by) progress.old (split_lines (read.now ++ more)))) }
+        ≡ counted_as task.entry.what.now.print (counts_lines task.entry (finds_by task.entry by) progress.old
+        (split_lines (read.now ++ more)))) }
     ensures fault { IfErr result (λ _. (by : SearchesBy task.entry finder.old) (more : List ℕ) → (ended ≡ true → more ≡ []) →
         WritesPart task.entry (finds_by task.entry by) progress.old (read.now ++ more) (W.contents writer.old) (W.contents writer.new)) }
 {
@@ -373,7 +374,8 @@ fn finish<W: Write>(
         (tells_lines task.entry (finds_by task.entry by) progress.old (split_lines (read.now ++ more)))) }
     ensures counts { OnOk result ((by : SearchesBy task.entry finder.old) (more : List ℕ) → (ended ≡ true → more ≡ []) →
         counted_as task.entry.what.now.print (counts_lines task.entry (finds_by task.entry by) progress.new [])
-        ≡ counted_as task.entry.what.now.print (counts_lines task.entry (finds_by task.entry by) progress.old (split_lines (read.now ++ more)))) }
+        ≡ counted_as task.entry.what.now.print (counts_lines task.entry (finds_by task.entry by) progress.old
+        (split_lines (read.now ++ more)))) }
     ensures fault { IfErr result (λ _. (by : SearchesBy task.entry finder.old) (more : List ℕ) → (ended ≡ true → more ≡ []) →
         WritesPart task.entry (finds_by task.entry by) progress.old (read.now ++ more) (W.contents writer.old) (W.contents writer.new)) }
 {
@@ -394,8 +396,8 @@ fn count_of(print: Print, progress: &Progress) -> u64
     counted_as(print, progress.telling.count)
 }
 
-/// Reads a text, line by line, and writes what is told of it. The answer is how many lines are selected; where names of texts are asked for,
-/// or nothing, one stands for all of them, since no more is read then than tells whether there is one.
+/// Reads a text, line by line, and writes what is told of it. The answer is how many lines are selected; where names of texts are asked
+/// for, or nothing, one stands for all of them, since no more is read then than tells whether there is one.
 ///
 /// It reads blocks of 64 KiB, and tells the lines that end in one before it reads the next; it reads no more where nothing more is told
 /// whatever comes. A line is held whole, and one above 1 GiB is refused. Where it fails, a beginning of what is told was written.

@@ -96,7 +96,8 @@ impl Searcher {
         config: &Config,
         with_matches: bool,
     ) -> Result<Searcher, SearcherError>
-        ensures searcher { IfOk result (λ s. (it : IsSearcherOf config.now (map (λ t. t.now) texts.now) s.0) × (with_matches ≡ true → All LoopsRead it.trees)) }
+        ensures searcher { IfOk result (λ s. (it : IsSearcherOf config.now (map (λ t. t.now) texts.now) s.0) ×
+            (with_matches ≡ true → All LoopsRead it.trees)) }
         ensures refused { IfErr result (IsRefused config.now (map (λ t. t.now) texts.now) with_matches) }
     {
         Searcher::sized(alloc, texts, config, with_matches, None)
@@ -110,7 +111,8 @@ impl Searcher {
         with_matches: bool,
         capacity: Option<usize>,
     ) -> Result<Searcher, SearcherError>
-        ensures searcher { IfOk result (λ s. (it : IsSearcherOf config.now (map (λ t. t.now) texts.now) s.0) × (with_matches ≡ true → All LoopsRead it.trees)) }
+        ensures searcher { IfOk result (λ s. (it : IsSearcherOf config.now (map (λ t. t.now) texts.now) s.0) ×
+            (with_matches ≡ true → All LoopsRead it.trees)) }
         ensures refused { capacity ≡ None → IfErr result (IsRefused config.now (map (λ t. t.now) texts.now) with_matches) }
     {
         let trees = match parse_all(alloc, texts, config) {
@@ -145,7 +147,8 @@ impl Searcher {
     /// Whether the line has a match of some pattern. A search that meets a quit byte is refused.
     pub fn has_match(&mut self, line: &[u8]) -> Result<bool, MatchError>
         ensures same { self.new.0 ≡ self.old.0 }
-        ensures told { (config : TextConfig) (texts : List (List ℕ)) → IsSearcherOf config texts self.old.0 → IfOk result (λ told. IsTold config texts line.now told) }
+        ensures told { (config : TextConfig) (texts : List (List ℕ)) → IsSearcherOf config texts self.old.0 →
+            IfOk result (λ told. IsTold config texts line.now told) }
     {
         see_bytes(line);
         regexes_answer_what_is_written();
@@ -159,7 +162,8 @@ impl Searcher {
     /// The matches of a line that aren't empty, from left to right. A search that meets a quit byte is refused.
     pub fn matches(&mut self, alloc: Global, line: &[u8]) -> Result<Vec<Span>, MatchError>
         ensures same { self.new.0 ≡ self.old.0 }
-        ensures told { (config : TextConfig) (texts : List (List ℕ)) → (it : IsSearcherOf config texts self.old.0) → All LoopsRead it.trees →
+        ensures told { (config : TextConfig) (texts : List (List ℕ)) → (it : IsSearcherOf config texts self.old.0) →
+            All LoopsRead it.trees →
             IfOk result (λ found. AreTold config texts line.now (map span_pair found.items)) }
     {
         see_bytes(line);

@@ -6,7 +6,8 @@ use Rattle.std.specs.List.{list_all}
 use Rattle.std.specs.Fmt.{digits, digits_onto, digit_glyph}
 use Rattle.std.specs.Str.{all_ascii_digits}
 use Rattle.std.specs.Str.Parse.{digits_value}
-use Rattle.std.proofs.lemmas.Bool.{cases_Bool, cases_lt, and_parts, and_from, or_cases, not_from_false, ne_eqb, eq-eqb, ltb-true, ltb-false, leb-true, eqb-true}
+use Rattle.std.proofs.lemmas.Bool.{cases_Bool, cases_lt, and_parts, and_from, or_cases, not_from_false, ne_eqb, eq-eqb, ltb-true, ltb-false}
+use Rattle.std.proofs.lemmas.Bool.{leb-true, eqb-true}
 use Rattle.std.proofs.lemmas.Fmt.{digits_decimal}
 use Rattle.std.proofs.lemmas.List.{get_or_past}
 use Rattle.std.proofs.lemmas.List.Elements.{All-head, All-tail}
@@ -125,7 +126,8 @@ are_bytes bytes h i = elim (cases_lt i (length bytes)) [
   | inr l ↦ let e = get_or_past bytes i 0 l in omega arith
 ]
 
-pub hex_is : IsReader hex_bytes IsHex → (b : ℕ) (bytes : List ℕ) → All (λ b. b < 256) (b ∷ bytes) → IsHex (encode_lower (b ∷ bytes)) (b ∷ bytes)
+pub hex_is : IsReader hex_bytes IsHex → (b : ℕ) (bytes : List ℕ) → All (λ b. b < 256) (b ∷ bytes) →
+    IsHex (encode_lower (b ∷ bytes)) (b ∷ bytes)
 hex_is reads b bytes h =
     (reads.some (encode_lower (b ∷ bytes)) (b ∷ bytes)).0
     (ap one_or_more (decode_of-encode_lower (b ∷ bytes) (are_bytes (b ∷ bytes) h)))

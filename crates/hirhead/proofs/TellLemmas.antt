@@ -1,21 +1,25 @@
 -- What is printed of a tree's parts is what is printed of the tree, and where a part is refused the tree is.
 pub use Rattle.std.proofs.lemmas.Fmt.{hex_byte}
 use Rattle.std.proofs.Common.{◌≡◌, ◌≢◌, ℕ, zero, suc, ◌+◌, ◌-◌, ◌^◌, ◌<◌, ◌≤◌, min, Bool, true, ◌&&◌, nat_le, List, [], ◌∷◌, ◌++◌}
-use Rattle.std.proofs.Common.{map, length, drop, get_or, All, Option, Some, None, slice_get, decimal, codes, refl, sym, ◌∙◌, ap, subst, arith}
+use Rattle.std.proofs.Common.{map, length, drop, get_or, All, Option, Some, None, slice_get, decimal, codes, refl, sym, ◌∙◌, ap, subst}
+use Rattle.std.proofs.Common.{arith}
 use Rattle.std.proofs.Common.{Result, Ok, Err, IsErrAnd, IfErr, append_assoc, append-nil, drop-cons, drop_of_length-le, take, take_all}
 use Rattle.std.specs.List.{flat_map}
 use Rattle.std.proofs.lemmas.Bool.{and_parts, leb-true}
 use Rattle.std.proofs.lemmas.List.Concat.{flat_map-append}
 use Rattle.std.proofs.lemmas.List.Elements.{All-nil, All-cons, All-head, All-tail, All-more}
 use Rattle.hex.specs.Hex.{encode_lower}
-use Rattle.hir_core.specs.Tree.{Tree, empty, literal, byte_class, char_class, look, repetition, capture, nothing, cat, never, alt, concat, alternation}
+use Rattle.hir_core.specs.Tree.{Tree, empty, literal, byte_class, char_class, look, repetition, capture, nothing, cat, never, alt, concat}
+use Rattle.hir_core.specs.Tree.{alternation}
 use Rattle.hir_core.specs.Facts.{height, is_ascending, rises_from, IsWellFormed}
 use Rattle.hir_core.specs.Means.{AtMost}
 use Rattle.hirhead.specs.declared.lines.Unfit.{Unfit}
 use Rattle.hirhead.specs.declared.lines.Unfit.TheVariants.{NoMemory, TooDeep, TooManyParts}
 use Rattle.hirhead.specs.Told.{told}
-use Rattle.hirhead.specs.Lines.{Line, byte_item, scalar_item, rounds_line, lines_behind, lines_of, pattern_lines, behind_word, line_text, lines_text}
-use Rattle.hirhead.specs.HasLines.{AreScalars, IsByteRange, IsScalarRange, IsShort, is_cat, is_alt, HasLines, FitsIn, AllFit, most_parts, IsUnfit, AreUnfit}
+use Rattle.hirhead.specs.Lines.{Line, byte_item, scalar_item, rounds_line, lines_behind, lines_of, pattern_lines, behind_word, line_text}
+use Rattle.hirhead.specs.Lines.{lines_text}
+use Rattle.hirhead.specs.HasLines.{AreScalars, IsByteRange, IsScalarRange, IsShort, is_cat, is_alt, HasLines, FitsIn, AllFit, most_parts}
+use Rattle.hirhead.specs.HasLines.{IsUnfit, AreUnfit}
 
 -- ---- texts
 
@@ -33,7 +37,8 @@ more_lines old mid new lines ws e f =
     ∙ ap (λ (t : List ℕ). old ++ (lines_text lines ++ t)) (sym (append-nil (line_text ws)))
     ∙ ap (λ (t : List ℕ). old ++ t) (sym (lines_append lines (ws ∷ [])))
 
-pub literal_text : (bytes hex old new : List ℕ) → length bytes ≢ 0 → hex ≡ encode_lower bytes → new ≡ old ++ line_text (codes "lit" ∷ hex ∷ [])
+pub literal_text : (bytes hex old new : List ℕ) → length bytes ≢ 0 → hex ≡ encode_lower bytes →
+    new ≡ old ++ line_text (codes "lit" ∷ hex ∷ [])
     → new ≡ old ++ lines_text (lines_of (literal bytes))
 literal_text [] hex old new some e f = absurd (some refl)
 literal_text (b ∷ bytes) hex old new some e f =
@@ -87,7 +92,8 @@ pub no_chars_text : (ranges : List (ℕ × ℕ)) (old new : List ℕ) → length
 no_chars_text [] old new none e = one_line old new (codes "alt" ∷ decimal 0 ∷ []) e
 no_chars_text (r ∷ ranges) old new none e = absurd (omega (arith, none))
 
-lines_concat : (xs : List Tree) (k : ℕ) → lines_behind k (concat xs) ≡ flat_map lines_of xs ++ (codes "cat" ∷ decimal (k + length xs) ∷ []) ∷ []
+lines_concat : (xs : List Tree) (k : ℕ) → lines_behind k (concat xs) ≡
+    flat_map lines_of xs ++ (codes "cat" ∷ decimal (k + length xs) ∷ []) ∷ []
 lines_concat [] k = ap (λ (n : ℕ). (codes "cat" ∷ decimal n ∷ []) ∷ []) (omega arith)
 lines_concat (x ∷ xs) k =
     let same : suc k + length xs ≡ k + suc (length xs) = omega arith in
@@ -95,7 +101,8 @@ lines_concat (x ∷ xs) k =
     ∙ sym (append_assoc (lines_of x) (flat_map lines_of xs) ((codes "cat" ∷ decimal (suc k + length xs) ∷ []) ∷ []))
     ∙ ap (λ (n : ℕ). flat_map lines_of (x ∷ xs) ++ (codes "cat" ∷ decimal n ∷ []) ∷ []) same
 
-lines_alternation : (xs : List Tree) (k : ℕ) → lines_behind k (alternation xs) ≡ flat_map lines_of xs ++ (codes "alt" ∷ decimal (k + length xs) ∷ []) ∷ []
+lines_alternation : (xs : List Tree) (k : ℕ) →
+    lines_behind k (alternation xs) ≡ flat_map lines_of xs ++ (codes "alt" ∷ decimal (k + length xs) ∷ []) ∷ []
 lines_alternation [] k = ap (λ (n : ℕ). (codes "alt" ∷ decimal n ∷ []) ∷ []) (omega arith)
 lines_alternation (x ∷ xs) k =
     let same : suc k + length xs ≡ k + suc (length xs) = omega arith in
@@ -148,7 +155,8 @@ next_part xs i x now new whole below is e so_far =
     ∙ ap (λ (t : List ℕ). now ++ t) (sym (lines_append (lines_of x) rest))
     ∙ ap (λ (ys : List Tree). now ++ lines_text (flat_map lines_of ys)) (sym cut) ∙ so_far
 
-pub all_parts : (xs : List Tree) (i : ℕ) (now whole : List ℕ) → length xs ≤ i → now ++ lines_text (flat_map lines_of (drop i xs)) ≡ whole → now ≡ whole
+pub all_parts : (xs : List Tree) (i : ℕ) (now whole : List ℕ) → length xs ≤ i →
+    now ++ lines_text (flat_map lines_of (drop i xs)) ≡ whole → now ≡ whole
 all_parts xs i now whole above so_far =
     sym (append-nil now) ∙ sym (ap (λ (ys : List Tree). now ++ lines_text (flat_map lines_of ys)) (drop_of_length-le xs above)) ∙ so_far
 
@@ -167,7 +175,8 @@ next_pattern xs i x now new whole below is e so_far =
     ∙ ap (λ (lines : List Line). now ++ lines_text lines) (append_assoc (lines_of x) ((codes "pattern" ∷ []) ∷ []) rest)
     ∙ ap (λ (ys : List Tree). now ++ lines_text (pattern_lines ys)) (sym cut) ∙ so_far
 
-pub all_patterns : (xs : List Tree) (i : ℕ) (now whole : List ℕ) → length xs ≤ i → now ++ lines_text (pattern_lines (drop i xs)) ≡ whole → now ≡ whole
+pub all_patterns : (xs : List Tree) (i : ℕ) (now whole : List ℕ) → length xs ≤ i →
+    now ++ lines_text (pattern_lines (drop i xs)) ≡ whole → now ≡ whole
 all_patterns xs i now whole above so_far =
     sym (append-nil now) ∙ sym (ap (λ (ys : List Tree). now ++ lines_text (pattern_lines ys)) (drop_of_length-le xs above)) ∙ so_far
 
@@ -183,7 +192,8 @@ more_small ranges i d below seen here = All-more IsSmall ranges i d below seen h
 pub all_small : (ranges : List (ℕ × ℕ)) (i : ℕ) → length ranges ≤ i → All IsSmall (take i ranges) → All IsSmall ranges
 all_small ranges i above seen = subst (All IsSmall) (take_all i ranges above) seen
 
-pub more_scalars : (ranges : List (ℕ × ℕ)) (i : ℕ) (d : ℕ × ℕ) → i < length ranges → All AreScalars (take i ranges) → AreScalars (get_or ranges i d)
+pub more_scalars : (ranges : List (ℕ × ℕ)) (i : ℕ) (d : ℕ × ℕ) → i < length ranges → All AreScalars (take i ranges) →
+    AreScalars (get_or ranges i d)
     → All AreScalars (take (i + 1) ranges)
 more_scalars ranges i d below seen here = All-more AreScalars ranges i d below seen here
 
@@ -241,7 +251,8 @@ rounds_fit min most greedy body x levels is some small short formed h =
     let formed_so = subst IsWellFormed (sym is) formed in
     subst (FitsIn levels) is ((refl, small, short, at_most min most greedy body formed_so, h.0), omega arith)
 
-pub group_fits : (index : ℕ) (name : Option (List ℕ)) (body x : Tree) (levels : ℕ) → capture index name body ≡ x → FitsIn levels body → FitsIn levels x
+pub group_fits : (index : ℕ) (name : Option (List ℕ)) (body x : Tree) (levels : ℕ) → capture index name body ≡ x →
+    FitsIn levels body → FitsIn levels x
 group_fits index name body x levels is h = subst (FitsIn levels) is ((refl, h.0), h.1)
 
 cat_follows : (xs : List Tree) → is_cat (concat xs) ≡ true
@@ -319,25 +330,29 @@ no_level levels x e = let h = height_some (told x) in omega (arith, e, h)
 pub no_memory : (levels : ℕ) (x : Tree) (e : Unfit) → e ≡ NoMemory → IsUnfit levels x e
 no_memory levels x e is = subst (IsUnfit levels x) (sym is) tt
 
-pub rounds_unfit : (min : ℕ) (most : Option ℕ) (greedy : Bool) (body x : Tree) (levels : ℕ) (e : Unfit) → repetition min most greedy body ≡ x → levels ≢ 0
+pub rounds_unfit : (min : ℕ) (most : Option ℕ) (greedy : Bool) (body x : Tree) (levels : ℕ) (e : Unfit) →
+    repetition min most greedy body ≡ x → levels ≢ 0
     → levels < 256 → IsUnfit (levels - 1) body e → IsUnfit levels x e
 rounds_unfit min most greedy body x levels NoMemory is some few h = tt
 rounds_unfit min most greedy body x levels TooDeep is some few h =
     subst (λ (y : Tree). levels < height (told y)) is (let above : 1 ≤ levels = omega arith in omega arith)
 rounds_unfit min most greedy body x levels TooManyParts is some few h = subst (λ (y : Tree). 2 ^ 32 ≤ most_parts 0 y) is h
 
-pub group_unfit : (index : ℕ) (name : Option (List ℕ)) (body x : Tree) (levels : ℕ) (e : Unfit) → capture index name body ≡ x → IsUnfit levels body e
+pub group_unfit : (index : ℕ) (name : Option (List ℕ)) (body x : Tree) (levels : ℕ) (e : Unfit) → capture index name body ≡ x →
+    IsUnfit levels body e
     → IsUnfit levels x e
 group_unfit index name body x levels NoMemory is h = tt
 group_unfit index name body x levels TooDeep is h = subst (λ (y : Tree). levels < height (told y)) is h
 group_unfit index name body x levels TooManyParts is h = subst (λ (y : Tree). 2 ^ 32 ≤ most_parts 0 y) is h
 
-concat_high : (xs : List Tree) (n : ℕ) (x : Tree) → slice_get xs n ≡ Some x → min (height (told x) + 1) (2 ^ 64 - 1) ≤ height (told (concat xs))
+concat_high : (xs : List Tree) (n : ℕ) (x : Tree) → slice_get xs n ≡ Some x →
+    min (height (told x) + 1) (2 ^ 64 - 1) ≤ height (told (concat xs))
 concat_high [] n x e = absurd cc
 concat_high (y ∷ xs) zero x e = let same : y ≡ x = cc in let h = ap (λ (t : Tree). height (told t)) same in omega arith
 concat_high (y ∷ xs) (suc n) x e = let h = concat_high xs n x e in omega arith
 
-alternation_high : (xs : List Tree) (n : ℕ) (x : Tree) → slice_get xs n ≡ Some x → min (height (told x) + 1) (2 ^ 64 - 1) ≤ height (told (alternation xs))
+alternation_high : (xs : List Tree) (n : ℕ) (x : Tree) → slice_get xs n ≡ Some x →
+    min (height (told x) + 1) (2 ^ 64 - 1) ≤ height (told (alternation xs))
 alternation_high [] n x e = absurd cc
 alternation_high (y ∷ xs) zero x e = let same : y ≡ x = cc in let h = ap (λ (t : Tree). height (told t)) same in omega arith
 alternation_high (y ∷ xs) (suc n) x e = let h = alternation_high xs n x e in omega arith
@@ -360,7 +375,8 @@ alternation_count : (xs : List Tree) (k : ℕ) → k + length xs ≤ most_parts 
 alternation_count [] k = omega arith
 alternation_count (x ∷ xs) k = let h = alternation_count xs (suc k) in omega arith
 
-pub many_in_concat : (xs : List Tree) (x : Tree) (levels : ℕ) (e : Unfit) → concat xs ≡ x → e ≡ TooManyParts → 2 ^ 32 ≤ length xs → IsUnfit levels x e
+pub many_in_concat : (xs : List Tree) (x : Tree) (levels : ℕ) (e : Unfit) → concat xs ≡ x → e ≡ TooManyParts →
+    2 ^ 32 ≤ length xs → IsUnfit levels x e
 many_in_concat xs x levels e is many wide =
     let h = concat_count xs 0 in
     subst (IsUnfit levels x) (sym many) (subst (λ (y : Tree). 2 ^ 32 ≤ most_parts 0 y) is (omega (arith, h, wide)))
@@ -371,7 +387,8 @@ many_in_alternation xs x levels e is many wide =
     let h = alternation_count xs 0 in
     subst (IsUnfit levels x) (sym many) (subst (λ (y : Tree). 2 ^ 32 ≤ most_parts 0 y) is (omega (arith, h, wide)))
 
-pub part_in_concat : (xs : List Tree) (x : Tree) (levels n : ℕ) (e : Unfit) → concat xs ≡ x → levels ≢ 0 → levels < 256 → AreUnfit (levels - 1) xs n e
+pub part_in_concat : (xs : List Tree) (x : Tree) (levels n : ℕ) (e : Unfit) → concat xs ≡ x → levels ≢ 0 → levels < 256 →
+    AreUnfit (levels - 1) xs n e
     → IsUnfit levels x e
 part_in_concat xs x levels n NoMemory is some few h = tt
 part_in_concat xs x levels n TooDeep is some few h =
@@ -403,7 +420,8 @@ listed (y ∷ xs) zero x below is = ap Some (sym is)
 listed (y ∷ xs) (suc i) x below is = listed xs i x (omega arith) is
 
 -- the tree at this place is refused
-pub one_unfit : (levels : ℕ) (xs : List Tree) (i : ℕ) (x : Tree) (e : Unfit) → i < length xs → x ≡ get_or xs i x → IsUnfit levels x e → AreUnfit levels xs i e
+pub one_unfit : (levels : ℕ) (xs : List Tree) (i : ℕ) (x : Tree) (e : Unfit) → i < length xs → x ≡ get_or xs i x → IsUnfit levels x e →
+    AreUnfit levels xs i e
 one_unfit levels xs i x NoMemory below is h = tt
 one_unfit levels xs i x TooDeep below is h = record { tree = x; listed = listed xs i x below is; is = h }
 one_unfit levels xs i x TooManyParts below is h = record { tree = x; listed = listed xs i x below is; is = h }

@@ -99,7 +99,8 @@ fn read_input<R: Read>(
 /// Writes the whole text and flushes.
 fn write_reply<W: Write>(writer: &mut W, text: &[u8]) -> Result<(), RunError>
     ensures ok { OnOk result (Appends (W.contents writer.old) (W.contents writer.new) text.now) }
-    ensures prefix { IfErr result (λ e. (e ≡ RunError.Write) × (n : ℕ) × Appends (W.contents writer.old) (W.contents writer.new) (take n text.now)) }
+    ensures prefix { IfErr result (λ e. (e ≡ RunError.Write) × (n : ℕ) ×
+        Appends (W.contents writer.old) (W.contents writer.new) (take n text.now)) }
 {
     let mut done = 0usize;
     while done < text.len() {

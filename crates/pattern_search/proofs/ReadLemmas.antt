@@ -24,7 +24,8 @@ one_read config x None m = absurd m
 one_read config x (Some (re, names)) m = (re.value, (m.0, refl), m.1, m.2)
 
 of_text : (config : Config) (t : List ℕ) (x : Tree) → MeansText config t x →
-    (a : Re) × IsSomeAnd (read config (chars t)) (λ (re, names). (re.depth ≤ config.nest_limit) × (re.value ≡ a)) × SameEnds a x × SameSpans a x
+    (a : Re) × IsSomeAnd (read config (chars t)) (λ (re, names). (re.depth ≤ config.nest_limit) × (re.value ≡ a)) ×
+    SameEnds a x × SameSpans a x
 unfolding MeansText
 of_text config t x m = one_read config x (read config (chars t)) m
 

@@ -2,7 +2,9 @@
 -- the tree of a pattern prefers the same ends, has the same spans, keeps names, is UTF-8 and is as high as the pattern is deep
 pub use Rattle.pattern_text.proofs.TranslatedLemmas.{same_ends, same_spans, keeps_names, is_text, height_at_most}
 -- its equations, one for each kind of node
-pub use Rattle.pattern_text.proofs.TranslatedLemmas.{translated-Empty, translated-Literal, translated-Bytes, translated-Chars, translated-Look, translated-Repetition, translated-Capture, translated-Concat, translated-Alternation}
+pub use Rattle.pattern_text.proofs.TranslatedLemmas.{translated-Empty, translated-Literal, translated-Bytes, translated-Chars}
+pub use Rattle.pattern_text.proofs.TranslatedLemmas.{translated-Look, translated-Repetition, translated-Capture, translated-Concat}
+pub use Rattle.pattern_text.proofs.TranslatedLemmas.{translated-Alternation}
 -- parts that agree make wholes that do
 pub use Rattle.pattern_text.proofs.SameEndsLemmas.{same_cat, same_alt, same_group}
 pub use Rattle.pattern_text.proofs.LoopLemmas.{same_repetition}

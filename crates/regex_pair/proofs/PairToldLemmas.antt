@@ -118,7 +118,8 @@ module _ (p : Pair) (q : Search) (old new : PairCache) where
       new.reverse ≡ old.reverse
   starts_are_untouched result (tells_refusal e failed answers ahead same) none = same
   starts_are_untouched result (tells_end end answered answers never ahead same) none = same
-  starts_are_untouched result (tells_start end start answered there answers ahead behind) none = absurd (none (end.offset, end.pattern) there)
+  starts_are_untouched result (tells_start end start answered there answers ahead behind) none =
+      absurd (none (end.offset, end.pattern) there)
 
   pub match_is_asked : (result : Result Bool MatchErrorKind) → result ≡ has_match p q → TellsMatch p q old new result →
       TellsHalf p.forward (match_search (reader p.forward) q) old.forward new.forward

@@ -34,7 +34,8 @@ module _ (old new : FindMatches) (ready : MayGoOn old) (begun : old.is_over ≡ 
     (same_regex : searches_by new ≡ searches_by old) (same_reference : lender_of new ≡ lender_of old)
     (kept : KeepsTwice (searches_by old) (caches_of old) (caches_of new)) (q : Search) (asked : q ≡ search_of old) (result : Whole)
     (answered : IsNextAnswer (searches_by old) (record { search = q; last = old.last; is_over = false }) (caches_of new) result)
-    (searched : SearchesNext (searches_by old) (record { search = q; last = old.last; is_over = false }) (caches_of old) (caches_of new) result)
+    (searched : SearchesNext (searches_by old) (record { search = q; last = old.last; is_over = false }) (caches_of old)
+    (caches_of new) result)
     (done : q.end < q.start → (result ≡ Ok None) × (caches_of new ≡ caches_of old)) where
   owned : AreCachesOf (searches_by new) (caches_of new)
   owned = subst (λ (p : Pair). AreCachesOf p (caches_of new)) (sym same_regex) own

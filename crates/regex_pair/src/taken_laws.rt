@@ -38,7 +38,8 @@ pub fn a_step_takes_one_more()
 
 /// What was taken is a chain of answers to the search, each the next one behind the last, and a beginning of the list of all.
 pub fn what_was_taken_begins_the_list()
-    ensures chain { (p : Pair) (q : Search) (fs : List Found) (at : Finding) → AreTaken p q fs at → IsChain (AnswersAt p q) None q.start fs }
+    ensures chain { (p : Pair) (q : Search) (fs : List Found) (at : Finding) → AreTaken p q fs at →
+        IsChain (AnswersAt p q) None q.start fs }
     ensures begins { (p : Pair) (q : Search) (fs : List Found) (at : Finding) → q.start ≤ q.end + 1 → AreTaken p q fs at →
         (rest : List Found) × (all_answers (answer_at p q) q.start q.end ≡ fs ++ rest) }
 {}

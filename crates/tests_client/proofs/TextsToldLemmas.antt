@@ -30,11 +30,13 @@ listed_of config texts xs s h fs loops search l written = record {
 }
 
 -- what is listed of a search with these settings, where both are known by equations
-pub all_listed : (config : Config) (texts : List (List ℕ)) (xs : List Tree) (s : Settings) (utf8 : Bool) (h : List ℕ) (q : Search) (fs : List Found) →
+pub all_listed : (config : Config) (texts : List (List ℕ)) (xs : List Tree) (s : Settings) (utf8 : Bool) (h : List ℕ)
+    (q : Search) (fs : List Found) →
     s.utf8 ≡ utf8 → q ≡ whole_search h 0 → All LoopsRead xs → IsSearchOf xs utf8 q → IsListed xs s q fs →
     ((p : Pair) → IsBuilt xs s p → AnswersWhatIsWritten config texts xs s p) → AreAllMatches config texts utf8 h fs
 all_listed config texts xs s utf8 h q fs set is loops search l written =
     subst (λ b. AreAllMatches config texts b h fs) set
-    (let whole : IsSearchOf xs s.utf8 (whole_search h 0) = subst (λ b. IsSearchOf xs b (whole_search h 0)) (sym set) (subst (IsSearchOf xs utf8) is search) in
+    (let whole : IsSearchOf xs s.utf8 (whole_search h 0) = subst (λ b. IsSearchOf xs b (whole_search h 0)) (sym set)
+    (subst (IsSearchOf xs utf8) is search) in
     let list : IsListed xs s (whole_search h 0) fs = subst (λ r. IsListed xs s r fs) is l in
     listed_of config texts xs s h fs loops whole list (written list.pair list.built))

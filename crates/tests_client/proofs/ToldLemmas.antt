@@ -9,7 +9,8 @@ use Rattle.hir_core.specs.Tree.{Tree}
 use Rattle.hirscan.specs.declared.settings.Settings.{Settings}
 use Rattle.tests_client.specs.Told.{IsTold}
 
-pub as_said : (xs : List Tree) (made s : Settings) (asked q : Search) (first second : Option Found) (all : List Found) → made ≡ s → asked ≡ q →
+pub as_said : (xs : List Tree) (made s : Settings) (asked q : Search) (first second : Option Found) (all : List Found) →
+    made ≡ s → asked ≡ q →
     IsTold xs made asked first second all → IsTold xs s q first second all
 as_said xs made s asked q first second all is same told =
     subst (λ (r : Search). IsTold xs s r first second all) same

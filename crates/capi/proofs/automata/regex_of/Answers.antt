@@ -16,24 +16,29 @@ returns-in-Err-build-clause-refused c =
       subst (λ (k : Config). AllMean k (texts_of c.args.texts.now) c.in-Ok.trees.items) c.config-config.ensures c.in-Ok.ensures.means,
       (
         c.settings-settings.result,
-        subst (λ (xs : List Tree). RefusesBuild xs c.settings-settings.result c.in-Err-build.e) c.deref-3.ensures.value c.in-Err-build.ensures.refused,
+        subst (λ (xs : List Tree). RefusesBuild xs c.settings-settings.result c.in-Err-build.e)
+            c.deref-3.ensures.value c.in-Err-build.ensures.refused,
       ),
     )
 
 pub returns-clause-made : goal.returns-clause-made
 returns-clause-made c =
     let told : (c.all_loops_read-loops.result ≡ true) ↔ All LoopsRead c.in-Ok.trees.items =
-    subst (λ (xs : List Tree). (c.all_loops_read-loops.result ≡ true) ↔ All LoopsRead xs) c.deref-2.ensures.value c.all_loops_read-loops.ensures in (
+    subst (λ (xs : List Tree). (c.all_loops_read-loops.result ≡ true) ↔ All LoopsRead xs)
+    c.deref-2.ensures.value c.all_loops_read-loops.ensures in (
       (
         record {
           trees = c.in-Ok.trees.items;
           settings = c.settings-settings.result;
-          mean = subst (λ (k : Config). AllMean k (texts_of c.args.texts.now) c.in-Ok.trees.items) c.config-config.ensures c.in-Ok.ensures.means;
-          built = subst (λ (xs : List Tree). IsBuilt xs c.settings-settings.result c.in-Ok-build.regex) c.deref-3.ensures.value c.in-Ok-build.ensures.built;
+          mean = subst (λ (k : Config). AllMean k (texts_of c.args.texts.now) c.in-Ok.trees.items)
+              c.config-config.ensures c.in-Ok.ensures.means;
+          built = subst (λ (xs : List Tree). IsBuilt xs c.settings-settings.result c.in-Ok-build.regex)
+              c.deref-3.ensures.value c.in-Ok-build.ensures.built;
           kind_is = c.settings-settings.ensures.kind;
           lines = c.settings-settings.ensures.lines;
           mode = c.settings-settings.ensures.mode;
-          utf8_trees = subst (λ (k : Config). k.utf8 ≡ true → All (λ x. is_utf8_tree x ≡ true) c.in-Ok.trees.items) c.config-config.ensures c.in-Ok.ensures.utf8;
+          utf8_trees = subst (λ (k : Config). k.utf8 ≡ true →
+              All (λ x. is_utf8_tree x ≡ true) c.in-Ok.trees.items) c.config-config.ensures c.in-Ok.ensures.utf8;
         },
         told,
       ),

@@ -11,10 +11,13 @@ texts_of = map (λ (t : Bor (List ℕ)). t.now)
 
 pub invariant_of-result : goal.invariant_of-result
 invariant_of-result c = (
-  subst (λ (ts : List (List ℕ)). AreToldOf (config_of c.args.options.now) ts LeftmostFirst c.in-Ok.made.loops c.in-Ok-of.automata) (sym c.in-Ok-owned.ensures)
-      (subst (λ (p : Pair). AreToldOf (config_of c.args.options.now) (texts_of c.args.texts.now) LeftmostFirst c.in-Ok.made.loops p) (sym c.in-Ok-of.ensures)
+  subst (λ (ts : List (List ℕ)). AreToldOf (config_of c.args.options.now) ts LeftmostFirst c.in-Ok.made.loops c.in-Ok-of.automata)
+      (sym c.in-Ok-owned.ensures)
+      (subst (λ (p : Pair). AreToldOf (config_of c.args.options.now) (texts_of c.args.texts.now) LeftmostFirst c.in-Ok.made.loops p)
+      (sym c.in-Ok-of.ensures)
       c.in-Ok.ensures.made.0),
-  subst (λ (ts : List (List ℕ)). IfSome c.first_walker-walker.result (AreBuiltOf (config_of c.args.options.now) ts AllMatches)) (sym c.in-Ok-owned.ensures)
+  subst (λ (ts : List (List ℕ)). IfSome c.first_walker-walker.result (AreBuiltOf (config_of c.args.options.now) ts AllMatches))
+      (sym c.in-Ok-owned.ensures)
       c.first_walker-walker.ensures,
   tt,
 )

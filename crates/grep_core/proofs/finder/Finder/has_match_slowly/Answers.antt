@@ -9,4 +9,5 @@ pub returns-clause-told : goal.returns-clause-told
 returns-clause-told c =
     subst (λ (s : Sought). IsTold s.config s.texts c.args.line.now c.in-Ok-told.has) c.self.view_is
     (c.in-Ok-told.ensures c.self.inside.config (read_texts c.self.inside.texts.now)
-    (subst (λ (rs : List Regex). AreRegexesOf c.self.inside.config (read_texts c.self.inside.texts.now) rs) (sym c.deref.ensures.value) c.in-Ok.ensures.regexes))
+    (subst (λ (rs : List Regex). AreRegexesOf c.self.inside.config (read_texts c.self.inside.texts.now) rs)
+    (sym c.deref.ensures.value) c.in-Ok.ensures.regexes))
