@@ -185,15 +185,6 @@ pub none_better : (rs : List Regex) (i : ℕ) (line : List ℕ) (start : ℕ) (b
 none_better rs i line start best all above so_far =
     sym (ap (λ l. better best (best_at (map regex_pattern l) line start)) (drop_of_length-le rs above) ∙ better_none best) ∙ so_far
 
-pub one_more : (rs : List Regex) (i : ℕ) (d : Regex) (line : List ℕ) (all : Bool) → i < length rs →
-    has (regex_pattern (get_or rs i d)) line ≡ false →
-    all ≡ any_has (map regex_pattern (drop i rs)) line → all ≡ any_has (map regex_pattern (drop (i + 1) rs)) line
-one_more rs i d line all below none so_far =
-    let next : suc i ≡ i + 1 = omega arith in
-    so_far
-    ∙ ap (λ l. any_has (map regex_pattern l) line) (drop-cons rs i d below ∙ ap (λ k. get_or rs i d ∷ drop k rs) next)
-    ∙ ap (λ b. b || any_has (map regex_pattern (drop (i + 1) rs)) line) none
-
 pub found_one : (rs : List Regex) (i : ℕ) (d : Regex) (line : List ℕ) (all : Bool) → i < length rs →
     has (regex_pattern (get_or rs i d)) line ≡ true →
     all ≡ any_has (map regex_pattern (drop i rs)) line → true ≡ all

@@ -97,12 +97,6 @@ starts_behind block text at len next rest found is some =
     let place : next - 1 ≡ at + len = omega (arith, is) in
     ap (slice_get block) place ∙ sym (get_dropped at block len) ∙ sym (ap (λ t. slice_get t len) rest) ∙ feed_there text len found
 
-pub within_behind : (block text : List ℕ) (at len next : ℕ) → text ≡ drop at block → position is_feed text ≡ Some len →
-    next ≡ at + (len + 1) → at ≤ length block → next ≤ length block
-within_behind block text at len next rest found is high =
-    let short : len < length (drop at block) = subst (λ (t : List ℕ). len < length t) rest (first_within text len found) in
-    omega (arith, is, short, length-drop at block, high)
-
 pub here_told : {P : Type 0} (tells : P → List (List ℕ) → List ℕ) (p q : P) (block more text piece out new : List ℕ) (at len next : ℕ) →
     text ≡ drop at block → position is_feed text ≡ Some len → piece ≡ take len text → next ≡ at + (len + 1) →
     ((lines : List (List ℕ)) → out ++ tells p (piece ∷ lines) ≡ new ++ tells q lines) →

@@ -49,18 +49,6 @@ covered_more lows low high b h =
           ap (λ n. nat_le n b) is2 ∙ either low (least (drop b lows)) b high l
     ]
 
-swapped : (a rest c : Bool) → (a || rest) || c ≡ rest || (a || c)
-swapped true true c = refl
-swapped true false c = refl
-swapped false rest c = refl
-
--- the item that stands next is added to those that were
-pub member_moves : (items rest : List (ℕ × ℕ)) (item : ℕ × ℕ) (old new : List ℕ) (b : ℕ) → items ≡ item ∷ rest
-    → is_covered new b ≡ (nat_le item.0 b && nat_le b item.1) || is_covered old b
-    → is_member items b || is_covered old b ≡ is_member rest b || is_covered new b
-member_moves items rest item old new b e h =
-    rw (e, h) (swapped (nat_le item.0 b && nat_le b item.1) (is_member rest b) (is_covered old b))
-
 -- the least low end from a byte on, one byte further down
 pub least_below : (lows : List ℕ) (n low now : ℕ) → 0 < n → n ≤ length lows → low ≡ least (drop n lows)
     → now ≡ min low (get_or lows (n - 1) 0) → now ≡ least (drop (n - 1) lows)

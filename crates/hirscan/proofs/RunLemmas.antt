@@ -26,12 +26,6 @@ appends_more a b c text done n p q =
     (Appends-trans a b c (take done text) (take n (drop done text)) p (rw rest_of_slice at q))
 
 -- what stays after a write appended, stays appended
-pub appends_kept : (a b c : Option (List ℕ)) (bytes : List ℕ) → Appends a b bytes → Keeps b c → Appends a c bytes
-appends_kept None b c bytes p q = tt
-appends_kept (Some x) None c bytes p q = absurd p
-appends_kept (Some x) (Some y) None bytes p q = absurd q
-appends_kept (Some x) (Some y) (Some z) bytes p q = q ∙ p
-
 if_some_reply : (input before after : Option (List ℕ)) (ending : Ending) (text : List ℕ) →
     IfSome input (λ bytes. IsReply bytes ending text) →
     Appends before after text → WritesReply input before after ending

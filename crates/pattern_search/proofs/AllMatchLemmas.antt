@@ -27,9 +27,6 @@ record SameSearch (search : ℕ → Option Match) (answer : ℕ → Option Found
   same : (s : ℕ) → option_map span_of_match (search s) ≡ option_map span_of_found (answer s)
   ok : AnswersWithin answer e
 
-starts_of : (m : Match) (f : Found) → span_of_match m ≡ span_of_found f → m.start ≡ f.start
-starts_of m f same = ap (λ (s : ℕ × ℕ). s.0) same
-
 ends_of : (m : Match) (f : Found) → span_of_match m ≡ span_of_found f → m.trace.end ≡ f.end
 ends_of m f same = ap (λ (s : ℕ × ℕ). s.1) same
 

@@ -148,9 +148,6 @@ module _ (names : Names) where
         let others = of_row _ rest in
         (matched_cat _ _ _ _ first others.0, matched_alt _ _ _ _ first others.1)
 
-pub matches_alike : (names : Names) (p : Hir) → Matched names (meaning p) (translated names p)
-matches_alike names p = of_tree names p
-
 pub same_ends : (names : Names) (p : Hir) → SameEnds (meaning p) (translated names p)
 same_ends names p = (of_tree names p).0
 

@@ -43,12 +43,6 @@ some_is_found (found None) e is = some_is_not_none e (found None ≡ found (Some
 some_is_found (quit b x) e is = ok_is_no_error (Some e) (Quit b x) (quit b x ≡ found (Some (pair e))) is
 some_is_found (unsupported mode) e is = ok_is_no_error (Some e) (UnsupportedAnchored mode) (unsupported mode ≡ found (Some (pair e))) is
 
-pub none_is_found : (a : HalfAnswer) → answer None ≡ told a → a ≡ found None
-none_is_found (found (Some x)) is = some_is_not_none (half x) (found (Some x) ≡ found None) (sym is)
-none_is_found (found None) is = refl
-none_is_found (quit b x) is = ok_is_no_error None (Quit b x) (quit b x ≡ found None) is
-none_is_found (unsupported mode) is = ok_is_no_error None (UnsupportedAnchored mode) (unsupported mode ≡ found None) is
-
 -- of the answers of a call that may be refused, a value is the one that is told
 pub ok_is_told : (d : Dfa) (v : CacheValue) (q : Search) (f : Option HalfFound) → Answers d v q (Ok f) → Ok f ≡ told (scan (reader d) q)
 ok_is_told d v q f (inl e) = e
