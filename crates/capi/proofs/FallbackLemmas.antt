@@ -23,6 +23,7 @@ use Rattle.regex.specs.declared.string.regex.Regex as text_regex
 use Rattle.regex.proofs.ForCallers.{span_alike}
 use Rattle.pattern_search.specs.Searches.{found_from, which_match, span_of_match, IsOfFirstPattern}
 use Rattle.pattern_search.specs.Texts.{AreRead}
+use Rattle.pattern_search.proofs.ForCallers.{one_same}
 use Rattle.capi.specs.declared.failure.FoundMatch.{FoundMatch}
 use Rattle.capi.specs.declared.fallback.Fallback.{Fallback}
 use Rattle.capi.specs.declared.fallback.Fallback.TheVariants.{Bytes, Text}
@@ -33,13 +34,6 @@ use Rattle.capi.proofs.BestLemmas.{span_at, best_is_found, best_of_first}
 -- the text is read as this pattern
 abbrev IsReadOne : Config → List ℕ → Re → Type 0
 IsReadOne config t a = IsSomeAnd (read config (chars t)) (λ (re, names). (re.depth ≤ config.nest_limit) × (re.value ≡ a))
-
-one_same : (config : Config) (hir : Hir) (names : Names) (a : Re) (r : Option (Nested Re × Names)) →
-    IsSomeAnd r (λ (re, found). (re.depth ≤ config.nest_limit) × SameCaptures (meaning hir) re.value × (names ≡ found) ×
-    (group_count (meaning hir) ≤ length names)) →
-    IsSomeAnd r (λ (re, names). (re.depth ≤ config.nest_limit) × (re.value ≡ a)) → SameCaptures (meaning hir) a
-one_same config hir names a None p q = absurd p
-one_same config hir names a (Some (re, found)) p q = subst (SameCaptures (meaning hir)) q.1 p.1
 
 reads_same : (config : Config) (t : List ℕ) (hir : Hir) (names : Names) (a : Re) → Reads config t hir names → IsReadOne config t a →
     SameCaptures (meaning hir) a

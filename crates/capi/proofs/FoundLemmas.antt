@@ -2,6 +2,7 @@
 use Rattle.std.proofs.Common.{◌≡◌, ◌<◌, ◌≤◌, ℕ, suc, Bool, true, false, List, [], ◌∷◌, All, length, map, replicate, Option, Some, None, Ok}
 use Rattle.std.proofs.Common.{ap, ap₂, sym, subst, ◌∙◌, refl, arith}
 use Rattle.std.specs.Prelude.{is_some, option_map, IsSomeAnd, IfSome, chars}
+use Rattle.std.proofs.lemmas.List.{length-map}
 use Rattle.regex_hir.specs.Re.{Re}
 use Rattle.regex_hir.specs.Meaning.{alt_all}
 use Rattle.regex_syntax.specs.declared.Config.{Config}
@@ -24,36 +25,11 @@ use Rattle.hirscan.specs.Regexes.{IsSearchOf}
 use Rattle.pattern_search.specs.Searches.{whole_search, found_from, which_match, span_of_match, span_of_found, IsOfFirstPattern}
 use Rattle.pattern_search.specs.Texts.{AreRead, AllMean}
 use Rattle.pattern_search.specs.Written.{AnswersWhatIsWritten}
+use Rattle.pattern_search.proofs.ForCallers.{alike_some, same_patterns}
 use Rattle.capi.specs.declared.failure.FoundMatch.{FoundMatch}
 use Rattle.capi.specs.Compiled.{AreBuiltOf, AreMarked, AreWhich, IsFound, IsPreferred, IsTold, found_of, hits, mark, overlaid, span_of_row}
 use Rattle.capi.specs.Failures.{row_of}
-use Rattle.capi.proofs.ListLemmas.{length_map, whole_laid}
-
--- what is read of one text is one pattern
-one_value : {A : Type 0} (o : Option A) (of : A → Re) (D : A → Type 0) (a b : Re) →
-    IsSomeAnd o (λ it. D it × (of it ≡ a)) → IsSomeAnd o (λ it. D it × (of it ≡ b)) → a ≡ b
-one_value None of D a b p q = elim p [ ]
-one_value (Some it) of D a b p q = sym p.1 ∙ q.1
-
-pub same_patterns : (config : Config) (texts : List (List ℕ)) (res others : List Re) → AreRead config texts res →
-    AreRead config texts others → res ≡ others
-same_patterns config [] [] [] p q = refl
-same_patterns config [] [] (b ∷ others) p q = elim q [ ]
-same_patterns config [] (a ∷ res) others p q = elim p [ ]
-same_patterns config (t ∷ ts) [] others p q = elim p [ ]
-same_patterns config (t ∷ ts) (a ∷ res) [] p q = elim q [ ]
-same_patterns config (t ∷ ts) (a ∷ res) (b ∷ others) p q =
-    ap₂ (λ (x : Re) (xs : List Re). x ∷ xs)
-    (one_value (read config (chars t)) (λ it. it.0.value) (λ it. it.0.depth ≤ config.nest_limit) a b p.0 q.0)
-    (same_patterns config ts res others p.1 q.1)
-
--- there is a start where there is a start
-starts : {A : Type 0} (f : A → ℕ) (x : Option A) → is_some (option_map f x) ≡ is_some x
-starts f None = refl
-starts f (Some a) = refl
-
-alike_some : {A B : Type 0} (f : A → ℕ) (g : B → ℕ) (x : Option A) (y : Option B) → option_map f x ≡ option_map g y → is_some x ≡ is_some y
-alike_some f g x y e = sym (starts f x) ∙ ap is_some e ∙ starts g y
+use Rattle.capi.proofs.ListLemmas.{whole_laid}
 
 -- a match as a row
 row_start : (o : Option Found) → option_map (λ f. f.start) o ≡ option_map (λ r. FoundMatch.start r) (option_map row_of o)
@@ -174,5 +150,5 @@ marked_of config texts h told n old new which places is counted = record {
   where
     as_many : (res : List Re) → AreRead config texts res → length (map mark told) ≡ length old
     as_many res read =
-        length_map mark told ∙ ap length (which res read) ∙ length_map (λ re. is_some (found_from config.utf8 re h 0)) res
+        length-map told mark ∙ ap length (which res read) ∙ length-map res (λ re. is_some (found_from config.utf8 re h 0))
         ∙ read_as_many config texts res read ∙ sym places

@@ -34,10 +34,6 @@ pub map_more : {A B : Type 0} (f : A → B) (xs : List A) (x : A) → map f (xs 
 map_more f [] x = refl
 map_more f (a ∷ xs) x = ap (λ (zs : List _). f a ∷ zs) (map_more f xs x)
 
-pub length_map : {A B : Type 0} (f : A → B) (xs : List A) → length (map f xs) ≡ length xs
-length_map f [] = refl
-length_map f (x ∷ xs) = ap suc (length_map f xs)
-
 pub mapped_at : {A B : Type 0} (f : A → B) (xs : List A) (n : ℕ) (d : A) (e : B) → n < length xs →
     slice_index_or (map f xs) n e ≡ f (slice_index_or xs n d)
 mapped_at f [] n d e below = absurd (omega arith)

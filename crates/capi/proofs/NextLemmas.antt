@@ -3,6 +3,7 @@ use Rattle.std.proofs.Common.{◌≡◌, ℕ, zero, suc, ◌+◌, ◌-◌, ◌<�
 use Rattle.std.proofs.Common.{Option, Some, None}
 use Rattle.std.proofs.Common.{option_map, if◌then◌else◌, refl, sym, ap, ap₂, ◌∙◌, arith, append_assoc, append-nil}
 use Rattle.std.proofs.lemmas.Option.{none-some, same_Some}
+use Rattle.std.proofs.lemmas.List.{length-map}
 use Rattle.regex_hir.specs.Re.{Re}
 use Rattle.regex_hir.specs.Meaning.{alt_all}
 use Rattle.regex_hir.specs.Find.{Match, find_after, matches_from}
@@ -11,10 +12,11 @@ use Rattle.regex_hir.proofs.FindLemmas.{first_between_past}
 use Rattle.regex_syntax.specs.declared.Config.{Config}
 use Rattle.pattern_search.specs.Searches.{found_from, all_found, span_of_match}
 use Rattle.pattern_search.specs.Texts.{AreRead}
+use Rattle.pattern_search.proofs.ForCallers.{all_from_start}
 use Rattle.pattern_search.proofs.ForCallers.{tried, found_is}
 use Rattle.capi.specs.declared.failure.FoundMatch.{FoundMatch}
 use Rattle.capi.specs.Compiled.{AreAll, IsPreferred, IsNext, overlaid, span_of_row}
-use Rattle.capi.proofs.ListLemmas.{length_map, map_laid, map_more, one_more_row, one_more_counted}
+use Rattle.capi.proofs.ListLemmas.{map_laid, map_more, one_more_row, one_more_counted}
 
 -- ---- the next one
 -- behind the haystack nothing is found
@@ -72,11 +74,6 @@ pub record IsListedSoFar (config : Config) (texts : List (List ℕ)) (h : List �
       (map span_of_match (all_found config.utf8 (alt_all res) h) ≡
       map span_of_row taken ++ map span_of_match (matches_from (found_from config.utf8 (alt_all res) h) left m))
 
-all_is : (utf8 : Bool) (a : Re) (h : List ℕ) →
-    all_found utf8 a h ≡ matches_from (found_from utf8 a h) (length h + 1) (found_from utf8 a h 0)
-all_is true a h = refl
-all_is false a h = refl
-
 module _ (config : Config) (texts : List (List ℕ)) (h : List ℕ) (old : List FoundMatch) where
   pub listing_begins : (next : Option FoundMatch) → old ≡ overlaid [] old → IsPreferred config texts h 0 next →
       IsListedSoFar config texts h (length h + 1 - 0) 0 old old next
@@ -87,7 +84,7 @@ module _ (config : Config) (texts : List (List ℕ)) (h : List ℕ) (old : List 
     rest = λ res read. (
       found_from config.utf8 (alt_all res) h 0,
       found res read,
-      ap (map span_of_match) (all_is config.utf8 (alt_all res) h)
+      ap (map span_of_match) (all_from_start config.utf8 (alt_all res) h)
           ∙ ap (λ (n : ℕ). map span_of_match (matches_from (found_from config.utf8 (alt_all res) h) n
           (found_from config.utf8 (alt_all res) h 0))) whole,
     );
@@ -144,8 +141,8 @@ module _ (config : Config) (texts : List (List ℕ)) (h : List ℕ) (old : List 
       ((res : List Re) → AreRead config texts res → map span_of_match (all_found config.utf8 (alt_all res) h) ≡ map span_of_row it.taken) →
       AreAll config texts h count old rows
   all_by left count rows o it all = record {
-    count = λ res read. it.counted ∙ sym (length_map span_of_row it.taken) ∙ ap length (sym (all res read))
-        ∙ length_map span_of_match (all_found config.utf8 (alt_all res) h);
+    count = λ res read. it.counted ∙ sym (length-map it.taken span_of_row) ∙ ap length (sym (all res read))
+        ∙ length-map (all_found config.utf8 (alt_all res) h) span_of_match;
     rows = λ res read. ap (map span_of_row) it.laid ∙ map_laid span_of_row it.taken old
         ∙ ap (λ (xs : List (ℕ × ℕ)). overlaid xs (map span_of_row old)) (sym (all res read));
   }

@@ -14,7 +14,6 @@ ghost use Rattle.capi.specs.Options.{config_of, allows_empty_loops};
 use crate::failure::{FoundMatch, NewError};
 use crate::options::Options;
 use hir_core::Hir;
-use hirscan::laws::loops_read_tells;
 use hirscan::{all_loops_read, build, find, first_empty_loop};
 use pattern_search::parse_all;
 use pattern_search::regex_laws::regexes_answer_what_is_written;
@@ -57,7 +56,6 @@ fn refused_loop(trees: &[Hir], options: &Options) -> Option<usize>
     ensures none { IfNone result (allows_empty_loops options.now ≡ false → All LoopsRead trees.now) }
     ensures some { IfSome result (λ number. (allows_empty_loops options.now ≡ false) × (first_empty_loop trees.now ≡ Some number)) }
 {
-    loops_read_tells();
     if options.allows_empty_loops() {
         None
     } else {

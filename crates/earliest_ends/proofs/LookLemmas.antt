@@ -35,14 +35,7 @@ use Rattle.lazy_dfa.specs.ScanLaws.{ReadsAlike}
 use Rattle.lazy_dfa.proofs.ForCallers.{supported_quits}
 use Rattle.regex_pair.specs.Pairs.{Pair}
 use Rattle.hirscan.specs.Regexes.{IsRegexOf}
-use Rattle.earliest_ends.proofs.PassLemmas.{begins}
-
-passed_alike : (reverse : Bool) (t : Terminator) (looks : Looks) (h : List ℕ) (s e : ℕ) (l : Look) (k : ℕ) → reverse ≡ false →
-    holds_ascii t h l (s + k) ≡ looks l (s + k) →
-    is_passed reverse (span t h s e) l (place_of reverse (first_place reverse s e) k) ≡
-    is_passed reverse (read_by looks h s e) l (place_of reverse (first_place reverse s e) k)
-passed_alike false t looks h s e l k up same = same
-passed_alike true t looks h s e l k up same = cc
+use Rattle.hirscan.proofs.ForCallers.{begins, passed_alike}
 
 module _ (xs : List Tree) (t : Terminator) (p : Pair) (regex : IsRegexOf xs false t p) where
   abbrev a : Automaton

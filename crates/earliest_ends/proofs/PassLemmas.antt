@@ -17,6 +17,7 @@ use Rattle.lazy_dfa.specs.Passes.{pass}
 use Rattle.lazy_dfa.specs.Readers.{Reader, HalfAnswer, found, quit}
 use Rattle.lazy_dfa.specs.Scans.{first_place, scan}
 use Rattle.lazy_dfa.proofs.ForCallers.{scan_is_pass, scan_done}
+use Rattle.hirscan.proofs.ForCallers.{begins}
 use Rattle.earliest_ends.specs.Earliest.{earliest_search}
 
 -- ---- answers that differ
@@ -44,10 +45,6 @@ index_before true i up = cc
 one_on : (reverse : Bool) (i m : ℕ) → reverse ≡ false → i + suc m ≡ place_of reverse i 1 + m
 one_on false i m up = omega arith
 one_on true i m up = cc
-
-pub begins : (reverse : Bool) (s e : ℕ) → reverse ≡ false → first_place reverse s e ≡ s
-begins false s e up = refl
-begins true s e up = cc
 
 -- ---- a turn, where no match was recorded before
 

@@ -35,6 +35,7 @@ use Rattle.pattern_text.specs.Words.{word_set}
 use Rattle.pattern_search.specs.Texts.{AreRead, AllMean}
 use Rattle.pattern_search.specs.Searches.{whole_query}
 use Rattle.pattern_search.proofs.ForCallers.{answer_is_loose, finds_what_is_written}
+use Rattle.pattern_search.proofs.ForCallers.{alike_some, same_patterns}
 use Rattle.grep_core.specs.declared.candidates.Stop.{Stop}
 use Rattle.grep_core.specs.Candidates.{IsCandidatesOf, IsLineStart, HaveNoMatch, HasMatchAt, HasNoFeedFrom, IsStop, IsStopIfAny, IsEnd}
 use Rattle.grep_core.specs.Candidates.{StopsInLine}
@@ -45,7 +46,7 @@ use Rattle.grep_core.specs.Searchers.{line_settings}
 use Rattle.grep_core.proofs.BlockLemmas.{is_feed, first_at, first_within, one_more, some_at}
 use Rattle.grep_core.proofs.JoinLemmas.{feed_there}
 use Rattle.grep_core.proofs.LineCutLemmas.{StandsIn, before_start, get_dropped, lines_between}
-use Rattle.grep_core.proofs.ToldLemmas.{alike_some, is_search, same_patterns}
+use Rattle.grep_core.proofs.ToldLemmas.{is_search}
 
 -- of the spans that these trees mean in the block from a place on, none ends before this place
 abbrev EndNotBefore : List Tree → List ℕ → ℕ → ℕ → Type 0

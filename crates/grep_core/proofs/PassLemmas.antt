@@ -8,6 +8,7 @@ use Rattle.std.proofs.lemmas.List.Folds.{drop_split}
 use Rattle.std.proofs.lemmas.List.Sums.{sum_by-append}
 use Rattle.std.specs.List.{position}
 use Rattle.std.specs.Prelude.{nat_lt}
+use Rattle.look_core.proofs.ForCallers.{All-left, All-right}
 use Rattle.grep_core.specs.declared.blocks.Progress.{Progress}
 use Rattle.grep_core.specs.declared.blocks.Task.{Task}
 use Rattle.grep_core.specs.declared.course.Course.{Course}
@@ -40,15 +41,6 @@ more_first a n = omega arith
 
 more_bytes : (a n m : ℕ) → (a + n + 1) + m ≡ a + (n + 1 + m)
 more_bytes a n m = omega arith
-
--- ---- parts of lists
-all_first : {X : Type 0} (P : X → Type 0) (xs ys : List X) → All P (xs ++ ys) → All P xs
-all_first P [] ys all = All-nil P
-all_first P (x ∷ xs) ys all = All-cons P x xs (All-head P x (xs ++ ys) all) (all_first P xs ys (All-tail P x (xs ++ ys) all))
-
-all_last : {X : Type 0} (P : X → Type 0) (xs ys : List X) → All P (xs ++ ys) → All P ys
-all_last P [] ys all = all
-all_last P (x ∷ xs) ys all = all_last P xs ys (All-tail P x (xs ++ ys) all)
 
 abbrev none_of : List Item → List Bool
 none_of items = map (λ _. false) items
@@ -187,10 +179,10 @@ module _ (text : List ℕ) (start : ℕ) (whole : AreWhole text) (starts : IsLin
     parted = subst (λ (lines : List (List ℕ)). All (Lacks f) lines) both lack
 
     front_lack : All (Lacks f) (split_lines (take start text))
-    front_lack = all_first (Lacks f) (split_lines (take start text)) (split_lines (drop start text)) parted
+    front_lack = All-left (Lacks f) (split_lines (take start text)) (split_lines (drop start text)) parted
 
     last_lack : All (Lacks f) (split_lines (drop start text))
-    last_lack = all_last (Lacks f) (split_lines (take start text)) (split_lines (drop start text)) parted
+    last_lack = All-right (Lacks f) (split_lines (take start text)) (split_lines (drop start text)) parted
 
 held_lines : (w : What) (held n : ℕ) → held ≡ held_of w → held ≤ n → prints_lines w.print ≡ true → before_of w.context ≤ n
 held_lines w held n is few lines =

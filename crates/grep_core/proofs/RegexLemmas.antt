@@ -3,11 +3,8 @@ use Rattle.std.proofs.Common.{◌≡◌, ℕ, zero, suc, ◌+◌, ◌<◌, ◌�
 use Rattle.std.proofs.Common.{subst, arith}
 use Rattle.regex_syntax.specs.declared.Config.{Config}
 use Rattle.regex.specs.declared.bytes.regex.Regex.{Regex}
+use Rattle.pattern_search.proofs.ForCallers.{read_texts}
 use Rattle.grep_core.specs.Fallbacks.{IsRegexOf, AreRegexesOf}
-
--- the texts behind references
-abbrev pub read_texts : List (Bor (List ℕ)) → List (List ℕ)
-read_texts = map (λ (t : Bor (List ℕ)). t.now)
 
 next_regex : (config : Config) (ts : List (Bor (List ℕ))) (d : Bor (List ℕ)) (n : ℕ) (rs : List Regex) (r : Regex) → n < length ts →
     AreRegexesOf config (take n (read_texts ts)) rs → IsRegexOf config (slice_index_or ts n d).now r →

@@ -13,16 +13,6 @@ use Rattle.grep_core.specs.Blocks.{tells_lines, counts_lines, IsOver, Writes, Re
 use Rattle.grep_core.specs.Lines.{split_lines}
 use Rattle.grep_core.specs.Report.{Finds, counted_as}
 
-pub more_in_text : (text : List ℕ) (done n : ℕ) → done ≤ length text → n ≤ length (take (length text - done) (drop done text)) →
-    done + n ≤ length text
-more_in_text text done n p q = omega (arith, length-take (length text - done) (drop done text))
-
-pub appends_more : (a b c : Option (List ℕ)) (text : List ℕ) (done n : ℕ) → Appends a b (take done text) →
-    Appends b c (take n (take (length text - done) (drop done text))) → Appends a c (take (done + n) text)
-appends_more a b c text done n p q =
-    subst (Appends a c) (sym (take-add done n text))
-    (Appends-trans a b c (take done text) (take n (drop done text)) p (subst (λ t. Appends b c (take n t)) (take_rest text done) q))
-
 -- what was appended before bytes that stay
 pub appends_kept : (a b c : Option (List ℕ)) (bytes : List ℕ) → Appends a b bytes → Keeps b c → Appends a c bytes
 appends_kept None b c bytes p q = tt

@@ -9,7 +9,6 @@ ghost use Rattle.grep_core.specs.Searchers.{IsSearcherOf, IsTold, AreTold, IsRef
 
 use crate::listing::{list, spans_of};
 use hir_core::Hir;
-use hirscan::laws::loops_read_tells;
 use hirscan::{Settings, build, find, first_empty_loop, program_settings};
 use lazy_dfa::BuildError;
 use lazy_dfa::dfa::Config as Options;
@@ -80,7 +79,6 @@ fn refused_loop(trees: &[Hir], with_matches: bool) -> Option<usize>
     ensures none { IfNone result (with_matches ≡ true → All LoopsRead trees.now) }
     ensures some { IfSome result (λ number. (with_matches ≡ true) × (first_empty_loop trees.now ≡ Some number)) }
 {
-    loops_read_tells();
     if with_matches {
         first_empty_loop(trees)
     } else {

@@ -48,7 +48,7 @@ pub place_reverse : (b : Bool) (s e : ℕ) → b ≡ true → place_of b (first_
 place_reverse true s e is_reverse = omega arith
 place_reverse false s e is_reverse = cc
 
-passed_alike : (b : Bool) (t : Terminator) (looks : Looks) (h : List ℕ) (s e : ℕ) (l : Look) (k : ℕ) → b ≡ false →
+pub passed_alike : (b : Bool) (t : Terminator) (looks : Looks) (h : List ℕ) (s e : ℕ) (l : Look) (k : ℕ) → b ≡ false →
     holds_ascii t h l (s + k) ≡ looks l (s + k) →
     is_passed b (span t h s e) l (place_of b (first_place b s e) k) ≡ is_passed b (read_by looks h s e) l (place_of b (first_place b s e) k)
 passed_alike false t looks h s e l k up same = same

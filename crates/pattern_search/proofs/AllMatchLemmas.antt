@@ -157,7 +157,7 @@ lists_from res xs same loops utf8 h s n search enough =
     (record { same = λ t. finds_as_read res xs same loops utf8 h t (from_any xs utf8 h s t search); ok = within }) n s
     ∙ ap (map span_of_found) (few_are_all (answer_from (whole_query utf8 xs h)) (length h) within s n enough)
 
-all_from_start : (utf8 : Bool) (re : Re) (h : List ℕ) →
+pub all_from_start : (utf8 : Bool) (re : Re) (h : List ℕ) →
     all_found utf8 re h ≡ matches_from (found_from utf8 re h) (length h + 1) (found_from utf8 re h 0)
 all_from_start false re h = refl
 all_from_start true re h = refl

@@ -25,6 +25,7 @@ use Rattle.hirscan.specs.Regexes.{IsSearchOf}
 use Rattle.pattern_text.specs.SameEnds.{looks_of, end_of, first_of, AreSameEnds}
 use Rattle.pattern_search.specs.Searches.{whole_search, whole_query, found_from, span_of_match, span_of_found, FindsAsRead}
 use Rattle.pattern_search.proofs.BoundaryLemmas.{may_begin, same_begin, span_may_end}
+use Rattle.pattern_search.proofs.MatchSpanLemmas.{spans_or}
 
 -- ---- the ends of several trees from one place
 -- the first end of several lists, one after the other
@@ -135,11 +136,6 @@ module _ (utf8 : Bool) (res : List Re) (xs : List Tree) (same : AreSameEnds res 
       at_counted i within (counts utf8 h i) refl
       ∙ ap (λ b. at_place i (end_of (if b then attempt h (alt_all res) accept i else None))) (sym (same_begin utf8 h i within))
 
-  spans-or : (a b : Option Match) → option_map span_of_match (option_or a b) ≡
-      option_or (option_map span_of_match a) (option_map span_of_match b)
-  spans-or None b = refl
-  spans-or (Some x) b = refl
-
   founds-or : (a b : Option Found) → span_of (option_or a b) ≡ option_or (span_of a) (span_of b)
   founds-or None b = refl
   founds-or (Some x) b = refl
@@ -153,7 +149,7 @@ module _ (utf8 : Bool) (res : List Re) (xs : List Tree) (same : AreSameEnds res 
   unfolding first_from
   from zero i fits = refl
   from (suc n) i fits =
-      spans-or (option_map (λ t. record { start = i; trace = t }) (tried utf8 h (alt_all res) i))
+      spans_or (option_map (λ t. record { start = i; trace = t }) (tried utf8 h (alt_all res) i))
       (first_from (tried utf8 h (alt_all res)) n (i + 1))
       ∙ ap₂ option_or (here i (tried utf8 h (alt_all res) i) ∙ sym (at_one i (omega arith))) (from n (i + 1) (omega arith))
       ∙ sym (founds-or (first_choice i (choices_at (whole_query utf8 xs h) i)) (leftmost (choices_at (whole_query utf8 xs h)) n (i + 1)))

@@ -3,6 +3,7 @@ use Rattle.std.proofs.Common.{◌≡◌, ◌↔◌, ◌⊎◌, ℕ, zero, suc, �
 use Rattle.std.proofs.Common.{Some, None, Ok, slice_get}
 use Rattle.std.proofs.Common.{if◌then◌else◌, is_some, refl, sym, ap, ◌∙◌, subst, arith, inl, inr, ⊎_elim, lt-ltb, true≢false}
 use Rattle.std.proofs.lemmas.Bool.{cases_Bool, cases_lt}
+use Rattle.std.proofs.lemmas.List.{length-map}
 use Rattle.std.proofs.lemmas.Option.{none-some, same_Some}
 use Rattle.regex_hir.specs.Re.{Re, Trace, accept, attempt}
 use Rattle.regex_hir.specs.Matches.{Matches}
@@ -19,7 +20,7 @@ use Rattle.search_types.proofs.ForCallers.{starts_at, may_start_at}
 use Rattle.hir_core.specs.Tree.{Tree}
 use Rattle.hir_core.specs.Means.{Means}
 use Rattle.hir_core.specs.Facts.{is_utf8_tree}
-use Rattle.hir_core.proofs.ForCallers.{span_forward, span_within, span_start_bounded}
+use Rattle.hir_core.proofs.ForCallers.{span_forward, span_within, span_start_bounded, same_test}
 use Rattle.lazy_dfa.specs.Caches.{CacheValue}
 use Rattle.lazy_dfa.specs.Dfas.{Dfa, reader}
 use Rattle.lazy_dfa.specs.WalkAnswers.{Which, with_pattern, is_full, which_from, which_of, AnswersWhich}
@@ -134,11 +135,6 @@ module _ (utf8 : Bool) (res : List Re) (xs : List Tree) (same : AreSameSpans res
       )
 
 -- ---- lists of tests
-both_ways : (a b : Bool) → (a ≡ true → b ≡ true) → (b ≡ true → a ≡ true) → a ≡ b
-both_ways true b f g = sym (f refl)
-both_ways false true f g = g refl
-both_ways false false f g = refl
-
 same_tests : (xs ys : List Bool) → length xs ≡ length ys → ((p : ℕ) → p < length ys → has xs p ≡ has ys p) → xs ≡ ys
 same_tests [] [] e each = refl
 same_tests [] (y ∷ ys) e each = absurd (omega (arith, e))
@@ -161,10 +157,6 @@ mapped f [] p below = absurd (omega (arith, below))
 mapped f (a ∷ ys) zero below = (a, refl, refl)
 mapped f (a ∷ ys) (suc p) below = mapped f ys p (omega (arith, below))
 
-length_mapped : {A B : Type 0} (f : A → B) (ys : List A) → length (map f ys) ≡ length ys
-length_mapped f [] = refl
-length_mapped f (a ∷ ys) = ap suc (length_mapped f ys)
-
 pub as_many : (res : List Re) (xs : List Tree) → AreSameSpans res xs → length res ≡ length xs
 as_many [] [] same = refl
 as_many [] (x ∷ xs) same = absurd same
@@ -181,7 +173,7 @@ module _ (utf8 : Bool) (res : List Re) (xs : List Tree) (same : AreSameSpans res
   which_is new room adds = same_tests new (which_match utf8 res h) rooms (λ p below. at p below)
     where
       many : length (which_match utf8 res h) ≡ length xs
-      many = length_mapped (λ re. is_some (found_from utf8 re h 0)) res ∙ as_many res xs same
+      many = length-map res (λ re. is_some (found_from utf8 re h 0)) ∙ as_many res xs same
 
       rooms : length new ≡ length (which_match utf8 res h)
       rooms = room ∙ room_for (length xs) ∙ sym many
@@ -190,7 +182,7 @@ module _ (utf8 : Bool) (res : List Re) (xs : List Tree) (same : AreSameSpans res
       at p below =
           let inside : p < length xs = omega (arith, below, many) in
           let told = mapped (λ re. is_some (found_from utf8 re h 0)) res p (omega (arith, inside, as_many res xs same)) in
-          both_ways (has new p) (has (which_match utf8 res h) p)
+          same_test (has new p) (has (which_match utf8 res h) p)
           (λ there. told.2 ∙ ⊎_elim
           (λ (was : has (replicate (length xs) false) p ≡ true). absurd (nothing_in (length xs) p was))
           (λ (come : (p < length (replicate (length xs) false)) × ((j : ℕ) × IsToldEnd (whole_query utf8 xs h) 0 j p)).

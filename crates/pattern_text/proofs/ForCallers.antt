@@ -13,6 +13,8 @@ pub use Rattle.pattern_text.proofs.RoundLemmas.{spans_repetition}
 pub use Rattle.pattern_text.proofs.ListLemmas.{same_concat, same_alternation, spans_concat, spans_alternation}
 -- the same ends are the same spans where loops read; patterns of which a caller sees the same have the same spans
 pub use Rattle.pattern_text.proofs.SpanLemmas.{spans_of_ends, matches_along, spans_of_captures}
+-- an outcome is there where a trace is
+pub use Rattle.pattern_text.proofs.SpanLemmas.{some_outcome}
 -- what follows at the first of several ends, where these are joined
 pub use Rattle.pattern_text.proofs.SameEndsLemmas.{first_of-append, first_of-flat_map, first_of-cong}
 -- what the toolchain's search finds, for a tree

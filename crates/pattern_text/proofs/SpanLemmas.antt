@@ -31,7 +31,8 @@ some_end : (o : Option Trace) → is_some (end_of o) ≡ is_some o
 some_end None = refl
 some_end (Some t) = refl
 
-some_outcome : (o : Option Trace) → is_some (outcome o) ≡ is_some o
+-- an outcome is there where a trace is
+pub some_outcome : (o : Option Trace) → is_some (outcome o) ≡ is_some o
 unfolding outcome
 some_outcome None = refl
 some_outcome (Some t) = refl

@@ -3,7 +3,7 @@ use Rattle.std.proofs.Common.{◌≡◌, ℕ, ◌≤◌, true, false, Option, So
 use Rattle.std.specs.Prelude.{Result, Ok, Err}
 use Rattle.search_types.specs.declared.match_error.MatchErrorKind.{MatchErrorKind}
 use Rattle.search_types.specs.declared.match_error.MatchErrorKind.TheVariants.{Quit, GaveUp, UnsupportedAnchored, NoMemory}
-use Rattle.search_types.specs.Found.{HalfFound}
+use Rattle.search_types.specs.Found.{Found, HalfFound}
 use Rattle.search_types.specs.Inputs.{Search}
 use Rattle.lazy_dfa.specs.Caches.{CacheValue}
 use Rattle.lazy_dfa.specs.Dfas.{Dfa, reader}
@@ -12,6 +12,13 @@ use Rattle.lazy_dfa.specs.Scans.{scan}
 use Rattle.lazy_dfa.specs.SearchAnswers.{told, Answers}
 use Rattle.regex_pair.specs.Joined.{back_from}
 use Rattle.lazy_dfa.proofs.ForCallers.{scan_in_span}
+
+-- what a half search and a whole one answer
+abbrev pub Half : Type 0
+Half = Result (Option HalfFound) MatchErrorKind
+
+abbrev pub Whole : Type 0
+Whole = Result (Option Found) MatchErrorKind
 
 -- of code, with its type
 abbrev pub answer : Option HalfFound → Result (Option HalfFound) MatchErrorKind

@@ -15,9 +15,7 @@ use Rattle.regex_pair.specs.MadeSearches.{FindsEnd, MakesMatch, MakesHalf}
 use Rattle.regex_pair.specs.Matching.{AnswersMatch, has_match, match_search, match_told}
 use Rattle.regex_pair.specs.Pairs.{Pair, PairCache}
 use Rattle.regex_pair.specs.PairTold.{is_some_half}
-
-abbrev Half : Type 0
-Half = Result (Option HalfFound) MatchErrorKind
+use Rattle.regex_pair.proofs.AnswerLemmas.{Half}
 
 told_match : (a : HalfAnswer) → is_some_half (told a) ≡ match_told a
 told_match (found (Some e)) = refl

@@ -16,13 +16,8 @@ use Rattle.regex_pair.specs.Matching.{has_match, match_search, match_told}
 use Rattle.regex_pair.specs.PairAnswers.{GoesBack}
 use Rattle.regex_pair.specs.PairTold.{TellsHalf, TellsMatch, TellsPair, tells_refusal, tells_end, tells_start, is_some_half, with_half}
 use Rattle.regex_pair.specs.Pairs.{Pair, PairCache}
-use Rattle.regex_pair.proofs.AnswerLemmas.{ok_is_no_error, ok_is_told}
-
-abbrev Half : Type 0
-Half = Result (Option HalfFound) MatchErrorKind
-
-abbrev Whole : Type 0
-Whole = Result (Option Found) MatchErrorKind
+use Rattle.regex_pair.proofs.AnswerLemmas.{Half, Whole, ok_is_no_error, ok_is_told}
+use Rattle.regex_pair.proofs.PairLemmas.{one_pair}
 
 -- ---- whether memory lacked, or a half search gave up
 
@@ -80,9 +75,6 @@ scanned d v q h (inr (inl is)) answered = not_lacking h NoMemory (h ≡ told (sc
 scanned d v q h (inr (inr gave)) answered = not_lacking h (GaveUp gave.0) (h ≡ told (scan (reader d) q)) answered gave.1 refl
 
 -- ---- what is told where the answer is the joined one
-
-one_pair : (e x : ℕ × ℕ) → found (Some e) ≡ found (Some x) → e ≡ x
-one_pair e x is = cc
 
 module _ (p : Pair) (q : Search) (old new : PairCache) where
   abbrev Ahead : Half → Type 0

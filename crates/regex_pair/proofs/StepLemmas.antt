@@ -12,9 +12,7 @@ use Rattle.regex_pair.specs.FindSteps.{searches_by, search_of, finds_from, cache
 use Rattle.regex_pair.specs.Pairs.{Pair, AreCachesOf}
 use Rattle.regex_pair.specs.StepSearches.{SearchesNext}
 use Rattle.regex_pair.proofs.NextLemmas.{next_falls, next_is, refused_is, behind_placed, kept_untouched, match_is_no_end, refusal_is_no_end}
-
-abbrev Whole : Type 0
-Whole = Result (Option Found) MatchErrorKind
+use Rattle.regex_pair.proofs.AnswerLemmas.{Whole}
 
 pub found_is : (result : Whole) (o : Option Found) (f : Found) → result ≡ Ok o → o ≡ Some f → result ≡ Ok (Some f)
 found_is result o f ok some = ok ∙ ap (λ (u : Option Found). Ok u) some

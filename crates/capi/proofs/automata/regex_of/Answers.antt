@@ -4,16 +4,14 @@ use Rattle.hir_core.specs.Facts.{LoopsRead, is_utf8_tree}
 use Rattle.hir_core.specs.Tree.{Tree}
 use Rattle.hirscan.specs.Built.{IsBuilt, RefusesBuild}
 use Rattle.pattern_search.specs.Texts.{AllMean}
+use Rattle.pattern_search.proofs.ForCallers.{read_texts}
 use Rattle.capi.proofs.automata.regex_of.Goals as goal
-
-abbrev texts_of : List (Bor (List ℕ)) → List (List ℕ)
-texts_of = map (λ (t : Bor (List ℕ)). t.now)
 
 pub returns-in-Err-build-clause-refused : goal.returns-in-Err-build-clause-refused
 returns-in-Err-build-clause-refused c =
     inr (
       c.in-Ok.trees.items,
-      subst (λ (k : Config). AllMean k (texts_of c.args.texts.now) c.in-Ok.trees.items) c.config-config.ensures c.in-Ok.ensures.means,
+      subst (λ (k : Config). AllMean k (read_texts c.args.texts.now) c.in-Ok.trees.items) c.config-config.ensures c.in-Ok.ensures.means,
       (
         c.settings-settings.result,
         subst (λ (xs : List Tree). RefusesBuild xs c.settings-settings.result c.in-Err-build.e)
@@ -30,7 +28,7 @@ returns-clause-made c =
         record {
           trees = c.in-Ok.trees.items;
           settings = c.settings-settings.result;
-          mean = subst (λ (k : Config). AllMean k (texts_of c.args.texts.now) c.in-Ok.trees.items)
+          mean = subst (λ (k : Config). AllMean k (read_texts c.args.texts.now) c.in-Ok.trees.items)
               c.config-config.ensures c.in-Ok.ensures.means;
           built = subst (λ (xs : List Tree). IsBuilt xs c.settings-settings.result c.in-Ok-build.regex)
               c.deref-3.ensures.value c.in-Ok-build.ensures.built;

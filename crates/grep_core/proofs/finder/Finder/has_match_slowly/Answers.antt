@@ -2,7 +2,7 @@ use Rattle.std.proofs.Common.{List, sym, subst}
 use Rattle.regex.specs.declared.bytes.regex.Regex.{Regex}
 use Rattle.grep_core.specs.Fallbacks.{AreRegexesOf}
 use Rattle.grep_core.specs.Searchers.{IsTold, Sought}
-use Rattle.grep_core.proofs.RegexLemmas.{read_texts}
+use Rattle.pattern_search.proofs.ForCallers.{read_texts}
 use Rattle.grep_core.proofs.finder.Finder.has_match_slowly.Goals as goal
 
 pub returns-clause-told : goal.returns-clause-told

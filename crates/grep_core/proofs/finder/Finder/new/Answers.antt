@@ -1,6 +1,6 @@
 use Rattle.std.proofs.Common.{refl}
 use Rattle.grep_core.specs.Searchers.{sized_settings}
-use Rattle.grep_core.proofs.RegexLemmas.{read_texts}
+use Rattle.pattern_search.proofs.ForCallers.{read_texts}
 use Rattle.grep_core.proofs.finder.Finder.new.Goals as goal
 
 pub returns-clause-searches : goal.returns-clause-searches

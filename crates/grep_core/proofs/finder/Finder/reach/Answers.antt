@@ -3,7 +3,7 @@ use Rattle.std.specs.Prelude.{IfSome}
 use Rattle.regex_pair.specs.Pairs.{Pair, PairCache}
 use Rattle.grep_core.specs.Candidates.{IsCandidatesOf, HaveNoMatch, HasMatchAt}
 use Rattle.grep_core.specs.Searchers.{Sought}
-use Rattle.grep_core.proofs.RegexLemmas.{read_texts}
+use Rattle.pattern_search.proofs.ForCallers.{read_texts}
 use Rattle.grep_core.proofs.finder.Finder.reach.Goals as goal
 
 pub returns-clause-passed : goal.returns-clause-passed

@@ -2,7 +2,7 @@ use Rattle.std.proofs.Common.{subst, sym}
 use Rattle.regex_syntax.specs.declared.Config.{Config}
 use Rattle.grep_core.specs.Fallbacks.{AreRegexesOf}
 use Rattle.grep_core.specs.Searchers.{Sought}
-use Rattle.grep_core.proofs.RegexLemmas.{read_texts}
+use Rattle.pattern_search.proofs.ForCallers.{read_texts}
 use Rattle.grep_core.proofs.finder.Finder.take_regexes.Goals as goal
 
 pub returns-clause-regexes : goal.returns-clause-regexes
