@@ -3,8 +3,8 @@ use Rattle.std.proofs.Common.{◌≡◌, ◌≤◌, ◌<◌, ℕ, ◌+◌, ◌++
 use Rattle.std.proofs.Common.{ap, subst, ◌∙◌}
 use Rattle.std.proofs.lemmas.Bool.{true≢false}
 use Rattle.std.proofs.lemmas.List.{length-take-le}
-use Rattle.grep_core.specs.declared.blocks.Progress.{Progress}
-use Rattle.grep_core.specs.declared.blocks.Task.{Task}
+use Rattle.grep_core.specs.declared.progress.Progress.{Progress}
+use Rattle.grep_core.specs.declared.progress.Task.{Task}
 use Rattle.grep_core.specs.declared.course.Course.{Course}
 use Rattle.grep_core.specs.declared.telling.Telling.{Telling}
 use Rattle.grep_core.specs.declared.what.Print.{Print}

@@ -9,8 +9,8 @@ use Rattle.std.proofs.lemmas.List.Sums.{sum_by-append}
 use Rattle.std.specs.List.{position}
 use Rattle.std.specs.Prelude.{nat_lt}
 use Rattle.look_core.proofs.ForCallers.{All-left, All-right}
-use Rattle.grep_core.specs.declared.blocks.Progress.{Progress}
-use Rattle.grep_core.specs.declared.blocks.Task.{Task}
+use Rattle.grep_core.specs.declared.progress.Progress.{Progress}
+use Rattle.grep_core.specs.declared.progress.Task.{Task}
 use Rattle.grep_core.specs.declared.course.Course.{Course}
 use Rattle.grep_core.specs.declared.what.Print.{Print}
 use Rattle.grep_core.specs.declared.what.Print.TheVariants.{Lines, Matches, Count, NameIfAny, NameIfNone, Nothing}

@@ -10,12 +10,12 @@ ghost use Rattle.grep_core.specs.Report.{Finds};
 ghost use Rattle.grep_core.specs.Searchers.{Sought, found_by};
 ghost use Rattle.grep_core.specs.Telling.{prints_lines};
 
-use crate::blocks::{Progress, Task, pass, sum};
 use crate::candidates::line_start;
 use crate::course::{Course, before_of, behind_hidden, forget_waiting};
 use crate::fault::Fault;
 use crate::feeds::feed_at;
 use crate::line::Line;
+use crate::progress::{Progress, Task, pass, sum};
 use crate::telling::{prints_lines, tell_line};
 use crate::what::{Print, What};
 use std::alloc::Global;

@@ -9,14 +9,15 @@ ghost use Rattle.grep_core.specs.Lines.{split_lines};
 ghost use Rattle.grep_core.specs.Report.{Finds, counted_as, report, selected_count};
 ghost use Rattle.grep_core.specs.Searchers.{SearchesFor, found_by};
 ghost use Rattle.grep_core.specs.Telling.{needs_spans};
-ghost use Rattle.grep_core.specs.declared.blocks.Task.{Task as TheTask};
+ghost use Rattle.grep_core.specs.declared.progress.Task.{Task as TheTask};
 
-use crate::blocks::{Progress, Task, tell_block, tell_one};
+use crate::blocks::{tell_block, tell_one};
 use crate::fault::Fault;
 use crate::feeds::feed_at;
 use crate::finder::Finder;
 use crate::held::Held;
 use crate::known::Known;
+use crate::progress::{Progress, Task};
 use crate::telling::{Telling, counted_as, is_over, tell_end};
 use crate::what::{Print, What};
 use std::alloc::Global;

@@ -24,7 +24,7 @@ use Rattle.regex_pair.specs.PairAnswers.{AnswersPair}
 use Rattle.regex_pair.specs.Pairs.{Pair, PairCache}
 use Rattle.regex_pair.proofs.ForCallers.{some_taken, asked_behind}
 use Rattle.hirscan.specs.declared.line.Setup.{Setup}
-use Rattle.hirscan.specs.declared.program.Ending.TheVariants.{Listed}
+use Rattle.hirscan.specs.declared.ending.Ending.TheVariants.{Listed}
 use Rattle.hirscan.specs.declared.reply.Reply.{Reply}
 use Rattle.hirscan.specs.Asks.{mode_of, search_of}
 use Rattle.hirscan.specs.Built.{IsBuilt, program_settings}

@@ -8,7 +8,7 @@ use Rattle.hirscan.proofs.SliceLemmas.{rest_of_slice}
 use Rattle.std.proofs.KnownBytes.{Appends-trans, Consumes-trans}
 use Rattle.std.specs.Prelude.{IfSome}
 use Rattle.std.specs.Io.KnownBytes.{Appends, Consumes, IsAtEnd, Keeps}
-use Rattle.hirscan.specs.declared.program.Ending.{Ending}
+use Rattle.hirscan.specs.declared.ending.Ending.{Ending}
 use Rattle.hirscan.specs.declared.program.RunError.{RunError}
 use Rattle.hirscan.specs.declared.program.RunError.TheVariants.{Read, Write, NoMemory}
 use Rattle.hirscan.specs.Reply.{IsReply}

@@ -2,21 +2,11 @@ ghost use Rattle.std.specs.Prelude.{◌≡◌, ℕ, ◌+◌, ◌^◌, ◌<◌, �
 ghost use Rattle.std.specs.Io.KnownBytes.{Appends, Consumes, IsAtEnd, Keeps};
 ghost use Rattle.hirscan.specs.Runs.{ReadsSome, TakesInput, TakesAtFault, WritesReply, WritesAtFault};
 
+use crate::ending::Ending;
 use crate::reply::{INPUT_LIMIT, Reply, reply_to};
 use std::alloc::{AllocError, AllocFailed, Global};
 use std::io::{Read, Write};
 use thiserror::Error;
-
-/// How a run ended that wrote its whole reply.
-#[derive(Clone, Copy, Debug, PartialEq, Eq)]
-pub enum Ending {
-    /// The spans are listed.
-    Listed,
-    /// The spans up to where a search gave up at a quit byte, and then this byte.
-    Quit,
-    /// The input is refused, by one line that says why.
-    Refused,
-}
 
 /// Why a run didn't write its whole reply.
 #[derive(Clone, Copy, Debug, PartialEq, Eq, Error)]

@@ -1,4 +1,4 @@
-use Rattle.grep_core.specs.declared.blocks.Task.{Task}
+use Rattle.grep_core.specs.declared.progress.Task.{Task}
 use Rattle.grep_core.specs.Searchers.{found_by}
 use Rattle.grep_core.specs.Telling.{needed}
 use Rattle.grep_core.proofs.SeenLemmas.{moved_by}
