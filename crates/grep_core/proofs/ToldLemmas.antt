@@ -9,6 +9,7 @@ use Rattle.hir_core.specs.Tree.{Tree}
 use Rattle.search_types.specs.Found.{Found}
 use Rattle.regex_pair.specs.Pairs.{Pair, PairCache}
 use Rattle.regex_pair.specs.PairAnswers.{AnswersPair}
+use Rattle.regex_pair.specs.Taken.{IsWholeList}
 use Rattle.hirscan.specs.Built.{IsBuilt}
 use Rattle.hirscan.specs.Regexes.{IsSearchOf}
 use Rattle.pattern_search.specs.Searches.{whole_search}
@@ -20,7 +21,7 @@ use Rattle.std.specs.List.{filter}
 use Rattle.hir_core.specs.Facts.{LoopsRead}
 use Rattle.pattern_search.specs.Searches.{span_of_found}
 use Rattle.grep_core.specs.Report.{is_some_text}
-use Rattle.grep_core.specs.Searchers.{IsSearcherOf, IsTold, AreTold, IsWholeList, sized_settings}
+use Rattle.grep_core.specs.Searchers.{IsSearcherOf, IsTold, AreTold, sized_settings}
 
 -- any line of bytes is searched, whatever the trees
 pub is_search : (xs : List Tree) (line : List ℕ) → All (λ b. b < 256) line → IsSearchOf xs false (whole_search line 0)

@@ -1,16 +1,12 @@
 -- What a searcher of lines is of, and what it tells of a line.
-use Rattle.std.specs.Prelude.{◌≡◌, ◌⊎◌, ℕ, Bool, true, false, List, Option, Some, None}
+use Rattle.std.specs.Prelude.{◌≡◌, ◌⊎◌, ℕ, Bool, true, false, List, Option, Some}
 use Rattle.std.specs.List.{filter}
 use Rattle.regex_hir.specs.Re.{Re}
 use Rattle.regex_syntax.specs.declared.Config.{Config}
 use Rattle.hir_core.specs.Tree.{Tree}
 use Rattle.search_types.specs.Found.{Found}
-use Rattle.search_types.specs.Inputs.{Search}
 use Rattle.lazy_dfa.specs.declared.build_error.BuildError.TheVariants.{NoMemory}
-use Rattle.regex_pair.specs.declared.find_matches.FindMatches.{FindMatches}
-use Rattle.regex_pair.specs.FindSteps.{FindsNext, finds_from, searches_by}
 use Rattle.regex_pair.specs.Pairs.{Pair}
-use Rattle.regex_pair.specs.Taken.{AreTaken}
 use Rattle.hirscan.specs.declared.settings.Settings.{Settings}
 use Rattle.hirscan.specs.Built.{IsBuilt, RefusesBuild, default_settings, program_settings}
 use Rattle.hirscan.specs.Loops.{first_empty_loop}
@@ -42,14 +38,6 @@ IsTold config texts line told = (res : List Re) → AreRead config texts res →
 -- the matches of the line that aren't empty are told as what the texts are read as has them
 abbrev pub AreTold : Config → List (List ℕ) → List ℕ → List (ℕ × ℕ) → Type 0
 AreTold config texts line told = (res : List Re) → AreRead config texts res → told ≡ filter is_some_text ((finds_of res).spans line)
-
--- an iterator over the matches of the search gave these, and then came to its end
-pub record IsWholeList (p : Pair) (q : Search) (fs : List Found) : Type 0 where
-  pub old : FindMatches
-  pub new : FindMatches
-  pub regex : searches_by old ≡ p
-  pub taken : AreTaken p q fs (finds_from old)
-  pub over : FindsNext old None new
 
 -- what is sought in lines: the texts of patterns, the options under which these are read, and whether matches may be asked for
 pub record Sought : Type 0 where

@@ -3,7 +3,8 @@ use Rattle.std.proofs.Common.{◌≡◌, ◌↔◌, ℕ, Bool, true, List, [], �
 use Rattle.std.proofs.lemmas.List.Elements.{All-nil, All-cons, All-head, All-tail}
 use Rattle.hir_core.specs.Tree.{Tree, concat, empty, literal, byte_class, char_class, look, repetition, capture, nothing, cat, never, alt}
 use Rattle.hir_core.specs.Facts.{minimum_len, IsAboveZero, LoopsRead}
-use Rattle.hirscan.specs.Loops.{is_above_zero, loops_read, first_empty_loop}
+use Rattle.thompson_nfa.specs.Compiled.{is_above_zero}
+use Rattle.hirscan.specs.Loops.{loops_read, first_empty_loop}
 use Rattle.std.proofs.lemmas.Bool.{and_parts, and_from, ltb-false, not-false}
 use Rattle.std.proofs.lemmas.List.Sums.{fails_before_first}
 use Rattle.std.specs.List.{position, position_or_len}
