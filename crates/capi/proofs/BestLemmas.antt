@@ -5,13 +5,11 @@ use Rattle.std.proofs.Common.{option_map, if◌then◌else◌, refl, sym, ap, ap
 use Rattle.std.proofs.lemmas.Bool.{cases_lt}
 use Rattle.std.proofs.lemmas.Option.{none-some, same_Some}
 use Rattle.std.specs.Option.{option_or}
-use Rattle.regex_class.specs.Ranges.{in_ranges}
 use Rattle.regex_hir.specs.Re.{Re, Trace, Rest, accept, attempt}
 use Rattle.regex_hir.specs.Re as re
 use Rattle.regex_hir.specs.Matches.{Matches}
 use Rattle.regex_hir.specs.Meaning.{alt_all}
 use Rattle.regex_hir.specs.Find.{Match, first_from, first_between}
-use Rattle.regex_hir.specs.Text.{is_some_and}
 use Rattle.regex_hir.proofs.AttemptLemmas.{attempt_sound, attempt_complete}
 use Rattle.regex_hir.proofs.FindLemmas.{IsFirst-of_first_between, none_of_first_between}
 use Rattle.regex_hir.proofs.OptionLemmas.{value_of_IsSome}

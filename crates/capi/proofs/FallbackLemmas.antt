@@ -12,8 +12,7 @@ use Rattle.regex_hir.specs.Find.{Match}
 use Rattle.regex_hir.specs.declared.hir.Hir.{Hir}
 use Rattle.regex_syntax.specs.Captures.{SameCaptures}
 use Rattle.regex_syntax.specs.declared.Config.{Config}
-use Rattle.regex_syntax.specs.Grammar.{Names, group_count, read}
-use Rattle.regex_syntax.specs.Brackets.{Nested}
+use Rattle.regex_syntax.specs.Grammar.{Names, read}
 use Rattle.regex_syntax.specs.Verdict.{Reads}
 use Rattle.regex.specs.Bytes as raw
 use Rattle.regex.specs.Strings as text

@@ -1,7 +1,7 @@
 -- What is told of a haystack, by what searches promise.
-use Rattle.std.proofs.Common.{◌≡◌, ◌<◌, ◌≤◌, ℕ, suc, Bool, true, false, List, [], ◌∷◌, All, length, map, replicate, Option, Some, None, Ok}
-use Rattle.std.proofs.Common.{ap, ap₂, sym, subst, ◌∙◌, refl, arith}
-use Rattle.std.specs.Prelude.{is_some, option_map, IsSomeAnd, IfSome, chars}
+use Rattle.std.proofs.Common.{◌≡◌, ◌<◌, ℕ, suc, Bool, true, false, List, [], ◌∷◌, All, length, map, replicate, Option, Some, None, Ok}
+use Rattle.std.proofs.Common.{ap, sym, subst, ◌∙◌, refl, arith}
+use Rattle.std.specs.Prelude.{is_some, option_map, IfSome}
 use Rattle.std.proofs.lemmas.List.{length-map}
 use Rattle.regex_hir.specs.Re.{Re}
 use Rattle.regex_hir.specs.Meaning.{alt_all}

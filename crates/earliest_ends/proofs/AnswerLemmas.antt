@@ -1,6 +1,6 @@
 -- What calls of a half search for the earliest end answer, by what the search over values answers.
 use Rattle.std.proofs.Common.{◌≡◌, ◌⊎◌, inl, inr, ℕ, ◌<◌, Bool, true, false, List, length, Option, Some, None, All, refl, sym}
-use Rattle.std.proofs.Common.{ap, ◌∙◌, subst, arith, if◌then◌else◌}
+use Rattle.std.proofs.Common.{ap, ◌∙◌, subst, arith}
 use Rattle.std.specs.Prelude.{Result, Ok, Err}
 use Rattle.search_core.specs.ByteSets.{has}
 use Rattle.look_core.specs.Looks.{IsWordSet}
@@ -11,21 +11,16 @@ use Rattle.search_types.specs.declared.match_error.MatchErrorKind.TheVariants.{G
 use Rattle.search_types.specs.declared.match_error.MatchErrorKind.TheVariants.{UnsupportedAnchored}
 use Rattle.search_types.specs.Found.{HalfFound}
 use Rattle.search_types.specs.Inputs.{Search}
-use Rattle.nfa_core.specs.NfaValue.{Nfa}
-use Rattle.lazy_dfa.specs.Accounting.{least_capacity}
-use Rattle.lazy_dfa.specs.Building.{built, dfa_of, is_too_small, measures_with}
+use Rattle.lazy_dfa.specs.Building.{built}
 use Rattle.lazy_dfa.specs.Caches.{CacheValue}
-use Rattle.lazy_dfa.specs.ConfigValue.{Options, by_hand, capacity_of, changed_by, clears_of, word_boundary_of}
-use Rattle.lazy_dfa.specs.declared.build_error.BuildError.{BuildError}
-use Rattle.lazy_dfa.specs.declared.build_error.BuildError.TheVariants.{InsufficientCacheCapacity, Unsupported}
+use Rattle.lazy_dfa.specs.ConfigValue.{changed_by, clears_of}
 use Rattle.lazy_dfa.specs.Dfas.{Dfa, reader}
 use Rattle.lazy_dfa.specs.Linked.{passes_of}
-use Rattle.lazy_dfa.specs.Quits.{is_unsupported}
 use Rattle.lazy_dfa.specs.Readers.{HalfAnswer, found, quit, unsupported}
 use Rattle.lazy_dfa.specs.Scans.{scan}
 use Rattle.lazy_dfa.specs.SearchAnswers.{Answers, half_of, told}
 use Rattle.lazy_dfa.proofs.ForCallers.{never_among, scan_quits_near}
-use Rattle.regex_pair.specs.Pairs.{Pair, back_options, both_of}
+use Rattle.regex_pair.specs.Pairs.{Pair, back_options}
 use Rattle.hirscan.specs.declared.settings.Settings.{Settings}
 use Rattle.hirscan.specs.Built.{IsBuilt, quit_bytes_for}
 use Rattle.hirscan.specs.Regexes.{IsRegexOf}

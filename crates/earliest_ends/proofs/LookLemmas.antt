@@ -16,12 +16,9 @@ use Rattle.look_core.specs.Terminators.{Terminator}
 use Rattle.look_core.proofs.ForCallers.{reads_bytes, agree_on_ascii}
 use Rattle.hir_core.specs.Agree.{AgreeFrom}
 use Rattle.hir_core.specs.Facts.{looks_used}
-use Rattle.hir_core.specs.Means.{Looks}
 use Rattle.hir_core.specs.Tree.{Tree}
 use Rattle.nfa_core.specs.Nfa.{Automaton}
 use Rattle.nfa_core.specs.NfaValue.{has_empty, looks_of}
-use Rattle.nfa_core.specs.Reaches.{read_by}
-use Rattle.nfa_core.specs.Ways.{span, is_passed, place_of}
 use Rattle.thompson_nfa.specs.Compiled.{turned}
 use Rattle.thompson_nfa.specs.Configs.{reverse_of}
 use Rattle.thompson_nfa.proofs.ForCallers.{looks_are_used}

@@ -7,15 +7,13 @@ use Rattle.std.specs.Option.{option_or}
 use Rattle.regex_class.specs.Ranges.{in_ranges}
 use Rattle.regex_hir.specs.Re.{Re, Trace, Rest, accept, attempt}
 use Rattle.regex_hir.specs.Re as re
-use Rattle.regex_hir.specs.Meaning.{alt_all, meaning}
+use Rattle.regex_hir.specs.Meaning.{alt_all}
 use Rattle.regex_hir.specs.Find.{Match, first_from, find}
 use Rattle.regex_hir.specs.Text.{is_some_and}
-use Rattle.regex_hir.specs.declared.hir.Hir.{Hir}
-use Rattle.regex_syntax.specs.Captures.{outcome, SameCaptures}
+use Rattle.regex_syntax.specs.Captures.{SameCaptures}
 use Rattle.regex_syntax.specs.declared.Config.{Config}
-use Rattle.regex_syntax.specs.Grammar.{Names, group_count, read}
+use Rattle.regex_syntax.specs.Grammar.{read}
 use Rattle.regex_syntax.proofs.Written.{is_some-option_map}
-use Rattle.regex_syntax.specs.Brackets.{Nested}
 use Rattle.regex_syntax.specs.Verdict.{Reads}
 use Rattle.regex.specs.declared.bytes.regex.Regex.{Regex}
 use Rattle.regex.specs.Bytes.{regex_pattern}

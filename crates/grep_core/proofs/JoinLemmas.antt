@@ -10,7 +10,7 @@ use Rattle.std.specs.List.{position, position_or_len}
 use Rattle.grep_core.specs.Candidates.{IsLineStart, HasNoFeedFrom}
 use Rattle.grep_core.specs.Lines.{split_lines}
 use Rattle.grep_core.specs.Passing.{AreWhole}
-use Rattle.grep_core.proofs.BlockLemmas.{is_feed, first_at, one_more, some_at, first_within, turn, turn_counted}
+use Rattle.grep_core.proofs.BlockLemmas.{is_feed, first_at, one_more, some_at, turn, turn_counted}
 use Rattle.grep_core.proofs.LineCutLemmas.{before_start, get_dropped}
 use Rattle.grep_core.proofs.WholeLemmas.{whole_behind, whole_none}
 

@@ -1,7 +1,7 @@
 -- Matches are marked one after the other.
-use Rattle.std.proofs.Common.{◌≡◌, ℕ, suc, ◌+◌, ◌<◌, ◌≤◌, true, List, ◌∷◌, ◌++◌, map, length, drop, get_or, codes, slice_range, sym, ap}
+use Rattle.std.proofs.Common.{◌≡◌, ℕ, suc, ◌+◌, ◌<◌, true, List, ◌∷◌, ◌++◌, map, length, drop, get_or, codes, slice_range, sym, ap}
 use Rattle.std.proofs.Common.{◌∙◌, arith}
-use Rattle.std.proofs.Common.{drop-cons, drop_of_length-le, rules}
+use Rattle.std.proofs.Common.{drop-cons, rules}
 use Rattle.std.proofs.lemmas.Grind.{common_steps}
 use Rattle.search_types.specs.declared.span.Span.{Span}
 use Rattle.grep_core.specs.Printing.{marked, marked_from, span_pair}

@@ -1,5 +1,5 @@
 -- Texts whose regexes are made one by one.
-use Rattle.std.proofs.Common.{◌≡◌, ℕ, zero, suc, ◌+◌, ◌<◌, ◌≤◌, List, [], ◌∷◌, ◌++◌, map, length, take, slice_index_or, Bor, refl, sym, ap}
+use Rattle.std.proofs.Common.{◌≡◌, ℕ, zero, suc, ◌+◌, ◌<◌, List, [], ◌∷◌, ◌++◌, length, take, slice_index_or, Bor, sym}
 use Rattle.std.proofs.Common.{subst, arith}
 use Rattle.regex_syntax.specs.declared.Config.{Config}
 use Rattle.regex.specs.declared.bytes.regex.Regex.{Regex}

@@ -1,7 +1,7 @@
 -- What is still told of lines goes on by one line.
 use Rattle.std.proofs.Common.{◌≡◌, Result, Ok, Err, OnOk, ◌⊎◌, inl, inr, IsTrue, nat_eq, take, ◌≤◌, ◌<◌, ℕ, zero, suc, ◌+◌, ◌-◌, Bool, true}
 use Rattle.std.proofs.Common.{false, not, ◌&&◌, nat_lt, List, [], ◌∷◌, ◌++◌, map, Option, Some, None, if◌then◌else◌, refl, sym, ap, ap₂}
-use Rattle.std.proofs.Common.{◌∙◌, subst, arith, lt-ltb}
+use Rattle.std.proofs.Common.{◌∙◌, arith, lt-ltb}
 use Rattle.grep_core.specs.declared.course.Course.{Course}
 use Rattle.grep_core.specs.declared.known.Known.{Known}
 use Rattle.grep_core.specs.declared.known.Known.TheVariants.{LastPrinted}
@@ -13,7 +13,7 @@ use Rattle.grep_core.specs.declared.what.What.{What}
 use Rattle.grep_core.specs.Courses.{Item, item, still, print_as, print_item, waiting_item}
 use Rattle.grep_core.specs.Lines.{TextLine}
 use Rattle.grep_core.specs.Report.{Finds, before_of, after_of, roles_of, parting, behind_hidden, print_lines, count_line, name_line}
-use Rattle.grep_core.specs.Report.{report_as, selected, told_spans, is_wanted, counted_as}
+use Rattle.grep_core.specs.Report.{report_as, selected, told_spans, is_wanted}
 use Rattle.grep_core.specs.Selecting.{limited, count, any, roles, roles_from}
 use Rattle.grep_core.specs.Telling.{shown, told_item, prints_lines, tells_as, left_of, may_select, flags_behind}
 

@@ -1,8 +1,7 @@
 -- What is told of a line, by what searches promise.
-use Rattle.std.proofs.Common.{map, ◌≡◌, ◌<◌, ◌≤◌, ℕ, true, false, List, [], ◌∷◌, All, Option, Some, None, Ok, ap, ap₂, sym, ◌∙◌, refl}
+use Rattle.std.proofs.Common.{map, ◌≡◌, ◌<◌, ℕ, true, false, List, All, Option, Ok, ap, sym, ◌∙◌, refl}
 use Rattle.std.proofs.Common.{arith}
-use Rattle.std.specs.Prelude.{is_some, option_map, IsSomeAnd, chars}
-use Rattle.regex_hir.specs.Re.{Re}
+use Rattle.std.specs.Prelude.{is_some}
 use Rattle.regex_syntax.specs.declared.Config.{Config}
 use Rattle.regex_syntax.specs.Grammar.{read}
 use Rattle.hir_core.specs.Tree.{Tree}
@@ -13,7 +12,7 @@ use Rattle.regex_pair.specs.Taken.{IsWholeList}
 use Rattle.hirscan.specs.Built.{IsBuilt}
 use Rattle.hirscan.specs.Regexes.{IsSearchOf}
 use Rattle.pattern_search.specs.Searches.{whole_search}
-use Rattle.pattern_search.specs.Texts.{AreRead, AllMean}
+use Rattle.pattern_search.specs.Texts.{AllMean}
 use Rattle.pattern_search.specs.Written.{AnswersWhatIsWritten}
 use Rattle.pattern_search.proofs.ForCallers.{alike_some, same_patterns}
 use Rattle.grep_core.specs.Patterns.{finds_of}

@@ -1,7 +1,7 @@
 -- Texts of whole lines.
 use Rattle.std.proofs.Common.{◌≡◌, ◌<◌, inl, inr, ℕ, zero, suc, ◌+◌, Bool, true, false, cond, List, [], ◌∷◌, ◌++◌, None, length, drop, take}
-use Rattle.std.proofs.Common.{get_or, count_by, if◌then◌else◌, refl, sym, ap, ◌∙◌, subst, append_assoc, append-nil, take-add, arith}
-use Rattle.std.proofs.lemmas.List.{drop_all, take_more}
+use Rattle.std.proofs.Common.{count_by, if◌then◌else◌, refl, sym, ap, ◌∙◌, subst, take-add, arith}
+use Rattle.std.proofs.lemmas.List.{drop_all}
 use Rattle.std.proofs.lemmas.List.Sums.{sum_by-append, sum_by-cons}
 use Rattle.std.specs.List.{position}
 use Rattle.grep_core.specs.Lines.{put_first, split_lines}

@@ -4,7 +4,6 @@ use Rattle.std.specs.List.{filter}
 use Rattle.regex_hir.specs.Re.{Re}
 use Rattle.regex_syntax.specs.declared.Config.{Config}
 use Rattle.hir_core.specs.Tree.{Tree}
-use Rattle.search_types.specs.Found.{Found}
 use Rattle.lazy_dfa.specs.declared.build_error.BuildError.TheVariants.{NoMemory}
 use Rattle.regex_pair.specs.Pairs.{Pair}
 use Rattle.hirscan.specs.declared.settings.Settings.{Settings}

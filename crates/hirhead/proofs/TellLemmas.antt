@@ -1,9 +1,9 @@
 -- What is printed of a tree's parts is what is printed of the tree, and where a part is refused the tree is.
 pub use Rattle.std.proofs.lemmas.Fmt.{hex_byte}
-use Rattle.std.proofs.Common.{◌≡◌, ◌≢◌, ℕ, zero, suc, ◌+◌, ◌-◌, ◌^◌, ◌<◌, ◌≤◌, min, Bool, true, ◌&&◌, nat_le, List, [], ◌∷◌, ◌++◌}
-use Rattle.std.proofs.Common.{map, length, drop, get_or, All, Option, Some, None, slice_get, decimal, codes, refl, sym, ◌∙◌, ap, subst}
+use Rattle.std.proofs.Common.{◌≡◌, ◌≢◌, ℕ, zero, suc, ◌+◌, ◌-◌, ◌^◌, ◌<◌, ◌≤◌, min, true, ◌&&◌, nat_le, List, [], ◌∷◌, ◌++◌}
+use Rattle.std.proofs.Common.{map, length, drop, get_or, All, Some, slice_get, decimal, codes, refl, sym, ◌∙◌, ap, subst}
 use Rattle.std.proofs.Common.{arith}
-use Rattle.std.proofs.Common.{Result, Ok, Err, IsErrAnd, IfErr, append_assoc, append-nil, drop-cons, drop_of_length-le, take, take_all}
+use Rattle.std.proofs.Common.{Result, Ok, Err, IsErrAnd, IfErr, append_assoc, append-nil, drop-cons, take, take_all}
 use Rattle.std.specs.List.{flat_map}
 use Rattle.std.proofs.lemmas.Bool.{and_parts, leb-true}
 use Rattle.std.proofs.lemmas.List.Concat.{flat_map-append}
@@ -11,14 +11,13 @@ use Rattle.std.proofs.lemmas.List.Elements.{All-nil, All-cons, All-head, All-tai
 use Rattle.hex.specs.Hex.{encode_lower}
 use Rattle.hir_core.specs.Tree.{Tree, empty, literal, byte_class, char_class, look, repetition, capture, nothing, cat, never, alt, concat}
 use Rattle.hir_core.specs.Tree.{alternation}
-use Rattle.hir_core.specs.Facts.{height, is_ascending, rises_from, IsWellFormed}
-use Rattle.hir_core.specs.Means.{AtMost}
+use Rattle.hir_core.specs.Facts.{height, is_ascending, rises_from}
 use Rattle.hirhead.specs.declared.lines.Unfit.{Unfit}
 use Rattle.hirhead.specs.declared.lines.Unfit.TheVariants.{NoMemory, TooDeep, TooManyParts}
 use Rattle.hirhead.specs.Told.{told}
-use Rattle.hirhead.specs.Lines.{Line, byte_item, scalar_item, rounds_line, lines_behind, lines_of, pattern_lines, behind_word, line_text}
+use Rattle.hirhead.specs.Lines.{Line, byte_item, scalar_item, lines_behind, lines_of, behind_word, line_text}
 use Rattle.hirhead.specs.Lines.{lines_text}
-use Rattle.hirhead.specs.HasLines.{AreScalars, IsByteRange, IsScalarRange, IsShort, is_cat, is_alt, HasLines, FitsIn, AllFit, most_parts}
+use Rattle.hirhead.specs.HasLines.{AreScalars, IsByteRange, IsScalarRange, is_cat, is_alt, HasLines, FitsIn, AllFit, most_parts}
 use Rattle.hirhead.specs.HasLines.{IsUnfit, AreUnfit}
 
 -- ---- texts

@@ -1,17 +1,16 @@
 -- Items of scalars make the same ranges in any order: ranges that stay apart are told by their members.
-use Rattle.std.proofs.Common.{◌≡◌, ℕ, ◌+◌, ◌<◌, ◌≤◌, true, false, ◌&&◌, ◌||◌, Bool, nat_le, List, [], ◌∷◌, ◌++◌, map, None, refl, sym, ◌∙◌}
+use Rattle.std.proofs.Common.{◌≡◌, ℕ, ◌+◌, ◌<◌, ◌≤◌, true, false, ◌&&◌, ◌||◌, nat_le, List, [], ◌∷◌, map, None, refl, sym, ◌∙◌}
 use Rattle.std.proofs.Common.{ap, subst, inl, inr, arith}
 use Rattle.std.specs.List.{list_all}
 use Rattle.std.specs.List.Sorted.{IsPermutation}
 use Rattle.std.proofs.lemmas.Bool.{cases_lt, and_parts, and_from, or_cases, or_left, leb-true, le-leb, false_from_ne_true}
 use Rattle.std.proofs.lemmas.List.Sorted.{All-permutation, list_any-IsPermutation}
-use Rattle.std.proofs.lemmas.List.Folds.{list_any-append}
 use Rattle.std.proofs.lemmas.List.Sums.{AllPass-from_list_all, list_all-from_AllPass}
 use Rattle.hir_core.specs.Means.{is_member}
 use Rattle.hirscan.specs.Words.{scalar_ranges}
-use Rattle.hirscan.specs.Readers.{hex_ends, the_hex_ends}
+use Rattle.hirscan.specs.Readers.{the_hex_ends}
 use Rattle.hirscan.specs.LineFault.{first_of, scalar_item_fault}
-use Rattle.hirscan.proofs.ScalarRangeLemmas.{AreApart, in_order, ends_in_order, faultless_in_order, scalar_ranges_apart, scalar_members}
+use Rattle.hirscan.proofs.ScalarRangeLemmas.{AreApart, in_order, faultless_in_order, scalar_ranges_apart, scalar_members}
 use Rattle.thompson_nfa.proofs.ForCallers.{or_none}
 
 in_first : (r : ℕ × ℕ) (rs : List (ℕ × ℕ)) (c : ℕ) → r.0 ≤ c → c ≤ r.1 → is_member (r ∷ rs) c ≡ true

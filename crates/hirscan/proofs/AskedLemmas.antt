@@ -1,10 +1,10 @@
 -- Whether a search is one that the laws are about, by the tests of it.
-use Rattle.std.proofs.Common.{◌≡◌, ℕ, ◌<◌, ◌↔◌, Bool, true, false, List, All, IsTrue, Some, None, refl, sym, ◌∙◌, true≢false}
+use Rattle.std.proofs.Common.{◌≡◌, ℕ, ◌↔◌, Bool, true, false, List, IsTrue, Some, None, refl, sym, ◌∙◌, true≢false}
 use Rattle.std.specs.List.{list_all}
-use Rattle.std.proofs.lemmas.List.Sums.{AllPass-from_list_all, list_all-from_AllPass}
+use Rattle.std.proofs.lemmas.List.Sums.{list_all-from_AllPass}
 use Rattle.search_core.specs.Utf8.{IsValidText}
 use Rattle.search_core.proofs.ForCallers.{utf8_of_valid}
-use Rattle.search_types.specs.Inputs.{Search, IsWithin}
+use Rattle.search_types.specs.Inputs.{Search}
 use Rattle.hir_core.specs.Tree.{Tree}
 use Rattle.hir_core.specs.Facts.{is_utf8_tree}
 use Rattle.hirscan.specs.Refusals.{first_broken}

@@ -1,9 +1,7 @@
 -- What reading a haystack as UTF-8 says of its longest valid beginning, and what is searched where nothing is refused.
 use Rattle.std.proofs.Common.{◌≡◌, ℕ, zero, suc, ◌+◌, ◌<◌, ◌≤◌, Bool, true, false, not, if◌then◌else◌, List, [], ◌∷◌, All, length, take}
-use Rattle.std.proofs.Common.{Option, Some, None, option_map, nat_lt, nat_le, get_or, true≢false, refl, sym, subst, arith, codes, decimal}
+use Rattle.std.proofs.Common.{Option, Some, None, option_map, nat_lt, nat_le, true≢false, refl, sym, subst, arith, codes, decimal}
 use Rattle.std.proofs.Common.{◌++◌, ◌∙◌, ap, leb-true}
-use Rattle.std.specs.List.{position, position_or_len}
-use Rattle.std.proofs.lemmas.List.Sums.{fails_before_first}
 use Rattle.std.specs.Str.{IsUtf8, IsValidUpTo, is_utf8}
 use Rattle.std.specs.Str.Lossy.{utf8_valid_len, valid_len_up_to}
 use Rattle.std.proofs.lemmas.Str.{IsUtf8-nil, IsUtf8-from_is_utf8, utf8_valid_len-IsUtf8, utf8_valid_len-IsValidUpTo, utf8_valid_len_le}
@@ -15,7 +13,7 @@ use Rattle.hir_core.specs.Tree.{Tree}
 use Rattle.hir_core.specs.Facts.{LoopsRead, is_utf8_tree}
 use Rattle.hirscan.specs.declared.line.Setup.{Setup}
 use Rattle.hirscan.specs.Asks.{search_of}
-use Rattle.hirscan.specs.Loops.{loops_read, first_empty_loop}
+use Rattle.hirscan.specs.Loops.{first_empty_loop}
 use Rattle.hirscan.specs.Refusals.{first_cause, cause_if, of_pattern, where_utf8, first_not_utf8, first_broken, span_of, is_span}
 use Rattle.hirscan.specs.Refusals.{pattern_causes, haystack_causes, refusal}
 use Rattle.hirscan.specs.Regexes.{IsSearchOf}

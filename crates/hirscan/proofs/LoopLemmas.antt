@@ -8,7 +8,7 @@ use Rattle.hirscan.specs.Loops.{loops_read, first_empty_loop}
 use Rattle.std.proofs.lemmas.Bool.{and_parts, and_from, ltb-false, not-false}
 use Rattle.std.proofs.lemmas.List.Sums.{fails_before_first}
 use Rattle.std.specs.List.{position, position_or_len}
-use Rattle.std.proofs.Common.{◌<◌, false, not, if◌then◌else◌, length, nat_lt, get_or, arith}
+use Rattle.std.proofs.Common.{false, not, if◌then◌else◌, length, nat_lt, get_or, arith}
 
 is_above_zero_sound : (n : Option ℕ) → is_above_zero n ≡ true → IsAboveZero n
 is_above_zero_sound None e = cc

@@ -4,7 +4,6 @@ use Rattle.std.proofs.Common.{length, get_or, set, drop, replicate, refl, sym, �
 use Rattle.std.proofs.lemmas.Bool.{cases_lt, le-leb, leb-true, false_from_ne_true}
 use Rattle.std.proofs.lemmas.Bool.Decides.{nat_tests}
 use Rattle.std.proofs.lemmas.List.{get_or-drop, drop-set-lt, drop-set-add, drop_more, length-drop, nil_from_length}
-use Rattle.hir_core.specs.Means.{is_member}
 use Rattle.hirscan.specs.Words.{least, is_covered}
 
 least_none : (none n b : ℕ) → none ≡ 256 → least (drop b (replicate n none)) ≡ none

@@ -7,7 +7,7 @@ use Rattle.hirscan.proofs.ReplyLemmas.{reply_of_whole}
 use Rattle.hirscan.proofs.SliceLemmas.{rest_of_slice}
 use Rattle.std.proofs.KnownBytes.{Appends-trans, Consumes-trans}
 use Rattle.std.specs.Prelude.{IfSome}
-use Rattle.std.specs.Io.KnownBytes.{Appends, Consumes, IsAtEnd, Keeps}
+use Rattle.std.specs.Io.KnownBytes.{Appends, Consumes, IsAtEnd}
 use Rattle.hirscan.specs.declared.ending.Ending.{Ending}
 use Rattle.hirscan.specs.declared.program.RunError.{RunError}
 use Rattle.hirscan.specs.declared.program.RunError.TheVariants.{Read, Write, NoMemory}

@@ -9,7 +9,7 @@ use Rattle.std.proofs.lemmas.List.Elements.{All-head, All-tail}
 use Rattle.regex_class.specs.Ranges.{in_ranges}
 use Rattle.regex_hir.specs.Re.{Re, Trace, Rest, accept, attempt}
 use Rattle.regex_hir.specs.Meaning.{alt_all}
-use Rattle.regex_hir.specs.Find.{Match, first_from, first_between, find, find_str}
+use Rattle.regex_hir.specs.Find.{first_from, first_between, find, find_str}
 use Rattle.regex_hir.specs.Text.{is_some_and}
 use Rattle.search_types.specs.declared.anchored.Anchored.TheVariants.{No}
 use Rattle.search_types.specs.Found.{Found}

@@ -2,7 +2,7 @@
 use Rattle.std.proofs.Common.{◌≡◌, ◌↔◌, ◌⊎◌, ℕ, zero, suc, ◌<◌, ◌≤◌, ◌||◌, Bool, true, false, List, [], ◌∷◌, length, map, replicate, Option}
 use Rattle.std.proofs.Common.{Some, None, Ok, slice_get}
 use Rattle.std.proofs.Common.{if◌then◌else◌, is_some, refl, sym, ap, ◌∙◌, subst, arith, inl, inr, ⊎_elim, lt-ltb, true≢false}
-use Rattle.std.proofs.lemmas.Bool.{cases_Bool, cases_lt}
+use Rattle.std.proofs.lemmas.Bool.{cases_lt}
 use Rattle.std.proofs.lemmas.List.{length-map}
 use Rattle.std.proofs.lemmas.Option.{none-some, same_Some}
 use Rattle.regex_hir.specs.Re.{Re, Trace, accept, attempt}
@@ -22,8 +22,8 @@ use Rattle.hir_core.specs.Means.{Means}
 use Rattle.hir_core.specs.Facts.{is_utf8_tree}
 use Rattle.hir_core.proofs.ForCallers.{span_forward, span_within, span_start_bounded, same_test}
 use Rattle.lazy_dfa.specs.Caches.{CacheValue}
-use Rattle.lazy_dfa.specs.Dfas.{Dfa, reader}
-use Rattle.lazy_dfa.specs.WalkAnswers.{Which, with_pattern, is_full, which_from, which_of, AnswersWhich}
+use Rattle.lazy_dfa.specs.Dfas.{Dfa}
+use Rattle.lazy_dfa.specs.WalkAnswers.{with_pattern, is_full, which_from, AnswersWhich}
 use Rattle.lazy_dfa.proofs.ForCallers.{room_kept}
 use Rattle.hirscan.specs.Regexes.{IsSearchOf}
 use Rattle.hirscan.specs.TreeWalks.{IsToldEnd}

@@ -1,8 +1,7 @@
 -- Searches over a done span: their halves make no pass, so none needs to be made.
 use Rattle.std.proofs.Common.{◌≡◌, ℕ, ◌-◌, ◌<◌, Bool, true, false, List, [], ◌∷◌, None, Ok, refl, sym, ap}
-use Rattle.std.proofs.Common.{◌∙◌, inl, ⊎_elim, subst, arith, if◌then◌else◌}
-use Rattle.std.proofs.lemmas.Bool.{cases_Bool, leb-true}
-use Rattle.std.specs.Bool.{IsTrue, nat_le}
+use Rattle.std.proofs.Common.{◌∙◌, inl, subst, arith, if◌then◌else◌}
+use Rattle.std.specs.Bool.{IsTrue}
 use Rattle.std.specs.Prelude.{◌↔◌}
 use Rattle.search_types.specs.Inputs.{Search}
 use Rattle.search_types.specs.Modes.{is_anchored}

@@ -1,10 +1,10 @@
 -- Where a search over two automata answers what is joined, each half search that it made answered what its scan does, and so is told.
-use Rattle.std.proofs.Common.{◌≡◌, ℕ, Bool, true, false, Option, Some, None, Result, Ok, Err, refl, sym, ap, ◌∙◌, inl, inr, subst, arith}
+use Rattle.std.proofs.Common.{◌≡◌, ℕ, Bool, true, false, Some, None, Result, Ok, Err, refl, sym, ap, ◌∙◌, inl, inr, subst, arith}
 use Rattle.std.proofs.Common.{if◌then◌else◌}
 use Rattle.search_types.specs.declared.match_error.MatchErrorKind.{MatchErrorKind}
 use Rattle.search_types.specs.declared.match_error.MatchErrorKind.TheVariants.{Quit, GaveUp, HaystackTooLong, UnsupportedAnchored, NotAPair}
 use Rattle.search_types.specs.declared.match_error.MatchErrorKind.TheVariants.{NoMemory}
-use Rattle.search_types.specs.Found.{Found, HalfFound}
+use Rattle.search_types.specs.Found.{HalfFound}
 use Rattle.search_types.specs.Inputs.{Search}
 use Rattle.lazy_dfa.specs.Caches.{CacheValue}
 use Rattle.lazy_dfa.specs.Dfas.{Dfa, reader}

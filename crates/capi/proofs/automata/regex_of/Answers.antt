@@ -1,4 +1,4 @@
-use Rattle.std.proofs.Common.{List, ℕ, Bor, map, subst, true, ◌≡◌, ◌↔◌, All, inr}
+use Rattle.std.proofs.Common.{List, subst, true, ◌≡◌, ◌↔◌, All, inr}
 use Rattle.regex_syntax.specs.declared.Config.{Config}
 use Rattle.hir_core.specs.Facts.{LoopsRead, is_utf8_tree}
 use Rattle.hir_core.specs.Tree.{Tree}

@@ -1,4 +1,4 @@
-use Rattle.std.proofs.Common.{List, ℕ, Bor, map, refl, subst, sym}
+use Rattle.std.proofs.Common.{List, ℕ, refl, subst, sym}
 use Rattle.std.specs.Prelude.{IfSome}
 use Rattle.search_types.specs.declared.match_kind.MatchKind.TheVariants.{LeftmostFirst, All as AllMatches}
 use Rattle.regex_pair.specs.Pairs.{Pair}
