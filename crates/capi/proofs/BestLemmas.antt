@@ -1,21 +1,21 @@
 -- What several patterns find is the best of what each finds.
-use Rattle.std.proofs.Common.{◌≡◌, ℕ, zero, suc, ◌+◌, ◌-◌, ◌<◌, ◌≤◌, Bool, true, false, nat_lt, List, [], ◌∷◌, length, map, slice_get, Option, Some, None}
+use Rattle.std.proofs.Common.{◌≡◌, ℕ, zero, suc, ◌+◌, ◌-◌, ◌<◌, ◌≤◌, Bool, true, false, nat_lt, List, [], ◌∷◌, length, map, slice_get}
+use Rattle.std.proofs.Common.{Option, Some, None}
 use Rattle.std.proofs.Common.{option_map, if◌then◌else◌, refl, sym, ap, ap₂, ◌∙◌, subst, arith, inl, inr, lt-ltb}
 use Rattle.std.proofs.lemmas.Bool.{cases_lt}
 use Rattle.std.proofs.lemmas.Option.{none-some, same_Some}
 use Rattle.std.specs.Option.{option_or}
-use Rattle.regex_class.specs.Ranges.{in_ranges}
 use Rattle.regex_hir.specs.Re.{Re, Trace, Rest, accept, attempt}
 use Rattle.regex_hir.specs.Re as re
 use Rattle.regex_hir.specs.Matches.{Matches}
 use Rattle.regex_hir.specs.Meaning.{alt_all}
 use Rattle.regex_hir.specs.Find.{Match, first_from, first_between}
-use Rattle.regex_hir.specs.Text.{is_some_and}
 use Rattle.regex_hir.proofs.AttemptLemmas.{attempt_sound, attempt_complete}
 use Rattle.regex_hir.proofs.FindLemmas.{IsFirst-of_first_between, none_of_first_between}
 use Rattle.regex_hir.proofs.OptionLemmas.{value_of_IsSome}
 use Rattle.pattern_search.specs.Searches.{found_from, span_of_match, IsOfFirstPattern}
 use Rattle.pattern_search.proofs.ForCallers.{tried, found_is, may_begin}
+use Rattle.pattern_search.proofs.ForCallers.{spans, step, NoEarlier, or_later, later_from, no_class, none_spans}
 use Rattle.capi.specs.declared.failure.FoundMatch.{FoundMatch}
 use Rattle.capi.specs.Compiled.{span_of_row, found_of}
 use Rattle.capi.specs.Fallbacks.{numbered, better, best_of}
@@ -34,42 +34,6 @@ sooner (Some a) (Some b) = if nat_lt b.0 a.0 then Some b else Some a
 abbrev soonest : List (Option (ℕ × ℕ)) → Option (ℕ × ℕ)
 soonest [] = None
 soonest (s ∷ ss) = sooner s (soonest ss)
-
-abbrev spans : Rest → ℕ → ℕ → Option (ℕ × ℕ)
-spans f n i = option_map span_of_match (first_from f n i)
-
-abbrev here : Rest → ℕ → Option (ℕ × ℕ)
-here f i = option_map (λ t. (i, Trace.end t)) (f i)
-
-spans_or : (a b : Option Match) → option_map span_of_match (option_or a b)
-    ≡ option_or (option_map span_of_match a) (option_map span_of_match b)
-spans_or None b = refl
-spans_or (Some x) b = refl
-
-here_is : (i : ℕ) (o : Option Trace) → option_map span_of_match (option_map (λ t. record { start = i; trace = t }) o)
-    ≡ option_map (λ t. (i, Trace.end t)) o
-here_is i None = refl
-here_is i (Some t) = refl
-
-step : (f : Rest) (n i : ℕ) → spans f (suc n) i ≡ option_or (here f i) (spans f n (i + 1))
-unfolding first_from
-step f n i =
-    spans_or (option_map (λ t. record { start = i; trace = t }) (f i)) (first_from f n (i + 1))
-    ∙ ap (λ o. option_or o (spans f n (i + 1))) (here_is i (f i))
-
--- nothing starts before the first place
-abbrev NoEarlier : ℕ → Option (ℕ × ℕ) → Type 0
-NoEarlier i o = (s : ℕ × ℕ) → o ≡ Some s → i ≤ s.0
-
-or_later : (i : ℕ) (o : Option Trace) (rest : Option (ℕ × ℕ)) → NoEarlier (i + 1) rest →
-    NoEarlier i (option_or (option_map (λ t. (i, Trace.end t)) o) rest)
-or_later i None rest later s e = let l = later s e in omega (arith, l)
-or_later i (Some t) rest later s e = omega (arith, ap (λ p. p.0) (same_Some (i, Trace.end t) s e))
-
-later_from : (f : Rest) (n i : ℕ) → NoEarlier i (spans f n i)
-unfolding first_from
-later_from f zero i s e = absurd (none-some s e)
-later_from f (suc n) i s e = or_later i (f i) (spans f n (i + 1)) (later_from f n (i + 1)) s (sym (step f n i) ∙ e)
 
 -- the first of two that start at a place, before what starts later
 first_here : (i j : ℕ) (o : Option (ℕ × ℕ)) → NoEarlier i o → sooner (Some (i, j)) o ≡ Some (i, j)
@@ -106,35 +70,29 @@ unfolding attempt
 either h a b i true = refl
 either h a b i false = refl
 
-alt_found : (utf8 : Bool) (h : List ℕ) (at : ℕ) (a b : Re) → span_at utf8 h at (re.alt a b) ≡ sooner (span_at utf8 h at a) (span_at utf8 h at b)
+alt_found : (utf8 : Bool) (h : List ℕ) (at : ℕ) (a b : Re) →
+    span_at utf8 h at (re.alt a b) ≡ sooner (span_at utf8 h at a) (span_at utf8 h at b)
 alt_found utf8 h at a b =
     ap (option_map span_of_match) (found_is utf8 (re.alt a b) h at)
-    ∙ sooner_from (tried utf8 h a) (tried utf8 h b) (tried utf8 h (re.alt a b)) (λ i. either h a b i (may_begin utf8 h i)) (length h + 1 - at) at
+    ∙ sooner_from (tried utf8 h a) (tried utf8 h b) (tried utf8 h (re.alt a b)) (λ i. either h a b i (may_begin utf8 h i))
+    (length h + 1 - at) at
     ∙ sym (ap₂ (λ x y. sooner (option_map span_of_match x) (option_map span_of_match y)) (found_is utf8 a h at) (found_is utf8 b h at))
-
-no_class : (o : Option ℕ) (i : ℕ) → (if is_some_and o (in_ranges []) then accept (i + 1) else None) ≡ None
-unfolding in_ranges
-no_class None i = refl
-no_class (Some b) i = refl
 
 never : (h : List ℕ) (i : ℕ) (begins : Bool) → (if begins then attempt h (alt_all []) accept i else None) ≡ None
 unfolding attempt
 never h i true = no_class (slice_get h i) i
 never h i false = refl
 
-none_spans : (f : Rest) → ((i : ℕ) → f i ≡ None) → (n i : ℕ) → spans f n i ≡ None
-unfolding first_from
-none_spans f none zero i = refl
-none_spans f none (suc n) i = step f n i ∙ ap₂ option_or (ap (option_map (λ t. (i, Trace.end t))) (none i)) (none_spans f none n (i + 1))
-
-soonest_found : (utf8 : Bool) (h : List ℕ) (at : ℕ) (res : List Re) → span_at utf8 h at (alt_all res) ≡ soonest (map (span_at utf8 h at) res)
+soonest_found : (utf8 : Bool) (h : List ℕ) (at : ℕ) (res : List Re) →
+    span_at utf8 h at (alt_all res) ≡ soonest (map (span_at utf8 h at) res)
 soonest_found utf8 h at [] =
     ap (option_map span_of_match) (found_is utf8 (alt_all []) h at)
     ∙ none_spans (tried utf8 h (alt_all [])) (λ i. never h i (may_begin utf8 h i)) (length h + 1 - at) at
 soonest_found utf8 h at (a ∷ res) = alt_found utf8 h at a (alt_all res) ∙ ap (sooner (span_at utf8 h at a)) (soonest_found utf8 h at res)
 
 -- the best one has the span of the soonest
-if_span : (b : Bool) (x y : FoundMatch) → option_map span_of_row (if b then Some x else Some y) ≡ (if b then Some (span_of_row x) else Some (span_of_row y))
+if_span : (b : Bool) (x y : FoundMatch) → option_map span_of_row (if b then Some x else Some y) ≡
+    (if b then Some (span_of_row x) else Some (span_of_row y))
 if_span true x y = refl
 if_span false x y = refl
 
@@ -212,7 +170,8 @@ module _ (utf8 : Bool) (a : Re) (h : List ℕ) (at : ℕ) where
     begins : may_begin utf8 h i ≡ true
     matches : Matches h a i j
 
-  begun : (i : ℕ) (t : Trace) → at ≤ i → i ≤ length h → (b : Bool) → may_begin utf8 h i ≡ b → (if b then attempt h a accept i else None) ≡ Some t →
+  begun : (i : ℕ) (t : Trace) → at ≤ i → i ≤ length h → (b : Bool) → may_begin utf8 h i ≡ b →
+      (if b then attempt h a accept i else None) ≡ Some t →
       IsBegun i t.end
   begun i t from to false is found = absurd (none-some t found)
   begun i t from to true is found =
@@ -222,14 +181,17 @@ module _ (utf8 : Bool) (a : Re) (h : List ℕ) (at : ℕ) where
 
   -- what it finds is one
   found_begun : (i j : ℕ) → span_at utf8 h at a ≡ Some (i, j) → IsBegun i j
-  found_begun i j is = by (first_between (tried utf8 h a) at (length h)) refl (sym (ap (option_map span_of_match) (found_is utf8 a h at)) ∙ is)
+  found_begun i j is =
+      by (first_between (tried utf8 h a) at (length h)) refl (sym (ap (option_map span_of_match) (found_is utf8 a h at)) ∙ is)
     where
-      by : (o : Option Match) → first_between (tried utf8 h a) at (length h) ≡ o → option_map span_of_match (first_between (tried utf8 h a) at (length h)) ≡ Some (i, j) →
+      by : (o : Option Match) → first_between (tried utf8 h a) at (length h) ≡ o →
+          option_map span_of_match (first_between (tried utf8 h a) at (length h)) ≡ Some (i, j) →
           IsBegun i j
       by None none some = absurd (none-some (i, j) (sym (ap (option_map span_of_match) none) ∙ some))
       by (Some m) one some =
           let first = IsFirst-of_first_between (tried utf8 h a) at (length h) m one in
-          let same : (m.start, m.trace.end) ≡ (i, j) = same_Some (m.start, m.trace.end) (i, j) (sym (ap (option_map span_of_match) one) ∙ some) in
+          let same : (m.start, m.trace.end) ≡ (i, j) =
+          same_Some (m.start, m.trace.end) (i, j) (sym (ap (option_map span_of_match) one) ∙ some) in
           subst (λ (s : ℕ × ℕ). IsBegun s.0 s.1) same (begun m.start m.trace first.from first.to (may_begin utf8 h m.start) refl first.here)
 
   -- where it has one, it finds one that starts there or before
@@ -255,7 +217,8 @@ module _ (utf8 : Bool) (a : Re) (h : List ℕ) (at : ℕ) where
           )
 
 -- the best one is of the first pattern that matches from its start
-pub best_of_first : (utf8 : Bool) (h : List ℕ) (at : ℕ) (res : List Re) (f : FoundMatch) → best_of 0 (map (span_at utf8 h at) res) ≡ Some f →
+pub best_of_first : (utf8 : Bool) (h : List ℕ) (at : ℕ) (res : List Re) (f : FoundMatch) →
+    best_of 0 (map (span_at utf8 h at) res) ≡ Some f →
     IsOfFirstPattern res h (found_of f)
 best_of_first utf8 h at res f is =
     let it = first_of_best 0 (map (span_at utf8 h at) res) f is in
@@ -265,7 +228,9 @@ best_of_first utf8 h at res f is =
     record {
       matches = record { pattern = own.0; listed = subst (λ n. slice_get res n ≡ Some own.0) number own.1; matches = begun.matches };
       none_before = λ p j less m.
-          let one = begun_found utf8 m.pattern h at f.start j (record { from = begun.from; to = begun.to; begins = begun.begins; matches = m.matches }) in
-          let sooner = it.before p one.0 (omega (arith, less, number)) (get_mapped (span_at utf8 h at) res p m.pattern m.listed ∙ ap Some one.1) in
+          let one = begun_found utf8 m.pattern h at f.start j
+          (record { from = begun.from; to = begun.to; begins = begun.begins; matches = m.matches }) in
+          let sooner =
+          it.before p one.0 (omega (arith, less, number)) (get_mapped (span_at utf8 h at) res p m.pattern m.listed ∙ ap Some one.1) in
           absurd (omega (arith, sooner, one.2));
     }

@@ -1,5 +1,6 @@
 -- What the toolchain's regexes find is what the patterns of the texts have.
-use Rattle.std.proofs.Common.{◌≡◌, ℕ, zero, suc, ◌+◌, ◌<◌, ◌≤◌, Bool, true, false, List, [], ◌∷◌, ◌++◌, All, length, map, take, slice_index_or, Option, Some, None}
+use Rattle.std.proofs.Common.{◌≡◌, ℕ, zero, suc, ◌+◌, ◌<◌, ◌≤◌, Bool, true, false, List, [], ◌∷◌, ◌++◌, All, length, map, take}
+use Rattle.std.proofs.Common.{slice_index_or, Option, Some, None}
 use Rattle.std.proofs.Common.{option_map, refl, sym, ap, ap₂, ◌∙◌, subst, arith, IsSomeAnd, chars, get_or, is_some, String, string_bytes}
 use Rattle.std.specs.Prelude.{IfSome}
 use Rattle.std.proofs.lemmas.List.Elements.{All-head, All-tail}
@@ -11,8 +12,7 @@ use Rattle.regex_hir.specs.Find.{Match}
 use Rattle.regex_hir.specs.declared.hir.Hir.{Hir}
 use Rattle.regex_syntax.specs.Captures.{SameCaptures}
 use Rattle.regex_syntax.specs.declared.Config.{Config}
-use Rattle.regex_syntax.specs.Grammar.{Names, group_count, read}
-use Rattle.regex_syntax.specs.Brackets.{Nested}
+use Rattle.regex_syntax.specs.Grammar.{Names, read}
 use Rattle.regex_syntax.specs.Verdict.{Reads}
 use Rattle.regex.specs.Bytes as raw
 use Rattle.regex.specs.Strings as text
@@ -22,6 +22,7 @@ use Rattle.regex.specs.declared.string.regex.Regex as text_regex
 use Rattle.regex.proofs.ForCallers.{span_alike}
 use Rattle.pattern_search.specs.Searches.{found_from, which_match, span_of_match, IsOfFirstPattern}
 use Rattle.pattern_search.specs.Texts.{AreRead}
+use Rattle.pattern_search.proofs.ForCallers.{one_same}
 use Rattle.capi.specs.declared.failure.FoundMatch.{FoundMatch}
 use Rattle.capi.specs.declared.fallback.Fallback.{Fallback}
 use Rattle.capi.specs.declared.fallback.Fallback.TheVariants.{Bytes, Text}
@@ -33,25 +34,21 @@ use Rattle.capi.proofs.BestLemmas.{span_at, best_is_found, best_of_first}
 abbrev IsReadOne : Config → List ℕ → Re → Type 0
 IsReadOne config t a = IsSomeAnd (read config (chars t)) (λ (re, names). (re.depth ≤ config.nest_limit) × (re.value ≡ a))
 
-one_same : (config : Config) (hir : Hir) (names : Names) (a : Re) (r : Option (Nested Re × Names)) →
-    IsSomeAnd r (λ (re, found). (re.depth ≤ config.nest_limit) × SameCaptures (meaning hir) re.value × (names ≡ found) ×
-    (group_count (meaning hir) ≤ length names)) →
-    IsSomeAnd r (λ (re, names). (re.depth ≤ config.nest_limit) × (re.value ≡ a)) → SameCaptures (meaning hir) a
-one_same config hir names a None p q = absurd p
-one_same config hir names a (Some (re, found)) p q = subst (SameCaptures (meaning hir)) q.1 p.1
-
-reads_same : (config : Config) (t : List ℕ) (hir : Hir) (names : Names) (a : Re) → Reads config t hir names → IsReadOne config t a → SameCaptures (meaning hir) a
+reads_same : (config : Config) (t : List ℕ) (hir : Hir) (names : Names) (a : Re) → Reads config t hir names → IsReadOne config t a →
+    SameCaptures (meaning hir) a
 unfolding Reads
 reads_same config t hir names a p q = one_same config hir names a (read config (chars t)) p q
 
-raw_same : (config : Config) (t : List ℕ) (r : raw_regex.Regex) (a : Re) → raw.regex_source r ≡ t → raw.regex_config r ≡ config → raw.IsReadFromSource r →
+raw_same : (config : Config) (t : List ℕ) (r : raw_regex.Regex) (a : Re) → raw.regex_source r ≡ t → raw.regex_config r ≡ config →
+    raw.IsReadFromSource r →
     IsReadOne config t a → SameCaptures (raw.regex_pattern r) a
 raw_same config t r a source options reads q =
     reads_same config t r.pattern.program.hir (names_of r.pattern.names.items) a
     (subst (λ (c : Config). Reads c t r.pattern.program.hir (names_of r.pattern.names.items)) options
     (subst (λ (s : List ℕ). Reads r.pattern.config s r.pattern.program.hir (names_of r.pattern.names.items)) source reads)) q
 
-text_same : (config : Config) (t : List ℕ) (r : text_regex.Regex) (a : Re) → text.regex_source r ≡ t → text.regex_config r ≡ config → text.IsReadFromSource r →
+text_same : (config : Config) (t : List ℕ) (r : text_regex.Regex) (a : Re) → text.regex_source r ≡ t → text.regex_config r ≡ config →
+    text.IsReadFromSource r →
     IsReadOne config t a → SameCaptures (text.regex_pattern r) a
 text_same config t r a source options reads q =
     reads_same config t r.pattern.program.hir (names_of r.pattern.names.items) a
@@ -97,11 +94,13 @@ module _ (h : List ℕ) (bytes : All (λ b. b < 256) h) (config : Config) where
   each_which [] = refl
   each_which (a ∷ res) = ap₂ (λ (b : Bool) (bs : List Bool). b ∷ bs) (sym (some_span (found_from config.utf8 a h 0))) (each_which res)
 
-  pub which_slowly : (ts : List (List ℕ)) (rs : List Fallback) (told : List Bool) → AreFallbacksOf config ts rs → told ≡ map (finds_any h) rs →
+  pub which_slowly : (ts : List (List ℕ)) (rs : List Fallback) (told : List Bool) → AreFallbacksOf config ts rs →
+      told ≡ map (finds_any h) rs →
       AreWhich config ts h told
   which_slowly ts rs told of is res read = is ∙ each_any rs ∙ ap (map is_some) (all_spans ts rs res 0 of read) ∙ each_which res
 
-  module _ (ts : List (List ℕ)) (rs : List Fallback) (at : ℕ) (of : AreFallbacksOf config ts rs) (o : Option FoundMatch) (is : o ≡ best_of 0 (map (span_by h at) rs)) where
+  module _ (ts : List (List ℕ)) (rs : List Fallback) (at : ℕ) (of : AreFallbacksOf config ts rs) (o : Option FoundMatch)
+      (is : o ≡ best_of 0 (map (span_by h at) rs)) where
     best : (res : List Re) → AreRead config ts res → o ≡ best_of 0 (map (span_at config.utf8 h at) res)
     best res read = is ∙ ap (best_of 0) (all_spans ts rs res at of read)
 
@@ -127,7 +126,8 @@ module _ (h : List ℕ) (bytes : All (λ b. b < 256) h) (config : Config) where
     }
 
 -- ---- texts whose regexes are made one by one
-next_fallback : (config : Config) (ts : List (String Global)) (d : String Global) (n : ℕ) (rs : List Fallback) (r : Fallback) → n < length ts →
+next_fallback : (config : Config) (ts : List (String Global)) (d : String Global) (n : ℕ) (rs : List Fallback) (r : Fallback) →
+    n < length ts →
     AreFallbacksOf config (take n (map string_bytes ts)) rs → IsFallbackOf config (string_bytes (slice_index_or ts n d)) r →
     AreFallbacksOf config (take (suc n) (map string_bytes ts)) (rs ++ r ∷ [])
 next_fallback config [] d n rs r below p q = absurd (omega arith)
@@ -136,8 +136,10 @@ next_fallback config (t ∷ ts) d zero (x ∷ rs) r below p q = absurd p
 next_fallback config (t ∷ ts) d (suc n) [] r below p q = absurd p
 next_fallback config (t ∷ ts) d (suc n) (x ∷ rs) r below p q = (p.0, next_fallback config ts d n rs r (omega (arith, below)) p.1 q)
 
-pub one_more_fallback : (config : Config) (ts : List (String Global)) (d : String Global) (n : ℕ) (old new : List Fallback) (r : Fallback) → n < length ts →
-    new ≡ old ++ r ∷ [] → AreFallbacksOf config (take n (map string_bytes ts)) old → IsFallbackOf config (string_bytes (slice_index_or ts n d)) r →
+pub one_more_fallback : (config : Config) (ts : List (String Global)) (d : String Global) (n : ℕ) (old new : List Fallback)
+    (r : Fallback) → n < length ts →
+    new ≡ old ++ r ∷ [] → AreFallbacksOf config (take n (map string_bytes ts)) old →
+    IsFallbackOf config (string_bytes (slice_index_or ts n d)) r →
     AreFallbacksOf config (take (n + 1) (map string_bytes ts)) new
 one_more_fallback config ts d n old new r below is p q =
     let next : suc n ≡ n + 1 = omega arith in

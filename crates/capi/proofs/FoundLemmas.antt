@@ -1,6 +1,8 @@
 -- What is told of a haystack, by what searches promise.
-use Rattle.std.proofs.Common.{◌≡◌, ◌<◌, ◌≤◌, ℕ, suc, Bool, true, false, List, [], ◌∷◌, All, length, map, replicate, Option, Some, None, Ok, ap, ap₂, sym, subst, ◌∙◌, refl, arith}
-use Rattle.std.specs.Prelude.{is_some, option_map, IsSomeAnd, IfSome, chars}
+use Rattle.std.proofs.Common.{◌≡◌, ◌<◌, ℕ, suc, Bool, true, false, List, [], ◌∷◌, All, length, map, replicate, Option, Some, None, Ok}
+use Rattle.std.proofs.Common.{ap, sym, subst, ◌∙◌, refl, arith}
+use Rattle.std.specs.Prelude.{is_some, option_map, IfSome}
+use Rattle.std.proofs.lemmas.List.{length-map}
 use Rattle.regex_hir.specs.Re.{Re}
 use Rattle.regex_hir.specs.Meaning.{alt_all}
 use Rattle.regex_syntax.specs.declared.Config.{Config}
@@ -23,35 +25,11 @@ use Rattle.hirscan.specs.Regexes.{IsSearchOf}
 use Rattle.pattern_search.specs.Searches.{whole_search, found_from, which_match, span_of_match, span_of_found, IsOfFirstPattern}
 use Rattle.pattern_search.specs.Texts.{AreRead, AllMean}
 use Rattle.pattern_search.specs.Written.{AnswersWhatIsWritten}
+use Rattle.pattern_search.proofs.ForCallers.{alike_some, same_patterns}
 use Rattle.capi.specs.declared.failure.FoundMatch.{FoundMatch}
 use Rattle.capi.specs.Compiled.{AreBuiltOf, AreMarked, AreWhich, IsFound, IsPreferred, IsTold, found_of, hits, mark, overlaid, span_of_row}
 use Rattle.capi.specs.Failures.{row_of}
-use Rattle.capi.proofs.ListLemmas.{length_map, whole_laid}
-
--- what is read of one text is one pattern
-one_value : {A : Type 0} (o : Option A) (of : A → Re) (D : A → Type 0) (a b : Re) →
-    IsSomeAnd o (λ it. D it × (of it ≡ a)) → IsSomeAnd o (λ it. D it × (of it ≡ b)) → a ≡ b
-one_value None of D a b p q = elim p [ ]
-one_value (Some it) of D a b p q = sym p.1 ∙ q.1
-
-pub same_patterns : (config : Config) (texts : List (List ℕ)) (res others : List Re) → AreRead config texts res → AreRead config texts others → res ≡ others
-same_patterns config [] [] [] p q = refl
-same_patterns config [] [] (b ∷ others) p q = elim q [ ]
-same_patterns config [] (a ∷ res) others p q = elim p [ ]
-same_patterns config (t ∷ ts) [] others p q = elim p [ ]
-same_patterns config (t ∷ ts) (a ∷ res) [] p q = elim q [ ]
-same_patterns config (t ∷ ts) (a ∷ res) (b ∷ others) p q =
-    ap₂ (λ (x : Re) (xs : List Re). x ∷ xs)
-    (one_value (read config (chars t)) (λ it. it.0.value) (λ it. it.0.depth ≤ config.nest_limit) a b p.0 q.0)
-    (same_patterns config ts res others p.1 q.1)
-
--- there is a start where there is a start
-starts : {A : Type 0} (f : A → ℕ) (x : Option A) → is_some (option_map f x) ≡ is_some x
-starts f None = refl
-starts f (Some a) = refl
-
-alike_some : {A B : Type 0} (f : A → ℕ) (g : B → ℕ) (x : Option A) (y : Option B) → option_map f x ≡ option_map g y → is_some x ≡ is_some y
-alike_some f g x y e = sym (starts f x) ∙ ap is_some e ∙ starts g y
+use Rattle.capi.proofs.ListLemmas.{whole_laid}
 
 -- a match as a row
 row_start : (o : Option Found) → option_map (λ f. f.start) o ≡ option_map (λ r. FoundMatch.start r) (option_map row_of o)
@@ -69,12 +47,14 @@ row_pattern res h (Some f) each = each f refl
 
 -- what the laws of searches say of regexes of texts
 abbrev pub Law : Config → List (List ℕ) → Pair → Type 0
-Law config texts p = (xs : List Tree) → AllMean config texts xs → (s : Settings) → IsBuilt xs s p → FindsFirst s → s.line_terminator ≡ one_of 10 →
+Law config texts p =
+    (xs : List Tree) → AllMean config texts xs → (s : Settings) → IsBuilt xs s p → FindsFirst s → s.line_terminator ≡ one_of 10 →
     AnswersWhatIsWritten config texts xs s p
 
 -- a search of a whole haystack is one of the laws'
 pub is_search : (config : Config) (texts : List (List ℕ)) (kind : MatchKind) (p : Pair) (it : AreBuiltOf config texts kind p)
-    (h : List ℕ) → All (λ b. b < 256) h → (config.utf8 ≡ true → IsValidText h) → (at : ℕ) → IsSearchOf it.trees it.settings.utf8 (whole_search h at)
+    (h : List ℕ) → All (λ b. b < 256) h → (config.utf8 ≡ true → IsValidText h) → (at : ℕ) →
+    IsSearchOf it.trees it.settings.utf8 (whole_search h at)
 is_search config texts kind p it h bytes valid at = record {
   within = omega arith;
   whole = refl;
@@ -120,7 +100,8 @@ module _ (config : Config) (texts : List (List ℕ)) (p : Pair) (law : Law confi
       ∙ row_span o
 
 -- whether there is a match
-pub told_of : (config : Config) (texts : List (List ℕ)) (h : List ℕ) (o : Option FoundMatch) → IsFound config texts h 0 o → IsTold config texts h (is_some o)
+pub told_of : (config : Config) (texts : List (List ℕ)) (h : List ℕ) (o : Option FoundMatch) → IsFound config texts h 0 o →
+    IsTold config texts h (is_some o)
 told_of config texts h o found res read = sym (alike_some _ _ _ _ (found.start res read))
 
 -- ---- which patterns match
@@ -138,24 +119,29 @@ read_as_many config (t ∷ ts) (a ∷ res) m = ap suc (read_as_many config ts re
 
 -- what the laws of walks say of regexes of texts
 abbrev pub WalkLaw : Config → List (List ℕ) → Pair → Type 0
-WalkLaw config texts p = (xs : List Tree) → AllMean config texts xs → (s : Settings) → IsBuilt xs s p → kind_of s.dfa ≡ AllMatches → s.line_terminator ≡ one_of 10 →
+WalkLaw config texts p = (xs : List Tree) → AllMean config texts xs → (s : Settings) → IsBuilt xs s p → kind_of s.dfa ≡ AllMatches →
+    s.line_terminator ≡ one_of 10 →
     (h : List ℕ) → IsSearchOf xs s.utf8 (whole_search h 0) → (v : CacheValue) (set : List Bool) →
     AnswersWhich p.forward v (whole_search h 0) (replicate (length xs) false) set (Ok tt) →
     (res : List Re) × AreRead config texts res × (set ≡ which_match s.utf8 res h)
 
-pub walk_told : (config : Config) (texts : List (List ℕ)) (p : Pair) → WalkLaw config texts p → (it : AreBuiltOf config texts AllMatches p) →
+pub walk_told : (config : Config) (texts : List (List ℕ)) (p : Pair) → WalkLaw config texts p →
+    (it : AreBuiltOf config texts AllMatches p) →
     (h : List ℕ) → All (λ b. b < 256) h → (config.utf8 ≡ true → IsValidText h) → (v : CacheValue) (old set : List Bool) →
     old ≡ replicate (length texts) false → AnswersWhich p.forward v (whole_search h 0) old set (Ok tt) → AreWhich config texts h set
 walk_told config texts p law it h bytes valid v old set empty answer res read =
-    let begins : old ≡ replicate (length it.trees) false = empty ∙ ap (λ n. replicate n false) (sym (texts_as_many config texts it.trees it.mean)) in
-    let told = law it.trees it.mean it.settings it.built it.kind_is it.lines h (is_search config texts AllMatches p it h bytes valid 0) v set
+    let begins : old ≡ replicate (length it.trees) false =
+    empty ∙ ap (λ n. replicate n false) (sym (texts_as_many config texts it.trees it.mean)) in
+    let told =
+    law it.trees it.mean it.settings it.built it.kind_is it.lines h (is_search config texts AllMatches p it h bytes valid 0) v set
     (subst (λ (s : List Bool). AnswersWhich p.forward v (whole_search h 0) s set (Ok tt)) begins answer) in
     told.2
     ∙ ap (λ (u : Bool). which_match u told.0 h) it.mode
     ∙ ap (λ (rs : List Re). which_match config.utf8 rs h) (same_patterns config texts told.0 res told.1 read)
 
 -- the marks of what is told lie in the places of the patterns
-pub marked_of : (config : Config) (texts : List (List ℕ)) (h : List ℕ) (told : List Bool) (n : ℕ) (old new : List ℕ) → AreWhich config texts h told →
+pub marked_of : (config : Config) (texts : List (List ℕ)) (h : List ℕ) (told : List Bool) (n : ℕ) (old new : List ℕ) →
+    AreWhich config texts h told →
     length old ≡ length texts → new ≡ overlaid (map mark told) old → n ≡ hits told → AreMarked config texts h n new
 marked_of config texts h told n old new which places is counted = record {
   marked = λ res read. is ∙ whole_laid (map mark told) old (as_many res read) ∙ ap (map mark) (which res read);
@@ -164,5 +150,5 @@ marked_of config texts h told n old new which places is counted = record {
   where
     as_many : (res : List Re) → AreRead config texts res → length (map mark told) ≡ length old
     as_many res read =
-        length_map mark told ∙ ap length (which res read) ∙ length_map (λ re. is_some (found_from config.utf8 re h 0)) res
+        length-map told mark ∙ ap length (which res read) ∙ length-map res (λ re. is_some (found_from config.utf8 re h 0))
         ∙ read_as_many config texts res read ∙ sym places

@@ -1,5 +1,6 @@
 -- Lists that are laid over others, one by one.
-use Rattle.std.proofs.Common.{◌≡◌, ℕ, zero, suc, ◌+◌, ◌<◌, ◌≤◌, List, [], ◌∷◌, ◌++◌, length, map, take, slice_get, slice_set, slice_index_or, Some, refl, sym, ap, ◌∙◌, arith, length-append, length-take-le, take-suc, take_all}
+use Rattle.std.proofs.Common.{◌≡◌, ℕ, zero, suc, ◌+◌, ◌<◌, ◌≤◌, List, [], ◌∷◌, ◌++◌, length, map, take, slice_get, slice_set}
+use Rattle.std.proofs.Common.{slice_index_or, Some, refl, sym, ap, ◌∙◌, arith, length-append, length-take-le, take-suc, take_all}
 use Rattle.std.proofs.lemmas.Option.{none-some, same_Some}
 use Rattle.capi.specs.declared.failure.FoundMatch.{FoundMatch}
 use Rattle.capi.specs.Compiled.{overlaid}
@@ -33,10 +34,6 @@ pub map_more : {A B : Type 0} (f : A → B) (xs : List A) (x : A) → map f (xs 
 map_more f [] x = refl
 map_more f (a ∷ xs) x = ap (λ (zs : List _). f a ∷ zs) (map_more f xs x)
 
-pub length_map : {A B : Type 0} (f : A → B) (xs : List A) → length (map f xs) ≡ length xs
-length_map f [] = refl
-length_map f (x ∷ xs) = ap suc (length_map f xs)
-
 pub mapped_at : {A B : Type 0} (f : A → B) (xs : List A) (n : ℕ) (d : A) (e : B) → n < length xs →
     slice_index_or (map f xs) n e ≡ f (slice_index_or xs n d)
 mapped_at f [] n d e below = absurd (omega arith)
@@ -56,7 +53,8 @@ get_mapped f (y ∷ xs) zero x is = ap (λ z. Some (f z)) (same_Some y x is)
 get_mapped f (y ∷ xs) (suc n) x is = get_mapped f xs n x is
 
 -- one more match was taken, and lies in its row
-pub one_more_row : (fs : List FoundMatch) (f : FoundMatch) (n : ℕ) (old rows now : List FoundMatch) → n ≡ length fs → rows ≡ overlaid fs old →
+pub one_more_row : (fs : List FoundMatch) (f : FoundMatch) (n : ℕ) (old rows now : List FoundMatch) → n ≡ length fs →
+    rows ≡ overlaid fs old →
     now ≡ slice_set rows n f → now ≡ overlaid (fs ++ f ∷ []) old
 one_more_row fs f n old rows now count is put =
     put
@@ -74,9 +72,11 @@ one_more_byte bytes at d old room now below is put =
     let step : suc at ≡ at + 1 = omega arith in
     put
     ∙ ap (λ (rs : List ℕ). slice_set rs at (slice_index_or bytes at d)) is
-    ∙ ap (λ (k : ℕ). slice_set (overlaid (take at bytes) old) k (slice_index_or bytes at d)) (sym (length-take-le at bytes (omega (arith, below))))
+    ∙ ap (λ (k : ℕ). slice_set (overlaid (take at bytes) old) k (slice_index_or bytes at d))
+    (sym (length-take-le at bytes (omega (arith, below))))
     ∙ sym (one_more_laid (take at bytes) old (slice_index_or bytes at d))
     ∙ ap (λ (bs : List ℕ). overlaid bs old) (sym (take-suc bytes at d below) ∙ ap (λ (k : ℕ). take k bytes) step)
 
-pub all_bytes : (bytes : List ℕ) (at : ℕ) (old room : List ℕ) → length bytes ≤ at → room ≡ overlaid (take at bytes) old → room ≡ overlaid bytes old
+pub all_bytes : (bytes : List ℕ) (at : ℕ) (old room : List ℕ) → length bytes ≤ at → room ≡ overlaid (take at bytes) old →
+    room ≡ overlaid bytes old
 all_bytes bytes at old room above is = is ∙ ap (λ (bs : List ℕ). overlaid bs old) (take_all at bytes above)

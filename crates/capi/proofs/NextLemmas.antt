@@ -1,7 +1,9 @@
 -- All matches, one after the other.
-use Rattle.std.proofs.Common.{◌≡◌, ℕ, zero, suc, ◌+◌, ◌-◌, ◌<◌, ◌==◌, Bool, true, false, List, [], ◌∷◌, ◌++◌, length, map, slice_set, Option, Some, None}
+use Rattle.std.proofs.Common.{◌≡◌, ℕ, zero, suc, ◌+◌, ◌-◌, ◌<◌, ◌==◌, Bool, true, false, List, [], ◌∷◌, ◌++◌, length, map, slice_set}
+use Rattle.std.proofs.Common.{Option, Some, None}
 use Rattle.std.proofs.Common.{option_map, if◌then◌else◌, refl, sym, ap, ap₂, ◌∙◌, arith, append_assoc, append-nil}
 use Rattle.std.proofs.lemmas.Option.{none-some, same_Some}
+use Rattle.std.proofs.lemmas.List.{length-map}
 use Rattle.regex_hir.specs.Re.{Re}
 use Rattle.regex_hir.specs.Meaning.{alt_all}
 use Rattle.regex_hir.specs.Find.{Match, find_after, matches_from}
@@ -10,10 +12,11 @@ use Rattle.regex_hir.proofs.FindLemmas.{first_between_past}
 use Rattle.regex_syntax.specs.declared.Config.{Config}
 use Rattle.pattern_search.specs.Searches.{found_from, all_found, span_of_match}
 use Rattle.pattern_search.specs.Texts.{AreRead}
+use Rattle.pattern_search.proofs.ForCallers.{all_from_start}
 use Rattle.pattern_search.proofs.ForCallers.{tried, found_is}
 use Rattle.capi.specs.declared.failure.FoundMatch.{FoundMatch}
 use Rattle.capi.specs.Compiled.{AreAll, IsPreferred, IsNext, overlaid, span_of_row}
-use Rattle.capi.proofs.ListLemmas.{length_map, map_laid, map_more, one_more_row, one_more_counted}
+use Rattle.capi.proofs.ListLemmas.{map_laid, map_more, one_more_row, one_more_counted}
 
 -- ---- the next one
 -- behind the haystack nothing is found
@@ -41,7 +44,8 @@ module _ (config : Config) (texts : List (List ℕ)) (h : List ℕ) (end : ℕ) 
   pub next_there : (o : Option FoundMatch) → IsPreferred config texts h end o → is_some_and o (λ r. FoundMatch.end r == end) ≡ false →
       IsNext config texts h end o
   next_there o found goes_on res read =
-      ap (λ (b : Bool). option_map span_of_match (if b then from res (end + 1) else from res end)) (same_end (from res end) o end (found res read) ∙ goes_on)
+      ap (λ (b : Bool). option_map span_of_match (if b then from res (end + 1) else from res end))
+      (same_end (from res end) o end (found res read) ∙ goes_on)
       ∙ found res read
 
   -- and else the one from the next place on
@@ -61,17 +65,14 @@ module _ (config : Config) (texts : List (List ℕ)) (h : List ℕ) (end : ℕ) 
 
 -- ---- all of them
 -- so many matches were taken and lie in the rows, and what is left begins with the next one
-pub record IsListedSoFar (config : Config) (texts : List (List ℕ)) (h : List ℕ) (left count : ℕ) (old rows : List FoundMatch) (next : Option FoundMatch) : Type 0 where
+pub record IsListedSoFar (config : Config) (texts : List (List ℕ)) (h : List ℕ) (left count : ℕ) (old rows : List FoundMatch)
+    (next : Option FoundMatch) : Type 0 where
   pub taken : List FoundMatch
   pub counted : count ≡ length taken
   pub laid : rows ≡ overlaid taken old
   pub rest : (res : List Re) → AreRead config texts res → (m : Option Match) × (option_map span_of_match m ≡ option_map span_of_row next) ×
       (map span_of_match (all_found config.utf8 (alt_all res) h) ≡
       map span_of_row taken ++ map span_of_match (matches_from (found_from config.utf8 (alt_all res) h) left m))
-
-all_is : (utf8 : Bool) (a : Re) (h : List ℕ) → all_found utf8 a h ≡ matches_from (found_from utf8 a h) (length h + 1) (found_from utf8 a h 0)
-all_is true a h = refl
-all_is false a h = refl
 
 module _ (config : Config) (texts : List (List ℕ)) (h : List ℕ) (old : List FoundMatch) where
   pub listing_begins : (next : Option FoundMatch) → old ≡ overlaid [] old → IsPreferred config texts h 0 next →
@@ -83,8 +84,9 @@ module _ (config : Config) (texts : List (List ℕ)) (h : List ℕ) (old : List 
     rest = λ res read. (
       found_from config.utf8 (alt_all res) h 0,
       found res read,
-      ap (map span_of_match) (all_is config.utf8 (alt_all res) h)
-          ∙ ap (λ (n : ℕ). map span_of_match (matches_from (found_from config.utf8 (alt_all res) h) n (found_from config.utf8 (alt_all res) h 0))) whole,
+      ap (map span_of_match) (all_from_start config.utf8 (alt_all res) h)
+          ∙ ap (λ (n : ℕ). map span_of_match (matches_from (found_from config.utf8 (alt_all res) h) n
+          (found_from config.utf8 (alt_all res) h 0))) whole,
     );
   }
 
@@ -112,7 +114,8 @@ module _ (config : Config) (texts : List (List ℕ)) (h : List ℕ) (old : List 
       ∙ ap (map span_of_match) (one_left s rest w)
       ∙ ap₂ (λ (x : ℕ × ℕ) (y : ℕ). x ∷ map span_of_match (matches_from s rest (find_after s y))) same (ap (λ (x : ℕ × ℕ). x.1) same)
 
-  pub listing_goes_on : (left less count : ℕ) (rows now : List FoundMatch) (o next : Option FoundMatch) (f : FoundMatch) → left ≡ suc less → o ≡ Some f →
+  pub listing_goes_on : (left less count : ℕ) (rows now : List FoundMatch) (o next : Option FoundMatch) (f : FoundMatch) →
+      left ≡ suc less → o ≡ Some f →
       now ≡ slice_set rows count f → IsNext config texts h f.end next →
       IsListedSoFar config texts h left count old rows o → IsListedSoFar config texts h less (count + 1) old now next
   listing_goes_on left less count rows now o next f more some put found it = record {
@@ -125,9 +128,12 @@ module _ (config : Config) (texts : List (List ℕ)) (h : List ℕ) (old : List 
           find_after s f.end,
           found res read,
           r.2
-              ∙ ap (λ (xs : List (ℕ × ℕ)). map span_of_row it.taken ++ xs) (step_by s left less r.0 f more (r.1 ∙ ap (option_map span_of_row) some))
-              ∙ sym (append_assoc (map span_of_row it.taken) (span_of_row f ∷ []) (map span_of_match (matches_from s less (find_after s f.end))))
-              ∙ ap (λ (xs : List (ℕ × ℕ)). xs ++ map span_of_match (matches_from s less (find_after s f.end))) (sym (map_more span_of_row it.taken f)),
+              ∙ ap (λ (xs : List (ℕ × ℕ)). map span_of_row it.taken ++ xs)
+              (step_by s left less r.0 f more (r.1 ∙ ap (option_map span_of_row) some))
+              ∙ sym (append_assoc (map span_of_row it.taken) (span_of_row f ∷ [])
+              (map span_of_match (matches_from s less (find_after s f.end))))
+              ∙ ap (λ (xs : List (ℕ × ℕ)). xs ++ map span_of_match (matches_from s less (find_after s f.end)))
+              (sym (map_more span_of_row it.taken f)),
         );
   }
 
@@ -135,8 +141,8 @@ module _ (config : Config) (texts : List (List ℕ)) (h : List ℕ) (old : List 
       ((res : List Re) → AreRead config texts res → map span_of_match (all_found config.utf8 (alt_all res) h) ≡ map span_of_row it.taken) →
       AreAll config texts h count old rows
   all_by left count rows o it all = record {
-    count = λ res read. it.counted ∙ sym (length_map span_of_row it.taken) ∙ ap length (sym (all res read))
-        ∙ length_map span_of_match (all_found config.utf8 (alt_all res) h);
+    count = λ res read. it.counted ∙ sym (length-map it.taken span_of_row) ∙ ap length (sym (all res read))
+        ∙ length-map (all_found config.utf8 (alt_all res) h) span_of_match;
     rows = λ res read. ap (map span_of_row) it.laid ∙ map_laid span_of_row it.taken old
         ∙ ap (λ (xs : List (ℕ × ℕ)). overlaid xs (map span_of_row old)) (sym (all res read));
   }
@@ -145,7 +151,8 @@ module _ (config : Config) (texts : List (List ℕ)) (h : List ℕ) (old : List 
   no_match None o e none = refl
   no_match (Some m) o e none = absurd (none-some (span_of_match m) (sym (e ∙ ap (option_map span_of_row) none)))
 
-  pub listing_ends : (left count : ℕ) (rows : List FoundMatch) (o : Option FoundMatch) → o ≡ None → IsListedSoFar config texts h left count old rows o →
+  pub listing_ends : (left count : ℕ) (rows : List FoundMatch) (o : Option FoundMatch) → o ≡ None →
+      IsListedSoFar config texts h left count old rows o →
       AreAll config texts h count old rows
   listing_ends left count rows o none it = all_by left count rows o it (λ res read.
       let s = found_from config.utf8 (alt_all res) h in
@@ -155,7 +162,8 @@ module _ (config : Config) (texts : List (List ℕ)) (h : List ℕ) (old : List 
       (ap (matches_from s left) (no_match r.0 o r.1 none) ∙ none_left s left)
       ∙ append-nil (map span_of_row it.taken))
 
-  pub listing_runs_out : (left count : ℕ) (rows : List FoundMatch) (o : Option FoundMatch) → left ≡ 0 → IsListedSoFar config texts h left count old rows o →
+  pub listing_runs_out : (left count : ℕ) (rows : List FoundMatch) (o : Option FoundMatch) → left ≡ 0 →
+      IsListedSoFar config texts h left count old rows o →
       AreAll config texts h count old rows
   listing_runs_out left count rows o out it = all_by left count rows o it (λ res read.
       let s = found_from config.utf8 (alt_all res) h in

@@ -1,5 +1,6 @@
 -- Texts that are cut off one by one.
-use Rattle.std.proofs.Common.{◌≡◌, ℕ, suc, ◌+◌, ◌<◌, ◌≤◌, List, [], ◌∷◌, ◌++◌, length, take, drop, slice_index_or, sym, ap, ap₂, ◌∙◌, append_assoc, append-nil, arith, drop-cons, drop_of_length-le}
+use Rattle.std.proofs.Common.{◌≡◌, ℕ, suc, ◌+◌, ◌<◌, ◌≤◌, List, [], ◌∷◌, ◌++◌, length, take, drop, slice_index_or, sym, ap, ap₂, ◌∙◌}
+use Rattle.std.proofs.Common.{append_assoc, append-nil, arith, drop-cons, drop_of_length-le}
 use Rattle.capi.specs.Texts.{cut}
 
 -- the texts so far, and those that the rest is cut into, are those of the whole

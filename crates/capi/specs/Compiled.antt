@@ -1,5 +1,6 @@
 -- What a compiled regex is of, and what it tells.
-use Rattle.std.specs.Prelude.{◌≡◌, ◌≢◌, ◌⊎◌, ◌↔◌, ℕ, Bool, true, false, List, [], ◌∷◌, All, Option, Some, IfSome, map, length, option_map, is_some, ⊤}
+use Rattle.std.specs.Prelude.{◌≡◌, ◌≢◌, ◌⊎◌, ◌↔◌, ℕ, Bool, true, false, List, [], ◌∷◌, All, Option, Some, IfSome, map, length, option_map}
+use Rattle.std.specs.Prelude.{is_some, ⊤}
 use Rattle.std.specs.List.{filter}
 use Rattle.std.specs.Str.Lossy.{utf8_valid_len}
 use Rattle.regex_hir.specs.Re.{Re}
@@ -24,7 +25,8 @@ use Rattle.capi.specs.declared.failure.FoundMatch.{FoundMatch}
 use Rattle.capi.specs.declared.failure.NewError.{NewError}
 use Rattle.capi.specs.declared.failure.NewError.TheVariants.{BadArgument, NoMemory, NotUtf8, Text, EmptyLoop, Build}
 use Rattle.capi.specs.declared.failure.SearchError.{SearchError}
-use Rattle.capi.specs.declared.failure.SearchError.TheVariants.{BadArgument as BadSearch, NoMemory as NoneFree, NotUtf8 as NoText, TooLarge as TooGreat}
+use Rattle.capi.specs.declared.failure.SearchError.TheVariants.{BadArgument as BadSearch, NoMemory as NoneFree, NotUtf8 as NoText}
+use Rattle.capi.specs.declared.failure.SearchError.TheVariants.{TooLarge as TooGreat}
 use Rattle.capi.specs.declared.options.Options.{Options}
 use Rattle.capi.specs.Options.{config_of, is_known, allows_empty_loops}
 
@@ -70,7 +72,8 @@ IsRefused o texts BadArgument = is_known o ≡ false
 IsRefused o texts NoMemory = ⊤
 IsRefused o texts (NotUtf8 pattern at) = ⊥
 IsRefused o texts (Text e) = IsFirstFault (config_of o) texts e.number e.error
-IsRefused o texts (EmptyLoop number) = (allows_empty_loops o ≡ false) × ((xs : List Tree) × AllMean (config_of o) texts xs × (first_empty_loop xs ≡ Some number))
+IsRefused o texts (EmptyLoop number) =
+    (allows_empty_loops o ≡ false) × ((xs : List Tree) × AllMean (config_of o) texts xs × (first_empty_loop xs ≡ Some number))
 IsRefused o texts (Build e) = (e ≡ NoRoom) ⊎ ((xs : List Tree) × AllMean (config_of o) texts xs × ((s : Settings) × RefusesBuild xs s e))
 
 -- Why a search of a haystack tells nothing: it is no text where it has to be, which is told with how many of its bytes are; or memory
@@ -83,7 +86,8 @@ IsSearchRefused config h TooGreat = ⊤
 
 -- the same where marks are asked for: there has to be one for each text
 abbrev pub IsWhichRefused : Config → List (List ℕ) → List ℕ → List ℕ → SearchError → Type 0
-IsWhichRefused config texts h marks e = ((length marks ≢ length texts) × (e ≡ BadSearch)) ⊎ ((length marks ≡ length texts) × IsSearchRefused config h e)
+IsWhichRefused config texts h marks e =
+    ((length marks ≢ length texts) × (e ≡ BadSearch)) ⊎ ((length marks ≡ length texts) × IsSearchRefused config h e)
 
 abbrev pub span_of_row : FoundMatch → ℕ × ℕ
 span_of_row r = (r.start, r.end)

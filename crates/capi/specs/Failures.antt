@@ -5,7 +5,8 @@ use Rattle.regex_syntax.specs.declared.error.ErrorKind.TheVariants.{NestLimitExc
 use Rattle.search_types.specs.Found.{Found}
 use Rattle.nfa_core.specs.BuildErrors.{size_limit_of}
 use Rattle.lazy_dfa.specs.declared.build_error.BuildError.{BuildError}
-use Rattle.lazy_dfa.specs.declared.build_error.BuildError.TheVariants.{NFA, InsufficientCacheCapacity, InsufficientStateIDCapacity, Unsupported, NoMemory as NoRoom}
+use Rattle.lazy_dfa.specs.declared.build_error.BuildError.TheVariants.{NFA, InsufficientCacheCapacity, InsufficientStateIDCapacity}
+use Rattle.lazy_dfa.specs.declared.build_error.BuildError.TheVariants.{Unsupported, NoMemory as NoRoom}
 use Rattle.pattern_text.specs.declared.parse_error.ParseError.{ParseError}
 use Rattle.pattern_text.specs.declared.parse_error.ParseError.TheVariants.{NoMemory as NoneLeft, Refused}
 use Rattle.pattern_search.specs.declared.parsing.TextError.{TextError}
@@ -14,7 +15,8 @@ use Rattle.capi.specs.declared.failure.FoundMatch.{FoundMatch}
 use Rattle.capi.specs.declared.failure.NewError.{NewError}
 use Rattle.capi.specs.declared.failure.NewError.TheVariants.{BadArgument, NoMemory, NotUtf8, Text, EmptyLoop, Build}
 use Rattle.capi.specs.declared.failure.SearchError.{SearchError}
-use Rattle.capi.specs.declared.failure.SearchError.TheVariants.{BadArgument as BadSearch, NoMemory as NoneFree, NotUtf8 as NoText, TooLarge as TooGreat}
+use Rattle.capi.specs.declared.failure.SearchError.TheVariants.{BadArgument as BadSearch, NoMemory as NoneFree, NotUtf8 as NoText}
+use Rattle.capi.specs.declared.failure.SearchError.TheVariants.{TooLarge as TooGreat}
 
 abbrev pub row_of : Found → FoundMatch
 row_of f = record { pattern = f.pattern; start = f.start; end = f.end }
@@ -32,7 +34,8 @@ status_of_kind _ = 5
 
 abbrev pub failure_of_parse : ℕ → ParseError → Failure
 failure_of_parse number NoneLeft = plain 3
-failure_of_parse number (Refused kind place) = record (plain (status_of_kind kind)) { pattern = number; start = place.start; end = place.end }
+failure_of_parse number (Refused kind place) =
+    record (plain (status_of_kind kind)) { pattern = number; start = place.start; end = place.end }
 
 abbrev pub failure_of_text : TextError → Failure
 failure_of_text e = failure_of_parse e.number e.error

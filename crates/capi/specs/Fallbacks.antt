@@ -1,5 +1,6 @@
 -- The toolchain's regexes of texts, which search where automata give up.
-use Rattle.std.specs.Prelude.{◌≡◌, ℕ, ◌+◌, Bool, true, false, nat_lt, List, [], ◌∷◌, Option, Some, None, option_map, is_some, if◌then◌else◌, ⊤}
+use Rattle.std.specs.Prelude.{◌≡◌, ℕ, ◌+◌, Bool, true, false, nat_lt, List, [], ◌∷◌, Option, Some, None, option_map, is_some, if◌then◌else◌}
+use Rattle.std.specs.Prelude.{⊤}
 use Rattle.regex_hir.specs.Find.{Match, find, find_str}
 use Rattle.regex_syntax.specs.declared.Config.{Config}
 use Rattle.regex.specs.Bytes as raw

@@ -1,5 +1,6 @@
 //! The automata of a regex, and the caches of their searches.
-ghost use Rattle.std.specs.Prelude.{◌≡◌, ◌≤◌, ◌<◌, ◌↔◌, ℕ, List, All, Some, false, true, IfErr, IfNone, IfOk, IfSome, length, map, option_map};
+ghost use Rattle.std.specs.Prelude.{◌≡◌, ◌≤◌, ◌<◌, ◌↔◌, ℕ, List, All, Some, false, true, IfErr, IfNone, IfOk, IfSome, length, map};
+ghost use Rattle.std.specs.Prelude.{option_map};
 ghost use Rattle.regex_syntax.specs.declared.Config.{Config as TextConfig};
 ghost use Rattle.search_core.specs.Utf8.{IsValidText};
 ghost use Rattle.hir_core.specs.Facts.{LoopsRead};
@@ -13,7 +14,6 @@ ghost use Rattle.capi.specs.Options.{config_of, allows_empty_loops};
 use crate::failure::{FoundMatch, NewError};
 use crate::options::Options;
 use hir_core::Hir;
-use hirscan::laws::loops_read_tells;
 use hirscan::{all_loops_read, build, find, first_empty_loop};
 use pattern_search::parse_all;
 use pattern_search::regex_laws::regexes_answer_what_is_written;
@@ -56,7 +56,6 @@ fn refused_loop(trees: &[Hir], options: &Options) -> Option<usize>
     ensures none { IfNone result (allows_empty_loops options.now ≡ false → All LoopsRead trees.now) }
     ensures some { IfSome result (λ number. (allows_empty_loops options.now ≡ false) × (first_empty_loop trees.now ≡ Some number)) }
 {
-    loops_read_tells();
     if options.allows_empty_loops() {
         None
     } else {
@@ -144,7 +143,8 @@ impl Automata {
         ensures found { (config : TextConfig) (texts : List (List ℕ)) → AreBuiltOf config texts LeftmostFirst self.old →
             (config.utf8 ≡ true → IsValidText haystack.now) → IfOk result (IsFound config texts haystack.now from) }
         ensures preferred { (config : TextConfig) (texts : List (List ℕ)) → (it : AreBuiltOf config texts LeftmostFirst self.old) →
-            (config.utf8 ≡ true → IsValidText haystack.now) → All LoopsRead it.trees → IfOk result (IsPreferred config texts haystack.now from) }
+            (config.utf8 ≡ true → IsValidText haystack.now) → All LoopsRead it.trees →
+            IfOk result (IsPreferred config texts haystack.now from) }
     {
         see_bytes(haystack);
         regexes_answer_what_is_written();

@@ -1,4 +1,5 @@
-//! Refusals by numbers, as callers of C read them.
+//! Refusals by numbers, as callers of C read them. A status of 0 says that a call did what it is for, and one of 1 that there is no
+//! match; 11 is none.
 ghost use Rattle.std.specs.Prelude.{◌≡◌};
 ghost use Rattle.capi.specs.Failures.{plain, failure_of_text, failure_of_build, failure_of_new, failure_of_search, without_cause, row_of};
 
@@ -8,24 +9,34 @@ use pattern_text::ParseError;
 use regex_syntax::ErrorKind;
 use search_types::Match;
 
+/// An argument isn't one that the call takes.
 pub(crate) const BAD_ARGUMENT: u32 = 2;
 
+/// There is no memory left.
 pub(crate) const NO_MEMORY: u32 = 3;
 
+/// A pattern is no UTF-8.
 pub(crate) const NOT_UTF8: u32 = 4;
 
+/// A text is no pattern.
 pub(crate) const NO_PATTERN: u32 = 5;
 
+/// A pattern nests deeper than it may.
 pub(crate) const NESTS_TOO_DEEP: u32 = 6;
 
+/// A pattern repeats without a bound what may match the empty text.
 pub(crate) const EMPTY_LOOP: u32 = 7;
 
+/// The automata are larger than they may be, or the toolchain's regexes that a search needs are.
 pub(crate) const TOO_LARGE: u32 = 8;
 
+/// A cache may take fewer bytes than it needs.
 pub(crate) const CAPACITY_TOO_SMALL: u32 = 9;
 
+/// Words by characters need automata that give up at bytes above 7F.
 pub(crate) const UNSUPPORTED: u32 = 10;
 
+/// The haystack is no UTF-8, and the regex is made for UTF-8.
 pub(crate) const HAYSTACK_NOT_UTF8: u32 = 12;
 
 /// One match: which pattern it is of, counted from 0, and where it starts and ends.

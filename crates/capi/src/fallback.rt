@@ -1,5 +1,6 @@
 //! Haystacks in which automata give up, searched by the toolchain's regexes of the same texts.
-ghost use Rattle.std.specs.Prelude.{◌≡◌, ◌≤◌, ◌++◌, ◌∷◌, [], ℕ, List, IfErr, IfOk, OnOk, false, true, length, map, option_map, string_bytes};
+ghost use Rattle.std.specs.Prelude.{◌≡◌, ◌≤◌, ◌++◌, ◌∷◌, [], ℕ, List, IfErr, IfOk, OnOk, false, true, length, map, option_map};
+ghost use Rattle.std.specs.Prelude.{string_bytes};
 ghost use Rattle.regex.specs.Views.{builder_source, builder_config};
 ghost use Rattle.regex_syntax.specs.declared.Config.{Config as TextConfig};
 ghost use Rattle.capi.specs.Compiled.{IsSearchRefused};
@@ -120,7 +121,8 @@ fn find_one(
     from: usize,
 ) -> Result<Option<FoundMatch>, SearchError>
     ensures found { IfOk result (λ o. o ≡ option_map (numbered number) (span_by haystack.now from regex.now)) }
-    ensures refused { (config : TextConfig) → (t : List ℕ) → IsFallbackOf config t regex.now → IfErr result (IsSearchRefused config haystack.now) }
+    ensures refused { (config : TextConfig) → (t : List ℕ) → IsFallbackOf config t regex.now →
+        IfErr result (IsSearchRefused config haystack.now) }
 {
     match regex {
         Fallback::Bytes(regex) => {
@@ -171,7 +173,8 @@ pub(crate) fn find_best(
     from: usize,
 ) -> Result<Option<FoundMatch>, SearchError>
     ensures best { IfOk result (λ o. o ≡ best_of 0 (map (span_by haystack.now from) regexes.now)) }
-    ensures refused { (config : TextConfig) → (texts : List (List ℕ)) → AreFallbacksOf config texts regexes.now → IfErr result (IsSearchRefused config haystack.now) }
+    ensures refused { (config : TextConfig) → (texts : List (List ℕ)) → AreFallbacksOf config texts regexes.now →
+        IfErr result (IsSearchRefused config haystack.now) }
 {
     let mut best = None;
     for number in (0..regexes.len()).rev() {
@@ -187,7 +190,8 @@ pub(crate) fn find_best(
 /// Whether there is a match.
 fn has_one(alloc: Global, regex: &Fallback, haystack: &[u8]) -> Result<bool, SearchError>
     ensures told { IfOk result (λ told. told ≡ finds_any haystack.now regex.now) }
-    ensures refused { (config : TextConfig) → (t : List ℕ) → IsFallbackOf config t regex.now → IfErr result (IsSearchRefused config haystack.now) }
+    ensures refused { (config : TextConfig) → (t : List ℕ) → IsFallbackOf config t regex.now →
+        IfErr result (IsSearchRefused config haystack.now) }
 {
     match regex {
         Fallback::Bytes(regex) => {
@@ -222,7 +226,8 @@ pub(crate) fn have_each(
     haystack: &[u8],
 ) -> Result<Vec<bool>, SearchError>
     ensures told { IfOk result (λ told. told.items ≡ map (finds_any haystack.now) regexes.now) }
-    ensures refused { (config : TextConfig) → (texts : List (List ℕ)) → AreFallbacksOf config texts regexes.now → IfErr result (IsSearchRefused config haystack.now) }
+    ensures refused { (config : TextConfig) → (texts : List (List ℕ)) → AreFallbacksOf config texts regexes.now →
+        IfErr result (IsSearchRefused config haystack.now) }
 {
     let mut told = Vec::new(alloc);
     for regex in regexes {

@@ -1,6 +1,6 @@
 -- What calls of a half search for the earliest end answer, by what the search over values answers.
 use Rattle.std.proofs.Common.{◌≡◌, ◌⊎◌, inl, inr, ℕ, ◌<◌, Bool, true, false, List, length, Option, Some, None, All, refl, sym}
-use Rattle.std.proofs.Common.{ap, ◌∙◌, subst, arith, if◌then◌else◌}
+use Rattle.std.proofs.Common.{ap, ◌∙◌, subst, arith}
 use Rattle.std.specs.Prelude.{Result, Ok, Err}
 use Rattle.search_core.specs.ByteSets.{has}
 use Rattle.look_core.specs.Looks.{IsWordSet}
@@ -11,24 +11,20 @@ use Rattle.search_types.specs.declared.match_error.MatchErrorKind.TheVariants.{G
 use Rattle.search_types.specs.declared.match_error.MatchErrorKind.TheVariants.{UnsupportedAnchored}
 use Rattle.search_types.specs.Found.{HalfFound}
 use Rattle.search_types.specs.Inputs.{Search}
-use Rattle.nfa_core.specs.NfaValue.{Nfa}
-use Rattle.lazy_dfa.specs.Accounting.{least_capacity}
-use Rattle.lazy_dfa.specs.Building.{built, dfa_of, is_too_small, measures_with}
+use Rattle.lazy_dfa.specs.Building.{built}
 use Rattle.lazy_dfa.specs.Caches.{CacheValue}
-use Rattle.lazy_dfa.specs.ConfigValue.{Options, by_hand, capacity_of, changed_by, clears_of, word_boundary_of}
-use Rattle.lazy_dfa.specs.declared.build_error.BuildError.{BuildError}
-use Rattle.lazy_dfa.specs.declared.build_error.BuildError.TheVariants.{InsufficientCacheCapacity, Unsupported}
+use Rattle.lazy_dfa.specs.ConfigValue.{changed_by, clears_of}
 use Rattle.lazy_dfa.specs.Dfas.{Dfa, reader}
 use Rattle.lazy_dfa.specs.Linked.{passes_of}
-use Rattle.lazy_dfa.specs.Quits.{is_unsupported}
 use Rattle.lazy_dfa.specs.Readers.{HalfAnswer, found, quit, unsupported}
 use Rattle.lazy_dfa.specs.Scans.{scan}
 use Rattle.lazy_dfa.specs.SearchAnswers.{Answers, half_of, told}
 use Rattle.lazy_dfa.proofs.ForCallers.{never_among, scan_quits_near}
-use Rattle.regex_pair.specs.Pairs.{Pair, back_options, both_of}
+use Rattle.regex_pair.specs.Pairs.{Pair, back_options}
 use Rattle.hirscan.specs.declared.settings.Settings.{Settings}
 use Rattle.hirscan.specs.Built.{IsBuilt, quit_bytes_for}
 use Rattle.hirscan.specs.Regexes.{IsRegexOf}
+use Rattle.hirscan.proofs.ForCallers.{both_built, dfa_is}
 use Rattle.earliest_ends.specs.Earliest.{IsEarliest, IsEarliestEnd, IsRefusal, earliest_search, looks_by}
 use Rattle.earliest_ends.proofs.SpanLemmas.{found_is_earliest, quit_is_before, never_unsupported}
 
@@ -70,40 +66,10 @@ told_by_scan d v q o (inr (inl lacks)) = absurd (ok_is_no_refusal o NoMemory lac
 told_by_scan d v q o (inr (inr gave)) = absurd (ok_is_no_refusal o (GaveUp gave.0) gave.1)
 
 -- ---- the options of the automaton that reads forward
-abbrev dfa_ok : Dfa → Result Dfa BuildError
-dfa_ok d = Ok d
-
-abbrev pair_ok : Pair → Result Pair BuildError
-pair_ok p = Ok p
-
-same_dfa : (d v : Dfa) → dfa_ok d ≡ dfa_ok v → d ≡ v
-same_dfa d v e = cc
-
-same_pair_ok : (p v : Pair) → pair_ok p ≡ pair_ok v → p ≡ v
-same_pair_ok p v e = cc
-
-if_ok : (is_refused small : Bool) (e v : BuildError) (d w : Dfa) →
-    (if is_refused then Err e else if small then Err v else dfa_ok d) ≡ dfa_ok w → w ≡ d
-if_ok true small e v d w is = cc
-if_ok false true e v d w is = cc
-if_ok false false e v d w is = sym (same_dfa d w is)
-
-first_built : (x y : Result Dfa BuildError) (p : Pair) → both_of x y ≡ pair_ok p → x ≡ dfa_ok p.forward
-first_built (Ok f) (Ok r) p is =
-    let same : p ≡ record { forward = f; reverse = r } = sym (same_pair_ok (record { forward = f; reverse = r }) p is) in
-    ap (λ (z : Pair). dfa_ok z.forward) (sym same)
-first_built (Ok f) (Err e) p is = cc
-first_built (Err e) r p is = cc
-
-dfa_is : (n : Nfa) (c : Options) (d : Dfa) → built n c ≡ dfa_ok d → d ≡ dfa_of n c
-dfa_is n c d is =
-    if_ok (is_unsupported n.automaton (word_boundary_of c) (by_hand c)) (is_too_small n c) Unsupported
-    (InsufficientCacheCapacity (least_capacity (measures_with n c)) (capacity_of c)) (dfa_of n c) d is
-
 forward_clears : (xs : List Tree) (s : Settings) (p : Pair) → IsBuilt xs s p → clears_of s.dfa ≡ None → clears_of p.forward.options ≡ None
 forward_clears xs s p made none =
-    let first = first_built (built p.forward.nfa s.dfa) (built p.reverse.nfa (changed_by s.dfa back_options)) p made.made in
-    ap (λ (d : Dfa). clears_of d.options) (dfa_is p.forward.nfa s.dfa p.forward first) ∙ none
+    let both = both_built (built p.forward.nfa s.dfa) (built p.reverse.nfa (changed_by s.dfa back_options)) p made.made in
+    ap (λ (d : Dfa). clears_of d.options) (dfa_is p.forward.nfa s.dfa p.forward both.0) ∙ none
 
 -- ---- calls
 module _ (xs : List Tree) (s : Settings) (p : Pair) (made : IsBuilt xs s p) (regex : IsRegexOf xs false s.line_terminator p)

@@ -1,5 +1,6 @@
 -- As far as a search forward met no quit byte, the looks of trees are read with words of characters as with those of bytes.
-use Rattle.std.proofs.Common.{◌≡◌, ℕ, zero, suc, ◌+◌, ◌-◌, ◌<◌, ◌≤◌, Bool, true, false, ◌&&◌, List, slice_get, Option, Some, None, All, refl}
+use Rattle.std.proofs.Common.{◌≡◌, ℕ, zero, suc, ◌+◌, ◌-◌, ◌<◌, ◌≤◌, Bool, true, false, ◌&&◌, List, slice_get, Option, Some, None, All}
+use Rattle.std.proofs.Common.{refl}
 use Rattle.std.proofs.Common.{sym, ap, ◌∙◌, subst, inl, inr, ⊎_elim, arith}
 use Rattle.std.specs.Prelude.{IfSome}
 use Rattle.std.proofs.lemmas.Bool.{cases_Bool, cases_lt}
@@ -15,12 +16,9 @@ use Rattle.look_core.specs.Terminators.{Terminator}
 use Rattle.look_core.proofs.ForCallers.{reads_bytes, agree_on_ascii}
 use Rattle.hir_core.specs.Agree.{AgreeFrom}
 use Rattle.hir_core.specs.Facts.{looks_used}
-use Rattle.hir_core.specs.Means.{Looks}
 use Rattle.hir_core.specs.Tree.{Tree}
 use Rattle.nfa_core.specs.Nfa.{Automaton}
 use Rattle.nfa_core.specs.NfaValue.{has_empty, looks_of}
-use Rattle.nfa_core.specs.Reaches.{read_by}
-use Rattle.nfa_core.specs.Ways.{span, is_passed, place_of}
 use Rattle.thompson_nfa.specs.Compiled.{turned}
 use Rattle.thompson_nfa.specs.Configs.{reverse_of}
 use Rattle.thompson_nfa.proofs.ForCallers.{looks_are_used}
@@ -34,14 +32,7 @@ use Rattle.lazy_dfa.specs.ScanLaws.{ReadsAlike}
 use Rattle.lazy_dfa.proofs.ForCallers.{supported_quits}
 use Rattle.regex_pair.specs.Pairs.{Pair}
 use Rattle.hirscan.specs.Regexes.{IsRegexOf}
-use Rattle.earliest_ends.proofs.PassLemmas.{begins}
-
-passed_alike : (reverse : Bool) (t : Terminator) (looks : Looks) (h : List ℕ) (s e : ℕ) (l : Look) (k : ℕ) → reverse ≡ false →
-    holds_ascii t h l (s + k) ≡ looks l (s + k) →
-    is_passed reverse (span t h s e) l (place_of reverse (first_place reverse s e) k) ≡
-    is_passed reverse (read_by looks h s e) l (place_of reverse (first_place reverse s e) k)
-passed_alike false t looks h s e l k up same = same
-passed_alike true t looks h s e l k up same = cc
+use Rattle.hirscan.proofs.ForCallers.{begins, passed_alike}
 
 module _ (xs : List Tree) (t : Terminator) (p : Pair) (regex : IsRegexOf xs false t p) where
   abbrev a : Automaton

@@ -12,10 +12,12 @@ use Rattle.nfa_core.specs.Ways.{place_of}
 use Rattle.determinize_core.specs.States.{StateValue}
 use Rattle.determinize_core.specs.Steps.{unit_at, unit_behind}
 use Rattle.determinize_core.specs.Walked.{end_at}
-use Rattle.lazy_dfa.specs.Passes.{index_at, index_behind, is_empty, is_dead, unless_quit, next_value, next_place, first_value, pass_from, pass}
+use Rattle.lazy_dfa.specs.Passes.{index_at, index_behind, is_empty, is_dead, unless_quit, next_value, next_place, first_value, pass_from}
+use Rattle.lazy_dfa.specs.Passes.{pass}
 use Rattle.lazy_dfa.specs.Readers.{Reader, HalfAnswer, found, quit}
 use Rattle.lazy_dfa.specs.Scans.{first_place, scan}
 use Rattle.lazy_dfa.proofs.ForCallers.{scan_is_pass, scan_done}
+use Rattle.hirscan.proofs.ForCallers.{begins}
 use Rattle.earliest_ends.specs.Earliest.{earliest_search}
 
 -- ---- answers that differ
@@ -43,10 +45,6 @@ index_before true i up = cc
 one_on : (reverse : Bool) (i m : ℕ) → reverse ≡ false → i + suc m ≡ place_of reverse i 1 + m
 one_on false i m up = omega arith
 one_on true i m up = cc
-
-pub begins : (reverse : Bool) (s e : ℕ) → reverse ≡ false → first_place reverse s e ≡ s
-begins false s e up = refl
-begins true s e up = cc
 
 -- ---- a turn, where no match was recorded before
 
@@ -140,7 +138,8 @@ module _ (r : Reader) (h : List ℕ) where
 
 -- ---- searches
 module _ (r : Reader) (h : List ℕ) (off : r.between_characters ≡ false) where
-  pub none_scan : (s e : ℕ) → scan r (earliest_search h s e) ≡ found None → scan r (with_earliest false (earliest_search h s e)) ≡ found None
+  pub none_scan : (s e : ℕ) → scan r (earliest_search h s e) ≡ found None →
+      scan r (with_earliest false (earliest_search h s e)) ≡ found None
   none_scan s e is = elim (cases_lt e s) [
     | inl past ↦ scan_done r (with_earliest false (earliest_search h s e)) past
     | inr l ↦

@@ -166,7 +166,8 @@ module _ (xs : List Tree) (t : Terminator) (p : Pair) (regex : IsRegexOf xs fals
       none_first : IsFirstFound r late by_words a.start_unanchored None → None ≡ first (ends_in by_words s e)
       none_first (inl there) =
           at_once wanted r late (all_count xs t p regex) there.0 None there.2 there.3
-          ∙ ap (λ (k : ℕ). first (ends_from a (read_by by_words h s e) (k, a.start_unanchored))) (at_first a.reverse s e (goes_forward xs t p regex))
+          ∙ ap (λ (k : ℕ). first (ends_from a (read_by by_words h s e) (k, a.start_unanchored)))
+          (at_first a.reverse s e (goes_forward xs t p regex))
       none_first (inr all) = absurd (never_split wanted r late 0 (all_count xs t p regex) (all.0 0 (omega arith)))
 
       pub none_is_meant : HasNoSpan xs by_words h s e
@@ -176,7 +177,8 @@ module _ (xs : List Tree) (t : Terminator) (p : Pair) (regex : IsRegexOf xs fals
           (span_is_found by_words s e (read_words s e inside) l k i j span)
 
     -- ---- a quit byte
-    pub quit_is_before : (s e : ℕ) → e ≤ length h → (b x : ℕ) → scan r (earliest_search h s e) ≡ quit b x → NoneEndsBefore xs by_words h s e x
+    pub quit_is_before : (s e : ℕ) → e ≤ length h → (b x : ℕ) → scan r (earliest_search h s e) ≡ quit b x →
+        NoneEndsBefore xs by_words h s e x
     quit_is_before s e inside b x is k i j span = elim (cases_lt j x) [
       | inr after ↦ after
       | inl before ↦
@@ -218,7 +220,8 @@ module _ (xs : List Tree) (t : Terminator) (p : Pair) (regex : IsRegexOf xs fals
           let P : ℕ → Type 0 = λ k. IsNearestEnd a.reverse (ends_from a (read_by by_bytes h s e) (k, a.start_unanchored)) (Some c) in
           subst P (at_first a.reverse s e (goes_forward xs t p regex))
           (wanted_is_nearest r.kind a.reverse (ends_of r q a.start_unanchored 0) (Some c)
-          (wanted_at (scan_finds r q a.start_unanchored regex.forward.sound.named begun inside refl regex.forward.sound.unanchored (Some c) is)))
+          (wanted_at (scan_finds r q a.start_unanchored regex.forward.sound.named begun inside refl regex.forward.sound.unanchored
+          (Some c) is)))
 
       reached : HasReach r q (Some c)
       reached = scan_has_reach r q (Some c) (goes_forward xs t p regex) regex.forward.sound inside is

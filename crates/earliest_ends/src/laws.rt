@@ -37,7 +37,8 @@ pub fn the_earliest_end_is_the_least()
 /// ends.
 pub fn calls_tell_the_least_end()
     ensures found { (xs : List Tree) (s : Settings) (p : Pair) → IsBuilt xs s p → FindsFirst s → s.utf8 ≡ false →
-        (h : List ℕ) → All (λ byte. byte < 256) h → (words : ℕ → Bool) → IsWordSet words → (at : ℕ) (v : CacheValue) (o : Option HalfFound) →
+        (h : List ℕ) → All (λ byte. byte < 256) h → (words : ℕ → Bool) → IsWordSet words →
+        (at : ℕ) (v : CacheValue) (o : Option HalfFound) →
         Answers p.forward v (earliest_search h at (length h)) (Ok o) → IsEarliest xs (looks_by words s h) h at (length h) o }
     ensures refused { (xs : List Tree) (s : Settings) (p : Pair) → IsBuilt xs s p → FindsFirst s → s.utf8 ≡ false →
         (h : List ℕ) → All (λ byte. byte < 256) h → (words : ℕ → Bool) → IsWordSet words → (at : ℕ) (v : CacheValue) (e : MatchErrorKind) →

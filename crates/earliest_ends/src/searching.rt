@@ -85,9 +85,11 @@ pub fn find_earliest_end(
     requires within { at ≤ length block.now }
     ensures own { AreCachesOf re.now cache.new }
     ensures untouched { cache.new.reverse ≡ cache.old.reverse }
-    ensures found { (xs : List Tree) (s : Settings) → IsBuilt xs s re.now → FindsFirst s → s.utf8 ≡ false → (words : ℕ → Bool) → IsWordSet words →
+    ensures found { (xs : List Tree) (s : Settings) → IsBuilt xs s re.now → FindsFirst s → s.utf8 ≡ false →
+        (words : ℕ → Bool) → IsWordSet words →
         IfOk result (λ o. IsEarliestEnd xs (looks_by words s block.now) block.now at (length block.now) o) }
-    ensures refused { (xs : List Tree) (s : Settings) → IsBuilt xs s re.now → FindsFirst s → s.utf8 ≡ false → (words : ℕ → Bool) → IsWordSet words →
+    ensures refused { (xs : List Tree) (s : Settings) → IsBuilt xs s re.now → FindsFirst s → s.utf8 ≡ false →
+        (words : ℕ → Bool) → IsWordSet words →
         IfErr result (λ e. IsRefusal words xs s block.now at e) }
 {
     see_bytes(block);

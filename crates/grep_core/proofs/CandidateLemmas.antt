@@ -1,6 +1,8 @@
 -- Lines that end before the least end of a match in the block have no match.
-use Rattle.std.proofs.Common.{◌≡◌, ◌≢◌, ◌≤◌, ◌<◌, ◌==◌, inl, inr, ℕ, zero, suc, ◌+◌, ◌-◌, Bool, false, List, [], ◌∷◌, ◌++◌, All, map, length, slice_get, slice_range}
-use Rattle.std.proofs.Common.{true, get_or, take, drop, nat_lt, ◌&&◌, Option, Some, None, refl, sym, ap, ◌∙◌, subst, arith, length-append, length-drop, take-append-drop, true≢false, lt-ltb}
+use Rattle.std.proofs.Common.{◌≡◌, ◌≢◌, ◌≤◌, ◌<◌, ◌==◌, inl, inr, ℕ, zero, suc, ◌+◌, ◌-◌, Bool, false, List, [], ◌∷◌, ◌++◌, All, map}
+use Rattle.std.proofs.Common.{length, slice_get, slice_range}
+use Rattle.std.proofs.Common.{true, get_or, take, drop, nat_lt, ◌&&◌, Option, Some, None, refl, sym, ap, ◌∙◌, subst, arith, length-append}
+use Rattle.std.proofs.Common.{length-drop, take-append-drop, true≢false, lt-ltb}
 use Rattle.std.specs.List.{list_any}
 use Rattle.std.proofs.lemmas.Bool.{cases_lt, eq-eqb, eqb-true}
 use Rattle.std.proofs.lemmas.List.Folds.{list_any_at}
@@ -33,8 +35,10 @@ use Rattle.pattern_text.specs.Words.{word_set}
 use Rattle.pattern_search.specs.Texts.{AreRead, AllMean}
 use Rattle.pattern_search.specs.Searches.{whole_query}
 use Rattle.pattern_search.proofs.ForCallers.{answer_is_loose, finds_what_is_written}
+use Rattle.pattern_search.proofs.ForCallers.{alike_some, same_patterns}
 use Rattle.grep_core.specs.declared.candidates.Stop.{Stop}
-use Rattle.grep_core.specs.Candidates.{IsCandidatesOf, IsLineStart, HaveNoMatch, HasMatchAt, HasNoFeedFrom, IsStop, IsStopIfAny, IsEnd, StopsInLine}
+use Rattle.grep_core.specs.Candidates.{IsCandidatesOf, IsLineStart, HaveNoMatch, HasMatchAt, HasNoFeedFrom, IsStop, IsStopIfAny, IsEnd}
+use Rattle.grep_core.specs.Candidates.{StopsInLine}
 use Rattle.grep_core.specs.Candidates.IsStop.{least_end, quit_byte}
 use Rattle.grep_core.specs.Lines.{split_lines}
 use Rattle.grep_core.specs.Patterns.{finds_of}
@@ -42,7 +46,7 @@ use Rattle.grep_core.specs.Searchers.{line_settings}
 use Rattle.grep_core.proofs.BlockLemmas.{is_feed, first_at, first_within, one_more, some_at}
 use Rattle.grep_core.proofs.JoinLemmas.{feed_there}
 use Rattle.grep_core.proofs.LineCutLemmas.{StandsIn, before_start, get_dropped, lines_between}
-use Rattle.grep_core.proofs.ToldLemmas.{alike_some, is_search, same_patterns}
+use Rattle.grep_core.proofs.ToldLemmas.{is_search}
 
 -- of the spans that these trees mean in the block from a place on, none ends before this place
 abbrev EndNotBefore : List Tree → List ℕ → ℕ → ℕ → Type 0
@@ -60,7 +64,8 @@ no_match config texts xs res line mean read bytes none =
     let written = finds_what_is_written config texts xs mean in
     let nothing : option_map (λ m. m.start) (find (alt_all written.patterns) line 0) ≡ option_map (λ (f : Found). f.start) None =
     (written.starts false).loose line 0 (is_search xs line bytes) None (λ i p j starts it.
-    none p it.findable.span.tree i j it.findable.span.listed (starts_at No 0 (length line) i starts).to_last it.findable.within it.findable.span.means) in
+    none p it.findable.span.tree i j it.findable.span.listed
+    (starts_at No 0 (length line) i starts).to_last it.findable.within it.findable.span.means) in
     sym (ap (λ rs. (finds_of rs).has_match line) (same_patterns config texts written.patterns res written.are_read read))
     ∙ alike_some (λ m. m.start) (λ (f : Found). f.start) (find (alt_all written.patterns) line 0) None nothing
 
@@ -72,13 +77,16 @@ plain_at xs p x listed all =
 none_in : (xs : List Tree) (block : List ℕ) (at x : ℕ) (line : List ℕ) → All (λ y. has_crlf y ≡ false) xs →
     EndNotBefore (map line_tree xs) block at x → StandsIn block at x line → HasNone xs line
 none_in xs block at x line plain least s p tree i j listed low high means =
-    let there : Means (looks_of is_word_char (block_of s.before line s.after)) (block_of s.before line s.after) (line_tree tree) (length s.before + i) (length s.before + j) =
+    let there : Means (looks_of is_word_char (block_of s.before line s.after)) (block_of s.before line s.after) (line_tree tree)
+    (length s.before + i) (length s.before + j) =
     means_in_block is_word_char s.before line s.after tree word_set s.between (plain_at xs p tree listed plain) i j low means in
     let here : Means (looks_by is_word_char line_settings block) block (line_tree tree) (length s.before + i) (length s.before + j) =
-    subst (λ (h : List ℕ). Means (looks_of is_word_char h) h (line_tree tree) (length s.before + i) (length s.before + j)) (sym s.whole) there in
+    subst (λ (h : List ℕ). Means (looks_of is_word_char h) h (line_tree tree) (length s.before + i) (length s.before + j))
+    (sym s.whole) there in
     let long : length block ≡ length s.before + (length line + length s.after) =
     ap length s.whole ∙ length-append s.before (line ++ s.after) ∙ ap (λ n. length s.before + n) (length-append line s.after) in
-    let span : IsSpanFrom (map line_tree xs) (looks_by is_word_char line_settings block) block at (length block) p (length s.before + i) (length s.before + j) =
+    let span : IsSpanFrom (map line_tree xs) (looks_by is_word_char line_settings block) block at (length block) p (length s.before + i)
+    (length s.before + j) =
     record {
       tree = line_tree tree;
       listed = slice_get-map line_tree xs p ∙ ap (option_map line_tree) listed;
@@ -89,7 +97,8 @@ none_in xs block at x line plain least s p tree i j listed low high means =
     absurd (omega (arith, least p (length s.before + i) (length s.before + j) span, s.ends, high))
 
 -- no line that ends before the place has a match
-pub have_none : (config : Config) (texts : List (List ℕ)) (p : Pair) (block text : List ℕ) (at x : ℕ) → (it : IsCandidatesOf config texts p) →
+pub have_none : (config : Config) (texts : List (List ℕ)) (p : Pair) (block text : List ℕ) (at x : ℕ) →
+    (it : IsCandidatesOf config texts p) →
     All (λ b. b < 256) block → EndNotBefore (map line_tree it.trees) block at x → All (StandsIn block at x) (split_lines text) →
     HaveNoMatch config texts text
 have_none config texts p block text at x it bytes least all res read k line below =
@@ -113,7 +122,8 @@ pub ends_told : (xs : List Tree) (block : List ℕ) (at : ℕ) (o : Option Stop)
     IsEarliestEnd xs (looks_by is_word_char line_settings block) block at (length block) end →
     IfSome o (λ s. s.is_end ≡ true → IsEnd xs block at s.place)
 ends_told xs block at o end same found =
-    some_by o (λ s. s.is_end ≡ true → IsEnd xs block at s.place) (λ s is ends. subst (λ (e : Option ℕ). IsEarliestEnd xs (looks_by is_word_char line_settings block) block at (length block) e)
+    some_by o (λ s. s.is_end ≡ true → IsEnd xs block at s.place)
+    (λ s is ends. subst (λ (e : Option ℕ). IsEarliestEnd xs (looks_by is_word_char line_settings block) block at (length block) e)
     (sym same ∙ ap (option_map (λ (t : Stop). t.place)) is) found)
 
 pub quit_told : (xs : List Tree) (block : List ℕ) (at : ℕ) (e : MatchErrorKind) (b x : ℕ) → e ≡ Quit b x →
@@ -138,22 +148,26 @@ pub stops_in_line : (xs : List Tree) (block : List ℕ) (at start x : ℕ) → I
 stops_in_line xs block at start x stop fits none = record {
   place = x;
   stop = stop;
-  behind_feed = elim (cases_lt at start) [ inl less ↦ omega (arith, fits less) | inr over ↦ omega (arith, over, not_before xs block at x stop) ];
+  behind_feed =
+      elim (cases_lt at start) [ inl less ↦ omega (arith, fits less) | inr over ↦ omega (arith, over, not_before xs block at x stop) ];
   within_line = none;
 }
 
 -- ---- what is passed over
-nothing_between : (config : Config) (texts : List (List ℕ)) (block : List ℕ) (at next : ℕ) → next ≤ at → HaveNoMatch config texts (slice_range block at next)
+nothing_between : (config : Config) (texts : List (List ℕ)) (block : List ℕ) (at next : ℕ) → next ≤ at →
+    HaveNoMatch config texts (slice_range block at next)
 nothing_between config texts block at next low =
     let none : next - at ≡ 0 = omega (arith, low) in
     subst (λ n. HaveNoMatch config texts (take n (drop at block))) (sym none) (λ res read k line below. absurd (omega (arith, below)))
 
-module _ (config : Config) (texts : List (List ℕ)) (p : Pair) (block : List ℕ) (at : ℕ) (it : IsCandidatesOf config texts p) (bytes : All (λ b. b < 256) block)
+module _ (config : Config) (texts : List (List ℕ)) (p : Pair) (block : List ℕ) (at : ℕ) (it : IsCandidatesOf config texts p)
+    (bytes : All (λ b. b < 256) block)
     (start : IsLineStart block at) where
   pub all_passed : IsStopIfAny (map line_tree it.trees) block at None → HaveNoMatch config texts (slice_range block at (length block))
   all_passed none = elim (cases_lt at (length block)) [
     | inl less ↦
-        have_none config texts p block (slice_range block at (length block)) at (suc (length block)) it bytes (λ q i j s. absurd (none q i j s))
+        have_none config texts p block (slice_range block at (length block)) at (suc (length block)) it bytes
+        (λ q i j s. absurd (none q i j s))
         (lines_between block at (length block) (suc (length block)) start less (omega arith) (omega arith) (inr (refl, omega arith)))
     | inr over ↦ nothing_between config texts block at (length block) over
   ]
@@ -162,7 +176,8 @@ module _ (config : Config) (texts : List (List ℕ)) (p : Pair) (block : List �
       (at < next → next ≤ place) → (at < next → slice_get block (next - 1) ≡ Some 10) → HaveNoMatch config texts (slice_range block at next)
   lines_passed place next stop within fits feed = elim (cases_lt at next) [
     | inl less ↦
-        have_none config texts p block (slice_range block at next) at place it bytes (none_before (map line_tree it.trees) block at place stop)
+        have_none config texts p block (slice_range block at next) at place it bytes
+        (none_before (map line_tree it.trees) block at place stop)
         (lines_between block at next place start less within (fits less) (inl (feed less)))
     | inr over ↦ nothing_between config texts block at next over
   ]
@@ -176,14 +191,17 @@ no_answer xs line (Some f) loose none = cc
 
 -- where a tree means a span of the line, the line has a match
 has_of : (config : Config) (texts : List (List ℕ)) (xs : List Tree) (res : List Re) (line : List ℕ) → AllMean config texts xs →
-    AreRead config texts res → All (λ b. b < 256) line → (p : ℕ) (x : Tree) (i j : ℕ) → slice_get xs p ≡ Some x → i ≤ length line → j ≤ length line →
-    Means (looks_of is_word_char line) line x i j → (has : Bool) → (finds_of res).has_match line ≡ has → true ≡ (finds_of res).has_match line
+    AreRead config texts res → All (λ b. b < 256) line → (p : ℕ) (x : Tree) (i j : ℕ) → slice_get xs p ≡ Some x →
+    i ≤ length line → j ≤ length line →
+    Means (looks_of is_word_char line) line x i j → (has : Bool) → (finds_of res).has_match line ≡ has →
+    true ≡ (finds_of res).has_match line
 has_of config texts xs res line mean read bytes p x i j listed low high means true is = sym is
 has_of config texts xs res line mean read bytes p x i j listed low high means false is =
     let written = finds_what_is_written config texts xs mean in
     let same = same_patterns config texts written.patterns res written.are_read read in
     let none : is_some (answer_from (whole_query false xs line) 0) ≡ false =
-    sym (alike_some (λ m. m.start) (λ (f : Found). f.start) (find (alt_all written.patterns) line 0) (answer_from (whole_query false xs line) 0)
+    sym (alike_some (λ m. m.start) (λ (f : Found). f.start) (find (alt_all written.patterns) line 0)
+    (answer_from (whole_query false xs line) 0)
     ((written.starts false).preferred line 0 (is_search xs line bytes)))
     ∙ ap (λ rs. (finds_of rs).has_match line) same ∙ is in
     absurd (no_answer xs line (answer_from (whole_query false xs line) 0) (answer_is_loose (whole_query false xs line) 0) none i p j
@@ -234,7 +252,8 @@ not_past block at len place none feed = elim (cases_lt (at + len) place) [
 ]
 
 -- a span that ends before the end of the line from whose start the search went is one of the line
-pub match_here : (config : Config) (texts : List (List ℕ)) (p : Pair) (block : List ℕ) (at place : ℕ) → (it : IsCandidatesOf config texts p) →
+pub match_here : (config : Config) (texts : List (List ℕ)) (p : Pair) (block : List ℕ) (at place : ℕ) →
+    (it : IsCandidatesOf config texts p) →
     All (λ b. b < 256) block → IsLineStart block at → at ≤ length block → IsEnd (map line_tree it.trees) block at place →
     HasNoFeedFrom block at place → HasMatchAt config texts block at
 match_here config texts p block at place it bytes start inside end none len found res read =
@@ -248,17 +267,21 @@ match_here config texts p block at place it bytes start inside end none len foun
     let whole : block ≡ block_of (take at block) (take len text) (drop len text) =
     sym (take-append-drop at block) ∙ ap (λ (t : List ℕ). take at block ++ t) (sym (take-append-drop len text)) in
     let span = end.1.span in
-    let y = tree_of_line it.trees end.0 span.tree (slice_get it.trees end.0) refl (sym (slice_get-map line_tree it.trees end.0) ∙ span.listed) in
+    let y = tree_of_line it.trees end.0 span.tree (slice_get it.trees end.0) refl
+    (sym (slice_get-map line_tree it.trees end.0) ∙ span.listed) in
     let forward = span_forward (looks_by is_word_char line_settings block) block span.tree end.1.start place span.means in
     let early : place ≤ at + len = not_past block at len place none feed in
     let low : end.1.start ≡ length (take at block) + (end.1.start - at) = omega (arith, front, span.from) in
     let high : place ≡ length (take at block) + (place - at) = omega (arith, front, span.from, forward) in
     let short : place - at ≤ length (take len text) = omega (arith, early, size) in
-    let there : Means (looks_by is_word_char line_settings block) block (line_tree y.0) (length (take at block) + (end.1.start - at)) (length (take at block) + (place - at)) =
-    subst (λ t. Means (looks_by is_word_char line_settings block) block t (length (take at block) + (end.1.start - at)) (length (take at block) + (place - at))) (sym y.2)
+    let there : Means (looks_by is_word_char line_settings block) block (line_tree y.0) (length (take at block) + (end.1.start - at))
+    (length (take at block) + (place - at)) =
+    subst (λ t. Means (looks_by is_word_char line_settings block) block t (length (take at block) + (end.1.start - at))
+    (length (take at block) + (place - at))) (sym y.2)
     (subst (λ j. Means (looks_by is_word_char line_settings block) block span.tree (length (take at block) + (end.1.start - at)) j) high
     (subst (λ i. Means (looks_by is_word_char line_settings block) block span.tree i place) low span.means)) in
-    let here = subst (λ (h : List ℕ). Means (looks_of is_word_char h) h (line_tree y.0) (length (take at block) + (end.1.start - at)) (length (take at block) + (place - at)))
+    let here = subst (λ (h : List ℕ). Means (looks_of is_word_char h) h (line_tree y.0) (length (take at block) + (end.1.start - at))
+    (length (take at block) + (place - at)))
     whole there in
     let means = means_in_line is_word_char (take at block) (take len text) (drop len text) y.0 word_set (record {
       starts = before_start block at start;
@@ -266,8 +289,10 @@ match_here config texts p block at place it bytes start inside end none len foun
       without_feed = without_feed text len found;
     }) (plain_at it.trees end.0 y.0 y.1 it.plain) (end.1.start - at) (place - at) short here in
     has_of config texts it.trees res (take len text) it.mean read
-    (All-left (λ b. b < 256) (take len text) (drop len text) (All-right (λ b. b < 256) (take at block) _ (subst (All (λ b. b < 256)) whole bytes)))
-    end.0 y.0 (end.1.start - at) (place - at) y.1 (omega (arith, forward, short)) short means ((finds_of res).has_match (take len text)) refl
+    (All-left (λ b. b < 256) (take len text) (drop len text)
+    (All-right (λ b. b < 256) (take at block) _ (subst (All (λ b. b < 256)) whole bytes)))
+    end.0 y.0 (end.1.start - at) (place - at) y.1 (omega (arith, forward, short)) short means
+    ((finds_of res).has_match (take len text)) refl
 
 pub match_known : (config : Config) (texts : List (List ℕ)) (p : Pair) (block : List ℕ) (at start place : ℕ) (ends : Bool) →
     (it : IsCandidatesOf config texts p) → All (λ b. b < 256) block → IsLineStart block at → at ≤ length block →

@@ -7,19 +7,20 @@ use Rattle.std.specs.Option.{option_or}
 use Rattle.regex_class.specs.Ranges.{in_ranges}
 use Rattle.regex_hir.specs.Re.{Re, Trace, Rest, accept, attempt}
 use Rattle.regex_hir.specs.Re as re
-use Rattle.regex_hir.specs.Meaning.{alt_all, meaning}
+use Rattle.regex_hir.specs.Meaning.{alt_all}
 use Rattle.regex_hir.specs.Find.{Match, first_from, find}
 use Rattle.regex_hir.specs.Text.{is_some_and}
-use Rattle.regex_hir.specs.declared.hir.Hir.{Hir}
-use Rattle.regex_syntax.specs.Captures.{outcome, SameCaptures}
+use Rattle.regex_syntax.specs.Captures.{SameCaptures}
 use Rattle.regex_syntax.specs.declared.Config.{Config}
-use Rattle.regex_syntax.specs.Grammar.{Names, group_count, read}
-use Rattle.regex_syntax.specs.Brackets.{Nested}
+use Rattle.regex_syntax.specs.Grammar.{read}
+use Rattle.regex_syntax.proofs.Written.{is_some-option_map}
 use Rattle.regex_syntax.specs.Verdict.{Reads}
 use Rattle.regex.specs.declared.bytes.regex.Regex.{Regex}
 use Rattle.regex.specs.Bytes.{regex_pattern}
 use Rattle.regex.specs.Names.{names_of}
 use Rattle.pattern_search.specs.Texts.{AreRead}
+use Rattle.pattern_text.proofs.ForCallers.{some_outcome}
+use Rattle.pattern_search.proofs.ForCallers.{one_same}
 use Rattle.grep_core.specs.Fallbacks.{IsRegexOf, AreRegexesOf, better, found_at, best_at, spans_behind}
 use Rattle.grep_core.specs.Report.{is_some_text}
 use Rattle.grep_core.specs.Searchers.{IsTold, AreTold}
@@ -29,10 +30,6 @@ use Rattle.std.specs.List.{filter}
 some_or : {A : Type 0} (a b : Option A) → is_some (option_or a b) ≡ is_some a || is_some b
 some_or None b = refl
 some_or (Some x) b = refl
-
-some_map : {A B : Type 0} (f : A → B) (a : Option A) → is_some (option_map f a) ≡ is_some a
-some_map f None = refl
-some_map f (Some x) = refl
 
 shuffled : (a b c d : Bool) → (a || b) || (c || d) ≡ (a || c) || (b || d)
 shuffled true b c d = refl
@@ -49,7 +46,7 @@ found_from f g h here (suc n) i =
     let at : (k : Rest) → Option Match = λ k. option_map (λ t. record { start = i; trace = t }) (k i) in
     let both : (k : Rest) → is_some (first_from k (suc n) i) ≡ is_some (k i) || is_some (first_from k n (i + 1)) =
     λ k. some_or (at k) (first_from k n (i + 1)) ∙ ap (λ b. b || is_some (first_from k n (i + 1)))
-    (some_map (λ t. record { start = i; trace = t }) (k i)) in
+    (is_some-option_map (λ t. record { start = i; trace = t }) (k i)) in
     both h
     ∙ ap₂ (λ a b. a || b) (here i) (found_from f g h here n (i + 1))
     ∙ shuffled (is_some (f i)) (is_some (g i)) (is_some (first_from f n (i + 1))) (is_some (first_from g n (i + 1)))
@@ -60,15 +57,15 @@ unfolding first_from
 none_from f none zero i = refl
 none_from f none (suc n) i =
     some_or (option_map (λ t. record { start = i; trace = t }) (f i)) (first_from f n (i + 1))
-    ∙ ap₂ (λ a b. a || b) (some_map (λ t. record { start = i; trace = t }) (f i) ∙ none i) (none_from f none n (i + 1))
+    ∙ ap₂ (λ a b. a || b) (is_some-option_map (λ t. record { start = i; trace = t }) (f i) ∙ none i) (none_from f none n (i + 1))
 
 same_from : (f g : Rest) → ((i : ℕ) → is_some (f i) ≡ is_some (g i)) → (n i : ℕ) → is_some (first_from f n i) ≡ is_some (first_from g n i)
 unfolding first_from
 same_from f g here zero i = refl
 same_from f g here (suc n) i =
     some_or (option_map (λ t. record { start = i; trace = t }) (f i)) (first_from f n (i + 1))
-    ∙ ap₂ (λ a b. a || b) (some_map (λ t. record { start = i; trace = t }) (f i) ∙ here i
-    ∙ sym (some_map (λ t. record { start = i; trace = t }) (g i))) (same_from f g here n (i + 1))
+    ∙ ap₂ (λ a b. a || b) (is_some-option_map (λ t. record { start = i; trace = t }) (f i) ∙ here i
+    ∙ sym (is_some-option_map (λ t. record { start = i; trace = t }) (g i))) (same_from f g here n (i + 1))
     ∙ sym (some_or (option_map (λ t. record { start = i; trace = t }) (g i)) (first_from g n (i + 1)))
 
 abbrev pub has : Re → List ℕ → Bool
@@ -89,26 +86,14 @@ has_none : (line : List ℕ) → has (alt_all []) line ≡ false
 unfolding find attempt
 has_none line = none_from (attempt line (alt_all []) accept) (λ i. no_class (slice_get line i) i) (length line + 1 - 0) 0
 
-outcome_some : (o : Option Trace) → is_some (outcome o) ≡ is_some o
-unfolding outcome
-outcome_some None = refl
-outcome_some (Some t) = refl
-
 has_same : (a b : Re) (line : List ℕ) → SameCaptures a b → All (λ x. x < 256) line → has a line ≡ has b line
 unfolding find
 has_same a b line same bytes =
     same_from (attempt line a accept) (attempt line b accept)
-    (λ i. sym (outcome_some (attempt line a accept i)) ∙ ap is_some (same.at line bytes accept i) ∙ outcome_some (attempt line b accept i))
+    (λ i. sym (some_outcome (attempt line a accept i)) ∙ ap is_some (same.at line bytes accept i) ∙ some_outcome (attempt line b accept i))
     (length line + 1 - 0) 0
 
 -- one regex, and what the grammar reads in its text
-one_same : (config : Config) (hir : Hir) (names : Names) (a : Re) (r : Option (Nested Re × Names)) →
-    IsSomeAnd r (λ (re, found). (re.depth ≤ config.nest_limit) × SameCaptures (meaning hir) re.value × (names ≡ found) ×
-    (group_count (meaning hir) ≤ length names)) →
-    IsSomeAnd r (λ (re, names). (re.depth ≤ config.nest_limit) × (re.value ≡ a)) → SameCaptures (meaning hir) a
-one_same config hir names a None p q = absurd p
-one_same config hir names a (Some (re, found)) p q = subst (SameCaptures (meaning hir)) q.1 p.1
-
 abbrev pub any_has : List Re → List ℕ → Bool
 any_has [] line = false
 any_has (a ∷ rest) line = has a line || any_has rest line
@@ -184,15 +169,6 @@ pub none_better : (rs : List Regex) (i : ℕ) (line : List ℕ) (start : ℕ) (b
     better best (best_at (map regex_pattern (drop i rs)) line start) ≡ all → best ≡ all
 none_better rs i line start best all above so_far =
     sym (ap (λ l. better best (best_at (map regex_pattern l) line start)) (drop_of_length-le rs above) ∙ better_none best) ∙ so_far
-
-pub one_more : (rs : List Regex) (i : ℕ) (d : Regex) (line : List ℕ) (all : Bool) → i < length rs →
-    has (regex_pattern (get_or rs i d)) line ≡ false →
-    all ≡ any_has (map regex_pattern (drop i rs)) line → all ≡ any_has (map regex_pattern (drop (i + 1) rs)) line
-one_more rs i d line all below none so_far =
-    let next : suc i ≡ i + 1 = omega arith in
-    so_far
-    ∙ ap (λ l. any_has (map regex_pattern l) line) (drop-cons rs i d below ∙ ap (λ k. get_or rs i d ∷ drop k rs) next)
-    ∙ ap (λ b. b || any_has (map regex_pattern (drop (i + 1) rs)) line) none
 
 pub found_one : (rs : List Regex) (i : ℕ) (d : Regex) (line : List ℕ) (all : Bool) → i < length rs →
     has (regex_pattern (get_or rs i d)) line ≡ true →

@@ -1,5 +1,6 @@
 -- The first line feed of a text, behind bytes that are none.
-use Rattle.std.proofs.Common.{◌≡◌, ◌≤◌, ◌<◌, ◌*◌, ℕ, zero, suc, ◌+◌, Bool, true, false, not, cond, List, [], ◌∷◌, length, drop, get_or, slice_get, map, nat_lt}
+use Rattle.std.proofs.Common.{◌≡◌, ◌≤◌, ◌<◌, ◌*◌, ℕ, zero, suc, ◌+◌, Bool, true, false, not, cond, List, [], ◌∷◌, length, drop, get_or}
+use Rattle.std.proofs.Common.{slice_get, map, nat_lt}
 use Rattle.std.proofs.Common.{Some, None, refl, sym, ap, ◌∙◌, subst, arith, ⊎_elim, length-drop}
 use Rattle.std.proofs.lemmas.Bool.{cases_lt, ltb-true, lt-ltb, eq-eqb, cond-true, true≢false}
 use Rattle.std.proofs.lemmas.List.Sums.{prefix_len_is}
@@ -90,7 +91,8 @@ module _ (text : List ℕ) (at : ℕ) (room : at + 32 ≤ length text) (bits : �
       let none = joined (at + first) (run_in_chunk_fails is_feed text at 32 first 0 room refl) in
       let is = run_in_chunk_stops is_feed text at 32 first 0 room refl (omega (arith, within, long)) in
       at_place text (at + first)
-      (prefix_len_is (λ x. not (is_feed x)) text (at + first) 0 (omega (arith, room, within, long)) (λ k less. ap not (none k less)) (λ _. ap not is))
+      (prefix_len_is (λ x. not (is_feed x)) text (at + first) 0 (omega (arith, room, within, long))
+      (λ k less. ap not (none k less)) (λ _. ap not is))
       (omega (arith, room, within, long))
       ∙ ap (λ n. Some (at + n)) (sym counted)
 

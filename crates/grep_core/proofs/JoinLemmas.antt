@@ -1,5 +1,6 @@
 -- Lines of a block that are passed over, or one that is looked at.
-use Rattle.std.proofs.Common.{◌≡◌, ◌≢◌, ◌≤◌, ◌<◌, inl, inr, ℕ, zero, suc, ◌+◌, ◌-◌, Bool, true, false, cond, List, [], ◌∷◌, ◌++◌, length, take, drop, slice_get, slice_range, Some, None, nat_lt}
+use Rattle.std.proofs.Common.{◌≡◌, ◌≢◌, ◌≤◌, ◌<◌, inl, inr, ℕ, zero, suc, ◌+◌, ◌-◌, Bool, true, false, cond, List, [], ◌∷◌, ◌++◌, length}
+use Rattle.std.proofs.Common.{take, drop, slice_get, slice_range, Some, None, nat_lt}
 use Rattle.std.proofs.Common.{refl, sym, ap, ◌∙◌, subst, arith, append_assoc, take-append-drop, length-append, length-drop}
 use Rattle.std.proofs.lemmas.Bool.{cases_lt, ltb-true, eqb-true}
 use Rattle.std.proofs.lemmas.List.{length-take-le}
@@ -9,7 +10,7 @@ use Rattle.std.specs.List.{position, position_or_len}
 use Rattle.grep_core.specs.Candidates.{IsLineStart, HasNoFeedFrom}
 use Rattle.grep_core.specs.Lines.{split_lines}
 use Rattle.grep_core.specs.Passing.{AreWhole}
-use Rattle.grep_core.proofs.BlockLemmas.{is_feed, first_at, one_more, some_at, first_within, turn, turn_counted}
+use Rattle.grep_core.proofs.BlockLemmas.{is_feed, first_at, one_more, some_at, turn, turn_counted}
 use Rattle.grep_core.proofs.LineCutLemmas.{before_start, get_dropped}
 use Rattle.grep_core.proofs.WholeLemmas.{whole_behind, whole_none}
 
@@ -32,7 +33,8 @@ feed_there text n e =
     let at = some_at (nat_lt (position_or_len is_feed text) (length text)) (position_or_len is_feed text) n e in
     sym (ap (slice_get text) at.1) ∙ feed_first text (ltb-true (position_or_len is_feed text) (length text) at.0)
 
-none_by : (text : List ℕ) → ((i : ℕ) → slice_get text i ≡ Some 10 → ⊥) → (v : Bool) → nat_lt (position_or_len is_feed text) (length text) ≡ v →
+none_by : (text : List ℕ) → ((i : ℕ) → slice_get text i ≡ Some 10 → ⊥) → (v : Bool) →
+    nat_lt (position_or_len is_feed text) (length text) ≡ v →
     position is_feed text ≡ None
 none_by text none true e =
     absurd (none (position_or_len is_feed text) (feed_first text (ltb-true (position_or_len is_feed text) (length text) e)))
@@ -73,10 +75,12 @@ whole_ends block (inl none) some = absurd (omega (arith, some, ap length none))
 whole_ends block (inr it) some = subst (λ (t : List ℕ). IsLineStart t (length t)) (sym it.1) (ends_line it.0) some
 
 -- at the end of whole lines another one may start
-pub starts_all : (block : List ℕ) (next : ℕ) → AreWhole block → next ≤ length block → (next < length block → IsLineStart block next) → IsLineStart block next
+pub starts_all : (block : List ℕ) (next : ℕ) → AreWhole block → next ≤ length block → (next < length block → IsLineStart block next) →
+    IsLineStart block next
 starts_all block next whole high starts = elim (cases_lt next (length block)) [
   | inl less ↦ starts less
-  | inr over ↦ let last : length block ≡ next = omega (arith, over, high) in subst (λ (n : ℕ). IsLineStart block n) last (whole_ends block whole)
+  | inr over ↦ let last : length block ≡ next = omega (arith, over, high) in
+      subst (λ (n : ℕ). IsLineStart block n) last (whole_ends block whole)
 ]
 
 -- from the start of a line to that of another one
@@ -87,15 +91,11 @@ whole_range block at next low starts =
     get_dropped at block (next - at - 1) ∙ ap (slice_get block) place ∙ starts (omega (arith, some)))
 
 -- ---- one line
-pub starts_behind : (block text : List ℕ) (at len next : ℕ) → text ≡ drop at block → position is_feed text ≡ Some len → next ≡ at + (len + 1) → IsLineStart block next
+pub starts_behind : (block text : List ℕ) (at len next : ℕ) → text ≡ drop at block → position is_feed text ≡ Some len →
+    next ≡ at + (len + 1) → IsLineStart block next
 starts_behind block text at len next rest found is some =
     let place : next - 1 ≡ at + len = omega (arith, is) in
     ap (slice_get block) place ∙ sym (get_dropped at block len) ∙ sym (ap (λ t. slice_get t len) rest) ∙ feed_there text len found
-
-pub within_behind : (block text : List ℕ) (at len next : ℕ) → text ≡ drop at block → position is_feed text ≡ Some len → next ≡ at + (len + 1) → at ≤ length block → next ≤ length block
-within_behind block text at len next rest found is high =
-    let short : len < length (drop at block) = subst (λ (t : List ℕ). len < length t) rest (first_within text len found) in
-    omega (arith, is, short, length-drop at block, high)
 
 pub here_told : {P : Type 0} (tells : P → List (List ℕ) → List ℕ) (p q : P) (block more text piece out new : List ℕ) (at len next : ℕ) →
     text ≡ drop at block → position is_feed text ≡ Some len → piece ≡ take len text → next ≡ at + (len + 1) →
@@ -135,18 +135,23 @@ passed_counted counts p q block more at next low passed =
 pub moves_on : (block : List ℕ) (at behind : ℕ) → AreWhole block → at < length block →
     (position is_feed (drop at block) ≢ None → at < behind) → at < behind
 moves_on block at behind whole below on =
-    on (λ none. let over = whole_none (drop at block) (whole_behind block at whole) none in absurd (omega (arith, over, below, length-drop at block)))
+    on (λ none. let over = whole_none (drop at block) (whole_behind block at whole) none in
+    absurd (omega (arith, over, below, length-drop at block)))
 
 -- ---- the whole lines of a block, and what stands behind them
-rejoin : (block more : List ℕ) (whole done : ℕ) → done ≤ whole → drop done (take whole block) ++ (drop whole block ++ more) ≡ drop done block ++ more
-rejoin block more whole zero less = sym (append_assoc (take whole block) (drop whole block) more) ∙ ap (λ (t : List ℕ). t ++ more) (take-append-drop whole block)
+rejoin : (block more : List ℕ) (whole done : ℕ) → done ≤ whole →
+    drop done (take whole block) ++ (drop whole block ++ more) ≡ drop done block ++ more
+rejoin block more whole zero less =
+    sym (append_assoc (take whole block) (drop whole block) more) ∙ ap (λ (t : List ℕ). t ++ more) (take-append-drop whole block)
 rejoin block more zero (suc d) less = absurd (omega (arith, less))
 rejoin [] more (suc w) (suc d) less = refl
 rejoin (x ∷ xs) more (suc w) (suc d) less = rejoin xs more w d (omega (arith, less))
 
-pub block_told : {P : Type 0} (tells : P → List (List ℕ) → List ℕ) (p q : P) (block more all out new : List ℕ) (whole done next : ℕ) → done ≤ whole → next ≤ whole →
+pub block_told : {P : Type 0} (tells : P → List (List ℕ) → List ℕ) (p q : P) (block more all out new : List ℕ) (whole done next : ℕ) →
+    done ≤ whole → next ≤ whole →
     all ≡ out ++ tells p (split_lines (drop done block ++ more)) →
-    ((m : List ℕ) → out ++ tells p (split_lines (drop done (take whole block) ++ m)) ≡ new ++ tells q (split_lines (drop next (take whole block) ++ m))) →
+    ((m : List ℕ) → out ++ tells p (split_lines (drop done (take whole block) ++ m)) ≡
+    new ++ tells q (split_lines (drop next (take whole block) ++ m))) →
     all ≡ new ++ tells q (split_lines (drop next block ++ more))
 block_told tells p q block more all out new whole done next low high so_far goes_on =
     so_far
@@ -154,9 +159,11 @@ block_told tells p q block more all out new whole done next low high so_far goes
     ∙ goes_on (drop whole block ++ more)
     ∙ ap (λ t. new ++ tells q (split_lines t)) (rejoin block more whole next high)
 
-pub block_counted : {P : Type 0} (counts : P → List (List ℕ) → ℕ) (p q : P) (block more : List ℕ) (all whole done next : ℕ) → done ≤ whole → next ≤ whole →
+pub block_counted : {P : Type 0} (counts : P → List (List ℕ) → ℕ) (p q : P) (block more : List ℕ) (all whole done next : ℕ) →
+    done ≤ whole → next ≤ whole →
     counts p (split_lines (drop done block ++ more)) ≡ all →
-    ((m : List ℕ) → counts q (split_lines (drop next (take whole block) ++ m)) ≡ counts p (split_lines (drop done (take whole block) ++ m))) →
+    ((m : List ℕ) → counts q (split_lines (drop next (take whole block) ++ m)) ≡
+    counts p (split_lines (drop done (take whole block) ++ m))) →
     counts q (split_lines (drop next block ++ more)) ≡ all
 block_counted counts p q block more all whole done next low high so_far goes_on =
     sym (ap (λ t. counts q (split_lines t)) (rejoin block more whole next high))
@@ -170,7 +177,8 @@ taken_bound block whole done high within = omega (arith, within, length-take-le 
 pub taken_below : (block : List ℕ) (whole done : ℕ) → whole ≤ length block → done < whole → done < length (take whole block)
 taken_below block whole done high less = omega (arith, less, length-take-le whole block high)
 
-pub none_behind : (block : List ℕ) (whole done : ℕ) → done ≤ whole → whole ≤ done → position is_feed (drop whole block) ≡ None → position is_feed (drop done block) ≡ None
+pub none_behind : (block : List ℕ) (whole done : ℕ) → done ≤ whole → whole ≤ done → position is_feed (drop whole block) ≡ None →
+    position is_feed (drop done block) ≡ None
 none_behind block whole done low high none =
     let same : whole ≡ done = omega (arith, low, high) in
     subst (λ (n : ℕ). position is_feed (drop n block) ≡ None) same none

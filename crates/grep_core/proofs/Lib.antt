@@ -4,7 +4,6 @@ mod FallbackLemmas
 mod FeedLemmas
 mod HeldLemmas
 mod JoinLemmas
-mod ListLemmas
 mod LoopLemmas
 mod MarkLemmas
 mod MeantLemmas

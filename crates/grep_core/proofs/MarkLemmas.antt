@@ -1,7 +1,7 @@
 -- Matches are marked one after the other.
-use Rattle.std.proofs.Common.{◌≡◌, ℕ, suc, ◌+◌, ◌<◌, ◌≤◌, true, List, ◌∷◌, ◌++◌, map, length, drop, get_or, codes, slice_range, sym, ap}
+use Rattle.std.proofs.Common.{◌≡◌, ℕ, suc, ◌+◌, ◌<◌, true, List, ◌∷◌, ◌++◌, map, length, drop, get_or, codes, slice_range, sym, ap}
 use Rattle.std.proofs.Common.{◌∙◌, arith}
-use Rattle.std.proofs.Common.{drop-cons, drop_of_length-le, rules}
+use Rattle.std.proofs.Common.{drop-cons, rules}
 use Rattle.std.proofs.lemmas.Grind.{common_steps}
 use Rattle.search_types.specs.declared.span.Span.{Span}
 use Rattle.grep_core.specs.Printing.{marked, marked_from, span_pair}
@@ -22,8 +22,3 @@ next_match line found i at d now mid new all below before match so_far =
     ap (λ (t : List ℕ). t ++ rest) (match ∙ ap (λ (t : List ℕ). t ++ marked true (codes "01;31") (slice_range line s.start s.end)) before)
     ∙ joined now (slice_range line at s.start) (marked true (codes "01;31") (slice_range line s.start s.end)) rest
     ∙ ap (λ (rs : List Span). now ++ marked_from line at (map span_pair rs)) (sym cut) ∙ so_far
-
-pub last_match : (line : List ℕ) (found : List Span) (i at : ℕ) (now new all : List ℕ) → length found ≤ i →
-    new ≡ now ++ slice_range line at (length line) → now ++ marked_from line at (map span_pair (drop i found)) ≡ all → new ≡ all
-last_match line found i at now new all above e so_far =
-    e ∙ sym (ap (λ (rs : List Span). now ++ marked_from line at (map span_pair rs)) (drop_of_length-le found above)) ∙ so_far

@@ -13,7 +13,8 @@ use Rattle.grep_core.specs.Meant.{is_read, is_within}
 
 -- what has a tree is within the limit
 within : (config : Config) (x : Tree) (r : Option (Nested Re × Names)) →
-    IsSomeAnd r (λ (re, names). (re.depth ≤ config.nest_limit) × SameEnds re.value x × SameSpans re.value x × HasNames names x) → true ≡ is_within config r
+    IsSomeAnd r (λ (re, names). (re.depth ≤ config.nest_limit) × SameEnds re.value x × SameSpans re.value x × HasNames names x) →
+    true ≡ is_within config r
 within config x None r = absurd r
 within config x (Some (re, names)) r = sym (le-leb re.depth config.nest_limit r.0)
 
@@ -21,7 +22,8 @@ pub means_read : (config : Config) (text : List ℕ) (x : Tree) → MeansText co
 unfolding MeansText
 means_read config text x means = within config x (read config (chars text)) means
 
-too_deep : (config : Config) (r : Option (Nested Re × Names)) → IfSome r (λ (re, _). config.nest_limit < re.depth) → false ≡ is_within config r
+too_deep : (config : Config) (r : Option (Nested Re × Names)) → IfSome r (λ (re, _). config.nest_limit < re.depth) →
+    false ≡ is_within config r
 too_deep config None deep = refl
 too_deep config (Some (re, names)) deep = sym (lt-leb re.depth config.nest_limit deep)
 

@@ -1,9 +1,10 @@
 -- Where no lines are printed, nothing that is told hangs on their numbers and places.
-use Rattle.std.proofs.Common.{◌≡◌, ◌≤◌, ◌<◌, ℕ, ◌+◌, ◌++◌, Bool, true, false, List, [], ◌∷◌, length, take, drop, map, count_by, refl, sym, ap, subst, ◌∙◌}
+use Rattle.std.proofs.Common.{◌≡◌, ◌≤◌, ◌<◌, ℕ, ◌+◌, ◌++◌, Bool, true, false, List, [], ◌∷◌, length, take, drop, map, count_by, refl, sym}
+use Rattle.std.proofs.Common.{ap, subst, ◌∙◌}
 use Rattle.std.proofs.lemmas.Bool.{true≢false}
 use Rattle.std.proofs.lemmas.List.{length-take-le}
-use Rattle.grep_core.specs.declared.blocks.Progress.{Progress}
-use Rattle.grep_core.specs.declared.blocks.Task.{Task}
+use Rattle.grep_core.specs.declared.progress.Progress.{Progress}
+use Rattle.grep_core.specs.declared.progress.Task.{Task}
 use Rattle.grep_core.specs.declared.course.Course.{Course}
 use Rattle.grep_core.specs.declared.telling.Telling.{Telling}
 use Rattle.grep_core.specs.declared.what.Print.{Print}
@@ -24,13 +25,15 @@ wanted_same : (w : What) (f : Finds) (i k j l : ℕ) (lines : List (List ℕ)) �
     map (is_wanted w f) (numbered i k lines) ≡ map (is_wanted w f) (numbered j l lines)
 wanted_same w f i k j l [] = refl
 wanted_same w f i k j l (line ∷ lines) =
-    ap (λ rest. is_wanted w f (record { number = i; place = k; bytes = line }) ∷ rest) (wanted_same w f (i + 1) (k + length line + 1) (j + 1) (l + length line + 1) lines)
+    ap (λ rest. is_wanted w f (record { number = i; place = k; bytes = line }) ∷ rest)
+    (wanted_same w f (i + 1) (k + length line + 1) (j + 1) (l + length line + 1) lines)
 
 flags_same : (w : What) (f : Finds) (n i k j l : ℕ) (lines : List (List ℕ)) →
     flags_behind w f n (numbered i k lines) ≡ flags_behind w f n (numbered j l lines)
 flags_same w f n i k j l lines = ap (limited (left_of w.most n)) (wanted_same w f i k j l lines)
 
-unprinted : (print : Print) (w : What) (name : List ℕ) (with_name : Bool) (c : Course) (n : ℕ) (flags : List Bool) (items also : List Item) →
+unprinted : (print : Print) (w : What) (name : List ℕ) (with_name : Bool) (c : Course) (n : ℕ) (flags : List Bool)
+    (items also : List Item) →
     prints_lines print ≡ false → tells_as print w name with_name c n flags items ≡ tells_as print w name with_name c n flags also
 unprinted Lines w name with_name c n flags items also none = absurd (true≢false none)
 unprinted Matches w name with_name c n flags items also none = absurd (true≢false none)
@@ -46,9 +49,11 @@ module _ (t : Task) (f : Finds) (number place : ℕ) (c : Telling) where
   told_same : (i k j l : ℕ) (lines : List (List ℕ)) → prints_lines t.what.now.print ≡ false →
       tells_lines t f (at i k) lines ≡ tells_lines t f (at j l) lines
   told_same i k j l lines none =
-      ap (λ flags. tells_as t.what.now.print t.what.now t.name.now t.with_name c.course c.count flags (map (told_item f) (numbered i k lines)))
+      ap (λ flags. tells_as t.what.now.print t.what.now t.name.now t.with_name c.course c.count flags
+      (map (told_item f) (numbered i k lines)))
       (flags_same t.what.now f c.count i k j l lines)
-      ∙ unprinted t.what.now.print t.what.now t.name.now t.with_name c.course c.count (flags_behind t.what.now f c.count (numbered j l lines))
+      ∙ unprinted t.what.now.print t.what.now t.name.now t.with_name c.course c.count
+      (flags_behind t.what.now f c.count (numbered j l lines))
       (map (told_item f) (numbered i k lines)) (map (told_item f) (numbered j l lines)) none
 
   counted_same : (i k j l : ℕ) (lines : List (List ℕ)) → counts_lines t f (at i k) lines ≡ counts_lines t f (at j l) lines
@@ -59,7 +64,8 @@ module _ (t : Task) (f : Finds) (number place : ℕ) (c : Telling) where
       PassesTo t f p (at number place) lines rest out now → PassesTo t f p (at j l) lines rest out now
   passes_uncounted p lines rest out now j l none passes = record {
     lack = passes.lack;
-    printed = λ lack more. passes.printed lack more ∙ ap (λ told. now ++ told) (told_same number place j l (split_lines (rest ++ more)) none);
+    printed =
+        λ lack more. passes.printed lack more ∙ ap (λ told. now ++ told) (told_same number place j l (split_lines (rest ++ more)) none);
     counted = λ lack more. counted_same j l number place (split_lines (rest ++ more)) ∙ passes.counted lack more;
   }
 
@@ -88,12 +94,14 @@ passed_if_counted t f p now c number place held start text part out is_now may w
     hidden = known ∙ ap (λ (u : Telling). behind_hidden u.course.known) is_now
 
     by : (v : Bool) → prints_lines t.what.now.print ≡ v →
-        PassesTo t f p (record p { number = number; place = place; telling = record (p.telling) { course = c } }) text (drop start text) out out
+        PassesTo t f p (record p { number = number; place = place; telling = record (p.telling) { course = c } }) text
+        (drop start text) out out
     by true is =
         passed_over t f p c number place held feeds start text part out may whole within some starts held_is enough cut refl (numbers is)
         (places is ∙ ap (λ k. p.place + k) long) left empty hidden
     by false is =
-        passes_uncounted t f (p.number + feeds) (p.place + start) (record (p.telling) { course = c }) p text (drop start text) out out number
+        passes_uncounted t f (p.number + feeds) (p.place + start) (record (p.telling) { course = c }) p text
+        (drop start text) out out number
         place is
         (passed_over t f p c (p.number + feeds) (p.place + start) held feeds start text part out may whole within some starts held_is enough
         cut refl refl refl left empty hidden)

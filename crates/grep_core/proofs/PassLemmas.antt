@@ -1,14 +1,16 @@
 -- Lines without a match of which none is told: what is told goes on behind all of them at once, but for the last ones.
 use Rattle.std.proofs.Common.{◌≡◌, ◌≤◌, ◌<◌, ℕ, zero, suc, ◌+◌, Bool, true, false, not, ◌&&◌, List, [], ◌∷◌, ◌++◌, All, length, map}
-use Rattle.std.proofs.Common.{◌-◌, cond, count_by, take, drop, slice_range, Some, None, if◌then◌else◌, refl, sym, ap, ap₂, ◌∙◌, subst, arith, append_assoc, take-append-drop, length-drop}
+use Rattle.std.proofs.Common.{◌-◌, cond, count_by, take, drop, slice_range, Some, None, if◌then◌else◌, refl, sym, ap, ap₂, ◌∙◌, subst}
+use Rattle.std.proofs.Common.{arith, append_assoc, take-append-drop, length-drop}
 use Rattle.std.proofs.lemmas.List.{length-take-le, take_rest}
-use Rattle.std.proofs.lemmas.List.Elements.{All-nil, All-cons, All-head, All-tail}
+use Rattle.std.proofs.lemmas.List.Elements.{All-head, All-tail}
 use Rattle.std.proofs.lemmas.List.Folds.{drop_split}
 use Rattle.std.proofs.lemmas.List.Sums.{sum_by-append}
 use Rattle.std.specs.List.{position}
 use Rattle.std.specs.Prelude.{nat_lt}
-use Rattle.grep_core.specs.declared.blocks.Progress.{Progress}
-use Rattle.grep_core.specs.declared.blocks.Task.{Task}
+use Rattle.look_core.proofs.ForCallers.{All-left, All-right}
+use Rattle.grep_core.specs.declared.progress.Progress.{Progress}
+use Rattle.grep_core.specs.declared.progress.Task.{Task}
 use Rattle.grep_core.specs.declared.course.Course.{Course}
 use Rattle.grep_core.specs.declared.what.Print.{Print}
 use Rattle.grep_core.specs.declared.what.Print.TheVariants.{Lines, Matches, Count, NameIfAny, NameIfNone, Nothing}
@@ -39,15 +41,6 @@ more_first a n = omega arith
 
 more_bytes : (a n m : ℕ) → (a + n + 1) + m ≡ a + (n + 1 + m)
 more_bytes a n m = omega arith
-
--- ---- parts of lists
-all_first : {X : Type 0} (P : X → Type 0) (xs ys : List X) → All P (xs ++ ys) → All P xs
-all_first P [] ys all = All-nil P
-all_first P (x ∷ xs) ys all = All-cons P x xs (All-head P x (xs ++ ys) all) (all_first P xs ys (All-tail P x (xs ++ ys) all))
-
-all_last : {X : Type 0} (P : X → Type 0) (xs ys : List X) → All P (xs ++ ys) → All P ys
-all_last P [] ys all = all
-all_last P (x ∷ xs) ys all = all_last P xs ys (All-tail P x (xs ++ ys) all)
 
 abbrev none_of : List Item → List Bool
 none_of items = map (λ _. false) items
@@ -149,7 +142,8 @@ module _ (w : What) (f : Finds) (n : ℕ) (kept : w.invert ≡ false) where
         flags_on next_number next_place last more also in
         let ones : items next_number next_place (last ++ more) ≡ items next_number next_place last ++ items i k more =
         items_on next_number next_place last more in
-        let before : items number place (front ++ (last ++ more)) ≡ items number place front ++ items next_number next_place (last ++ more) =
+        let before : items number place (front ++ (last ++ more)) ≡
+        items number place front ++ items next_number next_place (last ++ more) =
         items_on number place front (last ++ more)
         ∙ sym (ap₂ (λ i k. items number place front ++ items i k (last ++ more)) numbers places) in
         let enough : prints_lines w.print ≡ true → before_of w.context ≤ length (items next_number next_place last) =
@@ -185,10 +179,10 @@ module _ (text : List ℕ) (start : ℕ) (whole : AreWhole text) (starts : IsLin
     parted = subst (λ (lines : List (List ℕ)). All (Lacks f) lines) both lack
 
     front_lack : All (Lacks f) (split_lines (take start text))
-    front_lack = all_first (Lacks f) (split_lines (take start text)) (split_lines (drop start text)) parted
+    front_lack = All-left (Lacks f) (split_lines (take start text)) (split_lines (drop start text)) parted
 
     last_lack : All (Lacks f) (split_lines (drop start text))
-    last_lack = all_last (Lacks f) (split_lines (take start text)) (split_lines (drop start text)) parted
+    last_lack = All-right (Lacks f) (split_lines (take start text)) (split_lines (drop start text)) parted
 
 held_lines : (w : What) (held n : ℕ) → held ≡ held_of w → held ≤ n → prints_lines w.print ≡ true → before_of w.context ≤ n
 held_lines w held n is few lines =

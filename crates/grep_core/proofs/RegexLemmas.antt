@@ -1,13 +1,10 @@
 -- Texts whose regexes are made one by one.
-use Rattle.std.proofs.Common.{◌≡◌, ℕ, zero, suc, ◌+◌, ◌<◌, ◌≤◌, List, [], ◌∷◌, ◌++◌, map, length, take, slice_index_or, Bor, refl, sym, ap}
+use Rattle.std.proofs.Common.{◌≡◌, ℕ, zero, suc, ◌+◌, ◌<◌, List, [], ◌∷◌, ◌++◌, length, take, slice_index_or, Bor, sym}
 use Rattle.std.proofs.Common.{subst, arith}
 use Rattle.regex_syntax.specs.declared.Config.{Config}
 use Rattle.regex.specs.declared.bytes.regex.Regex.{Regex}
+use Rattle.pattern_search.proofs.ForCallers.{read_texts}
 use Rattle.grep_core.specs.Fallbacks.{IsRegexOf, AreRegexesOf}
-
--- the texts behind references
-abbrev pub read_texts : List (Bor (List ℕ)) → List (List ℕ)
-read_texts = map (λ (t : Bor (List ℕ)). t.now)
 
 next_regex : (config : Config) (ts : List (Bor (List ℕ))) (d : Bor (List ℕ)) (n : ℕ) (rs : List Regex) (r : Regex) → n < length ts →
     AreRegexesOf config (take n (read_texts ts)) rs → IsRegexOf config (slice_index_or ts n d).now r →
@@ -27,15 +24,3 @@ one_more_regex config ts d n old new r below is p q =
     let step : suc n ≡ n + 1 = omega arith in
     subst (λ k. AreRegexesOf config (take k (read_texts ts)) new) step
     (subst (AreRegexesOf config (take (suc n) (read_texts ts))) (sym is) (next_regex config ts d n old r below p q))
-
-take_all : (ts : List (Bor (List ℕ))) (n : ℕ) → length ts ≤ n → take n (read_texts ts) ≡ read_texts ts
-take_all [] zero above = refl
-take_all [] (suc n) above = refl
-take_all (t ∷ ts) zero above = absurd (omega arith)
-take_all (t ∷ ts) (suc n) above = ap (λ us. t.now ∷ us) (take_all ts n (omega arith))
-
--- all texts have theirs
-pub all_regexes : (config : Config) (ts : List (Bor (List ℕ))) (n : ℕ) (rs : List Regex) → length ts ≤ n →
-    AreRegexesOf config (take n (read_texts ts)) rs →
-    AreRegexesOf config (read_texts ts) rs
-all_regexes config ts n rs above p = subst (λ us. AreRegexesOf config us rs) (take_all ts n above) p

@@ -1,8 +1,9 @@
 -- A run of lines without a match, line by line.
-use Rattle.std.proofs.Common.{◌≡◌, ℕ, ◌+◌, List, [], ◌∷◌, All, Some, false, refl, take, drop, drop-drop, append-nil, sym, ap, ap₂, ◌∙◌, subst}
+use Rattle.std.proofs.Common.{◌≡◌, ℕ, ◌+◌, List, [], ◌∷◌, All, Some, false, refl, take, drop, drop-drop, append-nil, sym, ap, ap₂, ◌∙◌}
+use Rattle.std.proofs.Common.{subst}
 use Rattle.std.proofs.lemmas.List.Elements.{All-head, All-tail, All-weaker}
 use Rattle.std.specs.List.{position}
-use Rattle.grep_core.specs.declared.blocks.Task.{Task}
+use Rattle.grep_core.specs.declared.progress.Task.{Task}
 use Rattle.grep_core.specs.Blocks.{SearchesBy, finds_by}
 use Rattle.grep_core.specs.Lines.{split_lines}
 use Rattle.grep_core.specs.Passing.{Lacks}

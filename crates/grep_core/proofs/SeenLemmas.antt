@@ -1,5 +1,6 @@
 -- What is seen of a line.
-use Rattle.std.proofs.Common.{◌≡◌, ℕ, zero, suc, ◌+◌, Bool, true, false, List, [], map, length, All, Option, Some, None, if◌then◌else◌, refl, sym, ap, ◌∙◌, subst, arith}
+use Rattle.std.proofs.Common.{◌≡◌, ℕ, zero, suc, ◌+◌, Bool, true, false, List, [], map, length, All, Option, Some, None, if◌then◌else◌}
+use Rattle.std.proofs.Common.{refl, sym, ap, ◌∙◌, subst, arith}
 use Rattle.std.specs.Prelude.{is_some}
 use Rattle.std.specs.List.{filter}
 use Rattle.regex_hir.specs.Re.{Re}
@@ -34,7 +35,8 @@ none_found w res line has told none =
     (ap (map span_of_match) (none_from (find (alt_all res) line) (length line + 1) (find (alt_all res) line 0) (sym told ∙ none)))
 
 -- where matches don't count there are none
-pub none_needed : (w : What) (res : List Re) (line : List ℕ) → needs_spans w ≡ false → filter is_some_text ((needed w (finds_of res)).spans line) ≡ []
+pub none_needed : (w : What) (res : List Re) (line : List ℕ) → needs_spans w ≡ false →
+    filter is_some_text ((needed w (finds_of res)).spans line) ≡ []
 none_needed w res line none = ap (λ b. filter is_some_text (if b then (finds_of res).spans line else [])) none
 
 -- what a finder knows of its searcher

@@ -1,11 +1,9 @@
 -- What several patterns find is the best of what each finds.
-use Rattle.std.proofs.Common.{◌≡◌, ℕ, zero, suc, ◌+◌, ◌-◌, ◌<◌, ◌≤◌, ◌==◌, Bool, true, false, nat_lt, List, [], ◌∷◌, ◌++◌, All, length, map}
+use Rattle.std.proofs.Common.{◌≡◌, ℕ, zero, suc, ◌+◌, ◌-◌, ◌<◌, ◌==◌, Bool, true, false, nat_lt, List, [], ◌∷◌, ◌++◌, All, length, map}
 use Rattle.std.proofs.Common.{Option, Some, None, option_map, if◌then◌else◌, refl, sym, ap, ap₂, ◌∙◌, arith, lt-ltb, append_assoc}
 use Rattle.std.proofs.Common.{append-nil}
-use Rattle.std.proofs.lemmas.Option.{none-some, same_Some}
 use Rattle.std.specs.Option.{option_or}
 use Rattle.std.specs.Prelude.{slice_get}
-use Rattle.regex_class.specs.Ranges.{in_ranges}
 use Rattle.regex_hir.specs.Re.{Re, Trace, Rest, accept, attempt}
 use Rattle.regex_hir.specs.Re as re
 use Rattle.regex_hir.specs.Meaning.{alt_all}
@@ -13,45 +11,10 @@ use Rattle.regex_hir.specs.Find.{Match, first_from, find, find_after, matches_fr
 use Rattle.regex_hir.specs.Text.{is_some_and}
 use Rattle.regex_syntax.specs.Captures.{outcome, SameCaptures}
 use Rattle.pattern_search.specs.Searches.{span_of_match}
+use Rattle.pattern_search.proofs.ForCallers.{spans, step, NoEarlier, or_later, later_from, no_class, none_spans}
 use Rattle.grep_core.specs.Fallbacks.{better, found_at, best_at, next_behind, spans_behind}
 use Rattle.grep_core.specs.Report.{is_some_text}
 use Rattle.std.specs.List.{filter}
-
-abbrev spans : Rest → ℕ → ℕ → Option (ℕ × ℕ)
-spans f n i = option_map span_of_match (first_from f n i)
-
-abbrev here : Rest → ℕ → Option (ℕ × ℕ)
-here f i = option_map (λ t. (i, Trace.end t)) (f i)
-
-spans_or : (a b : Option Match) → option_map span_of_match (option_or a b)
-    ≡ option_or (option_map span_of_match a) (option_map span_of_match b)
-spans_or None b = refl
-spans_or (Some x) b = refl
-
-here_is : (i : ℕ) (o : Option Trace) → option_map span_of_match (option_map (λ t. record { start = i; trace = t }) o)
-    ≡ option_map (λ t. (i, Trace.end t)) o
-here_is i None = refl
-here_is i (Some t) = refl
-
-step : (f : Rest) (n i : ℕ) → spans f (suc n) i ≡ option_or (here f i) (spans f n (i + 1))
-unfolding first_from
-step f n i =
-    spans_or (option_map (λ t. record { start = i; trace = t }) (f i)) (first_from f n (i + 1))
-    ∙ ap (λ o. option_or o (spans f n (i + 1))) (here_is i (f i))
-
--- nothing starts before the first place
-abbrev NoEarlier : ℕ → Option (ℕ × ℕ) → Type 0
-NoEarlier i o = (s : ℕ × ℕ) → o ≡ Some s → i ≤ s.0
-
-or_later : (i : ℕ) (o : Option Trace) (rest : Option (ℕ × ℕ)) → NoEarlier (i + 1) rest →
-    NoEarlier i (option_or (option_map (λ t. (i, Trace.end t)) o) rest)
-or_later i None rest later s e = let l = later s e in omega (arith, l)
-or_later i (Some t) rest later s e = omega (arith, ap (λ p. p.0) (same_Some (i, Trace.end t) s e))
-
-later_from : (f : Rest) (n i : ℕ) → NoEarlier i (spans f n i)
-unfolding first_from
-later_from f zero i s e = absurd (none-some s e)
-later_from f (suc n) i s e = or_later i (f i) (spans f n (i + 1)) (later_from f n (i + 1)) s (sym (step f n i) ∙ e)
 
 -- the first of two that start at a place, before what starts later
 first_here : (i j : ℕ) (o : Option (ℕ × ℕ)) → NoEarlier i o → better (Some (i, j)) o ≡ Some (i, j)
@@ -87,16 +50,6 @@ unfolding find attempt
 alt_found a b line start =
     better_from (attempt line a accept) (attempt line b accept) (attempt line (re.alt a b) accept) (λ i. refl)
     (length line + 1 - start) start
-
-no_class : (o : Option ℕ) (i : ℕ) → (if is_some_and o (in_ranges []) then accept (i + 1) else None) ≡ None
-unfolding in_ranges
-no_class None i = refl
-no_class (Some b) i = refl
-
-none_spans : (f : Rest) → ((i : ℕ) → f i ≡ None) → (n i : ℕ) → spans f n i ≡ None
-unfolding first_from
-none_spans f none zero i = refl
-none_spans f none (suc n) i = step f n i ∙ ap₂ option_or (ap (option_map (λ t. (i, Trace.end t))) (none i)) (none_spans f none n (i + 1))
 
 none_found : (line : List ℕ) (start : ℕ) → found_at (alt_all []) line start ≡ None
 unfolding find attempt

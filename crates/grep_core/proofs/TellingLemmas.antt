@@ -1,7 +1,7 @@
 -- What is still told of lines goes on by one line.
 use Rattle.std.proofs.Common.{◌≡◌, Result, Ok, Err, OnOk, ◌⊎◌, inl, inr, IsTrue, nat_eq, take, ◌≤◌, ◌<◌, ℕ, zero, suc, ◌+◌, ◌-◌, Bool, true}
 use Rattle.std.proofs.Common.{false, not, ◌&&◌, nat_lt, List, [], ◌∷◌, ◌++◌, map, Option, Some, None, if◌then◌else◌, refl, sym, ap, ap₂}
-use Rattle.std.proofs.Common.{◌∙◌, subst, arith, lt-ltb}
+use Rattle.std.proofs.Common.{◌∙◌, arith, lt-ltb}
 use Rattle.grep_core.specs.declared.course.Course.{Course}
 use Rattle.grep_core.specs.declared.known.Known.{Known}
 use Rattle.grep_core.specs.declared.known.Known.TheVariants.{LastPrinted}
@@ -13,7 +13,7 @@ use Rattle.grep_core.specs.declared.what.What.{What}
 use Rattle.grep_core.specs.Courses.{Item, item, still, print_as, print_item, waiting_item}
 use Rattle.grep_core.specs.Lines.{TextLine}
 use Rattle.grep_core.specs.Report.{Finds, before_of, after_of, roles_of, parting, behind_hidden, print_lines, count_line, name_line}
-use Rattle.grep_core.specs.Report.{report_as, selected, told_spans, is_wanted, counted_as}
+use Rattle.grep_core.specs.Report.{report_as, selected, told_spans, is_wanted}
 use Rattle.grep_core.specs.Selecting.{limited, count, any, roles, roles_from}
 use Rattle.grep_core.specs.Telling.{shown, told_item, prints_lines, tells_as, left_of, may_select, flags_behind}
 
@@ -65,9 +65,6 @@ starts_told NameIfAny w f name with_name known c fresh is lines =
 starts_told NameIfNone w f name with_name known c fresh is lines =
     ap (λ n. if nat_lt 0 n then [] else name_line w name) (none_before (count (flags_behind w f 0 lines)) ∙ ap count (flags_none w f lines))
 starts_told Nothing w f name with_name known c fresh is lines = refl
-
-pub starts_counted : (w : What) (f : Finds) (lines : List TextLine) → 0 + count (flags_behind w f 0 lines) ≡ count (selected w f lines)
-starts_counted w f lines = none_before (count (flags_behind w f 0 lines)) ∙ ap count (flags_none w f lines)
 
 -- at most so many lines are selected
 and_false : (b t : Bool) → t ≡ false → (b && t) ≡ false
@@ -231,31 +228,9 @@ module _ (w : What) (f : Finds) (name : List ℕ) (with_name : Bool) (c : Course
   over_told NameIfNone left lines = ap (λ k. if nat_lt 0 k then [] else name_line w name) (over_counted lines)
   over_told Nothing left lines = refl
 
--- or behind one that is selected, where no more is asked
-is_some_more : (n k : ℕ) → 0 < n → nat_lt 0 (n + k) ≡ true
-is_some_more n k more = lt-ltb 0 (n + k) (omega (arith, more))
-
-pub some_counted : (w : What) (f : Finds) (n : ℕ) (lines : List TextLine) → 0 < n →
-    nat_lt 0 (n + count (flags_behind w f n lines)) ≡ nat_lt 0 (n + count (flags_behind w f n []))
-some_counted w f n lines more = is_some_more n (count (flags_behind w f n lines)) more
-    ∙ sym (is_some_more n (count (flags_behind w f n [])) more)
-
 -- it asks for no more than whether a line is selected
 abbrev pub IsOfNames : Print → Type 0
 IsOfNames p = (p ≡ NameIfAny) ⊎ ((p ≡ NameIfNone) ⊎ (p ≡ Nothing))
-
-alike_counted : (p : Print) (m n : ℕ) → IsOfNames p → nat_lt 0 m ≡ nat_lt 0 n → counted_as p m ≡ counted_as p n
-alike_counted p m n (inl e) same =
-    subst (λ (q : Print). counted_as q m ≡ counted_as q n) (sym e) (ap (λ b. if b then 1 else 0) same)
-alike_counted p m n (inr (inl e)) same =
-    subst (λ (q : Print). counted_as q m ≡ counted_as q n) (sym e) (ap (λ b. if b then 1 else 0) same)
-alike_counted p m n (inr (inr e)) same =
-    subst (λ (q : Print). counted_as q m ≡ counted_as q n) (sym e) (ap (λ b. if b then 1 else 0) same)
-
-pub names_counted : (w : What) (f : Finds) (n : ℕ) (lines : List TextLine) → IsOfNames w.print → 0 < n →
-    counted_as w.print (n + count (flags_behind w f n lines)) ≡ counted_as w.print (n + count (flags_behind w f n []))
-names_counted w f n lines names more =
-    alike_counted w.print (n + count (flags_behind w f n lines)) (n + count (flags_behind w f n [])) names (some_counted w f n lines more)
 
 -- behind the last line none more is selected
 none_limited : (most : Option ℕ) → count (limited most []) ≡ 0
@@ -265,22 +240,6 @@ none_limited (Some (suc n)) = refl
 
 pub all_counted : (w : What) (f : Finds) (n : ℕ) → n + count (flags_behind w f n []) ≡ n
 all_counted w f n = ap (λ k. n + k) (none_limited (left_of w.most n)) ∙ (let e : n + 0 ≡ n = omega arith in e)
-
-abbrev IsToldSo : What → Finds → List ℕ → Bool → Course → ℕ → List TextLine → Print → Type 0
-IsToldSo w f name with_name c n lines p =
-    tells_as p w name with_name c n (flags_behind w f n lines) (map (told_item f) lines)
-    ≡ tells_as p w name with_name c n (flags_behind w f n []) []
-
-pub some_told : (w : What) (f : Finds) (name : List ℕ) (with_name : Bool) (c : Course) (n : ℕ) (p : Print) (lines : List TextLine) →
-    IsOfNames p → 0 < n →
-    tells_as p w name with_name c n (flags_behind w f n lines) (map (told_item f) lines)
-    ≡ tells_as p w name with_name c n (flags_behind w f n []) []
-some_told w f name with_name c n p lines (inl e) more =
-    subst (IsToldSo w f name with_name c n lines) (sym e) (ap (λ t. if t then name_line w name else []) (some_counted w f n lines more))
-some_told w f name with_name c n p lines (inr (inl e)) more =
-    subst (IsToldSo w f name with_name c n lines) (sym e) (ap (λ t. if t then [] else name_line w name) (some_counted w f n lines more))
-some_told w f name with_name c n p lines (inr (inr e)) more =
-    subst (IsToldSo w f name with_name c n lines) (sym e) refl
 
 -- a count and names are no lines
 pub not_lines : (p : Print) (n : ℕ) → p ≡ Count → prints_lines p ≡ true → n ≡ 0
@@ -298,9 +257,6 @@ is_false false t = refl
 pub is_zero : (n : ℕ) → IsTrue (nat_eq n 0) → n ≡ 0
 is_zero zero t = refl
 is_zero (suc n) t = absurd (grind (arith, t))
-
-pub is_some : (n : ℕ) → IsTrue (nat_lt 0 n) → 0 < n
-is_some n t = grind (arith, t)
 
 -- ---- lines or matches, in the words of the call that tells them
 as_still : (p : Print) (w : What) (name : List ℕ) (with_name : Bool) (c : Course) (n : ℕ) (flags : List Bool) (items : List Item) →

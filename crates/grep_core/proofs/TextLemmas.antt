@@ -1,8 +1,8 @@
 -- What is told of a whole text.
 use Rattle.std.proofs.Common.{◌≡◌, ℕ, List, [], ◌++◌, take, Option, ap, ◌∙◌, subst}
 use Rattle.std.specs.Io.KnownBytes.{Appends}
-use Rattle.grep_core.specs.declared.blocks.Progress.{Progress}
-use Rattle.grep_core.specs.declared.blocks.Task.{Task}
+use Rattle.grep_core.specs.declared.progress.Progress.{Progress}
+use Rattle.grep_core.specs.declared.progress.Task.{Task}
 use Rattle.grep_core.specs.declared.known.Known.{Known}
 use Rattle.grep_core.specs.Blocks.{tells_lines, counts_lines, ReadsOn, WritesPart}
 use Rattle.grep_core.specs.Lines.{lines_of, split_lines}
@@ -61,4 +61,5 @@ module _ (t : Task) (f : Finds) where
       is
       ∙ rest
       ∙ ap (λ l. counted_as t.what.now.print (counts_lines t wanted p (split_lines (l ++ a.rest)))) shown
-      ∙ ap (counted_as t.what.now.print) (a.writes.on.counted ∙ ap (λ l. counts_lines t wanted o (split_lines (l ++ text))) none ∙ starts text)
+      ∙ ap (counted_as t.what.now.print) (a.writes.on.counted
+      ∙ ap (λ l. counts_lines t wanted o (split_lines (l ++ text))) none ∙ starts text)

@@ -1,49 +1,26 @@
 -- What is told of a line, by what searches promise.
-use Rattle.std.proofs.Common.{map, ◌≡◌, ◌<◌, ◌≤◌, ℕ, true, false, List, [], ◌∷◌, All, Option, Some, None, Ok, ap, ap₂, sym, ◌∙◌, refl, arith}
-use Rattle.std.specs.Prelude.{is_some, option_map, IsSomeAnd, chars}
-use Rattle.regex_hir.specs.Re.{Re}
+use Rattle.std.proofs.Common.{map, ◌≡◌, ◌<◌, ℕ, true, false, List, All, Option, Ok, ap, sym, ◌∙◌, refl}
+use Rattle.std.proofs.Common.{arith}
+use Rattle.std.specs.Prelude.{is_some}
 use Rattle.regex_syntax.specs.declared.Config.{Config}
 use Rattle.regex_syntax.specs.Grammar.{read}
 use Rattle.hir_core.specs.Tree.{Tree}
 use Rattle.search_types.specs.Found.{Found}
 use Rattle.regex_pair.specs.Pairs.{Pair, PairCache}
 use Rattle.regex_pair.specs.PairAnswers.{AnswersPair}
+use Rattle.regex_pair.specs.Taken.{IsWholeList}
 use Rattle.hirscan.specs.Built.{IsBuilt}
 use Rattle.hirscan.specs.Regexes.{IsSearchOf}
 use Rattle.pattern_search.specs.Searches.{whole_search}
-use Rattle.pattern_search.specs.Texts.{AreRead, AllMean}
+use Rattle.pattern_search.specs.Texts.{AllMean}
 use Rattle.pattern_search.specs.Written.{AnswersWhatIsWritten}
+use Rattle.pattern_search.proofs.ForCallers.{alike_some, same_patterns}
 use Rattle.grep_core.specs.Patterns.{finds_of}
 use Rattle.std.specs.List.{filter}
 use Rattle.hir_core.specs.Facts.{LoopsRead}
 use Rattle.pattern_search.specs.Searches.{span_of_found}
 use Rattle.grep_core.specs.Report.{is_some_text}
-use Rattle.grep_core.specs.Searchers.{IsSearcherOf, IsTold, AreTold, IsWholeList, sized_settings}
-
--- what is read of one text is one pattern
-one_value : {A : Type 0} (o : Option A) (of : A → Re) (D : A → Type 0) (a b : Re) →
-    IsSomeAnd o (λ it. D it × (of it ≡ a)) → IsSomeAnd o (λ it. D it × (of it ≡ b)) → a ≡ b
-one_value None of D a b p q = elim p [ ]
-one_value (Some it) of D a b p q = sym p.1 ∙ q.1
-
-pub same_patterns : (config : Config) (texts : List (List ℕ)) (res others : List Re) → AreRead config texts res → AreRead config texts others → res ≡ others
-same_patterns config [] [] [] p q = refl
-same_patterns config [] [] (b ∷ others) p q = elim q [ ]
-same_patterns config [] (a ∷ res) others p q = elim p [ ]
-same_patterns config (t ∷ ts) [] others p q = elim p [ ]
-same_patterns config (t ∷ ts) (a ∷ res) [] p q = elim q [ ]
-same_patterns config (t ∷ ts) (a ∷ res) (b ∷ others) p q =
-    ap₂ (λ (x : Re) (xs : List Re). x ∷ xs)
-    (one_value (read config (chars t)) (λ it. it.0.value) (λ it. it.0.depth ≤ config.nest_limit) a b p.0 q.0)
-    (same_patterns config ts res others p.1 q.1)
-
--- there is a start where there is a start
-starts : {A : Type 0} (f : A → ℕ) (x : Option A) → is_some (option_map f x) ≡ is_some x
-starts f None = refl
-starts f (Some a) = refl
-
-pub alike_some : {A B : Type 0} (f : A → ℕ) (g : B → ℕ) (x : Option A) (y : Option B) → option_map f x ≡ option_map g y → is_some x ≡ is_some y
-alike_some f g x y e = sym (starts f x) ∙ ap is_some e ∙ starts g y
+use Rattle.grep_core.specs.Searchers.{IsSearcherOf, IsTold, AreTold, sized_settings}
 
 -- any line of bytes is searched, whatever the trees
 pub is_search : (xs : List Tree) (line : List ℕ) → All (λ b. b < 256) line → IsSearchOf xs false (whole_search line 0)
@@ -56,15 +33,18 @@ is_search xs line bytes = record {
 }
 
 pub told_of : (config : Config) (texts : List (List ℕ)) (p : Pair) (c : PairCache) (line : List ℕ) (o : Option Found) →
-    ((k : Option ℕ) (xs : List Tree) → AllMean config texts xs → IsBuilt xs (sized_settings k) p → AnswersWhatIsWritten config texts xs (sized_settings k) p) →
-    IsSearcherOf config texts p → All (λ b. b < 256) line → AnswersPair p c (whole_search line 0) (Ok o) → IsTold config texts line (is_some o)
+    ((k : Option ℕ) (xs : List Tree) → AllMean config texts xs → IsBuilt xs (sized_settings k) p →
+    AnswersWhatIsWritten config texts xs (sized_settings k) p) →
+    IsSearcherOf config texts p → All (λ b. b < 256) line → AnswersPair p c (whole_search line 0) (Ok o) →
+    IsTold config texts line (is_some o)
 told_of config texts p c line o law it bytes answer res read =
     let written = law it.capacity it.trees it.mean it.built in
     sym (alike_some _ _ _ _ (written.answers.starts line 0 (is_search it.trees line bytes) c o answer))
     ∙ ap (λ rs. (finds_of rs).has_match line) (same_patterns config texts written.patterns res written.are_read read)
 
 pub all_told : (config : Config) (texts : List (List ℕ)) (p : Pair) (line : List ℕ) (fs : List Found) (told : List (ℕ × ℕ)) →
-    ((k : Option ℕ) (xs : List Tree) → AllMean config texts xs → IsBuilt xs (sized_settings k) p → AnswersWhatIsWritten config texts xs (sized_settings k) p) →
+    ((k : Option ℕ) (xs : List Tree) → AllMean config texts xs → IsBuilt xs (sized_settings k) p →
+    AnswersWhatIsWritten config texts xs (sized_settings k) p) →
     (it : IsSearcherOf config texts p) → All LoopsRead it.trees → All (λ b. b < 256) line → IsWholeList p (whole_search line 0) fs →
     told ≡ filter is_some_text (map span_of_found fs) → AreTold config texts line told
 all_told config texts p line fs told law it loops bytes l spans res read =

@@ -1,7 +1,7 @@
 -- Texts of whole lines.
 use Rattle.std.proofs.Common.{◌≡◌, ◌<◌, inl, inr, ℕ, zero, suc, ◌+◌, Bool, true, false, cond, List, [], ◌∷◌, ◌++◌, None, length, drop, take}
-use Rattle.std.proofs.Common.{get_or, count_by, if◌then◌else◌, refl, sym, ap, ◌∙◌, subst, append_assoc, append-nil, take-add, arith}
-use Rattle.std.proofs.lemmas.List.{drop_all, take_more}
+use Rattle.std.proofs.Common.{count_by, if◌then◌else◌, refl, sym, ap, ◌∙◌, subst, take-add, arith}
+use Rattle.std.proofs.lemmas.List.{drop_all}
 use Rattle.std.proofs.lemmas.List.Sums.{sum_by-append, sum_by-cons}
 use Rattle.std.specs.List.{position}
 use Rattle.grep_core.specs.Lines.{put_first, split_lines}
@@ -136,15 +136,3 @@ no_line text (suc n) is whole unended =
 
 pub whole_none : (text : List ℕ) → AreWhole text → position is_feed text ≡ None → length text ≡ 0
 whole_none text whole unended = no_line text (length text) refl whole unended
-
--- ---- which texts are whole
-pub whole_empty : AreWhole []
-whole_empty = inl refl
-
--- a text up to a line feed
-pub whole_to : (text : List ℕ) (n d : ℕ) → n < length text → get_or text n d ≡ 10 → AreWhole (take (n + 1) text)
-whole_to text n d within is = inr (take n text, take_more text n d within ∙ ap (λ b. take n text ++ b ∷ []) is)
-
-pub whole_both : (one two : List ℕ) → AreWhole one → AreWhole two → AreWhole (one ++ two)
-whole_both one two whole (inl none) = subst (λ (t : List ℕ). AreWhole t) (sym (ap (λ t. one ++ t) none ∙ append-nil one)) whole
-whole_both one two whole (inr it) = inr (one ++ it.0, ap (λ t. one ++ t) it.1 ∙ sym (append_assoc one it.0 (10 ∷ [])))

@@ -1,27 +1,17 @@
 -- What is written, piece by piece, and what that tells of a text.
-use Rattle.std.proofs.Common.{◌≡◌, ◌≤◌, ℕ, ◌+◌, ◌-◌, List, [], ◌++◌, length, take, drop, Option, Some, None, refl, sym, ap, ◌∙◌, subst}
-use Rattle.std.proofs.Common.{arith, length-take, append_assoc, append-nil}
-use Rattle.std.proofs.Math.Seq.{take-add, take-append_seam, take-append-add, take-length}
+use Rattle.std.proofs.Common.{◌≡◌, ℕ, ◌+◌, List, [], ◌++◌, length, take, drop, Option, Some, None, refl, sym, ap, ◌∙◌, subst}
+use Rattle.std.proofs.Common.{append_assoc, append-nil}
+use Rattle.std.proofs.Math.Seq.{take-append_seam, take-append-add, take-length}
 use Rattle.std.proofs.KnownBytes.{Appends-nil, Appends-trans}
-use Rattle.std.proofs.lemmas.List.{take_rest, take-append-drop}
+use Rattle.std.proofs.lemmas.List.{take-append-drop}
 use Rattle.std.proofs.lemmas.Option.{none-some, same_Some}
 use Rattle.std.specs.Io.KnownBytes.{Appends, Consumes, IsAtEnd, Keeps}
 use Rattle.std.specs.Prelude.{IfSome}
-use Rattle.grep_core.specs.declared.blocks.Progress.{Progress}
-use Rattle.grep_core.specs.declared.blocks.Task.{Task}
+use Rattle.grep_core.specs.declared.progress.Progress.{Progress}
+use Rattle.grep_core.specs.declared.progress.Task.{Task}
 use Rattle.grep_core.specs.Blocks.{tells_lines, counts_lines, IsOver, Writes, ReadsOn, WritesPart}
 use Rattle.grep_core.specs.Lines.{split_lines}
 use Rattle.grep_core.specs.Report.{Finds, counted_as}
-
-pub more_in_text : (text : List ℕ) (done n : ℕ) → done ≤ length text → n ≤ length (take (length text - done) (drop done text)) →
-    done + n ≤ length text
-more_in_text text done n p q = omega (arith, length-take (length text - done) (drop done text))
-
-pub appends_more : (a b c : Option (List ℕ)) (text : List ℕ) (done n : ℕ) → Appends a b (take done text) →
-    Appends b c (take n (take (length text - done) (drop done text))) → Appends a c (take (done + n) text)
-appends_more a b c text done n p q =
-    subst (Appends a c) (sym (take-add done n text))
-    (Appends-trans a b c (take done text) (take n (drop done text)) p (subst (λ t. Appends b c (take n t)) (take_rest text done) q))
 
 -- what was appended before bytes that stay
 pub appends_kept : (a b c : Option (List ℕ)) (bytes : List ℕ) → Appends a b bytes → Keeps b c → Appends a c bytes
@@ -185,7 +175,8 @@ module _ (t : Task) (f : Finds) where
   pub ended_counted : (p q : Progress) (read more : List ℕ) → more ≡ [] → counts_lines t f q [] ≡ counts_lines t f p (split_lines read) →
       counted_as t.what.now.print (counts_lines t f q []) ≡ counted_as t.what.now.print (counts_lines t f p (split_lines (read ++ more)))
   ended_counted p q read more none counted =
-      ap (counted_as t.what.now.print) (counted ∙ ap (λ l. counts_lines t f p (split_lines l)) (sym (append-nil read) ∙ ap (λ m. read ++ m) (sym none)))
+      ap (counted_as t.what.now.print) (counted ∙ ap (λ l. counts_lines t f p (split_lines l)) (sym (append-nil read)
+      ∙ ap (λ m. read ++ m) (sym none)))
 
   pub ended_part : (p : Progress) (read more : List ℕ) (w v : Option (List ℕ)) → more ≡ [] → WritesPart t f p read w v →
       WritesPart t f p (read ++ more) w v

@@ -1,8 +1,8 @@
 -- What is still told of a text behind some of its lines, and how a task goes on by some bytes.
 use Rattle.std.specs.Prelude.{◌≡◌, ℕ, List, [], ◌++◌, Option, Some, take}
 use Rattle.std.specs.Io.KnownBytes.{Appends}
-use Rattle.grep_core.specs.declared.blocks.Progress.{Progress}
-use Rattle.grep_core.specs.declared.blocks.Task.{Task}
+use Rattle.grep_core.specs.declared.progress.Progress.{Progress}
+use Rattle.grep_core.specs.declared.progress.Task.{Task}
 use Rattle.grep_core.specs.Lines.{TextLine, numbered, split_lines}
 use Rattle.grep_core.specs.Report.{Finds, counted_as}
 use Rattle.grep_core.specs.Searchers.{Sought, SearchesFor, found_by}

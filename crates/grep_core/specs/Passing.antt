@@ -1,8 +1,8 @@
 -- Whole lines of which none has a match.
 use Rattle.std.specs.Prelude.{◌≡◌, ◌⊎◌, ℕ, true, false, List, [], ◌∷◌, ◌++◌, All, if◌then◌else◌}
 use Rattle.std.specs.List.{filter}
-use Rattle.grep_core.specs.declared.blocks.Progress.{Progress}
-use Rattle.grep_core.specs.declared.blocks.Task.{Task}
+use Rattle.grep_core.specs.declared.progress.Progress.{Progress}
+use Rattle.grep_core.specs.declared.progress.Task.{Task}
 use Rattle.grep_core.specs.declared.course.Course.{Course}
 use Rattle.grep_core.specs.declared.what.What.{What}
 use Rattle.grep_core.specs.Blocks.{tells_lines, counts_lines}

@@ -1,16 +1,11 @@
 -- What a searcher of lines is of, and what it tells of a line.
-use Rattle.std.specs.Prelude.{◌≡◌, ◌⊎◌, ℕ, Bool, true, false, List, Option, Some, None}
+use Rattle.std.specs.Prelude.{◌≡◌, ◌⊎◌, ℕ, Bool, true, false, List, Option, Some}
 use Rattle.std.specs.List.{filter}
 use Rattle.regex_hir.specs.Re.{Re}
 use Rattle.regex_syntax.specs.declared.Config.{Config}
 use Rattle.hir_core.specs.Tree.{Tree}
-use Rattle.search_types.specs.Found.{Found}
-use Rattle.search_types.specs.Inputs.{Search}
 use Rattle.lazy_dfa.specs.declared.build_error.BuildError.TheVariants.{NoMemory}
-use Rattle.regex_pair.specs.declared.find_matches.FindMatches.{FindMatches}
-use Rattle.regex_pair.specs.FindSteps.{FindsNext, finds_from, searches_by}
 use Rattle.regex_pair.specs.Pairs.{Pair}
-use Rattle.regex_pair.specs.Taken.{AreTaken}
 use Rattle.hirscan.specs.declared.settings.Settings.{Settings}
 use Rattle.hirscan.specs.Built.{IsBuilt, RefusesBuild, default_settings, program_settings}
 use Rattle.hirscan.specs.Loops.{first_empty_loop}
@@ -43,14 +38,6 @@ IsTold config texts line told = (res : List Re) → AreRead config texts res →
 abbrev pub AreTold : Config → List (List ℕ) → List ℕ → List (ℕ × ℕ) → Type 0
 AreTold config texts line told = (res : List Re) → AreRead config texts res → told ≡ filter is_some_text ((finds_of res).spans line)
 
--- an iterator over the matches of the search gave these, and then came to its end
-pub record IsWholeList (p : Pair) (q : Search) (fs : List Found) : Type 0 where
-  pub old : FindMatches
-  pub new : FindMatches
-  pub regex : searches_by old ≡ p
-  pub taken : AreTaken p q fs (finds_from old)
-  pub over : FindsNext old None new
-
 -- what is sought in lines: the texts of patterns, the options under which these are read, and whether matches may be asked for
 pub record Sought : Type 0 where
   pub config : Config
@@ -70,5 +57,6 @@ found_by by = finds_of by.patterns
 -- built of their trees, or memory lacked.
 abbrev pub IsRefused : Config → List (List ℕ) → Bool → SearcherError → Type 0
 IsRefused config texts spans (Text e) = IsFirstFault config texts e.number e.error
-IsRefused config texts spans (EmptyLoop number) = (spans ≡ true) × ((xs : List Tree) × AllMean config texts xs × (first_empty_loop xs ≡ Some number))
+IsRefused config texts spans (EmptyLoop number) =
+    (spans ≡ true) × ((xs : List Tree) × AllMean config texts xs × (first_empty_loop xs ≡ Some number))
 IsRefused config texts spans (Build e) = (e ≡ NoMemory) ⊎ ((xs : List Tree) × AllMean config texts xs × RefusesBuild xs line_settings e)

@@ -4,78 +4,20 @@ ghost use Rattle.std.specs.List.{position};
 ghost use Rattle.grep_core.specs.Blocks.{SearchesBy, finds_by, tells_lines, counts_lines};
 ghost use Rattle.grep_core.specs.Candidates.{HasMatchAt, IsLineStart};
 ghost use Rattle.grep_core.specs.Courses.{Waits};
-ghost use Rattle.grep_core.specs.Lines.{lines_of, split_lines};
+ghost use Rattle.grep_core.specs.Lines.{split_lines};
 ghost use Rattle.grep_core.specs.Passing.{AreWhole};
-ghost use Rattle.grep_core.specs.Report.{Finds, report_as, selected};
 ghost use Rattle.grep_core.specs.Searchers.{IsTold};
-ghost use Rattle.grep_core.specs.Selecting.{count};
-ghost use Rattle.grep_core.specs.declared.blocks.Task.{Task as TheTask};
-ghost use Rattle.grep_core.specs.declared.what.What.{What as TheWhat};
 
 use crate::candidates::line_start;
 use crate::fault::Fault;
 use crate::feeds::feed_at;
 use crate::finder::Finder;
-use crate::known::Known;
 use crate::line::Line;
 use crate::looking::look_at;
 use crate::passing::pass_lines;
-use crate::telling::{Telling, tell_line};
-use crate::what::What;
+use crate::progress::{Progress, Task, pass};
+use crate::telling::tell_line;
 use std::alloc::Global;
-
-/// A text of this name is searched for what is asked.
-#[derive(Clone, Copy)]
-pub(crate) struct Task<'a> {
-    pub what: &'a What,
-    pub name: &'a [u8],
-    /// Whether the name stands before lines.
-    pub with_name: bool,
-}
-
-/// Where the next line stands, if lines are printed, and what was told of those before it.
-#[derive(Drop)]
-pub(crate) struct Progress {
-    pub number: u64,
-    pub place: u64,
-    pub telling: Telling,
-}
-
-impl Progress {
-    /// Before the first line, where this is known of the lines of earlier texts.
-    pub(crate) fn new(alloc: Global, known: Known) -> Progress
-        ensures starts { (t : TheTask) → (f : Finds) → (text : List ℕ) →
-            tells_lines t f result (split_lines text) ≡ report_as t.what.now.print t.what.now f t.name.now t.with_name known (lines_of text) (selected t.what.now f (lines_of text)) }
-        ensures counts { (t : TheTask) → (f : Finds) → (text : List ℕ) → counts_lines t f result (split_lines text) ≡ count (selected t.what.now f (lines_of text)) }
-        ensures waits { (w : TheWhat) → Waits w result.telling.course }
-    {
-        Progress {
-            number: 1,
-            place: 0,
-            telling: Telling::new(alloc, known),
-        }
-    }
-}
-
-pub(crate) fn sum(a: u64, b: u64) -> Result<u64, Fault>
-    ensures { IfOk result (λ n. n ≡ a + b) }
-{
-    match a.checked_add(b) {
-        Some(sum) => Ok(sum),
-        None => Err(Fault::TooLong),
-    }
-}
-
-/// Goes on behind a line of so many bytes.
-pub(crate) fn pass(progress: &mut Progress, len: usize) -> Result<(), Fault>
-    ensures number { OnOk result (progress.new.number ≡ progress.old.number + 1) }
-    ensures place { OnOk result (progress.new.place ≡ progress.old.place + len + 1) }
-    ensures telling { OnOk result (progress.new.telling ≡ progress.old.telling) }
-{
-    progress.number = sum(progress.number, 1)?;
-    progress.place = sum(sum(progress.place, len as u64)?, 1)?;
-    Ok(())
-}
 
 /// Tells one line, which is given without its line feed. It may be known that it has a match.
 pub(crate) fn tell_one(
@@ -95,7 +37,8 @@ pub(crate) fn tell_one(
         out.old.items ++ tells_lines task.entry (finds_by task.entry by) progress.old (bytes.now ∷ lines)
         ≡ out.new.items ++ tells_lines task.entry (finds_by task.entry by) progress.new lines) }
     ensures counts { OnOk result ((by : SearchesBy task.entry finder.old) (lines : List (List ℕ)) →
-        counts_lines task.entry (finds_by task.entry by) progress.new lines ≡ counts_lines task.entry (finds_by task.entry by) progress.old (bytes.now ∷ lines)) }
+        counts_lines task.entry (finds_by task.entry by) progress.new lines ≡
+        counts_lines task.entry (finds_by task.entry by) progress.old (bytes.now ∷ lines)) }
 {
     let seen = look_at(alloc, finder, task.what, bytes, is_known)?;
     let line = Line {

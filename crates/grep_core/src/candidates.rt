@@ -1,5 +1,6 @@
 //! The lines of a block that may have a match.
-ghost use Rattle.std.specs.Prelude.{◌≡◌, ◌==◌, ◌&&◌, ◌≤◌, ◌<◌, ◌-◌, ℕ, List, length, map, option_map, slice_get, slice_range, is_some, not, true, Option, Some, IfErr, IfOk, IfSome};
+ghost use Rattle.std.specs.Prelude.{◌≡◌, ◌==◌, ◌&&◌, ◌≤◌, ◌<◌, ◌-◌, ℕ, List, length, map, option_map, slice_get, slice_range, is_some, not};
+ghost use Rattle.std.specs.Prelude.{true, Option, Some, IfErr, IfOk, IfSome};
 ghost use Rattle.std.specs.List.{list_any};
 ghost use Rattle.regex_syntax.specs.declared.Config.{Config as TextConfig};
 ghost use Rattle.hir_core.specs.Tree.{Tree};
@@ -8,7 +9,8 @@ ghost use Rattle.hirscan.specs.Built.{IsBuilt, RefusesBuild};
 ghost use Rattle.ucd_perl.specs.Perl.{is_word_char};
 ghost use Rattle.earliest_ends.specs.Earliest.{IsRefusal};
 ghost use Rattle.pattern_search.specs.Texts.{AllMean};
-ghost use Rattle.grep_core.specs.Candidates.{IsCandidatesOf, IsLineStart, HaveNoMatch, HasMatchAt, HasNoFeedFrom, IsStop, IsStopIfAny, IsEnd};
+ghost use Rattle.grep_core.specs.Candidates.{IsCandidatesOf, IsLineStart, HaveNoMatch, HasMatchAt, HasNoFeedFrom, IsStop, IsStopIfAny};
+ghost use Rattle.grep_core.specs.Candidates.{IsEnd};
 ghost use Rattle.grep_core.specs.Candidates.{StopsInLine};
 ghost use Rattle.grep_core.specs.Searchers.{line_settings, sized_settings};
 ghost use Rattle.grep_core.specs.declared.fault.Fault.TheVariants.{NoMemory};
@@ -88,7 +90,8 @@ pub(crate) fn line_start(block: &[u8], at: usize, place: usize) -> usize
 
 /// The place at which a search that was refused stopped.
 fn refused_at(at: usize, error: &MatchError) -> Result<usize, Fault>
-    ensures told { (xs : List Tree) (block : List ℕ) → IsRefusal is_word_char xs line_settings block at error.now → IfOk result (λ place. IsStop xs block at place) }
+    ensures told { (xs : List Tree) (block : List ℕ) → IsRefusal is_word_char xs line_settings block at error.now →
+        IfOk result (λ place. IsStop xs block at place) }
     ensures refused { IfErr result (λ e. e ≡ NoMemory) }
 {
     match error.kind() {

@@ -19,8 +19,8 @@ use std::marker::Model;
 
 /// Finds patterns in lines.
 ///
-/// Automata find them but in lines in which these give up at a quit byte, as where `\b` stands beside what isn't ASCII: there the toolchain's
-/// regexes of the same texts do, which are made when the first such line comes.
+/// Automata find them but in lines in which these give up at a quit byte, as where `\b` stands beside what isn't ASCII: there the
+/// toolchain's regexes of the same texts do, which are made when the first such line comes.
 ///
 /// Where the caches of the automata are cleared too soon, as where a thousand words are looked for in prose, they are made larger, up to
 /// 256 MiB for each.
@@ -85,7 +85,8 @@ impl<'t> Finder<'t> {
         config: &Config,
         with_matches: bool,
     ) -> Result<Finder<'t>, SearcherError>
-        ensures sought { IfOk result (λ f. f ≡ record { config = record (config.now) { utf8 = false }; texts = map (λ t. t.now) texts.now; spans = with_matches }) }
+        ensures sought { IfOk result (λ f. f ≡
+            record { config = record (config.now) { utf8 = false }; texts = map (λ t. t.now) texts.now; spans = with_matches }) }
         ensures searches { IfOk result (λ f. SearchesFor f with_matches) }
         ensures refused { IfErr result (IsRefused (record (config.now) { utf8 = false }) (map (λ t. t.now) texts.now) with_matches) }
     {
@@ -315,7 +316,8 @@ impl<'t> Finder<'t> {
     /// The matches of the line that aren't empty, by the automata.
     fn matches_quickly(&mut self, alloc: Global, line: &[u8]) -> Result<Vec<Span>, MatchError>
         ensures same { self.new ≡ self.old }
-        ensures told { self.old.spans ≡ true → IfOk result (λ found. AreTold self.old.config self.old.texts line.now (map span_pair found.items)) }
+        ensures told { self.old.spans ≡ true →
+            IfOk result (λ found. AreTold self.old.config self.old.texts line.now (map span_pair found.items)) }
     {
         let found = match self.searcher.matches(alloc, line) {
             Ok(found) => found,
@@ -347,7 +349,8 @@ impl<'t> Finder<'t> {
     /// The matches of the line that aren't empty, from left to right.
     pub(crate) fn matches(&mut self, alloc: Global, line: &[u8]) -> Result<Vec<Span>, Fault>
         ensures same { self.new ≡ self.old }
-        ensures told { self.old.spans ≡ true → IfOk result (λ found. AreTold self.old.config self.old.texts line.now (map span_pair found.items)) }
+        ensures told { self.old.spans ≡ true →
+            IfOk result (λ found. AreTold self.old.config self.old.texts line.now (map span_pair found.items)) }
     {
         self.grow_searcher(alloc);
         let error = match self.matches_quickly(alloc, line) {

@@ -8,8 +8,8 @@ use std::alloc::{AllocError, Global};
 use std::io::Read;
 use std::marker::Model;
 
-/// What was read of a text and isn't told yet: the first bytes of a buffer, whose others are room for what is read next. So nothing is copied
-/// of what is told, and no memory is asked for once there is room for a block and a line.
+/// What was read of a text and isn't told yet: the first bytes of a buffer, whose others are room for what is read next. So nothing is
+/// copied of what is told, and no memory is asked for once there is room for a block and a line.
 #[derive(Drop)]
 pub(crate) struct Held {
     buffer: Vec<u8>,

@@ -21,6 +21,7 @@ mod looking;
 mod passing;
 mod patterns;
 mod printing;
+mod progress;
 mod reading;
 mod role;
 mod searcher;

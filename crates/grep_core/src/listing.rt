@@ -2,10 +2,10 @@
 ghost use Rattle.std.specs.Prelude.{◌≡◌, ◌++◌, ◌∷◌, [], IfOk, OnOk, map};
 ghost use Rattle.std.specs.List.{filter};
 ghost use Rattle.regex_pair.specs.Pairs.{AreCachesOf};
+ghost use Rattle.regex_pair.specs.Taken.{IsWholeList};
 ghost use Rattle.pattern_search.specs.Searches.{span_of_found};
 ghost use Rattle.grep_core.specs.Printing.{span_pair};
 ghost use Rattle.grep_core.specs.Report.{is_some_text};
-ghost use Rattle.grep_core.specs.Searchers.{IsWholeList};
 
 use regex_pair::regex::{Cache, Regex};
 use regex_pair::taken_laws::a_step_takes_one_more;

@@ -1,5 +1,6 @@
 //! Lines of which it is known that none has a match are told without a search.
-ghost use Rattle.std.specs.Prelude.{◌≡◌, ◌==◌, ◌++◌, ◌∷◌, [], ◌+◌, ◌<◌, ◌≤◌, ℕ, All, List, IfOk, OnOk, IsTrue, count_by, drop, false, true, length};
+ghost use Rattle.std.specs.Prelude.{◌≡◌, ◌==◌, ◌++◌, ◌∷◌, [], ◌+◌, ◌<◌, ◌≤◌, ℕ, All, List, IfOk, OnOk, IsTrue, count_by, drop, false, true};
+ghost use Rattle.std.specs.Prelude.{length};
 ghost use Rattle.grep_core.specs.Blocks.{SearchesBy, finds_by, tells_lines, counts_lines};
 ghost use Rattle.grep_core.specs.Candidates.{IsLineStart};
 ghost use Rattle.grep_core.specs.Courses.{Waits};
@@ -9,12 +10,12 @@ ghost use Rattle.grep_core.specs.Report.{Finds};
 ghost use Rattle.grep_core.specs.Searchers.{Sought, found_by};
 ghost use Rattle.grep_core.specs.Telling.{prints_lines};
 
-use crate::blocks::{Progress, Task, pass, sum};
 use crate::candidates::line_start;
 use crate::course::{Course, before_of, behind_hidden, forget_waiting};
 use crate::fault::Fault;
 use crate::feeds::feed_at;
 use crate::line::Line;
+use crate::progress::{Progress, Task, pass, sum};
 use crate::telling::{prints_lines, tell_line};
 use crate::what::{Print, What};
 use std::alloc::Global;
@@ -103,7 +104,8 @@ fn stops(what: &What, course: &Course, all: bool) -> bool
 
 /// Counts whole lines that are passed over, where lines are printed: else nothing that is told hangs on their numbers.
 fn count_over(print: Print, progress: &mut Progress, lines: &[u8]) -> Result<(), Fault>
-    ensures number { prints_lines print ≡ true → OnOk result (progress.new.number ≡ progress.old.number + count_by (λ b. b == 10) lines.now) }
+    ensures number { prints_lines print ≡ true →
+        OnOk result (progress.new.number ≡ progress.old.number + count_by (λ b. b == 10) lines.now) }
     ensures place { prints_lines print ≡ true → OnOk result (progress.new.place ≡ progress.old.place + length lines.now) }
     ensures telling { OnOk result (progress.new.telling ≡ progress.old.telling) }
 {
@@ -116,8 +118,8 @@ fn count_over(print: Print, progress: &mut Progress, lines: &[u8]) -> Result<(),
     Ok(())
 }
 
-/// Passes over lines without a match, but for the last ones that would be told with a selected one behind them: no other line waits any more,
-/// and where lines are printed it is counted how many were passed over. The answer is where the first line starts that wasn't.
+/// Passes over lines without a match, but for the last ones that would be told with a selected one behind them: no other line waits any
+/// more, and where lines are printed it is counted how many were passed over. The answer is where the first line starts that wasn't.
 fn pass_over(task: Task<'_>, progress: &mut Progress, lines: &[u8]) -> Result<usize, Fault>
     requires waits { Waits task.what.now progress.old.telling.course }
     requires whole { AreWhole lines.now }
@@ -172,8 +174,8 @@ fn tell_without(
     pass(progress, bytes.len())
 }
 
-/// Tells lines without a match one by one: all of them, or else those before the first one from which on they can be passed over. The answer
-/// is the place behind them.
+/// Tells lines without a match one by one: all of them, or else those before the first one from which on they can be passed over. The
+/// answer is the place behind them.
 fn tell_each(
     alloc: Global,
     out: &mut Vec<u8>,

@@ -9,14 +9,15 @@ ghost use Rattle.grep_core.specs.Lines.{split_lines};
 ghost use Rattle.grep_core.specs.Report.{Finds, counted_as, report, selected_count};
 ghost use Rattle.grep_core.specs.Searchers.{SearchesFor, found_by};
 ghost use Rattle.grep_core.specs.Telling.{needs_spans};
-ghost use Rattle.grep_core.specs.declared.blocks.Task.{Task as TheTask};
+ghost use Rattle.grep_core.specs.declared.progress.Task.{Task as TheTask};
 
-use crate::blocks::{Progress, Task, tell_block, tell_one};
+use crate::blocks::{tell_block, tell_one};
 use crate::fault::Fault;
 use crate::feeds::feed_at;
 use crate::finder::Finder;
 use crate::held::Held;
 use crate::known::Known;
+use crate::progress::{Progress, Task};
 use crate::telling::{Telling, counted_as, is_over, tell_end};
 use crate::what::{Print, What};
 use std::alloc::Global;
@@ -339,7 +340,8 @@ fn write_rest<W: Write>(
         (tells_lines task.entry (finds_by task.entry by) progress.old (split_lines (read.now ++ more)))) }
     ensures counts { OnOk result ((by : SearchesBy task.entry finder.old) (more : List ℕ) → (ended ≡ true → more ≡ []) →
         counted_as task.entry.what.now.print (counts_lines task.entry (finds_by task.entry by) progress.new [])
-        ≡ counted_as task.entry.what.now.print (counts_lines task.entry (finds_by task.entry by) progress.old (split_lines (read.now ++ more)))) }
+        ≡ counted_as task.entry.what.now.print (counts_lines task.entry (finds_by task.entry by) progress.old
+        (split_lines (read.now ++ more)))) }
     ensures fault { IfErr result (λ _. (by : SearchesBy task.entry finder.old) (more : List ℕ) → (ended ≡ true → more ≡ []) →
         WritesPart task.entry (finds_by task.entry by) progress.old (read.now ++ more) (W.contents writer.old) (W.contents writer.new)) }
 {
@@ -373,7 +375,8 @@ fn finish<W: Write>(
         (tells_lines task.entry (finds_by task.entry by) progress.old (split_lines (read.now ++ more)))) }
     ensures counts { OnOk result ((by : SearchesBy task.entry finder.old) (more : List ℕ) → (ended ≡ true → more ≡ []) →
         counted_as task.entry.what.now.print (counts_lines task.entry (finds_by task.entry by) progress.new [])
-        ≡ counted_as task.entry.what.now.print (counts_lines task.entry (finds_by task.entry by) progress.old (split_lines (read.now ++ more)))) }
+        ≡ counted_as task.entry.what.now.print (counts_lines task.entry (finds_by task.entry by) progress.old
+        (split_lines (read.now ++ more)))) }
     ensures fault { IfErr result (λ _. (by : SearchesBy task.entry finder.old) (more : List ℕ) → (ended ≡ true → more ≡ []) →
         WritesPart task.entry (finds_by task.entry by) progress.old (read.now ++ more) (W.contents writer.old) (W.contents writer.new)) }
 {
@@ -394,8 +397,8 @@ fn count_of(print: Print, progress: &Progress) -> u64
     counted_as(print, progress.telling.count)
 }
 
-/// Reads a text, line by line, and writes what is told of it. The answer is how many lines are selected; where names of texts are asked for,
-/// or nothing, one stands for all of them, since no more is read then than tells whether there is one.
+/// Reads a text, line by line, and writes what is told of it. The answer is how many lines are selected; where names of texts are asked
+/// for, or nothing, one stands for all of them, since no more is read then than tells whether there is one.
 ///
 /// It reads blocks of 64 KiB, and tells the lines that end in one before it reads the next; it reads no more where nothing more is told
 /// whatever comes. A line is held whole, and one above 1 GiB is refused. Where it fails, a beginning of what is told was written.

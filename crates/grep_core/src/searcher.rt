@@ -9,7 +9,6 @@ ghost use Rattle.grep_core.specs.Searchers.{IsSearcherOf, IsTold, AreTold, IsRef
 
 use crate::listing::{list, spans_of};
 use hir_core::Hir;
-use hirscan::laws::loops_read_tells;
 use hirscan::{Settings, build, find, first_empty_loop, program_settings};
 use lazy_dfa::BuildError;
 use lazy_dfa::dfa::Config as Options;
@@ -80,7 +79,6 @@ fn refused_loop(trees: &[Hir], with_matches: bool) -> Option<usize>
     ensures none { IfNone result (with_matches ≡ true → All LoopsRead trees.now) }
     ensures some { IfSome result (λ number. (with_matches ≡ true) × (first_empty_loop trees.now ≡ Some number)) }
 {
-    loops_read_tells();
     if with_matches {
         first_empty_loop(trees)
     } else {
@@ -96,7 +94,8 @@ impl Searcher {
         config: &Config,
         with_matches: bool,
     ) -> Result<Searcher, SearcherError>
-        ensures searcher { IfOk result (λ s. (it : IsSearcherOf config.now (map (λ t. t.now) texts.now) s.0) × (with_matches ≡ true → All LoopsRead it.trees)) }
+        ensures searcher { IfOk result (λ s. (it : IsSearcherOf config.now (map (λ t. t.now) texts.now) s.0) ×
+            (with_matches ≡ true → All LoopsRead it.trees)) }
         ensures refused { IfErr result (IsRefused config.now (map (λ t. t.now) texts.now) with_matches) }
     {
         Searcher::sized(alloc, texts, config, with_matches, None)
@@ -110,7 +109,8 @@ impl Searcher {
         with_matches: bool,
         capacity: Option<usize>,
     ) -> Result<Searcher, SearcherError>
-        ensures searcher { IfOk result (λ s. (it : IsSearcherOf config.now (map (λ t. t.now) texts.now) s.0) × (with_matches ≡ true → All LoopsRead it.trees)) }
+        ensures searcher { IfOk result (λ s. (it : IsSearcherOf config.now (map (λ t. t.now) texts.now) s.0) ×
+            (with_matches ≡ true → All LoopsRead it.trees)) }
         ensures refused { capacity ≡ None → IfErr result (IsRefused config.now (map (λ t. t.now) texts.now) with_matches) }
     {
         let trees = match parse_all(alloc, texts, config) {
@@ -145,7 +145,8 @@ impl Searcher {
     /// Whether the line has a match of some pattern. A search that meets a quit byte is refused.
     pub fn has_match(&mut self, line: &[u8]) -> Result<bool, MatchError>
         ensures same { self.new.0 ≡ self.old.0 }
-        ensures told { (config : TextConfig) (texts : List (List ℕ)) → IsSearcherOf config texts self.old.0 → IfOk result (λ told. IsTold config texts line.now told) }
+        ensures told { (config : TextConfig) (texts : List (List ℕ)) → IsSearcherOf config texts self.old.0 →
+            IfOk result (λ told. IsTold config texts line.now told) }
     {
         see_bytes(line);
         regexes_answer_what_is_written();
@@ -159,7 +160,8 @@ impl Searcher {
     /// The matches of a line that aren't empty, from left to right. A search that meets a quit byte is refused.
     pub fn matches(&mut self, alloc: Global, line: &[u8]) -> Result<Vec<Span>, MatchError>
         ensures same { self.new.0 ≡ self.old.0 }
-        ensures told { (config : TextConfig) (texts : List (List ℕ)) → (it : IsSearcherOf config texts self.old.0) → All LoopsRead it.trees →
+        ensures told { (config : TextConfig) (texts : List (List ℕ)) → (it : IsSearcherOf config texts self.old.0) →
+            All LoopsRead it.trees →
             IfOk result (λ found. AreTold config texts line.now (map span_pair found.items)) }
     {
         see_bytes(line);

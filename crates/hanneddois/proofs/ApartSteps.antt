@@ -48,7 +48,8 @@ module _ (E : Bx) where
         → ((b o : ℕ) (hv : Val) → vs ≡ word E hv b o ∷ [] → Fits E.al hv
         → Seq K 𝓛 (‵ (box_owns (token E.al d.alloc) (R E) (block_ptr b o) d.value) ∷ ‵ (handle E d.alloc hv) ∷ Γ) G)
         → Seq K 𝓛 (‵ (PartsOf.own_val d vs) ∷ Γ) G
-    parts_out t d vs k = use1 𝓛 (‵ ((B E).own_val (closed d) vs)) (id⊢ 𝓤 _) $ box_out E t (closed d) vs (λ b o hv e ws fa. fjoin t $ k b o hv ws fa)
+    parts_out t d vs k =
+        use1 𝓛 (‵ ((B E).own_val (closed d) vs)) (id⊢ 𝓤 _) $ box_out E t (closed d) vs (λ b o hv e ws fa. fjoin t $ k b o hv ws fa)
 
     -- a pointer and an allocator, with the memory that this allocator gave, are parts
     pub parts_in : K → (r : Ptr × E.al.row.Denot) (a : E.al.row.Denot) (x : X E) (vs : List Val) → r.1 ≡ a

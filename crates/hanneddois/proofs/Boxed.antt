@@ -13,7 +13,11 @@ use Rattle.hanneddois.specs.contracts.apart.Apart as apart
 use Rattle.hanneddois.specs.contracts.handle.Handle as handle
 
 abbrev pub E : Bx
-E = record { row = regex.the_row; laws = regex_laws.the_row_laws; al = record { row = heap.the_row; laws = heap_laws.the_row_laws; g = ghosts; d = dict; drops = impl [] tnil dnil } }
+E = record {
+  row = regex.the_row;
+  laws = regex_laws.the_row_laws;
+  al = record { row = heap.the_row; laws = heap_laws.the_row_laws; g = ghosts; d = dict; drops = impl [] tnil dnil };
+}
 
 abbrev pub Parts : RattleType
 Parts = apart.the_row regex.the_row heap.the_row ghosts

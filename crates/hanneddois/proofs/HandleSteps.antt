@@ -33,7 +33,8 @@ module _ {M : Type 1} {𝓤 : Ura M} {𝓛 : Logic 𝓤} {K : Type 0} {Γ : List
   pub handle_in : K → (p : Ptr) (o : Option regex.the_row.Denot)
       → Step K 𝓛 (‵ (handle.the_row.own_val (record { inside = p; value = o }) (one p ∷ [])) ∷ Γ) G (‵ (held p o) ∷ Γ) G
   handle_in t p o = step (λ s.
-      nothing t $ feq_i t (List Val) (ptr_val p ∷ []) (ptr_val p ∷ []) refl $ fjoin t $ feq_i t (List Val) (one p ∷ []) (one p ∷ []) refl $ fjoin t $
+      nothing t $ feq_i t (List Val) (ptr_val p ∷ []) (ptr_val p ∷ []) refl $ fjoin t $
+      feq_i t (List Val) (one p ∷ []) (one p ∷ []) refl $ fjoin t $
       fpack t (Valss (RawPtr ∷ [])) (within (shape handle.the_type) (p, tt) (one p ∷ [])) (ptr_val p ∷ [], tt) $ fjoin t $ s)
 
   pub handle_out : K → (d : handle.the_row.Denot) (vs : List Val)
@@ -50,8 +51,10 @@ module _ {M : Type 1} {𝓤 : Ura M} {𝓛 : Logic 𝓤} {K : Type 0} {Γ : List
       → Seq K 𝓛 (‵ (held p o) ∷ Γ) G
   held_cases t a p None nothing_held some_held = fpick t (λ e. drop t $ nothing_held refl e)
   held_cases t a p (Some x) nothing_held some_held = fpick t (λ a'.
-      in_a_block t p (λ q. box_owns (ghosts.dealloc_token a') regex.the_row q x) (fst∗ 𝓤 (never 𝓤) (sem 𝓛 (ghosts.dealloc_token a' (bare (lone regex.the_row.mir)) null_ptr))) (λ b n e.
+      in_a_block t p (λ q. box_owns (ghosts.dealloc_token a') regex.the_row q x)
+      (fst∗ 𝓤 (never 𝓤) (sem 𝓛 (ghosts.dealloc_token a' (bare (lone regex.the_row.mir)) null_ptr))) (λ b n e.
       fsplit t $ move t (1 ∷ []) $ use1 𝓛 (‵ (token E.al a (bare (τ E)) (block_ptr b n))) (id⊢ 𝓤 _) $
       use1 𝓛 (given (Testable (block_ptr b n)) (‵ (token E.al a (bare (τ E)) (block_ptr b n))))
-      (fact_use 𝓤 (Testable (block_ptr b n)) (dealloc_token-Testable 𝓛 a (bare (τ E)) (block_ptr b n)) (guard_i 𝓤 (Testable (block_ptr b n)) (sem 𝓛 (token E.al a (bare (τ E)) (block_ptr b n))))) $
+      (fact_use 𝓤 (Testable (block_ptr b n)) (dealloc_token-Testable 𝓛 a (bare (τ E)) (block_ptr b n))
+      (guard_i 𝓤 (Testable (block_ptr b n)) (sem 𝓛 (token E.al a (bare (τ E)) (block_ptr b n))))) $
       learn t (λ may. move t (1 ∷ []) $ use1 𝓛 (‵ (part_at (R E) full_share x b n)) (id⊢ 𝓤 _) $ some_held b n x refl e may)))

@@ -18,10 +18,13 @@ use capi::{Compiled, Failure, FoundMatch, NewError, Options, error_text, texts_o
 use handle::Handle;
 use std::alloc::Global;
 
+/// The call did what it is for: a regex is made, or there is a match.
 const OK: u32 = 0;
 
+/// There is no match.
 const NONE: u32 = 1;
 
+/// An argument isn't one that the call takes.
 const BAD_ARGUMENT: u32 = 2;
 
 const VERSION: u32 = 200;
@@ -66,7 +69,10 @@ fn made(
     }
 }
 
-/// Makes a regex of the texts.
+/// Makes a regex of the texts; the status is 0 then. It is refused as 2 where an argument isn't one that it takes, 3 where memory lacks, 4
+/// where a text is no UTF-8, 5 where it is no pattern, 6 where it nests too deep, 7 where it repeats without a bound what may match the
+/// empty text, 8 where the automata are larger than they may be, and 9 where a cache may take fewer bytes than it needs. A status of 10,
+/// which tells of words by characters, no options lead to.
 #[unsafe(no_mangle)]
 pub extern "C" fn hanneddois_new(
     alloc: Global,
@@ -139,7 +145,8 @@ pub extern "C" fn hanneddois_clear_count(alloc: Global, regex: &mut Handle) -> u
     count
 }
 
-/// Whether there is a match.
+/// Whether there is a match: the status is 0 where there is one, and 1 where there is none. It is refused as 2 where the regex is empty, 3
+/// where memory lacks, 8 where the toolchain's regexes that it needs are too large, and 12 where the haystack is no UTF-8 but has to be.
 #[unsafe(no_mangle)]
 pub extern "C" fn hanneddois_is_match(
     alloc: Global,
@@ -164,7 +171,8 @@ pub extern "C" fn hanneddois_is_match(
     }
 }
 
-/// The leftmost match from a place on.
+/// The leftmost match from a place on: the status is 0 where there is one, and 1 where there is none. It is refused as
+/// [`hanneddois_is_match`] is, and as 2 too where the place is behind the haystack.
 #[unsafe(no_mangle)]
 pub extern "C" fn hanneddois_find_at(
     alloc: Global,
@@ -199,7 +207,7 @@ pub extern "C" fn hanneddois_find_at(
     }
 }
 
-/// All matches.
+/// All matches: the status is 0 where there is any, and 1 where there is none. It is refused as [`hanneddois_is_match`] is.
 #[unsafe(no_mangle)]
 pub extern "C" fn hanneddois_find_all(
     alloc: Global,
@@ -228,7 +236,8 @@ pub extern "C" fn hanneddois_find_all(
     }
 }
 
-/// Which patterns match.
+/// Which patterns match: the status is 0 where some pattern does, and 1 where none does. It is refused as [`hanneddois_is_match`] is, and
+/// as 2 too where the marks aren't as many as the patterns.
 #[unsafe(no_mangle)]
 pub extern "C" fn hanneddois_which(
     alloc: Global,

@@ -3,6 +3,7 @@ use Rattle.std.specs.Prelude.{ℕ, ◌+◌, ◌-◌, ◌^◌, min, Bool, true, f
 use Rattle.grep_core.specs.declared.what.Print.{Print}
 use Rattle.grep_core.specs.declared.what.Print.TheVariants.{Lines, Matches, Count, NameIfAny, NameIfNone, Nothing}
 use Rattle.grep_core.specs.declared.what.What.{What}
+use Rattle.grep_core.specs.Telling.{prints_lines}
 use Rattle.hirgrep_main.specs.declared.asked.Names.{Names}
 use Rattle.hirgrep_main.specs.declared.asked.Names.TheVariants.{Always, Never, IfSeveral}
 
@@ -16,15 +17,6 @@ prints_nothing Count = false
 prints_nothing NameIfAny = false
 prints_nothing NameIfNone = false
 prints_nothing Nothing = true
-
--- what is printed of a line is printed before the next one is read
-abbrev pub prints_lines : Print → Bool
-prints_lines Lines = true
-prints_lines Matches = true
-prints_lines Count = false
-prints_lines NameIfAny = false
-prints_lines NameIfNone = false
-prints_lines Nothing = false
 
 -- names of files without a selected line are printed
 abbrev pub prints_names_if_none : Print → Bool

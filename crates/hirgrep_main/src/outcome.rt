@@ -67,7 +67,8 @@ impl Outcome {
     /// Counts the lines that were selected of a file. The answer says whether there are any.
     fn count_lines(&mut self, lines: u64) -> bool
         ensures any { result ≡ nat_lt 0 lines }
-        ensures counted { self.new ≡ record (self.old) { selected = self.old.selected || nat_lt 0 lines; lines = counted self.old.lines lines } }
+        ensures counted { self.new ≡
+            record (self.old) { selected = self.old.selected || nat_lt 0 lines; lines = counted self.old.lines lines } }
     {
         let any = lines > 0;
         self.selected |= any;

@@ -1,6 +1,7 @@
 //! Searching files, one after the other.
 ghost use Rattle.std.specs.Prelude.{◌≡◌};
-ghost use Rattle.hirgrep_main.specs.Decisions.{is_most, is_named, may_run_on, prints_lines, prints_names_if_none, selects_none};
+ghost use Rattle.grep_core.specs.Telling.{prints_lines};
+ghost use Rattle.hirgrep_main.specs.Decisions.{is_most, is_named, may_run_on, prints_names_if_none, selects_none};
 
 use crate::asked::{Asked, Names};
 use crate::counting::Counting;

@@ -84,7 +84,8 @@ len_of_least a b = elim (cases_lt a b) [
       rw e (omega (arith, up))
 ]
 
-least_swapped : (a b : ℕ) (o : Option ℕ) → least_of_either (Some a) (least_of_either (Some b) o) ≡ least_of_either (Some b) (least_of_either (Some a) o)
+least_swapped : (a b : ℕ) (o : Option ℕ) → least_of_either (Some a) (least_of_either (Some b) o) ≡
+    least_of_either (Some b) (least_of_either (Some a) o)
 least_swapped a b None = ap Some (omega arith)
 least_swapped a b (Some c) = ap Some (omega arith)
 

@@ -5,13 +5,12 @@ use Rattle.std.proofs.Common.{decimal, nat_lt, nat_le, slice_index}
 use Rattle.std.specs.List.{list_all}
 use Rattle.std.specs.Fmt.{digits, digits_onto, digit_glyph}
 use Rattle.std.specs.Str.{all_ascii_digits}
-use Rattle.std.specs.Str.Parse.{digits_value}
-use Rattle.std.proofs.lemmas.Bool.{cases_Bool, cases_lt, and_parts, and_from, or_cases, not_from_false, ne_eqb, eq-eqb, ltb-true, ltb-false, leb-true, eqb-true}
+use Rattle.std.proofs.lemmas.Bool.{cases_Bool, cases_lt, and_parts, and_from, or_cases, not_from_false, ne_eqb, eq-eqb, ltb-true, ltb-false}
+use Rattle.std.proofs.lemmas.Bool.{leb-true, eqb-true}
 use Rattle.std.proofs.lemmas.Fmt.{digits_decimal}
 use Rattle.std.proofs.lemmas.List.{get_or_past}
 use Rattle.std.proofs.lemmas.List.Elements.{All-head, All-tail}
 use Rattle.std.proofs.lemmas.List.Folds.{list_all-append}
-use Rattle.std.proofs.lemmas.Str.Parse.{IsNumeralModel, numerals_by_value, tells_all_ascii_digits}
 use Rattle.hex.specs.Hex.{encode_with, lower_digits, encode_lower, IsBytes}
 use Rattle.hex.proofs.HexLemmas.{decode_of-encode_lower}
 use Rattle.look_core.specs.declared.look.Look.{Look}
@@ -23,6 +22,7 @@ use Rattle.hirscan.specs.Words.{IsBound, IsGreedy, IsHexDigit, SpellsByte, IsHex
 use Rattle.hirscan.specs.Words.{is_scalar, IsScalarItem, AreScalarItems, AreItems}
 use Rattle.hirscan.specs.Words.IsHexDigit.{from_zero, from_small_a, from_great_a}
 use Rattle.hirscan.specs.Readers.{IsReader, hex_bytes, one_or_more}
+use Rattle.hirscan.proofs.ForCallers.{digits_model}
 use Rattle.hirhead.specs.Lines.{two_digits, byte_item, scalar_item, bound_word, order_word}
 use Rattle.hirhead.specs.HasLines.{IsByteRange, IsScalarRange, IsShort}
 use Rattle.hirhead.proofs.PlainLemmas.{is_plain, plain}
@@ -56,9 +56,6 @@ ascii_plain (c ∷ w) h =
     let p = and_parts (nat_le 48 c && nat_le c 57) (all_ascii_digits w) h in
     let low = leb-true 48 c (and_parts (nat_le 48 c) (nat_le c 57) p.0).0 in
     and_from (is_plain c) (plain w) (high_plain c (omega (arith, low))) (ascii_plain w p.1)
-
-digits_model : IsNumeralModel (λ ds. all_ascii_digits ds ≡ true) (digits_value 10)
-digits_model = numerals_by_value _ tells_all_ascii_digits
 
 pub decimal_plain : (n : ℕ) → n < 2 ^ 32 → plain (decimal n) ≡ true
 decimal_plain n h = ascii_plain (decimal n) (digits_decimal digits_model n (omega (arith, h)))
@@ -125,7 +122,8 @@ are_bytes bytes h i = elim (cases_lt i (length bytes)) [
   | inr l ↦ let e = get_or_past bytes i 0 l in omega arith
 ]
 
-pub hex_is : IsReader hex_bytes IsHex → (b : ℕ) (bytes : List ℕ) → All (λ b. b < 256) (b ∷ bytes) → IsHex (encode_lower (b ∷ bytes)) (b ∷ bytes)
+pub hex_is : IsReader hex_bytes IsHex → (b : ℕ) (bytes : List ℕ) → All (λ b. b < 256) (b ∷ bytes) →
+    IsHex (encode_lower (b ∷ bytes)) (b ∷ bytes)
 hex_is reads b bytes h =
     (reads.some (encode_lower (b ∷ bytes)) (b ∷ bytes)).0
     (ap one_or_more (decode_of-encode_lower (b ∷ bytes) (are_bytes (b ∷ bytes) h)))

@@ -32,7 +32,8 @@ no_feed b h e =
     let t = eq-eqb b 10 e in cc
 
 -- the word goes on with the first word of what follows
-split_word : (w rest first : List ℕ) (others : Line) → plain w ≡ true → words rest ≡ first ∷ others → words (w ++ rest) ≡ (w ++ first) ∷ others
+split_word : (w rest first : List ℕ) (others : Line) → plain w ≡ true → words rest ≡ first ∷ others →
+    words (w ++ rest) ≡ (w ++ first) ∷ others
 split_word [] rest first others p e = e
 split_word (b ∷ w) rest first others p e =
     let q = and_parts (is_plain b) (list_all is_plain w) p in
@@ -108,5 +109,6 @@ pub reads_end : (rest : List ℕ) (at : HeadValue) → at.stack ≡ []
 reads_end rest at empty =
     reads_find (line_text (codes "find" ∷ []) ++ rest) (body (codes "find") []) rest at at (length (line_text (codes "find" ∷ [])))
     (cut_line (codes "find") [] rest) (one_line (codes "find") [] refl refl)
-    (subst (λ (vs : Line). EndsHead vs at) (sym (words_of_line (codes "find") [] refl refl)) (record { says_find = refl; nothing_left = empty }))
+    (subst (λ (vs : Line). EndsHead vs at) (sym (words_of_line (codes "find") [] refl refl))
+    (record { says_find = refl; nothing_left = empty }))
     refl (line_length (codes "find") [])

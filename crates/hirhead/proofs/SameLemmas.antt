@@ -34,7 +34,8 @@ listed_byte [] i b all e = absurd cc
 listed_byte (c ∷ h) zero b all e = let here = All-head IsByte c h all in let same : c ≡ b = cc in omega (arith, here, same)
 listed_byte (c ∷ h) (suc i) b all e = listed_byte h i b (All-tail IsByte c h all) e
 
-same_class_end : (a b : List (ℕ × ℕ)) (o : Option ℕ) (i : ℕ) → ((c : ℕ) → o ≡ Some c → is_member a c ≡ is_member b c) → class_end a o i ≡ class_end b o i
+same_class_end : (a b : List (ℕ × ℕ)) (o : Option ℕ) (i : ℕ) → ((c : ℕ) → o ≡ Some c → is_member a c ≡ is_member b c) →
+    class_end a o i ≡ class_end b o i
 same_class_end a b None i same = refl
 same_class_end a b (Some c) i same = ap (λ (t : Bool). cond t ((i + 1) ∷ []) []) (same c refl)
 
@@ -42,7 +43,8 @@ never_class_end : (o : Option ℕ) (i : ℕ) → [] ≡ class_end [] o i
 never_class_end None i = refl
 never_class_end (Some c) i = refl
 
-same_character_end : (a b : List (ℕ × ℕ)) (o : Option ℕ) (i : ℕ) → ((c : ℕ) → is_member a c ≡ is_member b c) → character_end a o i ≡ character_end b o i
+same_character_end : (a b : List (ℕ × ℕ)) (o : Option ℕ) (i : ℕ) → ((c : ℕ) → is_member a c ≡ is_member b c) →
+    character_end a o i ≡ character_end b o i
 same_character_end a b None i same = refl
 same_character_end a b (Some c) i same = rw (same c) refl
 
@@ -130,7 +132,8 @@ module _ (byte_members : (items : List (ℕ × ℕ)) (b : ℕ) → b < 256 → i
 
   told_ends : (looks : Looks) (h : List ℕ) → All IsByte h → (x : Tree) → preferred_ends looks h (told x) ≡ preferred_ends looks h x
   told_ends looks h bytes empty = refl
-  told_ends looks h bytes (literal []) = same_function (preferred_ends looks h empty) (preferred_ends looks h (literal [])) (empty_end looks h)
+  told_ends looks h bytes (literal []) =
+      same_function (preferred_ends looks h empty) (preferred_ends looks h (literal [])) (empty_end looks h)
   told_ends looks h bytes (literal (b ∷ text)) = refl
   told_ends looks h bytes (byte_class []) =
       same_function (preferred_ends looks h never) (preferred_ends looks h (byte_class [])) (λ i. never_class_end (slice_get h i) i)
@@ -162,7 +165,8 @@ module _ (byte_members : (items : List (ℕ × ℕ)) (b : ℕ) → b < 256 → i
         ∙ ap (λ (f : Ends). first_of (λ j. end_of (k j)) (f i)) (sym (told_ends (looks_of h) h bytes x));
   }
 
-  meant : (looks : Looks) (h : List ℕ) (x y : Tree) → preferred_ends looks h x ≡ preferred_ends looks h y → (i j : ℕ) → Means looks h x i j → Means looks h y i j
+  meant : (looks : Looks) (h : List ℕ) (x y : Tree) → preferred_ends looks h x ≡ preferred_ends looks h y → (i j : ℕ) →
+      Means looks h x i j → Means looks h y i j
   meant looks h x y e i j m =
       preferred_ends_sound looks h y i j (subst (λ (f : Ends). Has (f i) j) e (preferred_ends_complete looks h x i j m))
 
@@ -188,7 +192,8 @@ module _ (byte_members : (items : List (ℕ × ℕ)) (b : ℕ) → b < 256 → i
   unfolding MeansText MatchesText
   text_matched config text x has m = matched config x (read config (chars text)) has m
 
-  pub all_matched : (config : Config) (texts : List (List ℕ)) (xs : List Tree) → AllMean config texts xs → AllFit 250 xs → AllMatch config texts (map told xs)
+  pub all_matched : (config : Config) (texts : List (List ℕ)) (xs : List Tree) → AllMean config texts xs → AllFit 250 xs →
+      AllMatch config texts (map told xs)
   all_matched config [] [] m fits = tt
   all_matched config [] (x ∷ xs) m fits = absurd m
   all_matched config (t ∷ ts) [] m fits = absurd m

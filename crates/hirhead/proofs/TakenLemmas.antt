@@ -23,7 +23,8 @@ taken_append ([] ∷ a) b at mid after t r = absurd t
 taken_append ((w ∷ ws) ∷ a) b at mid after t r = (t.0, t.1, t.2, t.3, taken_append a b t.0 mid after t.4 r)
 
 -- what reads behind such lines reads with them
-pub reads_all : (lines : List Line) (rest : List ℕ) (at after found : HeadValue) (m : ℕ) → AreTaken lines at after → Reads rest after found m
+pub reads_all : (lines : List Line) (rest : List ℕ) (at after found : HeadValue) (m : ℕ) → AreTaken lines at after →
+    Reads rest after found m
     → Reads (lines_text lines ++ rest) at found (length (lines_text lines) + m)
 reads_all [] rest at after found m t r =
     let none : m ≡ 0 + m = omega arith in
@@ -36,4 +37,5 @@ reads_all ((w ∷ ws) ∷ lines) rest at after found m t r =
     let sum = length-append here (lines_text lines) in
     let same : length here + (length (lines_text lines) + m) ≡ length (here ++ lines_text lines) + m = omega arith in
     subst (λ (n : ℕ). Reads (here ++ lines_text lines ++ rest) at found n) same
-    (subst (λ (text : List ℕ). Reads text at found (length here + (length (lines_text lines) + m))) (sym (append_assoc here (lines_text lines) rest)) read)
+    (subst (λ (text : List ℕ). Reads text at found (length here + (length (lines_text lines) + m)))
+    (sym (append_assoc here (lines_text lines) rest)) read)

@@ -1,21 +1,24 @@
 -- What is printed of a tree's parts is what is printed of the tree, and where a part is refused the tree is.
 pub use Rattle.std.proofs.lemmas.Fmt.{hex_byte}
-use Rattle.std.proofs.Common.{◌≡◌, ◌≢◌, ℕ, zero, suc, ◌+◌, ◌-◌, ◌^◌, ◌<◌, ◌≤◌, min, Bool, true, ◌&&◌, nat_le, List, [], ◌∷◌, ◌++◌}
-use Rattle.std.proofs.Common.{map, length, drop, get_or, All, Option, Some, None, slice_get, decimal, codes, refl, sym, ◌∙◌, ap, subst, arith}
-use Rattle.std.proofs.Common.{Result, Ok, Err, IsErrAnd, IfErr, append_assoc, append-nil, drop-cons, drop_of_length-le, take, take_all}
+use Rattle.std.proofs.Common.{◌≡◌, ◌≢◌, ℕ, zero, suc, ◌+◌, ◌-◌, ◌^◌, ◌<◌, ◌≤◌, min, true, ◌&&◌, nat_le, List, [], ◌∷◌, ◌++◌}
+use Rattle.std.proofs.Common.{map, length, drop, get_or, All, Some, slice_get, decimal, codes, refl, sym, ◌∙◌, ap, subst}
+use Rattle.std.proofs.Common.{arith}
+use Rattle.std.proofs.Common.{Result, Ok, Err, IsErrAnd, IfErr, append_assoc, append-nil, drop-cons, take, take_all}
 use Rattle.std.specs.List.{flat_map}
 use Rattle.std.proofs.lemmas.Bool.{and_parts, leb-true}
 use Rattle.std.proofs.lemmas.List.Concat.{flat_map-append}
 use Rattle.std.proofs.lemmas.List.Elements.{All-nil, All-cons, All-head, All-tail, All-more}
 use Rattle.hex.specs.Hex.{encode_lower}
-use Rattle.hir_core.specs.Tree.{Tree, empty, literal, byte_class, char_class, look, repetition, capture, nothing, cat, never, alt, concat, alternation}
-use Rattle.hir_core.specs.Facts.{height, is_ascending, rises_from, IsWellFormed}
-use Rattle.hir_core.specs.Means.{AtMost}
+use Rattle.hir_core.specs.Tree.{Tree, empty, literal, byte_class, char_class, look, repetition, capture, nothing, cat, never, alt, concat}
+use Rattle.hir_core.specs.Tree.{alternation}
+use Rattle.hir_core.specs.Facts.{height, is_ascending, rises_from}
 use Rattle.hirhead.specs.declared.lines.Unfit.{Unfit}
 use Rattle.hirhead.specs.declared.lines.Unfit.TheVariants.{NoMemory, TooDeep, TooManyParts}
 use Rattle.hirhead.specs.Told.{told}
-use Rattle.hirhead.specs.Lines.{Line, byte_item, scalar_item, rounds_line, lines_behind, lines_of, pattern_lines, behind_word, line_text, lines_text}
-use Rattle.hirhead.specs.HasLines.{AreScalars, IsByteRange, IsScalarRange, IsShort, is_cat, is_alt, HasLines, FitsIn, AllFit, most_parts, IsUnfit, AreUnfit}
+use Rattle.hirhead.specs.Lines.{Line, byte_item, scalar_item, lines_behind, lines_of, behind_word, line_text}
+use Rattle.hirhead.specs.Lines.{lines_text}
+use Rattle.hirhead.specs.HasLines.{AreScalars, IsByteRange, IsScalarRange, is_cat, is_alt, HasLines, FitsIn, AllFit, most_parts}
+use Rattle.hirhead.specs.HasLines.{IsUnfit, AreUnfit}
 
 -- ---- texts
 
@@ -33,7 +36,8 @@ more_lines old mid new lines ws e f =
     ∙ ap (λ (t : List ℕ). old ++ (lines_text lines ++ t)) (sym (append-nil (line_text ws)))
     ∙ ap (λ (t : List ℕ). old ++ t) (sym (lines_append lines (ws ∷ [])))
 
-pub literal_text : (bytes hex old new : List ℕ) → length bytes ≢ 0 → hex ≡ encode_lower bytes → new ≡ old ++ line_text (codes "lit" ∷ hex ∷ [])
+pub literal_text : (bytes hex old new : List ℕ) → length bytes ≢ 0 → hex ≡ encode_lower bytes →
+    new ≡ old ++ line_text (codes "lit" ∷ hex ∷ [])
     → new ≡ old ++ lines_text (lines_of (literal bytes))
 literal_text [] hex old new some e f = absurd (some refl)
 literal_text (b ∷ bytes) hex old new some e f =
@@ -55,11 +59,6 @@ next_item item ranges i d now new whole below e so_far =
     ap (λ (t : List ℕ). t ++ behind_word (map item (drop (i + 1) ranges))) e
     ∙ append_assoc now (32 ∷ item (get_or ranges i d)) (behind_word (map item (drop (i + 1) ranges)))
     ∙ ap (λ (rs : List (ℕ × ℕ)). now ++ behind_word (map item rs)) (sym cut) ∙ so_far
-
-pub last_item : (item : ℕ × ℕ → List ℕ) (ranges : List (ℕ × ℕ)) (i : ℕ) (now new whole : List ℕ) → length ranges ≤ i
-    → new ≡ now ++ 10 ∷ [] → now ++ behind_word (map item (drop i ranges)) ≡ whole → new ≡ whole
-last_item item ranges i now new whole above e so_far =
-    e ∙ sym (ap (λ (rs : List (ℕ × ℕ)). now ++ behind_word (map item rs)) (drop_of_length-le ranges above)) ∙ so_far
 
 pub bytes_text : (ranges : List (ℕ × ℕ)) (old mid new : List ℕ) → length ranges ≢ 0 → mid ≡ old ++ codes "bytes"
     → new ≡ mid ++ behind_word (map byte_item ranges) → new ≡ old ++ lines_text (lines_of (byte_class ranges))
@@ -87,7 +86,8 @@ pub no_chars_text : (ranges : List (ℕ × ℕ)) (old new : List ℕ) → length
 no_chars_text [] old new none e = one_line old new (codes "alt" ∷ decimal 0 ∷ []) e
 no_chars_text (r ∷ ranges) old new none e = absurd (omega (arith, none))
 
-lines_concat : (xs : List Tree) (k : ℕ) → lines_behind k (concat xs) ≡ flat_map lines_of xs ++ (codes "cat" ∷ decimal (k + length xs) ∷ []) ∷ []
+lines_concat : (xs : List Tree) (k : ℕ) → lines_behind k (concat xs) ≡
+    flat_map lines_of xs ++ (codes "cat" ∷ decimal (k + length xs) ∷ []) ∷ []
 lines_concat [] k = ap (λ (n : ℕ). (codes "cat" ∷ decimal n ∷ []) ∷ []) (omega arith)
 lines_concat (x ∷ xs) k =
     let same : suc k + length xs ≡ k + suc (length xs) = omega arith in
@@ -95,7 +95,8 @@ lines_concat (x ∷ xs) k =
     ∙ sym (append_assoc (lines_of x) (flat_map lines_of xs) ((codes "cat" ∷ decimal (suc k + length xs) ∷ []) ∷ []))
     ∙ ap (λ (n : ℕ). flat_map lines_of (x ∷ xs) ++ (codes "cat" ∷ decimal n ∷ []) ∷ []) same
 
-lines_alternation : (xs : List Tree) (k : ℕ) → lines_behind k (alternation xs) ≡ flat_map lines_of xs ++ (codes "alt" ∷ decimal (k + length xs) ∷ []) ∷ []
+lines_alternation : (xs : List Tree) (k : ℕ) →
+    lines_behind k (alternation xs) ≡ flat_map lines_of xs ++ (codes "alt" ∷ decimal (k + length xs) ∷ []) ∷ []
 lines_alternation [] k = ap (λ (n : ℕ). (codes "alt" ∷ decimal n ∷ []) ∷ []) (omega arith)
 lines_alternation (x ∷ xs) k =
     let same : suc k + length xs ≡ k + suc (length xs) = omega arith in
@@ -124,52 +125,10 @@ alternation_text xs x count old mid new is e f g =
     ∙ ap (λ (lines : List Line). old ++ lines_text lines) (sym (lines_alternation xs 0))
     ∙ ap (λ (y : Tree). old ++ lines_text (lines_of y)) is
 
-pub rounds_text : (min : ℕ) (most : Option ℕ) (greedy : Bool) (body x : Tree) (old mid new : List ℕ) → repetition min most greedy body ≡ x
-    → mid ≡ old ++ lines_text (lines_of body) → new ≡ mid ++ line_text (rounds_line min most greedy) → new ≡ old ++ lines_text (lines_of x)
-rounds_text min most greedy body x old mid new is e f =
-    more_lines old mid new (lines_of body) (rounds_line min most greedy) e f ∙ ap (λ (y : Tree). old ++ lines_text (lines_of y)) is
-
 -- what holds of an error holds of it where it is handed on
 pub handed : {A E : Type 0} (r : Result A E) (P : E → Type 0) (e : E) → IsErrAnd r (λ x. x ≡ e) → P e → IfErr r P
 handed (Ok a) P e is h = tt
 handed (Err x) P e is h = subst P (sym is) h
-
--- one tree more in a row
-pub next_part : (xs : List Tree) (i : ℕ) (x : Tree) (now new whole : List ℕ) → i < length xs → x ≡ get_or xs i x
-    → new ≡ now ++ lines_text (lines_of x) → now ++ lines_text (flat_map lines_of (drop i xs)) ≡ whole
-    → new ++ lines_text (flat_map lines_of (drop (i + 1) xs)) ≡ whole
-next_part xs i x now new whole below is e so_far =
-    let next : suc i ≡ i + 1 = omega arith in
-    let cut : drop i xs ≡ x ∷ drop (i + 1) xs =
-    drop-cons xs i x below ∙ ap (λ (y : Tree). y ∷ drop (suc i) xs) (sym is) ∙ ap (λ (k : ℕ). x ∷ drop k xs) next in
-    let rest = flat_map lines_of (drop (i + 1) xs) in
-    ap (λ (t : List ℕ). t ++ lines_text rest) e
-    ∙ append_assoc now (lines_text (lines_of x)) (lines_text rest)
-    ∙ ap (λ (t : List ℕ). now ++ t) (sym (lines_append (lines_of x) rest))
-    ∙ ap (λ (ys : List Tree). now ++ lines_text (flat_map lines_of ys)) (sym cut) ∙ so_far
-
-pub all_parts : (xs : List Tree) (i : ℕ) (now whole : List ℕ) → length xs ≤ i → now ++ lines_text (flat_map lines_of (drop i xs)) ≡ whole → now ≡ whole
-all_parts xs i now whole above so_far =
-    sym (append-nil now) ∙ sym (ap (λ (ys : List Tree). now ++ lines_text (flat_map lines_of ys)) (drop_of_length-le xs above)) ∙ so_far
-
--- one pattern more
-pub next_pattern : (xs : List Tree) (i : ℕ) (x : Tree) (now new whole : List ℕ) → i < length xs → x ≡ get_or xs i x
-    → new ≡ now ++ lines_text (pattern_lines (x ∷ [])) → now ++ lines_text (pattern_lines (drop i xs)) ≡ whole
-    → new ++ lines_text (pattern_lines (drop (i + 1) xs)) ≡ whole
-next_pattern xs i x now new whole below is e so_far =
-    let next : suc i ≡ i + 1 = omega arith in
-    let cut : drop i xs ≡ x ∷ drop (i + 1) xs =
-    drop-cons xs i x below ∙ ap (λ (y : Tree). y ∷ drop (suc i) xs) (sym is) ∙ ap (λ (k : ℕ). x ∷ drop k xs) next in
-    let rest = pattern_lines (drop (i + 1) xs) in
-    ap (λ (t : List ℕ). t ++ lines_text rest) e
-    ∙ append_assoc now (lines_text (pattern_lines (x ∷ []))) (lines_text rest)
-    ∙ ap (λ (t : List ℕ). now ++ t) (sym (lines_append (pattern_lines (x ∷ [])) rest))
-    ∙ ap (λ (lines : List Line). now ++ lines_text lines) (append_assoc (lines_of x) ((codes "pattern" ∷ []) ∷ []) rest)
-    ∙ ap (λ (ys : List Tree). now ++ lines_text (pattern_lines ys)) (sym cut) ∙ so_far
-
-pub all_patterns : (xs : List Tree) (i : ℕ) (now whole : List ℕ) → length xs ≤ i → now ++ lines_text (pattern_lines (drop i xs)) ≡ whole → now ≡ whole
-all_patterns xs i now whole above so_far =
-    sym (append-nil now) ∙ sym (ap (λ (ys : List Tree). now ++ lines_text (pattern_lines ys)) (drop_of_length-le xs above)) ∙ so_far
 
 -- ---- what is seen of ranges, one after the other
 
@@ -183,7 +142,8 @@ more_small ranges i d below seen here = All-more IsSmall ranges i d below seen h
 pub all_small : (ranges : List (ℕ × ℕ)) (i : ℕ) → length ranges ≤ i → All IsSmall (take i ranges) → All IsSmall ranges
 all_small ranges i above seen = subst (All IsSmall) (take_all i ranges above) seen
 
-pub more_scalars : (ranges : List (ℕ × ℕ)) (i : ℕ) (d : ℕ × ℕ) → i < length ranges → All AreScalars (take i ranges) → AreScalars (get_or ranges i d)
+pub more_scalars : (ranges : List (ℕ × ℕ)) (i : ℕ) (d : ℕ × ℕ) → i < length ranges → All AreScalars (take i ranges) →
+    AreScalars (get_or ranges i d)
     → All AreScalars (take (i + 1) ranges)
 more_scalars ranges i d below seen here = All-more AreScalars ranges i d below seen here
 
@@ -222,27 +182,6 @@ bytes_fit (r ∷ ranges) h small = ((refl, byte_ranges 0 (r ∷ ranges) h small)
 pub chars_fit : (ranges : List (ℕ × ℕ)) → is_ascending ranges ≡ true → All AreScalars ranges → FitsIn 1 (char_class ranges)
 chars_fit [] h scalars = ((refl, scalar_ranges_fit 0 [] h scalars), omega arith)
 chars_fit (r ∷ ranges) h scalars = ((refl, scalar_ranges_fit 0 (r ∷ ranges) h scalars), omega arith)
-
-pub leaf_fits : (x y : Tree) (levels : ℕ) → y ≡ x → levels ≢ 0 → FitsIn 1 y → FitsIn levels x
-leaf_fits x y levels is some h =
-    let one = h.1 in
-    let low : 1 ≤ levels = omega arith in
-    subst (FitsIn levels) is (h.0, omega arith)
-
-at_most : (min : ℕ) (most : Option ℕ) (greedy : Bool) (body : Tree) → IsWellFormed (repetition min most greedy body) → AtMost min most
-at_most min None greedy body h = tt
-at_most min (Some n) greedy body h = h
-
-pub rounds_fit : (min : ℕ) (most : Option ℕ) (greedy : Bool) (body x : Tree) (levels : ℕ) → repetition min most greedy body ≡ x → levels ≢ 0
-    → min < 2 ^ 32 → IsShort most → IsWellFormed x → FitsIn (levels - 1) body → FitsIn levels x
-rounds_fit min most greedy body x levels is some small short formed h =
-    let low = h.1 in
-    let above : 1 ≤ levels = omega arith in
-    let formed_so = subst IsWellFormed (sym is) formed in
-    subst (FitsIn levels) is ((refl, small, short, at_most min most greedy body formed_so, h.0), omega arith)
-
-pub group_fits : (index : ℕ) (name : Option (List ℕ)) (body x : Tree) (levels : ℕ) → capture index name body ≡ x → FitsIn levels body → FitsIn levels x
-group_fits index name body x levels is h = subst (FitsIn levels) is ((refl, h.0), h.1)
 
 cat_follows : (xs : List Tree) → is_cat (concat xs) ≡ true
 cat_follows [] = refl
@@ -286,18 +225,6 @@ alternation_fits xs x levels count is some e few h =
     let low = alternation_low (levels - 1) xs h in
     subst (FitsIn levels) is (alternation_has (levels - 1) 0 xs h (omega (arith, e, few)), omega (arith, low, above))
 
--- in a loop, backwards: where those that are left fit, all do
-pub next_fits : (levels : ℕ) (xs : List Tree) (i : ℕ) (x : Tree) → i < length xs → x ≡ get_or xs i x → FitsIn levels x
-    → (AllFit levels (drop i xs) → AllFit levels xs) → AllFit levels (drop (i + 1) xs) → AllFit levels xs
-next_fits levels xs i x below is fits so_far rest =
-    let next : suc i ≡ i + 1 = omega arith in
-    let cut : drop i xs ≡ x ∷ drop (i + 1) xs =
-    drop-cons xs i x below ∙ ap (λ (y : Tree). y ∷ drop (suc i) xs) (sym is) ∙ ap (λ (k : ℕ). x ∷ drop k xs) next in
-    so_far (subst (AllFit levels) (sym cut) (fits, rest))
-
-pub all_fit : (levels : ℕ) (xs : List Tree) (i : ℕ) → length xs ≤ i → (AllFit levels (drop i xs) → AllFit levels xs) → AllFit levels xs
-all_fit levels xs i above so_far = so_far (subst (AllFit levels) (sym (drop_of_length-le xs above)) tt)
-
 -- ---- trees that are refused
 
 height_some : (x : Tree) → 0 < height x
@@ -316,28 +243,14 @@ height_some (alt x y) = let h = height_some y in omega arith
 pub no_level : (levels : ℕ) (x : Tree) → levels ≡ 0 → IsUnfit levels x TooDeep
 no_level levels x e = let h = height_some (told x) in omega (arith, e, h)
 
-pub no_memory : (levels : ℕ) (x : Tree) (e : Unfit) → e ≡ NoMemory → IsUnfit levels x e
-no_memory levels x e is = subst (IsUnfit levels x) (sym is) tt
-
-pub rounds_unfit : (min : ℕ) (most : Option ℕ) (greedy : Bool) (body x : Tree) (levels : ℕ) (e : Unfit) → repetition min most greedy body ≡ x → levels ≢ 0
-    → levels < 256 → IsUnfit (levels - 1) body e → IsUnfit levels x e
-rounds_unfit min most greedy body x levels NoMemory is some few h = tt
-rounds_unfit min most greedy body x levels TooDeep is some few h =
-    subst (λ (y : Tree). levels < height (told y)) is (let above : 1 ≤ levels = omega arith in omega arith)
-rounds_unfit min most greedy body x levels TooManyParts is some few h = subst (λ (y : Tree). 2 ^ 32 ≤ most_parts 0 y) is h
-
-pub group_unfit : (index : ℕ) (name : Option (List ℕ)) (body x : Tree) (levels : ℕ) (e : Unfit) → capture index name body ≡ x → IsUnfit levels body e
-    → IsUnfit levels x e
-group_unfit index name body x levels NoMemory is h = tt
-group_unfit index name body x levels TooDeep is h = subst (λ (y : Tree). levels < height (told y)) is h
-group_unfit index name body x levels TooManyParts is h = subst (λ (y : Tree). 2 ^ 32 ≤ most_parts 0 y) is h
-
-concat_high : (xs : List Tree) (n : ℕ) (x : Tree) → slice_get xs n ≡ Some x → min (height (told x) + 1) (2 ^ 64 - 1) ≤ height (told (concat xs))
+concat_high : (xs : List Tree) (n : ℕ) (x : Tree) → slice_get xs n ≡ Some x →
+    min (height (told x) + 1) (2 ^ 64 - 1) ≤ height (told (concat xs))
 concat_high [] n x e = absurd cc
 concat_high (y ∷ xs) zero x e = let same : y ≡ x = cc in let h = ap (λ (t : Tree). height (told t)) same in omega arith
 concat_high (y ∷ xs) (suc n) x e = let h = concat_high xs n x e in omega arith
 
-alternation_high : (xs : List Tree) (n : ℕ) (x : Tree) → slice_get xs n ≡ Some x → min (height (told x) + 1) (2 ^ 64 - 1) ≤ height (told (alternation xs))
+alternation_high : (xs : List Tree) (n : ℕ) (x : Tree) → slice_get xs n ≡ Some x →
+    min (height (told x) + 1) (2 ^ 64 - 1) ≤ height (told (alternation xs))
 alternation_high [] n x e = absurd cc
 alternation_high (y ∷ xs) zero x e = let same : y ≡ x = cc in let h = ap (λ (t : Tree). height (told t)) same in omega arith
 alternation_high (y ∷ xs) (suc n) x e = let h = alternation_high xs n x e in omega arith
@@ -360,7 +273,8 @@ alternation_count : (xs : List Tree) (k : ℕ) → k + length xs ≤ most_parts 
 alternation_count [] k = omega arith
 alternation_count (x ∷ xs) k = let h = alternation_count xs (suc k) in omega arith
 
-pub many_in_concat : (xs : List Tree) (x : Tree) (levels : ℕ) (e : Unfit) → concat xs ≡ x → e ≡ TooManyParts → 2 ^ 32 ≤ length xs → IsUnfit levels x e
+pub many_in_concat : (xs : List Tree) (x : Tree) (levels : ℕ) (e : Unfit) → concat xs ≡ x → e ≡ TooManyParts →
+    2 ^ 32 ≤ length xs → IsUnfit levels x e
 many_in_concat xs x levels e is many wide =
     let h = concat_count xs 0 in
     subst (IsUnfit levels x) (sym many) (subst (λ (y : Tree). 2 ^ 32 ≤ most_parts 0 y) is (omega (arith, h, wide)))
@@ -371,7 +285,8 @@ many_in_alternation xs x levels e is many wide =
     let h = alternation_count xs 0 in
     subst (IsUnfit levels x) (sym many) (subst (λ (y : Tree). 2 ^ 32 ≤ most_parts 0 y) is (omega (arith, h, wide)))
 
-pub part_in_concat : (xs : List Tree) (x : Tree) (levels n : ℕ) (e : Unfit) → concat xs ≡ x → levels ≢ 0 → levels < 256 → AreUnfit (levels - 1) xs n e
+pub part_in_concat : (xs : List Tree) (x : Tree) (levels n : ℕ) (e : Unfit) → concat xs ≡ x → levels ≢ 0 → levels < 256 →
+    AreUnfit (levels - 1) xs n e
     → IsUnfit levels x e
 part_in_concat xs x levels n NoMemory is some few h = tt
 part_in_concat xs x levels n TooDeep is some few h =
@@ -403,7 +318,8 @@ listed (y ∷ xs) zero x below is = ap Some (sym is)
 listed (y ∷ xs) (suc i) x below is = listed xs i x (omega arith) is
 
 -- the tree at this place is refused
-pub one_unfit : (levels : ℕ) (xs : List Tree) (i : ℕ) (x : Tree) (e : Unfit) → i < length xs → x ≡ get_or xs i x → IsUnfit levels x e → AreUnfit levels xs i e
+pub one_unfit : (levels : ℕ) (xs : List Tree) (i : ℕ) (x : Tree) (e : Unfit) → i < length xs → x ≡ get_or xs i x → IsUnfit levels x e →
+    AreUnfit levels xs i e
 one_unfit levels xs i x NoMemory below is h = tt
 one_unfit levels xs i x TooDeep below is h = record { tree = x; listed = listed xs i x below is; is = h }
 one_unfit levels xs i x TooManyParts below is h = record { tree = x; listed = listed xs i x below is; is = h }

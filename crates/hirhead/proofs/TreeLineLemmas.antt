@@ -3,16 +3,19 @@ use Rattle.std.proofs.Common.{◌≡◌, ℕ, suc, ◌+◌, ◌-◌, ◌^◌, �
 use Rattle.std.proofs.Common.{length, Option, decimal, codes, refl, sym, ◌∙◌, ap, subst, arith, append_assoc, append-nil, length-append}
 use Rattle.std.specs.List.{list_all}
 use Rattle.hex.specs.Hex.{encode_lower}
-use Rattle.hir_core.specs.Tree.{Tree, empty, literal, byte_class, char_class, look, repetition, capture, nothing, cat, never, alt, concat, alternation}
+use Rattle.hir_core.specs.Tree.{Tree, empty, literal, byte_class, char_class, look, repetition, capture, nothing, cat, never, alt, concat}
+use Rattle.hir_core.specs.Tree.{alternation}
 use Rattle.hir_core.specs.Facts.{height, capped}
 use Rattle.hirscan.specs.Words.{IsHex, look_name, class_ranges, scalar_ranges}
 use Rattle.hirscan.specs.Readers.{IsReader, hex_bytes}
-use Rattle.hirscan.specs.Takes.{HeadValue, Replaces, Takes, empty_line, lit_line, bytes_line, chars_line, look_line, rep_line, cat_line, alt_line}
+use Rattle.hirscan.specs.Takes.{HeadValue, Replaces, Takes, empty_line, lit_line, bytes_line, chars_line, look_line, rep_line, cat_line}
+use Rattle.hirscan.specs.Takes.{alt_line}
 use Rattle.hirhead.specs.Told.{told}
 use Rattle.hirhead.specs.Lines.{Line, bound_word, order_word, byte_item, scalar_item, rounds_line, lines_behind, lines_of}
 use Rattle.hirhead.specs.HasLines.{is_cat, is_alt, HasLines, FitsIn}
 use Rattle.hirhead.proofs.PlainLemmas.{plain}
-use Rattle.hirhead.proofs.DigitLemmas.{decimal_plain, bound_plain, bound_is, order_plain, order_is, name_plain, hex_plain, hex_is, byte_items_plain}
+use Rattle.hirhead.proofs.DigitLemmas.{decimal_plain, bound_plain, bound_is, order_plain, order_is, name_plain, hex_plain, hex_is}
+use Rattle.hirhead.proofs.DigitLemmas.{byte_items_plain}
 use Rattle.hirhead.proofs.DigitLemmas.{byte_items_are, scalar_items_plain, scalar_items_are}
 use Rattle.hirhead.proofs.TakenLemmas.{AreTaken, taken_line, taken_append}
 
@@ -115,7 +118,8 @@ module _ (reads : IsReader hex_bytes IsHex) (s : HeadValue) (done : List Tree) w
   never_pushed : (n : ℕ) (parts below : List Tree) → length parts ≡ n → n ≡ 0
       → AreTaken ((codes "alt" ∷ decimal 0 ∷ []) ∷ []) (at_stack (below ++ parts)) (at_stack (below ++ never ∷ []))
   never_pushed n parts below len zero_is =
-      leaf (codes "alt") (decimal 0 ∷ []) n parts below never len zero_is refl (one_word (decimal 0) (decimal_plain 0 (omega arith))) (omega arith)
+      leaf (codes "alt") (decimal 0 ∷ []) n parts below never len zero_is refl
+      (one_word (decimal 0) (decimal_plain 0 (omega arith))) (omega arith)
       (λ b a r. alt_line (decimal 0) 0 [] refl (omega arith, refl) refl r)
 
   -- the lines of a whole tree
@@ -135,7 +139,8 @@ module _ (reads : IsReader hex_bytes IsHex) (s : HeadValue) (done : List Tree) w
   then_rest a b below parts p last whole e first rest =
       taken_append a b (at_stack (below ++ parts)) (at_stack (below ++ (parts ++ p ∷ []))) (at_stack (below ++ whole ∷ []))
       (subst (λ (stack : List Tree). AreTaken a (at_stack stack) (at_stack (below ++ (parts ++ p ∷ [])))) (append-nil (below ++ parts))
-      (subst (λ (stack : List Tree). AreTaken a (at_stack ((below ++ parts) ++ [])) (at_stack stack)) (append_assoc below parts (p ∷ [])) first))
+      (subst (λ (stack : List Tree). AreTaken a (at_stack ((below ++ parts) ++ [])) (at_stack stack))
+      (append_assoc below parts (p ∷ [])) first))
       (subst (λ (t : Tree). AreTaken b (at_stack (below ++ (parts ++ p ∷ []))) (at_stack (below ++ t ∷ []))) e rest)
 
   -- the line that joins parts
@@ -143,7 +148,8 @@ module _ (reads : IsReader hex_bytes IsHex) (s : HeadValue) (done : List Tree) w
       → ((before after : HeadValue) → Replaces before after parts whole → Takes (w ∷ decimal n ∷ []) before after)
       → AreTaken ((w ∷ decimal n ∷ []) ∷ []) (at_stack (below ++ parts)) (at_stack (below ++ is ∷ []))
   joins w n parts below is whole e p small low takes =
-      taken_line w (decimal n ∷ []) (at_stack (below ++ parts)) (at_stack (below ++ is ∷ [])) p (one_word (decimal n) (decimal_plain n small))
+      taken_line w (decimal n ∷ []) (at_stack (below ++ parts)) (at_stack (below ++ is ∷ [])) p
+      (one_word (decimal n) (decimal_plain n small))
       (takes (at_stack (below ++ parts)) (at_stack (below ++ is ∷ []))
       (record {
         below = below;
@@ -156,12 +162,14 @@ module _ (reads : IsReader hex_bytes IsHex) (s : HeadValue) (done : List Tree) w
 
   rounds : (min : ℕ) (most : Option ℕ) (greedy : Bool) (x : Tree) (below : List Tree) → HasLines 0 (repetition min most greedy x)
       → height (repetition min most greedy (told x)) ≤ 250
-      → AreTaken (rounds_line min most greedy ∷ []) (at_stack (below ++ told x ∷ [])) (at_stack (below ++ repetition min most greedy (told x) ∷ []))
+      → AreTaken (rounds_line min most greedy ∷ []) (at_stack (below ++ told x ∷ []))
+      (at_stack (below ++ repetition min most greedy (told x) ∷ []))
   rounds min most greedy x below h low =
       taken_line (codes "rep") (decimal min ∷ bound_word most ∷ order_word greedy ∷ []) (at_stack (below ++ told x ∷ []))
       (at_stack (below ++ repetition min most greedy (told x) ∷ [])) refl
       (rw (decimal_plain min h.1, bound_plain most h.2, order_plain greedy) refl)
-      (rep_line (decimal min) (bound_word most) (order_word greedy) min most greedy (told x) refl (h.1, refl) (bound_is most h.2) (order_is greedy) h.3
+      (rep_line (decimal min) (bound_word most) (order_word greedy) min most greedy (told x) refl (h.1, refl) (bound_is most h.2)
+      (order_is greedy) h.3
       (record { below = below; stack_was = refl; stack_is = refl; patterns_stay = refl; setup_stays = refl; not_too_deep = low }))
 
   taken_behind : (x : Tree) (n : ℕ) (parts below : List Tree) → length parts ≡ n → HasLines n x → height (join x parts (told x)) ≤ 250

@@ -15,7 +15,8 @@ use Rattle.hirhead.proofs.SameLemmas.{all_utf8}
 -- the two laws of heads, and what is known of the trees
 pub is_head : ((utf8 : Bool) (xs : List Tree) → AllFit 250 xs → (haystack : List ℕ)
     → Reads (head_text utf8 xs ++ haystack) at_first (read_of utf8 xs) (length (head_text utf8 xs)))
-    → ((config : Config) (texts : List (List ℕ)) (xs : List Tree) → AllMean config texts xs → AllFit 250 xs → AllMatch config texts (map told xs))
+    → ((config : Config) (texts : List (List ℕ)) (xs : List Tree) → AllMean config texts xs → AllFit 250 xs →
+    AllMatch config texts (map told xs))
     → (config : Config) (texts : List (List ℕ)) (xs : List Tree) (head : List ℕ) → AllMean config texts xs → AllFit 250 xs
     → (IsTrue config.utf8 → All (λ x. IsTrue (is_utf8_tree x)) xs) → head ≡ head_text config.utf8 xs → IsHeadOf config texts head
 is_head are_read match_alike config texts xs head means fits utf8 is = record {

@@ -39,7 +39,8 @@ pub record IsHeadOf (config : Config) (texts : List (List ℕ)) (head : List ℕ
   pub matches : AllMatch config texts found.patterns
   pub is_utf8 : IsTrue config.utf8 → All (λ x. IsTrue (is_utf8_tree x)) found.patterns
 
--- the first text that is no pattern is refused; or all texts are patterns, and one is whose tree has no lines, or makes one that is too deep
+-- the first text that is no pattern is refused; or all texts are patterns, and one is whose tree has no lines, or makes one that is too
+-- deep
 abbrev pub IsRefused : Config → List (List ℕ) → ℕ → Cause → Type 0
 IsRefused config texts number (Text error) = IsFirstFault config texts number error
 IsRefused config texts number (Lines unfit) = (xs : List Tree) × AllMean config texts xs × AreUnfit 250 xs number unfit

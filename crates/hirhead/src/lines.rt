@@ -1,9 +1,11 @@
-ghost use Rattle.std.specs.Prelude.{◌≡◌, ◌≤◌, ◌<◌, ◌++◌, ◌∷◌, [], ◌^◌, ℕ, All, IfErr, IfOk, IsTrue, OnOk, decimal, length, map, string_bytes};
+ghost use Rattle.std.specs.Prelude.{◌≡◌, ◌≤◌, ◌<◌, ◌++◌, ◌∷◌, [], ◌^◌, ℕ, All, IfErr, IfOk, IsTrue, OnOk, decimal, length, map};
+ghost use Rattle.std.specs.Prelude.{string_bytes};
 ghost use Rattle.std.specs.List.{flat_map};
 ghost use Rattle.hir_core.specs.Facts.{is_ascending};
 ghost use Rattle.hir_core.specs.Tree.{empty, literal, byte_class, char_class, look};
 ghost use Rattle.hirhead.specs.HasLines.{AreScalars, IsShort, FitsIn, AllFit, IsUnfit, AreUnfit};
-ghost use Rattle.hirhead.specs.Lines.{byte_item, scalar_item, order_word, rounds_line, lines_of, pattern_lines, behind_word, line_text, lines_text};
+ghost use Rattle.hirhead.specs.Lines.{byte_item, scalar_item, order_word, rounds_line, lines_of, pattern_lines, behind_word, line_text};
+ghost use Rattle.hirhead.specs.Lines.{lines_text};
 
 use crate::look_names::look_name;
 use hir_core::{Hir, HirKind};

@@ -1,18 +1,17 @@
 -- Items of scalars make the same ranges in any order: ranges that stay apart are told by their members.
-use Rattle.std.proofs.Common.{◌≡◌, ℕ, ◌+◌, ◌<◌, ◌≤◌, true, false, ◌&&◌, ◌||◌, Bool, nat_le, List, [], ◌∷◌, ◌++◌, map, None, refl, sym, ◌∙◌}
+use Rattle.std.proofs.Common.{◌≡◌, ℕ, ◌+◌, ◌<◌, ◌≤◌, true, false, ◌&&◌, ◌||◌, nat_le, List, [], ◌∷◌, map, None, refl, sym, ◌∙◌}
 use Rattle.std.proofs.Common.{ap, subst, inl, inr, arith}
 use Rattle.std.specs.List.{list_all}
 use Rattle.std.specs.List.Sorted.{IsPermutation}
 use Rattle.std.proofs.lemmas.Bool.{cases_lt, and_parts, and_from, or_cases, or_left, leb-true, le-leb, false_from_ne_true}
 use Rattle.std.proofs.lemmas.List.Sorted.{All-permutation, list_any-IsPermutation}
-use Rattle.std.proofs.lemmas.List.Folds.{list_any-append}
 use Rattle.std.proofs.lemmas.List.Sums.{AllPass-from_list_all, list_all-from_AllPass}
 use Rattle.std.proofs.Math.Bool.{or-false}
 use Rattle.hir_core.specs.Means.{is_member}
 use Rattle.hirscan.specs.Words.{scalar_ranges}
-use Rattle.hirscan.specs.Readers.{hex_ends, the_hex_ends}
+use Rattle.hirscan.specs.Readers.{the_hex_ends}
 use Rattle.hirscan.specs.LineFault.{first_of, scalar_item_fault}
-use Rattle.hirscan.proofs.ScalarRangeLemmas.{AreApart, in_order, ends_in_order, faultless_in_order, scalar_ranges_apart, scalar_members}
+use Rattle.hirscan.proofs.ScalarRangeLemmas.{AreApart, in_order, faultless_in_order, scalar_ranges_apart, scalar_members}
 
 in_first : (r : ℕ × ℕ) (rs : List (ℕ × ℕ)) (c : ℕ) → r.0 ≤ c → c ≤ r.1 → is_member (r ∷ rs) c ≡ true
 in_first r rs c l h = or_left _ _ (and_from _ _ (le-leb r.0 c l) (le-leb c r.1 h))
@@ -101,28 +100,6 @@ ranges_in_order low (r ∷ rs) h = and_from (in_order r) (list_all in_order rs) 
 pub scalar_ranges_in_order : (items : List (ℕ × ℕ)) → list_all in_order items ≡ true → list_all in_order (scalar_ranges items) ≡ true
 scalar_ranges_in_order items h = ranges_in_order 0 (scalar_ranges items) (scalar_ranges_apart items h)
 
-pub in_order_pushed : (items : List (ℕ × ℕ)) (item : ℕ × ℕ) → list_all in_order items ≡ true → item.0 ≤ item.1
-    → list_all in_order (items ++ item ∷ []) ≡ true
-in_order_pushed [] item h l = and_from (in_order item) true (le-leb item.0 item.1 l) refl
-in_order_pushed (r ∷ items) item h l =
-    let p = and_parts (in_order r) (list_all in_order items) h in
-    and_from (in_order r) (list_all in_order (items ++ item ∷ [])) p.0 (in_order_pushed items item p.1 l)
-
-pub members_pushed : (items : List (ℕ × ℕ)) (item : ℕ × ℕ) (c : ℕ)
-    → is_member (items ++ item ∷ []) c ≡ is_member items c || is_member (item ∷ []) c
-members_pushed items item c = list_any-append (λ r. nat_le r.0 c && nat_le c r.1) items (item ∷ [])
-
-moved : (were is others : Bool) → were || (is || others) ≡ (were || (is || false)) || others
-moved true is others = refl
-moved false true others = refl
-moved false false others = refl
-
--- the item that stands next is put to those that were
-pub member_put : (all rest was now : List (ℕ × ℕ)) (item : ℕ × ℕ) (c : ℕ) → all ≡ item ∷ rest
-    → is_member now c ≡ is_member was c || is_member (item ∷ []) c
-    → is_member was c || is_member all c ≡ is_member now c || is_member rest c
-member_put all rest was now item c e h = rw (e, h) (moved (is_member was c) (nat_le item.0 c && nat_le c item.1) (is_member rest c))
-
 -- what was put has the ranges of all items, where no word has a fault
 pub same_ranges : (ws : List (List ℕ)) (items : List (ℕ × ℕ)) → first_of (map scalar_item_fault ws) ≡ None → list_all in_order items ≡ true
     → ((c : ℕ) → is_member (map the_hex_ends ws) c ≡ is_member items c || false)
@@ -131,6 +108,3 @@ same_ranges ws items none ordered same =
     told_by_members 0 (scalar_ranges items) (scalar_ranges (map the_hex_ends ws)) (scalar_ranges_apart items ordered)
     (scalar_ranges_apart (map the_hex_ends ws) (faultless_in_order ws none))
     (λ c. scalar_members items c ∙ (sym (same c ∙ or-false (is_member items c)) ∙ sym (scalar_members (map the_hex_ends ws) c)))
-
-pub item_in_order : (w : List ℕ) (item : ℕ × ℕ) → scalar_item_fault w ≡ None → item ≡ the_hex_ends w → item.0 ≤ item.1
-item_in_order w item h e = rw e (leb-true (the_hex_ends w).0 (the_hex_ends w).1 (ends_in_order (hex_ends w) h))

@@ -1,10 +1,10 @@
 -- Whether a search is one that the laws are about, by the tests of it.
-use Rattle.std.proofs.Common.{◌≡◌, ℕ, ◌<◌, ◌↔◌, Bool, true, false, List, All, IsTrue, Some, None, refl, sym, ◌∙◌, true≢false}
+use Rattle.std.proofs.Common.{◌≡◌, ℕ, ◌↔◌, Bool, true, false, List, IsTrue, Some, None, refl, sym, ◌∙◌, true≢false}
 use Rattle.std.specs.List.{list_all}
-use Rattle.std.proofs.lemmas.List.Sums.{AllPass-from_list_all, list_all-from_AllPass}
+use Rattle.std.proofs.lemmas.List.Sums.{list_all-from_AllPass}
 use Rattle.search_core.specs.Utf8.{IsValidText}
 use Rattle.search_core.proofs.ForCallers.{utf8_of_valid}
-use Rattle.search_types.specs.Inputs.{Search, IsWithin}
+use Rattle.search_types.specs.Inputs.{Search}
 use Rattle.hir_core.specs.Tree.{Tree}
 use Rattle.hir_core.specs.Facts.{is_utf8_tree}
 use Rattle.hirscan.specs.Refusals.{first_broken}
@@ -23,36 +23,8 @@ is_not_whole h n some = (λ on. absurd (true≢false (sym on)), λ valid. sym (n
 
 -- ---- a search
 module _ (xs : List Tree) (utf8 : Bool) (q : Search) where
-  pub not_earliest : q.earliest ≡ true → IsTrue false ↔ IsSearchOf xs utf8 q
-  not_earliest early = (λ on. absurd (true≢false (sym on)), λ asked. sym asked.whole ∙ early)
-
-  pub by_bytes : IsWithin q → All (λ byte. byte < 256) q.haystack → q.earliest ≡ false → utf8 ≡ false → IsTrue true ↔ IsSearchOf xs utf8 q
-  by_bytes within bytes whole off = (
-    λ on. record {
-      within = within.0;
-      whole = whole;
-      bytes = bytes;
-      valid = λ on. absurd (true≢false (sym on ∙ off));
-      utf8_trees = λ on. absurd (true≢false (sym on ∙ off));
-    },
-    λ asked. refl,
-  )
-
   pub not_utf8 : utf8 ≡ true → list_all is_utf8_tree xs ≡ false → IsTrue false ↔ IsSearchOf xs utf8 q
   not_utf8 on none = (
     λ is. absurd (true≢false (sym is)),
     λ asked. sym none ∙ list_all-from_AllPass is_utf8_tree xs (asked.utf8_trees on),
-  )
-
-  pub by_text : IsWithin q → All (λ byte. byte < 256) q.haystack → q.earliest ≡ false → utf8 ≡ true → list_all is_utf8_tree xs ≡ true →
-      (told : Bool) → IsTrue told ↔ IsValidText q.haystack → IsTrue told ↔ IsSearchOf xs utf8 q
-  by_text within bytes whole on all told text = (
-    λ is. record {
-      within = within.0;
-      whole = whole;
-      bytes = bytes;
-      valid = λ _. text.0 is;
-      utf8_trees = λ _. AllPass-from_list_all is_utf8_tree xs all;
-    },
-    λ asked. text.1 (asked.valid on),
   )

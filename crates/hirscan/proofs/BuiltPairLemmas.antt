@@ -38,10 +38,10 @@ use Rattle.determinize_core.proofs.ForCallers.{has_family}
 abbrev pub pair_of : Nfa → Nfa → DfaOptions → Pair
 pair_of n m c = record { forward = dfa_of n c; reverse = dfa_of m (changed_by c back_options) }
 
-abbrev dfa_ok : Dfa → Result Dfa BuildError
+abbrev pub dfa_ok : Dfa → Result Dfa BuildError
 dfa_ok d = Ok d
 
-abbrev pair_ok : Pair → Result Pair BuildError
+abbrev pub pair_ok : Pair → Result Pair BuildError
 pair_ok p = Ok p
 
 same_dfa : (d v : Dfa) → dfa_ok d ≡ dfa_ok v → d ≡ v
@@ -56,14 +56,14 @@ if_ok true small e v d w is = cc
 if_ok false true e v d w is = cc
 if_ok false false e v d w is = sym (same_dfa d w is)
 
-both_built : (x y : Result Dfa BuildError) (p : Pair) → both_of x y ≡ pair_ok p → (x ≡ dfa_ok p.forward) × (y ≡ dfa_ok p.reverse)
+pub both_built : (x y : Result Dfa BuildError) (p : Pair) → both_of x y ≡ pair_ok p → (x ≡ dfa_ok p.forward) × (y ≡ dfa_ok p.reverse)
 both_built (Ok f) (Ok r) p is =
     let same : p ≡ record { forward = f; reverse = r } = sym (same_pair_ok (record { forward = f; reverse = r }) p is) in
     (ap (λ z. dfa_ok z.forward) (sym same), ap (λ z. dfa_ok z.reverse) (sym same))
 both_built (Ok f) (Err e) p is = cc
 both_built (Err e) r p is = cc
 
-dfa_is : (n : Nfa) (c : DfaOptions) (d : Dfa) → built n c ≡ dfa_ok d → d ≡ dfa_of n c
+pub dfa_is : (n : Nfa) (c : DfaOptions) (d : Dfa) → built n c ≡ dfa_ok d → d ≡ dfa_of n c
 dfa_is n c d is =
     if_ok (is_unsupported n.automaton (word_boundary_of c) (by_hand c)) (is_too_small n c) Unsupported
     (InsufficientCacheCapacity (least_capacity (measures_with n c)) (capacity_of c)) (dfa_of n c) d is

@@ -1,9 +1,7 @@
 -- What reading a haystack as UTF-8 says of its longest valid beginning, and what is searched where nothing is refused.
 use Rattle.std.proofs.Common.{◌≡◌, ℕ, zero, suc, ◌+◌, ◌<◌, ◌≤◌, Bool, true, false, not, if◌then◌else◌, List, [], ◌∷◌, All, length, take}
-use Rattle.std.proofs.Common.{Option, Some, None, option_map, nat_lt, nat_le, get_or, true≢false, refl, sym, subst, arith, codes, decimal}
+use Rattle.std.proofs.Common.{Option, Some, None, option_map, nat_lt, nat_le, true≢false, refl, sym, subst, arith, codes, decimal}
 use Rattle.std.proofs.Common.{◌++◌, ◌∙◌, ap, leb-true}
-use Rattle.std.specs.List.{position, position_or_len}
-use Rattle.std.proofs.lemmas.List.Sums.{fails_before_first}
 use Rattle.std.specs.Str.{IsUtf8, IsValidUpTo, is_utf8}
 use Rattle.std.specs.Str.Lossy.{utf8_valid_len, valid_len_up_to}
 use Rattle.std.proofs.lemmas.Str.{IsUtf8-nil, IsUtf8-from_is_utf8, utf8_valid_len-IsUtf8, utf8_valid_len-IsValidUpTo, utf8_valid_len_le}
@@ -15,11 +13,11 @@ use Rattle.hir_core.specs.Tree.{Tree}
 use Rattle.hir_core.specs.Facts.{LoopsRead, is_utf8_tree}
 use Rattle.hirscan.specs.declared.line.Setup.{Setup}
 use Rattle.hirscan.specs.Asks.{search_of}
-use Rattle.hirscan.specs.Loops.{loops_read, first_empty_loop}
+use Rattle.hirscan.specs.Loops.{first_empty_loop}
 use Rattle.hirscan.specs.Refusals.{first_cause, cause_if, of_pattern, where_utf8, first_not_utf8, first_broken, span_of, is_span}
 use Rattle.hirscan.specs.Refusals.{pattern_causes, haystack_causes, refusal}
 use Rattle.hirscan.specs.Regexes.{IsSearchOf}
-use Rattle.hirscan.proofs.LoopLemmas.{loops_read_sound}
+use Rattle.hirscan.proofs.LoopLemmas.{none_if, none_at, all_of_none}
 
 -- ---- UTF-8
 pub whole_text : (h : List ℕ) → IsUtf8 h → first_broken h ≡ None
@@ -45,10 +43,6 @@ all_valid : (h : List ℕ) → utf8_valid_len h ≡ length h → IsUtf8 h
 unfolding utf8_valid_len
 all_valid h e = subst (λ (t : List ℕ). IsUtf8 t) (take_all (length h) h (omega arith)) (up_to_all h (length h) e)
 
-none_if : (b : Bool) (n : ℕ) → (if b then Some n else None) ≡ None → b ≡ false
-none_if true n e = absurd cc
-none_if false n e = refl
-
 pub text_of_none : (h : List ℕ) → first_broken h ≡ None → IsValidText h
 text_of_none h e =
     let high = ltb-false (utf8_valid_len h) (length h) (none_if (nat_lt (utf8_valid_len h) (length h)) (utf8_valid_len h) e) in
@@ -71,12 +65,6 @@ unmapped f (Some n) e = absurd cc
 asked_utf8 : (on : Bool) (o : Option ℕ) → where_utf8 on o ≡ None → on ≡ true → o ≡ None
 asked_utf8 true o none on = none
 asked_utf8 false o none on = absurd (true≢false (sym on))
-
-none_at : {X : Type 0} (test : X → Bool) (xs : List X) → position (λ x. not (test x)) xs ≡ None → All (λ x. test x ≡ true) xs
-none_at test xs e k d less =
-    let none = ltb-false (position_or_len (λ x. not (test x)) xs) (length xs)
-    (none_if (nat_lt (position_or_len (λ x. not (test x)) xs) (length xs)) (position_or_len (λ x. not (test x)) xs) e) in
-    not-false (test (get_or xs k d)) (fails_before_first (λ x. not (test x)) xs k d (omega (arith, none, less)))
 
 -- what is refused for no cause: the loops of its patterns read, and it is a search of a haystack of bytes within it
 module _ (setup : Setup) (xs : List Tree) (h : List ℕ) (none : refusal setup xs h ≡ None) where
@@ -101,9 +89,7 @@ module _ (setup : Setup) (xs : List Tree) (h : List ℕ) (none : refusal setup x
   span_cause = cause_if (not (is_span (span_of setup.span h) h)) (codes "span")
 
   pub loops_all_read : All LoopsRead xs
-  loops_all_read k d less =
-      loops_read_sound (get_or xs k d)
-      (none_at loops_read xs (unmapped _ (first_empty_loop xs) (first_none loop_cause (tree_cause ∷ []) patterns_pass).0) k d less)
+  loops_all_read = all_of_none xs (unmapped _ (first_empty_loop xs) (first_none loop_cause (tree_cause ∷ []) patterns_pass).0)
 
   utf8_trees : setup.settings.utf8 ≡ true → All (λ x. is_utf8_tree x ≡ true) xs
   utf8_trees on =

@@ -60,3 +60,4 @@ pub mod ReachLemmas
 pub mod ClassLemmas
 pub mod WalkToldLemmas
 pub mod BuiltWalkLemmas
+pub mod ForCallers

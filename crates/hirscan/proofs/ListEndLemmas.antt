@@ -22,9 +22,9 @@ use Rattle.regex_pair.specs.FindSteps.{FindsNext, caches_of, finds_from}
 use Rattle.regex_pair.specs.Joined.{is_start_known, back_from, from_start, with_start, join, joined}
 use Rattle.regex_pair.specs.PairAnswers.{AnswersPair}
 use Rattle.regex_pair.specs.Pairs.{Pair, PairCache}
-use Rattle.regex_pair.proofs.ForCallers.{some_taken}
+use Rattle.regex_pair.proofs.ForCallers.{some_taken, asked_behind}
 use Rattle.hirscan.specs.declared.line.Setup.{Setup}
-use Rattle.hirscan.specs.declared.program.Ending.TheVariants.{Listed}
+use Rattle.hirscan.specs.declared.ending.Ending.TheVariants.{Listed}
 use Rattle.hirscan.specs.declared.reply.Reply.{Reply}
 use Rattle.hirscan.specs.Asks.{mode_of, search_of}
 use Rattle.hirscan.specs.Built.{IsBuilt, program_settings}
@@ -35,7 +35,7 @@ use Rattle.hirscan.proofs.BuiltLemmas.{built_regex}
 use Rattle.hirscan.proofs.CauseLemmas.{is_search, loops_all_read, span_starts}
 use Rattle.hirscan.proofs.HeadlineLemmas.{taken_are_all, taken_begin}
 use Rattle.hirscan.proofs.SearchLemmas.{asked_at, refuses_by_first}
-use Rattle.hirscan.proofs.SureLemmas.{RefusesFrom, asked_behind, never_gives_up, never_no_pair, quits_forward, refusal_is_joined}
+use Rattle.hirscan.proofs.SureLemmas.{RefusesFrom, never_gives_up, never_no_pair, quits_forward, refusal_is_joined}
 use Rattle.hirscan.proofs.SureLemmas.{refused_from, supported_forward}
 
 -- ---- what joined answers refuse

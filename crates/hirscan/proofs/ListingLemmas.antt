@@ -1,9 +1,8 @@
 -- What a loop over the matches of a regex has listed: by its steps, and at its end.
-use Rattle.std.proofs.Common.{◌≡◌, ℕ, false, List, [], ◌∷◌, ◌++◌, Option, Some, None, Result, Ok, Err, true, refl, sym, ap, ◌∙◌, subst}
-use Rattle.std.proofs.Common.{arith, append-nil}
+use Rattle.std.proofs.Common.{◌≡◌, ℕ, List, [], ◌∷◌, ◌++◌, Some, Ok, refl, sym, ap, ◌∙◌, subst}
+use Rattle.std.proofs.Common.{append-nil}
 use Rattle.std.specs.Borrow.{GName}
 use Rattle.std.proofs.lemmas.List.Concat.{flat_map-append}
-use Rattle.search_types.specs.declared.match_error.MatchErrorKind.{MatchErrorKind}
 use Rattle.search_types.specs.Found.{Found}
 use Rattle.search_types.specs.Inputs.{Search}
 use Rattle.regex_pair.specs.declared.find_matches.FindMatches.{FindMatches}
@@ -12,28 +11,17 @@ use Rattle.regex_pair.specs.FindSteps.{FindsNext, MayGoOn, caches_of, finds_from
 use Rattle.regex_pair.specs.Pairs.{Pair, PairCache}
 use Rattle.regex_pair.specs.Taken.{AreTaken}
 use Rattle.regex_pair.proofs.ForCallers.{none_taken, one_more_by_step}
+use Rattle.regex_pair.proofs.ForCallers.{same_match, match_is_no_end, match_is_no_refusal}
 use Rattle.hirscan.specs.Listing.{ListsUpTo}
 use Rattle.hirscan.specs.Reply.{finding_from, last_end, span_line, span_lines}
 
 -- ---- steps that give a match
-abbrev item_of : Result Found MatchErrorKind → Option (Result Found MatchErrorKind)
-item_of r = Some r
-
-match_is_no_end : (f : Found) → item_of (Ok f) ≡ None → ⊥
-match_is_no_end f e = let never : true ≡ false = cc in grind (arith, never)
-
-match_is_no_refusal : (f : Found) (x : MatchErrorKind) → item_of (Ok f) ≡ item_of (Err x) → ⊥
-match_is_no_refusal f x e = let never : true ≡ false = cc in grind (arith, never)
-
-same_match : (f g : Found) → item_of (Ok f) ≡ item_of (Ok g) → f ≡ g
-same_match f g e = cc
-
 stands_behind : (p : Pair) (at new : Finding) (before after : PairCache) (f : Found) → Finds p at new before after (Some (Ok f)) →
     new ≡ behind at f
 stands_behind p at new before after f (finds_next g begun next item there) = there ∙ ap (behind at) (sym (same_match f g item))
-stands_behind p at new before after f (finds_none begun next item over) = absurd (match_is_no_end f item)
+stands_behind p at new before after f (finds_none begun next item over) = absurd (match_is_no_end (Ok f) item)
 stands_behind p at new before after f (fails k e begun asked refused item over) = absurd (match_is_no_refusal f e item)
-stands_behind p at new before after f (is_over over item there same) = absurd (match_is_no_end f item)
+stands_behind p at new before after f (is_over over item there same) = absurd (match_is_no_end (Ok f) item)
 
 last_end_more : (fs : List Found) (f : Found) → last_end (fs ++ f ∷ []) ≡ Some f.end
 last_end_more [] f = refl

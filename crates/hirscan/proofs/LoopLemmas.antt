@@ -3,8 +3,12 @@ use Rattle.std.proofs.Common.{◌≡◌, ◌↔◌, ℕ, Bool, true, List, [], �
 use Rattle.std.proofs.lemmas.List.Elements.{All-nil, All-cons, All-head, All-tail}
 use Rattle.hir_core.specs.Tree.{Tree, concat, empty, literal, byte_class, char_class, look, repetition, capture, nothing, cat, never, alt}
 use Rattle.hir_core.specs.Facts.{minimum_len, IsAboveZero, LoopsRead}
-use Rattle.hirscan.specs.Loops.{is_above_zero, loops_read}
-use Rattle.std.proofs.lemmas.Bool.{and_parts, and_from}
+use Rattle.thompson_nfa.specs.Compiled.{is_above_zero}
+use Rattle.hirscan.specs.Loops.{loops_read, first_empty_loop}
+use Rattle.std.proofs.lemmas.Bool.{and_parts, and_from, ltb-false, not-false}
+use Rattle.std.proofs.lemmas.List.Sums.{fails_before_first}
+use Rattle.std.specs.List.{position, position_or_len}
+use Rattle.std.proofs.Common.{false, not, if◌then◌else◌, length, nat_lt, get_or, arith}
 
 is_above_zero_sound : (n : Option ℕ) → is_above_zero n ≡ true → IsAboveZero n
 is_above_zero_sound None e = cc
@@ -60,3 +64,17 @@ all_complete (x ∷ xs) all =
 
 pub all_told : (xs : List Tree) (told : Bool) → told ≡ loops_read (concat xs) → IsTrue told ↔ All LoopsRead xs
 all_told xs told is = (λ on. all_sound xs (sym is ∙ on), λ all. is ∙ all_complete xs all)
+
+-- ---- where none of a list fails a test
+pub none_if : (b : Bool) (n : ℕ) → (if b then Some n else None) ≡ None → b ≡ false
+none_if true n e = absurd cc
+none_if false n e = refl
+
+pub none_at : {X : Type 0} (test : X → Bool) (xs : List X) → position (λ x. not (test x)) xs ≡ None → All (λ x. test x ≡ true) xs
+none_at test xs e k d less =
+    let none = ltb-false (position_or_len (λ x. not (test x)) xs) (length xs)
+    (none_if (nat_lt (position_or_len (λ x. not (test x)) xs) (length xs)) (position_or_len (λ x. not (test x)) xs) e) in
+    not-false (test (get_or xs k d)) (fails_before_first (λ x. not (test x)) xs k d (omega (arith, none, less)))
+
+pub all_of_none : (xs : List Tree) → first_empty_loop xs ≡ None → All LoopsRead xs
+all_of_none xs none k d less = loops_read_sound (get_or xs k d) (none_at loops_read xs none k d less)

@@ -4,7 +4,6 @@ use Rattle.std.proofs.Common.{length, get_or, set, drop, replicate, refl, sym, �
 use Rattle.std.proofs.lemmas.Bool.{cases_lt, le-leb, leb-true, false_from_ne_true}
 use Rattle.std.proofs.lemmas.Bool.Decides.{nat_tests}
 use Rattle.std.proofs.lemmas.List.{get_or-drop, drop-set-lt, drop-set-add, drop_more, length-drop, nil_from_length}
-use Rattle.hir_core.specs.Means.{is_member}
 use Rattle.hirscan.specs.Words.{least, is_covered}
 
 least_none : (none n b : ℕ) → none ≡ 256 → least (drop b (replicate n none)) ≡ none
@@ -48,18 +47,6 @@ covered_more lows low high b h =
           ap least (rw e at dropped) ∙ rw at at is in
           ap (λ n. nat_le n b) is2 ∙ either low (least (drop b lows)) b high l
     ]
-
-swapped : (a rest c : Bool) → (a || rest) || c ≡ rest || (a || c)
-swapped true true c = refl
-swapped true false c = refl
-swapped false rest c = refl
-
--- the item that stands next is added to those that were
-pub member_moves : (items rest : List (ℕ × ℕ)) (item : ℕ × ℕ) (old new : List ℕ) (b : ℕ) → items ≡ item ∷ rest
-    → is_covered new b ≡ (nat_le item.0 b && nat_le b item.1) || is_covered old b
-    → is_member items b || is_covered old b ≡ is_member rest b || is_covered new b
-member_moves items rest item old new b e h =
-    rw (e, h) (swapped (nat_le item.0 b && nat_le b item.1) (is_member rest b) (is_covered old b))
 
 -- the least low end from a byte on, one byte further down
 pub least_below : (lows : List ℕ) (n low now : ℕ) → 0 < n → n ≤ length lows → low ≡ least (drop n lows)

@@ -5,8 +5,8 @@ use Rattle.look_core.specs.Words.{ascii_words}
 use Rattle.hir_core.specs.Tree.{Tree}
 use Rattle.search_types.specs.Found.{Found}
 use Rattle.hirscan.specs.declared.line.Setup.{Setup}
-use Rattle.hirscan.specs.declared.program.Ending.{Ending}
-use Rattle.hirscan.specs.declared.program.Ending.TheVariants.{Listed, Quit, Refused}
+use Rattle.hirscan.specs.declared.ending.Ending.{Ending}
+use Rattle.hirscan.specs.declared.ending.Ending.TheVariants.{Listed, Quit, Refused}
 use Rattle.hirscan.specs.Reads.{Reads}
 use Rattle.hirscan.specs.Refusals.{refusal}
 use Rattle.hirscan.specs.Reply.{IsRefused, too_long, faulty, unfit, Asks, AreAnswers, IsSearchReply, too_large, listed, quits, IsReply}

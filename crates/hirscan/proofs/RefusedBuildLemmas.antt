@@ -1,5 +1,6 @@
 -- Why nothing is built: the refusal of a compile, or of one of both automata, by the trees and the settings.
-use Rattle.std.proofs.Common.{◌≡◌, ℕ, ◌<◌, ◌≤◌, Bool, true, false, ◌&&◌, not, nat_lt, List, true≢false, refl, sym, ap, ◌∙◌, subst, arith, if◌then◌else◌}
+use Rattle.std.proofs.Common.{◌≡◌, ℕ, ◌<◌, ◌≤◌, Bool, true, false, ◌&&◌, not, nat_lt, List, true≢false, refl, sym, ap, ◌∙◌, subst, arith}
+use Rattle.std.proofs.Common.{if◌then◌else◌}
 use Rattle.std.specs.Prelude.{Result, Ok, Err}
 use Rattle.std.proofs.lemmas.Bool.{and_parts, not-true, ltb-true, ltb-false}
 use Rattle.hir_core.specs.Tree.{Tree}
@@ -17,7 +18,8 @@ use Rattle.lazy_dfa.specs.Dfas.{Dfa}
 use Rattle.lazy_dfa.specs.Quits.{is_unsupported}
 use Rattle.regex_pair.specs.Pairs.{Pair, back_options, both_of, pair_built}
 use Rattle.hirscan.specs.declared.settings.Settings.{Settings}
-use Rattle.hirscan.specs.Built.{RefusesBuild, HasRoom, not_compiled, unsupported, too_small, no_memory, compile_options, half_of, are_unsupported}
+use Rattle.hirscan.specs.Built.{RefusesBuild, HasRoom, not_compiled, unsupported, too_small, no_memory, compile_options, half_of}
+use Rattle.hirscan.specs.Built.{are_unsupported}
 use Rattle.hirscan.proofs.BuiltLemmas.{unsupported_are, same_measures}
 
 abbrev ok_dfa : Dfa → Result Dfa BuildError
@@ -107,7 +109,8 @@ module _ (xs : List Tree) (s : Settings) where
     pair_refused : pair_built n m s.dfa ≡ err_pair e → RefusesBuild xs s e
     pair_refused is =
         by_half (built n s.dfa) (built m (changed_by s.dfa back_options))
-        (λ first. by_tests false (λ back. absurd (true≢false (sym back))) (is_unsupported n.automaton (word_boundary_of s.dfa) (by_hand s.dfa))
+        (λ first. by_tests false (λ back. absurd (true≢false (sym back)))
+        (is_unsupported n.automaton (word_boundary_of s.dfa) (by_hand s.dfa))
         (skips_check s.dfa) (capacity_of s.dfa) (least_capacity (measures_with n s.dfa)) (dfa_of n s.dfa)
         (unsupported_are xs s false n up s.dfa) refl refl refl (is_too_small n s.dfa) refl first)
         (λ f made second. by_tests true (λ back. room_if_built n s.dfa f made)

@@ -35,16 +35,10 @@ use Rattle.regex_pair.specs.Pairs.{Pair}
 use Rattle.hirscan.specs.Regexes.{IsRegexOf}
 use Rattle.determinize_core.proofs.ForCallers.{has_family}
 
--- ---- sets of looks
-
 -- ---- directions
 pub begins : (b : Bool) (s e : ℕ) → b ≡ false → first_place b s e ≡ s
 begins false s e up = refl
 begins true s e up = cc
-
-pub begins_reverse : (b : Bool) (s e : ℕ) → b ≡ true → first_place b s e ≡ e
-begins_reverse true s e is_reverse = refl
-begins_reverse false s e is_reverse = cc
 
 pub place_forward : (b : Bool) (s e k : ℕ) → b ≡ false → place_of b (first_place b s e) k ≡ s + k
 place_forward false s e k up = refl
@@ -54,15 +48,11 @@ pub place_reverse : (b : Bool) (s e : ℕ) → b ≡ true → place_of b (first_
 place_reverse true s e is_reverse = omega arith
 place_reverse false s e is_reverse = cc
 
-passed_alike : (b : Bool) (t : Terminator) (looks : Looks) (h : List ℕ) (s e : ℕ) (l : Look) (k : ℕ) → b ≡ false →
+pub passed_alike : (b : Bool) (t : Terminator) (looks : Looks) (h : List ℕ) (s e : ℕ) (l : Look) (k : ℕ) → b ≡ false →
     holds_ascii t h l (s + k) ≡ looks l (s + k) →
     is_passed b (span t h s e) l (place_of b (first_place b s e) k) ≡ is_passed b (read_by looks h s e) l (place_of b (first_place b s e) k)
 passed_alike false t looks h s e l k up same = same
 passed_alike true t looks h s e l k up same = cc
-
--- ---- bytes
-byte_low : (b : ℕ) (o : Option ℕ) → o ≡ Some b → b < 128 → IfSome o (λ c. c < 128)
-byte_low b o is low = let P : Option ℕ → Type 0 = λ x. IfSome x (λ c. c < 128) in subst P (sym is) low
 
 module _ (xs : List Tree) (utf8 : Bool) (t : Terminator) (p : Pair) (regex : IsRegexOf xs utf8 t p) where
   pub goes_forward : p.forward.nfa.automaton.reverse ≡ false

@@ -6,8 +6,8 @@ use Rattle.std.specs.declared.alloc.AllocError.{AllocError}
 use Rattle.std.specs.Io.KnownBytes.{Consumes, IsAtEnd}
 use Rattle.hir_core.specs.Tree.{Tree}
 use Rattle.hirscan.specs.declared.line.Setup.{Setup}
-use Rattle.hirscan.specs.declared.program.Ending.{Ending}
-use Rattle.hirscan.specs.declared.program.Ending.TheVariants.{Refused}
+use Rattle.hirscan.specs.declared.ending.Ending.{Ending}
+use Rattle.hirscan.specs.declared.ending.Ending.TheVariants.{Refused}
 use Rattle.hirscan.specs.declared.reply.Reply.{Reply}
 use Rattle.hirscan.specs.Takes.{HeadValue, Takes, Sets, Replaces, at_first, utf8_line, line_line, two_bytes_line, capacity_line, quit_line}
 use Rattle.hirscan.specs.Takes.{classes_line, shrink_line, anchored_line, span_line, empty_line, lit_line, bytes_line, chars_line}

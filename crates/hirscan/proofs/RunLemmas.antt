@@ -1,13 +1,14 @@
 -- What a run leaves, from what its three steps leave.
-use Rattle.std.proofs.Common.{◌≡◌, ℕ, ◌+◌, ◌-◌, ◌^◌, ◌≤◌, List, length, take, drop, Option, Some, None, sym, ◌∙◌, ap, subst, arith, length-take}
+use Rattle.std.proofs.Common.{◌≡◌, ℕ, ◌+◌, ◌-◌, ◌^◌, ◌≤◌, List, length, take, drop, Option, Some, None, sym, ◌∙◌, ap, subst, arith}
+use Rattle.std.proofs.Common.{length-take}
 use Rattle.std.proofs.Common.{length-append}
 use Rattle.std.proofs.Math.Seq.{take-add}
 use Rattle.hirscan.proofs.ReplyLemmas.{reply_of_whole}
 use Rattle.hirscan.proofs.SliceLemmas.{rest_of_slice}
 use Rattle.std.proofs.KnownBytes.{Appends-trans, Consumes-trans}
 use Rattle.std.specs.Prelude.{IfSome}
-use Rattle.std.specs.Io.KnownBytes.{Appends, Consumes, IsAtEnd, Keeps}
-use Rattle.hirscan.specs.declared.program.Ending.{Ending}
+use Rattle.std.specs.Io.KnownBytes.{Appends, Consumes, IsAtEnd}
+use Rattle.hirscan.specs.declared.ending.Ending.{Ending}
 use Rattle.hirscan.specs.declared.program.RunError.{RunError}
 use Rattle.hirscan.specs.declared.program.RunError.TheVariants.{Read, Write, NoMemory}
 use Rattle.hirscan.specs.Reply.{IsReply}
@@ -25,12 +26,6 @@ appends_more a b c text done n p q =
     (Appends-trans a b c (take done text) (take n (drop done text)) p (rw rest_of_slice at q))
 
 -- what stays after a write appended, stays appended
-pub appends_kept : (a b c : Option (List ℕ)) (bytes : List ℕ) → Appends a b bytes → Keeps b c → Appends a c bytes
-appends_kept None b c bytes p q = tt
-appends_kept (Some x) None c bytes p q = absurd p
-appends_kept (Some x) (Some y) None bytes p q = absurd q
-appends_kept (Some x) (Some y) (Some z) bytes p q = q ∙ p
-
 if_some_reply : (input before after : Option (List ℕ)) (ending : Ending) (text : List ℕ) →
     IfSome input (λ bytes. IsReply bytes ending text) →
     Appends before after text → WritesReply input before after ending

@@ -29,6 +29,7 @@ use Rattle.hirscan.specs.declared.settings.Settings.{Settings}
 use Rattle.hirscan.specs.Built.{IsBuilt, FindsFirst, quit_bytes_for}
 use Rattle.hirscan.specs.Headline.{IsQuiet, IsQuitBeside}
 use Rattle.hirscan.specs.Regexes.{IsSearchOf}
+use Rattle.regex_pair.proofs.ForCallers.{item_of, asked_behind}
 use Rattle.hirscan.proofs.BuiltLemmas.{forward_is, reverse_is, forward_quits, built_regex}
 use Rattle.hirscan.proofs.SearchLemmas.{is_pair, quits_by_first, finds_near, asked_at}
 
@@ -84,13 +85,6 @@ quiet_on : (quits : List Bool) (q : Search) (k : ℕ) → q.start ≤ k → IsQu
 quiet_on quits q k low quiet x b from to is = quiet x b (omega (arith, low, from)) to is
 
 -- ---- steps
-pub asked_behind : (p : Pair) (at : Finding) (k : ℕ) → IsAskedAt p at k → at.search.start ≤ k
-asked_behind p at k (inl here) = omega (arith, here)
-asked_behind p at k (inr there) = let one = there.0 in omega (arith, one)
-
-abbrev item_of : Result Found MatchErrorKind → Option (Result Found MatchErrorKind)
-item_of r = Some r
-
 abbrev refused_item : MatchErrorKind → Option (Result Found MatchErrorKind)
 refused_item e = item_of (Err e)
 

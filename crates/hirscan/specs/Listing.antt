@@ -11,8 +11,8 @@ use Rattle.regex_pair.specs.FindSteps.{MayGoOn, finds_from, lender_of, searches_
 use Rattle.regex_pair.specs.Pairs.{Pair}
 use Rattle.regex_pair.specs.Taken.{AreTaken}
 use Rattle.hirscan.specs.declared.line.Setup.{Setup}
-use Rattle.hirscan.specs.declared.program.Ending.{Ending}
-use Rattle.hirscan.specs.declared.program.Ending.TheVariants as ending
+use Rattle.hirscan.specs.declared.ending.Ending.{Ending}
+use Rattle.hirscan.specs.declared.ending.Ending.TheVariants as ending
 use Rattle.hirscan.specs.Refusals.{refusal}
 use Rattle.hirscan.specs.Reply.{finding_behind, quit_line, span_lines}
 

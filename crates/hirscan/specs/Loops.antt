@@ -1,12 +1,9 @@
 -- Whether each unbounded repetition of a tree has a body that reads: the test of `LoopsRead`.
-use Rattle.std.specs.Prelude.{ℕ, Bool, true, false, ◌&&◌, nat_lt, List, Option, Some, None, not}
+use Rattle.std.specs.Prelude.{ℕ, Bool, true, ◌&&◌, List, Option, Some, None, not}
 use Rattle.std.specs.List.{position}
 use Rattle.hir_core.specs.Tree.{Tree, empty, literal, byte_class, char_class, look, repetition, capture, nothing, cat, never, alt}
 use Rattle.hir_core.specs.Facts.{minimum_len}
-
-abbrev pub is_above_zero : Option ℕ → Bool
-is_above_zero None = false
-is_above_zero (Some n) = nat_lt 0 n
+use Rattle.thompson_nfa.specs.Compiled.{is_above_zero}
 
 abbrev pub loops_read : Tree → Bool
 loops_read empty = true

@@ -16,8 +16,8 @@ use Rattle.regex_pair.specs.Finding.{Finding, AnswersAt, IsAskedAt, search_at}
 use Rattle.regex_pair.specs.Pairs.{Pair}
 use Rattle.hirscan.specs.declared.fault.FaultKind.{FaultKind}
 use Rattle.hirscan.specs.declared.line.Setup.{Setup}
-use Rattle.hirscan.specs.declared.program.Ending.{Ending}
-use Rattle.hirscan.specs.declared.program.Ending.TheVariants.{Listed, Quit, Refused}
+use Rattle.hirscan.specs.declared.ending.Ending.{Ending}
+use Rattle.hirscan.specs.declared.ending.Ending.TheVariants.{Listed, Quit, Refused}
 use Rattle.hirscan.specs.Asks.{search_of}
 use Rattle.hirscan.specs.Built.{IsBuilt, program_settings, compile_options, quit_bytes_for}
 use Rattle.hirscan.specs.Headline.{answers_to, IsQuitBeside}

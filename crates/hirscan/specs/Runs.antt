@@ -1,7 +1,7 @@
 -- What a run leaves of what its reader and its writer tell of their bytes.
 use Rattle.std.specs.Prelude.{◌≡◌, ◌+◌, ◌^◌, ◌≤◌, ℕ, List, ◌++◌, length, take, Option, IfSome}
 use Rattle.std.specs.Io.KnownBytes.{Appends, Consumes, IsAtEnd, Keeps}
-use Rattle.hirscan.specs.declared.program.Ending.{Ending}
+use Rattle.hirscan.specs.declared.ending.Ending.{Ending}
 use Rattle.hirscan.specs.declared.program.RunError.{RunError}
 use Rattle.hirscan.specs.declared.program.RunError.TheVariants.{Read, Write, NoMemory}
 use Rattle.hirscan.specs.Reply.{IsReply}

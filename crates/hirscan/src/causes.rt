@@ -1,7 +1,8 @@
 // Why a head that was read is refused with the haystack behind it.
 ghost use Rattle.std.specs.Prelude.{◌≡◌, IfOk, option_map, string_bytes};
 ghost use Rattle.hirscan.specs.Tells.{value_of_head};
-ghost use Rattle.hirscan.specs.Refusals.{first_not_utf8, where_utf8, first_broken, span_of, is_span, pattern_causes, haystack_causes, refusal};
+ghost use Rattle.hirscan.specs.Refusals.{first_not_utf8, where_utf8, first_broken, span_of, is_span, pattern_causes, haystack_causes};
+ghost use Rattle.hirscan.specs.Refusals.{refusal};
 
 use crate::head::Head;
 use crate::loops::first_empty_loop;

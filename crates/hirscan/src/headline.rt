@@ -5,7 +5,8 @@
 //! that the trees define, an iterator gives the list of them, and they do answer where no quit byte stands in or beside the span.
 //! ```rust
 //! pub fn answers_are_defined()
-//!     ensures { (xs : List Tree) (s : SettingsValue) (p : Pair) → IsBuilt xs s p → FindsFirst s → (q : Search) → IsSearchOf xs s.utf8 q → All LoopsRead xs →
+//!     ensures { (xs : List Tree) (s : SettingsValue) (p : Pair) → IsBuilt xs s p → FindsFirst s → (q : Search) →
+//!         IsSearchOf xs s.utf8 q → All LoopsRead xs →
 //!         (c : PairCache) (o : Option Found) → AnswersPair p c q (Ok o) → (w : ℕ → Bool) → IsWordSet w → o ≡ answer_to w xs s q }
 //! {
 //!     searches_answer_what_trees_define();
@@ -76,7 +77,8 @@ pub fn iterators_list_the_answers()
 
 /// Whether there is a match is told as the trees define it, also where the earliest end is asked for.
 pub fn matches_are_told_as_trees_define()
-    ensures { (xs : List Tree) (s : Settings) (p : Pair) → IsBuilt xs s p → FindsFirst s → (q : Search) → IsSearchOf xs s.utf8 (with_earliest false q) →
+    ensures { (xs : List Tree) (s : Settings) (p : Pair) → IsBuilt xs s p → FindsFirst s → (q : Search) →
+        IsSearchOf xs s.utf8 (with_earliest false q) →
         All LoopsRead xs → (c : PairCache) (b : Bool) → AnswersMatch p c q (Ok b) →
         (words : ℕ → Bool) → IsWordSet words → b ≡ is_some (answer_to words xs s (with_earliest false q)) }
 {}
@@ -85,13 +87,15 @@ pub fn matches_are_told_as_trees_define()
 /// want of memory alone; so is the test for a match, and so is each step of an iterator.
 pub fn searches_answer_where_no_byte_quits()
     ensures search { (xs : List Tree) (s : Settings) (p : Pair) → IsBuilt xs s p → FindsFirst s → clears_of s.dfa ≡ None →
-        (q : Search) → IsSearchOf xs s.utf8 q → is_supported (starts_each_of s.dfa) q.anchored ≡ true → IsQuiet (quit_bytes_for xs s.dfa) q →
+        (q : Search) → IsSearchOf xs s.utf8 q → is_supported (starts_each_of s.dfa) q.anchored ≡ true →
+        IsQuiet (quit_bytes_for xs s.dfa) q →
         (c : PairCache) (e : MatchErrorKind) → AnswersPair p c q (Err e) → e ≡ NoMemory }
     ensures is_match { (xs : List Tree) (s : Settings) (p : Pair) → IsBuilt xs s p → clears_of s.dfa ≡ None →
         (q : Search) → is_supported (starts_each_of s.dfa) q.anchored ≡ true → IsQuiet (quit_bytes_for xs s.dfa) q →
         (c : PairCache) (e : MatchErrorKind) → AnswersMatch p c q (Err e) → e ≡ NoMemory }
     ensures step { (xs : List Tree) (s : Settings) (p : Pair) → IsBuilt xs s p → FindsFirst s → clears_of s.dfa ≡ None →
-        (q : Search) → IsSearchOf xs s.utf8 q → is_supported (starts_each_of s.dfa) q.anchored ≡ true → IsQuiet (quit_bytes_for xs s.dfa) q →
+        (q : Search) → IsSearchOf xs s.utf8 q → is_supported (starts_each_of s.dfa) q.anchored ≡ true →
+        IsQuiet (quit_bytes_for xs s.dfa) q →
         (fs : List Found) (old new : FindMatches) (e : MatchErrorKind) → MayGoOn old → searches_by old ≡ p →
         AreTaken p q fs (finds_from old) → FindsNext old (Some (Err e)) new → e ≡ NoMemory }
 {}

@@ -13,11 +13,11 @@ ghost use Rattle.hir_core.specs.Facts.{LoopsRead};
 ghost use Rattle.search_types.specs.AllAnswers.{AnswersWithin, EndsRise};
 ghost use Rattle.search_types.specs.Found.{Found};
 ghost use Rattle.search_types.specs.Places.{counts};
-ghost use Rattle.hirscan.specs.declared.program.Ending.{Ending};
+ghost use Rattle.hirscan.specs.declared.ending.Ending.{Ending};
 ghost use Rattle.hirscan.specs.Choices.{Query, answer_from, answers_of};
 ghost use Rattle.hirscan.specs.Loops.{loops_read};
 ghost use Rattle.hirscan.specs.declared.line.Setup.{Setup};
-ghost use Rattle.hirscan.specs.declared.program.Ending.TheVariants.{Listed, Refused};
+ghost use Rattle.hirscan.specs.declared.ending.Ending.TheVariants.{Listed, Refused};
 ghost use Rattle.hirscan.specs.Reply.{Asks, IsRefused, IsReply, refusal_line};
 
 /// An answer over trees is a span that the tree of its number means.

@@ -18,6 +18,7 @@
 
 mod building;
 mod causes;
+mod ending;
 mod fault;
 mod head;
 pub mod headline;
@@ -37,9 +38,10 @@ pub mod word_laws;
 mod words;
 
 pub use building::build;
+pub use ending::Ending;
 pub use fault::{Fault, FaultKind};
 pub use head::{Head, read_head};
 pub use loops::{all_loops_read, first_empty_loop};
-pub use program::{Ending, RunError, run};
+pub use program::{RunError, run};
 pub use searching::{find, is_search_of};
 pub use settings::{Settings, program_settings};

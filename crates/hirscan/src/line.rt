@@ -1,13 +1,17 @@
 // One line: its words, the stack and the patterns before and after it.
-ghost use Rattle.std.specs.Prelude.{◌≡◌, ◌⊎◌, ◌<◌, ◌≤◌, true, false, IfOk, IfErr, OnOk, MatchOption, IsTrue, ℕ, length, Some, None, [], ◌∷◌, ◌++◌, nat_lt, take, slice_index_or};
+ghost use Rattle.std.specs.Prelude.{◌≡◌, ◌⊎◌, ◌<◌, ◌≤◌, true, false, IfOk, IfErr, OnOk, MatchOption, IsTrue, ℕ, length, Some, None, []};
+ghost use Rattle.std.specs.Prelude.{◌∷◌, ◌++◌, nat_lt, take, slice_index_or};
 ghost use Rattle.hir_core.specs.Tree.{empty};
 ghost use Rattle.hir_core.specs.Facts.{height};
 ghost use Rattle.hirscan.specs.Words.{words};
 ghost use Rattle.hirscan.specs.Readers.{hex_byte, word_at};
-ghost use Rattle.hirscan.specs.LineFault.{fault, byte_fault, known_fault, after, top, below, when, is_at_most, is_word_count, is_setting, is_class, is_setting_after_node, left_fault};
+ghost use Rattle.hirscan.specs.LineFault.{fault, byte_fault, known_fault, after, top, below, when, is_at_most, is_word_count, is_setting};
+ghost use Rattle.hirscan.specs.LineFault.{is_class, is_setting_after_node, left_fault};
 ghost use Rattle.hirscan.specs.Tells.{texts, words_left, head_value, TellsLineFault, TellsStep, IsDone, step_after};
 ghost use Rattle.hirscan.specs.declared.fault.FaultKind.TheVariants.{TooFewTrees, TooDeep};
-ghost use Rattle.hirscan.specs.declared.words.LineWord.TheVariants.{Utf8, Line, Capacity, Quit, Classes, Shrink, Anchored, Span as SpanWord, Empty, Lit, Bytes, Chars, Look, Rep, Cat, Alt, Pattern, Find};
+ghost use Rattle.hirscan.specs.declared.words.LineWord.TheVariants.{Utf8, Line, Capacity, Quit, Classes, Shrink, Anchored};
+ghost use Rattle.hirscan.specs.declared.words.LineWord.TheVariants.{Span as SpanWord, Empty, Lit, Bytes, Chars, Look, Rep, Cat, Alt};
+ghost use Rattle.hirscan.specs.declared.words.LineWord.TheVariants.{Pattern, Find};
 
 use crate::fault::{FaultKind, LineFault};
 use crate::settings::Settings;

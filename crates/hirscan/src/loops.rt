@@ -2,7 +2,8 @@
 ghost use Rattle.std.specs.Prelude.{◌≡◌, ◌↔◌, All, IsTrue};
 ghost use Rattle.hir_core.specs.Facts.{LoopsRead};
 ghost use Rattle.hir_core.specs.Tree.{concat, alternation};
-ghost use Rattle.hirscan.specs.Loops.{is_above_zero, loops_read, first_empty_loop};
+ghost use Rattle.thompson_nfa.specs.Compiled.{is_above_zero};
+ghost use Rattle.hirscan.specs.Loops.{loops_read, first_empty_loop};
 
 use hir_core::{Hir, HirKind};
 

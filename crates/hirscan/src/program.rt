@@ -2,21 +2,11 @@ ghost use Rattle.std.specs.Prelude.{◌≡◌, ℕ, ◌+◌, ◌^◌, ◌<◌, �
 ghost use Rattle.std.specs.Io.KnownBytes.{Appends, Consumes, IsAtEnd, Keeps};
 ghost use Rattle.hirscan.specs.Runs.{ReadsSome, TakesInput, TakesAtFault, WritesReply, WritesAtFault};
 
+use crate::ending::Ending;
 use crate::reply::{INPUT_LIMIT, Reply, reply_to};
 use std::alloc::{AllocError, AllocFailed, Global};
 use std::io::{Read, Write};
 use thiserror::Error;
-
-/// How a run ended that wrote its whole reply.
-#[derive(Clone, Copy, Debug, PartialEq, Eq)]
-pub enum Ending {
-    /// The spans are listed.
-    Listed,
-    /// The spans up to where a search gave up at a quit byte, and then this byte.
-    Quit,
-    /// The input is refused, by one line that says why.
-    Refused,
-}
 
 /// Why a run didn't write its whole reply.
 #[derive(Clone, Copy, Debug, PartialEq, Eq, Error)]
@@ -99,7 +89,8 @@ fn read_input<R: Read>(
 /// Writes the whole text and flushes.
 fn write_reply<W: Write>(writer: &mut W, text: &[u8]) -> Result<(), RunError>
     ensures ok { OnOk result (Appends (W.contents writer.old) (W.contents writer.new) text.now) }
-    ensures prefix { IfErr result (λ e. (e ≡ RunError.Write) × (n : ℕ) × Appends (W.contents writer.old) (W.contents writer.new) (take n text.now)) }
+    ensures prefix { IfErr result (λ e. (e ≡ RunError.Write) × (n : ℕ) ×
+        Appends (W.contents writer.old) (W.contents writer.new) (take n text.now)) }
 {
     let mut done = 0usize;
     while done < text.len() {

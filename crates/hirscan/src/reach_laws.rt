@@ -41,11 +41,13 @@ pub fn answers_depend_on_their_reach()
 pub fn settings_of_caches_do_not_show()
     ensures answer { (xs : List Tree) (utf8 : Bool) (t : Terminator) (p r : Pair) → IsRegexOf xs utf8 t p → IsRegexOf xs utf8 t r →
         p.forward.nfa ≡ r.forward.nfa → p.reverse.nfa ≡ r.reverse.nfa → p.forward.quits ≡ r.forward.quits → (q : Search) →
-        is_supported (reader p.forward).starts_for_each_pattern q.anchored ≡ is_supported (reader r.forward).starts_for_each_pattern q.anchored →
+        is_supported (reader p.forward).starts_for_each_pattern q.anchored ≡
+        is_supported (reader r.forward).starts_for_each_pattern q.anchored →
         joined p q ≡ joined r q }
     ensures told { (xs : List Tree) (utf8 : Bool) (t : Terminator) (p r : Pair) → IsRegexOf xs utf8 t p → IsRegexOf xs utf8 t r →
         p.forward.nfa ≡ r.forward.nfa → p.reverse.nfa ≡ r.reverse.nfa → p.forward.quits ≡ r.forward.quits → (q : Search) →
-        is_supported (reader p.forward).starts_for_each_pattern q.anchored ≡ is_supported (reader r.forward).starts_for_each_pattern q.anchored →
+        is_supported (reader p.forward).starts_for_each_pattern q.anchored ≡
+        is_supported (reader r.forward).starts_for_each_pattern q.anchored →
         has_match p q ≡ has_match r q }
 {}
 
@@ -59,7 +61,8 @@ pub fn bytes_of_one_class_are_interchangeable()
         HaveSameClasses (marks_of p.forward.nfa.terminator p.forward.nfa.automaton.states) q.haystack g → (words : ℕ → Bool) →
         answer_from (query_of xs false (holds words t q.haystack) q) q.start
         ≡ answer_from (query_of xs false (holds words t g) (record q { haystack = g })) q.start }
-    ensures answer { (xs : List Tree) (t : Terminator) (p : Pair) → IsRegexOf xs false t p → HasItsClasses p → All LoopsRead xs → HasNoUnicodeWord xs →
+    ensures answer { (xs : List Tree) (t : Terminator) (p : Pair) → IsRegexOf xs false t p → HasItsClasses p → All LoopsRead xs →
+        HasNoUnicodeWord xs →
         (q : Search) (g : List ℕ) → q.end ≤ length q.haystack → All (λ byte. byte < 256) q.haystack → All (λ byte. byte < 256) g →
         IsAlike p.forward.classes q.haystack g → (words : ℕ → Bool) →
         answer_from (query_of xs false (holds words t q.haystack) q) q.start

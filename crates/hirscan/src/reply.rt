@@ -11,9 +11,9 @@ ghost use Rattle.hirscan.specs.Reply.{IsReply, IsSearchReply, AnswersHead, AreTo
 
 use crate::building::build;
 use crate::causes::refusal_cause;
+use crate::ending::Ending;
 use crate::fault::Fault;
 use crate::head::{Head, read_head};
-use crate::program::Ending;
 use crate::settings::program_settings;
 use lazy_dfa::BuildError;
 use regex_pair::regex::{Cache, Regex};

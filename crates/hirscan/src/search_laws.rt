@@ -2,8 +2,10 @@
 //! code: its contract is the law.
 //! ```rust
 //! pub fn joined_answers_are_defined()
-//!     ensures { (xs : List Tree) (u : Bool) (t : Terminator) (p : Pair) → IsRegexOf xs u t p → (q : Search) → IsSearchOf xs u q → (w : ℕ → Bool) →
-//!         IsWordSet w → All LoopsRead xs → (o : Option Found) → joined p q ≡ Ok o → o ≡ answer_from (query_of xs u (holds w t q.haystack) q) q.start }
+//!     ensures { (xs : List Tree) (u : Bool) (t : Terminator) (p : Pair) → IsRegexOf xs u t p → (q : Search) →
+//!         IsSearchOf xs u q → (w : ℕ → Bool) →
+//!         IsWordSet w → All LoopsRead xs → (o : Option Found) → joined p q ≡ Ok o →
+//!         o ≡ answer_from (query_of xs u (holds w t q.haystack) q) q.start }
 //! {
 //!     answers_are_those_of_the_trees();
 //! }

@@ -37,7 +37,8 @@ ghost use Rattle.hirscan.specs.TreeWalks.{IsWalkerOf, IsToldAscii, IsToldWith};
 /// The automata of a regex that is built of trees are such ones: the one that reads in reverse always, and the one that reads forward
 /// where it is set to find all matches.
 pub fn built_automata_are_walked()
-    ensures is_reverse { (xs : List Tree) (s : Settings) (p : Pair) → IsBuilt xs s p → IsWalkerOf xs true s.utf8 s.line_terminator p.reverse }
+    ensures is_reverse { (xs : List Tree) (s : Settings) (p : Pair) → IsBuilt xs s p →
+        IsWalkerOf xs true s.utf8 s.line_terminator p.reverse }
     ensures is_forward { (xs : List Tree) (s : Settings) (p : Pair) → IsBuilt xs s p → kind_of s.dfa ≡ AllMatches →
         IsWalkerOf xs false s.utf8 s.line_terminator p.forward }
 {}

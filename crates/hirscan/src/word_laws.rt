@@ -12,8 +12,10 @@ ghost use Rattle.std.specs.Prelude.{◌≡◌, ◌↔◌, ◌⊎◌, ◌<◌, �
 ghost use Rattle.hirscan.specs.declared.fault.FaultKind.TheVariants.{BadHex, BadRange};
 ghost use Rattle.hir_core.specs.Means.{is_member};
 ghost use Rattle.hir_core.specs.Facts.{is_ascending};
-ghost use Rattle.hirscan.specs.Words.{IsNumber, IsBound, IsGreedy, IsSwitch, IsYes, IsHex, IsHexByte, HasEnds, IsItem, IsLookName, HasHexEnds, is_scalar, IsScalarItem, AreScalarItems, scalar_ranges};
-ghost use Rattle.hirscan.specs.Readers.{IsReader, IsSpelled, line_word, number, bound, order, switch, yes_or_no, hex_bytes, hex_byte, item_ends, hex_ends, look_named};
+ghost use Rattle.hirscan.specs.Words.{IsNumber, IsBound, IsGreedy, IsSwitch, IsYes, IsHex, IsHexByte, HasEnds, IsItem, IsLookName};
+ghost use Rattle.hirscan.specs.Words.{HasHexEnds, is_scalar, IsScalarItem, AreScalarItems, scalar_ranges};
+ghost use Rattle.hirscan.specs.Readers.{IsReader, IsSpelled, line_word, number, bound, order, switch, yes_or_no, hex_bytes, hex_byte};
+ghost use Rattle.hirscan.specs.Readers.{item_ends, hex_ends, look_named};
 ghost use Rattle.hirscan.specs.LineFault.{item_fault, scalar_item_fault};
 
 /// A line's first word says which line it is by being spelled so.
@@ -69,5 +71,6 @@ pub fn scalar_items_are_read()
 #[tactic(auto, using(crate::proofs::ScalarRangeLemmas::scalar_members, crate::proofs::ScalarRangeLemmas::scalar_classes_ascend))]
 pub fn scalar_classes_have_their_items()
     ensures members { (items : List (ℕ × ℕ)) (c : ℕ) → is_member (scalar_ranges items) c ≡ is_member items c }
-    ensures ascending { (words : List (List ℕ)) (items : List (ℕ × ℕ)) → AreScalarItems words items → is_ascending (scalar_ranges items) ≡ true }
+    ensures ascending { (words : List (List ℕ)) (items : List (ℕ × ℕ)) → AreScalarItems words items →
+        is_ascending (scalar_ranges items) ≡ true }
 {}

@@ -4,7 +4,7 @@
 #![tactic(auto)]
 
 ghost use Rattle.std.specs.Prelude.{◌≡◌, Ok, IsErr};
-ghost use Rattle.hirscan.specs.declared.program.Ending.TheVariants.{Listed, Quit, Refused};
+ghost use Rattle.hirscan.specs.declared.ending.Ending.TheVariants.{Listed, Quit, Refused};
 
 use hirscan::{Ending, RunError, run};
 use std::process::ExitCode;

@@ -1,5 +1,6 @@
 -- Where a match may start and end, in bytes and in text.
-use Rattle.std.proofs.Common.{◌≡◌, ℕ, ◌<◌, ◌≤◌, ◌&&◌, ◌||◌, not, Bool, true, false, nat_le, nat_lt, List, length, slice_index, Option, ◌==◌, eq-eqb, refl, sym, ap, ◌∙◌, subst, inl, inr, arith, le-leb}
+use Rattle.std.proofs.Common.{◌≡◌, ℕ, ◌<◌, ◌≤◌, ◌&&◌, ◌||◌, not, Bool, true, false, nat_le, nat_lt, List, length, slice_index, Option, ◌==◌}
+use Rattle.std.proofs.Common.{eq-eqb, refl, sym, ap, ◌∙◌, subst, inl, inr, arith, le-leb}
 use Rattle.std.proofs.lemmas.Bool.{cases_lt, and_from}
 use Rattle.std.proofs.lemmas.Bool.Decides.{nat_tests}
 use Rattle.std.proofs.lemmas.Option.{slice_get-get_or, slice_get_past}
@@ -30,7 +31,8 @@ same_boundary h i within = elim (cases_lt i (length h)) [
   | inl less ↦ ap passes (slice_get-get_or h i 0 less) ∙ inside i (length h) (slice_index h i) less
   | inr above ↦
       ap passes (slice_get_past h i above)
-      ∙ ap (λ b. b || (nat_lt i (length h) && (nat_le (slice_index h i) 0x7F || nat_le 0xC0 (slice_index h i)))) (sym (eq-eqb i (length h) (omega arith)))
+      ∙ ap (λ b. b || (nat_lt i (length h) && (nat_le (slice_index h i) 0x7F || nat_le 0xC0 (slice_index h i))))
+      (sym (eq-eqb i (length h) (omega arith)))
 ]
 
 -- whether a match may start at the place
@@ -44,7 +46,8 @@ same_begin true h i within = same_boundary h i within
 
 -- a span that a tree means from a place that counts ends at one, up to the haystack's end
 module _ (utf8 : Bool) (xs : List Tree) (h : List ℕ) (s : ℕ) (search : IsSearchOf xs utf8 (whole_search h s)) where
-  end_counts : (x : Tree) (i j : ℕ) → (utf8 ≡ true → is_utf8_tree x ≡ true) → i ≤ length h → counts utf8 h i ≡ true → Means (looks_of h) h x i j →
+  end_counts : (x : Tree) (i j : ℕ) → (utf8 ≡ true → is_utf8_tree x ≡ true) → i ≤ length h → counts utf8 h i ≡ true →
+      Means (looks_of h) h x i j →
       (b : Bool) → utf8 ≡ b → counts b h j ≡ true
   end_counts x i j text within starts m false is = refl
   end_counts x i j text within starts m true is = elim (cases_lt i j) [
@@ -55,11 +58,14 @@ module _ (utf8 : Bool) (xs : List Tree) (h : List ℕ) (s : ℕ) (search : IsSea
         subst (λ k. counts true h k ≡ true) same (subst (λ c. counts c h i ≡ true) is starts)
   ]
 
-  pub span_counts : (x : Tree) (i j : ℕ) → (utf8 ≡ true → is_utf8_tree x ≡ true) → i ≤ length h → counts utf8 h i ≡ true → Means (looks_of h) h x i j →
+  pub span_counts : (x : Tree) (i j : ℕ) → (utf8 ≡ true → is_utf8_tree x ≡ true) → i ≤ length h → counts utf8 h i ≡ true →
+      Means (looks_of h) h x i j →
       counts utf8 h j ≡ true
   span_counts x i j text within starts m = end_counts x i j text within starts m utf8 refl
 
-  pub span_may_end : (x : Tree) (i j : ℕ) → (utf8 ≡ true → is_utf8_tree x ≡ true) → i ≤ length h → counts utf8 h i ≡ true → Means (looks_of h) h x i j →
+  pub span_may_end : (x : Tree) (i j : ℕ) → (utf8 ≡ true → is_utf8_tree x ≡ true) → i ≤ length h → counts utf8 h i ≡ true →
+      Means (looks_of h) h x i j →
       may_end (whole_query utf8 xs h) j ≡ true
   span_may_end x i j text within starts m =
-      and_from (nat_le j (length h)) (counts utf8 h j) (le-leb j (length h) (span_within (looks_of h) h x i j within m)) (span_counts x i j text within starts m)
+      and_from (nat_le j (length h)) (counts utf8 h j) (le-leb j (length h) (span_within (looks_of h) h x i j within m))
+      (span_counts x i j text within starts m)

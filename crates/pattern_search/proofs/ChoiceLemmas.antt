@@ -1,5 +1,6 @@
 -- The answer that trees define has the least start, the first pattern there, and an end that it means, whatever the loops read.
-use Rattle.std.proofs.Common.{◌≡◌, ℕ, zero, suc, ◌+◌, ◌<◌, ◌≤◌, Bool, true, false, nat_le, List, [], ◌∷◌, ◌++◌, map, length, slice_get, Option, Some, None, if◌then◌else◌, refl, sym, ap, ◌∙◌, subst, inl, inr, arith, le-leb, leb-true, true≢false}
+use Rattle.std.proofs.Common.{◌≡◌, ℕ, zero, suc, ◌+◌, ◌<◌, ◌≤◌, Bool, true, false, nat_le, List, [], ◌∷◌, ◌++◌, map, length, slice_get}
+use Rattle.std.proofs.Common.{Option, Some, None, if◌then◌else◌, refl, sym, ap, ◌∙◌, subst, inl, inr, arith, le-leb, leb-true, true≢false}
 use Rattle.std.specs.List.{filter}
 use Rattle.std.proofs.lemmas.Bool.{and_parts, and_from}
 use Rattle.std.proofs.lemmas.Option.{none-some, same_Some, slice_get_within}
@@ -48,17 +49,23 @@ pairs_none : (b : Bool) (kept : ℕ → Bool) (p : ℕ) (ends : List ℕ) → pa
 pairs_none false kept p ends none on j has k = true≢false (sym on)
 pairs_none true kept p ends none on j has k = keeps_none kept ends (unpaired p (filter kept ends) none) j has k
 
-pairs_first : (b : Bool) (kept : ℕ → Bool) (p : ℕ) (ends : List ℕ) (c : ℕ × ℕ) (cs : List (ℕ × ℕ)) → pattern_choices b kept p ends ≡ c ∷ cs →
+pairs_first : (b : Bool) (kept : ℕ → Bool) (p : ℕ) (ends : List ℕ) (c : ℕ × ℕ) (cs : List (ℕ × ℕ)) →
+    pattern_choices b kept p ends ≡ c ∷ cs →
     (b ≡ true) × (c.0 ≡ p) × Has ends c.1 × (kept c.1 ≡ true)
 pairs_first false kept p ends c cs some = cc
 pairs_first true kept p ends c cs some = by_list (filter kept ends) refl some
   where
-    by_list : (js : List ℕ) → filter kept ends ≡ js → map (pair p) js ≡ c ∷ cs → (true ≡ true) × (c.0 ≡ p) × Has ends c.1 × (kept c.1 ≡ true)
+    by_list : (js : List ℕ) → filter kept ends ≡ js → map (pair p) js ≡ c ∷ cs →
+        (true ≡ true) × (c.0 ≡ p) × Has ends c.1 × (kept c.1 ≡ true)
     by_list [] is some = cc
     by_list (e ∷ es) is some =
         let same : pair p e ≡ c = cc in
-        let first = keeps_first kept ends e es is in
-        (refl, sym (ap (λ (d : ℕ × ℕ). d.0) same), subst (Has ends) (ap (λ (d : ℕ × ℕ). d.1) same) first.0, subst (λ k. kept k ≡ true) (ap (λ (d : ℕ × ℕ). d.1) same) first.1)
+        let first = keeps_first kept ends e es is in (
+          refl,
+          sym (ap (λ (d : ℕ × ℕ). d.0) same),
+          subst (Has ends) (ap (λ (d : ℕ × ℕ). d.1) same) first.0,
+          subst (λ k. kept k ≡ true) (ap (λ (d : ℕ × ℕ). d.1) same) first.1,
+        )
 
 -- ---- the pairs of patterns in a row
 left_nil : (a b : List (ℕ × ℕ)) → a ++ b ≡ [] → a ≡ []
@@ -78,7 +85,8 @@ record IsFirstPair (looks : Looks) (h : List ℕ) (i : ℕ) (may_find kept : ℕ
   may : may_find c.0 ≡ true
   means : Means looks h tree i c.1
   kept_end : kept c.1 ≡ true
-  before : (m n j : ℕ) (x : Tree) → m < k → n ≡ p + m → slice_get xs m ≡ Some x → may_find n ≡ true → Means looks h x i j → kept j ≡ true → ⊥
+  before : (m n j : ℕ) (x : Tree) → m < k → n ≡ p + m → slice_get xs m ≡ Some x → may_find n ≡ true →
+      Means looks h x i j → kept j ≡ true → ⊥
 
 module _ (looks : Looks) (h : List ℕ) (i : ℕ) (may_find kept : ℕ → Bool) where
   abbrev ends : Tree → List ℕ
@@ -91,13 +99,16 @@ module _ (looks : Looks) (h : List ℕ) (i : ℕ) (may_find kept : ℕ → Bool)
       pairs_none (may_find p) kept p (ends y) none (subst (λ l. may_find l ≡ true) number may) j
       (preferred_ends_complete looks h y i j (subst (λ t. Means looks h t i j) (sym same) m)) k
 
-  choices_none : (p : ℕ) (xs : List Tree) → choices may_find kept p (map ends xs) ≡ [] → (m n j : ℕ) (x : Tree) → n ≡ p + m → slice_get xs m ≡ Some x →
+  choices_none : (p : ℕ) (xs : List Tree) → choices may_find kept p (map ends xs) ≡ [] → (m n j : ℕ) (x : Tree) → n ≡ p + m →
+      slice_get xs m ≡ Some x →
       may_find n ≡ true → Means looks h x i j → kept j ≡ true → ⊥
   choices_none p [] none m n j x is listed may means k = absurd (omega (arith, slice_get_within [] m x listed))
   choices_none p (y ∷ ys) none zero n j x is listed may means k =
-      one_none p n j y x is (same_Some y x listed) (left_nil (pattern_choices (may_find p) kept p (ends y)) (choices may_find kept (p + 1) (map ends ys)) none) may means k
+      one_none p n j y x is (same_Some y x listed)
+      (left_nil (pattern_choices (may_find p) kept p (ends y)) (choices may_find kept (p + 1) (map ends ys)) none) may means k
   choices_none p (y ∷ ys) none (suc m) n j x is listed may means k =
-      choices_none (p + 1) ys (right_nil (pattern_choices (may_find p) kept p (ends y)) (choices may_find kept (p + 1) (map ends ys)) none) m n j x (omega arith) listed may means k
+      choices_none (p + 1) ys (right_nil (pattern_choices (may_find p) kept p (ends y)) (choices may_find kept (p + 1) (map ends ys)) none)
+      m n j x (omega arith) listed may means k
 
   later_pair : (p : ℕ) (y : Tree) (ys : List Tree) (c : ℕ × ℕ) → pattern_choices (may_find p) kept p (ends y) ≡ [] →
       IsFirstPair looks h i may_find kept (p + 1) ys c → IsFirstPair looks h i may_find kept p (y ∷ ys) c
@@ -132,8 +143,10 @@ module _ (looks : Looks) (h : List ℕ) (i : ℕ) (may_find kept : ℕ → Bool)
         before = λ m n j x less. absurd (omega (arith, less));
       }
 
-  first_or_later : (p : ℕ) (y : Tree) (ys : List Tree) (c : ℕ × ℕ) (cs pairs rest : List (ℕ × ℕ)) → pattern_choices (may_find p) kept p (ends y) ≡ pairs →
-      pairs ++ rest ≡ c ∷ cs → (rest ≡ c ∷ cs → IsFirstPair looks h i may_find kept (p + 1) ys c) → IsFirstPair looks h i may_find kept p (y ∷ ys) c
+  first_or_later : (p : ℕ) (y : Tree) (ys : List Tree) (c : ℕ × ℕ) (cs pairs rest : List (ℕ × ℕ)) →
+      pattern_choices (may_find p) kept p (ends y) ≡ pairs →
+      pairs ++ rest ≡ c ∷ cs → (rest ≡ c ∷ cs → IsFirstPair looks h i may_find kept (p + 1) ys c) →
+      IsFirstPair looks h i may_find kept p (y ∷ ys) c
   first_or_later p y ys c cs [] rest is some later = later_pair p y ys c is (later some)
   first_or_later p y ys c cs (d ∷ ds) rest is some later =
       let same : d ≡ c = cc in
@@ -158,7 +171,8 @@ module _ (q : Query) where
   none_at i none p j c =
       let here : choices_at q i ≡ listed_choices i = ap (λ b. if b then listed_choices i else []) c.start_counts in
       let span = c.findable.span in
-      choices_none q.looks q.haystack i (allowed q.mode (length q.patterns)) (may_end q) 0 q.patterns (sym here ∙ none) p p j span.tree (omega arith) span.listed
+      choices_none q.looks q.haystack i (allowed q.mode (length q.patterns)) (may_end q) 0 q.patterns (sym here ∙ none) p p j span.tree
+      (omega arith) span.listed
       c.findable.may span.means (ends_where j c.findable.within c.end_counts)
 
   counted_first : (i : ℕ) (c : ℕ × ℕ) → counts q.utf8 q.haystack i ≡ true →
@@ -176,17 +190,20 @@ module _ (q : Query) where
         end_counts = ends.1;
       }
 
-  first_at : (i : ℕ) (c : ℕ × ℕ) (cs : List (ℕ × ℕ)) (b : Bool) → counts q.utf8 q.haystack i ≡ b → (if b then listed_choices i else []) ≡ c ∷ cs →
+  first_at : (i : ℕ) (c : ℕ × ℕ) (cs : List (ℕ × ℕ)) (b : Bool) → counts q.utf8 q.haystack i ≡ b →
+      (if b then listed_choices i else []) ≡ c ∷ cs →
       IsCounted q i c.0 c.1 × ((p j : ℕ) → p < c.0 → IsCounted q i p j → ⊥)
   first_at i c cs false is some = cc
   first_at i c cs true is some =
       let f = choices_first q.looks q.haystack i (allowed q.mode (length q.patterns)) (may_end q) 0 q.patterns c cs some in (
         counted_first i c is f,
         λ p j less d. let span = d.findable.span in
-            f.before p p j span.tree (omega (arith, f.number, less)) (omega arith) span.listed d.findable.may span.means (ends_where j d.findable.within d.end_counts),
+            f.before p p j span.tree (omega (arith, f.number, less)) (omega arith) span.listed d.findable.may span.means
+            (ends_where j d.findable.within d.end_counts),
       )
 
-  loose_at : (s : ℕ) (f : Found) (cs : List (ℕ × ℕ)) → choices_at q f.start ≡ cs → may_start q.mode s q.end f.start ≡ true → first_choice f.start cs ≡ Some f →
+  loose_at : (s : ℕ) (f : Found) (cs : List (ℕ × ℕ)) → choices_at q f.start ≡ cs → may_start q.mode s q.end f.start ≡ true →
+      first_choice f.start cs ≡ Some f →
       ((i : ℕ) → may_start q.mode s q.end i ≡ true → i < f.start → choices_at q i ≡ []) → IsLoose q s f
   loose_at s f [] is starts first before = absurd (none-some f first)
   loose_at s f (c ∷ cs) is starts first before =

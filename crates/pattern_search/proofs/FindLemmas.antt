@@ -1,5 +1,7 @@
 -- Searches find the spans that the toolchain's matcher finds, where the loops read.
-use Rattle.std.proofs.Common.{◌≡◌, ℕ, zero, suc, ◌+◌, ◌-◌, ◌≤◌, ◌<◌, Bool, true, false, nat_le, List, [], ◌∷◌, ◌++◌, map, length, All, Option, Some, None, option_map, slice_get, if◌then◌else◌, refl, sym, ap, ap₂, ◌∙◌, arith, inl, inr, le-leb, lt-ltb}
+use Rattle.std.proofs.Common.{◌≡◌, ℕ, zero, suc, ◌+◌, ◌-◌, ◌≤◌, ◌<◌, Bool, true, false, nat_le, List, [], ◌∷◌, ◌++◌, map, length, All}
+use Rattle.std.proofs.Common.{Option, Some, None, option_map, slice_get, if◌then◌else◌, refl, sym, ap, ap₂, ◌∙◌, arith, inl, inr, le-leb}
+use Rattle.std.proofs.Common.{lt-ltb}
 use Rattle.std.specs.Option.{option_or}
 use Rattle.std.specs.List.{filter}
 use Rattle.std.proofs.lemmas.Bool.{cond-true, cases_lt}
@@ -7,7 +9,7 @@ use Rattle.std.proofs.lemmas.List.Elements.{All-head, All-tail}
 use Rattle.regex_class.specs.Ranges.{in_ranges}
 use Rattle.regex_hir.specs.Re.{Re, Trace, Rest, accept, attempt}
 use Rattle.regex_hir.specs.Meaning.{alt_all}
-use Rattle.regex_hir.specs.Find.{Match, first_from, first_between, find, find_str}
+use Rattle.regex_hir.specs.Find.{first_from, first_between, find, find_str}
 use Rattle.regex_hir.specs.Text.{is_some_and}
 use Rattle.search_types.specs.declared.anchored.Anchored.TheVariants.{No}
 use Rattle.search_types.specs.Found.{Found}
@@ -23,6 +25,7 @@ use Rattle.hirscan.specs.Regexes.{IsSearchOf}
 use Rattle.pattern_text.specs.SameEnds.{looks_of, end_of, first_of, AreSameEnds}
 use Rattle.pattern_search.specs.Searches.{whole_search, whole_query, found_from, span_of_match, span_of_found, FindsAsRead}
 use Rattle.pattern_search.proofs.BoundaryLemmas.{may_begin, same_begin, span_may_end}
+use Rattle.pattern_search.proofs.MatchSpanLemmas.{spans_or}
 
 -- ---- the ends of several trees from one place
 -- the first end of several lists, one after the other
@@ -70,10 +73,12 @@ abbrev at_place : ℕ → Option ℕ → Option (ℕ × ℕ)
 at_place i = option_map (λ e. (i, e))
 
 one_pattern : (kept : ℕ → Bool) (i p : ℕ) (ends : List ℕ) → IsKept kept ends → (rest : List (ℕ × ℕ)) →
-    span_of (first_choice i (pattern_choices true kept p ends ++ rest)) ≡ option_or (at_place i (first_of Some ends)) (span_of (first_choice i rest))
+    span_of (first_choice i (pattern_choices true kept p ends ++ rest)) ≡
+    option_or (at_place i (first_of Some ends)) (span_of (first_choice i rest))
 one_pattern kept i p [] all rest = refl
 one_pattern kept i p (e ∷ ends) all rest =
-    ap (λ js. span_of (first_choice i (map (λ j. (p, j)) js ++ rest))) (cond-true (kept e) (e ∷ filter kept ends) (filter kept ends) (all e (inl refl)))
+    ap (λ js. span_of (first_choice i (map (λ j. (p, j)) js ++ rest)))
+    (cond-true (kept e) (e ∷ filter kept ends) (filter kept ends) (all e (inl refl)))
 
 at_place-or : (i : ℕ) (a b : Option ℕ) → at_place i (option_or a b) ≡ option_or (at_place i a) (at_place i b)
 at_place-or i None b = refl
@@ -83,7 +88,8 @@ all_patterns : (count : ℕ) (kept : ℕ → Bool) (i p : ℕ) (ends : List (Lis
     span_of (first_choice i (choices (allowed No count) kept p ends)) ≡ at_place i (first_all ends)
 all_patterns count kept i p [] all fits = refl
 all_patterns count kept i p (e ∷ ends) all fits =
-    ap (λ b. span_of (first_choice i (pattern_choices b kept p e ++ choices (allowed No count) kept (p + 1) ends))) (lt-ltb p count (omega arith))
+    ap (λ b. span_of (first_choice i (pattern_choices b kept p e ++ choices (allowed No count) kept (p + 1) ends)))
+    (lt-ltb p count (omega arith))
     ∙ one_pattern kept i p e all.0 (choices (allowed No count) kept (p + 1) ends)
     ∙ ap (option_or (at_place i (first_of Some e))) (all_patterns count kept i (p + 1) ends all.1 (omega arith))
     ∙ sym (at_place-or i (first_of Some e) (first_all ends))
@@ -130,10 +136,6 @@ module _ (utf8 : Bool) (res : List Re) (xs : List Tree) (same : AreSameEnds res 
       at_counted i within (counts utf8 h i) refl
       ∙ ap (λ b. at_place i (end_of (if b then attempt h (alt_all res) accept i else None))) (sym (same_begin utf8 h i within))
 
-  spans-or : (a b : Option Match) → option_map span_of_match (option_or a b) ≡ option_or (option_map span_of_match a) (option_map span_of_match b)
-  spans-or None b = refl
-  spans-or (Some x) b = refl
-
   founds-or : (a b : Option Found) → span_of (option_or a b) ≡ option_or (span_of a) (span_of b)
   founds-or None b = refl
   founds-or (Some x) b = refl
@@ -147,7 +149,8 @@ module _ (utf8 : Bool) (res : List Re) (xs : List Tree) (same : AreSameEnds res 
   unfolding first_from
   from zero i fits = refl
   from (suc n) i fits =
-      spans-or (option_map (λ t. record { start = i; trace = t }) (tried utf8 h (alt_all res) i)) (first_from (tried utf8 h (alt_all res)) n (i + 1))
+      spans_or (option_map (λ t. record { start = i; trace = t }) (tried utf8 h (alt_all res) i))
+      (first_from (tried utf8 h (alt_all res)) n (i + 1))
       ∙ ap₂ option_or (here i (tried utf8 h (alt_all res) i) ∙ sym (at_one i (omega arith))) (from n (i + 1) (omega arith))
       ∙ sym (founds-or (first_choice i (choices_at (whole_query utf8 xs h) i)) (leftmost (choices_at (whole_query utf8 xs h)) n (i + 1)))
 
@@ -167,7 +170,8 @@ module _ (utf8 : Bool) (res : List Re) (xs : List Tree) (same : AreSameEnds res 
     | inl behind ↦ none_behind (length h + 1 - s) (omega arith) b
     | inr within ↦
         from (length h + 1 - s) s (omega arith)
-        ∙ ap (λ c. span_of (if c then leftmost (choices_at (whole_query utf8 xs h)) (length h + 1 - s) s else None)) (sym (le-leb s (length h) within) ∙ is)
+        ∙ ap (λ c. span_of (if c then leftmost (choices_at (whole_query utf8 xs h)) (length h + 1 - s) s else None))
+        (sym (le-leb s (length h) within) ∙ is)
   ]
 
   pub finds : option_map span_of_match (found_from utf8 (alt_all res) h s) ≡ span_of (answer_from (whole_query utf8 xs h) s)

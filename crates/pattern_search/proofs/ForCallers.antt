@@ -7,9 +7,15 @@ pub use Rattle.pattern_search.proofs.AllMatchLemmas.{within_of}
 -- spans and starts whatever the loops read, and where they read what is found and all that is found
 pub use Rattle.pattern_search.proofs.StartLemmas.{spans_as_read, starts_as_read}
 pub use Rattle.pattern_search.proofs.FindLemmas.{finds_as_read}
-pub use Rattle.pattern_search.proofs.AllMatchLemmas.{lists_from, lists_as_read}
+pub use Rattle.pattern_search.proofs.AllMatchLemmas.{all_from_start, lists_from, lists_as_read}
 -- the patterns that texts are read as, with what their trees find
 pub use Rattle.pattern_search.proofs.ReadLemmas.{finds_what_is_written}
+-- a text is read as one pattern, and the regex of what is read of it is of that pattern
+pub use Rattle.pattern_search.proofs.ReadLemmas.{same_patterns, one_same}
+-- the texts behind references
+pub use Rattle.pattern_search.proofs.TextLemmas.{read_texts}
 -- what the matcher tries at a place, and what it finds by that
 pub use Rattle.pattern_search.proofs.FindLemmas.{tried, found_is}
 pub use Rattle.pattern_search.proofs.BoundaryLemmas.{may_begin}
+-- the span of what is found from a place on, place by place; nothing is found where nothing is tried; what has starts alike is alike
+pub use Rattle.pattern_search.proofs.MatchSpanLemmas.{spans, step, NoEarlier, or_later, later_from, no_class, none_spans, alike_some}

@@ -2,6 +2,7 @@ pub mod TextLemmas
 pub mod WhichLemmas
 pub mod ChoiceLemmas
 pub mod BoundaryLemmas
+pub mod MatchSpanLemmas
 pub mod FindLemmas
 pub mod AllMatchLemmas
 pub mod StartLemmas

@@ -1,9 +1,12 @@
 -- What several texts are read as, and what their trees find.
-use Rattle.std.proofs.Common.{◌≡◌, ℕ, ◌≤◌, List, [], ◌∷◌, chars, Option, Some, None, IsSomeAnd, refl}
+use Rattle.std.proofs.Common.{◌≡◌, ℕ, ◌≤◌, List, [], ◌∷◌, length, chars, Option, Some, None, IsSomeAnd, refl, sym, ap₂, ◌∙◌, subst}
+use Rattle.regex_hir.specs.declared.hir.Hir.{Hir}
+use Rattle.regex_hir.specs.Meaning.{meaning}
 use Rattle.regex_hir.specs.Re.{Re}
 use Rattle.regex_syntax.specs.declared.Config.{Config}
 use Rattle.regex_syntax.specs.Brackets.{Nested}
-use Rattle.regex_syntax.specs.Grammar.{Names, read}
+use Rattle.regex_syntax.specs.Captures.{SameCaptures}
+use Rattle.regex_syntax.specs.Grammar.{Names, group_count, read}
 use Rattle.hir_core.specs.Tree.{Tree}
 use Rattle.regex_pair.specs.Pairs.{Pair}
 use Rattle.hirscan.specs.declared.settings.Settings.{Settings}
@@ -24,7 +27,8 @@ one_read config x None m = absurd m
 one_read config x (Some (re, names)) m = (re.value, (m.0, refl), m.1, m.2)
 
 of_text : (config : Config) (t : List ℕ) (x : Tree) → MeansText config t x →
-    (a : Re) × IsSomeAnd (read config (chars t)) (λ (re, names). (re.depth ≤ config.nest_limit) × (re.value ≡ a)) × SameEnds a x × SameSpans a x
+    (a : Re) × IsSomeAnd (read config (chars t)) (λ (re, names). (re.depth ≤ config.nest_limit) × (re.value ≡ a)) ×
+    SameEnds a x × SameSpans a x
 unfolding MeansText
 of_text config t x m = one_read config x (read config (chars t)) m
 
@@ -57,3 +61,29 @@ pub answers_what_is_written : (config : Config) (ts : List (List ℕ)) (xs : Lis
 answers_what_is_written config ts xs s p m each =
     let r = all_read config ts xs m in
     record { patterns = r.0; are_read = r.1; answers = each r.0 r.2 r.3 }
+
+-- ---- what a text is read as is one pattern
+one_value : {A : Type 0} (o : Option A) (of : A → Re) (D : A → Type 0) (a b : Re) →
+    IsSomeAnd o (λ it. D it × (of it ≡ a)) → IsSomeAnd o (λ it. D it × (of it ≡ b)) → a ≡ b
+one_value None of D a b p q = elim p [ ]
+one_value (Some it) of D a b p q = sym p.1 ∙ q.1
+
+pub same_patterns : (config : Config) (texts : List (List ℕ)) (res others : List Re) → AreRead config texts res →
+    AreRead config texts others → res ≡ others
+same_patterns config [] [] [] p q = refl
+same_patterns config [] [] (b ∷ others) p q = elim q [ ]
+same_patterns config [] (a ∷ res) others p q = elim p [ ]
+same_patterns config (t ∷ ts) [] others p q = elim p [ ]
+same_patterns config (t ∷ ts) (a ∷ res) [] p q = elim q [ ]
+same_patterns config (t ∷ ts) (a ∷ res) (b ∷ others) p q =
+    ap₂ (λ (x : Re) (xs : List Re). x ∷ xs)
+    (one_value (read config (chars t)) (λ it. it.0.value) (λ it. it.0.depth ≤ config.nest_limit) a b p.0 q.0)
+    (same_patterns config ts res others p.1 q.1)
+
+-- and one with the groups of what a regex of it holds
+pub one_same : (config : Config) (hir : Hir) (names : Names) (a : Re) (r : Option (Nested Re × Names)) →
+    IsSomeAnd r (λ (re, found). (re.depth ≤ config.nest_limit) × SameCaptures (meaning hir) re.value × (names ≡ found) ×
+    (group_count (meaning hir) ≤ length names)) →
+    IsSomeAnd r (λ (re, names). (re.depth ≤ config.nest_limit) × (re.value ≡ a)) → SameCaptures (meaning hir) a
+one_same config hir names a None p q = absurd p
+one_same config hir names a (Some (re, found)) p q = subst (SameCaptures (meaning hir)) q.1 p.1

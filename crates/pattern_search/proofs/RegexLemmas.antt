@@ -1,5 +1,6 @@
 -- From what trees define of a search with settings to what patterns say of it.
-use Rattle.std.proofs.Common.{◌≡◌, ℕ, ◌+◌, ◌-◌, ◌≤◌, Bool, List, map, length, All, Option, Some, None, option_map, is_some, refl, sym, ap, ◌∙◌, subst}
+use Rattle.std.proofs.Common.{◌≡◌, ℕ, ◌+◌, ◌-◌, ◌≤◌, Bool, List, map, length, All, Option, Some, None, option_map, is_some, refl, sym, ap}
+use Rattle.std.proofs.Common.{◌∙◌, subst}
 use Rattle.ucd_perl.specs.Perl.{is_word_char}
 use Rattle.regex_hir.specs.Re.{Re}
 use Rattle.regex_hir.specs.Meaning.{alt_all}
@@ -26,7 +27,8 @@ same_some None (Some f) same = cc
 same_some (Some m) None same = cc
 same_some (Some m) (Some f) same = refl
 
-module _ (res : List Re) (xs : List Tree) (ends : AreSameEnds res xs) (spans : AreSameSpans res xs) (s : Settings) (feeds : s.line_terminator ≡ one_of 10)
+module _ (res : List Re) (xs : List Tree) (ends : AreSameEnds res xs) (spans : AreSameSpans res xs) (s : Settings)
+    (feeds : s.line_terminator ≡ one_of 10)
     (h : List ℕ) (at : ℕ) (search : IsSearchOf xs s.utf8 (whole_search h at)) where
   same_answer : answer_to is_word_char xs s (whole_search h at) ≡ answer_from (whole_query s.utf8 xs h) at
   same_answer = ap (λ (t : Terminator). answer_from (query_of xs s.utf8 (holds is_word_char t h) (whole_search h at)) at) feeds
@@ -43,25 +45,33 @@ module _ (res : List Re) (xs : List Tree) (ends : AreSameEnds res xs) (spans : A
       b ≡ is_some (found_from s.utf8 (alt_all res) h at)
   told_by_settings loops b is =
       is ∙ ap is_some same_answer
-      ∙ sym (same_some (found_from s.utf8 (alt_all res) h at) (answer_from (whole_query s.utf8 xs h) at) (finds_as_read res xs ends loops s.utf8 h at search))
+      ∙ sym (same_some (found_from s.utf8 (alt_all res) h at) (answer_from (whole_query s.utf8 xs h) at)
+      (finds_as_read res xs ends loops s.utf8 h at search))
 
-  pub listed_by_settings : All LoopsRead xs → (n : ℕ) → length h + 1 - at ≤ n → (fs : List Found) → answers_to is_word_char xs s (whole_search h at) ≡ fs →
+  pub listed_by_settings : All LoopsRead xs → (n : ℕ) → length h + 1 - at ≤ n → (fs : List Found) →
+      answers_to is_word_char xs s (whole_search h at) ≡ fs →
       map span_of_match (matches_from (found_from s.utf8 (alt_all res) h) n (found_from s.utf8 (alt_all res) h at)) ≡ map span_of_found fs
   listed_by_settings loops n enough fs is =
       lists_from res xs ends loops s.utf8 h at n search enough ∙ ap (map span_of_found) (sym same_answers ∙ is)
 
-  loose_by_settings : (o : Option Found) → IsLooseAnswer (query_by is_word_char xs s (whole_search h at)) at o → IsLooseAnswer (whole_query s.utf8 xs h) at o
-  loose_by_settings o loose = subst (λ (t : Terminator). IsLooseAnswer (query_of xs s.utf8 (holds is_word_char t h) (whole_search h at)) at o) feeds loose
+  loose_by_settings : (o : Option Found) → IsLooseAnswer (query_by is_word_char xs s (whole_search h at)) at o →
+      IsLooseAnswer (whole_query s.utf8 xs h) at o
+  loose_by_settings o loose =
+      subst (λ (t : Terminator). IsLooseAnswer (query_of xs s.utf8 (holds is_word_char t h) (whole_search h at)) at o) feeds loose
 
   pub starts_by_settings : (o : Option Found) → IsLooseAnswer (query_by is_word_char xs s (whole_search h at)) at o →
       option_map (λ m. m.start) (found_from s.utf8 (alt_all res) h at) ≡ option_map (λ f. f.start) o
   starts_by_settings o loose = (starts_as_read res xs spans s.utf8).loose h at search o (loose_by_settings o loose)
 
-  pub pattern_by_settings : (f : Found) → IsLooseAnswer (query_by is_word_char xs s (whole_search h at)) at (Some f) → IsOfFirstPattern res h f
+  pub pattern_by_settings : (f : Found) → IsLooseAnswer (query_by is_word_char xs s (whole_search h at)) at (Some f) →
+      IsOfFirstPattern res h f
   pattern_by_settings f loose = (starts_as_read res xs spans s.utf8).pattern h at search f (loose_by_settings (Some f) loose)
 
-pub all_by_settings : (res : List Re) (xs : List Tree) → AreSameEnds res xs → AreSameSpans res xs → (s : Settings) → s.line_terminator ≡ one_of 10 →
-    (h : List ℕ) → IsSearchOf xs s.utf8 (whole_search h 0) → All LoopsRead xs → (fs : List Found) → answers_to is_word_char xs s (whole_search h 0) ≡ fs →
+pub all_by_settings : (res : List Re) (xs : List Tree) → AreSameEnds res xs → AreSameSpans res xs → (s : Settings) →
+    s.line_terminator ≡ one_of 10 →
+    (h : List ℕ) → IsSearchOf xs s.utf8 (whole_search h 0) → All LoopsRead xs → (fs : List Found) →
+    answers_to is_word_char xs s (whole_search h 0) ≡ fs →
     map span_of_match (all_found s.utf8 (alt_all res) h) ≡ map span_of_found fs
 all_by_settings res xs ends spans s feeds h search loops fs is =
-    (lists_as_read res xs ends loops s.utf8).whole h search ∙ ap (map span_of_found) (sym (same_answers res xs ends spans s feeds h 0 search) ∙ is)
+    (lists_as_read res xs ends loops s.utf8).whole h search
+    ∙ ap (map span_of_found) (sym (same_answers res xs ends spans s feeds h 0 search) ∙ is)

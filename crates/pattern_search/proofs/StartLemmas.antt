@@ -1,5 +1,6 @@
 -- Whatever the loops read: the spans of the trees are those of the patterns, and so are the starts of what is found.
-use Rattle.std.proofs.Common.{◌≡◌, ℕ, zero, suc, ◌≤◌, Bool, true, false, List, [], ◌∷◌, length, All, Option, Some, None, option_map, slice_get, if◌then◌else◌, refl, sym, ap, ◌∙◌, subst, arith, inl, inr, lt-ltb, true≢false}
+use Rattle.std.proofs.Common.{◌≡◌, ℕ, zero, suc, ◌≤◌, Bool, true, false, List, [], ◌∷◌, length, All, Option, Some, None, option_map}
+use Rattle.std.proofs.Common.{slice_get, if◌then◌else◌, refl, sym, ap, ◌∙◌, subst, arith, inl, inr, lt-ltb, true≢false}
 use Rattle.std.proofs.lemmas.Bool.{cases_lt}
 use Rattle.std.proofs.lemmas.Option.{none-some, same_Some, slice_get_within, get_or_from_slice_get}
 use Rattle.regex_class.specs.Ranges.{in_ranges}
@@ -70,7 +71,8 @@ pub holds_of : (xs : List Tree) (p : ℕ) (x : Tree) → slice_get xs p ≡ Some
 holds_of xs p x listed all =
     subst (λ y. is_utf8_tree y ≡ true) (get_or_from_slice_get xs p x x listed) (all p x (slice_get_within xs p x listed))
 
-module _ (utf8 : Bool) (res : List Re) (xs : List Tree) (same : AreSameSpans res xs) (h : List ℕ) (s : ℕ) (search : IsSearchOf xs utf8 (whole_search h s)) where
+module _ (utf8 : Bool) (res : List Re) (xs : List Tree) (same : AreSameSpans res xs) (h : List ℕ) (s : ℕ)
+    (search : IsSearchOf xs utf8 (whole_search h s)) where
   counted_span : (i p j : ℕ) → i ≤ length h → counts utf8 h i ≡ true → IsMatchOf res h p i j → IsCounted (whole_query utf8 xs h) i p j
   counted_span i p j within starts m =
       let span = (spans_as_read res xs same h search.bytes utf8 p i j within).0 m in
@@ -81,7 +83,8 @@ module _ (utf8 : Bool) (res : List Re) (xs : List Tree) (same : AreSameSpans res
           within = span_within (looks_of h) h span.tree i j within span.means;
         };
         start_counts = starts;
-        end_counts = span_counts utf8 xs h s search span.tree i j (λ on. holds_of xs p span.tree span.listed (search.utf8_trees on)) within starts span.means;
+        end_counts = span_counts utf8 xs h s search span.tree i j
+            (λ on. holds_of xs p span.tree span.listed (search.utf8_trees on)) within starts span.means;
       }
 
   counted_by : (i : ℕ) (t : Trace) → i ≤ length h → (b : Bool) → may_begin utf8 h i ≡ b →
@@ -92,7 +95,8 @@ module _ (utf8 : Bool) (res : List Re) (xs : List Tree) (same : AreSameSpans res
       let one = one_of h i way.at res way.leads in
       (one.0, way.at, counted_span i one.0 way.at within (sym (same_begin utf8 h i within) ∙ is) one.1)
 
-  counted_of : (i : ℕ) (t : Trace) → i ≤ length h → tried utf8 h (alt_all res) i ≡ Some t → (p : ℕ) × (j : ℕ) × IsCounted (whole_query utf8 xs h) i p j
+  counted_of : (i : ℕ) (t : Trace) → i ≤ length h → tried utf8 h (alt_all res) i ≡ Some t →
+      (p : ℕ) × (j : ℕ) × IsCounted (whole_query utf8 xs h) i p j
   counted_of i t within found = counted_by i t within (may_begin utf8 h i) refl found
 
   tried_of : (i p j : ℕ) → i ≤ length h → IsCounted (whole_query utf8 xs h) i p j → tried utf8 h (alt_all res) i ≡ None → ⊥
@@ -109,7 +113,8 @@ module _ (utf8 : Bool) (res : List Re) (xs : List Tree) (same : AreSameSpans res
   may_be : (i : ℕ) → s ≤ i → i ≤ length h → may_start No s (length h) i ≡ true
   may_be i low high = may_start_at No s (length h) i (omega (arith, low, high)) low high
 
-  first_start : (m : Match) (f : Found) → IsFirst (tried utf8 h (alt_all res)) s (length h) m → IsLoose (whole_query utf8 xs h) s f → m.start ≡ f.start
+  first_start : (m : Match) (f : Found) → IsFirst (tried utf8 h (alt_all res)) s (length h) m →
+      IsLoose (whole_query utf8 xs h) s f → m.start ≡ f.start
   first_start m f first loose =
       let at = starts_at No s (length h) f.start loose.starts in
       elim (cases_lt m.start f.start) [
@@ -153,6 +158,7 @@ module _ (utf8 : Bool) (res : List Re) (xs : List Tree) (same : AreSameSpans res
 pub starts_as_read : (res : List Re) (xs : List Tree) → AreSameSpans res xs → (utf8 : Bool) → StartsAsRead utf8 res xs
 starts_as_read res xs same utf8 = record {
   loose = λ h s search o loose. same_starts utf8 res xs same h s search o loose;
-  preferred = λ h s search. same_starts utf8 res xs same h s search (answer_from (whole_query utf8 xs h) s) (answer_is_loose (whole_query utf8 xs h) s);
+  preferred = λ h s search. same_starts utf8 res xs same h s search (answer_from (whole_query utf8 xs h) s)
+      (answer_is_loose (whole_query utf8 xs h) s);
   pattern = λ h s search f loose. of_first_pattern utf8 res xs same h s search f loose;
 }

@@ -1,5 +1,6 @@
 -- Texts whose trees are made one by one.
-use Rattle.std.proofs.Common.{◌≡◌, ℕ, zero, suc, ◌+◌, ◌<◌, ◌≤◌, List, [], ◌∷◌, ◌++◌, map, length, take, slice_get, slice_index_or, Some, Bor, All, refl, sym, ap, subst, arith}
+use Rattle.std.proofs.Common.{◌≡◌, ℕ, zero, suc, ◌+◌, ◌<◌, ◌≤◌, List, [], ◌∷◌, ◌++◌, map, length, take, slice_get, slice_index_or, Some}
+use Rattle.std.proofs.Common.{Bor, All, refl, sym, ap, subst, arith}
 use Rattle.std.proofs.lemmas.List.Elements.{All-append, All-cons}
 use Rattle.regex_syntax.specs.declared.Config.{Config}
 use Rattle.hir_core.specs.Tree.{Tree}
@@ -11,7 +12,8 @@ use Rattle.pattern_search.specs.Texts.{AllMean, IsFirstFault}
 abbrev pub read_texts : List (Bor (List ℕ)) → List (List ℕ)
 read_texts = map (λ (t : Bor (List ℕ)). t.now)
 
-listed_text : (ts : List (Bor (List ℕ))) (d : Bor (List ℕ)) (n : ℕ) → n < length ts → slice_get (read_texts ts) n ≡ Some (slice_index_or ts n d).now
+listed_text : (ts : List (Bor (List ℕ))) (d : Bor (List ℕ)) (n : ℕ) → n < length ts →
+    slice_get (read_texts ts) n ≡ Some (slice_index_or ts n d).now
 listed_text [] d n below = absurd (omega arith)
 listed_text (t ∷ ts) d zero below = refl
 listed_text (t ∷ ts) d (suc n) below = listed_text ts d n (omega arith)
@@ -26,7 +28,8 @@ next_means config (t ∷ ts) d (suc n) [] x below m means = absurd m
 next_means config (t ∷ ts) d (suc n) (y ∷ ys) x below m means = (m.0, next_means config ts d n ys x (omega arith) m.1 means)
 
 -- one more text has its tree
-pub one_more_means : (config : Config) (ts : List (Bor (List ℕ))) (d : Bor (List ℕ)) (n : ℕ) (old new : List Tree) (x : Tree) → n < length ts →
+pub one_more_means : (config : Config) (ts : List (Bor (List ℕ))) (d : Bor (List ℕ)) (n : ℕ) (old new : List Tree) (x : Tree) →
+    n < length ts →
     new ≡ old ++ x ∷ [] → AllMean config (take n (read_texts ts)) old → MeansText config (slice_index_or ts n d).now x →
     AllMean config (take (n + 1) (read_texts ts)) new
 one_more_means config ts d n old new x below is m means =
@@ -41,7 +44,8 @@ take_all (t ∷ ts) zero above = absurd (omega arith)
 take_all (t ∷ ts) (suc n) above = ap (λ us. t.now ∷ us) (take_all ts n (omega arith))
 
 -- all texts have their trees
-pub all_mean : (config : Config) (ts : List (Bor (List ℕ))) (n : ℕ) (xs : List Tree) → length ts ≤ n → AllMean config (take n (read_texts ts)) xs →
+pub all_mean : (config : Config) (ts : List (Bor (List ℕ))) (n : ℕ) (xs : List Tree) → length ts ≤ n →
+    AllMean config (take n (read_texts ts)) xs →
     AllMean config (read_texts ts) xs
 all_mean config ts n xs above m = subst (λ us. AllMean config us xs) (take_all ts n above) m
 
@@ -51,7 +55,8 @@ one_more_holds P old new x is each here = subst (All P) (sym is) (All-append P o
     (All-cons P x [] here (λ k d below. absurd (omega (arith, below)))))
 
 -- the first text that is refused
-pub first_fault : (config : Config) (ts : List (Bor (List ℕ))) (d : Bor (List ℕ)) (n : ℕ) (xs : List Tree) (e : ParseError) → n < length ts →
+pub first_fault : (config : Config) (ts : List (Bor (List ℕ))) (d : Bor (List ℕ)) (n : ℕ) (xs : List Tree) (e : ParseError) →
+    n < length ts →
     AllMean config (take n (read_texts ts)) xs → IsFault config (slice_index_or ts n d).now e → IsFirstFault config (read_texts ts) n e
 first_fault config ts d n xs e below m fault =
     record { text = (slice_index_or ts n d).now; listed = listed_text ts d n below; fault = fault; trees = xs; before = m }

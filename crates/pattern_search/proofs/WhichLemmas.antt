@@ -1,7 +1,9 @@
 -- Which of several patterns match: those of which a walk over all ends tells one.
-use Rattle.std.proofs.Common.{◌≡◌, ◌↔◌, ◌⊎◌, ℕ, zero, suc, ◌<◌, ◌≤◌, ◌||◌, Bool, true, false, List, [], ◌∷◌, length, map, replicate, Option, Some, None, Ok, slice_get}
+use Rattle.std.proofs.Common.{◌≡◌, ◌↔◌, ◌⊎◌, ℕ, zero, suc, ◌<◌, ◌≤◌, ◌||◌, Bool, true, false, List, [], ◌∷◌, length, map, replicate, Option}
+use Rattle.std.proofs.Common.{Some, None, Ok, slice_get}
 use Rattle.std.proofs.Common.{if◌then◌else◌, is_some, refl, sym, ap, ◌∙◌, subst, arith, inl, inr, ⊎_elim, lt-ltb, true≢false}
-use Rattle.std.proofs.lemmas.Bool.{cases_Bool, cases_lt}
+use Rattle.std.proofs.lemmas.Bool.{cases_lt}
+use Rattle.std.proofs.lemmas.List.{length-map}
 use Rattle.std.proofs.lemmas.Option.{none-some, same_Some}
 use Rattle.regex_hir.specs.Re.{Re, Trace, accept, attempt}
 use Rattle.regex_hir.specs.Matches.{Matches}
@@ -15,13 +17,14 @@ use Rattle.search_types.specs.declared.match_error.MatchErrorKind.{MatchErrorKin
 use Rattle.search_types.specs.Inputs.{Search}
 use Rattle.search_types.specs.Places.{counts}
 use Rattle.search_types.proofs.ForCallers.{starts_at, may_start_at}
+use Rattle.std.specs.Cmp.{both_ways}
 use Rattle.hir_core.specs.Tree.{Tree}
 use Rattle.hir_core.specs.Means.{Means}
 use Rattle.hir_core.specs.Facts.{is_utf8_tree}
 use Rattle.hir_core.proofs.ForCallers.{span_forward, span_within, span_start_bounded}
 use Rattle.lazy_dfa.specs.Caches.{CacheValue}
-use Rattle.lazy_dfa.specs.Dfas.{Dfa, reader}
-use Rattle.lazy_dfa.specs.WalkAnswers.{Which, with_pattern, is_full, which_from, which_of, AnswersWhich}
+use Rattle.lazy_dfa.specs.Dfas.{Dfa}
+use Rattle.lazy_dfa.specs.WalkAnswers.{with_pattern, is_full, which_from, AnswersWhich}
 use Rattle.lazy_dfa.proofs.ForCallers.{room_kept}
 use Rattle.hirscan.specs.Regexes.{IsSearchOf}
 use Rattle.hirscan.specs.TreeWalks.{IsToldEnd}
@@ -32,12 +35,14 @@ use Rattle.pattern_search.proofs.FindLemmas.{tried, found_is}
 use Rattle.pattern_search.proofs.StartLemmas.{tree_at, pattern_at, holds_of}
 
 -- ---- a set has as many tests as before
-kept_from : (e : Bool) (s : List Bool) (ends : List (ℕ × ℕ)) (refusal : Option MatchErrorKind) → length (which_from e s ends refusal).set ≡ length s
+kept_from : (e : Bool) (s : List Bool) (ends : List (ℕ × ℕ)) (refusal : Option MatchErrorKind) →
+    length (which_from e s ends refusal).set ≡ length s
 kept_from e s [] refusal = refl
 kept_from e s (x ∷ xs) refusal = by (e || is_full (with_pattern s x.1)) (kept_from e (with_pattern s x.1) xs refusal)
   where
     by : (b : Bool) → length (which_from e (with_pattern s x.1) xs refusal).set ≡ length (with_pattern s x.1) →
-        length (if b then (record { set = with_pattern s x.1; refusal = None }) else which_from e (with_pattern s x.1) xs refusal).set ≡ length s
+        length (if b then (record { set = with_pattern s x.1; refusal = None }) else which_from e (with_pattern s x.1) xs refusal).set ≡
+        length s
     by true rest = room_kept s (x ∷ [])
     by false rest = rest ∙ room_kept s (x ∷ [])
 
@@ -80,13 +85,15 @@ module _ (utf8 : Bool) (a : Re) (h : List ℕ) where
           begun m.start m.trace first.to (may_begin utf8 h m.start) refl first.here
 
 -- ---- a pattern and its tree
-module _ (utf8 : Bool) (res : List Re) (xs : List Tree) (same : AreSameSpans res xs) (h : List ℕ) (search : IsSearchOf xs utf8 (whole_search h 0)) where
+module _ (utf8 : Bool) (res : List Re) (xs : List Tree) (same : AreSameSpans res xs) (h : List ℕ)
+    (search : IsSearchOf xs utf8 (whole_search h 0)) where
   -- an end of a span of this pattern is told
   abbrev IsTold : ℕ → Type 0
   IsTold p = (j : ℕ) × IsToldEnd (whole_query utf8 xs h) 0 j p
 
   -- a span that ends where it counts starts where it counts
-  start_counts : (x : Tree) (i j : ℕ) → (utf8 ≡ true → is_utf8_tree x ≡ true) → i ≤ length h → counts utf8 h j ≡ true → Means (looks_of h) h x i j →
+  start_counts : (x : Tree) (i j : ℕ) → (utf8 ≡ true → is_utf8_tree x ≡ true) → i ≤ length h → counts utf8 h j ≡ true →
+      Means (looks_of h) h x i j →
       (b : Bool) → utf8 ≡ b → counts b h i ≡ true
   start_counts x i j text within ends m false is = refl
   start_counts x i j text within ends m true is = elim (cases_lt i j) [
@@ -103,7 +110,8 @@ module _ (utf8 : Bool) (res : List Re) (xs : List Tree) (same : AreSameSpans res
       let span = t.findable.span in
       let within = (starts_at No 0 (length h) t.start t.starts).to_last in
       let b = pattern_at res xs same p span.tree span.listed in
-      let starts = start_counts span.tree t.start told.0 (λ on. holds_of xs p span.tree span.listed (search.utf8_trees on)) within t.counted span.means utf8 refl in
+      let starts = start_counts span.tree t.start told.0
+      (λ on. holds_of xs p span.tree span.listed (search.utf8_trees on)) within t.counted span.means utf8 refl in
       subst (λ r. is_some (found_from utf8 r h 0) ≡ true) (same_Some b.0 a (sym b.1 ∙ listed))
       (some_found utf8 b.0 h t.start told.0 within (same_begin utf8 h t.start within ∙ starts)
       ((b.2.at h search.bytes t.start told.0 within).1 span.means))
@@ -128,11 +136,6 @@ module _ (utf8 : Bool) (res : List Re) (xs : List Tree) (same : AreSameSpans res
       )
 
 -- ---- lists of tests
-both_ways : (a b : Bool) → (a ≡ true → b ≡ true) → (b ≡ true → a ≡ true) → a ≡ b
-both_ways true b f g = sym (f refl)
-both_ways false true f g = g refl
-both_ways false false f g = refl
-
 same_tests : (xs ys : List Bool) → length xs ≡ length ys → ((p : ℕ) → p < length ys → has xs p ≡ has ys p) → xs ≡ ys
 same_tests [] [] e each = refl
 same_tests [] (y ∷ ys) e each = absurd (omega (arith, e))
@@ -155,10 +158,6 @@ mapped f [] p below = absurd (omega (arith, below))
 mapped f (a ∷ ys) zero below = (a, refl, refl)
 mapped f (a ∷ ys) (suc p) below = mapped f ys p (omega (arith, below))
 
-length_mapped : {A B : Type 0} (f : A → B) (ys : List A) → length (map f ys) ≡ length ys
-length_mapped f [] = refl
-length_mapped f (a ∷ ys) = ap suc (length_mapped f ys)
-
 pub as_many : (res : List Re) (xs : List Tree) → AreSameSpans res xs → length res ≡ length xs
 as_many [] [] same = refl
 as_many [] (x ∷ xs) same = absurd same
@@ -166,7 +165,8 @@ as_many (a ∷ res) [] same = absurd same
 as_many (a ∷ res) (x ∷ xs) same = ap suc (as_many res xs same.1)
 
 -- what is added to an empty set are the patterns that match
-module _ (utf8 : Bool) (res : List Re) (xs : List Tree) (same : AreSameSpans res xs) (h : List ℕ) (search : IsSearchOf xs utf8 (whole_search h 0)) where
+module _ (utf8 : Bool) (res : List Re) (xs : List Tree) (same : AreSameSpans res xs) (h : List ℕ)
+    (search : IsSearchOf xs utf8 (whole_search h 0)) where
   pub which_is : (new : List Bool) → length new ≡ length (replicate (length xs) false) →
       ((p : ℕ) → (has new p ≡ true) ↔ ((has (replicate (length xs) false) p ≡ true) ⊎
       ((p < length (replicate (length xs) false)) × ((j : ℕ) × IsToldEnd (whole_query utf8 xs h) 0 j p)))) →
@@ -174,7 +174,7 @@ module _ (utf8 : Bool) (res : List Re) (xs : List Tree) (same : AreSameSpans res
   which_is new room adds = same_tests new (which_match utf8 res h) rooms (λ p below. at p below)
     where
       many : length (which_match utf8 res h) ≡ length xs
-      many = length_mapped (λ re. is_some (found_from utf8 re h 0)) res ∙ as_many res xs same
+      many = length-map res (λ re. is_some (found_from utf8 re h 0)) ∙ as_many res xs same
 
       rooms : length new ≡ length (which_match utf8 res h)
       rooms = room ∙ room_for (length xs) ∙ sym many
@@ -189,4 +189,7 @@ module _ (utf8 : Bool) (res : List Re) (xs : List Tree) (same : AreSameSpans res
           (λ (come : (p < length (replicate (length xs) false)) × ((j : ℕ) × IsToldEnd (whole_query utf8 xs h) 0 j p)).
           told_found utf8 res xs same h search p told.0 told.1 come.1)
           ((adds p).0 there))
-          (λ there. (adds p).1 (inr (omega (arith, inside, room_for (length xs)), found_told utf8 res xs same h search p told.0 inside told.1 (sym told.2 ∙ there))))
+          (λ there. (adds p).1 (inr (
+            omega (arith, inside, room_for (length xs)),
+            found_told utf8 res xs same h search p told.0 inside told.1 (sym told.2 ∙ there),
+          )))

@@ -25,10 +25,13 @@ pub record AnswersAsRead (res : List Re) (xs : List Tree) (s : Settings) (p : Pa
       option_map span_of_match (found_from s.utf8 (alt_all res) h at) ≡ option_map span_of_found o
   pub told : All LoopsRead xs → (h : List ℕ) (at : ℕ) → IsSearchOf xs s.utf8 (whole_search h at) → (c : PairCache) (b : Bool) →
       AnswersMatch p c (whole_search h at) (Ok b) → b ≡ is_some (found_from s.utf8 (alt_all res) h at)
-  pub listed : All LoopsRead xs → (h : List ℕ) (at n : ℕ) → IsSearchOf xs s.utf8 (whole_search h at) → at ≤ length h + 1 → length h + 1 - at ≤ n →
-      (fs : List Found) (old new : FindMatches) → searches_by old ≡ p → AreTaken p (whole_search h at) fs (finds_from old) → FindsNext old None new →
+  pub listed : All LoopsRead xs → (h : List ℕ) (at n : ℕ) → IsSearchOf xs s.utf8 (whole_search h at) → at ≤ length h + 1 →
+      length h + 1 - at ≤ n →
+      (fs : List Found) (old new : FindMatches) → searches_by old ≡ p → AreTaken p (whole_search h at) fs (finds_from old) →
+      FindsNext old None new →
       map span_of_match (matches_from (found_from s.utf8 (alt_all res) h) n (found_from s.utf8 (alt_all res) h at)) ≡ map span_of_found fs
-  pub all : All LoopsRead xs → (h : List ℕ) → IsSearchOf xs s.utf8 (whole_search h 0) → (fs : List Found) (old new : FindMatches) → searches_by old ≡ p →
+  pub all : All LoopsRead xs → (h : List ℕ) → IsSearchOf xs s.utf8 (whole_search h 0) → (fs : List Found) (old new : FindMatches) →
+      searches_by old ≡ p →
       AreTaken p (whole_search h 0) fs (finds_from old) → FindsNext old None new →
       map span_of_match (all_found s.utf8 (alt_all res) h) ≡ map span_of_found fs
   pub starts : (h : List ℕ) (at : ℕ) → IsSearchOf xs s.utf8 (whole_search h at) → (c : PairCache) (o : Option Found) →

@@ -1,6 +1,7 @@
 -- What the trees of several patterns find in a whole haystack, in the words of the toolchain's matcher: `find` in any bytes, and
 -- `find_str` in text, where no match starts inside a character. It takes one pattern: several are their alternation, the first preferred.
-use Rattle.std.specs.Prelude.{◌≡◌, ◌↔◌, ℕ, ◌+◌, ◌-◌, ◌<◌, ◌≤◌, Bool, true, false, List, map, length, slice_get, All, Option, Some, option_map, is_some}
+use Rattle.std.specs.Prelude.{◌≡◌, ◌↔◌, ℕ, ◌+◌, ◌-◌, ◌<◌, ◌≤◌, Bool, true, false, List, map, length, slice_get, All, Option, Some}
+use Rattle.std.specs.Prelude.{option_map, is_some}
 use Rattle.regex_hir.specs.Re.{Re}
 use Rattle.regex_hir.specs.Matches.{Matches}
 use Rattle.regex_hir.specs.Meaning.{alt_all}
@@ -53,7 +54,8 @@ pub record IsMatchOf (res : List Re) (h : List ℕ) (p i j : ℕ) : Type 0 where
 -- from each place of any bytes, each pattern matches the spans that the tree in its place means, and no others
 abbrev pub SpansAsRead : List Re → List Tree → Type 0
 SpansAsRead res xs =
-    (h : List ℕ) → All (λ b. b < 256) h → (utf8 : Bool) (p i j : ℕ) → i ≤ length h → IsMatchOf res h p i j ↔ IsSpanOf (whole_query utf8 xs h) p i j
+    (h : List ℕ) → All (λ b. b < 256) h → (utf8 : Bool) (p i j : ℕ) → i ≤ length h →
+    IsMatchOf res h p i j ↔ IsSpanOf (whole_query utf8 xs h) p i j
 
 -- the found span is one of its pattern, and no pattern before that one matches from its start
 pub record IsOfFirstPattern (res : List Re) (h : List ℕ) (f : Found) : Type 0 where
@@ -63,11 +65,13 @@ pub record IsOfFirstPattern (res : List Re) (h : List ℕ) (f : Found) : Type 0 
 -- Where the matcher finds no match there is no answer, and where it finds one the answer has its start, and there the first pattern
 -- that matches: so are an answer that the trees define but for preferred ends, and the preferred one.
 pub record StartsAsRead (utf8 : Bool) (res : List Re) (xs : List Tree) : Type 0 where
-  pub loose : (h : List ℕ) (s : ℕ) → IsSearchOf xs utf8 (whole_search h s) → (o : Option Found) → IsLooseAnswer (whole_query utf8 xs h) s o →
+  pub loose : (h : List ℕ) (s : ℕ) → IsSearchOf xs utf8 (whole_search h s) → (o : Option Found) →
+      IsLooseAnswer (whole_query utf8 xs h) s o →
       option_map (λ m. m.start) (found_from utf8 (alt_all res) h s) ≡ option_map (λ f. f.start) o
   pub preferred : (h : List ℕ) (s : ℕ) → IsSearchOf xs utf8 (whole_search h s) →
       option_map (λ m. m.start) (found_from utf8 (alt_all res) h s) ≡ option_map (λ f. f.start) (answer_from (whole_query utf8 xs h) s)
-  pub pattern : (h : List ℕ) (s : ℕ) → IsSearchOf xs utf8 (whole_search h s) → (f : Found) → IsLooseAnswer (whole_query utf8 xs h) s (Some f) →
+  pub pattern : (h : List ℕ) (s : ℕ) → IsSearchOf xs utf8 (whole_search h s) → (f : Found) →
+      IsLooseAnswer (whole_query utf8 xs h) s (Some f) →
       IsOfFirstPattern res h f
 
 -- ---- where the loops read

@@ -57,7 +57,8 @@ pub fn regexes_answer_what_is_written()
 /// patterns of which the toolchain's matcher finds a match in the haystack, whatever the loops read.
 pub fn walks_tell_which_patterns_match()
     ensures { (res : List Re) (xs : List Tree) → AreSameSpans res xs → (s : Settings) (p : Pair) →
-        IsBuilt xs s p → kind_of s.dfa ≡ AllMatches → s.line_terminator ≡ one_of 10 → (h : List ℕ) → IsSearchOf xs s.utf8 (whole_search h 0) →
+        IsBuilt xs s p → kind_of s.dfa ≡ AllMatches → s.line_terminator ≡ one_of 10 → (h : List ℕ) →
+        IsSearchOf xs s.utf8 (whole_search h 0) →
         (v : CacheValue) (set : List Bool) → AnswersWhich p.forward v (whole_search h 0) (replicate (length xs) false) set (Ok tt) →
         set ≡ which_match s.utf8 res h }
 {
@@ -68,7 +69,8 @@ pub fn walks_tell_which_patterns_match()
 /// So it has for trees that [`parse_all`](crate::parse_all) made of texts.
 pub fn walks_tell_which_texts_match()
     ensures { (config : Config) (texts : List (List ℕ)) (xs : List Tree) → AllMean config texts xs → (s : Settings) (p : Pair) →
-        IsBuilt xs s p → kind_of s.dfa ≡ AllMatches → s.line_terminator ≡ one_of 10 → (h : List ℕ) → IsSearchOf xs s.utf8 (whole_search h 0) →
+        IsBuilt xs s p → kind_of s.dfa ≡ AllMatches → s.line_terminator ≡ one_of 10 → (h : List ℕ) →
+        IsSearchOf xs s.utf8 (whole_search h 0) →
         (v : CacheValue) (set : List Bool) → AnswersWhich p.forward v (whole_search h 0) (replicate (length xs) false) set (Ok tt) →
         (res : List Re) × AreRead config texts res × (set ≡ which_match s.utf8 res h) }
 {

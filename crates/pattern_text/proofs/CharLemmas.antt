@@ -1,5 +1,6 @@
 -- Both read the same character at a place.
-use Rattle.std.proofs.Common.{◌≡◌, ℕ, ◌+◌, ◌<◌, Bool, List, ◌++◌, drop, slice_get, Option, Some, None, option_and_then, refl, sym, subst, ap, ap₂, ◌∙◌, if◌then◌else◌}
+use Rattle.std.proofs.Common.{◌≡◌, ℕ, ◌+◌, ◌<◌, Bool, List, ◌++◌, drop, slice_get, Option, Some, None, option_and_then, refl, sym, subst}
+use Rattle.std.proofs.Common.{ap, ap₂, ◌∙◌, if◌then◌else◌}
 use Rattle.std.proofs.lemmas.Option.{slice_get_within, get_or_from_slice_get}
 use Rattle.std.specs.Char.{IsScalar, len_utf8, encode_utf8}
 use Rattle.std.proofs.lemmas.Str.{length-encode}
@@ -39,7 +40,8 @@ len_same c scalar = sym (length-encode c) ∙ spelling_has_len c (encode_utf8 c)
 
 char_first : (rs ranges : List (ℕ × ℕ)) (same : (c : ℕ) → IsScalar c → in_ranges rs c ≡ is_member ranges c) (o : Option ℕ)
     (scalar : (c : ℕ) → o ≡ Some c → IsScalar c) (k : Rest) (i : ℕ) →
-    end_of (option_and_then (λ c. if in_ranges rs c then k (i + len_utf8 c) else None) o) ≡ first_of (λ j. end_of (k j)) (character_end ranges o i)
+    end_of (option_and_then (λ c. if in_ranges rs c then k (i + len_utf8 c) else None) o) ≡
+    first_of (λ j. end_of (k j)) (character_end ranges o i)
 char_first rs ranges same None scalar k i = refl
 char_first rs ranges same (Some c) scalar k i =
     let s = scalar c refl in

@@ -1,5 +1,6 @@
 -- Ranges of a class, as ranges of bytes and of characters.
-use Rattle.std.proofs.Common.{◌≡◌, ℕ, ◌+◌, ◌<◌, ◌≤◌, min, max, Bool, true, false, ◌&&◌, ◌||◌, nat_le, nat_lt, List, [], ◌∷◌, ◌++◌, length, if◌then◌else◌, refl, sym, ap, ◌∙◌, arith, leb-true, ltb-true}
+use Rattle.std.proofs.Common.{◌≡◌, ℕ, ◌+◌, ◌<◌, ◌≤◌, min, max, Bool, true, false, ◌&&◌, ◌||◌, nat_le, nat_lt, List, [], ◌∷◌, ◌++◌, length}
+use Rattle.std.proofs.Common.{if◌then◌else◌, refl, sym, ap, ◌∙◌, arith, leb-true, ltb-true}
 use Rattle.std.proofs.lemmas.Bool.{and_parts}
 use Rattle.std.proofs.lemmas.Bool.Decides.{nat_tests}
 use Rattle.std.specs.Char.{IsScalar}
@@ -82,14 +83,16 @@ scalar_step : (r : ℕ × ℕ) (rest : List (ℕ × ℕ)) (c : ℕ) → IsScalar
 unfolding in_range
 scalar_step r rest c scalar =
     member_if (nat_lt r.0 0xD800) (r.0, min r.1 0xD7FF) (above r ++ rest) c
-    ∙ ap (λ m. (nat_lt r.0 0xD800 && (nat_le r.0 c && nat_le c (min r.1 0xD7FF))) || m) (member_if (nat_lt 0xDFFF r.1) (max r.0 0xE000, r.1) rest c)
+    ∙ ap (λ m. (nat_lt r.0 0xD800 && (nat_le r.0 c && nat_le c (min r.1 0xD7FF))) || m)
+    (member_if (nat_lt 0xDFFF r.1) (max r.0 0xE000, r.1) rest c)
     ∙ or_assoc _ _ (is_member rest c)
     ∙ ap (λ b. b || is_member rest c) (either_side r.0 r.1 c scalar)
 
 pub same_scalars : (rs : List (ℕ × ℕ)) (c : ℕ) → IsScalar c → in_ranges rs c ≡ is_member (without_surrogates rs) c
 unfolding in_ranges
 same_scalars [] c scalar = refl
-same_scalars (r ∷ rs) c scalar = ap (λ b. in_range r c || b) (same_scalars rs c scalar) ∙ sym (scalar_step r (without_surrogates rs) c scalar)
+same_scalars (r ∷ rs) c scalar =
+    ap (λ b. in_range r c || b) (same_scalars rs c scalar) ∙ sym (scalar_step r (without_surrogates rs) c scalar)
 
 in_upper : (n : ℕ) → 0xE000 ≤ n → n ≤ 0x10_FFFF → IsScalar n
 in_upper n p q = grind (arith, nat_tests)

@@ -1,5 +1,6 @@
 -- From what the toolchain's parser tells to what is told of trees and refusals.
-use Rattle.std.proofs.Common.{◌≡◌, ◌≢◌, ℕ, ◌≤◌, ◌+◌, ◌*◌, arith, List, length, chars, Option, Some, None, IsSomeAnd, ap, sym, ◌∙◌, subst, option_map, ⊎_elim, refl, Bool, true, false, IsTrue, true≢false}
+use Rattle.std.proofs.Common.{◌≡◌, ◌≢◌, ℕ, ◌≤◌, ◌+◌, ◌*◌, arith, List, length, chars, Option, Some, None, IsSomeAnd, ap, sym, ◌∙◌, subst}
+use Rattle.std.proofs.Common.{option_map, ⊎_elim, refl, Bool, true, false, IsTrue, true≢false}
 use Rattle.regex_hir.specs.Re.{Re, attempt}
 use Rattle.regex_hir.specs.Meaning.{meaning}
 use Rattle.regex_hir.specs.declared.hir.Hir.{Hir}
@@ -19,7 +20,8 @@ use Rattle.pattern_text.specs.Patterns.{MeansText, IsRefused}
 use Rattle.pattern_text.proofs.SpanLemmas.{spans_of_captures}
 use Rattle.pattern_text.proofs.TranslatedLemmas.{same_ends, same_spans, keeps_names, is_text, height_at_most}
 
-pub refused_for : (config : Config) (text : List ℕ) (kind : ErrorKind) → kind ≢ OutOfMemory → Refuses config text kind → IsRefused config text kind
+pub refused_for : (config : Config) (text : List ℕ) (kind : ErrorKind) → kind ≢ OutOfMemory → Refuses config text kind →
+    IsRefused config text kind
 unfolding Refuses IsRefused
 refused_for config text kind other refuses = ⊎_elim (λ memory. absurd (other memory)) (λ told. told) refuses
 
@@ -37,8 +39,10 @@ ends_of_captures a b x same s = record {
 }
 
 carried : (config : Config) (hir : Hir) (names : Names) (r : Option (Nested Re × Names)) →
-    IsSomeAnd r (λ (re, found). (re.depth ≤ config.nest_limit) × SameCaptures (meaning hir) re.value × (names ≡ found) × (group_count (meaning hir) ≤ length names)) →
-    IsSomeAnd r (λ (re, found). (re.depth ≤ config.nest_limit) × SameEnds re.value (translated names hir) × SameSpans re.value (translated names hir)
+    IsSomeAnd r (λ (re, found). (re.depth ≤ config.nest_limit) × SameCaptures (meaning hir) re.value × (names ≡ found) ×
+    (group_count (meaning hir) ≤ length names)) →
+    IsSomeAnd r (λ (re, found). (re.depth ≤ config.nest_limit) × SameEnds re.value (translated names hir) ×
+    SameSpans re.value (translated names hir)
     × HasNames found (translated names hir))
 carried config hir names None r = absurd r
 carried config hir names (Some (re, found)) r = (
@@ -49,16 +53,20 @@ carried config hir names (Some (re, found)) r = (
 )
 
 -- what the grammar reads, the tree of what the parser made means
-pub means_text : (config : Config) (text : List ℕ) (hir : Hir) (names : Names) (x : Tree) → Reads config text hir names → x ≡ translated names hir →
+pub means_text : (config : Config) (text : List ℕ) (hir : Hir) (names : Names) (x : Tree) → Reads config text hir names →
+    x ≡ translated names hir →
     MeansText config text x
 unfolding Reads MeansText
-means_text config text hir names x reads is = subst (MeansText config text) (sym is) (carried config hir names (read config (chars text)) reads)
+means_text config text hir names x reads is =
+    subst (MeansText config text) (sym is) (carried config hir names (read config (chars text)) reads)
 
 -- where the option is on, the tree is seen to be UTF-8
-pub utf8_tree : (utf8 : Bool) (hir : Hir) (names : Names) (x : Tree) → IsTrue utf8 → IsWellFormed utf8 hir → x ≡ translated names hir → IsTrue (is_utf8_tree x)
+pub utf8_tree : (utf8 : Bool) (hir : Hir) (names : Names) (x : Tree) → IsTrue utf8 → IsWellFormed utf8 hir → x ≡ translated names hir →
+    IsTrue (is_utf8_tree x)
 utf8_tree true hir names x on formed is = subst (λ (t : Tree). IsTrue (is_utf8_tree t)) (sym is) (is_text names hir formed)
 utf8_tree false hir names x on formed is = absurd (true≢false (sym on))
 
 -- the tree is at most as high as the parsed pattern is deep, and one
-pub low_tree : (limit : ℕ) (hir : Hir) (names : Names) (x : Tree) → depth hir ≤ 5 * limit + 4 → x ≡ translated names hir → height x ≤ 5 * limit + 5
+pub low_tree : (limit : ℕ) (hir : Hir) (names : Names) (x : Tree) → depth hir ≤ 5 * limit + 4 → x ≡ translated names hir →
+    height x ≤ 5 * limit + 5
 low_tree limit hir names x low is = subst (λ (t : Tree). height t ≤ 5 * limit + 5) (sym is) (omega (arith, low, height_at_most names hir))

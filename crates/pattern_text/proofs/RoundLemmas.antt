@@ -1,5 +1,6 @@
 -- Repetitions of a pattern and of a tree have the same spans, whether their rounds read or not.
-use Rattle.std.proofs.Common.{◌≡◌, ℕ, zero, suc, ◌+◌, ◌-◌, ◌≤◌, Bool, true, false, List, length, max, Option, Some, None, option_map, refl, sym, ap, subst, arith, inl, inr, ⊎_elim, ◌⊎◌}
+use Rattle.std.proofs.Common.{◌≡◌, ℕ, zero, suc, ◌+◌, ◌-◌, ◌≤◌, Bool, true, false, List, length, max, Option, Some, None, option_map, refl}
+use Rattle.std.proofs.Common.{sym, ap, subst, arith, inl, inr, ⊎_elim, ◌⊎◌}
 use Rattle.std.specs.Option.{ForSome}
 use Rattle.regex_hir.specs.Re.{Re}
 use Rattle.regex_hir.specs.Re as re
@@ -46,7 +47,8 @@ module _ (R : ℕ → ℕ → Type 0) where
   to_plus (suc n) i j r = before i r.0 j r.1 (to_plus n r.0 j r.2)
 
 -- rounds carried along, from the places of the haystack on which they stay
-along_rounds : (R S : ℕ → ℕ → Type 0) (last : ℕ) → ((i j : ℕ) → i ≤ last → R i j → S i j × (j ≤ last)) → (n i j : ℕ) → i ≤ last → Rounds R n i j → Rounds S n i j
+along_rounds : (R S : ℕ → ℕ → Type 0) (last : ℕ) → ((i j : ℕ) → i ≤ last → R i j → S i j × (j ≤ last)) → (n i j : ℕ) → i ≤ last →
+    Rounds R n i j → Rounds S n i j
 along_rounds R S last step zero i j w r = r
 along_rounds R S last step (suc n) i j w r =
     let p = step i r.0 w r.1 in (r.0, p.0, along_rounds R S last step n r.0 j p.1 r.2)
@@ -85,7 +87,8 @@ module _ (h : List ℕ) (a : Re) where
   to_up_to greedy (suc n) (suc m) i j le r =
       to_optional greedy (re.cat a (meaning.up_to greedy n a)) i j (inl (r.0, r.1, to_up_to greedy n m r.0 j (omega (arith, le)) r.2))
 
-  of_between : (greedy : Bool) (min extra most i j : ℕ) → most ≡ min + extra → Matches h (meaning.copies min a (meaning.up_to greedy extra a)) i j →
+  of_between : (greedy : Bool) (min extra most i j : ℕ) → most ≡ min + extra →
+      Matches h (meaning.copies min a (meaning.up_to greedy extra a)) i j →
       RoundsFrom (Matches h a) min (Some most) i j
   of_between greedy min extra most i j e m =
       let front = of_copies min (meaning.up_to greedy extra a) i j m in
@@ -125,7 +128,8 @@ module _ (h : List ℕ) (a : Re) where
   of_repeat min None greedy i j m = of_at_least greedy min i j m
   of_repeat min (Some most) greedy i j m = of_between greedy min (most - min) (max most min) i j (omega arith) m
 
-  pub to_repeat : (min : ℕ) (most : Option ℕ) (greedy : Bool) (i j : ℕ) → RoundsFrom (Matches h a) min (option_map (λ n. max n min) most) i j →
+  pub to_repeat : (min : ℕ) (most : Option ℕ) (greedy : Bool) (i j : ℕ) →
+      RoundsFrom (Matches h a) min (option_map (λ n. max n min) most) i j →
       Matches h (meaning.repeat min most greedy a) i j
   unfolding meaning.repeat
   to_repeat min None greedy i j r = to_at_least greedy min r.0 i j r.1 r.3
@@ -160,4 +164,5 @@ raised min (Some most) ordered = let le : min ≤ most = ordered most refl in le
 pub spans_repetition : (min : ℕ) (most : Option ℕ) (greedy : Bool) (a : Re) (x : Tree) → ForSome most (λ n. min ≤ n) → SameSpans a x →
     SameSpans (meaning.repeat min most greedy a) (repetition min most greedy x)
 spans_repetition min most greedy a x ordered p =
-    subst (λ (o : Option ℕ). SameSpans (meaning.repeat min most greedy a) (repetition min o greedy x)) (raised min most ordered) (spans_rounds min most greedy a x p)
+    subst (λ (o : Option ℕ). SameSpans (meaning.repeat min most greedy a) (repetition min o greedy x)) (raised min most ordered)
+    (spans_rounds min most greedy a x p)

@@ -1,5 +1,6 @@
 -- Patterns and trees that have the same spans: single ones, and how they are joined.
-use Rattle.std.proofs.Common.{◌≡◌, ◌↔◌, ℕ, ◌<◌, ◌≤◌, ◌==◌, List, [], ◌∷◌, length, Option, Some, None, IsSome, is_some, All, refl, sym, ap, ◌∙◌, subst, arith, inl, inr, ⊎_elim, if◌then◌else◌, eqb-true, eq-eqb, true≢false}
+use Rattle.std.proofs.Common.{◌≡◌, ◌↔◌, ℕ, ◌<◌, ◌≤◌, ◌==◌, List, [], ◌∷◌, length, Option, Some, None, IsSome, is_some, All, refl, sym, ap}
+use Rattle.std.proofs.Common.{◌∙◌, subst, arith, inl, inr, ⊎_elim, if◌then◌else◌, eqb-true, eq-eqb, true≢false}
 use Rattle.std.proofs.lemmas.Bool.{cond-true}
 use Rattle.regex_hir.specs.Re.{Re, Trace, Rest, accept, attempt}
 use Rattle.regex_hir.specs.Re as re
@@ -30,7 +31,8 @@ some_end : (o : Option Trace) → is_some (end_of o) ≡ is_some o
 some_end None = refl
 some_end (Some t) = refl
 
-some_outcome : (o : Option Trace) → is_some (outcome o) ≡ is_some o
+-- an outcome is there where a trace is
+pub some_outcome : (o : Option Trace) → is_some (outcome o) ≡ is_some o
 unfolding outcome
 some_outcome None = refl
 some_outcome (Some t) = refl
@@ -49,7 +51,8 @@ has_first : (j : ℕ) (ends : List ℕ) → Has ends j → IsSome (first_of (λ 
 has_first j [] h = absurd h
 has_first j (l ∷ ends) h =
     ⊎_elim
-    (λ (here : l ≡ j). IsSome-option_or_left (end_of (only j l)) _ (some_end (only j l) ∙ subst (λ m. IsSome (only j m)) (sym here) (only_here j)))
+    (λ (here : l ≡ j). IsSome-option_or_left (end_of (only j l)) _ (some_end (only j l)
+    ∙ subst (λ m. IsSome (only j m)) (sym here) (only_here j)))
     (λ later. IsSome-option_or_right (end_of (only j l)) _ (has_first j ends later))
     h
 
@@ -110,5 +113,6 @@ spans_alt a b x y p q = record {
       (⊎_elim (λ m. inl (first.0 m)) (λ m. inr (second.0 m)), ⊎_elim (λ m. inl (first.1 m)) (λ m. inr (second.1 m)));
 }
 
-pub spans_group : (n index : ℕ) (name : Option (List ℕ)) (a : Re) (x : Tree) → SameSpans a x → SameSpans (re.group n a) (tree.capture index name x)
+pub spans_group : (n index : ℕ) (name : Option (List ℕ)) (a : Re) (x : Tree) → SameSpans a x →
+    SameSpans (re.group n a) (tree.capture index name x)
 spans_group n index name a x p = record { at = λ h bytes i j within. p.at h bytes i j within }

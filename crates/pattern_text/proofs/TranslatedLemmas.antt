@@ -1,5 +1,6 @@
 -- The equations of `translated`, one for each variant, and what holds of the tree of every pattern.
-use Rattle.std.proofs.Common.{◌≡◌, ℕ, ◌+◌, ◌≤◌, min, max, nat_le, nat_lt, Bool, true, false, ◌&&◌, List, [], ◌∷◌, ◌++◌, map, Option, option_map, Vec, Box, Global, refl, sym, ap, ◌∙◌, subst, arith, if◌then◌else◌, le-leb, lt-ltb}
+use Rattle.std.proofs.Common.{◌≡◌, ℕ, ◌+◌, ◌≤◌, min, max, nat_le, nat_lt, Bool, true, false, ◌&&◌, List, [], ◌∷◌, ◌++◌, map, Option}
+use Rattle.std.proofs.Common.{option_map, Vec, Box, Global, refl, sym, ap, ◌∙◌, subst, arith, if◌then◌else◌, le-leb, lt-ltb}
 use Rattle.std.proofs.lemmas.Bool.{and_from, or_left, or_right}
 use Rattle.std.proofs.lemmas.Str.{is_utf8-from_IsUtf8}
 use Rattle.std.specs.List.{list_all}
@@ -9,10 +10,14 @@ use Rattle.regex_hir.specs.Re.{Re}
 use Rattle.regex_hir.specs.Re as re
 use Rattle.regex_hir.specs.Meaning.{meaning, node_meaning, cat_all, alt_all, repeat}
 use Rattle.regex_hir.specs.declared.look.Look as look_type
-use Rattle.regex_hir.specs.declared.hir.Hir.{Hir, Hir-F, fold-roll-Hir, fold_out-Hir, map-Hir, Row_of-Hir, end_of-Hir, more_of-Hir, items-the_row-Hir, items_shown-the_row-Hir-0}
+use Rattle.regex_hir.specs.declared.hir.Hir.{Hir, Hir-F, fold-roll-Hir, fold_out-Hir, map-Hir, Row_of-Hir, end_of-Hir, more_of-Hir}
+use Rattle.regex_hir.specs.declared.hir.Hir.{items-the_row-Hir, items_shown-the_row-Hir-0}
 use Rattle.regex_hir.specs.declared.hir.Hir.{Concat', Alternation', Repetition', Capture'}
-use Rattle.regex_hir.specs.declared.hir.Hir.TheVariants.{Empty, Literal, Bytes, Chars, Look, Repetition, Capture, Concat, Alternation, rolls-Empty, rolls-Literal, rolls-Bytes, rolls-Chars, rolls-Look, rolls-Repetition, rolls-Capture, rolls-Concat, rolls-Alternation, outs-Concat', outs-Alternation'}
-use Rattle.regex_hir.proofs.MeaningLemmas.{meaning-Empty, meaning-Literal, meaning-Bytes, meaning-Chars, meaning-Look, meaning-Repetition, meaning-Capture}
+use Rattle.regex_hir.specs.declared.hir.Hir.TheVariants.{Empty, Literal, Bytes, Chars, Look, Repetition, Capture, Concat, Alternation}
+use Rattle.regex_hir.specs.declared.hir.Hir.TheVariants.{rolls-Empty, rolls-Literal, rolls-Bytes, rolls-Chars, rolls-Look, rolls-Repetition}
+use Rattle.regex_hir.specs.declared.hir.Hir.TheVariants.{rolls-Capture, rolls-Concat, rolls-Alternation, outs-Concat', outs-Alternation'}
+use Rattle.regex_hir.proofs.MeaningLemmas.{meaning-Empty, meaning-Literal, meaning-Bytes, meaning-Chars, meaning-Look, meaning-Repetition}
+use Rattle.regex_hir.proofs.MeaningLemmas.{meaning-Capture}
 use Rattle.regex_syntax.specs.Grammar.{Names}
 use Rattle.regex_syntax.specs.WellFormed.{IsWithin, IsWellFormed, AreWellFormed, depth, greatest_depth}
 use Rattle.hir_core.specs.Tree.{Tree, concat, alternation}
@@ -46,9 +51,11 @@ module _ (names : Names) where
   translated-Look l = ap (translated names) (sym (rolls-Look l)) ∙ fold-roll-Hir Tree (node_tree names) (Hir-F.Look l)
 
   pub translated-Repetition : (least : ℕ) (most : Option ℕ) (greedy : Bool) (sub : Box Hir Global) →
-      translated names (Repetition least most greedy sub) ≡ tree.repetition least (option_map (λ n. max n least) most) greedy (translated names sub.value)
+      translated names (Repetition least most greedy sub) ≡
+      tree.repetition least (option_map (λ n. max n least) most) greedy (translated names sub.value)
   translated-Repetition least most greedy sub =
-      ap (translated names) (sym (rolls-Repetition least most greedy sub)) ∙ fold-roll-Hir Tree (node_tree names) (Hir-F.Repetition least most greedy sub)
+      ap (translated names) (sym (rolls-Repetition least most greedy sub))
+      ∙ fold-roll-Hir Tree (node_tree names) (Hir-F.Repetition least most greedy sub)
 
   pub translated-Capture : (index : ℕ) (sub : Box Hir Global) →
       translated names (Capture index sub) ≡ tree.capture index (name_at names index) (translated names sub.value)
@@ -58,8 +65,10 @@ module _ (names : Names) where
   pub translated-Concat : (subs : Vec Hir Global) → translated names (Concat subs) ≡ concat (map (translated names) subs.items)
   translated-Concat subs = ap (translated names) (sym (rolls-Concat subs)) ∙ fold-roll-Hir Tree (node_tree names) (Hir-F.Concat subs)
 
-  pub translated-Alternation : (subs : Vec Hir Global) → translated names (Alternation subs) ≡ alternation (map (translated names) subs.items)
-  translated-Alternation subs = ap (translated names) (sym (rolls-Alternation subs)) ∙ fold-roll-Hir Tree (node_tree names) (Hir-F.Alternation subs)
+  pub translated-Alternation : (subs : Vec Hir Global) →
+      translated names (Alternation subs) ≡ alternation (map (translated names) subs.items)
+  translated-Alternation subs =
+      ap (translated names) (sym (rolls-Alternation subs)) ∙ fold-roll-Hir Tree (node_tree names) (Hir-F.Alternation subs)
 
 -- ---- a pattern and its tree match alike
 -- both prefer the same ends and have the same spans, and the tree's groups have these names
@@ -80,7 +89,8 @@ module _ (names : Names) where
   matched_alt : (a b : Re) (x y : Tree) → Matched names a x → Matched names b y → Matched names (re.alt a b) (tree.alt x y)
   matched_alt a b x y p q = (same_alt a b x y p.0 q.0, spans_alt a b x y p.1 q.1, (p.2, q.2))
 
-  matched_group : (index : ℕ) (a : Re) (x : Tree) → Matched names a x → Matched names (re.group index a) (tree.capture index (name_at names index) x)
+  matched_group : (index : ℕ) (a : Re) (x : Tree) → Matched names a x →
+      Matched names (re.group index a) (tree.capture index (name_at names index) x)
   matched_group index a x p = (same_group index index _ a x p.0, spans_group index index _ a x p.1, (refl, p.2))
 
   matched_rounds : (least : ℕ) (most : Option ℕ) (greedy : Bool) (a : Re) (x : Tree) → Matched names a x →
@@ -100,7 +110,8 @@ module _ (names : Names) where
     of_tree (Chars class) =
         let rs = class.ranges.items in
         along names _ _ _ _ (meaning-Chars class) (translated-Chars names class)
-        (leaf names (re.char_in rs) (tree.char_class (without_surrogates rs)) tt tt (same_chars rs (without_surrogates rs) (same_scalars rs)))
+        (leaf names (re.char_in rs) (tree.char_class (without_surrogates rs)) tt tt
+        (same_chars rs (without_surrogates rs) (same_scalars rs)))
     of_tree (Look l) =
         along names _ _ _ _ (meaning-Look l) (translated-Look names l)
         (leaf names (re.look l) (tree.look (translated_look l)) tt tt (same_look_tree l))
@@ -123,7 +134,8 @@ module _ (names : Names) where
         along names _ _ _ _
         (fold_out-Hir Re node_meaning _ ∙ ap (λ x. node_meaning (map-Hir Hir Re meaning x)) (outs-Alternation' shape subs)
         ∙ ap (λ l. alt_all (map meaning l)) (items_shown-the_row-Hir-0 shape subs))
-        (fold_out-Hir Tree (node_tree names) _ ∙ ap (λ x. node_tree names (map-Hir Hir Tree (translated names) x)) (outs-Alternation' shape subs)
+        (fold_out-Hir Tree (node_tree names) _
+        ∙ ap (λ x. node_tree names (map-Hir Hir Tree (translated names) x)) (outs-Alternation' shape subs)
         ∙ ap (λ l. alternation (map (translated names) l)) (items_shown-the_row-Hir-0 shape subs))
         (of_row _ subs).1
 
@@ -135,9 +147,6 @@ module _ (names : Names) where
         let first = of_tree sub in
         let others = of_row _ rest in
         (matched_cat _ _ _ _ first others.0, matched_alt _ _ _ _ first others.1)
-
-pub matches_alike : (names : Names) (p : Hir) → Matched names (meaning p) (translated names p)
-matches_alike names p = of_tree names p
 
 pub same_ends : (names : Names) (p : Hir) → SameEnds (meaning p) (translated names p)
 same_ends names p = (of_tree names p).0
@@ -160,7 +169,8 @@ bytes_ascii (r ∷ rs) within =
     (and_from (nat_le r.0 top) (nat_le top r.1) e (le-leb top r.1 (omega arith)))) in
     lt-ltb top 0x80 (omega (arith, small)))
   where
-    ascii_if : (b : Bool) (x : ℕ × ℕ) (rest : List (ℕ × ℕ)) → list_all (λ r. nat_lt r.1 0x80) rest ≡ true → (b ≡ true → nat_lt x.1 0x80 ≡ true) →
+    ascii_if : (b : Bool) (x : ℕ × ℕ) (rest : List (ℕ × ℕ)) → list_all (λ r. nat_lt r.1 0x80) rest ≡ true →
+        (b ≡ true → nat_lt x.1 0x80 ≡ true) →
         list_all (λ r. nat_lt r.1 0x80) ((if b then x ∷ [] else []) ++ rest) ≡ true
     ascii_if true x rest all one = and_from (nat_lt x.1 0x80) (list_all (λ r. nat_lt r.1 0x80) rest) (one refl) all
     ascii_if false x rest all one = all
@@ -180,16 +190,20 @@ module _ (names : Names) where
         subst IsText (sym (translated-Repetition names least most greedy (record { ptr = place.ptr; alloc = place.alloc; value = sub })))
         (text_tree sub formed.1)
     text_tree (Capture' index place sub) formed =
-        subst IsText (sym (translated-Capture names index (record { ptr = place.ptr; alloc = place.alloc; value = sub }))) (text_tree sub formed)
+        subst IsText (sym (translated-Capture names index (record { ptr = place.ptr; alloc = place.alloc; value = sub })))
+        (text_tree sub formed)
     text_tree (Concat' shape subs) formed =
-        subst IsText (sym (fold_out-Hir Tree (node_tree names) _ ∙ ap (λ x. node_tree names (map-Hir Hir Tree (translated names) x)) (outs-Concat' shape subs)
+        subst IsText (sym (fold_out-Hir Tree (node_tree names) _
+        ∙ ap (λ x. node_tree names (map-Hir Hir Tree (translated names) x)) (outs-Concat' shape subs)
         ∙ ap (λ l. concat (map (translated names) l)) (items_shown-the_row-Hir-0 shape subs))) (text_row _ subs formed).0
     text_tree (Alternation' shape subs) formed =
-        subst IsText (sym (fold_out-Hir Tree (node_tree names) _ ∙ ap (λ x. node_tree names (map-Hir Hir Tree (translated names) x)) (outs-Alternation' shape subs)
+        subst IsText (sym (fold_out-Hir Tree (node_tree names) _
+        ∙ ap (λ x. node_tree names (map-Hir Hir Tree (translated names) x)) (outs-Alternation' shape subs)
         ∙ ap (λ l. alternation (map (translated names) l)) (items_shown-the_row-Hir-0 shape subs))) (text_row _ subs formed).1
 
     text_row : (n : _) (row : Row_of-Hir n) → AreWellFormed true row →
-        IsText (concat (map (translated names) (items-the_row-Hir n row))) × IsText (alternation (map (translated names) (items-the_row-Hir n row)))
+        IsText (concat (map (translated names) (items-the_row-Hir n row))) ×
+        IsText (alternation (map (translated names) (items-the_row-Hir n row)))
     text_row n end_of-Hir formed = (refl, refl)
     text_row n (more_of-Hir sub rest) formed =
         let first = text_tree sub formed.0 in
@@ -221,11 +235,13 @@ module _ (names : Names) where
         (stays_low (height (translated names sub)) (depth sub) (height_tree sub))
     height_tree (Concat' shape subs) =
         subst (λ (x : Tree). height x ≤ greatest_depth subs + 1 + 1)
-        (sym (fold_out-Hir Tree (node_tree names) _ ∙ ap (λ x. node_tree names (map-Hir Hir Tree (translated names) x)) (outs-Concat' shape subs)
+        (sym (fold_out-Hir Tree (node_tree names) _
+        ∙ ap (λ x. node_tree names (map-Hir Hir Tree (translated names) x)) (outs-Concat' shape subs)
         ∙ ap (λ l. concat (map (translated names) l)) (items_shown-the_row-Hir-0 shape subs))) (height_row _ subs).0
     height_tree (Alternation' shape subs) =
         subst (λ (x : Tree). height x ≤ greatest_depth subs + 1 + 1)
-        (sym (fold_out-Hir Tree (node_tree names) _ ∙ ap (λ x. node_tree names (map-Hir Hir Tree (translated names) x)) (outs-Alternation' shape subs)
+        (sym (fold_out-Hir Tree (node_tree names) _
+        ∙ ap (λ x. node_tree names (map-Hir Hir Tree (translated names) x)) (outs-Alternation' shape subs)
         ∙ ap (λ l. alternation (map (translated names) l)) (items_shown-the_row-Hir-0 shape subs))) (height_row _ subs).1
 
     height_row : (n : _) (row : Row_of-Hir n) →

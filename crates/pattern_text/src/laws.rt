@@ -50,10 +50,12 @@ pub fn same_ends_are_same_spans()
 pub fn parts_agree()
     ensures literal { (bytes : List ℕ) → SameEnds (re.literal bytes) (tree.literal bytes) }
     ensures bytes { (ranges : List (ℕ × ℕ)) → SameEnds (re.byte_in ranges) (tree.byte_class ranges) }
-    ensures chars { (rs ranges : List (ℕ × ℕ)) → ((c : ℕ) → IsScalar c → in_ranges rs c ≡ is_member ranges c) → SameEnds (re.char_in rs) (tree.char_class ranges) }
+    ensures chars { (rs ranges : List (ℕ × ℕ)) → ((c : ℕ) → IsScalar c → in_ranges rs c ≡ is_member ranges c) →
+        SameEnds (re.char_in rs) (tree.char_class ranges) }
     ensures cat { (a b : Re) (x y : Tree) → SameEnds a x → SameEnds b y → SameEnds (re.cat a b) (tree.cat x y) }
     ensures alt { (a b : Re) (x y : Tree) → SameEnds a x → SameEnds b y → SameEnds (re.alt a b) (tree.alt x y) }
-    ensures group { (n index : ℕ) (name : Option (List ℕ)) (a : Re) (x : Tree) → SameEnds a x → SameEnds (re.group n a) (tree.capture index name x) }
+    ensures group { (n index : ℕ) (name : Option (List ℕ)) (a : Re) (x : Tree) → SameEnds a x →
+        SameEnds (re.group n a) (tree.capture index name x) }
     ensures repetition { (min : ℕ) (max : Option ℕ) (greedy : Bool) (a : Re) (x : Tree) → ForSome max (λ most. min ≤ most) → SameEnds a x →
         SameEnds (repeat min max greedy a) (tree.repetition min max greedy x) }
 {}
@@ -63,7 +65,8 @@ pub fn parts_agree()
 pub fn spans_of_parts_agree()
     ensures cat { (a b : Re) (x y : Tree) → SameSpans a x → SameSpans b y → SameSpans (re.cat a b) (tree.cat x y) }
     ensures alt { (a b : Re) (x y : Tree) → SameSpans a x → SameSpans b y → SameSpans (re.alt a b) (tree.alt x y) }
-    ensures group { (n index : ℕ) (name : Option (List ℕ)) (a : Re) (x : Tree) → SameSpans a x → SameSpans (re.group n a) (tree.capture index name x) }
+    ensures group { (n index : ℕ) (name : Option (List ℕ)) (a : Re) (x : Tree) → SameSpans a x →
+        SameSpans (re.group n a) (tree.capture index name x) }
     ensures repetition { (min : ℕ) (max : Option ℕ) (greedy : Bool) (a : Re) (x : Tree) → ForSome max (λ most. min ≤ most) → SameSpans a x →
         SameSpans (repeat min max greedy a) (tree.repetition min max greedy x) }
 {}

@@ -27,7 +27,8 @@ impl ParseError {
     /// What the toolchain's parser tells.
     pub(crate) fn of_parser(error: regex_syntax::Error) -> ParseError
         ensures memory { result ≡ NoMemory → error.kind ≡ OutOfMemory }
-        ensures fault { (config : Options) (text : List ℕ) → Refuses config text error.kind → LiesIn text error.span → IsFault config text result }
+        ensures fault { (config : Options) (text : List ℕ) → Refuses config text error.kind → LiesIn text error.span →
+            IsFault config text result }
     {
         match error.kind {
             ErrorKind::OutOfMemory => ParseError::NoMemory,

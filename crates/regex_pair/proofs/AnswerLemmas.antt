@@ -1,9 +1,9 @@
 -- What answers of code tell of the answers of values that they stand for.
-use Rattle.std.proofs.Common.{◌≡◌, ℕ, ◌≤◌, true, false, Option, Some, None, refl, sym, ap, subst, ◌∙◌, inl, inr, arith}
+use Rattle.std.proofs.Common.{◌≡◌, ℕ, ◌≤◌, true, false, Option, Some, None, sym, ap, subst, ◌∙◌, inl, inr, arith}
 use Rattle.std.specs.Prelude.{Result, Ok, Err}
 use Rattle.search_types.specs.declared.match_error.MatchErrorKind.{MatchErrorKind}
 use Rattle.search_types.specs.declared.match_error.MatchErrorKind.TheVariants.{Quit, GaveUp, UnsupportedAnchored, NoMemory}
-use Rattle.search_types.specs.Found.{HalfFound}
+use Rattle.search_types.specs.Found.{Found, HalfFound}
 use Rattle.search_types.specs.Inputs.{Search}
 use Rattle.lazy_dfa.specs.Caches.{CacheValue}
 use Rattle.lazy_dfa.specs.Dfas.{Dfa, reader}
@@ -12,6 +12,13 @@ use Rattle.lazy_dfa.specs.Scans.{scan}
 use Rattle.lazy_dfa.specs.SearchAnswers.{told, Answers}
 use Rattle.regex_pair.specs.Joined.{back_from}
 use Rattle.lazy_dfa.proofs.ForCallers.{scan_in_span}
+
+-- what a half search and a whole one answer
+abbrev pub Half : Type 0
+Half = Result (Option HalfFound) MatchErrorKind
+
+abbrev pub Whole : Type 0
+Whole = Result (Option Found) MatchErrorKind
 
 -- of code, with its type
 abbrev pub answer : Option HalfFound → Result (Option HalfFound) MatchErrorKind
@@ -42,12 +49,6 @@ some_is_found (found (Some x)) e is = ap (λ (y : ℕ × ℕ). found (Some y)) (
 some_is_found (found None) e is = some_is_not_none e (found None ≡ found (Some (pair e))) is
 some_is_found (quit b x) e is = ok_is_no_error (Some e) (Quit b x) (quit b x ≡ found (Some (pair e))) is
 some_is_found (unsupported mode) e is = ok_is_no_error (Some e) (UnsupportedAnchored mode) (unsupported mode ≡ found (Some (pair e))) is
-
-pub none_is_found : (a : HalfAnswer) → answer None ≡ told a → a ≡ found None
-none_is_found (found (Some x)) is = some_is_not_none (half x) (found (Some x) ≡ found None) (sym is)
-none_is_found (found None) is = refl
-none_is_found (quit b x) is = ok_is_no_error None (Quit b x) (quit b x ≡ found None) is
-none_is_found (unsupported mode) is = ok_is_no_error None (UnsupportedAnchored mode) (unsupported mode ≡ found None) is
 
 -- of the answers of a call that may be refused, a value is the one that is told
 pub ok_is_told : (d : Dfa) (v : CacheValue) (q : Search) (f : Option HalfFound) → Answers d v q (Ok f) → Ok f ≡ told (scan (reader d) q)

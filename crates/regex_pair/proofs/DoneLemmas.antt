@@ -1,8 +1,7 @@
 -- Searches over a done span: their halves make no pass, so none needs to be made.
 use Rattle.std.proofs.Common.{◌≡◌, ℕ, ◌-◌, ◌<◌, Bool, true, false, List, [], ◌∷◌, None, Ok, refl, sym, ap}
-use Rattle.std.proofs.Common.{◌∙◌, inl, ⊎_elim, subst, arith, if◌then◌else◌}
-use Rattle.std.proofs.lemmas.Bool.{cases_Bool, leb-true}
-use Rattle.std.specs.Bool.{IsTrue, nat_le}
+use Rattle.std.proofs.Common.{◌∙◌, inl, subst, arith, if◌then◌else◌}
+use Rattle.std.specs.Bool.{IsTrue}
 use Rattle.std.specs.Prelude.{◌↔◌}
 use Rattle.search_types.specs.Inputs.{Search}
 use Rattle.search_types.specs.Modes.{is_anchored}
@@ -22,6 +21,7 @@ use Rattle.regex_pair.specs.PairTold.{TellsHalf}
 use Rattle.regex_pair.proofs.AnswerLemmas.{answer, some_is_not_none}
 use Rattle.regex_pair.proofs.MatchLemmas.{tells_there}
 use Rattle.regex_pair.proofs.PairLemmas.{stops, untouched_grows}
+use Rattle.std.proofs.lemmas.Bool.{lt-leb}
 
 -- what the test for one says
 pub is_over : (b : Bool) (s e : ℕ) → (IsTrue b ↔ (e < s)) → b ≡ true → e < s
@@ -29,10 +29,6 @@ is_over b s e f is = f.0 is
 
 pub not_done : (b : Bool) (s e : ℕ) (P : Type 0) → (IsTrue b ↔ (e < s)) → b ≡ false → e < s → P
 not_done b s e P f is past = let t = f.1 past in absurd (grind (arith, t, is))
-
-past_le : (s e : ℕ) → e < s → nat_le s e ≡ false
-past_le s e l = ⊎_elim (λ (t : nat_le s e ≡ true). let u = leb-true s e t in absurd (omega (arith, l, u))) (λ f. f)
-    (cases_Bool (nat_le s e))
 
 -- a half search over it finds none, and its cache is told nothing
 module _ (d : Dfa) (q : Search) (v : CacheValue) (m n : ℕ) (past : q.end < q.start) where
@@ -43,7 +39,7 @@ module _ (d : Dfa) (q : Search) (v : CacheValue) (m n : ℕ) (past : q.end < q.s
       else passes_on (reader d) q.anchored q.earliest q.haystack (q.end - q.start) (begins_at (reader d) q)
 
   no_passes : passes_of (reader d) q ≡ []
-  no_passes = ap (λ (b : Bool). if b then passes_begun else []) (past_le q.start q.end past)
+  no_passes = ap (λ (b : Bool). if b then passes_begun else []) (lt-leb q.start q.end past)
 
   tells_nothing : TellsHalf d q v v (answer None)
   tells_nothing = record {

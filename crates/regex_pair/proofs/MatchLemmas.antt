@@ -1,9 +1,8 @@
 -- What a search that tells whether there is a match does, by what its half search did.
-use Rattle.std.proofs.Common.{◌≡◌, ℕ, ◌<◌, Bool, Option, Some, None, refl, sym, ap, ◌∙◌, inl, inr, subst}
+use Rattle.std.proofs.Common.{◌≡◌, ℕ, ◌<◌, Bool, Some, None, refl, sym, ap, ◌∙◌, inl, inr, subst}
 use Rattle.std.specs.Prelude.{Result, Ok, Err, IfErr, OnOk}
 use Rattle.search_types.specs.declared.match_error.MatchErrorKind.{MatchErrorKind}
 use Rattle.search_types.specs.declared.match_error.MatchErrorKind.TheVariants.{NoMemory}
-use Rattle.search_types.specs.Found.{HalfFound}
 use Rattle.search_types.specs.Inputs.{Search}
 use Rattle.lazy_dfa.specs.Caches.{CacheValue, greatest}
 use Rattle.lazy_dfa.specs.Dfas.{reader}
@@ -15,9 +14,7 @@ use Rattle.regex_pair.specs.MadeSearches.{FindsEnd, MakesMatch, MakesHalf}
 use Rattle.regex_pair.specs.Matching.{AnswersMatch, has_match, match_search, match_told}
 use Rattle.regex_pair.specs.Pairs.{Pair, PairCache}
 use Rattle.regex_pair.specs.PairTold.{is_some_half}
-
-abbrev Half : Type 0
-Half = Result (Option HalfFound) MatchErrorKind
+use Rattle.regex_pair.proofs.AnswerLemmas.{Half}
 
 told_match : (a : HalfAnswer) → is_some_half (told a) ≡ match_told a
 told_match (found (Some e)) = refl

@@ -38,11 +38,6 @@ pub first_refused : (p : Pair) (after : PairCache) (q : Search) (last : Option �
     IsNextAnswer p (record { search = q; last = last; is_over = false }) after (Err e)
 first_refused p after q last e is = (q.start, inl refl, is)
 
-pub first_taken : (p : Pair) (after : PairCache) (q : Search) (last : Option ℕ) (o : Option Found) → AnswersPair p after q (Ok o) →
-    false ≡ is_repeat last o → IsNextAnswer p (record { search = q; last = last; is_over = false }) after (Ok o)
-first_taken p after q last o is new =
-    (o, answer_is_joined p after q o is, subst (λ (b : Bool). IsTaken (AnswersAt p q) q.start o b o) new refl)
-
 pub second_refused : (p : Pair) (middle after : PairCache) (q further : Search) (last : Option ℕ) (o : Option Found) (e : MatchErrorKind) →
     AnswersPair p middle q (Ok o) → true ≡ is_repeat last o → further ≡ search_at q (q.start + 1) → AnswersPair p after further (Err e) →
     IsNextAnswer p (record { search = q; last = last; is_over = false }) after (Err e)
@@ -64,12 +59,14 @@ second_taken p middle after q further last o u first again there is = (
 
 -- ---- what the searches do
 
-pub first_fails : (p : Pair) (before after : PairCache) (q : Search) (last : Option ℕ) (e : MatchErrorKind) → AnswersPair p after q (Err e) →
+pub first_fails : (p : Pair) (before after : PairCache) (q : Search) (last : Option ℕ) (e : MatchErrorKind) →
+    AnswersPair p after q (Err e) →
     PairGrowsOrClears p before after → TellsPair p q before after (Err e) →
     SearchesNext p (record { search = q; last = last; is_over = false }) before after (Err e)
 first_fails p before after q last e is kept told = searches_once (record { answer = is; kept = kept; told = told }) tt
 
-pub first_is_enough : (p : Pair) (before after : PairCache) (q : Search) (last : Option ℕ) (o : Option Found) → AnswersPair p after q (Ok o) →
+pub first_is_enough : (p : Pair) (before after : PairCache) (q : Search) (last : Option ℕ) (o : Option Found) →
+    AnswersPair p after q (Ok o) →
     PairGrowsOrClears p before after → TellsPair p q before after (Ok o) → false ≡ is_repeat last o →
     SearchesNext p (record { search = q; last = last; is_over = false }) before after (Ok o)
 first_is_enough p before after q last o is kept told new = searches_once (record { answer = is; kept = kept; told = told }) (sym new)
@@ -108,11 +105,8 @@ repeat_is_no_end (Some last) (Some f) P is again = match_is_no_end f P is
 -- ---- what the searches leave of the caches
 
 pub kept_once : (p : Pair) (before after : PairCache) → PairGrowsOrClears p before after → KeepsTwice p before after
-kept_once p before after kept = (before, record { forward = untouched_grows p.forward before.forward; reverse = untouched_grows p.reverse before.reverse }, kept)
-
-pub kept_twice : (p : Pair) (before middle after : PairCache) → PairGrowsOrClears p before middle → PairGrowsOrClears p middle after →
-    KeepsTwice p before after
-kept_twice p before middle after one two = (middle, one, two)
+kept_once p before after kept =
+    (before, record { forward = untouched_grows p.forward before.forward; reverse = untouched_grows p.reverse before.reverse }, kept)
 
 pub kept_untouched : (p : Pair) (v : PairCache) → KeepsTwice p v v
 kept_untouched p v =

@@ -1,7 +1,7 @@
 -- What a search over two automata does, by what its half searches did: where it stops after the first, and where it goes back.
 use Rattle.std.proofs.Common.{◌≡◌, ℕ, ◌+◌, ◌*◌, ◌<◌, ◌≤◌, Bool, true, false, Option, Some, None, refl, sym, ap, ◌∙◌, ◌⊎◌, inl, inr, subst}
 use Rattle.std.proofs.Common.{arith, if◌then◌else◌}
-use Rattle.std.specs.Prelude.{Result, Ok, Err, IfErr, OnOk}
+use Rattle.std.specs.Prelude.{Ok, Err, IfErr, OnOk}
 use Rattle.search_types.specs.declared.match_error.MatchErrorKind.{MatchErrorKind}
 use Rattle.search_types.specs.declared.match_error.MatchErrorKind.TheVariants.{NoMemory, NotAPair}
 use Rattle.search_types.specs.Found.{Found, HalfFound}
@@ -20,13 +20,8 @@ use Rattle.regex_pair.specs.PairAnswers.{GoesBack, gives_up_forward, gives_up_ba
 use Rattle.regex_pair.specs.PairAnswers.{back_made}
 use Rattle.regex_pair.specs.Pairs.{Pair, PairCache, AreCachesOf}
 use Rattle.regex_pair.specs.PairTold.{TellsHalf, TellsPair, tells_refusal, tells_end, tells_start, with_half}
+use Rattle.regex_pair.proofs.AnswerLemmas.{Half, Whole}
 use Rattle.regex_pair.proofs.AnswerLemmas.{answer, error, pair, ok_is_no_error, some_is_not_none, some_is_found, ok_is_told, finds_in_span}
-
-abbrev Half : Type 0
-Half = Result (Option HalfFound) MatchErrorKind
-
-abbrev Whole : Type 0
-Whole = Result (Option Found) MatchErrorKind
 
 -- a cache that isn't touched keeps what it has
 pub untouched_grows : (d : Dfa) (v : CacheValue) → GrowsOrClears d v v
@@ -165,7 +160,7 @@ no_less : (known : Bool) (made : ℕ) → known ≡ false → (if known then 0 e
 no_less true made is = let never : true ≡ false = is in absurd (grind (arith, never))
 no_less false made is = refl
 
-one_pair : (e x : ℕ × ℕ) → found (Some e) ≡ found (Some x) → e ≡ x
+pub one_pair : (e x : ℕ × ℕ) → found (Some e) ≡ found (Some x) → e ≡ x
 one_pair e x is = cc
 
 module _ (p : Pair) (q : Search) (e : HalfFound) (there : GoesBack p q (pair e)) where

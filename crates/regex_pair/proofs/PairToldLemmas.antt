@@ -1,10 +1,10 @@
 -- Where a search over two automata answers what is joined, each half search that it made answered what its scan does, and so is told.
-use Rattle.std.proofs.Common.{◌≡◌, ℕ, Bool, true, false, Option, Some, None, Result, Ok, Err, refl, sym, ap, ◌∙◌, inl, inr, subst, arith}
+use Rattle.std.proofs.Common.{◌≡◌, ℕ, Bool, true, false, Some, None, Result, Ok, Err, refl, sym, ap, ◌∙◌, inl, inr, subst, arith}
 use Rattle.std.proofs.Common.{if◌then◌else◌}
 use Rattle.search_types.specs.declared.match_error.MatchErrorKind.{MatchErrorKind}
 use Rattle.search_types.specs.declared.match_error.MatchErrorKind.TheVariants.{Quit, GaveUp, HaystackTooLong, UnsupportedAnchored, NotAPair}
 use Rattle.search_types.specs.declared.match_error.MatchErrorKind.TheVariants.{NoMemory}
-use Rattle.search_types.specs.Found.{Found, HalfFound}
+use Rattle.search_types.specs.Found.{HalfFound}
 use Rattle.search_types.specs.Inputs.{Search}
 use Rattle.lazy_dfa.specs.Caches.{CacheValue}
 use Rattle.lazy_dfa.specs.Dfas.{Dfa, reader}
@@ -16,13 +16,8 @@ use Rattle.regex_pair.specs.Matching.{has_match, match_search, match_told}
 use Rattle.regex_pair.specs.PairAnswers.{GoesBack}
 use Rattle.regex_pair.specs.PairTold.{TellsHalf, TellsMatch, TellsPair, tells_refusal, tells_end, tells_start, is_some_half, with_half}
 use Rattle.regex_pair.specs.Pairs.{Pair, PairCache}
-use Rattle.regex_pair.proofs.AnswerLemmas.{ok_is_no_error, ok_is_told}
-
-abbrev Half : Type 0
-Half = Result (Option HalfFound) MatchErrorKind
-
-abbrev Whole : Type 0
-Whole = Result (Option Found) MatchErrorKind
+use Rattle.regex_pair.proofs.AnswerLemmas.{Half, Whole, ok_is_no_error, ok_is_told}
+use Rattle.regex_pair.proofs.PairLemmas.{one_pair}
 
 -- ---- whether memory lacked, or a half search gave up
 
@@ -81,9 +76,6 @@ scanned d v q h (inr (inr gave)) answered = not_lacking h (GaveUp gave.0) (h ≡
 
 -- ---- what is told where the answer is the joined one
 
-one_pair : (e x : ℕ × ℕ) → found (Some e) ≡ found (Some x) → e ≡ x
-one_pair e x is = cc
-
 module _ (p : Pair) (q : Search) (old new : PairCache) where
   abbrev Ahead : Half → Type 0
   Ahead h = TellsHalf p.forward q old.forward new.forward h
@@ -118,7 +110,8 @@ module _ (p : Pair) (q : Search) (old new : PairCache) where
       new.reverse ≡ old.reverse
   starts_are_untouched result (tells_refusal e failed answers ahead same) none = same
   starts_are_untouched result (tells_end end answered answers never ahead same) none = same
-  starts_are_untouched result (tells_start end start answered there answers ahead behind) none = absurd (none (end.offset, end.pattern) there)
+  starts_are_untouched result (tells_start end start answered there answers ahead behind) none =
+      absurd (none (end.offset, end.pattern) there)
 
   pub match_is_asked : (result : Result Bool MatchErrorKind) → result ≡ has_match p q → TellsMatch p q old new result →
       TellsHalf p.forward (match_search (reader p.forward) q) old.forward new.forward

@@ -12,9 +12,7 @@ use Rattle.regex_pair.specs.FindSteps.{searches_by, search_of, finds_from, cache
 use Rattle.regex_pair.specs.Pairs.{Pair, AreCachesOf}
 use Rattle.regex_pair.specs.StepSearches.{SearchesNext}
 use Rattle.regex_pair.proofs.NextLemmas.{next_falls, next_is, refused_is, behind_placed, kept_untouched, match_is_no_end, refusal_is_no_end}
-
-abbrev Whole : Type 0
-Whole = Result (Option Found) MatchErrorKind
+use Rattle.regex_pair.proofs.AnswerLemmas.{Whole}
 
 pub found_is : (result : Whole) (o : Option Found) (f : Found) → result ≡ Ok o → o ≡ Some f → result ≡ Ok (Some f)
 found_is result o f ok some = ok ∙ ap (λ (u : Option Found). Ok u) some
@@ -34,7 +32,8 @@ module _ (old new : FindMatches) (ready : MayGoOn old) (begun : old.is_over ≡ 
     (same_regex : searches_by new ≡ searches_by old) (same_reference : lender_of new ≡ lender_of old)
     (kept : KeepsTwice (searches_by old) (caches_of old) (caches_of new)) (q : Search) (asked : q ≡ search_of old) (result : Whole)
     (answered : IsNextAnswer (searches_by old) (record { search = q; last = old.last; is_over = false }) (caches_of new) result)
-    (searched : SearchesNext (searches_by old) (record { search = q; last = old.last; is_over = false }) (caches_of old) (caches_of new) result)
+    (searched : SearchesNext (searches_by old) (record { search = q; last = old.last; is_over = false }) (caches_of old)
+    (caches_of new) result)
     (done : q.end < q.start → (result ≡ Ok None) × (caches_of new ≡ caches_of old)) where
   owned : AreCachesOf (searches_by new) (caches_of new)
   owned = subst (λ (p : Pair). AreCachesOf p (caches_of new)) (sym same_regex) own

@@ -52,7 +52,7 @@ one_behind p q fs at f taken next =
           (taken.whole (f ∷ rest) (first, c));
     }
 
-abbrev item_of : Result Found MatchErrorKind → Option (Result Found MatchErrorKind)
+abbrev pub item_of : Result Found MatchErrorKind → Option (Result Found MatchErrorKind)
 item_of r = Some r
 
 abbrev answer_of : Found → Result Found MatchErrorKind
@@ -61,13 +61,13 @@ answer_of f = Ok f
 abbrev refusal_of : MatchErrorKind → Result Found MatchErrorKind
 refusal_of e = Err e
 
-same_match : (f g : Found) → item_of (answer_of f) ≡ item_of (answer_of g) → f ≡ g
+pub same_match : (f g : Found) → item_of (answer_of f) ≡ item_of (answer_of g) → f ≡ g
 same_match f g e = cc
 
-match_is_no_end : (r : Result Found MatchErrorKind) → item_of r ≡ None → ⊥
+pub match_is_no_end : (r : Result Found MatchErrorKind) → item_of r ≡ None → ⊥
 match_is_no_end r e = let never : true ≡ false = cc in grind (arith, never)
 
-match_is_no_refusal : (f : Found) (x : MatchErrorKind) → item_of (answer_of f) ≡ item_of (refusal_of x) → ⊥
+pub match_is_no_refusal : (f : Found) (x : MatchErrorKind) → item_of (answer_of f) ≡ item_of (refusal_of x) → ⊥
 match_is_no_refusal f x e = let never : true ≡ false = cc in grind (arith, never)
 
 pub one_more_taken : (p : Pair) (q : Search) (fs : List Found) (at new : Finding) (before after : PairCache) (f : Found) →
@@ -95,6 +95,11 @@ pub some_taken : (p : Pair) (q : Search) (fs : List Found) (at : Finding) → Ar
 some_taken p q fs at taken =
     subst (λ (gs : List Found). IsTakenList (AnswersAt p q) None q.start gs) (append-nil fs) (taken.chain [] tt)
 
+-- what was taken, as a list that is equal
+pub taken_so : (p : Pair) (q : Search) (fs more : List Found) (now : Finding) (f : Found) → AreTaken p q (fs ++ f ∷ []) now →
+    more ≡ fs ++ f ∷ [] → AreTaken p q more now
+taken_so p q fs more now f taken is = subst (λ (gs : List Found). AreTaken p q gs now) (sym is) taken
+
 -- ---- by the steps of an iterator over this pair
 
 pub one_more_by_step : (p : Pair) (q : Search) (fs : List Found) (old new : FindMatches) (f : Found) → searches_by old ≡ p →
@@ -114,7 +119,7 @@ none_by_begin p q it from = subst (AreTaken p q []) (sym from) (none_taken p q)
 
 -- ---- refusals, and what comes behind them and behind the end
 
-asked_behind : (p : Pair) (at : Finding) (k : ℕ) → IsAskedAt p at k → at.search.start ≤ k
+pub asked_behind : (p : Pair) (at : Finding) (k : ℕ) → IsAskedAt p at k → at.search.start ≤ k
 asked_behind p at k (inl here) = omega (arith, here)
 asked_behind p at k (inr further) = let there = further.0 in omega (arith, there)
 

@@ -42,7 +42,8 @@ pub data TellsPair (p : Pair) (q : Search) (old new : PairCache) (result : Resul
   tells_refusal : (e : MatchErrorKind) → result ≡ Err e → Answers p.forward new.forward q (Err e) →
       TellsHalf p.forward q old.forward new.forward (Err e) → new.reverse ≡ old.reverse → TellsPair p q old new result
   tells_end : (end : Option HalfFound) → result ≡ joined p q → Answers p.forward new.forward q (Ok end) →
-      ((e : ℕ × ℕ) → GoesBack p q e → ⊥) → TellsHalf p.forward q old.forward new.forward (Ok end) → new.reverse ≡ old.reverse → TellsPair p q old new result
+      ((e : ℕ × ℕ) → GoesBack p q e → ⊥) → TellsHalf p.forward q old.forward new.forward (Ok end) → new.reverse ≡ old.reverse →
+      TellsPair p q old new result
   tells_start : (end : HalfFound) (start : Result (Option HalfFound) MatchErrorKind) → result ≡ with_half end start →
       GoesBack p q (end.offset, end.pattern) → Answers p.reverse new.reverse (back_from q end.offset) start →
       TellsHalf p.forward q old.forward new.forward (Ok (Some end)) →

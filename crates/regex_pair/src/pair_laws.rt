@@ -55,7 +55,8 @@ pub fn answers_depend_on_their_reach()
 /// agree: the earliest end of a run is there where another is.
 #[tactic(auto, using(crate::proofs::MatchingLemmas::match_is_told))]
 pub fn a_match_is_told_where_its_end_is_found()
-    ensures { (p : Pair) (q : Search) (b : Bool) (o : Option (ℕ × ℕ)) → IsWellFormed (reader p.forward).automaton → q.end ≤ length q.haystack →
+    ensures { (p : Pair) (q : Search) (b : Bool) (o : Option (ℕ × ℕ)) → IsWellFormed (reader p.forward).automaton →
+        q.end ≤ length q.haystack →
         ((name : ℕ) → start_name (reader p.forward).automaton q.anchored ≡ Some name →
         name < length (reader p.forward).automaton.states) →
         has_match p q ≡ Ok b → scan (reader p.forward) (with_earliest false q) ≡ found o → b ≡ is_some_match o }

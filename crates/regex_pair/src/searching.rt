@@ -86,7 +86,8 @@ fn search_end<L: Ledger, M: Ledger>(
 ) -> Result<Option<HalfMatch>, MatchError>
     requires own { IsCacheOf re.now.forward cache.old }
     ensures own { IsCacheOf re.now.forward cache.new }
-    ensures search { MakesHalf re.now.forward input.now cache.old cache.new work.old.determinized work.new.determinized work.old.inserted work.new.inserted result }
+    ensures search { MakesHalf re.now.forward input.now cache.old cache.new work.old.determinized work.new.determinized work.old.inserted
+        work.new.inserted result }
 {
     re.forward().try_search_fwd(cache, input, work)
 }
@@ -101,7 +102,8 @@ fn search_start<L: Ledger, M: Ledger>(
 ) -> Result<Option<HalfMatch>, MatchError>
     requires own { IsCacheOf re.now.reverse cache.old }
     ensures own { IsCacheOf re.now.reverse cache.new }
-    ensures search { MakesHalf re.now.reverse input.now cache.old cache.new work.old.determinized work.new.determinized work.old.inserted work.new.inserted result }
+    ensures search { MakesHalf re.now.reverse input.now cache.old cache.new work.old.determinized work.new.determinized work.old.inserted
+        work.new.inserted result }
 {
     re.reverse().try_search_rev(cache, input, work)
 }
@@ -119,7 +121,8 @@ fn search_back<L: Ledger, M: Ledger>(
     requires from { input.now.start ≤ end.offset }
     requires within { end.offset ≤ input.now.end }
     ensures own { IsCacheOf re.now.reverse cache.new }
-    ensures search { MakesBack re.now input.now end cache.old cache.new work.old.determinized work.new.determinized work.old.inserted work.new.inserted result }
+    ensures search { MakesBack re.now input.now end cache.old cache.new work.old.determinized work.new.determinized work.old.inserted
+        work.new.inserted result }
 {
     let back = back_input(input, end.offset());
     let start = match search_start(re, cache, &back, work) {
@@ -153,7 +156,8 @@ fn search<L: Ledger, M: Ledger>(
 ) -> Result<Option<Match>, MatchError>
     requires own { AreCachesOf re.now cache.old }
     ensures own { AreCachesOf re.now cache.new }
-    ensures search { MakesPair re.now input.now cache.old cache.new work.old.determinized work.new.determinized work.old.inserted work.new.inserted result }
+    ensures search { MakesPair re.now input.now cache.old cache.new work.old.determinized work.new.determinized work.old.inserted
+        work.new.inserted result }
 {
     let end = match search_end(re, &mut cache.forward, input, work) {
         Ok(end) => end,
@@ -181,7 +185,8 @@ fn search_span<L: Ledger, M: Ledger>(
     ensures within { IsWithin input.now }
     ensures own { AreCachesOf re.now cache.new }
     ensures done { input.now.end < input.now.start → (result ≡ Ok None) × (cache.new ≡ cache.old) × (work.new ≡ work.old) }
-    ensures search { MakesPair re.now input.now cache.old cache.new work.old.determinized work.new.determinized work.old.inserted work.new.inserted result }
+    ensures search { MakesPair re.now input.now cache.old cache.new work.old.determinized work.new.determinized work.old.inserted
+        work.new.inserted result }
 {
     see_pair(re, input);
     if input.is_done() {
@@ -199,7 +204,8 @@ fn finds_end<L: Ledger, M: Ledger>(
 ) -> Result<bool, MatchError>
     requires own { IsCacheOf re.now.forward cache.old }
     ensures own { IsCacheOf re.now.forward cache.new }
-    ensures search { FindsEnd re.now.forward input.now cache.old cache.new work.old.determinized work.new.determinized work.old.inserted work.new.inserted result }
+    ensures search { FindsEnd re.now.forward input.now cache.old cache.new work.old.determinized work.new.determinized work.old.inserted
+        work.new.inserted result }
 {
     let end = match search_end(re, cache, input, work) {
         Ok(end) => end,
@@ -217,7 +223,8 @@ fn search_match<L: Ledger, M: Ledger>(
 ) -> Result<bool, MatchError>
     requires own { AreCachesOf re.now cache.old }
     ensures own { AreCachesOf re.now cache.new }
-    ensures search { MakesMatch re.now input.now cache.old cache.new work.old.determinized work.new.determinized work.old.inserted work.new.inserted result }
+    ensures search { MakesMatch re.now input.now cache.old cache.new work.old.determinized work.new.determinized work.old.inserted
+        work.new.inserted result }
 {
     let search = match_input(re, input);
     finds_end(re, &mut cache.forward, &search, work)
@@ -233,7 +240,8 @@ fn match_span<L: Ledger, M: Ledger>(
     requires own { AreCachesOf re.now cache.old }
     ensures own { AreCachesOf re.now cache.new }
     ensures done { input.now.end < input.now.start → (result ≡ Ok false) × (cache.new ≡ cache.old) × (work.new ≡ work.old) }
-    ensures search { MakesMatch re.now input.now cache.old cache.new work.old.determinized work.new.determinized work.old.inserted work.new.inserted result }
+    ensures search { MakesMatch re.now input.now cache.old cache.new work.old.determinized work.new.determinized work.old.inserted
+        work.new.inserted result }
 {
     if input.is_done() {
         return Ok(false);
@@ -284,17 +292,21 @@ impl Regex {
         ensures back_linked { OnOk result (cache.new.reverse.clears ≡ cache.old.reverse.clears → cache.old.reverse.clears < greatest →
             IsBackLinked self.now cache.new.reverse input.now) }
         ensures told { OnOk result (cache.new.forward.clears ≡ cache.old.forward.clears → cache.old.forward.clears < greatest →
-            told_of cache.new.forward ≡ told_by (reader self.now.forward) input.now (told_of cache.old.forward) (passes_of (reader self.now.forward) input.now)) }
+            told_of cache.new.forward ≡
+            told_by (reader self.now.forward) input.now (told_of cache.old.forward) (passes_of (reader self.now.forward) input.now)) }
         ensures back_told { OnOk result (cache.new.reverse.clears ≡ cache.old.reverse.clears → cache.old.reverse.clears < greatest →
             (e : ℕ × ℕ) → GoesBack self.now input.now e → told_of cache.new.reverse ≡
-            told_by (reader self.now.reverse) (back_from input.now e.0) (told_of cache.old.reverse) (passes_of (reader self.now.reverse) (back_from input.now e.0))) }
+            told_by (reader self.now.reverse) (back_from input.now e.0) (told_of cache.old.reverse)
+            (passes_of (reader self.now.reverse) (back_from input.now e.0))) }
         ensures tells { TellsPair self.now input.now cache.old cache.new result }
         ensures moved { ArePathsLinked self.now cache.old input.now → IsPairMoved cache.old cache.new }
         ensures free { ArePathsLinked self.now cache.old input.now → work.new ≡ work.old }
         ensures sure_if_linked { ArePathsLinked self.now cache.old input.now → result ≡ joined self.now input.now }
         ensures reach { IfOk result (λ o. HasPairReach self.now input.now o) }
-        ensures determinized { work.new.determinized ≤ work.old.determinized + (half_made (reader self.now.forward) input.now + back_made self.now input.now) }
-        ensures inserted { work.new.inserted ≤ work.old.inserted + (half_made (reader self.now.forward) input.now * most_inserts self.now.forward +
+        ensures determinized { work.new.determinized ≤
+            work.old.determinized + (half_made (reader self.now.forward) input.now + back_made self.now input.now) }
+        ensures inserted { work.new.inserted ≤ work.old.inserted +
+            (half_made (reader self.now.forward) input.now * most_inserts self.now.forward +
             back_made self.now input.now * most_inserts self.now.reverse) }
     {
         search_span(self, cache, input, work)
@@ -323,17 +335,21 @@ impl Regex {
         ensures back_linked { OnOk result (cache.new.reverse.clears ≡ cache.old.reverse.clears → cache.old.reverse.clears < greatest →
             IsBackLinked self.now cache.new.reverse input.now) }
         ensures told { OnOk result (cache.new.forward.clears ≡ cache.old.forward.clears → cache.old.forward.clears < greatest →
-            told_of cache.new.forward ≡ told_by (reader self.now.forward) input.now (told_of cache.old.forward) (passes_of (reader self.now.forward) input.now)) }
+            told_of cache.new.forward ≡
+            told_by (reader self.now.forward) input.now (told_of cache.old.forward) (passes_of (reader self.now.forward) input.now)) }
         ensures back_told { OnOk result (cache.new.reverse.clears ≡ cache.old.reverse.clears → cache.old.reverse.clears < greatest →
             (e : ℕ × ℕ) → GoesBack self.now input.now e → told_of cache.new.reverse ≡
-            told_by (reader self.now.reverse) (back_from input.now e.0) (told_of cache.old.reverse) (passes_of (reader self.now.reverse) (back_from input.now e.0))) }
+            told_by (reader self.now.reverse) (back_from input.now e.0) (told_of cache.old.reverse)
+            (passes_of (reader self.now.reverse) (back_from input.now e.0))) }
         ensures tells { TellsPair self.now input.now cache.old cache.new result }
         ensures moved { ArePathsLinked self.now cache.old input.now → IsPairMoved cache.old cache.new }
         ensures free { ArePathsLinked self.now cache.old input.now → work.new ≡ work.old }
         ensures sure_if_linked { ArePathsLinked self.now cache.old input.now → result ≡ joined self.now input.now }
         ensures reach { IfOk result (λ o. HasPairReach self.now input.now o) }
-        ensures determinized { work.new.determinized ≤ work.old.determinized + (half_made (reader self.now.forward) input.now + back_made self.now input.now) }
-        ensures inserted { work.new.inserted ≤ work.old.inserted + (half_made (reader self.now.forward) input.now * most_inserts self.now.forward +
+        ensures determinized { work.new.determinized ≤
+            work.old.determinized + (half_made (reader self.now.forward) input.now + back_made self.now input.now) }
+        ensures inserted { work.new.inserted ≤ work.old.inserted +
+            (half_made (reader self.now.forward) input.now * most_inserts self.now.forward +
             back_made self.now input.now * most_inserts self.now.reverse) }
     {
         self.try_search(cache, input, work)
@@ -355,21 +371,28 @@ impl Regex {
         ensures own { AreCachesOf self.now cache.new }
         ensures answer { AnswersMatch self.now cache.new input.now result }
         ensures done { input.now.end < input.now.start → (result ≡ Ok false) × (cache.new ≡ cache.old) × (work.new ≡ work.old) }
-        ensures sure { clears_of self.now.forward.options ≡ None → is_supported (reader self.now.forward).starts_for_each_pattern input.now.anchored ≡ true →
+        ensures sure { clears_of self.now.forward.options ≡ None →
+            is_supported (reader self.now.forward).starts_for_each_pattern input.now.anchored ≡ true →
             HasNoQuitNear (reader self.now.forward) input.now.haystack input.now.start input.now.end → IfErr result (λ e. e ≡ NoMemory) }
         ensures kept { GrowsOrClears self.now.forward cache.old.forward cache.new.forward }
         ensures untouched { cache.new.reverse ≡ cache.old.reverse }
         ensures linked { OnOk result (cache.new.forward.clears ≡ cache.old.forward.clears → cache.old.forward.clears < greatest →
             IsLinked self.now.forward cache.new.forward (match_search (reader self.now.forward) input.now)) }
         ensures told { OnOk result (cache.new.forward.clears ≡ cache.old.forward.clears → cache.old.forward.clears < greatest →
-            told_of cache.new.forward ≡ told_by (reader self.now.forward) (match_search (reader self.now.forward) input.now) (told_of cache.old.forward)
+            told_of cache.new.forward ≡
+            told_by (reader self.now.forward) (match_search (reader self.now.forward) input.now) (told_of cache.old.forward)
             (passes_of (reader self.now.forward) (match_search (reader self.now.forward) input.now))) }
         ensures tells { TellsMatch self.now input.now cache.old cache.new result }
-        ensures moved { IsLinked self.now.forward cache.old.forward (match_search (reader self.now.forward) input.now) → IsMoved cache.old.forward cache.new.forward }
-        ensures free { IsLinked self.now.forward cache.old.forward (match_search (reader self.now.forward) input.now) → work.new ≡ work.old }
-        ensures sure_if_linked { IsLinked self.now.forward cache.old.forward (match_search (reader self.now.forward) input.now) → result ≡ has_match self.now input.now }
-        ensures determinized { work.new.determinized ≤ work.old.determinized + half_made (reader self.now.forward) (match_search (reader self.now.forward) input.now) }
-        ensures inserted { work.new.inserted ≤ work.old.inserted + half_made (reader self.now.forward) (match_search (reader self.now.forward) input.now) * most_inserts self.now.forward }
+        ensures moved { IsLinked self.now.forward cache.old.forward (match_search (reader self.now.forward) input.now) →
+            IsMoved cache.old.forward cache.new.forward }
+        ensures free { IsLinked self.now.forward cache.old.forward (match_search (reader self.now.forward) input.now) →
+            work.new ≡ work.old }
+        ensures sure_if_linked { IsLinked self.now.forward cache.old.forward (match_search (reader self.now.forward) input.now) →
+            result ≡ has_match self.now input.now }
+        ensures determinized { work.new.determinized ≤
+            work.old.determinized + half_made (reader self.now.forward) (match_search (reader self.now.forward) input.now) }
+        ensures inserted { work.new.inserted ≤ work.old.inserted +
+            half_made (reader self.now.forward) (match_search (reader self.now.forward) input.now) * most_inserts self.now.forward }
     {
         match_span(self, cache, input, work)
     }

@@ -1,24 +1,17 @@
 -- What was told, by what the calls promise.
-use Rattle.std.proofs.Common.{◌≡◌, ℕ, Bool, List, [], ◌∷◌, ◌++◌, All, sym, subst}
+use Rattle.std.proofs.Common.{◌≡◌, ℕ, Bool, List, All, sym, subst}
 use Rattle.regex_syntax.specs.declared.Config.{Config}
 use Rattle.hir_core.specs.Tree.{Tree}
 use Rattle.hir_core.specs.Facts.{LoopsRead}
-use Rattle.look_core.specs.Terminators.{one_of}
 use Rattle.search_types.specs.Found.{Found}
 use Rattle.search_types.specs.Inputs.{Search}
-use Rattle.regex_pair.specs.Finding.{Finding}
 use Rattle.regex_pair.specs.Pairs.{Pair}
-use Rattle.regex_pair.specs.Taken.{AreTaken}
 use Rattle.hirscan.specs.declared.settings.Settings.{Settings}
-use Rattle.hirscan.specs.Built.{IsBuilt, FindsFirst}
+use Rattle.hirscan.specs.Built.{IsBuilt}
 use Rattle.hirscan.specs.Regexes.{IsSearchOf}
 use Rattle.pattern_search.specs.Searches.{whole_search}
 use Rattle.pattern_search.specs.Written.{AnswersWhatIsWritten}
 use Rattle.tests_client.specs.TextsTold.{IsListed, AreAllMatches}
-
-pub one_more : (p : Pair) (q : Search) (fs more : List Found) (now : Finding) (f : Found) → AreTaken p q (fs ++ f ∷ []) now →
-    more ≡ fs ++ f ∷ [] → AreTaken p q more now
-one_more p q fs more now f taken is = subst (λ (gs : List Found). AreTaken p q gs now) (sym is) taken
 
 listed_of : (config : Config) (texts : List (List ℕ)) (xs : List Tree) (s : Settings) (h : List ℕ) (fs : List Found) → All LoopsRead xs →
     IsSearchOf xs s.utf8 (whole_search h 0) → (l : IsListed xs s (whole_search h 0) fs) → AnswersWhatIsWritten config texts xs s l.pair →
@@ -30,11 +23,13 @@ listed_of config texts xs s h fs loops search l written = record {
 }
 
 -- what is listed of a search with these settings, where both are known by equations
-pub all_listed : (config : Config) (texts : List (List ℕ)) (xs : List Tree) (s : Settings) (utf8 : Bool) (h : List ℕ) (q : Search) (fs : List Found) →
+pub all_listed : (config : Config) (texts : List (List ℕ)) (xs : List Tree) (s : Settings) (utf8 : Bool) (h : List ℕ)
+    (q : Search) (fs : List Found) →
     s.utf8 ≡ utf8 → q ≡ whole_search h 0 → All LoopsRead xs → IsSearchOf xs utf8 q → IsListed xs s q fs →
     ((p : Pair) → IsBuilt xs s p → AnswersWhatIsWritten config texts xs s p) → AreAllMatches config texts utf8 h fs
 all_listed config texts xs s utf8 h q fs set is loops search l written =
     subst (λ b. AreAllMatches config texts b h fs) set
-    (let whole : IsSearchOf xs s.utf8 (whole_search h 0) = subst (λ b. IsSearchOf xs b (whole_search h 0)) (sym set) (subst (IsSearchOf xs utf8) is search) in
+    (let whole : IsSearchOf xs s.utf8 (whole_search h 0) = subst (λ b. IsSearchOf xs b (whole_search h 0)) (sym set)
+    (subst (IsSearchOf xs utf8) is search) in
     let list : IsListed xs s (whole_search h 0) fs = subst (λ r. IsListed xs s r fs) is l in
     listed_of config texts xs s h fs loops whole list (written list.pair list.built))

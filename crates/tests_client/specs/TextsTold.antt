@@ -1,27 +1,17 @@
 -- What a client of texts is told.
-use Rattle.std.specs.Prelude.{◌≡◌, ℕ, Bool, List, map, None}
+use Rattle.std.specs.Prelude.{◌≡◌, ℕ, Bool, List, map}
 use Rattle.regex_hir.specs.Re.{Re}
 use Rattle.regex_hir.specs.Meaning.{alt_all}
 use Rattle.regex_syntax.specs.declared.Config.{Config}
 use Rattle.hir_core.specs.Tree.{Tree}
 use Rattle.search_types.specs.Found.{Found}
 use Rattle.search_types.specs.Inputs.{Search}
-use Rattle.regex_pair.specs.declared.find_matches.FindMatches.{FindMatches}
-use Rattle.regex_pair.specs.FindSteps.{FindsNext, finds_from, searches_by}
 use Rattle.regex_pair.specs.Pairs.{Pair}
-use Rattle.regex_pair.specs.Taken.{AreTaken}
+use Rattle.regex_pair.specs.Taken.{IsWholeList}
 use Rattle.hirscan.specs.declared.settings.Settings.{Settings}
 use Rattle.hirscan.specs.Built.{IsBuilt}
 use Rattle.pattern_search.specs.Searches.{all_found, span_of_match, span_of_found}
 use Rattle.pattern_search.specs.Texts.{AreRead}
-
--- an iterator over the matches of the search gave these, and then came to its end
-pub record IsWholeList (p : Pair) (q : Search) (fs : List Found) : Type 0 where
-  pub old : FindMatches
-  pub new : FindMatches
-  pub regex : searches_by old ≡ p
-  pub taken : AreTaken p q fs (finds_from old)
-  pub over : FindsNext old None new
 
 -- it is one over a regex that is built of the trees
 pub record IsListed (xs : List Tree) (s : Settings) (q : Search) (fs : List Found) : Type 0 where

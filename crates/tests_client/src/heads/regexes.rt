@@ -41,7 +41,8 @@ pub fn regex_of(alloc: Global, trees: &[Hir]) -> Result<Regex, BuildError> {
 }
 
 pub fn answers_are_defined()
-    ensures { (xs : List Tree) (s : SettingsValue) (p : Pair) → IsBuilt xs s p → FindsFirst s → (q : Search) → IsSearchOf xs s.utf8 q → All LoopsRead xs →
+    ensures { (xs : List Tree) (s : SettingsValue) (p : Pair) → IsBuilt xs s p → FindsFirst s → (q : Search) →
+        IsSearchOf xs s.utf8 q → All LoopsRead xs →
         (c : PairCache) (o : Option Found) → AnswersPair p c q (Ok o) → (w : ℕ → Bool) → IsWordSet w → o ≡ answer_to w xs s q }
 {
     searches_answer_what_trees_define();
@@ -66,8 +67,10 @@ pub fn heads_read_once()
 }
 
 pub fn joined_answers_are_defined()
-    ensures { (xs : List Tree) (u : Bool) (t : Terminator) (p : Pair) → IsRegexOf xs u t p → (q : Search) → IsSearchOf xs u q → (w : ℕ → Bool) →
-        IsWordSet w → All LoopsRead xs → (o : Option Found) → joined p q ≡ Ok o → o ≡ answer_from (query_of xs u (holds w t q.haystack) q) q.start }
+    ensures { (xs : List Tree) (u : Bool) (t : Terminator) (p : Pair) → IsRegexOf xs u t p → (q : Search) →
+        IsSearchOf xs u q → (w : ℕ → Bool) →
+        IsWordSet w → All LoopsRead xs → (o : Option Found) → joined p q ≡ Ok o →
+        o ≡ answer_from (query_of xs u (holds w t q.haystack) q) q.start }
 {
     answers_are_those_of_the_trees();
 }

@@ -2,8 +2,9 @@
 ghost use Rattle.std.specs.Prelude.{◌≡◌, ◌++◌, ◌∷◌, [], IfOk, IfSome, OnOk, map};
 ghost use Rattle.look_core.specs.Terminators.{one_of};
 ghost use Rattle.regex_pair.specs.Pairs.{AreCachesOf};
+ghost use Rattle.regex_pair.specs.Taken.{IsWholeList};
 ghost use Rattle.hirscan.specs.Built.{FindsFirst};
-ghost use Rattle.tests_client.specs.TextsTold.{IsWholeList, IsListed, AreAllMatches};
+ghost use Rattle.tests_client.specs.TextsTold.{IsListed, AreAllMatches};
 
 use hir_core::Hir;
 use hirscan::{Settings, all_loops_read, build, is_search_of, program_settings};

@@ -1,39 +1,42 @@
-use Rattle.std.proofs.Common.{List, ℕ, Bor, map, subst, true, ◌≡◌, ◌↔◌, All, inr}
+use Rattle.std.proofs.Common.{List, subst, true, ◌≡◌, ◌↔◌, All, inr}
 use Rattle.regex_syntax.specs.declared.Config.{Config}
 use Rattle.hir_core.specs.Facts.{LoopsRead, is_utf8_tree}
 use Rattle.hir_core.specs.Tree.{Tree}
 use Rattle.hirscan.specs.Built.{IsBuilt, RefusesBuild}
 use Rattle.pattern_search.specs.Texts.{AllMean}
+use Rattle.pattern_search.proofs.ForCallers.{read_texts}
 use Rattle.capi.proofs.automata.regex_of.Goals as goal
-
-abbrev texts_of : List (Bor (List ℕ)) → List (List ℕ)
-texts_of = map (λ (t : Bor (List ℕ)). t.now)
 
 pub returns-in-Err-build-clause-refused : goal.returns-in-Err-build-clause-refused
 returns-in-Err-build-clause-refused c =
     inr (
       c.in-Ok.trees.items,
-      subst (λ (k : Config). AllMean k (texts_of c.args.texts.now) c.in-Ok.trees.items) c.config-config.ensures c.in-Ok.ensures.means,
+      subst (λ (k : Config). AllMean k (read_texts c.args.texts.now) c.in-Ok.trees.items) c.config-config.ensures c.in-Ok.ensures.means,
       (
         c.settings-settings.result,
-        subst (λ (xs : List Tree). RefusesBuild xs c.settings-settings.result c.in-Err-build.e) c.deref-3.ensures.value c.in-Err-build.ensures.refused,
+        subst (λ (xs : List Tree). RefusesBuild xs c.settings-settings.result c.in-Err-build.e)
+            c.deref-3.ensures.value c.in-Err-build.ensures.refused,
       ),
     )
 
 pub returns-clause-made : goal.returns-clause-made
 returns-clause-made c =
     let told : (c.all_loops_read-loops.result ≡ true) ↔ All LoopsRead c.in-Ok.trees.items =
-    subst (λ (xs : List Tree). (c.all_loops_read-loops.result ≡ true) ↔ All LoopsRead xs) c.deref-2.ensures.value c.all_loops_read-loops.ensures in (
+    subst (λ (xs : List Tree). (c.all_loops_read-loops.result ≡ true) ↔ All LoopsRead xs)
+    c.deref-2.ensures.value c.all_loops_read-loops.ensures in (
       (
         record {
           trees = c.in-Ok.trees.items;
           settings = c.settings-settings.result;
-          mean = subst (λ (k : Config). AllMean k (texts_of c.args.texts.now) c.in-Ok.trees.items) c.config-config.ensures c.in-Ok.ensures.means;
-          built = subst (λ (xs : List Tree). IsBuilt xs c.settings-settings.result c.in-Ok-build.regex) c.deref-3.ensures.value c.in-Ok-build.ensures.built;
+          mean = subst (λ (k : Config). AllMean k (read_texts c.args.texts.now) c.in-Ok.trees.items)
+              c.config-config.ensures c.in-Ok.ensures.means;
+          built = subst (λ (xs : List Tree). IsBuilt xs c.settings-settings.result c.in-Ok-build.regex)
+              c.deref-3.ensures.value c.in-Ok-build.ensures.built;
           kind_is = c.settings-settings.ensures.kind;
           lines = c.settings-settings.ensures.lines;
           mode = c.settings-settings.ensures.mode;
-          utf8_trees = subst (λ (k : Config). k.utf8 ≡ true → All (λ x. is_utf8_tree x ≡ true) c.in-Ok.trees.items) c.config-config.ensures c.in-Ok.ensures.utf8;
+          utf8_trees = subst (λ (k : Config). k.utf8 ≡ true →
+              All (λ x. is_utf8_tree x ≡ true) c.in-Ok.trees.items) c.config-config.ensures c.in-Ok.ensures.utf8;
         },
         told,
       ),

@@ -1,6 +1,7 @@
 use Rattle.std.proofs.Common.{ℕ, ap, arith, false, map, slice_set, sym, ◌∙◌}
+use Rattle.std.proofs.lemmas.List.{length-map}
 use Rattle.capi.specs.Compiled.{mark}
-use Rattle.capi.proofs.ListLemmas.{length_map, mapped_at, none_laid, one_more_byte}
+use Rattle.capi.proofs.ListLemmas.{mapped_at, none_laid, one_more_byte}
 use Rattle.capi.proofs.telling.write_marks.Goals as goal
 
 pub loop-at-init : goal.loop-at-init
@@ -9,7 +10,7 @@ loop-at-init c = sym (none_laid c.args.marks.now)
 pub loop-at-preserved : goal.loop-at-preserved
 loop-at-preserved c =
     one_more_byte (map mark c.args.tests.now) c.loop-at.at 0 c.args.marks.now c.loop-at.marks c.put.new.room
-    (omega (arith, c.loop-at-test.true, length_map mark c.args.tests.now)) c.loop-at.invariant
+    (omega (arith, c.loop-at-test.true, length-map c.args.tests.now mark)) c.loop-at.invariant
     (c.put.ensures
     ∙ ap (λ (b : ℕ). slice_set c.loop-at.marks c.loop-at.at b)
     (c.mark.ensures ∙ sym (mapped_at mark c.args.tests.now c.loop-at.at false 0 c.loop-at-test.true)))

@@ -30,4 +30,5 @@ loop-done-preserved c =
 
 pub returns-clause-all : goal.returns-clause-all
 returns-clause-all c =
-    none_behind c.args.block.now c.whole_len-whole.result c.loop-done.done c.loop-done.invariant.in_whole c.loop-done-test.false c.whole_len-whole.ensures.rest
+    none_behind c.args.block.now c.whole_len-whole.result c.loop-done.done c.loop-done.invariant.in_whole c.loop-done-test.false
+    c.whole_len-whole.ensures.rest

@@ -25,7 +25,8 @@ returns-in-Ok-pass_lines-clause-counts c by more =
     (c.in-Ok-pass_lines.ensures.counts c.args.finder.now by (c.in-Ok.ensures.passed by.patterns by.are_read))
 
 pub returns-clause-on : goal.returns-clause-on
-returns-clause-on c = moves_on c.args.block.now c.args.at c.in-Ok-tell_here.behind c.requires.whole c.requires.below c.in-Ok-tell_here.ensures.on
+returns-clause-on c =
+    moves_on c.args.block.now c.args.at c.in-Ok-tell_here.behind c.requires.whole c.requires.below c.in-Ok-tell_here.ensures.on
 
 pub returns-clause-goes_on : goal.returns-clause-goes_on
 returns-clause-goes_on c by more = c.in-Ok-tell_here.ensures.goes_on (moved_by c.in-Ok.ensures.same by) more

@@ -1,6 +1,6 @@
 use Rattle.std.proofs.Common.{false, take}
 use Rattle.grep_core.specs.Fallbacks.{AreRegexesOf}
-use Rattle.grep_core.proofs.RegexLemmas.{read_texts}
+use Rattle.pattern_search.proofs.ForCallers.{read_texts}
 use Rattle.grep_core.proofs.fallback.regexes_of.Given as goal
 
 abbrev pub invariant-loop-text : goal.invariant-loop-text

@@ -22,4 +22,5 @@ returns-in-Some c =
 
 pub returns-in-None : goal.returns-in-None
 returns-in-None c =
-    sym (none_left c.args.text.now c.wide.at c.wide.invariant.0 c.wide.invariant.1 (sym (ap (position is_feed) (take_rest c.args.text.now c.wide.at)) ∙ sym c.feed_of_few.ensures ∙ c.in-None.is))
+    sym (none_left c.args.text.now c.wide.at c.wide.invariant.0 c.wide.invariant.1
+    (sym (ap (position is_feed) (take_rest c.args.text.now c.wide.at)) ∙ sym c.feed_of_few.ensures ∙ c.in-None.is))

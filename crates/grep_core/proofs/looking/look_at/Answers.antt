@@ -27,5 +27,6 @@ pub returns-in-Ok-matches-clause-found : goal.returns-in-Ok-matches-clause-found
 returns-in-Ok-matches-clause-found c by =
     let needs : needs_spans c.args.what.now ≡ true = sym c.needs_spans.ensures ∙ c.if-not-needs_spans.false in
     all_needed c.args.what.now by.patterns c.args.line.now (map span_pair c.in-Ok-matches.found.items) needs
-    (subst (λ (s : Sought). s.spans ≡ true → AreTold s.config s.texts c.args.line.now (map span_pair c.in-Ok-matches.found.items)) c.has_match.ensures.same
+    (subst (λ (s : Sought). s.spans ≡ true → AreTold s.config s.texts c.args.line.now (map span_pair c.in-Ok-matches.found.items))
+    c.has_match.ensures.same
     c.in-Ok-matches.ensures.told (by.may needs) by.patterns by.are_read)

@@ -1,4 +1,4 @@
-use Rattle.grep_core.specs.declared.blocks.Task.{Task}
+use Rattle.grep_core.specs.declared.progress.Task.{Task}
 use Rattle.grep_core.specs.Searchers.{found_by}
 use Rattle.grep_core.specs.Telling.{needed}
 use Rattle.grep_core.proofs.SeenLemmas.{moved_by}
@@ -13,7 +13,8 @@ pub returns-in-Err-clause-fault : goal.returns-in-Err-clause-fault
 returns-in-Err-clause-fault g c by =
     let t : Task = record { what = c.args.what; name = c.args.name; with_name = c.args.with_name } in
     some_of (g.R.Read.remaining c.args.reader.now) _
-    (λ text is. text_part t (found_by by) c.args.known c.new-progress.result c.new-read.result text (g.W.Write.contents c.args.writer.now) (g.W.Write.contents c.tell_blocks.new.writer)
+    (λ text is. text_part t (found_by by) c.args.known c.new-progress.result c.new-read.result text (g.W.Write.contents c.args.writer.now)
+    (g.W.Write.contents c.tell_blocks.new.writer)
     c.new-read.ensures (c.new-progress.ensures.starts t (needed c.args.what.now (found_by by))) (c.in-Err.ensures.fault by text is))
 
 pub returns-in-Ok-finish-clause-told : goal.returns-in-Ok-finish-clause-told
@@ -21,8 +22,10 @@ returns-in-Ok-finish-clause-told g c by =
     let t : Task = record { what = c.args.what; name = c.args.name; with_name = c.args.with_name } in
     some_of (g.R.Read.remaining c.args.reader.now) _
     (λ text is. let a = c.in-Ok.ensures.reads by text is in
-    text_written t (found_by by) c.args.known c.new-progress.result c.tell_blocks.new.progress c.new-read.result c.tell_blocks.new.read c.bytes.result.now text
-    (g.R.Read.remaining c.tell_blocks.new.reader) (g.W.Write.contents c.args.writer.now) (g.W.Write.contents c.tell_blocks.new.writer) (g.W.Write.contents c.finish.new.writer)
+    text_written t (found_by by) c.args.known c.new-progress.result c.tell_blocks.new.progress c.new-read.result c.tell_blocks.new.read
+    c.bytes.result.now text
+    (g.R.Read.remaining c.tell_blocks.new.reader) (g.W.Write.contents c.args.writer.now) (g.W.Write.contents c.tell_blocks.new.writer)
+    (g.W.Write.contents c.finish.new.writer)
     c.new-read.ensures c.bytes.ensures (c.new-progress.ensures.starts t (needed c.args.what.now (found_by by))) a
     (c.in-Ok-finish.ensures.written (moved_by c.in-Ok.ensures.same by) a.rest
     (λ ended. at_end (g.R.Read.remaining c.tell_blocks.new.reader) a.rest a.is_left (c.in-Ok.ensures.end ended))))
@@ -32,8 +35,10 @@ returns-in-Ok-finish-clause-selected g c by =
     let t : Task = record { what = c.args.what; name = c.args.name; with_name = c.args.with_name } in
     some_of (g.R.Read.remaining c.args.reader.now) _
     (λ text is. let a = c.in-Ok.ensures.reads by text is in
-    text_counted t (found_by by) c.new-progress.result c.tell_blocks.new.progress c.new-read.result c.tell_blocks.new.read c.bytes.result.now text
-    (g.R.Read.remaining c.tell_blocks.new.reader) (g.W.Write.contents c.args.writer.now) (g.W.Write.contents c.tell_blocks.new.writer) c.count_of.result _
+    text_counted t (found_by by) c.new-progress.result c.tell_blocks.new.progress c.new-read.result c.tell_blocks.new.read
+    c.bytes.result.now text
+    (g.R.Read.remaining c.tell_blocks.new.reader) (g.W.Write.contents c.args.writer.now)
+    (g.W.Write.contents c.tell_blocks.new.writer) c.count_of.result _
     c.new-read.ensures c.bytes.ensures (c.new-progress.ensures.counts t (needed c.args.what.now (found_by by))) a
     (c.count_of.ensures t (needed c.args.what.now (found_by by)))
     (c.in-Ok-finish.ensures.counts (moved_by c.in-Ok.ensures.same by) a.rest
@@ -44,8 +49,10 @@ returns-clause-fault g c by =
     let t : Task = record { what = c.args.what; name = c.args.name; with_name = c.args.with_name } in
     some_of (g.R.Read.remaining c.args.reader.now) _
     (λ text is. let a = c.in-Ok.ensures.reads by text is in
-    rest_part t (found_by by) c.args.known c.new-progress.result c.tell_blocks.new.progress c.new-read.result c.tell_blocks.new.read c.bytes.result.now text
-    (g.R.Read.remaining c.tell_blocks.new.reader) (g.W.Write.contents c.args.writer.now) (g.W.Write.contents c.tell_blocks.new.writer) (g.W.Write.contents c.finish.new.writer)
+    rest_part t (found_by by) c.args.known c.new-progress.result c.tell_blocks.new.progress c.new-read.result c.tell_blocks.new.read
+    c.bytes.result.now text
+    (g.R.Read.remaining c.tell_blocks.new.reader) (g.W.Write.contents c.args.writer.now) (g.W.Write.contents c.tell_blocks.new.writer)
+    (g.W.Write.contents c.finish.new.writer)
     c.new-read.ensures c.bytes.ensures (c.new-progress.ensures.starts t (needed c.args.what.now (found_by by))) a
     (c.in-Err-finish.ensures.fault (moved_by c.in-Ok.ensures.same by) a.rest
     (λ ended. at_end (g.R.Read.remaining c.tell_blocks.new.reader) a.rest a.is_left (c.in-Ok.ensures.end ended))))

@@ -1,4 +1,4 @@
-use Rattle.grep_core.proofs.WriteLemmas.{appends_more, more_in_text}
+use Rattle.hirscan.proofs.ForCallers.{appends_more, more_in_text}
 use Rattle.grep_core.proofs.reading.write_out.Goals as goal
 
 pub loop-done-preserved : goal.loop-done-preserved

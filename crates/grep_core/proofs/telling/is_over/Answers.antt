@@ -13,7 +13,8 @@ returns-then-is_spent-clause-told c none f name with_name lines =
 pub returns-then-is_spent-clause-counted : goal.returns-then-is_spent-clause-counted
 returns-then-is_spent-clause-counted c none f lines =
     let spent : may_select c.args.what.now.most c.args.telling.now.count ≡ false = sym c.may_select-is_spent.ensures ∙ c.if-is_spent.true in
-    ap (counted_as c.args.what.now.print) (over_counted c.args.what.now f [] false c.args.telling.now.course c.args.telling.now.count spent lines)
+    ap (counted_as c.args.what.now.print) (over_counted c.args.what.now f []
+    false c.args.telling.now.course c.args.telling.now.count spent lines)
 
 pub returns-in-Count-clause-told : goal.returns-in-Count-clause-told
 returns-in-Count-clause-told c told f name with_name lines =
@@ -26,7 +27,8 @@ pub returns-in-Count-clause-counted : goal.returns-in-Count-clause-counted
 returns-in-Count-clause-counted c told f lines =
     let spent : may_select c.args.what.now.most c.args.telling.now.count ≡ false = sym c.may_select-is_spent.ensures
     ∙ is_false c.may_select-is_spent.result told in
-    ap (counted_as c.args.what.now.print) (over_counted c.args.what.now f [] false c.args.telling.now.course c.args.telling.now.count spent lines)
+    ap (counted_as c.args.what.now.print) (over_counted c.args.what.now f []
+    false c.args.telling.now.course c.args.telling.now.count spent lines)
 
 pub returns-then-is_spent-2-clause-told : goal.returns-then-is_spent-2-clause-told
 returns-then-is_spent-2-clause-told c told f name with_name lines =
@@ -39,4 +41,5 @@ pub returns-then-is_spent-2-clause-counted : goal.returns-then-is_spent-2-clause
 returns-then-is_spent-2-clause-counted c told f lines =
     let spent : may_select c.args.what.now.most c.args.telling.now.count ≡ false = sym c.may_select-is_spent.ensures
     ∙ c.if-is_spent-2.true in
-    ap (counted_as c.args.what.now.print) (over_counted c.args.what.now f [] false c.args.telling.now.course c.args.telling.now.count spent lines)
+    ap (counted_as c.args.what.now.print) (over_counted c.args.what.now f []
+    false c.args.telling.now.course c.args.telling.now.count spent lines)

@@ -17,22 +17,27 @@ loop-number-init c = (
 
 pub returns-in-Err-clause-refused : goal.returns-in-Err-clause-refused
 returns-in-Err-clause-refused c =
-    first_fault c.args.config.now c.args.texts.now _ c.loop-number.number c.loop-number.trees.items c.in-Err.error c.loop-number-test.true c.loop-number.invariant.0
+    first_fault c.args.config.now c.args.texts.now _ c.loop-number.number c.loop-number.trees.items c.in-Err.error c.loop-number-test.true
+    c.loop-number.invariant.0
     c.in-Err.ensures.refused
 
 pub loop-number-preserved : goal.loop-number-preserved
 loop-number-preserved c =
     let pushed = c.in-Ok.ensures.pushed in (
-      one_more_means c.args.config.now c.args.texts.now _ c.loop-number.number c.loop-number.trees.items c.push.new.trees.items pushed.0 c.loop-number-test.true
+      one_more_means c.args.config.now c.args.texts.now _ c.loop-number.number c.loop-number.trees.items c.push.new.trees.items pushed.0
+          c.loop-number-test.true
           pushed.1 c.loop-number.invariant.0 pushed.2,
-      λ on. one_more_holds (λ x. IsTrue (is_utf8_tree x)) c.loop-number.trees.items c.push.new.trees.items pushed.0 pushed.1 (c.loop-number.invariant.1 on) (pushed.3 on),
-      one_more_holds (λ x. height x ≤ 5 * c.args.config.now.nest_limit + 5) c.loop-number.trees.items c.push.new.trees.items pushed.0 pushed.1
+      λ on. one_more_holds (λ x. IsTrue (is_utf8_tree x)) c.loop-number.trees.items c.push.new.trees.items pushed.0 pushed.1
+          (c.loop-number.invariant.1 on) (pushed.3 on),
+      one_more_holds (λ x. height x ≤ 5 * c.args.config.now.nest_limit + 5) c.loop-number.trees.items
+          c.push.new.trees.items pushed.0 pushed.1
           c.loop-number.invariant.2 pushed.4,
     )
 
 pub returns-clause-means : goal.returns-clause-means
 returns-clause-means c =
-    all_mean c.args.config.now c.args.texts.now c.loop-number.number c.loop-number.trees.items (omega (arith, c.loop-number-test.false)) c.loop-number.invariant.0
+    all_mean c.args.config.now c.args.texts.now c.loop-number.number c.loop-number.trees.items
+    (omega (arith, c.loop-number-test.false)) c.loop-number.invariant.0
 
 pub returns-clause-utf8 : goal.returns-clause-utf8
 returns-clause-utf8 c = c.loop-number.invariant.1

@@ -14,5 +14,6 @@ returns c = λ res xs same s p built all feeds h search v set ok.
     (room_of p.forward v (whole_search h 0) (replicate (length xs) false) set ok)
     (λ k. subst (λ (t : Terminator). (has set k ≡ true) ↔ ((has (replicate (length xs) false) k ≡ true) ⊎
     ((k < length (replicate (length xs) false)) × ((j : ℕ) × IsToldWith is_word_char xs false s.utf8 t (whole_search h 0) (j, k))))) feeds
-    (c.sets_get_the_patterns_of_spans.ensures.words xs s.utf8 s.line_terminator p.forward (c.built_automata_are_walked.ensures.is_forward xs s p built all)
+    (c.sets_get_the_patterns_of_spans.ensures.words xs s.utf8 s.line_terminator p.forward
+    (c.built_automata_are_walked.ensures.is_forward xs s p built all)
     (whole_search h 0) search v (replicate (length xs) false) set ok is_word_char word_set k))

@@ -9,13 +9,15 @@ returns-in-Err-clause-answer c =
 
 pub returns-in-Err-search_once_more-clause-answer : goal.returns-in-Err-search_once_more-clause-answer
 returns-in-Err-search_once_more-clause-answer c =
-    second_refused c.args.re.now c.search_once.new.cache c.search_once_more.new.cache c.args.input.now c.one_further-further.result c.args.last
+    second_refused c.args.re.now c.search_once.new.cache c.search_once_more.new.cache c.args.input.now
+    c.one_further-further.result c.args.last
     c.in-Ok.found c.in-Err-search_once_more.e c.in-Ok.ensures.answer c.if-not-is_repeat.ensures c.one_further-further.ensures
     c.in-Err-search_once_more.ensures.answer
 
 pub returns-in-Ok-search_once_more-clause-answer : goal.returns-in-Ok-search_once_more-clause-answer
 returns-in-Ok-search_once_more-clause-answer c =
-    second_taken c.args.re.now c.search_once.new.cache c.search_once_more.new.cache c.args.input.now c.one_further-further.result c.args.last
+    second_taken c.args.re.now c.search_once.new.cache c.search_once_more.new.cache c.args.input.now
+    c.one_further-further.result c.args.last
     c.in-Ok.found c.in-Ok-search_once_more.found c.in-Ok.ensures.answer c.if-not-is_repeat.ensures c.one_further-further.ensures
     c.in-Ok-search_once_more.ensures.answer
 

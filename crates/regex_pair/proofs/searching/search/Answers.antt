@@ -52,19 +52,30 @@ returns-clause-search g c = goes_back c.args.re.now c.args.input.now c.cache.ins
     c.offset.ensures c.search_back.ensures.search
 
 pub search_end-requires : goal.search_end-requires
-search_end-requires g c = record { own = own_forward c.args.re.now c.cache.inside.forward c.cache.inside.reverse c.args.cache.now c.cache.view_is c.requires.own }
+search_end-requires g c =
+    record { own = own_forward c.args.re.now c.cache.inside.forward c.cache.inside.reverse c.args.cache.now c.cache.view_is c.requires.own }
 
 pub search_back-requires-clause-own : goal.search_back-requires-clause-own
-search_back-requires-clause-own g c = own_reverse c.args.re.now c.cache.inside.forward c.cache.inside.reverse c.args.cache.now c.cache.view_is c.requires.own
+search_back-requires-clause-own g c =
+    own_reverse c.args.re.now c.cache.inside.forward c.cache.inside.reverse c.args.cache.now c.cache.view_is c.requires.own
 
 pub returns-in-Err-clause-own : goal.returns-in-Err-clause-own
-returns-in-Err-clause-own g c = record { forward = c.search_end.ensures.own; reverse = own_reverse c.args.re.now c.cache.inside.forward c.cache.inside.reverse c.args.cache.now c.cache.view_is c.requires.own }
+returns-in-Err-clause-own g c = record {
+  forward = c.search_end.ensures.own;
+  reverse = own_reverse c.args.re.now c.cache.inside.forward c.cache.inside.reverse c.args.cache.now c.cache.view_is c.requires.own;
+}
 
 pub returns-in_default-clause-own : goal.returns-in_default-clause-own
-returns-in_default-clause-own g c = record { forward = c.search_end.ensures.own; reverse = own_reverse c.args.re.now c.cache.inside.forward c.cache.inside.reverse c.args.cache.now c.cache.view_is c.requires.own }
+returns-in_default-clause-own g c = record {
+  forward = c.search_end.ensures.own;
+  reverse = own_reverse c.args.re.now c.cache.inside.forward c.cache.inside.reverse c.args.cache.now c.cache.view_is c.requires.own;
+}
 
 pub returns-then-is_start_known-clause-own : goal.returns-then-is_start_known-clause-own
-returns-then-is_start_known-clause-own g c = record { forward = c.search_end.ensures.own; reverse = own_reverse c.args.re.now c.cache.inside.forward c.cache.inside.reverse c.args.cache.now c.cache.view_is c.requires.own }
+returns-then-is_start_known-clause-own g c = record {
+  forward = c.search_end.ensures.own;
+  reverse = own_reverse c.args.re.now c.cache.inside.forward c.cache.inside.reverse c.args.cache.now c.cache.view_is c.requires.own;
+}
 
 pub returns-clause-own : goal.returns-clause-own
 returns-clause-own g c = record { forward = c.search_end.ensures.own; reverse = c.search_back.ensures.own }

@@ -1,6 +1,6 @@
 use Rattle.std.proofs.Common.{◌∙◌}
 use Rattle.regex_pair.specs.FindSteps.{finds_from}
-use Rattle.tests_client.proofs.ToldLemmas.{one_more}
+use Rattle.regex_pair.proofs.ForCallers.{taken_so}
 use Rattle.tests_client.proofs.client.list.Goals as goal
 
 pub loop-item-preserved : goal.loop-item-preserved
@@ -10,7 +10,7 @@ loop-item-preserved c =
       step.goes_on,
       step.same_regex ∙ was.1,
       step.same_reference ∙ was.2,
-      one_more c.args.re.now c.args.input c.loop-item.all.items _ (finds_from c.next.new.self) c.in-Ok.found
+      taken_so c.args.re.now c.args.input c.loop-item.all.items _ (finds_from c.next.new.self) c.in-Ok.found
           (c.a_step_takes_one_more.ensures c.args.re.now c.args.input c.loop-item.all.items c.loop-item.item-iterator c.next.new.self
           c.in-Ok.found was.1 was.3 step)
           c.in_ok-push-in-Ok.ensures,

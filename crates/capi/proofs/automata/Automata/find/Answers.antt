@@ -15,7 +15,8 @@ returns-clause-found c config texts it valid =
     (λ xs mean s built finds lines. c.regexes_answer_what_is_written.ensures config texts xs mean s c.args.self.now built finds lines)
     it c.args.haystack.now c.see_bytes.ensures valid c.args.from c.find.new.cache c.in-Ok.found
     (subst (λ (p : Pair). AnswersPair p c.find.new.cache (whole_search c.args.haystack.now c.args.from) (Ok c.in-Ok.found)) c.self.view_is
-    (subst (λ (q : Search). AnswersPair c.self.inside.regex c.find.new.cache q (Ok c.in-Ok.found)) c.search_from.ensures c.in-Ok.ensures.answer)))
+    (subst (λ (q : Search). AnswersPair c.self.inside.regex c.find.new.cache q (Ok c.in-Ok.found))
+    c.search_from.ensures c.in-Ok.ensures.answer)))
 
 pub returns-clause-preferred : goal.returns-clause-preferred
 returns-clause-preferred c config texts it valid loops =
@@ -24,4 +25,5 @@ returns-clause-preferred c config texts it valid loops =
     (λ xs mean s built finds lines. c.regexes_answer_what_is_written.ensures config texts xs mean s c.args.self.now built finds lines)
     it c.args.haystack.now c.see_bytes.ensures valid c.args.from c.find.new.cache c.in-Ok.found
     (subst (λ (p : Pair). AnswersPair p c.find.new.cache (whole_search c.args.haystack.now c.args.from) (Ok c.in-Ok.found)) c.self.view_is
-    (subst (λ (q : Search). AnswersPair c.self.inside.regex c.find.new.cache q (Ok c.in-Ok.found)) c.search_from.ensures c.in-Ok.ensures.answer)) loops)
+    (subst (λ (q : Search). AnswersPair c.self.inside.regex c.find.new.cache q
+    (Ok c.in-Ok.found)) c.search_from.ensures c.in-Ok.ensures.answer)) loops)

@@ -21,5 +21,6 @@ pub returns-clause-next : goal.returns-clause-next
 returns-clause-next c on =
     next_later (config_by c.args.self.now) c.args.self.now.texts c.args.haystack.now c.args.end c.in-Ok.next c.in-Ok-search.later
     (c.in-Ok.ensures.preferred on) (sym c.ends_at.ensures ∙ c.if-not-ends_at.false)
-    (subst (λ (v : Regexed). v.loops ≡ true → IsPreferred (config_by v) v.texts c.args.haystack.now (c.args.end + 1) c.in-Ok-search.later) c.search.ensures.same
+    (subst (λ (v : Regexed). v.loops ≡ true → IsPreferred (config_by v) v.texts c.args.haystack.now (c.args.end + 1) c.in-Ok-search.later)
+    c.search.ensures.same
     c.in-Ok-search.ensures.preferred on)

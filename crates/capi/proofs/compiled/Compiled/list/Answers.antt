@@ -7,7 +7,8 @@ use Rattle.capi.proofs.compiled.Compiled.list.Goals as goal
 pub loop-count-init : goal.loop-count-init
 loop-count-init c = (
   c.search.ensures.same,
-  λ on. listing_begins (config_by c.args.self.now) c.args.self.now.texts c.args.haystack.now c.args.rows.now c.in-Ok.next (sym (none_laid c.args.rows.now))
+  λ on. listing_begins (config_by c.args.self.now) c.args.self.now.texts c.args.haystack.now c.args.rows.now c.in-Ok.next
+      (sym (none_laid c.args.rows.now))
       (c.in-Ok.ensures.preferred on),
 )
 
@@ -18,7 +19,8 @@ loop-count-preserved c = (
       (length c.args.haystack.now + 1 - c.loop-count.count) (length c.args.haystack.now + 1 - (c.loop-count.count + 1)) c.loop-count.count
       c.loop-count.rows c.put.new.rows c.loop-count.next c.in-Ok-find_next.next c.in-Some.found
       (omega (arith, c.loop-count-test.true)) c.in-Some.is c.put.ensures
-      (subst (λ (v : Regexed). v.loops ≡ true → IsNext (config_by v) v.texts c.args.haystack.now c.in-Some.found.end c.in-Ok-find_next.next) c.loop-count.invariant.0
+      (subst (λ (v : Regexed). v.loops ≡ true →
+      IsNext (config_by v) v.texts c.args.haystack.now c.in-Some.found.end c.in-Ok-find_next.next) c.loop-count.invariant.0
       c.in-Ok-find_next.ensures.next on)
       (c.loop-count.invariant.1 on),
 )
@@ -26,7 +28,8 @@ loop-count-preserved c = (
 pub returns-in_default-clause-all : goal.returns-in_default-clause-all
 returns-in_default-clause-all c on =
     listing_ends (config_by c.args.self.now) c.args.self.now.texts c.args.haystack.now c.args.rows.now
-    (length c.args.haystack.now + 1 - c.loop-count.count) c.loop-count.count c.loop-count.rows c.loop-count.next c.in_default.is (c.loop-count.invariant.1 on)
+    (length c.args.haystack.now + 1 - c.loop-count.count) c.loop-count.count c.loop-count.rows c.loop-count.next c.in_default.is
+    (c.loop-count.invariant.1 on)
 
 pub returns-clause-all : goal.returns-clause-all
 returns-clause-all c on =

@@ -6,4 +6,5 @@ use Rattle.capi.proofs.compiled.Compiled.list.Given as goal
 -- so many matches were taken, and lie in the rows
 abbrev pub invariant-loop-count : goal.invariant-loop-count
 invariant-loop-count l = (l.self ≡ l.fn.self) ×
-    (l.fn.self.loops ≡ true → IsListedSoFar (config_by l.fn.self) l.fn.self.texts l.haystack (l.most - l.count) l.count l.fn.rows l.rows l.next)
+    (l.fn.self.loops ≡ true →
+    IsListedSoFar (config_by l.fn.self) l.fn.self.texts l.haystack (l.most - l.count) l.count l.fn.rows l.rows l.next)

@@ -20,7 +20,8 @@ returns-clause-preferred c =
 
 pub invariant_of-self : goal.invariant_of-self
 invariant_of-self c = (
-  subst (AreToldOf (config_of c.self.inside.options) (map string_bytes c.self.inside.texts.items) LeftmostFirst c.self.inside.loops) (sym c.find.ensures.same)
+  subst (AreToldOf (config_of c.self.inside.options) (map string_bytes c.self.inside.texts.items) LeftmostFirst c.self.inside.loops)
+      (sym c.find.ensures.same)
       c.self.invariant.0,
   c.self.invariant.1,
   c.self.invariant.2,
@@ -28,7 +29,8 @@ invariant_of-self c = (
 
 pub invariant_of-self-2 : goal.invariant_of-self-2
 invariant_of-self-2 c = (
-  subst (AreToldOf (config_of c.self.inside.options) (map string_bytes c.self.inside.texts.items) LeftmostFirst c.self.inside.loops) (sym c.find.ensures.same)
+  subst (AreToldOf (config_of c.self.inside.options) (map string_bytes c.self.inside.texts.items) LeftmostFirst c.self.inside.loops)
+      (sym c.find.ensures.same)
       c.self.invariant.0,
   c.self.invariant.1,
   c.self.invariant.2,

@@ -9,20 +9,24 @@ pub returns-clause-found : goal.returns-clause-found
 returns-clause-found c =
     found_slowly c.args.haystack.now c.see_bytes.ensures (config_by c.args.self.now) c.args.self.now.texts c.in-Ok.regexes.items c.args.from
     c.in-Ok.ensures.regexes c.in-Ok-told.found
-    (c.in-Ok-told.ensures.best ∙ ap (λ (rs : List Fallback). best_of 0 (map (span_by c.args.haystack.now c.args.from) rs)) c.deref.ensures.value)
+    (c.in-Ok-told.ensures.best
+    ∙ ap (λ (rs : List Fallback). best_of 0 (map (span_by c.args.haystack.now c.args.from) rs)) c.deref.ensures.value)
 
 pub returns-clause-preferred : goal.returns-clause-preferred
 returns-clause-preferred c =
-    preferred_slowly c.args.haystack.now c.see_bytes.ensures (config_by c.args.self.now) c.args.self.now.texts c.in-Ok.regexes.items c.args.from
+    preferred_slowly c.args.haystack.now c.see_bytes.ensures
+    (config_by c.args.self.now) c.args.self.now.texts c.in-Ok.regexes.items c.args.from
     c.in-Ok.ensures.regexes c.in-Ok-told.found
-    (c.in-Ok-told.ensures.best ∙ ap (λ (rs : List Fallback). best_of 0 (map (span_by c.args.haystack.now c.args.from) rs)) c.deref.ensures.value)
+    (c.in-Ok-told.ensures.best
+    ∙ ap (λ (rs : List Fallback). best_of 0 (map (span_by c.args.haystack.now c.args.from) rs)) c.deref.ensures.value)
 
 pub returns-clause-same : goal.returns-clause-same
 returns-clause-same c = c.keep_regexes.ensures ∙ c.take_regexes.ensures.same
 
 pub keep_regexes-requires : goal.keep_regexes-requires
 keep_regexes-requires c =
-    subst (λ (v : Regexed). AreFallbacksOf (config_by v) v.texts c.in-Ok.regexes.items) (sym c.take_regexes.ensures.same) c.in-Ok.ensures.regexes
+    subst (λ (v : Regexed). AreFallbacksOf (config_by v) v.texts c.in-Ok.regexes.items)
+    (sym c.take_regexes.ensures.same) c.in-Ok.ensures.regexes
 
 pub returns-in-Err-clause-refused : goal.returns-in-Err-clause-refused
 returns-in-Err-clause-refused c = c.in-Err.ensures.refused (config_by c.args.self.now) c.args.haystack.now

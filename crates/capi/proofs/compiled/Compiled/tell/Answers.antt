@@ -9,4 +9,5 @@ returns-clause-told c =
 
 pub returns-in-Some-clause-told : goal.returns-in-Some-clause-told
 returns-in-Some-clause-told c =
-    subst (λ (v : Regexed). AreWhich (config_by v) v.texts c.args.haystack.now c.in-Some.tests.items) c.ready_walker.ensures c.in-Some.ensures.told
+    subst (λ (v : Regexed). AreWhich (config_by v) v.texts c.args.haystack.now c.in-Some.tests.items)
+    c.ready_walker.ensures c.in-Some.ensures.told

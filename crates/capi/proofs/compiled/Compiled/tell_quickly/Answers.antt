@@ -12,10 +12,12 @@ returns-clause-told c res read =
     c.in-Ok-tests_of.ensures
     ∙ subst (λ (v : Regexed). AreWhich (config_by v) v.texts c.args.haystack.now c.which.new.set) c.self.view_is
     (c.in-Ok.ensures.told (config_of c.self.inside.options) (map string_bytes c.self.inside.texts.items)
-    (subst (λ (o : Option Pair). IfSome o (AreBuiltOf (config_of c.self.inside.options) (map string_bytes c.self.inside.texts.items) AllMatches))
+    (subst (λ (o : Option Pair). IfSome o (AreBuiltOf (config_of c.self.inside.options)
+    (map string_bytes c.self.inside.texts.items) AllMatches))
     c.in-Some-walker.is c.self.invariant.1)
     (subst (λ (v : Regexed). (config_by v).utf8 ≡ true → IsValidText c.args.haystack.now) (sym c.self.view_is) c.requires.valid)
-    (c.in-Some.ensures ∙ ap (λ (n : ℕ). replicate n false) (c.pattern_count.ensures ∙ ap (λ (v : Regexed). length v.texts) (sym c.self.view_is))))
+    (c.in-Some.ensures ∙ ap (λ (n : ℕ). replicate n false) (c.pattern_count.ensures
+    ∙ ap (λ (v : Regexed). length v.texts) (sym c.self.view_is))))
     res read
 
 pub returns-clause-same : goal.returns-clause-same
@@ -28,7 +30,8 @@ pub invariant_of-self-2 : goal.invariant_of-self-2
 invariant_of-self-2 c = (
   c.self.invariant.0,
   subst (AreBuiltOf (config_of c.self.inside.options) (map string_bytes c.self.inside.texts.items) AllMatches) (sym c.which.ensures.same)
-      (subst (λ (o : Option Pair). IfSome o (AreBuiltOf (config_of c.self.inside.options) (map string_bytes c.self.inside.texts.items) AllMatches))
+      (subst (λ (o : Option Pair). IfSome o (AreBuiltOf (config_of c.self.inside.options)
+      (map string_bytes c.self.inside.texts.items) AllMatches))
       c.in-Some-walker.is c.self.invariant.1),
   c.self.invariant.2,
 )
@@ -37,7 +40,8 @@ pub invariant_of-self-in-Err-tests_of : goal.invariant_of-self-in-Err-tests_of
 invariant_of-self-in-Err-tests_of c = (
   c.self.invariant.0,
   subst (AreBuiltOf (config_of c.self.inside.options) (map string_bytes c.self.inside.texts.items) AllMatches) (sym c.which.ensures.same)
-      (subst (λ (o : Option Pair). IfSome o (AreBuiltOf (config_of c.self.inside.options) (map string_bytes c.self.inside.texts.items) AllMatches))
+      (subst (λ (o : Option Pair). IfSome o (AreBuiltOf (config_of c.self.inside.options)
+      (map string_bytes c.self.inside.texts.items) AllMatches))
       c.in-Some-walker.is c.self.invariant.1),
   c.self.invariant.2,
 )
@@ -46,7 +50,8 @@ pub invariant_of-self-in-Err : goal.invariant_of-self-in-Err
 invariant_of-self-in-Err c = (
   c.self.invariant.0,
   subst (AreBuiltOf (config_of c.self.inside.options) (map string_bytes c.self.inside.texts.items) AllMatches) (sym c.which.ensures.same)
-      (subst (λ (o : Option Pair). IfSome o (AreBuiltOf (config_of c.self.inside.options) (map string_bytes c.self.inside.texts.items) AllMatches))
+      (subst (λ (o : Option Pair). IfSome o (AreBuiltOf (config_of c.self.inside.options)
+      (map string_bytes c.self.inside.texts.items) AllMatches))
       c.in-Some-walker.is c.self.invariant.1),
   c.self.invariant.2,
 )

@@ -16,7 +16,8 @@ returns-clause-same c = c.keep_regexes.ensures ∙ c.take_regexes.ensures.same
 
 pub keep_regexes-requires : goal.keep_regexes-requires
 keep_regexes-requires c =
-    subst (λ (v : Regexed). AreFallbacksOf (config_by v) v.texts c.in-Ok.regexes.items) (sym c.take_regexes.ensures.same) c.in-Ok.ensures.regexes
+    subst (λ (v : Regexed). AreFallbacksOf (config_by v) v.texts c.in-Ok.regexes.items)
+    (sym c.take_regexes.ensures.same) c.in-Ok.ensures.regexes
 
 pub returns-in-Err-clause-refused : goal.returns-in-Err-clause-refused
 returns-in-Err-clause-refused c = c.in-Err.ensures.refused (config_by c.args.self.now) c.args.haystack.now

@@ -5,7 +5,8 @@ use Rattle.capi.proofs.compiled.Compiled.which.Goals as goal
 
 pub returns-clause-marked : goal.returns-clause-marked
 returns-clause-marked c =
-    marked_of (config_by c.args.self.now) c.args.self.now.texts c.args.haystack.now c.in-Ok-tell.tests.items c.hits.result c.fill.new.self c.write_marks.new.marks
+    marked_of (config_by c.args.self.now) c.args.self.now.texts c.args.haystack.now c.in-Ok-tell.tests.items c.hits.result c.fill.new.self
+    c.write_marks.new.marks
     c.in-Ok-tell.ensures.told (c.if-marks-pattern_count.false ∙ c.pattern_count.ensures)
     (c.write_marks.ensures ∙ ap (λ (bs : List Bool). overlaid (map mark bs) c.fill.new.self) c.deref.ensures.value)
     (c.hits.ensures ∙ ap hits c.deref-2.ensures.value)

@@ -10,8 +10,12 @@ use Rattle.capi.proofs.walker.Walker.which.Goals as goal
 pub returns-clause-told : goal.returns-clause-told
 returns-clause-told c config texts it valid empty =
     walk_told config texts c.args.self.now
-    (λ xs mean s built all lines h search v set answer. c.walks_tell_which_texts_match.ensures config texts xs mean s c.args.self.now built all lines h search v set answer)
+    (λ xs mean s built all lines h search v set answer. c.walks_tell_which_texts_match.ensures config texts xs mean s c.args.self.now built
+    all lines h search v set answer)
     it c.args.haystack.now c.see_bytes.ensures valid c.walk.new.cache c.args.set.now c.walk.new.set empty
-    (subst (λ (p : Pair). AnswersWhich p.forward c.walk.new.cache (whole_search c.args.haystack.now 0) c.args.set.now c.walk.new.set (Ok tt)) c.self.view_is
-    (subst (λ (d : Dfa). AnswersWhich d c.walk.new.cache (whole_search c.args.haystack.now 0) c.args.set.now c.walk.new.set (Ok tt)) c.forward.ensures.value
-    (subst (λ (q : Search). AnswersWhich c.forward.result.now c.walk.new.cache q c.args.set.now c.walk.new.set (Ok tt)) c.search_from-input.ensures c.in-Ok.ensures.answer)))
+    (subst (λ (p : Pair). AnswersWhich p.forward c.walk.new.cache (whole_search c.args.haystack.now 0) c.args.set.now c.walk.new.set
+    (Ok tt)) c.self.view_is
+    (subst (λ (d : Dfa). AnswersWhich d c.walk.new.cache (whole_search c.args.haystack.now 0) c.args.set.now c.walk.new.set (Ok tt))
+    c.forward.ensures.value
+    (subst (λ (q : Search). AnswersWhich c.forward.result.now c.walk.new.cache q c.args.set.now c.walk.new.set (Ok tt))
+    c.search_from-input.ensures c.in-Ok.ensures.answer)))

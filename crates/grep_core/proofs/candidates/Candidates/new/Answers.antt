@@ -17,6 +17,7 @@ returns-in-Ok-new-clause-candidates c config texts mean = record {
   mean = mean;
   plain = all_plain c.args.trees.now (sym c.any_has_crlf.ensures.any ∙ c.if-any_has_crlf.false);
   capacity = c.args.capacity;
-  built = subst (λ (xs : List Tree). IsBuilt xs (sized_settings c.args.capacity) c.in-Ok-build.regex) (c.deref.ensures.value ∙ c.in-Ok.ensures)
+  built =
+      subst (λ (xs : List Tree). IsBuilt xs (sized_settings c.args.capacity) c.in-Ok-build.regex) (c.deref.ensures.value ∙ c.in-Ok.ensures)
       (subst (λ (s : Settings). IsBuilt c.deref.result.now s c.in-Ok-build.regex) c.settings.ensures c.in-Ok-build.ensures.built);
 }

@@ -23,9 +23,11 @@ returns-in-Some-clause-passed c config texts it =
 
 pub returns-in-Some-clause-has : goal.returns-in-Some-clause-has
 returns-in-Some-clause-has c config texts it known =
-    match_known config texts c.args.self.now.0 c.args.block.now c.args.at c.line_start-start.result c.in-Some.stop.place c.in-Some.stop.is_end it
+    match_known config texts c.args.self.now.0 c.args.block.now c.args.at c.line_start-start.result c.in-Some.stop.place
+    c.in-Some.stop.is_end it
     c.see_bytes.ensures c.requires.starts c.requires.within
-    (subst (λ (o : Option Stop). IfSome o (λ s. s.is_end ≡ true → IsEnd (map line_tree it.trees) c.args.block.now c.args.at s.place)) c.in-Some.is
+    (subst (λ (o : Option Stop). IfSome o (λ s. s.is_end ≡ true →
+    IsEnd (map line_tree it.trees) c.args.block.now c.args.at s.place)) c.in-Some.is
     (c.in-Ok.ensures.ends (map line_tree it.trees) it.capacity it.built))
     c.line_start-start.ensures.last (sym c.is_known.ensures ∙ known)
 

@@ -5,7 +5,8 @@ use Rattle.grep_core.proofs.finder.Finder.matches.Goals as goal
 
 pub returns-in-Ok-clause-told : goal.returns-in-Ok-clause-told
 returns-in-Ok-clause-told c =
-    subst (λ (s : Sought). s.spans ≡ true → AreTold s.config s.texts c.args.line.now (map span_pair c.in-Ok.found.items)) c.grow_searcher.ensures
+    subst (λ (s : Sought). s.spans ≡ true → AreTold s.config s.texts c.args.line.now (map span_pair c.in-Ok.found.items))
+    c.grow_searcher.ensures
     c.in-Ok.ensures.told
 
 pub returns-in-Ok-matches_slowly-clause-told : goal.returns-in-Ok-matches_slowly-clause-told

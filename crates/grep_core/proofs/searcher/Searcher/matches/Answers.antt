@@ -3,9 +3,10 @@ use Rattle.std.specs.List.{filter}
 use Rattle.search_types.specs.Found.{Found}
 use Rattle.search_types.specs.Inputs.{Search}
 use Rattle.regex_pair.specs.Pairs.{Pair, PairCache}
+use Rattle.regex_pair.specs.Taken.{IsWholeList}
 use Rattle.pattern_search.specs.Searches.{whole_search, span_of_found}
 use Rattle.grep_core.specs.Report.{is_some_text}
-use Rattle.grep_core.specs.Searchers.{sized_settings, IsWholeList}
+use Rattle.grep_core.specs.Searchers.{sized_settings}
 use Rattle.grep_core.proofs.ToldLemmas.{all_told}
 use Rattle.grep_core.proofs.searcher.Searcher.matches.Goals as goal
 

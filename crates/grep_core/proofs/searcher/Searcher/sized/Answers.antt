@@ -25,5 +25,6 @@ returns-in-Err-build-clause-refused c first =
       c.in-Ok.ensures.means,
       subst (λ k. RefusesBuild c.in-Ok.trees.items (sized_settings k) c.in-Err-build.e) first
           (subst (λ (xs : List Tree). RefusesBuild xs (sized_settings c.args.capacity) c.in-Err-build.e) c.deref-2.ensures.value
-          (subst (λ (s : Settings). RefusesBuild c.deref-2.result.now s c.in-Err-build.e) c.settings.ensures c.in-Err-build.ensures.refused)),
+          (subst (λ (s : Settings). RefusesBuild c.deref-2.result.now s c.in-Err-build.e)
+          c.settings.ensures c.in-Err-build.ensures.refused)),
     )

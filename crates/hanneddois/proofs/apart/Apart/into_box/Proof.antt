@@ -12,7 +12,8 @@ use base.Fml.{ftrue, fsep, feq}
 use prog.Wp.{Env, WpFn}
 use contract.BorrowLft.{◌⊑◌}
 use types.Logic.{Logic}
-use types.Kit.{Item, Goal, Seq, Step, step, at_ret, ‵, raw, prop, ◌⊛◌, some, later, ◌$◌, ◌∵◌, !, qed, move, drop, use1, join, split, split3, pick, regoal, fsplit, fjoin, feq_i, suffices, await, done}
+use types.Kit.{Item, Goal, Seq, Step, step, at_ret, ‵, raw, prop, ◌⊛◌, some, later, ◌$◌, ◌∵◌, !, qed, move, drop, use1, join, split, split3}
+use types.Kit.{pick, regoal, fsplit, fjoin, feq_i, suffices, await, done}
 use types.Part.{whole, sub}
 use types.Run.{stop, fld, no_more, and_then, of_opd, returns, enter, first, blocks, exec}
 use types.ByLocal.{alloc_all, pass_all, free_all, look_at, get, get_in, sets, lands_last, env}
@@ -62,7 +63,8 @@ module _ (E : Bx) where
     -- arguments first, then what is required
     asks : K → (tokens lives alloc_lives : Item 𝓤) (p : (PartsOf E).Denot) (hv : Val) (b o : ℕ)
         → Step K 𝓛 (Asked tokens lives alloc_lives p hv b o ∷ Γ) G
-        (‵ (box_owns (token E.al p.alloc) (R E) (block_ptr b o) p.value) ∷ ‵ (handle E p.alloc hv) ∷ ‵ ftrue ∷ tokens ∷ lives ∷ alloc_lives ∷ Γ) G
+        (‵ (box_owns (token E.al p.alloc) (R E) (block_ptr b o) p.value) ∷ ‵ (handle E p.alloc hv)
+        ∷ ‵ ftrue ∷ tokens ∷ lives ∷ alloc_lives ∷ Γ) G
     asks t tokens lives alloc_lives p hv b o = step (λ s.
         feq_i t (List Val) (vptr b o ∷ []) (vptr b o ∷ []) refl $ move t (0 ∷ 3 ∷ []) $ fjoin t $ move t (2 ∷ 0 ∷ []) $ fjoin t $
         move t (2 ∷ 0 ∷ []) $ join t $
@@ -82,7 +84,8 @@ into_box_spec 𝓤 𝓛 𝓜 𝓡 wired X Z LX LZ g d dd allocator md =
     let stayed : Stays En.signature.params En.kept = (stay_dropped (FromParts E) no, tt) in
     let fn : Fn = inst_fn (args E) code.function in
     let Closes : Contract 𝓤 = triple_of 𝓛 (closing.signature X Z g d dd) (closing.spec X Z g d dd 𝓛 𝓜.mem 𝓡.returns) in
-    proved_at 𝓛 En stayed c 𝓜 𝓡 (Goes-blank 𝓛 2 (FromParts E) no (λ κs x f. tt), tt) (#self (args E)) fn (code.unfolded 𝓤 𝓛.H 𝓜 𝓡 wired (X, (Z, tt)) d dd) (λ z are.
+    proved_at 𝓛 En stayed c 𝓜 𝓡 (Goes-blank 𝓛 2 (FromParts E) no (λ κs x f. tt), tt) (#self (args E)) fn
+    (code.unfolded 𝓤 𝓛.H 𝓜 𝓡 wired (X, (Z, tt)) d dd) (λ z are.
     let Post : Val → SProp 𝓤 = (walk_of 𝓛 En stayed c).post z in let tokens : Item 𝓤 = raw (alive 𝓛 En.signature z.0.0 z.0.1) in
     let p : (PartsOf E).Denot = z.0.3.0 in
     let lives : Item 𝓤 = raw (fact 𝓤 (z.0.0.0 ⊑ X.lives)) in let alloc_lives : Item 𝓤 = raw (fact 𝓤 (z.0.0.1.0 ⊑ Z.lives)) in
@@ -90,14 +93,16 @@ into_box_spec 𝓤 𝓛 𝓜 𝓡 wired X Z LX LZ g d dd allocator md =
     move ! (1 ∷ []) $ split3 ! $ move ! (2 ∷ []) $ drop ! $ move ! (2 ∷ []) $ split ! $ move ! (1 ∷ []) $ fsplit ! $
     parts_out E ! p z.0.4.0 (λ b o hv ws fits. let w : Val = word E hv b o in
     regoal ! (λ (us : List Val). prop (WpFn 𝓤 𝓛.H 𝓣.C 𝓣.Λ fn us Post)) (λ i. ws i ++ []) refl $
-    enter ! 𝓣.C 𝓣.Λ fn (w ∷ []) Post $ alloc_all ! (λ l. pass_all ! refl (box_typed E hv b o fits, tt) $ let Ev : Env 𝓤 𝓛.H = env fn.locals l in
+    enter ! 𝓣.C 𝓣.Λ fn (w ∷ []) Post $ alloc_all ! (λ l. pass_all ! refl (box_typed E hv b o fits, tt) $
+    let Ev : Env 𝓤 𝓛.H = env fn.locals l in
     sets ! (of_opd ! (get_in ! (fld ! refl (stop !)) (sub ! 0 refl (whole !)))) refl (tt, tt) $
     sets ! (of_opd ! (get_in ! (fld ! refl (stop !)) (sub ! 1 refl (whole !)))) refl fits $
     first ! $ blocks ! $ sets ! (of_opd ! (get ! refl)) refl fits $
     asks E ! tokens lives alloc_lives p hv b o $
     let asked : Closes.Ghost = ((z.0.0, z.0.1, tt, (p.alloc, (block_ptr b o, tt)), (hv ∷ [], (vptr b o ∷ [], tt))), p.value) in
     use1 𝓛 (raw (Closes.pre asked)) (id⊢ 𝓤 _) $
-    calls_at_last ! (fm 𝓛 𝓜 𝓡) Closes (shut.met 𝓤 𝓛 𝓜 𝓡 (code.calls-std_alloc::boxed::Box::from_raw 𝓡.env wired) X Z LX LZ g d dd allocator md) asked (and_then ! (get ! refl) (and_then ! (get ! refl) (no_more !))) (λ u.
+    calls_at_last ! (fm 𝓛 𝓜 𝓡) Closes (shut.met 𝓤 𝓛 𝓜 𝓡 (code.calls-std_alloc::boxed::Box::from_raw 𝓡.env wired)
+    X Z LX LZ g d dd allocator md) asked (and_then ! (get ! refl) (and_then ! (get ! refl) (no_more !))) (λ u.
     use1 𝓛 (later (Answered E 𝓤 tokens p u)) (id⊢ 𝓤 _) $ await ! tt $ answers_box E ! tokens p u (λ r same typed.
     lands_last ! refl typed $ exec ! 𝓣.C 𝓣.Λ Ev (after 3 fn.body) (at_ret Ev Post) $
     sets ! (of_opd ! (get ! refl)) refl typed $

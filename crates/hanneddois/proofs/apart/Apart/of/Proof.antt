@@ -10,7 +10,8 @@ use base.Logic.{SProp, id⊢}
 use base.Fml.{ftrue, fsep}
 use prog.Wp.{WpFn}
 use types.Logic.{Logic}
-use types.Kit.{Item, Goal, Seq, ‵, raw, prop, ◌⊛◌, some, later, ◌$◌, ◌∵◌, !, qed, move, drop, use1, join, split, split3, pick, regoal, fsplit, fjoin, suffices, await, done}
+use types.Kit.{Item, Goal, Seq, ‵, raw, prop, ◌⊛◌, some, later, ◌$◌, ◌∵◌, !, qed, move, drop, use1, join, split, split3, pick, regoal}
+use types.Kit.{fsplit, fjoin, suffices, await, done}
 use types.Part.{whole, sub, agg}
 use types.Run.{stop, fld, no_more, and_then, of_opd, returns, enter}
 use types.ByLocal.{alloc_all, pass_all, free_all, look_at, get, get_in, sets, lands_as}
@@ -61,7 +62,8 @@ module _ (E : Bx) where
         → ((r : (PairOf E).Denot) → Seq K 𝓛 (‵ ((PartsOf E).own_val (made v r) (u ∷ [])) ∷ tokens ∷ Γ) G)
         → Seq K 𝓛 (Answered 𝓤 tokens v u ∷ Γ) G
     answers_parts t tokens v u k = pick t (λ r. split t $ move t (1 ∷ []) $ pick t (λ _. split3 t $ drop t $
-        heard t (r.1 ≡ v.alloc) (λ same. move t (1 ∷ []) $ split t $ move t (1 ∷ 2 ∷ []) $ parts_in E t r v.alloc v.value (u ∷ []) same $ k r)))
+        heard t (r.1 ≡ v.alloc) (λ same. move t (1 ∷ []) $ split t $ move t (1 ∷ 2 ∷ []) $
+        parts_in E t r v.alloc v.value (u ∷ []) same $ k r)))
 
 pub of_spec : {M : Type 1} → statement M
 of_spec 𝓤 𝓛 𝓜 𝓡 wired X Z LX LZ g d dd dx allocator md glue =
@@ -70,16 +72,20 @@ of_spec 𝓤 𝓛 𝓜 𝓡 wired X Z LX LZ g d dd dx allocator md glue =
     let stayed : Stays T.signature.params T.kept = (stay_dropped (FromBox E) no, tt) in
     let fn : Fn = inst_fn (instance E dx) code.function in
     let Opens : Contract 𝓤 = triple_of 𝓛 (opening.signature X Z g d dd dx) (opening.spec X Z g d dd dx 𝓛 𝓜.mem 𝓡.returns) in
-    proved_at 𝓛 T stayed c 𝓜 𝓡 (Goes-blank 𝓛 2 (FromBox E) no (λ κs x f. tt), tt) (#self (instance E dx)) fn (code.unfolded 𝓤 𝓛.H 𝓜 𝓡 wired (X, (Z, tt)) d dd dx) (λ z are.
-    let Post : Val → SProp 𝓤 = (walk_of 𝓛 T stayed c).post z in let tokens : Item 𝓤 = raw (alive 𝓛 T.signature z.0.0 z.0.1) in let v : D E = z.0.3.0 in
-    qed 𝓛 ((tokens ⊛ ‵ (fsep ((B E).own_val v z.0.4.0) ftrue)) ∷ raw ((c z.0.0 z.0.3).requires z.1) ∷ []) ∵ split ! $ move ! (1 ∷ []) $ fsplit ! $
+    proved_at 𝓛 T stayed c 𝓜 𝓡 (Goes-blank 𝓛 2 (FromBox E) no (λ κs x f. tt), tt) (#self (instance E dx)) fn
+    (code.unfolded 𝓤 𝓛.H 𝓜 𝓡 wired (X, (Z, tt)) d dd dx) (λ z are.
+    let Post : Val → SProp 𝓤 = (walk_of 𝓛 T stayed c).post z in let tokens : Item 𝓤 = raw (alive 𝓛 T.signature z.0.0 z.0.1) in
+    let v : D E = z.0.3.0 in
+    qed 𝓛 ((tokens ⊛ ‵ (fsep ((B E).own_val v z.0.4.0) ftrue)) ∷ raw ((c z.0.0 z.0.3).requires z.1) ∷ []) ∵ split ! $
+    move ! (1 ∷ []) $ fsplit ! $
     box_word E ! v z.0.4.0 (λ b o hv ws fits. let w : Val = word E hv b o in
     regoal ! (λ (us : List Val). prop (WpFn 𝓤 𝓛.H 𝓣.C 𝓣.Λ fn us Post)) (λ i. ws i ++ []) refl $
     enter ! 𝓣.C 𝓣.Λ fn (w ∷ []) Post $ alloc_all ! (λ l. pass_all ! refl (box_typed E hv b o fits, tt) $
     sets ! (of_opd ! (get ! refl)) refl (box_typed E hv b o fits) $
     let asked : Opens.Ghost = ((z.0.0, z.0.1, tt, (v, tt), (w ∷ [], tt)), tt) in
     fjoin ! $ move ! (1 ∷ 0 ∷ []) $ join ! $ join ! $ use1 𝓛 (raw (Opens.pre asked)) (id⊢ 𝓤 _) $
-    calls_at ! (fm 𝓛 𝓜 𝓡) Opens (opened.met 𝓤 𝓛 𝓜 𝓡 (code.calls-std_alloc::boxed::Box::into_raw_with_allocator 𝓡.env wired) X Z LX LZ g d dd dx allocator md glue) asked (and_then ! (get ! refl) (no_more !)) (λ u.
+    calls_at ! (fm 𝓛 𝓜 𝓡) Opens (opened.met 𝓤 𝓛 𝓜 𝓡 (code.calls-std_alloc::boxed::Box::into_raw_with_allocator 𝓡.env wired)
+    X Z LX LZ g d dd dx allocator md glue) asked (and_then ! (get ! refl) (no_more !)) (λ u.
     use1 𝓛 (later (Answered E 𝓤 tokens v u)) (id⊢ 𝓤 _) $ await ! tt $ answers_parts E ! tokens v u (λ r.
     box_word E ! (closed E (made E v r)) (u ∷ []) (λ b' o' hv' us fits'. let w' : Val = word E hv' b' o' in
     lands_as ! (ap only us) refl (box_typed E hv' b' o' fits') $

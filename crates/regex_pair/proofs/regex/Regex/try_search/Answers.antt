@@ -38,7 +38,8 @@ pub returns-clause-sure_if_linked : goal.returns-clause-sure_if_linked
 returns-clause-sure_if_linked g c = c.search_span.ensures.search.sure_if_linked
 
 pub returns-clause-reach : goal.returns-clause-reach
-returns-clause-reach g c = reaches c.args.self.now c.args.input.now c.search_span.new.cache c.search_span.result c.search_span.ensures.pair.is_forward
+returns-clause-reach g c =
+    reaches c.args.self.now c.args.input.now c.search_span.new.cache c.search_span.result c.search_span.ensures.pair.is_forward
     c.search_span.ensures.within.0 c.search_span.ensures.search.answer
 
 pub returns-clause-determinized : goal.returns-clause-determinized

@@ -12,6 +12,8 @@ returns-in-Ok-list_by_trees c =
     c.in-Ok-list_by_trees.all.items c.settings_for-settings.ensures.utf8 c.new-input.ensures
     (subst (All LoopsRead) c.deref.ensures.value (c.if-not-all_loops_read.ensures.0 refl))
     (subst (λ xs. IsSearchOf xs c.args.utf8 c.new-input.result) c.deref-2.ensures.value (c.if-not-is_search_of.ensures.0 refl))
-    (subst (λ xs. IsListed xs c.settings_for-settings.result c.new-input.result c.in-Ok-list_by_trees.all.items) c.deref-3.ensures.value c.in-Ok-list_by_trees.ensures)
-    (λ p built. c.regexes_answer_what_is_written.ensures c.args.config.now texts c.in-Ok.trees.items c.in-Ok.ensures.means c.settings_for-settings.result p built
+    (subst (λ xs. IsListed xs c.settings_for-settings.result c.new-input.result c.in-Ok-list_by_trees.all.items)
+    c.deref-3.ensures.value c.in-Ok-list_by_trees.ensures)
+    (λ p built. c.regexes_answer_what_is_written.ensures c.args.config.now texts c.in-Ok.trees.items c.in-Ok.ensures.means
+    c.settings_for-settings.result p built
     c.settings_for-settings.ensures.first c.settings_for-settings.ensures.feeds)
