@@ -168,7 +168,7 @@ impl Cache {
     /// It reads the column of the class, and not the table: so a search waits for one load a byte, and not for a sum before
     /// it too.
     #[inline(always)]
-    #[tactic(auto, using(crate::proofs::ListLemmas::cell_of_column))]
+    #[tactic(auto, using(crate::proofs::CacheChanges::ListLemmas::cell_of_column))]
     pub(crate) fn cell_of_untagged(&self, id: LazyStateID, class: usize) -> LazyStateID
         requires { id + class < length self.now.cells }
         ensures { result ≡ slice_index_or self.now.cells (id + class) 0 }

@@ -1,4 +1,4 @@
-use Rattle.lazy_dfa.proofs.AccountingLemmas.{raised, raised_to_least, not_raised}
+use Rattle.lazy_dfa.proofs.Automata.AccountingLemmas.{raised, raised_to_least, not_raised}
 use Rattle.lazy_dfa.proofs.accounting_laws.capacities_are_raised_to_the_least_one.Goals as goal
 
 pub returns-clause-enough : goal.returns-clause-enough

@@ -1,4 +1,4 @@
-use Rattle.lazy_dfa.proofs.AccountingLemmas.{usage_of_none, usage_of_more}
+use Rattle.lazy_dfa.proofs.Automata.AccountingLemmas.{usage_of_none, usage_of_more}
 use Rattle.lazy_dfa.proofs.accounting_laws.states_add_to_the_usage.Goals as goal
 
 pub returns-clause-none : goal.returns-clause-none

@@ -1,6 +1,6 @@
 use Rattle.std.proofs.Common.{refl, arith}
 use Rattle.search_core.specs.Classes.{alphabet_size}
-use Rattle.lazy_dfa.proofs.AccountingLemmas.{power_is}
+use Rattle.lazy_dfa.proofs.Automata.AccountingLemmas.{power_is}
 use Rattle.lazy_dfa.proofs.accounting_laws.strides_are_least_powers_of_two.Goals as goal
 
 pub returns : goal.returns

@@ -1,4 +1,4 @@
-use Rattle.lazy_dfa.proofs.AccountingLemmas.{two_fit}
+use Rattle.lazy_dfa.proofs.Automata.AccountingLemmas.{two_fit}
 use Rattle.lazy_dfa.proofs.accounting_laws.the_least_capacity_has_room_for_two_states.Goals as goal
 
 pub returns : goal.returns

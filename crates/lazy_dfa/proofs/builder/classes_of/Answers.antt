@@ -2,7 +2,7 @@ use Rattle.std.proofs.Common.{◌∙◌, ap, sym, List, Bool}
 use Rattle.search_core.specs.ByteSets.{ranges_from}
 use Rattle.search_core.specs.Marks.{recorded}
 use Rattle.nfa_core.specs.Alike.{marks_of}
-use Rattle.lazy_dfa.proofs.BuiltLemmas.{plain_classes, marked_classes}
+use Rattle.lazy_dfa.proofs.Automata.BuiltLemmas.{plain_classes, marked_classes}
 use Rattle.lazy_dfa.proofs.builder.classes_of.Goals as goal
 
 pub returns-then-not-get_byte_classes : goal.returns-then-not-get_byte_classes

@@ -1,6 +1,6 @@
 use Rattle.std.proofs.Common.{◌≡◌, ◌∙◌, ◌^◌, ℕ, ap, arith}
 use Rattle.search_core.specs.Classes.{alphabet_size}
-use Rattle.lazy_dfa.proofs.BuildLemmas.{power_found}
+use Rattle.lazy_dfa.proofs.Automata.BuildLemmas.{power_found}
 use Rattle.lazy_dfa.proofs.builder.stride_of.Goals as goal
 
 pub returns : goal.returns

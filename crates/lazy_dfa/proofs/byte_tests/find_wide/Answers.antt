@@ -1,5 +1,5 @@
 use Rattle.std.proofs.Common.{◌≤◌, ◌+◌, length, arith}
-use Rattle.lazy_dfa.proofs.ByteTestLemmas.{found_within, found_passes, found_passes_over, none_passes_over}
+use Rattle.lazy_dfa.proofs.PassedBytes.ByteTestLemmas.{found_within, found_passes, found_passes_over, none_passes_over}
 use Rattle.lazy_dfa.proofs.byte_tests.find_wide.Goals as goal
 
 pub returns-then-marks-ne0-clause-high : goal.returns-then-marks-ne0-clause-high

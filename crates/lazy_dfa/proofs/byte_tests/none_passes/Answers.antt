@@ -1,6 +1,6 @@
 use Rattle.std.proofs.Common.{◌∙◌, sym, arith}
 use Rattle.std.proofs.lemmas.Bool.{eqb-true}
-use Rattle.lazy_dfa.proofs.ByteTestLemmas.{none_in_four}
+use Rattle.lazy_dfa.proofs.PassedBytes.ByteTestLemmas.{none_in_four}
 use Rattle.lazy_dfa.proofs.byte_tests.none_passes.Goals as goal
 
 pub returns : goal.returns

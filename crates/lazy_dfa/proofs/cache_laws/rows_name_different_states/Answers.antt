@@ -1,7 +1,7 @@
 use Rattle.std.proofs.Common.{sym, subst}
 use Rattle.determinize_core.specs.States.{StateValue}
 use Rattle.lazy_dfa.specs.Caches.{HeldAt}
-use Rattle.lazy_dfa.proofs.ChangeLemmas.{one_id}
+use Rattle.lazy_dfa.proofs.CacheChanges.ChangeLemmas.{one_id}
 use Rattle.lazy_dfa.proofs.cache_laws.rows_name_different_states.Goals as goal
 
 pub returns : goal.returns

@@ -1,5 +1,5 @@
 use Rattle.std.proofs.Common.{refl}
-use Rattle.lazy_dfa.proofs.LinkedLemmas.{is_cache_moved}
+use Rattle.lazy_dfa.proofs.CacheChanges.LinkedLemmas.{is_cache_moved}
 use Rattle.lazy_dfa.proofs.cache_laws.told_caches_stay_their_automatons.Goals as goal
 
 pub returns : goal.returns

@@ -1,5 +1,5 @@
 use Rattle.lazy_dfa.specs.Changes.{IsMadeBy}
-use Rattle.lazy_dfa.proofs.ChangeLawLemmas.{kept_if_same, first_of_clears}
+use Rattle.lazy_dfa.proofs.CacheChanges.ChangeLawLemmas.{kept_if_same, first_of_clears}
 use Rattle.lazy_dfa.proofs.change_laws.searches_add_states_on_their_way.Goals as goal
 
 pub returns-clause-kept : goal.returns-clause-kept

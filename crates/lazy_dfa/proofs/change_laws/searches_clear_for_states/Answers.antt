@@ -1,5 +1,5 @@
 use Rattle.lazy_dfa.specs.Changes.{IsMadeBy}
-use Rattle.lazy_dfa.proofs.ChangeLawLemmas.{clears_few}
+use Rattle.lazy_dfa.proofs.CacheChanges.ChangeLawLemmas.{clears_few}
 use Rattle.lazy_dfa.proofs.change_laws.searches_clear_for_states.Goals as goal
 
 pub returns : goal.returns

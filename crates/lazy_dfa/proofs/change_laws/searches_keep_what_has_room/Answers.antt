@@ -1,5 +1,5 @@
 use Rattle.lazy_dfa.specs.Changes.{IsMadeBy}
-use Rattle.lazy_dfa.proofs.ChangeLawLemmas.{kept_if_room, kept_if_spent}
+use Rattle.lazy_dfa.proofs.CacheChanges.ChangeLawLemmas.{kept_if_room, kept_if_spent}
 use Rattle.lazy_dfa.proofs.change_laws.searches_keep_what_has_room.Goals as goal
 
 pub returns-clause-room : goal.returns-clause-room

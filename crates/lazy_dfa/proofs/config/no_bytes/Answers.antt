@@ -1,5 +1,5 @@
 use Rattle.lazy_dfa.specs.ConfigValue.{no_bytes}
-use Rattle.lazy_dfa.proofs.ListLemmas.{all_false}
+use Rattle.lazy_dfa.proofs.CacheChanges.ListLemmas.{all_false}
 use Rattle.lazy_dfa.proofs.config.no_bytes.Goals as goal
 
 pub returns : goal.returns

@@ -4,7 +4,7 @@ use Rattle.nfa_core.specs.NfaValue.{Nfa}
 use Rattle.search_types.specs.declared.anchored.Anchored.{Anchored}
 use Rattle.lazy_dfa.specs.Dfas.{start_in}
 use Rattle.lazy_dfa.specs.StartCalls.{mode_of}
-use Rattle.lazy_dfa.proofs.KeepLemmas.{some_below}
+use Rattle.lazy_dfa.proofs.CacheChanges.KeepLemmas.{some_below}
 use Rattle.lazy_dfa.proofs.dfa_starts.name_of.Goals as goal
 
 pub returns-in-No-clause-name : goal.returns-in-No-clause-name

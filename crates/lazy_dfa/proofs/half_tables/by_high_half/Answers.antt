@@ -1,5 +1,5 @@
 use Rattle.std.proofs.Common.{◌/◌}
-use Rattle.lazy_dfa.proofs.HalfTableLemmas.{high_halves, high_below, may_look_up, looked_up}
+use Rattle.lazy_dfa.proofs.PassedBytes.HalfTableLemmas.{high_halves, high_below, may_look_up, looked_up}
 use Rattle.lazy_dfa.proofs.half_tables.by_high_half.Goals as goal
 
 pub swizzle : goal.swizzle

@@ -1,5 +1,5 @@
 use Rattle.std.proofs.Common.{◌%◌}
-use Rattle.lazy_dfa.proofs.HalfTableLemmas.{low_halves, low_below, may_look_up, looked_up}
+use Rattle.lazy_dfa.proofs.PassedBytes.HalfTableLemmas.{low_halves, low_below, may_look_up, looked_up}
 use Rattle.lazy_dfa.proofs.half_tables.by_low_half.Goals as goal
 
 pub swizzle : goal.swizzle

@@ -1,8 +1,8 @@
 use Rattle.std.proofs.Common.{ℕ, ap, sym, refl, ◌∙◌, Some, arith}
 use Rattle.search_types.specs.Found.{HalfFound}
 use Rattle.lazy_dfa.specs.SearchAnswers.{pair_of}
-use Rattle.lazy_dfa.proofs.IsCacheLemmas.{le_of, lt_of}
-use Rattle.lazy_dfa.proofs.TurnStepLemmas.{matches_there, row_matches, first_recorded}
+use Rattle.lazy_dfa.proofs.CacheChanges.IsCacheLemmas.{le_of, lt_of}
+use Rattle.lazy_dfa.proofs.Courses.TurnStepLemmas.{matches_there, row_matches, first_recorded}
 use Rattle.lazy_dfa.proofs.lingering.best_behind.Goals as goal
 
 pub match_pattern-pattern-requires-clause-row : goal.match_pattern-pattern-requires-clause-row

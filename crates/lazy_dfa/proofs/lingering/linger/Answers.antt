@@ -1,6 +1,6 @@
 use Rattle.std.proofs.Common.{◌∙◌, sym}
-use Rattle.lazy_dfa.proofs.SpanLemmas.{stays_between}
-use Rattle.lazy_dfa.proofs.LingerLemmas.{lingers_forward, lingers_reverse}
+use Rattle.lazy_dfa.proofs.Courses.SpanLemmas.{stays_between}
+use Rattle.lazy_dfa.proofs.Courses.LingerLemmas.{lingers_forward, lingers_reverse}
 use Rattle.lazy_dfa.specs.SearchAnswers.{pair_of}
 use Rattle.lazy_dfa.proofs.lingering.linger.Goals as goal
 

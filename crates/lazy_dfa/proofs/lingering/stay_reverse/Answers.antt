@@ -1,10 +1,10 @@
 use Rattle.std.proofs.Common.{◌-◌, ◌<◌, ℕ, get_or, arith, sym, subst, ◌∙◌, Some}
 use Rattle.std.proofs.lemmas.Bool.Decides.{Decides-eqb}
 use Rattle.lazy_dfa.specs.Ids.{start_tag}
-use Rattle.lazy_dfa.proofs.ChangeLemmas.{noted_read}
-use Rattle.lazy_dfa.proofs.IsCacheLemmas.{row_place}
-use Rattle.lazy_dfa.proofs.LingerLemmas.{lingers_on}
-use Rattle.lazy_dfa.proofs.PointLemmas.{reverse_unit, reverse_place}
+use Rattle.lazy_dfa.proofs.CacheChanges.ChangeLemmas.{noted_read}
+use Rattle.lazy_dfa.proofs.CacheChanges.IsCacheLemmas.{row_place}
+use Rattle.lazy_dfa.proofs.Courses.LingerLemmas.{lingers_on}
+use Rattle.lazy_dfa.proofs.Courses.PointLemmas.{reverse_unit, reverse_place}
 use Rattle.lazy_dfa.proofs.lingering.stay_reverse.Goals as goal
 
 pub loop-at-init : goal.loop-at-init

@@ -4,7 +4,7 @@ use Rattle.lazy_dfa.specs.declared.overlapping_state.Walk.{Walk}
 use Rattle.lazy_dfa.specs.declared.overlapping_state.Walk.TheVariants.{Ended, Failed}
 use Rattle.lazy_dfa.specs.WalkAnswers.{MakesCall, failed_by}
 use Rattle.lazy_dfa.specs.Walks.{WalkState}
-use Rattle.lazy_dfa.proofs.WalkCallLemmas.{fine, failure, ended_call, failed_call}
+use Rattle.lazy_dfa.proofs.OverlappingWalks.WalkCallLemmas.{fine, failure, ended_call, failed_call}
 use Rattle.lazy_dfa.proofs.overlapping.go_on.Goals as goal
 
 pub returns-in-Ended-clause-call : goal.returns-in-Ended-clause-call

@@ -5,7 +5,7 @@ use Rattle.lazy_dfa.specs.Dfas.{reader}
 use Rattle.lazy_dfa.specs.declared.overlapping_state.Walk.TheVariants.{Stopped}
 use Rattle.lazy_dfa.specs.Walks.{WalkState}
 use Rattle.lazy_dfa.specs.WalkAnswers.{MakesCall, ReadsOn, value_before}
-use Rattle.lazy_dfa.proofs.WalkStopLemmas.{more_call, over_call, resumes_held, resumes}
+use Rattle.lazy_dfa.proofs.OverlappingWalks.WalkStopLemmas.{more_call, over_call, resumes_held, resumes}
 use Rattle.lazy_dfa.proofs.overlapping.resume.Goals as goal
 
 pub returns-then-lists_more-clause-call : goal.returns-then-lists_more-clause-call

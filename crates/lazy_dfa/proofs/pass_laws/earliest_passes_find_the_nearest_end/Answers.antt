@@ -1,4 +1,4 @@
-use Rattle.lazy_dfa.proofs.NearestLemmas.{pass_finds_nearest}
+use Rattle.lazy_dfa.proofs.HalfSearches.NearestLemmas.{pass_finds_nearest}
 use Rattle.lazy_dfa.proofs.pass_laws.earliest_passes_find_the_nearest_end.Goals as goal
 
 pub returns : goal.returns

@@ -1,4 +1,4 @@
-use Rattle.lazy_dfa.proofs.PassLemmas.{pass_finds_first}
+use Rattle.lazy_dfa.proofs.HalfSearches.PassLemmas.{pass_finds_first}
 use Rattle.lazy_dfa.proofs.pass_laws.leftmost_passes_find_the_first_end.Goals as goal
 
 pub returns : goal.returns

@@ -1,4 +1,4 @@
-use Rattle.lazy_dfa.proofs.PassQuitLemmas.{pass_quits, quits_behind, quits_first, found_without_quit, without_quit_found}
+use Rattle.lazy_dfa.proofs.HalfSearches.PassQuitLemmas.{pass_quits, quits_behind, quits_first, found_without_quit, without_quit_found}
 use Rattle.lazy_dfa.proofs.pass_laws.passes_answer_the_first_quit_byte.Goals as goal
 
 pub returns-clause-quits : goal.returns-clause-quits

@@ -1,4 +1,4 @@
-use Rattle.lazy_dfa.proofs.PassLemmas.{pass_finds_last}
+use Rattle.lazy_dfa.proofs.HalfSearches.PassLemmas.{pass_finds_last}
 use Rattle.lazy_dfa.proofs.pass_laws.passes_for_all_find_the_last_end.Goals as goal
 
 pub returns : goal.returns

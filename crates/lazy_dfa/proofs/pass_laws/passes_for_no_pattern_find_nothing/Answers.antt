@@ -1,4 +1,4 @@
-use Rattle.lazy_dfa.proofs.PassQuitLemmas.{dead_pass}
+use Rattle.lazy_dfa.proofs.HalfSearches.PassQuitLemmas.{dead_pass}
 use Rattle.lazy_dfa.proofs.pass_laws.passes_for_no_pattern_find_nothing.Goals as goal
 
 pub returns : goal.returns

@@ -1,4 +1,4 @@
-use Rattle.lazy_dfa.proofs.PassQuitLemmas.{mode_is_told, told_is_mode}
+use Rattle.lazy_dfa.proofs.HalfSearches.PassQuitLemmas.{mode_is_told, told_is_mode}
 use Rattle.lazy_dfa.proofs.pass_laws.passes_tell_modes_that_they_cannot_search_in.Goals as goal
 
 pub returns-clause-told : goal.returns-clause-told

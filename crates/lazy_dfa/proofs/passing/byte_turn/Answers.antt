@@ -1,8 +1,8 @@
 use Rattle.std.proofs.Common.{get_or, Some}
-use Rattle.lazy_dfa.proofs.DeadTurnLemmas.{dead_turn}
-use Rattle.lazy_dfa.proofs.IsCacheLemmas.{row_place}
-use Rattle.lazy_dfa.proofs.LinkedLemmas.{is_cache_moved}
-use Rattle.lazy_dfa.proofs.SpanTurnLemmas.{byte_unit, finished_moves}
+use Rattle.lazy_dfa.proofs.Courses.DeadTurnLemmas.{dead_turn}
+use Rattle.lazy_dfa.proofs.CacheChanges.IsCacheLemmas.{row_place}
+use Rattle.lazy_dfa.proofs.CacheChanges.LinkedLemmas.{is_cache_moved}
+use Rattle.lazy_dfa.proofs.Courses.SpanTurnLemmas.{byte_unit, finished_moves}
 use Rattle.lazy_dfa.proofs.passing.byte_turn.Goals as goal
 
 pub cell-next-requires : goal.cell-next-requires

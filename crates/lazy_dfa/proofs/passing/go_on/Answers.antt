@@ -3,9 +3,9 @@ use Rattle.lazy_dfa.specs.Points.{point, Point, began}
 use Rattle.lazy_dfa.specs.Scans.{first_place}
 use Rattle.lazy_dfa.specs.SearchAnswers.{pair_of}
 use Rattle.lazy_dfa.specs.PassPlaces.{first_index, left_at, GoesBetween, TurnsInto}
-use Rattle.lazy_dfa.proofs.LinkedLemmas.{AreBytes}
-use Rattle.lazy_dfa.proofs.PassLoopLemmas.{began_runs, under_first, under_on, stand_first, stand_on, goes_further, within_next}
-use Rattle.lazy_dfa.proofs.PassLoopLemmas.{told_nothing, ends_found, ends_error}
+use Rattle.lazy_dfa.proofs.CacheChanges.LinkedLemmas.{AreBytes}
+use Rattle.lazy_dfa.proofs.Courses.PassLoopLemmas.{began_runs, under_first, under_on, stand_first, stand_on, goes_further, within_next}
+use Rattle.lazy_dfa.proofs.Courses.PassLoopLemmas.{told_nothing, ends_found, ends_error}
 use Rattle.lazy_dfa.proofs.passing.go_on.Goals as goal
 
 pub loop-turned-init : goal.loop-turned-init

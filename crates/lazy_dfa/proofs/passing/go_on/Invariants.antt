@@ -4,7 +4,7 @@ use Rattle.lazy_dfa.specs.Points.{point}
 use Rattle.lazy_dfa.specs.Scans.{first_place}
 use Rattle.lazy_dfa.specs.SearchAnswers.{pair_of}
 use Rattle.lazy_dfa.specs.PassPlaces.{IsWithinSpan, tells, came, left_at, GoesBetween}
-use Rattle.lazy_dfa.proofs.PassLoopLemmas.{IsUnder}
+use Rattle.lazy_dfa.proofs.Courses.PassLoopLemmas.{IsUnder}
 use Rattle.lazy_dfa.proofs.passing.go_on.Given as goal
 
 abbrev pub invariant-loop-turned : goal.invariant-loop-turned

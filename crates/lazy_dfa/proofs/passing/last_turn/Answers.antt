@@ -3,9 +3,9 @@ use Rattle.determinize_core.specs.Steps.{unit_at}
 use Rattle.lazy_dfa.specs.SearchAnswers.{pair_of}
 use Rattle.lazy_dfa.specs.PassPlaces.{last_place}
 use Rattle.lazy_dfa.specs.PassPlaces.{finished_where}
-use Rattle.lazy_dfa.proofs.TurnToldLemmas.{last_turned, last_finished}
-use Rattle.lazy_dfa.proofs.LinkedLemmas.{is_cache_moved, moved_refl}
-use Rattle.lazy_dfa.proofs.SpanTurnLemmas.{finished_where_moves, gave_up_last, turn_refused, turn_quits, last_ends}
+use Rattle.lazy_dfa.proofs.Courses.TurnToldLemmas.{last_turned, last_finished}
+use Rattle.lazy_dfa.proofs.CacheChanges.LinkedLemmas.{is_cache_moved, moved_refl}
+use Rattle.lazy_dfa.proofs.Courses.SpanTurnLemmas.{finished_where_moves, gave_up_last, turn_refused, turn_quits, last_ends}
 use Rattle.lazy_dfa.proofs.passing.last_turn.Goals as goal
 
 pub make_turn-requires-clause-own : goal.make_turn-requires-clause-own

@@ -1,9 +1,9 @@
 use Rattle.std.proofs.Common.{true, false, refl, get_or, Some}
 use Rattle.lazy_dfa.specs.SearchAnswers.{pair_of}
-use Rattle.lazy_dfa.proofs.TurnToldLemmas.{byte_turned, byte_finished}
-use Rattle.lazy_dfa.proofs.LinkedLemmas.{is_cache_moved}
-use Rattle.lazy_dfa.proofs.SpanTurnLemmas.{byte_unit, moved_is, some_moved, runs_there, finished_moves, gave_up_byte, turn_refused}
-use Rattle.lazy_dfa.proofs.SpanTurnLemmas.{turn_quits, some_behind, some_kept, byte_goes, byte_ends}
+use Rattle.lazy_dfa.proofs.Courses.TurnToldLemmas.{byte_turned, byte_finished}
+use Rattle.lazy_dfa.proofs.CacheChanges.LinkedLemmas.{is_cache_moved}
+use Rattle.lazy_dfa.proofs.Courses.SpanTurnLemmas.{byte_unit, moved_is, some_moved, runs_there, finished_moves, gave_up_byte, turn_refused}
+use Rattle.lazy_dfa.proofs.Courses.SpanTurnLemmas.{turn_quits, some_behind, some_kept, byte_goes, byte_ends}
 use Rattle.lazy_dfa.proofs.passing.living_turn.Goals as goal
 
 pub make_turn-requires-clause-own : goal.make_turn-requires-clause-own

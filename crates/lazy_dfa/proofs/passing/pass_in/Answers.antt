@@ -2,8 +2,8 @@ use Rattle.std.proofs.Common.{◌∙◌, sym}
 use Rattle.lazy_dfa.specs.Passes.{first_value}
 use Rattle.lazy_dfa.specs.Dfas.{reader}
 use Rattle.lazy_dfa.specs.ScanLaws.{begins_at}
-use Rattle.lazy_dfa.proofs.LinkedLemmas.{is_cache_moved}
-use Rattle.lazy_dfa.proofs.WholePassLemmas.{refused_pass, row_named, goes_dead, goes_further}
+use Rattle.lazy_dfa.proofs.CacheChanges.LinkedLemmas.{is_cache_moved}
+use Rattle.lazy_dfa.proofs.Courses.WholePassLemmas.{refused_pass, row_named, goes_dead, goes_further}
 use Rattle.lazy_dfa.proofs.passing.pass_in.Goals as goal
 
 pub returns-in-Err-clause-pass : goal.returns-in-Err-clause-pass

@@ -1,5 +1,5 @@
 use Rattle.lazy_dfa.specs.SearchAnswers.{pair_of}
-use Rattle.lazy_dfa.proofs.SpanLemmas.{stays_between, forward_between, reverse_between}
+use Rattle.lazy_dfa.proofs.Courses.SpanLemmas.{stays_between, forward_between, reverse_between}
 use Rattle.lazy_dfa.proofs.passing.run.Goals as goal
 
 pub returns-then-is_tagged-clause-goes : goal.returns-then-is_tagged-clause-goes

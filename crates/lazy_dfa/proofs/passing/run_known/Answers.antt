@@ -1,7 +1,7 @@
 use Rattle.std.proofs.Common.{subst}
 use Rattle.lazy_dfa.specs.SearchAnswers.{pair_of}
-use Rattle.lazy_dfa.proofs.LingerLemmas.{between_both}
-use Rattle.lazy_dfa.proofs.LinkedLemmas.{AreBytes}
+use Rattle.lazy_dfa.proofs.Courses.LingerLemmas.{between_both}
+use Rattle.lazy_dfa.proofs.CacheChanges.LinkedLemmas.{AreBytes}
 use Rattle.lazy_dfa.proofs.passing.run_known.Goals as goal
 
 pub returns-clause-goes : goal.returns-clause-goes

@@ -1,5 +1,5 @@
 use Rattle.std.proofs.Common.{◌∙◌, sym, true, false}
-use Rattle.lazy_dfa.proofs.PassStartLemmas.{starts_pass}
+use Rattle.lazy_dfa.proofs.Courses.PassStartLemmas.{starts_pass}
 use Rattle.lazy_dfa.proofs.passing.start_of_pass.Goals as goal
 
 pub returns-then-is_reverse-clause-start : goal.returns-then-is_reverse-clause-start

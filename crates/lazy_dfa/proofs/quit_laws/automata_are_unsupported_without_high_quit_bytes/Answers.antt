@@ -1,4 +1,4 @@
-use Rattle.lazy_dfa.proofs.QuitSetLemmas.{some_high_is_missing, missing_high_is_refused}
+use Rattle.lazy_dfa.proofs.Automata.QuitSetLemmas.{some_high_is_missing, missing_high_is_refused}
 use Rattle.lazy_dfa.proofs.quit_laws.automata_are_unsupported_without_high_quit_bytes.Goals as goal
 
 pub returns-clause-some : goal.returns-clause-some

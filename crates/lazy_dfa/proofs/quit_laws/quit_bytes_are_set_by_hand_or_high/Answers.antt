@@ -1,4 +1,4 @@
-use Rattle.lazy_dfa.proofs.QuitSetLemmas.{quits_by_hand, quits_of_ascii, quits_of_high, quits_without_words, quits_off, quits_len}
+use Rattle.lazy_dfa.proofs.Automata.QuitSetLemmas.{quits_by_hand, quits_of_ascii, quits_of_high, quits_without_words, quits_off, quits_len}
 use Rattle.lazy_dfa.proofs.quit_laws.quit_bytes_are_set_by_hand_or_high.Goals as goal
 
 pub returns-clause-by_hand : goal.returns-clause-by_hand

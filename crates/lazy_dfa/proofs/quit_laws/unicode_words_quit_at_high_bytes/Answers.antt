@@ -1,4 +1,4 @@
-use Rattle.lazy_dfa.proofs.QuitSetLemmas.{supported_quits}
+use Rattle.lazy_dfa.proofs.Automata.QuitSetLemmas.{supported_quits}
 use Rattle.lazy_dfa.proofs.quit_laws.unicode_words_quit_at_high_bytes.Goals as goal
 
 pub returns : goal.returns

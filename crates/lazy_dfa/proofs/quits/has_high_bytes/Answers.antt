@@ -1,5 +1,5 @@
 use Rattle.std.proofs.Common.{◌≡◌, ◌∙◌, sym, ap, arith}
-use Rattle.lazy_dfa.proofs.QuitLemmas.{high_from, all_here, all_over, all_from}
+use Rattle.lazy_dfa.proofs.Automata.QuitLemmas.{high_from, all_here, all_over, all_from}
 use Rattle.lazy_dfa.proofs.quits.has_high_bytes.Goals as goal
 
 pub loop-byte-init : goal.loop-byte-init

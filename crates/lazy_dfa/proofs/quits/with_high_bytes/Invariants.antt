@@ -1,4 +1,4 @@
-use Rattle.lazy_dfa.proofs.QuitLemmas.{IsSettled}
+use Rattle.lazy_dfa.proofs.Automata.QuitLemmas.{IsSettled}
 use Rattle.lazy_dfa.proofs.quits.with_high_bytes.Given as goal
 
 abbrev pub invariant-loop-byte : goal.invariant-loop-byte

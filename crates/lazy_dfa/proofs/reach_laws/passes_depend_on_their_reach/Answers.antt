@@ -1,4 +1,4 @@
-use Rattle.lazy_dfa.proofs.IntervalReachLemmas.{pass_by_reach, pass_is_quiet}
+use Rattle.lazy_dfa.proofs.HalfSearches.IntervalReachLemmas.{pass_by_reach, pass_is_quiet}
 use Rattle.lazy_dfa.proofs.reach_laws.passes_depend_on_their_reach.Goals as goal
 
 pub returns-clause-alike : goal.returns-clause-alike

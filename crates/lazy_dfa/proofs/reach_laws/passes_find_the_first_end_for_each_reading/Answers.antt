@@ -1,4 +1,4 @@
-use Rattle.lazy_dfa.proofs.ReadingLemmas.{pass_finds_first_anyhow}
+use Rattle.lazy_dfa.proofs.HalfSearches.ReadingLemmas.{pass_finds_first_anyhow}
 use Rattle.lazy_dfa.proofs.reach_laws.passes_find_the_first_end_for_each_reading.Goals as goal
 
 pub returns : goal.returns

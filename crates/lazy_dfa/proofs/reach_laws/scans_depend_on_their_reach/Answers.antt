@@ -1,5 +1,5 @@
-use Rattle.lazy_dfa.proofs.ReachLemmas.{scan_few}
-use Rattle.lazy_dfa.proofs.IntervalReachLemmas.{scan_by_reach, scan_is_quiet, scan_place_is_reached, reach_is_near}
+use Rattle.lazy_dfa.proofs.HalfSearches.ReachLemmas.{scan_few}
+use Rattle.lazy_dfa.proofs.HalfSearches.IntervalReachLemmas.{scan_by_reach, scan_is_quiet, scan_place_is_reached, reach_is_near}
 use Rattle.lazy_dfa.proofs.reach_laws.scans_depend_on_their_reach.Goals as goal
 
 pub returns-clause-alike : goal.returns-clause-alike

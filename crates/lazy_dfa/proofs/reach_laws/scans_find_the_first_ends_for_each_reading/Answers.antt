@@ -1,4 +1,4 @@
-use Rattle.lazy_dfa.proofs.FoundLemmas.{scan_finds_first}
+use Rattle.lazy_dfa.proofs.HalfSearches.FoundLemmas.{scan_finds_first}
 use Rattle.lazy_dfa.proofs.reach_laws.scans_find_the_first_ends_for_each_reading.Goals as goal
 
 pub returns : goal.returns

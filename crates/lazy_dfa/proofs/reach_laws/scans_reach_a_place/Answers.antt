@@ -1,4 +1,4 @@
-use Rattle.lazy_dfa.proofs.HasReachLemmas.{scan_has_reach}
+use Rattle.lazy_dfa.proofs.HalfSearches.HasReachLemmas.{scan_has_reach}
 use Rattle.lazy_dfa.proofs.reach_laws.scans_reach_a_place.Goals as goal
 
 pub returns : goal.returns

@@ -1,7 +1,7 @@
 use Rattle.std.proofs.Common.{◌∙◌, sym, ◌-◌, ◌<◌, get_or, arith, Some}
-use Rattle.lazy_dfa.proofs.ChangeLemmas.{plain_place, plain_noted}
-use Rattle.lazy_dfa.proofs.IsCacheLemmas.{lt_of}
-use Rattle.lazy_dfa.proofs.PointLemmas.{runs_none, runs_on, next_row, reverse_unit, reverse_place}
+use Rattle.lazy_dfa.proofs.CacheChanges.ChangeLemmas.{plain_place, plain_noted}
+use Rattle.lazy_dfa.proofs.CacheChanges.IsCacheLemmas.{lt_of}
+use Rattle.lazy_dfa.proofs.Courses.PointLemmas.{runs_none, runs_on, next_row, reverse_unit, reverse_place}
 use Rattle.lazy_dfa.proofs.runs.run_reverse.Goals as goal
 
 pub loop-at-init : goal.loop-at-init

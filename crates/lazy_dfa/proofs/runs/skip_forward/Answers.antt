@@ -2,8 +2,8 @@ use Rattle.std.proofs.Common.{refl, subst, ◌∙◌, ◌-◌, ℕ, Option, arit
 use Rattle.lazy_dfa.specs.Caches.{CacheValue, IsRow}
 use Rattle.lazy_dfa.specs.Points.{GoesTo, point}
 use Rattle.lazy_dfa.specs.Skips.{StaysOver}
-use Rattle.lazy_dfa.proofs.PointLemmas.{runs_none}
-use Rattle.lazy_dfa.proofs.SkipLemmas.{way_behind, way_over}
+use Rattle.lazy_dfa.proofs.Courses.PointLemmas.{runs_none}
+use Rattle.lazy_dfa.proofs.PassedBytes.SkipLemmas.{way_behind, way_over}
 use Rattle.lazy_dfa.proofs.runs.skip_forward.Goals as goal
 
 pub loop-sid-init : goal.loop-sid-init

@@ -1,8 +1,8 @@
 use Rattle.std.proofs.Common.{◌∙◌, sym, ◌-◌, get_or, arith}
-use Rattle.lazy_dfa.proofs.ChangeLemmas.{plain_place}
-use Rattle.lazy_dfa.proofs.IsCacheLemmas.{lt_of}
-use Rattle.lazy_dfa.proofs.PointLemmas.{runs_none}
-use Rattle.lazy_dfa.proofs.SkipLemmas.{row_on, way_on}
+use Rattle.lazy_dfa.proofs.CacheChanges.ChangeLemmas.{plain_place}
+use Rattle.lazy_dfa.proofs.CacheChanges.IsCacheLemmas.{lt_of}
+use Rattle.lazy_dfa.proofs.Courses.PointLemmas.{runs_none}
+use Rattle.lazy_dfa.proofs.PassedBytes.SkipLemmas.{row_on, way_on}
 use Rattle.lazy_dfa.proofs.runs.walk_forward.Goals as goal
 
 pub loop-at-init : goal.loop-at-init

@@ -1,4 +1,4 @@
-use Rattle.lazy_dfa.proofs.RestartLemmas.{first_whole, all_split}
+use Rattle.lazy_dfa.proofs.HalfSearches.RestartLemmas.{first_whole, all_split}
 use Rattle.lazy_dfa.proofs.scan_laws.passes_begin_anew_where_an_end_splits.Goals as goal
 
 pub returns-clause-first : goal.returns-clause-first

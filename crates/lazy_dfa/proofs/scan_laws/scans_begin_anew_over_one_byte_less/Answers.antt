@@ -1,4 +1,4 @@
-use Rattle.lazy_dfa.proofs.AnewLemmas.{again, last_pass}
+use Rattle.lazy_dfa.proofs.HalfSearches.AnewLemmas.{again, last_pass}
 use Rattle.lazy_dfa.proofs.scan_laws.scans_begin_anew_over_one_byte_less.Goals as goal
 
 pub returns-clause-more : goal.returns-clause-more

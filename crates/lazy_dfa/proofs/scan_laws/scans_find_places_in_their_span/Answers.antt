@@ -1,4 +1,4 @@
-use Rattle.lazy_dfa.proofs.IntervalReachLemmas.{scan_in_span}
+use Rattle.lazy_dfa.proofs.HalfSearches.IntervalReachLemmas.{scan_in_span}
 use Rattle.lazy_dfa.proofs.scan_laws.scans_find_places_in_their_span.Goals as goal
 
 pub returns : goal.returns

@@ -1,4 +1,4 @@
-use Rattle.lazy_dfa.proofs.FoundLemmas.{scan_finds}
+use Rattle.lazy_dfa.proofs.HalfSearches.FoundLemmas.{scan_finds}
 use Rattle.lazy_dfa.proofs.scan_laws.scans_find_what_is_wanted.Goals as goal
 
 pub returns : goal.returns

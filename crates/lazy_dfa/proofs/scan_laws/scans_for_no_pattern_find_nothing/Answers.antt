@@ -1,4 +1,4 @@
-use Rattle.lazy_dfa.proofs.ReachLemmas.{no_pattern}
+use Rattle.lazy_dfa.proofs.HalfSearches.ReachLemmas.{no_pattern}
 use Rattle.lazy_dfa.proofs.scan_laws.scans_for_no_pattern_find_nothing.Goals as goal
 
 pub returns : goal.returns

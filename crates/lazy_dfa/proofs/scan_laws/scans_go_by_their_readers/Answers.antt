@@ -1,4 +1,4 @@
-use Rattle.lazy_dfa.proofs.SupportLemmas.{scan_by_support}
+use Rattle.lazy_dfa.proofs.Automata.SupportLemmas.{scan_by_support}
 use Rattle.lazy_dfa.proofs.scan_laws.scans_go_by_their_readers.Goals as goal
 
 pub returns : goal.returns

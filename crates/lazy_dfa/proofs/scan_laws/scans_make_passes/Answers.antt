@@ -2,7 +2,7 @@ use Rattle.std.proofs.Common.{sym, subst}
 use Rattle.lazy_dfa.specs.Readers.{HalfAnswer}
 use Rattle.lazy_dfa.specs.Scans.{first_place}
 use Rattle.lazy_dfa.specs.ScanLaws.{IsOfPasses}
-use Rattle.lazy_dfa.proofs.ScanLemmas.{scan_done, scan_anchored, scan_unanchored, scan_is_pass, passes_are}
+use Rattle.lazy_dfa.proofs.HalfSearches.ScanLemmas.{scan_done, scan_anchored, scan_unanchored, scan_is_pass, passes_are}
 use Rattle.std.proofs.Common.{◌-◌}
 use Rattle.lazy_dfa.proofs.scan_laws.scans_make_passes.Goals as goal
 

@@ -1,4 +1,4 @@
-use Rattle.lazy_dfa.proofs.ScanLemmas.{scan_quits_near, scan_finds_near}
+use Rattle.lazy_dfa.proofs.HalfSearches.ScanLemmas.{scan_quits_near, scan_finds_near}
 use Rattle.lazy_dfa.proofs.scan_laws.scans_quit_near_their_span.Goals as goal
 
 pub returns-clause-quits : goal.returns-clause-quits

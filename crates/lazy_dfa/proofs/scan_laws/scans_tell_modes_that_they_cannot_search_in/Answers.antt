@@ -1,4 +1,4 @@
-use Rattle.lazy_dfa.proofs.ScanLemmas.{scan_tells_mode, scan_mode_told}
+use Rattle.lazy_dfa.proofs.HalfSearches.ScanLemmas.{scan_tells_mode, scan_mode_told}
 use Rattle.lazy_dfa.proofs.scan_laws.scans_tell_modes_that_they_cannot_search_in.Goals as goal
 
 pub returns-clause-told : goal.returns-clause-told

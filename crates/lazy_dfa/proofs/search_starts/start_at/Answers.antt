@@ -1,4 +1,4 @@
-use Rattle.lazy_dfa.proofs.SearchStartLemmas.{started, not_started}
+use Rattle.lazy_dfa.proofs.CacheChanges.SearchStartLemmas.{started, not_started}
 use Rattle.lazy_dfa.proofs.search_starts.start_at.Goals as goal
 
 pub returns-in-Ok-clause-answer : goal.returns-in-Ok-clause-answer

@@ -1,8 +1,8 @@
 use Rattle.std.proofs.Common.{sym, ◌∙◌, subst, refl}
 use Rattle.lazy_dfa.specs.Dfas.{reader}
-use Rattle.lazy_dfa.proofs.LinkedLemmas.{AreBytes}
-use Rattle.lazy_dfa.proofs.SearchLemmas.{begins}
-use Rattle.lazy_dfa.proofs.SearchEndLemmas.{not_done, is_over, each_counts, done_ends, fails, none_ends, counted_ends}
+use Rattle.lazy_dfa.proofs.CacheChanges.LinkedLemmas.{AreBytes}
+use Rattle.lazy_dfa.proofs.Courses.SearchLemmas.{begins}
+use Rattle.lazy_dfa.proofs.Courses.SearchEndLemmas.{not_done, is_over, each_counts, done_ends, fails, none_ends, counted_ends}
 use Rattle.lazy_dfa.proofs.searching.search.Goals as goal
 
 pub search_again-requires : goal.search_again-requires

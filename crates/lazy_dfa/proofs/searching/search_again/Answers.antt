@@ -3,12 +3,12 @@ use Rattle.search_core.specs.Utf8.{is_boundary}
 use Rattle.search_types.specs.Inputs.{with_span}
 use Rattle.search_types.specs.Modes.{is_anchored}
 use Rattle.lazy_dfa.specs.Dfas.{reader}
-use Rattle.lazy_dfa.proofs.LinkedLemmas.{AreBytes}
-use Rattle.lazy_dfa.proofs.KeepLemmas.{lower_span, upper_span}
-use Rattle.lazy_dfa.proofs.SearchLemmas.{begins}
-use Rattle.lazy_dfa.proofs.SearchEndLemmas.{not_done, is_over, each_counts, boundary_counts, inside_counts, above_none, lower_end}
-use Rattle.lazy_dfa.proofs.SearchEndLemmas.{done_ends, fails, none_ends, counted_ends, anchored_ends, lowest_ends, goes_forward}
-use Rattle.lazy_dfa.proofs.SearchEndLemmas.{goes_reverse}
+use Rattle.lazy_dfa.proofs.CacheChanges.LinkedLemmas.{AreBytes}
+use Rattle.lazy_dfa.proofs.CacheChanges.KeepLemmas.{lower_span, upper_span}
+use Rattle.lazy_dfa.proofs.Courses.SearchLemmas.{begins}
+use Rattle.lazy_dfa.proofs.Courses.SearchEndLemmas.{not_done, is_over, each_counts, boundary_counts, inside_counts, above_none, lower_end}
+use Rattle.lazy_dfa.proofs.Courses.SearchEndLemmas.{done_ends, fails, none_ends, counted_ends, anchored_ends, lowest_ends, goes_forward}
+use Rattle.lazy_dfa.proofs.Courses.SearchEndLemmas.{goes_reverse}
 use Rattle.lazy_dfa.proofs.searching.search_again.Goals as goal
 
 pub loop-rest-init : goal.loop-rest-init

@@ -1,6 +1,6 @@
 use Rattle.std.proofs.Common.{◌+◌, ◌-◌}
 use Rattle.lazy_dfa.specs.Caches.{IsCacheOf}
-use Rattle.lazy_dfa.proofs.SearchLemmas.{HasCome}
+use Rattle.lazy_dfa.proofs.Courses.SearchLemmas.{HasCome}
 use Rattle.lazy_dfa.proofs.searching.search_again.Given as goal
 
 abbrev pub invariant-loop-rest : goal.invariant-loop-rest

@@ -1,6 +1,6 @@
 use Rattle.std.proofs.Common.{ap}
 use Rattle.nfa_core.specs.NfaValue.{Nfa}
-use Rattle.lazy_dfa.proofs.IsCacheLemmas.{first_of, first_is}
+use Rattle.lazy_dfa.proofs.CacheChanges.IsCacheLemmas.{first_of, first_is}
 use Rattle.lazy_dfa.proofs.starting.first_of.Goals as goal
 
 pub returns-clause-value : goal.returns-clause-value

@@ -3,10 +3,10 @@ use Rattle.lazy_dfa.specs.Ids.{dead_id}
 use Rattle.lazy_dfa.specs.Caches.{CacheValue, IsCacheOf, Names, names_dead, names_held, with_state, new_id, needs_clear}
 use Rattle.lazy_dfa.specs.ConfigValue.{specializes}
 use Rattle.lazy_dfa.specs.StartCalls.{start_added}
-use Rattle.lazy_dfa.proofs.IsCacheLemmas.{is_cache_added, alive_of, new_held}
-use Rattle.lazy_dfa.proofs.TurnLemmas.{dead_is}
-use Rattle.lazy_dfa.proofs.ChangeLemmas.{added_refl, added_none, added_one, lacks_not_dead, lacks_not_found}
-use Rattle.lazy_dfa.proofs.AddsLemmas.{comes_none, comes_alone, comes_with}
+use Rattle.lazy_dfa.proofs.CacheChanges.IsCacheLemmas.{is_cache_added, alive_of, new_held}
+use Rattle.lazy_dfa.proofs.HalfSearches.TurnLemmas.{dead_is}
+use Rattle.lazy_dfa.proofs.CacheChanges.ChangeLemmas.{added_refl, added_none, added_one, lacks_not_dead, lacks_not_found}
+use Rattle.lazy_dfa.proofs.CacheChanges.AddsLemmas.{comes_none, comes_alone, comes_with}
 use Rattle.lazy_dfa.proofs.starting.place_start.Goals as goal
 
 pub returns-then-is_dead_state-clause-to : goal.returns-then-is_dead_state-clause-to

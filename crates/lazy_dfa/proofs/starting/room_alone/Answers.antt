@@ -1,10 +1,10 @@
 use Rattle.std.proofs.Common.{◌∙◌, sym, subst, ap, None, inl, inr, refl, length}
 use lib.ListN.{length-replicate}
 use Rattle.lazy_dfa.specs.Caches.{CacheValue, IsCacheOf, Fits}
-use Rattle.lazy_dfa.proofs.CacheLemmas.{place_in_none}
-use Rattle.lazy_dfa.proofs.IsCacheLemmas.{is_cache_cleared, fits_in_cleared}
-use Rattle.lazy_dfa.proofs.ChangeLemmas.{fits_is, lacks_not_fitting, lacks_not_allowed, lacks_all, needs_all}
-use Rattle.lazy_dfa.proofs.AddsLemmas.{clears_for}
+use Rattle.lazy_dfa.proofs.CacheChanges.CacheLemmas.{place_in_none}
+use Rattle.lazy_dfa.proofs.CacheChanges.IsCacheLemmas.{is_cache_cleared, fits_in_cleared}
+use Rattle.lazy_dfa.proofs.CacheChanges.ChangeLemmas.{fits_is, lacks_not_fitting, lacks_not_allowed, lacks_all, needs_all}
+use Rattle.lazy_dfa.proofs.CacheChanges.AddsLemmas.{clears_for}
 use Rattle.lazy_dfa.proofs.starting.room_alone.Goals as goal
 
 pub returns-then-fits-clause-fits : goal.returns-then-fits-clause-fits

@@ -2,11 +2,11 @@ use Rattle.std.proofs.Common.{◌≡◌, ◌⊎◌, true, false, sym, subst, inl
 use Rattle.search_core.specs.Units.{unit_byte}
 use Rattle.lazy_dfa.specs.Caches.{CacheValue, IsCacheOf, HeldAt, Leads, state_at, with_state, needs_clear}
 use Rattle.lazy_dfa.specs.Steps.{Added, Grew, AddsOrClears, KeepsOrClears, kept_alone}
-use Rattle.lazy_dfa.proofs.IsCacheLemmas.{row_place, is_cache_stepped, leads_stepped, leads_to, steps_of_row}
-use Rattle.lazy_dfa.proofs.ChangeLemmas.{grew_refl, grew_of, grew_added, grew_cell, grew_set, remains_set}
-use Rattle.lazy_dfa.proofs.ChangeLemmas.{same_grew, set_is_noted, step_cause, step_needs, no_cause}
-use Rattle.lazy_dfa.proofs.StartChangeLemmas.{step_tags}
-use Rattle.lazy_dfa.proofs.AddsLemmas.{same_states, comes_written, step_adds, step_adds_none}
+use Rattle.lazy_dfa.proofs.CacheChanges.IsCacheLemmas.{row_place, is_cache_stepped, leads_stepped, leads_to, steps_of_row}
+use Rattle.lazy_dfa.proofs.CacheChanges.ChangeLemmas.{grew_refl, grew_of, grew_added, grew_cell, grew_set, remains_set}
+use Rattle.lazy_dfa.proofs.CacheChanges.ChangeLemmas.{same_grew, set_is_noted, step_cause, step_needs, no_cause}
+use Rattle.lazy_dfa.proofs.CacheChanges.StartChangeLemmas.{step_tags}
+use Rattle.lazy_dfa.proofs.CacheChanges.AddsLemmas.{same_states, comes_written, step_adds, step_adds_none}
 use Rattle.lazy_dfa.proofs.stepping.fill.Goals as goal
 
 pub returns-in_err-state-clause-own : goal.returns-in_err-state-clause-own

@@ -1,11 +1,11 @@
 use Rattle.std.proofs.Common.{◌≡◌, ◌∙◌, sym, subst, ap, true, false, ℕ, refl, inl, inr, ⊎_elim, Some, None, true≢false}
 use Rattle.lazy_dfa.specs.Ids.{dead_id}
 use Rattle.lazy_dfa.specs.Caches.{CacheValue, IsCacheOf, HeldAt, Names, names_dead, names_held, state_at, with_state, needs_clear}
-use Rattle.lazy_dfa.proofs.IsCacheLemmas.{is_cache_added, alive_of, held_added, new_held}
-use Rattle.lazy_dfa.proofs.StartChangeLemmas.{made_tag}
-use Rattle.lazy_dfa.proofs.TurnLemmas.{dead_is}
-use Rattle.lazy_dfa.proofs.ChangeLemmas.{added_refl, adds_after, adds_nothing, made_after, added_none, added_one, lacks_not_dead, lacks_not_found}
-use Rattle.lazy_dfa.proofs.AddsLemmas.{comes_none, comes_alone, comes_with}
+use Rattle.lazy_dfa.proofs.CacheChanges.IsCacheLemmas.{is_cache_added, alive_of, held_added, new_held}
+use Rattle.lazy_dfa.proofs.CacheChanges.StartChangeLemmas.{made_tag}
+use Rattle.lazy_dfa.proofs.HalfSearches.TurnLemmas.{dead_is}
+use Rattle.lazy_dfa.proofs.CacheChanges.ChangeLemmas.{added_refl, adds_after, adds_nothing, made_after, added_none, added_one, lacks_not_dead, lacks_not_found}
+use Rattle.lazy_dfa.proofs.CacheChanges.AddsLemmas.{comes_none, comes_alone, comes_with}
 use Rattle.lazy_dfa.proofs.stepping.place.Goals as goal
 
 pub returns-then-is_dead_state-clause-kept : goal.returns-then-is_dead_state-clause-kept

@@ -2,7 +2,7 @@ use Rattle.std.proofs.Common.{ap}
 use Rattle.search_core.specs.Units.{unit_byte}
 use Rattle.nfa_core.specs.NfaValue.{Nfa}
 use Rattle.lazy_dfa.specs.Caches.{state_at}
-use Rattle.lazy_dfa.proofs.IsCacheLemmas.{after_of, state_of}
+use Rattle.lazy_dfa.proofs.CacheChanges.IsCacheLemmas.{after_of, state_of}
 use Rattle.lazy_dfa.proofs.stepping.state_behind.Goals as goal
 
 pub returns-clause-value : goal.returns-clause-value

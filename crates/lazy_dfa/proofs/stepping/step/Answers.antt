@@ -2,14 +2,14 @@ use Rattle.std.proofs.Common.{◌∙◌, sym, ap, ℕ, refl, inl, inr, Ok, true�
 use Rattle.search_core.specs.Units.{unit_byte}
 use Rattle.lazy_dfa.specs.Ids.{quit_id}
 use Rattle.lazy_dfa.specs.Caches.{state_at}
-use Rattle.lazy_dfa.proofs.IsCacheLemmas.{no_step, row_place, row_of_held, known_leads, is_cache_stepped, leads_quit, leads_stepped}
-use Rattle.lazy_dfa.proofs.IsCacheLemmas.{steps_of_row}
-use Rattle.lazy_dfa.proofs.ChangeLemmas.{grew_refl, same_grew, grew_cell, grew_set, set_is_noted, added_refl, no_row, noted_read}
-use Rattle.lazy_dfa.proofs.ChangeLemmas.{unknown_here, not_known, known_cell}
-use Rattle.lazy_dfa.proofs.StartChangeLemmas.{known_tags, known_quits}
-use Rattle.lazy_dfa.proofs.AddsLemmas.{same_states, step_adds_none}
+use Rattle.lazy_dfa.proofs.CacheChanges.IsCacheLemmas.{no_step, row_place, row_of_held, known_leads, is_cache_stepped, leads_quit, leads_stepped}
+use Rattle.lazy_dfa.proofs.CacheChanges.IsCacheLemmas.{steps_of_row}
+use Rattle.lazy_dfa.proofs.CacheChanges.ChangeLemmas.{grew_refl, same_grew, grew_cell, grew_set, set_is_noted, added_refl, no_row, noted_read}
+use Rattle.lazy_dfa.proofs.CacheChanges.ChangeLemmas.{unknown_here, not_known, known_cell}
+use Rattle.lazy_dfa.proofs.CacheChanges.StartChangeLemmas.{known_tags, known_quits}
+use Rattle.lazy_dfa.proofs.CacheChanges.AddsLemmas.{same_states, step_adds_none}
 use Rattle.lazy_dfa.specs.Steps.{most_inserts}
-use Rattle.lazy_dfa.proofs.CountedLemmas.{none_counted, one_counted}
+use Rattle.lazy_dfa.proofs.HalfSearches.CountedLemmas.{none_counted, one_counted}
 use Rattle.lazy_dfa.proofs.stepping.step.Goals as goal
 
 -- ---- a sentinel

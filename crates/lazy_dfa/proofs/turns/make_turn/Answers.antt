@@ -1,5 +1,5 @@
 use Rattle.lazy_dfa.specs.SearchAnswers.{pair_of}
-use Rattle.lazy_dfa.proofs.TurnStepLemmas.{turn_made, turn_refused}
+use Rattle.lazy_dfa.proofs.Courses.TurnStepLemmas.{turn_made, turn_refused}
 use Rattle.lazy_dfa.proofs.turns.make_turn.Goals as goal
 
 pub returns-in-Err-clause-turn : goal.returns-in-Err-clause-turn

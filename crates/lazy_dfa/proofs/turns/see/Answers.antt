@@ -1,7 +1,7 @@
 use Rattle.std.proofs.Common.{◌∙◌, refl, sym, ap, Some}
 use Rattle.search_types.specs.Found.{HalfFound}
 use Rattle.lazy_dfa.specs.SearchAnswers.{pair_of}
-use Rattle.lazy_dfa.proofs.TurnStepLemmas.{see_untagged, see_dead, see_quit, see_unmatched, matches_there, see_end, see_on}
+use Rattle.lazy_dfa.proofs.Courses.TurnStepLemmas.{see_untagged, see_dead, see_quit, see_unmatched, matches_there, see_end, see_on}
 use Rattle.lazy_dfa.proofs.turns.see.Goals as goal
 
 pub returns-then-not-is_tagged : goal.returns-then-not-is_tagged

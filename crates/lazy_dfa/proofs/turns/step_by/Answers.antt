@@ -1,6 +1,6 @@
 use Rattle.std.proofs.Common.{arith, Some, None}
-use Rattle.lazy_dfa.proofs.ChangeLemmas.{answered, answered_err}
-use Rattle.lazy_dfa.proofs.TurnStepLemmas.{step_renamed}
+use Rattle.lazy_dfa.proofs.CacheChanges.ChangeLemmas.{answered, answered_err}
+use Rattle.lazy_dfa.proofs.Courses.TurnStepLemmas.{step_renamed}
 use Rattle.lazy_dfa.proofs.turns.step_by.Goals as goal
 
 pub returns-in-Ok-clause-step : goal.returns-in-Ok-clause-step

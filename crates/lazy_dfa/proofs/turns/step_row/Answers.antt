@@ -1,6 +1,6 @@
 use Rattle.std.proofs.Common.{◌∙◌, sym, inr}
-use Rattle.lazy_dfa.proofs.IsCacheLemmas.{row_place}
-use Rattle.lazy_dfa.proofs.KnownStepLemmas.{known_step}
+use Rattle.lazy_dfa.proofs.CacheChanges.IsCacheLemmas.{row_place}
+use Rattle.lazy_dfa.proofs.CacheChanges.KnownStepLemmas.{known_step}
 use Rattle.lazy_dfa.proofs.turns.step_row.Goals as goal
 
 pub cell-cell-requires : goal.cell-cell-requires

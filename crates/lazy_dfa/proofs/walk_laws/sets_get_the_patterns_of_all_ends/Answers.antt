@@ -1,4 +1,4 @@
-use Rattle.lazy_dfa.proofs.WhichLemmas.{members_added, added_members, which_goes, room_kept}
+use Rattle.lazy_dfa.proofs.OverlappingWalks.WhichLemmas.{members_added, added_members, which_goes, room_kept}
 use Rattle.lazy_dfa.proofs.walk_laws.sets_get_the_patterns_of_all_ends.Goals as goal
 
 pub returns-clause-members : goal.returns-clause-members

@@ -1,4 +1,4 @@
-use Rattle.lazy_dfa.proofs.RestLemmas.{quit_is_near, rest_unfit, refusal_kinds, quiet_goes}
+use Rattle.lazy_dfa.proofs.OverlappingWalks.RestLemmas.{quit_is_near, rest_unfit, refusal_kinds, quiet_goes}
 use Rattle.lazy_dfa.proofs.walk_laws.walks_are_refused_by_quit_bytes_and_modes_alone.Goals as goal
 
 pub returns-clause-quits : goal.returns-clause-quits

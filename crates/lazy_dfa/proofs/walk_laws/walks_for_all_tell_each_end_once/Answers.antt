@@ -1,5 +1,5 @@
 use Rattle.std.proofs.Common.{◌∙◌}
-use Rattle.lazy_dfa.proofs.WalkEndLemmas.{rest_exactly, rest_has, rest_once, rest_ordered, rest_best}
+use Rattle.lazy_dfa.proofs.OverlappingWalks.WalkEndLemmas.{rest_exactly, rest_has, rest_once, rest_ordered, rest_best}
 use Rattle.lazy_dfa.proofs.walk_laws.walks_for_all_tell_each_end_once.Goals as goal
 
 pub returns-clause-exactly : goal.returns-clause-exactly

@@ -1,4 +1,4 @@
-use Rattle.lazy_dfa.proofs.WalkEndLemmas.{rest_before_quit}
+use Rattle.lazy_dfa.proofs.OverlappingWalks.WalkEndLemmas.{rest_before_quit}
 use Rattle.lazy_dfa.proofs.walk_laws.walks_for_all_tell_the_ends_before_a_quit_byte.Goals as goal
 
 pub returns : goal.returns

@@ -1,4 +1,4 @@
-use Rattle.lazy_dfa.proofs.WalkGoesOnLemmas.{walk_kept, walk_counted}
+use Rattle.lazy_dfa.proofs.OverlappingWalks.WalkGoesOnLemmas.{walk_kept, walk_counted}
 use Rattle.lazy_dfa.proofs.walk_laws.walks_go_on_where_nothing_was_cleared.Goals as goal
 
 pub returns-clause-grown : goal.returns-clause-grown

@@ -1,4 +1,4 @@
-use Rattle.lazy_dfa.proofs.RestLemmas.{rest_done, rest_of_no_pattern}
+use Rattle.lazy_dfa.proofs.OverlappingWalks.RestLemmas.{rest_done, rest_of_no_pattern}
 use Rattle.lazy_dfa.proofs.walk_laws.walks_may_have_nothing_to_tell.Goals as goal
 
 pub returns-clause-done : goal.returns-clause-done

@@ -1,4 +1,4 @@
-use Rattle.lazy_dfa.proofs.RestLemmas.{rest_in_span}
+use Rattle.lazy_dfa.proofs.OverlappingWalks.RestLemmas.{rest_in_span}
 use Rattle.lazy_dfa.proofs.walk_laws.walks_tell_ends_in_their_span.Goals as goal
 
 pub returns : goal.returns

@@ -1,9 +1,9 @@
 use Rattle.std.proofs.Common.{◌∙◌, ◌==◌, refl, sym, ap, ℕ}
 use Rattle.lazy_dfa.specs.Points.{point}
 use Rattle.lazy_dfa.specs.SearchAnswers.{pair_of}
-use Rattle.lazy_dfa.proofs.LinkedLemmas.{is_cache_moved}
-use Rattle.lazy_dfa.proofs.SpanTurnLemmas.{finished_moves}
-use Rattle.lazy_dfa.proofs.WalkTurnLemmas.{unit_ends, unit_goes}
+use Rattle.lazy_dfa.proofs.CacheChanges.LinkedLemmas.{is_cache_moved}
+use Rattle.lazy_dfa.proofs.Courses.SpanTurnLemmas.{finished_moves}
+use Rattle.lazy_dfa.proofs.OverlappingWalks.WalkTurnLemmas.{unit_ends, unit_goes}
 use Rattle.lazy_dfa.proofs.walk_reads.read_at.Goals as goal
 
 pub returns-then-is_over-clause-own : goal.returns-then-is_over-clause-own

@@ -1,9 +1,9 @@
 use Rattle.std.proofs.Common.{◌∙◌, ◌==◌, ap, Bool, ℕ}
 use Rattle.lazy_dfa.specs.SearchAnswers.{pair_of}
 use Rattle.lazy_dfa.specs.PassPlaces.{gave_up_at}
-use Rattle.lazy_dfa.proofs.LinkedLemmas.{is_cache_moved}
-use Rattle.lazy_dfa.proofs.SpanTurnLemmas.{moved_is, finished_moves, finished_where_moves}
-use Rattle.lazy_dfa.proofs.WalkTurnLemmas.{unit_same, step_leads, step_refused, step_quits}
+use Rattle.lazy_dfa.proofs.CacheChanges.LinkedLemmas.{is_cache_moved}
+use Rattle.lazy_dfa.proofs.Courses.SpanTurnLemmas.{moved_is, finished_moves, finished_where_moves}
+use Rattle.lazy_dfa.proofs.OverlappingWalks.WalkTurnLemmas.{unit_same, step_leads, step_refused, step_quits}
 use Rattle.lazy_dfa.proofs.walk_reads.step_at.Goals as goal
 
 pub make_turn-requires-clause-own : goal.make_turn-requires-clause-own

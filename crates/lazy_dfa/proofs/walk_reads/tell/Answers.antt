@@ -1,7 +1,7 @@
 use Rattle.std.proofs.Common.{arith}
 use Rattle.lazy_dfa.specs.Dfas.{reader}
 use Rattle.lazy_dfa.specs.Walks.{value_past}
-use Rattle.lazy_dfa.proofs.WalkTurnLemmas.{lists_there}
+use Rattle.lazy_dfa.proofs.OverlappingWalks.WalkTurnLemmas.{lists_there}
 use Rattle.lazy_dfa.proofs.walk_reads.tell.Goals as goal
 
 pub match_pattern-pattern-requires-clause-inside : goal.match_pattern-pattern-requires-clause-inside

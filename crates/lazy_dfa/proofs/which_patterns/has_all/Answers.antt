@@ -1,4 +1,4 @@
-use Rattle.lazy_dfa.proofs.WhichLoopLemmas.{told_full}
+use Rattle.lazy_dfa.proofs.OverlappingWalks.WhichLoopLemmas.{told_full}
 use Rattle.lazy_dfa.proofs.which_patterns.has_all.Goals as goal
 
 pub returns : goal.returns

@@ -1,5 +1,5 @@
 use Rattle.std.proofs.Common.{sym, ◌∙◌}
-use Rattle.lazy_dfa.proofs.WhichLoopLemmas.{begins, begins_well, fails, none_left, stops, goes_on, falls}
+use Rattle.lazy_dfa.proofs.OverlappingWalks.WhichLoopLemmas.{begins, begins_well, fails, none_left, stops, goes_on, falls}
 use Rattle.lazy_dfa.proofs.which_patterns.which.Goals as goal
 
 pub loop-e-init : goal.loop-e-init

@@ -2,7 +2,7 @@ use Rattle.std.proofs.Common.{length}
 use Rattle.lazy_dfa.specs.Caches.{IsCacheOf}
 use Rattle.lazy_dfa.specs.Dfas.{reader}
 use Rattle.lazy_dfa.specs.Walks.{IsWalk, rest_of}
-use Rattle.lazy_dfa.proofs.WhichLoopLemmas.{HasCome}
+use Rattle.lazy_dfa.proofs.OverlappingWalks.WhichLoopLemmas.{HasCome}
 use Rattle.lazy_dfa.proofs.which_patterns.which.Given as goal
 
 abbrev pub invariant-loop-e : goal.invariant-loop-e

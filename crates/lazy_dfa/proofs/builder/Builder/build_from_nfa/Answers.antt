@@ -2,7 +2,7 @@ use Rattle.std.proofs.Common.{◌∙◌, ap, sym, subst}
 use Rattle.look_core.specs.Terminators.{Terminator}
 use Rattle.determinize_core.specs.Starts.{IsStartTable}
 use Rattle.lazy_dfa.specs.Accounting.{Measures, least_capacity}
-use Rattle.lazy_dfa.proofs.BuiltLemmas.{built_unsupported, built_small, built_well, made_is_dfa, dfa_is, too_small_is, capacity_is}
+use Rattle.lazy_dfa.proofs.Automata.BuiltLemmas.{built_unsupported, built_small, built_well, made_is_dfa, dfa_is, too_small_is, capacity_is}
 use Rattle.lazy_dfa.proofs.builder.Builder.build_from_nfa.Goals as goal
 
 pub invariant_of-result : goal.invariant_of-result

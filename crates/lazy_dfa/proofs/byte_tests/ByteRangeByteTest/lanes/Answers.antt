@@ -1,4 +1,4 @@
-use Rattle.lazy_dfa.proofs.ByteTestLemmas.{marked_range}
+use Rattle.lazy_dfa.proofs.PassedBytes.ByteTestLemmas.{marked_range}
 use Rattle.lazy_dfa.proofs.byte_tests.ByteRangeByteTest.lanes.Goals as goal
 
 pub returns : goal.returns

@@ -1,6 +1,6 @@
 use Rattle.std.proofs.Common.{◌∙◌, bit_or}
 use Rattle.std.specs.Simd.Lanes.{zip2}
-use Rattle.lazy_dfa.proofs.ByteTestLemmas.{marked_either}
+use Rattle.lazy_dfa.proofs.PassedBytes.ByteTestLemmas.{marked_either}
 use Rattle.lazy_dfa.proofs.byte_tests.EitherByteTest.lanes.Goals as goal
 
 pub returns : goal.returns

@@ -1,5 +1,5 @@
 use Rattle.std.proofs.Common.{eqb}
-use Rattle.lazy_dfa.proofs.ByteTestLemmas.{marked_compared}
+use Rattle.lazy_dfa.proofs.PassedBytes.ByteTestLemmas.{marked_compared}
 use Rattle.lazy_dfa.proofs.byte_tests.OneByteByteTest.lanes.Goals as goal
 
 pub returns : goal.returns

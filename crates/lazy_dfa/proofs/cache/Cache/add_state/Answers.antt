@@ -4,8 +4,8 @@ use Rattle.lazy_dfa.specs.Ids.{tag, tagged}
 use Rattle.lazy_dfa.specs.Caches.{CacheValue, IsKept, same, new_id, place_of, with_state}
 use Rattle.determinize_core.specs.StateBytes.{is_match}
 use Rattle.lazy_dfa.specs.Skips.{IsSkip}
-use Rattle.lazy_dfa.proofs.CacheLemmas.{IsKept-same, IsKept-lists, IsKept-added, added_parts, with_lists}
-use Rattle.lazy_dfa.proofs.StartChangeLemmas.{on_err}
+use Rattle.lazy_dfa.proofs.CacheChanges.CacheLemmas.{IsKept-same, IsKept-lists, IsKept-added, added_parts, with_lists}
+use Rattle.lazy_dfa.proofs.CacheChanges.StartChangeLemmas.{on_err}
 use Rattle.lazy_dfa.proofs.cache.Cache.add_state.Goals as goal
 
 pub invariant_of-self-in_err-reserve : goal.invariant_of-self-in_err-reserve

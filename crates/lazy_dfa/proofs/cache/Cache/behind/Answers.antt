@@ -4,7 +4,7 @@ use Rattle.determinize_core.specs.States.{StateValue}
 use Rattle.determinize_core.specs.Stepped.{IsStepped}
 use Rattle.determinize_core.specs.Steps.{step_value}
 use Rattle.lazy_dfa.specs.Caches.{CacheValue}
-use Rattle.lazy_dfa.proofs.CacheLemmas.{read_state}
+use Rattle.lazy_dfa.proofs.CacheChanges.CacheLemmas.{read_state}
 use Rattle.lazy_dfa.proofs.cache.Cache.behind.Goals as goal
 
 pub next_in-requires-clause-state : goal.next_in-requires-clause-state

@@ -1,5 +1,5 @@
 use Rattle.std.proofs.Common.{arith}
-use Rattle.lazy_dfa.proofs.CacheLemmas.{IsKept-cleared}
+use Rattle.lazy_dfa.proofs.CacheChanges.CacheLemmas.{IsKept-cleared}
 use Rattle.lazy_dfa.proofs.cache.Cache.clear.Goals as goal
 
 pub invariant_of-self : goal.invariant_of-self

@@ -1,5 +1,5 @@
 use Rattle.std.proofs.Common.{ap, ℕ, ◌∙◌, replicate, arith}
-use Rattle.lazy_dfa.proofs.CacheLemmas.{IsKept-made}
+use Rattle.lazy_dfa.proofs.CacheChanges.CacheLemmas.{IsKept-made}
 use Rattle.lazy_dfa.proofs.cache.Cache.empty.Goals as goal
 
 pub invariant_of-result : goal.invariant_of-result

@@ -1,6 +1,6 @@
 use Rattle.std.proofs.Common.{◌∙◌}
-use Rattle.lazy_dfa.proofs.CacheLemmas.{Agrees-place}
-use Rattle.lazy_dfa.proofs.IsCacheLemmas.{held_some, row_some}
+use Rattle.lazy_dfa.proofs.CacheChanges.CacheLemmas.{Agrees-place}
+use Rattle.lazy_dfa.proofs.CacheChanges.IsCacheLemmas.{held_some, row_some}
 use Rattle.lazy_dfa.proofs.cache.Cache.find.Goals as goal
 
 pub returns-clause-place : goal.returns-clause-place

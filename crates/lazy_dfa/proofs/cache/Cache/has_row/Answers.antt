@@ -1,7 +1,7 @@
 use Rattle.std.proofs.Common.{◌≡◌, ◌-◌, ◌%◌, ◌/◌, ◌∙◌, ap, sym, true≢false, refl, length, arith}
 use Rattle.std.proofs.lemmas.Bool.Decides.{Decides-eqb}
 use Rattle.lazy_dfa.specs.Caches.{CacheValue}
-use Rattle.lazy_dfa.proofs.ChangeLemmas.{no_low_row, no_high_row, only_row}
+use Rattle.lazy_dfa.proofs.CacheChanges.ChangeLemmas.{no_low_row, no_high_row, only_row}
 use Rattle.lazy_dfa.proofs.cache.Cache.has_row.Goals as goal
 
 pub returns-then-row-lt3 : goal.returns-then-row-lt3

@@ -1,6 +1,6 @@
 use Rattle.std.proofs.Common.{◌≡◌, ◌∙◌, sym, subst}
 use Rattle.lazy_dfa.specs.Caches.{IsCacheOf, made_for}
-use Rattle.lazy_dfa.proofs.MadeLemmas.{is_cache_made, made_value}
+use Rattle.lazy_dfa.proofs.CacheChanges.MadeLemmas.{is_cache_made, made_value}
 use Rattle.lazy_dfa.proofs.cache.Cache.new.Goals as goal
 
 value : (c : goal.In_ok-cache) → c.in_ok-cache.cache ≡ made_for c.args.dfa.now

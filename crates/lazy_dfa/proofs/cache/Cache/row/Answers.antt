@@ -1,6 +1,6 @@
 use Rattle.std.proofs.Common.{◌∙◌, ◌≡◌, ◌-◌, ◌/◌, ◌%◌, sym, ap, arith}
 use Rattle.lazy_dfa.specs.Caches.{id_at}
-use Rattle.lazy_dfa.proofs.IsCacheLemmas.{row_quotient}
+use Rattle.lazy_dfa.proofs.CacheChanges.IsCacheLemmas.{row_quotient}
 use Rattle.lazy_dfa.proofs.cache.Cache.row.Goals as goal
 
 pub overflow_sub-result : goal.overflow_sub-result

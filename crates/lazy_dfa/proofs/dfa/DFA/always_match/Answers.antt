@@ -1,4 +1,4 @@
-use Rattle.lazy_dfa.proofs.FixedLemmas.{always_answered}
+use Rattle.lazy_dfa.proofs.Automata.FixedLemmas.{always_answered}
 use Rattle.lazy_dfa.proofs.dfa.DFA.always_match.Goals as goal
 
 pub returns-in-Ok : goal.returns-in-Ok

@@ -1,6 +1,6 @@
 use Rattle.std.proofs.Common.{◌∙◌, ap, length}
 use Rattle.determinize_core.specs.States.{StateValue}
-use Rattle.lazy_dfa.proofs.ChangeLemmas.{one_state}
+use Rattle.lazy_dfa.proofs.CacheChanges.ChangeLemmas.{one_state}
 use Rattle.lazy_dfa.proofs.dfa.DFA.match_len.Goals as goal
 
 pub returns : goal.returns

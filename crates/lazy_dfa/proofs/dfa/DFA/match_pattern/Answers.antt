@@ -3,7 +3,7 @@ use Rattle.std.specs.Prelude.{slice_index}
 use Rattle.determinize_core.specs.States.{StateValue}
 use Rattle.lazy_dfa.specs.Dfas.{Dfa}
 use Rattle.lazy_dfa.specs.Caches.{CacheValue, IsCacheOf, HeldAt, state_at}
-use Rattle.lazy_dfa.proofs.ChangeLemmas.{one_state}
+use Rattle.lazy_dfa.proofs.CacheChanges.ChangeLemmas.{one_state}
 use Rattle.lazy_dfa.proofs.dfa.DFA.match_pattern.Goals as goal
 
 -- where there is one pattern, each state lists it alone

@@ -1,4 +1,4 @@
-use Rattle.lazy_dfa.proofs.FixedLemmas.{never_answered}
+use Rattle.lazy_dfa.proofs.Automata.FixedLemmas.{never_answered}
 use Rattle.lazy_dfa.proofs.dfa.DFA.never_match.Goals as goal
 
 pub returns-in-Ok : goal.returns-in-Ok

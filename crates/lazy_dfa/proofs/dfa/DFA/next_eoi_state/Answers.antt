@@ -4,7 +4,7 @@ use Rattle.search_core.specs.declared.unit.Unit.{Unit as InputUnit}
 use Rattle.lazy_dfa.specs.Ids.{unknown_id, is_sentinel}
 use Rattle.lazy_dfa.specs.Steps.{StepsTo, IsNoted, TagsStep, StepAdds, Grew, StepNeedsClear, ClearedFrom, GivesUp, IsKnown, IsStepCause, noted}
 use Rattle.lazy_dfa.specs.declared.cache_error.CacheError.{CacheError}
-use Rattle.lazy_dfa.proofs.ChangeLemmas.{step_held}
+use Rattle.lazy_dfa.proofs.CacheChanges.ChangeLemmas.{step_held}
 use Rattle.lazy_dfa.proofs.dfa.DFA.next_eoi_state.Goals as goal
 
 abbrev answer : Result ℕ CacheError → Result ℕ CacheError

@@ -6,7 +6,7 @@ use Rattle.lazy_dfa.specs.Ids.{unknown_id, quit_id, is_sentinel}
 use Rattle.lazy_dfa.specs.Readers.{is_quit}
 use Rattle.lazy_dfa.specs.Steps.{StepsTo, IsNoted, TagsStep, StepAdds, Grew, StepNeedsClear, ClearedFrom, GivesUp, IsKnown, IsStepCause, noted}
 use Rattle.lazy_dfa.specs.declared.cache_error.CacheError.{CacheError}
-use Rattle.lazy_dfa.proofs.ChangeLemmas.{step_held}
+use Rattle.lazy_dfa.proofs.CacheChanges.ChangeLemmas.{step_held}
 use Rattle.lazy_dfa.proofs.dfa.DFA.next_state.Goals as goal
 
 abbrev answer : Result ℕ CacheError → Result ℕ CacheError

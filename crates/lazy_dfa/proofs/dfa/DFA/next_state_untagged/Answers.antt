@@ -1,4 +1,4 @@
-use Rattle.lazy_dfa.proofs.ChangeLemmas.{plain_place, plain_noted}
+use Rattle.lazy_dfa.proofs.CacheChanges.ChangeLemmas.{plain_place, plain_noted}
 use Rattle.lazy_dfa.proofs.dfa.DFA.next_state_untagged.Goals as goal
 
 pub cell_of_untagged-requires : goal.cell_of_untagged-requires

@@ -3,15 +3,15 @@ use Rattle.search_types.specs.declared.anchored.Anchored.{Anchored}
 use Rattle.determinize_core.specs.Starts.{start_of}
 use Rattle.lazy_dfa.specs.Dfas.{start_in, first_state}
 use Rattle.lazy_dfa.specs.StartCalls.{mode_of}
-use Rattle.lazy_dfa.proofs.StartCallLemmas.{slot_inside, fine_of, allowed_of, known_here, start_left, start_needs, start_names, start_noted_at, start_tagged, start_fits, start_cause}
-use Rattle.lazy_dfa.proofs.StartCallLemmas.{refusal_is, none_refused, one_refused, not_none, told_gave_up}
-use Rattle.lazy_dfa.proofs.CountedLemmas.{none_counted}
+use Rattle.lazy_dfa.proofs.CacheChanges.StartCallLemmas.{slot_inside, fine_of, allowed_of, known_here, start_left, start_needs, start_names, start_noted_at, start_tagged, start_fits, start_cause}
+use Rattle.lazy_dfa.proofs.CacheChanges.StartCallLemmas.{refusal_is, none_refused, one_refused, not_none, told_gave_up}
+use Rattle.lazy_dfa.proofs.HalfSearches.CountedLemmas.{none_counted}
 use Rattle.lazy_dfa.specs.Steps.{most_inserts}
-use Rattle.lazy_dfa.proofs.ChangeLemmas.{same_grew}
+use Rattle.lazy_dfa.proofs.CacheChanges.ChangeLemmas.{same_grew}
 use Rattle.lazy_dfa.specs.Ids.{dead_id, unknown_id}
-use Rattle.lazy_dfa.proofs.AddsLemmas.{start_adds}
+use Rattle.lazy_dfa.proofs.CacheChanges.AddsLemmas.{start_adds}
 use Rattle.lazy_dfa.proofs.dfa.DFA.start_state.Goals as goal
-use Rattle.lazy_dfa.proofs.LinkedLemmas.{held_named}
+use Rattle.lazy_dfa.proofs.CacheChanges.LinkedLemmas.{held_named}
 
 pub start_in_mode-requires-clause-inside : goal.start_in_mode-requires-clause-inside
 start_in_mode-requires-clause-inside g c =

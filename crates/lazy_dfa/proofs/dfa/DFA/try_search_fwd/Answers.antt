@@ -1,6 +1,6 @@
 use Rattle.std.proofs.Common.{sym}
-use Rattle.lazy_dfa.proofs.SearchClauseLemmas.{is_sure, is_linked_then, is_told_then, is_left_then, is_told_since, few_determinized}
-use Rattle.lazy_dfa.proofs.SearchClauseLemmas.{few_changes, few_inserted, reaches}
+use Rattle.lazy_dfa.proofs.Courses.SearchClauseLemmas.{is_sure, is_linked_then, is_told_then, is_left_then, is_told_since, few_determinized}
+use Rattle.lazy_dfa.proofs.Courses.SearchClauseLemmas.{few_changes, few_inserted, reaches}
 use Rattle.lazy_dfa.proofs.dfa.DFA.try_search_fwd.Goals as goal
 
 pub returns-clause-answer : goal.returns-clause-answer

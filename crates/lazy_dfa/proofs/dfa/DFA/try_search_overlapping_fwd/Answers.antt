@@ -1,6 +1,6 @@
 use Rattle.lazy_dfa.specs.Dfas.{reader}
-use Rattle.lazy_dfa.proofs.WalkClauseLemmas.{call_is_sure}
-use Rattle.lazy_dfa.proofs.WalkToldLemmas.{call_is_left, call_is_told_since}
+use Rattle.lazy_dfa.proofs.OverlappingWalks.WalkClauseLemmas.{call_is_sure}
+use Rattle.lazy_dfa.proofs.OverlappingWalks.WalkToldLemmas.{call_is_left, call_is_told_since}
 use Rattle.lazy_dfa.proofs.dfa.DFA.try_search_overlapping_fwd.Goals as goal
 
 pub returns-clause-sure : goal.returns-clause-sure

@@ -4,11 +4,11 @@ use Rattle.lazy_dfa.specs.Walks.{Rest}
 use Rattle.lazy_dfa.specs.WalkAnswers.{which_from, told_left}
 use Rattle.lazy_dfa.specs.Changes.{unchanged}
 use Rattle.lazy_dfa.specs.WalkAnswers.{which_made}
-use Rattle.lazy_dfa.proofs.LinkedLemmas.{grows_refl}
-use Rattle.lazy_dfa.proofs.RestLemmas.{rest_done}
-use Rattle.lazy_dfa.proofs.SearchEndLemmas.{is_over, not_done}
-use Rattle.lazy_dfa.proofs.WhichLoopLemmas.{is_sure}
-use Rattle.lazy_dfa.proofs.WhichToldLemmas.{done_told}
+use Rattle.lazy_dfa.proofs.CacheChanges.LinkedLemmas.{grows_refl}
+use Rattle.lazy_dfa.proofs.OverlappingWalks.RestLemmas.{rest_done}
+use Rattle.lazy_dfa.proofs.Courses.SearchEndLemmas.{is_over, not_done}
+use Rattle.lazy_dfa.proofs.OverlappingWalks.WhichLoopLemmas.{is_sure}
+use Rattle.lazy_dfa.proofs.OverlappingWalks.WhichToldLemmas.{done_told}
 use Rattle.lazy_dfa.proofs.dfa.DFA.try_which_overlapping_matches.Goals as goal
 
 -- ---- a done span

@@ -1,4 +1,4 @@
-use Rattle.lazy_dfa.proofs.HalfTableLemmas.{marked_halves}
+use Rattle.lazy_dfa.proofs.PassedBytes.HalfTableLemmas.{marked_halves}
 use Rattle.lazy_dfa.proofs.half_tables.HalfTablesByteTest.lanes.Goals as goal
 
 pub returns : goal.returns

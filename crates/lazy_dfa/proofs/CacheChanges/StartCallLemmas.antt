@@ -1,0 +1,192 @@
+-- What start calls answer, by modes.
+use Rattle.std.proofs.Common.{◌≡◌, ℕ, zero, suc, ◌+◌, ◌*◌, ◌<◌, ◌≤◌, ◌≢◌, ◌⊎◌, Bool, true, false, List, [], ◌∷◌, length, get_or, refl, sym}
+use Rattle.std.proofs.Common.{ap, ◌∙◌, subst, inl, inr, ⊎_elim, arith, Option, Some, None, true≢false, Result, Ok, Err}
+use Rattle.std.specs.Prelude.{slice_get, if◌then◌else◌, MatchOption, ⊤}
+use Rattle.search_types.specs.declared.anchored.Anchored.{Anchored}
+use Rattle.search_types.specs.declared.anchored.Anchored.TheVariants.{No, Yes, Pattern}
+use Rattle.determinize_core.specs.Starts.{StartValue, start_of}
+use Rattle.determinize_core.specs.declared.start.Start.{Start}
+use Rattle.lazy_dfa.specs.Accounting.{Measures, start_count}
+use Rattle.lazy_dfa.specs.ConfigValue.{starts_each_of}
+use Rattle.lazy_dfa.specs.Dfas.{Dfa, IsDfa, start_in, first_state}
+use Rattle.lazy_dfa.specs.Ids.{unknown_id, dead_id}
+use Rattle.lazy_dfa.specs.Caches.{CacheValue, IsCacheOf, Names, slot, needs_clear, lacks_room}
+use Rattle.lazy_dfa.specs.Readers.{is_quit}
+use Rattle.lazy_dfa.specs.Steps.{Grew, IsCause}
+use Rattle.lazy_dfa.specs.StartCalls.{mode_of, quit_refusal, behind_refusal, mode_refusal, start_refusal, start_slot, start_first, start_noted}
+use Rattle.lazy_dfa.specs.StartCalls.{IsStartKnown, StartNeedsClear, ClearedFor, StartCleared, IsStart, TagsStart, StartGivesUp, IsStartCause}
+use Rattle.lazy_dfa.specs.StartCalls.{start_error_of}
+use Rattle.lazy_dfa.specs.declared.cache_error.CacheError.{CacheError}
+use Rattle.lazy_dfa.specs.declared.cache_error.CacheError.TheVariants.{GaveUp, NoMemory}
+use Rattle.lazy_dfa.specs.declared.start_error.StartError.{StartError}
+use Rattle.lazy_dfa.specs.declared.start_error.StartError.TheVariants.{Cache, UnsupportedAnchored}
+use Rattle.lazy_dfa.proofs.CacheChanges.IsCacheLemmas.{numbered_back}
+
+inside_of : {X : Type 0} (xs : List X) (k : ℕ) (x : X) → slice_get xs k ≡ Some x → k < length xs
+inside_of [] k x e = absurd cc
+inside_of (y ∷ ys) zero x e = omega arith
+inside_of (y ∷ ys) (suc k) x e = let l = inside_of ys k x e in omega (arith, l)
+
+starts_are : (d : Dfa) (v : CacheValue) → IsDfa d → IsCacheOf d v → length v.starts ≡ start_count (starts_each_of d.options)
+    (length d.nfa.automaton.start_pattern)
+starts_are d v made own = own.slots ∙ ap (λ (m : Measures). m.starts) made.measured
+
+at_least : (each : Bool) (p : ℕ) → 14 ≤ start_count each p
+at_least true p = omega arith
+at_least false p = omega arith
+
+-- each mode that is supported, and has a state to start in, has its slots
+pub slot_inside : (d : Dfa) (v : CacheValue) (mode : Anchored) (s : Start) (q n : ℕ) → IsDfa d → IsCacheOf d v →
+    mode_refusal d mode ≡ None → n ≡ mode_of mode →
+    start_in d n ≡ Some q → slot n s < length v.starts
+slot_inside d v No s q n made own fine e f =
+    let few = (numbered_back s).1 in let long = starts_are d v made own in let least =
+    at_least (starts_each_of d.options) (length d.nfa.automaton.start_pattern) in
+    omega (arith, few, long, least, e)
+slot_inside d v Yes s q n made own fine e f =
+    let few = (numbered_back s).1 in let long = starts_are d v made own in let least =
+    at_least (starts_each_of d.options) (length d.nfa.automaton.start_pattern) in
+    omega (arith, few, long, least, e)
+slot_inside d v (Pattern p) s q n made own fine e f =
+    let l : p < length d.nfa.automaton.start_pattern = inside_of d.nfa.automaton.start_pattern p q (ap (start_in d) (sym e) ∙ f) in
+    let few = (numbered_back s).1 in
+    let long : length v.starts ≡ 14 + 7 * length d.nfa.automaton.start_pattern =
+    starts_are d v made own ∙ ap (λ (b : Bool). start_count b (length d.nfa.automaton.start_pattern))
+    (on (starts_each_of d.options) fine) in
+    omega (arith, few, long, l, e)
+  where
+    on : (b : Bool) → (if b then None else Some (UnsupportedAnchored (Pattern p))) ≡ None → b ≡ true
+    on true e = refl
+    on false e = absurd cc
+
+-- ---- refusals
+
+quit_passes : (quits : Bool) (b : ℕ) (rest : Option StartError) → quit_refusal quits b rest ≡ None → rest ≡ None
+quit_passes true b rest e = absurd cc
+quit_passes false b rest e = e
+
+pub mode_fine : (d : Dfa) (c : StartValue) → start_refusal d c ≡ None → mode_refusal d c.anchored ≡ None
+mode_fine d c e = by_behind c.look_behind e
+  where
+    by_behind : (o : Option ℕ) → behind_refusal d o (mode_refusal d c.anchored) ≡ None → mode_refusal d c.anchored ≡ None
+    by_behind None e = e
+    by_behind (Some b) e = quit_passes (is_quit d.quits (Some b)) b (mode_refusal d c.anchored) e
+
+-- ---- answers
+
+-- where nothing was refused there is no refusal, and the mode is supported
+pub allowed_of : (d : Dfa) (c : StartValue) (r : Option StartError) (o : Option ℕ) (m : Anchored) → r ≡ None →
+    r ≡ behind_refusal d o (mode_refusal d m) → o ≡ c.look_behind → m ≡ c.anchored →
+    start_refusal d c ≡ None
+allowed_of d c r o m none e f g =
+    ap (λ (o : Option ℕ). behind_refusal d o (mode_refusal d c.anchored)) (sym f)
+    ∙ (ap (λ (m : Anchored). behind_refusal d o (mode_refusal d m)) (sym g) ∙ (sym e ∙ none))
+
+pub fine_of : (d : Dfa) (c : StartValue) (r : Option StartError) (o : Option ℕ) (m : Anchored) → r ≡ None →
+    r ≡ behind_refusal d o (mode_refusal d m) → o ≡ c.look_behind → m ≡ c.anchored →
+    mode_refusal d c.anchored ≡ None
+fine_of d c r o m none e f g = mode_fine d c (allowed_of d c r o m none e f g)
+
+module _ (d : Dfa) (c : StartValue) (n q : ℕ) (s : Start) (named : Some q ≡ start_in d (mode_of c.anchored))
+    (number : n ≡ mode_of c.anchored)
+    (is : s ≡ start_of d.nfa.terminator c.look_behind) where
+  same_slot : slot n s ≡ start_slot d c
+  same_slot = ap (λ (m : ℕ). slot m s) number ∙ ap (λ (t : Start). slot (mode_of c.anchored) t) is
+
+  -- a start of which nothing is to be made is known
+  pub known_here : (v : CacheValue) → start_refusal d c ≡ None → IsStartKnown d v c → get_or v.starts (slot n s) 0 ≢ unknown_id
+  known_here v none (inl r) z = r none
+  known_here v none (inr (inl e)) z = let f : Some q ≡ None = named ∙ e in absurd cc
+  known_here v none (inr (inr k)) z = k (ap (λ (i : ℕ). get_or v.starts i 0) (sym same_slot) ∙ z)
+
+  pub start_left : (v w : CacheValue) → Grew d v w ⊎ ClearedFor d v w (slot n s) (first_state d s q) → Grew d v w ⊎ StartCleared d v w c
+  start_left v w e = ⊎_elim
+      (λ (g : Grew d v w). inl g)
+      (λ (x : ClearedFor d v w (slot n s) (first_state d s q)). inr (record {
+        name = q;
+        named = sym named;
+        clears = subst (λ (i : ℕ). ClearedFor d v w i (start_first d c q)) same_slot
+            (subst (λ (t : Start). ClearedFor d v w (slot n s) (first_state d t q)) is x);
+      }))
+      e
+
+  -- a state that asks for a clear is that of a start which does
+  pub start_needs : (v w : CacheValue) → Grew d v w ⊎ ((get_or v.starts (slot n s) 0 ≡ unknown_id) ×
+      (needs_clear d v (first_state d s q) ≡ true)) →
+      Grew d v w ⊎ StartNeedsClear d v c
+  start_needs v w e = ⊎_elim
+      (λ (g : Grew d v w). inl g)
+      (λ (x : (get_or v.starts (slot n s) 0 ≡ unknown_id) × (needs_clear d v (first_state d s q) ≡ true)). inr (record {
+        name = q;
+        named = sym named;
+        unknown = ap (λ (i : ℕ). get_or v.starts i 0) (sym same_slot) ∙ x.0;
+        needs = subst (λ (t : Start). needs_clear d v (first_state d t q) ≡ true) is x.1;
+      }))
+      e
+
+  -- what the call for this slot tells is told of the start
+  pub start_names : (v : CacheValue) (id : ℕ) → Names v id (first_state d s q) → IsStart d v c id
+  start_names v id h = subst (λ (o : Option ℕ). MatchOption o (id ≡ dead_id v.stride)
+      (λ r. Names v id (first_state d (start_of d.nfa.terminator c.look_behind) r))) named
+      (subst (λ (t : Start). Names v id (first_state d t q)) is h)
+
+  pub start_noted_at : (v : CacheValue) (id : ℕ) → get_or v.starts (slot n s) 0 ≡ id → start_noted d v c ≡ id
+  start_noted_at v id e = ap (λ (i : ℕ). get_or v.starts i 0) (sym same_slot) ∙ e
+
+  pub start_tagged : (old : CacheValue) (id : ℕ) → TagsStart d old (first_state d s q) id → (r : ℕ) →
+      start_in d (mode_of c.anchored) ≡ Some r → TagsStart d old (start_first d c r) id
+  start_tagged old id h r e =
+      let f : Some q ≡ Some r = named ∙ e in
+      let same : q ≡ r = cc in
+      subst (λ (r : ℕ). TagsStart d old (start_first d c r) id) same (subst (λ (t : Start). TagsStart d old (first_state d t q) id) is h)
+
+  pub start_fits : (old : CacheValue) → (get_or old.starts (slot n s) 0 ≡ unknown_id → lacks_room d old (first_state d s q) ≡ false) →
+      StartGivesUp d old c → ⊥
+  start_fits old h gives =
+      let lacks = subst (λ (o : Option ℕ). MatchOption o ⊥ (λ r. lacks_room d old (start_first d c r) ≡ true)) (sym named) gives.lacks in
+      let none = h (ap (λ (i : ℕ). get_or old.starts i 0) same_slot ∙ gives.unknown) in
+      true≢false (sym lacks ∙ (sym (ap (λ (t : Start). lacks_room d old (first_state d t q)) is) ∙ none))
+
+  pub start_cause : (old : CacheValue) (e : CacheError) (x : StartError) → x ≡ start_error_of e →
+      get_or old.starts (slot n s) 0 ≡ unknown_id → IsCause d old (first_state d s q) e → IsStartCause d old c x
+  start_cause old e x told unknown (inl f) = inl (told ∙ ap start_error_of f)
+  start_cause old e x told unknown (inr h) = inr (
+    told ∙ ap start_error_of h.0,
+    record {
+      unknown = ap (λ (i : ℕ). get_or old.starts i 0) (sym same_slot) ∙ unknown;
+      lacks = subst (λ (o : Option ℕ). MatchOption o ⊥ (λ r. lacks_room d old (start_first d c r) ≡ true)) named
+          (subst (λ (t : Start). lacks_room d old (first_state d t q) ≡ true) is h.1);
+    },
+  )
+
+-- a start gave up only where its state did
+pub gave_up_back : (e : CacheError) → start_error_of e ≡ Cache GaveUp → e ≡ GaveUp
+gave_up_back GaveUp told = refl
+gave_up_back NoMemory told = absurd cc
+
+-- what is refused, and what isn't
+pub refusal_is : (d : Dfa) (c : StartValue) (r : Option StartError) (o : Option ℕ) (m : Anchored) (x : Option StartError) → r ≡ x →
+    r ≡ behind_refusal d o (mode_refusal d m) → o ≡ c.look_behind → m ≡ c.anchored →
+    start_refusal d c ≡ x
+refusal_is d c r o m x is e f g =
+    ap (λ (o : Option ℕ). behind_refusal d o (mode_refusal d c.anchored)) (sym f)
+    ∙ (ap (λ (m : Anchored). behind_refusal d o (mode_refusal d m)) (sym g) ∙ (sym e ∙ is))
+
+pub none_refused : (o : Option StartError) (r : Result ℕ StartError) → o ≡ None → MatchOption o ⊤ (λ e. r ≡ Err e)
+none_refused o r e = subst (λ (x : Option StartError). MatchOption x ⊤ (λ y. r ≡ Err y)) (sym e) tt
+
+pub one_refused : (o : Option StartError) (e : StartError) (r : Result ℕ StartError) → o ≡ Some e → r ≡ Err e →
+    MatchOption o ⊤ (λ y. r ≡ Err y)
+one_refused o e r f g = subst (λ (x : Option StartError). MatchOption x ⊤ (λ y. r ≡ Err y)) (sym f) g
+
+pub not_none : {X : Type 0} (o : Option X) (x : X) → o ≡ Some x → o ≡ None → ⊥
+not_none o x f g = let h : Some x ≡ None = sym f ∙ g in absurd cc
+
+pub told_gave_up : (e : CacheError) (x : StartError) (r : Result ℕ StartError) (s : Result ℕ CacheError) → x ≡ start_error_of e →
+    r ≡ Err x → s ≡ Err e → r ≡ Err (Cache GaveUp) → s ≡ Err GaveUp
+told_gave_up e x r s told f g h =
+    let there : x ≡ Cache GaveUp = cc in
+    g ∙ ap (λ (y : CacheError). Err y) (gave_up_back e (sym told ∙ there))
+
+pub told_known : (id n : ℕ) (r : Result ℕ CacheError) (t : Result ℕ StartError) → r ≡ Ok id → r ≡ Ok n → t ≡ Ok id → t ≡ Ok n
+told_known id n r t e f g = let same : id ≡ n = cc in g ∙ ap (λ (i : ℕ). Ok i) same

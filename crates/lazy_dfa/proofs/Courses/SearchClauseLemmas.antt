@@ -1,0 +1,196 @@
+-- What a half search tells its callers.
+use Rattle.std.proofs.Common.{◌≡◌, ℕ, zero, suc, ◌+◌, ◌-◌, ◌*◌, ◌<◌, ◌≤◌, Bool, true, false, not, ◌&&◌, List, [], ◌∷◌, length, Option, Some}
+use Rattle.std.proofs.Common.{None, refl, sym, ap, ◌∙◌, ◌⊎◌, inl, inr, subst, arith, if◌then◌else◌, true≢false}
+use Rattle.std.specs.Bool.{nat_le}
+use Rattle.std.specs.Prelude.{Result, Ok, Err, OnOk, IfOk, IfErr, is_none}
+use Rattle.search_types.specs.declared.anchored.Anchored.{Anchored}
+use Rattle.search_types.specs.declared.match_error.MatchErrorKind.{MatchErrorKind}
+use Rattle.search_types.specs.declared.match_error.MatchErrorKind.TheVariants.{NoMemory}
+use Rattle.search_types.specs.Found.{HalfFound}
+use Rattle.search_types.specs.Inputs.{Search}
+use Rattle.search_types.specs.Modes.{is_anchored, is_supported}
+use Rattle.search_types.specs.Places.{counts}
+use Rattle.determinize_core.specs.States.{StateValue}
+use Rattle.lazy_dfa.specs.AnewTold.{IsToldSince}
+use Rattle.lazy_dfa.specs.Caches.{CacheValue, greatest, place_of, fits, is_refused, lacks_room}
+use Rattle.lazy_dfa.specs.ConfigValue.{clears_of, bytes_of}
+use Rattle.lazy_dfa.specs.Courses.{state_behind}
+use Rattle.lazy_dfa.specs.Dfas.{Dfa, IsDfa, reader, is_dead}
+use Rattle.lazy_dfa.specs.LeftTold.{LeavesTold}
+use Rattle.lazy_dfa.specs.Linked.{Grows, HasCleared, IsLinked, passes_on, passes_of}
+use Rattle.lazy_dfa.specs.MadePasses.{IsSearchTold, MakesSearch}
+use Rattle.lazy_dfa.specs.PassLaws.{pass_len, splits}
+use Rattle.lazy_dfa.specs.Passes.{next_place, pass, first_value}
+use Rattle.lazy_dfa.specs.Readers.{Reader, found}
+use Rattle.lazy_dfa.specs.ScanLaws.{begins_at, passes_made, units_in_passes, pass_count, unit_count, HasNoQuitNear}
+use Rattle.lazy_dfa.specs.Scans.{scan}
+use Rattle.lazy_dfa.specs.SearchAnswers.{half_of, pair_of, told, GivesUpIn, at_start, at_unit, GivesUpAmong, Answers, told_of, told_by}
+use Rattle.lazy_dfa.specs.SearchAnswers.{made_by, HasReach, HasReachBack}
+use Rattle.lazy_dfa.specs.Steps.{most_inserts}
+use Rattle.lazy_dfa.specs.Changes.{Changes, IsMadeBy}
+use Rattle.lazy_dfa.proofs.Courses.AnswerLemmas.{ok_is_told, ok_is_found}
+use Rattle.lazy_dfa.proofs.HalfSearches.HasReachLemmas.{scan_has_reach, scan_has_reach_back}
+use Rattle.lazy_dfa.proofs.CacheChanges.LinkedLemmas.{not_cleared}
+use Rattle.lazy_dfa.proofs.HalfSearches.ScanLemmas.{scan_finds_near}
+
+-- ---- how many states are made
+
+module _ (r : Reader) (q : Search) where
+  abbrev len_of : ℕ → ℕ → ℕ
+  len_of n i = pass_len r q.anchored q.earliest q.haystack n i
+
+  abbrev split : ℕ → ℕ → Bool
+  split n i = splits (counts r.between_characters q.haystack) (pass r q.anchored q.earliest q.haystack n i)
+
+  abbrev on : ℕ → ℕ → List (ℕ × ℕ)
+  on n i = passes_on r q.anchored q.earliest q.haystack n i
+
+  one_more : (b : Bool) (len made units : ℕ) (ps : List (ℕ × ℕ)) → made_by r q ps ≡ made + units →
+      suc len + made_by r q (if b then ps else []) ≡ (if b then suc made else 1) + (if b then len + units else len)
+  one_more true len made units ps is = omega (arith, is)
+  one_more false len made units ps is = omega arith
+
+  on_counted : (n i : ℕ) → made_by r q (on n i) ≡ passes_made r q.anchored q.earliest q.haystack n i + units_in_passes r q.anchored
+      q.earliest q.haystack n i
+  on_counted zero i = omega arith
+  on_counted (suc n) i =
+      one_more (split (suc n) i) (len_of (suc n) i) (passes_made r q.anchored q.earliest q.haystack n (next_place r i))
+      (units_in_passes r q.anchored q.earliest q.haystack n (next_place r i)) (on n (next_place r i)) (on_counted n (next_place r i))
+
+  by_mode : (begun once : Bool) (p : ℕ × ℕ) (len made units : ℕ) (ps : List (ℕ × ℕ)) → made_by r q (p ∷ []) ≡ 1 + len →
+      made_by r q ps ≡ made + units →
+      made_by r q (if begun then (if once then p ∷ [] else ps) else []) ≡
+      (if begun then (if once then 1 else made) else 0) + (if begun then (if once then len else units) else 0)
+  by_mode true true p len made units ps one all = one
+  by_mode true false p len made units ps one all = all
+  by_mode false once p len made units ps one all = refl
+
+  pub made_is_counted : made_by r q (passes_of r q) ≡ pass_count r q + unit_count r q
+  made_is_counted =
+      by_mode (nat_le q.start q.end) (is_anchored q.anchored) (q.end - q.start, begins_at r q) (len_of (q.end - q.start) (begins_at r q))
+      (passes_made r q.anchored q.earliest q.haystack (q.end - q.start) (begins_at r q))
+      (units_in_passes r q.anchored q.earliest q.haystack (q.end - q.start) (begins_at r q)) (on (q.end - q.start) (begins_at r q))
+      (omega arith) (on_counted (q.end - q.start) (begins_at r q))
+
+-- ---- room
+
+no_room_lacks : (o : Option ℕ) (a b c : Bool) (bytes : Option ℕ) (v : CacheValue) → o ≡ None →
+    not a && (b && (c && is_refused o bytes v)) ≡ false
+no_room_lacks o a b c bytes v none =
+    ap (λ (x : Option ℕ). not a && (b && (c && is_refused x bytes v))) none ∙ none_of a b c
+  where
+    none_of : (a b c : Bool) → not a && (b && (c && false)) ≡ false
+    none_of true b c = refl
+    none_of false true true = refl
+    none_of false true false = refl
+    none_of false false c = refl
+
+module _ (d : Dfa) (v : CacheValue) (none : clears_of d.options ≡ None) where
+  -- where no least count of clears is set, there is always room
+  pub has_room : (s : StateValue) → lacks_room d v s ≡ true → ⊥
+  has_room s lacks = true≢false (sym lacks
+      ∙ no_room_lacks (clears_of d.options) (is_dead s) (is_none (place_of s v.states)) (not (fits d.capacity s v))
+      (bytes_of d.options) v none)
+
+  pub never_here : (mode : Anchored) (earliest : Bool) (h : List ℕ) (n i x : ℕ) → GivesUpIn d v mode earliest h n i x → ⊥
+  never_here mode earliest h n i x (at_start place lacks free) = has_room (first_value (reader d) mode h i) lacks
+  never_here mode earliest h n i x (at_unit k less place lacks runs free quits) =
+      has_room (state_behind (reader d) h i (first_value (reader d) mode h i) (suc k)) lacks
+
+  pub never_among : (q : Search) (x : ℕ) (ps : List (ℕ × ℕ)) → GivesUpAmong d v q x ps → ⊥
+  never_among q x [] g = g
+  never_among q x (p ∷ ps) (inl g) = never_here q.anchored q.earliest q.haystack p.0 p.1 x g
+  never_among q x (p ∷ ps) (inr g) = never_among q x ps g
+
+-- ---- clauses
+
+module _ (d : Dfa) (q : Search) (old new : CacheValue) (m1 m2 n1 n2 : ℕ) (result : Result (Option HalfFound) MatchErrorKind)
+    (made : MakesSearch d q old new m1 m2 n1 n2 result) where
+  abbrev HasNoMemory : Result (Option HalfFound) MatchErrorKind → Type 0
+  HasNoMemory x = IfErr x (λ e. e ≡ NoMemory)
+
+  sure_by : clears_of d.options ≡ None → (o : Option (ℕ × ℕ)) → scan (reader d) q ≡ found o → Answers d new q result → HasNoMemory result
+  sure_by none o is (inl e) = subst HasNoMemory (sym (e ∙ ap told is)) tt
+  sure_by none o is (inr (inl e)) = subst HasNoMemory (sym e) refl
+  sure_by none o is (inr (inr g)) = absurd (never_among d new none q g.0 (passes_of (reader d) q) g.2)
+
+  pub is_sure : clears_of d.options ≡ None → is_supported (reader d).starts_for_each_pattern q.anchored ≡ true →
+      HasNoQuitNear (reader d) q.haystack q.start q.end → HasNoMemory result
+  is_sure none supported quiet = let there = scan_finds_near (reader d) q supported quiet in sure_by none there.0 there.1 made.answer
+
+  pub few_determinized : m2 ≤ m1 + (pass_count (reader d) q + unit_count (reader d) q)
+  few_determinized = subst (λ (k : ℕ). m2 ≤ m1 + k) (made_is_counted (reader d) q) made.determinized
+
+  pub few_inserted : n2 ≤ n1 + (pass_count (reader d) q + unit_count (reader d) q) * most_inserts d
+  few_inserted = subst (λ (k : ℕ). n2 ≤ n1 + k * most_inserts d) (made_is_counted (reader d) q) made.inserted
+
+  pub few_changes : Changes d (IsMadeBy d q) old new (pass_count (reader d) q + unit_count (reader d) q)
+  few_changes = subst (Changes d (IsMadeBy d q) old new) (made_is_counted (reader d) q) made.changes
+
+  abbrev HasFollowed : Type 0
+  HasFollowed = Grows d old new × IsLinked d new q × (told_of new ≡ told_by (reader d) q (told_of old) (passes_of (reader d) q))
+
+  not_forgotten : HasFollowed ⊎ HasCleared old new → new.clears ≡ old.clears → old.clears < greatest → HasFollowed
+  not_forgotten (inl f) same less = f
+  not_forgotten (inr c) same less = absurd (not_cleared old new c same less)
+
+  on_ok : (x : Result (Option HalfFound) MatchErrorKind) (A B : Type 0) → (A → B) → OnOk x A → OnOk x B
+  on_ok (Ok f) A B g a = g a
+  on_ok (Err e) A B g a = tt
+
+  pub is_linked_then : OnOk result (new.clears ≡ old.clears → old.clears < greatest → IsLinked d new q)
+  is_linked_then = on_ok result (HasFollowed ⊎ HasCleared old new) (new.clears ≡ old.clears → old.clears < greatest → IsLinked d new q)
+      (λ kept same less. (not_forgotten kept same less).1) made.follows
+
+  pub is_told_then : OnOk result (new.clears ≡ old.clears → old.clears < greatest →
+      told_of new ≡ told_by (reader d) q (told_of old) (passes_of (reader d) q))
+  is_told_then = on_ok result (HasFollowed ⊎ HasCleared old new)
+      (new.clears ≡ old.clears → old.clears < greatest → told_of new ≡ told_by (reader d) q (told_of old) (passes_of (reader d) q))
+      (λ kept same less. (not_forgotten kept same less).2) made.follows
+
+  pub is_left_then : IfErr result (λ e. new.clears ≡ old.clears → old.clears < greatest →
+      LeavesTold (reader d) q e (told_of old) (told_of new))
+  is_left_then = left result made.anew
+    where
+      left : (x : Result (Option HalfFound) MatchErrorKind) → IsSearchTold (reader d) q x old new →
+          IfErr x (λ e. new.clears ≡ old.clears → old.clears < greatest → LeavesTold (reader d) q e (told_of old) (told_of new))
+      left (Ok f) t = tt
+      left (Err e) (inl l) = λ same less. l.0
+      left (Err e) (inr c) = λ same less. absurd (not_cleared old new c.0 same less)
+
+  pub is_told_since : (new.clears ≡ old.clears → ⊥) → IsToldSince (reader d) q result (told_of new)
+  is_told_since other = since result made.anew
+    where
+      since : (x : Result (Option HalfFound) MatchErrorKind) → IsSearchTold (reader d) q x old new →
+          IsToldSince (reader d) q x (told_of new)
+      since (Ok f) (inl same) = absurd (other same.1)
+      since (Ok f) (inr c) = c.1
+      since (Err e) (inl same) = absurd (other same.1)
+      since (Err e) (inr c) = c.1
+
+half_of_pair : (f : Option HalfFound) → f ≡ half_of (pair_of f)
+half_of_pair None = refl
+half_of_pair (Some m) = refl
+
+-- how far an answer reached, forward or in reverse
+reaches_where : (P : Option (ℕ × ℕ) → Type 0) (d : Dfa) (q : Search) (new : CacheValue)
+    (result : Result (Option HalfFound) MatchErrorKind) →
+    ((o : Option (ℕ × ℕ)) → scan (reader d) q ≡ found o → P o) → Answers d new q result →
+    IfOk result (λ f. (o : Option (ℕ × ℕ)) × (f ≡ half_of o) × P o)
+reaches_where P d q new (Err e) reach answers = tt
+reaches_where P d q new (Ok f) reach answers =
+    let is : scan (reader d) q ≡ found (pair_of f) =
+    ok_is_found (scan (reader d) q) f (ok_is_told f (told (scan (reader d) q))
+    (λ (x : ℕ). GivesUpAmong d new q x (passes_of (reader d) q)) answers) in
+    (pair_of f, half_of_pair f, reach (pair_of f) is)
+
+module _ (d : Dfa) (q : Search) (new : CacheValue) (result : Result (Option HalfFound) MatchErrorKind) (made : IsDfa d)
+    (within : q.end ≤ length q.haystack)
+    (answers : Answers d new q result) where
+  pub reaches : d.nfa.automaton.reverse ≡ false → IfOk result (λ f. (o : Option (ℕ × ℕ)) × (f ≡ half_of o) × HasReach (reader d) q o)
+  reaches up = reaches_where (HasReach (reader d) q) d q new result (λ o is. scan_has_reach (reader d) q o up made.sound within is) answers
+
+  pub reaches_back : d.nfa.automaton.reverse ≡ true → IfOk result (λ f. (o : Option (ℕ × ℕ)) × (f ≡ half_of o) ×
+      HasReachBack (reader d) q o)
+  reaches_back back = reaches_where (HasReachBack (reader d) q) d q new result
+      (λ o is. scan_has_reach_back (reader d) q o back within is) answers

@@ -1,0 +1,332 @@
+-- One unit of a walk in its span: what a step says of it, and what comes of that.
+use Rattle.std.proofs.Common.{◌≡◌, ◌≢◌, ◌⊎◌, inl, inr, ℕ, ◌+◌, ◌*◌, ◌<◌, ◌≤◌, ◌==◌, ◌&&◌, ◌||◌, not, nat_le, nat_lt, is_none, min, Bool}
+use Rattle.std.proofs.Common.{true, false, true≢false, List, [], ◌∷◌, length, Option, Some, None, Err, IsSome, refl, sym, ap, ◌∙◌, subst}
+use Rattle.std.proofs.Common.{⊎_elim, arith}
+use Rattle.std.proofs.lemmas.Bool.{cases_lt, le-ltb, eqb-true, eq-eqb, and_parts}
+use Rattle.search_core.specs.ByteSets.{has}
+use Rattle.nfa_core.specs.Ways.{place_of}
+use Rattle.determinize_core.specs.States.{StateValue}
+use Rattle.determinize_core.specs.StateBytes.{is_match}
+use Rattle.determinize_core.specs.Steps.{unit_at}
+use Rattle.search_types.specs.declared.match_error.MatchErrorKind.{MatchErrorKind}
+use Rattle.search_types.specs.declared.match_error.MatchErrorKind.TheVariants.{Quit}
+use Rattle.search_types.specs.Inputs.{Search}
+use Rattle.search_types.specs.Places.{counts}
+use Rattle.lazy_dfa.specs.Caches.{CacheValue, IsShaped, IsRow, HeldAt, Names, names_dead, names_held, greatest, progress_len, moved_to}
+use Rattle.lazy_dfa.specs.Caches.{search_total_len, is_refused, fits, lacks_room, place_of as row_of}
+use Rattle.lazy_dfa.specs.ConfigValue.{clears_of, bytes_of}
+use Rattle.lazy_dfa.specs.Courses.{state_behind, stops_behind}
+use Rattle.lazy_dfa.specs.declared.cache_error.CacheError.{CacheError}
+use Rattle.lazy_dfa.specs.declared.cache_error.CacheError.TheVariants.{GaveUp, NoMemory}
+use Rattle.lazy_dfa.specs.declared.overlapping_state.Stop.{Stop}
+use Rattle.lazy_dfa.specs.declared.passing.Position.{Position}
+use Rattle.lazy_dfa.specs.declared.progress.Progress.{Progress}
+use Rattle.lazy_dfa.specs.declared.turns.Turn.{Turn}
+use Rattle.lazy_dfa.specs.declared.turns.Turn.TheVariants.{GoesOn, Ends, Quits}
+use Rattle.lazy_dfa.specs.Dfas.{Dfa, reader, is_dead as is_lost}
+use Rattle.lazy_dfa.specs.Ids.{has_tag, match_tag}
+use Rattle.lazy_dfa.specs.Linked.{IsMoved}
+use Rattle.lazy_dfa.specs.Readers.{is_quit}
+use Rattle.lazy_dfa.specs.Passes.{index_at, is_empty, is_dead}
+use Rattle.lazy_dfa.specs.Points.{Point, point, began}
+use Rattle.lazy_dfa.specs.LeftTold.{told_at}
+use Rattle.lazy_dfa.specs.SearchAnswers.{pair_of, told_of, running_at}
+use Rattle.lazy_dfa.specs.PassPlaces.{last_place, finished, finished_where, error_of, gave_up_at}
+use Rattle.lazy_dfa.specs.Turns.{FailsOn, GoesOne, IsSeen, IsTurn}
+use Rattle.lazy_dfa.specs.Walks.{value_past, StopsAt}
+use Rattle.lazy_dfa.specs.WalkAnswers.{lists_more}
+use Rattle.lazy_dfa.specs.WalkTurns.{tells_end, is_over, TellsUnit, IsStepTo, Refuses, StopsWith, ReadsInto}
+use Rattle.lazy_dfa.proofs.OverlappingWalks.WalkToldLemmas.{unit_stepped, unit_finished}
+use Rattle.lazy_dfa.proofs.CacheChanges.ChangeLemmas.{one_state}
+use Rattle.lazy_dfa.proofs.Courses.SpanTurnLemmas.{held_moved, leaves_forth, goes_back, began_moved, moved_is, some_moved, runs_there}
+use Rattle.lazy_dfa.proofs.Courses.SpanTurnLemmas.{finished_moves, fails_back, leaves_back}
+use Rattle.lazy_dfa.proofs.Courses.TurnStepLemmas.{row_matches, has_not}
+use Rattle.lazy_dfa.proofs.Courses.WholePassLemmas.{min_twice}
+
+-- ---- room
+
+-- a search that ends where it is leaves the sum of all searches, and so whether a clear pays off
+still_refused : (clears bytes : Option ℕ) (v : CacheValue) (at : ℕ) → moved_to at v.progress ≡ v.progress →
+    is_refused clears bytes (finished at v) ≡ is_refused clears bytes v
+still_refused None bytes v at e = refl
+still_refused (Some least) None v at e = refl
+still_refused (Some least) (Some bytes) v at e =
+    ap (λ (n : ℕ). nat_le least v.clears && not (nat_le (min (bytes * (length v.states + 3)) greatest) n)) same
+  where
+    no_more : (n : ℕ) → n ≡ n + 0
+    no_more n = omega arith
+
+    same : search_total_len (finished at v) ≡ search_total_len v
+    same = min_twice (v.searched + progress_len (moved_to at v.progress)) 0 greatest
+        ∙ (ap (λ (n : ℕ). min n greatest) (sym (no_more (v.searched + progress_len (moved_to at v.progress))))
+        ∙ ap (λ (p : Option Progress). min (v.searched + progress_len p) greatest) e)
+
+still_lacks : (d : Dfa) (v : CacheValue) (at : ℕ) (s : StateValue) → moved_to at v.progress ≡ v.progress →
+    lacks_room d (finished at v) s ≡ lacks_room d v s
+still_lacks d v at s e =
+    ap (λ (b : Bool). not (is_lost s) && (is_none (row_of s v.states) && (not (fits d.capacity s v) && b)))
+    (still_refused (clears_of d.options) (bytes_of d.options) v at e)
+
+moved_twice : (at : ℕ) (o : Option Progress) → moved_to at (moved_to at o) ≡ moved_to at o
+moved_twice at None = refl
+moved_twice at (Some p) = refl
+
+-- ---- tags
+
+both : (a b c : Bool) → a ≡ b → (a && c) ≡ (c && b)
+both a b c e = ap (λ (x : Bool). x && c) e ∙ swap b c
+  where
+    swap : (b c : Bool) → (b && c) ≡ (c && b)
+    swap true true = refl
+    swap true false = refl
+    swap false true = refl
+    swap false false = refl
+
+some_listed : (ms : List ℕ) → is_match ms ≡ not (is_empty ms)
+some_listed [] = refl
+some_listed (p ∷ ps) = refl
+
+-- the tag and the place tell whether an end is listed that counts
+tag_tells : (d : Dfa) (h : List ℕ) (v : CacheValue) (id at : ℕ) (tells : Bool) (s : StateValue) → IsShaped v →
+    tells ≡ (has_tag match_tag id && counts (reader d).between_characters h at) →
+    Names v id s → tells ≡ tells_end (reader d) h at s
+tag_tells d h v id at tells s i e (names_held g) =
+    e ∙ both (has_tag match_tag id) (not (is_empty s.matches)) (counts (reader d).between_characters h at) (row_matches v id s i g
+    ∙ some_listed s.matches)
+tag_tells d h v id at tells s i e (names_dead f g) =
+    e ∙ both (has_tag match_tag id) (not (is_empty s.matches)) (counts (reader d).between_characters h at)
+    (has_not match_tag id (omega (arith, f, i.narrow)) ∙ sym (ap (λ (t : StateValue). not (is_empty t.matches)) g))
+
+-- ---- a step
+
+-- the unit at a place, by the direction and the haystack that code goes by
+pub unit_same : (is_reverse back : Bool) (q : Search) (h : List ℕ) (at : ℕ) (u : Option ℕ) → u ≡ unit_at is_reverse h at → h ≡ q.haystack →
+    is_reverse ≡ back → u ≡ unit_at back q.haystack at
+unit_same is_reverse back q h at u e f g = e ∙ (ap (λ (x : List ℕ). unit_at is_reverse x at) f
+    ∙ ap (λ (b : Bool). unit_at b q.haystack at) g)
+
+module _ (d : Dfa) (q : Search) (is_reverse : Bool) (same : is_reverse ≡ d.nfa.automaton.reverse) (v0 v1 v2 : CacheValue)
+    (m1 n1 m2 n2 at id : ℕ) (best : Option (ℕ × ℕ)) (u : Option ℕ)
+    (place : ℕ) (moves : v1 ≡ record v0 { progress = moved_to place v0.progress }) (runs : IsSome v0.progress) where
+  abbrev from : Point
+  from = point v0 m1 n1 at id best
+
+  abbrev before : Point
+  before = point v1 m1 n1 at id best
+
+  abbrev rev : Bool
+  rev = d.nfa.automaton.reverse
+
+  moved : IsMoved v0 v1
+  moved = moved_is v0 v1 place moves
+
+  goes_from : (to : ℕ) (best2 : Option (ℕ × ℕ)) → GoesOne d q.haystack before v2 m2 n2 to best2 →
+      GoesOne d q.haystack from v2 m2 n2 to best2
+  goes_from to best2 g = goes_back d v0 v1 moved q.haystack m1 n1 at id best (point v2 m2 n2 (place_of rev at 1) to best2) 1
+      (ap (λ (c : CacheValue). c.searched) moves) (ap (λ (c : CacheValue). began c.progress) moves
+      ∙ began_moved place v0.progress) (some_moved v0 v1 place moves) g
+
+  -- where a step leads, if not to a quit byte
+  pub step_leads : (to : ℕ) (best2 : Option (ℕ × ℕ)) (turn : Turn) → place ≡ gave_up_at rev q at → (turn ≡ Quits → ⊥) →
+      IsSeen d false q.haystack u before v2 m2 n2 to best2 turn → IsStepTo d q from v2 m2 n2 to best2 turn
+  step_leads to best2 GoesOn there never x = (goes_from to best2 x.0, x.2, unit_stepped d q at place there v0 v1 v2 moves x.1)
+  step_leads to best2 Ends there never x = (
+    goes_from to best2 x.0,
+    λ s held. ⊎_elim
+        (λ (y : stops_behind (reader d) false q.haystack at s 0 ≡ true). absurd (true≢false (sym y)))
+        (λ (y : is_dead (state_behind (reader d) q.haystack at s 1) ≡ true). y)
+        (x.2 s (held_moved v0 v1 id s moved held)),
+    unit_stepped d q at place there v0 v1 v2 moves x.1,
+  )
+  step_leads to best2 Quits there never x = absurd (never refl)
+
+  -- where it is refused
+  module _ (v3 : CacheValue) (there : place ≡ gave_up_at rev q at) (is : u ≡ unit_at rev q.haystack at) where
+    fails_forth : IsMoved v2 v3 → FailsOn d q.haystack from v2 m2 n2 0 → FailsOn d q.haystack from v3 m2 n2 0
+    fails_forth e f = record { leaves = leaves_forth d q.haystack from v2 v3 m2 n2 0 e f.leaves; unknown = f.unknown }
+
+    -- what is told where the refused unit is the last one, or isn't
+    abbrev Tells : CacheValue → Type 0
+    Tells v = TellsUnit d (at == last_place rev q) q at v0 v
+
+    before_told : (e : CacheError) → IsTurn d false q.haystack u before v2 m2 n2 (Err e) → TellsUnit d false q at v0 v2
+    before_told NoMemory turn = unit_stepped d q at place there v0 v1 v2 moves turn.2
+    before_told GaveUp turn = inl (
+      ap told_of (turn.3 ∙ moves) ∙ ap (λ (x : ℕ). told_at x (told_of v0)) there,
+      ap (λ (v : CacheValue). v.clears) (turn.3 ∙ moves),
+    )
+
+    refused_before : (e : CacheError) → IsTurn d false q.haystack u before v2 m2 n2 (Err e) → Tells v2 →
+        Refuses d q from v2 m2 n2 (error_of place e)
+    refused_before NoMemory turn tells = (fails_back d v0 v1 moved q.haystack m1 n1 at id best v2 m2 n2 0 turn.0, tells)
+    refused_before GaveUp turn tells = (
+      fails_back d v0 v1 moved q.haystack m1 n1 at id best v2 m2 n2 0 turn.0,
+      ap (is_quit d.quits) (sym is) ∙ turn.1,
+      there,
+      λ s held. turn.2 s (held_moved v0 v1 id s moved held),
+      λ far. ap (λ (v : CacheValue). running_at v.progress) turn.3 ∙ runs_there v0 v1 place moves runs,
+      tells,
+    )
+
+    refused_last : (e : CacheError) → at ≡ last_place rev q → v3 ≡ finished place v2 → IsTurn d false q.haystack u before v2 m2 n2 (Err e) →
+        Tells v3 → Refuses d q from v3 m2 n2 (error_of place e)
+    refused_last NoMemory last f turn tells = (
+      fails_forth (finished_moves v2 v3 place f) (fails_back d v0 v1 moved q.haystack m1 n1 at id best v2 m2 n2 0 turn.0),
+      tells,
+    )
+    refused_last GaveUp last f turn tells =
+        let at_place : moved_to place v2.progress ≡ v2.progress =
+        ap (λ (c : CacheValue). moved_to place c.progress) (turn.3 ∙ moves)
+        ∙ (moved_twice place v0.progress ∙ sym (ap (λ (c : CacheValue). c.progress) (turn.3 ∙ moves))) in (
+          fails_forth (finished_moves v2 v3 place f) (fails_back d v0 v1 moved q.haystack m1 n1 at id best v2 m2 n2 0 turn.0),
+          ap (is_quit d.quits) (sym is) ∙ turn.1,
+          there,
+          λ s held. ap (λ (c : CacheValue). lacks_room d c (state_behind (reader d) q.haystack at s 1)) f
+              ∙ (still_lacks d v2 place (state_behind (reader d) q.haystack at s 1) at_place ∙ turn.2 s (held_moved v0 v1 id s moved held)),
+          λ far. absurd (far last),
+          tells,
+        )
+
+    wanted_is : {wanted : Bool} → wanted ≡ (at == last_place is_reverse q) → wanted ≡ (at == last_place rev q)
+    wanted_is w = w ∙ ap (λ (b : Bool). at == last_place b q) same
+
+    pub step_refused : (e : CacheError) (err : MatchErrorKind) (wanted : Bool) → wanted ≡ (at == last_place is_reverse q) →
+        v3 ≡ finished_where wanted place v2 → err ≡ error_of place e →
+        IsTurn d false q.haystack u before v2 m2 n2 (Err e) → Refuses d q from v3 m2 n2 err
+    step_refused e err true w f told turn = subst (λ (x : MatchErrorKind). Refuses d q from v3 m2 n2 x) (sym told)
+        (refused_last e (eqb-true at (last_place is_reverse q) (sym w) ∙ ap (λ (b : Bool). last_place b q) same) f turn
+        (subst (λ (b : Bool). TellsUnit d b q at v0 v3) (wanted_is w)
+        (unit_finished d q at place there v0 v2 v3 f (before_told e turn))))
+    step_refused e err false w f told turn = subst (λ (x : MatchErrorKind). Refuses d q from v3 m2 n2 x) (sym told)
+        (subst (λ (c : CacheValue). Refuses d q from c m2 n2 (error_of place e)) (sym f) (refused_before e turn
+        (subst (λ (b : Bool). TellsUnit d b q at v0 v2) (wanted_is w) (before_told e turn))))
+
+  -- by a quit byte
+  pub step_quits : (to : ℕ) (best2 : Option (ℕ × ℕ)) (turn : Turn) (v3 : CacheValue) (b index : ℕ) (err : MatchErrorKind) → place ≡ gave_up_at rev q at →
+      v3 ≡ finished place v2 →
+      u ≡ unit_at rev q.haystack at → u ≡ Some b →
+      index ≡ index_at is_reverse at → err ≡ Quit b index → turn ≡ Quits → IsSeen d false q.haystack u before v2 m2 n2 to best2 turn →
+      Refuses d q from v3 m2 n2 err
+  step_quits to best2 turn v3 b index err there ends is some here told e seen =
+      let x = subst (λ (t : Turn). IsSeen d false q.haystack u before v2 m2 n2 to best2 t) e seen in
+      let byte : x.2.0 ≡ b = one_byte x.2.0 b (sym x.2.1 ∙ some) in
+      subst (λ (o : MatchErrorKind). Refuses d q from v3 m2 n2 o) (sym told) (
+        leaves_forth d q.haystack from v2 v3 m2 n2 0 (finished_moves v2 v3 place ends) (leaves_back d v0 v1 moved q.haystack m1 n1 at id best v2 m2 n2 0 x.0),
+        sym is ∙ some,
+        ap (has d.quits) (sym byte) ∙ x.2.2,
+        here ∙ ap (λ (b : Bool). index_at b at) same,
+        unit_finished d q at place there v0 v2 v3 ends (unit_stepped d q at place there v0 v1 v2 moves x.3),
+      )
+    where
+      one_byte : (a b : ℕ) → Some a ≡ Some b → a ≡ b
+      one_byte a b e = cc
+
+-- ---- a unit
+
+module _ (d : Dfa) (q : Search) (is_reverse : Bool) (same : is_reverse ≡ d.nfa.automaton.reverse) (p : Point) (v : CacheValue) (m n : ℕ)
+    (id : ℕ) (turn : Turn) (tells last : Bool)
+    (mine : IsShaped v) (listed : tells ≡ (has_tag match_tag id && counts (reader d).between_characters q.haystack p.at))
+    (is_last : last ≡ (p.at == last_place is_reverse q)) where
+  abbrev Step : Option (ℕ × ℕ) → Type 0
+  Step best = IsStepTo d q p v m n id best turn
+
+  goes_of : (best : Option (ℕ × ℕ)) (t : Turn) → IsStepTo d q p v m n id best t → GoesOne d q.haystack p v m n id best
+  goes_of best GoesOn x = x.0
+  goes_of best Ends x = x.0
+  goes_of best Quits x = absurd x
+
+  tells_there : (best : Option (ℕ × ℕ)) → Step best → (s : StateValue) → HeldAt p.cache p.id s →
+      tells ≡ tells_end (reader d) q.haystack p.at (state_behind (reader d) q.haystack p.at s 1)
+  tells_there best x s held = tag_tells d q.haystack v id p.at tells (state_behind (reader d) q.haystack p.at s 1) mine listed
+      ((goes_of best turn x).names s (names_held held))
+
+  -- the call is over
+  pub unit_ends : (w : CacheValue) (place : ℕ) (position : Position) → position.id ≡ id → position.at ≡ p.at →
+      is_over turn tells last ≡ true → place ≡ gave_up_at is_reverse q p.at → w ≡ finished place v →
+      Step (pair_of position.best) → StopsWith d q p w m n position tells
+  unit_ends w place position is at over there ended x = record {
+    behind = v;
+    goes = subst (λ (i : ℕ). GoesOne d q.haystack p v m n i (pair_of position.best)) (sym is) (goes_of (pair_of position.best) turn x);
+    place = at;
+    ended = ended ∙ ap (λ (i : ℕ). finished i v) (there ∙ ap (λ (b : Bool). gave_up_at b q p.at) same);
+    listed = tells_there (pair_of position.best) x;
+    why = λ none s held. by turn x over none s held;
+    told = unit_finished d q p.at place (there ∙ ap (λ (b : Bool). gave_up_at b q p.at) same) p.cache v w ended (told_of_it turn x);
+  }
+    where
+      at_last : (a b : Bool) → a ≡ false → (a || b) ≡ true → b ≡ true
+      at_last false b e f = f
+      at_last true b e f = absurd (true≢false e)
+
+      by : (t : Turn) → IsStepTo d q p v m n id (pair_of position.best) t → is_over t tells last ≡ true → tells ≡ false → (s : StateValue) →
+          HeldAt p.cache p.id s →
+          (is_dead (state_behind (reader d) q.haystack p.at s 1) ≡ true) ⊎ (p.at ≡ last_place d.nfa.automaton.reverse q)
+      by GoesOn x over none s held = inr (eqb-true p.at (last_place is_reverse q) (sym is_last ∙ at_last tells last none over)
+          ∙ ap (λ (b : Bool). last_place b q) same)
+      by Ends x over none s held = inl (x.1 s held)
+      by Quits x over none s held = absurd x
+
+      told_of_it : (t : Turn) → IsStepTo d q p v m n id (pair_of position.best) t → TellsUnit d false q p.at p.cache v
+      told_of_it GoesOn x = x.2
+      told_of_it Ends x = x.2
+      told_of_it Quits x = absurd x
+
+  not_last : is_over turn tells last ≡ false → p.at ≢ last_place is_reverse q
+  not_last over e = by turn over (is_last ∙ eq-eqb p.at (last_place is_reverse q) e)
+    where
+      never : (a : Bool) → (a || true) ≡ false → ⊥
+      never true e = true≢false e
+      never false e = true≢false e
+
+      by : (t : Turn) → is_over t tells last ≡ false → last ≡ true → ⊥
+      by GoesOn f g = never tells (sym (ap (λ (b : Bool). tells || b) g) ∙ f)
+      by Ends f g = true≢false f
+      by Quits f g = true≢false f
+
+  -- it goes on
+  pub unit_goes : (position : Position) → position.id ≡ id → position.at ≡ place_of is_reverse p.at 1 → is_over turn tells last ≡ false →
+      Step (pair_of position.best) → ReadsInto d q p v m n position tells false
+  unit_goes position is at over x = (
+    subst (λ (i : ℕ). GoesOne d q.haystack p v m n i (pair_of position.best)) (sym is) (goes_of (pair_of position.best) turn x),
+    at ∙ ap (λ (b : Bool). place_of b p.at 1) same,
+    (λ e. not_last over (e ∙ ap (λ (b : Bool). last_place b q) (sym same))),
+    subst (IsRow v) (sym is) (row_of turn x over),
+    λ s held. sym (tells_there (pair_of position.best) x s held) ∙ none turn over,
+    told_on turn x over,
+  )
+    where
+      told_on : (t : Turn) → IsStepTo d q p v m n id (pair_of position.best) t → is_over t tells last ≡ false →
+          TellsUnit d false q p.at p.cache v
+      told_on GoesOn x over = x.2
+      told_on Ends x over = absurd (true≢false over)
+      told_on Quits x over = absurd x
+
+      row_of : (t : Turn) → IsStepTo d q p v m n id (pair_of position.best) t → is_over t tells last ≡ false → IsRow v id
+      row_of GoesOn x over = x.1
+      row_of Ends x over = absurd (true≢false over)
+      row_of Quits x over = absurd x
+
+      first_no : (a b : Bool) → (a || b) ≡ false → a ≡ false
+      first_no false b e = refl
+      first_no true b e = e
+
+      none : (t : Turn) → is_over t tells last ≡ false → tells ≡ false
+      none GoesOn f = first_no tells last f
+      none Ends f = absurd (true≢false f)
+      none Quits f = absurd (true≢false f)
+
+-- ---- where a walk stopped
+
+-- the state where a walk stopped lists an end at its index
+pub lists_there : (d : Dfa) (v : CacheValue) (q : Search) (stop : Stop) → IsShaped v → StopsAt d v q stop →
+    lists_more (reader d) q stop ≡ true →
+    (s : StateValue) → HeldAt v stop.id s → stop.index < length s.matches
+lists_there d v q stop i x more s held =
+    let same : s ≡ value_past (reader d) q stop.at = sym (one_state v stop.id x.held.0 s i x.held.1 x.held.2 held) ∙ sym x.held.3 in
+    subst (λ (t : StateValue). stop.index < length t.matches) (sym same)
+    (below stop.index (length (value_past (reader d) q stop.at).matches)
+    (and_parts (counts (reader d).between_characters q.haystack stop.at)
+    (nat_lt stop.index (length (value_past (reader d) q stop.at).matches)) more).1)
+  where
+    below : (a b : ℕ) → nat_lt a b ≡ true → a < b
+    below a b e = ⊎_elim (λ (l : a < b). l) (λ (l : b ≤ a). absurd (true≢false (sym e ∙ le-ltb a b l))) (cases_lt a b)

@@ -1,0 +1,131 @@
+-- What the calls of a walk over a whole span tell, one after the other, and that the ID at which a walk stopped doesn't show in what
+-- it tells.
+use Rattle.std.proofs.Common.{◌≡◌, ℕ, suc, ◌+◌, ◌<◌, ◌≤◌, ◌&&◌, Bool, true, false, true≢false, List, None, refl, sym, ap}
+use Rattle.std.proofs.Common.{◌∙◌, inl, inr, subst, if◌then◌else◌}
+use Rattle.std.specs.Prelude.{Result, Ok, Err, min, ⊤}
+use Rattle.std.proofs.lemmas.Bool.{lt-leb}
+use Rattle.search_types.specs.declared.match_error.MatchErrorKind.{MatchErrorKind}
+use Rattle.search_types.specs.Inputs.{Search}
+use Rattle.search_types.specs.Modes.{is_supported}
+use Rattle.lazy_dfa.specs.Caches.{CacheValue, greatest, progress_len}
+use Rattle.lazy_dfa.specs.declared.overlapping_state.Stop.{Stop}
+use Rattle.lazy_dfa.specs.declared.overlapping_state.Walk.{Walk}
+use Rattle.lazy_dfa.specs.declared.overlapping_state.Walk.TheVariants.{Fresh, Ended, Failed, Stopped}
+use Rattle.lazy_dfa.specs.Dfas.{Dfa, reader}
+use Rattle.lazy_dfa.specs.Linked.{HasCleared, GrowsOrClears}
+use Rattle.lazy_dfa.specs.Readers.{Reader}
+use Rattle.lazy_dfa.specs.PassPlaces.{left_at}
+use Rattle.lazy_dfa.specs.SearchAnswers.{told_of, Told, pass_distance}
+use Rattle.lazy_dfa.specs.Walks.{Rest, whole_rest}
+use Rattle.lazy_dfa.specs.WalkAnswers.{without_id, walk_behind, walk_after, told_by_call, GivesUpOn, at_start, at_unit}
+use Rattle.lazy_dfa.specs.WalkAnswers.{LeavesCall, left_failed, left_at_start, left_at_unit, TellsCallAnew, anew_at_start, anew_at}
+use Rattle.lazy_dfa.specs.WalkAnswers.{FailsCallAnew, fails_behind_start, fails_behind, IsCallTold, told_last, told_before}
+use Rattle.lazy_dfa.specs.WalkAnswers.{left_last, left_before, IsToldAfter, IsLeftAfter, call_place, call_units, calls_for}
+use Rattle.lazy_dfa.proofs.CacheChanges.LinkedLemmas.{cleared_grows}
+use Rattle.lazy_dfa.proofs.OverlappingWalks.RestLemmas.{rest_done}
+
+-- ---- without the ID
+
+not_fresh : {P : Type 0} (stop : Stop) → Stopped stop ≡ Fresh → P
+not_fresh stop e = let never : true ≡ false = cc in absurd (true≢false never)
+
+not_failed : {P : Type 0} (stop : Stop) (e : MatchErrorKind) → Stopped stop ≡ Failed e → P
+not_failed stop e is = let never : true ≡ false = cc in absurd (true≢false never)
+
+pub same_behind : (r : Reader) (q : Search) (w : Walk) → walk_behind r q w ≡ walk_behind r q (without_id w)
+same_behind r q Fresh = refl
+same_behind r q Ended = refl
+same_behind r q (Failed e) = refl
+same_behind r q (Stopped stop) = refl
+
+module _ (d : Dfa) (v : CacheValue) (q : Search) (x : ℕ) where
+  stopped_gives_up : (stop : Stop) → GivesUpOn d v q (Stopped stop) x → GivesUpOn d v q (without_id (Stopped stop)) x
+  stopped_gives_up stop (at_start fresh place lacks free) = not_fresh stop fresh
+  stopped_gives_up stop (at_unit k less place lacks runs free quits) = at_unit k less place lacks runs (λ f. not_fresh _ f) quits
+
+  pub same_give_up : (w : Walk) → GivesUpOn d v q w x → GivesUpOn d v q (without_id w) x
+  same_give_up Fresh g = g
+  same_give_up Ended g = g
+  same_give_up (Failed e) g = g
+  same_give_up (Stopped stop) g = stopped_gives_up stop g
+
+module _ (r : Reader) (q : Search) (stop : Stop) where
+  abbrev bare : Walk
+  bare = without_id (Stopped stop)
+
+  stopped_leaves : (e : MatchErrorKind) (t new : Told) → LeavesCall r q (Stopped stop) e t new → LeavesCall r q bare e t new
+  stopped_leaves e t new (left_failed is same) = not_failed stop e is
+  stopped_leaves e t new (left_at_start fresh refused same) = not_fresh stop fresh
+  stopped_leaves e t new (left_at_unit k less there quiet is) = left_at_unit k less there quiet is
+
+  stopped_anew : (new : Told) → TellsCallAnew r q (Stopped stop) new → TellsCallAnew r q bare new
+  stopped_anew new (anew_at_start fresh s is told) = not_fresh stop fresh
+  stopped_anew new (anew_at m less is) = anew_at m less is
+
+  stopped_fails : (e : MatchErrorKind) (new : Told) → FailsCallAnew r q (Stopped stop) e new → FailsCallAnew r q bare e new
+  stopped_fails e new (fails_behind_start fresh s is left) = not_fresh stop fresh
+  stopped_fails e new (fails_behind m k le less there quiet is) = fails_behind m k le less there quiet is
+
+module _ (r : Reader) (q : Search) (old new : CacheValue) where
+  stopped_told : (stop : Stop) (result : Result ⊤ MatchErrorKind) → IsCallTold r q (Stopped stop) result old new →
+      IsCallTold r q (without_id (Stopped stop)) result old new
+  stopped_told stop (Ok u) (inl same) = inl same
+  stopped_told stop (Ok u) (inr anew) = inr (anew.0, stopped_anew r q stop (told_of new) anew.1)
+  stopped_told stop (Err e) (inl same) = inl (stopped_leaves r q stop e (told_of old) (told_of new) same.0, same.1)
+  stopped_told stop (Err e) (inr anew) = inr (anew.0, stopped_fails r q stop e (told_of new) anew.1)
+
+  same_told : (w : Walk) (result : Result ⊤ MatchErrorKind) → IsCallTold r q w result old new → IsCallTold r q (without_id w) result old new
+  same_told Fresh result t = t
+  same_told Ended result t = t
+  same_told (Failed e) result t = t
+  same_told (Stopped stop) result t = stopped_told stop result t
+
+-- ---- call by call
+
+module _ (d : Dfa) (q : Search) (old now next : CacheValue) (w : Walk) (k : ℕ) (kept : GrowsOrClears d now next)
+    (behind : without_id w ≡ walk_after (reader d) q k) (so_far : IsToldAfter (reader d) q k old now) where
+  abbrev r : Reader
+  r = reader d
+
+  abbrev there : Walk
+  there = walk_after r q k
+
+  cleared_next : HasCleared now next → now.clears ≡ old.clears → HasCleared old next
+  cleared_next cleared same = subst (λ (n : ℕ). min (n + 1) greatest ≤ next.clears) same cleared
+
+  pub told_next : IsCallTold r q w (Ok tt) now next → IsToldAfter r q (suc k) old next
+  told_next call = by so_far (subst (λ (x : Walk). IsCallTold r q x (Ok tt) now next) behind (same_told r q now next w (Ok tt) call))
+    where
+      by : IsToldAfter r q k old now → IsCallTold r q there (Ok tt) now next → IsToldAfter r q (suc k) old next
+      by (inl s) (inl c) = inl (c.0 ∙ ap (told_by_call r q there) s.0, c.1 ∙ s.1)
+      by (inl s) (inr c) = inr (cleared_next c.0 s.1, told_last k (told_of next) c.1)
+      by (inr s) (inl c) = inr (cleared_grows d old now next s.0 kept, told_before k (told_of now) (told_of next) s.1 c.0)
+      by (inr s) (inr c) = inr (cleared_grows d old now next s.0 kept, told_last k (told_of next) c.1)
+
+  pub left_next : (e : MatchErrorKind) → IsCallTold r q w (Err e) now next → IsLeftAfter r q e k old next
+  left_next e call = by so_far (subst (λ (x : Walk). IsCallTold r q x (Err e) now next) behind (same_told r q now next w (Err e) call))
+    where
+      by : IsToldAfter r q k old now → IsCallTold r q there (Err e) now next → IsLeftAfter r q e k old next
+      by (inl s) (inl c) = inl (subst (λ (t : Told). LeavesCall r q there e t (told_of next)) s.0 c.0, c.1 ∙ s.1)
+      by (inl s) (inr c) = inr (cleared_next c.0 s.1, left_last c.1)
+      by (inr s) (inl c) = inr (cleared_grows d old now next s.0 kept, left_before (told_of now) s.1 c.0)
+      by (inr s) (inr c) = inr (cleared_grows d old now next s.0 kept, left_last c.1)
+
+-- a done span has no call that reads
+module _ (r : Reader) (q : Search) (set : List Bool) (v : CacheValue) (past : q.end < q.start) where
+  abbrev read : Told
+  read = record {
+    searched = min (v.searched + progress_len v.progress +
+        pass_distance r.automaton.reverse (left_at r.automaton.reverse q (call_place r q Fresh)) (call_units r q Fresh)) greatest;
+    progress = None;
+  }
+
+  nothing : told_by_call r q Fresh (told_of v) ≡ told_of v
+  nothing = ap (λ (b : Bool). if b && is_supported r.starts_for_each_pattern q.anchored then read else told_of v)
+      (lt-leb q.start q.end past)
+
+  pub done_told : IsToldAfter r q (calls_for q.earliest set (whole_rest r q).ends) v v
+  done_told = subst (λ (x : Rest). IsToldAfter r q (calls_for q.earliest set x.ends) v v) (sym (rest_done r q past)) (inl (sym nothing, refl))
+
+pub none_told : (r : Reader) (q : Search) (v : CacheValue) → IsToldAfter r q 0 v v
+none_told r q v = inl (refl, refl)

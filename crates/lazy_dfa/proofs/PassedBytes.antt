@@ -1,0 +1,5 @@
+-- Bytes over which searches pass.
+
+pub mod ByteTestLemmas
+pub mod HalfTableLemmas
+pub mod SkipLemmas
