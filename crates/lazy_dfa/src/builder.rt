@@ -6,7 +6,7 @@ ghost use Rattle.lazy_dfa.specs.ConfigValue.{no_options, changed_by};
 
 use crate::build_error::BuildError;
 use crate::dfa::{Config, DFA};
-use crate::measures::Measures;
+use crate::measures::{Measures, START_KINDS};
 use crate::quits::{is_unsupported, quit_bytes};
 use determinize_core::StartByteMap;
 use nfa_core::NFA;
@@ -183,9 +183,9 @@ fn measures_of(nfa: &NFA, classes: &ByteClasses, config: &Config) -> Measures
 {
     let patterns = nfa.pattern_len();
     let starts = if config.get_starts_for_each_pattern() {
-        14 + 7 * patterns
+        2 * START_KINDS + START_KINDS * patterns
     } else {
-        14
+        2 * START_KINDS
     };
     Measures {
         states: nfa.states().len(),

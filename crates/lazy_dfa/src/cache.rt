@@ -3,7 +3,7 @@ ghost use Rattle.determinize_core.specs.States.{IsState};
 ghost use Rattle.lazy_dfa.specs.Caches.{IsShaped, HeldAt, IsRow, is_refused, fits, state_at, id_at, place_of, usage};
 ghost use Rattle.lazy_dfa.specs.Ids.{tag};
 
-use crate::lazy_id::{LazyStateID, MATCH};
+use crate::lazy_id::{LazyStateID, MATCH, SENTINELS};
 use crate::progress::Progress;
 use crate::skip::Skip;
 use determinize_core::state_laws::bytes_stand_for_states;
@@ -100,7 +100,7 @@ impl Cache {
         ensures id { id ≡ id_at self.now result }
     {
         let stride = self.stride();
-        (id.bits() % MATCH) as usize / stride - 3
+        (id.bits() % MATCH) as usize / stride - SENTINELS
     }
 
     /// Whether the ID is that of a row from 3 on.
@@ -109,10 +109,10 @@ impl Cache {
     {
         let stride = self.stride();
         let row = (id.bits() % MATCH) as usize / stride;
-        if row < 3 {
+        if row < SENTINELS {
             return false;
         }
-        let k = row - 3;
+        let k = row - SENTINELS;
         if k >= self.states.len() {
             return false;
         }
@@ -202,6 +202,6 @@ impl Cache {
         let Some(bytes) = least_bytes else {
             return true;
         };
-        self.search_total_len() < bytes.saturating_mul(self.states.len() + 3)
+        self.search_total_len() < bytes.saturating_mul(self.states.len() + SENTINELS)
     }
 }

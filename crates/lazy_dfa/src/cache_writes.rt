@@ -10,7 +10,7 @@ ghost use Rattle.lazy_dfa.specs.Caches.{state_at, id_at, place_of, usage, with_s
 ghost use Rattle.lazy_dfa.specs.Ids.{tag, has_tag, start_tag};
 
 use crate::cache::Cache;
-use crate::lazy_id::{LazyStateID, MATCH, id_of};
+use crate::lazy_id::{LazyStateID, MATCH, SENTINELS, id_of};
 use crate::progress::begun_anew;
 use crate::skip::Skip;
 use crate::work::Work;
@@ -148,7 +148,7 @@ impl Cache {
         self.rows.clear();
         self.states.clear();
         self.ids.clear();
-        self.cells.truncate(3 * self.stride);
+        self.cells.truncate(SENTINELS * self.stride);
         self.starts.fill(LazyStateID::unknown());
         self.used = self.fresh;
         self.clears = self.clears.saturating_add(1);
@@ -238,6 +238,6 @@ fn sentinel_rows(alloc: Global, stride: usize) -> Result<Vec<LazyStateID>, Alloc
 {
     let mut rows = vec![in alloc; LazyStateID::unknown(); stride]?;
     rows.resize(2 * stride, LazyStateID::dead(stride))?;
-    rows.resize(3 * stride, LazyStateID::quit(stride))?;
+    rows.resize(SENTINELS * stride, LazyStateID::quit(stride))?;
     Ok(rows)
 }

@@ -27,6 +27,10 @@ pub(crate) const START: u32 = 0x1000_0000;
 
 pub(crate) const MATCH: u32 = 0x800_0000;
 
+/// How many sentinels there are: of a step that isn't known, of the dead state, and of a quit byte. The first rows of a table are
+/// theirs.
+pub(crate) const SENTINELS: usize = 3;
+
 impl LazyStateID {
     /// Whether it has a tag: it is a sentinel's, or that of a state that matches or in which searches start.
     #[inline(always)]

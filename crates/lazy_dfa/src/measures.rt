@@ -1,7 +1,11 @@
 ghost use Rattle.std.specs.Prelude.{◌≡◌, ◌+◌, ◌*◌, ◌<◌, ◌≤◌};
 ghost use Rattle.lazy_dfa.specs.Accounting.{longest_state, fresh_usage, least_capacity, effective_capacity};
 
+use crate::lazy_id::SENTINELS;
 use std::marker::Model;
+
+/// How many kinds of starts there are: what stands before the place where a search starts, as far as looks ask for it.
+pub(crate) const START_KINDS: usize = 7;
 
 /// By what the bytes of a cache are told, apart from the states that it holds.
 #[derive(Clone, Copy)]
@@ -47,7 +51,7 @@ impl Measures {
         20 * self.states
             + self.longest_state()
             + 4 * self.starts
-            + 3 * (4 * self.stride + 16)
+            + SENTINELS * (4 * self.stride + 16)
             + 20
             + 27
     }

@@ -11,6 +11,7 @@ ghost use Rattle.lazy_dfa.specs.declared.cache_error.CacheError.TheVariants.{Gav
 use crate::cache_error::CacheError;
 use crate::dfa::{Cache, DFA};
 use crate::lazy_id::LazyStateID;
+use crate::measures::START_KINDS;
 use crate::stepping::{fits, is_dead_state, refuses_clear};
 use crate::work::Work;
 use determinize_core::{Start, State};
@@ -135,7 +136,7 @@ pub(crate) fn start_in_mode<L: Ledger, M: Ledger>(
     ensures inserted { work.new.inserted ≤ work.old.inserted + most_inserts dfa.now }
 {
     dfa.is_made();
-    let i = mode * 7 + start.as_usize();
+    let i = mode * START_KINDS + start.as_usize();
     let known = cache.start(i);
     if !known.is_not_known() {
         return Ok(known);

@@ -4,11 +4,11 @@ use Rattle.lazy_dfa.specs.Caches.{CacheValue}
 use Rattle.lazy_dfa.proofs.CacheChanges.ChangeLemmas.{no_low_row, no_high_row, only_row}
 use Rattle.lazy_dfa.proofs.cache.Cache.has_row.Goals as goal
 
-pub returns-then-row-lt3 : goal.returns-then-row-lt3
-returns-then-row-lt3 c = (
+pub returns-then-row-lt-SENTINELS : goal.returns-then-row-lt-SENTINELS
+returns-then-row-lt-SENTINELS c = (
   λ e. absurd (true≢false (sym e)),
   λ x. absurd (no_low_row c.args.self.now c.args.id c.bits.result c.stride-stride.result c.stride-stride.ensures.shape c.bits.ensures
-      c.stride-stride.ensures.stride c.if-row-lt3.true x),
+      c.stride-stride.ensures.stride c.if-row-lt-SENTINELS.true x),
 )
 
 pub returns-then-k-len : goal.returns-then-k-len
