@@ -18,5 +18,5 @@ pub mod ReadingLemmas
 pub mod FoundLemmas
 pub mod CountLemmas
 pub mod CountedLemmas
-mod ScanRows
+pub mod ScanRows
 pub mod HasReachLemmas
