@@ -12,7 +12,7 @@ use Rattle.nfa_core.specs.Places.{first}
 use Rattle.determinize_core.specs.States.{StateValue}
 use Rattle.determinize_core.specs.Steps.{unit_at, unit_behind}
 use Rattle.determinize_core.specs.Walked.{end_at}
-use Rattle.lazy_dfa.specs.Passes.{index_at, index_behind, is_empty, is_dead, unless_quit, if_supported, recorded, next_value, next_place}
+use Rattle.lazy_dfa.specs.Passes.{index_at, index_behind, is_empty, is_dead, unless_quit, if_supported, best_recorded, next_value, next_place}
 use Rattle.lazy_dfa.specs.Passes.{first_value, pass_from, pass}
 use Rattle.lazy_dfa.specs.Readers.{Reader, HalfAnswer, found, quit}
 use Rattle.lazy_dfa.specs.Scans.{scan}
@@ -49,14 +49,14 @@ mode_turn false mode x y on e = e
 
 module _ (r : Reader) (h : List ℕ) where
   state_turn : (i : ℕ) (w : StateValue) (best : Option (ℕ × ℕ)) (x y : HalfAnswer) → (x ≡ found None → y ≡ found None) →
-      (if true && not (is_empty w.matches) then found (recorded i w best) else x) ≡ found None →
-      (if false && not (is_empty w.matches) then found (recorded i w best) else y) ≡ found None
+      (if true && not (is_empty w.matches) then found (best_recorded i w best) else x) ≡ found None →
+      (if false && not (is_empty w.matches) then found (best_recorded i w best) else y) ≡ found None
   state_turn i w best x y on e = listed_turn w.matches i best x y on e
 
   abbrev turn : Bool → ℕ → ℕ → StateValue → Option (ℕ × ℕ) → HalfAnswer
   turn earliest n i w best =
-      if earliest && not (is_empty w.matches) then found (recorded i w best) else pass_from r earliest h n (next_place r i) w
-      (recorded i w best)
+      if earliest && not (is_empty w.matches) then found (best_recorded i w best) else pass_from r earliest h n (next_place r i) w
+      (best_recorded i w best)
 
   none_from : (n i : ℕ) (v : StateValue) (best : Option (ℕ × ℕ)) → pass_from r true h n i v best ≡ found None →
       pass_from r false h n i v best ≡ found None
@@ -70,9 +70,9 @@ module _ (r : Reader) (h : List ℕ) where
       (λ f. unit_turn r.quits (unit_at r.automaton.reverse h i) (index_at r.automaton.reverse i)
       (turn true n i (next_value r h i v) best) (turn false n i (next_value r h i v) best)
       (λ g. state_turn i (next_value r h i v) best
-      (pass_from r true h n (next_place r i) (next_value r h i v) (recorded i (next_value r h i v) best))
-      (pass_from r false h n (next_place r i) (next_value r h i v) (recorded i (next_value r h i v) best))
-      (λ k. none_from n (next_place r i) (next_value r h i v) (recorded i (next_value r h i v) best) k) g) f) e
+      (pass_from r true h n (next_place r i) (next_value r h i v) (best_recorded i (next_value r h i v) best))
+      (pass_from r false h n (next_place r i) (next_value r h i v) (best_recorded i (next_value r h i v) best))
+      (λ k. none_from n (next_place r i) (next_value r h i v) (best_recorded i (next_value r h i v) best) k) g) f) e
 
   pass_none : (mode : Anchored) (n i : ℕ) → pass r mode true h n i ≡ found None → pass r mode false h n i ≡ found None
   pass_none mode n i e =

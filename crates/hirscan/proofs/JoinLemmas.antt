@@ -27,7 +27,7 @@ use Rattle.thompson_nfa.specs.Compilations.{is_anchored_tree}
 use Rattle.lazy_dfa.specs.Dfas.{reader}
 use Rattle.lazy_dfa.specs.Readers.{Reader, HalfAnswer, found, quit, unsupported}
 use Rattle.lazy_dfa.specs.Scans.{scan}
-use Rattle.regex_pair.specs.Joined.{is_start_known, back_from, from_start, with_start, join, joined}
+use Rattle.regex_pair.specs.Joined.{is_start_known, back_from, from_start, with_start, answer_by_end, joined}
 use Rattle.regex_pair.specs.Pairs.{Pair}
 use Rattle.hirscan.specs.Choices.{Query}
 use Rattle.hirscan.specs.Regexes.{IsRegexOf, IsSearchOf, query_of}
@@ -136,15 +136,15 @@ module _ (xs : List Tree) (utf8 : Bool) (t : Terminator) (p : Pair) (regex : IsR
       choose true e = ap answer (sym (known e))
       choose false e = back_joined e
 
-      some_joined : join f r q (found (Some c)) ≡ answer b.place
+      some_joined : answer_by_end f r q (found (Some c)) ≡ answer b.place
       some_joined = choose (is_start_known f q c.0) refl
 
-    by_end : (o : Option (ℕ × ℕ)) → scan f q ≡ found o → (e : Ends o) → join f r q (found o) ≡ Ok (found_by asks Nothing Best q.start o e)
+    by_end : (o : Option (ℕ × ℕ)) → scan f q ≡ found o → (e : Ends o) → answer_by_end f r q (found o) ≡ Ok (found_by asks Nothing Best q.start o e)
     by_end None is e = refl
     by_end (Some c) is e = some_joined c is e
 
     pub joined_is : (o : Option (ℕ × ℕ)) → scan f q ≡ found o → (e : Ends o) → joined p q ≡ Ok (found_by asks Nothing Best q.start o e)
-    joined_is o is e = ap (join f r q) is ∙ by_end o is e
+    joined_is o is e = ap (answer_by_end f r q) is ∙ by_end o is e
 
     -- what is answered has an end that was found
     pub record IsFoundEnd (o : Option Found) : Type 0 where
@@ -163,8 +163,8 @@ module _ (xs : List Tree) (utf8 : Bool) (t : Terminator) (p : Pair) (regex : IsR
           is = ok_same o (found_by asks Nothing Best q.start z ends)
               (sym e ∙ joined_is z is ends);
         }
-    answered (quit b x) is o e = let differ = sym (ap (join f r q) is) ∙ e in cc
-    answered (unsupported mode) is o e = let differ = sym (ap (join f r q) is) ∙ e in cc
+    answered (quit b x) is o e = let differ = sym (ap (answer_by_end f r q) is) ∙ e in cc
+    answered (unsupported mode) is o e = let differ = sym (ap (answer_by_end f r q) is) ∙ e in cc
 
     pub joined_answers : (o : Option Found) → joined p q ≡ Ok o → IsFoundEnd o
     joined_answers o e = answered (scan f q) refl o e
@@ -177,16 +177,16 @@ module _ (xs : List Tree) (utf8 : Bool) (t : Terminator) (p : Pair) (regex : IsR
 
     by_scan : (x : HalfAnswer) → scan f q ≡ x → joined p q ≡ Err NotAPair → ⊥
     by_scan (found z) is e = let there = joined_finds z is in let differ = sym there.1 ∙ e in cc
-    by_scan (quit b x) is e = let differ = sym (ap (join f r q) is) ∙ e in cc
-    by_scan (unsupported mode) is e = let differ = sym (ap (join f r q) is) ∙ e in cc
+    by_scan (quit b x) is e = let differ = sym (ap (answer_by_end f r q) is) ∙ e in cc
+    by_scan (unsupported mode) is e = let differ = sym (ap (answer_by_end f r q) is) ∙ e in cc
 
     pub is_a_pair : joined p q ≡ Err NotAPair → ⊥
     is_a_pair e = by_scan (scan f q) refl e
 
     quits_by_scan : (v : HalfAnswer) (b x : ℕ) → scan f q ≡ v → joined p q ≡ Err (Quit b x) → scan f q ≡ quit b x
     quits_by_scan (found z) b x is e = let there = joined_finds z is in let differ = sym there.1 ∙ e in cc
-    quits_by_scan (quit c y) b x is e = let same : Err (Quit c y) ≡ Err (Quit b x) = sym (ap (join f r q) is) ∙ e in cc
-    quits_by_scan (unsupported mode) b x is e = let differ = sym (ap (join f r q) is) ∙ e in cc
+    quits_by_scan (quit c y) b x is e = let same : Err (Quit c y) ≡ Err (Quit b x) = sym (ap (answer_by_end f r q) is) ∙ e in cc
+    quits_by_scan (unsupported mode) b x is e = let differ = sym (ap (answer_by_end f r q) is) ∙ e in cc
 
     pub quits_forward : (b x : ℕ) → joined p q ≡ Err (Quit b x) → scan f q ≡ quit b x
     quits_forward b x e = quits_by_scan (scan f q) b x refl e
@@ -194,9 +194,9 @@ module _ (xs : List Tree) (utf8 : Bool) (t : Terminator) (p : Pair) (regex : IsR
     refused_by_scan : (v : HalfAnswer) (mode : Anchored) → scan f q ≡ v → joined p q ≡ Err (UnsupportedAnchored mode) →
         scan f q ≡ unsupported mode
     refused_by_scan (found z) mode is e = let there = joined_finds z is in let differ = sym there.1 ∙ e in cc
-    refused_by_scan (quit c y) mode is e = let differ = sym (ap (join f r q) is) ∙ e in cc
+    refused_by_scan (quit c y) mode is e = let differ = sym (ap (answer_by_end f r q) is) ∙ e in cc
     refused_by_scan (unsupported other) mode is e = let same : Err (UnsupportedAnchored other) ≡ Err (UnsupportedAnchored mode) =
-        sym (ap (join f r q) is) ∙ e in cc
+        sym (ap (answer_by_end f r q) is) ∙ e in cc
 
     pub refused_forward : (mode : Anchored) → joined p q ≡ Err (UnsupportedAnchored mode) → scan f q ≡ unsupported mode
     refused_forward mode e = refused_by_scan (scan f q) mode refl e

@@ -19,7 +19,7 @@ use Rattle.lazy_dfa.proofs.ForCallers.{scan_mode_told}
 use Rattle.regex_pair.specs.declared.find_matches.FindMatches.{FindMatches}
 use Rattle.regex_pair.specs.Finding.{Finding, Finds, search_at}
 use Rattle.regex_pair.specs.FindSteps.{FindsNext, caches_of, finds_from}
-use Rattle.regex_pair.specs.Joined.{is_start_known, back_from, from_start, with_start, join, joined}
+use Rattle.regex_pair.specs.Joined.{is_start_known, back_from, from_start, with_start, answer_by_end, joined}
 use Rattle.regex_pair.specs.PairAnswers.{AnswersPair}
 use Rattle.regex_pair.specs.Pairs.{Pair, PairCache}
 use Rattle.regex_pair.proofs.ForCallers.{some_taken, asked_behind}
@@ -60,7 +60,7 @@ end_is_fine : (r : Reader) (q : Search) (e : ℕ × ℕ) (known : Bool) →
 end_is_fine r q e true = refl
 end_is_fine r q e false = start_is_fine e (scan r (back_from q e.0))
 
-join_is_fine : (f r : Reader) (q : Search) (a : HalfAnswer) → is_fine (join f r q a) ≡ true
+join_is_fine : (f r : Reader) (q : Search) (a : HalfAnswer) → is_fine (answer_by_end f r q a) ≡ true
 join_is_fine f r q (found (Some e)) = end_is_fine r q e (is_start_known f q e.0)
 join_is_fine f r q (found None) = refl
 join_is_fine f r q (quit b x) = refl

@@ -22,7 +22,7 @@ use Rattle.regex_pair.specs.Finding.{Finding, IsAskedAt, Finds, finds_next, find
 use Rattle.regex_pair.specs.FindSteps.{FindsNext, caches_of, finds_from, searches_by}
 use Rattle.regex_pair.specs.Joined.{back_from, joined}
 use Rattle.regex_pair.specs.Matching.{AnswersMatch, has_match, is_some_match, match_search, match_told}
-use Rattle.regex_pair.specs.PairAnswers.{AnswersPair, GivesUp, PairGivesUp, gives_up_forward, gives_up_back}
+use Rattle.regex_pair.specs.PairAnswers.{AnswersPair, HalfGivesUp, PairGivesUp, gives_up_forward, gives_up_back}
 use Rattle.regex_pair.specs.Pairs.{Pair, PairCache}
 use Rattle.regex_pair.specs.Taken.{AreTaken}
 use Rattle.hirscan.specs.declared.settings.Settings.{Settings}
@@ -117,7 +117,7 @@ module _ (xs : List Tree) (s : Settings) (p : Pair) (made : IsBuilt xs s p) wher
   reverse_clears : clears_of s.dfa ≡ None → clears_of p.reverse.options ≡ None
   reverse_clears none = ap (λ (d : Dfa). clears_of d.options) (reverse_is xs s p made) ∙ none
 
-  never_forward : clears_of s.dfa ≡ None → (c : PairCache) (q : Search) (x : ℕ) → GivesUp p.forward c.forward q x → ⊥
+  never_forward : clears_of s.dfa ≡ None → (c : PairCache) (q : Search) (x : ℕ) → HalfGivesUp p.forward c.forward q x → ⊥
   never_forward none c q x gave = never_among p.forward c.forward (forward_clears none) q x (passes_of (reader p.forward) q) gave
 
   pub never_gives_up : clears_of s.dfa ≡ None → (c : PairCache) (q : Search) (x : ℕ) → PairGivesUp p c q x → ⊥

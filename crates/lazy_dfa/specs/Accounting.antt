@@ -59,8 +59,8 @@ states_cost stride [] = 0
 states_cost stride (v ∷ vs) = state_cost stride (length (encoded v)) + states_cost stride vs
 
 -- of a cache that holds these states, apart from the sentinels
-abbrev pub usage : Measures → List StateValue → ℕ
-usage m held = fresh_usage m + states_cost m.stride held
+abbrev pub measured_usage : Measures → List StateValue → ℕ
+measured_usage m held = fresh_usage m + states_cost m.stride held
 
 -- the least capacity: room for two states, whatever they are
 abbrev pub least_capacity : Measures → ℕ

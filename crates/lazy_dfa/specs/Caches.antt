@@ -9,7 +9,7 @@ use Rattle.determinize_core.specs.StateBytes.{encoded, is_match}
 use Rattle.determinize_core.specs.Starts.{number_of}
 use Rattle.determinize_core.specs.declared.start.Start.{Start}
 use Rattle.lazy_dfa.specs.Accounting.{fresh_usage, states_cost}
-use Rattle.lazy_dfa.specs.ConfigValue.{clears_of, bytes_of}
+use Rattle.lazy_dfa.specs.ConfigValue.{clears_of, minimum_bytes_of}
 use Rattle.lazy_dfa.specs.Dfas.{Dfa, after, first_state, start_in, IsUnit, class_of, IsStateOf, cost, is_dead}
 use Rattle.lazy_dfa.specs.Ids.{tag, unknown_id, dead_id, quit_id, tagged}
 use Rattle.lazy_dfa.specs.Readers.{is_quit}
@@ -62,8 +62,8 @@ abbrev pub same : StateValue → StateValue → Bool
 same q s = bytes_eq (encoded q) (encoded s)
 
 -- which row from 3 on holds the state
-unfoldable pub place_of : StateValue → List StateValue → Option ℕ
-place_of q states = position_from (same q) 0 states
+unfoldable pub row_holding : StateValue → List StateValue → Option ℕ
+row_holding q states = position_from (same q) 0 states
 
 abbrev pub IsTagged : ℕ → ℕ → StateValue → ℕ → Type 0
 IsTagged stride k s id = (start : Bool) × (id ≡ tagged start (is_match s.matches) ((k + 3) * stride))
@@ -180,12 +180,12 @@ is_refused (Some least) bytes v = nat_le least v.clears && not (pays_off bytes v
 
 -- whether a state isn't held and doesn't fit, so that it asks for a clear
 abbrev pub needs_clear : Dfa → CacheValue → StateValue → Bool
-needs_clear d v s = not (is_dead s) && (is_none (place_of s v.states) && not (fits d.capacity s v))
+needs_clear d v s = not (is_dead s) && (is_none (row_holding s v.states) && not (fits d.capacity s v))
 
 -- whether a state isn't held, doesn't fit, and no room may be made for it
 abbrev pub lacks_room : Dfa → CacheValue → StateValue → Bool
-lacks_room d v s = not (is_dead s) && (is_none (place_of s v.states) && (not (fits d.capacity s v)
-    && is_refused (clears_of d.options) (bytes_of d.options) v))
+lacks_room d v s = not (is_dead s) && (is_none (row_holding s v.states) && (not (fits d.capacity s v)
+    && is_refused (clears_of d.options) (minimum_bytes_of d.options) v))
 
 -- ---- the cache of an automaton
 
@@ -195,8 +195,8 @@ pub record Leads (d : Dfa) (v : CacheValue) (s : StateValue) (u : Option ℕ) (i
   pub goes : is_quit d.quits u ≡ false → Names v id (after d s u)
 
 -- the slot of a start in a mode
-abbrev pub slot : ℕ → Start → ℕ
-slot m s = m * 7 + number_of s
+abbrev pub slot_of_start : ℕ → Start → ℕ
+slot_of_start m s = m * 7 + number_of s
 
 -- the ID is that of the state in which a search starts
 abbrev pub Begins : Dfa → CacheValue → ℕ → Start → ℕ → Type 0
@@ -215,8 +215,8 @@ pub record IsCacheOf (d : Dfa) (v : CacheValue) : Type 0 where
   pub states : (k : ℕ) → k < length v.states → IsStateOf d (state_at v k)
   pub steps : (k : ℕ) (u : Option ℕ) → k < length v.states → IsUnit u →
       cell_at v k (class_of d.classes u) ≢ unknown_id → Leads d v (state_at v k) u (cell_at v k (class_of d.classes u))
-  pub starts : (m : ℕ) (s : Start) → slot m s < length v.starts → slice_index_or v.starts (slot m s) 0 ≢ unknown_id →
-      Begins d v m s (slice_index_or v.starts (slot m s) 0)
+  pub starts : (m : ℕ) (s : Start) → slot_of_start m s < length v.starts → slice_index_or v.starts (slot_of_start m s) 0 ≢ unknown_id →
+      Begins d v m s (slice_index_or v.starts (slot_of_start m s) 0)
 
 -- a cache as it is made for an automaton
 abbrev pub made_for : Dfa → CacheValue

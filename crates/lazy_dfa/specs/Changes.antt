@@ -5,11 +5,11 @@ use Rattle.search_types.specs.declared.anchored.Anchored.{Anchored}
 use Rattle.search_types.specs.Inputs.{Search}
 use Rattle.lazy_dfa.specs.Accounting.{state_cost, longest_state}
 use Rattle.lazy_dfa.specs.Caches.{CacheValue, IsCacheOf, usage, is_refused, needs_clear}
-use Rattle.lazy_dfa.specs.ConfigValue.{specializes, clears_of, bytes_of}
+use Rattle.lazy_dfa.specs.ConfigValue.{specializes, clears_of, minimum_bytes_of}
 use Rattle.lazy_dfa.specs.Courses.{state_behind, AreRead}
 use Rattle.lazy_dfa.specs.Dfas.{Dfa, IsStateOf, reader, start_in}
 use Rattle.lazy_dfa.specs.Ids.{tag}
-use Rattle.lazy_dfa.specs.Linked.{Grows, start_from, passes_of}
+use Rattle.lazy_dfa.specs.Linked.{CacheGrows, start_from, passes_of}
 use Rattle.lazy_dfa.specs.Passes.{first_value}
 use Rattle.lazy_dfa.specs.PassLaws.{pass_len}
 use Rattle.lazy_dfa.specs.Readers.{Reader}
@@ -23,10 +23,10 @@ use Rattle.lazy_dfa.specs.Steps.{HasStatesOf, AddsState, MakesRoom}
 -- it. Between these the cache grows by no state.
 pub data Changes (d : Dfa) (Made : Bool → StateValue → Type 0) (old : CacheValue) : CacheValue → ℕ → Type 0 where
   unchanged : (new : CacheValue) (n : ℕ) → new ≡ old → Changes d Made old new n
-  keeps : (mid new : CacheValue) (n : ℕ) → Changes d Made old mid n → Grows d mid new → HasStatesOf new mid →
+  keeps : (mid new : CacheValue) (n : ℕ) → Changes d Made old mid n → CacheGrows d mid new → HasStatesOf new mid →
       Changes d Made old new n
   adds : (b : Bool) (s : StateValue) (mid new : CacheValue) (m n : ℕ) → m < n → Changes d Made old mid m → IsCacheOf d mid → Made b s →
-      Grows d mid new → AddsState d b s mid new → Changes d Made old new n
+      CacheGrows d mid new → AddsState d b s mid new → Changes d Made old new n
   clears : (b : Bool) (from : Option ℕ) (s : StateValue) (mid new : CacheValue) (m n : ℕ) → m < n → Changes d Made old mid m →
       IsCacheOf d mid → Made b s → MakesRoom d b from s mid new → Changes d Made old new n
 
@@ -71,21 +71,21 @@ HasRoomFor d v n =
 
 -- so many clears are asked for, and no bytes for each state, that one more is refused
 abbrev pub IsSpent : Dfa → CacheValue → Type 0
-IsSpent d v = (least : ℕ) × (clears_of d.options ≡ Some least) × (bytes_of d.options ≡ None) × (least ≤ v.clears)
+IsSpent d v = (least : ℕ) × (clears_of d.options ≡ Some least) × (minimum_bytes_of d.options ≡ None) × (least ≤ v.clears)
 
 -- a cache was cleared for this state, to which it had come without a clear
 pub record FirstClear (d : Dfa) (Made : Bool → StateValue → Type 0) (old : CacheValue) : Type 0 where
   pub before : CacheValue
-  pub grows : Grows d old before
+  pub grows : CacheGrows d old before
   pub is_start : Bool
   pub state : StateValue
   pub made : Made is_start state
   pub needs : needs_clear d before state ≡ true
-  pub allowed : is_refused (clears_of d.options) (bytes_of d.options) before ≡ false
+  pub allowed : is_refused (clears_of d.options) (minimum_bytes_of d.options) before ≡ false
 
 -- what was added where nothing was cleared: n states at most, each of them one that was made
 pub record AddsFew (d : Dfa) (Made : Bool → StateValue → Type 0) (old new : CacheValue) (n : ℕ) : Type 0 where
-  pub grows : Grows d old new
+  pub grows : CacheGrows d old new
   pub added : List StateValue
   pub states : new.states ≡ old.states ++ added
   pub few : length added ≤ n

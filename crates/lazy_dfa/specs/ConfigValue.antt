@@ -80,5 +80,5 @@ skips_check o = unwrap_or o.skip_cache_capacity_check false
 abbrev pub clears_of : Options → Option ℕ
 clears_of o = unwrap_or o.minimum_cache_clear_count None
 
-abbrev pub bytes_of : Options → Option ℕ
-bytes_of o = unwrap_or o.minimum_bytes_per_state None
+abbrev pub minimum_bytes_of : Options → Option ℕ
+minimum_bytes_of o = unwrap_or o.minimum_bytes_per_state None

@@ -3,7 +3,7 @@ use Rattle.std.specs.Prelude.{◌≡◌, ℕ, zero, suc, ◌<◌, ◌&&◌, not,
 use Rattle.nfa_core.specs.Ways.{place_of}
 use Rattle.determinize_core.specs.States.{StateValue}
 use Rattle.lazy_dfa.specs.Readers.{Reader, is_quit}
-use Rattle.lazy_dfa.specs.Passes.{is_empty, is_dead, next_value, recorded}
+use Rattle.lazy_dfa.specs.Passes.{is_empty, is_dead, next_value, best_recorded}
 use Rattle.lazy_dfa.specs.PassLaws.{unit_of}
 
 -- the state behind k units, from a state at place i
@@ -15,7 +15,7 @@ state_behind r h i v (suc k) = next_value r h (place_of r.automaton.reverse i k)
 abbrev pub best_behind : Reader → List ℕ → ℕ → StateValue → Option (ℕ × ℕ) → ℕ → Option (ℕ × ℕ)
 best_behind r h i v best zero = best
 best_behind r h i v best (suc k) =
-    recorded (place_of r.automaton.reverse i k) (state_behind r h i v (suc k)) (best_behind r h i v best k)
+    best_recorded (place_of r.automaton.reverse i k) (state_behind r h i v (suc k)) (best_behind r h i v best k)
 
 -- the state before unit k isn't dead, and the unit is no quit byte
 pub record IsRead (r : Reader) (h : List ℕ) (i : ℕ) (v : StateValue) (k : ℕ) : Type 0 where

@@ -4,7 +4,7 @@ use Rattle.determinize_core.specs.States.{StateValue}
 use Rattle.lazy_dfa.specs.Caches.{CacheValue, IsRow, HeldAt}
 use Rattle.lazy_dfa.specs.Dfas.{Dfa}
 use Rattle.lazy_dfa.specs.Ids.{has_tag, match_tag, unknown_id}
-use Rattle.lazy_dfa.specs.Passes.{recorded}
+use Rattle.lazy_dfa.specs.Passes.{best_recorded}
 use Rattle.lazy_dfa.specs.Points.{GoesTo, point}
 
 -- Such a run came from an ID at a place to another one through k units. Of the states behind them the last one that matches has the
@@ -14,4 +14,4 @@ pub record Lingers (d : Dfa) (h : List ℕ) (v : CacheValue) (from first at id m
   pub matches : met ≢ unknown_id → has_tag match_tag met ≡ true
   pub plain : met ≡ unknown_id → (m n : ℕ) (best : Option (ℕ × ℕ)) → GoesTo d h (point v m n from first best) (point v m n at id best) k
   pub goes : met ≢ unknown_id → (s : StateValue) → HeldAt v met s → (m n : ℕ) (best : Option (ℕ × ℕ)) →
-      GoesTo d h (point v m n from first best) (point v m n at id (recorded last s best)) k
+      GoesTo d h (point v m n from first best) (point v m n at id (best_recorded last s best)) k

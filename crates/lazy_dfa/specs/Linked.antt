@@ -74,7 +74,7 @@ IsLinked d v q = AreLinked d v q (passes_of (reader d) q)
 -- ---- what calls leave
 
 -- nothing was cleared: each ID names what it named, and what was known of steps and starts is known
-pub record Grows (d : Dfa) (old new : CacheValue) : Type 0 where
+pub record CacheGrows (d : Dfa) (old new : CacheValue) : Type 0 where
   pub names : (id : ℕ) (s : StateValue) → Names old id s → Names new id s
   pub known : (id : ℕ) (u : Option ℕ) → IsRow old id → IsUnit u → noted d old id u ≢ unknown_id → noted d new id u ≡ noted d old id u
   pub starts : (i : ℕ) → slice_index_or old.starts i 0 ≢ unknown_id → slice_index_or new.starts i 0 ≡ slice_index_or old.starts i 0
@@ -85,7 +85,7 @@ abbrev pub HasCleared : CacheValue → CacheValue → Type 0
 HasCleared old new = min (old.clears + 1) greatest ≤ new.clears
 
 abbrev pub GrowsOrClears : Dfa → CacheValue → CacheValue → Type 0
-GrowsOrClears d old new = Grows d old new ⊎ HasCleared old new
+GrowsOrClears d old new = CacheGrows d old new ⊎ HasCleared old new
 
 -- nothing changed but how far searches came
 abbrev pub IsMoved : CacheValue → CacheValue → Type 0

@@ -11,7 +11,7 @@ use Rattle.lazy_dfa.specs.Changes.{Changes, IsMadeIn, IsMadeBy}
 use Rattle.lazy_dfa.specs.Dfas.{Dfa, reader}
 use Rattle.lazy_dfa.specs.Readers.{Reader}
 use Rattle.lazy_dfa.specs.LeftTold.{LeavesPass, LeavesTold}
-use Rattle.lazy_dfa.specs.Linked.{IsLinkedPass, IsLinked, Grows, HasCleared, GrowsOrClears, IsMoved, passes_of}
+use Rattle.lazy_dfa.specs.Linked.{IsLinkedPass, IsLinked, CacheGrows, HasCleared, GrowsOrClears, IsMoved, passes_of}
 use Rattle.lazy_dfa.specs.Passes.{pass}
 use Rattle.lazy_dfa.specs.PassLaws.{pass_len}
 use Rattle.lazy_dfa.specs.Scans.{scan}
@@ -48,7 +48,7 @@ pub record MakesPass (d : Dfa) (q : Search) (old new : CacheValue) (m1 m2 n1 n2 
       (result ≡ Err NoMemory) ⊎
       ((x : ℕ) × (result ≡ Err (GaveUp x)) × GivesUpIn d new q.anchored q.earliest q.haystack (span_len q) (begins_at (reader d) q) x)
   pub kept : GrowsOrClears d old new
-  pub follows : OnOk result ((Grows d old new × IsLinkedPass d new q.anchored q.earliest q.haystack (span_len q) (begins_at (reader d) q) ×
+  pub follows : OnOk result ((CacheGrows d old new × IsLinkedPass d new q.anchored q.earliest q.haystack (span_len q) (begins_at (reader d) q) ×
       (told_of new ≡ told_by_pass (reader d) q.anchored q.earliest q.haystack (told_of old) (span_len q, begins_at (reader d) q))) ⊎
       HasCleared old new)
   pub free : IsLinkedPass d old q.anchored q.earliest q.haystack (span_len q) (begins_at (reader d) q) →
@@ -65,7 +65,7 @@ pub record MakesSearch (d : Dfa) (q : Search) (old new : CacheValue) (m1 m2 n1 n
     (result : Result (Option HalfFound) MatchErrorKind) : Type 0 where
   pub answer : Answers d new q result
   pub kept : GrowsOrClears d old new
-  pub follows : OnOk result ((Grows d old new × IsLinked d new q × (told_of new ≡ told_by (reader d) q (told_of old)
+  pub follows : OnOk result ((CacheGrows d old new × IsLinked d new q × (told_of new ≡ told_by (reader d) q (told_of old)
       (passes_of (reader d) q))) ⊎ HasCleared old new)
   pub free : IsLinked d old q → IsMoved old new × (m2 ≡ m1) × (n2 ≡ n1) × (result ≡ told (scan (reader d) q))
   pub determinized : m2 ≤ m1 + made_by (reader d) q (passes_of (reader d) q)

@@ -22,7 +22,7 @@ use Rattle.lazy_dfa.specs.declared.passing.Turned.{Turned}
 use Rattle.lazy_dfa.specs.Dfas.{Dfa, reader, start_in}
 use Rattle.lazy_dfa.specs.Ids.{unknown_id}
 use Rattle.lazy_dfa.specs.LeftTold.{told_at, told_finished, is_quit_error, IsRefusedAt, LeftAt}
-use Rattle.lazy_dfa.specs.Linked.{IsLinkedOver, Grows, HasCleared, GrowsOrClears, IsMoved, start_from}
+use Rattle.lazy_dfa.specs.Linked.{IsLinkedOver, CacheGrows, HasCleared, GrowsOrClears, IsMoved, start_from}
 use Rattle.lazy_dfa.specs.MadePasses.{span_len}
 use Rattle.lazy_dfa.specs.Passes.{index_at, is_dead, first_value, pass, pass_from}
 use Rattle.lazy_dfa.specs.PassLaws.{units_read, HasNoQuit}
@@ -208,7 +208,7 @@ pub record RunsOn (d : Dfa) (q : Search) (s : StateValue) (from : Point) (new : 
       (lacks_room d new (state_behind (reader d) q.haystack from.at s (suc k)) ≡ true) ×
       (k < span_len q → running_at new.progress ≡ Some x) × HasNoQuit (reader d) q.haystack from.at (suc k))
   pub kept : GrowsOrClears d from.cache new
-  pub follows : OnOk result ((Grows d from.cache new ×
+  pub follows : OnOk result ((CacheGrows d from.cache new ×
       IsLinkedOver d new q.haystack from.at from.id (units_read (reader d) q.earliest q.haystack (suc (span_len q)) from.at s) ×
       (told_of new ≡ told_behind d.nfa.automaton.reverse (span_len q) (told_of from.cache)
       (units_read (reader d) q.earliest q.haystack (suc (span_len q)) from.at s))) ⊎

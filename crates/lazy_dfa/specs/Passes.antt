@@ -36,8 +36,8 @@ abbrev pub if_supported : Bool → Anchored → HalfAnswer → HalfAnswer
 if_supported supported mode rest = if supported then rest else unsupported mode
 
 -- the match that a state lists first, at the place before its unit, or else the one from before
-abbrev pub recorded : ℕ → StateValue → Option (ℕ × ℕ) → Option (ℕ × ℕ)
-recorded i v best = option_or (end_at i (first v.matches)) best
+abbrev pub best_recorded : ℕ → StateValue → Option (ℕ × ℕ) → Option (ℕ × ℕ)
+best_recorded i v best = option_or (end_at i (first v.matches)) best
 
 -- the state behind the unit at a place
 unfoldable pub next_value : Reader → List ℕ → ℕ → StateValue → StateValue
@@ -54,8 +54,8 @@ pass_from r earliest h zero i v best = found best
 pass_from r earliest h (suc n) i v best =
     if is_dead v then found best else
     unless_quit r.quits (unit_at r.automaton.reverse h i) (index_at r.automaton.reverse i)
-    (if earliest && not (is_empty (next_value r h i v).matches) then found (recorded i (next_value r h i v) best) else
-    pass_from r earliest h n (next_place r i) (next_value r h i v) (recorded i (next_value r h i v) best))
+    (if earliest && not (is_empty (next_value r h i v).matches) then found (best_recorded i (next_value r h i v) best) else
+    pass_from r earliest h n (next_place r i) (next_value r h i v) (best_recorded i (next_value r h i v) best))
 
 -- the state of the automaton in which a search in this mode starts; None: the pattern doesn't exist
 abbrev pub start_name : Automaton → Anchored → Option ℕ

@@ -7,7 +7,7 @@ use Rattle.lazy_dfa.specs.Changes.{Changes, IsMadeAt}
 use Rattle.lazy_dfa.specs.Courses.{state_behind, best_behind, AreRead}
 use Rattle.lazy_dfa.specs.declared.progress.Progress.{Progress}
 use Rattle.lazy_dfa.specs.Dfas.{Dfa, reader}
-use Rattle.lazy_dfa.specs.Linked.{id_behind, IsLinkedOver, Grows, HasCleared, IsMoved}
+use Rattle.lazy_dfa.specs.Linked.{id_behind, IsLinkedOver, CacheGrows, HasCleared, IsMoved}
 use Rattle.lazy_dfa.specs.Steps.{most_inserts}
 
 -- a pass in its course: the cache, the work done, the place, the ID of the state there, and the match recorded last
@@ -26,7 +26,7 @@ began (Some p) = Some p.start
 
 -- nothing was cleared on the way through k units, and the way is known behind it
 pub record Follows (d : Dfa) (h : List ℕ) (from to : Point) (k : ℕ) : Type 0 where
-  pub grows : Grows d from.cache to.cache
+  pub grows : CacheGrows d from.cache to.cache
   pub leads : id_behind d to.cache h from.at from.id k ≡ to.id
   pub linked : IsLinkedOver d to.cache h from.at from.id k
   pub searched : to.cache.searched ≡ from.cache.searched

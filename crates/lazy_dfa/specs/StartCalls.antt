@@ -10,7 +10,7 @@ use Rattle.determinize_core.specs.Starts.{StartValue, start_of}
 use Rattle.lazy_dfa.specs.ConfigValue.{starts_each_of, specializes}
 use Rattle.lazy_dfa.specs.Dfas.{Dfa, start_in, first_state, is_dead}
 use Rattle.lazy_dfa.specs.Ids.{tag, dead_id, unknown_id, tagged, has_tag, start_tag}
-use Rattle.lazy_dfa.specs.Caches.{CacheValue, Names, slot, id_at, place_of, new_id, with_state, cleared, needs_clear, lacks_room}
+use Rattle.lazy_dfa.specs.Caches.{CacheValue, Names, slot_of_start, id_at, row_holding, new_id, with_state, cleared, needs_clear, lacks_room}
 use Rattle.lazy_dfa.specs.Readers.{is_quit}
 use Rattle.lazy_dfa.specs.Steps.{WasCleared, Grew, HasStatesOf, ComesTo}
 use Rattle.lazy_dfa.specs.declared.cache_error.CacheError.{CacheError}
@@ -52,7 +52,7 @@ IsStart d v c id = MatchOption (start_in d (mode_of c.anchored)) (id ≡ dead_id
 
 -- the slot of a start call, and what is known of it: an ID, or the unknown one
 abbrev pub start_slot : Dfa → StartValue → ℕ
-start_slot d c = slot (mode_of c.anchored) (start_of d.nfa.terminator c.look_behind)
+start_slot d c = slot_of_start (mode_of c.anchored) (start_of d.nfa.terminator c.look_behind)
 
 abbrev pub start_noted : Dfa → CacheValue → StartValue → ℕ
 start_noted d v c = slice_index_or v.starts (start_slot d c) 0
@@ -85,7 +85,7 @@ pub record StartNeedsClear (d : Dfa) (v : CacheValue) (c : StartValue) : Type 0 
 
 -- a state that wasn't held gets the tag of starts where those are told apart
 abbrev pub TagsStart : Dfa → CacheValue → StateValue → ℕ → Type 0
-TagsStart d old s id = is_dead s ≡ false → place_of s old.states ≡ None → has_tag start_tag id ≡ specializes d.options
+TagsStart d old s id = is_dead s ≡ false → row_holding s old.states ≡ None → has_tag start_tag id ≡ specializes d.options
 
 -- the cache was cleared for the state of a slot: the state is held alone, as one that is new, and its slot alone is known
 pub record ClearedFor (d : Dfa) (old new : CacheValue) (i : ℕ) (s : StateValue) : Type 0 where
@@ -110,6 +110,6 @@ StartAdds d old new c =
 
 -- how a state gets an ID that isn't a step's: it is dead or was held, or it is added, where need be after a clear
 pub data PlacesStart (d : Dfa) (old new : CacheValue) (s : StateValue) (id : ℕ) : Type 0 where
-  start_found : new ≡ old → (is_dead s ≡ false → place_of s old.states ≢ None) → PlacesStart d old new s id
+  start_found : new ≡ old → (is_dead s ≡ false → row_holding s old.states ≢ None) → PlacesStart d old new s id
   start_added : (mid : CacheValue) → (mid ≡ old) ⊎ (mid ≡ cleared old) → length mid.cells + mid.stride ≤ tag →
       new ≡ with_state (specializes d.options) s mid → id ≡ new_id mid (specializes d.options) s → PlacesStart d old new s id

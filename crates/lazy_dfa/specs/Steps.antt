@@ -7,8 +7,8 @@ use Rattle.determinize_core.specs.States.{StateValue}
 use Rattle.lazy_dfa.specs.Dfas.{Dfa, class_of, after, is_dead, IsUnit, IsStateOf}
 use Rattle.lazy_dfa.specs.Ids.{tag, has_tag, start_tag, tagged, unknown_id, dead_id, quit_id, is_sentinel}
 use Rattle.lazy_dfa.specs.Caches.{CacheValue, IsShaped, IsRow, HeldAt, Names, Leads, id_at, state_at, with_state, cleared, greatest}
-use Rattle.lazy_dfa.specs.Caches.{place_of, begun_anew, needs_clear, lacks_room, fits, is_refused}
-use Rattle.lazy_dfa.specs.ConfigValue.{clears_of, bytes_of}
+use Rattle.lazy_dfa.specs.Caches.{row_holding, begun_anew, needs_clear, lacks_room, fits, is_refused}
+use Rattle.lazy_dfa.specs.ConfigValue.{clears_of, minimum_bytes_of}
 use Rattle.lazy_dfa.specs.Readers.{is_quit}
 use Rattle.lazy_dfa.specs.declared.cache_error.CacheError.{CacheError}
 use Rattle.lazy_dfa.specs.declared.cache_error.CacheError.TheVariants.{GaveUp, NoMemory}
@@ -36,7 +36,7 @@ IsNoted d old new id u r = (s : StateValue) → HeldAt old id s → HeldAt new i
 -- a state that wasn't held gets no tag of starts
 abbrev pub TagsStep : Dfa → CacheValue → ℕ → Option ℕ → ℕ → Type 0
 TagsStep d old id u r = (s : StateValue) → HeldAt old id s → is_quit d.quits u ≡ false → is_dead (after d s u) ≡ false →
-    place_of (after d s u) old.states ≡ None → has_tag start_tag r ≡ false
+    row_holding (after d s u) old.states ≡ None → has_tag start_tag r ≡ false
 
 -- ---- refusals
 
@@ -123,7 +123,7 @@ HasStatesOf new v = (new.states ≡ v.states) × (new.ids ≡ v.ids) × (new.cle
 pub record AddsState (d : Dfa) (is_start : Bool) (s : StateValue) (old new : CacheValue) : Type 0 where
   pub is : IsStateOf d s
   pub alive : is_dead s ≡ false
-  pub fresh : place_of s old.states ≡ None
+  pub fresh : row_holding s old.states ≡ None
   pub fits : fits d.capacity s old ≡ true
   pub states : HasStatesOf new (with_state is_start s old)
 
@@ -137,7 +137,7 @@ kept_of (Some k) v = kept_alone v k
 pub record ClearsFor (d : Dfa) (from : Option ℕ) (s : StateValue) (old new : CacheValue) : Type 0 where
   pub is : IsStateOf d s
   pub needs : needs_clear d old s ≡ true
-  pub allowed : is_refused (clears_of d.options) (bytes_of d.options) old ≡ false
+  pub allowed : is_refused (clears_of d.options) (minimum_bytes_of d.options) old ≡ false
   pub left : (new ≡ cleared old) ⊎ (new ≡ kept_of from old)
 
 -- a clear for a state, which is added behind it if memory suffices

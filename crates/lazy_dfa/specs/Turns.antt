@@ -16,7 +16,7 @@ use Rattle.lazy_dfa.specs.declared.turns.Turn.TheVariants.{GoesOn, Ends, Quits}
 use Rattle.lazy_dfa.specs.Dfas.{Dfa, reader, IsUnit}
 use Rattle.lazy_dfa.specs.Ids.{dead_id, quit_id, unknown_id, is_sentinel}
 use Rattle.lazy_dfa.specs.Linked.{IsLinkedOver, HasCleared, GrowsOrClears, IsMoved}
-use Rattle.lazy_dfa.specs.Passes.{is_empty, is_dead, recorded}
+use Rattle.lazy_dfa.specs.Passes.{is_empty, is_dead, best_recorded}
 use Rattle.lazy_dfa.specs.Points.{Point, GoesTo, point}
 use Rattle.lazy_dfa.specs.Readers.{is_quit}
 use Rattle.lazy_dfa.specs.SearchAnswers.{pair_of, told_of}
@@ -27,9 +27,9 @@ use Rattle.lazy_dfa.specs.Steps.{IsHeld, StepsTo, KeepsOrClears, noted, IsKnown,
 pub data Sees (v : CacheValue) (id place : ℕ) (best : Option (ℕ × ℕ)) (earliest : Bool) (seen : Seen) : Type 0 where
   sees_dead : id ≡ dead_id v.stride → seen.id ≡ id → seen.turn ≡ Ends → pair_of seen.best ≡ best → Sees v id place best earliest seen
   sees_quit : id ≡ quit_id v.stride → seen.turn ≡ Quits → Sees v id place best earliest seen
-  sees_end : (s : StateValue) → HeldAt v id s → seen.id ≡ id → seen.turn ≡ Ends → pair_of seen.best ≡ recorded place s best →
+  sees_end : (s : StateValue) → HeldAt v id s → seen.id ≡ id → seen.turn ≡ Ends → pair_of seen.best ≡ best_recorded place s best →
       (earliest && not (is_empty s.matches)) ≡ true → Sees v id place best earliest seen
-  sees_on : (s : StateValue) → HeldAt v id s → seen.id ≡ id → seen.turn ≡ GoesOn → pair_of seen.best ≡ recorded place s best →
+  sees_on : (s : StateValue) → HeldAt v id s → seen.id ≡ id → seen.turn ≡ GoesOn → pair_of seen.best ≡ best_recorded place s best →
       (earliest && not (is_empty s.matches)) ≡ false → Sees v id place best earliest seen
 
 -- what a step from an ID by a unit, of either kind, says

@@ -20,7 +20,7 @@ use Rattle.lazy_dfa.specs.declared.overlapping_state.Stop.{Stop}
 use Rattle.lazy_dfa.specs.declared.overlapping_state.Walk.{Walk}
 use Rattle.lazy_dfa.specs.declared.overlapping_state.Walk.TheVariants.{Fresh, Ended, Failed, Stopped}
 use Rattle.lazy_dfa.specs.Dfas.{Dfa, reader}
-use Rattle.lazy_dfa.specs.Linked.{Grows, HasCleared, GrowsOrClears}
+use Rattle.lazy_dfa.specs.Linked.{CacheGrows, HasCleared, GrowsOrClears}
 use Rattle.lazy_dfa.specs.MadePasses.{span_len}
 use Rattle.lazy_dfa.specs.Passes.{index_at, is_empty, is_dead, next_value, next_place, first_value}
 use Rattle.lazy_dfa.specs.PassLaws.{pass_len, HasNoQuit}
@@ -300,7 +300,7 @@ pub record ReadsOn (d : Dfa) (q : Search) (at : ℕ) (old new : CacheValue) (m1 
   pub err : IfErr result (λ e. (told_left (rest_at (reader d) q at).ends (rest_at (reader d) q at).refusal ≡ Err e) ⊎ (e ≡ NoMemory) ⊎
       ((x : ℕ) × (e ≡ GaveUp x) × GivesUpFrom d new q at x))
   pub kept : GrowsOrClears d old new
-  pub told : OnOk result ((Grows d old new × (told_of new ≡ told_by_reading (reader d) q at (told_of old))) ⊎ HasCleared old new)
+  pub told : OnOk result ((CacheGrows d old new × (told_of new ≡ told_by_reading (reader d) q at (told_of old))) ⊎ HasCleared old new)
   pub determinized : m2 ≤ m1 + units_at (reader d) q at
   pub inserted : n2 ≤ n1 + units_at (reader d) q at * most_inserts d
   pub quits : IfOk result (λ w. StartsQuietly d q (came d.nfa.automaton.reverse q at) → HasReadQuietly d q w.walk)
@@ -338,7 +338,7 @@ pub record MakesCall (d : Dfa) (q : Search) (old new : CacheValue) (m1 m2 n1 n2 
   pub walk : IsWalk d new q after.walk
   pub failed : IfErr result (λ e. after ≡ failed_by e)
   pub kept : GrowsOrClears d old new
-  pub told : OnOk result ((Grows d old new × (told_of new ≡ told_by_call (reader d) q w (told_of old))) ⊎ HasCleared old new)
+  pub told : OnOk result ((CacheGrows d old new × (told_of new ≡ told_by_call (reader d) q w (told_of old))) ⊎ HasCleared old new)
   pub ends : OnOk result (after.found ≡ None → after.walk ≡ Ended)
   pub still : call_starts q w ≡ 0 → reads_on (reader d) q w ≡ false → TellsNext (reader d) q w after result
   pub quiet : call_starts q w ≡ 0 → reads_on (reader d) q w ≡ false → (new ≡ old) × (m2 ≡ m1) × (n2 ≡ n1)

@@ -72,25 +72,25 @@ IsStepTo d q from new m n id best Ends = GoesOne d q.haystack from new m n id be
 IsStepTo d q from new m n id best Quits = ⊥
 
 -- A unit was refused: it is a quit byte, the state behind it has no room and no clear is allowed, or memory lacked.
-abbrev pub Refuses : Dfa → Search → Point → CacheValue → ℕ → ℕ → MatchErrorKind → Type 0
-Refuses d q from new m n (Quit b x) = Leaves d q.haystack from new m n 0 ×
+abbrev pub RefusesUnit : Dfa → Search → Point → CacheValue → ℕ → ℕ → MatchErrorKind → Type 0
+RefusesUnit d q from new m n (Quit b x) = Leaves d q.haystack from new m n 0 ×
     (unit_at d.nfa.automaton.reverse q.haystack from.at ≡ Some b) × (has d.quits b ≡ true) × (x ≡ index_at d.nfa.automaton.reverse from.at) ×
     TellsUnit d true q from.at from.cache new
-Refuses d q from new m n (GaveUp x) = FailsOn d q.haystack from new m n 0 ×
+RefusesUnit d q from new m n (GaveUp x) = FailsOn d q.haystack from new m n 0 ×
     (is_quit d.quits (unit_at d.nfa.automaton.reverse q.haystack from.at) ≡ false) × (x ≡ gave_up_at d.nfa.automaton.reverse q from.at) ×
     ((s : StateValue) → HeldAt from.cache from.id s → lacks_room d new (state_behind (reader d) q.haystack from.at s 1) ≡ true) ×
     (from.at ≢ last_place d.nfa.automaton.reverse q → running_at new.progress ≡ Some x) ×
     TellsUnit d (from.at == last_place d.nfa.automaton.reverse q) q from.at from.cache new
-Refuses d q from new m n NoMemory = FailsOn d q.haystack from new m n 0 ×
+RefusesUnit d q from new m n NoMemory = FailsOn d q.haystack from new m n 0 ×
     TellsUnit d (from.at == last_place d.nfa.automaton.reverse q) q from.at from.cache new
-Refuses d q from new m n (HaystackTooLong len) = ⊥
-Refuses d q from new m n (UnsupportedAnchored mode) = ⊥
-Refuses d q from new m n NotAPair = ⊥
+RefusesUnit d q from new m n (HaystackTooLong len) = ⊥
+RefusesUnit d q from new m n (UnsupportedAnchored mode) = ⊥
+RefusesUnit d q from new m n NotAPair = ⊥
 
 -- and so says the answer of a step
 abbrev pub StepsAt : Dfa → Search → Point → CacheValue → ℕ → ℕ → Result Seen MatchErrorKind → Type 0
 StepsAt d q from new m n (Ok seen) = IsStepTo d q from new m n seen.id (pair_of seen.best) seen.turn
-StepsAt d q from new m n (Err e) = Refuses d q from new m n e
+StepsAt d q from new m n (Err e) = RefusesUnit d q from new m n e
 
 -- A call is over with the unit at a point, and its cache was told where it came. It tells the end that was recorded there, or
 -- none: then the walk has ended.
@@ -117,4 +117,4 @@ ReadsInto d q from new m n position tells false =
 -- one unit of a walk in its span
 abbrev pub ReadsTo : Dfa → Search → Point → CacheValue → ℕ → ℕ → Result Read MatchErrorKind → Type 0
 ReadsTo d q from new m n (Ok read) = ReadsInto d q from new m n read.position read.tells read.is_over
-ReadsTo d q from new m n (Err e) = Refuses d q from new m n e
+ReadsTo d q from new m n (Err e) = RefusesUnit d q from new m n e

@@ -2,7 +2,7 @@
 //! ```rust
 //! pub fn a_state_more()
 //!     ensures { (m : Measures) (vs : List StateValue) (v : StateValue) →
-//!         usage m (vs ++ v ∷ []) ≡ usage m vs + state_cost m.stride (length (encoded v)) }
+//!         measured_usage m (vs ++ v ∷ []) ≡ measured_usage m vs + state_cost m.stride (length (encoded v)) }
 //! {
 //!     states_add_to_the_usage();
 //! }
@@ -11,7 +11,7 @@ ghost use Rattle.std.specs.Prelude.{◌≡◌, ◌≤◌, ◌+◌, ◌^◌, ◌+
 ghost use Rattle.search_core.specs.Classes.{alphabet_size, IsLeastExponent};
 ghost use Rattle.determinize_core.specs.States.{StateValue};
 ghost use Rattle.determinize_core.specs.StateBytes.{encoded};
-ghost use Rattle.lazy_dfa.specs.Accounting.{Measures, stride_of, longest_state, state_cost, fresh_usage, usage, least_capacity, effective_capacity};
+ghost use Rattle.lazy_dfa.specs.Accounting.{Measures, stride_of, longest_state, state_cost, fresh_usage, measured_usage, least_capacity, effective_capacity};
 
 use determinize_core::state_laws::states_are_short;
 
@@ -23,9 +23,9 @@ pub fn strides_are_least_powers_of_two()
 /// A cache without states is taken to need what a fresh one does, and each state adds its row, its entry in the map and
 /// its bytes.
 pub fn states_add_to_the_usage()
-    ensures none { (m : Measures) → usage m [] ≡ fresh_usage m }
+    ensures none { (m : Measures) → measured_usage m [] ≡ fresh_usage m }
     ensures more { (m : Measures) (held : List StateValue) (v : StateValue) →
-        usage m (held ++ v ∷ []) ≡ usage m held + state_cost m.stride (length (encoded v)) }
+        measured_usage m (held ++ v ∷ []) ≡ measured_usage m held + state_cost m.stride (length (encoded v)) }
 {}
 
 /// A state lists each pattern and each state of the automaton once at most, so it has no more bytes than the longest one.
@@ -38,7 +38,7 @@ pub fn states_are_no_longer_than_the_longest()
 /// The least capacity has room for two states, whatever they are.
 pub fn the_least_capacity_has_room_for_two_states()
     ensures { (m : Measures) (v w : StateValue) → length (encoded v) ≤ longest_state m → length (encoded w) ≤ longest_state m →
-        usage m (v ∷ w ∷ []) ≤ least_capacity m }
+        measured_usage m (v ∷ w ∷ []) ≤ least_capacity m }
 {}
 
 /// The capacity that counts is the given one where this is no less than the least one. It is never below the given one,

@@ -1,6 +1,6 @@
 ghost use Rattle.std.specs.Prelude.{◌≡◌, ◌+◌, ◌%◌, ◌<◌, ◌↔◌, true, length, slice_index_or, IfSome};
 ghost use Rattle.determinize_core.specs.States.{IsState};
-ghost use Rattle.lazy_dfa.specs.Caches.{IsShaped, HeldAt, IsRow, is_refused, fits, state_at, id_at, place_of, usage};
+ghost use Rattle.lazy_dfa.specs.Caches.{IsShaped, HeldAt, IsRow, is_refused, fits, state_at, id_at, row_holding, usage};
 ghost use Rattle.lazy_dfa.specs.Ids.{tag};
 
 use crate::lazy_id::{LazyStateID, MATCH, SENTINELS};
@@ -83,7 +83,7 @@ impl Cache {
 
     /// Which row from 3 on holds the state.
     pub(crate) fn find(&self, state: &State) -> Option<usize>
-        ensures place { result ≡ place_of state.now self.now.states }
+        ensures place { result ≡ row_holding state.now self.now.states }
         ensures real { IsState state.now }
         ensures held { IfSome result (λ k. HeldAt self.now (id_at self.now k) state.now) }
         ensures row { IfSome result (λ k. k < length self.now.states) }

@@ -6,7 +6,7 @@ ghost use Rattle.determinize_core.specs.Costs.{free_ways};
 ghost use Rattle.determinize_core.specs.Stepped.{IsStepped};
 ghost use Rattle.determinize_core.specs.Steps.{step_value, start_value};
 ghost use Rattle.lazy_dfa.specs.Dfas.{cost};
-ghost use Rattle.lazy_dfa.specs.Caches.{state_at, id_at, place_of, usage, with_state, new_id, cleared, empty_cache, sentinel_rows};
+ghost use Rattle.lazy_dfa.specs.Caches.{state_at, id_at, row_holding, usage, with_state, new_id, cleared, empty_cache, sentinel_rows};
 ghost use Rattle.lazy_dfa.specs.Ids.{tag, has_tag, start_tag};
 
 use crate::cache::Cache;
@@ -163,7 +163,7 @@ impl Cache {
         state: State,
         is_start: bool,
     ) -> Result<LazyStateID, AllocError>
-        requires fresh { place_of state self.old.states ≡ None }
+        requires fresh { row_holding state self.old.states ≡ None }
         requires room { length self.old.cells + self.old.stride ≤ tag }
         requires counted { usage self.old + cost self.old.stride state < 0x1_0000_0000_0000_0000 }
         ensures id { IfOk result (λ id. id ≡ new_id self.old is_start state) }

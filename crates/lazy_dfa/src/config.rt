@@ -1,6 +1,6 @@
 ghost use Rattle.std.specs.Prelude.{◌≡◌, ◌<◌, ◌⊎◌, ℕ, Bool, true, false, Some, IsSome, slice_set};
 ghost use Rattle.search_core.specs.ByteSets.{has};
-ghost use Rattle.lazy_dfa.specs.ConfigValue.{no_options, changed_by, no_bytes, kind_of, starts_each_of, classes_on, word_boundary_of, by_hand, specializes, capacity_of, skips_check, clears_of, bytes_of};
+ghost use Rattle.lazy_dfa.specs.ConfigValue.{no_options, changed_by, no_bytes, kind_of, starts_each_of, classes_on, word_boundary_of, by_hand, specializes, capacity_of, skips_check, clears_of, minimum_bytes_of};
 
 use search_core::ByteSet;
 use search_types::MatchKind;
@@ -249,7 +249,7 @@ impl Config {
 
     /// See [`minimum_bytes_per_state`](Config::minimum_bytes_per_state).
     pub fn get_minimum_bytes_per_state(&self) -> Option<usize>
-        ensures { result ≡ bytes_of self.now }
+        ensures { result ≡ minimum_bytes_of self.now }
     {
         self.minimum_bytes_per_state.unwrap_or(None)
     }

@@ -7,7 +7,7 @@
 ghost use Rattle.std.specs.Prelude.{◌≡◌, ◌+◌, ◌≤◌, Some, None, length};
 ghost use Rattle.search_core.specs.Index.{greatest_index};
 ghost use Rattle.determinize_core.specs.Starts.{IsStartTable, start_of};
-ghost use Rattle.lazy_dfa.specs.ConfigValue.{kind_of, clears_of, bytes_of, specializes, starts_each_of};
+ghost use Rattle.lazy_dfa.specs.ConfigValue.{kind_of, clears_of, minimum_bytes_of, specializes, starts_each_of};
 ghost use Rattle.lazy_dfa.specs.Dfas.{IsDfa, class_of};
 ghost use Rattle.lazy_dfa.specs.Readers.{is_quit};
 
@@ -114,7 +114,7 @@ impl DFA {
     }
 
     pub(crate) fn least_bytes(&self) -> Option<usize>
-        ensures { result ≡ bytes_of self.now.options }
+        ensures { result ≡ minimum_bytes_of self.now.options }
     {
         self.config.get_minimum_bytes_per_state()
     }

@@ -5,7 +5,7 @@ ghost use Rattle.determinize_core.specs.States.{StateValue};
 ghost use Rattle.lazy_dfa.specs.Caches.{IsCacheOf, IsRow, HeldAt};
 ghost use Rattle.lazy_dfa.specs.Ids.{tag, has_tag, match_tag, unknown_id};
 ghost use Rattle.lazy_dfa.specs.Lingering.{Lingers};
-ghost use Rattle.lazy_dfa.specs.Passes.{recorded};
+ghost use Rattle.lazy_dfa.specs.Passes.{best_recorded};
 ghost use Rattle.lazy_dfa.specs.Points.{point};
 ghost use Rattle.lazy_dfa.specs.SearchAnswers.{pair_of};
 ghost use Rattle.lazy_dfa.specs.PassPlaces.{IsWithinSpan, left_at, GoesBetween};
@@ -233,7 +233,7 @@ fn best_behind(dfa: &DFA, cache: &Cache, best: Option<HalfMatch>, met: Met) -> O
     requires row { met.id < unknown_id → IsRow cache.now met.id }
     requires matches { met.id < unknown_id → has_tag match_tag met.id ≡ true }
     ensures still { unknown_id ≤ met.id → pair_of result ≡ pair_of best }
-    ensures last { met.id < unknown_id → (s : StateValue) → HeldAt cache.now met.id s → pair_of result ≡ recorded met.last s (pair_of best) }
+    ensures last { met.id < unknown_id → (s : StateValue) → HeldAt cache.now met.id s → pair_of result ≡ best_recorded met.last s (pair_of best) }
 {
     if met.id.is_not_known() {
         return best;

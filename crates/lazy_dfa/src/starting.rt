@@ -1,7 +1,7 @@
 //! The states in which searches start.
 ghost use Rattle.std.specs.Prelude.{◌≡◌, ◌≢◌, ◌⊎◌, ◌+◌, ◌<◌, ◌≤◌, true, false, length, slice_index_or, IfOk, OnOk, IfErr, OnErr, Ok, Err, None, Some};
 ghost use Rattle.lazy_dfa.specs.Dfas.{IsStateOf, is_dead, start_in, first_state};
-ghost use Rattle.lazy_dfa.specs.Caches.{IsCacheOf, Names, Fits, place_of, slot, needs_clear, lacks_room, cleared};
+ghost use Rattle.lazy_dfa.specs.Caches.{IsCacheOf, Names, Fits, row_holding, slot_of_start, needs_clear, lacks_room, cleared};
 ghost use Rattle.lazy_dfa.specs.ConfigValue.{specializes};
 ghost use Rattle.lazy_dfa.specs.Ids.{unknown_id};
 ghost use Rattle.lazy_dfa.specs.StartCalls.{PlacesStart, ClearedFor, TagsStart};
@@ -24,14 +24,14 @@ fn room_alone(dfa: &DFA, cache: &mut Cache, state: &State) -> Result<(), CacheEr
     requires own { IsCacheOf dfa.now cache.old }
     requires is { IsStateOf dfa.now state.now }
     requires alive { is_dead state.now ≡ false }
-    requires fresh { place_of state.now cache.old.states ≡ None }
+    requires fresh { row_holding state.now cache.old.states ≡ None }
     ensures own { IsCacheOf dfa.now cache.new }
     ensures slots { length cache.new.starts ≡ length cache.old.starts }
     ensures room { (cache.new ≡ cache.old) ⊎ (cache.new ≡ cleared cache.old) }
     ensures cause { (cache.new ≡ cache.old) ⊎ (needs_clear dfa.now cache.old state.now ≡ true) }
     ensures clears { (cache.new ≡ cache.old) ⊎ ClearsFor dfa.now None state.now cache.old cache.new }
     ensures err_same { OnErr result (cache.new ≡ cache.old) }
-    ensures fresh { OnOk result (place_of state.now cache.new.states ≡ None) }
+    ensures fresh { OnOk result (row_holding state.now cache.new.states ≡ None) }
     ensures fits { OnOk result (Fits dfa.now.capacity state.now cache.new) }
     ensures ok { OnOk result (lacks_room dfa.now cache.old state.now ≡ false) }
     ensures err { IfErr result (λ e. IsCause dfa.now cache.old state.now e) }
@@ -114,23 +114,23 @@ pub(crate) fn start_in_mode<L: Ledger, M: Ledger>(
     work: &mut Work<L, M>,
 ) -> Result<LazyStateID, CacheError>
     requires own { IsCacheOf dfa.now cache.old }
-    requires inside { slot mode start < length cache.old.starts }
+    requires inside { slot_of_start mode start < length cache.old.starts }
     requires named { start_in dfa.now mode ≡ Some name }
     requires below { name < length dfa.now.nfa.automaton.states }
     ensures own { IsCacheOf dfa.now cache.new }
     ensures start { IfOk result (λ id. Names cache.new id (first_state dfa.now start name)) }
-    ensures noted { IfOk result (λ id. slice_index_or cache.new.starts (slot mode start) 0 ≡ id) }
-    ensures known { slice_index_or cache.old.starts (slot mode start) 0 ≢ unknown_id → result ≡ Ok (slice_index_or cache.old.starts (slot mode start) 0) }
-    ensures same { slice_index_or cache.old.starts (slot mode start) 0 ≢ unknown_id → cache.new ≡ cache.old }
-    ensures free { slice_index_or cache.old.starts (slot mode start) 0 ≢ unknown_id → work.new ≡ work.old }
+    ensures noted { IfOk result (λ id. slice_index_or cache.new.starts (slot_of_start mode start) 0 ≡ id) }
+    ensures known { slice_index_or cache.old.starts (slot_of_start mode start) 0 ≢ unknown_id → result ≡ Ok (slice_index_or cache.old.starts (slot_of_start mode start) 0) }
+    ensures same { slice_index_or cache.old.starts (slot_of_start mode start) 0 ≢ unknown_id → cache.new ≡ cache.old }
+    ensures free { slice_index_or cache.old.starts (slot_of_start mode start) 0 ≢ unknown_id → work.new ≡ work.old }
     ensures kept { Grew dfa.now cache.old cache.new ⊎ WasCleared cache.old cache.new 1 }
-    ensures remains { OnOk result (Grew dfa.now cache.old cache.new ⊎ ClearedFor dfa.now cache.old cache.new (slot mode start) (first_state dfa.now start name)) }
-    ensures cause { Grew dfa.now cache.old cache.new ⊎ ((slice_index_or cache.old.starts (slot mode start) 0 ≡ unknown_id) × (needs_clear dfa.now cache.old (first_state dfa.now start name) ≡ true)) }
+    ensures remains { OnOk result (Grew dfa.now cache.old cache.new ⊎ ClearedFor dfa.now cache.old cache.new (slot_of_start mode start) (first_state dfa.now start name)) }
+    ensures cause { Grew dfa.now cache.old cache.new ⊎ ((slice_index_or cache.old.starts (slot_of_start mode start) 0 ≡ unknown_id) × (needs_clear dfa.now cache.old (first_state dfa.now start name) ≡ true)) }
     ensures adds { (Grew dfa.now cache.old cache.new × HasStatesOf cache.new cache.old) ⊎ ComesTo (Grew dfa.now cache.old cache.new) dfa.now (specializes dfa.now.options) None (first_state dfa.now start name) cache.old cache.new }
-    ensures ok { OnOk result (slice_index_or cache.old.starts (slot mode start) 0 ≡ unknown_id → lacks_room dfa.now cache.old (first_state dfa.now start name) ≡ false) }
+    ensures ok { OnOk result (slice_index_or cache.old.starts (slot_of_start mode start) 0 ≡ unknown_id → lacks_room dfa.now cache.old (first_state dfa.now start name) ≡ false) }
     ensures gave_up { result ≡ Err GaveUp → cache.new ≡ cache.old }
     ensures tag { IfOk result (λ id. TagsStart dfa.now cache.old (first_state dfa.now start name) id) }
-    ensures unknown { OnErr result (slice_index_or cache.old.starts (slot mode start) 0 ≡ unknown_id) }
+    ensures unknown { OnErr result (slice_index_or cache.old.starts (slot_of_start mode start) 0 ≡ unknown_id) }
     ensures err { IfErr result (λ e. IsCause dfa.now cache.old (first_state dfa.now start name) e) }
     ensures determinized { work.new.determinized ≤ work.old.determinized + 1 }
     ensures inserted { work.new.inserted ≤ work.old.inserted + most_inserts dfa.now }

@@ -4,8 +4,8 @@ ghost use Rattle.search_core.specs.Units.{unit_byte};
 ghost use Rattle.determinize_core.specs.Costs.{free_ways};
 ghost use Rattle.lazy_dfa.specs.Dfas.{IsStateOf, IsUnit, after, class_of, is_dead};
 ghost use Rattle.lazy_dfa.specs.Ids.{unknown_id, quit_id, is_sentinel, has_tag, start_tag};
-ghost use Rattle.lazy_dfa.specs.Caches.{IsCacheOf, HeldAt, IsRow, Names, Fits, fits, is_refused, place_of, state_at, with_state, needs_clear, lacks_room};
-ghost use Rattle.lazy_dfa.specs.ConfigValue.{clears_of, bytes_of};
+ghost use Rattle.lazy_dfa.specs.Caches.{IsCacheOf, HeldAt, IsRow, Names, Fits, fits, is_refused, row_holding, state_at, with_state, needs_clear, lacks_room};
+ghost use Rattle.lazy_dfa.specs.ConfigValue.{clears_of, minimum_bytes_of};
 ghost use Rattle.lazy_dfa.specs.declared.cache_error.CacheError.TheVariants.{GaveUp};
 ghost use Rattle.lazy_dfa.specs.Readers.{is_quit, is_quit as is_quit_unit};
 ghost use Rattle.lazy_dfa.specs.Steps.{IsHeld, IsCause, GivesUp, IsStepCause, StepsTo, Added, Grew, StepNeedsClear, ClearedFrom, kept_alone, MadeRoom, AddsOrClears, KeepsOrClears, noted, IsKnown, IsNoted, TagsStep, ClearsFor, ComesTo, StepAdds, most_inserts};
@@ -51,7 +51,7 @@ pub(crate) fn fits(dfa: &DFA, cache: &Cache, state: &State) -> bool
 
 /// Whether a clear is refused.
 pub(crate) fn refuses_clear(dfa: &DFA, cache: &Cache) -> bool
-    ensures { result ≡ is_refused (clears_of dfa.now.options) (bytes_of dfa.now.options) cache.now }
+    ensures { result ≡ is_refused (clears_of dfa.now.options) (minimum_bytes_of dfa.now.options) cache.now }
 {
     cache.refuses_clear(dfa.least_clears(), dfa.least_bytes())
 }
@@ -67,7 +67,7 @@ fn make_room(
     requires row { k < length cache.old.states }
     requires is { IsStateOf dfa.now state.now }
     requires alive { is_dead state.now ≡ false }
-    requires fresh { place_of state.now cache.old.states ≡ None }
+    requires fresh { row_holding state.now cache.old.states ≡ None }
     ensures own { IsCacheOf dfa.now cache.new }
     ensures room { MadeRoom cache.old cache.new }
     ensures made { OnOk result ((cache.new ≡ cache.old) ⊎ (cache.new ≡ kept_alone cache.old k)) }
@@ -75,7 +75,7 @@ fn make_room(
     ensures clears { (cache.new ≡ cache.old) ⊎ ClearsFor dfa.now (Some k) state.now cache.old cache.new }
     ensures gave_up { result ≡ Err GaveUp → cache.new ≡ cache.old }
     ensures from { IfOk result (λ id. HeldAt cache.new id (state_at cache.old k)) }
-    ensures fresh { OnOk result (place_of state.now cache.new.states ≡ None) }
+    ensures fresh { OnOk result (row_holding state.now cache.new.states ≡ None) }
     ensures fits { OnOk result (Fits dfa.now.capacity state.now cache.new) }
     ensures ok { OnOk result (lacks_room dfa.now cache.old state.now ≡ false) }
     ensures err { IfErr result (λ e. IsCause dfa.now cache.old state.now e) }
@@ -113,7 +113,7 @@ fn place(dfa: &DFA, cache: &mut Cache, k: usize, state: State) -> Result<Rows, C
     ensures gave_up { result ≡ Err GaveUp → cache.new ≡ cache.old }
     ensures from { IfOk result (λ rows. HeldAt cache.new rows.from (state_at cache.old k)) }
     ensures to { IfOk result (λ rows. Names cache.new rows.to state) }
-    ensures tag { IfOk result (λ rows. is_dead state ≡ false → place_of state cache.old.states ≡ None → has_tag start_tag rows.to ≡ false) }
+    ensures tag { IfOk result (λ rows. is_dead state ≡ false → row_holding state cache.old.states ≡ None → has_tag start_tag rows.to ≡ false) }
     ensures ok { OnOk result (lacks_room dfa.now cache.old state ≡ false) }
     ensures err { IfErr result (λ e. IsCause dfa.now cache.old state e) }
 {

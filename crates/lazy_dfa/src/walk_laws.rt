@@ -21,7 +21,7 @@ ghost use Rattle.nfa_core.specs.Places.{same_pair};
 ghost use Rattle.nfa_core.specs.Walks.{Has, HasNoneTwice};
 ghost use Rattle.lazy_dfa.specs.Caches.{CacheValue, IsCacheOf, greatest};
 ghost use Rattle.lazy_dfa.specs.Dfas.{Dfa};
-ghost use Rattle.lazy_dfa.specs.Linked.{Grows, GrowsOrClears};
+ghost use Rattle.lazy_dfa.specs.Linked.{CacheGrows, GrowsOrClears};
 ghost use Rattle.lazy_dfa.specs.Passes.{start_name};
 ghost use Rattle.lazy_dfa.specs.PassLaws.{HasNoQuitBehind, IsQuitBehind};
 ghost use Rattle.lazy_dfa.specs.Readers.{Reader};
@@ -87,7 +87,7 @@ pub fn walks_are_refused_by_quit_bytes_and_modes_alone()
 /// A walk goes on over a cache that wasn't cleared since its last call, whatever else was done with it. The
 /// same count of clears tells that it wasn't.
 pub fn walks_go_on_where_nothing_was_cleared()
-    ensures grown { (d : Dfa) (old new : CacheValue) (q : Search) (w : Walk) → IsCacheOf d old → IsCacheOf d new → Grows d old new → IsWalk d old q w → IsWalk d new q w }
+    ensures grown { (d : Dfa) (old new : CacheValue) (q : Search) (w : Walk) → IsCacheOf d old → IsCacheOf d new → CacheGrows d old new → IsWalk d old q w → IsWalk d new q w }
     ensures counted { (d : Dfa) (old new : CacheValue) (q : Search) (w : Walk) → IsCacheOf d old → IsCacheOf d new → GrowsOrClears d old new →
         new.clears ≡ old.clears → old.clears < greatest → IsWalk d old q w → IsWalk d new q w }
 {}

@@ -11,14 +11,14 @@ use Rattle.lazy_dfa.specs.Dfas.{reader}
 use Rattle.lazy_dfa.specs.Readers.{Reader, HalfAnswer, found, quit, unsupported}
 use Rattle.lazy_dfa.specs.Scans.{scan}
 use Rattle.lazy_dfa.proofs.ForCallers.{scan_by_support}
-use Rattle.regex_pair.specs.Joined.{is_start_known, back_from, from_start, with_start, join, joined}
+use Rattle.regex_pair.specs.Joined.{is_start_known, back_from, from_start, with_start, answer_by_end, joined}
 use Rattle.regex_pair.specs.Matching.{match_search, match_told, has_match}
 use Rattle.regex_pair.specs.PairLaws.{AreSetAlike}
 use Rattle.regex_pair.specs.Pairs.{Pair}
 
 -- the start is known by the automaton alone, and else found by the search back
 joins_alike : (f g r s : Reader) (q : Search) (a : HalfAnswer) → f.automaton ≡ g.automaton →
-    ((e : ℕ) → scan r (back_from q e) ≡ scan s (back_from q e)) → join f r q a ≡ join g s q a
+    ((e : ℕ) → scan r (back_from q e) ≡ scan s (back_from q e)) → answer_by_end f r q a ≡ answer_by_end g s q a
 joins_alike f g r s q (found (Some e)) same back =
     ap (λ (a : Automaton). known_or (e.0 == q.start || is_anchored q.anchored || a.start_anchored == a.start_unanchored)
     (scan r (back_from q e.0))) same
@@ -51,7 +51,7 @@ module _ (p r : Pair) (q : Search) (same : AreSetAlike p r q.anchored) where
   joined_alike =
       joins_alike (reader p.forward) (reader r.forward) (reader p.reverse) (reader r.reverse) q (scan (reader p.forward) q)
       (ap (λ (n : Nfa). n.automaton) same.ends) back
-      ∙ ap (join (reader r.forward) (reader r.reverse) q) (ahead q refl)
+      ∙ ap (answer_by_end (reader r.forward) (reader r.reverse) q) (ahead q refl)
 
   pub told_alike : has_match p q ≡ has_match r q
   told_alike =

@@ -13,7 +13,7 @@ use Rattle.lazy_dfa.specs.Scans.{scan}
 use Rattle.lazy_dfa.specs.ScanLaws.{Agree}
 use Rattle.lazy_dfa.proofs.ForCallers.{scan_by_reach, scan_in_span}
 use Rattle.regex_pair.specs.Finding.{AnswersAt, search_at}
-use Rattle.regex_pair.specs.Joined.{is_start_known, back_from, from_start, with_start, join, joined}
+use Rattle.regex_pair.specs.Joined.{is_start_known, back_from, from_start, with_start, answer_by_end, joined}
 use Rattle.regex_pair.specs.PairLaws.{found_of, answer_at, IsInPairReach}
 use Rattle.regex_pair.specs.Pairs.{Pair}
 
@@ -40,7 +40,7 @@ known_or_not_lies f r q e false low high =
     started_lies q.start q.end e (scan r (back_from q e.0)) high (λ s is. scan_in_span r (back_from q e.0) s is)
 
 join_lies : (f r : Reader) (q : Search) (a : HalfAnswer) → ((e : ℕ × ℕ) → a ≡ found (Some e) → (q.start ≤ e.0) × (e.0 ≤ q.end)) →
-    LiesIfSome q.start q.end (found_of (join f r q a))
+    LiesIfSome q.start q.end (found_of (answer_by_end f r q a))
 join_lies f r q (found (Some e)) lies = let there = lies e refl in known_or_not_lies f r q e (is_start_known f q e.0) there.0 there.1
 join_lies f r q (found None) lies = tt
 join_lies f r q (quit b x) lies = tt
@@ -95,7 +95,7 @@ known_or_back r q g e false same = ap (with_start e) (same refl)
 join_alike : (f r : Reader) (q : Search) (g : List ℕ) (a : HalfAnswer) →
     ((e : ℕ × ℕ) → a ≡ found (Some e) → is_start_known f q e.0 ≡ false →
     scan r (back_from q e.0) ≡ scan r (back_from (record q { haystack = g }) e.0)) →
-    join f r q a ≡ join f r (record q { haystack = g }) a
+    answer_by_end f r q a ≡ answer_by_end f r (record q { haystack = g }) a
 join_alike f r q g (found (Some e)) same = known_or_back r q g e (is_start_known f q e.0) (same e refl)
 join_alike f r q g (found None) same = refl
 join_alike f r q g (quit b x) same = refl
@@ -110,5 +110,5 @@ joined_by_reach p q g in_h in_g agree =
     let high = (scan_in_span (reader p.forward) q e is).1 in
     scan_by_reach (reader p.reverse) (back_from q e.0) g (omega (arith, high, in_h)) (omega (arith, high, in_g))
     (λ x there. agree x (inr (e, record { found = is; unknown = unknown }, there))))
-    ∙ ap (join (reader p.forward) (reader p.reverse) (record q { haystack = g }))
+    ∙ ap (answer_by_end (reader p.forward) (reader p.reverse) (record q { haystack = g }))
     (scan_by_reach (reader p.forward) q g in_h in_g (λ x there. agree x (inl there)))

@@ -14,7 +14,7 @@ use Rattle.lazy_dfa.specs.ScanLaws.{HasNoQuitNear}
 use Rattle.lazy_dfa.specs.Scans.{scan}
 use Rattle.lazy_dfa.specs.SearchAnswers.{Answers, told, told_of, told_by}
 use Rattle.lazy_dfa.specs.Steps.{most_inserts}
-use Rattle.regex_pair.specs.Joined.{is_start_known, back_from, from_start, with_start, join, joined}
+use Rattle.regex_pair.specs.Joined.{is_start_known, back_from, from_start, with_start, answer_by_end, joined}
 use Rattle.regex_pair.specs.MadeSearches.{MakesHalf, MakesBack, MakesPair}
 use Rattle.regex_pair.specs.PairAnswers.{GoesBack, gives_up_forward, gives_up_back, AnswersPair, IsBackLinked, half_made, back_made_by}
 use Rattle.regex_pair.specs.PairAnswers.{back_made}
@@ -46,7 +46,7 @@ not_unknown true a b never = refl
 not_unknown false a b never = absurd (never refl)
 
 stops_joined : (f r : Reader) (q : Search) (a : HalfAnswer) → ((e : ℕ × ℕ) → a ≡ found (Some e) → is_start_known f q e.0 ≡ false → ⊥) →
-    by_end q (told a) ≡ join f r q a
+    by_end q (told a) ≡ answer_by_end f r q a
 stops_joined f r q (found (Some e)) never =
     sym (not_unknown (is_start_known f q e.0) (Ok (Some (from_start q e))) (with_start e (scan r (back_from q e.0))) (never e refl))
 stops_joined f r q (found None) never = refl
@@ -173,7 +173,7 @@ module _ (p : Pair) (q : Search) (e : HalfFound) (there : GoesBack p q (pair e))
 
   back_joined : with_half e (told (scan (reader p.reverse) back)) ≡ joined p q
   back_joined = with_back e (scan (reader p.reverse) back)
-      ∙ sym (ap (λ (a : HalfAnswer). join (reader p.forward) (reader p.reverse) q a) there.found
+      ∙ sym (ap (λ (a : HalfAnswer). answer_by_end (reader p.forward) (reader p.reverse) q a) there.found
       ∙ known_false (is_start_known (reader p.forward) q e.offset) (Ok (Some (from_start q (pair e))))
       (with_start (pair e) (scan (reader p.reverse) back)) there.unknown)
 

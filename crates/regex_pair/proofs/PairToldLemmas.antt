@@ -11,7 +11,7 @@ use Rattle.lazy_dfa.specs.Dfas.{Dfa, reader}
 use Rattle.lazy_dfa.specs.Readers.{Reader, HalfAnswer, found, quit, unsupported}
 use Rattle.lazy_dfa.specs.Scans.{scan}
 use Rattle.lazy_dfa.specs.SearchAnswers.{Answers, told}
-use Rattle.regex_pair.specs.Joined.{is_start_known, back_from, from_start, with_start, join, joined}
+use Rattle.regex_pair.specs.Joined.{is_start_known, back_from, from_start, with_start, answer_by_end, joined}
 use Rattle.regex_pair.specs.Matching.{has_match, match_search, match_told}
 use Rattle.regex_pair.specs.PairAnswers.{GoesBack}
 use Rattle.regex_pair.specs.PairTold.{TellsHalf, TellsMatch, TellsPair, tells_refusal, tells_end, tells_start, is_some_half, with_half}
@@ -44,7 +44,7 @@ known_lacks : (q : Search) (e : ℕ × ℕ) (known : Bool) (a : HalfAnswer) →
 known_lacks q e true a = refl
 known_lacks q e false a = started_lacks e a
 
-join_lacks : (f r : Reader) (q : Search) (a : HalfAnswer) → lacks (join f r q a) ≡ false
+join_lacks : (f r : Reader) (q : Search) (a : HalfAnswer) → lacks (answer_by_end f r q a) ≡ false
 join_lacks f r q (found (Some e)) = known_lacks q e (is_start_known f q e.0) (scan r (back_from q e.0))
 join_lacks f r q (found None) = refl
 join_lacks f r q (quit b x) = refl

@@ -13,7 +13,7 @@ use Rattle.lazy_dfa.specs.Scans.{scan}
 use Rattle.lazy_dfa.specs.ScanLaws.{IsInReach, scan_len}
 use Rattle.lazy_dfa.proofs.ForCallers.{scan_done, scan_few, scan_is_quiet, scan_place_is_reached, reach_is_near, reached_forward}
 use Rattle.lazy_dfa.proofs.ForCallers.{below_reach}
-use Rattle.regex_pair.specs.Joined.{is_start_known, back_from, from_start, with_start, join, joined}
+use Rattle.regex_pair.specs.Joined.{is_start_known, back_from, from_start, with_start, answer_by_end, joined}
 use Rattle.regex_pair.specs.PairAnswers.{AnswersPair, GoesBack}
 use Rattle.regex_pair.specs.PairLaws.{found_of, IsInPairReach}
 use Rattle.regex_pair.specs.Pairs.{Pair, PairCache}
@@ -34,7 +34,7 @@ end_or n None = n
 end_or n (Some f) = f.end
 
 -- an answer comes from an end or none
-end_found : (f r : Reader) (q : Search) (a : HalfAnswer) (o : Option Found) → join f r q a ≡ Ok o → (e : Option (ℕ × ℕ)) × (a ≡ found e)
+end_found : (f r : Reader) (q : Search) (a : HalfAnswer) (o : Option Found) → answer_by_end f r q a ≡ Ok o → (e : Option (ℕ × ℕ)) × (a ≡ found e)
 end_found f r q (found e) o is = (e, refl)
 end_found f r q (quit b x) o is = refused _ _ o is
 end_found f r q (unsupported mode) o is = refused _ _ o is
@@ -51,7 +51,7 @@ known_end : (q : Search) (e : ℕ × ℕ) (known : Bool) (a : HalfAnswer) (m : F
 known_end q e true a m is = ap (λ x. end_or 0 (found_of x)) is
 known_end q e false a m is = started_end e a m is
 
-match_end : (f r : Reader) (q : Search) (a : HalfAnswer) (m : Found) → join f r q a ≡ Ok (Some m) →
+match_end : (f r : Reader) (q : Search) (a : HalfAnswer) (m : Found) → answer_by_end f r q a ≡ Ok (Some m) →
     (e : ℕ × ℕ) × (a ≡ found (Some e)) × (e.0 ≡ m.end)
 match_end f r q (found (Some e)) m is = (e, refl, known_end q e (is_start_known f q e.0) (scan r (back_from q e.0)) m is)
 match_end f r q (found None) m is = none_is_some _ m (ap found_of is)
@@ -109,8 +109,8 @@ module _ (p : Pair) (q : Search) (o : Option Found) (up : (reader p.forward).aut
         let place = scan_place_is_reached f q e.0 e.1 in let fits = place.0 in absurd (omega (arith, fits, over));
     quiet = λ x from to. absurd (omega (arith, to));
     local = λ g in_g same.
-        ap (join f (reader p.reverse) (record q { haystack = g })) (scan_done f (record q { haystack = g }) over)
-        ∙ sym (ap (join f (reader p.reverse) q) (scan_done f q over)) ∙ is;
+        ap (answer_by_end f (reader p.reverse) (record q { haystack = g })) (scan_done f (record q { haystack = g }) over)
+        ∙ sym (ap (answer_by_end f (reader p.reverse) q) (scan_done f q over)) ∙ is;
   }
 
   pub joined_has_reach : HasPairReach p q o

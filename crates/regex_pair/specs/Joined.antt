@@ -32,12 +32,12 @@ with_start e (quit b x) = Err (Quit b x)
 with_start e (unsupported mode) = Err (UnsupportedAnchored mode)
 
 -- the answer by what the search for an end answers
-abbrev pub join : Reader → Reader → Search → HalfAnswer → Result (Option Found) MatchErrorKind
-join f r q (found (Some e)) = if is_start_known f q e.0 then Ok (Some (from_start q e)) else with_start e (scan r (back_from q e.0))
-join f r q (found None) = Ok None
-join f r q (quit b x) = Err (Quit b x)
-join f r q (unsupported mode) = Err (UnsupportedAnchored mode)
+abbrev pub answer_by_end : Reader → Reader → Search → HalfAnswer → Result (Option Found) MatchErrorKind
+answer_by_end f r q (found (Some e)) = if is_start_known f q e.0 then Ok (Some (from_start q e)) else with_start e (scan r (back_from q e.0))
+answer_by_end f r q (found None) = Ok None
+answer_by_end f r q (quit b x) = Err (Quit b x)
+answer_by_end f r q (unsupported mode) = Err (UnsupportedAnchored mode)
 
 -- what a search over two automata answers
 abbrev pub joined : Pair → Search → Result (Option Found) MatchErrorKind
-joined p q = join (reader p.forward) (reader p.reverse) q (scan (reader p.forward) q)
+joined p q = answer_by_end (reader p.forward) (reader p.reverse) q (scan (reader p.forward) q)

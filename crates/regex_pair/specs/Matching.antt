@@ -7,7 +7,7 @@ use Rattle.lazy_dfa.specs.Dfas.{reader}
 use Rattle.lazy_dfa.specs.Readers.{Reader, HalfAnswer, found, quit, unsupported}
 use Rattle.lazy_dfa.specs.Scans.{scan}
 use Rattle.regex_pair.specs.Pairs.{Pair, PairCache}
-use Rattle.regex_pair.specs.PairAnswers.{GivesUp}
+use Rattle.regex_pair.specs.PairAnswers.{HalfGivesUp}
 
 -- The search by which that is found out. The earliest end is enough where each end counts; else a later one may count where
 -- the earliest doesn't.
@@ -30,4 +30,4 @@ has_match p q = match_told (scan (reader p.forward) (match_search (reader p.forw
 -- It is told over whatever caches. Else memory lacked, or the search gave up.
 abbrev pub AnswersMatch : Pair → PairCache → Search → Result Bool MatchErrorKind → Type 0
 AnswersMatch p c q result = (result ≡ has_match p q) ⊎ (result ≡ Err NoMemory) ⊎
-    ((x : ℕ) × (result ≡ Err (GaveUp x)) × GivesUp p.forward c.forward (match_search (reader p.forward) q) x)
+    ((x : ℕ) × (result ≡ Err (GaveUp x)) × HalfGivesUp p.forward c.forward (match_search (reader p.forward) q) x)

@@ -22,13 +22,13 @@ pub record GoesBack (p : Pair) (q : Search) (e : ℕ × ℕ) : Type 0 where
 -- ---- answers
 
 -- a half search gave up at x, and the cache is as it was then
-abbrev pub GivesUp : Dfa → CacheValue → Search → ℕ → Type 0
-GivesUp d v q x = GivesUpAmong d v q x (passes_of (reader d) q)
+abbrev pub HalfGivesUp : Dfa → CacheValue → Search → ℕ → Type 0
+HalfGivesUp d v q x = GivesUpAmong d v q x (passes_of (reader d) q)
 
 -- one of both did
 pub data PairGivesUp (p : Pair) (c : PairCache) (q : Search) (x : ℕ) : Type 0 where
-  gives_up_forward : GivesUp p.forward c.forward q x → PairGivesUp p c q x
-  gives_up_back : (e : ℕ × ℕ) → GoesBack p q e → GivesUp p.reverse c.reverse (back_from q e.0) x → PairGivesUp p c q x
+  gives_up_forward : HalfGivesUp p.forward c.forward q x → PairGivesUp p c q x
+  gives_up_back : (e : ℕ × ℕ) → GoesBack p q e → HalfGivesUp p.reverse c.reverse (back_from q e.0) x → PairGivesUp p c q x
 
 -- A search answers the joined answer, over whatever caches. Else memory lacked, or it gave up.
 abbrev pub AnswersPair : Pair → PairCache → Search → Result (Option Found) MatchErrorKind → Type 0

@@ -7,7 +7,7 @@ use Rattle.std.proofs.Math.Nat.{pow-succ', le-max_left, le-max_right, max-le}
 use Rattle.search_core.specs.Classes.{IsLeastExponent}
 use Rattle.determinize_core.specs.States.{StateValue}
 use Rattle.determinize_core.specs.StateBytes.{encoded}
-use Rattle.lazy_dfa.specs.Accounting.{Measures, power_from, longest_state, state_cost, states_cost, fresh_usage, usage, least_capacity}
+use Rattle.lazy_dfa.specs.Accounting.{Measures, power_from, longest_state, state_cost, states_cost, fresh_usage, measured_usage, least_capacity}
 use Rattle.lazy_dfa.specs.Accounting.{effective_capacity}
 
 -- ---- powers of two
@@ -60,15 +60,15 @@ pub costs_of_more : (stride : ℕ) (held : List StateValue) (v : StateValue) →
 costs_of_more stride [] v = omega arith
 costs_of_more stride (w ∷ held) v = let rest = costs_of_more stride held v in omega (arith, rest)
 
-pub usage_of_none : (m : Measures) → usage m [] ≡ fresh_usage m
+pub usage_of_none : (m : Measures) → measured_usage m [] ≡ fresh_usage m
 usage_of_none m = omega arith
 
 pub usage_of_more : (m : Measures) (held : List StateValue) (v : StateValue) →
-    usage m (held ++ v ∷ []) ≡ usage m held + state_cost m.stride (length (encoded v))
+    measured_usage m (held ++ v ∷ []) ≡ measured_usage m held + state_cost m.stride (length (encoded v))
 usage_of_more m held v = let rest = costs_of_more m.stride held v in omega (arith, rest)
 
 pub two_fit : (m : Measures) (v w : StateValue) → length (encoded v) ≤ longest_state m → length (encoded w) ≤ longest_state m →
-    usage m (v ∷ w ∷ []) ≤ least_capacity m
+    measured_usage m (v ∷ w ∷ []) ≤ least_capacity m
 two_fit m v w short small = fits (length (encoded v)) (length (encoded w)) (longest_state m) (fresh_usage m) short small
   where
     fits : (a b longest fresh : ℕ) → a ≤ longest → b ≤ longest →

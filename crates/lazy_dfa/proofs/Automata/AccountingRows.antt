@@ -9,7 +9,7 @@ use Rattle.determinize_core.specs.LookBehind.{families_of}
 use Rattle.determinize_core.specs.KnownBefore.{known_lines, known_words}
 use Rattle.determinize_core.specs.Starts.{start_of}
 use Rattle.determinize_core.specs.Steps.{start_value, step_value}
-use Rattle.lazy_dfa.specs.Accounting.{Measures, measures_of, fresh_usage, least_capacity, effective_capacity, usage}
+use Rattle.lazy_dfa.specs.Accounting.{Measures, measures_of, fresh_usage, least_capacity, effective_capacity, measured_usage}
 
 -- no byte is told apart from another
 abbrev one_class : List ℕ
@@ -79,14 +79,14 @@ behind_a = step_value letter (one_of 10) LeftmostFirst started (Some 97)
 abbrev behind_b : StateValue
 behind_b = step_value letter (one_of 10) LeftmostFirst behind_a (Some 98)
 
-usage_with_start : usage measures (started ∷ []) ≡ 380
+usage_with_start : measured_usage measures (started ∷ []) ≡ 380
 unfolding families_of known_lines known_words
 usage_with_start = refl
 
-usage_behind_a : usage measures (started ∷ behind_a ∷ []) ≡ 445
+usage_behind_a : measured_usage measures (started ∷ behind_a ∷ []) ≡ 445
 unfolding families_of known_lines known_words
 usage_behind_a = refl
 
-usage_behind_b : usage measures (started ∷ behind_a ∷ behind_b ∷ []) ≡ 506
+usage_behind_b : measured_usage measures (started ∷ behind_a ∷ behind_b ∷ []) ≡ 506
 unfolding families_of known_lines known_words
 usage_behind_b = refl

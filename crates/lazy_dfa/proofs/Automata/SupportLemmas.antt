@@ -7,7 +7,7 @@ use Rattle.search_types.specs.Modes.{is_anchored, is_supported}
 use Rattle.search_types.specs.Places.{counts}
 use Rattle.determinize_core.specs.States.{StateValue}
 use Rattle.determinize_core.specs.Steps.{unit_at, unit_behind}
-use Rattle.lazy_dfa.specs.Passes.{index_at, index_behind, is_dead, is_empty, unless_quit, if_supported, recorded, next_value, next_place}
+use Rattle.lazy_dfa.specs.Passes.{index_at, index_behind, is_dead, is_empty, unless_quit, if_supported, best_recorded, next_value, next_place}
 use Rattle.lazy_dfa.specs.Passes.{pass_from, start_name, start_or_dead, first_value, pass}
 use Rattle.lazy_dfa.specs.Readers.{Reader, HalfAnswer, found}
 use Rattle.lazy_dfa.specs.Scans.{unless_split, passes, first_place, begun_at, scan}
@@ -25,8 +25,8 @@ module _ (r : Reader) (b : Bool) where
   from_alike earliest h (suc n) i v best =
       ap (λ (x : HalfAnswer). if is_dead v then found best else
       unless_quit r.quits (unit_at r.automaton.reverse h i) (index_at r.automaton.reverse i)
-      (if earliest && not (is_empty (next_value r h i v).matches) then found (recorded i (next_value r h i v) best) else x))
-      (from_alike earliest h n (next_place r i) (next_value r h i v) (recorded i (next_value r h i v) best))
+      (if earliest && not (is_empty (next_value r h i v).matches) then found (best_recorded i (next_value r h i v) best) else x))
+      (from_alike earliest h n (next_place r i) (next_value r h i v) (best_recorded i (next_value r h i v) best))
 
   start_alike : (behind o : Option ℕ) → start_or_dead r behind o ≡ start_or_dead other behind o
   unfolding start_or_dead

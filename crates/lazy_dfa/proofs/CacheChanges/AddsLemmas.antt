@@ -6,10 +6,10 @@ use Rattle.std.proofs.lemmas.Bool.Decides.{leb_tells}
 use Rattle.determinize_core.specs.States.{StateValue}
 use Rattle.determinize_core.specs.Starts.{StartValue, start_of}
 use Rattle.determinize_core.specs.declared.start.Start.{Start}
-use Rattle.lazy_dfa.specs.ConfigValue.{clears_of, bytes_of, specializes}
+use Rattle.lazy_dfa.specs.ConfigValue.{clears_of, minimum_bytes_of, specializes}
 use Rattle.lazy_dfa.specs.Dfas.{Dfa, IsStateOf, after, is_dead, start_in, first_state, cost}
 use Rattle.lazy_dfa.specs.Ids.{tag}
-use Rattle.lazy_dfa.specs.Caches.{CacheValue, IsShaped, Fits, fits, is_refused, place_of, state_at, id_at, with_state, usage, cleared}
+use Rattle.lazy_dfa.specs.Caches.{CacheValue, IsShaped, Fits, fits, is_refused, row_holding, state_at, id_at, with_state, usage, cleared}
 use Rattle.lazy_dfa.specs.Readers.{is_quit}
 use Rattle.lazy_dfa.specs.StartCalls.{mode_of, start_refusal, StartAdds}
 use Rattle.lazy_dfa.specs.Steps.{Added, Grew, HasStatesOf, ClearsFor, ComesTo, StepAdds, kept_of}
@@ -33,8 +33,8 @@ fits_true d s v f = both_true (nat_le (usage v + cost v.stride s) d.capacity) (n
     (le_true (usage v + cost v.stride s) d.capacity f.0) (le_true (length v.cells + v.stride) tag f.1)
 
 -- room is made by a clear
-pub clears_for : (d : Dfa) (from : Option ℕ) (s : StateValue) (v mid : CacheValue) → IsStateOf d s → is_dead s ≡ false → place_of s v.states ≡ None →
-    fits d.capacity s v ≡ false → is_refused (clears_of d.options) (bytes_of d.options) v ≡ false →
+pub clears_for : (d : Dfa) (from : Option ℕ) (s : StateValue) (v mid : CacheValue) → IsStateOf d s → is_dead s ≡ false → row_holding s v.states ≡ None →
+    fits d.capacity s v ≡ false → is_refused (clears_of d.options) (minimum_bytes_of d.options) v ≡ false →
     (mid ≡ cleared v) ⊎ (mid ≡ kept_of from v) → ClearsFor d from s v mid
 clears_for d from s v mid is alive fresh full allowed left =
     record { is = is; needs = needs_all d v s alive fresh full; allowed = allowed; left = left }
@@ -46,7 +46,7 @@ module _ (d : Dfa) (b : Bool) (from : Option ℕ) (s : StateValue) (v mid new : 
   comes_alone (inr x) e = inr (record { middle = mid; clears = x; states = inl (same_states mid new e) })
 
   -- or the state was
-  pub comes_with : (mid ≡ v) ⊎ ClearsFor d from s v mid → IsStateOf d s → is_dead s ≡ false → place_of s v.states ≡ None → Fits d.capacity s mid →
+  pub comes_with : (mid ≡ v) ⊎ ClearsFor d from s v mid → IsStateOf d s → is_dead s ≡ false → row_holding s v.states ≡ None → Fits d.capacity s mid →
       new ≡ with_state b s mid → ComesTo (Added v new) d b from s v new
   comes_with (inl f) is alive fresh fit e = inl (
     added_one v mid new b s shape f e,

@@ -14,13 +14,13 @@ use Rattle.lazy_dfa.specs.Dfas.{cost}
 use Rattle.lazy_dfa.specs.Accounting.{states_cost}
 use Rattle.lazy_dfa.specs.Ids.{tagged, tag, unknown_id}
 use Rattle.lazy_dfa.specs.declared.progress.Progress.{Progress}
-use Rattle.lazy_dfa.specs.Caches.{CacheValue, IsShaped, IsKept, Agrees, same, place_of, state_at, new_id, with_state, cleared, empty_cache}
+use Rattle.lazy_dfa.specs.Caches.{CacheValue, IsShaped, IsKept, Agrees, same, row_holding, state_at, new_id, with_state, cleared, empty_cache}
 use Rattle.lazy_dfa.specs.Caches.{sentinel_rows}
 use Rattle.lazy_dfa.proofs.CacheChanges.ListLemmas.{or_last, or_last-false, pf-append, none_at, one_longer, below_or_last, at_old, at_last}
 
 pub Agrees-place : {S : Type 0} (states : List StateValue) (m : HashMap StateValue ℕ S) (q : StateValue) → Agrees states m →
-    get_by (same q) m ≡ place_of q states
-unfolding Agrees place_of
+    get_by (same q) m ≡ row_holding q states
+unfolding Agrees row_holding
 Agrees-place states m q a = a q
 
 pub Agrees-empty : {S : Type 0} (m : HashMap StateValue ℕ S) → m.entries ≡ [] → Agrees [] m
@@ -49,10 +49,10 @@ find_after states m s q false a fresh here there =
     ∙ sym (pf-append (same q) 0 states s ∙ ap (λ (b : Bool). or_last (position_from (same q) 0 states) b (0 + length states)) there))
 
 pub Agrees-add : {S : Type 0} (states : List StateValue) (m n : HashMap StateValue ℕ S) (s : StateValue) (k : ℕ) →
-    Agrees states m → place_of s states ≡ None → k ≡ length states →
+    Agrees states m → row_holding s states ≡ None → k ≡ length states →
     ((q : StateValue) → get_by (same q) n ≡ cond (same s q) (Some k) (get_by (same q) m)) →
     Agrees (states ++ s ∷ []) n
-unfolding Agrees place_of
+unfolding Agrees row_holding
 Agrees-add states m n s k a fresh e put q =
     let there : same q s ≡ same s q =
     same_from_decides _ _ (bytes_eq-Decides (encoded q) (encoded s))
@@ -64,9 +64,9 @@ pub states_cost-append : (stride : ℕ) (states : List StateValue) (s : StateVal
 states_cost-append stride [] s = omega arith
 states_cost-append stride (x ∷ states) s = let e = states_cost-append stride states s in omega (arith, e)
 
-pub fresh_at : (s : StateValue) (states : List StateValue) (j : ℕ) → place_of s states ≡ None → j < length states →
+pub fresh_at : (s : StateValue) (states : List StateValue) (j : ℕ) → row_holding s states ≡ None → j < length states →
     same s (get_or states j dead) ≡ false
-unfolding place_of
+unfolding row_holding
 fresh_at s states j e l = none_at (same s) dead 0 states j e l
 
 pub grown : (cells : List ℕ) (stride : ℕ) → length (cells ++ replicate stride unknown_id) ≡ length cells + stride
@@ -75,7 +75,7 @@ grown cells stride = length-append cells (replicate stride unknown_id) ∙ ap (�
 row_more : (n stride : ℕ) → (n + 1 + 3) * stride ≡ (n + 3) * stride + stride
 row_more n stride = omega arith
 
-pub IsShaped-added : (v : CacheValue) (b : Bool) (s : StateValue) → IsShaped v → IsState s → place_of s v.states ≡ None →
+pub IsShaped-added : (v : CacheValue) (b : Bool) (s : StateValue) → IsShaped v → IsState s → row_holding s v.states ≡ None →
     length v.cells + v.stride ≤ tag →
     IsShaped (with_state b s v)
 IsShaped-added v b s i real fresh room =
@@ -157,7 +157,7 @@ IsKept-cleared v m n used clears starts progress k e =
     }
 
 pub IsKept-added : {S : Type 0} (v : CacheValue) (m n : HashMap StateValue ℕ S) (used k add : ℕ) (b : Bool) (s : StateValue) →
-    IsKept v m used → IsState s → place_of s v.states ≡ None → length v.cells + v.stride ≤ tag → k ≡ length v.states →
+    IsKept v m used → IsState s → row_holding s v.states ≡ None → length v.cells + v.stride ≤ tag → k ≡ length v.states →
     add ≡ cost v.stride s →
     ((q : StateValue) → get_by (same q) n ≡ cond (same s q) (Some k) (get_by (same q) m)) →
     IsKept (with_state b s v) n (used + add)
@@ -229,12 +229,12 @@ IsKept-made stride fresh starts bound one classes states ids cells known n posit
 
 -- ---- found and not
 
-pub place_in_none : (s : StateValue) (states : List StateValue) → states ≡ [] → place_of s states ≡ None
-unfolding place_of
+pub place_in_none : (s : StateValue) (states : List StateValue) → states ≡ [] → row_holding s states ≡ None
+unfolding row_holding
 place_in_none s states e = ap (position_from (same s) 0) e
 
-pub place_in_one : (s x : StateValue) → same s x ≡ false → place_of s (x ∷ []) ≡ None
-unfolding place_of
+pub place_in_one : (s x : StateValue) → same s x ≡ false → row_holding s (x ∷ []) ≡ None
+unfolding row_holding
 place_in_one s x e = ap (λ (b : Bool). cond b (Some 0) None) e
 
 -- what is read at a row is the row's state

@@ -8,12 +8,12 @@ use Rattle.std.proofs.lemmas.List.{append_assoc, append-nil, length-append}
 use Rattle.std.proofs.lemmas.List.Elements.{All-nil, All-head, All-tail, All-push}
 use Rattle.determinize_core.specs.States.{StateValue}
 use Rattle.lazy_dfa.specs.Accounting.{states_cost}
-use Rattle.lazy_dfa.specs.Caches.{CacheValue, IsCacheOf, usage, fits, is_refused, needs_clear, with_state, cleared, place_of, greatest}
+use Rattle.lazy_dfa.specs.Caches.{CacheValue, IsCacheOf, usage, fits, is_refused, needs_clear, with_state, cleared, row_holding, greatest}
 use Rattle.lazy_dfa.specs.Changes.{Changes, unchanged, keeps, adds, clears, greatest_cost, HasRoomFor, IsSpent, FirstClear, AddsFew}
-use Rattle.lazy_dfa.specs.ConfigValue.{clears_of, bytes_of}
+use Rattle.lazy_dfa.specs.ConfigValue.{clears_of, minimum_bytes_of}
 use Rattle.lazy_dfa.specs.Dfas.{Dfa, IsDfa, IsStateOf, is_dead, cost}
 use Rattle.lazy_dfa.specs.Ids.{tag}
-use Rattle.lazy_dfa.specs.Linked.{Grows}
+use Rattle.lazy_dfa.specs.Linked.{CacheGrows}
 use Rattle.lazy_dfa.specs.Steps.{HasStatesOf, AddsState, MakesRoom, kept_of}
 use Rattle.lazy_dfa.proofs.CacheChanges.LinkedLemmas.{grows_refl, grows_trans}
 
@@ -61,7 +61,7 @@ pub record Cleared (d : Dfa) (P : Bool → StateValue → Type 0) (v w : CacheVa
   pub made : P is_start state
   pub is : IsStateOf d state
   pub needs : needs_clear d before state ≡ true
-  pub allowed : is_refused (clears_of d.options) (bytes_of d.options) before ≡ false
+  pub allowed : is_refused (clears_of d.options) (minimum_bytes_of d.options) before ≡ false
   pub cleared : min (v.clears + 1) greatest ≤ w.clears
 
 module _ (d : Dfa) (P : Bool → StateValue → Type 0) (fit : IsDfa d) (v : CacheValue) (own : IsCacheOf d v) where
@@ -70,7 +70,7 @@ module _ (d : Dfa) (P : Bool → StateValue → Type 0) (fit : IsDfa d) (v : Cac
 
   add_none : (w : CacheValue) (n : ℕ) → w ≡ v → AddsFew d P v w n
   add_none w n e = record {
-    grows = subst (Grows d v) (sym e) (grows_refl d v);
+    grows = subst (CacheGrows d v) (sym e) (grows_refl d v);
     added = [];
     states = ap (λ (x : CacheValue). x.states) e ∙ sym (append-nil v.states);
     few = omega arith;
@@ -78,7 +78,7 @@ module _ (d : Dfa) (P : Bool → StateValue → Type 0) (fit : IsDfa d) (v : Cac
     are = All-nil (IsStateOf d);
   }
 
-  add_keeps : (mid w : CacheValue) (n : ℕ) → Grows d mid w → HasStatesOf w mid → AddsFew d P v mid n → AddsFew d P v w n
+  add_keeps : (mid w : CacheValue) (n : ℕ) → CacheGrows d mid w → HasStatesOf w mid → AddsFew d P v mid n → AddsFew d P v w n
   add_keeps mid w n g e a = record {
     grows = grows_trans d v mid w fit own a.grows g;
     added = a.added;
@@ -88,7 +88,7 @@ module _ (d : Dfa) (P : Bool → StateValue → Type 0) (fit : IsDfa d) (v : Cac
     are = a.are;
   }
 
-  add_one : (b : Bool) (s : StateValue) (mid w : CacheValue) (m n : ℕ) → m < n → P b s → Grows d mid w → AddsState d b s mid w →
+  add_one : (b : Bool) (s : StateValue) (mid w : CacheValue) (m n : ℕ) → m < n → P b s → CacheGrows d mid w → AddsState d b s mid w →
       AddsFew d P v mid m → AddsFew d P v w n
   add_one b s mid w m n l made g x a = record {
     grows = grows_trans d v mid w fit own a.grows g;
@@ -207,7 +207,7 @@ module _ (d : Dfa) (P : Bool → StateValue → Type 0) (fit : IsDfa d) (v : Cac
 
       never : Cleared d P v w n → ⊥
       never x = true≢false (sym (refused x) ∙ (ap (λ (o : Option ℕ). is_refused (Some spent.0) o x.before) (sym spent.2)
-          ∙ (ap (λ (o : Option ℕ). is_refused o (bytes_of d.options) x.before) (sym spent.1) ∙ x.allowed)))
+          ∙ (ap (λ (o : Option ℕ). is_refused o (minimum_bytes_of d.options) x.before) (sym spent.1) ∙ x.allowed)))
 
   -- ---- room
 
@@ -280,5 +280,5 @@ module _ (d : Dfa) (P : Bool → StateValue → Type 0) (fit : IsDfa d) (v : Cac
       no_need false true false e = absurd (true≢false (sym e))
 
       never : Cleared d P v w n → ⊥
-      never x = true≢false (sym x.needs ∙ no_need (is_dead x.state) (is_none (place_of x.state x.before.states))
+      never x = true≢false (sym x.needs ∙ no_need (is_dead x.state) (is_none (row_holding x.state x.before.states))
           (fits d.capacity x.state x.before) (fits_before x))

@@ -11,11 +11,11 @@ use Rattle.std.proofs.lemmas.Slice.Eq.{bytes_eq-Decides}
 use lib.ListN.{get_or-append}
 use Rattle.determinize_core.specs.StateBytes.{encoded, is_match}
 use Rattle.determinize_core.specs.States.{StateValue, dead}
-use Rattle.lazy_dfa.specs.ConfigValue.{clears_of, bytes_of}
+use Rattle.lazy_dfa.specs.ConfigValue.{clears_of, minimum_bytes_of}
 use Rattle.lazy_dfa.specs.Readers.{is_quit}
 use Rattle.lazy_dfa.specs.Dfas.{Dfa, IsDfa, IsUnit, after, class_of, is_dead, cost}
 use Rattle.lazy_dfa.specs.Ids.{tag, unknown_id, is_sentinel, tagged, has_tag, start_tag}
-use Rattle.lazy_dfa.specs.Caches.{CacheValue, IsShaped, IsCacheOf, Leads, Names, names_dead, names_held, HeldAt, IsRow, same, place_of}
+use Rattle.lazy_dfa.specs.Caches.{CacheValue, IsShaped, IsCacheOf, Leads, Names, names_dead, names_held, HeldAt, IsRow, same, row_holding}
 use Rattle.lazy_dfa.specs.Caches.{state_at, id_at, cell_at, with_state, cleared, usage, fits, Fits, is_refused, needs_clear, lacks_room}
 use Rattle.lazy_dfa.specs.Steps.{IsHeld, StepsTo, Added, Grew, WasCleared, ClearedFrom, kept_alone, MadeRoom, AddsOrClears, KeepsOrClears}
 use Rattle.lazy_dfa.specs.Steps.{noted, IsKnown, IsNoted, GivesUp, StepNeedsClear, IsCause, IsStepCause}
@@ -354,31 +354,31 @@ module _ (d : Dfa) (v : CacheValue) (s : StateValue) where
   dead_one = is_dead s
 
   abbrev new_one : Bool
-  new_one = is_none (place_of s v.states)
+  new_one = is_none (row_holding s v.states)
 
   abbrev fitting : Bool
   fitting = fits d.capacity s v
 
   abbrev refused : Bool
-  refused = is_refused (clears_of d.options) (bytes_of d.options) v
+  refused = is_refused (clears_of d.options) (minimum_bytes_of d.options) v
 
   pub lacks_not_dead : is_dead s ≡ true → lacks_room d v s ≡ false
   lacks_not_dead e = no_dead dead_one new_one fitting refused e
 
-  pub lacks_not_found : (o : Option ℕ) → o ≡ place_of s v.states → is_none o ≡ false → lacks_room d v s ≡ false
+  pub lacks_not_found : (o : Option ℕ) → o ≡ row_holding s v.states → is_none o ≡ false → lacks_room d v s ≡ false
   lacks_not_found o e n = no_new dead_one new_one fitting refused (ap is_none (sym e) ∙ n)
 
   pub lacks_not_fitting : fits d.capacity s v ≡ true → lacks_room d v s ≡ false
   lacks_not_fitting e = no_fit dead_one new_one fitting refused e
 
-  pub lacks_not_allowed : is_refused (clears_of d.options) (bytes_of d.options) v ≡ false → lacks_room d v s ≡ false
+  pub lacks_not_allowed : is_refused (clears_of d.options) (minimum_bytes_of d.options) v ≡ false → lacks_room d v s ≡ false
   lacks_not_allowed e = no_refusal dead_one new_one fitting refused e
 
-  pub lacks_all : is_dead s ≡ false → place_of s v.states ≡ None → fits d.capacity s v ≡ false →
-      is_refused (clears_of d.options) (bytes_of d.options) v ≡ true → lacks_room d v s ≡ true
+  pub lacks_all : is_dead s ≡ false → row_holding s v.states ≡ None → fits d.capacity s v ≡ false →
+      is_refused (clears_of d.options) (minimum_bytes_of d.options) v ≡ true → lacks_room d v s ≡ true
   lacks_all a b c e = all_refuse dead_one new_one fitting refused a (ap is_none b) c e
 
-  pub needs_all : is_dead s ≡ false → place_of s v.states ≡ None → fits d.capacity s v ≡ false → needs_clear d v s ≡ true
+  pub needs_all : is_dead s ≡ false → row_holding s v.states ≡ None → fits d.capacity s v ≡ false → needs_clear d v s ≡ true
   needs_all a b c = all_need dead_one new_one fitting a (ap is_none b) c
 
   pub fits_is : fits d.capacity s v ≡ true → Fits d.capacity s v

@@ -17,8 +17,8 @@ use Rattle.lazy_dfa.specs.ConfigValue.{kind_of}
 use Rattle.lazy_dfa.specs.Readers.{is_quit}
 use Rattle.lazy_dfa.specs.Dfas.{Dfa, IsDfa, IsStateOf, IsUnit, Alike, after, first_state, start_in, class_of, is_dead}
 use Rattle.lazy_dfa.specs.Ids.{tag, tagged, unknown_id, quit_id}
-use Rattle.lazy_dfa.specs.Caches.{CacheValue, IsShaped, IsCacheOf, Leads, Names, names_dead, names_held, HeldAt, IsRow, same, place_of}
-use Rattle.lazy_dfa.specs.Caches.{state_at, id_at, cell_at, slot, Begins, new_id, with_state, cleared, Fits}
+use Rattle.lazy_dfa.specs.Caches.{CacheValue, IsShaped, IsCacheOf, Leads, Names, names_dead, names_held, HeldAt, IsRow, same, row_holding}
+use Rattle.lazy_dfa.specs.Caches.{state_at, id_at, cell_at, slot_of_start, Begins, new_id, with_state, cleared, Fits}
 use Rattle.lazy_dfa.proofs.CacheChanges.ListLemmas.{found_at, one_longer, below_or_last, at_old, at_last}
 use Rattle.lazy_dfa.proofs.CacheChanges.CacheLemmas.{IsShaped-added, IsShaped-cleared, states_cost-append, grown, place_in_none, place_in_one, fresh_at}
 use Rattle.std.proofs.lemmas.Bool.Decides.{leb_tells}
@@ -127,7 +127,7 @@ blank v k c i e l =
     ∙ (get_or-append-add v.cells (replicate v.stride unknown_id) c 0 ∙ get_or-replicate v.stride c unknown_id 0 l)
 
 pub is_cache_added : (d : Dfa) (v : CacheValue) (b : Bool) (s : StateValue) → IsDfa d → IsCacheOf d v → IsState s →
-    place_of s v.states ≡ None → Fits d.capacity s v →
+    row_holding s v.states ≡ None → Fits d.capacity s v →
     s ≢ dead → IsStateOf d s → IsCacheOf d (with_state b s v)
 is_cache_added d v b s made own real fresh fits alive is =
     let n = length v.states in
@@ -160,7 +160,7 @@ is_cache_added d v b s made own real fresh fits alive is =
           let low : class_of d.classes u < v.stride = rw own.stride (made.classed u unit) in
           absurd (known (blank v k (class_of d.classes u) own.shape e low)))
           (below_or_last k n (rw long at l));
-      starts = λ m t l known q e. names_added v b s (get_or v.starts (slot m t) 0) (first_state d t q) own.shape
+      starts = λ m t l known q e. names_added v b s (get_or v.starts (slot_of_start m t) 0) (first_state d t q) own.shape
           (own.starts m t l known q e);
     }
 
@@ -176,7 +176,7 @@ is_cache_cleared d v own = record {
   lives = λ k l. absurd (omega (arith, l));
   states = λ k l. absurd (omega (arith, l));
   steps = λ k u l unit known. absurd (omega (arith, l));
-  starts = λ m t l known. absurd (known (get_or-replicate (length v.starts) (slot m t) unknown_id 0 (rw length-replicate at l)));
+  starts = λ m t l known. absurd (known (get_or-replicate (length v.starts) (slot_of_start m t) unknown_id 0 (rw length-replicate at l)));
 }
 
 shape_cells : (v : CacheValue) (cells : List ℕ) → length cells ≡ length v.cells → IsShaped v → IsShaped (record v { cells = cells })
@@ -229,7 +229,7 @@ is_cache_set d v k to u made own l unit there =
           subst (λ (x : ℕ). Leads d (record v { cells = cells }) (state_at v j) w x) (sym read)
           (leads_cells d v cells (state_at v j) w (cell_at v j e) (own.steps j w below unit2 (λ z. known (read ∙ z)))))
           (cases_eq ((j + 3) * v.stride + e) at);
-      starts = λ m t l known q e. names_cells v cells (get_or v.starts (slot m t) 0) (first_state d t q) (own.starts m t l known q e);
+      starts = λ m t l known q e. names_cells v cells (get_or v.starts (slot_of_start m t) 0) (first_state d t q) (own.starts m t l known q e);
     }
 
 -- ---- starts
@@ -253,7 +253,7 @@ numbered_back LineCR = (refl, omega arith)
 numbered_back CustomLineTerminator = (refl, omega arith)
 numbered_back CustomWordLineTerminator = (refl, omega arith)
 
-same_slot : (m n : ℕ) (s t : Start) → slot m s ≡ slot n t → (m ≡ n) × (s ≡ t)
+same_slot : (m n : ℕ) (s t : Start) → slot_of_start m s ≡ slot_of_start n t → (m ≡ n) × (s ≡ t)
 same_slot m n s t e =
     let f = (numbered_back s).1 in
     let g = (numbered_back t).1 in
@@ -282,38 +282,38 @@ shape_starts v starts i = record {
   apart = i.apart;
 }
 
-pub is_cache_started : (d : Dfa) (v : CacheValue) (m : ℕ) (s : Start) (to : ℕ) → IsCacheOf d v → slot m s < length v.starts →
+pub is_cache_started : (d : Dfa) (v : CacheValue) (m : ℕ) (s : Start) (to : ℕ) → IsCacheOf d v → slot_of_start m s < length v.starts →
     Begins d v m s to →
-    IsCacheOf d (record v { starts = set v.starts (slot m s) to })
+    IsCacheOf d (record v { starts = set v.starts (slot_of_start m s) to })
 is_cache_started d v m s to own inside there =
-    let starts = set v.starts (slot m s) to in
+    let starts = set v.starts (slot_of_start m s) to in
     record {
       shape = shape_starts v starts own.shape;
       stride = own.stride;
       fresh = own.fresh;
       bound = own.bound;
       classes = own.classes;
-      slots = length-set v.starts (slot m s) to ∙ own.slots;
+      slots = length-set v.starts (slot_of_start m s) to ∙ own.slots;
       within = own.within;
       lives = own.lives;
       states = own.states;
       steps = λ k u l unit known. leads_starts d v starts (state_at v k) u (cell_at v k (class_of d.classes u))
           (own.steps k u l unit known);
       starts = λ n t l known q e. ⊎_elim
-          (λ (is : slot n t ≡ slot m s).
+          (λ (is : slot_of_start n t ≡ slot_of_start m s).
           let both = same_slot n m t s is in
-          let read : get_or starts (slot n t) 0 ≡ to = ap (λ (i : ℕ). get_or starts i 0) is
-          ∙ get_or-set_same v.starts (slot m s) to 0 inside in
+          let read : get_or starts (slot_of_start n t) 0 ≡ to = ap (λ (i : ℕ). get_or starts i 0) is
+          ∙ get_or-set_same v.starts (slot_of_start m s) to 0 inside in
           let f : start_in d m ≡ Some q = ap (start_in d) (sym both.0) ∙ e in
           subst (λ (x : ℕ). Names (record v { starts = starts }) x (first_state d t q)) (sym read)
           (subst (λ (x : Start). Names (record v { starts = starts }) to (first_state d x q)) (sym both.1)
           (names_starts v starts to (first_state d s q) (there q f))))
-          (λ (ne : slot n t ≢ slot m s).
-          let read : get_or starts (slot n t) 0 ≡ get_or v.starts (slot n t) 0 = get_or-set_other v.starts (slot m s) (slot n t) to 0 ne in
+          (λ (ne : slot_of_start n t ≢ slot_of_start m s).
+          let read : get_or starts (slot_of_start n t) 0 ≡ get_or v.starts (slot_of_start n t) 0 = get_or-set_other v.starts (slot_of_start m s) (slot_of_start n t) to 0 ne in
           subst (λ (x : ℕ). Names (record v { starts = starts }) x (first_state d t q)) (sym read)
-          (names_starts v starts (get_or v.starts (slot n t) 0) (first_state d t q)
+          (names_starts v starts (get_or v.starts (slot_of_start n t) 0) (first_state d t q)
           (own.starts n t (rw length-set at l) (λ z. known (read ∙ z)) q e)))
-          (cases_eq (slot n t) (slot m s));
+          (cases_eq (slot_of_start n t) (slot_of_start m s));
     }
 
 -- ---- what calls do
@@ -323,17 +323,17 @@ alive_of v e f = true≢false (ap is_dead (sym f) ∙ e)
 
 module _ (v : CacheValue) (s : StateValue) (i : IsShaped v) (real : IsState s) (tells : (v w : StateValue) → IsState v → IsState w →
     encoded v ≡ encoded w → v ≡ w) where
-  found_held : (k : ℕ) → place_of s v.states ≡ Some k → (k < length v.states) × HeldAt v (id_at v k) s
-  unfolding place_of
+  found_held : (k : ℕ) → row_holding s v.states ≡ Some k → (k < length v.states) × HeldAt v (id_at v k) s
+  unfolding row_holding
   found_held k e =
       let f = found_at (same s) dead v.states k e in
       (f.0, (k, f.0, refl, tells s (state_at v k) real (i.real k f.0) ((bytes_eq-Decides (encoded s) (encoded (state_at v k))).0 f.1)))
 
-  pub held_some : (o : Option ℕ) → o ≡ place_of s v.states → IfSome o (λ k. HeldAt v (id_at v k) s)
+  pub held_some : (o : Option ℕ) → o ≡ row_holding s v.states → IfSome o (λ k. HeldAt v (id_at v k) s)
   held_some None e = tt
   held_some (Some k) e = (found_held k (sym e)).1
 
-  pub row_some : (o : Option ℕ) → o ≡ place_of s v.states → IfSome o (λ k. k < length v.states)
+  pub row_some : (o : Option ℕ) → o ≡ row_holding s v.states → IfSome o (λ k. k < length v.states)
   row_some None e = tt
   row_some (Some k) e = (found_held k (sym e)).0
 
@@ -366,7 +366,7 @@ module _ (d : Dfa) (v : CacheValue) (k : ℕ) (made : IsDfa d) (own : IsCacheOf 
       let short = (own.states k l).short in
       (omega (arith, made.enough, short, is.short, own.stride, own.fresh), omega (arith, few, more, own.shape.narrow))
 
-  pub fresh_beside : (b : Bool) (s : StateValue) → place_of s v.states ≡ None → place_of s (with_state b x (cleared v)).states ≡ None
+  pub fresh_beside : (b : Bool) (s : StateValue) → row_holding s v.states ≡ None → row_holding s (with_state b x (cleared v)).states ≡ None
   fresh_beside b s none = place_in_one s x (fresh_at s v.states k none l)
 
   pub is_cache_refused : (w : CacheValue) → (w ≡ v) ⊎ (w ≡ cleared v) → IsCacheOf d w
@@ -503,17 +503,17 @@ pub first_is : (d : Dfa) (s : Start) (q : ℕ) (r : StateValue) → IsDfa d → 
     IsStateOf d r
 first_is d s q r made l e = subst (IsStateOf d) (sym e) (first_below d s q made l)
 
-pub known_begins : (d : Dfa) (v : CacheValue) (m i q id : ℕ) (s : Start) → IsCacheOf d v → i ≡ slot m s → slot m s < length v.starts →
+pub known_begins : (d : Dfa) (v : CacheValue) (m i q id : ℕ) (s : Start) → IsCacheOf d v → i ≡ slot_of_start m s → slot_of_start m s < length v.starts →
     start_in d m ≡ Some q →
     id ≡ get_or v.starts i 0 → nat_le unknown_id id ≡ false → Names v id (first_state d s q)
 known_begins d v m i q id s own at inside named e known =
-    let read : id ≡ get_or v.starts (slot m s) 0 = e ∙ ap (λ (n : ℕ). get_or v.starts n 0) at in
+    let read : id ≡ get_or v.starts (slot_of_start m s) 0 = e ∙ ap (λ (n : ℕ). get_or v.starts n 0) at in
     subst (λ (n : ℕ). Names v n (first_state d s q)) (sym read)
     (own.starts m s inside (λ z. let l = lt_of unknown_id id known in absurd (omega (arith, l, read, z))) q named)
 
-module _ (d : Dfa) (v w : CacheValue) (m i q to : ℕ) (s : Start) (state : StateValue) (at : i ≡ slot m s) (is : state ≡ first_state d s q)
+module _ (d : Dfa) (v w : CacheValue) (m i q to : ℕ) (s : Start) (state : StateValue) (at : i ≡ slot_of_start m s) (is : state ≡ first_state d s q)
     (names : Names v to state) (e : w ≡ record v { starts = set v.starts i to }) where
-  pub started : IsCacheOf d v → slot m s < length v.starts → start_in d m ≡ Some q → IsCacheOf d w
+  pub started : IsCacheOf d v → slot_of_start m s < length v.starts → start_in d m ≡ Some q → IsCacheOf d w
   started own inside named =
       let there : Begins d v m s to = λ p f. subst (Names v to) (is ∙ ap (first_state d s) (some_same q p (sym named ∙ f))) names in
       subst (IsCacheOf d) (sym (e ∙ ap (λ (n : ℕ). record v { starts = set v.starts n to }) at))

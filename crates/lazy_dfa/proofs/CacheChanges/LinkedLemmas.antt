@@ -16,7 +16,7 @@ use Rattle.lazy_dfa.specs.Caches.{CacheValue, IsShaped, IsCacheOf, IsRow, Names,
 use Rattle.lazy_dfa.specs.declared.progress.Progress.{Progress}
 use Rattle.lazy_dfa.specs.Dfas.{Dfa, IsDfa, IsUnit, after, first_state, class_of, reader}
 use Rattle.lazy_dfa.specs.Ids.{tag, unknown_id, is_sentinel}
-use Rattle.lazy_dfa.specs.Linked.{led, id_behind, IsLinkedOver, start_from, IsLinkedPass, AreLinked, Grows, HasCleared, GrowsOrClears}
+use Rattle.lazy_dfa.specs.Linked.{led, id_behind, IsLinkedOver, start_from, IsLinkedPass, AreLinked, CacheGrows, HasCleared, GrowsOrClears}
 use Rattle.lazy_dfa.specs.Linked.{IsMoved}
 use Rattle.lazy_dfa.specs.PassLaws.{unit_of, pass_len}
 use Rattle.lazy_dfa.specs.Readers.{is_quit}
@@ -29,13 +29,13 @@ use Rattle.lazy_dfa.proofs.HalfSearches.FoundLemmas.{place_add}
 
 -- ---- what calls leave
 
-pub grows_refl : (d : Dfa) (v : CacheValue) → Grows d v v
+pub grows_refl : (d : Dfa) (v : CacheValue) → CacheGrows d v v
 grows_refl d v = record { names = λ id s n. n; known = λ id u r unit n. refl; starts = λ i n. refl; clears = refl }
 
-pub row_grows : (d : Dfa) (a b : CacheValue) → IsCacheOf d a → Grows d a b → (id : ℕ) → IsRow a id → IsRow b id
+pub row_grows : (d : Dfa) (a b : CacheValue) → IsCacheOf d a → CacheGrows d a b → (id : ℕ) → IsRow a id → IsRow b id
 row_grows d a b own g id r = row_kept a b own.shape g.names id r
 
-pub grows_trans : (d : Dfa) (a b c : CacheValue) → IsDfa d → IsCacheOf d a → Grows d a b → Grows d b c → Grows d a c
+pub grows_trans : (d : Dfa) (a b c : CacheValue) → IsDfa d → IsCacheOf d a → CacheGrows d a b → CacheGrows d b c → CacheGrows d a c
 grows_trans d a b c made own g h = record {
   names = λ id s n. h.names id s (g.names id s n);
   known = λ id u r unit n. let e = g.known id u r unit n in h.known id u (row_grows d a b own g id r) unit (λ z. n (sym e ∙ z)) ∙ e;
@@ -43,7 +43,7 @@ grows_trans d a b c made own g h = record {
   clears = h.clears ∙ g.clears;
 }
 
-pub grew_grows : (d : Dfa) (a b : CacheValue) → Grew d a b → Grows d a b
+pub grew_grows : (d : Dfa) (a b : CacheValue) → Grew d a b → CacheGrows d a b
 grew_grows d a b g = record { names = g.names; known = g.known; starts = g.starts; clears = g.clears }
 
 no_less : (x y : ℕ) → y ≡ x → x ≤ y
@@ -70,15 +70,15 @@ same_clears a n g h e l = let f : min (a + 1) g ≡ a + 1 = min-eq_left (omega (
 
 pub cleared_grows : (d : Dfa) (a b c : CacheValue) → HasCleared a b → GrowsOrClears d b c → HasCleared a c
 cleared_grows d a b c x kept = ⊎_elim
-    (λ (g : Grows d b c). subst (λ (n : ℕ). min (a.clears + 1) greatest ≤ n) (sym g.clears) x)
+    (λ (g : CacheGrows d b c). subst (λ (n : ℕ). min (a.clears + 1) greatest ≤ n) (sym g.clears) x)
     (λ (y : HasCleared b c). more_clears a.clears b.clears c.clears greatest x y)
     kept
 
 pub grows_or_clears_trans : (d : Dfa) (a b c : CacheValue) → IsDfa d → IsCacheOf d a → GrowsOrClears d a b → GrowsOrClears d b c →
     GrowsOrClears d a c
 grows_or_clears_trans d a b c made own before behind = ⊎_elim
-    (λ (g : Grows d a b). ⊎_elim
-    (λ (h : Grows d b c). inl (grows_trans d a b c made own g h))
+    (λ (g : CacheGrows d a b). ⊎_elim
+    (λ (h : CacheGrows d b c). inl (grows_trans d a b c made own g h))
     (λ (x : HasCleared b c). inr (subst (λ (n : ℕ). min (n + 1) greatest ≤ c.clears) g.clears x))
     behind)
     (λ (x : HasCleared a b). inr (cleared_grows d a b c x behind))
@@ -153,7 +153,7 @@ module _ (d : Dfa) (v w : CacheValue) (e : IsMoved v w) where
   pub noted_moved : (id : ℕ) (u : Option ℕ) → noted d w id u ≡ noted d v id u
   noted_moved id u = ap (λ (c : List ℕ). get_or c (id % tag + class_of d.classes u) 0) moved_cells
 
-  pub grows_moved : Grows d v w
+  pub grows_moved : CacheGrows d v w
   grows_moved = record {
     names = names_moved;
     known = λ id u r unit n. noted_moved id u;
@@ -258,7 +258,7 @@ held_led d v id u own unit held known = ⊎_elim
 
 -- ---- known paths in a cache that grows
 
-module _ (d : Dfa) (b c : CacheValue) (own : IsCacheOf d b) (grows : Grows d b c) where
+module _ (d : Dfa) (b c : CacheValue) (own : IsCacheOf d b) (grows : CacheGrows d b c) where
   noted_grows : (id : ℕ) (u : Option ℕ) → IsUnit u → IsHeld b id → IsKnown d b id u → is_sentinel id ≡ false →
       noted d c id u ≡ noted d b id u
   noted_grows id u unit held known s = grows.known id u (row_of_held b id held s) unit (known_row d b id u s known)

@@ -6,7 +6,7 @@ use Rattle.lazy_dfa.specs.Accounting.{Measures, start_count, fresh_usage}
 use Rattle.lazy_dfa.specs.ConfigValue.{starts_each_of}
 use Rattle.lazy_dfa.specs.Dfas.{Dfa, IsDfa}
 use Rattle.lazy_dfa.specs.Ids.{unknown_id}
-use Rattle.lazy_dfa.specs.Caches.{IsCacheOf, slot, empty_cache, made_for}
+use Rattle.lazy_dfa.specs.Caches.{IsCacheOf, slot_of_start, empty_cache, made_for}
 use Rattle.lazy_dfa.proofs.CacheChanges.CacheLemmas.{IsShaped-empty}
 
 module _ (d : Dfa) (made : IsDfa d) where
@@ -49,7 +49,7 @@ module _ (d : Dfa) (made : IsDfa d) where
     lives = λ k l. absurd (omega (arith, l));
     states = λ k l. absurd (omega (arith, l));
     steps = λ k u l unit known. absurd (omega (arith, l));
-    starts = λ m t l known. absurd (known (get_or-replicate d.measures.starts (slot m t) unknown_id 0 (rw length-replicate at l)));
+    starts = λ m t l known. absurd (known (get_or-replicate d.measures.starts (slot_of_start m t) unknown_id 0 (rw length-replicate at l)));
   }
 
 pub made_value : (d : Dfa) (m r : Measures) (f : ℕ) (cs : List ℕ) → m ≡ r → r ≡ d.measures → f ≡ fresh_usage r → cs ≡ d.classes →

@@ -10,7 +10,7 @@ use Rattle.lazy_dfa.specs.Accounting.{Measures, start_count}
 use Rattle.lazy_dfa.specs.ConfigValue.{starts_each_of}
 use Rattle.lazy_dfa.specs.Dfas.{Dfa, IsDfa, start_in, first_state}
 use Rattle.lazy_dfa.specs.Ids.{unknown_id, dead_id}
-use Rattle.lazy_dfa.specs.Caches.{CacheValue, IsCacheOf, Names, slot, needs_clear, lacks_room}
+use Rattle.lazy_dfa.specs.Caches.{CacheValue, IsCacheOf, Names, slot_of_start, needs_clear, lacks_room}
 use Rattle.lazy_dfa.specs.Readers.{is_quit}
 use Rattle.lazy_dfa.specs.Steps.{Grew, IsCause}
 use Rattle.lazy_dfa.specs.StartCalls.{mode_of, quit_refusal, behind_refusal, mode_refusal, start_refusal, start_slot, start_first, start_noted}
@@ -38,7 +38,7 @@ at_least false p = omega arith
 -- each mode that is supported, and has a state to start in, has its slots
 pub slot_inside : (d : Dfa) (v : CacheValue) (mode : Anchored) (s : Start) (q n : ℕ) → IsDfa d → IsCacheOf d v →
     mode_refusal d mode ≡ None → n ≡ mode_of mode →
-    start_in d n ≡ Some q → slot n s < length v.starts
+    start_in d n ≡ Some q → slot_of_start n s < length v.starts
 slot_inside d v No s q n made own fine e f =
     let few = (numbered_back s).1 in let long = starts_are d v made own in let least =
     at_least (starts_each_of d.options) (length d.nfa.automaton.start_pattern) in
@@ -90,33 +90,33 @@ fine_of d c r o m none e f g = mode_fine d c (allowed_of d c r o m none e f g)
 module _ (d : Dfa) (c : StartValue) (n q : ℕ) (s : Start) (named : Some q ≡ start_in d (mode_of c.anchored))
     (number : n ≡ mode_of c.anchored)
     (is : s ≡ start_of d.nfa.terminator c.look_behind) where
-  same_slot : slot n s ≡ start_slot d c
-  same_slot = ap (λ (m : ℕ). slot m s) number ∙ ap (λ (t : Start). slot (mode_of c.anchored) t) is
+  same_slot : slot_of_start n s ≡ start_slot d c
+  same_slot = ap (λ (m : ℕ). slot_of_start m s) number ∙ ap (λ (t : Start). slot_of_start (mode_of c.anchored) t) is
 
   -- a start of which nothing is to be made is known
-  pub known_here : (v : CacheValue) → start_refusal d c ≡ None → IsStartKnown d v c → get_or v.starts (slot n s) 0 ≢ unknown_id
+  pub known_here : (v : CacheValue) → start_refusal d c ≡ None → IsStartKnown d v c → get_or v.starts (slot_of_start n s) 0 ≢ unknown_id
   known_here v none (inl r) z = r none
   known_here v none (inr (inl e)) z = let f : Some q ≡ None = named ∙ e in absurd cc
   known_here v none (inr (inr k)) z = k (ap (λ (i : ℕ). get_or v.starts i 0) (sym same_slot) ∙ z)
 
-  pub start_left : (v w : CacheValue) → Grew d v w ⊎ ClearedFor d v w (slot n s) (first_state d s q) → Grew d v w ⊎ StartCleared d v w c
+  pub start_left : (v w : CacheValue) → Grew d v w ⊎ ClearedFor d v w (slot_of_start n s) (first_state d s q) → Grew d v w ⊎ StartCleared d v w c
   start_left v w e = ⊎_elim
       (λ (g : Grew d v w). inl g)
-      (λ (x : ClearedFor d v w (slot n s) (first_state d s q)). inr (record {
+      (λ (x : ClearedFor d v w (slot_of_start n s) (first_state d s q)). inr (record {
         name = q;
         named = sym named;
         clears = subst (λ (i : ℕ). ClearedFor d v w i (start_first d c q)) same_slot
-            (subst (λ (t : Start). ClearedFor d v w (slot n s) (first_state d t q)) is x);
+            (subst (λ (t : Start). ClearedFor d v w (slot_of_start n s) (first_state d t q)) is x);
       }))
       e
 
   -- a state that asks for a clear is that of a start which does
-  pub start_needs : (v w : CacheValue) → Grew d v w ⊎ ((get_or v.starts (slot n s) 0 ≡ unknown_id) ×
+  pub start_needs : (v w : CacheValue) → Grew d v w ⊎ ((get_or v.starts (slot_of_start n s) 0 ≡ unknown_id) ×
       (needs_clear d v (first_state d s q) ≡ true)) →
       Grew d v w ⊎ StartNeedsClear d v c
   start_needs v w e = ⊎_elim
       (λ (g : Grew d v w). inl g)
-      (λ (x : (get_or v.starts (slot n s) 0 ≡ unknown_id) × (needs_clear d v (first_state d s q) ≡ true)). inr (record {
+      (λ (x : (get_or v.starts (slot_of_start n s) 0 ≡ unknown_id) × (needs_clear d v (first_state d s q) ≡ true)). inr (record {
         name = q;
         named = sym named;
         unknown = ap (λ (i : ℕ). get_or v.starts i 0) (sym same_slot) ∙ x.0;
@@ -130,7 +130,7 @@ module _ (d : Dfa) (c : StartValue) (n q : ℕ) (s : Start) (named : Some q ≡ 
       (λ r. Names v id (first_state d (start_of d.nfa.terminator c.look_behind) r))) named
       (subst (λ (t : Start). Names v id (first_state d t q)) is h)
 
-  pub start_noted_at : (v : CacheValue) (id : ℕ) → get_or v.starts (slot n s) 0 ≡ id → start_noted d v c ≡ id
+  pub start_noted_at : (v : CacheValue) (id : ℕ) → get_or v.starts (slot_of_start n s) 0 ≡ id → start_noted d v c ≡ id
   start_noted_at v id e = ap (λ (i : ℕ). get_or v.starts i 0) (sym same_slot) ∙ e
 
   pub start_tagged : (old : CacheValue) (id : ℕ) → TagsStart d old (first_state d s q) id → (r : ℕ) →
@@ -140,7 +140,7 @@ module _ (d : Dfa) (c : StartValue) (n q : ℕ) (s : Start) (named : Some q ≡ 
       let same : q ≡ r = cc in
       subst (λ (r : ℕ). TagsStart d old (start_first d c r) id) same (subst (λ (t : Start). TagsStart d old (first_state d t q) id) is h)
 
-  pub start_fits : (old : CacheValue) → (get_or old.starts (slot n s) 0 ≡ unknown_id → lacks_room d old (first_state d s q) ≡ false) →
+  pub start_fits : (old : CacheValue) → (get_or old.starts (slot_of_start n s) 0 ≡ unknown_id → lacks_room d old (first_state d s q) ≡ false) →
       StartGivesUp d old c → ⊥
   start_fits old h gives =
       let lacks = subst (λ (o : Option ℕ). MatchOption o ⊥ (λ r. lacks_room d old (start_first d c r) ≡ true)) (sym named) gives.lacks in
@@ -148,7 +148,7 @@ module _ (d : Dfa) (c : StartValue) (n q : ℕ) (s : Start) (named : Some q ≡ 
       true≢false (sym lacks ∙ (sym (ap (λ (t : Start). lacks_room d old (first_state d t q)) is) ∙ none))
 
   pub start_cause : (old : CacheValue) (e : CacheError) (x : StartError) → x ≡ start_error_of e →
-      get_or old.starts (slot n s) 0 ≡ unknown_id → IsCause d old (first_state d s q) e → IsStartCause d old c x
+      get_or old.starts (slot_of_start n s) 0 ≡ unknown_id → IsCause d old (first_state d s q) e → IsStartCause d old c x
   start_cause old e x told unknown (inl f) = inl (told ∙ ap start_error_of f)
   start_cause old e x told unknown (inr h) = inr (
     told ∙ ap start_error_of h.0,

@@ -12,7 +12,7 @@ use Rattle.lazy_dfa.specs.ConfigValue.{specializes}
 use Rattle.lazy_dfa.specs.Readers.{is_quit}
 use Rattle.lazy_dfa.specs.Dfas.{Dfa, IsDfa, class_of, after, first_state, start_in, is_dead}
 use Rattle.lazy_dfa.specs.Ids.{tag, unknown_id, quit_id, tagged, has_tag, start_tag}
-use Rattle.lazy_dfa.specs.Caches.{CacheValue, IsShaped, IsCacheOf, Names, names_dead, names_held, same, place_of, slot, new_id, with_state}
+use Rattle.lazy_dfa.specs.Caches.{CacheValue, IsShaped, IsCacheOf, Names, names_dead, names_held, same, row_holding, slot_of_start, new_id, with_state}
 use Rattle.lazy_dfa.specs.Caches.{IsRow, id_at, state_at, cleared}
 use Rattle.lazy_dfa.specs.Steps.{Added, Grew, WasCleared, StepsTo, TagsStep}
 use Rattle.lazy_dfa.specs.StartCalls.{TagsStart, ClearedFor, PlacesStart, start_found, start_added}
@@ -33,7 +33,7 @@ has_start false true p l = off ((tagged false true p / start_tag) % 2) (omega (a
 has_start false false p l = off ((tagged false false p / start_tag) % 2) (omega (arith, l))
 
 -- a state that is held isn't new
-pub not_fresh : (d : Dfa) (v : CacheValue) (id : ℕ) (s : StateValue) → Names v id s → is_dead s ≡ false → place_of s v.states ≡ None → ⊥
+pub not_fresh : (d : Dfa) (v : CacheValue) (id : ℕ) (s : StateValue) → Names v id s → is_dead s ≡ false → row_holding s v.states ≡ None → ⊥
 not_fresh d v id s (names_dead e f) alive fresh = alive_of s alive f
 not_fresh d v id s (names_held h) alive fresh =
     true≢false (sym ((bytes_eq-Decides (encoded s) (encoded s)).1 refl) ∙ (ap (same s) h.3 ∙ fresh_at s v.states h.0 fresh h.1))
@@ -44,17 +44,17 @@ known_name v id s i (names_held h) = let l = row_is_plain v id h.0 i h.1 h.2 in 
 
 -- ---- a start that isn't known
 
-pub unknown_start : (d : Dfa) (v : CacheValue) (m i q id : ℕ) (s : Start) → IsCacheOf d v → i ≡ slot m s → slot m s < length v.starts →
+pub unknown_start : (d : Dfa) (v : CacheValue) (m i q id : ℕ) (s : Start) → IsCacheOf d v → i ≡ slot_of_start m s → slot_of_start m s < length v.starts →
     start_in d m ≡ Some q →
-    id ≡ get_or v.starts i 0 → nat_le unknown_id id ≡ true → get_or v.starts (slot m s) 0 ≡ unknown_id
+    id ≡ get_or v.starts i 0 → nat_le unknown_id id ≡ true → get_or v.starts (slot_of_start m s) 0 ≡ unknown_id
 unknown_start d v m i q id s own at inside named e high = ⊎_elim
-    (λ (f : get_or v.starts (slot m s) 0 ≡ unknown_id). f)
-    (λ (n : get_or v.starts (slot m s) 0 ≢ unknown_id).
-    let read : id ≡ get_or v.starts (slot m s) 0 = e ∙ ap (λ (k : ℕ). get_or v.starts k 0) at in
-    let low = known_name v (get_or v.starts (slot m s) 0) (first_state d s q) own.shape (own.starts m s inside n q named) in
+    (λ (f : get_or v.starts (slot_of_start m s) 0 ≡ unknown_id). f)
+    (λ (n : get_or v.starts (slot_of_start m s) 0 ≢ unknown_id).
+    let read : id ≡ get_or v.starts (slot_of_start m s) 0 = e ∙ ap (λ (k : ℕ). get_or v.starts k 0) at in
+    let low = known_name v (get_or v.starts (slot_of_start m s) 0) (first_state d s q) own.shape (own.starts m s inside n q named) in
     let g = le_of unknown_id id high in
     absurd (omega (arith, low, read, g)))
-    (cases_eq (get_or v.starts (slot m s) 0) unknown_id)
+    (cases_eq (get_or v.starts (slot_of_start m s) 0) unknown_id)
 
 -- a refusal of whatever kind
 pub on_err : {A B X : Type 0} (r : Result A B) → X → OnErr r X
@@ -140,12 +140,12 @@ made_tag mid s to positive l e =
 -- so a step that is made has none where its state wasn't held
 pub step_tags : (d : Dfa) (v mid : CacheValue) (id k : ℕ) (u : Option ℕ) (s : StateValue) (to : ℕ) → IsShaped v → mid ≡ v →
     k < length v.states → id ≡ id_at v k → s ≡ after d (state_at v k) u →
-    (is_dead s ≡ false → place_of s mid.states ≡ None → has_tag start_tag to ≡ false) → TagsStep d v id u to
+    (is_dead s ≡ false → row_holding s mid.states ≡ None → has_tag start_tag to ≡ false) → TagsStep d v id u to
 step_tags d v mid id k u s to shape same_cache inside row value tag t h no_quit alive fresh =
     let one : state_at v k ≡ t = ap (state_at v) (same_row v k h.0 shape inside h.1 (sym row ∙ h.2)) ∙ sym h.3 in
     let is : s ≡ after d t u = value ∙ ap (λ (x : StateValue). after d x u) one in
-    tag (ap is_dead is ∙ alive) (ap (λ (x : StateValue). place_of x mid.states) is
-    ∙ (ap (λ (w : CacheValue). place_of (after d t u) w.states) same_cache ∙ fresh))
+    tag (ap is_dead is ∙ alive) (ap (λ (x : StateValue). row_holding x mid.states) is
+    ∙ (ap (λ (w : CacheValue). row_holding (after d t u) w.states) same_cache ∙ fresh))
 
 -- one that is known leads to a state that is held
 pub known_tags : (d : Dfa) (v : CacheValue) (id cell : ℕ) (u : Option ℕ) → StepsTo d v v id u cell → TagsStep d v id u cell

@@ -8,7 +8,7 @@ use Rattle.determinize_core.specs.StateBytes.{is_match}
 use Rattle.determinize_core.specs.Steps.{unit_at}
 use Rattle.lazy_dfa.specs.Courses.{state_behind, best_behind, AreRead}
 use Rattle.lazy_dfa.specs.Dfas.{Dfa, after, reader}
-use Rattle.lazy_dfa.specs.Passes.{is_dead, next_value, recorded}
+use Rattle.lazy_dfa.specs.Passes.{is_dead, next_value, best_recorded}
 use Rattle.lazy_dfa.specs.PassLaws.{unit_of}
 use Rattle.lazy_dfa.specs.Readers.{Reader, is_quit}
 use Rattle.lazy_dfa.proofs.HalfSearches.TurnLemmas.{dead_is}
@@ -43,10 +43,10 @@ module _ (r : Reader) (h : List ℕ) (i j k : ℕ) (there : j ≡ place_of r.aut
     best_there best zero = let e : k ≡ k + 0 = omega arith in ap (best_behind r h i s best) e
     best_there best (suc l) =
         let was = best_behind r h j behind (best_behind r h i s best k) l in
-        ap (λ (x : ℕ). recorded x (state_behind r h j behind (suc l)) was) (place_there l)
-        ∙ (ap (λ (t : StateValue). recorded (place_of r.automaton.reverse i (k + l)) t was) (state_there (suc l)
+        ap (λ (x : ℕ). best_recorded x (state_behind r h j behind (suc l)) was) (place_there l)
+        ∙ (ap (λ (t : StateValue). best_recorded (place_of r.automaton.reverse i (k + l)) t was) (state_there (suc l)
         ∙ sym (ap (state_behind r h i s) (one_more l)))
-        ∙ (ap (recorded (place_of r.automaton.reverse i (k + l)) (state_behind r h i s (suc (k + l)))) (best_there best l)
+        ∙ (ap (best_recorded (place_of r.automaton.reverse i (k + l)) (state_behind r h i s (suc (k + l)))) (best_there best l)
         ∙ ap (best_behind r h i s best) (one_more l)))
 
     pub read_there : (l : ℕ) → AreRead r h i s k → AreRead r h j behind l → AreRead r h i s (k + l)
@@ -72,10 +72,10 @@ module _ (d : Dfa) (h : List ℕ) (at : ℕ) (u : Option ℕ) (is : u ≡ unit_o
   pub state_behind_one : (s : StateValue) → state_behind (reader d) h at s 1 ≡ after d s u
   state_behind_one s = step_from d h (place_of d.nfa.automaton.reverse at 0) s ∙ ap (after d s) (sym is)
 
-  pub best_behind_one : (s : StateValue) (best : Option (ℕ × ℕ)) → recorded at (after d s u) best ≡ best_behind (reader d) h at s best 1
+  pub best_behind_one : (s : StateValue) (best : Option (ℕ × ℕ)) → best_recorded at (after d s u) best ≡ best_behind (reader d) h at s best 1
   best_behind_one s best =
-      ap (λ (x : ℕ). recorded x (after d s u) best) (sym (place_zero d.nfa.automaton.reverse at))
-      ∙ ap (λ (t : StateValue). recorded (place_of d.nfa.automaton.reverse at 0) t best) (sym (state_behind_one s))
+      ap (λ (x : ℕ). best_recorded x (after d s u) best) (sym (place_zero d.nfa.automaton.reverse at))
+      ∙ ap (λ (t : StateValue). best_recorded (place_of d.nfa.automaton.reverse at 0) t best) (sym (state_behind_one s))
 
   pub read_one : (s : StateValue) → is_dead s ≡ false → is_quit d.quits u ≡ false → AreRead (reader d) h at s 1
   read_one s alive quiet zero lt = record { alive = alive; quiet = ap (is_quit d.quits) (sym is) ∙ quiet }
@@ -85,9 +85,9 @@ pub not_dead : (s : StateValue) → (s ≡ dead → ⊥) → is_dead s ≡ false
 not_dead s n = ⊎_elim (λ (e : is_dead s ≡ true). absurd (n (dead_is s e))) (λ (e : is_dead s ≡ false). e) (cases_Bool (is_dead s))
 
 -- a state that lists no match leaves the one from before
-pub unmatched : (s : StateValue) (at : ℕ) (best : Option (ℕ × ℕ)) → is_match s.matches ≡ false → best ≡ recorded at s best
+pub unmatched : (s : StateValue) (at : ℕ) (best : Option (ℕ × ℕ)) → is_match s.matches ≡ false → best ≡ best_recorded at s best
 unmatched s at best e = by_list s.matches e
   where
-    by_list : (ms : List ℕ) → is_match ms ≡ false → best ≡ recorded at (record s { matches = ms }) best
+    by_list : (ms : List ℕ) → is_match ms ≡ false → best ≡ best_recorded at (record s { matches = ms }) best
     by_list [] e = refl
     by_list (p ∷ ps) e = absurd (true≢false e)

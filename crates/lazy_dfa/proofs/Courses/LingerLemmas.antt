@@ -14,7 +14,7 @@ use Rattle.lazy_dfa.specs.Dfas.{Dfa, IsDfa, IsUnit, after, reader}
 use Rattle.lazy_dfa.specs.Ids.{tag, start_tag, has_tag, match_tag, unknown_id}
 use Rattle.lazy_dfa.specs.Lingering.{Lingers}
 use Rattle.lazy_dfa.specs.PassLaws.{unit_of}
-use Rattle.lazy_dfa.specs.Passes.{recorded, is_empty}
+use Rattle.lazy_dfa.specs.Passes.{best_recorded, is_empty}
 use Rattle.lazy_dfa.specs.Points.{GoesTo, point}
 use Rattle.lazy_dfa.specs.Readers.{is_quit}
 use Rattle.lazy_dfa.specs.PassPlaces.{left_at, GoesBetween}
@@ -34,10 +34,10 @@ match_bit id l m = (Decides-eqb ((id / match_tag) % 2) 1).1 (omega (arith, l, m)
 
 -- of two matches that are recorded one after the other the last one is left
 recorded_last : (s t : StateValue) (i j : ℕ) (best : Option (ℕ × ℕ)) → is_match t.matches ≡ true →
-    recorded j t (recorded i s best) ≡ recorded j t best
+    best_recorded j t (best_recorded i s best) ≡ best_recorded j t best
 recorded_last s t i j best e = by_list t.matches e
   where
-    by_list : (ms : List ℕ) → is_match ms ≡ true → recorded j (record t { matches = ms }) (recorded i s best) ≡ recorded j
+    by_list : (ms : List ℕ) → is_match ms ≡ true → best_recorded j (record t { matches = ms }) (best_recorded i s best) ≡ best_recorded j
         (record t { matches = ms }) best
     by_list [] e = absurd (true≢false (sym e))
     by_list (p ∷ ps) e = refl
@@ -73,10 +73,10 @@ module _ (d : Dfa) (v : CacheValue) (id next : ℕ) (u : Option ℕ) (own : IsCa
       sym (one_state v next r.0 t own.shape r.1 r.2 h) ∙ one_state v next r.0 (after d s u) own.shape r.1 r.2 (held_next s g)
 
   goes_one : (h : List ℕ) (at m n : ℕ) (best : Option (ℕ × ℕ)) (t : StateValue) → HeldAt v next t → u ≡ unit_of (reader d) h at 0 →
-      GoesTo d h (point v m n at id best) (point v m n (place_of d.nfa.automaton.reverse at 1) next (recorded at t best)) 1
-  goes_one h at m n best t held is = goes_step d h v at id u own row is quiet v next m m n n best (recorded at t best) own (grew_refl d v)
+      GoesTo d h (point v m n at id best) (point v m n (place_of d.nfa.automaton.reverse at 1) next (best_recorded at t best)) 1
+  goes_one h at m n best t held is = goes_step d h v at id u own row is quiet v next m m n n best (best_recorded at t best) own (grew_refl d v)
       leads (λ s g f. sym read) (λ k. refl) (λ k. (refl, refl)) (omega arith) (omega arith)
-      (λ s g. ap (λ (x : StateValue). recorded at x best) (next_is s t g held))
+      (λ s g. ap (λ (x : StateValue). best_recorded at x best) (next_is s t g held))
       (step_adds_none d v v id u (same_grew d v) (refl, refl, refl))
 
   -- a run that came to the ID goes on
@@ -101,8 +101,8 @@ module _ (d : Dfa) (v : CacheValue) (id next : ℕ) (u : Option ℕ) (own : IsCa
       matches = so_far.matches;
       plain = λ z m n best. on m n best best best (so_far.plain z m n best)
           (goes_known d v id next u own unit row read low h at m n best is);
-      goes = λ z s held m n best. on m n best (recorded last s best) (recorded last s best) (so_far.goes z s held m n best)
-          (goes_known d v id next u own unit row read low h at m n (recorded last s best) is);
+      goes = λ z s held m n best. on m n best (best_recorded last s best) (best_recorded last s best) (so_far.goes z s held m n best)
+          (goes_known d v id next u own unit row read low h at m n (best_recorded last s best) is);
     }
 
     lingers_matching : tag ≤ next → Lingers d h v from first at2 next next at k2
@@ -111,14 +111,14 @@ module _ (d : Dfa) (v : CacheValue) (id next : ℕ) (u : Option ℕ) (own : IsCa
       matches = λ z. match_bit next high below;
       plain = λ z. absurd (omega (arith, z, below));
       goes = λ z t held m n best. ⊎_elim
-          (λ (e : met ≡ unknown_id). on m n best best (recorded at t best) (so_far.plain e m n best) (goes_one h at m n best t held is))
+          (λ (e : met ≡ unknown_id). on m n best best (best_recorded at t best) (so_far.plain e m n best) (goes_one h at m n best t held is))
           (λ (e : met ≢ unknown_id).
           let r = so_far.row e in
           let s : StateValue = state_at v r.0 in
           let does : is_match t.matches ≡ true = sym (row_matches v next t own.shape held) ∙ match_bit next high below in
           subst (λ (b : Option (ℕ × ℕ)). Goes m n best b) (recorded_last s t last at best does)
-          (on m n best (recorded last s best) (recorded at t (recorded last s best)) (so_far.goes e s (r.0, r.1, r.2, refl) m n best)
-          (goes_one h at m n (recorded last s best) t held is)))
+          (on m n best (best_recorded last s best) (best_recorded at t (best_recorded last s best)) (so_far.goes e s (r.0, r.1, r.2, refl) m n best)
+          (goes_one h at m n (best_recorded last s best) t held is)))
           (cases_eq met unknown_id);
     }
 
@@ -154,7 +154,7 @@ never_stops d earliest h at s k e j l = ap (λ (x : Bool). x && not (is_empty (s
 module _ (d : Dfa) (v : CacheValue) (q : Search) (h : List ℕ) (is_reverse : Bool) (from first at id met last end : ℕ) (own : IsCacheOf d v)
     (same : h ≡ q.haystack) (late : q.earliest ≡ false) (before behind : Option (ℕ × ℕ))
     (stays : unknown_id ≤ met → behind ≡ before) (best : met < unknown_id → (s : StateValue) → HeldAt v met s →
-    behind ≡ recorded last s before) where
+    behind ≡ best_recorded last s before) where
   abbrev Comes : Option (ℕ × ℕ) → ℕ → ℕ → ℕ → Type 0
   Comes b k m n = GoesTo d h (point v m n from first before) (point v m n at id b) k
 

@@ -6,7 +6,7 @@ use Rattle.search_core.specs.ByteSets.{has}
 use Rattle.nfa_core.specs.Ways.{place_of}
 use Rattle.determinize_core.specs.States.{StateValue}
 use Rattle.lazy_dfa.specs.Courses.{state_behind, best_behind, IsRead, AreRead, stops_behind, HasNoStop}
-use Rattle.lazy_dfa.specs.Passes.{index_at, is_dead, unless_quit, recorded, next_place, pass_from}
+use Rattle.lazy_dfa.specs.Passes.{index_at, is_dead, unless_quit, best_recorded, next_place, pass_from}
 use Rattle.lazy_dfa.specs.PassLaws.{units_read, unit_of}
 use Rattle.lazy_dfa.specs.Readers.{Reader, HalfAnswer, found, quit}
 use Rattle.lazy_dfa.proofs.HalfSearches.TurnLemmas.{place_next, goes_on}
@@ -36,10 +36,10 @@ module _ (r : Reader) (earliest : Bool) (h : List ℕ) (i : ℕ) (v : StateValue
   -- ---- one unit
 
   abbrev rest : ℕ → ℕ → Option (ℕ × ℕ) → ℕ → HalfAnswer
-  rest n k best j = pass_from r earliest h n j (state (suc k)) (recorded (place k) (state (suc k)) best)
+  rest n k best j = pass_from r earliest h n j (state (suc k)) (best_recorded (place k) (state (suc k)) best)
 
   abbrev behind : ℕ → ℕ → Option (ℕ × ℕ) → Bool → HalfAnswer
-  behind n k best stop = if stop then found (recorded (place k) (state (suc k)) best) else rest n k best (next_place r (place k))
+  behind n k best stop = if stop then found (best_recorded (place k) (state (suc k)) best) else rest n k best (next_place r (place k))
 
   alive : (n k : ℕ) (best : Option (ℕ × ℕ)) → is_dead (state k) ≡ false →
       pass_at (suc n) k best ≡ unless_quit r.quits (unit_of r h i k) (index_at r.automaton.reverse (place k)) (behind n k best (stops k))
@@ -62,11 +62,11 @@ module _ (r : Reader) (earliest : Bool) (h : List ℕ) (i : ℕ) (v : StateValue
       (behind n k best (stops k)) x.quiet
 
   one_on : (n k : ℕ) (best : Option (ℕ × ℕ)) → IsRead r h i v k → stops k ≡ false →
-      pass_at (suc n) k best ≡ pass_at n (suc k) (recorded (place k) (state (suc k)) best)
+      pass_at (suc n) k best ≡ pass_at n (suc k) (best_recorded (place k) (state (suc k)) best)
   one_on n k best x e = quiet n k best x ∙ ap (behind n k best) e ∙ ap (rest n k best) (place_next r.automaton.reverse i k)
 
   one_stop : (n k : ℕ) (best : Option (ℕ × ℕ)) → IsRead r h i v k → stops k ≡ true →
-      pass_at (suc n) k best ≡ found (recorded (place k) (state (suc k)) best)
+      pass_at (suc n) k best ≡ found (best_recorded (place k) (state (suc k)) best)
   one_stop n k best x e = quiet n k best x ∙ ap (behind n k best) e
 
   one_quit : (n k b : ℕ) (best : Option (ℕ × ℕ)) → is_dead (state k) ≡ false → unit_of r h i k ≡ Some b → has r.quits b ≡ true →

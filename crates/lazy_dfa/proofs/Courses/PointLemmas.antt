@@ -17,9 +17,9 @@ use Rattle.lazy_dfa.specs.Courses.{state_behind, best_behind}
 use Rattle.lazy_dfa.specs.declared.progress.Progress.{Progress}
 use Rattle.lazy_dfa.specs.Dfas.{Dfa, IsDfa, IsUnit, after, reader}
 use Rattle.lazy_dfa.specs.Ids.{tag, tagged, unknown_id, is_sentinel}
-use Rattle.lazy_dfa.specs.Linked.{led, id_behind, IsLinkedOver, Grows, HasCleared, IsMoved}
+use Rattle.lazy_dfa.specs.Linked.{led, id_behind, IsLinkedOver, CacheGrows, HasCleared, IsMoved}
 use Rattle.lazy_dfa.specs.PassLaws.{unit_of}
-use Rattle.lazy_dfa.specs.Passes.{recorded, is_dead}
+use Rattle.lazy_dfa.specs.Passes.{best_recorded, is_dead}
 use Rattle.lazy_dfa.specs.Points.{Point, began, Follows, IsFree, GoesTo, point}
 use Rattle.lazy_dfa.specs.Readers.{is_quit}
 use Rattle.lazy_dfa.specs.Steps.{IsHeld, StepsTo, Grew, WasCleared, KeepsOrClears, noted, IsKnown, IsNoted, StepAdds, most_inserts}
@@ -111,7 +111,7 @@ module _ (d : Dfa) (h : List ℕ) where
     changes = λ s named. changes_moved d (IsMadeAt (reader d) h a.at s k) a.cache v w k e (g.changes s named);
   }
     where
-      grows_on : Grows d a.cache v → Grows d a.cache w
+      grows_on : CacheGrows d a.cache v → CacheGrows d a.cache w
       grows_on f = record {
         names = λ i s n. names_moved d v w e i s (f.names i s n);
         known = λ i u r unit n. noted_moved d v w e i u ∙ f.known i u r unit n;
@@ -240,7 +240,7 @@ module _ (d : Dfa) (h : List ℕ) (old : CacheValue) (at id : ℕ) (u : Option �
       (step : StepsTo d old new id u to) (there : IsNoted d old new id u to) (same : IsKnown d old id u →
       new ≡ old) (free : IsKnown d old id u → (m2 ≡ m1) × (n2 ≡ n1))
       (determinized : m2 ≤ m1 + 1) (inserted : n2 ≤ n1 + most_inserts d)
-      (best : (s : StateValue) → HeldAt old id s → best2 ≡ recorded at (after d s u) best1) (adds : StepAdds d old new id u) where
+      (best : (s : StateValue) → HeldAt old id s → best2 ≡ best_recorded at (after d s u) best1) (adds : StepAdds d old new id u) where
     abbrev here : Point
     here = point old m1 n1 at id best1
 

@@ -15,7 +15,7 @@ use Rattle.lazy_dfa.specs.Caches.{CacheValue, IsCacheOf, HeldAt, IsRow, Names, n
 use Rattle.lazy_dfa.specs.Changes.{Changes, IsMadeAt}
 use Rattle.lazy_dfa.specs.Courses.{state_behind, best_behind, AreRead, HasNoStop, stops_behind}
 use Rattle.lazy_dfa.specs.Dfas.{Dfa, IsDfa, reader}
-use Rattle.lazy_dfa.specs.Linked.{IsLinkedOver, Grows, HasCleared, GrowsOrClears, IsMoved}
+use Rattle.lazy_dfa.specs.Linked.{IsLinkedOver, CacheGrows, HasCleared, GrowsOrClears, IsMoved}
 use Rattle.lazy_dfa.specs.MadePasses.{span_len}
 use Rattle.lazy_dfa.specs.Passes.{index_at, is_empty, is_dead, pass_from}
 use Rattle.lazy_dfa.specs.PassLaws.{units_read, unit_of, HasNoQuit}
@@ -86,7 +86,7 @@ module _ (d : Dfa) (h : List ℕ) (a : Point) (w : CacheValue) (c : Point) (k : 
   back : IsMoved w a.cache
   back = sym (ap (λ (x : CacheValue). as_told a.cache x) e)
 
-  grows_as : Grows d w c.cache → Grows d a.cache kept_as
+  grows_as : CacheGrows d w c.cache → CacheGrows d a.cache kept_as
   grows_as f = record {
     names = λ i s n. names_moved d c.cache kept_as refl i s (f.names i s (names_moved d a.cache w e i s n));
     known = λ i u r unit n. f.known i u (row_moved i r) unit (λ z. n (sym (noted_moved d a.cache w e i u) ∙ z))
@@ -427,7 +427,7 @@ module _ (d : Dfa) (q : Search) (made : IsDfa d) (bytes : AreBytes q.haystack) (
     cleared_behind y = subst (λ (c : ℕ). min (from.cache.clears + 1) greatest ≤ c) (sym (grows_moved d behind new moved).clears) y
 
     follows_new : Follows d h from p k → Follows d h from to (k + 1) → ToldBehind from.cache →
-        Grows d from.cache new × IsLinkedOver d new h from.at from.id units ×
+        CacheGrows d from.cache new × IsLinkedOver d new h from.at from.id units ×
         (told_of new ≡ told_behind is_reverse (span_len q) (told_of from.cache) units)
     follows_new f g t = (
       grows_trans d from.cache behind new made own g.grows (grows_moved d behind new moved),
@@ -436,7 +436,7 @@ module _ (d : Dfa) (q : Search) (made : IsDfa d) (bytes : AreBytes q.haystack) (
     )
 
     followed : Follows d h from p k ⊎ HasCleared from.cache p.cache → Follows d h from to (k + 1) ⊎ HasCleared from.cache behind →
-        (Grows d from.cache new × IsLinkedOver d new h from.at from.id units ×
+        (CacheGrows d from.cache new × IsLinkedOver d new h from.at from.id units ×
         (told_of new ≡ told_behind is_reverse (span_len q) (told_of from.cache) units)) ⊎
         HasCleared from.cache new
     followed f (inr y) = inr (cleared_behind y)

@@ -12,12 +12,12 @@ use Rattle.search_types.specs.Modes.{is_anchored, is_supported}
 use Rattle.search_types.specs.Places.{counts}
 use Rattle.determinize_core.specs.States.{StateValue}
 use Rattle.lazy_dfa.specs.AnewTold.{IsToldSince}
-use Rattle.lazy_dfa.specs.Caches.{CacheValue, greatest, place_of, fits, is_refused, lacks_room}
-use Rattle.lazy_dfa.specs.ConfigValue.{clears_of, bytes_of}
+use Rattle.lazy_dfa.specs.Caches.{CacheValue, greatest, row_holding, fits, is_refused, lacks_room}
+use Rattle.lazy_dfa.specs.ConfigValue.{clears_of, minimum_bytes_of}
 use Rattle.lazy_dfa.specs.Courses.{state_behind}
 use Rattle.lazy_dfa.specs.Dfas.{Dfa, IsDfa, reader, is_dead}
 use Rattle.lazy_dfa.specs.LeftTold.{LeavesTold}
-use Rattle.lazy_dfa.specs.Linked.{Grows, HasCleared, IsLinked, passes_on, passes_of}
+use Rattle.lazy_dfa.specs.Linked.{CacheGrows, HasCleared, IsLinked, passes_on, passes_of}
 use Rattle.lazy_dfa.specs.MadePasses.{IsSearchTold, MakesSearch}
 use Rattle.lazy_dfa.specs.PassLaws.{pass_len, splits}
 use Rattle.lazy_dfa.specs.Passes.{next_place, pass, first_value}
@@ -89,8 +89,8 @@ module _ (d : Dfa) (v : CacheValue) (none : clears_of d.options ≡ None) where
   -- where no least count of clears is set, there is always room
   pub has_room : (s : StateValue) → lacks_room d v s ≡ true → ⊥
   has_room s lacks = true≢false (sym lacks
-      ∙ no_room_lacks (clears_of d.options) (is_dead s) (is_none (place_of s v.states)) (not (fits d.capacity s v))
-      (bytes_of d.options) v none)
+      ∙ no_room_lacks (clears_of d.options) (is_dead s) (is_none (row_holding s v.states)) (not (fits d.capacity s v))
+      (minimum_bytes_of d.options) v none)
 
   pub never_here : (mode : Anchored) (earliest : Bool) (h : List ℕ) (n i x : ℕ) → GivesUpIn d v mode earliest h n i x → ⊥
   never_here mode earliest h n i x (at_start place lacks free) = has_room (first_value (reader d) mode h i) lacks
@@ -128,7 +128,7 @@ module _ (d : Dfa) (q : Search) (old new : CacheValue) (m1 m2 n1 n2 : ℕ) (resu
   few_changes = subst (Changes d (IsMadeBy d q) old new) (made_is_counted (reader d) q) made.changes
 
   abbrev HasFollowed : Type 0
-  HasFollowed = Grows d old new × IsLinked d new q × (told_of new ≡ told_by (reader d) q (told_of old) (passes_of (reader d) q))
+  HasFollowed = CacheGrows d old new × IsLinked d new q × (told_of new ≡ told_by (reader d) q (told_of old) (passes_of (reader d) q))
 
   not_forgotten : HasFollowed ⊎ HasCleared old new → new.clears ≡ old.clears → old.clears < greatest → HasFollowed
   not_forgotten (inl f) same less = f

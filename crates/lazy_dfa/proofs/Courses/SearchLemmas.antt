@@ -12,7 +12,7 @@ use Rattle.lazy_dfa.specs.AnewTold.{TellsAnew, ToldSince, fails_later, fails_the
 use Rattle.lazy_dfa.specs.Caches.{CacheValue, IsCacheOf, greatest}
 use Rattle.lazy_dfa.specs.Dfas.{Dfa, IsDfa, reader}
 use Rattle.lazy_dfa.specs.LeftTold.{LeavesPass}
-use Rattle.lazy_dfa.specs.Linked.{IsLinkedPass, AreLinked, Grows, HasCleared, GrowsOrClears, IsMoved, passes_of}
+use Rattle.lazy_dfa.specs.Linked.{IsLinkedPass, AreLinked, CacheGrows, HasCleared, GrowsOrClears, IsMoved, passes_of}
 use Rattle.lazy_dfa.specs.MadePasses.{IsPassTold, IsSearchTold, MakesPass, MakesSearch}
 use Rattle.lazy_dfa.specs.PassLaws.{pass_len}
 use Rattle.lazy_dfa.specs.Readers.{Reader}
@@ -29,7 +29,7 @@ use Rattle.look_core.proofs.ForCallers.{All-left, All-right}
 
 -- ---- clears
 
-cleared_later : (d : Dfa) (a b c : CacheValue) → Grows d a b → HasCleared b c → HasCleared a c
+cleared_later : (d : Dfa) (a b c : CacheValue) → CacheGrows d a b → HasCleared b c → HasCleared a c
 cleared_later d a b c g m = subst (λ (n : ℕ). min (n + 1) greatest ≤ c.clears) g.clears m
 
 -- ---- lists of passes
@@ -58,7 +58,7 @@ more_inserted n1 n2 n3 x y z all k is a b =
 
 -- these passes were made, and the cache and the work are now so
 pub record HasMade (d : Dfa) (q : Search) (old now : CacheValue) (m1 m2 n1 n2 : ℕ) (ps : List (ℕ × ℕ)) : Type 0 where
-  pub kept : (Grows d old now × AreLinked d now q ps × (told_of now ≡ told_by (reader d) q (told_of old) ps)) ⊎ HasCleared old now
+  pub kept : (CacheGrows d old now × AreLinked d now q ps × (told_of now ≡ told_by (reader d) q (told_of old) ps)) ⊎ HasCleared old now
   pub free : AreLinked d old q ps → IsMoved old now × (m2 ≡ m1) × (n2 ≡ n1)
   pub determinized : m2 ≤ m1 + made_by (reader d) q ps
   pub inserted : n2 ≤ n1 + made_by (reader d) q ps * most_inserts d
@@ -113,7 +113,7 @@ module _ (d : Dfa) (q : Search) (old now next : CacheValue) (m1 m2 m3 n1 n2 n3 :
   IsKnownPass v o = IsLinkedPass d v q.anchored q.earliest q.haystack o.0 o.1
 
   abbrev HasKept : CacheValue → CacheValue → List (ℕ × ℕ) → Type 0
-  HasKept v w os = (Grows d v w × AreLinked d w q os × (told_of w ≡ told_by r q (told_of v) os)) ⊎ HasCleared v w
+  HasKept v w os = (CacheGrows d v w × AreLinked d w q os × (told_of w ≡ told_by r q (told_of v) os)) ⊎ HasCleared v w
 
   kept_one : HasKept old now ps → HasKept now next (p ∷ []) → HasKept old next (ps ++ p ∷ [])
   kept_one (inl a) (inl b) = inl (
@@ -156,7 +156,7 @@ module _ (d : Dfa) (q : Search) (old now next : CacheValue) (m1 m2 m3 n1 n2 n3 :
       more_inserted n1 n2 n3 (made_by r q ps) (suc (len_of r q p)) (made_by r q tail) (made_by r q (ps ++ p ∷ tail)) (most_inserts d)
       (made_join r q ps tail p) made.inserted pass.inserted
 
-  one_kept : (Grows d now next × IsKnownPass next p × (told_of next ≡ told_by_pass r q.anchored q.earliest q.haystack (told_of now) p)) ⊎
+  one_kept : (CacheGrows d now next × IsKnownPass next p × (told_of next ≡ told_by_pass r q.anchored q.earliest q.haystack (told_of now) p)) ⊎
       HasCleared now next →
       HasKept now next (p ∷ [])
   one_kept (inl b) = inl (b.0, All-cons (IsKnownPass next) p [] b.1 (All-nil (IsKnownPass next)), b.2)
@@ -263,7 +263,7 @@ module _ (d : Dfa) (q : Search) (old now next : CacheValue) (m1 m2 m3 n1 n2 n3 :
 -- all passes were made
 module _ (d : Dfa) (q : Search) (old now : CacheValue) (m1 m2 n1 n2 : ℕ) (f : Option HalfFound)
     (told_is : Ok f ≡ told (scan (reader d) q)) where
-  whole_kept : (ps : List (ℕ × ℕ)) → (Grows d old now × AreLinked d now q ps × (told_of now ≡ told_by (reader d) q (told_of old) ps)) ⊎
+  whole_kept : (ps : List (ℕ × ℕ)) → (CacheGrows d old now × AreLinked d now q ps × (told_of now ≡ told_by (reader d) q (told_of old) ps)) ⊎
       HasCleared old now →
       GrowsOrClears d old now
   whole_kept ps (inl a) = inl a.0

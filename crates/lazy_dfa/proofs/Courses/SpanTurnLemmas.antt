@@ -23,7 +23,7 @@ use Rattle.lazy_dfa.specs.declared.progress.Progress.{Progress}
 use Rattle.lazy_dfa.specs.declared.turns.Turn.{Turn}
 use Rattle.lazy_dfa.specs.declared.turns.Turn.TheVariants.{GoesOn, Ends, Quits}
 use Rattle.lazy_dfa.specs.Dfas.{Dfa, reader}
-use Rattle.lazy_dfa.specs.Linked.{Grows, HasCleared, GrowsOrClears, IsMoved}
+use Rattle.lazy_dfa.specs.Linked.{CacheGrows, HasCleared, GrowsOrClears, IsMoved}
 use Rattle.lazy_dfa.specs.MadePasses.{span_len}
 use Rattle.lazy_dfa.specs.Passes.{index_at, is_dead}
 use Rattle.lazy_dfa.specs.Points.{Point, began, Follows, GoesTo, point}
@@ -66,7 +66,7 @@ module _ (d : Dfa) (v w : CacheValue) (e : IsMoved v w) where
   cleared_back : (x : CacheValue) → HasCleared w x → HasCleared v x
   cleared_back x c = subst (λ (n : ℕ). min (n + 1) greatest ≤ x.clears) (moved_clears v w e) c
 
-  grows_back : (x : CacheValue) → Grows d w x → Grows d v x
+  grows_back : (x : CacheValue) → CacheGrows d w x → CacheGrows d v x
   grows_back x g = record {
     names = λ id s n. g.names id s (names_moved d v w e id s n);
     known = λ id u r unit n. let f = noted_moved d v w e id u in g.known id u (row_moved v w id e r) unit (λ z. n (sym f ∙ z)) ∙ f;
@@ -75,7 +75,7 @@ module _ (d : Dfa) (v w : CacheValue) (e : IsMoved v w) where
   }
 
   kept_back : (x : CacheValue) → GrowsOrClears d w x → GrowsOrClears d v x
-  kept_back x k = ⊎_elim (λ (g : Grows d w x). inl (grows_back x g)) (λ (c : HasCleared w x). inr (cleared_back x c)) k
+  kept_back x k = ⊎_elim (λ (g : CacheGrows d w x). inl (grows_back x g)) (λ (c : HasCleared w x). inr (cleared_back x c)) k
 
   module _ (h : List ℕ) (m n at id : ℕ) (best : Option (ℕ × ℕ)) where
     pub leaves_back : (x : CacheValue) (m2 n2 k : ℕ) → Leaves d h (point w m n at id best) x m2 n2 k →
@@ -134,7 +134,7 @@ pub leaves_forth : (d : Dfa) (h : List ℕ) (from : Point) (v w : CacheValue) (m
     Leaves d h from w m n k
 leaves_forth d h from v w m n k e l = record {
   kept = ⊎_elim
-      (λ (g : Grows d from.cache v). inl (record {
+      (λ (g : CacheGrows d from.cache v). inl (record {
         names = λ i s n. names_moved d v w e i s (g.names i s n);
         known = λ i u r unit n. noted_moved d v w e i u ∙ g.known i u r unit n;
         starts = λ i n. ap (λ (c : List ℕ). get_or c i 0) (moved_starts d v w e) ∙ g.starts i n;

@@ -19,7 +19,7 @@ use Rattle.lazy_dfa.specs.declared.turns.Turn.TheVariants.{GoesOn, Ends, Quits}
 use Rattle.lazy_dfa.specs.Dfas.{Dfa, after, reader}
 use Rattle.lazy_dfa.specs.Ids.{tag, has_tag, dead_tag, quit_tag, match_tag, tagged, dead_id, quit_id, is_sentinel}
 use Rattle.lazy_dfa.specs.Linked.{IsLinkedOver}
-use Rattle.lazy_dfa.specs.Passes.{is_empty, is_dead, recorded}
+use Rattle.lazy_dfa.specs.Passes.{is_empty, is_dead, best_recorded}
 use Rattle.lazy_dfa.specs.PassLaws.{unit_of}
 use Rattle.lazy_dfa.specs.Points.{Point, point}
 use Rattle.lazy_dfa.specs.Readers.{is_quit}
@@ -111,9 +111,9 @@ some_match [] e = absurd (true≢false (sym e))
 some_match (p ∷ ps) e = omega arith
 
 pub first_recorded : (s : StateValue) (place : ℕ) (best : Option (ℕ × ℕ)) (ms : List ℕ) → s.matches ≡ ms → is_match ms ≡ true →
-    Some (place, get_or ms 0 0) ≡ recorded place s best
+    Some (place, get_or ms 0 0) ≡ best_recorded place s best
 first_recorded s place best [] e f = absurd (true≢false (sym f))
-first_recorded s place best (p ∷ ps) e f = ap (λ (ms : List ℕ). recorded place (record s { matches = ms }) best) (sym e)
+first_recorded s place best (p ∷ ps) e f = ap (λ (ms : List ℕ). best_recorded place (record s { matches = ms }) best) (sym e)
 
 pub matches_there : (v : CacheValue) (id : ℕ) → IsShaped v → has_tag match_tag id ≡ true → (s : StateValue) → HeldAt v id s →
     0 < length s.matches
@@ -158,7 +158,7 @@ module _ (v : CacheValue) (id place : ℕ) (best : Option (ℕ × ℕ)) (earlies
       does_match : is_match matched.matches ≡ true
       does_match = sym (row_matches v id matched i matched_held) ∙ matches
 
-      last_recorded : pair_of seen.best ≡ recorded place matched best
+      last_recorded : pair_of seen.best ≡ best_recorded place matched best
       last_recorded = b ∙ (ap (λ (n : ℕ). Some (place, n)) (listed matched matched_held)
           ∙ first_recorded matched place best matched.matches refl does_match)
 
@@ -286,7 +286,7 @@ module _ (d : Dfa) (h : List ℕ) (old : CacheValue) (at id m1 n1 : ℕ) (u : Op
       to_row s t g (names_held k) = sym (one_state new to g.0 s mine.shape g.1 g.2 k) ∙ sym g.3
 
       goes_one : (last : Option (ℕ × ℕ)) → is_quit d.quits u ≡ false →
-          ((s : StateValue) → HeldAt old id s → last ≡ recorded at (after d s u) best) →
+          ((s : StateValue) → HeldAt old id s → last ≡ best_recorded at (after d s u) best) →
           GoesOne d h from new m2 n2 to last
       goes_one last quiet recs = goes_step d h old at id u own row is quiet new to m1 m2 n1 n2 best last mine step.kept step.step step.notes
           step.same step.free
@@ -304,7 +304,7 @@ module _ (d : Dfa) (h : List ℕ) (old : CacheValue) (at id m1 n1 : ℕ) (u : Op
           let quiet = quiet_if (λ q. omega (arith, e, q, mine.shape.narrow)) in
           let dies : (s : StateValue) → HeldAt old id s → after d s u ≡ dead =
           λ s g. to_dead (after d s u) e ((step.step s g).goes quiet) in (
-            goes_one last quiet (λ s g. b ∙ (unmatched dead at best refl ∙ ap (λ (x : StateValue). recorded at x best) (sym (dies s g)))),
+            goes_one last quiet (λ s g. b ∙ (unmatched dead at best refl ∙ ap (λ (x : StateValue). best_recorded at x best) (sym (dies s g)))),
             tells_same new m2 n2 (Ok to) step,
             λ s g. inr (ap is_dead (state_behind_one d h at u is s ∙ dies s g)),
           )
@@ -320,7 +320,7 @@ module _ (d : Dfa) (h : List ℕ) (old : CacheValue) (at id m1 n1 : ℕ) (u : Op
         tells_same new m2 n2 (Ok to) step,
       )
 
-      module _ (t : StateValue) (g : HeldAt new to t) (last : Option (ℕ × ℕ)) (b : last ≡ recorded at t best) where
+      module _ (t : StateValue) (g : HeldAt new to t) (last : Option (ℕ × ℕ)) (b : last ≡ best_recorded at t best) where
         row_quiet : is_quit d.quits u ≡ false
         row_quiet = let l = row_is_plain new to g.0 mine.shape g.1 g.2 in quiet_if (λ q. omega (arith, l, q))
 
@@ -328,7 +328,7 @@ module _ (d : Dfa) (h : List ℕ) (old : CacheValue) (at id m1 n1 : ℕ) (u : Op
         becomes s k = to_row (after d s u) t g ((step.step s k).goes row_quiet)
 
         goes_there : GoesOne d h from new m2 n2 to last
-        goes_there = goes_one last row_quiet (λ s k. b ∙ ap (λ (x : StateValue). recorded at x best) (sym (becomes s k)))
+        goes_there = goes_one last row_quiet (λ s k. b ∙ ap (λ (x : StateValue). best_recorded at x best) (sym (becomes s k)))
 
         seen_end : (earliest && not (is_empty t.matches)) ≡ true → Seeing to last Ends
         seen_end e = (goes_there, tells_same new m2 n2 (Ok to) step, λ s k. inl (stops_one s t true (becomes s k) e))

@@ -24,7 +24,7 @@ use Rattle.lazy_dfa.specs.declared.start_error.StartError.TheVariants.{Cache, Qu
 use Rattle.lazy_dfa.specs.Dfas.{Dfa, IsDfa, reader, start_in}
 use Rattle.lazy_dfa.specs.Ids.{unknown_id, dead_id, has_tag, dead_tag}
 use Rattle.lazy_dfa.specs.LeftTold.{told_from, LeftAt, is_quit_error, IsRefusedFirst, IsRefusedAt, LeavesPass, left_first, left_at_unit}
-use Rattle.lazy_dfa.specs.Linked.{IsLinkedOver, start_from, IsLinkedPass, Grows, HasCleared, GrowsOrClears, IsMoved}
+use Rattle.lazy_dfa.specs.Linked.{IsLinkedOver, start_from, IsLinkedPass, CacheGrows, HasCleared, GrowsOrClears, IsMoved}
 use Rattle.lazy_dfa.specs.MadePasses.{span_len, IsPassTold, MakesPass}
 use Rattle.lazy_dfa.specs.Passes.{is_dead, index_at, index_behind, if_supported, start_name, first_value, pass, pass_from}
 use Rattle.lazy_dfa.specs.PassLaws.{units_read, pass_len, HasNoQuit}
@@ -330,7 +330,7 @@ module _ (d : Dfa) (q : Search) (old mid : CacheValue) (m1 m n1 n id : ℕ) (mad
     from_mid : GrowsOrClears d mid new
     from_mid = grows_or_clears_trans d mid here new made mine (inl (grows_moved d mid here moved)) runs.kept
 
-    linked_behind : Grows d mid new → IsLinkedOver d new q.haystack from id units →
+    linked_behind : CacheGrows d mid new → IsLinkedOver d new q.haystack from id units →
         IsLinkedPass d new q.anchored q.earliest q.haystack (span_len q) from
     linked_behind grows linked p none named =
         let slot : start_noted d mid (pass_start d q) ≡ id = start.noted p named in
@@ -355,11 +355,11 @@ module _ (d : Dfa) (q : Search) (old mid : CacheValue) (m1 m n1 n id : ℕ) (mad
         (same_told d old mid g)
 
     abbrev Followed : Type 0
-    Followed = Grows d here new × IsLinkedOver d new q.haystack from id units ×
+    Followed = CacheGrows d here new × IsLinkedOver d new q.haystack from id units ×
         (told_of new ≡ told_behind d.nfa.automaton.reverse (span_len q) (told_of here) units)
 
     abbrev FollowedPass : Type 0
-    FollowedPass = Grows d old new × IsLinkedPass d new q.anchored q.earliest q.haystack (span_len q) from ×
+    FollowedPass = CacheGrows d old new × IsLinkedPass d new q.anchored q.earliest q.haystack (span_len q) from ×
         (told_of new ≡ told_by_pass (reader d) q.anchored q.earliest q.haystack (told_of old) (span_len q, from))
 
     followed : Grew d old mid → Followed → FollowedPass

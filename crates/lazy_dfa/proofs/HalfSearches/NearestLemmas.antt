@@ -15,7 +15,7 @@ use Rattle.determinize_core.specs.Steps.{unit_at, step_value, walk_value}
 use Rattle.determinize_core.specs.Walked.{end_at}
 use Rattle.determinize_core.proofs.ForCallers.{all_listed}
 use Rattle.lazy_dfa.specs.Readers.{Reader, is_quit, HalfAnswer, found}
-use Rattle.lazy_dfa.specs.Passes.{index_at, is_empty, is_dead, recorded, next_value, next_place, pass_from, start_name, pass}
+use Rattle.lazy_dfa.specs.Passes.{index_at, is_empty, is_dead, best_recorded, next_value, next_place, pass_from, start_name, pass}
 use Rattle.lazy_dfa.specs.PassLaws.{IsNearestEnd}
 use Rattle.lazy_dfa.proofs.HalfSearches.TurnLemmas.{place_next, dead_is, empty_is, one_found, turn_found}
 use Rattle.nfa_core.proofs.ForCallers.{ends_inside}
@@ -33,10 +33,10 @@ if_listed : (empty : Bool) (y o : Option (ℕ × ℕ)) (rest : HalfAnswer) → (
 if_listed true y o rest e = inr (refl, e)
 if_listed false y o rest e = inl (refl, one_found y o e)
 
-recorded_some : (j : ℕ) (v : StateValue) (p : ℕ) → first v.matches ≡ Some p → recorded j v None ≡ Some (j, p)
+recorded_some : (j : ℕ) (v : StateValue) (p : ℕ) → first v.matches ≡ Some p → best_recorded j v None ≡ Some (j, p)
 recorded_some j v p e = ap (λ (o : Option ℕ). option_or (end_at j o) None) e
 
-recorded_none : (j : ℕ) (v : StateValue) → v.matches ≡ [] → recorded j v None ≡ None
+recorded_none : (j : ℕ) (v : StateValue) → v.matches ≡ [] → best_recorded j v None ≡ None
 recorded_none j v e = ap (λ (l : List ℕ). option_or (end_at j (first l)) None) e
 
 module _ (r : Reader) (h : List ℕ) (i : ℕ) (state : ℕ → StateValue)
@@ -95,18 +95,18 @@ module _ (r : Reader) (h : List ℕ) (i : ℕ) (state : ℕ → StateValue)
           (λ (at : m ≤ k). let is : m ≡ k = omega (arith, at, from) in ap (λ (n : ℕ). listed n) is ∙ none) (cases_lt k m)
 
   abbrev on : ℕ → ℕ → StateValue → HalfAnswer
-  on n k w = if not (is_empty w.matches) then found (recorded (place k) w None) else pass_from r true h n (next_place r (place k)) w
-      (recorded (place k) w None)
+  on n k w = if not (is_empty w.matches) then found (best_recorded (place k) w None) else pass_from r true h n (next_place r (place k)) w
+      (best_recorded (place k) w None)
 
   next_is : (n k : ℕ) (o : Option (ℕ × ℕ)) → listed k ≡ [] →
-      pass_from r true h n (next_place r (place k)) (state (suc k)) (recorded (place k) (state (suc k)) None) ≡ found o →
+      pass_from r true h n (next_place r (place k)) (state (suc k)) (best_recorded (place k) (state (suc k)) None) ≡ found o →
       pass_from r true h n (place (suc k)) (state (suc k)) None ≡ found o
   next_is n k o none e =
       subst (λ (j : ℕ). pass_from r true h n j (state (suc k)) None ≡ found o) (place_next r.automaton.reverse i k)
       (subst (λ (best : Option (ℕ × ℕ)). pass_from r true h n (next_place r (place k)) (state (suc k)) best ≡ found o)
       (recorded_none (place k) (state (suc k)) none) e)
 
-  here_near : (d k : ℕ) (o : Option (ℕ × ℕ)) → is_empty (listed k) ≡ false → recorded (place k) (state (suc k)) None ≡ o →
+  here_near : (d k : ℕ) (o : Option (ℕ × ℕ)) → is_empty (listed k) ≡ false → best_recorded (place k) (state (suc k)) None ≡ o →
       IsNearest d k o
   here_near d k o some is =
       let p = some_first (listed k) some in
@@ -129,12 +129,12 @@ module _ (r : Reader) (h : List ℕ) (i : ℕ) (state : ℕ → StateValue)
       (λ (goes : (is_dead (state k) ≡ false) × (is_quit r.quits (unit_at r.automaton.reverse h (place k)) ≡ false) ×
       (on n k (next_value r h (place k) (state k)) ≡ found o)).
       ⊎_elim
-      (λ (some : (is_empty (listed k) ≡ false) × (recorded (place k) (state (suc k)) None ≡ o)). here_near d k o some.0 some.1)
+      (λ (some : (is_empty (listed k) ≡ false) × (best_recorded (place k) (state (suc k)) None ≡ o)). here_near d k o some.0 some.1)
       (λ (none : (is_empty (listed k) ≡ true) ×
-      (pass_from r true h n (next_place r (place k)) (state (suc k)) (recorded (place k) (state (suc k)) None) ≡ found o)).
+      (pass_from r true h n (next_place r (place k)) (state (suc k)) (best_recorded (place k) (state (suc k)) None) ≡ found o)).
       rest (empty_is (listed k) none.0) (next_is n k o (empty_is (listed k) none.0) none.1))
-      (if_listed (is_empty (listed k)) (recorded (place k) (state (suc k)) None) o
-      (pass_from r true h n (next_place r (place k)) (state (suc k)) (recorded (place k) (state (suc k)) None))
+      (if_listed (is_empty (listed k)) (best_recorded (place k) (state (suc k)) None) o
+      (pass_from r true h n (next_place r (place k)) (state (suc k)) (best_recorded (place k) (state (suc k)) None))
       (subst (λ (w : StateValue). on n k w ≡ found o) (sym (steps k)) goes.2)))
       (turn_found (is_dead (state k)) r.quits (unit_at r.automaton.reverse h (place k))
       (index_at r.automaton.reverse (place k)) None o (on n k (next_value r h (place k) (state k))) e)

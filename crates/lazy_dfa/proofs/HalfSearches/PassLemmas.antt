@@ -13,7 +13,7 @@ use Rattle.determinize_core.specs.Steps.{unit_at, unit_behind, walk_value}
 use Rattle.determinize_core.specs.Walked.{end_at, latest_listed}
 use Rattle.determinize_core.proofs.ForCallers.{stays_dead, latest_is_first, all_listed}
 use Rattle.lazy_dfa.specs.Readers.{Reader, is_quit, HalfAnswer, found}
-use Rattle.lazy_dfa.specs.Passes.{index_at, is_dead, unless_quit, recorded, next_value, next_place, pass_from, start_name, start_or_dead}
+use Rattle.lazy_dfa.specs.Passes.{index_at, is_dead, unless_quit, best_recorded, next_value, next_place, pass_from, start_name, start_or_dead}
 use Rattle.lazy_dfa.specs.Passes.{first_value, pass}
 use Rattle.lazy_dfa.specs.PassLaws.{IsLastEnd}
 use Rattle.nfa_core.proofs.ForCallers.{ends_inside, place_zero}
@@ -61,12 +61,12 @@ module _ (r : Reader) (h : List ℕ) (i : ℕ) (state : ℕ → StateValue)
   -- the pass from the next state is the pass from the state behind the unit
   next_is : (n k : ℕ) (best o : Option (ℕ × ℕ)) →
       pass_from r false h n (next_place r (place k)) (next_value r h (place k) (state k))
-      (recorded (place k) (next_value r h (place k) (state k)) best) ≡ found o →
-      pass_from r false h n (place (suc k)) (state (suc k)) (recorded (place k) (state (suc k)) best) ≡ found o
+      (best_recorded (place k) (next_value r h (place k) (state k)) best) ≡ found o →
+      pass_from r false h n (place (suc k)) (state (suc k)) (best_recorded (place k) (state (suc k)) best) ≡ found o
   next_is n k best o e =
-      subst (λ (j : ℕ). pass_from r false h n j (state (suc k)) (recorded (place k) (state (suc k)) best) ≡ found o)
+      subst (λ (j : ℕ). pass_from r false h n j (state (suc k)) (best_recorded (place k) (state (suc k)) best) ≡ found o)
       (place_next r.automaton.reverse i k)
-      (subst (λ (v : StateValue). pass_from r false h n (next_place r (place k)) v (recorded (place k) v best) ≡ found o)
+      (subst (λ (v : StateValue). pass_from r false h n (next_place r (place k)) v (best_recorded (place k) v best) ≡ found o)
       (sym (steps k)) e)
 
   -- a pass finds the last match that is listed
@@ -76,17 +76,17 @@ module _ (r : Reader) (h : List ℕ) (i : ℕ) (state : ℕ → StateValue)
   finds_latest zero k best o e =
       finds_turn (is_dead (state k)) r.quits (unit_at r.automaton.reverse h (place k))
       (index_at r.automaton.reverse (place k)) best o
-      (latest_listed state place zero k) (found (recorded (place k) (next_value r h (place k) (state k)) best))
+      (latest_listed state place zero k) (found (best_recorded (place k) (next_value r h (place k) (state k)) best))
       (λ dead. none_of_dead zero k (dead_is (state k) dead))
-      (λ is. sym (one_found (recorded (place k) (state (suc k)) best) o (next_is zero k best o is))) e
+      (λ is. sym (one_found (best_recorded (place k) (state (suc k)) best) o (next_is zero k best o is))) e
   finds_latest (suc d) k best o e =
       finds_turn (is_dead (state k)) r.quits (unit_at r.automaton.reverse h (place k))
       (index_at r.automaton.reverse (place k)) best o
       (latest_listed state place (suc d) k)
       (pass_from r false h (suc d) (next_place r (place k)) (next_value r h (place k) (state k))
-      (recorded (place k) (next_value r h (place k) (state k)) best))
+      (best_recorded (place k) (next_value r h (place k) (state k)) best))
       (λ dead. none_of_dead (suc d) k (dead_is (state k) dead))
-      (λ is. finds_latest d (suc k) (recorded (place k) (state (suc k)) best) o (next_is (suc d) k best o is)
+      (λ is. finds_latest d (suc k) (best_recorded (place k) (state (suc k)) best) o (next_is (suc d) k best o is)
       ∙ or_or (latest_listed state place d (suc k)) (end_at (place k) (first (state (suc k)).matches)) best) e
 
 -- a pass begins with the first state of a walk

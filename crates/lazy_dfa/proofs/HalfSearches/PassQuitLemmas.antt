@@ -9,7 +9,7 @@ use Rattle.determinize_core.specs.States.{StateValue}
 use Rattle.determinize_core.specs.Steps.{unit_at, unit_behind}
 use Rattle.search_types.specs.declared.anchored.Anchored.{Anchored}
 use Rattle.lazy_dfa.specs.Readers.{Reader, is_quit, HalfAnswer, found, quit, unsupported}
-use Rattle.lazy_dfa.specs.Passes.{index_at, index_behind, is_empty, is_dead, unless_quit, if_supported, recorded, next_value, next_place}
+use Rattle.lazy_dfa.specs.Passes.{index_at, index_behind, is_empty, is_dead, unless_quit, if_supported, best_recorded, next_value, next_place}
 use Rattle.lazy_dfa.specs.Passes.{pass_from, start_name, start_or_dead, first_value, pass}
 use Rattle.lazy_dfa.specs.PassLaws.{units_read, pass_len, unit_of, IsQuitAt, IsQuitBehind, HasNoQuitBehind, HasNoQuit, IsFirstQuit}
 use Rattle.lazy_dfa.proofs.HalfSearches.TurnLemmas.{place_later, turn_found, turn_quit, goes_on, found_no_quit, found_no_mode, quit_no_mode}
@@ -158,10 +158,10 @@ module _ (r : Reader) (earliest : Bool) (h : List ℕ) where
 
   -- how the pass goes on behind a unit that is no quit byte
   abbrev on : ℕ → ℕ → StateValue → Option (ℕ × ℕ) → HalfAnswer
-  on n i v best = pass_from r earliest h n (next_place r i) (behind i v) (recorded i (behind i v) best)
+  on n i v best = pass_from r earliest h n (next_place r i) (behind i v) (best_recorded i (behind i v) best)
 
   abbrev on_or_end : ℕ → ℕ → StateValue → Option (ℕ × ℕ) → HalfAnswer
-  on_or_end n i v best = if stops earliest (behind i v) then found (recorded i (behind i v) best) else on n i v best
+  on_or_end n i v best = if stops earliest (behind i v) then found (best_recorded i (behind i v) best) else on n i v best
 
   abbrev count_on : ℕ → ℕ → StateValue → ℕ
   count_on n i v = if stops earliest (behind i v) then 1 else suc (count n (next_place r i) (behind i v))
@@ -173,9 +173,9 @@ module _ (r : Reader) (earliest : Bool) (h : List ℕ) where
   quit_is_first (suc n) i v best b x e =
       let t = turn_quit (is_dead v) r.quits (unit i) (index i) best b x (on_or_end n i v best) e in
       subst (λ (d : Bool). IsFirstQuit r h i (if d then 0 else count_on n i v) b x) (sym t.0)
-      (quit_turn r h i (stops earliest (behind i v)) (recorded i (behind i v) best) (on n i v best)
+      (quit_turn r h i (stops earliest (behind i v)) (best_recorded i (behind i v) best) (on n i v best)
       (count n (next_place r i) (behind i v)) b x
-      (quit_is_first n (next_place r i) (behind i v) (recorded i (behind i v) best) b x) t.1)
+      (quit_is_first n (next_place r i) (behind i v) (best_recorded i (behind i v) best) b x) t.1)
 
   pub found_has_no_quit : (n i : ℕ) (v : StateValue) (best o : Option (ℕ × ℕ)) → pass_from r earliest h n i v best ≡ found o →
       HasNoQuit r h i (count n i v)
@@ -185,9 +185,9 @@ module _ (r : Reader) (earliest : Bool) (h : List ℕ) where
       (λ ended. subst (λ (d : Bool). HasNoQuit r h i (if d then 0 else count_on n i v)) (sym ended.0)
       (λ k l. absurd (omega (arith, l))))
       (λ goes. subst (λ (d : Bool). HasNoQuit r h i (if d then 0 else count_on n i v)) (sym goes.0)
-      (found_turn r h i (stops earliest (behind i v)) (recorded i (behind i v) best) o (on n i v best)
+      (found_turn r h i (stops earliest (behind i v)) (best_recorded i (behind i v) best) o (on n i v best)
       (count n (next_place r i) (behind i v))
-      (found_has_no_quit n (next_place r i) (behind i v) (recorded i (behind i v) best) o) goes.1 goes.2))
+      (found_has_no_quit n (next_place r i) (behind i v) (best_recorded i (behind i v) best) o) goes.1 goes.2))
       (turn_found (is_dead v) r.quits (unit i) (index i) best o (on_or_end n i v best) e)
 
   pub no_quit_finds : (n i : ℕ) (v : StateValue) (best : Option (ℕ × ℕ)) → HasNoQuit r h i (count n i v) →
@@ -198,9 +198,9 @@ module _ (r : Reader) (earliest : Bool) (h : List ℕ) where
       (λ (dead : is_dead v ≡ true).
       (best, ap (λ (d : Bool). if d then found best else unless_quit r.quits (unit i) (index i) (on_or_end n i v best)) dead))
       (λ (lives : is_dead v ≡ false).
-      let o = finds_turn r h i (stops earliest (behind i v)) (recorded i (behind i v) best) (on n i v best)
+      let o = finds_turn r h i (stops earliest (behind i v)) (best_recorded i (behind i v) best) (on n i v best)
       (count n (next_place r i) (behind i v))
-      (no_quit_finds n (next_place r i) (behind i v) (recorded i (behind i v) best))
+      (no_quit_finds n (next_place r i) (behind i v) (best_recorded i (behind i v) best))
       (subst (λ (d : Bool). HasNoQuit r h i (if d then 0 else count_on n i v)) lives none) in
       (o.0, ap (λ (d : Bool). if d then found best else unless_quit r.quits (unit i) (index i) (on_or_end n i v best)) lives ∙ o.1))
       (cases_Bool (is_dead v))
@@ -211,8 +211,8 @@ module _ (r : Reader) (earliest : Bool) (h : List ℕ) where
   plain_from (suc n) i v best =
       plain_end (is_dead v) best (unless_quit r.quits (unit i) (index i) (on_or_end n i v best))
       (plain_unless r.quits (unit i) (index i) (on_or_end n i v best)
-      (plain_end (stops earliest (behind i v)) (recorded i (behind i v) best) (on n i v best)
-      (plain_from n (next_place r i) (behind i v) (recorded i (behind i v) best))))
+      (plain_end (stops earliest (behind i v)) (best_recorded i (behind i v) best) (on n i v best)
+      (plain_from n (next_place r i) (behind i v) (best_recorded i (behind i v) best))))
 
   pub first_quit_is : (n i : ℕ) (v : StateValue) (best : Option (ℕ × ℕ)) (b x : ℕ) → IsFirstQuit r h i (count n i v) b x →
       pass_from r earliest h n i v best ≡ quit b x

@@ -16,7 +16,7 @@ use Rattle.determinize_core.specs.States.{StateValue}
 use Rattle.determinize_core.specs.Steps.{unit_at, unit_behind}
 use Rattle.determinize_core.specs.Walked.{end_at}
 use Rattle.lazy_dfa.specs.Readers.{Reader, is_quit, HalfAnswer, found, quit, unsupported}
-use Rattle.lazy_dfa.specs.Passes.{index_at, is_empty, is_dead, recorded, next_value, next_place, pass_from, start_name, first_value, pass}
+use Rattle.lazy_dfa.specs.Passes.{index_at, is_empty, is_dead, best_recorded, next_value, next_place, pass_from, start_name, first_value, pass}
 use Rattle.lazy_dfa.specs.Scans.{unless_split, passes, first_place, scan}
 use Rattle.lazy_dfa.specs.PassLaws.{units_read, pass_len, unit_of, HasNoQuit, splits}
 use Rattle.lazy_dfa.specs.ScanLaws.{begins_at, larger, passes_len, scan_len}
@@ -43,10 +43,10 @@ module _ (r : Reader) (earliest : Bool) (h : List ℕ) where
   abbrev IsRead : ℕ → ℕ → Option (ℕ × ℕ) → Type 0
   IsRead i n o = (k : ℕ) × (p : ℕ) × (k < n) × (o ≡ Some (place_of r.automaton.reverse i k, p))
 
-  read_here : (i n : ℕ) (v : StateValue) (best o : Option (ℕ × ℕ)) → 0 < n → recorded i v best ≡ o → (o ≡ best) ⊎ IsRead i n o
+  read_here : (i n : ℕ) (v : StateValue) (best o : Option (ℕ × ℕ)) → 0 < n → best_recorded i v best ≡ o → (o ≡ best) ⊎ IsRead i n o
   read_here i n v best o l is = ⊎_elim
-      (λ (none : recorded i v best ≡ best). inl (sym is ∙ none))
-      (λ (some : (p : ℕ) × (recorded i v best ≡ Some (i, p))).
+      (λ (none : best_recorded i v best ≡ best). inl (sym is ∙ none))
+      (λ (some : (p : ℕ) × (best_recorded i v best ≡ Some (i, p))).
       inr (0, some.0, l, sym is ∙ some.1 ∙ ap (λ (j : ℕ). Some (j, some.0)) (sym (place_zero r.automaton.reverse i))))
       (recorded_by (first v.matches) i best)
 
@@ -71,17 +71,17 @@ module _ (r : Reader) (earliest : Bool) (h : List ℕ) where
   found_read (suc n) i v best o e = ⊎_elim
       (λ (ended : (is_dead v ≡ true) × (best ≡ o)). inl (sym ended.1))
       (λ (goes : (is_dead v ≡ false) × (is_quit r.quits (unit_at r.automaton.reverse h i) ≡ false) ×
-      ((if earliest && not (is_empty (next_value r h i v).matches) then found (recorded i (next_value r h i v) best) else
-      pass_from r earliest h n (next_place r i) (next_value r h i v) (recorded i (next_value r h i v) best)) ≡ found o)).
+      ((if earliest && not (is_empty (next_value r h i v).matches) then found (best_recorded i (next_value r h i v) best) else
+      pass_from r earliest h n (next_place r i) (next_value r h i v) (best_recorded i (next_value r h i v) best)) ≡ found o)).
       ⊎_elim
-      (λ (stop : ((earliest && not (is_empty (next_value r h i v).matches)) ≡ true) × (recorded i (next_value r h i v) best ≡ o)).
+      (λ (stop : ((earliest && not (is_empty (next_value r h i v).matches)) ≡ true) × (best_recorded i (next_value r h i v) best ≡ o)).
       read_here i (units_read r earliest h (suc n) i v) (next_value r h i v) best o
       (first_within (is_dead v) (earliest && not (is_empty (next_value r h i v).matches))
       (units_read r earliest h n (next_place r i) (next_value r h i v)) goes.0) stop.1)
       (λ (on : ((earliest && not (is_empty (next_value r h i v).matches)) ≡ false) ×
-      (pass_from r earliest h n (next_place r i) (next_value r h i v) (recorded i (next_value r h i v) best) ≡ found o)).
+      (pass_from r earliest h n (next_place r i) (next_value r h i v) (best_recorded i (next_value r h i v) best) ≡ found o)).
       ⊎_elim
-      (λ (same : o ≡ recorded i (next_value r h i v) best).
+      (λ (same : o ≡ best_recorded i (next_value r h i v) best).
       read_here i (units_read r earliest h (suc n) i v) (next_value r h i v) best o
       (first_within (is_dead v) (earliest && not (is_empty (next_value r h i v).matches))
       (units_read r earliest h n (next_place r i) (next_value r h i v)) goes.0) (sym same))
@@ -89,12 +89,12 @@ module _ (r : Reader) (earliest : Bool) (h : List ℕ) where
       inr (read_later i (units_read r earliest h (suc n) i v) (units_read r earliest h n (next_place r i) (next_value r h i v)) o
       (λ k l. within (is_dead v) (earliest && not (is_empty (next_value r h i v).matches)) k
       (units_read r earliest h n (next_place r i) (next_value r h i v)) goes.0 on.0 l) there))
-      (found_read n (next_place r i) (next_value r h i v) (recorded i (next_value r h i v) best) o on.1))
-      (stopped (earliest && not (is_empty (next_value r h i v).matches)) (recorded i (next_value r h i v) best) o
-      (pass_from r earliest h n (next_place r i) (next_value r h i v) (recorded i (next_value r h i v) best)) goes.2))
+      (found_read n (next_place r i) (next_value r h i v) (best_recorded i (next_value r h i v) best) o on.1))
+      (stopped (earliest && not (is_empty (next_value r h i v).matches)) (best_recorded i (next_value r h i v) best) o
+      (pass_from r earliest h n (next_place r i) (next_value r h i v) (best_recorded i (next_value r h i v) best)) goes.2))
       (turn_found (is_dead v) r.quits (unit_at r.automaton.reverse h i) (index_at r.automaton.reverse i) best o
-      (if earliest && not (is_empty (next_value r h i v).matches) then found (recorded i (next_value r h i v) best) else
-      pass_from r earliest h n (next_place r i) (next_value r h i v) (recorded i (next_value r h i v) best)) e)
+      (if earliest && not (is_empty (next_value r h i v).matches) then found (best_recorded i (next_value r h i v) best) else
+      pass_from r earliest h n (next_place r i) (next_value r h i v) (best_recorded i (next_value r h i v) best)) e)
 
   pub no_some : (x : ℕ × ℕ) (P : Type 0) → Some x ≡ None → P
   no_some x P e = let never : true ≡ false = cc in absurd (grind (arith, never))

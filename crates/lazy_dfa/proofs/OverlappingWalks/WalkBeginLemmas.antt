@@ -14,7 +14,7 @@ use Rattle.lazy_dfa.specs.declared.overlapping_state.Walk.TheVariants.{Fresh}
 use Rattle.lazy_dfa.specs.declared.start_error.StartError.{StartError}
 use Rattle.lazy_dfa.specs.Dfas.{Dfa, IsDfa, reader}
 use Rattle.lazy_dfa.specs.Ids.{has_tag, dead_tag}
-use Rattle.lazy_dfa.specs.Linked.{Grows, HasCleared, IsMoved}
+use Rattle.lazy_dfa.specs.Linked.{CacheGrows, HasCleared, IsMoved}
 use Rattle.lazy_dfa.specs.MadePasses.{span_len}
 use Rattle.lazy_dfa.specs.Passes.{is_dead, first_value, pass}
 use Rattle.lazy_dfa.specs.PassLaws.{HasNoQuit}
@@ -171,7 +171,7 @@ module _ (d : Dfa) (q : Search) (old mid : CacheValue) (m1 m n1 n id : ℕ) (beg
   reads_first : reads_on (reader d) q Fresh ≡ true
   reads_first = ap (λ (b : Bool). b && is_supported (reader d).starts_for_each_pattern q.anchored) begun ∙ fits.0
 
-  so_far : (Grows d old mid × (told_of mid ≡ told_of old)) ⊎ HasCleared old mid
+  so_far : (CacheGrows d old mid × (told_of mid ≡ told_of old)) ⊎ HasCleared old mid
   so_far = ⊎_elim
       (λ (g : Grew d old mid). inl (grew_grows d old mid g, same_told d old mid g))
       (λ (c : WasCleared old mid 1). inr (has_cleared old mid 1 c))
@@ -221,7 +221,7 @@ module _ (d : Dfa) (q : Search) (old mid : CacheValue) (m1 m n1 n id : ℕ) (beg
       failed = tt;
       kept = grows_or_clears_trans d old mid new made own (start_grows_of d old mid start.kept) (inl still_there);
       told = ⊎_elim
-          (λ (g : Grows d old mid × (told_of mid ≡ told_of old)).
+          (λ (g : CacheGrows d old mid × (told_of mid ≡ told_of old)).
           inl (
             grows_trans d old mid new made own g.0 still_there,
             is ∙ (ap (λ (t : Told). told_with (t.searched + progress_len t.progress) 0) g.1 ∙ sym (told_dead (told_of old))),
@@ -250,7 +250,7 @@ module _ (d : Dfa) (q : Search) (old mid : CacheValue) (m1 m n1 n id : ℕ) (beg
           start.kept;
     }
       where
-        still_there : Grows d mid new
+        still_there : CacheGrows d mid new
         still_there = grows_moved d mid new moved
 
   -- what the start tells, which may have cleared the cache

@@ -11,7 +11,7 @@ use Rattle.lazy_dfa.specs.Caches.{CacheValue, IsCacheOf, greatest, progress_len}
 use Rattle.lazy_dfa.specs.declared.overlapping_state.Walk.{Walk}
 use Rattle.lazy_dfa.specs.declared.overlapping_state.Walk.TheVariants.{Fresh, Ended, Failed, Stopped}
 use Rattle.lazy_dfa.specs.Dfas.{Dfa, IsDfa, reader}
-use Rattle.lazy_dfa.specs.Linked.{Grows, HasCleared, GrowsOrClears}
+use Rattle.lazy_dfa.specs.Linked.{CacheGrows, HasCleared, GrowsOrClears}
 use Rattle.lazy_dfa.specs.Readers.{Reader}
 use Rattle.lazy_dfa.specs.SearchAnswers.{half_of, Told, told_of, pass_distance}
 use Rattle.lazy_dfa.specs.PassPlaces.{came, left_at, last_place, pass_start}
@@ -154,7 +154,7 @@ module _ (d : Dfa) (q : Search) (w : Walk) (old mid new : CacheValue) (m1 m m2 n
     (reads : reads_on (reader d) q w ≡ true)
     (left : rest_of (reader d) q w ≡ rest_at (reader d) q (call_place (reader d) q w))
     (units : units_there (reader d) q w ≡ units_at (reader d) q (call_place (reader d) q w))
-    (before : (Grows d old mid × (told_of mid ≡ told_of old)) ⊎ HasCleared old mid)
+    (before : (CacheGrows d old mid × (told_of mid ≡ told_of old)) ⊎ HasCleared old mid)
     (few : m ≤ m1 + call_starts q w) (few_put : n ≤ n1 + call_starts q w * most_inserts d)
     (free : w ≡ Fresh → start_refusal d (pass_start d q) ≡ None)
     (past : HasReadQuietly d q w → StartsQuietly d q (came d.nfa.automaton.reverse q (call_place (reader d) q w)))
@@ -195,18 +195,18 @@ module _ (d : Dfa) (q : Search) (w : Walk) (old mid new : CacheValue) (m1 m m2 n
       ∙ sym (ap (λ (b : Bool). if b then told_after (call_units r q w) else told_of old) reads ∙ ap told_after same_units)
 
   abbrev Followed : CacheValue → Told → Type 0
-  Followed v t = (Grows d v new × (told_of new ≡ t)) ⊎ HasCleared v new
+  Followed v t = (CacheGrows d v new × (told_of new ≡ t)) ⊎ HasCleared v new
 
   kept_on : GrowsOrClears d mid new → GrowsOrClears d old new
   kept_on kept = ⊎_elim
-      (λ (g : Grows d old mid × (told_of mid ≡ told_of old)). grows_or_clears_trans d old mid new made own (inl g.0) kept)
+      (λ (g : CacheGrows d old mid × (told_of mid ≡ told_of old)). grows_or_clears_trans d old mid new made own (inl g.0) kept)
       (λ (c : HasCleared old mid). inr (cleared_grows d old mid new c kept))
       before
 
   followed : GrowsOrClears d mid new → Followed mid (told_by_reading r q at (told_of mid)) → Followed old (told_by_call r q w (told_of old))
   followed kept f = ⊎_elim
-      (λ (g : Grows d old mid × (told_of mid ≡ told_of old)). ⊎_elim
-      (λ (h : Grows d mid new × (told_of new ≡ told_by_reading r q at (told_of mid))).
+      (λ (g : CacheGrows d old mid × (told_of mid ≡ told_of old)). ⊎_elim
+      (λ (h : CacheGrows d mid new × (told_of new ≡ told_by_reading r q at (told_of mid))).
       inl (grows_trans d old mid new made own g.0 h.0, told_so g.1 h.1))
       (λ (c : HasCleared mid new). inr (subst (λ (k : ℕ). min (k + 1) greatest ≤ new.clears) g.0.clears c))
       f)

@@ -7,7 +7,7 @@ use Rattle.lazy_dfa.specs.declared.overlapping_state.Stop.{Stop}
 use Rattle.lazy_dfa.specs.declared.overlapping_state.Walk.{Walk}
 use Rattle.lazy_dfa.specs.declared.overlapping_state.Walk.TheVariants.{Fresh, Ended, Failed, Stopped}
 use Rattle.lazy_dfa.specs.Dfas.{Dfa}
-use Rattle.lazy_dfa.specs.Linked.{Grows, HasCleared, GrowsOrClears}
+use Rattle.lazy_dfa.specs.Linked.{CacheGrows, HasCleared, GrowsOrClears}
 use Rattle.lazy_dfa.specs.Walks.{StopsAt, IsWalk}
 use Rattle.lazy_dfa.proofs.CacheChanges.IsCacheLemmas.{row_is_plain}
 use Rattle.lazy_dfa.proofs.CacheChanges.LinkedLemmas.{not_cleared}
@@ -24,7 +24,7 @@ held_kept v w shape names id s h = held_of (names id s (names_held h))
     held_of (names_dead e f) = absurd (omega (arith, e, low))
     held_of (names_held g) = g
 
-pub stop_kept : (d : Dfa) (old new : CacheValue) (q : Search) (stop : Stop) → IsCacheOf d old → Grows d old new → StopsAt d old q stop →
+pub stop_kept : (d : Dfa) (old new : CacheValue) (q : Search) (stop : Stop) → IsCacheOf d old → CacheGrows d old new → StopsAt d old q stop →
     StopsAt d new q stop
 stop_kept d old new q stop own g at = record {
   within = at.within;
@@ -32,7 +32,7 @@ stop_kept d old new q stop own g at = record {
   index = at.index;
 }
 
-pub walk_kept : (d : Dfa) (old new : CacheValue) (q : Search) (w : Walk) → IsCacheOf d old → Grows d old new → IsWalk d old q w →
+pub walk_kept : (d : Dfa) (old new : CacheValue) (q : Search) (w : Walk) → IsCacheOf d old → CacheGrows d old new → IsWalk d old q w →
     IsWalk d new q w
 walk_kept d old new q Fresh own g at = tt
 walk_kept d old new q Ended own g at = tt
@@ -43,6 +43,6 @@ walk_kept d old new q (Stopped stop) own g at = stop_kept d old new q stop own g
 pub walk_counted : (d : Dfa) (old new : CacheValue) (q : Search) (w : Walk) → IsCacheOf d old → GrowsOrClears d old new →
     new.clears ≡ old.clears → old.clears < greatest → IsWalk d old q w → IsWalk d new q w
 walk_counted d old new q w own kept same few at = ⊎_elim
-    (λ (g : Grows d old new). walk_kept d old new q w own g at)
+    (λ (g : CacheGrows d old new). walk_kept d old new q w own g at)
     (λ (x : HasCleared old new). absurd (not_cleared old new x same few))
     kept

@@ -19,7 +19,7 @@ use Rattle.lazy_dfa.specs.Courses.{state_behind}
 use Rattle.lazy_dfa.specs.declared.passing.Position.{Position}
 use Rattle.lazy_dfa.specs.declared.overlapping_state.Walk.TheVariants.{Ended, Stopped}
 use Rattle.lazy_dfa.specs.Dfas.{Dfa, IsDfa, reader}
-use Rattle.lazy_dfa.specs.Linked.{Grows, HasCleared, GrowsOrClears, IsMoved}
+use Rattle.lazy_dfa.specs.Linked.{CacheGrows, HasCleared, GrowsOrClears, IsMoved}
 use Rattle.lazy_dfa.specs.Passes.{is_dead, is_empty, next_value, next_place}
 use Rattle.lazy_dfa.specs.Points.{Point, point, began, Follows, GoesTo}
 use Rattle.lazy_dfa.specs.PassLaws.{HasNoQuit}
@@ -39,7 +39,7 @@ use Rattle.lazy_dfa.proofs.CacheChanges.ChangesLemmas.{changes_into, changes_on,
 use Rattle.lazy_dfa.proofs.Courses.CourseLemmas.{read_there}
 use Rattle.lazy_dfa.specs.WalkAnswers.{StartsQuietly, HasReadQuietly, index_there, walk_over, walk_told, ends_there, IsRefusedThere}
 use Rattle.lazy_dfa.specs.LeftTold.{is_quit_error}
-use Rattle.lazy_dfa.specs.WalkTurns.{tells_end, TellsNone, stopped, TellsUnit, Refuses, StopsWith, ReadsInto}
+use Rattle.lazy_dfa.specs.WalkTurns.{tells_end, TellsNone, stopped, TellsUnit, RefusesUnit, StopsWith, ReadsInto}
 use Rattle.lazy_dfa.proofs.OverlappingWalks.WalkToldLemmas.{IsWalking, UnitBy, unit_walked, unit_walks, walking_by, walking_later, walking_first, walk_is_told}
 use Rattle.lazy_dfa.proofs.Courses.CourseLemmas.{not_dead}
 use Rattle.lazy_dfa.proofs.CacheChanges.LinkedLemmas.{grows_trans, cleared_grows, grows_or_clears_trans, grows_moved}
@@ -60,7 +60,7 @@ use Rattle.lazy_dfa.proofs.OverlappingWalks.WalkLeftLemmas.{left_last, dead_unit
 
 -- nothing was cleared since a call began, and the search that goes on began at this index
 pub record KeepsOn (d : Dfa) (old new : CacheValue) (index : ℕ) : Type 0 where
-  pub grows : Grows d old new
+  pub grows : CacheGrows d old new
   pub searched : new.searched ≡ min (old.searched + progress_len old.progress) greatest
   pub began : began new.progress ≡ Some index
 
@@ -318,7 +318,7 @@ module _ (d : Dfa) (q : Search) (made : IsDfa d) (from p : Point) (own : IsCache
       );
     }
 
-    pub ends_refused : (e : MatchErrorKind) → Refuses d q p v m n e → ReadsOn d q from.at from.cache v from.determinized m from.inserted n
+    pub ends_refused : (e : MatchErrorKind) → RefusesUnit d q p v m n e → ReadsOn d q from.at from.cache v from.determinized m from.inserted n
         (Err e)
     ends_refused (Quit b y) t =
         let left = x.rest ∙ quit_left (reader d) h (left_at rev q p.at) p.at now b alive t.1 t.2 in

@@ -13,8 +13,8 @@ use Rattle.search_types.specs.declared.match_error.MatchErrorKind.TheVariants.{Q
 use Rattle.search_types.specs.Inputs.{Search}
 use Rattle.search_types.specs.Places.{counts}
 use Rattle.lazy_dfa.specs.Caches.{CacheValue, IsShaped, IsRow, HeldAt, Names, names_dead, names_held, greatest, progress_len, moved_to}
-use Rattle.lazy_dfa.specs.Caches.{search_total_len, is_refused, fits, lacks_room, place_of as row_of}
-use Rattle.lazy_dfa.specs.ConfigValue.{clears_of, bytes_of}
+use Rattle.lazy_dfa.specs.Caches.{search_total_len, is_refused, fits, lacks_room, row_holding}
+use Rattle.lazy_dfa.specs.ConfigValue.{clears_of, minimum_bytes_of}
 use Rattle.lazy_dfa.specs.Courses.{state_behind, stops_behind}
 use Rattle.lazy_dfa.specs.declared.cache_error.CacheError.{CacheError}
 use Rattle.lazy_dfa.specs.declared.cache_error.CacheError.TheVariants.{GaveUp, NoMemory}
@@ -35,7 +35,7 @@ use Rattle.lazy_dfa.specs.PassPlaces.{last_place, finished, finished_where, erro
 use Rattle.lazy_dfa.specs.Turns.{FailsOn, GoesOne, IsSeen, IsTurn}
 use Rattle.lazy_dfa.specs.Walks.{value_past, StopsAt}
 use Rattle.lazy_dfa.specs.WalkAnswers.{lists_more}
-use Rattle.lazy_dfa.specs.WalkTurns.{tells_end, is_over, TellsUnit, IsStepTo, Refuses, StopsWith, ReadsInto}
+use Rattle.lazy_dfa.specs.WalkTurns.{tells_end, is_over, TellsUnit, IsStepTo, RefusesUnit, StopsWith, ReadsInto}
 use Rattle.lazy_dfa.proofs.OverlappingWalks.WalkToldLemmas.{unit_stepped, unit_finished}
 use Rattle.lazy_dfa.proofs.CacheChanges.ChangeLemmas.{one_state}
 use Rattle.lazy_dfa.proofs.Courses.SpanTurnLemmas.{held_moved, leaves_forth, goes_back, began_moved, moved_is, some_moved, runs_there}
@@ -64,8 +64,8 @@ still_refused (Some least) (Some bytes) v at e =
 still_lacks : (d : Dfa) (v : CacheValue) (at : ℕ) (s : StateValue) → moved_to at v.progress ≡ v.progress →
     lacks_room d (finished at v) s ≡ lacks_room d v s
 still_lacks d v at s e =
-    ap (λ (b : Bool). not (is_lost s) && (is_none (row_of s v.states) && (not (fits d.capacity s v) && b)))
-    (still_refused (clears_of d.options) (bytes_of d.options) v at e)
+    ap (λ (b : Bool). not (is_lost s) && (is_none (row_holding s v.states) && (not (fits d.capacity s v) && b)))
+    (still_refused (clears_of d.options) (minimum_bytes_of d.options) v at e)
 
 moved_twice : (at : ℕ) (o : Option Progress) → moved_to at (moved_to at o) ≡ moved_to at o
 moved_twice at None = refl
@@ -157,7 +157,7 @@ module _ (d : Dfa) (q : Search) (is_reverse : Bool) (same : is_reverse ≡ d.nfa
     )
 
     refused_before : (e : CacheError) → IsTurn d false q.haystack u before v2 m2 n2 (Err e) → Tells v2 →
-        Refuses d q from v2 m2 n2 (error_of place e)
+        RefusesUnit d q from v2 m2 n2 (error_of place e)
     refused_before NoMemory turn tells = (fails_back d v0 v1 moved q.haystack m1 n1 at id best v2 m2 n2 0 turn.0, tells)
     refused_before GaveUp turn tells = (
       fails_back d v0 v1 moved q.haystack m1 n1 at id best v2 m2 n2 0 turn.0,
@@ -169,7 +169,7 @@ module _ (d : Dfa) (q : Search) (is_reverse : Bool) (same : is_reverse ≡ d.nfa
     )
 
     refused_last : (e : CacheError) → at ≡ last_place rev q → v3 ≡ finished place v2 → IsTurn d false q.haystack u before v2 m2 n2 (Err e) →
-        Tells v3 → Refuses d q from v3 m2 n2 (error_of place e)
+        Tells v3 → RefusesUnit d q from v3 m2 n2 (error_of place e)
     refused_last NoMemory last f turn tells = (
       fails_forth (finished_moves v2 v3 place f) (fails_back d v0 v1 moved q.haystack m1 n1 at id best v2 m2 n2 0 turn.0),
       tells,
@@ -192,13 +192,13 @@ module _ (d : Dfa) (q : Search) (is_reverse : Bool) (same : is_reverse ≡ d.nfa
 
     pub step_refused : (e : CacheError) (err : MatchErrorKind) (wanted : Bool) → wanted ≡ (at == last_place is_reverse q) →
         v3 ≡ finished_where wanted place v2 → err ≡ error_of place e →
-        IsTurn d false q.haystack u before v2 m2 n2 (Err e) → Refuses d q from v3 m2 n2 err
-    step_refused e err true w f told turn = subst (λ (x : MatchErrorKind). Refuses d q from v3 m2 n2 x) (sym told)
+        IsTurn d false q.haystack u before v2 m2 n2 (Err e) → RefusesUnit d q from v3 m2 n2 err
+    step_refused e err true w f told turn = subst (λ (x : MatchErrorKind). RefusesUnit d q from v3 m2 n2 x) (sym told)
         (refused_last e (eqb-true at (last_place is_reverse q) (sym w) ∙ ap (λ (b : Bool). last_place b q) same) f turn
         (subst (λ (b : Bool). TellsUnit d b q at v0 v3) (wanted_is w)
         (unit_finished d q at place there v0 v2 v3 f (before_told e turn))))
-    step_refused e err false w f told turn = subst (λ (x : MatchErrorKind). Refuses d q from v3 m2 n2 x) (sym told)
-        (subst (λ (c : CacheValue). Refuses d q from c m2 n2 (error_of place e)) (sym f) (refused_before e turn
+    step_refused e err false w f told turn = subst (λ (x : MatchErrorKind). RefusesUnit d q from v3 m2 n2 x) (sym told)
+        (subst (λ (c : CacheValue). RefusesUnit d q from c m2 n2 (error_of place e)) (sym f) (refused_before e turn
         (subst (λ (b : Bool). TellsUnit d b q at v0 v2) (wanted_is w) (before_told e turn))))
 
   -- by a quit byte
@@ -206,11 +206,11 @@ module _ (d : Dfa) (q : Search) (is_reverse : Bool) (same : is_reverse ≡ d.nfa
       v3 ≡ finished place v2 →
       u ≡ unit_at rev q.haystack at → u ≡ Some b →
       index ≡ index_at is_reverse at → err ≡ Quit b index → turn ≡ Quits → IsSeen d false q.haystack u before v2 m2 n2 to best2 turn →
-      Refuses d q from v3 m2 n2 err
+      RefusesUnit d q from v3 m2 n2 err
   step_quits to best2 turn v3 b index err there ends is some here told e seen =
       let x = subst (λ (t : Turn). IsSeen d false q.haystack u before v2 m2 n2 to best2 t) e seen in
       let byte : x.2.0 ≡ b = one_byte x.2.0 b (sym x.2.1 ∙ some) in
-      subst (λ (o : MatchErrorKind). Refuses d q from v3 m2 n2 o) (sym told) (
+      subst (λ (o : MatchErrorKind). RefusesUnit d q from v3 m2 n2 o) (sym told) (
         leaves_forth d q.haystack from v2 v3 m2 n2 0 (finished_moves v2 v3 place ends) (leaves_back d v0 v1 moved q.haystack m1 n1 at id best v2 m2 n2 0 x.0),
         sym is ∙ some,
         ap (has d.quits) (sym byte) ∙ x.2.2,

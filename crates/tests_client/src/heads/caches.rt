@@ -7,7 +7,7 @@ ghost use Rattle.search_types.specs.declared.match_kind.MatchKind.TheVariants.{A
 ghost use Rattle.nfa_core.specs.Nfa.{Automaton};
 ghost use Rattle.nfa_core.specs.Places.{same_pair};
 ghost use Rattle.nfa_core.specs.Walks.{HasNoneTwice};
-ghost use Rattle.lazy_dfa.specs.Accounting.{Measures, fresh_usage, state_cost, usage};
+ghost use Rattle.lazy_dfa.specs.Accounting.{Measures, fresh_usage, state_cost, measured_usage};
 ghost use Rattle.lazy_dfa.specs.Caches.{CacheValue, HeldAt, IsCacheOf, greatest};
 ghost use Rattle.lazy_dfa.specs.Changes.{Changes, IsMadeBy};
 ghost use Rattle.lazy_dfa.specs.Dfas.{Dfa};
@@ -38,7 +38,7 @@ pub fn was_never_cleared(cache: &Cache) -> bool {
 
 pub fn a_state_more()
     ensures { (m : Measures) (vs : List StateValue) (v : StateValue) →
-        usage m (vs ++ v ∷ []) ≡ usage m vs + state_cost m.stride (length (encoded v)) }
+        measured_usage m (vs ++ v ∷ []) ≡ measured_usage m vs + state_cost m.stride (length (encoded v)) }
 {
     states_add_to_the_usage();
 }

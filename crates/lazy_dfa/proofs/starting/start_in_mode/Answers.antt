@@ -1,6 +1,6 @@
 use Rattle.std.proofs.Common.{get_or, ◌≡◌, ◌⊎◌, ◌∙◌, ◌+◌, ◌*◌, ◌<◌, ℕ, true, sym, subst, ap, inl, inr, ⊎_elim, set, length, refl}
 use Rattle.determinize_core.specs.States.{StateValue}
-use Rattle.lazy_dfa.specs.Caches.{CacheValue, IsCacheOf, slot, cleared, needs_clear}
+use Rattle.lazy_dfa.specs.Caches.{CacheValue, IsCacheOf, slot_of_start, cleared, needs_clear}
 use Rattle.lazy_dfa.specs.Dfas.{first_state}
 use Rattle.lazy_dfa.specs.StartCalls.{PlacesStart}
 use Rattle.lazy_dfa.specs.Steps.{IsCause, Added, Grew}
@@ -32,7 +32,7 @@ returns-in-Err-clause-err g c = subst (λ (s : StateValue). IsCause c.args.dfa.n
 
 pub set_start-requires : goal.set_start-requires
 set_start-requires g c = subst (λ (n : ℕ). c.args.mode * 7 + n < length c.place_start.new.cache.starts) (sym c.as_usize.ensures.number)
-    (subst (λ (n : ℕ). slot c.args.mode c.args.start < n) (sym (c.in-Ok.ensures.slots
+    (subst (λ (n : ℕ). slot_of_start c.args.mode c.args.start < n) (sym (c.in-Ok.ensures.slots
     ∙ ap (λ (v : CacheValue). length v.starts) c.first_of.ensures.same)) c.requires.inside)
 
 pub returns-in-Ok-clause-own : goal.returns-in-Ok-clause-own
@@ -40,7 +40,7 @@ returns-in-Ok-clause-own g c = started c.args.dfa.now c.place_start.new.cache c.
     (c.args.mode * 7 + c.as_usize.result) c.args.name c.in-Ok.id c.args.start c.in_ok-state.state
     (ap (λ (n : ℕ). c.args.mode * 7 + n) c.as_usize.ensures.number) c.in_ok-state.ensures.value c.in-Ok.ensures.to c.set_start.ensures
     c.in-Ok.ensures.own
-    (subst (λ (n : ℕ). slot c.args.mode c.args.start < n) (sym (c.in-Ok.ensures.slots
+    (subst (λ (n : ℕ). slot_of_start c.args.mode c.args.start < n) (sym (c.in-Ok.ensures.slots
     ∙ ap (λ (v : CacheValue). length v.starts) c.first_of.ensures.same)) c.requires.inside) c.requires.named
 
 pub returns-in-Ok-clause-start : goal.returns-in-Ok-clause-start
@@ -139,7 +139,7 @@ placed g c = subst (λ (w : CacheValue). PlacesStart c.args.dfa.now w c.place_st
 noted_at : (g : Rattle.lazy_dfa.proofs.starting.start_in_mode.Given.Over) (c : goal.After-set_start g) →
     c.set_start.new.self ≡ record c.place_start.new.cache {
       starts = set c.place_start.new.cache.starts
-          (slot c.args.mode c.args.start) c.in-Ok.id;
+          (slot_of_start c.args.mode c.args.start) c.in-Ok.id;
     }
 noted_at g c = c.set_start.ensures ∙ ap (λ (n : ℕ). record c.place_start.new.cache {
   starts =
@@ -148,7 +148,7 @@ noted_at g c = c.set_start.ensures ∙ ap (λ (n : ℕ). record c.place_start.ne
 
 pub returns-in-Ok-clause-kept : goal.returns-in-Ok-clause-kept
 returns-in-Ok-clause-kept g c = start_kept c.args.dfa.now c.args.cache.now c.place_start.new.cache c.set_start.new.self
-    (slot c.args.mode c.args.start) c.in-Ok.id (first_state c.args.dfa.now c.args.start c.args.name)
+    (slot_of_start c.args.mode c.args.start) c.in-Ok.id (first_state c.args.dfa.now c.args.start c.args.name)
     c.is_made.ensures c.requires.own
     (unknown_start c.args.dfa.now c.args.cache.now c.args.mode (c.args.mode * 7 + c.as_usize.result) c.args.name c.start-known.result
     c.args.start c.requires.own
@@ -158,7 +158,7 @@ returns-in-Ok-clause-kept g c = start_kept c.args.dfa.now c.args.cache.now c.pla
 
 pub returns-in-Ok-clause-remains : goal.returns-in-Ok-clause-remains
 returns-in-Ok-clause-remains g c = start_remains c.args.dfa.now c.args.cache.now c.place_start.new.cache c.set_start.new.self
-    (slot c.args.mode c.args.start) c.in-Ok.id (first_state c.args.dfa.now c.args.start c.args.name)
+    (slot_of_start c.args.mode c.args.start) c.in-Ok.id (first_state c.args.dfa.now c.args.start c.args.name)
     c.is_made.ensures c.requires.own
     (unknown_start c.args.dfa.now c.args.cache.now c.args.mode (c.args.mode * 7 + c.as_usize.result) c.args.name c.start-known.result
     c.args.start c.requires.own
@@ -197,7 +197,7 @@ pub returns-in-Ok-clause-cause : goal.returns-in-Ok-clause-cause
 returns-in-Ok-clause-cause g c = ⊎_elim
     (λ (a : Added c.first_of.new.cache c.place_start.new.cache). inl (
     grew_start c.args.dfa.now c.args.cache.now c.place_start.new.cache c.set_start.new.self
-    (slot c.args.mode c.args.start) c.in-Ok.id (first_state c.args.dfa.now c.args.start c.args.name)
+    (slot_of_start c.args.mode c.args.start) c.in-Ok.id (first_state c.args.dfa.now c.args.start c.args.name)
     c.is_made.ensures c.requires.own
     (unknown_start c.args.dfa.now c.args.cache.now c.args.mode (c.args.mode * 7 + c.as_usize.result) c.args.name c.start-known.result
     c.args.start c.requires.own
@@ -239,7 +239,7 @@ returns-in-Ok-clause-adds g c = inr (start_comes c.args.dfa.now c.args.cache.now
     c.set_start.new.self c.in_ok-state.state (first_state c.args.dfa.now c.args.start c.args.name) c.first_of.ensures.same
     c.in_ok-state.ensures.value (same_states _ c.set_start.new.self c.set_start.ensures)
     (grew_start c.args.dfa.now c.args.cache.now c.place_start.new.cache c.set_start.new.self
-    (slot c.args.mode c.args.start) c.in-Ok.id (first_state c.args.dfa.now c.args.start c.args.name)
+    (slot_of_start c.args.mode c.args.start) c.in-Ok.id (first_state c.args.dfa.now c.args.start c.args.name)
     c.is_made.ensures c.requires.own
     (unknown_start c.args.dfa.now c.args.cache.now c.args.mode (c.args.mode * 7 + c.as_usize.result) c.args.name c.start-known.result
     c.args.start c.requires.own

@@ -1,6 +1,6 @@
 use Rattle.std.proofs.Common.{◌∙◌, ◌≡◌, sym, subst, Some, None, inl, inr, ⊎_elim, refl, ℕ}
 use Rattle.lazy_dfa.specs.Ids.{has_tag, start_tag}
-use Rattle.lazy_dfa.specs.Caches.{CacheValue, IsCacheOf, HeldAt, Fits, id_at, state_at, place_of, with_state, cleared}
+use Rattle.lazy_dfa.specs.Caches.{CacheValue, IsCacheOf, HeldAt, Fits, id_at, state_at, row_holding, with_state, cleared}
 use Rattle.lazy_dfa.proofs.CacheChanges.IsCacheLemmas.{is_cache_kept, is_cache_refused, fresh_beside, kept_held, fits_beside}
 use Rattle.lazy_dfa.proofs.CacheChanges.ChangeLemmas.{room_refused, cleared_one, fits_is, lacks_not_fitting, lacks_not_allowed, lacks_all, needs_all}
 use Rattle.lazy_dfa.proofs.CacheChanges.AddsLemmas.{clears_for}
@@ -44,7 +44,7 @@ returns-clause-from c = subst (λ (w : CacheValue). HeldAt w c.in_ok-id.id (stat
     (has_tag start_tag (id_at c.args.cache.now c.args.k))))
 
 pub returns-clause-fresh : goal.returns-clause-fresh
-returns-clause-fresh c = subst (λ (w : CacheValue). place_of c.args.state.now w.states ≡ None) (sym c.in_ok-id.ensures.ok)
+returns-clause-fresh c = subst (λ (w : CacheValue). row_holding c.args.state.now w.states ≡ None) (sym c.in_ok-id.ensures.ok)
     (fresh_beside c.args.dfa.now c.args.cache.now c.args.k c.is_made.ensures c.requires.own c.requires.row
     (has_tag start_tag (id_at c.args.cache.now c.args.k)) c.args.state.now c.requires.fresh)
 

@@ -1,7 +1,7 @@
 use Rattle.std.proofs.Common.{List, [], ◌∷◌, ◌++◌, ◌≤◌, None, replicate, length, sym, ap, subst, ◌∙◌, ◌+◌, ◌*◌, ◌≡◌, ℕ, Bool, cond, Some, refl, arith}
 use Rattle.determinize_core.specs.States.{IsState, StateValue}
 use Rattle.lazy_dfa.specs.Ids.{tag, tagged}
-use Rattle.lazy_dfa.specs.Caches.{CacheValue, IsKept, same, new_id, place_of, with_state}
+use Rattle.lazy_dfa.specs.Caches.{CacheValue, IsKept, same, new_id, row_holding, with_state}
 use Rattle.determinize_core.specs.StateBytes.{is_match}
 use Rattle.lazy_dfa.specs.Skips.{IsSkip}
 use Rattle.lazy_dfa.proofs.CacheChanges.CacheLemmas.{IsKept-same, IsKept-lists, IsKept-added, added_parts, with_lists}
@@ -89,7 +89,7 @@ invariant_of-self-2 c =
           (4 * c.self.inside.stride + 16 + 20 + c.memory_usage.result) c.args.is_start c.args.state
           c.self.invariant.0
           (subst IsState c.state.view_is c.state.invariant.state)
-          (subst (λ (w : CacheValue). place_of c.args.state w.states ≡ None) (sym c.self.view_is) c.requires.fresh)
+          (subst (λ (w : CacheValue). row_holding c.args.state w.states ≡ None) (sym c.self.view_is) c.requires.fresh)
           (subst (λ (w : CacheValue). length w.cells + w.stride ≤ tag) (sym c.self.view_is) c.requires.room)
           k
           (ap (λ (n : ℕ). 4 * v.stride + 16 + 20 + n) c.memory_usage.ensures)
