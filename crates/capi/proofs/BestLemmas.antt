@@ -17,8 +17,8 @@ use Rattle.pattern_search.specs.Searches.{found_from, span_of_match, IsOfFirstPa
 use Rattle.pattern_search.proofs.ForCallers.{tried, found_is, may_begin}
 use Rattle.pattern_search.proofs.ForCallers.{spans, step, NoEarlier, or_later, later_from, no_class, none_spans}
 use Rattle.capi.specs.declared.failure.FoundMatch.{FoundMatch}
-use Rattle.capi.specs.Compiled.{span_of_row, found_of}
-use Rattle.capi.specs.Fallbacks.{numbered, better, best_of}
+use Rattle.capi.specs.Compiled.{span_of_row, as_found}
+use Rattle.capi.specs.Fallbacks.{row_of_span, better_match, best_of}
 use Rattle.capi.proofs.ListLemmas.{mapped_get, get_mapped}
 
 -- the span of the match from a place on
@@ -96,19 +96,19 @@ if_span : (b : Bool) (x y : FoundMatch) → option_map span_of_row (if b then So
 if_span true x y = refl
 if_span false x y = refl
 
-better_span : (a b : Option FoundMatch) → option_map span_of_row (better a b) ≡ sooner (option_map span_of_row a) (option_map span_of_row b)
+better_span : (a b : Option FoundMatch) → option_map span_of_row (better_match a b) ≡ sooner (option_map span_of_row a) (option_map span_of_row b)
 better_span None b = refl
 better_span (Some a) None = refl
 better_span (Some a) (Some b) = if_span (nat_lt b.start a.start) b a
 
-numbered_span : (n : ℕ) (s : Option (ℕ × ℕ)) → option_map span_of_row (option_map (numbered n) s) ≡ s
+numbered_span : (n : ℕ) (s : Option (ℕ × ℕ)) → option_map span_of_row (option_map (row_of_span n) s) ≡ s
 numbered_span n None = refl
 numbered_span n (Some s) = refl
 
 best_span : (n : ℕ) (ss : List (Option (ℕ × ℕ))) → option_map span_of_row (best_of n ss) ≡ soonest ss
 best_span n [] = refl
 best_span n (s ∷ ss) =
-    better_span (option_map (numbered n) s) (best_of (n + 1) ss)
+    better_span (option_map (row_of_span n) s) (best_of (n + 1) ss)
     ∙ ap₂ sooner (numbered_span n s) (best_span (n + 1) ss)
 
 pub best_is_found : (utf8 : Bool) (h : List ℕ) (at : ℕ) (res : List Re) →
@@ -138,23 +138,23 @@ later n s ss f it first = record {
   before = before_later s ss it.k f.start it.before first;
 }
 
-first : (n : ℕ) (s : ℕ × ℕ) (ss : List (Option (ℕ × ℕ))) → IsFirstOf n (Some s ∷ ss) (numbered n s)
+first : (n : ℕ) (s : ℕ × ℕ) (ss : List (Option (ℕ × ℕ))) → IsFirstOf n (Some s ∷ ss) (row_of_span n s)
 first n s ss = record { k = 0; number = omega arith; own = refl; before = λ p t below listed. absurd (omega (arith, below)) }
 
 pick : (n : ℕ) (s : Option (ℕ × ℕ)) (ss : List (Option (ℕ × ℕ))) (o : Option FoundMatch) →
-    ((g : FoundMatch) → o ≡ Some g → IsFirstOf (n + 1) ss g) → (f : FoundMatch) → better (option_map (numbered n) s) o ≡ Some f →
+    ((g : FoundMatch) → o ≡ Some g → IsFirstOf (n + 1) ss g) → (f : FoundMatch) → better_match (option_map (row_of_span n) s) o ≡ Some f →
     IsFirstOf n (s ∷ ss) f
 pick n None ss o rest f is = later n None ss f (rest f is) (λ t e. absurd (none-some t e))
-pick n (Some s) ss None rest f is = subst (IsFirstOf n (Some s ∷ ss)) (same_Some (numbered n s) f is) (first n s ss)
+pick n (Some s) ss None rest f is = subst (IsFirstOf n (Some s ∷ ss)) (same_Some (row_of_span n s) f is) (first n s ss)
 pick n (Some s) ss (Some g) rest f is = elim (cases_lt g.start s.0) [
   | inl less ↦
-      let chosen : Some g ≡ Some f = sym (ap (λ b. if b then Some g else Some (numbered n s)) (lt-ltb g.start s.0 less)) ∙ is in
+      let chosen : Some g ≡ Some f = sym (ap (λ b. if b then Some g else Some (row_of_span n s)) (lt-ltb g.start s.0 less)) ∙ is in
       subst (IsFirstOf n (Some s ∷ ss)) (same_Some g f chosen)
       (later n (Some s) ss g (rest g refl) (λ t e. subst (λ (u : ℕ × ℕ). g.start < u.0) (same_Some s t e) less))
   | inr above ↦
       let not_less : nat_lt g.start s.0 ≡ false = grind (arith, above) in
-      let chosen : Some (numbered n s) ≡ Some f = sym (ap (λ b. if b then Some g else Some (numbered n s)) not_less) ∙ is in
-      subst (IsFirstOf n (Some s ∷ ss)) (same_Some (numbered n s) f chosen) (first n s ss)
+      let chosen : Some (row_of_span n s) ≡ Some f = sym (ap (λ b. if b then Some g else Some (row_of_span n s)) not_less) ∙ is in
+      subst (IsFirstOf n (Some s ∷ ss)) (same_Some (row_of_span n s) f chosen) (first n s ss)
 ]
 
 first_of_best : (n : ℕ) (ss : List (Option (ℕ × ℕ))) (f : FoundMatch) → best_of n ss ≡ Some f → IsFirstOf n ss f
@@ -219,7 +219,7 @@ module _ (utf8 : Bool) (a : Re) (h : List ℕ) (at : ℕ) where
 -- the best one is of the first pattern that matches from its start
 pub best_of_first : (utf8 : Bool) (h : List ℕ) (at : ℕ) (res : List Re) (f : FoundMatch) →
     best_of 0 (map (span_at utf8 h at) res) ≡ Some f →
-    IsOfFirstPattern res h (found_of f)
+    IsOfFirstPattern res h (as_found f)
 best_of_first utf8 h at res f is =
     let it = first_of_best 0 (map (span_at utf8 h at) res) f is in
     let own = mapped_get (span_at utf8 h at) res it.k (Some (f.start, f.end)) it.own in

@@ -21,12 +21,12 @@ use Rattle.regex.specs.declared.bytes.regex.Regex as raw_regex
 use Rattle.regex.specs.declared.string.regex.Regex as text_regex
 use Rattle.regex.proofs.ForCallers.{span_alike}
 use Rattle.pattern_search.specs.Searches.{found_from, which_match, span_of_match, IsOfFirstPattern}
-use Rattle.pattern_search.specs.Texts.{AreRead}
+use Rattle.pattern_search.specs.Texts.{AreReadAs}
 use Rattle.pattern_search.proofs.ForCallers.{one_same}
 use Rattle.capi.specs.declared.failure.FoundMatch.{FoundMatch}
 use Rattle.capi.specs.declared.fallback.Fallback.{Fallback}
 use Rattle.capi.specs.declared.fallback.Fallback.TheVariants.{Bytes, Text}
-use Rattle.capi.specs.Compiled.{IsFound, IsPreferred, AreWhich, span_of_row, found_of}
+use Rattle.capi.specs.Compiled.{HasFoundStart, HasFoundSpan, AreWhich, span_of_row, as_found}
 use Rattle.capi.specs.Fallbacks.{IsFallbackOf, AreFallbacksOf, span_by, finds_any, best_of}
 use Rattle.capi.proofs.BestLemmas.{span_at, best_is_found, best_of_first}
 
@@ -71,7 +71,7 @@ module _ (h : List ℕ) (bytes : All (λ b. b < 256) h) (config : Config) where
       span_alike (text_same config t r a of.1 of.2 of.3 q) h (bytes_at h bytes) true at
       ∙ ap (λ (u : Bool). span_at u h at a) (sym of.0)
 
-  all_spans : (ts : List (List ℕ)) (rs : List Fallback) (res : List Re) (at : ℕ) → AreFallbacksOf config ts rs → AreRead config ts res →
+  all_spans : (ts : List (List ℕ)) (rs : List Fallback) (res : List Re) (at : ℕ) → AreFallbacksOf config ts rs → AreReadAs config ts res →
       map (span_by h at) rs ≡ map (span_at config.utf8 h at) res
   all_spans [] [] [] at of q = refl
   all_spans [] [] (a ∷ res) at of q = absurd q
@@ -101,10 +101,10 @@ module _ (h : List ℕ) (bytes : All (λ b. b < 256) h) (config : Config) where
 
   module _ (ts : List (List ℕ)) (rs : List Fallback) (at : ℕ) (of : AreFallbacksOf config ts rs) (o : Option FoundMatch)
       (is : o ≡ best_of 0 (map (span_by h at) rs)) where
-    best : (res : List Re) → AreRead config ts res → o ≡ best_of 0 (map (span_at config.utf8 h at) res)
+    best : (res : List Re) → AreReadAs config ts res → o ≡ best_of 0 (map (span_at config.utf8 h at) res)
     best res read = is ∙ ap (best_of 0) (all_spans ts rs res at of read)
 
-    pub preferred_slowly : IsPreferred config ts h at o
+    pub preferred_slowly : HasFoundSpan config ts h at o
     preferred_slowly res read = best_is_found config.utf8 h at res ∙ ap (option_map span_of_row) (sym (best res read))
 
     starts_by : (a : Option Match) (b : Option FoundMatch) → option_map span_of_match a ≡ option_map span_of_row b →
@@ -114,12 +114,12 @@ module _ (h : List ℕ) (bytes : All (λ b. b < 256) h) (config : Config) where
     starts_by (Some a) None e = absurd (none-some (span_of_match a) (sym e))
     starts_by (Some a) (Some b) e = ap (λ (s : ℕ × ℕ). Some s.0) (same_Some (span_of_match a) (span_of_row b) e)
 
-    first_by : (res : List Re) (p : Option FoundMatch) → ((f : FoundMatch) → p ≡ Some f → IsOfFirstPattern res h (found_of f)) →
-        IfSome p (λ f. IsOfFirstPattern res h (found_of f))
+    first_by : (res : List Re) (p : Option FoundMatch) → ((f : FoundMatch) → p ≡ Some f → IsOfFirstPattern res h (as_found f)) →
+        IfSome p (λ f. IsOfFirstPattern res h (as_found f))
     first_by res None each = tt
     first_by res (Some f) each = each f refl
 
-    pub found_slowly : IsFound config ts h at o
+    pub found_slowly : HasFoundStart config ts h at o
     found_slowly = record {
       start = λ res read. starts_by (found_from config.utf8 (alt_all res) h at) o (preferred_slowly res read);
       pattern = λ res read. first_by res o (λ f e. best_of_first config.utf8 h at res f (sym (best res read) ∙ e));

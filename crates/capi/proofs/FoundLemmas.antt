@@ -23,11 +23,11 @@ use Rattle.hirscan.specs.declared.settings.Settings.{Settings}
 use Rattle.hirscan.specs.Built.{IsBuilt, FindsFirst}
 use Rattle.hirscan.specs.Regexes.{IsSearchOf}
 use Rattle.pattern_search.specs.Searches.{whole_search, found_from, which_match, span_of_match, span_of_found, IsOfFirstPattern}
-use Rattle.pattern_search.specs.Texts.{AreRead, AllMean}
+use Rattle.pattern_search.specs.Texts.{AreReadAs, AllMean}
 use Rattle.pattern_search.specs.Written.{AnswersWhatIsWritten}
 use Rattle.pattern_search.proofs.ForCallers.{alike_some, same_patterns}
 use Rattle.capi.specs.declared.failure.FoundMatch.{FoundMatch}
-use Rattle.capi.specs.Compiled.{AreBuiltOf, AreMarked, AreWhich, IsFound, IsPreferred, IsTold, found_of, hits, mark, overlaid, span_of_row}
+use Rattle.capi.specs.Compiled.{AreBuiltOf, AreMarked, AreWhich, HasFoundStart, HasFoundSpan, IsTold, as_found, hits, mark, overlaid, span_of_row}
 use Rattle.capi.specs.Failures.{row_of}
 use Rattle.capi.proofs.ListLemmas.{whole_laid}
 
@@ -41,7 +41,7 @@ row_span None = refl
 row_span (Some f) = refl
 
 row_pattern : (res : List Re) (h : List ℕ) (o : Option Found) → ((f : Found) → o ≡ Some f → IsOfFirstPattern res h f) →
-    IfSome (option_map row_of o) (λ r. IsOfFirstPattern res h (found_of r))
+    IfSome (option_map row_of o) (λ r. IsOfFirstPattern res h (as_found r))
 row_pattern res h None each = tt
 row_pattern res h (Some f) each = each f refl
 
@@ -72,7 +72,7 @@ module _ (config : Config) (texts : List (List ℕ)) (p : Pair) (law : Law confi
   searched : IsSearchOf it.trees it.settings.utf8 (whole_search h at)
   searched = is_search config texts LeftmostFirst p it h bytes valid at
 
-  start_of : (res : List Re) → AreRead config texts res →
+  start_of : (res : List Re) → AreReadAs config texts res →
       option_map (λ m. m.start) (found_from config.utf8 (alt_all res) h at) ≡ option_map (λ f. f.start) o
   start_of res read =
       subst (λ (rs : List Re). option_map (λ m. m.start) (found_from config.utf8 (alt_all rs) h at) ≡ option_map (λ f. f.start) o)
@@ -80,18 +80,18 @@ module _ (config : Config) (texts : List (List ℕ)) (p : Pair) (law : Law confi
       (subst (λ (u : Bool). option_map (λ m. m.start) (found_from u (alt_all written.patterns) h at) ≡ option_map (λ f. f.start) o) it.mode
       (written.answers.starts h at searched c o answer))
 
-  pattern_of : (res : List Re) → AreRead config texts res → (f : Found) → o ≡ Some f → IsOfFirstPattern res h f
+  pattern_of : (res : List Re) → AreReadAs config texts res → (f : Found) → o ≡ Some f → IsOfFirstPattern res h f
   pattern_of res read f is =
       subst (λ (rs : List Re). IsOfFirstPattern rs h f) (same_patterns config texts written.patterns res written.are_read read)
       (written.answers.pattern h at searched c f (subst (λ (p' : Option Found). AnswersPair p c (whole_search h at) (Ok p')) is answer))
 
-  pub row_found : IsFound config texts h at (option_map row_of o)
+  pub row_found : HasFoundStart config texts h at (option_map row_of o)
   row_found = record {
     start = λ res read. start_of res read ∙ row_start o;
     pattern = λ res read. row_pattern res h o (pattern_of res read);
   }
 
-  pub row_preferred : All LoopsRead it.trees → IsPreferred config texts h at (option_map row_of o)
+  pub row_preferred : All LoopsRead it.trees → HasFoundSpan config texts h at (option_map row_of o)
   row_preferred loops res read =
       subst (λ (rs : List Re). option_map span_of_match (found_from config.utf8 (alt_all rs) h at) ≡ option_map span_of_found o)
       (same_patterns config texts written.patterns res written.are_read read)
@@ -100,7 +100,7 @@ module _ (config : Config) (texts : List (List ℕ)) (p : Pair) (law : Law confi
       ∙ row_span o
 
 -- whether there is a match
-pub told_of : (config : Config) (texts : List (List ℕ)) (h : List ℕ) (o : Option FoundMatch) → IsFound config texts h 0 o →
+pub told_of : (config : Config) (texts : List (List ℕ)) (h : List ℕ) (o : Option FoundMatch) → HasFoundStart config texts h 0 o →
     IsTold config texts h (is_some o)
 told_of config texts h o found res read = sym (alike_some _ _ _ _ (found.start res read))
 
@@ -111,7 +111,7 @@ texts_as_many config [] (x ∷ xs) m = absurd m
 texts_as_many config (t ∷ ts) [] m = absurd m
 texts_as_many config (t ∷ ts) (x ∷ xs) m = ap suc (texts_as_many config ts xs m.1)
 
-pub read_as_many : (config : Config) (texts : List (List ℕ)) (res : List Re) → AreRead config texts res → length res ≡ length texts
+pub read_as_many : (config : Config) (texts : List (List ℕ)) (res : List Re) → AreReadAs config texts res → length res ≡ length texts
 read_as_many config [] [] m = refl
 read_as_many config [] (a ∷ res) m = absurd m
 read_as_many config (t ∷ ts) [] m = absurd m
@@ -123,7 +123,7 @@ WalkLaw config texts p = (xs : List Tree) → AllMean config texts xs → (s : S
     s.line_terminator ≡ one_of 10 →
     (h : List ℕ) → IsSearchOf xs s.utf8 (whole_search h 0) → (v : CacheValue) (set : List Bool) →
     AnswersWhich p.forward v (whole_search h 0) (replicate (length xs) false) set (Ok tt) →
-    (res : List Re) × AreRead config texts res × (set ≡ which_match s.utf8 res h)
+    (res : List Re) × AreReadAs config texts res × (set ≡ which_match s.utf8 res h)
 
 pub walk_told : (config : Config) (texts : List (List ℕ)) (p : Pair) → WalkLaw config texts p →
     (it : AreBuiltOf config texts AllMatches p) →
@@ -148,7 +148,7 @@ marked_of config texts h told n old new which places is counted = record {
   count = λ res read. counted ∙ ap hits (which res read);
 }
   where
-    as_many : (res : List Re) → AreRead config texts res → length (map mark told) ≡ length old
+    as_many : (res : List Re) → AreReadAs config texts res → length (map mark told) ≡ length old
     as_many res read =
         length-map told mark ∙ ap length (which res read) ∙ length-map res (λ re. is_some (found_from config.utf8 re h 0))
         ∙ read_as_many config texts res read ∙ sym places

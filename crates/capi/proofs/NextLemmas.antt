@@ -11,11 +11,11 @@ use Rattle.regex_hir.specs.Text.{is_some_and}
 use Rattle.regex_hir.proofs.FindLemmas.{first_between_past}
 use Rattle.regex_syntax.specs.declared.Config.{Config}
 use Rattle.pattern_search.specs.Searches.{found_from, all_found, span_of_match}
-use Rattle.pattern_search.specs.Texts.{AreRead}
+use Rattle.pattern_search.specs.Texts.{AreReadAs}
 use Rattle.pattern_search.proofs.ForCallers.{all_from_start}
 use Rattle.pattern_search.proofs.ForCallers.{tried, found_is}
 use Rattle.capi.specs.declared.failure.FoundMatch.{FoundMatch}
-use Rattle.capi.specs.Compiled.{AreAll, IsPreferred, IsNext, overlaid, span_of_row}
+use Rattle.capi.specs.Compiled.{AreAll, HasFoundSpan, IsNext, overlaid, span_of_row}
 use Rattle.capi.proofs.ListLemmas.{map_laid, map_more, one_more_row, one_more_counted}
 
 -- ---- the next one
@@ -41,7 +41,7 @@ module _ (config : Config) (texts : List (List ℕ)) (h : List ℕ) (end : ℕ) 
       (beyond config.utf8 (alt_all res) h end above)
 
   -- the one from there on, where it doesn't end there
-  pub next_there : (o : Option FoundMatch) → IsPreferred config texts h end o → is_some_and o (λ r. FoundMatch.end r == end) ≡ false →
+  pub next_there : (o : Option FoundMatch) → HasFoundSpan config texts h end o → is_some_and o (λ r. FoundMatch.end r == end) ≡ false →
       IsNext config texts h end o
   next_there o found goes_on res read =
       ap (λ (b : Bool). option_map span_of_match (if b then from res (end + 1) else from res end))
@@ -49,16 +49,16 @@ module _ (config : Config) (texts : List (List ℕ)) (h : List ℕ) (end : ℕ) 
       ∙ found res read
 
   -- and else the one from the next place on
-  next_behind : (o : Option FoundMatch) → IsPreferred config texts h end o → is_some_and o (λ r. FoundMatch.end r == end) ≡ true →
-      (res : List Re) → AreRead config texts res → find_after (from res) end ≡ from res (end + 1)
+  next_behind : (o : Option FoundMatch) → HasFoundSpan config texts h end o → is_some_and o (λ r. FoundMatch.end r == end) ≡ true →
+      (res : List Re) → AreReadAs config texts res → find_after (from res) end ≡ from res (end + 1)
   next_behind o found ends res read =
       ap (λ (b : Bool). if b then from res (end + 1) else from res end) (same_end (from res end) o end (found res read) ∙ ends)
 
-  pub next_later : (o next : Option FoundMatch) → IsPreferred config texts h end o → is_some_and o (λ r. FoundMatch.end r == end) ≡ true →
-      IsPreferred config texts h (end + 1) next → IsNext config texts h end next
+  pub next_later : (o next : Option FoundMatch) → HasFoundSpan config texts h end o → is_some_and o (λ r. FoundMatch.end r == end) ≡ true →
+      HasFoundSpan config texts h (end + 1) next → IsNext config texts h end next
   next_later o next found ends later res read = ap (option_map span_of_match) (next_behind o found ends res read) ∙ later res read
 
-  pub next_none : (o : Option FoundMatch) → IsPreferred config texts h end o → is_some_and o (λ r. FoundMatch.end r == end) ≡ true →
+  pub next_none : (o : Option FoundMatch) → HasFoundSpan config texts h end o → is_some_and o (λ r. FoundMatch.end r == end) ≡ true →
       length h ≡ end → IsNext config texts h end None
   next_none o found ends last res read =
       ap (option_map span_of_match) (next_behind o found ends res read ∙ beyond config.utf8 (alt_all res) h (end + 1) (omega (arith, last)))
@@ -70,12 +70,12 @@ pub record IsListedSoFar (config : Config) (texts : List (List ℕ)) (h : List �
   pub taken : List FoundMatch
   pub counted : count ≡ length taken
   pub laid : rows ≡ overlaid taken old
-  pub rest : (res : List Re) → AreRead config texts res → (m : Option Match) × (option_map span_of_match m ≡ option_map span_of_row next) ×
+  pub rest : (res : List Re) → AreReadAs config texts res → (m : Option Match) × (option_map span_of_match m ≡ option_map span_of_row next) ×
       (map span_of_match (all_found config.utf8 (alt_all res) h) ≡
       map span_of_row taken ++ map span_of_match (matches_from (found_from config.utf8 (alt_all res) h) left m))
 
 module _ (config : Config) (texts : List (List ℕ)) (h : List ℕ) (old : List FoundMatch) where
-  pub listing_begins : (next : Option FoundMatch) → old ≡ overlaid [] old → IsPreferred config texts h 0 next →
+  pub listing_begins : (next : Option FoundMatch) → old ≡ overlaid [] old → HasFoundSpan config texts h 0 next →
       IsListedSoFar config texts h (length h + 1 - 0) 0 old old next
   listing_begins next laid found = let whole : length h + 1 ≡ length h + 1 - 0 = omega arith in record {
     taken = [];
@@ -138,7 +138,7 @@ module _ (config : Config) (texts : List (List ℕ)) (h : List ℕ) (old : List 
   }
 
   all_by : (left count : ℕ) (rows : List FoundMatch) (o : Option FoundMatch) → (it : IsListedSoFar config texts h left count old rows o) →
-      ((res : List Re) → AreRead config texts res → map span_of_match (all_found config.utf8 (alt_all res) h) ≡ map span_of_row it.taken) →
+      ((res : List Re) → AreReadAs config texts res → map span_of_match (all_found config.utf8 (alt_all res) h) ≡ map span_of_row it.taken) →
       AreAll config texts h count old rows
   all_by left count rows o it all = record {
     count = λ res read. it.counted ∙ sym (length-map it.taken span_of_row) ∙ ap length (sym (all res read))

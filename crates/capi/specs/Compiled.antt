@@ -20,7 +20,7 @@ use Rattle.hirscan.specs.declared.settings.Settings.{Settings}
 use Rattle.hirscan.specs.Built.{IsBuilt, RefusesBuild}
 use Rattle.hirscan.specs.Loops.{first_empty_loop}
 use Rattle.pattern_search.specs.Searches.{found_from, all_found, which_match, span_of_match, IsOfFirstPattern}
-use Rattle.pattern_search.specs.Texts.{AreRead, AllMean, IsFirstFault}
+use Rattle.pattern_search.specs.Texts.{AreReadAs, AllMean, IsFirstFault}
 use Rattle.capi.specs.declared.failure.FoundMatch.{FoundMatch}
 use Rattle.capi.specs.declared.failure.NewError.{NewError}
 use Rattle.capi.specs.declared.failure.NewError.TheVariants.{BadArgument, NoMemory, NotUtf8, Text, EmptyLoop, Build}
@@ -28,7 +28,7 @@ use Rattle.capi.specs.declared.failure.SearchError.{SearchError}
 use Rattle.capi.specs.declared.failure.SearchError.TheVariants.{BadArgument as BadSearch, NoMemory as NoneFree, NotUtf8 as NoText}
 use Rattle.capi.specs.declared.failure.SearchError.TheVariants.{TooLarge as TooGreat}
 use Rattle.capi.specs.declared.options.Options.{Options}
-use Rattle.capi.specs.Options.{config_of, is_known, allows_empty_loops}
+use Rattle.capi.specs.Options.{config_of_options, has_known_flags, allows_empty_loops}
 
 -- what a contract sees of a compiled regex: the options and the texts that it is made of, and whether each repetition without a bound in
 -- these has a body that reads
@@ -39,7 +39,7 @@ pub record Regexed : Type 0 where
 
 -- how its texts are read
 abbrev pub config_by : Regexed → Config
-config_by v = config_of v.options
+config_by v = config_of_options v.options
 
 -- Automata that are built of trees of these texts, as they are read under these options. They find matches of this kind.
 pub record AreBuiltOf (config : Config) (texts : List (List ℕ)) (kind : MatchKind) (p : Pair) : Type 0 where
@@ -62,19 +62,19 @@ pub record IsMadeOf (o : Options) (texts : List (List ℕ)) (v : Regexed) : Type
   pub options_are : v.options ≡ o
   pub texts_are : v.texts ≡ texts
   pub trees : List Tree
-  pub mean : AllMean (config_of o) texts trees
+  pub mean : AllMean (config_of_options o) texts trees
   pub loops_told : (v.loops ≡ true) ↔ All LoopsRead trees
   pub loops_read : allows_empty_loops o ≡ false → v.loops ≡ true
 
 -- Why there is no regex of texts under these options.
-abbrev pub IsRefused : Options → List (List ℕ) → NewError → Type 0
-IsRefused o texts BadArgument = is_known o ≡ false
-IsRefused o texts NoMemory = ⊤
-IsRefused o texts (NotUtf8 pattern at) = ⊥
-IsRefused o texts (Text e) = IsFirstFault (config_of o) texts e.number e.error
-IsRefused o texts (EmptyLoop number) =
-    (allows_empty_loops o ≡ false) × ((xs : List Tree) × AllMean (config_of o) texts xs × (first_empty_loop xs ≡ Some number))
-IsRefused o texts (Build e) = (e ≡ NoRoom) ⊎ ((xs : List Tree) × AllMean (config_of o) texts xs × ((s : Settings) × RefusesBuild xs s e))
+abbrev pub IsNewRefused : Options → List (List ℕ) → NewError → Type 0
+IsNewRefused o texts BadArgument = has_known_flags o ≡ false
+IsNewRefused o texts NoMemory = ⊤
+IsNewRefused o texts (NotUtf8 pattern at) = ⊥
+IsNewRefused o texts (Text e) = IsFirstFault (config_of_options o) texts e.number e.error
+IsNewRefused o texts (EmptyLoop number) =
+    (allows_empty_loops o ≡ false) × ((xs : List Tree) × AllMean (config_of_options o) texts xs × (first_empty_loop xs ≡ Some number))
+IsNewRefused o texts (Build e) = (e ≡ NoRoom) ⊎ ((xs : List Tree) × AllMean (config_of_options o) texts xs × ((s : Settings) × RefusesBuild xs s e))
 
 -- Why a search of a haystack tells nothing: it is no text where it has to be, which is told with how many of its bytes are; or memory
 -- lacks, or a regex of the toolchain would be larger than it may be.
@@ -92,29 +92,29 @@ IsWhichRefused config texts h marks e =
 abbrev pub span_of_row : FoundMatch → ℕ × ℕ
 span_of_row r = (r.start, r.end)
 
-abbrev pub found_of : FoundMatch → Found
-found_of r = record { pattern = r.pattern; start = r.start; end = r.end }
+abbrev pub as_found : FoundMatch → Found
+as_found r = record { pattern = r.pattern; start = r.start; end = r.end }
 
 -- What is told of a search from a place on has the start that the toolchain's matcher finds for what the texts are read as, if it finds
 -- one, and is of the first pattern that matches from there.
-pub record IsFound (config : Config) (texts : List (List ℕ)) (h : List ℕ) (at : ℕ) (o : Option FoundMatch) : Type 0 where
-  pub start : (res : List Re) → AreRead config texts res →
+pub record HasFoundStart (config : Config) (texts : List (List ℕ)) (h : List ℕ) (at : ℕ) (o : Option FoundMatch) : Type 0 where
+  pub start : (res : List Re) → AreReadAs config texts res →
       option_map (λ m. m.start) (found_from config.utf8 (alt_all res) h at) ≡ option_map (λ f. f.start) o
-  pub pattern : (res : List Re) → AreRead config texts res → IfSome o (λ f. IsOfFirstPattern res h (found_of f))
+  pub pattern : (res : List Re) → AreReadAs config texts res → IfSome o (λ f. IsOfFirstPattern res h (as_found f))
 
 -- and also the end that it finds
-abbrev pub IsPreferred : Config → List (List ℕ) → List ℕ → ℕ → Option FoundMatch → Type 0
-IsPreferred config texts h at o = (res : List Re) → AreRead config texts res →
+abbrev pub HasFoundSpan : Config → List (List ℕ) → List ℕ → ℕ → Option FoundMatch → Type 0
+HasFoundSpan config texts h at o = (res : List Re) → AreReadAs config texts res →
     option_map span_of_match (found_from config.utf8 (alt_all res) h at) ≡ option_map span_of_row o
 
 -- the match behind one that ended at this place, where an empty one there isn't taken
 abbrev pub IsNext : Config → List (List ℕ) → List ℕ → ℕ → Option FoundMatch → Type 0
-IsNext config texts h end o = (res : List Re) → AreRead config texts res →
+IsNext config texts h end o = (res : List Re) → AreReadAs config texts res →
     option_map span_of_match (find_after (found_from config.utf8 (alt_all res) h) end) ≡ option_map span_of_row o
 
 -- whether there is a match is told as the matcher finds one
 abbrev pub IsTold : Config → List (List ℕ) → List ℕ → Bool → Type 0
-IsTold config texts h told = (res : List Re) → AreRead config texts res → told ≡ is_some (found_from config.utf8 (alt_all res) h 0)
+IsTold config texts h told = (res : List Re) → AreReadAs config texts res → told ≡ is_some (found_from config.utf8 (alt_all res) h 0)
 
 -- ---- all matches
 
@@ -127,15 +127,15 @@ overlaid (x ∷ xs) (y ∷ ys) = x ∷ overlaid xs ys
 -- These are all matches that the matcher finds, so many: the first of them lie in the rows, as far as these have room, and the rows
 -- behind them are what they were.
 pub record AreAll (config : Config) (texts : List (List ℕ)) (h : List ℕ) (n : ℕ) (old new : List FoundMatch) : Type 0 where
-  pub count : (res : List Re) → AreRead config texts res → n ≡ length (all_found config.utf8 (alt_all res) h)
-  pub rows : (res : List Re) → AreRead config texts res →
+  pub count : (res : List Re) → AreReadAs config texts res → n ≡ length (all_found config.utf8 (alt_all res) h)
+  pub rows : (res : List Re) → AreReadAs config texts res →
       map span_of_row new ≡ overlaid (map span_of_match (all_found config.utf8 (alt_all res) h)) (map span_of_row old)
 
 -- ---- which patterns match
 
 -- of each pattern is told whether the matcher finds a match of it anywhere
 abbrev pub AreWhich : Config → List (List ℕ) → List ℕ → List Bool → Type 0
-AreWhich config texts h told = (res : List Re) → AreRead config texts res → told ≡ which_match config.utf8 res h
+AreWhich config texts h told = (res : List Re) → AreReadAs config texts res → told ≡ which_match config.utf8 res h
 
 abbrev pub mark : Bool → ℕ
 mark true = 1
@@ -147,5 +147,5 @@ hits told = length (filter (λ b. b) told)
 
 -- each pattern that matches is marked, and each other one isn't; and so many match
 pub record AreMarked (config : Config) (texts : List (List ℕ)) (h : List ℕ) (n : ℕ) (marks : List ℕ) : Type 0 where
-  pub marked : (res : List Re) → AreRead config texts res → marks ≡ map mark (which_match config.utf8 res h)
-  pub count : (res : List Re) → AreRead config texts res → n ≡ hits (which_match config.utf8 res h)
+  pub marked : (res : List Re) → AreReadAs config texts res → marks ≡ map mark (which_match config.utf8 res h)
+  pub count : (res : List Re) → AreReadAs config texts res → n ≡ hits (which_match config.utf8 res h)

@@ -22,28 +22,28 @@ AreFallbacksOf config (t ∷ ts) (r ∷ rs) = IsFallbackOf config t r × AreFall
 AreFallbacksOf config _ _ = ⊥
 
 -- what it finds from a place on
-abbrev pub found_by : Fallback → List ℕ → ℕ → Option Match
-found_by (Bytes r) h at = find (raw.regex_pattern r) h at
-found_by (Text r) h at = find_str (text.regex_pattern r) h at
+abbrev pub fallback_match : Fallback → List ℕ → ℕ → Option Match
+fallback_match (Bytes r) h at = find (raw.regex_pattern r) h at
+fallback_match (Text r) h at = find_str (text.regex_pattern r) h at
 
 abbrev pub span_by : List ℕ → ℕ → Fallback → Option (ℕ × ℕ)
-span_by h at r = option_map span_of_match (found_by r h at)
+span_by h at r = option_map span_of_match (fallback_match r h at)
 
 -- whether it finds anything
 abbrev pub finds_any : List ℕ → Fallback → Bool
-finds_any h r = is_some (found_by r h 0)
+finds_any h r = is_some (fallback_match r h 0)
 
 -- a span of the pattern of this number
-abbrev pub numbered : ℕ → ℕ × ℕ → FoundMatch
-numbered n s = record { pattern = n; start = s.0; end = s.1 }
+abbrev pub row_of_span : ℕ → ℕ × ℕ → FoundMatch
+row_of_span n s = record { pattern = n; start = s.0; end = s.1 }
 
 -- of two matches the one with the lesser start, and else the first
-abbrev pub better : Option FoundMatch → Option FoundMatch → Option FoundMatch
-better None b = b
-better (Some a) None = Some a
-better (Some a) (Some b) = if nat_lt b.start a.start then Some b else Some a
+abbrev pub better_match : Option FoundMatch → Option FoundMatch → Option FoundMatch
+better_match None b = b
+better_match (Some a) None = Some a
+better_match (Some a) (Some b) = if nat_lt b.start a.start then Some b else Some a
 
 -- the best of what each of several patterns has, of which the first has this number
 abbrev pub best_of : ℕ → List (Option (ℕ × ℕ)) → Option FoundMatch
 best_of n [] = None
-best_of n (s ∷ ss) = better (option_map (numbered n) s) (best_of (n + 1) ss)
+best_of n (s ∷ ss) = better_match (option_map (row_of_span n) s) (best_of (n + 1) ss)

@@ -7,9 +7,9 @@ ghost use Rattle.hir_core.specs.Facts.{LoopsRead};
 ghost use Rattle.search_types.specs.declared.match_kind.MatchKind.TheVariants.{LeftmostFirst};
 ghost use Rattle.hirscan.specs.Loops.{first_empty_loop};
 ghost use Rattle.pattern_search.specs.Searches.{whole_search};
-ghost use Rattle.capi.specs.Compiled.{AreBuiltOf, AreToldOf, IsFound, IsPreferred, IsRefused};
+ghost use Rattle.capi.specs.Compiled.{AreBuiltOf, AreToldOf, HasFoundStart, HasFoundSpan, IsNewRefused};
 ghost use Rattle.capi.specs.Failures.{row_of};
-ghost use Rattle.capi.specs.Options.{config_of, allows_empty_loops};
+ghost use Rattle.capi.specs.Options.{config_of_options, allows_empty_loops};
 
 use crate::failure::{FoundMatch, NewError};
 use crate::options::Options;
@@ -70,9 +70,9 @@ pub(crate) fn regex_of(
     options: &Options,
     kind: MatchKind,
 ) -> Result<Made, NewError>
-    ensures made { IfOk result (λ m. (it : AreToldOf (config_of options.now) (map (λ t. t.now) texts.now) kind m.loops m.regex) ×
+    ensures made { IfOk result (λ m. (it : AreToldOf (config_of_options options.now) (map (λ t. t.now) texts.now) kind m.loops m.regex) ×
         (allows_empty_loops options.now ≡ false → m.loops ≡ true)) }
-    ensures refused { IfErr result (IsRefused options.now (map (λ t. t.now) texts.now)) }
+    ensures refused { IfErr result (IsNewRefused options.now (map (λ t. t.now) texts.now)) }
 {
     let config = options.config();
     let trees = match parse_all(alloc, texts, &config) {
@@ -141,10 +141,10 @@ impl Automata {
         requires within { from ≤ length haystack.now }
         ensures same { self.new ≡ self.old }
         ensures found { (config : TextConfig) (texts : List (List ℕ)) → AreBuiltOf config texts LeftmostFirst self.old →
-            (config.utf8 ≡ true → IsValidText haystack.now) → IfOk result (IsFound config texts haystack.now from) }
+            (config.utf8 ≡ true → IsValidText haystack.now) → IfOk result (HasFoundStart config texts haystack.now from) }
         ensures preferred { (config : TextConfig) (texts : List (List ℕ)) → (it : AreBuiltOf config texts LeftmostFirst self.old) →
             (config.utf8 ≡ true → IsValidText haystack.now) → All LoopsRead it.trees →
-            IfOk result (IsPreferred config texts haystack.now from) }
+            IfOk result (HasFoundSpan config texts haystack.now from) }
     {
         see_bytes(haystack);
         regexes_answer_what_is_written();

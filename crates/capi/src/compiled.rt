@@ -2,9 +2,9 @@
 ghost use Rattle.std.specs.Prelude.{◌≡◌, false, Some, IfErr, IfOk, IfSome, ℕ, List, length, map, string_bytes};
 ghost use Rattle.regex_syntax.specs.declared.Config.{Config as TextConfig};
 ghost use Rattle.search_types.specs.declared.match_kind.MatchKind.TheVariants.{All as AllMatches};
-ghost use Rattle.capi.specs.Compiled.{AreBuiltOf, IsMadeOf, IsRefused, IsSearchRefused, config_by};
+ghost use Rattle.capi.specs.Compiled.{AreBuiltOf, IsMadeOf, IsNewRefused, IsSearchRefused, config_by};
 ghost use Rattle.capi.specs.Fallbacks.{AreFallbacksOf};
-ghost use Rattle.capi.specs.Options.{config_of};
+ghost use Rattle.capi.specs.Options.{config_of_options};
 
 use crate::automata::{Automata, regex_of};
 use crate::failure::{NewError, SearchError};
@@ -36,20 +36,20 @@ impl Model for Compiled {
     ghost use Rattle.search_types.specs.declared.match_kind.MatchKind.TheVariants.{LeftmostFirst, All};
     ghost use Rattle.capi.specs.Compiled.{Regexed, AreBuiltOf, AreToldOf};
     ghost use Rattle.capi.specs.Fallbacks.{AreFallbacksOf};
-    ghost use Rattle.capi.specs.Options.{config_of};
+    ghost use Rattle.capi.specs.Options.{config_of_options};
 
     ghost Value = { Regexed };
 
     ghost view = { λ c. record { options = c.options; texts = map string_bytes c.texts.items; loops = c.loops } };
 
-    ghost invariant = { λ c. AreToldOf (config_of c.options) (map string_bytes c.texts.items) LeftmostFirst c.loops c.automata
-        × IfSome c.walker (AreBuiltOf (config_of c.options) (map string_bytes c.texts.items) All)
-        × IfSome c.regexes (λ rs. AreFallbacksOf (config_of c.options) (map string_bytes c.texts.items) rs.items) };
+    ghost invariant = { λ c. AreToldOf (config_of_options c.options) (map string_bytes c.texts.items) LeftmostFirst c.loops c.automata
+        × IfSome c.walker (AreBuiltOf (config_of_options c.options) (map string_bytes c.texts.items) All)
+        × IfSome c.regexes (λ rs. AreFallbacksOf (config_of_options c.options) (map string_bytes c.texts.items) rs.items) };
 }
 
 /// The automaton that tells which patterns match, where it can be made.
 fn walker_of(alloc: Global, texts: &[&str], options: &Options) -> Option<Walker>
-    ensures { IfSome result (AreBuiltOf (config_of options.now) (map (λ t. t.now) texts.now) AllMatches) }
+    ensures { IfSome result (AreBuiltOf (config_of_options options.now) (map (λ t. t.now) texts.now) AllMatches) }
 {
     match regex_of(alloc, texts, options, MatchKind::All) {
         Ok(made) => match Walker::of(alloc, made.regex) {
@@ -62,7 +62,7 @@ fn walker_of(alloc: Global, texts: &[&str], options: &Options) -> Option<Walker>
 
 /// The same, where it is asked for at once.
 fn first_walker(alloc: Global, texts: &[&str], options: &Options) -> Option<Walker>
-    ensures { IfSome result (AreBuiltOf (config_of options.now) (map (λ t. t.now) texts.now) AllMatches) }
+    ensures { IfSome result (AreBuiltOf (config_of_options options.now) (map (λ t. t.now) texts.now) AllMatches) }
 {
     if options.asks_which() {
         walker_of(alloc, texts, options)
@@ -75,7 +75,7 @@ impl Compiled {
     /// A regex of texts. Of matches that start at the same place the one of the earlier text is preferred.
     pub fn new(alloc: Global, texts: &[&str], options: &Options) -> Result<Compiled, NewError>
         ensures made { IfOk result (IsMadeOf options.now (map (λ t. t.now) texts.now)) }
-        ensures refused { IfErr result (IsRefused options.now (map (λ t. t.now) texts.now)) }
+        ensures refused { IfErr result (IsNewRefused options.now (map (λ t. t.now) texts.now)) }
     {
         if !options.is_known() {
             return Err(NewError::BadArgument);

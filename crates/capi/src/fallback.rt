@@ -4,7 +4,7 @@ ghost use Rattle.std.specs.Prelude.{string_bytes};
 ghost use Rattle.regex.specs.Views.{builder_source, builder_config};
 ghost use Rattle.regex_syntax.specs.declared.Config.{Config as TextConfig};
 ghost use Rattle.capi.specs.Compiled.{IsSearchRefused};
-ghost use Rattle.capi.specs.Fallbacks.{AreFallbacksOf, IsFallbackOf, best_of, better, finds_any, numbered, span_by};
+ghost use Rattle.capi.specs.Fallbacks.{AreFallbacksOf, IsFallbackOf, best_of, better_match, finds_any, row_of_span, span_by};
 
 use crate::failure::{FoundMatch, SearchError};
 use pattern_text::Config;
@@ -120,7 +120,7 @@ fn find_one(
     haystack: &[u8],
     from: usize,
 ) -> Result<Option<FoundMatch>, SearchError>
-    ensures found { IfOk result (λ o. o ≡ option_map (numbered number) (span_by haystack.now from regex.now)) }
+    ensures found { IfOk result (λ o. o ≡ option_map (row_of_span number) (span_by haystack.now from regex.now)) }
     ensures refused { (config : TextConfig) → (t : List ℕ) → IsFallbackOf config t regex.now →
         IfErr result (IsSearchRefused config haystack.now) }
 {
@@ -156,7 +156,7 @@ fn find_one(
 
 /// Of two matches the one with the lesser start, and else the first.
 fn better(first: Option<FoundMatch>, second: Option<FoundMatch>) -> Option<FoundMatch>
-    ensures { result ≡ better first second }
+    ensures { result ≡ better_match first second }
 {
     match (first, second) {
         (None, second) => second,

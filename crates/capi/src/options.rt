@@ -2,7 +2,7 @@
 ghost use Rattle.std.specs.Prelude.{◌≡◌, ◌<◌, ◌+◌, ◌≤◌, Bool};
 ghost use Rattle.look_core.specs.Terminators.{one_of};
 ghost use Rattle.lazy_dfa.specs.ConfigValue.{kind_of};
-ghost use Rattle.capi.specs.Options.{has_flag, is_known, config_of, nest_limit_of, allows_empty_loops};
+ghost use Rattle.capi.specs.Options.{is_flag_set, has_known_flags, config_of_options, nest_limit_of, allows_empty_loops};
 
 use hirscan::Settings;
 use lazy_dfa::dfa;
@@ -60,14 +60,14 @@ pub struct Options {
 impl Options {
     fn has(&self, flag: u32) -> bool
         requires { 0 < flag }
-        ensures { result ≡ has_flag self.now.flags flag }
+        ensures { result ≡ is_flag_set self.now.flags flag }
     {
         self.flags / flag % 2 == 1
     }
 
     /// Whether each flag is one that there is.
     pub fn is_known(&self) -> bool
-        ensures { result ≡ is_known self.now }
+        ensures { result ≡ has_known_flags self.now }
     {
         self.flags < FLAGS_END
     }
@@ -96,7 +96,7 @@ impl Options {
 
     /// How texts are read.
     pub fn config(&self) -> Config
-        ensures { result ≡ config_of self.now }
+        ensures { result ≡ config_of_options self.now }
     {
         Config::new()
             .case_insensitive(self.has(CASE_INSENSITIVE))
@@ -139,7 +139,7 @@ impl Options {
     pub fn settings(&self, kind: MatchKind) -> Settings
         ensures kind { kind_of result.dfa ≡ kind }
         ensures lines { result.line_terminator ≡ one_of 10 }
-        ensures mode { result.utf8 ≡ (config_of self.now).utf8 }
+        ensures mode { result.utf8 ≡ (config_of_options self.now).utf8 }
     {
         Settings {
             utf8: self.has(UTF8),

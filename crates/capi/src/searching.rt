@@ -2,7 +2,7 @@
 ghost use Rattle.std.specs.Prelude.{◌≡◌, ◌≤◌, IfErr, IfOk, length, true};
 ghost use Rattle.regex_syntax.specs.declared.Config.{Config as TextConfig};
 ghost use Rattle.search_core.specs.Utf8.{IsValidText};
-ghost use Rattle.capi.specs.Compiled.{IsFound, IsPreferred, IsSearchRefused, IsTold, config_by};
+ghost use Rattle.capi.specs.Compiled.{HasFoundStart, HasFoundSpan, IsSearchRefused, IsTold, config_by};
 
 use crate::automata::see_bytes;
 use crate::compiled::Compiled;
@@ -54,8 +54,8 @@ impl Compiled {
         requires within { from ≤ length haystack.now }
         requires valid { (config_by self.old).utf8 ≡ true → IsValidText haystack.now }
         ensures same { self.new ≡ self.old }
-        ensures found { IfOk result (IsFound (config_by self.old) self.old.texts haystack.now from) }
-        ensures preferred { self.old.loops ≡ true → IfOk result (IsPreferred (config_by self.old) self.old.texts haystack.now from) }
+        ensures found { IfOk result (HasFoundStart (config_by self.old) self.old.texts haystack.now from) }
+        ensures preferred { self.old.loops ≡ true → IfOk result (HasFoundSpan (config_by self.old) self.old.texts haystack.now from) }
     {
         let found = match self.automata.find(haystack, from) {
             Ok(found) => found,
@@ -72,8 +72,8 @@ impl Compiled {
         from: usize,
     ) -> Result<Option<FoundMatch>, SearchError>
         ensures same { self.new ≡ self.old }
-        ensures found { IfOk result (IsFound (config_by self.old) self.old.texts haystack.now from) }
-        ensures preferred { IfOk result (IsPreferred (config_by self.old) self.old.texts haystack.now from) }
+        ensures found { IfOk result (HasFoundStart (config_by self.old) self.old.texts haystack.now from) }
+        ensures preferred { IfOk result (HasFoundSpan (config_by self.old) self.old.texts haystack.now from) }
         ensures refused { IfErr result (IsSearchRefused (config_by self.old) haystack.now) }
     {
         see_bytes(haystack);
@@ -100,8 +100,8 @@ impl Compiled {
         requires within { from ≤ length haystack.now }
         requires valid { (config_by self.old).utf8 ≡ true → IsValidText haystack.now }
         ensures same { self.new ≡ self.old }
-        ensures found { IfOk result (IsFound (config_by self.old) self.old.texts haystack.now from) }
-        ensures preferred { self.old.loops ≡ true → IfOk result (IsPreferred (config_by self.old) self.old.texts haystack.now from) }
+        ensures found { IfOk result (HasFoundStart (config_by self.old) self.old.texts haystack.now from) }
+        ensures preferred { self.old.loops ≡ true → IfOk result (HasFoundSpan (config_by self.old) self.old.texts haystack.now from) }
         ensures refused { IfErr result (IsSearchRefused (config_by self.old) haystack.now) }
     {
         let error = match self.search_quickly(haystack, from) {
@@ -126,8 +126,8 @@ impl Compiled {
     ) -> Result<Option<FoundMatch>, SearchError>
         requires within { from ≤ length haystack.now }
         ensures same { self.new ≡ self.old }
-        ensures found { IfOk result (IsFound (config_by self.old) self.old.texts haystack.now from) }
-        ensures preferred { self.old.loops ≡ true → IfOk result (IsPreferred (config_by self.old) self.old.texts haystack.now from) }
+        ensures found { IfOk result (HasFoundStart (config_by self.old) self.old.texts haystack.now from) }
+        ensures preferred { self.old.loops ≡ true → IfOk result (HasFoundSpan (config_by self.old) self.old.texts haystack.now from) }
         ensures refused { IfErr result (IsSearchRefused (config_by self.old) haystack.now) }
     {
         match self.check(haystack) {

@@ -32,7 +32,7 @@ use Rattle.earliest_ends.specs.Earliest.{IsSpanFrom, NoneEndsBefore, IsEarliestE
 use Rattle.search_types.specs.declared.match_error.MatchErrorKind.{MatchErrorKind}
 use Rattle.search_types.specs.declared.match_error.MatchErrorKind.TheVariants.{Quit}
 use Rattle.pattern_text.specs.Words.{word_set}
-use Rattle.pattern_search.specs.Texts.{AreRead, AllMean}
+use Rattle.pattern_search.specs.Texts.{AreReadAs, AllMean}
 use Rattle.pattern_search.specs.Searches.{whole_query}
 use Rattle.pattern_search.proofs.ForCallers.{answer_is_loose, finds_what_is_written}
 use Rattle.pattern_search.proofs.ForCallers.{alike_some, same_patterns}
@@ -59,7 +59,7 @@ HasNone xs line = (p : ℕ) (x : Tree) (i j : ℕ) → slice_get xs p ≡ Some x
 
 -- then the line has no match
 no_match : (config : Config) (texts : List (List ℕ)) (xs : List Tree) (res : List Re) (line : List ℕ) → AllMean config texts xs →
-    AreRead config texts res → All (λ b. b < 256) line → HasNone xs line → (finds_of res).has_match line ≡ false
+    AreReadAs config texts res → All (λ b. b < 256) line → HasNone xs line → (finds_of res).has_match line ≡ false
 no_match config texts xs res line mean read bytes none =
     let written = finds_what_is_written config texts xs mean in
     let nothing : option_map (λ m. m.start) (find (alt_all written.patterns) line 0) ≡ option_map (λ (f : Found). f.start) None =
@@ -191,7 +191,7 @@ no_answer xs line (Some f) loose none = cc
 
 -- where a tree means a span of the line, the line has a match
 has_of : (config : Config) (texts : List (List ℕ)) (xs : List Tree) (res : List Re) (line : List ℕ) → AllMean config texts xs →
-    AreRead config texts res → All (λ b. b < 256) line → (p : ℕ) (x : Tree) (i j : ℕ) → slice_get xs p ≡ Some x →
+    AreReadAs config texts res → All (λ b. b < 256) line → (p : ℕ) (x : Tree) (i j : ℕ) → slice_get xs p ≡ Some x →
     i ≤ length line → j ≤ length line →
     Means (looks_of is_word_char line) line x i j → (has : Bool) → (finds_of res).has_match line ≡ has →
     true ≡ (finds_of res).has_match line

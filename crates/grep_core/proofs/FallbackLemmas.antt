@@ -18,12 +18,12 @@ use Rattle.regex_syntax.specs.Verdict.{Reads}
 use Rattle.regex.specs.declared.bytes.regex.Regex.{Regex}
 use Rattle.regex.specs.Bytes.{regex_pattern}
 use Rattle.regex.specs.Names.{names_of}
-use Rattle.pattern_search.specs.Texts.{AreRead}
+use Rattle.pattern_search.specs.Texts.{AreReadAs}
 use Rattle.pattern_text.proofs.ForCallers.{some_outcome}
 use Rattle.pattern_search.proofs.ForCallers.{one_same}
-use Rattle.grep_core.specs.Fallbacks.{IsRegexOf, AreRegexesOf, better, found_at, best_at, spans_behind}
+use Rattle.grep_core.specs.Fallbacks.{IsRegexOfText, AreRegexesOf, better, found_at, best_found_at, spans_behind}
 use Rattle.grep_core.specs.Report.{is_some_text}
-use Rattle.grep_core.specs.Searchers.{IsTold, AreTold}
+use Rattle.grep_core.specs.Searchers.{IsMatchTold, AreTold}
 use Rattle.grep_core.proofs.SpanLemmas.{all_spans, better_none, better_of_three, same_found, same_spans}
 use Rattle.std.specs.List.{filter}
 
@@ -98,13 +98,13 @@ abbrev pub any_has : List Re → List ℕ → Bool
 any_has [] line = false
 any_has (a ∷ rest) line = has a line || any_has rest line
 
-reads_text : (config : Config) (text : List ℕ) (r : Regex) → IsRegexOf config text r →
+reads_text : (config : Config) (text : List ℕ) (r : Regex) → IsRegexOfText config text r →
     Reads config text r.pattern.program.hir (names_of r.pattern.names.items)
 reads_text config text r it =
     subst (λ (c : Config). Reads c text r.pattern.program.hir (names_of r.pattern.names.items)) it.options
     (subst (λ (s : List ℕ). Reads r.pattern.config s r.pattern.program.hir (names_of r.pattern.names.items)) it.source it.read)
 
-regex_same : (config : Config) (text : List ℕ) (r : Regex) (a : Re) → IsRegexOf config text r →
+regex_same : (config : Config) (text : List ℕ) (r : Regex) (a : Re) → IsRegexOfText config text r →
     IsSomeAnd (read config (chars text)) (λ (re, names). (re.depth ≤ config.nest_limit) × (re.value ≡ a)) → SameCaptures (regex_pattern r) a
 unfolding Reads
 regex_same config text r a it q =
@@ -112,7 +112,7 @@ regex_same config text r a it q =
 
 all_have : (config : Config) (texts : List (List ℕ)) (rs : List Regex) (res : List Re) (line : List ℕ) → All (λ x. x < 256) line →
     AreRegexesOf config texts rs →
-    AreRead config texts res → any_has (map regex_pattern rs) line ≡ has (alt_all res) line
+    AreReadAs config texts res → any_has (map regex_pattern rs) line ≡ has (alt_all res) line
 all_have config [] [] [] line bytes p q = sym (has_none line)
 all_have config [] [] (a ∷ res) line bytes p q = absurd q
 all_have config [] (r ∷ rs) res line bytes p q = absurd p
@@ -125,12 +125,12 @@ all_have config (t ∷ ts) (r ∷ rs) (a ∷ res) line bytes p q =
 
 pub told_any : (config : Config) (texts : List (List ℕ)) (rs : List Regex) (line : List ℕ) (told : Bool) → All (λ x. x < 256) line →
     told ≡ any_has (map regex_pattern rs) line →
-    AreRegexesOf config texts rs → IsTold config texts line told
+    AreRegexesOf config texts rs → IsMatchTold config texts line told
 told_any config texts rs line told bytes is p res q = is ∙ all_have config texts rs res line bytes p q
 
 all_best : (config : Config) (texts : List (List ℕ)) (rs : List Regex) (res : List Re) (line : List ℕ) (start : ℕ) →
     All (λ x. x < 256) line →
-    AreRegexesOf config texts rs → AreRead config texts res → best_at (map regex_pattern rs) line start ≡ best_at res line start
+    AreRegexesOf config texts rs → AreReadAs config texts res → best_found_at (map regex_pattern rs) line start ≡ best_found_at res line start
 all_best config [] [] [] line start bytes p q = refl
 all_best config [] [] (a ∷ res) line start bytes p q = absurd q
 all_best config [] (r ∷ rs) res line start bytes p q = absurd p
@@ -142,33 +142,33 @@ all_best config (t ∷ ts) (r ∷ rs) (a ∷ res) line start bytes p q =
 
 -- the spans of the regexes, one after the other
 abbrev pub all_of : List Regex → List ℕ → List (ℕ × ℕ)
-all_of rs line = spans_behind (best_at (map regex_pattern rs) line) (length line + 1) (best_at (map regex_pattern rs) line 0)
+all_of rs line = spans_behind (best_found_at (map regex_pattern rs) line) (length line + 1) (best_found_at (map regex_pattern rs) line 0)
 
 pub told_all : (config : Config) (texts : List (List ℕ)) (rs : List Regex) (line : List ℕ) (told : List (ℕ × ℕ)) → All (λ x. x < 256) line →
     told ≡ filter is_some_text (all_of rs line) → AreRegexesOf config texts rs → AreTold config texts line told
 told_all config texts rs line told bytes is p res q =
-    let same : (i : ℕ) → best_at (map regex_pattern rs) line i ≡ best_at res line i = λ i. all_best config texts rs res line i bytes p q in
+    let same : (i : ℕ) → best_found_at (map regex_pattern rs) line i ≡ best_found_at res line i = λ i. all_best config texts rs res line i bytes p q in
     is ∙ ap (filter is_some_text)
-    (same_spans (best_at (map regex_pattern rs) line) (best_at res line) same (length line + 1) (best_at (map regex_pattern rs) line 0)
-    ∙ ap (spans_behind (best_at res line) (length line + 1)) (same 0) ∙ sym (all_spans res line))
+    (same_spans (best_found_at (map regex_pattern rs) line) (best_found_at res line) same (length line + 1) (best_found_at (map regex_pattern rs) line 0)
+    ∙ ap (spans_behind (best_found_at res line) (length line + 1)) (same 0) ∙ sym (all_spans res line))
 
 -- one regex after the other
 pub one_better : (rs : List Regex) (i : ℕ) (d : Regex) (line : List ℕ) (start : ℕ) (best found : Option (ℕ × ℕ)) (all : Option (ℕ × ℕ)) →
     i < length rs →
-    found ≡ found_at (regex_pattern (get_or rs i d)) line start → better best (best_at (map regex_pattern (drop i rs)) line start) ≡ all →
-    better (better best found) (best_at (map regex_pattern (drop (i + 1) rs)) line start) ≡ all
+    found ≡ found_at (regex_pattern (get_or rs i d)) line start → better best (best_found_at (map regex_pattern (drop i rs)) line start) ≡ all →
+    better (better best found) (best_found_at (map regex_pattern (drop (i + 1) rs)) line start) ≡ all
 one_better rs i d line start best found all below is so_far =
     let next : suc i ≡ i + 1 = omega arith in
-    better_of_three best found (best_at (map regex_pattern (drop (i + 1) rs)) line start)
-    ∙ ap (λ f. better best (better f (best_at (map regex_pattern (drop (i + 1) rs)) line start))) is
-    ∙ sym (ap (λ l. better best (best_at (map regex_pattern l) line start))
+    better_of_three best found (best_found_at (map regex_pattern (drop (i + 1) rs)) line start)
+    ∙ ap (λ f. better best (better f (best_found_at (map regex_pattern (drop (i + 1) rs)) line start))) is
+    ∙ sym (ap (λ l. better best (best_found_at (map regex_pattern l) line start))
     (drop-cons rs i d below ∙ ap (λ k. get_or rs i d ∷ drop k rs) next))
     ∙ so_far
 
 pub none_better : (rs : List Regex) (i : ℕ) (line : List ℕ) (start : ℕ) (best : Option (ℕ × ℕ)) (all : Option (ℕ × ℕ)) → length rs ≤ i →
-    better best (best_at (map regex_pattern (drop i rs)) line start) ≡ all → best ≡ all
+    better best (best_found_at (map regex_pattern (drop i rs)) line start) ≡ all → best ≡ all
 none_better rs i line start best all above so_far =
-    sym (ap (λ l. better best (best_at (map regex_pattern l) line start)) (drop_of_length-le rs above) ∙ better_none best) ∙ so_far
+    sym (ap (λ l. better best (best_found_at (map regex_pattern l) line start)) (drop_of_length-le rs above) ∙ better_none best) ∙ so_far
 
 pub found_one : (rs : List Regex) (i : ℕ) (d : Regex) (line : List ℕ) (all : Bool) → i < length rs →
     has (regex_pattern (get_or rs i d)) line ≡ true →

@@ -7,7 +7,7 @@ use Rattle.regex_syntax.specs.declared.error.ErrorKind.{ErrorKind}
 use Rattle.regex_syntax.specs.Brackets.{Nested}
 use Rattle.regex_syntax.specs.Grammar.{Names, read}
 use Rattle.hir_core.specs.Tree.{Tree}
-use Rattle.pattern_text.specs.Patterns.{MeansText, IsRefused}
+use Rattle.pattern_text.specs.Patterns.{MeansText, IsTextRefused}
 use Rattle.pattern_text.specs.SameEnds.{SameEnds, SameSpans, HasNames}
 use Rattle.grep_core.specs.Meant.{is_read, is_within}
 
@@ -27,7 +27,7 @@ too_deep : (config : Config) (r : Option (Nested Re × Names)) → IfSome r (λ 
 too_deep config None deep = refl
 too_deep config (Some (re, names)) deep = sym (lt-leb re.depth config.nest_limit deep)
 
-pub refused_unread : (config : Config) (text : List ℕ) (kind : ErrorKind) → IsRefused config text kind → false ≡ is_read config text
-unfolding IsRefused
+pub refused_unread : (config : Config) (text : List ℕ) (kind : ErrorKind) → IsTextRefused config text kind → false ≡ is_read config text
+unfolding IsTextRefused
 refused_unread config text kind refused =
     ⊎_elim (λ none. ap (is_within config) (sym none)) (λ deep. too_deep config (read config (chars text)) deep.1) refused

@@ -15,20 +15,20 @@ use Rattle.grep_core.specs.Candidates.{IsLineStart}
 use Rattle.grep_core.specs.Courses.{Item}
 use Rattle.grep_core.specs.Lines.{numbered, split_lines}
 use Rattle.grep_core.specs.Passing.{AreWhole, MayPass, PassesTo, held_of}
-use Rattle.grep_core.specs.Report.{Finds, behind_hidden, is_wanted}
-use Rattle.grep_core.specs.Selecting.{count, limited}
+use Rattle.grep_core.specs.Report.{LineMatcher, behind_hidden, is_wanted}
+use Rattle.grep_core.specs.Selecting.{count_selected, limited}
 use Rattle.grep_core.specs.Telling.{flags_behind, left_of, prints_lines, tells_as, told_item}
 use Rattle.grep_core.proofs.BlockLemmas.{is_feed}
 use Rattle.grep_core.proofs.PassLemmas.{passed_over}
 
-wanted_same : (w : What) (f : Finds) (i k j l : ℕ) (lines : List (List ℕ)) →
+wanted_same : (w : What) (f : LineMatcher) (i k j l : ℕ) (lines : List (List ℕ)) →
     map (is_wanted w f) (numbered i k lines) ≡ map (is_wanted w f) (numbered j l lines)
 wanted_same w f i k j l [] = refl
 wanted_same w f i k j l (line ∷ lines) =
     ap (λ rest. is_wanted w f (record { number = i; place = k; bytes = line }) ∷ rest)
     (wanted_same w f (i + 1) (k + length line + 1) (j + 1) (l + length line + 1) lines)
 
-flags_same : (w : What) (f : Finds) (n i k j l : ℕ) (lines : List (List ℕ)) →
+flags_same : (w : What) (f : LineMatcher) (n i k j l : ℕ) (lines : List (List ℕ)) →
     flags_behind w f n (numbered i k lines) ≡ flags_behind w f n (numbered j l lines)
 flags_same w f n i k j l lines = ap (limited (left_of w.most n)) (wanted_same w f i k j l lines)
 
@@ -42,7 +42,7 @@ unprinted NameIfAny w name with_name c n flags items also none = refl
 unprinted NameIfNone w name with_name c n flags items also none = refl
 unprinted Nothing w name with_name c n flags items also none = refl
 
-module _ (t : Task) (f : Finds) (number place : ℕ) (c : Telling) where
+module _ (t : Task) (f : LineMatcher) (number place : ℕ) (c : Telling) where
   abbrev at : ℕ → ℕ → Progress
   at i k = record { number = i; place = k; telling = c }
 
@@ -57,7 +57,7 @@ module _ (t : Task) (f : Finds) (number place : ℕ) (c : Telling) where
       (map (told_item f) (numbered i k lines)) (map (told_item f) (numbered j l lines)) none
 
   counted_same : (i k j l : ℕ) (lines : List (List ℕ)) → counts_lines t f (at i k) lines ≡ counts_lines t f (at j l) lines
-  counted_same i k j l lines = ap (λ flags. c.count + count flags) (flags_same t.what.now f c.count i k j l lines)
+  counted_same i k j l lines = ap (λ flags. c.count + count_selected flags) (flags_same t.what.now f c.count i k j l lines)
 
   -- lines that were passed over need not be counted
   pub passes_uncounted : (p : Progress) (lines rest out now : List ℕ) (j l : ℕ) → prints_lines t.what.now.print ≡ false →
@@ -69,7 +69,7 @@ module _ (t : Task) (f : Finds) (number place : ℕ) (c : Telling) where
     counted = λ lack more. counted_same j l number place (split_lines (rest ++ more)) ∙ passes.counted lack more;
   }
 
-pub passed_if_counted : (t : Task) (f : Finds) (p : Progress) (now : Telling) (c : Course) (number place held start : ℕ)
+pub passed_if_counted : (t : Task) (f : LineMatcher) (p : Progress) (now : Telling) (c : Course) (number place held start : ℕ)
     (text part out : List ℕ) → now ≡ p.telling → MayPass t.what.now p.telling.course → AreWhole text → start ≤ length text → 0 < start →
     IsLineStart text start → held ≡ held_of t.what.now → held ≤ count_by is_feed (drop start text) → part ≡ take start text →
     (prints_lines t.what.now.print ≡ true → number ≡ p.number + count_by is_feed part) →

@@ -20,8 +20,8 @@ use Rattle.grep_core.specs.Candidates.{IsLineStart}
 use Rattle.grep_core.specs.Courses.{Item, print_item, still, waiting_item}
 use Rattle.grep_core.specs.Lines.{numbered, split_lines}
 use Rattle.grep_core.specs.Passing.{AreWhole, Lacks, MayPass, PassesTo, held_of}
-use Rattle.grep_core.specs.Report.{Finds, before_of, after_of, behind_hidden, count_line, name_line}
-use Rattle.grep_core.specs.Selecting.{count}
+use Rattle.grep_core.specs.Report.{LineMatcher, before_of, after_of, behind_hidden, count_line, name_line}
+use Rattle.grep_core.specs.Selecting.{count_selected}
 use Rattle.grep_core.specs.Telling.{shown, told_item, prints_lines, tells_as, may_select, flags_behind}
 use Rattle.grep_core.proofs.BlockLemmas.{is_feed, turn, turn_counted}
 use Rattle.grep_core.proofs.JoinLemmas.{whole_start, whole_range}
@@ -45,7 +45,7 @@ more_bytes a n m = omega arith
 abbrev none_of : List Item → List Bool
 none_of items = map (λ _. false) items
 
-none_counted : (items : List Item) (flags : List Bool) → count (none_of items ++ flags) ≡ count flags
+none_counted : (items : List Item) (flags : List Bool) → count_selected (none_of items ++ flags) ≡ count_selected flags
 none_counted [] flags = refl
 none_counted (x ∷ xs) flags = none_counted xs flags
 
@@ -69,7 +69,7 @@ module _ (w : What) (name : List ℕ) (with_name : Bool) (c d : Course) (n : ℕ
       ∙ ap₂ (λ b k. rest w print before after b k [] (none_of last ++ flags) (last ++ items)) (sym known) (sym (same ∙ none))
       ∙ ap (λ ws. rest w print before after d.known d.left (map waiting_item ws) (none_of last ++ flags) (last ++ items)) (sym empty)
 
-  fewer : (n + count (none_of front ++ (none_of last ++ flags))) ≡ n + count (none_of last ++ flags)
+  fewer : (n + count_selected (none_of front ++ (none_of last ++ flags))) ≡ n + count_selected (none_of last ++ flags)
   fewer = ap (λ k. n + k) (none_counted front (none_of last ++ flags))
 
   passed_as : (p : Print) → (prints_lines p ≡ true → before_of w.context ≤ length last) → (prints_lines p ≡ true → c.left ≡ 0) →
@@ -83,7 +83,7 @@ module _ (w : What) (name : List ℕ) (with_name : Bool) (c d : Course) (n : ℕ
   passed_as Nothing many none same empty known = refl
 
 -- ---- lines without a match aren't selected
-module _ (w : What) (f : Finds) (n : ℕ) (kept : w.invert ≡ false) where
+module _ (w : What) (f : LineMatcher) (n : ℕ) (kept : w.invert ≡ false) where
   abbrev items : ℕ → ℕ → List (List ℕ) → List Item
   items number place lines = map (told_item f) (numbered number place lines)
 
@@ -127,9 +127,9 @@ module _ (w : What) (f : Finds) (n : ℕ) (kept : w.invert ≡ false) where
     flags_two = flags_on number place front (last ++ more) lack
         ∙ sym (ap₂ (λ i k. none_of (items number place front) ++ flags i k (last ++ more)) numbers places)
 
-    run_counted : n + count (flags next_number next_place (last ++ more)) ≡ n + count (flags number place (front ++ (last ++ more)))
+    run_counted : n + count_selected (flags next_number next_place (last ++ more)) ≡ n + count_selected (flags number place (front ++ (last ++ more)))
     run_counted = ap (λ k. n + k)
-        (sym (ap count flags_two ∙ none_counted (items number place front) (flags next_number next_place (last ++ more))))
+        (sym (ap count_selected flags_two ∙ none_counted (items number place front) (flags next_number next_place (last ++ more))))
 
     run_told : (prints_lines w.print ≡ true → before_of w.context ≤ length last) → (prints_lines w.print ≡ true → c.left ≡ 0) →
         d.left ≡ c.left → d.waiting.items ≡ [] →
@@ -174,7 +174,7 @@ module _ (text : List ℕ) (start : ℕ) (whole : AreWhole text) (starts : IsLin
   last_more : (more : List ℕ) → split_lines (drop start text ++ more) ≡ split_lines (drop start text) ++ split_lines more
   last_more more = whole_joins (drop start text) more last_whole
 
-  module _ (f : Finds) (lack : All (Lacks f) (split_lines text)) where
+  module _ (f : LineMatcher) (lack : All (Lacks f) (split_lines text)) where
     parted : All (Lacks f) (split_lines (take start text) ++ split_lines (drop start text))
     parted = subst (λ (lines : List (List ℕ)). All (Lacks f) lines) both lack
 
@@ -188,7 +188,7 @@ held_lines : (w : What) (held n : ℕ) → held ≡ held_of w → held ≤ n →
 held_lines w held n is few lines =
     subst (λ m. m ≤ n) (is ∙ ap (λ b. if b then before_of w.context else 0) lines) few
 
-pub passed_over : (t : Task) (f : Finds) (p : Progress) (c : Course) (number place held feeds start : ℕ) (text part : List ℕ)
+pub passed_over : (t : Task) (f : LineMatcher) (p : Progress) (c : Course) (number place held feeds start : ℕ) (text part : List ℕ)
     (out : List ℕ) → MayPass t.what.now p.telling.course → AreWhole text → start ≤ length text → 0 < start → IsLineStart text start →
     held ≡ held_of t.what.now → held ≤ count_by is_feed (drop start text) → part ≡ take start text → feeds ≡ count_by is_feed part →
     number ≡ p.number + feeds → place ≡ p.place + start → c.left ≡ p.telling.course.left → c.waiting.items ≡ [] →
@@ -261,10 +261,10 @@ all_told block done whole none =
     whole_none (drop done block) (whole_behind block done whole) (ap (position is_feed) (sym rest) ∙ none) in
     omega (arith, empty, length-drop done block)
 
-pub passes_none : (t : Task) (f : Finds) (p : Progress) (lines out : List ℕ) → PassesTo t f p p lines lines out out
+pub passes_none : (t : Task) (f : LineMatcher) (p : Progress) (lines out : List ℕ) → PassesTo t f p p lines lines out out
 passes_none t f p lines out = record { lack = λ lack. lack; printed = λ lack more. refl; counted = λ lack more. refl }
 
-pub then_passes : (t : Task) (f : Finds) (p q r : Progress) (lines rest last out mid now : List ℕ) →
+pub then_passes : (t : Task) (f : LineMatcher) (p q r : Progress) (lines rest last out mid now : List ℕ) →
     PassesTo t f p q lines rest out mid → PassesTo t f q r rest last mid now → PassesTo t f p r lines last out now
 then_passes t f p q r lines rest last out mid now a b = record {
   lack = λ lack. b.lack (a.lack lack);
@@ -272,7 +272,7 @@ then_passes t f p q r lines rest last out mid now a b = record {
   counted = λ lack more. b.counted (a.lack lack) more ∙ a.counted lack more;
 }
 
-pub passes_line : (t : Task) (f : Finds) (p q : Progress) (block text piece out now : List ℕ) (done len : ℕ) →
+pub passes_line : (t : Task) (f : LineMatcher) (p q : Progress) (block text piece out now : List ℕ) (done len : ℕ) →
     text ≡ drop done block → position is_feed text ≡ Some len → piece ≡ take len text →
     (Lacks f piece → (lines : List (List ℕ)) → out ++ tells_lines t f p (piece ∷ lines) ≡ now ++ tells_lines t f q lines) →
     (Lacks f piece → (lines : List (List ℕ)) → counts_lines t f q lines ≡ counts_lines t f p (piece ∷ lines)) →
@@ -288,7 +288,7 @@ passes_line t f p q block text piece out now done len rest found cut told counts
 }
 
 -- of the same texts
-pub passes_same : (t : Task) (f : Finds) (p q : Progress) (lines same rest also out now : List ℕ) → lines ≡ same → rest ≡ also →
+pub passes_same : (t : Task) (f : LineMatcher) (p q : Progress) (lines same rest also out now : List ℕ) → lines ≡ same → rest ≡ also →
     PassesTo t f p q lines rest out now → PassesTo t f p q same also out now
 passes_same t f p q lines same rest also out now one two a =
     subst (λ (l : List ℕ). PassesTo t f p q l also out now) one (subst (λ (l : List ℕ). PassesTo t f p q lines l out now) two a)

@@ -6,7 +6,7 @@ use Rattle.grep_core.specs.declared.known.Known.TheVariants.{NonePrinted, Earlie
 use Rattle.grep_core.specs.declared.what.Context.{Context}
 use Rattle.grep_core.specs.declared.what.Print.TheVariants.{Lines, Matches, Count, NameIfAny, NameIfNone}
 use Rattle.grep_core.specs.declared.what.What.{What}
-use Rattle.grep_core.specs.Report.{Finds, report}
+use Rattle.grep_core.specs.Report.{LineMatcher, report}
 
 -- each `a` is a match
 abbrev spans_from : ℕ → List ℕ → List (ℕ × ℕ)
@@ -17,7 +17,7 @@ abbrev has_a : List ℕ → Bool
 has_a [] = false
 has_a (b ∷ bs) = if b == 97 then true else has_a bs
 
-abbrev letters : Finds
+abbrev letters : LineMatcher
 letters = record { has_match = has_a; spans = spans_from 0 }
 
 -- a line, with text behind it

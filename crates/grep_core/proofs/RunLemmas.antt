@@ -7,7 +7,7 @@ use Rattle.grep_core.specs.declared.progress.Task.{Task}
 use Rattle.grep_core.specs.Blocks.{SearchesBy, finds_by}
 use Rattle.grep_core.specs.Lines.{split_lines}
 use Rattle.grep_core.specs.Passing.{Lacks}
-use Rattle.grep_core.specs.Report.{Finds}
+use Rattle.grep_core.specs.Report.{LineMatcher}
 use Rattle.grep_core.specs.Searchers.{Sought, found_by}
 use Rattle.grep_core.proofs.BlockLemmas.{is_feed, first_line}
 use Rattle.grep_core.proofs.SeenLemmas.{none_found}
@@ -29,7 +29,7 @@ cut_lines block text piece done len rest found cut =
     ∙ ap₂ (λ line t. line ∷ split_lines t) (sym cut)
     (append-nil (drop (len + 1) text) ∙ ap (drop (len + 1)) rest ∙ drop-drop (len + 1) done block)
 
-module _ (f : Finds) (block text piece : List ℕ) (done len : ℕ) (rest : text ≡ drop done block)
+module _ (f : LineMatcher) (block text piece : List ℕ) (done len : ℕ) (rest : text ≡ drop done block)
     (found : position is_feed text ≡ Some len) (cut : piece ≡ take len text) (lack : All (Lacks f) (split_lines (drop done block))) where
   both_lack : All (Lacks f) (piece ∷ split_lines (drop (done + (len + 1)) block))
   both_lack = subst (λ (lines : List (List ℕ)). All (Lacks f) lines) (cut_lines block text piece done len rest found cut) lack

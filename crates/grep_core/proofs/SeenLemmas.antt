@@ -14,8 +14,8 @@ use Rattle.grep_core.specs.declared.what.What.{What}
 use Rattle.grep_core.specs.Patterns.{finds_of}
 use Rattle.grep_core.specs.Report.{is_some_text}
 use Rattle.grep_core.specs.Searchers.{Sought, IsSearcherOf, SearchesFor}
-use Rattle.pattern_search.specs.Texts.{AreRead}
-use Rattle.grep_core.specs.Telling.{needs_spans, needed}
+use Rattle.pattern_search.specs.Texts.{AreReadAs}
+use Rattle.grep_core.specs.Telling.{needs_spans, with_needed_spans}
 
 none_from : (search_from : ℕ → Option Match) (n : ℕ) (o : Option Match) → is_some o ≡ false → matches_from search_from n o ≡ []
 unfolding matches_from
@@ -29,14 +29,14 @@ no_spans false found e = refl
 
 -- a line without a match has no matches
 pub none_found : (w : What) (res : List Re) (line : List ℕ) (has : Bool) → has ≡ (finds_of res).has_match line → has ≡ false →
-    filter is_some_text ((needed w (finds_of res)).spans line) ≡ []
+    filter is_some_text ((with_needed_spans w (finds_of res)).spans line) ≡ []
 none_found w res line has told none =
     no_spans (needs_spans w) ((finds_of res).spans line)
     (ap (map span_of_match) (none_from (find (alt_all res) line) (length line + 1) (find (alt_all res) line 0) (sym told ∙ none)))
 
 -- where matches don't count there are none
 pub none_needed : (w : What) (res : List Re) (line : List ℕ) → needs_spans w ≡ false →
-    filter is_some_text ((needed w (finds_of res)).spans line) ≡ []
+    filter is_some_text ((with_needed_spans w (finds_of res)).spans line) ≡ []
 none_needed w res line none = ap (λ b. filter is_some_text (if b then (finds_of res).spans line else [])) none
 
 -- what a finder knows of its searcher
@@ -45,7 +45,7 @@ IsOwn config texts spans p = (it : IsSearcherOf config texts p) × (spans ≡ tr
 
 -- and where they count these are all
 pub all_needed : (w : What) (res : List Re) (line : List ℕ) (found : List (ℕ × ℕ)) → needs_spans w ≡ true →
-    found ≡ filter is_some_text ((finds_of res).spans line) → found ≡ filter is_some_text ((needed w (finds_of res)).spans line)
+    found ≡ filter is_some_text ((finds_of res).spans line) → found ≡ filter is_some_text ((with_needed_spans w (finds_of res)).spans line)
 all_needed w res line found needs told = told ∙ sym (ap (λ b. filter is_some_text (if b then (finds_of res).spans line else [])) needs)
 
 -- a finder that seeks the same
@@ -53,5 +53,5 @@ abbrev pub moved_by : {p q : Sought} {spans : Bool} → q ≡ p → SearchesFor 
 moved_by {p} {q} {spans} same by = record {
   may = λ asked. ap (λ (s : Sought). s.spans) same ∙ by.may asked;
   patterns = by.patterns;
-  are_read = subst (λ (s : Sought). AreRead s.config s.texts by.patterns) (sym same) by.are_read;
+  are_read = subst (λ (s : Sought). AreReadAs s.config s.texts by.patterns) (sym same) by.are_read;
 }

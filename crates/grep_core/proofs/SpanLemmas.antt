@@ -12,7 +12,7 @@ use Rattle.regex_hir.specs.Text.{is_some_and}
 use Rattle.regex_syntax.specs.Captures.{outcome, SameCaptures}
 use Rattle.pattern_search.specs.Searches.{span_of_match}
 use Rattle.pattern_search.proofs.ForCallers.{spans, step, NoEarlier, or_later, later_from, no_class, none_spans}
-use Rattle.grep_core.specs.Fallbacks.{better, found_at, best_at, next_behind, spans_behind}
+use Rattle.grep_core.specs.Fallbacks.{better, found_at, best_found_at, next_behind, spans_behind}
 use Rattle.grep_core.specs.Report.{is_some_text}
 use Rattle.std.specs.List.{filter}
 
@@ -55,7 +55,7 @@ none_found : (line : List ℕ) (start : ℕ) → found_at (alt_all []) line star
 unfolding find attempt
 none_found line start = none_spans (attempt line (alt_all []) accept) (λ i. no_class (slice_get line i) i) (length line + 1 - start) start
 
-pub best_found : (res : List Re) (line : List ℕ) (start : ℕ) → found_at (alt_all res) line start ≡ best_at res line start
+pub best_found : (res : List Re) (line : List ℕ) (start : ℕ) → found_at (alt_all res) line start ≡ best_found_at res line start
 best_found [] line start = none_found line start
 best_found (a ∷ res) line start = alt_found a (alt_all res) line start ∙ ap (better (found_at a line start)) (best_found res line start)
 
@@ -90,7 +90,7 @@ found_beyond a line start above =
     let none : length line + 1 - start ≡ 0 = omega (arith, above) in
     ap (λ n. spans (attempt line a accept) n start) none
 
-pub beyond : (res : List Re) (line : List ℕ) (start : ℕ) → length line < start → best_at res line start ≡ None
+pub beyond : (res : List Re) (line : List ℕ) (start : ℕ) → length line < start → best_found_at res line start ≡ None
 beyond [] line start above = refl
 beyond (a ∷ res) line start above = ap₂ better (found_beyond a line start above) (beyond res line start above)
 
@@ -132,11 +132,11 @@ same_spans f g same (suc n) (Some s) =
 
 pub all_spans : (res : List Re) (line : List ℕ) →
     map span_of_match (matches_from (find (alt_all res) line) (length line + 1) (find (alt_all res) line 0))
-    ≡ spans_behind (best_at res line) (length line + 1) (best_at res line 0)
+    ≡ spans_behind (best_found_at res line) (length line + 1) (best_found_at res line 0)
 all_spans res line =
     spans_of_matches (find (alt_all res) line) (length line + 1) (find (alt_all res) line 0)
-    ∙ same_spans (found_at (alt_all res) line) (best_at res line) (best_found res line) (length line + 1) (found_at (alt_all res) line 0)
-    ∙ ap (spans_behind (best_at res line) (length line + 1)) (best_found res line 0)
+    ∙ same_spans (found_at (alt_all res) line) (best_found_at res line) (best_found res line) (length line + 1) (found_at (alt_all res) line 0)
+    ∙ ap (spans_behind (best_found_at res line) (length line + 1)) (best_found res line 0)
 
 -- one more span of those that aren't empty
 one_of : (s : ℕ × ℕ) (xs : List (ℕ × ℕ)) → filter is_some_text (s ∷ xs) ≡ filter is_some_text (s ∷ []) ++ filter is_some_text xs

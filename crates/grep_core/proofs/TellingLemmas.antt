@@ -12,9 +12,9 @@ use Rattle.grep_core.specs.declared.what.Print.TheVariants.{Lines, Matches, Coun
 use Rattle.grep_core.specs.declared.what.What.{What}
 use Rattle.grep_core.specs.Courses.{Item, item, still, print_as, print_item, waiting_item}
 use Rattle.grep_core.specs.Lines.{TextLine}
-use Rattle.grep_core.specs.Report.{Finds, before_of, after_of, roles_of, parting, behind_hidden, print_lines, count_line, name_line}
+use Rattle.grep_core.specs.Report.{LineMatcher, before_of, after_of, roles_of, parting, behind_hidden, print_lines, count_line, name_line}
 use Rattle.grep_core.specs.Report.{report_as, selected, told_spans, is_wanted}
-use Rattle.grep_core.specs.Selecting.{limited, count, any, roles, roles_from}
+use Rattle.grep_core.specs.Selecting.{limited, count_selected, any, roles, roles_from}
 use Rattle.grep_core.specs.Telling.{shown, told_item, prints_lines, tells_as, left_of, may_select, flags_behind}
 
 print_map : {X Y : Type 0} (w : What) (print : Role → Y → List ℕ) (g : X → Y) (b : Known) (rs : List Role) (xs : List X) →
@@ -30,7 +30,7 @@ left_none : (most : Option ℕ) → left_of most 0 ≡ most
 left_none None = refl
 left_none (Some m) = ap Some (let e : m - 0 ≡ m = omega arith in e)
 
-flags_none : (w : What) (f : Finds) (lines : List TextLine) → flags_behind w f 0 lines ≡ selected w f lines
+flags_none : (w : What) (f : LineMatcher) (lines : List TextLine) → flags_behind w f 0 lines ≡ selected w f lines
 flags_none w f lines = ap (λ most. limited most (map (is_wanted w f) lines)) (left_none w.most)
 
 none_before : (n : ℕ) → 0 + n ≡ n
@@ -41,7 +41,7 @@ abbrev Starts : What → Option (List ℕ) → Known → Course → Type 0
 Starts w name known c = (flags : List Bool) (items : List Item) →
     still w name c flags items ≡ print_lines w (print_item w name) known (roles (before_of w.context) (after_of w.context) flags) items
 
-starts_lines : (p : Print) (w : What) (f : Finds) (name : Option (List ℕ)) (known : Known) (c : Course) → Starts w name known c →
+starts_lines : (p : Print) (w : What) (f : LineMatcher) (name : Option (List ℕ)) (known : Known) (c : Course) → Starts w name known c →
     w.print ≡ p → (lines : List TextLine) →
     still w name c (flags_behind w f 0 lines) (map (told_item f) lines)
     ≡ print_lines w (λ role line. print_as p w name role (told_item f line)) known (roles_of w (selected w f lines)) lines
@@ -52,18 +52,18 @@ starts_lines p w f name known c fresh is lines =
     (flags_none w f lines)
     ∙ ap (λ q. print_lines w (λ role line. print_as q w name role (told_item f line)) known (roles_of w (selected w f lines)) lines) is
 
-pub starts_told : (p : Print) (w : What) (f : Finds) (name : List ℕ) (with_name : Bool) (known : Known) (c : Course) →
+pub starts_told : (p : Print) (w : What) (f : LineMatcher) (name : List ℕ) (with_name : Bool) (known : Known) (c : Course) →
     Starts w (shown with_name name) known c → w.print ≡ p → (lines : List TextLine) →
     tells_as p w name with_name c 0 (flags_behind w f 0 lines) (map (told_item f) lines)
     ≡ report_as p w f name with_name known lines (selected w f lines)
 starts_told Lines w f name with_name known c fresh is lines = starts_lines Lines w f (shown with_name name) known c fresh is lines
 starts_told Matches w f name with_name known c fresh is lines = starts_lines Matches w f (shown with_name name) known c fresh is lines
 starts_told Count w f name with_name known c fresh is lines =
-    ap (count_line w (shown with_name name)) (none_before (count (flags_behind w f 0 lines)) ∙ ap count (flags_none w f lines))
+    ap (count_line w (shown with_name name)) (none_before (count_selected (flags_behind w f 0 lines)) ∙ ap count_selected (flags_none w f lines))
 starts_told NameIfAny w f name with_name known c fresh is lines =
-    ap (λ n. if nat_lt 0 n then name_line w name else []) (none_before (count (flags_behind w f 0 lines)) ∙ ap count (flags_none w f lines))
+    ap (λ n. if nat_lt 0 n then name_line w name else []) (none_before (count_selected (flags_behind w f 0 lines)) ∙ ap count_selected (flags_none w f lines))
 starts_told NameIfNone w f name with_name known c fresh is lines =
-    ap (λ n. if nat_lt 0 n then [] else name_line w name) (none_before (count (flags_behind w f 0 lines)) ∙ ap count (flags_none w f lines))
+    ap (λ n. if nat_lt 0 n then [] else name_line w name) (none_before (count_selected (flags_behind w f 0 lines)) ∙ ap count_selected (flags_none w f lines))
 starts_told Nothing w f name with_name known c fresh is lines = refl
 
 -- at most so many lines are selected
@@ -106,7 +106,7 @@ limited_step (Some m) n b bs = limited_some m n (nat_lt n m) refl b bs
 abbrev pub selects : What → ℕ → Bool → Bool
 selects w n has = (if w.invert then not has else has) && may_select w.most n
 
-pub flags_step : (w : What) (f : Finds) (n m : ℕ) (sel has : Bool) (line : TextLine) (lines : List TextLine) → sel ≡ selects w n has →
+pub flags_step : (w : What) (f : LineMatcher) (n m : ℕ) (sel has : Bool) (line : TextLine) (lines : List TextLine) → sel ≡ selects w n has →
     has ≡ f.has_match line.bytes →
     m ≡ n + (if sel then 1 else 0) → flags_behind w f n (line ∷ lines) ≡ sel ∷ flags_behind w f m lines
 flags_step w f n m sel has line lines is seen more =
@@ -115,7 +115,7 @@ flags_step w f n m sel has line lines is seen more =
     ∙ ap (λ t. t ∷ limited (left_of w.most (n + (if t then 1 else 0))) (map (is_wanted w f) lines)) same
     ∙ ap (λ k. sel ∷ limited (left_of w.most k) (map (is_wanted w f) lines)) (sym more)
 
-pub line_told : (p : Print) (w : What) (f : Finds) (name : List ℕ) (with_name : Bool) (c after : Course) (n m : ℕ) (sel has : Bool)
+pub line_told : (p : Print) (w : What) (f : LineMatcher) (name : List ℕ) (with_name : Bool) (c after : Course) (n m : ℕ) (sel has : Bool)
     (line : TextLine)
     (found : List (ℕ × ℕ)) (out new : List ℕ) (lines : List TextLine) → sel ≡ selects w n has → has ≡ f.has_match line.bytes →
     found ≡ told_spans f line →
@@ -130,17 +130,17 @@ line_told p w f name with_name c after n m sel has line found out new lines is s
     (flags_step w f n m sel has line lines is seen more) (sym spans)
     ∙ goes_on (flags_behind w f m lines) (map (told_item f) lines)
 
-one_counted : (sel : Bool) (n : ℕ) (flags : List Bool) → (n + (if sel then 1 else 0)) + count flags ≡ n + count (sel ∷ flags)
-one_counted true n flags = let e : (n + 1) + count flags ≡ n + suc (count flags) = omega arith in e
-one_counted false n flags = let e : (n + 0) + count flags ≡ n + count flags = omega arith in e
+one_counted : (sel : Bool) (n : ℕ) (flags : List Bool) → (n + (if sel then 1 else 0)) + count_selected flags ≡ n + count_selected (sel ∷ flags)
+one_counted true n flags = let e : (n + 1) + count_selected flags ≡ n + suc (count_selected flags) = omega arith in e
+one_counted false n flags = let e : (n + 0) + count_selected flags ≡ n + count_selected flags = omega arith in e
 
-pub line_counted : (w : What) (f : Finds) (n m : ℕ) (sel has : Bool) (line : TextLine) (lines : List TextLine) → sel ≡ selects w n has →
+pub line_counted : (w : What) (f : LineMatcher) (n m : ℕ) (sel has : Bool) (line : TextLine) (lines : List TextLine) → sel ≡ selects w n has →
     has ≡ f.has_match line.bytes →
-    m ≡ n + (if sel then 1 else 0) → m + count (flags_behind w f m lines) ≡ n + count (flags_behind w f n (line ∷ lines))
+    m ≡ n + (if sel then 1 else 0) → m + count_selected (flags_behind w f m lines) ≡ n + count_selected (flags_behind w f n (line ∷ lines))
 line_counted w f n m sel has line lines is seen more =
-    ap (λ k. k + count (flags_behind w f m lines)) more
+    ap (λ k. k + count_selected (flags_behind w f m lines)) more
     ∙ one_counted sel n (flags_behind w f m lines)
-    ∙ ap (λ flags. n + count flags) (sym (flags_step w f n m sel has line lines is seen more))
+    ∙ ap (λ flags. n + count_selected flags) (sym (flags_step w f n m sel has line lines is seen more))
 
 -- what is told besides lines and matches
 pub besides_told : (p : Print) (w : What) (name : List ℕ) (with_name : Bool) (c : Course) (n m : ℕ) (sel : Bool) (out : List ℕ)
@@ -150,11 +150,11 @@ pub besides_told : (p : Print) (w : What) (name : List ℕ) (with_name : Bool) (
 besides_told Lines w name with_name c n m sel out flags it items other more = absurd (grind (arith, other))
 besides_told Matches w name with_name c n m sel out flags it items other more = absurd (grind (arith, other))
 besides_told Count w name with_name c n m sel out flags it items other more =
-    ap (λ k. out ++ count_line w (shown with_name name) k) (sym (ap (λ k. k + count flags) more ∙ one_counted sel n flags))
+    ap (λ k. out ++ count_line w (shown with_name name) k) (sym (ap (λ k. k + count_selected flags) more ∙ one_counted sel n flags))
 besides_told NameIfAny w name with_name c n m sel out flags it items other more =
-    ap (λ k. out ++ (if nat_lt 0 k then name_line w name else [])) (sym (ap (λ k. k + count flags) more ∙ one_counted sel n flags))
+    ap (λ k. out ++ (if nat_lt 0 k then name_line w name else [])) (sym (ap (λ k. k + count_selected flags) more ∙ one_counted sel n flags))
 besides_told NameIfNone w name with_name c n m sel out flags it items other more =
-    ap (λ k. out ++ (if nat_lt 0 k then [] else name_line w name)) (sym (ap (λ k. k + count flags) more ∙ one_counted sel n flags))
+    ap (λ k. out ++ (if nat_lt 0 k then [] else name_line w name)) (sym (ap (λ k. k + count_selected flags) more ∙ one_counted sel n flags))
 besides_told Nothing w name with_name c n m sel out flags it items other more = refl
 
 -- ---- behind the last line that may be selected
@@ -163,7 +163,7 @@ spent_flags None n spent xs = absurd (grind (arith, spent))
 spent_flags (Some m) n spent xs = ap (λ k. limited (Some k) xs)
     (let few : m ≤ n = grind (arith, spent) in let e : m - n ≡ 0 = omega (arith, few) in e)
 
-none_counted : (xs : List Bool) → count (map (λ _. false) xs) ≡ 0
+none_counted : (xs : List Bool) → count_selected (map (λ _. false) xs) ≡ 0
 none_counted [] = refl
 none_counted (x ∷ xs) = none_counted xs
 
@@ -200,14 +200,14 @@ still_none w name c none ys items =
     (map (λ _. false) (map waiting_item c.waiting.items) ++ map (λ _. false) ys)
     (falses (map waiting_item c.waiting.items) ys) (map waiting_item c.waiting.items ++ items)
 
-module _ (w : What) (f : Finds) (name : List ℕ) (with_name : Bool) (c : Course) (n : ℕ) (spent : may_select w.most n ≡ false) where
+module _ (w : What) (f : LineMatcher) (name : List ℕ) (with_name : Bool) (c : Course) (n : ℕ) (spent : may_select w.most n ≡ false) where
   none : (lines : List TextLine) → flags_behind w f n lines ≡ map (λ _. false) (map (is_wanted w f) lines)
   none lines = spent_flags w.most n spent (map (is_wanted w f) lines)
 
-  none_more : (lines : List TextLine) → count (flags_behind w f n lines) ≡ 0
-  none_more lines = ap count (none lines) ∙ none_counted (map (is_wanted w f) lines)
+  none_more : (lines : List TextLine) → count_selected (flags_behind w f n lines) ≡ 0
+  none_more lines = ap count_selected (none lines) ∙ none_counted (map (is_wanted w f) lines)
 
-  pub over_counted : (lines : List TextLine) → n + count (flags_behind w f n lines) ≡ n + count (flags_behind w f n [])
+  pub over_counted : (lines : List TextLine) → n + count_selected (flags_behind w f n lines) ≡ n + count_selected (flags_behind w f n [])
   over_counted lines = ap (λ k. n + k) (none_more lines ∙ sym (none_more []))
 
   over_lines : c.left ≡ 0 → (lines : List TextLine) →
@@ -233,12 +233,12 @@ abbrev pub IsOfNames : Print → Type 0
 IsOfNames p = (p ≡ NameIfAny) ⊎ ((p ≡ NameIfNone) ⊎ (p ≡ Nothing))
 
 -- behind the last line none more is selected
-none_limited : (most : Option ℕ) → count (limited most []) ≡ 0
+none_limited : (most : Option ℕ) → count_selected (limited most []) ≡ 0
 none_limited None = refl
 none_limited (Some zero) = refl
 none_limited (Some (suc n)) = refl
 
-pub all_counted : (w : What) (f : Finds) (n : ℕ) → n + count (flags_behind w f n []) ≡ n
+pub all_counted : (w : What) (f : LineMatcher) (n : ℕ) → n + count_selected (flags_behind w f n []) ≡ n
 all_counted w f n = ap (λ k. n + k) (none_limited (left_of w.most n)) ∙ (let e : n + 0 ≡ n = omega arith in e)
 
 -- a count and names are no lines

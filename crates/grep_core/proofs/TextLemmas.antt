@@ -4,23 +4,23 @@ use Rattle.std.specs.Io.KnownBytes.{Appends}
 use Rattle.grep_core.specs.declared.progress.Progress.{Progress}
 use Rattle.grep_core.specs.declared.progress.Task.{Task}
 use Rattle.grep_core.specs.declared.known.Known.{Known}
-use Rattle.grep_core.specs.Blocks.{tells_lines, counts_lines, ReadsOn, WritesPart}
-use Rattle.grep_core.specs.Lines.{lines_of, split_lines}
-use Rattle.grep_core.specs.Report.{Finds, counted_as, report, report_as, selected, selected_count}
-use Rattle.grep_core.specs.Selecting.{count}
-use Rattle.grep_core.specs.Telling.{needed}
+use Rattle.grep_core.specs.Blocks.{tells_lines, counts_lines, ReadsAndWrites, WritesPart}
+use Rattle.grep_core.specs.Lines.{text_lines, split_lines}
+use Rattle.grep_core.specs.Report.{LineMatcher, counted_as, report, report_as, selected, selected_count}
+use Rattle.grep_core.specs.Selecting.{count_selected}
+use Rattle.grep_core.specs.Telling.{with_needed_spans}
 use Rattle.grep_core.proofs.NeededLemmas.{needed_report}
 use Rattle.grep_core.proofs.WriteLemmas.{all_written, all_part}
 
-module _ (t : Task) (f : Finds) where
-  abbrev wanted : Finds
-  wanted = needed t.what.now f
+module _ (t : Task) (f : LineMatcher) where
+  abbrev wanted : LineMatcher
+  wanted = with_needed_spans t.what.now f
 
   -- before its first line
   abbrev pub Begins : Known → Progress → Type 0
-  Begins known p = (text : List ℕ) → tells_lines t (needed t.what.now f) p (split_lines text)
-      ≡ report_as t.what.now.print t.what.now (needed t.what.now f) t.name.now t.with_name known (lines_of text)
-      (selected t.what.now (needed t.what.now f) (lines_of text))
+  Begins known p = (text : List ℕ) → tells_lines t (with_needed_spans t.what.now f) p (split_lines text)
+      ≡ report_as t.what.now.print t.what.now (with_needed_spans t.what.now f) t.name.now t.with_name known (text_lines text)
+      (selected t.what.now (with_needed_spans t.what.now f) (text_lines text))
 
   begins : (known : Known) (p : Progress) (read text : List ℕ) → read ≡ [] → Begins known p →
       tells_lines t wanted p (split_lines (read ++ text)) ≡ report t.what.now f t.name.now t.with_name known text
@@ -29,15 +29,15 @@ module _ (t : Task) (f : Finds) where
       ∙ needed_report t.what.now f t.name.now t.with_name known text
 
   pub text_part : (known : Known) (p : Progress) (read text : List ℕ) (u v : Option (List ℕ)) → read ≡ [] → Begins known p →
-      WritesPart t (needed t.what.now f) p (read ++ text) u v →
+      WritesPart t (with_needed_spans t.what.now f) p (read ++ text) u v →
       (n : ℕ) × Appends u v (take n (report t.what.now f t.name.now t.with_name known text))
   text_part known p read text u v none starts part =
       (part.0, subst (λ l. Appends u v (take part.0 l)) (begins known p read text none starts) part.1)
 
   pub text_written : (known : Known) (o p : Progress) (x y z text : List ℕ) (now u w v : Option (List ℕ)) → x ≡ [] → z ≡ y →
       Begins known o →
-      (a : ReadsOn t (needed t.what.now f) o p x y text now u w) →
-      Appends w v (tells_lines t (needed t.what.now f) p (split_lines (z ++ a.rest))) →
+      (a : ReadsAndWrites t (with_needed_spans t.what.now f) o p x y text now u w) →
+      Appends w v (tells_lines t (with_needed_spans t.what.now f) p (split_lines (z ++ a.rest))) →
       Appends u v (report t.what.now f t.name.now t.with_name known text)
   text_written known o p x y z text now u w v none shown starts a written =
       subst (Appends u v) (begins known o x text none starts)
@@ -45,17 +45,17 @@ module _ (t : Task) (f : Finds) where
       (λ l. Appends w v (tells_lines t wanted p (split_lines (l ++ a.rest)))) shown written))
 
   pub rest_part : (known : Known) (o p : Progress) (x y z text : List ℕ) (now u w v : Option (List ℕ)) → x ≡ [] → z ≡ y → Begins known o →
-      (a : ReadsOn t (needed t.what.now f) o p x y text now u w) → WritesPart t (needed t.what.now f) p (z ++ a.rest) w v →
+      (a : ReadsAndWrites t (with_needed_spans t.what.now f) o p x y text now u w) → WritesPart t (with_needed_spans t.what.now f) p (z ++ a.rest) w v →
       (n : ℕ) × Appends u v (take n (report t.what.now f t.name.now t.with_name known text))
   rest_part known o p x y z text now u w v none shown starts a part =
       text_part known o x text u v none starts (all_part t wanted o p x y text now u w v a
       (subst (λ l. WritesPart t wanted p (l ++ a.rest) w v) shown part))
 
   pub text_counted : (o p : Progress) (x y z text : List ℕ) (now u w : Option (List ℕ)) (n last : ℕ) → x ≡ [] → z ≡ y →
-      ((l : List ℕ) → counts_lines t (needed t.what.now f) o (split_lines l)
-      ≡ count (selected t.what.now (needed t.what.now f) (lines_of l))) →
-      (a : ReadsOn t (needed t.what.now f) o p x y text now u w) → n ≡ last →
-      last ≡ counted_as t.what.now.print (counts_lines t (needed t.what.now f) p (split_lines (z ++ a.rest))) →
+      ((l : List ℕ) → counts_lines t (with_needed_spans t.what.now f) o (split_lines l)
+      ≡ count_selected (selected t.what.now (with_needed_spans t.what.now f) (text_lines l))) →
+      (a : ReadsAndWrites t (with_needed_spans t.what.now f) o p x y text now u w) → n ≡ last →
+      last ≡ counted_as t.what.now.print (counts_lines t (with_needed_spans t.what.now f) p (split_lines (z ++ a.rest))) →
       n ≡ counted_as t.what.now.print (selected_count t.what.now f text)
   text_counted o p x y z text now u w n last none shown starts a is rest =
       is

@@ -20,7 +20,7 @@ use Rattle.std.specs.List.{filter}
 use Rattle.hir_core.specs.Facts.{LoopsRead}
 use Rattle.pattern_search.specs.Searches.{span_of_found}
 use Rattle.grep_core.specs.Report.{is_some_text}
-use Rattle.grep_core.specs.Searchers.{IsSearcherOf, IsTold, AreTold, sized_settings}
+use Rattle.grep_core.specs.Searchers.{IsSearcherOf, IsMatchTold, AreTold, sized_settings}
 
 -- any line of bytes is searched, whatever the trees
 pub is_search : (xs : List Tree) (line : List ℕ) → All (λ b. b < 256) line → IsSearchOf xs false (whole_search line 0)
@@ -36,7 +36,7 @@ pub told_of : (config : Config) (texts : List (List ℕ)) (p : Pair) (c : PairCa
     ((k : Option ℕ) (xs : List Tree) → AllMean config texts xs → IsBuilt xs (sized_settings k) p →
     AnswersWhatIsWritten config texts xs (sized_settings k) p) →
     IsSearcherOf config texts p → All (λ b. b < 256) line → AnswersPair p c (whole_search line 0) (Ok o) →
-    IsTold config texts line (is_some o)
+    IsMatchTold config texts line (is_some o)
 told_of config texts p c line o law it bytes answer res read =
     let written = law it.capacity it.trees it.mean it.built in
     sym (alike_some _ _ _ _ (written.answers.starts line 0 (is_search it.trees line bytes) c o answer))

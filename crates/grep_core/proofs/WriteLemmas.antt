@@ -9,9 +9,9 @@ use Rattle.std.specs.Io.KnownBytes.{Appends, Consumes, IsAtEnd, Keeps}
 use Rattle.std.specs.Prelude.{IfSome}
 use Rattle.grep_core.specs.declared.progress.Progress.{Progress}
 use Rattle.grep_core.specs.declared.progress.Task.{Task}
-use Rattle.grep_core.specs.Blocks.{tells_lines, counts_lines, IsOver, Writes, ReadsOn, WritesPart}
+use Rattle.grep_core.specs.Blocks.{tells_lines, counts_lines, IsOver, Writes, ReadsAndWrites, WritesPart}
 use Rattle.grep_core.specs.Lines.{split_lines}
-use Rattle.grep_core.specs.Report.{Finds, counted_as}
+use Rattle.grep_core.specs.Report.{LineMatcher, counted_as}
 
 -- what was appended before bytes that stay
 pub appends_kept : (a b c : Option (List ℕ)) (bytes : List ℕ) → Appends a b bytes → Keeps b c → Appends a c bytes
@@ -26,7 +26,7 @@ taken_before n out rest =
     sym (take-append_seam (take n out) (drop n out ++ rest))
     ∙ ap (take (length (take n out))) (sym (append_assoc (take n out) (drop n out) rest) ∙ ap (λ l. l ++ rest) (take-append-drop n out))
 
-module _ (t : Task) (f : Finds) where
+module _ (t : Task) (f : LineMatcher) where
   abbrev pub tells : Progress → List ℕ → List ℕ
   tells p text = tells_lines t f p (split_lines text)
 
@@ -63,17 +63,17 @@ module _ (t : Task) (f : Finds) where
 
   pub reads_same : (p : Progress) (before after text bytes : List ℕ) (r0 left w : Option (List ℕ)) → r0 ≡ Some text →
       Consumes r0 left bytes →
-      after ≡ before ++ bytes → ReadsOn t f p p before after text left w w
+      after ≡ before ++ bytes → ReadsAndWrites t f p p before after text left w w
   reads_same p before after text bytes r0 left w is taken appended =
-      reads_some (λ l o. ReadsOn t f p p before after l o w w) r0 left text bytes is taken
+      reads_some (λ l o. ReadsAndWrites t f p p before after l o w w) r0 left text bytes is taken
       (λ rest. record { rest = rest; is_left = refl; writes = no_more p before after bytes rest w appended })
 
   pub reads_more : (p q : Progress) (before mid after text bytes : List ℕ) (r0 left w v : Option (List ℕ)) → r0 ≡ Some text →
       Consumes r0 left bytes →
       mid ≡ before ++ bytes → ((more : List ℕ) → Writes t f p q (mid ++ more) (after ++ more) w v) →
-      ReadsOn t f p q before after text left w v
+      ReadsAndWrites t f p q before after text left w v
   reads_more p q before mid after text bytes r0 left w v is taken appended writes =
-      reads_some (λ l o. ReadsOn t f p q before after l o w v) r0 left text bytes is taken
+      reads_some (λ l o. ReadsAndWrites t f p q before after l o w v) r0 left text bytes is taken
       (λ rest. record {
         rest = rest;
         is_left = refl;
@@ -147,22 +147,22 @@ module _ (t : Task) (f : Finds) where
       (subst (λ l. Appends w v (take part.0 l)) seen part.1)
 
   -- steps over what was read
-  pub reads_none : (p : Progress) (x text : List ℕ) (left w : Option (List ℕ)) → left ≡ Some text → ReadsOn t f p p x x text left w w
+  pub reads_none : (p : Progress) (x text : List ℕ) (left w : Option (List ℕ)) → left ≡ Some text → ReadsAndWrites t f p p x x text left w w
   reads_none p x text left w is = record {
     rest = text;
     is_left = is;
     writes = record { told = []; written = Appends-nil w; on = record { printed = refl; counted = refl } };
   }
 
-  pub then_reads : (o p q : Progress) (x y z text : List ℕ) (now left u w v : Option (List ℕ)) (a : ReadsOn t f o p x y text now u w) →
-      ReadsOn t f p q y z a.rest left w v → ReadsOn t f o q x z text left u v
+  pub then_reads : (o p q : Progress) (x y z text : List ℕ) (now left u w v : Option (List ℕ)) (a : ReadsAndWrites t f o p x y text now u w) →
+      ReadsAndWrites t f p q y z a.rest left w v → ReadsAndWrites t f o q x z text left u v
   then_reads o p q x y z text now left u w v a b = record {
     rest = b.rest;
     is_left = b.is_left;
     writes = then_writes o p q (x ++ text) (y ++ a.rest) (z ++ b.rest) u w v a.writes b.writes;
   }
 
-  pub reads_part : (o p : Progress) (x y text : List ℕ) (now u w : Option (List ℕ)) → ReadsOn t f o p x y text now u w →
+  pub reads_part : (o p : Progress) (x y text : List ℕ) (now u w : Option (List ℕ)) → ReadsAndWrites t f o p x y text now u w →
       WritesPart t f o (x ++ text) u w
   reads_part o p x y text now u w a = then_part o p (x ++ text) (y ++ a.rest) u w w a.writes (none_part p (y ++ a.rest) w)
 
@@ -201,12 +201,12 @@ module _ (t : Task) (f : Finds) where
   )
 
   -- the whole text
-  pub all_written : (o p : Progress) (x y text : List ℕ) (now u w v : Option (List ℕ)) (a : ReadsOn t f o p x y text now u w) →
+  pub all_written : (o p : Progress) (x y text : List ℕ) (now u w v : Option (List ℕ)) (a : ReadsAndWrites t f o p x y text now u w) →
       Appends w v (tells p (y ++ a.rest)) → Appends u v (tells o (x ++ text))
   all_written o p x y text now u w v a rest =
       subst (Appends u v) (sym a.writes.on.printed) (Appends-trans u w v a.writes.told (tells p (y ++ a.rest)) a.writes.written rest)
 
-  pub all_part : (o p : Progress) (x y text : List ℕ) (now u w v : Option (List ℕ)) (a : ReadsOn t f o p x y text now u w) →
+  pub all_part : (o p : Progress) (x y text : List ℕ) (now u w v : Option (List ℕ)) (a : ReadsAndWrites t f o p x y text now u w) →
       WritesPart t f p (y ++ a.rest) w v → WritesPart t f o (x ++ text) u v
   all_part o p x y text now u w v a part = then_part o p (x ++ text) (y ++ a.rest) u w v a.writes part
 

@@ -11,10 +11,10 @@ use Rattle.regex_pair.specs.Pairs.{Pair}
 use Rattle.hirscan.specs.Built.{IsBuilt, quit_bytes_for}
 use Rattle.hirscan.specs.Headline.{IsQuitBeside}
 use Rattle.earliest_ends.specs.Earliest.{HasNoSpan, NoneEndsBefore, IsLeastEnd, earliest_search, looks_by}
-use Rattle.pattern_search.specs.Texts.{AreRead, AllMean}
+use Rattle.pattern_search.specs.Texts.{AreReadAs, AllMean}
 use Rattle.grep_core.specs.Lines.{split_lines}
 use Rattle.grep_core.specs.Patterns.{finds_of}
-use Rattle.grep_core.specs.Searchers.{IsTold, line_settings, sized_settings}
+use Rattle.grep_core.specs.Searchers.{IsMatchTold, line_settings, sized_settings}
 
 -- The regex is built of the line trees of trees that mean these texts. No look in these trees knows carriage returns.
 pub record IsCandidatesOf (config : Config) (texts : List (List ℕ)) (p : Pair) : Type 0 where
@@ -31,12 +31,12 @@ IsLineStart text at = 0 < at → slice_get text (at - 1) ≡ Some 10
 -- no line of the text has a match, as what the texts of patterns are read as has it
 abbrev pub HaveNoMatch : Config → List (List ℕ) → List ℕ → Type 0
 HaveNoMatch config texts text =
-    (res : List Re) → AreRead config texts res → All (λ line. (finds_of res).has_match line ≡ false) (split_lines text)
+    (res : List Re) → AreReadAs config texts res → All (λ line. (finds_of res).has_match line ≡ false) (split_lines text)
 
 -- the line that starts at this place, if a line feed ends it, has a match
 abbrev pub HasMatchAt : Config → List (List ℕ) → List ℕ → ℕ → Type 0
 HasMatchAt config texts block at =
-    (len : ℕ) → position (λ b. b == 10) (drop at block) ≡ Some len → IsTold config texts (take len (drop at block)) true
+    (len : ℕ) → position (λ b. b == 10) (drop at block) ≡ Some len → IsMatchTold config texts (take len (drop at block)) true
 
 -- no line feed stands from the one place up to the other
 abbrev pub HasNoFeedFrom : List ℕ → ℕ → ℕ → Type 0

@@ -9,7 +9,7 @@ use Rattle.regex.specs.declared.bytes.regex.Regex.{Regex}
 use Rattle.regex.specs.Bytes.{regex_source, regex_config, IsReadFromSource}
 
 -- a regex is read from this text, with these options
-pub record IsRegexOf (config : Config) (text : List ℕ) (r : Regex) : Type 0 where
+pub record IsRegexOfText (config : Config) (text : List ℕ) (r : Regex) : Type 0 where
   pub source : regex_source r ≡ text
   pub options : regex_config r ≡ config
   pub read : IsReadFromSource r
@@ -17,7 +17,7 @@ pub record IsRegexOf (config : Config) (text : List ℕ) (r : Regex) : Type 0 wh
 -- each regex is read from the text in its place
 abbrev pub AreRegexesOf : Config → List (List ℕ) → List Regex → Type 0
 AreRegexesOf config [] [] = ⊤
-AreRegexesOf config (t ∷ ts) (r ∷ rs) = IsRegexOf config t r × AreRegexesOf config ts rs
+AreRegexesOf config (t ∷ ts) (r ∷ rs) = IsRegexOfText config t r × AreRegexesOf config ts rs
 AreRegexesOf config _ _ = ⊥
 
 -- of two spans the one with the lesser start, and else the first
@@ -31,9 +31,9 @@ abbrev pub found_at : Re → List ℕ → ℕ → Option (ℕ × ℕ)
 found_at a line start = option_map span_of_match (find a line start)
 
 -- of several patterns
-abbrev pub best_at : List Re → List ℕ → ℕ → Option (ℕ × ℕ)
-best_at [] line start = None
-best_at (a ∷ rest) line start = better (found_at a line start) (best_at rest line start)
+abbrev pub best_found_at : List Re → List ℕ → ℕ → Option (ℕ × ℕ)
+best_found_at [] line start = None
+best_found_at (a ∷ rest) line start = better (found_at a line start) (best_found_at rest line start)
 
 -- the next one behind one that ended at this place: an empty one there is passed over
 abbrev pub next_behind : (ℕ → Option (ℕ × ℕ)) → ℕ → Option (ℕ × ℕ)

@@ -22,5 +22,5 @@ abbrev pub numbered : ℕ → ℕ → List (List ℕ) → List TextLine
 numbered n at [] = []
 numbered n at (line ∷ lines) = record { number = n; place = at; bytes = line } ∷ numbered (n + 1) (at + length line + 1) lines
 
-abbrev pub lines_of : List ℕ → List TextLine
-lines_of text = numbered 1 0 (split_lines text)
+abbrev pub text_lines : List ℕ → List TextLine
+text_lines text = numbered 1 0 (split_lines text)

@@ -12,8 +12,8 @@ abbrev pub written : Bool → List ℕ → List ℕ
 written fixed pattern = if fixed then encode_utf8_all (escaped_text (chars pattern)) else pattern
 
 -- any bytes match, whether they are UTF-8 or not, and `^` and `$` hold at carriage returns only where that is asked for
-abbrev pub config_of : How → Config
-config_of how = record default_config {
+abbrev pub line_config : How → Config
+line_config how = record default_config {
   utf8 = false;
   flags = record (default_config.flags) { case_insensitive = how.ignore_case; multi_line = how.crlf; crlf = how.crlf };
 }
@@ -38,8 +38,8 @@ grouped config before text after =
 -- ends inside one
 abbrev pub around : How → List ℕ → List ℕ
 around how text =
-    if how.lines then grouped (config_of how) (codes "^(?:") text (codes ")$")
-    else if how.words then grouped (config_of how) (codes "\\b{start-half}(?:") text (codes ")\\b{end-half}")
+    if how.lines then grouped (line_config how) (codes "^(?:") text (codes ")$")
+    else if how.words then grouped (line_config how) (codes "\\b{start-half}(?:") text (codes ")\\b{end-half}")
     else text
 
 abbrev pub searched_text : How → List ℕ → List ℕ

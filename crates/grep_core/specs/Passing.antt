@@ -7,7 +7,7 @@ use Rattle.grep_core.specs.declared.course.Course.{Course}
 use Rattle.grep_core.specs.declared.what.What.{What}
 use Rattle.grep_core.specs.Blocks.{tells_lines, counts_lines}
 use Rattle.grep_core.specs.Lines.{split_lines}
-use Rattle.grep_core.specs.Report.{Finds, before_of, is_some_text}
+use Rattle.grep_core.specs.Report.{LineMatcher, before_of, is_some_text}
 use Rattle.grep_core.specs.Telling.{prints_lines}
 
 -- a text of whole lines is empty or ends with a line feed
@@ -15,7 +15,7 @@ abbrev pub AreWhole : List ℕ → Type 0
 AreWhole text = (text ≡ []) ⊎ ((first : List ℕ) × (text ≡ first ++ 10 ∷ []))
 
 -- a line has no match, and no text of one
-pub record Lacks (f : Finds) (line : List ℕ) : Type 0 where
+pub record Lacks (f : LineMatcher) (line : List ℕ) : Type 0 where
   pub no_match : f.has_match line ≡ false
   pub no_text : filter is_some_text (f.spans line) ≡ []
 
@@ -29,7 +29,7 @@ abbrev pub held_of : What → ℕ
 held_of w = if prints_lines w.print then before_of w.context else 0
 
 -- where none of these lines has a match, what is told of them and of those behind them is told up to the rest
-pub record PassesTo (t : Task) (f : Finds) (old new : Progress) (lines rest out now : List ℕ) : Type 0 where
+pub record PassesTo (t : Task) (f : LineMatcher) (old new : Progress) (lines rest out now : List ℕ) : Type 0 where
   pub lack : All (Lacks f) (split_lines lines) → All (Lacks f) (split_lines rest)
   pub printed : All (Lacks f) (split_lines lines) → (more : List ℕ) →
       out ++ tells_lines t f old (split_lines (lines ++ more)) ≡ now ++ tells_lines t f new (split_lines (rest ++ more))

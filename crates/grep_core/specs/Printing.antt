@@ -10,9 +10,9 @@ use Rattle.grep_core.specs.declared.what.What.{What}
 use Rattle.grep_core.specs.Lines.{TextLine}
 
 -- marked for a terminal: 27 begins a sequence that sets a colour, and one that ends it
-abbrev pub marked : Bool → List ℕ → List ℕ → List ℕ
-marked false code text = text
-marked true code text = 27 ∷ (codes "[" ++ (code ++
+abbrev pub coloured : Bool → List ℕ → List ℕ → List ℕ
+coloured false code text = text
+coloured true code text = 27 ∷ (codes "[" ++ (code ++
     (codes "m" ++ (27 ∷ (codes "[K" ++ (text ++ (27 ∷ (codes "[m" ++ (27 ∷ codes "[K")))))))))
 
 -- what parts the fields before a line: a colon for selected lines, or else a hyphen
@@ -21,7 +21,7 @@ separator Selected = codes ":"
 separator _ = codes "-"
 
 abbrev pub field : What → Role → List ℕ → List ℕ → List ℕ
-field w role code text = marked w.color code text ++ marked w.color (codes "36") (separator role)
+field w role code text = coloured w.color code text ++ coloured w.color (codes "36") (separator role)
 
 abbrev pub if_asked : Bool → List ℕ → List ℕ
 if_asked true text = text
@@ -49,7 +49,7 @@ span_pair s = (s.start, s.end)
 abbrev pub marked_from : List ℕ → ℕ → List (ℕ × ℕ) → List ℕ
 marked_from line at [] = slice_range line at (length line)
 marked_from line at (s ∷ spans) = slice_range line at s.0
-    ++ (marked true (codes "01;31") (slice_range line s.0 s.1) ++ marked_from line s.1 spans)
+    ++ (coloured true (codes "01;31") (slice_range line s.0 s.1) ++ marked_from line s.1 spans)
 
 -- matches are marked in lines that have some: selected ones, or with `invert` those beside them
 abbrev pub has_marks : What → Role → Bool
@@ -67,7 +67,7 @@ printed_line w name role line found = fields w name role line.number line.place 
 abbrev pub printed_match : What → Option (List ℕ) → Role → TextLine → ℕ × ℕ → List ℕ
 printed_match w name role line s =
     fields w name role line.number (line.place + s.0)
-    ++ (marked w.color (codes "01;31") (slice_range line.bytes s.0 s.1) ++ 10 ∷ [])
+    ++ (coloured w.color (codes "01;31") (slice_range line.bytes s.0 s.1) ++ 10 ∷ [])
 
 -- the matches of a line, in lines in which they would be marked
 abbrev pub printed_matches : What → Option (List ℕ) → Role → TextLine → List (ℕ × ℕ) → List ℕ
@@ -75,4 +75,4 @@ printed_matches w name role line found = if has_marks w role then flat_map (prin
 
 -- the line between two groups of lines that aren't neighbours
 abbrev pub group_line : What → List ℕ
-group_line w = marked w.color (codes "36") (codes "--") ++ 10 ∷ []
+group_line w = coloured w.color (codes "36") (codes "--") ++ 10 ∷ []

@@ -7,14 +7,14 @@ use Rattle.grep_core.specs.declared.what.Print.{Print}
 use Rattle.grep_core.specs.declared.known.Known.{Known}
 use Rattle.grep_core.specs.declared.known.Known.TheVariants.{NonePrinted, LastPrinted, EarlierPrinted}
 use Rattle.grep_core.specs.declared.what.What.{What}
-use Rattle.grep_core.specs.Lines.{TextLine, lines_of}
+use Rattle.grep_core.specs.Lines.{TextLine, text_lines}
 use Rattle.grep_core.specs.declared.role.Role.{Role}
 use Rattle.grep_core.specs.declared.role.Role.TheVariants.{Selected, Beside, Hidden}
-use Rattle.grep_core.specs.Selecting.{limited, count, roles}
-use Rattle.grep_core.specs.Printing.{marked, printed_line, printed_matches, group_line, field}
+use Rattle.grep_core.specs.Selecting.{limited, count_selected, roles}
+use Rattle.grep_core.specs.Printing.{coloured, printed_line, printed_matches, group_line, field}
 
 -- how lines are told apart: whether a line has a match, and the spans of all its matches, from left to right
-pub record Finds : Type 0 where
+pub record LineMatcher : Type 0 where
   pub has_match : List ℕ → Bool
   pub spans : List ℕ → List (ℕ × ℕ)
 
@@ -22,14 +22,14 @@ pub record Finds : Type 0 where
 abbrev pub is_some_text : ℕ × ℕ → Bool
 is_some_text s = nat_lt s.0 s.1
 
-abbrev pub told_spans : Finds → TextLine → List (ℕ × ℕ)
+abbrev pub told_spans : LineMatcher → TextLine → List (ℕ × ℕ)
 told_spans f line = filter is_some_text (f.spans line.bytes)
 
-abbrev pub is_wanted : What → Finds → TextLine → Bool
+abbrev pub is_wanted : What → LineMatcher → TextLine → Bool
 is_wanted w f line = if w.invert then not (f.has_match line.bytes) else f.has_match line.bytes
 
 -- which of the lines are selected
-abbrev pub selected : What → Finds → List TextLine → List Bool
+abbrev pub selected : What → LineMatcher → List TextLine → List Bool
 selected w f lines = limited w.most (map (is_wanted w f) lines)
 
 -- how many lines are printed beside each selected one
@@ -70,28 +70,28 @@ count_line w None n = decimal n ++ 10 ∷ []
 count_line w (Some name) n = field w Selected (codes "35") name ++ (decimal n ++ 10 ∷ [])
 
 abbrev pub name_line : What → List ℕ → List ℕ
-name_line w name = marked w.color (codes "35") name ++ 10 ∷ []
+name_line w name = coloured w.color (codes "35") name ++ 10 ∷ []
 
 -- What is printed of the text of this name; it stands before lines where that is asked for. What is known of the lines before its first
 -- one is what is known of those of earlier texts.
-abbrev pub report_as : Print → What → Finds → List ℕ → Bool → Known → List TextLine → List Bool → List ℕ
+abbrev pub report_as : Print → What → LineMatcher → List ℕ → Bool → Known → List TextLine → List Bool → List ℕ
 report_as Lines w f name with_name known lines wanted =
     print_lines w (λ role line. printed_line w (if with_name then Some name else None) role line (told_spans f line)) known
     (roles_of w wanted) lines
 report_as Matches w f name with_name known lines wanted =
     print_lines w (λ role line. printed_matches w (if with_name then Some name else None) role line (told_spans f line)) known
     (roles_of w wanted) lines
-report_as Count w f name with_name known lines wanted = count_line w (if with_name then Some name else None) (count wanted)
-report_as NameIfAny w f name with_name known lines wanted = if nat_lt 0 (count wanted) then name_line w name else []
-report_as NameIfNone w f name with_name known lines wanted = if nat_lt 0 (count wanted) then [] else name_line w name
+report_as Count w f name with_name known lines wanted = count_line w (if with_name then Some name else None) (count_selected wanted)
+report_as NameIfAny w f name with_name known lines wanted = if nat_lt 0 (count_selected wanted) then name_line w name else []
+report_as NameIfNone w f name with_name known lines wanted = if nat_lt 0 (count_selected wanted) then [] else name_line w name
 report_as Nothing w f name with_name known lines wanted = []
 
-abbrev pub report : What → Finds → List ℕ → Bool → Known → List ℕ → List ℕ
-report w f name with_name known text = report_as w.print w f name with_name known (lines_of text) (selected w f (lines_of text))
+abbrev pub report : What → LineMatcher → List ℕ → Bool → Known → List ℕ → List ℕ
+report w f name with_name known text = report_as w.print w f name with_name known (text_lines text) (selected w f (text_lines text))
 
 -- how many lines of the text are selected
-abbrev pub selected_count : What → Finds → List ℕ → ℕ
-selected_count w f text = count (selected w f (lines_of text))
+abbrev pub selected_count : What → LineMatcher → List ℕ → ℕ
+selected_count w f text = count_selected (selected w f (text_lines text))
 
 -- of so many selected lines, as many as are counted: one where no more is asked for than whether there is one
 abbrev pub counted_as : Print → ℕ → ℕ

@@ -9,10 +9,10 @@ use Rattle.regex_pair.specs.Pairs.{Pair}
 use Rattle.hirscan.specs.declared.settings.Settings.{Settings}
 use Rattle.hirscan.specs.Built.{IsBuilt, RefusesBuild, default_settings, program_settings}
 use Rattle.hirscan.specs.Loops.{first_empty_loop}
-use Rattle.pattern_search.specs.Texts.{AreRead, AllMean, IsFirstFault}
+use Rattle.pattern_search.specs.Texts.{AreReadAs, AllMean, IsFirstFault}
 use Rattle.grep_core.specs.declared.searcher.SearcherError.{SearcherError}
 use Rattle.grep_core.specs.declared.searcher.SearcherError.TheVariants.{Text, EmptyLoop, Build}
-use Rattle.grep_core.specs.Report.{Finds, is_some_text}
+use Rattle.grep_core.specs.Report.{LineMatcher, is_some_text}
 use Rattle.grep_core.specs.Patterns.{finds_of}
 
 -- lines are any bytes
@@ -31,12 +31,12 @@ pub record IsSearcherOf (config : Config) (texts : List (List ℕ)) (p : Pair) :
   pub built : IsBuilt trees (sized_settings capacity) p
 
 -- whether the line has a match is told as what the texts are read as has it
-abbrev pub IsTold : Config → List (List ℕ) → List ℕ → Bool → Type 0
-IsTold config texts line told = (res : List Re) → AreRead config texts res → told ≡ (finds_of res).has_match line
+abbrev pub IsMatchTold : Config → List (List ℕ) → List ℕ → Bool → Type 0
+IsMatchTold config texts line told = (res : List Re) → AreReadAs config texts res → told ≡ (finds_of res).has_match line
 
 -- the matches of the line that aren't empty are told as what the texts are read as has them
 abbrev pub AreTold : Config → List (List ℕ) → List ℕ → List (ℕ × ℕ) → Type 0
-AreTold config texts line told = (res : List Re) → AreRead config texts res → told ≡ filter is_some_text ((finds_of res).spans line)
+AreTold config texts line told = (res : List Re) → AreReadAs config texts res → told ≡ filter is_some_text ((finds_of res).spans line)
 
 -- what is sought in lines: the texts of patterns, the options under which these are read, and whether matches may be asked for
 pub record Sought : Type 0 where
@@ -48,15 +48,15 @@ pub record Sought : Type 0 where
 pub record SearchesFor (s : Sought) (spans : Bool) : Type 0 where
   pub may : spans ≡ true → s.spans ≡ true
   pub patterns : List Re
-  pub are_read : AreRead s.config s.texts patterns
+  pub are_read : AreReadAs s.config s.texts patterns
 
-abbrev pub found_by : {s : Sought} {spans : Bool} → SearchesFor s spans → Finds
+abbrev pub found_by : {s : Sought} {spans : Bool} → SearchesFor s spans → LineMatcher
 found_by by = finds_of by.patterns
 
 -- Why there is no searcher of texts: the first that is no pattern, or that has an empty loop where matches are asked for; or no regex is
 -- built of their trees, or memory lacked.
-abbrev pub IsRefused : Config → List (List ℕ) → Bool → SearcherError → Type 0
-IsRefused config texts spans (Text e) = IsFirstFault config texts e.number e.error
-IsRefused config texts spans (EmptyLoop number) =
+abbrev pub IsSearcherRefused : Config → List (List ℕ) → Bool → SearcherError → Type 0
+IsSearcherRefused config texts spans (Text e) = IsFirstFault config texts e.number e.error
+IsSearcherRefused config texts spans (EmptyLoop number) =
     (spans ≡ true) × ((xs : List Tree) × AllMean config texts xs × (first_empty_loop xs ≡ Some number))
-IsRefused config texts spans (Build e) = (e ≡ NoMemory) ⊎ ((xs : List Tree) × AllMean config texts xs × RefusesBuild xs line_settings e)
+IsSearcherRefused config texts spans (Build e) = (e ≡ NoMemory) ⊎ ((xs : List Tree) × AllMean config texts xs × RefusesBuild xs line_settings e)

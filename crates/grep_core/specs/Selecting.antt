@@ -12,8 +12,8 @@ limited (Some (suc n)) [] = []
 limited (Some (suc n)) (true ∷ wanted) = true ∷ limited (Some n) wanted
 limited (Some (suc n)) (false ∷ wanted) = false ∷ limited (Some (suc n)) wanted
 
-abbrev pub count : List Bool → ℕ
-count selected = length (filter (λ it. it) selected)
+abbrev pub count_selected : List Bool → ℕ
+count_selected selected = length (filter (λ it. it) selected)
 
 -- some line is selected
 abbrev pub any : List Bool → Bool

@@ -6,7 +6,7 @@ ghost use Rattle.grep_core.specs.Candidates.{HasMatchAt, IsLineStart};
 ghost use Rattle.grep_core.specs.Courses.{Waits};
 ghost use Rattle.grep_core.specs.Lines.{split_lines};
 ghost use Rattle.grep_core.specs.Passing.{AreWhole};
-ghost use Rattle.grep_core.specs.Searchers.{IsTold};
+ghost use Rattle.grep_core.specs.Searchers.{IsMatchTold};
 
 use crate::candidates::line_start;
 use crate::fault::Fault;
@@ -30,7 +30,7 @@ pub(crate) fn tell_one(
     is_known: bool,
 ) -> Result<(), Fault>
     requires waits { Waits task.what.now progress.old.telling.course }
-    requires known { is_known ≡ true → IsTold finder.old.config finder.old.texts bytes.now true }
+    requires known { is_known ≡ true → IsMatchTold finder.old.config finder.old.texts bytes.now true }
     ensures same { finder.new ≡ finder.old }
     ensures waits { OnOk result (Waits task.entry.what.now progress.new.telling.course) }
     ensures goes_on { OnOk result ((by : SearchesBy task.entry finder.old) (lines : List (List ℕ)) →

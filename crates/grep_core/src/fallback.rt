@@ -5,10 +5,10 @@ ghost use Rattle.regex.specs.Bytes.{regex_pattern, regex_source, regex_config, I
 ghost use Rattle.regex.specs.Views.{builder_source, builder_config};
 ghost use Rattle.regex_hir.specs.Text.{is_some_and};
 ghost use Rattle.regex_syntax.specs.declared.Config.{Config as TextConfig};
-ghost use Rattle.grep_core.specs.Fallbacks.{AreRegexesOf, IsRegexOf, better, best_at, found_at, next_behind};
+ghost use Rattle.grep_core.specs.Fallbacks.{AreRegexesOf, IsRegexOfText, better, best_found_at, found_at, next_behind};
 ghost use Rattle.grep_core.specs.Printing.{span_pair};
 ghost use Rattle.grep_core.specs.Report.{is_some_text};
-ghost use Rattle.grep_core.specs.Searchers.{AreTold, IsTold};
+ghost use Rattle.grep_core.specs.Searchers.{AreTold, IsMatchTold};
 ghost use Rattle.std.specs.List.{filter};
 
 use crate::fault::Fault;
@@ -41,7 +41,7 @@ fn builder_of<'s>(text: &'s str, config: &Config) -> RegexBuilder<'s>
 
 /// The regex of a text. UTF-8 mode is off, whatever the options say.
 fn regex_of(alloc: Global, text: &str, config: &Config) -> Result<Regex, Fault>
-    ensures { IfOk result (IsRegexOf (record (config.now) { utf8 = false }) text.now) }
+    ensures { IfOk result (IsRegexOfText (record (config.now) { utf8 = false }) text.now) }
 {
     match builder_of(text, config).build_bytes(alloc) {
         Ok(regex) => Ok(regex),
@@ -83,7 +83,7 @@ fn has_one(alloc: Global, regex: &Regex, line: &[u8]) -> Result<bool, AllocError
 /// Whether it has one of some pattern.
 pub(crate) fn has_any(alloc: Global, regexes: &[Regex], line: &[u8]) -> Result<bool, AllocError>
     ensures { IfOk result (λ told. (config : TextConfig) (texts : List (List ℕ)) → AreRegexesOf config texts regexes.now →
-        IsTold config texts line.now told) }
+        IsMatchTold config texts line.now told) }
 {
     see_bytes(line);
     for regex in regexes {
@@ -131,7 +131,7 @@ fn find_best(
     line: &[u8],
     start: usize,
 ) -> Result<Option<Span>, AllocError>
-    ensures { IfOk result (λ s. option_map span_pair s ≡ best_at (map regex_pattern regexes.now) line.now start) }
+    ensures { IfOk result (λ s. option_map span_pair s ≡ best_found_at (map regex_pattern regexes.now) line.now start) }
 {
     let mut best = None;
     for regex in regexes {
@@ -158,7 +158,7 @@ fn find_next(
     line: &[u8],
     end: usize,
 ) -> Result<Option<Span>, AllocError>
-    ensures { IfOk result (λ s. option_map span_pair s ≡ next_behind (best_at (map regex_pattern regexes.now) line.now) end) }
+    ensures { IfOk result (λ s. option_map span_pair s ≡ next_behind (best_found_at (map regex_pattern regexes.now) line.now) end) }
 {
     let next = find_best(alloc, regexes, line, end)?;
     if !ends_at(next, end) {

@@ -3,7 +3,7 @@ ghost use Rattle.std.specs.Prelude.{◌≡◌, IfErr, IfOk, map, false, true, �
 ghost use Rattle.grep_core.specs.Candidates.{HaveNoMatch, HasMatchAt, IsLineStart};
 ghost use Rattle.grep_core.specs.Fallbacks.{AreRegexesOf};
 ghost use Rattle.grep_core.specs.Printing.{span_pair};
-ghost use Rattle.grep_core.specs.Searchers.{IsTold, AreTold, IsRefused, SearchesFor};
+ghost use Rattle.grep_core.specs.Searchers.{IsMatchTold, AreTold, IsSearcherRefused, SearchesFor};
 
 use crate::candidates::{Candidates, Reached, candidates_of};
 use crate::fallback::{all_matches, has_any, regexes_of};
@@ -88,7 +88,7 @@ impl<'t> Finder<'t> {
         ensures sought { IfOk result (λ f. f ≡
             record { config = record (config.now) { utf8 = false }; texts = map (λ t. t.now) texts.now; spans = with_matches }) }
         ensures searches { IfOk result (λ f. SearchesFor f with_matches) }
-        ensures refused { IfErr result (IsRefused (record (config.now) { utf8 = false }) (map (λ t. t.now) texts.now) with_matches) }
+        ensures refused { IfErr result (IsSearcherRefused (record (config.now) { utf8 = false }) (map (λ t. t.now) texts.now) with_matches) }
     {
         regexes_answer_what_is_written();
         let config = config.utf8(false);
@@ -266,7 +266,7 @@ impl<'t> Finder<'t> {
     /// Whether the line has a match, by the regexes.
     fn has_match_slowly(&mut self, alloc: Global, line: &[u8]) -> Result<bool, Fault>
         ensures same { self.new ≡ self.old }
-        ensures told { IfOk result (λ told. IsTold self.old.config self.old.texts line.now told) }
+        ensures told { IfOk result (λ told. IsMatchTold self.old.config self.old.texts line.now told) }
     {
         self.slow = self.slow.saturating_add(1);
         let regexes = match self.take_regexes(alloc) {
@@ -303,7 +303,7 @@ impl<'t> Finder<'t> {
     /// Whether the line has a match, by the automata.
     fn has_match_quickly(&mut self, line: &[u8]) -> Result<bool, MatchError>
         ensures same { self.new ≡ self.old }
-        ensures told { IfOk result (λ told. IsTold self.old.config self.old.texts line.now told) }
+        ensures told { IfOk result (λ told. IsMatchTold self.old.config self.old.texts line.now told) }
     {
         let told = match self.searcher.has_match(line) {
             Ok(told) => told,
@@ -330,7 +330,7 @@ impl<'t> Finder<'t> {
     /// Whether the line has a match of some pattern.
     pub(crate) fn has_match(&mut self, alloc: Global, line: &[u8]) -> Result<bool, Fault>
         ensures same { self.new ≡ self.old }
-        ensures told { IfOk result (λ told. IsTold self.old.config self.old.texts line.now told) }
+        ensures told { IfOk result (λ told. IsMatchTold self.old.config self.old.texts line.now told) }
     {
         self.grow_searcher(alloc);
         let error = match self.has_match_quickly(line) {

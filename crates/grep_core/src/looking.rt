@@ -2,8 +2,8 @@
 ghost use Rattle.std.specs.Prelude.{◌≡◌, IfOk, map, true};
 ghost use Rattle.grep_core.specs.Printing.{span_pair};
 ghost use Rattle.grep_core.specs.Report.{is_some_text};
-ghost use Rattle.grep_core.specs.Searchers.{IsTold, SearchesFor, found_by};
-ghost use Rattle.grep_core.specs.Telling.{needs_spans, needed};
+ghost use Rattle.grep_core.specs.Searchers.{IsMatchTold, SearchesFor, found_by};
+ghost use Rattle.grep_core.specs.Telling.{needs_spans, with_needed_spans};
 ghost use Rattle.std.specs.List.{filter};
 
 use crate::fault::Fault;
@@ -39,9 +39,9 @@ fn has_match(
     line: &[u8],
     is_known: bool,
 ) -> Result<bool, Fault>
-    requires { is_known ≡ true → IsTold finder.old.config finder.old.texts line.now true }
+    requires { is_known ≡ true → IsMatchTold finder.old.config finder.old.texts line.now true }
     ensures same { finder.new ≡ finder.old }
-    ensures told { IfOk result (λ told. IsTold finder.old.config finder.old.texts line.now told) }
+    ensures told { IfOk result (λ told. IsMatchTold finder.old.config finder.old.texts line.now told) }
 {
     if is_known {
         return Ok(true);
@@ -60,11 +60,11 @@ pub(crate) fn look_at(
     line: &[u8],
     is_known: bool,
 ) -> Result<Seen, Fault>
-    requires { is_known ≡ true → IsTold finder.old.config finder.old.texts line.now true }
+    requires { is_known ≡ true → IsMatchTold finder.old.config finder.old.texts line.now true }
     ensures same { finder.new ≡ finder.old }
     ensures has { IfOk result (λ seen. (by : SearchesFor finder.old (needs_spans what.now)) → seen.has ≡ (found_by by).has_match line.now) }
     ensures found { IfOk result (λ seen. (by : SearchesFor finder.old (needs_spans what.now)) →
-        map span_pair seen.found.items ≡ filter is_some_text ((needed what.now (found_by by)).spans line.now)) }
+        map span_pair seen.found.items ≡ filter is_some_text ((with_needed_spans what.now (found_by by)).spans line.now)) }
 {
     let has = match has_match(alloc, finder, line, is_known) {
         Ok(has) => has,

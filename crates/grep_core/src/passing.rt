@@ -6,7 +6,7 @@ ghost use Rattle.grep_core.specs.Candidates.{IsLineStart};
 ghost use Rattle.grep_core.specs.Courses.{Waits};
 ghost use Rattle.grep_core.specs.Lines.{split_lines};
 ghost use Rattle.grep_core.specs.Passing.{AreWhole, Lacks, MayPass, PassesTo, held_of};
-ghost use Rattle.grep_core.specs.Report.{Finds};
+ghost use Rattle.grep_core.specs.Report.{LineMatcher};
 ghost use Rattle.grep_core.specs.Searchers.{Sought, found_by};
 ghost use Rattle.grep_core.specs.Telling.{prints_lines};
 
@@ -126,7 +126,7 @@ fn pass_over(task: Task<'_>, progress: &mut Progress, lines: &[u8]) -> Result<us
     requires may { MayPass task.what.now progress.old.telling.course }
     ensures waits { OnOk result (Waits task.entry.what.now progress.new.telling.course) }
     ensures within { IfOk result (λ start. start ≤ length lines.now) }
-    ensures passes { IfOk result (λ start. (f : Finds) (out : List ℕ) →
+    ensures passes { IfOk result (λ start. (f : LineMatcher) (out : List ℕ) →
         PassesTo task.entry f progress.old progress.new lines.now (drop start lines.now) out out) }
 {
     let start = last_lines(lines, held_of(task.what));
@@ -149,10 +149,10 @@ fn tell_without(
 ) -> Result<(), Fault>
     requires { Waits task.what.now progress.old.telling.course }
     ensures waits { OnOk result (Waits task.entry.what.now progress.new.telling.course) }
-    ensures goes_on { OnOk result ((f : Finds) → Lacks f bytes.now → (lines : List (List ℕ)) →
+    ensures goes_on { OnOk result ((f : LineMatcher) → Lacks f bytes.now → (lines : List (List ℕ)) →
         out.old.items ++ tells_lines task.entry f progress.old (bytes.now ∷ lines)
         ≡ out.new.items ++ tells_lines task.entry f progress.new lines) }
-    ensures counts { OnOk result ((f : Finds) → Lacks f bytes.now → (lines : List (List ℕ)) →
+    ensures counts { OnOk result ((f : LineMatcher) → Lacks f bytes.now → (lines : List (List ℕ)) →
         counts_lines task.entry f progress.new lines ≡ counts_lines task.entry f progress.old (bytes.now ∷ lines)) }
 {
     let line = Line {
@@ -190,7 +190,7 @@ fn tell_each(
     ensures within { IfOk result (λ done. done ≤ length lines.now) }
     ensures all { all ≡ true → IfOk result (λ done. length lines.now ≤ done) }
     ensures may { IfOk result (λ done. done < length lines.now → MayPass task.entry.what.now progress.new.telling.course) }
-    ensures passes { IfOk result (λ done. (f : Finds) →
+    ensures passes { IfOk result (λ done. (f : LineMatcher) →
         PassesTo task.entry f progress.old progress.new lines.now (drop done lines.now) out.old.items out.new.items) }
 {
     let mut done = 0usize;
@@ -215,7 +215,7 @@ fn tell_lacking(
     requires waits { Waits task.what.now progress.old.telling.course }
     requires whole { AreWhole lines.now }
     ensures waits { OnOk result (Waits task.entry.what.now progress.new.telling.course) }
-    ensures passes { OnOk result ((f : Finds) →
+    ensures passes { OnOk result ((f : LineMatcher) →
         PassesTo task.entry f progress.old progress.new lines.now [] out.old.items out.new.items) }
 {
     let done = tell_each(alloc, out, task, progress, lines, false)?;

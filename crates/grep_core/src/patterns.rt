@@ -1,6 +1,6 @@
 //! How patterns are meant: of which texts, under which options, regexes are made for them.
 ghost use Rattle.std.specs.Prelude.{◌≡◌, ◌++◌, IfOk, string_bytes};
-ghost use Rattle.grep_core.specs.Meant.{around, config_of, grouped, is_read, searched_text, written};
+ghost use Rattle.grep_core.specs.Meant.{around, line_config, grouped, is_read, searched_text, written};
 
 use pattern_text::{Config, ParseError, parse};
 use std::alloc::{AllocError, Global};
@@ -22,7 +22,7 @@ pub struct How {
 
 /// The options under which the texts are read: any bytes match, whether they are UTF-8 or not.
 pub fn config_of(how: &How) -> Config
-    ensures { result ≡ config_of how.now }
+    ensures { result ≡ line_config how.now }
 {
     Config::new()
         .utf8(false)

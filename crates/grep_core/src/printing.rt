@@ -1,6 +1,6 @@
 //! How a line is printed, as by GNU grep.
 ghost use Rattle.std.specs.Prelude.{◌≡◌, ◌≤◌, ◌++◌, ◌∷◌, ◌+◌, ℕ, [], codes, decimal, length, map, option_map, slice_range, OnOk};
-ghost use Rattle.grep_core.specs.Printing.{marked, marked_from, span_pair, has_marks, line_bytes, printed_line, text_line, group_line};
+ghost use Rattle.grep_core.specs.Printing.{coloured, marked_from, span_pair, has_marks, line_bytes, printed_line, text_line, group_line};
 ghost use Rattle.grep_core.specs.Printing.{field, fields, if_asked, name_field, separator};
 
 use crate::line::Line;
@@ -16,7 +16,7 @@ pub(crate) fn push_marked(
     code: &[u8],
     text: &[u8],
 ) -> Result<(), AllocError>
-    ensures { OnOk result (out.new.items ≡ out.old.items ++ marked color code.now text.now) }
+    ensures { OnOk result (out.new.items ≡ out.old.items ++ coloured color code.now text.now) }
 {
     if !color {
         out.extend_from_slice(text)?;

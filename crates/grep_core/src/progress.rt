@@ -2,9 +2,9 @@
 ghost use Rattle.std.specs.Prelude.{◌≡◌, ℕ, ◌+◌, List, IfOk, OnOk};
 ghost use Rattle.grep_core.specs.Blocks.{tells_lines, counts_lines};
 ghost use Rattle.grep_core.specs.Courses.{Waits};
-ghost use Rattle.grep_core.specs.Lines.{lines_of, split_lines};
-ghost use Rattle.grep_core.specs.Report.{Finds, report_as, selected};
-ghost use Rattle.grep_core.specs.Selecting.{count};
+ghost use Rattle.grep_core.specs.Lines.{text_lines, split_lines};
+ghost use Rattle.grep_core.specs.Report.{LineMatcher, report_as, selected};
+ghost use Rattle.grep_core.specs.Selecting.{count_selected};
 ghost use Rattle.grep_core.specs.declared.progress.Task.{Task as TheTask};
 ghost use Rattle.grep_core.specs.declared.what.What.{What as TheWhat};
 
@@ -34,11 +34,11 @@ pub(crate) struct Progress {
 impl Progress {
     /// Before the first line, where this is known of the lines of earlier texts.
     pub(crate) fn new(alloc: Global, known: Known) -> Progress
-        ensures starts { (t : TheTask) → (f : Finds) → (text : List ℕ) →
+        ensures starts { (t : TheTask) → (f : LineMatcher) → (text : List ℕ) →
             tells_lines t f result (split_lines text) ≡
-            report_as t.what.now.print t.what.now f t.name.now t.with_name known (lines_of text) (selected t.what.now f (lines_of text)) }
-        ensures counts { (t : TheTask) → (f : Finds) → (text : List ℕ) →
-            counts_lines t f result (split_lines text) ≡ count (selected t.what.now f (lines_of text)) }
+            report_as t.what.now.print t.what.now f t.name.now t.with_name known (text_lines text) (selected t.what.now f (text_lines text)) }
+        ensures counts { (t : TheTask) → (f : LineMatcher) → (text : List ℕ) →
+            counts_lines t f result (split_lines text) ≡ count_selected (selected t.what.now f (text_lines text)) }
         ensures waits { (w : TheWhat) → Waits w result.telling.course }
     {
         Progress {

@@ -3,10 +3,10 @@ ghost use Rattle.std.specs.Prelude.{◌≡◌, ◌==◌, None, ◌++◌, ◌<◌
 ghost use Rattle.std.specs.Prelude.{true, false, length};
 ghost use Rattle.std.specs.Io.KnownBytes.{Appends, IsAtEnd, Keeps};
 ghost use Rattle.std.specs.List.{position};
-ghost use Rattle.grep_core.specs.Blocks.{SearchesBy, finds_by, tells_lines, counts_lines, Writes, ReadsOn, WritesPart, IsOver};
+ghost use Rattle.grep_core.specs.Blocks.{SearchesBy, finds_by, tells_lines, counts_lines, Writes, ReadsAndWrites, WritesPart, IsOver};
 ghost use Rattle.grep_core.specs.Courses.{Waits};
 ghost use Rattle.grep_core.specs.Lines.{split_lines};
-ghost use Rattle.grep_core.specs.Report.{Finds, counted_as, report, selected_count};
+ghost use Rattle.grep_core.specs.Report.{LineMatcher, counted_as, report, selected_count};
 ghost use Rattle.grep_core.specs.Searchers.{SearchesFor, found_by};
 ghost use Rattle.grep_core.specs.Telling.{needs_spans};
 ghost use Rattle.grep_core.specs.declared.progress.Task.{Task as TheTask};
@@ -131,7 +131,7 @@ fn next_block<R: Read, W: Write>(
     ensures same { finder.new ≡ finder.old }
     ensures waits { OnOk result (Waits task.entry.what.now progress.new.telling.course) }
     ensures reads { OnOk result ((by : SearchesBy task.entry finder.old) (text : List ℕ) → R.remaining reader.old ≡ Some text →
-        ReadsOn task.entry (finds_by task.entry by) progress.old progress.new read.old read.new text (R.remaining reader.new)
+        ReadsAndWrites task.entry (finds_by task.entry by) progress.old progress.new read.old read.new text (R.remaining reader.new)
         (W.contents writer.old) (W.contents writer.new)) }
     ensures end { result ≡ Ok Next.End → IsAtEnd (R.remaining reader.new) }
     ensures over { result ≡ Ok Next.Over → IsOver task.entry progress.new }
@@ -174,7 +174,7 @@ fn tell_blocks<R: Read, W: Write>(
     ensures same { finder.new ≡ finder.old }
     ensures waits { OnOk result (Waits task.entry.what.now progress.new.telling.course) }
     ensures reads { OnOk result ((by : SearchesBy task.entry finder.old) (text : List ℕ) → R.remaining reader.old ≡ Some text →
-        ReadsOn task.entry (finds_by task.entry by) progress.old progress.new read.old read.new text (R.remaining reader.new)
+        ReadsAndWrites task.entry (finds_by task.entry by) progress.old progress.new read.old read.new text (R.remaining reader.new)
         (W.contents writer.old) (W.contents writer.new)) }
     ensures end { IfOk result (λ ended. ended ≡ true → IsAtEnd (R.remaining reader.new)) }
     ensures over { IfOk result (λ ended. ended ≡ false → IsOver task.entry progress.new) }
@@ -299,9 +299,9 @@ fn write_end<W: Write>(
     progress: &Progress,
 ) -> Result<(), Fault>
     requires { Waits task.what.now progress.now.telling.course }
-    ensures written { OnOk result ((f : Finds) → Appends (W.contents writer.old) (W.contents writer.new)
+    ensures written { OnOk result ((f : LineMatcher) → Appends (W.contents writer.old) (W.contents writer.new)
         (tells_lines task.entry f progress.now [])) }
-    ensures fault { IfErr result (λ _. (f : Finds) → (n : ℕ) × Appends (W.contents writer.old) (W.contents writer.new)
+    ensures fault { IfErr result (λ _. (f : LineMatcher) → (n : ℕ) × Appends (W.contents writer.old) (W.contents writer.new)
         (take n (tells_lines task.entry f progress.now []))) }
 {
     let mut out = Vec::new(alloc);
@@ -392,7 +392,7 @@ fn finish<W: Write>(
 
 /// How many selected lines are counted behind the last line.
 fn count_of(print: Print, progress: &Progress) -> u64
-    ensures { (t : TheTask) → (f : Finds) → result ≡ counted_as print (counts_lines t f progress.now []) }
+    ensures { (t : TheTask) → (f : LineMatcher) → result ≡ counted_as print (counts_lines t f progress.now []) }
 {
     counted_as(print, progress.telling.count)
 }

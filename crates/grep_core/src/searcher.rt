@@ -5,7 +5,7 @@ ghost use Rattle.hir_core.specs.Facts.{LoopsRead};
 ghost use Rattle.hirscan.specs.Loops.{first_empty_loop};
 ghost use Rattle.lazy_dfa.specs.ConfigValue.{no_options};
 ghost use Rattle.grep_core.specs.Printing.{span_pair};
-ghost use Rattle.grep_core.specs.Searchers.{IsSearcherOf, IsTold, AreTold, IsRefused, sized_settings};
+ghost use Rattle.grep_core.specs.Searchers.{IsSearcherOf, IsMatchTold, AreTold, IsSearcherRefused, sized_settings};
 
 use crate::listing::{list, spans_of};
 use hir_core::Hir;
@@ -96,7 +96,7 @@ impl Searcher {
     ) -> Result<Searcher, SearcherError>
         ensures searcher { IfOk result (λ s. (it : IsSearcherOf config.now (map (λ t. t.now) texts.now) s.0) ×
             (with_matches ≡ true → All LoopsRead it.trees)) }
-        ensures refused { IfErr result (IsRefused config.now (map (λ t. t.now) texts.now) with_matches) }
+        ensures refused { IfErr result (IsSearcherRefused config.now (map (λ t. t.now) texts.now) with_matches) }
     {
         Searcher::sized(alloc, texts, config, with_matches, None)
     }
@@ -111,7 +111,7 @@ impl Searcher {
     ) -> Result<Searcher, SearcherError>
         ensures searcher { IfOk result (λ s. (it : IsSearcherOf config.now (map (λ t. t.now) texts.now) s.0) ×
             (with_matches ≡ true → All LoopsRead it.trees)) }
-        ensures refused { capacity ≡ None → IfErr result (IsRefused config.now (map (λ t. t.now) texts.now) with_matches) }
+        ensures refused { capacity ≡ None → IfErr result (IsSearcherRefused config.now (map (λ t. t.now) texts.now) with_matches) }
     {
         let trees = match parse_all(alloc, texts, config) {
             Ok(trees) => trees,
@@ -146,7 +146,7 @@ impl Searcher {
     pub fn has_match(&mut self, line: &[u8]) -> Result<bool, MatchError>
         ensures same { self.new.0 ≡ self.old.0 }
         ensures told { (config : TextConfig) (texts : List (List ℕ)) → IsSearcherOf config texts self.old.0 →
-            IfOk result (λ told. IsTold config texts line.now told) }
+            IfOk result (λ told. IsMatchTold config texts line.now told) }
     {
         see_bytes(line);
         regexes_answer_what_is_written();

@@ -4,8 +4,8 @@ ghost use Rattle.std.specs.Prelude.{option_map, if◌then◌else◌};
 ghost use Rattle.grep_core.specs.Courses.{Item, Waits, item};
 ghost use Rattle.grep_core.specs.Lines.{TextLine};
 ghost use Rattle.grep_core.specs.Printing.{span_pair, text_line};
-ghost use Rattle.grep_core.specs.Report.{Finds, told_spans, report_as, selected, count_line, name_line, counted_as};
-ghost use Rattle.grep_core.specs.Selecting.{count};
+ghost use Rattle.grep_core.specs.Report.{LineMatcher, told_spans, report_as, selected, count_line, name_line, counted_as};
+ghost use Rattle.grep_core.specs.Selecting.{count_selected};
 ghost use Rattle.grep_core.specs.Telling.{shown, prints_lines, tells_as, may_select, still_told, count_in_all};
 ghost use Rattle.grep_core.specs.declared.what.What.{What as TheWhat};
 
@@ -109,10 +109,10 @@ fn count_more(count: u64, is_selected: bool) -> Result<u64, Fault>
 impl Telling {
     /// Before the first line, where this is known of the lines of earlier texts.
     pub(crate) fn new(alloc: Global, known: Known) -> Telling
-        ensures starts { (w : TheWhat) → (f : Finds) → (name : List ℕ) → (with_name : Bool) → (lines : List TextLine) →
+        ensures starts { (w : TheWhat) → (f : LineMatcher) → (name : List ℕ) → (with_name : Bool) → (lines : List TextLine) →
             still_told w f name with_name result lines ≡ report_as w.print w f name with_name known lines (selected w f lines) }
-        ensures counts { (w : TheWhat) → (f : Finds) → (lines : List TextLine) →
-            count_in_all w f result lines ≡ count (selected w f lines) }
+        ensures counts { (w : TheWhat) → (f : LineMatcher) → (lines : List TextLine) →
+            count_in_all w f result lines ≡ count_selected (selected w f lines) }
         ensures waits { (w : TheWhat) → Waits w result.course }
     {
         Telling {
@@ -135,11 +135,11 @@ pub(crate) fn tell_line(
     found: &[Span],
 ) -> Result<(), Fault>
     requires { Waits what.now telling.old.course }
-    ensures goes_on { OnOk result ((f : Finds) → has ≡ f.has_match line.entry.bytes.now →
+    ensures goes_on { OnOk result ((f : LineMatcher) → has ≡ f.has_match line.entry.bytes.now →
         map span_pair found.now ≡ told_spans f (text_line line.entry) → (lines : List TextLine) →
         out.old.items ++ still_told what.now f name.now with_name telling.old (text_line line.entry ∷ lines)
         ≡ out.new.items ++ still_told what.now f name.now with_name telling.new lines) }
-    ensures counts { OnOk result ((f : Finds) → has ≡ f.has_match line.entry.bytes.now → (lines : List TextLine) →
+    ensures counts { OnOk result ((f : LineMatcher) → has ≡ f.has_match line.entry.bytes.now → (lines : List TextLine) →
         count_in_all what.now f telling.new lines ≡ count_in_all what.now f telling.old (text_line line.entry ∷ lines)) }
     ensures waits { OnOk result (Waits what.now telling.new.course) }
 {
@@ -204,7 +204,7 @@ pub(crate) fn tell_end(
     telling: &Telling,
 ) -> Result<(), AllocError>
     requires { Waits what.now telling.now.course }
-    ensures { OnOk result ((f : Finds) → out.new.items ≡ out.old.items ++ still_told what.now f name.now with_name telling.now []) }
+    ensures { OnOk result ((f : LineMatcher) → out.new.items ≡ out.old.items ++ still_told what.now f name.now with_name telling.now []) }
 {
     match what.print {
         Print::Lines | Print::Matches => {
@@ -236,9 +236,9 @@ pub(crate) fn counted_as(print: Print, count: u64) -> u64
 
 /// Whether nothing of the next lines is told, whatever they are.
 pub(crate) fn is_over(what: &What, telling: &Telling) -> bool
-    ensures told { IsTrue result → (f : Finds) (name : List ℕ) (with_name : Bool) (lines : List TextLine) →
+    ensures told { IsTrue result → (f : LineMatcher) (name : List ℕ) (with_name : Bool) (lines : List TextLine) →
         still_told what.now f name with_name telling.now lines ≡ still_told what.now f name with_name telling.now [] }
-    ensures counted { IsTrue result → (f : Finds) (lines : List TextLine) →
+    ensures counted { IsTrue result → (f : LineMatcher) (lines : List TextLine) →
         counted_as what.now.print (count_in_all what.now f telling.now lines)
         ≡ counted_as what.now.print (count_in_all what.now f telling.now []) }
 {

@@ -1,6 +1,6 @@
 -- What the calls answer, in terms of the texts and options of which a handle's regex is made.
 use Rattle.std.specs.Prelude.{◌≡◌, ◌<◌, ℕ, List, true, false, Option, Some, None, length}
-use Rattle.capi.specs.Compiled.{Regexed, config_by, IsTold, IsFound, IsPreferred, AreAll, AreMarked}
+use Rattle.capi.specs.Compiled.{Regexed, config_by, IsTold, HasFoundStart, HasFoundSpan, AreAll, AreMarked}
 use Rattle.capi.specs.declared.failure.FoundMatch.{FoundMatch}
 
 -- a status of 0 says that there is a match, and one of 1 that there is none
@@ -10,9 +10,9 @@ pub record AnswersIsMatch (v : Regexed) (h : List ℕ) (status : ℕ) : Type 0 w
 
 -- the leftmost match from a place on, of the first pattern that matches there; where repetitions read, the preferred one
 pub record AnswersFind (v : Regexed) (h : List ℕ) (from : ℕ) (found : FoundMatch) (status : ℕ) : Type 0 where
-  pub some : status ≡ 0 → IsFound (config_by v) v.texts h from (Some found)
-  pub preferred : status ≡ 0 → v.loops ≡ true → IsPreferred (config_by v) v.texts h from (Some found)
-  pub none : status ≡ 1 → IsFound (config_by v) v.texts h from None
+  pub some : status ≡ 0 → HasFoundStart (config_by v) v.texts h from (Some found)
+  pub preferred : status ≡ 0 → v.loops ≡ true → HasFoundSpan (config_by v) v.texts h from (Some found)
+  pub none : status ≡ 1 → HasFoundStart (config_by v) v.texts h from None
 
 -- where repetitions read, so many matches, of which the first lie in the rows
 pub record AnswersAll (v : Regexed) (h : List ℕ) (n : ℕ) (old new : List FoundMatch) (status : ℕ) : Type 0 where
@@ -21,7 +21,7 @@ pub record AnswersAll (v : Regexed) (h : List ℕ) (n : ℕ) (old new : List Fou
   pub none : status ≡ 1 → v.loops ≡ true → AreAll (config_by v) v.texts h 0 old new
 
 -- so many patterns that match, which are marked
-pub record AnswersWhich (v : Regexed) (h : List ℕ) (n : ℕ) (marks : List ℕ) (status : ℕ) : Type 0 where
+pub record AnswersWhichMatch (v : Regexed) (h : List ℕ) (n : ℕ) (marks : List ℕ) (status : ℕ) : Type 0 where
   pub some : status ≡ 0 → AreMarked (config_by v) v.texts h n marks
   pub any : status ≡ 0 → 0 < n
   pub none : status ≡ 1 → AreMarked (config_by v) v.texts h 0 marks

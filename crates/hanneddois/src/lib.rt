@@ -12,7 +12,7 @@ ghost use Rattle.std.specs.Prelude.{◌≡◌, ◌≢◌, ◌<◌, Some, None, I
 ghost use Rattle.capi.specs.Compiled.{IsMadeOf};
 ghost use Rattle.capi.specs.Failures.{plain};
 ghost use Rattle.capi.specs.Texts.{cut};
-ghost use Rattle.hanneddois.specs.Answers.{AnswersIsMatch, AnswersFind, AnswersAll, AnswersWhich, pattern_count_of};
+ghost use Rattle.hanneddois.specs.Answers.{AnswersIsMatch, AnswersFind, AnswersAll, AnswersWhichMatch, pattern_count_of};
 
 use capi::{Compiled, Failure, FoundMatch, NewError, Options, error_text, texts_of};
 use handle::Handle;
@@ -251,7 +251,7 @@ pub extern "C" fn hanneddois_which(
     ensures same { regex.new.value ≡ regex.old.value }
     ensures empty { regex.old.value ≡ None → result ≡ 2 }
     ensures refused { 1 < result → matched.new ≡ replicate (length matched.old) 0 }
-    ensures answer { IfSome regex.old.value (λ v. AnswersWhich v haystack.now count.new matched.new result) }
+    ensures answer { IfSome regex.old.value (λ v. AnswersWhichMatch v haystack.now count.new matched.new result) }
 {
     *count = 0;
     let Some(mut inside) = regex.take(alloc) else {

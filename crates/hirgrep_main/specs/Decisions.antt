@@ -43,10 +43,10 @@ abbrev pub selects_none : What → Bool
 selects_none what = is_most 0 what.most && not (prints_names_if_none what.print)
 
 -- whether names stand before lines, where several files may be searched or only one
-abbrev pub is_named : Names → Bool → Bool
-is_named Always several = true
-is_named Never several = false
-is_named IfSeveral several = several
+abbrev pub shows_names : Names → Bool → Bool
+shows_names Always several = true
+shows_names Never several = false
+shows_names IfSeveral several = several
 
 -- ---- what came
 

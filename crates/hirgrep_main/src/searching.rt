@@ -1,7 +1,7 @@
 //! Searching files, one after the other.
 ghost use Rattle.std.specs.Prelude.{◌≡◌};
 ghost use Rattle.grep_core.specs.Telling.{prints_lines};
-ghost use Rattle.hirgrep_main.specs.Decisions.{is_most, is_named, may_run_on, prints_names_if_none, selects_none};
+ghost use Rattle.hirgrep_main.specs.Decisions.{is_most, shows_names, may_run_on, prints_names_if_none, selects_none};
 
 use crate::asked::{Asked, Names};
 use crate::counting::Counting;
@@ -240,7 +240,7 @@ fn search_named(
 
 /// Whether names stand before lines, where several files may be searched or only one.
 fn is_named(asked: &Asked, may_be_several: bool) -> bool
-    ensures { result ≡ is_named asked.now.names may_be_several }
+    ensures { result ≡ shows_names asked.now.names may_be_several }
 {
     match asked.names {
         Names::Always => true,

@@ -9,7 +9,7 @@ use Rattle.search_core.specs.Characters.{spelling_len}
 use Rattle.hir_core.specs.Tree.{byte_class}
 use Rattle.hir_core.specs.Means.{is_member}
 use Rattle.hir_core.specs.Facts.{minimum_len, least_of_either, least_spelling, is_utf8_tree}
-use Rattle.hirscan.specs.Words.{with_member, ranges_from, class_ranges, with_range, scalar_ranges}
+use Rattle.hirscan.specs.Words.{with_member, member_ranges, class_ranges, with_range, scalar_ranges}
 use Rattle.hirhead.specs.HasLines.{IsByteRange}
 
 -- ---- classes of bytes
@@ -30,9 +30,9 @@ low_with_member true b (r ∷ ranges) small h =
           (and_from (nat_lt r.1 0x80) (list_all IsLow ranges) p.0 p.1))
     ]
 
-low_from : (member : ℕ → Bool) → ((c : ℕ) → member c ≡ true → c < 0x80) → (n b : ℕ) → list_all IsLow (ranges_from member n b) ≡ true
+low_from : (member : ℕ → Bool) → ((c : ℕ) → member c ≡ true → c < 0x80) → (n b : ℕ) → list_all IsLow (member_ranges member n b) ≡ true
 low_from member small zero b = refl
-low_from member small (suc n) b = low_with_member (member b) b (ranges_from member n (b + 1)) (small b) (low_from member small n (b + 1))
+low_from member small (suc n) b = low_with_member (member b) b (member_ranges member n (b + 1)) (small b) (low_from member small n (b + 1))
 
 low_member : (ranges : List (ℕ × ℕ)) (c : ℕ) → list_all IsLow ranges ≡ true → is_member ranges c ≡ true → c < 0x80
 low_member [] c h m = absurd cc

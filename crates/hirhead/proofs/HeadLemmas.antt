@@ -7,7 +7,7 @@ use Rattle.hirscan.specs.Words.{IsHex}
 use Rattle.hirscan.specs.Readers.{IsReader, hex_bytes}
 use Rattle.hirscan.specs.Reads.{Reads}
 use Rattle.hirscan.specs.Takes.{HeadValue, at_first, utf8_line, pattern_line}
-use Rattle.hirhead.specs.Told.{told}
+use Rattle.hirhead.specs.Told.{printed_tree}
 use Rattle.hirhead.specs.Lines.{Line, lines_of, pattern_lines, setting_lines, line_text, lines_text, head_text}
 use Rattle.hirhead.specs.HasLines.{AllFit}
 use Rattle.hirhead.specs.Heads.{read_of}
@@ -30,17 +30,17 @@ setting_taken false = (
 )
 
 module _ (reads : IsReader hex_bytes IsHex) (s : HeadValue) where
-  patterns_taken : (xs done : List Tree) → AllFit 250 xs → AreTaken (pattern_lines xs) (state s done []) (state s (done ++ map told xs) [])
+  patterns_taken : (xs done : List Tree) → AllFit 250 xs → AreTaken (pattern_lines xs) (state s done []) (state s (done ++ map printed_tree xs) [])
   patterns_taken [] done h = ap (λ (d : List Tree). state s d []) (sym (append-nil done))
   patterns_taken (x ∷ xs) done h =
-      taken_append (lines_of x) ((codes "pattern" ∷ []) ∷ pattern_lines xs) (state s done []) (state s done (told x ∷ []))
-      (state s (done ++ map told (x ∷ xs)) []) (tree_taken reads s done x [] h.0) (
-        state s (done ++ told x ∷ []) [],
+      taken_append (lines_of x) ((codes "pattern" ∷ []) ∷ pattern_lines xs) (state s done []) (state s done (printed_tree x ∷ []))
+      (state s (done ++ map printed_tree (x ∷ xs)) []) (tree_taken reads s done x [] h.0) (
+        state s (done ++ printed_tree x ∷ []) [],
         refl,
         refl,
-        pattern_line refl (record { tree = told x; stack_was = refl; setup_stays = refl; stack_is = refl; patterns_are = refl }),
-        subst (λ (d : List Tree). AreTaken (pattern_lines xs) (state s (done ++ told x ∷ []) []) (state s d []))
-            (append_assoc done (told x ∷ []) (map told xs)) (patterns_taken xs (done ++ told x ∷ []) h.1),
+        pattern_line refl (record { tree = printed_tree x; stack_was = refl; setup_stays = refl; stack_is = refl; patterns_are = refl }),
+        subst (λ (d : List Tree). AreTaken (pattern_lines xs) (state s (done ++ printed_tree x ∷ []) []) (state s d []))
+            (append_assoc done (printed_tree x ∷ []) (map printed_tree xs)) (patterns_taken xs (done ++ printed_tree x ∷ []) h.1),
       )
 
 -- the lines before `find`, and this one

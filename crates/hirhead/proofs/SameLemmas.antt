@@ -15,10 +15,10 @@ use Rattle.hir_core.specs.PreferredEnds.{Ends, repeated, class_end, character_en
 use Rattle.hir_core.specs.Facts.{minimum_len, times, sum_of_both, least_of_either, is_utf8_tree, IsAboveZero, LoopsRead}
 use Rattle.hir_core.proofs.ForCallers.{preferred_ends_sound, preferred_ends_complete}
 use Rattle.hirscan.specs.Words.{class_ranges, scalar_ranges}
-use Rattle.pattern_text.specs.SameEnds.{looks_of, end_of, first_of, SameEnds, SameSpans, HasNames}
+use Rattle.pattern_text.specs.SameEnds.{pattern_looks, trace_end, first_that_goes_on, SameEnds, SameSpans, HasNames}
 use Rattle.pattern_text.specs.Patterns.{MeansText}
 use Rattle.pattern_search.specs.Texts.{AllMean}
-use Rattle.hirhead.specs.Told.{told}
+use Rattle.hirhead.specs.Told.{printed_tree}
 use Rattle.hirhead.specs.HasLines.{HasLines, AllFit}
 use Rattle.hirhead.specs.Heads.{MatchesText, AllMatch}
 use Rattle.hirhead.proofs.ClassLemmas.{class_utf8, class_len, scalar_len}
@@ -57,7 +57,7 @@ empty_end looks h i = ap (λ (n : ℕ). n ∷ []) (sym (add-zero i))
 
 -- ---- what is seen to be UTF-8 stays so
 
-pub told_utf8 : (x : Tree) → is_utf8_tree x ≡ true → is_utf8_tree (told x) ≡ true
+pub told_utf8 : (x : Tree) → is_utf8_tree x ≡ true → is_utf8_tree (printed_tree x) ≡ true
 told_utf8 empty h = refl
 told_utf8 (literal []) h = refl
 told_utf8 (literal (b ∷ bytes)) h = h
@@ -71,17 +71,17 @@ told_utf8 (capture index name x) h = told_utf8 x h
 told_utf8 nothing h = refl
 told_utf8 (cat x y) h =
     let p = and_parts (is_utf8_tree x) (is_utf8_tree y) h in
-    and_from (is_utf8_tree (told x)) (is_utf8_tree (told y)) (told_utf8 x p.0) (told_utf8 y p.1)
+    and_from (is_utf8_tree (printed_tree x)) (is_utf8_tree (printed_tree y)) (told_utf8 x p.0) (told_utf8 y p.1)
 told_utf8 never h = refl
 told_utf8 (alt x y) h =
     let p = and_parts (is_utf8_tree x) (is_utf8_tree y) h in
-    and_from (is_utf8_tree (told x)) (is_utf8_tree (told y)) (told_utf8 x p.0) (told_utf8 y p.1)
+    and_from (is_utf8_tree (printed_tree x)) (is_utf8_tree (printed_tree y)) (told_utf8 x p.0) (told_utf8 y p.1)
 
 module _ (byte_members : (items : List (ℕ × ℕ)) (b : ℕ) → b < 256 → is_member (class_ranges items) b ≡ is_member items b)
     (scalar_members : (items : List (ℕ × ℕ)) (c : ℕ) → is_member (scalar_ranges items) c ≡ is_member items c) where
   -- ---- lengths and loops
 
-  told_len : (x : Tree) (n : ℕ) → HasLines n x → minimum_len (told x) ≡ minimum_len x
+  told_len : (x : Tree) (n : ℕ) → HasLines n x → minimum_len (printed_tree x) ≡ minimum_len x
   told_len empty n h = refl
   told_len (literal []) n h = refl
   told_len (literal (b ∷ bytes)) n h = refl
@@ -97,7 +97,7 @@ module _ (byte_members : (items : List (ℕ × ℕ)) (b : ℕ) → b < 256 → i
   told_len never n h = refl
   told_len (alt x y) n h = ap₂ least_of_either (told_len x 0 h.0) (told_len y (suc n) h.2)
 
-  pub loops_told : (x : Tree) (n : ℕ) → HasLines n x → LoopsRead x → LoopsRead (told x)
+  pub loops_told : (x : Tree) (n : ℕ) → HasLines n x → LoopsRead x → LoopsRead (printed_tree x)
   loops_told empty n h l = tt
   loops_told (literal []) n h l = tt
   loops_told (literal (b ∷ bytes)) n h l = tt
@@ -114,7 +114,7 @@ module _ (byte_members : (items : List (ℕ × ℕ)) (b : ℕ) → b < 256 → i
   loops_told never n h l = tt
   loops_told (alt x y) n h l = (loops_told x 0 h.0 l.0, loops_told y (suc n) h.2 l.1)
 
-  pub loops_were : (x : Tree) (n : ℕ) → HasLines n x → LoopsRead (told x) → LoopsRead x
+  pub loops_were : (x : Tree) (n : ℕ) → HasLines n x → LoopsRead (printed_tree x) → LoopsRead x
   loops_were empty n h l = tt
   loops_were (literal bytes) n h l = tt
   loops_were (byte_class ranges) n h l = tt
@@ -130,7 +130,7 @@ module _ (byte_members : (items : List (ℕ × ℕ)) (b : ℕ) → b < 256 → i
 
   -- ---- ends and spans
 
-  told_ends : (looks : Looks) (h : List ℕ) → All IsByte h → (x : Tree) → preferred_ends looks h (told x) ≡ preferred_ends looks h x
+  told_ends : (looks : Looks) (h : List ℕ) → All IsByte h → (x : Tree) → preferred_ends looks h (printed_tree x) ≡ preferred_ends looks h x
   told_ends looks h bytes empty = refl
   told_ends looks h bytes (literal []) =
       same_function (preferred_ends looks h empty) (preferred_ends looks h (literal [])) (empty_end looks h)
@@ -158,11 +158,11 @@ module _ (byte_members : (items : List (ℕ × ℕ)) (b : ℕ) → b < 256 → i
       let either : Ends → Ends → Ends = λ f g i. f i ++ g i in
       ap₂ either (told_ends looks h bytes x) (told_ends looks h bytes y)
 
-  pub ends_stay : (re : Re) (x : Tree) → HasLines 0 x → SameEnds re x → SameEnds re (told x)
+  pub ends_stay : (re : Re) (x : Tree) → HasLines 0 x → SameEnds re x → SameEnds re (printed_tree x)
   ends_stay re x has same = record {
     at = λ h bytes loops k i within.
         same.at h bytes (loops_were x 0 has loops) k i within
-        ∙ ap (λ (f : Ends). first_of (λ j. end_of (k j)) (f i)) (sym (told_ends (looks_of h) h bytes x));
+        ∙ ap (λ (f : Ends). first_that_goes_on (λ j. trace_end (k j)) (f i)) (sym (told_ends (pattern_looks h) h bytes x));
   }
 
   meant : (looks : Looks) (h : List ℕ) (x y : Tree) → preferred_ends looks h x ≡ preferred_ends looks h y → (i j : ℕ) →
@@ -170,13 +170,13 @@ module _ (byte_members : (items : List (ℕ × ℕ)) (b : ℕ) → b < 256 → i
   meant looks h x y e i j m =
       preferred_ends_sound looks h y i j (subst (λ (f : Ends). Has (f i) j) e (preferred_ends_complete looks h x i j m))
 
-  pub spans_stay : (re : Re) (x : Tree) → SameSpans re x → SameSpans re (told x)
+  pub spans_stay : (re : Re) (x : Tree) → SameSpans re x → SameSpans re (printed_tree x)
   spans_stay re x same = record {
     at = λ h bytes i j within.
-        let e = told_ends (looks_of h) h bytes x in
+        let e = told_ends (pattern_looks h) h bytes x in
         let s = same.at h bytes i j within in (
-          λ m. meant (looks_of h) h x (told x) (sym e) i j (s.0 m),
-          λ m. s.1 (meant (looks_of h) h (told x) x e i j m),
+          λ m. meant (pattern_looks h) h x (printed_tree x) (sym e) i j (s.0 m),
+          λ m. s.1 (meant (pattern_looks h) h (printed_tree x) x e i j m),
         );
   }
 
@@ -184,23 +184,23 @@ module _ (byte_members : (items : List (ℕ × ℕ)) (b : ℕ) → b < 256 → i
 
   matched : (config : Config) (x : Tree) (r : Option (Nested Re × Names)) → HasLines 0 x →
       IsSomeAnd r (λ (re, names). (re.depth ≤ config.nest_limit) × SameEnds re.value x × SameSpans re.value x × HasNames names x) →
-      IsSomeAnd r (λ (re, names). (re.depth ≤ config.nest_limit) × SameEnds re.value (told x) × SameSpans re.value (told x))
+      IsSomeAnd r (λ (re, names). (re.depth ≤ config.nest_limit) × SameEnds re.value (printed_tree x) × SameSpans re.value (printed_tree x))
   matched config x None has m = absurd m
   matched config x (Some (re, names)) has m = (m.0, ends_stay re.value x has m.1, spans_stay re.value x m.2)
 
-  text_matched : (config : Config) (text : List ℕ) (x : Tree) → HasLines 0 x → MeansText config text x → MatchesText config text (told x)
+  text_matched : (config : Config) (text : List ℕ) (x : Tree) → HasLines 0 x → MeansText config text x → MatchesText config text (printed_tree x)
   unfolding MeansText MatchesText
   text_matched config text x has m = matched config x (read config (chars text)) has m
 
   pub all_matched : (config : Config) (texts : List (List ℕ)) (xs : List Tree) → AllMean config texts xs → AllFit 250 xs →
-      AllMatch config texts (map told xs)
+      AllMatch config texts (map printed_tree xs)
   all_matched config [] [] m fits = tt
   all_matched config [] (x ∷ xs) m fits = absurd m
   all_matched config (t ∷ ts) [] m fits = absurd m
   all_matched config (t ∷ ts) (x ∷ xs) m fits = (text_matched config t x fits.0.0 m.0, all_matched config ts xs m.1 fits.1)
 
-pub all_utf8 : (xs : List Tree) → All (λ x. IsTrue (is_utf8_tree x)) xs → All (λ x. IsTrue (is_utf8_tree x)) (map told xs)
+pub all_utf8 : (xs : List Tree) → All (λ x. IsTrue (is_utf8_tree x)) xs → All (λ x. IsTrue (is_utf8_tree x)) (map printed_tree xs)
 all_utf8 [] h = All-nil (λ x. IsTrue (is_utf8_tree x))
 all_utf8 (x ∷ xs) h =
-    All-cons (λ x. IsTrue (is_utf8_tree x)) (told x) (map told xs) (told_utf8 x (All-head (λ x. IsTrue (is_utf8_tree x)) x xs h))
+    All-cons (λ x. IsTrue (is_utf8_tree x)) (printed_tree x) (map printed_tree xs) (told_utf8 x (All-head (λ x. IsTrue (is_utf8_tree x)) x xs h))
     (all_utf8 xs (All-tail (λ x. IsTrue (is_utf8_tree x)) x xs h))

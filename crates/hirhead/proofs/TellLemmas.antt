@@ -14,7 +14,7 @@ use Rattle.hir_core.specs.Tree.{alternation}
 use Rattle.hir_core.specs.Facts.{height, is_ascending, rises_from}
 use Rattle.hirhead.specs.declared.lines.Unfit.{Unfit}
 use Rattle.hirhead.specs.declared.lines.Unfit.TheVariants.{NoMemory, TooDeep, TooManyParts}
-use Rattle.hirhead.specs.Told.{told}
+use Rattle.hirhead.specs.Told.{printed_tree}
 use Rattle.hirhead.specs.Lines.{Line, byte_item, scalar_item, lines_behind, lines_of, behind_word, line_text}
 use Rattle.hirhead.specs.Lines.{lines_text}
 use Rattle.hirhead.specs.HasLines.{AreScalars, IsByteRange, IsScalarRange, is_cat, is_alt, HasLines, FitsIn, AllFit, most_parts}
@@ -199,13 +199,13 @@ alternation_has : (levels k : ℕ) (xs : List Tree) → AllFit levels xs → k +
 alternation_has levels k [] h few = omega (arith, few)
 alternation_has levels k (x ∷ xs) h few = (h.0.0, alt_follows xs, alternation_has levels (suc k) xs h.1 (omega (arith, few)))
 
-concat_low : (levels : ℕ) (xs : List Tree) → AllFit levels xs → height (told (concat xs)) ≤ suc levels
+concat_low : (levels : ℕ) (xs : List Tree) → AllFit levels xs → height (printed_tree (concat xs)) ≤ suc levels
 concat_low levels [] h = omega arith
 concat_low levels (x ∷ xs) h =
     let here = h.0.1 in
     let rest = concat_low levels xs h.1 in omega arith
 
-alternation_low : (levels : ℕ) (xs : List Tree) → AllFit levels xs → height (told (alternation xs)) ≤ suc levels
+alternation_low : (levels : ℕ) (xs : List Tree) → AllFit levels xs → height (printed_tree (alternation xs)) ≤ suc levels
 alternation_low levels [] h = omega arith
 alternation_low levels (x ∷ xs) h =
     let here = h.0.1 in
@@ -241,18 +241,18 @@ height_some never = omega arith
 height_some (alt x y) = let h = height_some y in omega arith
 
 pub no_level : (levels : ℕ) (x : Tree) → levels ≡ 0 → IsUnfit levels x TooDeep
-no_level levels x e = let h = height_some (told x) in omega (arith, e, h)
+no_level levels x e = let h = height_some (printed_tree x) in omega (arith, e, h)
 
 concat_high : (xs : List Tree) (n : ℕ) (x : Tree) → slice_get xs n ≡ Some x →
-    min (height (told x) + 1) (2 ^ 64 - 1) ≤ height (told (concat xs))
+    min (height (printed_tree x) + 1) (2 ^ 64 - 1) ≤ height (printed_tree (concat xs))
 concat_high [] n x e = absurd cc
-concat_high (y ∷ xs) zero x e = let same : y ≡ x = cc in let h = ap (λ (t : Tree). height (told t)) same in omega arith
+concat_high (y ∷ xs) zero x e = let same : y ≡ x = cc in let h = ap (λ (t : Tree). height (printed_tree t)) same in omega arith
 concat_high (y ∷ xs) (suc n) x e = let h = concat_high xs n x e in omega arith
 
 alternation_high : (xs : List Tree) (n : ℕ) (x : Tree) → slice_get xs n ≡ Some x →
-    min (height (told x) + 1) (2 ^ 64 - 1) ≤ height (told (alternation xs))
+    min (height (printed_tree x) + 1) (2 ^ 64 - 1) ≤ height (printed_tree (alternation xs))
 alternation_high [] n x e = absurd cc
-alternation_high (y ∷ xs) zero x e = let same : y ≡ x = cc in let h = ap (λ (t : Tree). height (told t)) same in omega arith
+alternation_high (y ∷ xs) zero x e = let same : y ≡ x = cc in let h = ap (λ (t : Tree). height (printed_tree t)) same in omega arith
 alternation_high (y ∷ xs) (suc n) x e = let h = alternation_high xs n x e in omega arith
 
 concat_wide : (xs : List Tree) (k n : ℕ) (x : Tree) → slice_get xs n ≡ Some x → most_parts 0 x ≤ most_parts k (concat xs)
@@ -293,7 +293,7 @@ part_in_concat xs x levels n TooDeep is some few h =
     let above : 1 ≤ levels = omega arith in
     let part = h.is in
     let high = concat_high xs n h.tree h.listed in
-    subst (λ (y : Tree). levels < height (told y)) is (omega (arith, above, few, part, high))
+    subst (λ (y : Tree). levels < height (printed_tree y)) is (omega (arith, above, few, part, high))
 part_in_concat xs x levels n TooManyParts is some few h =
     let part = h.is in
     let wide = concat_wide xs 0 n h.tree h.listed in
@@ -306,7 +306,7 @@ part_in_alternation xs x levels n TooDeep is some few h =
     let above : 1 ≤ levels = omega arith in
     let part = h.is in
     let high = alternation_high xs n h.tree h.listed in
-    subst (λ (y : Tree). levels < height (told y)) is (omega (arith, above, few, part, high))
+    subst (λ (y : Tree). levels < height (printed_tree y)) is (omega (arith, above, few, part, high))
 part_in_alternation xs x levels n TooManyParts is some few h =
     let part = h.is in
     let wide = alternation_wide xs 0 n h.tree h.listed in

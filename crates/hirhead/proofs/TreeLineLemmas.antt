@@ -10,7 +10,7 @@ use Rattle.hirscan.specs.Words.{IsHex, look_name, class_ranges, scalar_ranges}
 use Rattle.hirscan.specs.Readers.{IsReader, hex_bytes}
 use Rattle.hirscan.specs.Takes.{HeadValue, Replaces, Takes, empty_line, lit_line, bytes_line, chars_line, look_line, rep_line, cat_line}
 use Rattle.hirscan.specs.Takes.{alt_line}
-use Rattle.hirhead.specs.Told.{told}
+use Rattle.hirhead.specs.Told.{printed_tree}
 use Rattle.hirhead.specs.Lines.{Line, bound_word, order_word, byte_item, scalar_item, rounds_line, lines_behind, lines_of}
 use Rattle.hirhead.specs.HasLines.{is_cat, is_alt, HasLines, FitsIn}
 use Rattle.hirhead.proofs.PlainLemmas.{plain}
@@ -124,10 +124,10 @@ module _ (reads : IsReader hex_bytes IsHex) (s : HeadValue) (done : List Tree) w
 
   -- the lines of a whole tree
   alone : (x : Tree) (from : HeadValue) (below : List Tree)
-      → (height (join x [] (told x)) ≤ 250 → AreTaken (lines_behind 0 x) from (at_stack (below ++ join x [] (told x) ∷ [])))
-      → height (told x) ≤ 250 → AreTaken (lines_behind 0 x) from (at_stack (below ++ told x ∷ []))
+      → (height (join x [] (printed_tree x)) ≤ 250 → AreTaken (lines_behind 0 x) from (at_stack (below ++ join x [] (printed_tree x) ∷ [])))
+      → height (printed_tree x) ≤ 250 → AreTaken (lines_behind 0 x) from (at_stack (below ++ printed_tree x ∷ []))
   alone x from below go low =
-      let e = join_none x (told x) in
+      let e = join_none x (printed_tree x) in
       subst (λ (t : Tree). AreTaken (lines_behind 0 x) from (at_stack (below ++ t ∷ []))) e
       (go (subst (λ (t : Tree). height t ≤ 250) (sym e) low))
 
@@ -161,19 +161,19 @@ module _ (reads : IsReader hex_bytes IsHex) (s : HeadValue) (done : List Tree) w
       }))
 
   rounds : (min : ℕ) (most : Option ℕ) (greedy : Bool) (x : Tree) (below : List Tree) → HasLines 0 (repetition min most greedy x)
-      → height (repetition min most greedy (told x)) ≤ 250
-      → AreTaken (rounds_line min most greedy ∷ []) (at_stack (below ++ told x ∷ []))
-      (at_stack (below ++ repetition min most greedy (told x) ∷ []))
+      → height (repetition min most greedy (printed_tree x)) ≤ 250
+      → AreTaken (rounds_line min most greedy ∷ []) (at_stack (below ++ printed_tree x ∷ []))
+      (at_stack (below ++ repetition min most greedy (printed_tree x) ∷ []))
   rounds min most greedy x below h low =
-      taken_line (codes "rep") (decimal min ∷ bound_word most ∷ order_word greedy ∷ []) (at_stack (below ++ told x ∷ []))
-      (at_stack (below ++ repetition min most greedy (told x) ∷ [])) refl
+      taken_line (codes "rep") (decimal min ∷ bound_word most ∷ order_word greedy ∷ []) (at_stack (below ++ printed_tree x ∷ []))
+      (at_stack (below ++ repetition min most greedy (printed_tree x) ∷ [])) refl
       (rw (decimal_plain min h.1, bound_plain most h.2, order_plain greedy) refl)
-      (rep_line (decimal min) (bound_word most) (order_word greedy) min most greedy (told x) refl (h.1, refl) (bound_is most h.2)
+      (rep_line (decimal min) (bound_word most) (order_word greedy) min most greedy (printed_tree x) refl (h.1, refl) (bound_is most h.2)
       (order_is greedy) h.3
       (record { below = below; stack_was = refl; stack_is = refl; patterns_stay = refl; setup_stays = refl; not_too_deep = low }))
 
-  taken_behind : (x : Tree) (n : ℕ) (parts below : List Tree) → length parts ≡ n → HasLines n x → height (join x parts (told x)) ≤ 250
-      → AreTaken (lines_behind n x) (at_stack (below ++ parts)) (at_stack (below ++ join x parts (told x) ∷ []))
+  taken_behind : (x : Tree) (n : ℕ) (parts below : List Tree) → length parts ≡ n → HasLines n x → height (join x parts (printed_tree x)) ≤ 250
+      → AreTaken (lines_behind n x) (at_stack (below ++ parts)) (at_stack (below ++ join x parts (printed_tree x) ∷ []))
   taken_behind empty n parts below len h low =
       leaf (codes "empty") [] n parts below empty len h refl refl low (λ b a r. empty_line refl r)
   taken_behind (literal []) n parts below len h low =
@@ -199,44 +199,44 @@ module _ (reads : IsReader hex_bytes IsHex) (s : HeadValue) (done : List Tree) w
       (λ b a r. look_line (look_name l) l refl refl r)
   taken_behind (repetition min most greedy x) n parts below len h low =
       no_parts (λ ps. AreTaken (lines_behind n (repetition min most greedy x)) (at_stack (below ++ ps))
-      (at_stack (below ++ repetition min most greedy (told x) ∷ []))) parts n len h.0
-      (taken_append (lines_behind 0 x) (rounds_line min most greedy ∷ []) (at_stack (below ++ [])) (at_stack (below ++ told x ∷ []))
-      (at_stack (below ++ repetition min most greedy (told x) ∷ []))
-      (alone x (at_stack (below ++ [])) below (taken_behind x 0 [] below refl h.4) (body_low (height (told x)) low))
+      (at_stack (below ++ repetition min most greedy (printed_tree x) ∷ []))) parts n len h.0
+      (taken_append (lines_behind 0 x) (rounds_line min most greedy ∷ []) (at_stack (below ++ [])) (at_stack (below ++ printed_tree x ∷ []))
+      (at_stack (below ++ repetition min most greedy (printed_tree x) ∷ []))
+      (alone x (at_stack (below ++ [])) below (taken_behind x 0 [] below refl h.4) (body_low (height (printed_tree x)) low))
       (rounds min most greedy x below (refl, h.1, h.2, h.3, h.4) low))
   taken_behind (capture index name x) n parts below len h low =
-      no_parts (λ ps. AreTaken (lines_behind 0 x) (at_stack (below ++ ps)) (at_stack (below ++ told x ∷ []))) parts n len h.0
+      no_parts (λ ps. AreTaken (lines_behind 0 x) (at_stack (below ++ ps)) (at_stack (below ++ printed_tree x ∷ []))) parts n len h.0
       (alone x (at_stack (below ++ [])) below (taken_behind x 0 [] below refl h.1) low)
   taken_behind nothing n parts below len h low =
       joins (codes "cat") n parts below (joined cat parts nothing) (concat parts) (joined_concat parts) refl h low
       (λ b a r. cat_line (decimal n) n parts refl (h, refl) len r)
   taken_behind (cat x y) n parts below len h low =
-      let e = join_cat y (parts ++ told x ∷ []) (told y) h.1 ∙ joined_push cat parts (told x) (told y) in
-      let inner = rest_below cat cat_above parts (cat (told x) (told y)) in
-      let part = part_low (told x) (told y) (omega (arith, inner, low)) in
-      let more = length-append parts (told x ∷ []) in
-      then_rest (lines_behind 0 x) (lines_behind (suc n) y) below parts (told x) (join y (parts ++ told x ∷ []) (told y))
-      (joined cat parts (cat (told x) (told y))) e
+      let e = join_cat y (parts ++ printed_tree x ∷ []) (printed_tree y) h.1 ∙ joined_push cat parts (printed_tree x) (printed_tree y) in
+      let inner = rest_below cat cat_above parts (cat (printed_tree x) (printed_tree y)) in
+      let part = part_low (printed_tree x) (printed_tree y) (omega (arith, inner, low)) in
+      let more = length-append parts (printed_tree x ∷ []) in
+      then_rest (lines_behind 0 x) (lines_behind (suc n) y) below parts (printed_tree x) (join y (parts ++ printed_tree x ∷ []) (printed_tree y))
+      (joined cat parts (cat (printed_tree x) (printed_tree y))) e
       (alone x (at_stack ((below ++ parts) ++ [])) (below ++ parts) (taken_behind x 0 [] (below ++ parts) refl h.0) part)
-      (taken_behind y (suc n) (parts ++ told x ∷ []) below (omega (arith, more, len)) h.2
+      (taken_behind y (suc n) (parts ++ printed_tree x ∷ []) below (omega (arith, more, len)) h.2
       (subst (λ (t : Tree). height t ≤ 250) (sym e) low))
   taken_behind never n parts below len h low =
       joins (codes "alt") n parts below (joined alt parts never) (alternation parts) (joined_alternation parts) refl h low
       (λ b a r. alt_line (decimal n) n parts refl (h, refl) len r)
   taken_behind (alt x y) n parts below len h low =
-      let e = join_alt y (parts ++ told x ∷ []) (told y) h.1 ∙ joined_push alt parts (told x) (told y) in
-      let inner = rest_below alt alt_above parts (alt (told x) (told y)) in
-      let part = part_low (told x) (told y) (omega (arith, inner, low)) in
-      let more = length-append parts (told x ∷ []) in
-      then_rest (lines_behind 0 x) (lines_behind (suc n) y) below parts (told x) (join y (parts ++ told x ∷ []) (told y))
-      (joined alt parts (alt (told x) (told y))) e
+      let e = join_alt y (parts ++ printed_tree x ∷ []) (printed_tree y) h.1 ∙ joined_push alt parts (printed_tree x) (printed_tree y) in
+      let inner = rest_below alt alt_above parts (alt (printed_tree x) (printed_tree y)) in
+      let part = part_low (printed_tree x) (printed_tree y) (omega (arith, inner, low)) in
+      let more = length-append parts (printed_tree x ∷ []) in
+      then_rest (lines_behind 0 x) (lines_behind (suc n) y) below parts (printed_tree x) (join y (parts ++ printed_tree x ∷ []) (printed_tree y))
+      (joined alt parts (alt (printed_tree x) (printed_tree y))) e
       (alone x (at_stack ((below ++ parts) ++ [])) (below ++ parts) (taken_behind x 0 [] (below ++ parts) refl h.0) part)
-      (taken_behind y (suc n) (parts ++ told x ∷ []) below (omega (arith, more, len)) h.2
+      (taken_behind y (suc n) (parts ++ printed_tree x ∷ []) below (omega (arith, more, len)) h.2
       (subst (λ (t : Tree). height t ≤ 250) (sym e) low))
 
   -- the tree that is told of x stands on the stack behind the lines of x
   pub tree_taken : (x : Tree) (below : List Tree) → FitsIn 250 x
-      → AreTaken (lines_of x) (at_stack below) (at_stack (below ++ told x ∷ []))
+      → AreTaken (lines_of x) (at_stack below) (at_stack (below ++ printed_tree x ∷ []))
   tree_taken x below fits =
-      subst (λ (stack : List Tree). AreTaken (lines_of x) (at_stack stack) (at_stack (below ++ told x ∷ []))) (append-nil below)
+      subst (λ (stack : List Tree). AreTaken (lines_of x) (at_stack stack) (at_stack (below ++ printed_tree x ∷ []))) (append-nil below)
       (alone x (at_stack (below ++ [])) below (taken_behind x 0 [] below refl fits.0) fits.1)

@@ -6,7 +6,7 @@ use Rattle.hir_core.specs.Tree.{Tree}
 use Rattle.hirscan.specs.Reads.{Reads}
 use Rattle.hirscan.specs.Takes.{at_first}
 use Rattle.pattern_search.specs.Texts.{AllMean}
-use Rattle.hirhead.specs.Told.{told}
+use Rattle.hirhead.specs.Told.{printed_tree}
 use Rattle.hirhead.specs.HasLines.{AllFit}
 use Rattle.hirhead.specs.Heads.{AllMatch, IsHeadOf, read_of}
 use Rattle.hirhead.specs.Lines.{head_text}
@@ -16,7 +16,7 @@ use Rattle.hirhead.proofs.SameLemmas.{all_utf8}
 pub is_head : ((utf8 : Bool) (xs : List Tree) → AllFit 250 xs → (haystack : List ℕ)
     → Reads (head_text utf8 xs ++ haystack) at_first (read_of utf8 xs) (length (head_text utf8 xs)))
     → ((config : Config) (texts : List (List ℕ)) (xs : List Tree) → AllMean config texts xs → AllFit 250 xs →
-    AllMatch config texts (map told xs))
+    AllMatch config texts (map printed_tree xs))
     → (config : Config) (texts : List (List ℕ)) (xs : List Tree) (head : List ℕ) → AllMean config texts xs → AllFit 250 xs
     → (IsTrue config.utf8 → All (λ x. IsTrue (is_utf8_tree x)) xs) → head ≡ head_text config.utf8 xs → IsHeadOf config texts head
 is_head are_read match_alike config texts xs head means fits utf8 is = record {

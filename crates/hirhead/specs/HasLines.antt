@@ -7,7 +7,7 @@ use Rattle.hir_core.specs.Means.{AtMost}
 use Rattle.hirscan.specs.Words.{is_scalar}
 use Rattle.hirhead.specs.declared.lines.Unfit.{Unfit}
 use Rattle.hirhead.specs.declared.lines.Unfit.TheVariants.{NoMemory, TooDeep, TooManyParts}
-use Rattle.hirhead.specs.Told.{told}
+use Rattle.hirhead.specs.Told.{printed_tree}
 
 -- a range of bytes, and one of scalars, with the low end first
 abbrev pub IsByteRange : ℕ × ℕ → Type 0
@@ -52,7 +52,7 @@ HasLines n (alt x y) = HasLines 0 x × IsTrue (is_alt y) × HasLines (suc n) y
 
 -- the tree has lines, and those make a tree of at most so many levels
 abbrev pub FitsIn : ℕ → Tree → Type 0
-FitsIn levels x = HasLines 0 x × (height (told x) ≤ levels)
+FitsIn levels x = HasLines 0 x × (height (printed_tree x) ≤ levels)
 
 -- the same of each tree
 abbrev pub AllFit : ℕ → List Tree → Type 0
@@ -72,7 +72,7 @@ most_parts n _ = 0
 -- why the tree is refused
 abbrev pub IsUnfit : ℕ → Tree → Unfit → Type 0
 IsUnfit levels x NoMemory = ⊤
-IsUnfit levels x TooDeep = levels < height (told x)
+IsUnfit levels x TooDeep = levels < height (printed_tree x)
 IsUnfit levels x TooManyParts = 2 ^ 32 ≤ most_parts 0 x
 
 -- the tree of this number is refused so

@@ -10,12 +10,12 @@ use Rattle.pattern_text.specs.SameEnds.{SameEnds, SameSpans}
 use Rattle.pattern_search.specs.Texts.{AllMean, IsFirstFault}
 use Rattle.hirhead.specs.declared.heads.Cause.TheVariants.{Text, Lines}
 use Rattle.hirhead.specs.declared.heads.Cause.{Cause}
-use Rattle.hirhead.specs.Told.{told}
+use Rattle.hirhead.specs.Told.{printed_tree}
 use Rattle.hirhead.specs.HasLines.{AreUnfit}
 
 -- what the head of these trees is read as, up to its end
 abbrev pub read_of : Bool → List Tree → HeadValue
-read_of utf8 xs = record { setup = with_utf8 utf8 at_first.setup; stack = []; patterns = map told xs }
+read_of utf8 xs = record { setup = with_utf8 utf8 at_first.setup; stack = []; patterns = map printed_tree xs }
 
 -- The grammar reads the text as a pattern within the limit on nesting, and the tree prefers the ends that this pattern does and has
 -- the same spans: all that `MeansText` says but for the names of groups, which the notation doesn't have.
@@ -41,6 +41,6 @@ pub record IsHeadOf (config : Config) (texts : List (List ℕ)) (head : List ℕ
 
 -- the first text that is no pattern is refused; or all texts are patterns, and one is whose tree has no lines, or makes one that is too
 -- deep
-abbrev pub IsRefused : Config → List (List ℕ) → ℕ → Cause → Type 0
-IsRefused config texts number (Text error) = IsFirstFault config texts number error
-IsRefused config texts number (Lines unfit) = (xs : List Tree) × AllMean config texts xs × AreUnfit 250 xs number unfit
+abbrev pub IsHeadRefused : Config → List (List ℕ) → ℕ → Cause → Type 0
+IsHeadRefused config texts number (Text error) = IsFirstFault config texts number error
+IsHeadRefused config texts number (Lines unfit) = (xs : List Tree) × AllMean config texts xs × AreUnfit 250 xs number unfit

@@ -1,5 +1,5 @@
 ghost use Rattle.std.specs.Prelude.{◌≡◌, ◌++◌, ◌∷◌, [], codes, IfErr, IfOk, OnOk, map, string_bytes};
-ghost use Rattle.hirhead.specs.Heads.{IsHeadOf, IsRefused};
+ghost use Rattle.hirhead.specs.Heads.{IsHeadOf, IsHeadRefused};
 ghost use Rattle.hirhead.specs.HasLines.{AllFit, AreUnfit};
 ghost use Rattle.hirhead.specs.How.{config_of};
 ghost use Rattle.hirhead.specs.Lines.{head_text, lines_text, line_text, setting_lines};
@@ -77,7 +77,7 @@ pub fn write_head(alloc: Global, trees: &[Hir], utf8: bool) -> Result<String, Un
 /// in the notation, with the number of the text.
 pub fn head_of(alloc: Global, texts: &[&str], how: &How) -> Result<String, HeadError>
     ensures head { IfOk result (λ text. IsHeadOf (config_of how.now) (map (λ t. t.now) texts.now) (string_bytes text)) }
-    ensures refused { IfErr result (λ e. IsRefused (config_of how.now) (map (λ t. t.now) texts.now) e.number e.cause) }
+    ensures refused { IfErr result (λ e. IsHeadRefused (config_of how.now) (map (λ t. t.now) texts.now) e.number e.cause) }
 {
     heads_are_read();
     heads_match_as_their_texts();

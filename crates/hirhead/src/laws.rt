@@ -11,7 +11,7 @@ ghost use Rattle.pattern_text.specs.SameEnds.{SameEnds, SameSpans};
 ghost use Rattle.hirhead.specs.HasLines.{HasLines, AllFit};
 ghost use Rattle.hirhead.specs.Heads.{AllMatch, read_of};
 ghost use Rattle.hirhead.specs.Lines.{head_text};
-ghost use Rattle.hirhead.specs.Told.{told};
+ghost use Rattle.hirhead.specs.Told.{printed_tree};
 
 use hirscan::reading_laws::classes_have_their_items_bytes;
 use hirscan::word_laws::{bytes_are_read, scalar_classes_have_their_items};
@@ -28,10 +28,10 @@ pub fn heads_are_read()
 /// The tree that is told matches as the tree does: it prefers the same ends and has the same spans, is UTF-8 where that is, and its loops
 /// read where those of the tree do.
 pub fn told_trees_match_alike()
-    ensures ends { (re : Re) (x : Tree) → HasLines 0 x → SameEnds re x → SameEnds re (told x) }
-    ensures spans { (re : Re) (x : Tree) → SameSpans re x → SameSpans re (told x) }
-    ensures utf8 { (x : Tree) → IsTrue (is_utf8_tree x) → IsTrue (is_utf8_tree (told x)) }
-    ensures loops { (x : Tree) → HasLines 0 x → LoopsRead x ↔ LoopsRead (told x) }
+    ensures ends { (re : Re) (x : Tree) → HasLines 0 x → SameEnds re x → SameEnds re (printed_tree x) }
+    ensures spans { (re : Re) (x : Tree) → SameSpans re x → SameSpans re (printed_tree x) }
+    ensures utf8 { (x : Tree) → IsTrue (is_utf8_tree x) → IsTrue (is_utf8_tree (printed_tree x)) }
+    ensures loops { (x : Tree) → HasLines 0 x → LoopsRead x ↔ LoopsRead (printed_tree x) }
 {
     classes_have_their_items_bytes();
     scalar_classes_have_their_items();
@@ -40,7 +40,7 @@ pub fn told_trees_match_alike()
 /// So the patterns of a head match as the texts of whose trees it is the head.
 pub fn heads_match_as_their_texts()
     ensures { (config : Config) (texts : List (List ℕ)) (xs : List Tree) → AllMean config texts xs → AllFit 250 xs →
-        AllMatch config texts (map told xs) }
+        AllMatch config texts (map printed_tree xs) }
 {
     classes_have_their_items_bytes();
     scalar_classes_have_their_items();

@@ -13,7 +13,7 @@ use Rattle.search_types.specs.Modes.{allowed}
 use Rattle.search_types.specs.Places.{counts}
 use Rattle.search_types.specs.LeftmostAnswer.{first_choice, IsLeftmost, IsAnswer}
 use Rattle.search_types.proofs.ForCallers.{starts_at, computed_is_answer, ends_rise, spans_within}
-use Rattle.hirscan.specs.Choices.{Query, pattern_choices, choices, ends_at, may_end, choices_at, answer_from, answers_of}
+use Rattle.hirscan.specs.Choices.{Query, pattern_choices, choices, pattern_ends, may_end, choices_at, answer_from, answers_of}
 use Rattle.search_types.specs.AllAnswers.{AnswersWithin, EndsRise, and_on, answers_from, is_repeat, next_answer}
 
 found_is_leftmost : (q : Query) (s : ℕ) (o : Option Found) (f : Found) → o ≡ Some f → IsAnswer (choices_at q) q.mode s q.end o →
@@ -93,7 +93,7 @@ module _ (may_find kept : ℕ → Bool) (ends_of : Tree → List ℕ) where
 
 module _ (q : Query) where
   counted : (i : ℕ) (f : Found) (b : Bool) →
-      first_choice i (cond b (choices (allowed q.mode (length q.patterns)) (may_end q) 0 (ends_at q i)) []) ≡ Some f →
+      first_choice i (cond b (choices (allowed q.mode (length q.patterns)) (may_end q) 0 (pattern_ends q i)) []) ≡ Some f →
       IsChosen (may_end q) (λ x. preferred_ends q.looks q.haystack x i) q.patterns 0 i f
   counted i f true e = chosen_first (allowed q.mode (length q.patterns)) (may_end q)
       (λ x. preferred_ends q.looks q.haystack x i) q.patterns 0 i f e
@@ -123,7 +123,7 @@ module _ (q : Query) where
   }
 
   start_counts : (i : ℕ) (f : Found) (b : Bool) → counts q.utf8 q.haystack i ≡ b →
-      first_choice i (cond b (choices (allowed q.mode (length q.patterns)) (may_end q) 0 (ends_at q i)) []) ≡ Some f →
+      first_choice i (cond b (choices (allowed q.mode (length q.patterns)) (may_end q) 0 (pattern_ends q i)) []) ≡ Some f →
       counts q.utf8 q.haystack i ≡ true
   start_counts i f true is e = is
   start_counts i f false is e = cc

@@ -33,7 +33,7 @@ use Rattle.lazy_dfa.proofs.ForCallers.{scan_finds, scan_quits_near, scan_mode_to
 use Rattle.regex_pair.specs.Joined.{back_from}
 use Rattle.regex_pair.specs.Pairs.{Pair}
 use Rattle.hirscan.specs.Choices.{Query}
-use Rattle.hirscan.specs.LooseAnswers.{IsSpanOf}
+use Rattle.hirscan.specs.LooseAnswers.{MeansSpan}
 use Rattle.hirscan.specs.Regexes.{IsRegexOf, IsSearchOf, query_of}
 use Rattle.hirscan.proofs.LooseEndLemmas.{holds_none}
 use Rattle.hirscan.proofs.RegexLemmas.{goes_reverse, reverse_ends_lines, reverse_is_utf8, place_reverse, trees_alike}
@@ -41,12 +41,12 @@ use Rattle.hirscan.proofs.ForwardLemmas.{reach}
 
 -- i is the least place, from s on, from which a pattern has a span that ends where this end is, and it counts
 pub record IsLeastStart (q : Query) (s : ℕ) (c : ℕ × ℕ) (i : ℕ) : Type 0 where
-  pub span : IsSpanOf q c.1 i c.0
+  pub span : MeansSpan q c.1 i c.0
   pub from : s ≤ i
   pub forward : i ≤ c.0
   pub within : c.0 ≤ q.end
   pub counted : counts q.utf8 q.haystack i ≡ true
-  pub least : (k p : ℕ) → s ≤ k → IsSpanOf q p k c.0 → i ≤ k
+  pub least : (k p : ℕ) → s ≤ k → MeansSpan q p k c.0 → i ≤ k
 
 -- ---- the last end
 filter_first : (j : ℕ) (x : ℕ × ℕ) (xs : List (ℕ × ℕ)) (b : Bool) → nat_eq x.0 j ≡ b →
@@ -140,7 +140,7 @@ module _ (xs : List Tree) (utf8 : Bool) (t : Terminator) (p : Pair) (regex : IsR
       let P : Bool → Type 0 = λ b. Has same_pair (j, k) ends ↔ IsChoice b xs (span t q.haystack q.start c.0) c.0 (j, k) in
       subst P regex.reads_reverse (regex.is_reverse.spans.anchored (span t q.haystack q.start c.0) c.0 (j, k) (omega arith))
 
-  has_span : (k j : ℕ) → Has same_pair (j, k) ends → IsSpanOf asks k j c.0 × (q.start ≤ j)
+  has_span : (k j : ℕ) → Has same_pair (j, k) ends → MeansSpan asks k j c.0 × (q.start ≤ j)
   has_span k j has =
       let f = (both_ways k j).0 has in
       let last = f.2.1 in
@@ -156,7 +156,7 @@ module _ (xs : List Tree) (utf8 : Bool) (t : Terminator) (p : Pair) (regex : IsR
         at,
       )
 
-  span_has : (k j : ℕ) → q.start ≤ j → IsSpanOf asks k j c.0 → Has same_pair (j, k) ends
+  span_has : (k j : ℕ) → q.start ≤ j → MeansSpan asks k j c.0 → Has same_pair (j, k) ends
   span_has k j at s =
       let up : j ≤ c.0 = span_forward looks q.haystack s.tree j c.0 s.means in
       (both_ways k j).1 (

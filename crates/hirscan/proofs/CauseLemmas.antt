@@ -12,7 +12,7 @@ use Rattle.search_core.proofs.ForCallers.{valid_of_utf8}
 use Rattle.hir_core.specs.Tree.{Tree}
 use Rattle.hir_core.specs.Facts.{LoopsRead, is_utf8_tree}
 use Rattle.hirscan.specs.declared.line.Setup.{Setup}
-use Rattle.hirscan.specs.Asks.{search_of}
+use Rattle.hirscan.specs.Asks.{asked_search}
 use Rattle.hirscan.specs.Loops.{first_empty_loop}
 use Rattle.hirscan.specs.Refusals.{first_cause, cause_if, of_pattern, where_utf8, first_not_utf8, first_broken, span_of, is_span}
 use Rattle.hirscan.specs.Refusals.{pattern_causes, haystack_causes, refusal}
@@ -115,12 +115,12 @@ module _ (setup : Setup) (xs : List Tree) (h : List ℕ) (none : refusal setup x
       (and_parts (nat_le (span_of setup.span h).end (length h)) (nat_le (span_of setup.span h).start ((span_of setup.span h).end + 1))
       span_fits).0
 
-  pub span_starts : (search_of setup h).start ≤ (search_of setup h).end + 1
+  pub span_starts : (asked_search setup h).start ≤ (asked_search setup h).end + 1
   span_starts = leb-true (span_of setup.span h).start ((span_of setup.span h).end + 1)
       (and_parts (nat_le (span_of setup.span h).end (length h)) (nat_le (span_of setup.span h).start ((span_of setup.span h).end + 1))
       span_fits).1
 
-  pub is_search : All (λ byte. byte < 256) h → IsSearchOf xs setup.settings.utf8 (search_of setup h)
+  pub is_search : All (λ byte. byte < 256) h → IsSearchOf xs setup.settings.utf8 (asked_search setup h)
   is_search bytes = record { within = span_ends; whole = refl; bytes = bytes; valid = valid_haystack; utf8_trees = utf8_trees }
 
 -- ---- causes that the code tells

@@ -42,7 +42,7 @@ use Rattle.lazy_dfa.specs.Dfas.{class_of}
 use Rattle.lazy_dfa.specs.Passes.{start_name}
 use Rattle.lazy_dfa.proofs.ForCallers.{classes_by_marks}
 use Rattle.regex_pair.specs.Pairs.{Pair, pair_built}
-use Rattle.hirscan.specs.Choices.{Query, choices, ends_at, may_end, choices_at, answer_from}
+use Rattle.hirscan.specs.Choices.{Query, choices, pattern_ends, may_end, choices_at, answer_from}
 use Rattle.hirscan.specs.ReachLaws.{IsAlike, HasItsClasses, HasNoUnicodeWord}
 use Rattle.hirscan.specs.Regexes.{IsRegexOf, query_of}
 use Rattle.hirscan.proofs.BuiltPairLemmas.{pair_is}
@@ -104,7 +104,7 @@ module _ (xs : List Tree) (t : Terminator) (q : Search) (inside : q.end ≤ leng
   abbrev by_bytes : Query
   by_bytes = query_of xs false (holds_ascii t q.haystack) q
 
-  same_ends : (i : ℕ) → i ≤ q.end → ends_at by_words i ≡ ends_at by_bytes i
+  same_ends : (i : ℕ) → i ≤ q.end → pattern_ends by_words i ≡ pattern_ends by_bytes i
   same_ends i low = same_map (λ x. preferred_ends by_words.looks q.haystack x i) (λ x. preferred_ends by_bytes.looks q.haystack x i) xs
       (λ k x listed. same_ends_from by_words.looks by_bytes.looks q.haystack 0 x
       (λ l used j from to. reads_bytes (by_characters words) t q.haystack l j (no_word xs plain k x l listed used))

@@ -21,13 +21,13 @@ use Rattle.hirscan.specs.Words.{class_ranges, scalar_ranges}
 use Rattle.hirscan.specs.Readers.{spelling, number, the_number, bound, the_bound, order, the_order, switch, yes_or_no, hex_bytes, hex_byte}
 use Rattle.hirscan.specs.Readers.{the_byte, look_named}
 use Rattle.hirscan.specs.Takes.{HeadValue, HasNoNode, Sets, Replaces, Takes, with_utf8, with_terminator, with_capacity, with_quit}
-use Rattle.hirscan.specs.Takes.{with_classes, with_shrink, with_anchored, with_span}
+use Rattle.hirscan.specs.Takes.{with_classes, with_shrink, with_head_anchored, with_head_span}
 use Rattle.hirscan.specs.Takes.{utf8_line, line_line, two_bytes_line, capacity_line, quit_line, classes_line, shrink_line, anchored_line}
 use Rattle.hirscan.specs.Takes.{span_line}
 use Rattle.hirscan.specs.Takes.{empty_line, lit_line, bytes_line, chars_line, look_line, rep_line, cat_line, alt_line, pattern_line}
-use Rattle.hirscan.specs.LineFault.{first_of, unless_read, word_fault, is_at_most, is_word_count, is_min_above_max, needed, top, below}
+use Rattle.hirscan.specs.LineFault.{first_fault_of, unless_read, word_fault, is_at_most, is_word_count, is_min_above_max, needed, top, below}
 use Rattle.hirscan.specs.LineFault.{new_tree, is_setting, is_setting_after_node, has_too_few_trees, is_too_deep, has_not_one_tree}
-use Rattle.hirscan.specs.LineFault.{has_tree_left_over, setup_after, after_setting, after_tree, after}
+use Rattle.hirscan.specs.LineFault.{has_tree_left_over, setup_after, after_setting, after_tree, after_line}
 use Rattle.hirscan.specs.Tells.{step_after}
 use Rattle.hirscan.proofs.SaysLemmas.{number_said, bound_said, order_said, switch_said, yes_said, hex_bytes_said, hex_byte_said, items_said}
 use Rattle.hirscan.proofs.SaysLemmas.{scalar_items_said, look_said}
@@ -40,7 +40,7 @@ pub record Done (ws : List (List ℕ)) (p q : HeadValue) : Type 0 where
   pub says : ws ≡ spelling word ∷ args
   pub goes_on : step_after word ≡ Next
   pub no_fault : NoFault word args p
-  pub is : q ≡ after word args p
+  pub is : q ≡ after_line word args p
 
 abbrev stands : Setup → List Tree → List Tree → HeadValue
 stands setup stack patterns = record { setup = setup; stack = stack; patterns = patterns }
@@ -59,7 +59,7 @@ record SetsOnly (k : LineWord) (args : List (List ℕ)) (p : HeadValue) : Type 0
   flat : is_too_deep k args p ≡ false
   one_tree : has_not_one_tree k p ≡ false
   none_left : has_tree_left_over k p ≡ false
-  is : after k args p ≡ after_setting k args p
+  is : after_line k args p ≡ after_setting k args p
 
 sets_only : (k : LineWord) (args : List (List ℕ)) (p : HeadValue) → is_setting k ≡ true → SetsOnly k args p
 sets_only Empty args p s = absurd cc
@@ -137,7 +137,7 @@ record MakesTree (k : LineWord) (args : List (List ℕ)) (p : HeadValue) : Type 
   settable : is_setting_after_node k p ≡ false
   one_tree : has_not_one_tree k p ≡ false
   none_left : has_tree_left_over k p ≡ false
-  is : after k args p ≡ after_tree k args p
+  is : after_line k args p ≡ after_tree k args p
 
 -- whether the line makes a tree
 abbrev makes_tree : LineWord → Bool
@@ -203,13 +203,13 @@ counted_items : (items : List (List ℕ)) → items ≢ [] → nat_le 1 (length 
 counted_items [] h = absurd (h refl)
 counted_items (w ∷ ws) h = le-leb 1 (suc (length ws)) (omega arith)
 
-three_read : (a b c : Option FaultKind) → a ≡ None → b ≡ None → c ≡ None → first_of (a ∷ b ∷ c ∷ []) ≡ None
+three_read : (a b c : Option FaultKind) → a ≡ None → b ≡ None → c ≡ None → first_fault_of (a ∷ b ∷ c ∷ []) ≡ None
 three_read a b c e f g = rw (e, f, g) refl
 
-two_read : (a b : Option FaultKind) → a ≡ None → b ≡ None → first_of (a ∷ b ∷ []) ≡ None
+two_read : (a b : Option FaultKind) → a ≡ None → b ≡ None → first_fault_of (a ∷ b ∷ []) ≡ None
 two_read a b e f = rw (e, f) refl
 
-one_read : (a : Option FaultKind) → a ≡ None → first_of (a ∷ []) ≡ None
+one_read : (a : Option FaultKind) → a ≡ None → first_fault_of (a ∷ []) ≡ None
 one_read a e = rw e refl
 
 -- ---- each line
@@ -245,14 +245,14 @@ takes_done ws p q (shrink_line w on e is s) =
 takes_done ws p q (anchored_line w said e is s) =
     let a = yes_said w said is in
     set_done ws (w ∷ []) Anchored p q _ refl e refl (read (yes_or_no w) said BadChoice a) s
-    (ap (λ o. with_anchored (unwrap_or o false) p.setup) a)
+    (ap (λ o. with_head_anchored (unwrap_or o false) p.setup) a)
 takes_done ws p q (span_line low high start end e is_start is_end s) =
     let a = number_said low start is_start in
     let b = number_said high end is_end in
     let words = two_read _ _ (read (number low) start BadNumber a) (read (number high) end BadNumber b) in
     set_done ws (low ∷ high ∷ []) Span p q _ refl e refl words s
-    (ap (λ o. with_span (record { start = unwrap_or o 0; end = the_number high }) p.setup) a
-    ∙ ap (λ o. with_span (record { start = start; end = unwrap_or o 0 }) p.setup) b)
+    (ap (λ o. with_head_span (record { start = unwrap_or o 0; end = the_number high }) p.setup) a
+    ∙ ap (λ o. with_head_span (record { start = start; end = unwrap_or o 0 }) p.setup) b)
 takes_done ws p q (empty_line e r) = tree_done ws [] Empty p q [] empty refl e refl refl refl refl refl r
 takes_done ws p q (lit_line w bytes e hex r) =
     let a = hex_bytes_said w bytes hex in

@@ -6,7 +6,7 @@ use Rattle.hirscan.specs.declared.words.LineWord.TheVariants.{Find}
 use Rattle.hirscan.specs.declared.line.Step.TheVariants.{Next, End}
 use Rattle.hirscan.specs.Readers.{spelling, line_word}
 use Rattle.hirscan.specs.Takes.{HeadValue, Takes, EndsHead}
-use Rattle.hirscan.specs.LineFault.{known_fault, fault_after, fault, after}
+use Rattle.hirscan.specs.LineFault.{known_fault, fault_by_word, fault, after_line}
 use Rattle.hirscan.specs.Tells.{step_after}
 use Rattle.hirscan.proofs.SaysLemmas.{line_word_spelled, line_word-spelling}
 use Rattle.hirscan.proofs.TakesLemmas.{no_fault_parts, no_fault_from_parts, takes_after, ends_head}
@@ -38,14 +38,14 @@ step_cases : (k : LineWord) → (step_after k ≡ Next) ⊎ (k ≡ Find)
 step_cases Find = inr refl
 step_cases k = inl refl
 
-known_taken : (w : List ℕ) (args : List (List ℕ)) (p : HeadValue) (o : Option LineWord) → line_word w ≡ o → fault_after o args p ≡ None
+known_taken : (w : List ℕ) (args : List (List ℕ)) (p : HeadValue) (o : Option LineWord) → line_word w ≡ o → fault_by_word o args p ≡ None
     → ((q : HeadValue) × Takes (w ∷ args) p q) ⊎ EndsHead (w ∷ args) p
 known_taken w args p None e h = absurd cc
 known_taken w args p (Some k) e h =
     let parts = no_fault_parts k args p h in
     rw (line_word_spelled w k e)
     (elim (step_cases k) [
-      | inl n ↦ inl (after k args p, takes_after k args p n parts)
+      | inl n ↦ inl (after_line k args p, takes_after k args p n parts)
       | inr f ↦ inr (let g = rw f at parts in rw f (ends_head args p g))
     ])
 
@@ -65,7 +65,7 @@ one_effect ws p q r g h =
     let first : spelling d.word ≡ spelling e.word = cc in
     let word = spelled_once d.word e.word first in
     let args : d.args ≡ e.args = cc in
-    d.is ∙ (ap (λ k. after k d.args p) word ∙ (ap (λ a. after e.word a p) args ∙ sym e.is))
+    d.is ∙ (ap (λ k. after_line k d.args p) word ∙ (ap (λ a. after_line e.word a p) args ∙ sym e.is))
 
 pub taken_goes_on : (ws : List (List ℕ)) (p q : HeadValue) → Takes ws p q → EndsHead ws p → ⊥
 taken_goes_on ws p q g h =

@@ -17,7 +17,7 @@ use Rattle.search_types.specs.Places.{counts}
 use Rattle.search_types.specs.FirstFound.{IsFirstOffer}
 use Rattle.search_types.proofs.ForCallers.{starts_at, may_start_at}
 use Rattle.hirscan.specs.Choices.{Query}
-use Rattle.hirscan.specs.LooseAnswers.{IsSpanOf, IsFindable, IsCounted}
+use Rattle.hirscan.specs.LooseAnswers.{MeansSpan, IsFindable, IsCounted}
 
 pub listed_has : (P : Tree → Type 0) (xs : List Tree) → All P xs → (p : ℕ) (x : Tree) → slice_get xs p ≡ Some x → P x
 listed_has P xs all p x listed = subst P (get_or_from_slice_get xs p x empty listed)
@@ -31,7 +31,7 @@ pub record Fits (q : Query) : Type 0 where
 
 -- a span that is offered
 pub record IsMet (q : Query) (i p j : ℕ) : Type 0 where
-  pub span : IsSpanOf q p i j
+  pub span : MeansSpan q p i j
   pub within : j ≤ q.end
 
 -- What is known of the offers of each place up to the end: where there is none, the place has nothing; the first is a span, and
@@ -48,7 +48,7 @@ pub record Tells (q : Query) (offers : ℕ → List (ℕ × ℕ)) (Nothing : ℕ
 pub record IsBestFrom (q : Query) (Nothing : ℕ → Type 0) (Best : ℕ → ℕ → ℕ → Type 0) (s : ℕ) (c : ℕ × ℕ) : Type 0 where
   pub place : ℕ
   pub starts : may_start q.mode s q.end place ≡ true
-  pub span : IsSpanOf q c.1 place c.0
+  pub span : MeansSpan q c.1 place c.0
   pub forward : place ≤ c.0
   pub within : c.0 ≤ q.end
   pub start_counts : counts q.utf8 q.haystack place ≡ true
@@ -82,7 +82,7 @@ any_allowed (Pattern k) p n m l = cc
 
 -- ---- where spans count
 module _ (q : Query) (fits : Fits q) where
-  utf8_counts : (b : Bool) → b ≡ q.utf8 → (p i j : ℕ) → IsSpanOf q p i j → i < j → j ≤ q.end →
+  utf8_counts : (b : Bool) → b ≡ q.utf8 → (p i j : ℕ) → MeansSpan q p i j → i < j → j ≤ q.end →
       (counts b q.haystack i ≡ true) × (counts b q.haystack j ≡ true)
   utf8_counts false e p i j m l within = (refl, refl)
   utf8_counts true e p i j m l within =
@@ -94,13 +94,13 @@ module _ (q : Query) (fits : Fits q) where
         span_end_bounded q.looks q.haystack m.tree i j valid utf8 m.means l inside,
       )
 
-  pub span_counts : (p i j : ℕ) → IsSpanOf q p i j → i < j → j ≤ q.end →
+  pub span_counts : (p i j : ℕ) → MeansSpan q p i j → i < j → j ≤ q.end →
       (counts q.utf8 q.haystack i ≡ true) × (counts q.utf8 q.haystack j ≡ true)
   span_counts p i j m l within = utf8_counts q.utf8 refl p i j m l within
 
   -- no tree has an empty span, or each place counts
   abbrev pub AllCount : Type 0
-  AllCount = (q.utf8 ≡ false) ⊎ ((p i : ℕ) → IsSpanOf q p i i → ⊥)
+  AllCount = (q.utf8 ≡ false) ⊎ ((p i : ℕ) → MeansSpan q p i i → ⊥)
 
 module _ (q : Query) (fits : Fits q) (offers : ℕ → List (ℕ × ℕ)) (Nothing : ℕ → Type 0) (Best : ℕ → ℕ → ℕ → Type 0)
     (tells : Tells q offers Nothing Best) where
@@ -180,7 +180,7 @@ module _ (q : Query) (fits : Fits q) (offers : ℕ → List (ℕ × ℕ)) (Nothi
         elim (cases_lt at.place c.0) [
           | inl lt ↦ (span_counts q fits c.1 at.place c.0 m.span lt m.within).1
           | inr ge ↦ let up = forward in let same : c.0 ≡ at.place = omega arith in
-              let P : ℕ → Type 0 = λ j. IsSpanOf q c.1 at.place j in absurd (none c.1 at.place (subst P same m.span))
+              let P : ℕ → Type 0 = λ j. MeansSpan q c.1 at.place j in absurd (none c.1 at.place (subst P same m.span))
         ]
 
   pub no_place : (s : ℕ) → q.end < s → Ends s None
@@ -272,7 +272,7 @@ module _ (q : Query) (fits : Fits q) (offers : ℕ → List (ℕ × ℕ)) (Nothi
   whole_ends all s l (Some c) at = some_ends s l c at (whole_counts s l c at all)
 
   -- a search that may start anywhere starts at the least place from which a pattern has a span that ends there
-  pub start_is_least : (s : ℕ) (c : ℕ × ℕ) → q.mode ≡ No → (a : IsBestFrom q Nothing Best s c) → (k p : ℕ) → s ≤ k → IsSpanOf q p k c.0 →
+  pub start_is_least : (s : ℕ) (c : ℕ × ℕ) → q.mode ≡ No → (a : IsBestFrom q Nothing Best s c) → (k p : ℕ) → s ≤ k → MeansSpan q p k c.0 →
       a.place ≤ k
   start_is_least s c m a k p low span = elim (cases_lt k a.place) [
     | inl lt ↦

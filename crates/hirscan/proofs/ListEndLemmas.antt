@@ -26,7 +26,7 @@ use Rattle.regex_pair.proofs.ForCallers.{some_taken, asked_behind}
 use Rattle.hirscan.specs.declared.line.Setup.{Setup}
 use Rattle.hirscan.specs.declared.ending.Ending.TheVariants.{Listed}
 use Rattle.hirscan.specs.declared.reply.Reply.{Reply}
-use Rattle.hirscan.specs.Asks.{mode_of, search_of}
+use Rattle.hirscan.specs.Asks.{mode_for, asked_search}
 use Rattle.hirscan.specs.Built.{IsBuilt, program_settings}
 use Rattle.hirscan.specs.Listing.{IsSearched, ListsUpTo, MayEndList, TellsQuit}
 use Rattle.hirscan.specs.Regexes.{IsSearchOf}
@@ -71,14 +71,14 @@ never_joined p q e is told =
     true≢false (sym (join_is_fine (reader p.forward) (reader p.reverse) q (scan (reader p.forward) q)) ∙ ap is_fine is ∙ told)
 
 -- each mode of a head is supported
-mode_is_supported : (b each : Bool) → is_supported each (mode_of b) ≡ true
+mode_is_supported : (b each : Bool) → is_supported each (mode_for b) ≡ true
 mode_is_supported true each = refl
 mode_is_supported false each = refl
 
 module _ (setup : Setup) (xs : List Tree) (h : List ℕ) (bytes : All (λ byte. byte < 256) h) (none : IsSearched setup xs h) (p : Pair)
     (built : IsBuilt xs (program_settings setup.settings) p) where
   abbrev q : Search
-  q = search_of setup h
+  q = asked_search setup h
 
   asked : IsSearchOf xs setup.settings.utf8 q
   asked = is_search setup xs h none bytes

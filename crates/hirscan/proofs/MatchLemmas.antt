@@ -34,7 +34,7 @@ use Rattle.lazy_dfa.proofs.ForCallers.{scan_finds, scan_has_reach, scan_in_span,
 use Rattle.regex_pair.specs.Matching.{has_match, match_search, match_told, is_some_match}
 use Rattle.regex_pair.specs.Pairs.{Pair}
 use Rattle.hirscan.specs.Choices.{Query, choices_at, answer_from}
-use Rattle.hirscan.specs.LooseAnswers.{IsSpanOf}
+use Rattle.hirscan.specs.LooseAnswers.{MeansSpan}
 use Rattle.hirscan.specs.Regexes.{IsRegexOf, IsSearchOf, query_of}
 use Rattle.hirscan.proofs.BackLemmas.{best_has}
 use Rattle.hirscan.proofs.EarliestLemmas.{scan_none}
@@ -162,7 +162,7 @@ module _ (xs : List Tree) (utf8 : Bool) (t : Terminator) (p : Pair) (regex : IsR
           (start_is_state a q.anchored name regex.forward.sound named) (Some c) is))
 
       -- with words read as characters it is a span too, and it counts
-      spans_there : IsSpanOf asks c.1 (span_to (start_name a q.anchored) refl).place c.0
+      spans_there : MeansSpan asks c.1 (span_to (start_name a q.anchored) refl).place c.0
       spans_there =
           let s = span_to (start_name a q.anchored) refl in
           let far = reach in
@@ -178,13 +178,13 @@ module _ (xs : List Tree) (utf8 : Bool) (t : Terminator) (p : Pair) (regex : IsR
           }
 
       counted_by : AllCount asks (fits_query xs utf8 t p regex (with_earliest false q) asked words set) → (k : ℕ) →
-          IsSpanOf asks c.1 k c.0 → k ≤ c.0 → c.0 ≤ q.end →
+          MeansSpan asks c.1 k c.0 → k ≤ c.0 → c.0 ≤ q.end →
           (counts utf8 q.haystack k ≡ true) × (counts utf8 q.haystack c.0 ≡ true)
       counted_by (inl plain) k s up within = (ap (λ b. counts b q.haystack k) plain, ap (λ b. counts b q.haystack c.0) plain)
       counted_by (inr none) k s up within = elim (cases_lt k c.0) [
         | inl lt ↦ span_counts asks (fits_query xs utf8 t p regex (with_earliest false q) asked words set) c.1 k c.0 s lt within
         | inr ge ↦ let same : c.0 ≡ k = omega arith in
-            let P : ℕ → Type 0 = λ j. IsSpanOf asks c.1 k j in absurd (none c.1 k (subst P same s))
+            let P : ℕ → Type 0 = λ j. MeansSpan asks c.1 k j in absurd (none c.1 k (subst P same s))
       ]
 
       no_answer : answer_from asks q.start ≡ None → ⊥

@@ -9,7 +9,7 @@ use Rattle.hirscan.specs.declared.ending.Ending.{Ending}
 use Rattle.hirscan.specs.declared.ending.Ending.TheVariants.{Listed, Quit, Refused}
 use Rattle.hirscan.specs.Reads.{Reads}
 use Rattle.hirscan.specs.Refusals.{refusal}
-use Rattle.hirscan.specs.Reply.{IsRefused, too_long, faulty, unfit, Asks, AreAnswers, IsSearchReply, too_large, listed, quits, IsReply}
+use Rattle.hirscan.specs.Reply.{IsInputRefused, too_long, faulty, unfit, Asks, AreAnswers, IsSearchReply, too_large, listed, quits, IsReply}
 use Rattle.hirscan.specs.Reply.{refused, searched, refusal_line, span_lines}
 use Rattle.hirscan.specs.Takes.{HeadValue, at_first}
 use Rattle.hirscan.specs.Tells.{kind_text}
@@ -33,7 +33,7 @@ cause_there input at there n m o read again is =
     ap (λ s. cause_at input s n) same.0 ∙ ap (cause_at input there) same.1 ∙ is
 
 module _ (input c d : List ℕ) where
-  one_cause : IsRefused input c → IsRefused input d → c ≡ d
+  one_cause : IsInputRefused input c → IsInputRefused input d → c ≡ d
   one_cause (too_long long is) (too_long more also) = is ∙ sym also
   one_cause (too_long long is) (faulty k kind short fault also) = absurd (omega arith)
   one_cause (too_long long is) (unfit at n short read found) = absurd (omega arith)
@@ -54,14 +54,14 @@ module _ (input cause : List ℕ) (setup : Setup) (xs : List Tree) (h : List ℕ
       ap (λ s. refusal s asks.at.patterns (drop asks.len input)) asks.setup_is
       ∙ ap (λ ys. refusal setup ys (drop asks.len input)) asks.patterns_are ∙ ap (refusal setup xs) asks.haystack_is ∙ asks.fits
 
-  never_refused : IsRefused input cause → ⊥
+  never_refused : IsInputRefused input cause → ⊥
   never_refused (too_long long is) = let short = asks.short in absurd (omega arith)
   never_refused (faulty k kind short fault is) = reads_no_fault input at_first asks.at asks.len k kind asks.reads fault
   never_refused (unfit at n short read found) =
       no_cause (cause_at input at n) cause found (cause_there input at asks.at n asks.len None read asks.reads none_there)
 
 -- one that is refused has that reply alone
-pub refused_alone : (input cause : List ℕ) (e : Ending) (t : List ℕ) → IsRefused input cause → IsReply input e t → (e ≡ Refused) ×
+pub refused_alone : (input cause : List ℕ) (e : Ending) (t : List ℕ) → IsInputRefused input cause → IsReply input e t → (e ≡ Refused) ×
     (t ≡ refusal_line cause)
 refused_alone input cause e t is (refused other again ends text) = (ends, text ∙ ap refusal_line (one_cause input other cause again is))
 refused_alone input cause e t is (searched setup xs h asks reply) = absurd (never_refused input cause setup xs h asks is)

@@ -5,34 +5,34 @@ use Rattle.std.proofs.lemmas.Bool.{cases_Bool, cases_eq, and_parts, and_from, or
 use Rattle.std.proofs.lemmas.Bool.Decides.{nat_tests}
 use Rattle.hir_core.specs.Means.{is_member}
 use Rattle.hir_core.specs.Facts.{rises_from, is_ascending}
-use Rattle.hirscan.specs.Words.{with_byte, with_member, ranges_from, class_ranges}
+use Rattle.hirscan.specs.Words.{with_byte, with_member, member_ranges, class_ranges}
 
 -- one byte further down
 ranges_from_below : (member : ℕ → Bool) (n : ℕ) → 0 < n → n ≤ 256
-    → ranges_from member (256 - (n - 1)) (n - 1) ≡ with_member (member (n - 1)) (n - 1) (ranges_from member (256 - n) n)
+    → member_ranges member (256 - (n - 1)) (n - 1) ≡ with_member (member (n - 1)) (n - 1) (member_ranges member (256 - n) n)
 ranges_from_below member n h k =
     let e : 256 - (n - 1) ≡ suc (256 - n) = omega arith in
     let f : n - 1 + 1 ≡ n = omega arith in rw (e, f) refl
 
 pub ranges_with_byte : (member : ℕ → Bool) (n : ℕ) (rs new : List (ℕ × ℕ)) → 0 < n → n ≤ 256 → member (n - 1) ≡ true
-    → rs ≡ ranges_from member (256 - n) n → new ≡ with_byte (n - 1) rs → new ≡ ranges_from member (256 - (n - 1)) (n - 1)
+    → rs ≡ member_ranges member (256 - n) n → new ≡ with_byte (n - 1) rs → new ≡ member_ranges member (256 - (n - 1)) (n - 1)
 ranges_with_byte member n rs new h k m was is = rw (ranges_from_below member n h k, m) (is ∙ ap (with_byte (n - 1)) was)
 
 pub ranges_without_byte : (member : ℕ → Bool) (n : ℕ) (rs : List (ℕ × ℕ)) → 0 < n → n ≤ 256 → member (n - 1) ≡ false
-    → rs ≡ ranges_from member (256 - n) n → rs ≡ ranges_from member (256 - (n - 1)) (n - 1)
+    → rs ≡ member_ranges member (256 - n) n → rs ≡ member_ranges member (256 - (n - 1)) (n - 1)
 ranges_without_byte member n rs h k m was = rw (ranges_from_below member n h k, m) was
 
 -- the ranges are told by the members below the end
-ranges_from_same : (f g : ℕ → Bool) (n b : ℕ) → ((k : ℕ) → b ≤ k → k < b + n → f k ≡ g k) → ranges_from f n b ≡ ranges_from g n b
+ranges_from_same : (f g : ℕ → Bool) (n b : ℕ) → ((k : ℕ) → b ≤ k → k < b + n → f k ≡ g k) → member_ranges f n b ≡ member_ranges g n b
 ranges_from_same f g zero b h = refl
 ranges_from_same f g (suc n) b h =
     rw (h b (omega arith) (omega arith), ranges_from_same f g n (b + 1) (λ k l m. h k (omega arith) (omega arith))) refl
 
-pub all_ranges : (items rs new : List (ℕ × ℕ)) (member : ℕ → Bool) (n : ℕ) → n ≡ 0 → reverse rs ≡ ranges_from member (256 - n) n
+pub all_ranges : (items rs new : List (ℕ × ℕ)) (member : ℕ → Bool) (n : ℕ) → n ≡ 0 → reverse rs ≡ member_ranges member (256 - n) n
     → new ≡ reverse rs → ((b : ℕ) → b < 256 → member b ≡ is_member items b) → new ≡ class_ranges items
 unfolding class_ranges
 all_ranges items rs new member n z was is same =
-    is ∙ (was ∙ (ap (λ k. ranges_from member (256 - k) k) z
+    is ∙ (was ∙ (ap (λ k. member_ranges member (256 - k) k) z
     ∙ ranges_from_same member (is_member items) 256 0 (λ k l m. same k (omega arith))))
 
 -- ranges that rise from a byte on rise from any lower one on
@@ -61,7 +61,7 @@ rises_with_member : (m : Bool) (b : ℕ) (rs : List (ℕ × ℕ)) → rises_from
 rises_with_member true b rs h = rises_with_byte b rs h
 rises_with_member false b rs h = rises_lower b rs h
 
-pub ranges_from_rise : (member : ℕ → Bool) (n b : ℕ) → rises_from b (ranges_from member n b) ≡ true
+pub ranges_from_rise : (member : ℕ → Bool) (n b : ℕ) → rises_from b (member_ranges member n b) ≡ true
 ranges_from_rise member zero b = refl
 ranges_from_rise member (suc n) b = rises_with_member (member b) b _ (ranges_from_rise member n (b + 1))
 
@@ -107,12 +107,12 @@ above_with_member true b rs c h k = let f = ne_eqb c b h in is_member-with_byte 
 above_with_member false b rs c h k = refl
 
 -- no range of the bytes from b on has a lower byte
-none_below : (member : ℕ → Bool) (n b c : ℕ) → c < b → is_member (ranges_from member n b) c ≡ false
+none_below : (member : ℕ → Bool) (n b c : ℕ) → c < b → is_member (member_ranges member n b) c ≡ false
 none_below member zero b c h = refl
 none_below member (suc n) b c h =
     below_with_member (member b) b _ c h (ranges_from_rise member n (b + 1)) (none_below member n (b + 1) c (omega arith))
 
-members_from : (member : ℕ → Bool) (n b c : ℕ) → b ≤ c → c < b + n → is_member (ranges_from member n b) c ≡ member c
+members_from : (member : ℕ → Bool) (n b c : ℕ) → b ≤ c → c < b + n → is_member (member_ranges member n b) c ≡ member c
 members_from member zero b c h k = absurd (omega arith)
 members_from member (suc n) b c h k =
     elim (cases_eq c b) [

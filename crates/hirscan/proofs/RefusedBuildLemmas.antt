@@ -18,7 +18,7 @@ use Rattle.lazy_dfa.specs.Dfas.{Dfa}
 use Rattle.lazy_dfa.specs.Quits.{is_unsupported}
 use Rattle.regex_pair.specs.Pairs.{Pair, back_options, both_of, pair_built}
 use Rattle.hirscan.specs.declared.settings.Settings.{Settings}
-use Rattle.hirscan.specs.Built.{RefusesBuild, HasRoom, not_compiled, unsupported, too_small, no_memory, compile_options, half_of}
+use Rattle.hirscan.specs.Built.{RefusesBuild, HasRoom, not_compiled, unsupported, too_small, no_memory, compile_options, nfa_for}
 use Rattle.hirscan.specs.Built.{are_unsupported}
 use Rattle.hirscan.proofs.BuiltLemmas.{unsupported_are, same_measures}
 
@@ -88,7 +88,7 @@ module _ (xs : List Tree) (s : Settings) where
       (e : BuildError) where
     by_tests : (reverse : Bool) → (reverse ≡ true → HasRoom n s.dfa) → (words skips : Bool) (given least : ℕ) (d : Dfa) →
         words ≡ are_unsupported xs s.dfa → skips ≡ skips_check s.dfa → given ≡ capacity_of s.dfa →
-        least ≡ least_capacity (measures_with (half_of reverse n m) s.dfa) → (small : Bool) → (not skips && nat_lt given least) ≡ small →
+        least ≡ least_capacity (measures_with (nfa_for reverse n m) s.dfa) → (small : Bool) → (not skips && nat_lt given least) ≡ small →
         (if words then Err Unsupported else if small then Err (InsufficientCacheCapacity least given) else ok_dfa d) ≡ err_dfa e →
         RefusesBuild xs s e
     by_tests reverse roomy true skips given least d w k g l small is_small is =

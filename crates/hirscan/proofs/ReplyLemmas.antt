@@ -14,7 +14,7 @@ use Rattle.hirscan.specs.Takes.{classes_line, shrink_line, anchored_line, span_l
 use Rattle.hirscan.specs.Takes.{look_line, rep_line, cat_line, alt_line, pattern_line}
 use Rattle.hirscan.specs.Reads.{Reads, reads_find, reads_line}
 use Rattle.hirscan.specs.Refusals.{refusal}
-use Rattle.hirscan.specs.Reply.{IsRefused, too_long, faulty, unfit, IsReply, refused, searched, AnswersHead, refuses, searches}
+use Rattle.hirscan.specs.Reply.{IsInputRefused, too_long, faulty, unfit, IsReply, refused, searched, AnswersHead, refuses, searches}
 use Rattle.hirscan.specs.Reply.{IsSearchReply, refusal_line}
 use Rattle.hirscan.proofs.SliceLemmas.{rest_of_slice}
 
@@ -67,7 +67,7 @@ few_patterns _ _ _ _ (reads_line text line rest at after found n m parts one tak
 
 -- a reply of one line for a cause that applies
 pub reply_of_refusal : (r : Result Reply AllocError) (input cause : List ℕ) → IfOk r (λ x. x.ending ≡ Refused) →
-    IfOk r (λ x. string_bytes x.text ≡ refusal_line cause) → IsRefused input cause →
+    IfOk r (λ x. string_bytes x.text ≡ refusal_line cause) → IsInputRefused input cause →
     IfOk r (λ x. IsReply input x.ending (string_bytes x.text))
 reply_of_refusal (Ok x) input cause p q applies = refused cause applies p q
 reply_of_refusal (Err e) input cause p q applies = tt

@@ -14,7 +14,7 @@ use Rattle.hirscan.specs.declared.fault.FaultKind.TheVariants.{BadNumber, BadHex
 use Rattle.hirscan.specs.Words.{IsNumber, IsBound, IsGreedy, IsSwitch, IsYes, IsHex, IsHexByte, HasEnds, IsItem, AreItems}
 use Rattle.hirscan.specs.Readers.{is_number, number, the_number, bound, the_bound, order, the_order, switch, the_switch, yes_or_no}
 use Rattle.hirscan.specs.Readers.{the_yes_or_no, one_or_more, hex_bytes, the_bytes, only_one, hex_byte, the_byte, item_ends, the_ends}
-use Rattle.hirscan.specs.LineFault.{first_of, unless_read, ends_fault, item_fault}
+use Rattle.hirscan.specs.LineFault.{first_fault_of, unless_read, ends_fault, item_fault}
 use Rattle.hirscan.proofs.StageLemmas.{first_none, when_none}
 use Rattle.hirscan.proofs.HexLemmas.{hex_says, hex_said, ends_of}
 pub use Rattle.hirscan.proofs.NameLemmas.{line_word_spelled, line_word-spelling, look_says, look_said}
@@ -192,7 +192,7 @@ item_of_ends w (Some r) e f = (r, refl, record { ends = ends_say w r e; in_order
 pub item_says : (w : List ℕ) → item_fault w ≡ None → IsItem w (the_ends w)
 item_says w e = let i = item_of_ends w (item_ends w) refl e in rw i.1 i.2
 
-pub items_say : (ws : List (List ℕ)) → first_of (map item_fault ws) ≡ None → AreItems ws (map the_ends ws)
+pub items_say : (ws : List (List ℕ)) → first_fault_of (map item_fault ws) ≡ None → AreItems ws (map the_ends ws)
 items_say [] e = tt
 items_say (w ∷ ws) e =
     let p = first_none (item_fault w) _ e in
@@ -218,7 +218,7 @@ item_said w r h =
     let ordered : nat_lt r.1 r.0 ≡ false = le-ltb r.1 r.0 h.in_order in
     (rw (ends, ordered) refl, rw ends refl)
 
-pub items_said : (ws : List (List ℕ)) (rs : List (ℕ × ℕ)) → AreItems ws rs → (first_of (map item_fault ws) ≡ None) × (map the_ends ws ≡ rs)
+pub items_said : (ws : List (List ℕ)) (rs : List (ℕ × ℕ)) → AreItems ws rs → (first_fault_of (map item_fault ws) ≡ None) × (map the_ends ws ≡ rs)
 items_said [] [] h = (refl, refl)
 items_said [] (r ∷ rs) h = absurd h
 items_said (w ∷ ws) [] h = absurd h

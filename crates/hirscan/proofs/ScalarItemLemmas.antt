@@ -11,7 +11,7 @@ use Rattle.std.proofs.lemmas.List.Sums.{position_or_len_is}
 use Rattle.hirscan.specs.declared.fault.FaultKind.TheVariants.{BadRange}
 use Rattle.hirscan.specs.Words.{IsHexNumber, HasHexEnds, is_scalar, IsScalarItem, AreScalarItems}
 use Rattle.hirscan.specs.Readers.{hex_number, hex_ends_at, hex_ends, the_hex_ends}
-use Rattle.hirscan.specs.LineFault.{first_of, scalar_ends_fault, scalar_item_fault}
+use Rattle.hirscan.specs.LineFault.{first_fault_of, scalar_ends_fault, scalar_item_fault}
 use Rattle.hirscan.proofs.StageLemmas.{first_none, when_none}
 use Rattle.hirscan.proofs.HexLemmas.{ends_of}
 use Rattle.hirscan.proofs.HexNumberLemmas.{hex_number_says, hex_number_said, hex_digits_no_sign}
@@ -83,7 +83,7 @@ item_of_ends w (Some r) e f =
 pub scalar_item_says : (w : List ℕ) → scalar_item_fault w ≡ None → IsScalarItem w (the_hex_ends w)
 scalar_item_says w e = let i = item_of_ends w (hex_ends w) refl e in rw i.1 i.2
 
-pub scalar_items_say : (ws : List (List ℕ)) → first_of (map scalar_item_fault ws) ≡ None → AreScalarItems ws (map the_hex_ends ws)
+pub scalar_items_say : (ws : List (List ℕ)) → first_fault_of (map scalar_item_fault ws) ≡ None → AreScalarItems ws (map the_hex_ends ws)
 scalar_items_say [] e = tt
 scalar_items_say (w ∷ ws) e =
     let p = first_none (scalar_item_fault w) _ e in
@@ -98,7 +98,7 @@ scalar_item_said w r h =
     (rw (ends, low, high, ordered) refl, rw ends refl)
 
 pub scalar_items_said : (ws : List (List ℕ)) (rs : List (ℕ × ℕ)) → AreScalarItems ws rs
-    → (first_of (map scalar_item_fault ws) ≡ None) × (map the_hex_ends ws ≡ rs)
+    → (first_fault_of (map scalar_item_fault ws) ≡ None) × (map the_hex_ends ws ≡ rs)
 scalar_items_said [] [] h = (refl, refl)
 scalar_items_said [] (r ∷ rs) h = absurd h
 scalar_items_said (w ∷ ws) [] h = absurd h

@@ -11,7 +11,7 @@ use Rattle.hir_core.specs.Facts.{rises_from, is_ascending}
 use Rattle.hirscan.specs.declared.fault.FaultKind.TheVariants.{BadRange}
 use Rattle.hirscan.specs.Words.{AreScalarItems, is_scalar, with_range, scalar_ranges}
 use Rattle.hirscan.specs.Readers.{hex_ends, the_hex_ends}
-use Rattle.hirscan.specs.LineFault.{first_of, scalar_ends_fault, scalar_item_fault}
+use Rattle.hirscan.specs.LineFault.{first_fault_of, scalar_ends_fault, scalar_item_fault}
 use Rattle.hirscan.proofs.StageLemmas.{first_none, when_none}
 
 -- the ranges begin at this number or above it, and some number stands between each two of them
@@ -111,13 +111,13 @@ ends_in_order (Some r) h =
     let k : nat_lt r.1 r.0 ≡ false = (or_parts (not (is_scalar r.0) || not (is_scalar r.1)) _ f).1 in
     le-leb r.0 r.1 (ltb-false r.1 r.0 k)
 
-pub faultless_in_order : (ws : List (List ℕ)) → first_of (map scalar_item_fault ws) ≡ None → list_all in_order (map the_hex_ends ws) ≡ true
+pub faultless_in_order : (ws : List (List ℕ)) → first_fault_of (map scalar_item_fault ws) ≡ None → list_all in_order (map the_hex_ends ws) ≡ true
 faultless_in_order [] h = refl
 faultless_in_order (w ∷ ws) h =
     let p = first_none (scalar_item_fault w) (map scalar_item_fault ws) h in
     and_from (in_order (the_hex_ends w)) _ (ends_in_order (hex_ends w) p.0) (faultless_in_order ws p.1)
 
-pub faultless_items_ascend : (ws : List (List ℕ)) → first_of (map scalar_item_fault ws) ≡ None
+pub faultless_items_ascend : (ws : List (List ℕ)) → first_fault_of (map scalar_item_fault ws) ≡ None
     → is_ascending (scalar_ranges (map the_hex_ends ws)) ≡ true
 faultless_items_ascend ws h = scalar_ranges_ascend (map the_hex_ends ws) (faultless_in_order ws h)
 

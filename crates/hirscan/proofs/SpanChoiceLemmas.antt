@@ -15,8 +15,8 @@ use Rattle.search_types.specs.declared.anchored.Anchored.TheVariants.{No, Yes, P
 use Rattle.search_types.specs.Modes.{allowed}
 use Rattle.search_types.specs.Places.{counts}
 use Rattle.search_types.specs.LeftmostAnswer.{first_choice}
-use Rattle.hirscan.specs.Choices.{Query, choices, ends_at, may_end, choices_at}
-use Rattle.hirscan.specs.LooseAnswers.{IsSpanOf}
+use Rattle.hirscan.specs.Choices.{Query, choices, pattern_ends, may_end, choices_at}
+use Rattle.hirscan.specs.LooseAnswers.{MeansSpan}
 use Rattle.hirscan.proofs.EndLemmas.{Fits, IsMet, Tells, listed_has}
 use Rattle.hirscan.proofs.OfferLemmas.{offered, pattern_offers, mode_offers, AllRead, none_offered, some_offered, one_alone, alone_none}
 use Rattle.hirscan.proofs.OfferLemmas.{alone_some, span_is_choice, silent, offer_ends, paired, end_of, number_of}
@@ -61,7 +61,7 @@ module _ (q : Query) (fits : Fits q) (loops : All LoopsRead q.patterns) where
   counted j = counts q.utf8 q.haystack j
 
   abbrev pub at_place : ℕ → List (ℕ × ℕ)
-  at_place i = choices (allowed q.mode (length q.patterns)) (may_end q) 0 (ends_at q i)
+  at_place i = choices (allowed q.mode (length q.patterns)) (may_end q) 0 (pattern_ends q i)
 
   -- a place that doesn't count has no choice
   pub uncounted : (i : ℕ) → counted i ≡ false → choices_at q i ≡ []
@@ -90,7 +90,7 @@ module _ (q : Query) (fits : Fits q) (loops : All LoopsRead q.patterns) where
   ]
 
   one_named : (i p : ℕ) (x : Tree) → slice_get q.patterns p ≡ Some x → i ≤ q.end →
-      choices (allowed (Pattern p) (length q.patterns)) (may_end q) 0 (ends_at q i) ≡ map (λ j. (p, j))
+      choices (allowed (Pattern p) (length q.patterns)) (may_end q) 0 (pattern_ends q i) ≡ map (λ j. (p, j))
       (filter (may_end q) (preferred_ends q.looks q.haystack x i))
   one_named i p x at inside =
       one_alone (allowed (Pattern p) (length q.patterns)) counted q.looks q.haystack q.end i inside q.patterns x 0 p p at (omega arith) (
@@ -100,7 +100,7 @@ module _ (q : Query) (fits : Fits q) (loops : All LoopsRead q.patterns) where
 
   named_none : (i p : ℕ) (o : Option Tree) → slice_get q.patterns p ≡ o → i ≤ q.end →
       pattern_offers q.looks (take q.end q.haystack) p o i ≡ [] →
-      choices (allowed (Pattern p) (length q.patterns)) (may_end q) 0 (ends_at q i) ≡ []
+      choices (allowed (Pattern p) (length q.patterns)) (may_end q) 0 (pattern_ends q i) ≡ []
   named_none i p None at inside none =
       silent (allowed (Pattern p) (length q.patterns)) counted q.looks q.haystack q.end i inside q.patterns 0
       (λ k low high. allowed_other p (length q.patterns) k (let past = none_past p at in λ e. absurd (omega arith)))
@@ -110,7 +110,7 @@ module _ (q : Query) (fits : Fits q) (loops : All LoopsRead q.patterns) where
       (none_paired p (preferred_ends q.looks (take q.end q.haystack) x i) none)
 
   mode_none : (mode : Anchored) (i : ℕ) → i ≤ q.end → mode_offers q.looks (take q.end q.haystack) q.patterns mode i ≡ [] →
-      choices (allowed mode (length q.patterns)) (may_end q) 0 (ends_at q i) ≡ []
+      choices (allowed mode (length q.patterns)) (may_end q) 0 (pattern_ends q i) ≡ []
   mode_none No i inside none = none_offered (allowed No (length q.patterns)) counted q.looks q.haystack q.end i inside q.patterns 0
       (all_read q.patterns reads) none
   mode_none Yes i inside none = none_offered (allowed Yes (length q.patterns)) counted q.looks q.haystack q.end i inside q.patterns 0
@@ -130,7 +130,7 @@ module _ (q : Query) (fits : Fits q) (loops : All LoopsRead q.patterns) where
 
   named_some : (i n j p : ℕ) (others : List (ℕ × ℕ)) (o : Option Tree) → slice_get q.patterns p ≡ o → i ≤ q.end → counted j ≡ true →
       pattern_offers q.looks (take q.end q.haystack) p o i ≡ (j, n) ∷ others →
-      FirstIs i n j (choices (allowed (Pattern p) (length q.patterns)) (may_end q) 0 (ends_at q i))
+      FirstIs i n j (choices (allowed (Pattern p) (length q.patterns)) (may_end q) 0 (pattern_ends q i))
   named_some i n j p others None at inside c e = cc
   named_some i n j p others (Some x) at inside c e =
       ap (first_choice i) (one_named i p x at inside)
@@ -139,7 +139,7 @@ module _ (q : Query) (fits : Fits q) (loops : All LoopsRead q.patterns) where
 
   mode_some : (mode : Anchored) (i n j : ℕ) (others : List (ℕ × ℕ)) → i ≤ q.end → counted j ≡ true →
       mode_offers q.looks (take q.end q.haystack) q.patterns mode i ≡ (j, n) ∷ others →
-      FirstIs i n j (choices (allowed mode (length q.patterns)) (may_end q) 0 (ends_at q i))
+      FirstIs i n j (choices (allowed mode (length q.patterns)) (may_end q) 0 (pattern_ends q i))
   mode_some No i n j others inside c e =
       some_offered (allowed No (length q.patterns)) counted q.looks q.haystack q.end i inside q.patterns 0 n j others
       (all_read q.patterns reads) (every_allowed No refl) c e
@@ -184,7 +184,7 @@ module _ (q : Query) (fits : Fits q) (loops : All LoopsRead q.patterns) where
   offer_met i n j others inside e = mode_met q.mode i n j others inside e
 
   -- a span that counts is a choice
-  pub span_chosen : (p i j : ℕ) → allowed q.mode (length q.patterns) p ≡ true → IsSpanOf q p i j → i ≤ q.end → j ≤ q.end →
+  pub span_chosen : (p i j : ℕ) → allowed q.mode (length q.patterns) p ≡ true → MeansSpan q p i j → i ≤ q.end → j ≤ q.end →
       counted i ≡ true → counted j ≡ true → choices_at q i ≡ [] → ⊥
   span_chosen p i j may m inside within start c none =
       let all : at_place i ≡ [] = sym (ap (λ b. cond b (at_place i) []) start) ∙ none in

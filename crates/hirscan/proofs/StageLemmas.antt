@@ -5,16 +5,17 @@ use Rattle.std.proofs.lemmas.Bool.{and_parts, eqb-true, leb-true}
 use Rattle.std.proofs.lemmas.Bool.Decides.{nat_tests}
 use Rattle.std.proofs.lemmas.List.{length-map, length-take, take_all}
 use denote.Ref.{Bor}
+use Rattle.thompson_nfa.specs.LiteralGroups.{texts}
 use Rattle.hirscan.specs.declared.fault.FaultKind.{FaultKind}
 use Rattle.hirscan.specs.declared.fault.FaultKind.TheVariants.{SettingAfterNode, WrongWordCount}
 use Rattle.hirscan.specs.declared.words.LineWord.{LineWord}
 use Rattle.hirscan.specs.declared.words.LineWord.TheVariants.{Utf8, Line, Capacity, Quit, Classes, Shrink, Anchored, Span, Empty, Lit}
 use Rattle.hirscan.specs.declared.words.LineWord.TheVariants.{Bytes, Chars, Look, Rep, Cat, Alt, Pattern, Find}
 use Rattle.hirscan.specs.Takes.{HeadValue}
-use Rattle.hirscan.specs.LineFault.{first_of, when, known_fault, is_setting_after_node, is_word_count, is_class, left_fault, after}
+use Rattle.hirscan.specs.LineFault.{first_fault_of, when, known_fault, is_setting_after_node, is_word_count, is_class, left_fault, after_line}
 use Rattle.hirscan.specs.declared.fault.LineFault.{LineFault}
 use Rattle.hirscan.specs.declared.line.Step.{Step}
-use Rattle.hirscan.specs.Tells.{texts, TellsLineFault, IsDone, step_after}
+use Rattle.hirscan.specs.Tells.{TellsLineFault, IsDone, step_after}
 
 pub known_fault_setting : (k : LineWord) (args : List (List ℕ)) (at : HeadValue) → is_setting_after_node k at ≡ true
     → known_fault k args at ≡ Some SettingAfterNode
@@ -74,9 +75,9 @@ left_fault_told r k told args at e f h =
 
 done_told : (r : Result Step LineFault) (k : LineWord) (told args : List (List ℕ)) (at now : HeadValue) → told ≡ args
     → left_fault k args at ≡ known_fault k args at → IfOk r (λ step. IsDone k told at now × (step ≡ step_after k))
-    → IfOk r (λ step. (known_fault k args at ≡ None) × (now ≡ after k args at) × (step ≡ step_after k))
+    → IfOk r (λ step. (known_fault k args at ≡ None) × (now ≡ after_line k args at) × (step ≡ step_after k))
 done_told (Ok step) k told args at now e f h =
-    (sym f ∙ (ap (λ ws. left_fault k ws at) (sym e) ∙ h.0.0), h.0.1 ∙ ap (λ ws. after k ws at) e, h.1)
+    (sym f ∙ (ap (λ ws. left_fault k ws at) (sym e) ∙ h.0.0), h.0.1 ∙ ap (λ ws. after_line k ws at) e, h.1)
 done_told (Err x) k told args at now e f h = tt
 
 -- the first four of these words, as they are told
@@ -106,12 +107,12 @@ module _ (k : LineWord) (first : List (Bor (List ℕ))) (args : List (List ℕ))
         left_fault_told r k (texts others) args at (ap texts same ∙ all_first other many) (known_fault_left at settable many) h
 
     pub done_by_first : (now : HeadValue) → IfOk r (λ step. IsDone k (texts others) at now × (step ≡ step_after k))
-        → IfOk r (λ step. (known_fault k args at ≡ None) × (now ≡ after k args at) × (step ≡ step_after k))
+        → IfOk r (λ step. (known_fault k args at ≡ None) × (now ≡ after_line k args at) × (step ≡ step_after k))
     done_by_first now h =
         done_told r k (texts others) args at now (ap texts same ∙ all_first other many) (known_fault_left at settable many) h
 
 -- where there is no fault at all, none is the first, and no test says one
-pub first_none : (a : Option FaultKind) (rest : List (Option FaultKind)) → first_of (a ∷ rest) ≡ None → (a ≡ None) × (first_of rest ≡ None)
+pub first_none : (a : Option FaultKind) (rest : List (Option FaultKind)) → first_fault_of (a ∷ rest) ≡ None → (a ≡ None) × (first_fault_of rest ≡ None)
 first_none None rest h = (refl, h)
 first_none (Some k) rest h = absurd cc
 

@@ -21,9 +21,9 @@ use Rattle.hirscan.specs.Takes.{HeadValue, HasNoNode, Sets, Replaces, Takes, End
 use Rattle.hirscan.specs.Takes.{utf8_line, line_line, two_bytes_line, capacity_line, quit_line, classes_line, shrink_line, anchored_line}
 use Rattle.hirscan.specs.Takes.{span_line}
 use Rattle.hirscan.specs.Takes.{empty_line, lit_line, bytes_line, chars_line, look_line, rep_line, cat_line, alt_line, pattern_line}
-use Rattle.hirscan.specs.LineFault.{first_of, when, unless_read, byte_fault, word_fault, is_setting_after_node, is_word_count, is_at_most}
+use Rattle.hirscan.specs.LineFault.{first_fault_of, when, unless_read, byte_fault, word_fault, is_setting_after_node, is_word_count, is_at_most}
 use Rattle.hirscan.specs.LineFault.{is_min_above_max, top, below, has_too_few_trees, is_too_deep, has_not_one_tree, has_tree_left_over}
-use Rattle.hirscan.specs.LineFault.{known_fault, setup_after, after}
+use Rattle.hirscan.specs.LineFault.{known_fault, setup_after, after_line}
 use Rattle.hirscan.specs.declared.line.Step.{Step}
 use Rattle.hirscan.specs.Tells.{step_after, TellsStep}
 use Rattle.hirscan.proofs.StageLemmas.{first_none, when_none}
@@ -62,7 +62,7 @@ no_fault_parts k args at h =
       none_left = when_none _ TreeLeftOver i.0;
     }
 
-first_skips : (a : Option FaultKind) (rest : List (Option FaultKind)) → a ≡ None → first_of rest ≡ None → first_of (a ∷ rest) ≡ None
+first_skips : (a : Option FaultKind) (rest : List (Option FaultKind)) → a ≡ None → first_fault_of rest ≡ None → first_fault_of (a ∷ rest) ≡ None
 first_skips a rest e f = rw e f
 
 when_false : (b : Bool) (k : FaultKind) → b ≡ false → when b k ≡ None
@@ -143,7 +143,7 @@ set : (at : HeadValue) (new : Setup) → HasNoNode at → Sets at (record { setu
 set at new h = record { no_node = h; setup_is = refl; stack_stays = refl; patterns_stay = refl }
 
 -- the terminator is one byte, or two
-line_after : (args : List (List ℕ)) (at : HeadValue) → NoFault Line args at → Takes (spelling Line ∷ args) at (after Line args at)
+line_after : (args : List (List ℕ)) (at : HeadValue) → NoFault Line args at → Takes (spelling Line ∷ args) at (after_line Line args at)
 line_after [] at p = absurd (let c = p.counted in cc)
 line_after (w ∷ []) at p =
     let a = first_none (byte_fault w) [] p.words_fit in
@@ -160,7 +160,7 @@ line_after (u ∷ v ∷ w ∷ ws) at p =
 
 -- a line that isn't `find` and has no fault is taken, and does what its words say
 pub takes_after : (k : LineWord) (args : List (List ℕ)) (at : HeadValue) → step_after k ≡ Next → NoFault k args at
-    → Takes (spelling k ∷ args) at (after k args at)
+    → Takes (spelling k ∷ args) at (after_line k args at)
 takes_after Utf8 args at n p =
     let e = one_alone args [] (eqb-true _ _ p.counted) in
     utf8_line (word_at args 0) (the_switch (word_at args 0)) (ap (λ a. codes "utf8" ∷ a) e) (switch_says (word_at args 0) p.words_fit)
@@ -260,14 +260,14 @@ ends_head args at p = record {
 }
 
 step_told : (k : LineWord) (args : List (List ℕ)) (at : HeadValue) → NoFault k args at
-    → TellsStep (spelling k ∷ args) at (after k args at) (step_after k)
+    → TellsStep (spelling k ∷ args) at (after_line k args at) (step_after k)
 step_told Find args at p = (ends_head args at p, refl)
 step_told k args at p = takes_after k args at refl p
 
 -- what a line that was followed tells
 pub line_done : {E : Type 0} (r : Result Step E) (ws args : List (List ℕ)) (w : List ℕ) (k : LineWord) (at now : HeadValue)
     → ws ≡ w ∷ args → line_word w ≡ Some k
-    → IfOk r (λ step. (known_fault k args at ≡ None) × (now ≡ after k args at) × (step ≡ step_after k))
+    → IfOk r (λ step. (known_fault k args at ≡ None) × (now ≡ after_line k args at) × (step ≡ step_after k))
     → IfOk r (λ step. TellsStep ws at now step)
 line_done (Ok step) ws args w k at now e f h =
     let spelled : ws ≡ spelling k ∷ args = e ∙ ap (λ v. v ∷ args) (line_word_spelled w k f) in

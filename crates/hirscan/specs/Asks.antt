@@ -6,16 +6,16 @@ use Rattle.search_types.specs.Inputs.{Search}
 use Rattle.hirscan.specs.declared.line.Setup.{Setup}
 use Rattle.hirscan.specs.Refusals.{span_of}
 
-abbrev pub mode_of : Bool → Anchored
-mode_of true = Yes
-mode_of false = No
+abbrev pub mode_for : Bool → Anchored
+mode_for true = Yes
+mode_for false = No
 
 -- the search, where the span fits the haystack
-abbrev pub search_of : Setup → List ℕ → Search
-search_of setup h = record {
+abbrev pub asked_search : Setup → List ℕ → Search
+asked_search setup h = record {
   haystack = h;
   start = (span_of setup.span h).start;
   end = (span_of setup.span h).end;
-  anchored = mode_of setup.anchored;
+  anchored = mode_for setup.anchored;
   earliest = false;
 }

@@ -88,8 +88,8 @@ abbrev pub HasRoom : Nfa → DfaOptions → Type 0
 HasRoom n o = skips_check o ≡ false → least_capacity (measures_with n o) ≤ capacity_of o
 
 -- one of both NFAs
-abbrev pub half_of : Bool → Nfa → Nfa → Nfa
-half_of reverse n m = if reverse then m else n
+abbrev pub nfa_for : Bool → Nfa → Nfa → Nfa
+nfa_for reverse n m = if reverse then m else n
 
 -- Why no regex is built: a compile is refused, which is told as it was; or both NFAs are made, and words by characters can't be
 -- had, or else the capacity is below the least one of an automaton, the forward one first; or memory lacked.
@@ -100,6 +100,6 @@ pub data RefusesBuild (xs : List Tree) (s : Settings) (e : BuildError) : Type 0 
       are_unsupported xs s.dfa ≡ true → e ≡ Unsupported → RefusesBuild xs s e
   too_small : (n m : Nfa) → IsCompiled (compile_options false s) xs n → IsCompiled (compile_options true s) xs m →
       are_unsupported xs s.dfa ≡ false → skips_check s.dfa ≡ false → (reverse : Bool) → (reverse ≡ true → HasRoom n s.dfa) →
-      capacity_of s.dfa < least_capacity (measures_with (half_of reverse n m) s.dfa) →
-      e ≡ InsufficientCacheCapacity (least_capacity (measures_with (half_of reverse n m) s.dfa)) (capacity_of s.dfa) → RefusesBuild xs s e
+      capacity_of s.dfa < least_capacity (measures_with (nfa_for reverse n m) s.dfa) →
+      e ≡ InsufficientCacheCapacity (least_capacity (measures_with (nfa_for reverse n m) s.dfa)) (capacity_of s.dfa) → RefusesBuild xs s e
   no_memory : e ≡ NoMemory → RefusesBuild xs s e

@@ -13,17 +13,17 @@ use Rattle.hirscan.specs.declared.words.LineWord.{LineWord}
 use Rattle.hirscan.specs.declared.words.LineWord.TheVariants.{Utf8, Line, Capacity, Quit, Classes, Shrink, Anchored, Span, Empty, Lit}
 use Rattle.hirscan.specs.declared.words.LineWord.TheVariants.{Bytes, Chars, Look, Rep, Cat, Alt, Pattern, Find}
 use Rattle.hirscan.specs.Words.{is_scalar, class_ranges, scalar_ranges}
-use Rattle.hirscan.specs.Takes.{HeadValue, with_utf8, with_terminator, with_capacity, with_quit, with_classes, with_shrink, with_anchored}
-use Rattle.hirscan.specs.Takes.{with_span}
+use Rattle.hirscan.specs.Takes.{HeadValue, with_utf8, with_terminator, with_capacity, with_quit, with_classes, with_shrink, with_head_anchored}
+use Rattle.hirscan.specs.Takes.{with_head_span}
 use Rattle.hirscan.specs.Readers.{line_word, number, the_number, bound, the_bound, order, the_order, switch, the_switch, yes_or_no}
 use Rattle.hirscan.specs.Readers.{the_yes_or_no, hex_bytes, the_bytes, hex_byte, the_byte, item_ends, the_ends, hex_ends, the_hex_ends}
 use Rattle.hirscan.specs.Readers.{look_named, the_look_named, word_at}
 
 -- the first fault of the list
-abbrev pub first_of : List (Option FaultKind) → Option FaultKind
-first_of [] = None
-first_of (None ∷ faults) = first_of faults
-first_of (Some kind ∷ faults) = Some kind
+abbrev pub first_fault_of : List (Option FaultKind) → Option FaultKind
+first_fault_of [] = None
+first_fault_of (None ∷ faults) = first_fault_of faults
+first_fault_of (Some kind ∷ faults) = Some kind
 
 -- this kind where the test says so
 abbrev pub when : Bool → FaultKind → Option FaultKind
@@ -101,20 +101,20 @@ byte_fault w = unless_read (hex_byte w) BadHex
 -- what is wrong with the first faulty word after the line's first
 abbrev pub word_fault : LineWord → List (List ℕ) → Option FaultKind
 word_fault Utf8 args = unless_read (switch (word_at args 0)) BadChoice
-word_fault Line args = first_of (map byte_fault args)
+word_fault Line args = first_fault_of (map byte_fault args)
 word_fault Capacity args = unless_read (number (word_at args 0)) BadNumber
 word_fault Quit args = byte_fault (word_at args 0)
 word_fault Classes args = unless_read (switch (word_at args 0)) BadChoice
 word_fault Shrink args = unless_read (switch (word_at args 0)) BadChoice
 word_fault Anchored args = unless_read (yes_or_no (word_at args 0)) BadChoice
-word_fault Span args = first_of (unless_read (number (word_at args 0)) BadNumber
+word_fault Span args = first_fault_of (unless_read (number (word_at args 0)) BadNumber
     ∷ unless_read (number (word_at args 1)) BadNumber
     ∷ [])
 word_fault Lit args = unless_read (hex_bytes (word_at args 0)) BadHex
-word_fault Bytes args = first_of (map item_fault args)
-word_fault Chars args = first_of (map scalar_item_fault args)
+word_fault Bytes args = first_fault_of (map item_fault args)
+word_fault Chars args = first_fault_of (map scalar_item_fault args)
 word_fault Look args = unless_read (look_named (word_at args 0)) UnknownLook
-word_fault Rep args = first_of (unless_read (number (word_at args 0)) BadNumber
+word_fault Rep args = first_fault_of (unless_read (number (word_at args 0)) BadNumber
     ∷ unless_read (bound (word_at args 1)) BadNumber
     ∷ unless_read (order (word_at args 2)) BadChoice
     ∷ [])
@@ -184,23 +184,23 @@ later_faults k args at = word_fault k args
 
 -- the first of these that applies
 abbrev pub left_fault : LineWord → List (List ℕ) → HeadValue → Option FaultKind
-left_fault k args at = first_of (later_faults k args at)
+left_fault k args at = first_fault_of (later_faults k args at)
 
 -- what is wrong with a line of this first word and these words after it: the first kind that applies
 abbrev pub known_fault : LineWord → List (List ℕ) → HeadValue → Option FaultKind
-known_fault k args at = first_of (when (is_setting_after_node k at) SettingAfterNode
+known_fault k args at = first_fault_of (when (is_setting_after_node k at) SettingAfterNode
     ∷ when (not (is_word_count k (length args))) WrongWordCount
     ∷ later_faults k args at)
 
 -- the same, where the first word may begin no line
-abbrev pub fault_after : Option LineWord → List (List ℕ) → HeadValue → Option FaultKind
-fault_after None args at = Some UnknownWord
-fault_after (Some k) args at = known_fault k args at
+abbrev pub fault_by_word : Option LineWord → List (List ℕ) → HeadValue → Option FaultKind
+fault_by_word None args at = Some UnknownWord
+fault_by_word (Some k) args at = known_fault k args at
 
 -- what is wrong with the line of these words: None where it is taken, or ends the head
 abbrev pub fault : List (List ℕ) → HeadValue → Option FaultKind
 fault [] at = Some UnknownWord
-fault (w ∷ args) at = fault_after (line_word w) args at
+fault (w ∷ args) at = fault_by_word (line_word w) args at
 
 -- the terminator of these words
 abbrev pub the_terminator : List (List ℕ) → Terminator
@@ -215,8 +215,8 @@ setup_after Capacity args was = with_capacity (the_number (word_at args 0)) was
 setup_after Quit args was = with_quit (the_byte (word_at args 0)) was
 setup_after Classes args was = with_classes (the_switch (word_at args 0)) was
 setup_after Shrink args was = with_shrink (the_switch (word_at args 0)) was
-setup_after Anchored args was = with_anchored (the_yes_or_no (word_at args 0)) was
-setup_after Span args was = with_span (record { start = the_number (word_at args 0); end = the_number (word_at args 1) }) was
+setup_after Anchored args was = with_head_anchored (the_yes_or_no (word_at args 0)) was
+setup_after Span args was = with_head_span (record { start = the_number (word_at args 0); end = the_number (word_at args 1) }) was
 setup_after _ args was = was
 
 -- what stands after a line that sets something
@@ -232,15 +232,15 @@ after_tree k args at = record {
 }
 
 -- what stands after a line of this first word that has no fault
-abbrev pub after : LineWord → List (List ℕ) → HeadValue → HeadValue
-after Utf8 args at = after_setting Utf8 args at
-after Line args at = after_setting Line args at
-after Capacity args at = after_setting Capacity args at
-after Quit args at = after_setting Quit args at
-after Classes args at = after_setting Classes args at
-after Shrink args at = after_setting Shrink args at
-after Anchored args at = after_setting Anchored args at
-after Span args at = after_setting Span args at
-after Pattern args at = record { setup = at.setup; stack = []; patterns = at.patterns ++ at.stack }
-after Find args at = at
-after k args at = after_tree k args at
+abbrev pub after_line : LineWord → List (List ℕ) → HeadValue → HeadValue
+after_line Utf8 args at = after_setting Utf8 args at
+after_line Line args at = after_setting Line args at
+after_line Capacity args at = after_setting Capacity args at
+after_line Quit args at = after_setting Quit args at
+after_line Classes args at = after_setting Classes args at
+after_line Shrink args at = after_setting Shrink args at
+after_line Anchored args at = after_setting Anchored args at
+after_line Span args at = after_setting Span args at
+after_line Pattern args at = record { setup = at.setup; stack = []; patterns = at.patterns ++ at.stack }
+after_line Find args at = at
+after_line k args at = after_tree k args at

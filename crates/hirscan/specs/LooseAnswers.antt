@@ -9,7 +9,7 @@ use Rattle.search_types.specs.Places.{counts}
 use Rattle.hirscan.specs.Choices.{Query}
 
 -- the pattern p means the span from i to j
-pub record IsSpanOf (q : Query) (p i j : ℕ) : Type 0 where
+pub record MeansSpan (q : Query) (p i j : ℕ) : Type 0 where
   pub tree : Tree
   pub listed : slice_get q.patterns p ≡ Some tree
   pub means : Means q.looks q.haystack tree i j
@@ -17,7 +17,7 @@ pub record IsSpanOf (q : Query) (p i j : ℕ) : Type 0 where
 -- and the search may find it, counted or not
 pub record IsFindable (q : Query) (i p j : ℕ) : Type 0 where
   pub may : allowed q.mode (length q.patterns) p ≡ true
-  pub span : IsSpanOf q p i j
+  pub span : MeansSpan q p i j
   pub within : j ≤ q.end
 
 -- and both its ends count

@@ -18,7 +18,7 @@ use Rattle.hirscan.specs.declared.fault.FaultKind.{FaultKind}
 use Rattle.hirscan.specs.declared.line.Setup.{Setup}
 use Rattle.hirscan.specs.declared.ending.Ending.{Ending}
 use Rattle.hirscan.specs.declared.ending.Ending.TheVariants.{Listed, Quit, Refused}
-use Rattle.hirscan.specs.Asks.{search_of}
+use Rattle.hirscan.specs.Asks.{asked_search}
 use Rattle.hirscan.specs.Built.{IsBuilt, program_settings, compile_options, quit_bytes_for}
 use Rattle.hirscan.specs.Headline.{answers_to, IsQuitBeside}
 use Rattle.hirscan.specs.Reads.{Reads, IsFaultAt}
@@ -47,12 +47,12 @@ refusal_line cause = codes "refused: " ++ (cause ++ 10 ∷ [])
 -- ---- what is searched
 
 -- the input is refused for this cause, which shows in it: each applies only where none before it does
-pub data IsRefused (input cause : List ℕ) : Type 0 where
-  too_long : 2 ^ 30 < length input → cause ≡ codes "input above 1073741824 bytes" → IsRefused input cause
+pub data IsInputRefused (input cause : List ℕ) : Type 0 where
+  too_long : 2 ^ 30 < length input → cause ≡ codes "input above 1073741824 bytes" → IsInputRefused input cause
   faulty : (k : ℕ) (kind : FaultKind) → length input ≤ 2 ^ 30 → IsFaultAt input at_first k kind →
-      cause ≡ codes "line " ++ (decimal k ++ (codes ": " ++ kind_text kind)) → IsRefused input cause
+      cause ≡ codes "line " ++ (decimal k ++ (codes ": " ++ kind_text kind)) → IsInputRefused input cause
   unfit : (at : HeadValue) (n : ℕ) → length input ≤ 2 ^ 30 → Reads input at_first at n →
-      refusal at.setup at.patterns (drop n input) ≡ Some cause → IsRefused input cause
+      refusal at.setup at.patterns (drop n input) ≡ Some cause → IsInputRefused input cause
 
 -- the input asks for these patterns, set up so, in this haystack, and none of it is refused
 pub record Asks (input : List ℕ) (setup : Setup) (xs : List Tree) (h : List ℕ) : Type 0 where
@@ -94,20 +94,20 @@ finding_behind q fs = finding_from q (last_end fs)
 pub record QuitsBehind (setup : Setup) (xs : List Tree) (h : List ℕ) (fs : List Found) (b x : ℕ) : Type 0 where
   pub regex : Pair
   pub built : IsBuilt xs (program_settings setup.settings) regex
-  pub found : IsTakenList (AnswersAt regex (search_of setup h)) None (search_of setup h).start fs
+  pub found : IsTakenList (AnswersAt regex (asked_search setup h)) None (asked_search setup h).start fs
   pub from : ℕ
-  pub asked : IsAskedAt regex (finding_behind (search_of setup h) fs) from
-  pub reads : scan (reader regex.forward) (search_at (search_of setup h) from) ≡ quit b x
-  pub beside : IsQuitBeside (quit_bytes_for xs (program_settings setup.settings).dfa) (search_of setup h) b x
+  pub asked : IsAskedAt regex (finding_behind (asked_search setup h) fs) from
+  pub reads : scan (reader regex.forward) (search_at (asked_search setup h) from) ≡ quit b x
+  pub beside : IsQuitBeside (quit_bytes_for xs (program_settings setup.settings).dfa) (asked_search setup h) b x
 
 -- these are the first of all answers, for each set of words
 abbrev pub BeginsAnswers : Setup → List Tree → List ℕ → List Found → Type 0
 BeginsAnswers setup xs h fs = (words : ℕ → Bool) → IsWordSet words → (rest : List Found) ×
-    (answers_to words xs setup.settings (search_of setup h) ≡ fs ++ rest)
+    (answers_to words xs setup.settings (asked_search setup h) ≡ fs ++ rest)
 
 -- these are all answers, for each set of words
 abbrev pub AreAnswers : Setup → List Tree → List ℕ → List Found → Type 0
-AreAnswers setup xs h fs = (words : ℕ → Bool) → IsWordSet words → answers_to words xs setup.settings (search_of setup h) ≡ fs
+AreAnswers setup xs h fs = (words : ℕ → Bool) → IsWordSet words → answers_to words xs setup.settings (asked_search setup h) ≡ fs
 
 -- ---- the reply
 
@@ -120,7 +120,7 @@ pub data IsSearchReply (setup : Setup) (xs : List Tree) (h : List ℕ) (ending :
 
 -- The reply to the input is this text, with this ending.
 pub data IsReply (input : List ℕ) (ending : Ending) (text : List ℕ) : Type 0 where
-  refused : (cause : List ℕ) → IsRefused input cause → ending ≡ Refused → text ≡ refusal_line cause → IsReply input ending text
+  refused : (cause : List ℕ) → IsInputRefused input cause → ending ≡ Refused → text ≡ refusal_line cause → IsReply input ending text
   searched : (setup : Setup) (xs : List Tree) (h : List ℕ) → Asks input setup xs h → IsSearchReply setup xs h ending text →
       IsReply input ending text
 

@@ -26,11 +26,11 @@ at_first = record { setup = record { settings = default_settings; anchored = fal
 
 -- ---- what lines set
 
-abbrev pub with_anchored : Bool → Setup → Setup
-with_anchored anchored was = record was { anchored = anchored }
+abbrev pub with_head_anchored : Bool → Setup → Setup
+with_head_anchored anchored was = record was { anchored = anchored }
 
-abbrev pub with_span : Span → Setup → Setup
-with_span span was = record was { span = Some span }
+abbrev pub with_head_span : Span → Setup → Setup
+with_head_span span was = record was { span = Some span }
 
 abbrev pub with_settings : Settings → Setup → Setup
 with_settings settings was = record was { settings = settings }
@@ -106,9 +106,9 @@ pub data Takes (ws : List (List ℕ)) (before after : HeadValue) : Type 0 where
   shrink_line : (w : List ℕ) (on : Bool) → ws ≡ codes "shrink" ∷ w ∷ [] → IsSwitch w on →
       Sets before after (with_shrink on before.setup) → Takes ws before after
   anchored_line : (w : List ℕ) (anchored : Bool) → ws ≡ codes "anchored" ∷ w ∷ [] → IsYes w anchored →
-      Sets before after (with_anchored anchored before.setup) → Takes ws before after
+      Sets before after (with_head_anchored anchored before.setup) → Takes ws before after
   span_line : (low high : List ℕ) (s e : ℕ) → ws ≡ codes "span" ∷ low ∷ high ∷ [] → IsNumber low s → IsNumber high e →
-      Sets before after (with_span (record { start = s; end = e }) before.setup) → Takes ws before after
+      Sets before after (with_head_span (record { start = s; end = e }) before.setup) → Takes ws before after
   empty_line : ws ≡ codes "empty" ∷ [] → Replaces before after [] empty → Takes ws before after
   lit_line : (w bytes : List ℕ) → ws ≡ codes "lit" ∷ w ∷ [] → IsHex w bytes → Replaces before after [] (literal bytes) →
       Takes ws before after

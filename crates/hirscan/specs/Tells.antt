@@ -1,5 +1,5 @@
 -- What the crate's answers say of a text and of a line.
-use Rattle.std.specs.Prelude.{◌≡◌, ℕ, List, [], ◌∷◌, ◌++◌, map, Option, Some, None, codes}
+use Rattle.std.specs.Prelude.{◌≡◌, ℕ, List, [], ◌∷◌, ◌++◌, Option, Some, None, codes}
 use denote.Ref.{Bor}
 use Rattle.hirscan.specs.declared.fault.FaultKind.{FaultKind}
 use Rattle.hirscan.specs.declared.fault.FaultKind.TheVariants.{NoFindLine, UnknownWord, SettingAfterNode, WrongWordCount, BadNumber, BadHex}
@@ -19,7 +19,7 @@ use Rattle.hirscan.specs.Takes.{HeadValue, at_first, Takes, EndsHead}
 use Rattle.hirscan.specs.Reads.{IsOneLine, IsFaultAt}
 use Rattle.hirscan.specs.declared.words.LineWord.{LineWord}
 use Rattle.hirscan.specs.declared.words.LineWord.TheVariants.{Find}
-use Rattle.hirscan.specs.LineFault.{left_fault, after}
+use Rattle.hirscan.specs.LineFault.{left_fault, after_line}
 
 -- how a kind is told
 abbrev pub kind_text : FaultKind → List ℕ
@@ -37,10 +37,6 @@ kind_text TooFewTrees = codes "too few trees"
 kind_text TooDeep = codes "too deep"
 kind_text NotOneTree = codes "not one tree"
 kind_text TreeLeftOver = codes "tree left over"
-
--- the words behind references to them
-abbrev pub texts : List (Bor (List ℕ)) → List (List ℕ)
-texts words = map (λ w. w.now) words
 
 -- the words that are still to be read of a line
 abbrev pub words_behind : Option (Bor (List ℕ)) → List (List ℕ)
@@ -79,7 +75,7 @@ TellsStep ws before after End = EndsHead ws before × (after ≡ before)
 
 -- a line that may stand there and has as many words as it may has no fault, and does what it says
 abbrev pub IsDone : LineWord → List (List ℕ) → HeadValue → HeadValue → Type 0
-IsDone k args before now = (left_fault k args before ≡ None) × (now ≡ after k args before)
+IsDone k args before now = (left_fault k args before ≡ None) × (now ≡ after_line k args before)
 
 -- what comes after a line
 abbrev pub step_after : LineWord → Step

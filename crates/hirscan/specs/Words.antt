@@ -150,13 +150,13 @@ with_member true b ranges = with_byte b ranges
 with_member false b ranges = ranges
 
 -- the ranges of the members among the n bytes from b on, each as long as it can be, ascending
-abbrev pub ranges_from : (ℕ → Bool) → ℕ → ℕ → List (ℕ × ℕ)
-ranges_from member zero b = []
-ranges_from member (suc n) b = with_member (member b) b (ranges_from member n (b + 1))
+abbrev pub member_ranges : (ℕ → Bool) → ℕ → ℕ → List (ℕ × ℕ)
+member_ranges member zero b = []
+member_ranges member (suc n) b = with_member (member b) b (member_ranges member n (b + 1))
 
 -- the ranges of a class of these items, which may overlap and come in any order
 unfoldable pub class_ranges : List (ℕ × ℕ) → List (ℕ × ℕ)
-class_ranges items = ranges_from (is_member items) 256 0
+class_ranges items = member_ranges (is_member items) 256 0
 
 -- the least of these numbers, or 256 where none is below that
 abbrev pub least : List ℕ → ℕ

@@ -18,7 +18,7 @@ ghost use Rattle.hirscan.specs.Choices.{Query, answer_from, answers_of};
 ghost use Rattle.hirscan.specs.Loops.{loops_read};
 ghost use Rattle.hirscan.specs.declared.line.Setup.{Setup};
 ghost use Rattle.hirscan.specs.declared.ending.Ending.TheVariants.{Listed, Refused};
-ghost use Rattle.hirscan.specs.Reply.{Asks, IsRefused, IsReply, refusal_line};
+ghost use Rattle.hirscan.specs.Reply.{Asks, IsInputRefused, IsReply, refusal_line};
 
 /// An answer over trees is a span that the tree of its number means.
 #[tactic(auto, using(crate::proofs::AnswerLemmas::answer_is_meant))]
@@ -43,9 +43,9 @@ pub fn loops_read_tells()
 /// An input is refused for what shows in it, or asks for a search. One that is refused has that reply alone, and one whose matches
 /// are all listed has no other list.
 pub fn replies_agree()
-    ensures some { (input : List ℕ) → ((cause : List ℕ) × IsRefused input cause)
+    ensures some { (input : List ℕ) → ((cause : List ℕ) × IsInputRefused input cause)
         ⊎ ((setup : Setup) × (xs : List Tree) × (h : List ℕ) × Asks input setup xs h) }
-    ensures refused { (input cause : List ℕ) (e : Ending) (t : List ℕ) → IsRefused input cause → IsReply input e t →
+    ensures refused { (input cause : List ℕ) (e : Ending) (t : List ℕ) → IsInputRefused input cause → IsReply input e t →
         (e ≡ Refused) × (t ≡ refusal_line cause) }
     ensures listed { (input s t : List ℕ) → IsReply input Listed s → IsReply input Listed t → s ≡ t }
 {}

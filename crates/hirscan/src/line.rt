@@ -3,11 +3,12 @@ ghost use Rattle.std.specs.Prelude.{◌≡◌, ◌⊎◌, ◌<◌, ◌≤◌, tr
 ghost use Rattle.std.specs.Prelude.{◌∷◌, ◌++◌, nat_lt, take, slice_index_or};
 ghost use Rattle.hir_core.specs.Tree.{empty};
 ghost use Rattle.hir_core.specs.Facts.{height};
+ghost use Rattle.thompson_nfa.specs.LiteralGroups.{texts};
 ghost use Rattle.hirscan.specs.Words.{words};
 ghost use Rattle.hirscan.specs.Readers.{hex_byte, word_at};
-ghost use Rattle.hirscan.specs.LineFault.{fault, byte_fault, known_fault, after, top, below, when, is_at_most, is_word_count, is_setting};
+ghost use Rattle.hirscan.specs.LineFault.{fault, byte_fault, known_fault, after_line, top, below, when, is_at_most, is_word_count, is_setting};
 ghost use Rattle.hirscan.specs.LineFault.{is_class, is_setting_after_node, left_fault};
-ghost use Rattle.hirscan.specs.Tells.{texts, words_left, head_value, TellsLineFault, TellsStep, IsDone, step_after};
+ghost use Rattle.hirscan.specs.Tells.{words_left, head_value, TellsLineFault, TellsStep, IsDone, step_after};
 ghost use Rattle.hirscan.specs.declared.fault.FaultKind.TheVariants.{TooFewTrees, TooDeep};
 ghost use Rattle.hirscan.specs.declared.words.LineWord.TheVariants.{Utf8, Line, Capacity, Quit, Classes, Shrink, Anchored};
 ghost use Rattle.hirscan.specs.declared.words.LineWord.TheVariants.{Span as SpanWord, Empty, Lit, Bytes, Chars, Look, Rep, Cat, Alt};
@@ -513,7 +514,7 @@ fn follow(
     state: &mut HeadState,
 ) -> Result<Step, LineFault>
     ensures ok { IfOk result (λ step. (known_fault word (words_left args.entry) (head_value state.old) ≡ None)
-        × (head_value state.new ≡ after word (words_left args.entry) (head_value state.old)) × (step ≡ step_after word)) }
+        × (head_value state.new ≡ after_line word (words_left args.entry) (head_value state.old)) × (step ≡ step_after word)) }
     ensures err { IfErr result (λ e. TellsLineFault (known_fault word (words_left args.entry) (head_value state.old)) e) }
 {
     if is_setting_after_node(word, state) {
@@ -538,7 +539,7 @@ fn follow_words(
     requires allowed { is_setting_after_node word (head_value state.old) ≡ false }
     requires first { texts first.now ≡ take 4 (words_left args) }
     ensures ok { IfOk result (λ step. (known_fault word (words_left args.entry) (head_value state.old) ≡ None)
-        × (head_value state.new ≡ after word (words_left args.entry) (head_value state.old)) × (step ≡ step_after word)) }
+        × (head_value state.new ≡ after_line word (words_left args.entry) (head_value state.old)) × (step ≡ step_after word)) }
     ensures err { IfErr result (λ e. TellsLineFault (known_fault word (words_left args.entry) (head_value state.old)) e) }
 {
     if !is_word_count(word, first.len()) {

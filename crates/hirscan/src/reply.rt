@@ -1,7 +1,7 @@
 // The whole reply to an input, made before anything is written.
 ghost use Rattle.std.specs.Prelude.{◌≡◌, ◌++◌, ◌+◌, ◌<◌, ◌^◌, ◌≤◌, All, length, IfOk, IsTrue, MatchOption, OnOk, string_bytes};
 ghost use Rattle.hirscan.specs.Refusals.{span_of, is_span};
-ghost use Rattle.hirscan.specs.Asks.{search_of};
+ghost use Rattle.hirscan.specs.Asks.{asked_search};
 ghost use Rattle.hirscan.specs.Tells.{value_of_head};
 ghost use Rattle.search_core.specs.Index.{greatest_index};
 ghost use Rattle.hirscan.specs.Built.{IsBuilt, program_settings};
@@ -54,7 +54,7 @@ fn refusal(alloc: Global, cause: &str) -> Result<Reply, AllocError>
 /// The span that is searched, as an input.
 fn input_of<'h>(head: &Head, h: &'h [u8]) -> Input<'h>
     requires { IsTrue (is_span (span_of head.now.span h.now) h.now) }
-    ensures { result ≡ search_of (value_of_head head.now).setup h.now }
+    ensures { result ≡ asked_search (value_of_head head.now).setup h.now }
 {
     let input = Input::new(h).anchored(if head.anchored {
         Anchored::Yes

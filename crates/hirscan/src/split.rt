@@ -2,8 +2,9 @@
 ghost use Rattle.std.specs.Prelude.{◌≡◌, ◌==◌, ◌∷◌, take, IfOk};
 ghost use Rattle.std.specs.List.{position};
 ghost use Rattle.std.specs.Iterator.{YieldsFirstBy, item_count};
+ghost use Rattle.thompson_nfa.specs.LiteralGroups.{texts};
 ghost use Rattle.hirscan.specs.Words.{words};
-ghost use Rattle.hirscan.specs.Tells.{texts, words_behind, words_left};
+ghost use Rattle.hirscan.specs.Tells.{words_behind, words_left};
 
 use std::alloc::{AllocError, Global};
 

@@ -4,12 +4,13 @@ ghost use Rattle.std.specs.Prelude.{nat_lt, nat_le, Some, None, IfOk, IfErr, OnO
 ghost use Rattle.std.specs.List.{list_all};
 ghost use Rattle.std.specs.Str.{bytes_eq};
 ghost use Rattle.hir_core.specs.Means.{is_member};
+ghost use Rattle.thompson_nfa.specs.LiteralGroups.{texts};
 ghost use Rattle.hirscan.specs.Words.{is_scalar, with_byte, with_range, is_covered, AreLowEnds, class_ranges, scalar_ranges};
 ghost use Rattle.hirscan.specs.Readers.{line_word, setting_word, tree_word, number, bound, order, switch, yes_or_no, hex_bytes, hex_byte};
 ghost use Rattle.hirscan.specs.Readers.{item_ends, the_ends, hex_number, hex_ends, the_hex_ends, anchor_named, word_look_named};
 ghost use Rattle.hirscan.specs.Readers.{word_side_named, half_look_named, look_named, word_at};
-ghost use Rattle.hirscan.specs.LineFault.{unless_read, item_fault, scalar_item_fault, byte_fault, first_of};
-ghost use Rattle.hirscan.specs.Tells.{texts, words_left, TellsLineFault};
+ghost use Rattle.hirscan.specs.LineFault.{unless_read, item_fault, scalar_item_fault, byte_fault, first_fault_of};
+ghost use Rattle.hirscan.specs.Tells.{words_left, TellsLineFault};
 ghost use Rattle.hirscan.specs.declared.fault.FaultKind.TheVariants.{BadHex};
 
 use crate::fault::{FaultKind, LineFault};
@@ -293,9 +294,9 @@ impl LowEnds {
 
 /// The ends of the items of a class.
 pub(crate) fn low_ends(words: WordsLeft) -> Result<LowEnds, LineFault>
-    ensures ok { IfOk result (λ ends. (first_of (map item_fault (words_left words.entry)) ≡ None)
+    ensures ok { IfOk result (λ ends. (first_fault_of (map item_fault (words_left words.entry)) ≡ None)
         × AreLowEnds (map the_ends (words_left words.entry)) ends) }
-    ensures err { IfErr result (λ e. TellsLineFault (first_of (map item_fault (words_left words.entry))) e) }
+    ensures err { IfErr result (λ e. TellsLineFault (first_fault_of (map item_fault (words_left words.entry))) e) }
 {
     let mut ends = LowEnds::none();
     for word in words {
@@ -516,9 +517,9 @@ fn put_item(
 
 /// Items with the ranges of those of the words.
 pub(crate) fn scalar_items(alloc: Global, words: WordsLeft) -> Result<Vec<(char, char)>, LineFault>
-    ensures ok { IfOk result (λ items. (first_of (map scalar_item_fault (words_left words.entry)) ≡ None)
+    ensures ok { IfOk result (λ items. (first_fault_of (map scalar_item_fault (words_left words.entry)) ≡ None)
         × (scalar_ranges items.items ≡ scalar_ranges (map the_hex_ends (words_left words.entry)))) }
-    ensures err { IfErr result (λ e. TellsLineFault (first_of (map scalar_item_fault (words_left words.entry))) e) }
+    ensures err { IfErr result (λ e. TellsLineFault (first_fault_of (map scalar_item_fault (words_left words.entry))) e) }
 {
     let mut items = Vec::new(alloc);
     for word in words {

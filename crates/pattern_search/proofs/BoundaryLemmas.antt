@@ -15,7 +15,7 @@ use Rattle.hir_core.specs.Facts.{is_utf8_tree}
 use Rattle.hir_core.proofs.ForCallers.{span_forward, span_within, span_end_bounded}
 use Rattle.hirscan.specs.Choices.{may_end}
 use Rattle.hirscan.specs.Regexes.{IsSearchOf}
-use Rattle.pattern_text.specs.SameEnds.{looks_of}
+use Rattle.pattern_text.specs.SameEnds.{pattern_looks}
 use Rattle.pattern_search.specs.Searches.{whole_search, whole_query}
 
 abbrev passes : Option ℕ → Bool
@@ -47,25 +47,25 @@ same_begin true h i within = same_boundary h i within
 -- a span that a tree means from a place that counts ends at one, up to the haystack's end
 module _ (utf8 : Bool) (xs : List Tree) (h : List ℕ) (s : ℕ) (search : IsSearchOf xs utf8 (whole_search h s)) where
   end_counts : (x : Tree) (i j : ℕ) → (utf8 ≡ true → is_utf8_tree x ≡ true) → i ≤ length h → counts utf8 h i ≡ true →
-      Means (looks_of h) h x i j →
+      Means (pattern_looks h) h x i j →
       (b : Bool) → utf8 ≡ b → counts b h j ≡ true
   end_counts x i j text within starts m false is = refl
   end_counts x i j text within starts m true is = elim (cases_lt i j) [
-    | inl less ↦ span_end_bounded (looks_of h) h x i j (search.valid is) (text is) m less (span_within (looks_of h) h x i j within m)
+    | inl less ↦ span_end_bounded (pattern_looks h) h x i j (search.valid is) (text is) m less (span_within (pattern_looks h) h x i j within m)
     | inr above ↦
-        let forward = span_forward (looks_of h) h x i j m in
+        let forward = span_forward (pattern_looks h) h x i j m in
         let same : i ≡ j = omega arith in
         subst (λ k. counts true h k ≡ true) same (subst (λ c. counts c h i ≡ true) is starts)
   ]
 
   pub span_counts : (x : Tree) (i j : ℕ) → (utf8 ≡ true → is_utf8_tree x ≡ true) → i ≤ length h → counts utf8 h i ≡ true →
-      Means (looks_of h) h x i j →
+      Means (pattern_looks h) h x i j →
       counts utf8 h j ≡ true
   span_counts x i j text within starts m = end_counts x i j text within starts m utf8 refl
 
   pub span_may_end : (x : Tree) (i j : ℕ) → (utf8 ≡ true → is_utf8_tree x ≡ true) → i ≤ length h → counts utf8 h i ≡ true →
-      Means (looks_of h) h x i j →
+      Means (pattern_looks h) h x i j →
       may_end (whole_query utf8 xs h) j ≡ true
   span_may_end x i j text within starts m =
-      and_from (nat_le j (length h)) (counts utf8 h j) (le-leb j (length h) (span_within (looks_of h) h x i j within m))
+      and_from (nat_le j (length h)) (counts utf8 h j) (le-leb j (length h) (span_within (pattern_looks h) h x i j within m))
       (span_counts x i j text within starts m)

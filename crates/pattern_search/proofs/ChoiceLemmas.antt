@@ -13,7 +13,7 @@ use Rattle.hir_core.specs.Tree.{Tree}
 use Rattle.hir_core.specs.Means.{Looks, Means}
 use Rattle.hir_core.specs.PreferredEnds.{preferred_ends, Has}
 use Rattle.hir_core.proofs.ForCallers.{preferred_ends_sound, preferred_ends_complete}
-use Rattle.hirscan.specs.Choices.{Query, pattern_choices, choices, ends_at, may_end, choices_at, answer_from}
+use Rattle.hirscan.specs.Choices.{Query, pattern_choices, choices, pattern_ends, may_end, choices_at, answer_from}
 use Rattle.hirscan.specs.LooseAnswers.{IsCounted, IsLoose, IsLooseAnswer}
 
 -- ---- the ends that are kept of one pattern
@@ -162,7 +162,7 @@ module _ (looks : Looks) (h : List ℕ) (i : ℕ) (may_find kept : ℕ → Bool)
 -- ---- the choices at a place
 module _ (q : Query) where
   abbrev listed_choices : ℕ → List (ℕ × ℕ)
-  listed_choices i = choices (allowed q.mode (length q.patterns)) (may_end q) 0 (ends_at q i)
+  listed_choices i = choices (allowed q.mode (length q.patterns)) (may_end q) 0 (pattern_ends q i)
 
   ends_where : (j : ℕ) → j ≤ q.end → counts q.utf8 q.haystack j ≡ true → may_end q j ≡ true
   ends_where j within counted = and_from (nat_le j q.end) (counts q.utf8 q.haystack j) (le-leb j q.end within) counted

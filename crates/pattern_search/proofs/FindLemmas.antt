@@ -22,7 +22,7 @@ use Rattle.hir_core.specs.PreferredEnds.{preferred_ends, Has}
 use Rattle.hir_core.proofs.ForCallers.{preferred_ends_sound}
 use Rattle.hirscan.specs.Choices.{pattern_choices, choices, may_end, choices_at, answer_from}
 use Rattle.hirscan.specs.Regexes.{IsSearchOf}
-use Rattle.pattern_text.specs.SameEnds.{looks_of, end_of, first_of, AreSameEnds}
+use Rattle.pattern_text.specs.SameEnds.{pattern_looks, trace_end, first_that_goes_on, AreSameEnds}
 use Rattle.pattern_search.specs.Searches.{whole_search, whole_query, found_from, span_of_match, span_of_found, FindsAsRead}
 use Rattle.pattern_search.proofs.BoundaryLemmas.{may_begin, same_begin, span_may_end}
 use Rattle.pattern_search.proofs.MatchSpanLemmas.{spans_or}
@@ -31,19 +31,19 @@ use Rattle.pattern_search.proofs.MatchSpanLemmas.{spans_or}
 -- the first end of several lists, one after the other
 abbrev first_all : List (List ℕ) → Option ℕ
 first_all [] = None
-first_all (ends ∷ rest) = option_or (first_of Some ends) (first_all rest)
+first_all (ends ∷ rest) = option_or (first_that_goes_on Some ends) (first_all rest)
 
 abbrev ends_of : List Tree → List ℕ → ℕ → List (List ℕ)
-ends_of xs h i = map (λ x. preferred_ends (looks_of h) h x i) xs
+ends_of xs h i = map (λ x. preferred_ends (pattern_looks h) h x i) xs
 
-none_of : (o : Option ℕ) (i : ℕ) → end_of (if is_some_and o (in_ranges []) then accept (i + 1) else None) ≡ None
+none_of : (o : Option ℕ) (i : ℕ) → trace_end (if is_some_and o (in_ranges []) then accept (i + 1) else None) ≡ None
 unfolding in_ranges
 none_of None i = refl
 none_of (Some b) i = refl
 
 -- the alternation of the patterns goes on from the first end
 alternation_end : (h : List ℕ) → All (λ b. b < 256) h → (i : ℕ) → i ≤ length h → (res : List Re) (xs : List Tree) → AreSameEnds res xs →
-    All LoopsRead xs → end_of (attempt h (alt_all res) accept i) ≡ first_all (ends_of xs h i)
+    All LoopsRead xs → trace_end (attempt h (alt_all res) accept i) ≡ first_all (ends_of xs h i)
 unfolding attempt
 alternation_end h bytes i within [] [] s loops = none_of (slice_get h i) i
 alternation_end h bytes i within [] (x ∷ xs) s loops = absurd s
@@ -53,7 +53,7 @@ alternation_end h bytes i within (a ∷ res) (x ∷ xs) s loops =
     ∙ ap₂ option_or (s.0.at h bytes (All-head LoopsRead x xs loops) accept i within)
     (alternation_end h bytes i within res xs s.1 (All-tail LoopsRead x xs loops))
   where
-    end_of-or : (a b : Option Trace) → end_of (option_or a b) ≡ option_or (end_of a) (end_of b)
+    end_of-or : (a b : Option Trace) → trace_end (option_or a b) ≡ option_or (trace_end a) (trace_end b)
     end_of-or None b = refl
     end_of-or (Some t) b = refl
 
@@ -74,7 +74,7 @@ at_place i = option_map (λ e. (i, e))
 
 one_pattern : (kept : ℕ → Bool) (i p : ℕ) (ends : List ℕ) → IsKept kept ends → (rest : List (ℕ × ℕ)) →
     span_of (first_choice i (pattern_choices true kept p ends ++ rest)) ≡
-    option_or (at_place i (first_of Some ends)) (span_of (first_choice i rest))
+    option_or (at_place i (first_that_goes_on Some ends)) (span_of (first_choice i rest))
 one_pattern kept i p [] all rest = refl
 one_pattern kept i p (e ∷ ends) all rest =
     ap (λ js. span_of (first_choice i (map (λ j. (p, j)) js ++ rest)))
@@ -91,8 +91,8 @@ all_patterns count kept i p (e ∷ ends) all fits =
     ap (λ b. span_of (first_choice i (pattern_choices b kept p e ++ choices (allowed No count) kept (p + 1) ends)))
     (lt-ltb p count (omega arith))
     ∙ one_pattern kept i p e all.0 (choices (allowed No count) kept (p + 1) ends)
-    ∙ ap (option_or (at_place i (first_of Some e))) (all_patterns count kept i (p + 1) ends all.1 (omega arith))
-    ∙ sym (at_place-or i (first_of Some e) (first_all ends))
+    ∙ ap (option_or (at_place i (first_that_goes_on Some e))) (all_patterns count kept i (p + 1) ends all.1 (omega arith))
+    ∙ sym (at_place-or i (first_that_goes_on Some e) (first_all ends))
 
 length-ends : (h : List ℕ) (i : ℕ) (xs : List Tree) → length (ends_of xs h i) ≡ length xs
 length-ends h i [] = refl
@@ -118,29 +118,29 @@ module _ (utf8 : Bool) (res : List Re) (xs : List Tree) (same : AreSameEnds res 
   all_kept i within starts [] text = tt
   all_kept i within starts (y ∷ ys) text = (
     λ j has. span_may_end utf8 xs h s search y i j (λ on. All-head (λ x. is_utf8_tree x ≡ true) y ys (text on)) within starts
-        (preferred_ends_sound (looks_of h) h y i j has),
+        (preferred_ends_sound (pattern_looks h) h y i j has),
     all_kept i within starts ys (λ on. All-tail (λ x. is_utf8_tree x ≡ true) y ys (text on)),
   )
 
   at_counted : (i : ℕ) → i ≤ length h → (b : Bool) → counts utf8 h i ≡ b →
       span_of (first_choice i (if b then choices (allowed No (length xs)) kept 0 (ends_of xs h i) else []))
-      ≡ at_place i (end_of (if b then attempt h (alt_all res) accept i else None))
+      ≡ at_place i (trace_end (if b then attempt h (alt_all res) accept i else None))
   at_counted i within false is = refl
   at_counted i within true is =
       all_patterns (length xs) kept i 0 (ends_of xs h i) (all_kept i within is xs search.utf8_trees) (omega (arith, length-ends h i xs))
       ∙ ap (at_place i) (sym (alternation_end h search.bytes i within res xs same loops))
 
   at_one : (i : ℕ) → i ≤ length h →
-      span_of (first_choice i (choices_at (whole_query utf8 xs h) i)) ≡ at_place i (end_of (tried utf8 h (alt_all res) i))
+      span_of (first_choice i (choices_at (whole_query utf8 xs h) i)) ≡ at_place i (trace_end (tried utf8 h (alt_all res) i))
   at_one i within =
       at_counted i within (counts utf8 h i) refl
-      ∙ ap (λ b. at_place i (end_of (if b then attempt h (alt_all res) accept i else None))) (sym (same_begin utf8 h i within))
+      ∙ ap (λ b. at_place i (trace_end (if b then attempt h (alt_all res) accept i else None))) (sym (same_begin utf8 h i within))
 
   founds-or : (a b : Option Found) → span_of (option_or a b) ≡ option_or (span_of a) (span_of b)
   founds-or None b = refl
   founds-or (Some x) b = refl
 
-  here : (i : ℕ) (t : Option Trace) → option_map span_of_match (option_map (λ t. record { start = i; trace = t }) t) ≡ at_place i (end_of t)
+  here : (i : ℕ) (t : Option Trace) → option_map span_of_match (option_map (λ t. record { start = i; trace = t }) t) ≡ at_place i (trace_end t)
   here i None = refl
   here i (Some t) = refl
 

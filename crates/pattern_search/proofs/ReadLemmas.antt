@@ -13,7 +13,7 @@ use Rattle.hirscan.specs.declared.settings.Settings.{Settings}
 use Rattle.pattern_text.specs.SameEnds.{SameEnds, SameSpans, HasNames, AreSameEnds, AreSameSpans}
 use Rattle.pattern_text.specs.Patterns.{MeansText}
 use Rattle.pattern_search.specs.RegexAnswers.{AnswersAsRead}
-use Rattle.pattern_search.specs.Texts.{AreRead, AllMean}
+use Rattle.pattern_search.specs.Texts.{AreReadAs, AllMean}
 use Rattle.pattern_search.specs.Written.{FindsWhatIsWritten, AnswersWhatIsWritten}
 use Rattle.pattern_search.proofs.AllMatchLemmas.{lists_as_read}
 use Rattle.pattern_search.proofs.FindLemmas.{finds_as_read}
@@ -33,7 +33,7 @@ unfolding MeansText
 of_text config t x m = one_read config x (read config (chars t)) m
 
 pub all_read : (config : Config) (ts : List (List ℕ)) (xs : List Tree) → AllMean config ts xs →
-    (res : List Re) × AreRead config ts res × AreSameEnds res xs × AreSameSpans res xs
+    (res : List Re) × AreReadAs config ts res × AreSameEnds res xs × AreSameSpans res xs
 all_read config [] [] m = ([], tt, tt, tt)
 all_read config [] (x ∷ xs) m = absurd m
 all_read config (t ∷ ts) [] m = absurd m
@@ -68,8 +68,8 @@ one_value : {A : Type 0} (o : Option A) (of : A → Re) (D : A → Type 0) (a b 
 one_value None of D a b p q = elim p [ ]
 one_value (Some it) of D a b p q = sym p.1 ∙ q.1
 
-pub same_patterns : (config : Config) (texts : List (List ℕ)) (res others : List Re) → AreRead config texts res →
-    AreRead config texts others → res ≡ others
+pub same_patterns : (config : Config) (texts : List (List ℕ)) (res others : List Re) → AreReadAs config texts res →
+    AreReadAs config texts others → res ≡ others
 same_patterns config [] [] [] p q = refl
 same_patterns config [] [] (b ∷ others) p q = elim q [ ]
 same_patterns config [] (a ∷ res) others p q = elim p [ ]

@@ -22,7 +22,7 @@ use Rattle.hir_core.proofs.ForCallers.{span_within}
 use Rattle.hirscan.specs.Choices.{answer_from}
 use Rattle.hirscan.specs.LooseAnswers.{IsCounted, IsLoose, IsLooseAnswer}
 use Rattle.hirscan.specs.Regexes.{IsSearchOf}
-use Rattle.pattern_text.specs.SameEnds.{looks_of, SameSpans, AreSameSpans}
+use Rattle.pattern_text.specs.SameEnds.{pattern_looks, SameSpans, AreSameSpans}
 use Rattle.pattern_search.specs.Searches.{whole_search, whole_query, found_from, IsMatchOf, SpansAsRead, IsOfFirstPattern, StartsAsRead}
 use Rattle.pattern_search.proofs.BoundaryLemmas.{may_begin, same_begin, span_counts}
 use Rattle.pattern_search.proofs.ChoiceLemmas.{answer_is_loose}
@@ -80,7 +80,7 @@ module _ (utf8 : Bool) (res : List Re) (xs : List Tree) (same : AreSameSpans res
         findable = record {
           may = lt-ltb p (length xs) (slice_get_within xs p span.tree span.listed);
           span = span;
-          within = span_within (looks_of h) h span.tree i j within span.means;
+          within = span_within (pattern_looks h) h span.tree i j within span.means;
         };
         start_counts = starts;
         end_counts = span_counts utf8 xs h s search span.tree i j

@@ -28,7 +28,7 @@ use Rattle.lazy_dfa.specs.WalkAnswers.{with_pattern, is_full, which_from, Answer
 use Rattle.lazy_dfa.proofs.ForCallers.{room_kept}
 use Rattle.hirscan.specs.Regexes.{IsSearchOf}
 use Rattle.hirscan.specs.TreeWalks.{IsToldEnd}
-use Rattle.pattern_text.specs.SameEnds.{looks_of, AreSameSpans}
+use Rattle.pattern_text.specs.SameEnds.{pattern_looks, AreSameSpans}
 use Rattle.pattern_search.specs.Searches.{whole_search, whole_query, found_from, which_match}
 use Rattle.pattern_search.proofs.BoundaryLemmas.{may_begin, same_begin, span_counts}
 use Rattle.pattern_search.proofs.FindLemmas.{tried, found_is}
@@ -93,13 +93,13 @@ module _ (utf8 : Bool) (res : List Re) (xs : List Tree) (same : AreSameSpans res
 
   -- a span that ends where it counts starts where it counts
   start_counts : (x : Tree) (i j : ℕ) → (utf8 ≡ true → is_utf8_tree x ≡ true) → i ≤ length h → counts utf8 h j ≡ true →
-      Means (looks_of h) h x i j →
+      Means (pattern_looks h) h x i j →
       (b : Bool) → utf8 ≡ b → counts b h i ≡ true
   start_counts x i j text within ends m false is = refl
   start_counts x i j text within ends m true is = elim (cases_lt i j) [
-    | inl less ↦ span_start_bounded (looks_of h) h x i j (search.valid is) (text is) m less (span_within (looks_of h) h x i j within m)
+    | inl less ↦ span_start_bounded (pattern_looks h) h x i j (search.valid is) (text is) m less (span_within (pattern_looks h) h x i j within m)
     | inr above ↦
-        let forward = span_forward (looks_of h) h x i j m in
+        let forward = span_forward (pattern_looks h) h x i j m in
         let here : j ≡ i = omega (arith, above, forward) in
         subst (λ k. counts true h k ≡ true) here (subst (λ c. counts c h j ≡ true) is ends)
   ]
@@ -129,7 +129,7 @@ module _ (utf8 : Bool) (res : List Re) (xs : List Tree) (same : AreSameSpans res
           findable = record {
             may = lt-ltb p (length xs) below;
             span = record { tree = t.0; listed = t.1; means = means };
-            within = span_within (looks_of h) h t.0 m.0 m.1 m.2 means;
+            within = span_within (pattern_looks h) h t.0 m.0 m.1 m.2 means;
           };
           counted = span_counts utf8 xs h 0 search t.0 m.0 m.1 (λ on. holds_of xs p t.0 t.1 (search.utf8_trees on)) m.2 starts means;
         },

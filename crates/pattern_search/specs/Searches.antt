@@ -11,9 +11,9 @@ use Rattle.search_types.specs.declared.anchored.Anchored.TheVariants.{No}
 use Rattle.search_types.specs.Found.{Found}
 use Rattle.search_types.specs.Inputs.{Search}
 use Rattle.hirscan.specs.Choices.{Query, answer_from, answers_of}
-use Rattle.hirscan.specs.LooseAnswers.{IsSpanOf, IsLooseAnswer}
+use Rattle.hirscan.specs.LooseAnswers.{MeansSpan, IsLooseAnswer}
 use Rattle.hirscan.specs.Regexes.{IsSearchOf, query_of}
-use Rattle.pattern_text.specs.SameEnds.{looks_of}
+use Rattle.pattern_text.specs.SameEnds.{pattern_looks}
 
 -- a search of the whole haystack from the place s on, which may start at any place
 abbrev pub whole_search : List ℕ → ℕ → Search
@@ -21,7 +21,7 @@ whole_search h s = record { haystack = h; start = s; end = length h; anchored = 
 
 -- what it searches for: these trees, with Unicode's words and lines that end at a line feed
 abbrev pub whole_query : Bool → List Tree → List ℕ → Query
-whole_query utf8 xs h = query_of xs utf8 (looks_of h) (whole_search h 0)
+whole_query utf8 xs h = query_of xs utf8 (pattern_looks h) (whole_search h 0)
 
 -- what the matcher finds from the place s on, in bytes or in text
 abbrev pub found_from : Bool → Re → List ℕ → ℕ → Option Match
@@ -55,7 +55,7 @@ pub record IsMatchOf (res : List Re) (h : List ℕ) (p i j : ℕ) : Type 0 where
 abbrev pub SpansAsRead : List Re → List Tree → Type 0
 SpansAsRead res xs =
     (h : List ℕ) → All (λ b. b < 256) h → (utf8 : Bool) (p i j : ℕ) → i ≤ length h →
-    IsMatchOf res h p i j ↔ IsSpanOf (whole_query utf8 xs h) p i j
+    IsMatchOf res h p i j ↔ MeansSpan (whole_query utf8 xs h) p i j
 
 -- the found span is one of its pattern, and no pattern before that one matches from its start
 pub record IsOfFirstPattern (res : List Re) (h : List ℕ) (f : Found) : Type 0 where

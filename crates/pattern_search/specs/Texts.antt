@@ -8,11 +8,11 @@ use Rattle.pattern_text.specs.declared.parse_error.ParseError.{ParseError}
 use Rattle.pattern_text.specs.Patterns.{MeansText, IsFault}
 
 -- each text is a pattern within the limit on nesting, the one that stands in its place
-abbrev pub AreRead : Config → List (List ℕ) → List Re → Type 0
-AreRead config [] [] = ⊤
-AreRead config (t ∷ ts) (a ∷ bs) =
-    IsSomeAnd (read config (chars t)) (λ (re, names). (re.depth ≤ config.nest_limit) × (re.value ≡ a)) × AreRead config ts bs
-AreRead config _ _ = ⊥
+abbrev pub AreReadAs : Config → List (List ℕ) → List Re → Type 0
+AreReadAs config [] [] = ⊤
+AreReadAs config (t ∷ ts) (a ∷ bs) =
+    IsSomeAnd (read config (chars t)) (λ (re, names). (re.depth ≤ config.nest_limit) × (re.value ≡ a)) × AreReadAs config ts bs
+AreReadAs config _ _ = ⊥
 
 -- each tree means the text in its place
 abbrev pub AllMean : Config → List (List ℕ) → List Tree → Type 0

@@ -9,13 +9,13 @@ use Rattle.hirscan.specs.declared.settings.Settings.{Settings}
 use Rattle.pattern_text.specs.SameEnds.{AreSameEnds, AreSameSpans}
 use Rattle.pattern_search.specs.RegexAnswers.{AnswersAsRead}
 use Rattle.pattern_search.specs.Searches.{SpansAsRead, StartsAsRead, FindsAsRead, ListsAsRead}
-use Rattle.pattern_search.specs.Texts.{AreRead}
+use Rattle.pattern_search.specs.Texts.{AreReadAs}
 
 -- The texts are patterns, and each tree prefers the ends and has the spans of the pattern in its place. So searches for the trees find
 -- what the patterns match.
 pub record FindsWhatIsWritten (config : Config) (texts : List (List ℕ)) (xs : List Tree) : Type 0 where
   pub patterns : List Re
-  pub are_read : AreRead config texts patterns
+  pub are_read : AreReadAs config texts patterns
   pub same_ends : AreSameEnds patterns xs
   pub same_spans : AreSameSpans patterns xs
   pub spans : SpansAsRead patterns xs
@@ -26,5 +26,5 @@ pub record FindsWhatIsWritten (config : Config) (texts : List (List ℕ)) (xs : 
 -- the texts are patterns, and a regex that is built of the trees answers what these match
 pub record AnswersWhatIsWritten (config : Config) (texts : List (List ℕ)) (xs : List Tree) (s : Settings) (p : Pair) : Type 0 where
   pub patterns : List Re
-  pub are_read : AreRead config texts patterns
+  pub are_read : AreReadAs config texts patterns
   pub answers : AnswersAsRead patterns xs s p

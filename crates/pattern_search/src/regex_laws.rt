@@ -24,7 +24,7 @@ ghost use Rattle.hirscan.specs.Regexes.{IsSearchOf};
 ghost use Rattle.pattern_text.specs.SameEnds.{AreSameEnds, AreSameSpans};
 ghost use Rattle.pattern_search.specs.RegexAnswers.{AnswersAsRead};
 ghost use Rattle.pattern_search.specs.Searches.{whole_search, which_match};
-ghost use Rattle.pattern_search.specs.Texts.{AllMean, AreRead};
+ghost use Rattle.pattern_search.specs.Texts.{AllMean, AreReadAs};
 ghost use Rattle.pattern_search.specs.Written.{AnswersWhatIsWritten};
 
 use hirscan::headline::{
@@ -72,7 +72,7 @@ pub fn walks_tell_which_texts_match()
         IsBuilt xs s p → kind_of s.dfa ≡ AllMatches → s.line_terminator ≡ one_of 10 → (h : List ℕ) →
         IsSearchOf xs s.utf8 (whole_search h 0) →
         (v : CacheValue) (set : List Bool) → AnswersWhich p.forward v (whole_search h 0) (replicate (length xs) false) set (Ok tt) →
-        (res : List Re) × AreRead config texts res × (set ≡ which_match s.utf8 res h) }
+        (res : List Re) × AreReadAs config texts res × (set ≡ which_match s.utf8 res h) }
 {
     walks_tell_which_patterns_match();
 }

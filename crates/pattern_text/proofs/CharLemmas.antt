@@ -14,7 +14,7 @@ use Rattle.search_core.proofs.ForCallers.{character_begins, begun_character, spe
 use Rattle.hir_core.specs.Tree as tree
 use Rattle.hir_core.specs.Means.{is_member}
 use Rattle.hir_core.specs.PreferredEnds.{class_end, character_end}
-use Rattle.pattern_text.specs.SameEnds.{end_of, first_of, SameEnds}
+use Rattle.pattern_text.specs.SameEnds.{trace_end, first_that_goes_on, SameEnds}
 use Rattle.pattern_text.proofs.SameEndsLemmas.{first_of-if}
 
 pub same_option : {A : Type 0} (o p : Option A) → ((c : A) → o ≡ Some c → p ≡ Some c) → ((c : A) → p ≡ Some c → o ≡ Some c) → o ≡ p
@@ -40,20 +40,20 @@ len_same c scalar = sym (length-encode c) ∙ spelling_has_len c (encode_utf8 c)
 
 char_first : (rs ranges : List (ℕ × ℕ)) (same : (c : ℕ) → IsScalar c → in_ranges rs c ≡ is_member ranges c) (o : Option ℕ)
     (scalar : (c : ℕ) → o ≡ Some c → IsScalar c) (k : Rest) (i : ℕ) →
-    end_of (option_and_then (λ c. if in_ranges rs c then k (i + len_utf8 c) else None) o) ≡
-    first_of (λ j. end_of (k j)) (character_end ranges o i)
+    trace_end (option_and_then (λ c. if in_ranges rs c then k (i + len_utf8 c) else None) o) ≡
+    first_that_goes_on (λ j. trace_end (k j)) (character_end ranges o i)
 char_first rs ranges same None scalar k i = refl
 char_first rs ranges same (Some c) scalar k i =
     let s = scalar c refl in
-    ap₂ (λ (b : Bool) (n : ℕ). end_of (if b then k (i + n) else None)) (same c s) (len_same c s)
+    ap₂ (λ (b : Bool) (n : ℕ). trace_end (if b then k (i + n) else None)) (same c s) (len_same c s)
     ∙ first_of-if (is_member ranges c) k (i + spelling_len c)
 
 byte_first : (rs ranges : List (ℕ × ℕ)) (same : (b : ℕ) → b < 256 → in_ranges rs b ≡ is_member ranges b) (o : Option ℕ)
     (small : (b : ℕ) → o ≡ Some b → b < 256) (k : Rest) (i : ℕ) →
-    end_of (if is_some_and o (in_ranges rs) then k (i + 1) else None) ≡ first_of (λ j. end_of (k j)) (class_end ranges o i)
+    trace_end (if is_some_and o (in_ranges rs) then k (i + 1) else None) ≡ first_that_goes_on (λ j. trace_end (k j)) (class_end ranges o i)
 byte_first rs ranges same None small k i = refl
 byte_first rs ranges same (Some b) small k i =
-    ap (λ v. end_of (if v then k (i + 1) else None)) (same b (small b refl)) ∙ first_of-if (is_member ranges b) k (i + 1)
+    ap (λ v. trace_end (if v then k (i + 1) else None)) (same b (small b refl)) ∙ first_of-if (is_member ranges b) k (i + 1)
 
 pub same_class : (rs ranges : List (ℕ × ℕ)) → ((b : ℕ) → b < 256 → in_ranges rs b ≡ is_member ranges b) →
     SameEnds (re.byte_in rs) (tree.byte_class ranges)
@@ -71,5 +71,5 @@ unfolding attempt
 same_chars rs ranges same = record {
   at = λ h bytes loops k i within.
       char_first rs ranges same (char_at h i) (λ c e. (char_at_parts h i c e).0) k i
-      ∙ ap (λ o. first_of (λ j. end_of (k j)) (character_end ranges o i)) (char_at_same h i);
+      ∙ ap (λ o. first_that_goes_on (λ j. trace_end (k j)) (character_end ranges o i)) (char_at_same h i);
 }

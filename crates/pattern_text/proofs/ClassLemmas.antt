@@ -8,7 +8,7 @@ use Rattle.regex_class.specs.Ranges.{in_range, in_ranges, rises_from, fits_from,
 use Rattle.regex_class.proofs.RangesLemmas.{or_assoc, rises_from-at, fits_from-true}
 use Rattle.hir_core.specs.Facts as ours
 use Rattle.hir_core.specs.Means.{is_member}
-use Rattle.pattern_text.specs.Cut.{bytes_of, below, above, without_surrogates}
+use Rattle.pattern_text.specs.Cut.{cut_to_bytes, below_surrogates, above_surrogates, without_surrogates}
 
 fits : (n : ℕ) (r : ℕ × ℕ) (b : Bool) → (fits_from n r && b) ≡ true → (n ≤ r.0) × (r.0 ≤ r.1) × (r.1 ≤ 0x10_FFFF) × (b ≡ true)
 fits n r b e =
@@ -26,21 +26,21 @@ ascend_if : (b : Bool) (m : ℕ) (x : ℕ × ℕ) (rest : List (ℕ × ℕ)) →
 ascend_if true m x rest fit more skip = let p = fit refl in rises_step m x _ p.0 p.1 (more refl)
 ascend_if false m x rest fit more skip = skip refl
 
-pub bytes_ascend : (m n : ℕ) (rs : List (ℕ × ℕ)) → m ≤ n → rises_from n rs ≡ true → ours.rises_from m (bytes_of rs) ≡ true
+pub bytes_ascend : (m n : ℕ) (rs : List (ℕ × ℕ)) → m ≤ n → rises_from n rs ≡ true → ours.rises_from m (cut_to_bytes rs) ≡ true
 unfolding rises_from
 bytes_ascend m n [] le e = refl
 bytes_ascend m n (r ∷ rs) le e =
     let p = fits n r (rises_from (r.1 + 2) rs) e in
-    ascend_if (nat_le r.0 (min r.1 0xFF)) m (r.0, min r.1 0xFF) (bytes_of rs)
+    ascend_if (nat_le r.0 (min r.1 0xFF)) m (r.0, min r.1 0xFF) (cut_to_bytes rs)
     (λ e. let low : r.0 ≤ min r.1 0xFF = leb-true r.0 (min r.1 0xFF) e in (omega (arith, p.0), omega (arith, low)))
     (λ e. bytes_ascend (min r.1 0xFF + 1) (r.1 + 2) rs (omega arith) p.3)
     (λ e. bytes_ascend m (r.1 + 2) rs (omega (arith, p.0, p.1)) p.3)
 
 -- what is below and above the surrogates, before ranges that ascend from behind
 scalars_step : (m : ℕ) (r : ℕ × ℕ) (rest : List (ℕ × ℕ)) → m ≤ r.0 → r.0 ≤ r.1 →
-    ((k : ℕ) → k ≤ r.1 + 2 → ours.rises_from k rest ≡ true) → ours.rises_from m (below r ++ (above r ++ rest)) ≡ true
+    ((k : ℕ) → k ≤ r.1 + 2 → ours.rises_from k rest ≡ true) → ours.rises_from m (below_surrogates r ++ (above_surrogates r ++ rest)) ≡ true
 scalars_step m r rest p q more =
-    ascend_if (nat_lt r.0 0xD800) m (r.0, min r.1 0xD7FF) (above r ++ rest)
+    ascend_if (nat_lt r.0 0xD800) m (r.0, min r.1 0xD7FF) (above_surrogates r ++ rest)
     (λ e. let low : r.0 < 0xD800 = ltb-true r.0 0xD800 e in (p, omega arith))
     (λ e. ascend_if (nat_lt 0xDFFF r.1) (min r.1 0xD7FF + 1) (max r.0 0xE000, r.1) rest
     (λ f. let high : 0xDFFF < r.1 = ltb-true 0xDFFF r.1 f in (omega arith, omega arith))
@@ -66,12 +66,12 @@ byte_side : (a b c : ℕ) → c < 256 → (nat_le a (min b 0xFF) && (nat_le a c 
 byte_side a b c byte = grind (arith, nat_tests)
 
 -- and a byte is a member just where it was one
-pub same_members : (rs : List (ℕ × ℕ)) (b : ℕ) → b < 256 → in_ranges rs b ≡ is_member (bytes_of rs) b
+pub same_members : (rs : List (ℕ × ℕ)) (b : ℕ) → b < 256 → in_ranges rs b ≡ is_member (cut_to_bytes rs) b
 unfolding in_ranges in_range
 same_members [] b byte = refl
 same_members (r ∷ rs) b byte = ap (λ v. (nat_le r.0 b && nat_le b r.1) || v) (same_members rs b byte)
-    ∙ ap (λ v. v || is_member (bytes_of rs) b) (sym (byte_side r.0 r.1 b byte))
-    ∙ sym (member_if (nat_le r.0 (min r.1 0xFF)) (r.0, min r.1 0xFF) (bytes_of rs) b)
+    ∙ ap (λ v. v || is_member (cut_to_bytes rs) b) (sym (byte_side r.0 r.1 b byte))
+    ∙ sym (member_if (nat_le r.0 (min r.1 0xFF)) (r.0, min r.1 0xFF) (cut_to_bytes rs) b)
 
 either_side : (a b c : ℕ) → IsScalar c →
     ((nat_lt a 0xD800 && (nat_le a c && nat_le c (min b 0xD7FF))) || (nat_lt 0xDFFF b && (nat_le (max a 0xE000) c && nat_le c b)))
@@ -79,10 +79,10 @@ either_side : (a b c : ℕ) → IsScalar c →
 either_side a b c scalar = grind (arith, nat_tests)
 
 scalar_step : (r : ℕ × ℕ) (rest : List (ℕ × ℕ)) (c : ℕ) → IsScalar c →
-    is_member (below r ++ (above r ++ rest)) c ≡ (in_range r c || is_member rest c)
+    is_member (below_surrogates r ++ (above_surrogates r ++ rest)) c ≡ (in_range r c || is_member rest c)
 unfolding in_range
 scalar_step r rest c scalar =
-    member_if (nat_lt r.0 0xD800) (r.0, min r.1 0xD7FF) (above r ++ rest) c
+    member_if (nat_lt r.0 0xD800) (r.0, min r.1 0xD7FF) (above_surrogates r ++ rest) c
     ∙ ap (λ m. (nat_lt r.0 0xD800 && (nat_le r.0 c && nat_le c (min r.1 0xD7FF))) || m)
     (member_if (nat_lt 0xDFFF r.1) (max r.0 0xE000, r.1) rest c)
     ∙ or_assoc _ _ (is_member rest c)

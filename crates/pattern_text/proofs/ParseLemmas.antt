@@ -15,17 +15,17 @@ use Rattle.regex_syntax.specs.WellFormed.{IsWellFormed, depth}
 use Rattle.hir_core.specs.Tree.{Tree}
 use Rattle.hir_core.specs.Facts.{is_utf8_tree, height}
 use Rattle.pattern_text.specs.Translated.{translated}
-use Rattle.pattern_text.specs.SameEnds.{end_of, SameEnds, SameSpans, HasNames}
-use Rattle.pattern_text.specs.Patterns.{MeansText, IsRefused}
+use Rattle.pattern_text.specs.SameEnds.{trace_end, SameEnds, SameSpans, HasNames}
+use Rattle.pattern_text.specs.Patterns.{MeansText, IsTextRefused}
 use Rattle.pattern_text.proofs.SpanLemmas.{spans_of_captures}
 use Rattle.pattern_text.proofs.TranslatedLemmas.{same_ends, same_spans, keeps_names, is_text, height_at_most}
 
 pub refused_for : (config : Config) (text : List ℕ) (kind : ErrorKind) → kind ≢ OutOfMemory → Refuses config text kind →
-    IsRefused config text kind
-unfolding Refuses IsRefused
+    IsTextRefused config text kind
+unfolding Refuses IsTextRefused
 refused_for config text kind other refuses = ⊎_elim (λ memory. absurd (other memory)) (λ told. told) refuses
 
-outcome_ends : (o : Option _) → option_map (λ (p : ℕ × (ℕ → Option ℕ)). p.0) (outcome o) ≡ end_of o
+outcome_ends : (o : Option _) → option_map (λ (p : ℕ × (ℕ → Option ℕ)). p.0) (outcome o) ≡ trace_end o
 unfolding outcome
 outcome_ends None = refl
 outcome_ends (Some t) = refl

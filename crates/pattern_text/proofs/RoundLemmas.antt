@@ -11,7 +11,7 @@ use Rattle.regex_hir.proofs.MatchesLemmas.{Matches-IsSpan}
 use Rattle.hir_core.specs.Tree.{Tree, repetition}
 use Rattle.hir_core.specs.Means.{Means, AtMost, Rounds}
 use Rattle.hir_core.proofs.ForCallers.{span_within}
-use Rattle.pattern_text.specs.SameEnds.{looks_of, SameSpans}
+use Rattle.pattern_text.specs.SameEnds.{pattern_looks, SameSpans}
 
 -- so many rounds, not below a least number and not above a bound, if there is one
 abbrev RoundsFrom : (ℕ → ℕ → Type 0) → ℕ → Option ℕ → ℕ → ℕ → Type 0
@@ -143,15 +143,15 @@ spans_rounds min most greedy a x p = record {
       r.0,
       r.1,
       r.2,
-      along_rounds (Matches h a) (Means (looks_of h) h x) (length h)
+      along_rounds (Matches h a) (Means (pattern_looks h) h x) (length h)
           (λ k l w step. ((p.at h bytes k l w).0 step, (let span = Matches-IsSpan h a k l step in omega arith))) r.0 i j within r.3,
     ),
     λ m. to_repeat h a min most greedy i j (
       m.0,
       m.1,
       m.2,
-      along_rounds (Means (looks_of h) h x) (Matches h a) (length h)
-          (λ k l w step. ((p.at h bytes k l w).1 step, span_within (looks_of h) h x k l w step)) m.0 i j within m.3,
+      along_rounds (Means (pattern_looks h) h x) (Matches h a) (length h)
+          (λ k l w step. ((p.at h bytes k l w).1 step, span_within (pattern_looks h) h x k l w step)) m.0 i j within m.3,
     ),
   );
 }

@@ -14,7 +14,7 @@ use Rattle.hir_core.specs.Tree as tree
 use Rattle.hir_core.specs.Facts.{LoopsRead}
 use Rattle.hir_core.specs.PreferredEnds.{preferred_ends, Has}
 use Rattle.hir_core.proofs.ForCallers.{preferred_ends_sound, preferred_ends_complete, span_within}
-use Rattle.pattern_text.specs.SameEnds.{looks_of, end_of, first_of, SameEnds, SameSpans}
+use Rattle.pattern_text.specs.SameEnds.{pattern_looks, trace_end, first_that_goes_on, SameEnds, SameSpans}
 
 -- ---- a span is an end that what follows takes, and no other
 -- what follows takes one place alone
@@ -27,7 +27,7 @@ only_here j = IsSome-of_value (only j j) _ (cond-true (j == j) (accept j) None (
 only_there : (j l : ℕ) (t : Trace) → only j l ≡ Some t → l ≡ j
 only_there j l t e = eqb-true l j (cond_some (l == j) (accept l) t e).0
 
-some_end : (o : Option Trace) → is_some (end_of o) ≡ is_some o
+some_end : (o : Option Trace) → is_some (trace_end o) ≡ is_some o
 some_end None = refl
 some_end (Some t) = refl
 
@@ -38,22 +38,22 @@ some_outcome None = refl
 some_outcome (Some t) = refl
 
 -- one of the ends is the place just where what follows takes one
-first_has : (j : ℕ) (ends : List ℕ) → IsSome (first_of (λ l. end_of (only j l)) ends) → Has ends j
+first_has : (j : ℕ) (ends : List ℕ) → IsSome (first_that_goes_on (λ l. trace_end (only j l)) ends) → Has ends j
 first_has j [] h = absurd (true≢false (sym h))
 first_has j (l ∷ ends) h =
     let v = value_of_IsSome _ h in
     ⊎_elim
     (λ here. let t = value_of_IsSome (only j l) (sym (some_end (only j l)) ∙ IsSome-of_value _ v.0 here) in inl (only_there j l t.0 t.1))
     (λ later. inr (first_has j ends (IsSome-of_value _ v.0 later.1)))
-    (option_or_cases (end_of (only j l)) (first_of (λ l. end_of (only j l)) ends) v.0 v.1)
+    (option_or_cases (trace_end (only j l)) (first_that_goes_on (λ l. trace_end (only j l)) ends) v.0 v.1)
 
-has_first : (j : ℕ) (ends : List ℕ) → Has ends j → IsSome (first_of (λ l. end_of (only j l)) ends)
+has_first : (j : ℕ) (ends : List ℕ) → Has ends j → IsSome (first_that_goes_on (λ l. trace_end (only j l)) ends)
 has_first j [] h = absurd h
 has_first j (l ∷ ends) h =
     ⊎_elim
-    (λ (here : l ≡ j). IsSome-option_or_left (end_of (only j l)) _ (some_end (only j l)
+    (λ (here : l ≡ j). IsSome-option_or_left (trace_end (only j l)) _ (some_end (only j l)
     ∙ subst (λ m. IsSome (only j m)) (sym here) (only_here j)))
-    (λ later. IsSome-option_or_right (end_of (only j l)) _ (has_first j ends later))
+    (λ later. IsSome-option_or_right (trace_end (only j l)) _ (has_first j ends later))
     h
 
 matched : (h : List ℕ) (a : Re) (i j : ℕ) → IsSome (attempt h a (only j) i) → Matches h a i j
@@ -86,10 +86,10 @@ spans_of_captures a b x same s = record {
 pub spans_of_ends : (a : Re) (x : Tree) → LoopsRead x → SameEnds a x → SameSpans a x
 spans_of_ends a x loops s = record {
   at = λ h bytes i j within.
-      let both : is_some (attempt h a (only j) i) ≡ is_some (first_of (λ l. end_of (only j l)) (preferred_ends (looks_of h) h x i)) =
+      let both : is_some (attempt h a (only j) i) ≡ is_some (first_that_goes_on (λ l. trace_end (only j l)) (preferred_ends (pattern_looks h) h x i)) =
       sym (some_end (attempt h a (only j) i)) ∙ ap is_some (s.at h bytes loops (only j) i within) in (
-        λ m. preferred_ends_sound (looks_of h) h x i j (first_has j _ (sym both ∙ attempted h a i j m)),
-        λ m. matched h a i j (both ∙ has_first j _ (preferred_ends_complete (looks_of h) h x i j m)),
+        λ m. preferred_ends_sound (pattern_looks h) h x i j (first_has j _ (sym both ∙ attempted h a i j m)),
+        λ m. matched h a i j (both ∙ has_first j _ (preferred_ends_complete (pattern_looks h) h x i j m)),
       );
 }
 
@@ -101,7 +101,7 @@ pub spans_cat : (a b : Re) (x y : Tree) → SameSpans a x → SameSpans b y → 
 spans_cat a b x y p q = record {
   at = λ h bytes i j within. (
     λ m. (m.0, (p.at h bytes i m.0 within).0 m.1, (q.at h bytes m.0 j (matches_within h a i m.0 within m.1)).0 m.2),
-    λ m. (m.0, (p.at h bytes i m.0 within).1 m.1, (q.at h bytes m.0 j (span_within (looks_of h) h x i m.0 within m.1)).1 m.2),
+    λ m. (m.0, (p.at h bytes i m.0 within).1 m.1, (q.at h bytes m.0 j (span_within (pattern_looks h) h x i m.0 within m.1)).1 m.2),
   );
 }
 

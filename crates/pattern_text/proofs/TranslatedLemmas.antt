@@ -23,7 +23,7 @@ use Rattle.regex_syntax.specs.WellFormed.{IsWithin, IsWellFormed, AreWellFormed,
 use Rattle.hir_core.specs.Tree.{Tree, concat, alternation}
 use Rattle.hir_core.specs.Tree as tree
 use Rattle.hir_core.specs.Facts.{LoopsRead, is_utf8_tree, capped, height}
-use Rattle.pattern_text.specs.Cut.{bytes_of, without_surrogates}
+use Rattle.pattern_text.specs.Cut.{cut_to_bytes, without_surrogates}
 use Rattle.pattern_text.specs.Translated.{name_at, node_tree, translated, translated_look}
 use Rattle.pattern_text.specs.SameEnds.{SameEnds, SameSpans, HasNames}
 use Rattle.pattern_text.proofs.SameEndsLemmas.{same_empty, same_literal, same_nothing, same_never, same_cat, same_alt, same_group}
@@ -41,7 +41,7 @@ module _ (names : Names) where
   pub translated-Literal : (bs : Vec ℕ Global) → translated names (Literal bs) ≡ tree.literal bs.items
   translated-Literal bs = ap (translated names) (sym (rolls-Literal bs)) ∙ fold-roll-Hir Tree (node_tree names) (Hir-F.Literal bs)
 
-  pub translated-Bytes : (class : Class) → translated names (Bytes class) ≡ tree.byte_class (bytes_of class.ranges.items)
+  pub translated-Bytes : (class : Class) → translated names (Bytes class) ≡ tree.byte_class (cut_to_bytes class.ranges.items)
   translated-Bytes class = ap (translated names) (sym (rolls-Bytes class)) ∙ fold-roll-Hir Tree (node_tree names) (Hir-F.Bytes class)
 
   pub translated-Chars : (class : Class) → translated names (Chars class) ≡ tree.char_class (without_surrogates class.ranges.items)
@@ -106,7 +106,7 @@ module _ (names : Names) where
     of_tree (Bytes class) =
         let rs = class.ranges.items in
         along names _ _ _ _ (meaning-Bytes class) (translated-Bytes names class)
-        (leaf names (re.byte_in rs) (tree.byte_class (bytes_of rs)) tt tt (same_class rs (bytes_of rs) (same_members rs)))
+        (leaf names (re.byte_in rs) (tree.byte_class (cut_to_bytes rs)) tt tt (same_class rs (cut_to_bytes rs) (same_members rs)))
     of_tree (Chars class) =
         let rs = class.ranges.items in
         along names _ _ _ _ (meaning-Chars class) (translated-Chars names class)
@@ -158,12 +158,12 @@ pub keeps_names : (names : Names) (p : Hir) → HasNames names (translated names
 keeps_names names p = (of_tree names p).2
 
 -- ---- the tree of a pattern that matches UTF-8 alone
-bytes_ascii : (rs : List (ℕ × ℕ)) → IsWithin 0x7F rs → list_all (λ r. nat_lt r.1 0x80) (bytes_of rs) ≡ true
+bytes_ascii : (rs : List (ℕ × ℕ)) → IsWithin 0x7F rs → list_all (λ r. nat_lt r.1 0x80) (cut_to_bytes rs) ≡ true
 unfolding in_ranges in_range
 bytes_ascii [] within = refl
 bytes_ascii (r ∷ rs) within =
     let others = bytes_ascii rs (λ c e. within c (or_right (nat_le r.0 c && nat_le c r.1) (in_ranges rs c) e)) in
-    ascii_if (nat_le r.0 (min r.1 0xFF)) (r.0, min r.1 0xFF) (bytes_of rs) others
+    ascii_if (nat_le r.0 (min r.1 0xFF)) (r.0, min r.1 0xFF) (cut_to_bytes rs) others
     (λ e. let top = min r.1 0xFF in
     let small : top ≤ 0x7F = within top (or_left (nat_le r.0 top && nat_le top r.1) (in_ranges rs top)
     (and_from (nat_le r.0 top) (nat_le top r.1) e (le-leb top r.1 (omega arith)))) in

@@ -2,11 +2,11 @@
 use Rattle.std.specs.Prelude.{◌≡◌, ℕ, ◌<◌, ◌≤◌, List, [], length, Some, slice_get}
 use Rattle.hir_core.specs.Tree.{Tree}
 use Rattle.hir_core.specs.PreferredEnds.{preferred_ends}
-use Rattle.pattern_text.specs.SameEnds.{looks_of}
+use Rattle.pattern_text.specs.SameEnds.{pattern_looks}
 
 -- i is the first place of the haystack, from s on, from which the tree has an end, and j is the end that it prefers there
 pub record IsFirstSpan (h : List ℕ) (x : Tree) (s i j : ℕ) : Type 0 where
   pub from : s ≤ i
   pub within : i ≤ length h
-  pub preferred : slice_get (preferred_ends (looks_of h) h x i) 0 ≡ Some j
-  pub before : (k : ℕ) → s ≤ k → k < i → preferred_ends (looks_of h) h x k ≡ []
+  pub preferred : slice_get (preferred_ends (pattern_looks h) h x i) 0 ≡ Some j
+  pub before : (k : ℕ) → s ≤ k → k < i → preferred_ends (pattern_looks h) h x k ≡ []

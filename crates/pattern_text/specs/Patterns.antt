@@ -17,8 +17,8 @@ MeansText config text x = IsSomeAnd (read config (chars text)) (λ (re, names).
     (re.depth ≤ config.nest_limit) × SameEnds re.value x × SameSpans re.value x × HasNames names x)
 
 -- the grammar reads no pattern from the text, or one that nests too deep, and then the cause says so
-unfoldable pub IsRefused : Config → List ℕ → ErrorKind → Type 0
-IsRefused config text kind =
+unfoldable pub IsTextRefused : Config → List ℕ → ErrorKind → Type 0
+IsTextRefused config text kind =
     (read config (chars text) ≡ None)
     ⊎ ((kind ≡ NestLimitExceeded) × IfSome (read config (chars text)) (λ (re, _). config.nest_limit < re.depth))
 
@@ -29,4 +29,4 @@ LiesIn text place = (place.start ≤ place.end) × IsCharBoundary text place.sta
 -- a refusal is one of the grammar, for a cause in the text, with its place; no memory says nothing of the text
 abbrev pub IsFault : Config → List ℕ → ParseError → Type 0
 IsFault config text NoMemory = ⊤
-IsFault config text (Refused kind place) = (kind ≢ OutOfMemory) × IsRefused config text kind × LiesIn text place
+IsFault config text (Refused kind place) = (kind ≢ OutOfMemory) × IsTextRefused config text kind × LiesIn text place

@@ -14,27 +14,27 @@ use Rattle.hir_core.specs.PreferredEnds.{preferred_ends}
 use Rattle.pattern_text.specs.Translated.{name_at}
 
 -- where looks hold: words are what `\w` matches, and a line ends at a line feed
-abbrev pub looks_of : List ℕ → Looks
-looks_of h = holds is_word_char (one_of 10) h
+abbrev pub pattern_looks : List ℕ → Looks
+pattern_looks h = holds is_word_char (one_of 10) h
 
 -- where a match ended
-abbrev pub end_of : Option Trace → Option ℕ
-end_of = option_map (λ t. t.end)
+abbrev pub trace_end : Option Trace → Option ℕ
+trace_end = option_map (λ t. t.end)
 
 -- what follows at the first of the places from which it goes on
-abbrev pub first_of : (ℕ → Option ℕ) → List ℕ → Option ℕ
-first_of k [] = None
-first_of k (j ∷ js) = option_or (k j) (first_of k js)
+abbrev pub first_that_goes_on : (ℕ → Option ℕ) → List ℕ → Option ℕ
+first_that_goes_on k [] = None
+first_that_goes_on k (j ∷ js) = option_or (k j) (first_that_goes_on k js)
 
 -- On every haystack of bytes, from every place and whatever follows, the pattern goes on from the first end of the tree
 -- from which that goes on. The toolchain's loops leave where a round reads nothing, so the loops of the tree have to read.
 pub record SameEnds (re : Re) (x : Tree) : Type 0 where
   pub at : (h : List ℕ) → All (λ b. b < 256) h → LoopsRead x → (k : Rest) (i : ℕ) → i ≤ length h →
-      end_of (attempt h re k i) ≡ first_of (λ j. end_of (k j)) (preferred_ends (looks_of h) h x i)
+      trace_end (attempt h re k i) ≡ first_that_goes_on (λ j. trace_end (k j)) (preferred_ends (pattern_looks h) h x i)
 
 -- on every haystack of bytes both have the same spans, whatever the loops read
 pub record SameSpans (re : Re) (x : Tree) : Type 0 where
-  pub at : (h : List ℕ) → All (λ b. b < 256) h → (i j : ℕ) → i ≤ length h → Matches h re i j ↔ Means (looks_of h) h x i j
+  pub at : (h : List ℕ) → All (λ b. b < 256) h → (i j : ℕ) → i ≤ length h → Matches h re i j ↔ Means (pattern_looks h) h x i j
 
 -- the same of each pattern of a list and the tree in its place
 abbrev pub AreSameEnds : List Re → List Tree → Type 0

@@ -13,7 +13,7 @@ use Rattle.look_core.specs.declared.look.Look.TheVariants.{WordEndUnicode, WordS
 use Rattle.look_core.specs.declared.look.Look.TheVariants.{WordEndHalfUnicode}
 use Rattle.hir_core.specs.Tree.{Tree, concat, alternation}
 use Rattle.hir_core.specs.Tree as tree
-use Rattle.pattern_text.specs.Cut.{bytes_of, without_surrogates}
+use Rattle.pattern_text.specs.Cut.{cut_to_bytes, without_surrogates}
 
 -- the look that an assertion is
 abbrev pub translated_look : Assertion → Look
@@ -44,7 +44,7 @@ name_at names index = slice_index_or names index None
 abbrev pub node_tree : Names → Hir-F Tree → Tree
 node_tree names Hir-F.Empty = tree.empty
 node_tree names (Hir-F.Literal bytes) = tree.literal bytes.items
-node_tree names (Hir-F.Bytes class) = tree.byte_class (bytes_of class.ranges.items)
+node_tree names (Hir-F.Bytes class) = tree.byte_class (cut_to_bytes class.ranges.items)
 node_tree names (Hir-F.Chars class) = tree.char_class (without_surrogates class.ranges.items)
 node_tree names (Hir-F.Look l) = tree.look (translated_look l)
 node_tree names (Hir-F.Repetition min most greedy sub) = tree.repetition min (option_map (λ n. max n min) most) greedy sub.value

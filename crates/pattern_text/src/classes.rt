@@ -2,14 +2,14 @@ ghost use Rattle.std.specs.Prelude.{◌≡◌, ◌∷◌, [], ◌++◌, IfOk, On
 ghost use Rattle.std.specs.Char.{IsScalar};
 ghost use Rattle.regex_class.specs.Ranges.{IsCanonical};
 ghost use Rattle.hir_core.specs.Facts.{is_ascending};
-ghost use Rattle.pattern_text.specs.Cut.{bytes_of, without_surrogates};
+ghost use Rattle.pattern_text.specs.Cut.{cut_to_bytes, without_surrogates};
 
 use std::alloc::{AllocError, Global};
 
 /// The ranges of a class of bytes, without the numbers above FF.
 pub(crate) fn byte_ranges(alloc: Global, ranges: &[(u32, u32)]) -> Result<Vec<(u8, u8)>, AllocError>
     requires { IsCanonical ranges.now }
-    ensures same { IfOk result (λ out. out.items ≡ bytes_of ranges.now) }
+    ensures same { IfOk result (λ out. out.items ≡ cut_to_bytes ranges.now) }
     ensures ascend { IfOk result (λ out. IsTrue (is_ascending out.items)) }
 {
     let mut out = Vec::new(alloc);

@@ -24,7 +24,7 @@ ghost use Rattle.hir_core.specs.Tree.{Tree, concat, alternation};
 ghost use Rattle.hir_core.specs.Tree as tree;
 ghost use Rattle.pattern_text.specs.Translated.{translated};
 ghost use Rattle.pattern_text.specs.FirstSpan.{IsFirstSpan};
-ghost use Rattle.pattern_text.specs.SameEnds.{looks_of, SameEnds, SameSpans, AreSameEnds, AreSameSpans, HasNames};
+ghost use Rattle.pattern_text.specs.SameEnds.{pattern_looks, SameEnds, SameSpans, AreSameEnds, AreSameSpans, HasNames};
 
 /// The tree of a pattern prefers the ends that the pattern does where its loops read, has the same spans
 /// whatever they read, and its groups have the names that stand at their indices.
@@ -87,5 +87,5 @@ pub fn searches_find_the_first_preferred_span()
     ensures found { (re : Re) (x : Tree) → SameEnds re x → (h : List ℕ) → All (λ b. b < 256) h → LoopsRead x →
         (s : ℕ) (m : Match) → find re h s ≡ Some m → IsFirstSpan h x s m.start m.trace.end }
     ensures none { (re : Re) (x : Tree) → SameEnds re x → (h : List ℕ) → All (λ b. b < 256) h → LoopsRead x →
-        (s : ℕ) → find re h s ≡ None → (k : ℕ) → s ≤ k → k ≤ length h → preferred_ends (looks_of h) h x k ≡ [] }
+        (s : ℕ) → find re h s ≡ None → (k : ℕ) → s ≤ k → k ≤ length h → preferred_ends (pattern_looks h) h x k ≡ [] }
 {}

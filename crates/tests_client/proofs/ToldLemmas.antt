@@ -4,11 +4,11 @@ use Rattle.search_types.specs.Found.{Found}
 use Rattle.search_types.specs.Inputs.{Search}
 use Rattle.hir_core.specs.Tree.{Tree}
 use Rattle.hirscan.specs.declared.settings.Settings.{Settings}
-use Rattle.tests_client.specs.Told.{IsTold}
+use Rattle.tests_client.specs.Told.{IsClientTold}
 
 pub as_said : (xs : List Tree) (made s : Settings) (asked q : Search) (first second : Option Found) (all : List Found) →
     made ≡ s → asked ≡ q →
-    IsTold xs made asked first second all → IsTold xs s q first second all
+    IsClientTold xs made asked first second all → IsClientTold xs s q first second all
 as_said xs made s asked q first second all is same told =
-    subst (λ (r : Search). IsTold xs s r first second all) same
-    (subst (λ (t : Settings). IsTold xs t asked first second all) is told)
+    subst (λ (r : Search). IsClientTold xs s r first second all) same
+    (subst (λ (t : Settings). IsClientTold xs t asked first second all) is told)

@@ -11,7 +11,7 @@ use Rattle.regex_pair.specs.Taken.{IsWholeList}
 use Rattle.hirscan.specs.declared.settings.Settings.{Settings}
 use Rattle.hirscan.specs.Built.{IsBuilt}
 use Rattle.pattern_search.specs.Searches.{all_found, span_of_match, span_of_found}
-use Rattle.pattern_search.specs.Texts.{AreRead}
+use Rattle.pattern_search.specs.Texts.{AreReadAs}
 
 -- it is one over a regex that is built of the trees
 pub record IsListed (xs : List Tree) (s : Settings) (q : Search) (fs : List Found) : Type 0 where
@@ -22,5 +22,5 @@ pub record IsListed (xs : List Tree) (s : Settings) (q : Search) (fs : List Foun
 -- these have the spans of all that the toolchain's matcher finds of what the texts are read as
 pub record AreAllMatches (config : Config) (texts : List (List ℕ)) (utf8 : Bool) (h : List ℕ) (fs : List Found) : Type 0 where
   pub patterns : List Re
-  pub are_read : AreRead config texts patterns
+  pub are_read : AreReadAs config texts patterns
   pub all : map span_of_match (all_found utf8 (alt_all patterns) h) ≡ map span_of_found fs

@@ -11,15 +11,15 @@ use Rattle.hirscan.specs.Headline.{answer_to, answers_to}
 use Rattle.hirscan.specs.Regexes.{IsSearchOf}
 
 -- a search of the whole haystack
-abbrev pub search_of : List ℕ → Search
-search_of h = record { haystack = h; start = 0; end = length h; anchored = No; earliest = false }
+abbrev pub client_search : List ℕ → Search
+client_search h = record { haystack = h; start = 0; end = length h; anchored = No; earliest = false }
 
 -- the trees define an answer to it: their loops read, and in UTF-8 mode all of it is UTF-8
 abbrev pub MayAsk : List Tree → Settings → Search → Type 0
 MayAsk xs s q = All LoopsRead xs × IsSearchOf xs s.utf8 q
 
 -- two answers are the leftmost-first one of the trees
-pub record AreAnswers (xs : List Tree) (s : Settings) (q : Search) (first second : Option Found) : Type 0 where
+pub record AreTheAnswer (xs : List Tree) (s : Settings) (q : Search) (first second : Option Found) : Type 0 where
   pub first_is : (words : ℕ → Bool) → IsWordSet words → first ≡ answer_to words xs s q
   pub second_is : (words : ℕ → Bool) → IsWordSet words → second ≡ answer_to words xs s q
 
@@ -28,5 +28,5 @@ abbrev pub IsTheList : List Tree → Settings → Search → List Found → Type
 IsTheList xs s q all = (words : ℕ → Bool) → IsWordSet words → answers_to words xs s q ≡ all
 
 -- both
-abbrev pub IsTold : List Tree → Settings → Search → Option Found → Option Found → List Found → Type 0
-IsTold xs s q first second all = AreAnswers xs s q first second × IsTheList xs s q all
+abbrev pub IsClientTold : List Tree → Settings → Search → Option Found → Option Found → List Found → Type 0
+IsClientTold xs s q first second all = AreTheAnswer xs s q first second × IsTheList xs s q all

@@ -4,7 +4,7 @@ ghost use Rattle.hir_core.specs.Tree.{Tree};
 ghost use Rattle.regex_pair.specs.Pairs.{AreCachesOf};
 ghost use Rattle.hirscan.specs.declared.settings.Settings.{Settings};
 ghost use Rattle.hirscan.specs.Built.{IsBuilt, FindsFirst, program_settings};
-ghost use Rattle.tests_client.specs.Told.{search_of, MayAsk, AreAnswers, IsTheList, IsTold};
+ghost use Rattle.tests_client.specs.Told.{client_search, MayAsk, AreTheAnswer, IsTheList, IsClientTold};
 
 use hir_core::Hir;
 use hirscan::headline::iterators_list_the_answers;
@@ -41,7 +41,7 @@ fn find_twice(
     requires own { AreCachesOf re.now cache.old }
     ensures own { AreCachesOf re.now cache.new }
     ensures defined { (xs : List Tree) (s : Settings) → IsBuilt xs s re.now → FindsFirst s → MayAsk xs s input.now →
-        IfOk result (λ found. AreAnswers xs s input.now found.0 found.1) }
+        IfOk result (λ found. AreTheAnswer xs s input.now found.0 found.1) }
 {
     let first = find(re, cache, input)?;
     find(re, cache, other)?;
@@ -92,7 +92,7 @@ fn answers(
 ) -> Result<Told, Fault>
     requires own { AreCachesOf re.now cache.old }
     ensures { (xs : List Tree) (s : Settings) → IsBuilt xs s re.now → FindsFirst s → MayAsk xs s input.entry →
-        IfOk result (λ told. IsTold xs s input.entry told.first told.second told.all.items) }
+        IfOk result (λ told. IsClientTold xs s input.entry told.first told.second told.all.items) }
 {
     let (first, second) = match find_twice(re, cache, &input, other) {
         Ok(found) => found,
@@ -117,7 +117,7 @@ fn ask_regex(
 ) -> Result<Told, Fault>
     requires first { FindsFirst settings.now }
     requires asked { MayAsk trees.now settings.now input }
-    ensures { IfOk result (λ told. IsTold trees.now settings.now input.entry told.first told.second told.all.items) }
+    ensures { IfOk result (λ told. IsClientTold trees.now settings.now input.entry told.first told.second told.all.items) }
 {
     let re = match build(alloc, trees, settings) {
         Ok(re) => re,
@@ -147,8 +147,8 @@ pub fn ask(
     haystack: &[u8],
     other: &[u8],
 ) -> Result<Option<Told>, Fault>
-    ensures { IfOk result (λ told. MatchOption told (MayAsk trees.now (program_settings said) (search_of haystack.now) → ⊥)
-        (λ t. IsTold trees.now (program_settings said) (search_of haystack.now) t.first t.second t.all.items)) }
+    ensures { IfOk result (λ told. MatchOption told (MayAsk trees.now (program_settings said) (client_search haystack.now) → ⊥)
+        (λ t. IsClientTold trees.now (program_settings said) (client_search haystack.now) t.first t.second t.all.items)) }
 {
     let settings = program_settings(said);
     let input = Input::new(haystack);

@@ -1,14 +1,14 @@
 use Rattle.std.proofs.Common.{◌-◌, ◌≤◌, drop, length}
 use Rattle.grep_core.specs.Courses.{Waits}
 use Rattle.grep_core.specs.Passing.{PassesTo}
-use Rattle.grep_core.specs.Report.{Finds}
+use Rattle.grep_core.specs.Report.{LineMatcher}
 use Rattle.grep_core.proofs.passing.tell_each.Given as goal
 
 abbrev pub invariant-loop-alloc : goal.invariant-loop-alloc
 invariant-loop-alloc l = record {
   in_lines : l.done ≤ length l.lines;
   waits : Waits l.task.what.now l.progress.telling.course;
-  passes : (f : Finds) → PassesTo l.task f l.initial.progress l.progress l.lines (drop l.done l.lines) l.initial.out.items l.out.items;
+  passes : (f : LineMatcher) → PassesTo l.task f l.initial.progress l.progress l.lines (drop l.done l.lines) l.initial.out.items l.out.items;
 }
 
 abbrev pub decreases-loop-alloc : goal.decreases-loop-alloc

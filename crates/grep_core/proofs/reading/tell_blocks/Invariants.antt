@@ -1,5 +1,5 @@
 use Rattle.std.proofs.Common.{◌≡◌, ℕ, List, Some}
-use Rattle.grep_core.specs.Blocks.{SearchesBy, finds_by, ReadsOn}
+use Rattle.grep_core.specs.Blocks.{SearchesBy, finds_by, ReadsAndWrites}
 use Rattle.grep_core.specs.Courses.{Waits}
 use Rattle.grep_core.proofs.reading.tell_blocks.Given as goal
 
@@ -8,6 +8,6 @@ invariant-loop g l = record {
   same : l.finder ≡ l.initial.finder;
   waits : Waits l.task.what.now l.progress.telling.course;
   reads : (by : SearchesBy l.task l.initial.finder) (text : List ℕ) → g.R.Read.remaining l.initial.reader ≡ Some text →
-      ReadsOn l.task (finds_by l.task by) l.initial.progress l.progress l.initial.read l.read text
+      ReadsAndWrites l.task (finds_by l.task by) l.initial.progress l.progress l.initial.read l.read text
       (g.R.Read.remaining l.reader) (g.W.Write.contents l.initial.writer) (g.W.Write.contents l.writer);
 }

@@ -1,6 +1,6 @@
 use Rattle.grep_core.specs.declared.progress.Task.{Task}
 use Rattle.grep_core.specs.Searchers.{found_by}
-use Rattle.grep_core.specs.Telling.{needed}
+use Rattle.grep_core.specs.Telling.{with_needed_spans}
 use Rattle.grep_core.proofs.SeenLemmas.{moved_by}
 use Rattle.grep_core.proofs.TextLemmas.{text_part, text_written, rest_part, text_counted}
 use Rattle.grep_core.proofs.WriteLemmas.{some_of, at_end}
@@ -15,7 +15,7 @@ returns-in-Err-clause-fault g c by =
     some_of (g.R.Read.remaining c.args.reader.now) _
     (λ text is. text_part t (found_by by) c.args.known c.new-progress.result c.new-read.result text (g.W.Write.contents c.args.writer.now)
     (g.W.Write.contents c.tell_blocks.new.writer)
-    c.new-read.ensures (c.new-progress.ensures.starts t (needed c.args.what.now (found_by by))) (c.in-Err.ensures.fault by text is))
+    c.new-read.ensures (c.new-progress.ensures.starts t (with_needed_spans c.args.what.now (found_by by))) (c.in-Err.ensures.fault by text is))
 
 pub returns-in-Ok-finish-clause-told : goal.returns-in-Ok-finish-clause-told
 returns-in-Ok-finish-clause-told g c by =
@@ -26,7 +26,7 @@ returns-in-Ok-finish-clause-told g c by =
     c.bytes.result.now text
     (g.R.Read.remaining c.tell_blocks.new.reader) (g.W.Write.contents c.args.writer.now) (g.W.Write.contents c.tell_blocks.new.writer)
     (g.W.Write.contents c.finish.new.writer)
-    c.new-read.ensures c.bytes.ensures (c.new-progress.ensures.starts t (needed c.args.what.now (found_by by))) a
+    c.new-read.ensures c.bytes.ensures (c.new-progress.ensures.starts t (with_needed_spans c.args.what.now (found_by by))) a
     (c.in-Ok-finish.ensures.written (moved_by c.in-Ok.ensures.same by) a.rest
     (λ ended. at_end (g.R.Read.remaining c.tell_blocks.new.reader) a.rest a.is_left (c.in-Ok.ensures.end ended))))
 
@@ -39,8 +39,8 @@ returns-in-Ok-finish-clause-selected g c by =
     c.bytes.result.now text
     (g.R.Read.remaining c.tell_blocks.new.reader) (g.W.Write.contents c.args.writer.now)
     (g.W.Write.contents c.tell_blocks.new.writer) c.count_of.result _
-    c.new-read.ensures c.bytes.ensures (c.new-progress.ensures.counts t (needed c.args.what.now (found_by by))) a
-    (c.count_of.ensures t (needed c.args.what.now (found_by by)))
+    c.new-read.ensures c.bytes.ensures (c.new-progress.ensures.counts t (with_needed_spans c.args.what.now (found_by by))) a
+    (c.count_of.ensures t (with_needed_spans c.args.what.now (found_by by)))
     (c.in-Ok-finish.ensures.counts (moved_by c.in-Ok.ensures.same by) a.rest
     (λ ended. at_end (g.R.Read.remaining c.tell_blocks.new.reader) a.rest a.is_left (c.in-Ok.ensures.end ended))))
 
@@ -53,6 +53,6 @@ returns-clause-fault g c by =
     c.bytes.result.now text
     (g.R.Read.remaining c.tell_blocks.new.reader) (g.W.Write.contents c.args.writer.now) (g.W.Write.contents c.tell_blocks.new.writer)
     (g.W.Write.contents c.finish.new.writer)
-    c.new-read.ensures c.bytes.ensures (c.new-progress.ensures.starts t (needed c.args.what.now (found_by by))) a
+    c.new-read.ensures c.bytes.ensures (c.new-progress.ensures.starts t (with_needed_spans c.args.what.now (found_by by))) a
     (c.in-Err-finish.ensures.fault (moved_by c.in-Ok.ensures.same by) a.rest
     (λ ended. at_end (g.R.Read.remaining c.tell_blocks.new.reader) a.rest a.is_left (c.in-Ok.ensures.end ended))))

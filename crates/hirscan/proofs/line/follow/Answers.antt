@@ -1,5 +1,5 @@
 use Rattle.std.proofs.Common.{sym, ◌∙◌, ap}
-use Rattle.hirscan.specs.Tells.{texts}
+use Rattle.thompson_nfa.specs.LiteralGroups.{texts}
 use Rattle.hirscan.proofs.line.follow.Goals as goal
 
 pub follow_words-told-requires-clause-allowed : goal.follow_words-told-requires-clause-allowed

@@ -1,5 +1,5 @@
 use Rattle.std.proofs.Common.{◌≡◌, ◌+◌, ◌∙◌, subst, sym, true}
-use Rattle.capi.specs.Compiled.{Regexed, IsPreferred, config_by}
+use Rattle.capi.specs.Compiled.{Regexed, HasFoundSpan, config_by}
 use Rattle.capi.proofs.NextLemmas.{next_beyond, next_later, next_none, next_there}
 use Rattle.capi.proofs.compiled.Compiled.find_next.Goals as goal
 
@@ -21,6 +21,6 @@ pub returns-clause-next : goal.returns-clause-next
 returns-clause-next c on =
     next_later (config_by c.args.self.now) c.args.self.now.texts c.args.haystack.now c.args.end c.in-Ok.next c.in-Ok-search.later
     (c.in-Ok.ensures.preferred on) (sym c.ends_at.ensures ∙ c.if-not-ends_at.false)
-    (subst (λ (v : Regexed). v.loops ≡ true → IsPreferred (config_by v) v.texts c.args.haystack.now (c.args.end + 1) c.in-Ok-search.later)
+    (subst (λ (v : Regexed). v.loops ≡ true → HasFoundSpan (config_by v) v.texts c.args.haystack.now (c.args.end + 1) c.in-Ok-search.later)
     c.search.ensures.same
     c.in-Ok-search.ensures.preferred on)

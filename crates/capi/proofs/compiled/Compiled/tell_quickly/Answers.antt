@@ -4,15 +4,15 @@ use Rattle.search_core.specs.Utf8.{IsValidText}
 use Rattle.search_types.specs.declared.match_kind.MatchKind.TheVariants.{All as AllMatches}
 use Rattle.regex_pair.specs.Pairs.{Pair}
 use Rattle.capi.specs.Compiled.{Regexed, AreBuiltOf, AreWhich, config_by}
-use Rattle.capi.specs.Options.{config_of}
+use Rattle.capi.specs.Options.{config_of_options}
 use Rattle.capi.proofs.compiled.Compiled.tell_quickly.Goals as goal
 
 pub returns-clause-told : goal.returns-clause-told
 returns-clause-told c res read =
     c.in-Ok-tests_of.ensures
     ∙ subst (λ (v : Regexed). AreWhich (config_by v) v.texts c.args.haystack.now c.which.new.set) c.self.view_is
-    (c.in-Ok.ensures.told (config_of c.self.inside.options) (map string_bytes c.self.inside.texts.items)
-    (subst (λ (o : Option Pair). IfSome o (AreBuiltOf (config_of c.self.inside.options)
+    (c.in-Ok.ensures.told (config_of_options c.self.inside.options) (map string_bytes c.self.inside.texts.items)
+    (subst (λ (o : Option Pair). IfSome o (AreBuiltOf (config_of_options c.self.inside.options)
     (map string_bytes c.self.inside.texts.items) AllMatches))
     c.in-Some-walker.is c.self.invariant.1)
     (subst (λ (v : Regexed). (config_by v).utf8 ≡ true → IsValidText c.args.haystack.now) (sym c.self.view_is) c.requires.valid)
@@ -29,8 +29,8 @@ invariant_of-self c = c.self.invariant
 pub invariant_of-self-2 : goal.invariant_of-self-2
 invariant_of-self-2 c = (
   c.self.invariant.0,
-  subst (AreBuiltOf (config_of c.self.inside.options) (map string_bytes c.self.inside.texts.items) AllMatches) (sym c.which.ensures.same)
-      (subst (λ (o : Option Pair). IfSome o (AreBuiltOf (config_of c.self.inside.options)
+  subst (AreBuiltOf (config_of_options c.self.inside.options) (map string_bytes c.self.inside.texts.items) AllMatches) (sym c.which.ensures.same)
+      (subst (λ (o : Option Pair). IfSome o (AreBuiltOf (config_of_options c.self.inside.options)
       (map string_bytes c.self.inside.texts.items) AllMatches))
       c.in-Some-walker.is c.self.invariant.1),
   c.self.invariant.2,
@@ -39,8 +39,8 @@ invariant_of-self-2 c = (
 pub invariant_of-self-in-Err-tests_of : goal.invariant_of-self-in-Err-tests_of
 invariant_of-self-in-Err-tests_of c = (
   c.self.invariant.0,
-  subst (AreBuiltOf (config_of c.self.inside.options) (map string_bytes c.self.inside.texts.items) AllMatches) (sym c.which.ensures.same)
-      (subst (λ (o : Option Pair). IfSome o (AreBuiltOf (config_of c.self.inside.options)
+  subst (AreBuiltOf (config_of_options c.self.inside.options) (map string_bytes c.self.inside.texts.items) AllMatches) (sym c.which.ensures.same)
+      (subst (λ (o : Option Pair). IfSome o (AreBuiltOf (config_of_options c.self.inside.options)
       (map string_bytes c.self.inside.texts.items) AllMatches))
       c.in-Some-walker.is c.self.invariant.1),
   c.self.invariant.2,
@@ -49,8 +49,8 @@ invariant_of-self-in-Err-tests_of c = (
 pub invariant_of-self-in-Err : goal.invariant_of-self-in-Err
 invariant_of-self-in-Err c = (
   c.self.invariant.0,
-  subst (AreBuiltOf (config_of c.self.inside.options) (map string_bytes c.self.inside.texts.items) AllMatches) (sym c.which.ensures.same)
-      (subst (λ (o : Option Pair). IfSome o (AreBuiltOf (config_of c.self.inside.options)
+  subst (AreBuiltOf (config_of_options c.self.inside.options) (map string_bytes c.self.inside.texts.items) AllMatches) (sym c.which.ensures.same)
+      (subst (λ (o : Option Pair). IfSome o (AreBuiltOf (config_of_options c.self.inside.options)
       (map string_bytes c.self.inside.texts.items) AllMatches))
       c.in-Some-walker.is c.self.invariant.1),
   c.self.invariant.2,

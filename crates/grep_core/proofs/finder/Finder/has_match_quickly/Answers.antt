@@ -1,6 +1,6 @@
 use Rattle.std.proofs.Common.{map, sym, subst}
 use Rattle.regex_pair.specs.Pairs.{Pair}
-use Rattle.grep_core.specs.Searchers.{IsTold, Sought}
+use Rattle.grep_core.specs.Searchers.{IsMatchTold, Sought}
 use Rattle.grep_core.proofs.SeenLemmas.{IsOwn}
 use Rattle.grep_core.proofs.finder.Finder.has_match_quickly.Goals as goal
 
@@ -24,5 +24,5 @@ invariant_of-self-2 c = (
 
 pub returns-clause-told : goal.returns-clause-told
 returns-clause-told c =
-    subst (λ (s : Sought). IsTold s.config s.texts c.args.line.now c.in-Ok.told) c.self.view_is
+    subst (λ (s : Sought). IsMatchTold s.config s.texts c.args.line.now c.in-Ok.told) c.self.view_is
     (c.in-Ok.ensures.told c.self.inside.config (map (λ t. t.now) c.self.inside.texts.now) c.self.invariant.1.0)

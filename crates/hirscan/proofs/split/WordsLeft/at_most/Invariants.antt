@@ -1,5 +1,6 @@
 use Rattle.std.proofs.Common.{◌≡◌, ◌++◌, ◌≤◌, length}
-use Rattle.hirscan.specs.Tells.{texts, words_left}
+use Rattle.thompson_nfa.specs.LiteralGroups.{texts}
+use Rattle.hirscan.specs.Tells.{words_left}
 use Rattle.hirscan.proofs.split.WordsLeft.at_most.Given as goal
 
 -- the words so far, and behind them those that are left
