@@ -13,7 +13,7 @@ use Rattle.search_types.specs.Found.{HalfFound}
 use Rattle.search_types.specs.Inputs.{Search}
 use Rattle.lazy_dfa.specs.Building.{built}
 use Rattle.lazy_dfa.specs.Caches.{CacheValue}
-use Rattle.lazy_dfa.specs.ConfigValue.{changed_by, clears_of}
+use Rattle.lazy_dfa.specs.ConfigValue.{changed_dfa_options, clears_of}
 use Rattle.lazy_dfa.specs.Dfas.{Dfa, reader}
 use Rattle.lazy_dfa.specs.Linked.{passes_of}
 use Rattle.lazy_dfa.specs.Readers.{HalfAnswer, found, quit, unsupported}
@@ -68,7 +68,7 @@ told_by_scan d v q o (inr (inr gave)) = absurd (ok_is_no_refusal o (GaveUp gave.
 -- ---- the options of the automaton that reads forward
 forward_clears : (xs : List Tree) (s : Settings) (p : Pair) → IsBuilt xs s p → clears_of s.dfa ≡ None → clears_of p.forward.options ≡ None
 forward_clears xs s p made none =
-    let both = both_built (built p.forward.nfa s.dfa) (built p.reverse.nfa (changed_by s.dfa back_options)) p made.made in
+    let both = both_built (built p.forward.nfa s.dfa) (built p.reverse.nfa (changed_dfa_options s.dfa back_options)) p made.made in
     ap (λ (d : Dfa). clears_of d.options) (dfa_is p.forward.nfa s.dfa p.forward both.0) ∙ none
 
 -- ---- calls

@@ -3,7 +3,7 @@ ghost use Rattle.std.specs.Prelude.{◌≡◌, ◌<◌, ℕ, List, All, Some, No
 ghost use Rattle.regex_syntax.specs.declared.Config.{Config as TextConfig};
 ghost use Rattle.hir_core.specs.Facts.{LoopsRead};
 ghost use Rattle.hirscan.specs.Loops.{first_empty_loop};
-ghost use Rattle.lazy_dfa.specs.ConfigValue.{no_options};
+ghost use Rattle.lazy_dfa.specs.ConfigValue.{no_dfa_options};
 ghost use Rattle.grep_core.specs.Printing.{span_pair};
 ghost use Rattle.grep_core.specs.Searchers.{IsSearcherOf, IsMatchTold, AreTold, IsSearcherRefused, sized_settings};
 
@@ -55,7 +55,7 @@ pub(crate) fn see_bytes(bytes: &[u8])
 
 /// Options of automata whose caches have this capacity in bytes, or the one that is meant where none is told.
 fn options_of(capacity: Option<usize>) -> Options
-    ensures { result ≡ record no_options { cache_capacity = capacity } }
+    ensures { result ≡ record no_dfa_options { cache_capacity = capacity } }
 {
     match capacity {
         Some(bytes) => Options::new().cache_capacity(bytes),

@@ -18,7 +18,7 @@ use Rattle.look_core.proofs.ForCallers.{reversed_twice}
 use Rattle.thompson_nfa.proofs.ForCallers.{looks_are_used}
 use Rattle.lazy_dfa.specs.Accounting.{Measures, measures_of, least_capacity, effective_capacity}
 use Rattle.lazy_dfa.specs.Building.{class_in, classes_of, measures_with, dfa_of}
-use Rattle.lazy_dfa.specs.ConfigValue.{Options, no_options, changed_by, starts_each_of, word_boundary_of, by_hand, capacity_of, skips_check}
+use Rattle.lazy_dfa.specs.ConfigValue.{DfaOptions, no_dfa_options, changed_dfa_options, starts_each_of, word_boundary_of, by_hand, capacity_of, skips_check}
 use Rattle.lazy_dfa.specs.Dfas.{Dfa, IsDfa}
 use Rattle.lazy_dfa.specs.Quits.{has_unicode_word, with_high_bytes, has_high_bytes, quit_bytes, is_unsupported}
 use Rattle.regex_pair.specs.Pairs.{Pair, back_options, pair_built}
@@ -63,28 +63,28 @@ module _ (xs : List Tree) (s : Settings) (reverse : Bool) (n : Nfa) (made : IsCo
   words_are : has_unicode_word n.automaton ≡ use_unicode_words xs
   words_are = both_ways (has_unicode_word n.automaton) (use_unicode_words xs) of_a_tree of_a_state
 
-  pub quits_are : (o : Options) → quit_bytes n.automaton (word_boundary_of o) (by_hand o) ≡ quit_bytes_for xs o
+  pub quits_are : (o : DfaOptions) → quit_bytes n.automaton (word_boundary_of o) (by_hand o) ≡ quit_bytes_for xs o
   quits_are o = ap (λ (b : Bool). if b && word_boundary_of o then with_high_bytes (by_hand o) else by_hand o) words_are
 
-  pub unsupported_are : (o : Options) → is_unsupported n.automaton (word_boundary_of o) (by_hand o) ≡ are_unsupported xs o
+  pub unsupported_are : (o : DfaOptions) → is_unsupported n.automaton (word_boundary_of o) (by_hand o) ≡ are_unsupported xs o
   unsupported_are o = ap (λ (b : Bool). b && not (word_boundary_of o) && not (has_high_bytes (by_hand o))) words_are
 
 -- ---- the options of the automaton that reads in reverse change no measure
-same_map : (n : Nfa) (o : Options) (bytes : List ℕ) → map (class_in n (changed_by o back_options)) bytes ≡ map (class_in n o) bytes
+same_map : (n : Nfa) (o : DfaOptions) (bytes : List ℕ) → map (class_in n (changed_dfa_options o back_options)) bytes ≡ map (class_in n o) bytes
 same_map n o bytes = refl
 
-same_classes : (n : Nfa) (o : Options) → classes_of n (changed_by o back_options) ≡ classes_of n o
+same_classes : (n : Nfa) (o : DfaOptions) → classes_of n (changed_dfa_options o back_options) ≡ classes_of n o
 unfolding classes_of
 same_classes n o = same_map n o (range_with_len 0 256)
 
-pub same_measures : (n : Nfa) (o : Options) → measures_with n (changed_by o back_options) ≡ measures_with n o
+pub same_measures : (n : Nfa) (o : DfaOptions) → measures_with n (changed_dfa_options o back_options) ≡ measures_with n o
 same_measures n o = ap (λ (cs : List ℕ). measures_of n.automaton cs (starts_each_of o)) (same_classes n o)
 
 -- ---- the regex
 room_of : (skips : Bool) (least given : ℕ) → least ≤ (if skips then max least given else given) → skips ≡ false → least ≤ given
 room_of skips least given enough checks = subst (λ (b : Bool). least ≤ (if b then max least given else given)) checks enough
 
-pub set_once : (o : Options) → changed_by no_options o ≡ o
+pub set_once : (o : DfaOptions) → changed_dfa_options no_dfa_options o ≡ o
 set_once o = λ i. record {
   match_kind = option_or-None o.match_kind i;
   starts_for_each_pattern = option_or-None o.starts_for_each_pattern i;
@@ -98,10 +98,10 @@ set_once o = λ i. record {
   minimum_bytes_per_state = option_or-None o.minimum_bytes_per_state i;
 }
 
-pub is_built : (xs : List Tree) (s : Settings) (n m : Nfa) (o : Options) (p : Pair) → IsCompiled (compile_options false s) xs n →
+pub is_built : (xs : List Tree) (s : Settings) (n m : Nfa) (o : DfaOptions) (p : Pair) → IsCompiled (compile_options false s) xs n →
     IsCompiled (compile_options true s) xs m → Ok p ≡ pair_built n m o → o ≡ s.dfa → IsDfa p.forward → IsDfa p.reverse → IsBuilt xs s p
 is_built xs s n m o p up is_reverse is same forward reverse =
-    let made : pair_built n m s.dfa ≡ Ok p = ap (λ (c : Options). pair_built n m c) (sym same) ∙ sym is in
+    let made : pair_built n m s.dfa ≡ Ok p = ap (λ (c : DfaOptions). pair_built n m c) (sym same) ∙ sym is in
     let first : p.forward.nfa ≡ n = ap (λ (r : Pair). r.forward.nfa) (pair_is n m s.dfa p made) in
     let second : p.reverse.nfa ≡ m = ap (λ (r : Pair). r.reverse.nfa) (pair_is n m s.dfa p made) in
     record {
@@ -116,7 +116,7 @@ module _ (xs : List Tree) (s : Settings) (p : Pair) (made : IsBuilt xs s p) wher
   pub forward_is : p.forward ≡ dfa_of p.forward.nfa s.dfa
   forward_is = ap (λ (r : Pair). r.forward) (pair_is p.forward.nfa p.reverse.nfa s.dfa p made.made)
 
-  pub reverse_is : p.reverse ≡ dfa_of p.reverse.nfa (changed_by s.dfa back_options)
+  pub reverse_is : p.reverse ≡ dfa_of p.reverse.nfa (changed_dfa_options s.dfa back_options)
   reverse_is = ap (λ (r : Pair). r.reverse) (pair_is p.forward.nfa p.reverse.nfa s.dfa p made.made)
 
   pub built_regex : FindsFirst s → IsRegexOf xs s.utf8 s.line_terminator p

@@ -24,8 +24,8 @@ use Rattle.look_core.proofs.ForCallers.{reversed_twice}
 use Rattle.thompson_nfa.proofs.ForCallers.{looks_are_used}
 use Rattle.lazy_dfa.specs.Accounting.{least_capacity}
 use Rattle.lazy_dfa.specs.Building.{measures_with, dfa_of, built, is_too_small}
-use Rattle.lazy_dfa.specs.ConfigValue.{kind_of, changed_by, word_boundary_of, by_hand, capacity_of}
-use Rattle.lazy_dfa.specs.ConfigValue.{Options as DfaOptions}
+use Rattle.lazy_dfa.specs.ConfigValue.{kind_of, changed_dfa_options, word_boundary_of, by_hand, capacity_of}
+use Rattle.lazy_dfa.specs.ConfigValue.{DfaOptions}
 use Rattle.lazy_dfa.specs.declared.build_error.BuildError.{BuildError}
 use Rattle.lazy_dfa.specs.declared.build_error.BuildError.TheVariants.{InsufficientCacheCapacity, Unsupported}
 use Rattle.lazy_dfa.specs.Dfas.{Dfa, IsDfa}
@@ -36,7 +36,7 @@ use Rattle.determinize_core.proofs.ForCallers.{has_family}
 
 -- ---- what is built
 abbrev pub pair_of : Nfa → Nfa → DfaOptions → Pair
-pair_of n m c = record { forward = dfa_of n c; reverse = dfa_of m (changed_by c back_options) }
+pair_of n m c = record { forward = dfa_of n c; reverse = dfa_of m (changed_dfa_options c back_options) }
 
 abbrev pub dfa_ok : Dfa → Result Dfa BuildError
 dfa_ok d = Ok d
@@ -70,8 +70,8 @@ dfa_is n c d is =
 
 pub pair_is : (n m : Nfa) (c : DfaOptions) (p : Pair) → pair_built n m c ≡ pair_ok p → p ≡ pair_of n m c
 pair_is n m c p is =
-    let both = both_built (built n c) (built m (changed_by c back_options)) p is in
-    joined_parts (dfa_is n c p.forward both.0) (dfa_is m (changed_by c back_options) p.reverse both.1)
+    let both = both_built (built n c) (built m (changed_dfa_options c back_options)) p is in
+    joined_parts (dfa_is n c p.forward both.0) (dfa_is m (changed_dfa_options c back_options) p.reverse both.1)
   where
     joined_parts : {d v : Dfa} → p.forward ≡ d → p.reverse ≡ v → p ≡ record { forward = d; reverse = v }
     joined_parts f r = λ i. record { forward = f i; reverse = r i }

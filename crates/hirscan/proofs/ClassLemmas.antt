@@ -37,7 +37,7 @@ use Rattle.thompson_nfa.specs.Compilations.{IsCompiled}
 use Rattle.thompson_nfa.specs.Configs.{Options, reverse_of}
 use Rattle.thompson_nfa.proofs.ForCallers.{span_is_read}
 use Rattle.lazy_dfa.specs.Building.{classes_of}
-use Rattle.lazy_dfa.specs.ConfigValue.{Options as DfaOptions}
+use Rattle.lazy_dfa.specs.ConfigValue.{DfaOptions}
 use Rattle.lazy_dfa.specs.Dfas.{class_of}
 use Rattle.lazy_dfa.specs.Passes.{start_name}
 use Rattle.lazy_dfa.proofs.ForCallers.{classes_by_marks}

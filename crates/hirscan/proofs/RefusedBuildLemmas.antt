@@ -11,7 +11,7 @@ use Rattle.thompson_nfa.specs.Compilations.{IsCompiled}
 use Rattle.thompson_nfa.specs.RefusedTrees.{RefusesTrees}
 use Rattle.lazy_dfa.specs.Accounting.{least_capacity}
 use Rattle.lazy_dfa.specs.Building.{built, dfa_of, is_too_small, measures_with, refused_by}
-use Rattle.lazy_dfa.specs.ConfigValue.{Options, changed_by, word_boundary_of, by_hand, capacity_of, skips_check}
+use Rattle.lazy_dfa.specs.ConfigValue.{DfaOptions, changed_dfa_options, word_boundary_of, by_hand, capacity_of, skips_check}
 use Rattle.lazy_dfa.specs.declared.build_error.BuildError.{BuildError}
 use Rattle.lazy_dfa.specs.declared.build_error.BuildError.TheVariants.{NFA, InsufficientCacheCapacity, Unsupported}
 use Rattle.lazy_dfa.specs.Dfas.{Dfa}
@@ -58,7 +58,7 @@ room_by_tests false skips given least d f true is_small is off = absurd (no_dfa_
 room_by_tests false skips given least d f false is_small is off =
     ltb-false given least (subst (λ (b : Bool). (not b && nat_lt given least) ≡ false) off is_small)
 
-room_if_built : (n : Nfa) (o : Options) (f : Dfa) → built n o ≡ ok_dfa f → HasRoom n o
+room_if_built : (n : Nfa) (o : DfaOptions) (f : Dfa) → built n o ≡ ok_dfa f → HasRoom n o
 room_if_built n o f made =
     room_by_tests (is_unsupported n.automaton (word_boundary_of o) (by_hand o)) (skips_check o) (capacity_of o)
     (least_capacity (measures_with n o)) (dfa_of n o) f (is_too_small n o) refl made
@@ -108,16 +108,16 @@ module _ (xs : List Tree) (s : Settings) where
 
     pair_refused : pair_built n m s.dfa ≡ err_pair e → RefusesBuild xs s e
     pair_refused is =
-        by_half (built n s.dfa) (built m (changed_by s.dfa back_options))
+        by_half (built n s.dfa) (built m (changed_dfa_options s.dfa back_options))
         (λ first. by_tests false (λ back. absurd (true≢false (sym back)))
         (is_unsupported n.automaton (word_boundary_of s.dfa) (by_hand s.dfa))
         (skips_check s.dfa) (capacity_of s.dfa) (least_capacity (measures_with n s.dfa)) (dfa_of n s.dfa)
         (unsupported_are xs s false n up s.dfa) refl refl refl (is_too_small n s.dfa) refl first)
         (λ f made second. by_tests true (λ back. room_if_built n s.dfa f made)
         (is_unsupported m.automaton (word_boundary_of s.dfa) (by_hand s.dfa)) (skips_check s.dfa) (capacity_of s.dfa)
-        (least_capacity (measures_with m (changed_by s.dfa back_options))) (dfa_of m (changed_by s.dfa back_options))
+        (least_capacity (measures_with m (changed_dfa_options s.dfa back_options))) (dfa_of m (changed_dfa_options s.dfa back_options))
         (unsupported_are xs s true m is_reverse s.dfa) refl refl (ap least_capacity (same_measures m s.dfa))
-        (is_too_small m (changed_by s.dfa back_options)) refl second) is
+        (is_too_small m (changed_dfa_options s.dfa back_options)) refl second) is
 
-    pub build_refused : (o : Options) → err_pair e ≡ pair_built n m o → o ≡ s.dfa → RefusesBuild xs s e
-    build_refused o is same = pair_refused (ap (λ (c : Options). pair_built n m c) (sym same) ∙ sym is)
+    pub build_refused : (o : DfaOptions) → err_pair e ≡ pair_built n m o → o ≡ s.dfa → RefusesBuild xs s e
+    build_refused o is same = pair_refused (ap (λ (c : DfaOptions). pair_built n m c) (sym same) ∙ sym is)

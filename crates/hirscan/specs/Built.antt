@@ -16,8 +16,8 @@ use Rattle.thompson_nfa.specs.RefusedTrees.{RefusesTrees}
 use Rattle.thompson_nfa.specs.declared.which_captures.WhichCaptures.TheVariants as which
 use Rattle.lazy_dfa.specs.Accounting.{least_capacity}
 use Rattle.lazy_dfa.specs.Building.{measures_with}
-use Rattle.lazy_dfa.specs.ConfigValue.{Options as DfaOptions}
-use Rattle.lazy_dfa.specs.ConfigValue.{no_options, by_hand, word_boundary_of, capacity_of, skips_check, kind_of}
+use Rattle.lazy_dfa.specs.ConfigValue.{DfaOptions}
+use Rattle.lazy_dfa.specs.ConfigValue.{no_dfa_options, by_hand, word_boundary_of, capacity_of, skips_check, kind_of}
 use Rattle.lazy_dfa.specs.Dfas.{IsDfa}
 use Rattle.lazy_dfa.specs.Quits.{with_high_bytes, has_high_bytes}
 use Rattle.lazy_dfa.specs.declared.build_error.BuildError.{BuildError}
@@ -28,7 +28,7 @@ use Rattle.hirscan.specs.declared.settings.Settings.{Settings}
 -- ---- settings
 
 abbrev pub default_settings : Settings
-default_settings = record { utf8 = true; line_terminator = one_of 0x0A; shrink = false; size_limit = None; dfa = no_options }
+default_settings = record { utf8 = true; line_terminator = one_of 0x0A; shrink = false; size_limit = None; dfa = no_dfa_options }
 
 -- what the program sets beside what a head does
 abbrev pub program_settings : Settings → Settings

@@ -6,7 +6,7 @@ use Rattle.hir_core.specs.Tree.{Tree, empty, literal, byte_class, char_class, lo
 use Rattle.hir_core.specs.Means.{AtMost}
 use Rattle.hir_core.specs.Facts.{height}
 use Rattle.search_types.specs.declared.span.Span.{Span}
-use Rattle.lazy_dfa.specs.ConfigValue.{Options as DfaOptions}
+use Rattle.lazy_dfa.specs.ConfigValue.{DfaOptions}
 use Rattle.lazy_dfa.specs.ConfigValue.{by_hand}
 use Rattle.hirscan.specs.declared.line.Setup.{Setup}
 use Rattle.hirscan.specs.declared.settings.Settings.{Settings}

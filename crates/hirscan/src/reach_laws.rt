@@ -2,7 +2,7 @@
 //! no setting of a cache. Each function has no code: its contract is the law.
 //! ```rust
 //! pub fn built_pairs_have_their_classes()
-//!     ensures { (n m : Nfa) (o : Options) (p : Pair) → pair_built n m o ≡ Ok p → HasItsClasses p }
+//!     ensures { (n m : Nfa) (o : DfaOptions) (p : Pair) → pair_built n m o ≡ Ok p → HasItsClasses p }
 //! {
 //!     bytes_of_one_class_are_interchangeable();
 //! }
@@ -18,7 +18,7 @@ ghost use Rattle.search_types.specs.Inputs.{Search};
 ghost use Rattle.search_types.specs.Modes.{is_supported};
 ghost use Rattle.nfa_core.specs.Alike.{marks_of};
 ghost use Rattle.nfa_core.specs.NfaValue.{Nfa};
-ghost use Rattle.lazy_dfa.specs.ConfigValue.{Options as DfaOptions};
+ghost use Rattle.lazy_dfa.specs.ConfigValue.{DfaOptions};
 ghost use Rattle.lazy_dfa.specs.Dfas.{reader};
 ghost use Rattle.regex_pair.specs.Joined.{joined};
 ghost use Rattle.regex_pair.specs.Matching.{has_match};

@@ -26,7 +26,7 @@ ghost use Rattle.search_types.specs.Modes.{is_supported};
 ghost use Rattle.nfa_core.specs.NfaValue.{Nfa, is_capture};
 ghost use Rattle.thompson_nfa.specs.Compilations.{IsCompiled};
 ghost use Rattle.thompson_nfa.specs.Configs.{Options, utf8_of, reverse_of, terminator_of};
-ghost use Rattle.lazy_dfa.specs.ConfigValue.{Options as DfaOptions};
+ghost use Rattle.lazy_dfa.specs.ConfigValue.{DfaOptions};
 ghost use Rattle.lazy_dfa.specs.ConfigValue.{kind_of};
 ghost use Rattle.lazy_dfa.specs.Dfas.{IsDfa, reader};
 ghost use Rattle.lazy_dfa.specs.Readers.{quit, unsupported};

@@ -6,7 +6,7 @@ use Rattle.search_core.specs.Marks.{marks_below, recorded}
 use Rattle.nfa_core.specs.Alike.{marks_of}
 use Rattle.nfa_core.specs.NfaValue.{Nfa}
 use Rattle.lazy_dfa.specs.Accounting.{Measures, measures_of, least_capacity, effective_capacity}
-use Rattle.lazy_dfa.specs.ConfigValue.{Options, starts_each_of, classes_on, word_boundary_of, by_hand, capacity_of, skips_check}
+use Rattle.lazy_dfa.specs.ConfigValue.{DfaOptions, starts_each_of, classes_on, word_boundary_of, by_hand, capacity_of, skips_check}
 use Rattle.lazy_dfa.specs.Dfas.{Dfa}
 use Rattle.lazy_dfa.specs.Quits.{quit_bytes, is_unsupported}
 use Rattle.lazy_dfa.specs.declared.build_error.BuildError.{BuildError}
@@ -15,22 +15,22 @@ use Rattle.nfa_core.specs.declared.build_error.BuildError.{BuildError as NfaBuil
 use Rattle.nfa_core.specs.declared.build_error.BuildError.TheVariants.{NoMemory as NfaNoMemory}
 
 -- the quit bytes of the NFA with these options
-abbrev pub quits_of : Nfa → Options → List Bool
+abbrev pub quits_of : Nfa → DfaOptions → List Bool
 quits_of n o = quit_bytes n.automaton (word_boundary_of o) (by_hand o)
 
 -- the class of a byte: by the marks of the NFA and of the quit bytes, or a class of its own
-abbrev pub class_in : Nfa → Options → ℕ → ℕ
+abbrev pub class_in : Nfa → DfaOptions → ℕ → ℕ
 class_in n o b = if classes_on o then marks_below (recorded (marks_of n.terminator n.automaton.states) (ranges_from (quits_of n o) 0)) b
     else b
 
-unfoldable pub classes_of : Nfa → Options → List ℕ
+unfoldable pub classes_of : Nfa → DfaOptions → List ℕ
 classes_of n o = map (class_in n o) (range_with_len 0 256)
 
-abbrev pub measures_with : Nfa → Options → Measures
+abbrev pub measures_with : Nfa → DfaOptions → Measures
 measures_with n o = measures_of n.automaton (classes_of n o) (starts_each_of o)
 
 -- the automaton that is built
-abbrev pub dfa_of : Nfa → Options → Dfa
+abbrev pub dfa_of : Nfa → DfaOptions → Dfa
 dfa_of n o = record {
   nfa = n;
   options = o;
@@ -41,7 +41,7 @@ dfa_of n o = record {
 }
 
 -- whether the given capacity is too small, and that matters
-abbrev pub is_too_small : Nfa → Options → Bool
+abbrev pub is_too_small : Nfa → DfaOptions → Bool
 is_too_small n o = not (skips_check o) && nat_lt (capacity_of o) (least_capacity (measures_with n o))
 
 -- the refusal of a compile: want of memory is told as that
@@ -50,7 +50,7 @@ refused_by NfaNoMemory = NoMemory
 refused_by e = NFA e
 
 -- what the builder answers
-abbrev pub built : Nfa → Options → Result Dfa BuildError
+abbrev pub built : Nfa → DfaOptions → Result Dfa BuildError
 built n o =
     if is_unsupported n.automaton (word_boundary_of o) (by_hand o)
     then Err Unsupported
@@ -59,6 +59,6 @@ built n o =
     else Ok (dfa_of n o)
 
 -- the least capacity of caches, refused where an automaton can't be searched
-abbrev pub least_for : Nfa → Options → Result ℕ BuildError
+abbrev pub least_for : Nfa → DfaOptions → Result ℕ BuildError
 least_for n o =
     if is_unsupported n.automaton (word_boundary_of o) (by_hand o) then Err Unsupported else Ok (least_capacity (measures_with n o))

@@ -4,7 +4,7 @@ use Rattle.std.specs.Option.{option_or, unwrap_or}
 use Rattle.search_types.specs.declared.match_kind.MatchKind.{MatchKind}
 use Rattle.search_types.specs.declared.match_kind.MatchKind.TheVariants.{LeftmostFirst}
 
-pub record Options : Type 0 where
+pub record DfaOptions : Type 0 where
   pub match_kind : Option MatchKind
   pub starts_for_each_pattern : Option Bool
   pub byte_classes : Option Bool
@@ -17,8 +17,8 @@ pub record Options : Type 0 where
   pub minimum_bytes_per_state : Option (Option ℕ)  -- None within: bytes that were searched don't matter
 
 -- no option is set
-abbrev pub no_options : Options
-no_options = record {
+abbrev pub no_dfa_options : DfaOptions
+no_dfa_options = record {
   match_kind = None;
   starts_for_each_pattern = None;
   byte_classes = None;
@@ -32,8 +32,8 @@ no_options = record {
 }
 
 -- the options of the first where the second has not set them
-abbrev pub changed_by : Options → Options → Options
-changed_by old new = record {
+abbrev pub changed_dfa_options : DfaOptions → DfaOptions → DfaOptions
+changed_dfa_options old new = record {
   match_kind = option_or new.match_kind old.match_kind;
   starts_for_each_pattern = option_or new.starts_for_each_pattern old.starts_for_each_pattern;
   byte_classes = option_or new.byte_classes old.byte_classes;
@@ -52,33 +52,33 @@ changed_by old new = record {
 unfoldable pub no_bytes : List Bool
 no_bytes = replicate 256 false
 
-abbrev pub kind_of : Options → MatchKind
+abbrev pub kind_of : DfaOptions → MatchKind
 kind_of o = unwrap_or o.match_kind LeftmostFirst
 
-abbrev pub starts_each_of : Options → Bool
+abbrev pub starts_each_of : DfaOptions → Bool
 starts_each_of o = unwrap_or o.starts_for_each_pattern false
 
-abbrev pub classes_on : Options → Bool
+abbrev pub classes_on : DfaOptions → Bool
 classes_on o = unwrap_or o.byte_classes true
 
-abbrev pub word_boundary_of : Options → Bool
+abbrev pub word_boundary_of : DfaOptions → Bool
 word_boundary_of o = unwrap_or o.unicode_word_boundary false
 
 -- the quit bytes that were set by hand
-abbrev pub by_hand : Options → List Bool
+abbrev pub by_hand : DfaOptions → List Bool
 by_hand o = unwrap_or o.quit_set no_bytes
 
-abbrev pub specializes : Options → Bool
+abbrev pub specializes : DfaOptions → Bool
 specializes o = unwrap_or o.specialize_start_states false
 
-abbrev pub capacity_of : Options → ℕ
+abbrev pub capacity_of : DfaOptions → ℕ
 capacity_of o = unwrap_or o.cache_capacity 2097152
 
-abbrev pub skips_check : Options → Bool
+abbrev pub skips_check : DfaOptions → Bool
 skips_check o = unwrap_or o.skip_cache_capacity_check false
 
-abbrev pub clears_of : Options → Option ℕ
+abbrev pub clears_of : DfaOptions → Option ℕ
 clears_of o = unwrap_or o.minimum_cache_clear_count None
 
-abbrev pub minimum_bytes_of : Options → Option ℕ
+abbrev pub minimum_bytes_of : DfaOptions → Option ℕ
 minimum_bytes_of o = unwrap_or o.minimum_bytes_per_state None

@@ -8,13 +8,13 @@ use Rattle.determinize_core.specs.Stepped.{IsStepped}
 use Rattle.determinize_core.specs.Steps.{step_value, start_value}
 use Rattle.determinize_core.specs.declared.start.Start.{Start}
 use Rattle.lazy_dfa.specs.Accounting.{Measures, measures_of, longest_state, state_cost, least_capacity, effective_capacity}
-use Rattle.lazy_dfa.specs.ConfigValue.{Options, kind_of, starts_each_of, word_boundary_of, by_hand, capacity_of, skips_check}
+use Rattle.lazy_dfa.specs.ConfigValue.{DfaOptions, kind_of, starts_each_of, word_boundary_of, by_hand, capacity_of, skips_check}
 use Rattle.lazy_dfa.specs.Quits.{quit_bytes, is_unsupported}
 use Rattle.lazy_dfa.specs.Readers.{Reader, reader_of, is_quit}
 
 pub record Dfa : Type 0 where
   pub nfa : Nfa
-  pub options : Options  -- as they were given
+  pub options : DfaOptions  -- as they were given
   pub classes : List ℕ  -- the class of each byte
   pub quits : List Bool  -- for each byte whether a search gives up at it
   pub measures : Measures

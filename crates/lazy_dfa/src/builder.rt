@@ -2,7 +2,7 @@ ghost use Rattle.std.specs.Prelude.{◌≡◌, ◌&&◌, not, nat_lt, max, if◌
 ghost use Rattle.nfa_core.specs.NfaParts.{always_matching, never_matching};
 ghost use Rattle.lazy_dfa.specs.Accounting.{stride_of};
 ghost use Rattle.lazy_dfa.specs.Building.{built, dfa_of, least_for, classes_of, quits_of, measures_with};
-ghost use Rattle.lazy_dfa.specs.ConfigValue.{no_options, changed_by};
+ghost use Rattle.lazy_dfa.specs.ConfigValue.{no_dfa_options, changed_dfa_options};
 
 use crate::build_error::BuildError;
 use crate::dfa::{Config, DFA};
@@ -21,9 +21,9 @@ pub struct Builder {
 }
 
 impl Model for Builder {
-    ghost use Rattle.lazy_dfa.specs.ConfigValue.{Options};
+    ghost use Rattle.lazy_dfa.specs.ConfigValue.{DfaOptions};
 
-    ghost Value = { Options };
+    ghost Value = { DfaOptions };
 
     ghost view = { λ b. b.config };
 
@@ -33,7 +33,7 @@ impl Model for Builder {
 impl Builder {
     /// A builder with no option set.
     pub fn new() -> Builder
-        ensures { result ≡ no_options }
+        ensures { result ≡ no_dfa_options }
     {
         Builder {
             config: Config::new(),
@@ -43,7 +43,7 @@ impl Builder {
     /// Sets each option that the configuration has set, and keeps the others.
     pub fn configure(&mut self, config: Config) -> &mut Builder
         ensures same { result.ghost_name ≡ self.entry.ghost_name }
-        ensures value { result.now ≡ changed_by self.old config }
+        ensures value { result.now ≡ changed_dfa_options self.old config }
     {
         self.config = self.config.overwrite(config);
         self
@@ -103,14 +103,14 @@ impl Config {
 impl DFA {
     /// A configuration with no option set, as `DFA::config`.
     pub fn config() -> Config
-        ensures { result ≡ no_options }
+        ensures { result ≡ no_dfa_options }
     {
         Config::new()
     }
 
     /// A builder with no option set, as `DFA::builder`.
     pub fn builder() -> Builder
-        ensures { result ≡ no_options }
+        ensures { result ≡ no_dfa_options }
     {
         Builder::new()
     }
@@ -118,7 +118,7 @@ impl DFA {
     /// The DFA of one pattern that matches at each place without a byte, as `DFA::always_match`. It is refused where
     /// memory lacks.
     pub fn always_match(alloc: Global) -> Result<DFA, BuildError>
-        ensures { MatchResult result (λ d. d ≡ dfa_of always_matching no_options) (λ e. e ≡ BuildError.NoMemory) }
+        ensures { MatchResult result (λ d. d ≡ dfa_of always_matching no_dfa_options) (λ e. e ≡ BuildError.NoMemory) }
     {
         match NFA::always_match(alloc) {
             Ok(nfa) => Builder::new().build_from_nfa(nfa),
@@ -128,7 +128,7 @@ impl DFA {
 
     /// The DFA of no pattern, as `DFA::never_match`. It is refused where memory lacks.
     pub fn never_match(alloc: Global) -> Result<DFA, BuildError>
-        ensures { MatchResult result (λ d. d ≡ dfa_of never_matching no_options) (λ e. e ≡ BuildError.NoMemory) }
+        ensures { MatchResult result (λ d. d ≡ dfa_of never_matching no_dfa_options) (λ e. e ≡ BuildError.NoMemory) }
     {
         match NFA::never_match(alloc) {
             Ok(nfa) => Builder::new().build_from_nfa(nfa),

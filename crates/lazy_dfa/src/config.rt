@@ -1,6 +1,6 @@
 ghost use Rattle.std.specs.Prelude.{◌≡◌, ◌<◌, ◌⊎◌, ℕ, Bool, true, false, Some, IsSome, slice_set};
 ghost use Rattle.search_core.specs.ByteSets.{has};
-ghost use Rattle.lazy_dfa.specs.ConfigValue.{no_options, changed_by, no_bytes, kind_of, starts_each_of, classes_on, word_boundary_of, by_hand, specializes, capacity_of, skips_check, clears_of, minimum_bytes_of};
+ghost use Rattle.lazy_dfa.specs.ConfigValue.{no_dfa_options, changed_dfa_options, no_bytes, kind_of, starts_each_of, classes_on, word_boundary_of, by_hand, specializes, capacity_of, skips_check, clears_of, minimum_bytes_of};
 
 use search_core::ByteSet;
 use search_types::MatchKind;
@@ -23,9 +23,9 @@ pub struct Config {
 }
 
 impl Model for Config {
-    ghost use Rattle.lazy_dfa.specs.ConfigValue.{Options};
+    ghost use Rattle.lazy_dfa.specs.ConfigValue.{DfaOptions};
 
-    ghost Value = { Options };
+    ghost Value = { DfaOptions };
 
     ghost view = { λ c. record {
       match_kind = c.match_kind;
@@ -57,7 +57,7 @@ impl Model for Config {
 impl Config {
     /// No option is set.
     pub fn new() -> Config
-        ensures { result ≡ no_options }
+        ensures { result ≡ no_dfa_options }
     {
         Config {
             match_kind: None,
@@ -266,7 +266,7 @@ impl Config {
 
     /// This configuration with each option that the other one has set.
     pub(crate) fn overwrite(self, other: Config) -> Config
-        ensures { result ≡ changed_by self other }
+        ensures { result ≡ changed_dfa_options self other }
     {
         Config {
             match_kind: other.match_kind.or(self.match_kind),
@@ -295,7 +295,7 @@ impl Config {
 
 impl Default for Config {
     fn default() -> Config
-        ensures { result ≡ no_options }
+        ensures { result ≡ no_dfa_options }
     {
         Config::new()
     }

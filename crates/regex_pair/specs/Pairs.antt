@@ -4,7 +4,7 @@ use Rattle.search_types.specs.declared.match_kind.MatchKind.TheVariants.{All as 
 use Rattle.nfa_core.specs.NfaValue.{Nfa}
 use Rattle.lazy_dfa.specs.Building.{built}
 use Rattle.lazy_dfa.specs.Caches.{CacheValue, IsCacheOf, made_for, usage, greatest}
-use Rattle.lazy_dfa.specs.ConfigValue.{Options, no_options, changed_by}
+use Rattle.lazy_dfa.specs.ConfigValue.{DfaOptions, no_dfa_options, changed_dfa_options}
 use Rattle.lazy_dfa.specs.declared.build_error.BuildError.{BuildError}
 use Rattle.lazy_dfa.specs.Dfas.{Dfa}
 use Rattle.lazy_dfa.specs.Linked.{GrowsOrClears, IsMoved}
@@ -23,8 +23,8 @@ pub record IsPair (p : Pair) : Type 0 where
 
 -- the options of the automaton that reads in reverse, beside those of both: it finds the last place, whatever the kind of the
 -- search is, and nobody asks whether one of its states is a start
-abbrev pub back_options : Options
-back_options = record no_options { match_kind = Some AllMatches; specialize_start_states = Some false }
+abbrev pub back_options : DfaOptions
+back_options = record no_dfa_options { match_kind = Some AllMatches; specialize_start_states = Some false }
 
 abbrev pub both_of : Result Dfa BuildError → Result Dfa BuildError → Result Pair BuildError
 both_of (Ok f) (Ok r) = Ok (record { forward = f; reverse = r })
@@ -32,8 +32,8 @@ both_of (Ok f) (Err e) = Err e
 both_of (Err e) r = Err e
 
 -- what the builder answers with these options of both
-abbrev pub pair_built : Nfa → Nfa → Options → Result Pair BuildError
-pair_built n m o = both_of (built n o) (built m (changed_by o back_options))
+abbrev pub pair_built : Nfa → Nfa → DfaOptions → Result Pair BuildError
+pair_built n m o = both_of (built n o) (built m (changed_dfa_options o back_options))
 
 -- ---- caches
 

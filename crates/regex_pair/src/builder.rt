@@ -1,5 +1,5 @@
 ghost use Rattle.std.specs.Prelude.{◌≡◌, true, false};
-ghost use Rattle.lazy_dfa.specs.ConfigValue.{no_options, changed_by};
+ghost use Rattle.lazy_dfa.specs.ConfigValue.{no_dfa_options, changed_dfa_options};
 ghost use Rattle.regex_pair.specs.Pairs.{pair_built, back_options};
 
 use crate::regex::Regex;
@@ -17,9 +17,9 @@ pub struct Builder {
 }
 
 impl Model for Builder {
-    ghost use Rattle.lazy_dfa.specs.ConfigValue.{Options};
+    ghost use Rattle.lazy_dfa.specs.ConfigValue.{DfaOptions};
 
-    ghost Value = { Options };
+    ghost Value = { DfaOptions };
 
     ghost view = { λ b. b.dfa };
 
@@ -37,7 +37,7 @@ fn back_config() -> Config
 
 /// The builder of the automaton that finds starts.
 fn back_builder(both: &Builder) -> dfa::Builder
-    ensures { result ≡ changed_by both.now back_options }
+    ensures { result ≡ changed_dfa_options both.now back_options }
 {
     let mut back = both.dfa;
     back.configure(back_config());
@@ -47,7 +47,7 @@ fn back_builder(both: &Builder) -> dfa::Builder
 impl Builder {
     /// A builder with no option set, as `Builder::new`.
     pub fn new() -> Builder
-        ensures { result ≡ no_options }
+        ensures { result ≡ no_dfa_options }
     {
         Builder {
             dfa: DFA::builder(),
@@ -57,7 +57,7 @@ impl Builder {
     /// Sets each option that the configuration has set, for both automata, as `Builder::dfa`.
     pub fn dfa(&mut self, config: Config) -> &mut Builder
         ensures same { result.ghost_name ≡ self.entry.ghost_name }
-        ensures value { result.now ≡ changed_by self.old config }
+        ensures value { result.now ≡ changed_dfa_options self.old config }
     {
         self.dfa.configure(config);
         self
@@ -100,9 +100,9 @@ impl Builder {
 
 impl Default for Builder {
     ghost use Rattle.std.specs.Prelude.{◌≡◌};
-    ghost use Rattle.lazy_dfa.specs.ConfigValue.{no_options};
+    ghost use Rattle.lazy_dfa.specs.ConfigValue.{no_dfa_options};
 
-    ghost is_default = { λ b. b ≡ no_options };
+    ghost is_default = { λ b. b ≡ no_dfa_options };
 
     fn default() -> Builder {
         Builder::new()

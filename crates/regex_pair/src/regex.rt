@@ -6,7 +6,7 @@
 //! ```
 ghost use Rattle.std.specs.Prelude.{◌≡◌, ◌+◌, ◌≤◌, length};
 ghost use Rattle.search_core.specs.Index.{greatest_index};
-ghost use Rattle.lazy_dfa.specs.ConfigValue.{no_options};
+ghost use Rattle.lazy_dfa.specs.ConfigValue.{no_dfa_options};
 ghost use Rattle.regex_pair.specs.Pairs.{IsPair};
 
 pub use crate::builder::Builder;
@@ -36,7 +36,7 @@ impl Model for Regex {
 impl Regex {
     /// A builder with no option set, as `Regex::builder`.
     pub fn builder() -> Builder
-        ensures { result ≡ no_options }
+        ensures { result ≡ no_dfa_options }
     {
         Builder::new()
     }

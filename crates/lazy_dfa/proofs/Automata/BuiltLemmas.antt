@@ -23,7 +23,7 @@ use Rattle.lazy_dfa.specs.Accounting.{Measures, stride_of, start_count, least_ca
 use Rattle.lazy_dfa.specs.declared.build_error.BuildError.{BuildError}
 use Rattle.lazy_dfa.specs.declared.build_error.BuildError.TheVariants.{InsufficientCacheCapacity, Unsupported}
 use Rattle.lazy_dfa.specs.Building.{quits_of, class_in, classes_of, measures_with, dfa_of, is_too_small, built}
-use Rattle.lazy_dfa.specs.ConfigValue.{Options, kind_of, classes_on, starts_each_of, word_boundary_of, by_hand, capacity_of, skips_check}
+use Rattle.lazy_dfa.specs.ConfigValue.{DfaOptions, kind_of, classes_on, starts_each_of, word_boundary_of, by_hand, capacity_of, skips_check}
 use Rattle.lazy_dfa.specs.Dfas.{Dfa, IsUnit, class_of, Alike, after, IsDfa}
 use Rattle.lazy_dfa.specs.Quits.{is_unsupported}
 use Rattle.lazy_dfa.proofs.Automata.BuildLemmas.{power_small, power_enough}
@@ -72,7 +72,7 @@ same_quits t nodes set b c small little e =
 at_range : (f : ℕ → ℕ) (n b : ℕ) → b < n → get_or (map f (range_with_len 0 n)) b 0 ≡ f b
 at_range f n b l = get_or-map-range_with_len f 0 n b b 0 l (omega arith)
 
-pub class_there : (n : Nfa) (o : Options) (b : ℕ) → b < 256 → get_or (classes_of n o) b 0 ≡ class_in n o b
+pub class_there : (n : Nfa) (o : DfaOptions) (b : ℕ) → b < 256 → get_or (classes_of n o) b 0 ≡ class_in n o b
 unfolding classes_of
 class_there n o b l = at_range (class_in n o) 256 b l
 
@@ -90,7 +90,7 @@ one_class : (t : Bool) (m : List Bool) (b c : ℕ) → (if t then marks_below m 
 one_class true m b c e = inl e
 one_class false m b c e = inr e
 
-module _ (n : Nfa) (o : Options) where
+module _ (n : Nfa) (o : DfaOptions) where
   abbrev marks : List Bool
   marks = recorded (marks_of n.terminator n.automaton.states) (ranges_from (quits_of n o) 0)
 
@@ -163,7 +163,7 @@ room_for false least given e = ⊎_elim
     (λ (most : least ≤ given). most)
     (cases_lt given least)
 
-pub is_dfa : (n : Nfa) (o : Options) → IsSound n.automaton → is_unsupported n.automaton (word_boundary_of o) (by_hand o) ≡ false →
+pub is_dfa : (n : Nfa) (o : DfaOptions) → IsSound n.automaton → is_unsupported n.automaton (word_boundary_of o) (by_hand o) ≡ false →
     is_too_small n o ≡ false → IsDfa (dfa_of n o)
 is_dfa n o sound fine large = record {
   sound = sound;
@@ -182,19 +182,19 @@ is_dfa n o sound fine large = record {
 abbrev pub made_measures : ℕ → ℕ → ℕ → ℕ → Measures
 made_measures states patterns stride starts = record { states = states; patterns = patterns; stride = stride; starts = starts }
 
-abbrev pub made_dfa : Nfa → Options → List ℕ → List Bool → Measures → ℕ → Dfa
+abbrev pub made_dfa : Nfa → DfaOptions → List ℕ → List Bool → Measures → ℕ → Dfa
 made_dfa n o cs qs m cap = record { nfa = n; options = o; classes = cs; quits = qs; measures = m; capacity = cap }
 
 by_range : (f : ℕ → ℕ) (n : ℕ) (xs : List ℕ) → length xs ≡ n → ((k : ℕ) → k < n → get_or xs k 0 ≡ f k) → xs ≡ map f (range_with_len 0 n)
 by_range f n xs len h = fill_by_all f xs n 0 len h
 
-pub plain_classes : (n : Nfa) (o : Options) (cs : List ℕ) → length cs ≡ 256 → ((b : ℕ) → b < 256 → get_or cs b 0 ≡ b) →
+pub plain_classes : (n : Nfa) (o : DfaOptions) (cs : List ℕ) → length cs ≡ 256 → ((b : ℕ) → b < 256 → get_or cs b 0 ≡ b) →
     classes_on o ≡ false → cs ≡ classes_of n o
 unfolding classes_of
 plain_classes n o cs len own off =
     by_range (class_in n o) 256 cs len (λ b l. own b l ∙ sym (ap (λ (t : Bool). if t then marks_below (marks n o) b else b) off))
 
-pub marked_classes : (n : Nfa) (o : Options) (cs : List ℕ) (m : List Bool) → length cs ≡ 256 →
+pub marked_classes : (n : Nfa) (o : DfaOptions) (cs : List ℕ) (m : List Bool) → length cs ≡ 256 →
     ((b : ℕ) → b < 256 → get_or cs b 0 ≡ marks_below m b) →
     m ≡ recorded (marks_of n.terminator n.automaton.states) (ranges_from (quits_of n o) 0) → classes_on o ≡ true → cs ≡ classes_of n o
 unfolding classes_of
@@ -202,23 +202,23 @@ marked_classes n o cs m len numbered is on =
     by_range (class_in n o) 256 cs len (λ b l. numbered b l
     ∙ (ap (λ (w : List Bool). marks_below w b) is ∙ sym (ap (λ (t : Bool). if t then marks_below (marks n o) b else b) on)))
 
-pub measures_are : (n : Nfa) (o : Options) (states patterns stride starts : ℕ) → states ≡ length n.automaton.states →
+pub measures_are : (n : Nfa) (o : DfaOptions) (states patterns stride starts : ℕ) → states ≡ length n.automaton.states →
     patterns ≡ length n.automaton.start_pattern →
     stride ≡ stride_of (classes_of n o) → starts ≡ start_count (starts_each_of o) (length n.automaton.start_pattern) →
     made_measures states patterns stride starts ≡ measures_with n o
 measures_are n o states patterns stride starts p q r s = λ i. made_measures (p i) (q i) (r i) (s i)
 
-pub dfa_is : (n : Nfa) (o : Options) (cs : List ℕ) (qs : List Bool) (m : Measures) (cap : ℕ) → cs ≡ classes_of n o → qs ≡ quits_of n o →
+pub dfa_is : (n : Nfa) (o : DfaOptions) (cs : List ℕ) (qs : List Bool) (m : Measures) (cap : ℕ) → cs ≡ classes_of n o → qs ≡ quits_of n o →
     m ≡ measures_with n o →
     cap ≡ effective_capacity (measures_with n o) (skips_check o) (capacity_of o) → made_dfa n o cs qs m cap ≡ dfa_of n o
 dfa_is n o cs qs m cap p q r s = λ i. made_dfa n o (p i) (q i) (r i) (s i)
 
-pub made_is_dfa : (n : Nfa) (o : Options) (cs : List ℕ) (qs : List Bool) (m : Measures) (cap : ℕ) → made_dfa n o cs qs m cap ≡ dfa_of n o →
+pub made_is_dfa : (n : Nfa) (o : DfaOptions) (cs : List ℕ) (qs : List Bool) (m : Measures) (cap : ℕ) → made_dfa n o cs qs m cap ≡ dfa_of n o →
     IsSound n.automaton → is_unsupported n.automaton (word_boundary_of o) (by_hand o) ≡ false → is_too_small n o ≡ false →
     IsDfa (made_dfa n o cs qs m cap)
 made_is_dfa n o cs qs m cap e sound fine large = subst IsDfa (sym e) (is_dfa n o sound fine large)
 
-pub built_dfa : (n : Nfa) (o : Options) (d : Dfa) → is_unsupported n.automaton (word_boundary_of o) (by_hand o) ≡ false →
+pub built_dfa : (n : Nfa) (o : DfaOptions) (d : Dfa) → is_unsupported n.automaton (word_boundary_of o) (by_hand o) ≡ false →
     is_too_small n o ≡ false →
     d ≡ dfa_of n o → Ok d ≡ built n o
 built_dfa n o d e f is =
@@ -229,23 +229,23 @@ built_dfa n o d e f is =
     else Ok (dfa_of n o)) f)
 
 -- what the test of the code says of the capacity
-pub too_small_is : (n : Nfa) (o : Options) (skips : Bool) (given least : ℕ) (t : Bool) → skips ≡ skips_check o → given ≡ capacity_of o →
+pub too_small_is : (n : Nfa) (o : DfaOptions) (skips : Bool) (given least : ℕ) (t : Bool) → skips ≡ skips_check o → given ≡ capacity_of o →
     least ≡ least_capacity (measures_with n o) → t ≡ (not skips && nat_lt given least) → t ≡ is_too_small n o
 too_small_is n o skips given least t p q r e = e ∙ (λ i. not (p i) && nat_lt (q i) (r i))
 
-pub capacity_is : (n : Nfa) (o : Options) (skips : Bool) (given least cap : ℕ) → skips ≡ skips_check o → given ≡ capacity_of o →
+pub capacity_is : (n : Nfa) (o : DfaOptions) (skips : Bool) (given least cap : ℕ) → skips ≡ skips_check o → given ≡ capacity_of o →
     least ≡ least_capacity (measures_with n o) → cap ≡ (if skips then max least given else given) →
     cap ≡ effective_capacity (measures_with n o) (skips_check o) (capacity_of o)
 capacity_is n o skips given least cap p q r e = e ∙ (λ i. if p i then max (r i) (q i) else q i)
 
 -- ---- what a call answers, by what it was told
 
-abbrev built_by : Bool → Bool → Nfa → Options → Result Dfa BuildError
+abbrev built_by : Bool → Bool → Nfa → DfaOptions → Result Dfa BuildError
 built_by x y n o =
     if x then Err Unsupported
     else if y then Err (InsufficientCacheCapacity (least_capacity (measures_with n o)) (capacity_of o)) else Ok (dfa_of n o)
 
-module _ (n : Nfa) (o p : Options) (same : o ≡ p) (b : Bool)
+module _ (n : Nfa) (o p : DfaOptions) (same : o ≡ p) (b : Bool)
     (told : b ≡ is_unsupported n.automaton (word_boundary_of o) (by_hand o)) where
   pub built_unsupported : b ≡ true → Err Unsupported ≡ built n p
   built_unsupported t = sym (ap (built n) (sym same) ∙ ap (λ (x : Bool). built_by x (is_too_small n o) n o) (sym told ∙ t))

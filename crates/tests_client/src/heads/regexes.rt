@@ -10,7 +10,7 @@ ghost use Rattle.regex_pair.specs.Joined.{joined};
 ghost use Rattle.regex_pair.specs.PairAnswers.{AnswersPair};
 ghost use Rattle.regex_pair.specs.Pairs.{Pair, PairCache, pair_built};
 ghost use Rattle.nfa_core.specs.NfaValue.{Nfa};
-ghost use Rattle.lazy_dfa.specs.ConfigValue.{Options};
+ghost use Rattle.lazy_dfa.specs.ConfigValue.{DfaOptions};
 ghost use Rattle.hirscan.specs.Built.{FindsFirst, IsBuilt};
 ghost use Rattle.hirscan.specs.Choices.{Query, answer_from, answers_of};
 ghost use Rattle.hirscan.specs.Headline.{answer_to};
@@ -55,7 +55,7 @@ pub fn answers_rise()
 }
 
 pub fn built_pairs_have_their_classes()
-    ensures { (n m : Nfa) (o : Options) (p : Pair) → pair_built n m o ≡ Ok p → HasItsClasses p }
+    ensures { (n m : Nfa) (o : DfaOptions) (p : Pair) → pair_built n m o ≡ Ok p → HasItsClasses p }
 {
     bytes_of_one_class_are_interchangeable();
 }
