@@ -22,6 +22,7 @@ pub mod SearchAnswers
 pub mod LeftTold
 pub mod AnewTold
 pub mod Points
+pub mod Stretches
 pub mod Lingering
 pub mod MadePasses
 pub mod Turns

@@ -1,9 +1,9 @@
 //! The bytes by which a state is left.
-ghost use Rattle.std.specs.Prelude.{◌≡◌, ◌<◌, ◌≤◌, ℕ, IfSome, true, length, slice_index_or};
+ghost use Rattle.std.specs.Prelude.{◌≡◌, ◌<◌, ℕ, IfSome};
 ghost use Rattle.search_core.specs.ByteSets.{has};
-ghost use Rattle.lazy_dfa.specs.Leaving.{leaves, NoneLeaves};
+ghost use Rattle.lazy_dfa.specs.Leaving.{leaves};
 
-use crate::byte_tests::{ByteRange, ByteTest, Either, OneByte, find_by};
+use crate::byte_tests::{ByteRange, ByteTest, Either};
 use crate::half_tables::HalfTables;
 use search_core::ByteSet;
 
@@ -64,33 +64,6 @@ impl Leaving {
             }
         }
         Some(self)
-    }
-
-    /// The first place from `from` on, before `end`, whose byte leaves, or `end`.
-    #[inline]
-    pub(crate) fn find(&self, haystack: &[u8], from: usize, end: usize) -> usize
-        requires fits { from ≤ end }
-        requires within { end ≤ length haystack.now }
-        ensures low { from ≤ result }
-        ensures high { result ≤ end }
-        ensures passed { NoneLeaves self.now haystack.now from result }
-        ensures found { result < end → leaves self.now (slice_index_or haystack.now result 0) ≡ true }
-    {
-        match self {
-            Leaving::Never => end,
-            Leaving::One(a) => find_by(&OneByte(*a), haystack, from, end),
-            Leaving::Two(a, b) => find_by(&Either(OneByte(*a), OneByte(*b)), haystack, from, end),
-            Leaving::Three(a, b, c) => {
-                let three = Either(OneByte(*a), Either(OneByte(*b), OneByte(*c)));
-                find_by(&three, haystack, from, end)
-            }
-            Leaving::Range(a) => find_by(a, haystack, from, end),
-            Leaving::Ranges(a, b, c, d) => {
-                let four = Either(Either(*a, *b), Either(*c, *d));
-                find_by(&four, haystack, from, end)
-            }
-            Leaving::Halves(tables) => find_by(tables, haystack, from, end),
-        }
     }
 }
 

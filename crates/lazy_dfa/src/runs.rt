@@ -1,11 +1,23 @@
 //! Runs over known steps: the loops in which searches spend their time. They only read.
-ghost use Rattle.std.specs.Prelude.{◌≡◌, ℕ, ◌-◌, ◌<◌, ◌≤◌, false, true, length, Option, slice_index_or};
+ghost use Rattle.std.specs.Prelude.{◌≡◌, ℕ, ◌+◌, ◌-◌, ◌<◌, ◌≤◌, false, true, length, Option, slice_index_or};
 ghost use Rattle.lazy_dfa.specs.Caches.{IsCacheOf, IsRow};
 ghost use Rattle.lazy_dfa.specs.Ids.{tag};
 ghost use Rattle.lazy_dfa.specs.Points.{GoesTo, point};
+ghost use Rattle.lazy_dfa.specs.Stretches.{Reads};
 
+use crate::bytewise::{walk_both, walk_forward};
+use crate::circling::pass_over;
 use crate::dfa::{Cache, DFA};
 use crate::lazy_id::LazyStateID;
+
+/// How many bytes are read in one walk before there are two.
+const FEW: usize = 8;
+
+/// How many bytes the second of two walks reads before it counts.
+const LEAD: usize = 8;
+
+/// How many bytes each of them reads beside those.
+const HALF: usize = 48;
 
 /// The bytes of a haystack are bytes.
 pub(crate) fn see_bytes(bytes: &[u8])
@@ -17,67 +29,6 @@ pub(crate) fn see_bytes(bytes: &[u8])
 pub(crate) struct Moved {
     pub(crate) at: usize,
     pub(crate) id: LazyStateID,
-}
-
-/// How far a walk came, to which state, and whether it pauses there: at the state to stop at, or behind a stretch.
-#[derive(Clone, Copy)]
-struct Walked {
-    at: usize,
-    id: LazyStateID,
-    pauses: bool,
-}
-
-/// Goes on forward byte by byte over known steps while no state has a tag, up to a limit or the state to stop at.
-#[inline(always)]
-fn walk_forward(
-    dfa: &DFA,
-    cache: &Cache,
-    haystack: &[u8],
-    id: LazyStateID,
-    from: usize,
-    limit: usize,
-    stop: LazyStateID,
-) -> Walked
-    requires own { IsCacheOf dfa.now cache.now }
-    requires is_forward { dfa.now.nfa.automaton.reverse ≡ false }
-    requires row { IsRow cache.now id }
-    requires untagged { id < tag }
-    requires fits { from ≤ limit }
-    requires within { limit ≤ length haystack.now }
-    ensures row { IsRow cache.now result.id }
-    ensures untagged { result.id < tag }
-    ensures past { from ≤ result.at }
-    ensures within { result.at ≤ limit }
-    ensures further { result.pauses ≡ true → from < result.at }
-    ensures goes { (m n : ℕ) (best : Option (ℕ × ℕ)) → GoesTo dfa.now haystack.now (point cache.now m n from id best) (point cache.now m n result.at result.id best) (result.at - from) }
-{
-    dfa.is_made();
-    let mut at = from;
-    let mut sid = id;
-    while at < limit {
-        let next = cache.cell_of_untagged(sid, dfa.class(haystack[at]));
-        if next.is_tagged() {
-            return Walked {
-                at,
-                id: sid,
-                pauses: false,
-            };
-        }
-        sid = next;
-        at += 1;
-        if sid == stop {
-            return Walked {
-                at,
-                id: sid,
-                pauses: true,
-            };
-        }
-    }
-    Walked {
-        at,
-        id: sid,
-        pauses: at > from,
-    }
 }
 
 /// Goes on forward over known steps while no state has a tag, past bytes that leave the state to stop at as it is.
@@ -116,12 +67,96 @@ fn skip_forward(
                 id: sid,
             };
         }
-        at = cache.pass_over(sid, haystack, walked.at, end);
+        at = pass_over(dfa, cache, haystack, sid, walked.at, end);
     }
 }
 
-/// Goes on forward byte by byte over known steps while no state has a tag. The loop stands in a function of its own, since how
-/// fast it is depends on where its code lies.
+/// How far a stretch was read, and whether the step behind has a tag or isn't known.
+#[derive(Clone, Copy)]
+struct Stretch {
+    moved: Moved,
+    has_stopped: bool,
+}
+
+/// Reads up to a place in one walk.
+#[inline(always)]
+fn read_alone(dfa: &DFA, cache: &Cache, haystack: &[u8], moved: Moved, limit: usize) -> Stretch
+    requires own { IsCacheOf dfa.now cache.now }
+    requires is_forward { dfa.now.nfa.automaton.reverse ≡ false }
+    requires row { IsRow cache.now moved.id }
+    requires untagged { moved.id < tag }
+    requires fits { moved.at ≤ limit }
+    requires within { limit ≤ length haystack.now }
+    ensures reads { Reads dfa.now cache.now haystack.now moved limit result.moved }
+    ensures further { result.has_stopped ≡ false → result.moved.at ≡ limit }
+{
+    let unknown = LazyStateID::unknown();
+    let walked = walk_forward(dfa, cache, haystack, moved.id, moved.at, limit, unknown);
+    let moved = Moved {
+        at: walked.at,
+        id: walked.id,
+    };
+    Stretch {
+        moved,
+        has_stopped: walked.at < limit,
+    }
+}
+
+/// Reads a stretch in two walks at once.
+#[inline(always)]
+fn read_stretch(dfa: &DFA, cache: &Cache, haystack: &[u8], moved: Moved, end: usize) -> Stretch
+    requires own { IsCacheOf dfa.now cache.now }
+    requires is_forward { dfa.now.nfa.automaton.reverse ≡ false }
+    requires row { IsRow cache.now moved.id }
+    requires untagged { moved.id < tag }
+    requires fits { moved.at + 104 ≤ end }
+    requires within { end ≤ length haystack.now }
+    ensures reads { Reads dfa.now cache.now haystack.now moved end result.moved }
+    ensures further { result.has_stopped ≡ false → moved.at < result.moved.at }
+{
+    dfa.is_made();
+    let begin = moved.at + HALF;
+    let join = begin + LEAD;
+    let lead = walk_both(
+        dfa, cache, haystack, moved.id, moved.at, moved.id, begin, LEAD,
+    );
+    let led = Moved {
+        at: moved.at + lead.count,
+        id: lead.first,
+    };
+    if lead.count < LEAD {
+        return read_alone(dfa, cache, haystack, led, join);
+    }
+    let both = walk_both(
+        dfa,
+        cache,
+        haystack,
+        lead.first,
+        led.at,
+        lead.second,
+        join,
+        HALF,
+    );
+    let first = Moved {
+        at: led.at + both.count,
+        id: both.first,
+    };
+    let rest = read_alone(dfa, cache, haystack, first, join);
+    if rest.has_stopped || rest.moved.id != lead.second {
+        return rest;
+    }
+    let second = Moved {
+        at: join + both.count,
+        id: both.second,
+    };
+    Stretch {
+        moved: second,
+        has_stopped: both.count < HALF,
+    }
+}
+
+/// Goes on forward over known steps while no state has a tag: a few bytes in one walk, and then, as long as enough of them are left,
+/// by two at once. The loops stand in a function of its own, since how fast they are depends on where their code lies.
 #[inline(never)]
 fn read_forward(
     dfa: &DFA,
@@ -137,17 +172,23 @@ fn read_forward(
     requires untagged { id < tag }
     requires fits { from ≤ end }
     requires within { end ≤ length haystack.now }
-    ensures row { IsRow cache.now result.id }
-    ensures untagged { result.id < tag }
-    ensures past { from ≤ result.at }
-    ensures within { result.at ≤ end }
-    ensures goes { (m n : ℕ) (best : Option (ℕ × ℕ)) → GoesTo dfa.now haystack.now (point cache.now m n from id best) (point cache.now m n result.at result.id best) (result.at - from) }
+    ensures { Reads dfa.now cache.now haystack.now (record { at = from; id = id }) end result }
 {
-    let walked = walk_forward(dfa, cache, haystack, id, from, end, LazyStateID::unknown());
-    Moved {
-        at: walked.at,
-        id: walked.id,
+    dfa.is_made();
+    let few = from + (end - from).min(FEW);
+    let first = read_alone(dfa, cache, haystack, Moved { at: from, id }, few);
+    if first.has_stopped {
+        return first.moved;
     }
+    let mut moved = first.moved;
+    'stretch: while end - moved.at >= 2 * HALF + LEAD {
+        let stretch = read_stretch(dfa, cache, haystack, moved, end);
+        if stretch.has_stopped {
+            return stretch.moved;
+        }
+        moved = stretch.moved;
+    }
+    read_alone(dfa, cache, haystack, moved, end).moved
 }
 
 /// Goes on forward over known steps while no state has a tag; a search that isn't anchored passes over bytes, unless that didn't

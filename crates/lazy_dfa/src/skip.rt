@@ -8,10 +8,10 @@
 //!
 //! A skip costs about as much as the reading of a few bytes, so each is paid from a credit, to which it adds the bytes that
 //! it passed. Where the credit is used up, a search reads all bytes until the cache is cleared.
-ghost use Rattle.std.specs.Prelude.{◌≡◌, ◌⊎◌, ℕ, ◌<◌, ◌≤◌, true, false, length};
+ghost use Rattle.std.specs.Prelude.{◌≡◌, ℕ, ◌<◌, ◌≤◌, true, false};
 ghost use Rattle.search_core.specs.ByteSets.{has};
 ghost use Rattle.lazy_dfa.specs.Ids.{tag, unknown_id};
-ghost use Rattle.lazy_dfa.specs.Skips.{cell_by, StaysOver};
+ghost use Rattle.lazy_dfa.specs.Skips.{cell_by, IsSkip};
 
 use crate::cache::Cache;
 use crate::lazy_id::LazyStateID;
@@ -39,8 +39,21 @@ pub(crate) struct Skip {
     /// Its ID, or the unknown one where none is noted.
     pub(crate) stop: LazyStateID,
     /// The bytes that leave it.
-    leaving: Leaving,
-    credit: usize,
+    pub(crate) leaving: Leaving,
+    pub(crate) credit: usize,
+}
+
+/// The credit behind a skip over so many bytes.
+#[inline(always)]
+pub(crate) fn paid(credit: usize, passed: usize) -> usize {
+    let more = credit.saturating_add(passed).min(MOST_CREDIT);
+    more.saturating_sub(SKIP_COST)
+}
+
+/// Whether a credit is used up.
+#[inline(always)]
+pub(crate) fn is_used_up(credit: usize) -> bool {
+    credit < SKIP_COST
 }
 
 impl Skip {
@@ -64,20 +77,6 @@ impl Skip {
         rest
     }
 
-    /// Pays for a skip over so many bytes. Where the credit is used up, the state is forgotten.
-    #[inline(always)]
-    fn pay(&mut self, passed: usize)
-        ensures { (self.new.stop ≡ unknown_id) ⊎ ((self.new.leaving ≡ self.old.leaving) × (self.new.stop ≡ self.old.stop)) }
-    {
-        let credit = self.credit.saturating_add(passed).min(MOST_CREDIT);
-        if credit >= SKIP_COST {
-            self.credit = credit - SKIP_COST;
-            return;
-        }
-        self.credit = 0;
-        self.stop = LazyStateID::unknown();
-    }
-
     /// Pays for a look that was of no use.
     fn pay_look(&mut self)
         ensures leaving { self.new.leaving ≡ self.old.leaving }
@@ -97,7 +96,7 @@ impl Cache {
     /// Whether a search reads all bytes one by one, since the credit is used up and no state to stop at is noted.
     #[inline(always)]
     pub(crate) fn reads_all(&self) -> bool {
-        self.skip.stop.is_tagged() && self.skip.credit < SKIP_COST
+        self.skip.stop.is_tagged() && is_used_up(self.skip.credit)
     }
 
     /// How far bytes are read one by one: to the end, or a stretch in which a state to stop at is looked for.
@@ -107,45 +106,34 @@ impl Cache {
         ensures low { from ≤ result }
         ensures high { result ≤ end }
     {
-        if !self.skip.stop.is_tagged() || self.skip.credit < SKIP_COST || end - from <= STRETCH {
+        if !self.skip.stop.is_tagged() || is_used_up(self.skip.credit) || end - from <= STRETCH {
             return end;
         }
         from + STRETCH
     }
 
-    /// Where a search goes on that pauses in a state: behind the bytes that leave it as it is, where it is the one to stop at.
-    pub(crate) fn pass_over(
-        &mut self,
-        id: LazyStateID,
-        haystack: &[u8],
-        from: usize,
-        end: usize,
-    ) -> usize
-        requires untagged { id < tag }
-        requires fits { from ≤ end }
-        requires within { end ≤ length haystack.now }
-        ensures same { self.new ≡ self.old }
-        ensures low { from ≤ result }
-        ensures high { result ≤ end }
-        ensures stays { StaysOver self.old.cells self.old.classes haystack.now id from result }
+    /// What is noted.
+    #[inline(always)]
+    pub(crate) fn skip(&self) -> &Skip
+        ensures { IsSkip self.now.cells self.now.classes result.now }
     {
-        if from == end {
-            return end;
+        &self.skip
+    }
+
+    /// Keeps the credit that is left behind skips. Where it is used up, the state is forgotten.
+    #[inline(always)]
+    pub(crate) fn pay(&mut self, credit: usize)
+        ensures { self.new ≡ self.old }
+    {
+        self.skip.credit = credit;
+        if is_used_up(credit) {
+            self.skip.stop = LazyStateID::unknown();
         }
-        if id != self.skip.stop {
-            self.look(id, haystack[from]);
-        }
-        if id != self.skip.stop {
-            return from;
-        }
-        let to = self.skip.leaving.find(haystack, from, end);
-        self.skip.pay(to - from);
-        to
     }
 
     /// Notes a state as the one to stop at, if the next byte leaves it as it is.
     #[inline(never)]
-    fn look(&mut self, id: LazyStateID, byte: u8)
+    pub(crate) fn look(&mut self, id: LazyStateID, byte: u8)
         requires { id < tag }
         ensures { self.new ≡ self.old }
     {

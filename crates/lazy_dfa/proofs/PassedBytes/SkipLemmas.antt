@@ -5,9 +5,17 @@ use Rattle.lazy_dfa.specs.Dfas.{Dfa, IsDfa, class_of}
 use Rattle.lazy_dfa.specs.Ids.{tag}
 use Rattle.lazy_dfa.specs.Points.{GoesTo, point}
 use Rattle.lazy_dfa.specs.Skips.{StaysOver}
+use Rattle.lazy_dfa.specs.Stretches.{Reads}
+use Rattle.lazy_dfa.specs.declared.runs.Moved.{Moved}
 use Rattle.lazy_dfa.proofs.CacheChanges.ChangeLemmas.{plain_noted}
 use Rattle.lazy_dfa.proofs.CacheChanges.LinkedLemmas.{AreBytes}
-use Rattle.lazy_dfa.proofs.Courses.PointLemmas.{goes_on, runs_on, next_row, forward_unit, forward_place}
+use Rattle.lazy_dfa.proofs.Courses.PointLemmas.{goes_on, runs_none, runs_on, next_row, forward_unit, forward_place}
+
+-- where bytes are counted, a way begins with none
+pub stands : (d : Dfa) (v : CacheValue) (h : List ℕ) → IsCacheOf d v → (from id : ℕ) → IsRow v id → (m n : ℕ) (best : Option (ℕ × ℕ)) →
+    GoesTo d h (point v m n from id best) (point v m n (from + 0) id best) (from + 0 - from)
+stands d v h own from id row = subst (λ (j : ℕ). (m n : ℕ) (best : Option (ℕ × ℕ)) → GoesTo d h (point v m n from id best)
+    (point v m n j id best) (j - from)) (omega arith) (runs_none d v h from id (from - from) own row (omega arith))
 
 module _ (d : Dfa) (v : CacheValue) (h : List ℕ) (made : IsDfa d) (own : IsCacheOf d v) (bytes : AreBytes h)
     (up : d.nfa.automaton.reverse ≡ false) where
@@ -26,6 +34,20 @@ module _ (d : Dfa) (v : CacheValue) (h : List ℕ) (made : IsDfa d) (own : IsCac
         (at + 1 - from) (Some (get_or h at 0)) (bytes at)
         (plain_noted d v id c (get_or h at 0) next class low read) plain (forward_unit d h at up inside) (forward_place d at up)
         (omega (arith, past))
+
+  -- the same, where bytes are counted
+  module _ (from first k id : ℕ) (row : IsRow v first) (here : IsRow v id) (low : id < tag) (inside : from + k < length h)
+      (so_far : (m n : ℕ) (best : Option (ℕ × ℕ)) → GoesTo d h (point v m n from first best) (point v m n (from + k) id best) (from + k - from))
+      (next c : ℕ) (class : c ≡ class_of d.classes (Some (get_or h (from + k) 0))) (read : next ≡ get_or v.cells (id + c) 0)
+      (plain : next < tag) where
+    pub row_next : IsRow v next
+    row_next = row_on from first (from + k) id row here low (omega arith) inside so_far next c class read plain
+
+    pub way_next : (m n : ℕ) (best : Option (ℕ × ℕ)) → GoesTo d h (point v m n from first best) (point v m n (from + (k + 1)) next best)
+        (from + (k + 1) - from)
+    way_next = subst (λ (j : ℕ). (m n : ℕ) (best : Option (ℕ × ℕ)) → GoesTo d h (point v m n from first best) (point v m n j next best)
+        (j - from)) (omega arith)
+        (way_on from first (from + k) id row here low (omega arith) inside so_far next c class read plain)
 
   -- and behind bytes that leave the state as it is
   module _ (from first at id : ℕ) (row : IsRow v first) (here : IsRow v id) (low : id < tag) (past : from ≤ at)
@@ -64,3 +86,54 @@ module _ (d : Dfa) (v : CacheValue) (h : List ℕ) (made : IsDfa d) (own : IsCac
     where
       sum : from ≤ at → at ≤ to → (at - from) + (to - at) ≡ to - from
       sum l m = omega (arith, l, m)
+
+  -- by a byte to another state, and back by the next one
+  module _ (at id : ℕ) (here : IsRow v id) (low : id < tag) (inside : at + 1 < length h) (next c : ℕ)
+      (class : c ≡ class_of d.classes (Some (get_or h at 0))) (read : next ≡ get_or v.cells (id + c) 0) (plain : next < tag) where
+    begins : (m n : ℕ) (best : Option (ℕ × ℕ)) → GoesTo d h (point v m n at id best) (point v m n at id best) (at - at)
+    begins = runs_none d v h at id (at - at) own here (omega arith)
+
+    pub row_once : IsRow v next
+    row_once = row_on at id at id here here low (omega arith) (omega (arith, inside)) begins next c class read plain
+
+    pub way_back : (k : ℕ) → k ≡ class_of d.classes (Some (get_or h (at + 1) 0)) → id ≡ get_or v.cells (next + k) 0 →
+        (m n : ℕ) (best : Option (ℕ × ℕ)) → GoesTo d h (point v m n at id best) (point v m n (at + 2) id best) 2
+    way_back k second back m n best =
+        let once = way_on at id at id here here low (omega arith) (omega (arith, inside)) begins next c class read plain in
+        let twice = way_on at id (at + 1) next here row_once plain (omega arith) inside once id k second back low m n best in
+        subst (λ (j : ℕ). GoesTo d h (point v m n at id best) (point v m n j id best) 2) (omega arith)
+        (subst (GoesTo d h (point v m n at id best) (point v m n (at + 1 + 1) id best)) (omega arith) twice)
+
+  -- what is read further, behind what was read
+  pub reads_on : (a b c : Moved) (middle end : ℕ) → IsRow v a.id → Reads d v h a middle b → Reads d v h b end c → Reads d v h a end c
+  reads_on a b c middle end row before on = record {
+    row = on.row;
+    untagged = on.untagged;
+    past = omega (arith, before.past, on.past);
+    within = on.within;
+    goes = way_behind a.at a.id b.at b.id c.at c.id row before.row before.past on.past before.goes on.goes;
+  }
+
+  pub reads_walk : (a : Moved) (k next end : ℕ) → IsRow v next → next < tag → a.at + k ≤ end →
+      ((m n : ℕ) (best : Option (ℕ × ℕ)) → GoesTo d h (point v m n a.at a.id best) (point v m n (a.at + k) next best) (a.at + k - a.at)) →
+      Reads d v h a end (record { at = a.at + k; id = next })
+  reads_walk a k next end row plain within goes = record {
+    row = row;
+    untagged = plain;
+    past = omega arith;
+    within = within;
+    goes = goes;
+  }
+
+  pub reads_within : (a b : Moved) (middle end : ℕ) → Reads d v h a middle b → middle ≤ end → Reads d v h a end b
+  reads_within a b middle end reads l = record {
+    row = reads.row;
+    untagged = reads.untagged;
+    past = reads.past;
+    within = omega (arith, reads.within, l);
+    goes = reads.goes;
+  }
+
+  pub reads_thrice : (a b c e : Moved) (end : ℕ) → IsRow v a.id → Reads d v h a end b → Reads d v h b end c → Reads d v h c end e →
+      Reads d v h a end e
+  reads_thrice a b c e end row first second third = reads_on a b e end end row first (reads_on b c e end end first.row second third)

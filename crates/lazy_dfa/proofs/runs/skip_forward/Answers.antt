@@ -1,9 +1,8 @@
 use Rattle.std.proofs.Common.{refl, subst, ◌∙◌, ◌-◌, ℕ, Option, arith}
 use Rattle.lazy_dfa.specs.Caches.{CacheValue, IsRow}
 use Rattle.lazy_dfa.specs.Points.{GoesTo, point}
-use Rattle.lazy_dfa.specs.Skips.{StaysOver}
 use Rattle.lazy_dfa.proofs.Courses.PointLemmas.{runs_none}
-use Rattle.lazy_dfa.proofs.PassedBytes.SkipLemmas.{way_behind, way_over}
+use Rattle.lazy_dfa.proofs.PassedBytes.SkipLemmas.{way_behind}
 use Rattle.lazy_dfa.proofs.runs.skip_forward.Goals as goal
 
 pub loop-sid-init : goal.loop-sid-init
@@ -47,20 +46,25 @@ loop-sid-preserved c =
     c.loop-sid.invariant.same c.walk_forward-walked.ensures.goes) in
     let row = subst (λ (v : CacheValue). IsRow v c.walk_forward-walked.result.id) c.loop-sid.invariant.same
     c.walk_forward-walked.ensures.row in
+    let over : (m n : ℕ) (best : Option (ℕ × ℕ)) → GoesTo c.args.dfa.now c.args.haystack.now
+    (point c.args.cache.now m n c.walk_forward-walked.result.at c.walk_forward-walked.result.id best)
+    (point c.args.cache.now m n c.pass_over-at.result c.walk_forward-walked.result.id best)
+    (c.pass_over-at.result - c.walk_forward-walked.result.at) =
+    subst (λ (v : CacheValue). (m n : ℕ) (best : Option (ℕ × ℕ)) → GoesTo c.args.dfa.now c.args.haystack.now
+    (point v m n c.walk_forward-walked.result.at c.walk_forward-walked.result.id best)
+    (point v m n c.pass_over-at.result c.walk_forward-walked.result.id best) (c.pass_over-at.result - c.walk_forward-walked.result.at))
+    c.loop-sid.invariant.same c.pass_over-at.ensures.goes in
     record {
       same = c.pass_over-at.ensures.same ∙ c.loop-sid.invariant.same;
       row = row;
       untagged = c.walk_forward-walked.ensures.untagged;
-      past = omega (arith, c.loop-sid.invariant.past, c.walk_forward-walked.ensures.past, c.pass_over-at.ensures.low);
-      within = c.pass_over-at.ensures.high;
-      goes = way_over c.args.dfa.now c.args.cache.now c.args.haystack.now c.is_made.ensures c.requires.own (λ i. omega (
+      past = omega (arith, c.loop-sid.invariant.past, c.walk_forward-walked.ensures.past, c.pass_over-at.ensures.past);
+      within = c.pass_over-at.ensures.within;
+      goes = way_behind c.args.dfa.now c.args.cache.now c.args.haystack.now c.is_made.ensures c.requires.own (λ i. omega (
         arith,
         c.type_inv.haystack i,
       )) c.requires.is_forward
-          c.args.from c.args.id c.walk_forward-walked.result.at c.walk_forward-walked.result.id c.requires.row row
-          c.walk_forward-walked.ensures.untagged
-          (omega (arith, c.loop-sid.invariant.past, c.walk_forward-walked.ensures.past)) walked
-          c.pass_over-at.result c.pass_over-at.ensures.low (omega (arith, c.pass_over-at.ensures.high, c.requires.within))
-          (subst (λ (v : CacheValue). StaysOver v.cells v.classes c.args.haystack.now c.walk_forward-walked.result.id
-          c.walk_forward-walked.result.at c.pass_over-at.result) c.loop-sid.invariant.same c.pass_over-at.ensures.stays);
+          c.args.from c.args.id c.walk_forward-walked.result.at c.walk_forward-walked.result.id c.pass_over-at.result
+          c.walk_forward-walked.result.id c.requires.row row
+          (omega (arith, c.loop-sid.invariant.past, c.walk_forward-walked.ensures.past)) c.pass_over-at.ensures.past walked over;
     }

@@ -2,7 +2,7 @@ use Rattle.std.proofs.Common.{◌-◌, ◌<◌, ◌≤◌, ℕ, Option}
 use Rattle.lazy_dfa.specs.Caches.{IsRow}
 use Rattle.lazy_dfa.specs.Ids.{tag}
 use Rattle.lazy_dfa.specs.Points.{GoesTo, point}
-use Rattle.lazy_dfa.proofs.runs.walk_forward.Given as goal
+use Rattle.lazy_dfa.proofs.bytewise.walk_forward.Given as goal
 
 abbrev pub invariant-loop-at : goal.invariant-loop-at
 invariant-loop-at l = record {

@@ -3,7 +3,7 @@ use Rattle.lazy_dfa.proofs.CacheChanges.ChangeLemmas.{plain_place}
 use Rattle.lazy_dfa.proofs.CacheChanges.IsCacheLemmas.{lt_of}
 use Rattle.lazy_dfa.proofs.Courses.PointLemmas.{runs_none}
 use Rattle.lazy_dfa.proofs.PassedBytes.SkipLemmas.{row_on, way_on}
-use Rattle.lazy_dfa.proofs.runs.walk_forward.Goals as goal
+use Rattle.lazy_dfa.proofs.bytewise.walk_forward.Goals as goal
 
 pub loop-at-init : goal.loop-at-init
 loop-at-init c = record {

@@ -1,0 +1,16 @@
+-- Stretches of bytes that are read one by one.
+use Rattle.std.specs.Prelude.{ℕ, ◌-◌, ◌<◌, ◌≤◌, List, Option}
+use Rattle.lazy_dfa.specs.Caches.{CacheValue, IsRow}
+use Rattle.lazy_dfa.specs.Dfas.{Dfa}
+use Rattle.lazy_dfa.specs.Ids.{tag}
+use Rattle.lazy_dfa.specs.Points.{GoesTo, point}
+use Rattle.lazy_dfa.specs.declared.runs.Moved.{Moved}
+
+-- reading goes on from a place and a state over known steps to another place, at most the end, and a state without a tag
+pub record Reads (d : Dfa) (v : CacheValue) (h : List ℕ) (from : Moved) (end : ℕ) (to : Moved) : Type 0 where
+  pub row : IsRow v to.id
+  pub untagged : to.id < tag
+  pub past : from.at ≤ to.at
+  pub within : to.at ≤ end
+  pub goes : (m n : ℕ) (best : Option (ℕ × ℕ)) → GoesTo d h (point v m n from.at from.id best) (point v m n to.at to.id best)
+      (to.at - from.at)

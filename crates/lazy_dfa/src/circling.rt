@@ -1,0 +1,170 @@
+//! Rounds from the state to stop at back to it.
+//!
+//! Where few bytes leave a state, most of them begin nothing: the byte behind leads back. So behind each byte that leaves, the next
+//! one is tried before bytes are read one by one.
+ghost use Rattle.std.specs.Prelude.{◌≡◌, ℕ, ◌+◌, ◌-◌, ◌<◌, ◌≤◌, false, true, length, Option};
+ghost use Rattle.lazy_dfa.specs.Caches.{IsCacheOf, IsRow};
+ghost use Rattle.lazy_dfa.specs.Ids.{tag};
+ghost use Rattle.lazy_dfa.specs.Points.{GoesTo, point};
+ghost use Rattle.lazy_dfa.specs.Skips.{cell_by};
+
+use crate::byte_tests::{ByteTest, Either, OneByte, find_by};
+use crate::dfa::{Cache, DFA};
+use crate::lazy_id::LazyStateID;
+use crate::leaving::Leaving;
+use crate::skip::{is_used_up, paid};
+
+/// How far rounds came, and the credit behind them.
+#[derive(Clone, Copy)]
+struct Circled {
+    at: usize,
+    credit: usize,
+}
+
+/// Whether a byte leads from a state to another one without a tag, and the byte behind it back.
+#[inline(always)]
+fn comes_back(
+    dfa: &DFA,
+    cache: &Cache,
+    haystack: &[u8],
+    id: LazyStateID,
+    at: usize,
+    end: usize,
+) -> bool
+    requires own { IsCacheOf dfa.now cache.now }
+    requires is_forward { dfa.now.nfa.automaton.reverse ≡ false }
+    requires row { IsRow cache.now id }
+    requires untagged { id < tag }
+    requires fits { at ≤ end }
+    requires within { end ≤ length haystack.now }
+    ensures within { result ≡ true → at + 2 ≤ end }
+    ensures goes { result ≡ true → (m n : ℕ) (best : Option (ℕ × ℕ)) → GoesTo dfa.now haystack.now (point cache.now m n at id best) (point cache.now m n (at + 2) id best) 2 }
+{
+    dfa.is_made();
+    if end - at < 2 {
+        return false;
+    }
+    let next = cache.cell_of_untagged(id, dfa.class(haystack[at]));
+    if next.is_tagged() {
+        return false;
+    }
+    let back = cache.cell_of_untagged(next, dfa.class(haystack[at + 1]));
+    back == id
+}
+
+/// Passes over bytes that don't leave a state, as those don't that fail a test, and over two more as often as these lead back to it.
+#[inline(always)]
+fn circle<T: ByteTest>(
+    dfa: &DFA,
+    cache: &Cache,
+    test: &T,
+    haystack: &[u8],
+    id: LazyStateID,
+    from: usize,
+    end: usize,
+    credit: usize,
+) -> Circled
+    requires own { IsCacheOf dfa.now cache.now }
+    requires is_forward { dfa.now.nfa.automaton.reverse ≡ false }
+    requires row { IsRow cache.now id }
+    requires untagged { id < tag }
+    requires fits { from ≤ end }
+    requires within { end ≤ length haystack.now }
+    requires stays { (byte : ℕ) → byte < 256 → T.passes test.now byte ≡ false → cell_by cache.now.cells cache.now.classes id byte ≡ id }
+    ensures past { from ≤ result.at }
+    ensures within { result.at ≤ end }
+    ensures goes { (m n : ℕ) (best : Option (ℕ × ℕ)) → GoesTo dfa.now haystack.now (point cache.now m n from id best) (point cache.now m n result.at id best) (result.at - from) }
+{
+    dfa.is_made();
+    let mut at = from;
+    let mut credit = credit;
+    'round: loop {
+        let to = find_by(test, haystack, at, end);
+        credit = paid(credit, to - at);
+        if is_used_up(credit) || !comes_back(dfa, cache, haystack, id, to, end) {
+            return Circled { at: to, credit };
+        }
+        at = to + 2;
+    }
+}
+
+/// The rounds from the state to stop at, by the test of the bytes that leave it.
+#[inline(always)]
+fn circle_by(
+    dfa: &DFA,
+    cache: &Cache,
+    haystack: &[u8],
+    id: LazyStateID,
+    from: usize,
+    end: usize,
+) -> Circled
+    requires own { IsCacheOf dfa.now cache.now }
+    requires is_forward { dfa.now.nfa.automaton.reverse ≡ false }
+    requires row { IsRow cache.now id }
+    requires untagged { id < tag }
+    requires fits { from ≤ end }
+    requires within { end ≤ length haystack.now }
+    ensures past { from ≤ result.at }
+    ensures within { result.at ≤ end }
+    ensures goes { (m n : ℕ) (best : Option (ℕ × ℕ)) → GoesTo dfa.now haystack.now (point cache.now m n from id best) (point cache.now m n result.at id best) (result.at - from) }
+{
+    dfa.is_made();
+    let skip = cache.skip();
+    let credit = skip.credit;
+    if id != skip.stop {
+        return Circled { at: from, credit };
+    }
+    match &skip.leaving {
+        Leaving::Never => Circled { at: end, credit },
+        Leaving::One(a) => circle(dfa, cache, &OneByte(*a), haystack, id, from, end, credit),
+        Leaving::Two(a, b) => {
+            let two = Either(OneByte(*a), OneByte(*b));
+            circle(dfa, cache, &two, haystack, id, from, end, credit)
+        }
+        Leaving::Three(a, b, c) => {
+            let three = Either(OneByte(*a), Either(OneByte(*b), OneByte(*c)));
+            circle(dfa, cache, &three, haystack, id, from, end, credit)
+        }
+        Leaving::Range(a) => circle(dfa, cache, a, haystack, id, from, end, credit),
+        Leaving::Ranges(a, b, c, d) => {
+            let four = Either(Either(*a, *b), Either(*c, *d));
+            circle(dfa, cache, &four, haystack, id, from, end, credit)
+        }
+        Leaving::Halves(tables) => circle(dfa, cache, tables, haystack, id, from, end, credit),
+    }
+}
+
+/// Where a search goes on that pauses in a state: behind bytes that lead from it back to it, where it is the one to stop at.
+#[inline(always)]
+pub(crate) fn pass_over(
+    dfa: &DFA,
+    cache: &mut Cache,
+    haystack: &[u8],
+    id: LazyStateID,
+    from: usize,
+    end: usize,
+) -> usize
+    requires own { IsCacheOf dfa.now cache.old }
+    requires is_forward { dfa.now.nfa.automaton.reverse ≡ false }
+    requires row { IsRow cache.old id }
+    requires untagged { id < tag }
+    requires fits { from ≤ end }
+    requires within { end ≤ length haystack.now }
+    ensures same { cache.new ≡ cache.old }
+    ensures past { from ≤ result }
+    ensures within { result ≤ end }
+    ensures goes { (m n : ℕ) (best : Option (ℕ × ℕ)) → GoesTo dfa.now haystack.now (point cache.old m n from id best) (point cache.old m n result id best) (result - from) }
+{
+    if from == end {
+        return end;
+    }
+    if id != cache.stop() {
+        cache.look(id, haystack[from]);
+    }
+    if id != cache.stop() {
+        return from;
+    }
+    let circled = circle_by(dfa, cache, haystack, id, from, end);
+    cache.pay(circled.credit);
+    circled.at
+}
