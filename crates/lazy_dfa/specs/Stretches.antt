@@ -7,7 +7,7 @@ use Rattle.lazy_dfa.specs.Points.{GoesTo, point}
 use Rattle.lazy_dfa.specs.declared.runs.Moved.{Moved}
 
 -- reading goes on from a place and a state over known steps to another place, at most the end, and a state without a tag
-pub record Reads (d : Dfa) (v : CacheValue) (h : List ℕ) (from : Moved) (end : ℕ) (to : Moved) : Type 0 where
+pub record MovesTo (d : Dfa) (v : CacheValue) (h : List ℕ) (from : Moved) (end : ℕ) (to : Moved) : Type 0 where
   pub row : IsRow v to.id
   pub untagged : to.id < tag
   pub past : from.at ≤ to.at

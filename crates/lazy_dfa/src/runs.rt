@@ -3,7 +3,7 @@ ghost use Rattle.std.specs.Prelude.{◌≡◌, ℕ, ◌+◌, ◌-◌, ◌<◌, �
 ghost use Rattle.lazy_dfa.specs.Caches.{IsCacheOf, IsRow};
 ghost use Rattle.lazy_dfa.specs.Ids.{tag};
 ghost use Rattle.lazy_dfa.specs.Points.{GoesTo, point};
-ghost use Rattle.lazy_dfa.specs.Stretches.{Reads};
+ghost use Rattle.lazy_dfa.specs.Stretches.{MovesTo};
 
 use crate::bytewise::{walk_both, walk_forward};
 use crate::circling::pass_over;
@@ -87,7 +87,7 @@ fn read_alone(dfa: &DFA, cache: &Cache, haystack: &[u8], moved: Moved, limit: us
     requires untagged { moved.id < tag }
     requires fits { moved.at ≤ limit }
     requires within { limit ≤ length haystack.now }
-    ensures reads { Reads dfa.now cache.now haystack.now moved limit result.moved }
+    ensures reads { MovesTo dfa.now cache.now haystack.now moved limit result.moved }
     ensures further { result.has_stopped ≡ false → result.moved.at ≡ limit }
 {
     let unknown = LazyStateID::unknown();
@@ -111,7 +111,7 @@ fn read_stretch(dfa: &DFA, cache: &Cache, haystack: &[u8], moved: Moved, end: us
     requires untagged { moved.id < tag }
     requires fits { moved.at + 104 ≤ end }
     requires within { end ≤ length haystack.now }
-    ensures reads { Reads dfa.now cache.now haystack.now moved end result.moved }
+    ensures reads { MovesTo dfa.now cache.now haystack.now moved end result.moved }
     ensures further { result.has_stopped ≡ false → moved.at < result.moved.at }
 {
     dfa.is_made();
@@ -172,7 +172,7 @@ fn read_forward(
     requires untagged { id < tag }
     requires fits { from ≤ end }
     requires within { end ≤ length haystack.now }
-    ensures { Reads dfa.now cache.now haystack.now (record { at = from; id = id }) end result }
+    ensures { MovesTo dfa.now cache.now haystack.now (record { at = from; id = id }) end result }
 {
     dfa.is_made();
     let few = from + (end - from).min(FEW);

@@ -5,7 +5,7 @@ use Rattle.lazy_dfa.specs.Dfas.{Dfa, IsDfa, class_of}
 use Rattle.lazy_dfa.specs.Ids.{tag}
 use Rattle.lazy_dfa.specs.Points.{GoesTo, point}
 use Rattle.lazy_dfa.specs.Skips.{StaysOver}
-use Rattle.lazy_dfa.specs.Stretches.{Reads}
+use Rattle.lazy_dfa.specs.Stretches.{MovesTo}
 use Rattle.lazy_dfa.specs.declared.runs.Moved.{Moved}
 use Rattle.lazy_dfa.proofs.CacheChanges.ChangeLemmas.{plain_noted}
 use Rattle.lazy_dfa.proofs.CacheChanges.LinkedLemmas.{AreBytes}
@@ -105,7 +105,7 @@ module _ (d : Dfa) (v : CacheValue) (h : List ℕ) (made : IsDfa d) (own : IsCac
         (subst (GoesTo d h (point v m n at id best) (point v m n (at + 1 + 1) id best)) (omega arith) twice)
 
   -- what is read further, behind what was read
-  pub reads_on : (a b c : Moved) (middle end : ℕ) → IsRow v a.id → Reads d v h a middle b → Reads d v h b end c → Reads d v h a end c
+  pub reads_on : (a b c : Moved) (middle end : ℕ) → IsRow v a.id → MovesTo d v h a middle b → MovesTo d v h b end c → MovesTo d v h a end c
   reads_on a b c middle end row before on = record {
     row = on.row;
     untagged = on.untagged;
@@ -116,7 +116,7 @@ module _ (d : Dfa) (v : CacheValue) (h : List ℕ) (made : IsDfa d) (own : IsCac
 
   pub reads_walk : (a : Moved) (k next end : ℕ) → IsRow v next → next < tag → a.at + k ≤ end →
       ((m n : ℕ) (best : Option (ℕ × ℕ)) → GoesTo d h (point v m n a.at a.id best) (point v m n (a.at + k) next best) (a.at + k - a.at)) →
-      Reads d v h a end (record { at = a.at + k; id = next })
+      MovesTo d v h a end (record { at = a.at + k; id = next })
   reads_walk a k next end row plain within goes = record {
     row = row;
     untagged = plain;
@@ -125,7 +125,7 @@ module _ (d : Dfa) (v : CacheValue) (h : List ℕ) (made : IsDfa d) (own : IsCac
     goes = goes;
   }
 
-  pub reads_within : (a b : Moved) (middle end : ℕ) → Reads d v h a middle b → middle ≤ end → Reads d v h a end b
+  pub reads_within : (a b : Moved) (middle end : ℕ) → MovesTo d v h a middle b → middle ≤ end → MovesTo d v h a end b
   reads_within a b middle end reads l = record {
     row = reads.row;
     untagged = reads.untagged;
@@ -134,6 +134,6 @@ module _ (d : Dfa) (v : CacheValue) (h : List ℕ) (made : IsDfa d) (own : IsCac
     goes = reads.goes;
   }
 
-  pub reads_thrice : (a b c e : Moved) (end : ℕ) → IsRow v a.id → Reads d v h a end b → Reads d v h b end c → Reads d v h c end e →
-      Reads d v h a end e
+  pub reads_thrice : (a b c e : Moved) (end : ℕ) → IsRow v a.id → MovesTo d v h a end b → MovesTo d v h b end c → MovesTo d v h c end e →
+      MovesTo d v h a end e
   reads_thrice a b c e end row first second third = reads_on a b e end end row first (reads_on b c e end end first.row second third)

@@ -1,5 +1,5 @@
 use Rattle.std.proofs.Common.{◌≡◌, ◌+◌, ◌≤◌, subst, sym, arith}
-use Rattle.lazy_dfa.specs.Stretches.{Reads}
+use Rattle.lazy_dfa.specs.Stretches.{MovesTo}
 use Rattle.lazy_dfa.specs.declared.runs.Moved.{Moved}
 use Rattle.lazy_dfa.proofs.PassedBytes.SkipLemmas.{reads_on, reads_thrice, reads_walk, reads_within}
 use Rattle.lazy_dfa.proofs.runs.read_stretch.Goals as goal
@@ -74,4 +74,4 @@ returns-clause-reads c =
     c.walk_both-both.ensures.second_goes in
     reads_on d v h c.is_made.ensures c.requires.own (λ i. omega (arith, c.type_inv.haystack i)) up c.args.moved
     c.read_alone-rest.result.moved second join c.args.end c.requires.row alone
-    (subst (λ (m : Moved). Reads d v h m c.args.end second) joined behind)
+    (subst (λ (m : Moved). MovesTo d v h m c.args.end second) joined behind)
