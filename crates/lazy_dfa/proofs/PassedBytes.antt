@@ -3,3 +3,4 @@
 pub mod ByteTestLemmas
 pub mod HalfTableLemmas
 pub mod SkipLemmas
+pub mod PairLemmas

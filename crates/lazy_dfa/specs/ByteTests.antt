@@ -1,6 +1,6 @@
 -- Tests of bytes, by which many bytes are tested at once.
 use Rattle.std.specs.Prelude.{◌≡◌, ◌+◌, ◌-◌, ◌%◌, ◌/◌, ◌<◌, ◌≤◌, ◌==◌, ℕ, List, length, map, slice_index, slice_index_or}
-use Rattle.std.specs.Prelude.{Bool, false, not, nat_le, if◌then◌else◌, bit_and}
+use Rattle.std.specs.Prelude.{◌&&◌, Bool, false, not, nat_le, if◌then◌else◌, bit_and}
 use Rattle.lazy_dfa.specs.declared.byte_tests.ByteRange.{ByteRange}
 
 -- whether a lane has bits
@@ -31,3 +31,7 @@ marked test bytes = map (λ x. if test x then 255 else 0) bytes
 -- no byte from a place on, and before another one, passes the test
 abbrev pub NonePasses : (ℕ → Bool) → List ℕ → ℕ → ℕ → Type 0
 NonePasses test haystack from to = (k : ℕ) → from ≤ k → k < to → test (slice_index_or haystack k 0) ≡ false
+
+-- no byte from a place on, and before another one, passes a test such that the byte behind it passes a second one
+abbrev pub NoPairs : (ℕ → Bool) → (ℕ → Bool) → List ℕ → ℕ → ℕ → Type 0
+NoPairs test second haystack from to = (k : ℕ) → from ≤ k → k < to → test (slice_index_or haystack k 0) && second (slice_index_or haystack (k + 1) 0) ≡ false

@@ -6,7 +6,7 @@ ghost use Rattle.lazy_dfa.specs.ByteTests.{has_bits, in_range, marked, NonePasse
 use std::simd::prelude::*;
 
 /// How many bytes are tested at once.
-const LANES: usize = 32;
+pub(crate) const LANES: usize = 32;
 
 /// How many bytes are looked at before it is taken that the byte that is looked for stands far off.
 const NEAR: usize = 8 * LANES;
@@ -99,7 +99,7 @@ impl<A: ByteTest, B: ByteTest> ByteTest for Either<A, B> {
 
 /// A bit for each lane, set where the lane has bits.
 #[inline(always)]
-fn bits_of(lanes: u8x32) -> u64
+pub(crate) fn bits_of(lanes: u8x32) -> u64
     ensures { result ≡ mask_l (map has_bits lanes) }
 {
     lanes.simd_ne(u8x32::splat(0)).to_bitmask()
@@ -107,7 +107,7 @@ fn bits_of(lanes: u8x32) -> u64
 
 /// The marks of the 32 bytes from a place on.
 #[inline(always)]
-fn marks_at<T: ByteTest>(test: &T, haystack: &[u8], at: usize) -> u8x32
+pub(crate) fn marks_at<T: ByteTest>(test: &T, haystack: &[u8], at: usize) -> u8x32
     requires { at + 32 ≤ length haystack.now }
     ensures { result ≡ marked (T.passes test.now) (chunk at 32 haystack.now) }
 {

@@ -2,17 +2,21 @@
 //!
 //! Where few bytes leave a state, most of them begin nothing: the byte behind leads back. So behind each byte that leaves, the next
 //! one is tried before bytes are read one by one.
-ghost use Rattle.std.specs.Prelude.{◌≡◌, ℕ, ◌+◌, ◌-◌, ◌<◌, ◌≤◌, false, true, length, Option};
+ghost use Rattle.std.specs.Prelude.{◌≡◌, ℕ, ◌+◌, ◌-◌, ◌<◌, ◌≤◌, false, true, length, slice_index_or, Option};
+ghost use Rattle.lazy_dfa.specs.ByteTests.{in_halves};
 ghost use Rattle.lazy_dfa.specs.Caches.{IsCacheOf, IsRow};
 ghost use Rattle.lazy_dfa.specs.Ids.{tag};
 ghost use Rattle.lazy_dfa.specs.Points.{GoesTo, point};
-ghost use Rattle.lazy_dfa.specs.Skips.{cell_by};
+ghost use Rattle.lazy_dfa.specs.Leaving.{leaves};
+ghost use Rattle.lazy_dfa.specs.Skips.{cell_by, AreSkipped, IsSkip};
 
 use crate::byte_tests::{ByteTest, Either, OneByte, find_by};
 use crate::dfa::{Cache, DFA};
+use crate::half_tables::HalfTables;
 use crate::lazy_id::LazyStateID;
 use crate::leaving::Leaving;
-use crate::skip::{is_used_up, paid};
+use crate::pairs::find_pair;
+use crate::skip::{Skip, is_used_up, paid};
 
 /// How far rounds came, and the credit behind them.
 #[derive(Clone, Copy)]
@@ -88,6 +92,96 @@ fn circle<T: ByteTest>(
     }
 }
 
+/// The place before the last byte up to one, where that byte passes, and else this place.
+#[inline(always)]
+fn before_last<T: ByteTest>(test: &T, haystack: &[u8], from: usize, to: usize) -> usize
+    requires fits { from ≤ to }
+    requires within { to ≤ length haystack.now }
+    ensures past { from ≤ result }
+    ensures most { result ≤ to }
+    ensures fails { result ≡ to → from < to → T.passes test.now (slice_index_or haystack.now (to - 1) 0) ≡ false }
+    ensures passes { result < to → T.passes test.now (slice_index_or haystack.now result 0) ≡ true }
+{
+    if from < to && test.passes(haystack[to - 1]) {
+        return to - 1;
+    }
+    to
+}
+
+/// Passes over bytes that don't leave a state, and over two as often as the second one fails a test, by which they lead back.
+#[inline(always)]
+fn circle_by_pairs<T: ByteTest>(
+    dfa: &DFA,
+    cache: &Cache,
+    test: &T,
+    behind: &HalfTables,
+    haystack: &[u8],
+    id: LazyStateID,
+    from: usize,
+    end: usize,
+    credit: usize,
+) -> Circled
+    requires own { IsCacheOf dfa.now cache.now }
+    requires is_forward { dfa.now.nfa.automaton.reverse ≡ false }
+    requires row { IsRow cache.now id }
+    requires untagged { id < tag }
+    requires fits { from ≤ end }
+    requires within { end ≤ length haystack.now }
+    requires pairs { AreSkipped cache.now.cells cache.now.classes id (T.passes test.now) (in_halves behind.now.low behind.now.high) }
+    ensures past { from ≤ result.at }
+    ensures within { result.at ≤ end }
+    ensures goes { (m n : ℕ) (best : Option (ℕ × ℕ)) → GoesTo dfa.now haystack.now (point cache.now m n from id best) (point cache.now m n result.at id best) (result.at - from) }
+{
+    dfa.is_made();
+    let to = find_pair(test, behind, haystack, from, end);
+    let at = before_last(test, haystack, from, to);
+    Circled {
+        at,
+        credit: paid(credit, at - from),
+    }
+}
+
+/// Both, by the test that is noted of the byte behind one that leaves, if there is one.
+#[inline(always)]
+fn circle_few<T: ByteTest>(
+    dfa: &DFA,
+    cache: &Cache,
+    test: &T,
+    skip: &Skip,
+    haystack: &[u8],
+    id: LazyStateID,
+    from: usize,
+    end: usize,
+) -> Circled
+    requires own { IsCacheOf dfa.now cache.now }
+    requires is_forward { dfa.now.nfa.automaton.reverse ≡ false }
+    requires row { IsRow cache.now id }
+    requires untagged { id < tag }
+    requires fits { from ≤ end }
+    requires within { end ≤ length haystack.now }
+    requires stop { skip.now.stop ≡ id }
+    requires noted { IsSkip cache.now.cells cache.now.classes skip.now }
+    requires same { (byte : ℕ) → T.passes test.now byte ≡ leaves skip.now.leaving byte }
+    ensures past { from ≤ result.at }
+    ensures within { result.at ≤ end }
+    ensures goes { (m n : ℕ) (best : Option (ℕ × ℕ)) → GoesTo dfa.now haystack.now (point cache.now m n from id best) (point cache.now m n result.at id best) (result.at - from) }
+{
+    match &skip.behind {
+        Some(behind) => circle_by_pairs(
+            dfa,
+            cache,
+            test,
+            behind,
+            haystack,
+            id,
+            from,
+            end,
+            skip.credit,
+        ),
+        None => circle(dfa, cache, test, haystack, id, from, end, skip.credit),
+    }
+}
+
 /// The rounds from the state to stop at, by the test of the bytes that leave it.
 #[inline(always)]
 fn circle_by(
@@ -116,14 +210,14 @@ fn circle_by(
     }
     match &skip.leaving {
         Leaving::Never => Circled { at: end, credit },
-        Leaving::One(a) => circle(dfa, cache, &OneByte(*a), haystack, id, from, end, credit),
+        Leaving::One(a) => circle_few(dfa, cache, &OneByte(*a), skip, haystack, id, from, end),
         Leaving::Two(a, b) => {
             let two = Either(OneByte(*a), OneByte(*b));
-            circle(dfa, cache, &two, haystack, id, from, end, credit)
+            circle_few(dfa, cache, &two, skip, haystack, id, from, end)
         }
         Leaving::Three(a, b, c) => {
             let three = Either(OneByte(*a), Either(OneByte(*b), OneByte(*c)));
-            circle(dfa, cache, &three, haystack, id, from, end, credit)
+            circle_few(dfa, cache, &three, skip, haystack, id, from, end)
         }
         Leaving::Range(a) => circle(dfa, cache, a, haystack, id, from, end, credit),
         Leaving::Ranges(a, b, c, d) => {

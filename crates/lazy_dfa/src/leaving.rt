@@ -38,8 +38,16 @@ impl Leaving {
         Leaving::Halves(HalfTables::new(set)?).checked(set)
     }
 
+    /// Whether they are three at most.
+    pub(crate) fn are_few(&self) -> bool {
+        matches!(
+            self,
+            Leaving::One(_) | Leaving::Two(_, _) | Leaving::Three(_, _, _)
+        )
+    }
+
     /// Whether a byte leaves.
-    fn leaves(&self, byte: u8) -> bool
+    pub(crate) fn leaves(&self, byte: u8) -> bool
         ensures { result ≡ leaves self.now byte }
     {
         match self {

@@ -22,6 +22,7 @@
 #![tactic(auto)]
 
 pub mod accounting_laws;
+mod behind;
 mod build_error;
 mod builder;
 mod byte_tests;
@@ -44,6 +45,7 @@ mod making;
 mod measures;
 mod overlapping;
 mod overlapping_state;
+mod pairs;
 pub mod pass_laws;
 mod passing;
 mod progress;

@@ -8,12 +8,13 @@
 //!
 //! A skip costs about as much as the reading of a few bytes, so each is paid from a credit, to which it adds the bytes that
 //! it passed. Where the credit is used up, a search reads all bytes until the cache is cleared.
-ghost use Rattle.std.specs.Prelude.{◌≡◌, ℕ, ◌<◌, ◌≤◌, true, false};
+ghost use Rattle.std.specs.Prelude.{◌≡◌, ℕ, ◌<◌, ◌≤◌, IfSome, true, false};
 ghost use Rattle.search_core.specs.ByteSets.{has};
 ghost use Rattle.lazy_dfa.specs.Ids.{tag, unknown_id};
-ghost use Rattle.lazy_dfa.specs.Skips.{cell_by, IsSkip};
+ghost use Rattle.lazy_dfa.specs.Skips.{cell_by, IsLeft, IsSkip};
 
 use crate::cache::Cache;
+use crate::half_tables::HalfTables;
 use crate::lazy_id::LazyStateID;
 use crate::leaving::Leaving;
 use search_core::ByteSet;
@@ -40,6 +41,8 @@ pub(crate) struct Skip {
     pub(crate) stop: LazyStateID,
     /// The bytes that leave it.
     pub(crate) leaving: Leaving,
+    /// The bytes behind one of those with which the search may not be back, where that is noted.
+    pub(crate) behind: Option<HalfTables>,
     pub(crate) credit: usize,
 }
 
@@ -64,6 +67,7 @@ impl Skip {
         Skip {
             stop: LazyStateID::unknown(),
             leaving: Leaving::Never,
+            behind: None,
             credit: FIRST_CREDIT,
         }
     }
@@ -75,14 +79,6 @@ impl Skip {
         let mut rest = self;
         rest.stop = LazyStateID::unknown();
         rest
-    }
-
-    /// Pays for a look that was of no use.
-    fn pay_look(&mut self)
-        ensures leaving { self.new.leaving ≡ self.old.leaving }
-        ensures stop { self.new.stop ≡ self.old.stop }
-    {
-        self.credit = self.credit.saturating_sub(LOOK_COST);
     }
 }
 
@@ -115,7 +111,8 @@ impl Cache {
     /// What is noted.
     #[inline(always)]
     pub(crate) fn skip(&self) -> &Skip
-        ensures { IsSkip self.now.cells self.now.classes result.now }
+        ensures left { result.now.stop < tag → IsLeft self.now.cells self.now.classes result.now.stop result.now.leaving }
+        ensures noted { IsSkip self.now.cells self.now.classes result.now }
     {
         &self.skip
     }
@@ -137,30 +134,39 @@ impl Cache {
         requires { id < tag }
         ensures { self.new ≡ self.old }
     {
-        if !self.stays(id, byte) {
+        if !self.leads(id, byte, id) {
             return;
         }
         let set = self.leaving_bytes(id);
         let Some(leaving) = Leaving::new(&set) else {
-            self.skip.pay_look();
+            self.skip.credit = self.skip.credit.saturating_sub(LOOK_COST);
             return;
         };
+        let behind = self.tables_behind(id, &leaving);
         self.skip = Skip {
             stop: id,
             leaving,
+            behind,
             credit: self.skip.credit,
         };
     }
 
-    /// Whether the step by a byte is known and leaves a state as it is.
-    fn stays(&self, id: LazyStateID, byte: u8) -> bool
-        ensures { result ≡ true → cell_by self.now.cells self.now.classes id byte ≡ id }
+    /// Where a byte leads from an ID without tags, as far as there is a cell for it.
+    pub(crate) fn step_by(&self, id: LazyStateID, byte: u8) -> Option<LazyStateID>
+        ensures { IfSome result (λ next. cell_by self.now.cells self.now.classes id byte ≡ next) }
     {
         let place = id.bits() as usize + usize::from(self.classes.get(byte));
-        let Some(cell) = self.cells.get(place) else {
+        self.cells.get(place).copied()
+    }
+
+    /// Whether the step by a byte is known and leads to a state.
+    pub(crate) fn leads(&self, id: LazyStateID, byte: u8, to: LazyStateID) -> bool
+        ensures { result ≡ true → cell_by self.now.cells self.now.classes id byte ≡ to }
+    {
+        let Some(next) = self.step_by(id, byte) else {
             return false;
         };
-        *cell == id
+        next == to
     }
 
     /// The bytes that may leave a state.
@@ -169,7 +175,7 @@ impl Cache {
     {
         let mut set = ByteSet::empty();
         for byte in 0..=255 {
-            if !self.stays(id, byte) {
+            if !self.leads(id, byte, id) {
                 set.add(byte);
             }
         }

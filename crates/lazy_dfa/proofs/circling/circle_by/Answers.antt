@@ -20,7 +20,7 @@ returns-in-Never-clause-goes c =
     λ byte. subst (λ (t : Leaving). leaves t byte ≡ false) (sym c.in-Never.is) refl in
     let stays : (byte : ℕ) → byte < 256 → cell_by c.args.cache.now.cells c.args.cache.now.classes c.args.id byte ≡ c.args.id =
     λ byte l. subst (λ (id : ℕ). cell_by c.args.cache.now.cells c.args.cache.now.classes id byte ≡ id) (sym stop)
-    (c.skip-skip.ensures low byte l (quiet byte)) in
+    (c.skip-skip.ensures.left low byte l (quiet byte)) in
     way_over c.args.dfa.now c.args.cache.now c.args.haystack.now c.is_made.ensures c.requires.own
     (λ i. omega (arith, c.type_inv.haystack i)) c.requires.is_forward
     c.args.from c.args.id c.args.from c.args.id c.requires.row c.requires.row c.requires.untagged (omega arith)
@@ -28,3 +28,19 @@ returns-in-Never-clause-goes c =
     (c.args.from - c.args.from) c.requires.own c.requires.row (omega arith))
     c.args.end c.requires.fits c.requires.within
     (λ k _ _. stays (get_or c.args.haystack.now k 0) (omega (arith, c.type_inv.haystack k)))
+
+pub circle-requires-in-Ranges-clause-stays : goal.circle-requires-in-Ranges-clause-stays
+circle-requires-in-Ranges-clause-stays c = λ byte l fails.
+    let skip = c.skip-skip.result.now in
+    let stop : c.args.id ≡ skip.stop = grind (arith, c.ne.ensures, c.if-ne.false) in
+    let low : skip.stop < tag = omega (arith, stop, c.requires.untagged) in
+    subst (λ (id : ℕ). cell_by c.args.cache.now.cells c.args.cache.now.classes id byte ≡ id) (sym stop)
+    (c.skip-skip.ensures.left low byte l (subst (λ (t : Leaving). leaves t byte ≡ false) (sym c.in-Ranges.is) fails))
+
+pub circle-requires-in-Halves-clause-stays : goal.circle-requires-in-Halves-clause-stays
+circle-requires-in-Halves-clause-stays c = λ byte l fails.
+    let skip = c.skip-skip.result.now in
+    let stop : c.args.id ≡ skip.stop = grind (arith, c.ne.ensures, c.if-ne.false) in
+    let low : skip.stop < tag = omega (arith, stop, c.requires.untagged) in
+    subst (λ (id : ℕ). cell_by c.args.cache.now.cells c.args.cache.now.classes id byte ≡ id) (sym stop)
+    (c.skip-skip.ensures.left low byte l (subst (λ (t : Leaving). leaves t byte ≡ false) (sym c.in-Halves.is) fails))
