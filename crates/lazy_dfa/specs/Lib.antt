@@ -21,6 +21,7 @@ pub mod Linked
 pub mod SearchAnswers
 pub mod LeftTold
 pub mod AnewTold
+pub mod SearchPromises
 pub mod Points
 pub mod Stretches
 pub mod Lingering
@@ -29,6 +30,7 @@ pub mod Turns
 pub mod PassPlaces
 pub mod Walks
 pub mod WalkAnswers
+pub mod WalkPromises
 pub mod WalkTurns
 pub mod WalkLaws
 pub mod Changes

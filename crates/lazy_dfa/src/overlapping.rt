@@ -1,16 +1,10 @@
 //! Overlapping walks: all ends of matches one by one.
-ghost use Rattle.std.specs.Prelude.{◌≡◌, ◌+◌, ◌*◌, ◌<◌, ◌≤◌, false, true, None, Ok, Err, IfOk, IfErr, OnOk};
-ghost use Rattle.search_types.specs.declared.match_error.MatchErrorKind.TheVariants.{NoMemory};
-ghost use Rattle.lazy_dfa.specs.Caches.{IsCacheOf, greatest};
-ghost use Rattle.lazy_dfa.specs.Changes.{Changes};
-ghost use Rattle.lazy_dfa.specs.ConfigValue.{clears_of};
-ghost use Rattle.lazy_dfa.specs.Dfas.{reader};
-ghost use Rattle.lazy_dfa.specs.Linked.{GrowsOrClears};
-ghost use Rattle.lazy_dfa.specs.SearchAnswers.{told_of};
-ghost use Rattle.lazy_dfa.specs.Steps.{most_inserts};
-ghost use Rattle.lazy_dfa.specs.Walks.{IsWalk, StopsAt, rest_of};
-ghost use Rattle.lazy_dfa.specs.WalkAnswers.{AnswersWalk, TellsNext, MakesCall, failed_by, told_by_call, LeavesCall, IsCallToldSince, reads_on, call_starts, call_made, IsMadeOnCall};
-ghost use Rattle.lazy_dfa.specs.declared.overlapping_state.Walk.TheVariants.{Fresh, Ended, Stopped};
+ghost use Rattle.std.specs.Prelude.{◌≡◌, false, true, Ok, Err, IfOk, IfErr};
+ghost use Rattle.lazy_dfa.specs.Caches.{IsCacheOf};
+ghost use Rattle.lazy_dfa.specs.Walks.{IsWalk, StopsAt};
+ghost use Rattle.lazy_dfa.specs.WalkAnswers.{MakesCall, failed_by};
+ghost use Rattle.lazy_dfa.specs.WalkPromises.{WalksOn};
+ghost use Rattle.lazy_dfa.specs.declared.overlapping_state.Walk.TheVariants.{Fresh, Stopped};
 
 use crate::dfa::{Cache, DFA};
 use crate::overlapping_state::{OverlappingState, Stop, Walk};
@@ -159,25 +153,8 @@ impl DFA {
         requires is_forward { self.now.nfa.automaton.reverse ≡ false }
         requires walk { IsWalk self.now cache.old input.now state.old.walk }
         ensures own { IsCacheOf self.now cache.new }
-        ensures answer { AnswersWalk self.now cache.new input.now state.old.walk state.new result }
         ensures walk { IsWalk self.now cache.new input.now state.new.walk }
-        ensures failed { IfErr result (λ e. state.new ≡ failed_by e) }
-        ensures sure { clears_of self.now.options ≡ None → (rest_of (reader self.now) input.now state.old.walk).refusal ≡ None → IfErr result (λ e. e ≡ NoMemory) }
-        ensures kept { GrowsOrClears self.now cache.old cache.new }
-        ensures changes { Changes self.now (IsMadeOnCall self.now input.now state.old.walk) cache.old cache.new (call_made (reader self.now) input.now state.old.walk) }
-        ensures told { OnOk result (cache.new.clears ≡ cache.old.clears → cache.old.clears < greatest →
-            told_of cache.new ≡ told_by_call (reader self.now) input.now state.old.walk (told_of cache.old)) }
-        ensures left_told { IfErr result (λ e. cache.new.clears ≡ cache.old.clears → cache.old.clears < greatest →
-            LeavesCall (reader self.now) input.now state.old.walk e (told_of cache.old) (told_of cache.new)) }
-        ensures told_since { (cache.new.clears ≡ cache.old.clears → ⊥) →
-            IsCallToldSince (reader self.now) input.now state.old.walk result (told_of cache.new) }
-        ensures ends { OnOk result (state.new.found ≡ None → state.new.walk ≡ Ended) }
-        ensures still { call_starts input.now state.old.walk ≡ 0 → reads_on (reader self.now) input.now state.old.walk ≡ false →
-            TellsNext (reader self.now) input.now state.old.walk state.new result }
-        ensures same { call_starts input.now state.old.walk ≡ 0 → reads_on (reader self.now) input.now state.old.walk ≡ false → cache.new ≡ cache.old }
-        ensures free { call_starts input.now state.old.walk ≡ 0 → reads_on (reader self.now) input.now state.old.walk ≡ false → work.new ≡ work.old }
-        ensures determinized { work.new.determinized ≤ work.old.determinized + call_made (reader self.now) input.now state.old.walk }
-        ensures inserted { work.new.inserted ≤ work.old.inserted + call_made (reader self.now) input.now state.old.walk * most_inserts self.now }
+        ensures call { WalksOn self.now input.now cache.old cache.new work.old.determinized work.new.determinized work.old.inserted work.new.inserted state.old.walk state.new result }
     {
         call(self, cache, input, state, work)
     }
@@ -196,25 +173,8 @@ impl DFA {
         requires is_reverse { self.now.nfa.automaton.reverse ≡ true }
         requires walk { IsWalk self.now cache.old input.now state.old.walk }
         ensures own { IsCacheOf self.now cache.new }
-        ensures answer { AnswersWalk self.now cache.new input.now state.old.walk state.new result }
         ensures walk { IsWalk self.now cache.new input.now state.new.walk }
-        ensures failed { IfErr result (λ e. state.new ≡ failed_by e) }
-        ensures sure { clears_of self.now.options ≡ None → (rest_of (reader self.now) input.now state.old.walk).refusal ≡ None → IfErr result (λ e. e ≡ NoMemory) }
-        ensures kept { GrowsOrClears self.now cache.old cache.new }
-        ensures changes { Changes self.now (IsMadeOnCall self.now input.now state.old.walk) cache.old cache.new (call_made (reader self.now) input.now state.old.walk) }
-        ensures told { OnOk result (cache.new.clears ≡ cache.old.clears → cache.old.clears < greatest →
-            told_of cache.new ≡ told_by_call (reader self.now) input.now state.old.walk (told_of cache.old)) }
-        ensures left_told { IfErr result (λ e. cache.new.clears ≡ cache.old.clears → cache.old.clears < greatest →
-            LeavesCall (reader self.now) input.now state.old.walk e (told_of cache.old) (told_of cache.new)) }
-        ensures told_since { (cache.new.clears ≡ cache.old.clears → ⊥) →
-            IsCallToldSince (reader self.now) input.now state.old.walk result (told_of cache.new) }
-        ensures ends { OnOk result (state.new.found ≡ None → state.new.walk ≡ Ended) }
-        ensures still { call_starts input.now state.old.walk ≡ 0 → reads_on (reader self.now) input.now state.old.walk ≡ false →
-            TellsNext (reader self.now) input.now state.old.walk state.new result }
-        ensures same { call_starts input.now state.old.walk ≡ 0 → reads_on (reader self.now) input.now state.old.walk ≡ false → cache.new ≡ cache.old }
-        ensures free { call_starts input.now state.old.walk ≡ 0 → reads_on (reader self.now) input.now state.old.walk ≡ false → work.new ≡ work.old }
-        ensures determinized { work.new.determinized ≤ work.old.determinized + call_made (reader self.now) input.now state.old.walk }
-        ensures inserted { work.new.inserted ≤ work.old.inserted + call_made (reader self.now) input.now state.old.walk * most_inserts self.now }
+        ensures call { WalksOn self.now input.now cache.old cache.new work.old.determinized work.new.determinized work.old.inserted work.new.inserted state.old.walk state.new result }
     {
         call(self, cache, input, state, work)
     }

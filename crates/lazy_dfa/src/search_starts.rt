@@ -1,12 +1,8 @@
 //! The starts of searches over an input.
-ghost use Rattle.std.specs.Prelude.{◌≡◌, ◌≢◌, ◌⊎◌, ◌-◌, ◌+◌, ◌≤◌, ℕ, None, Some, Ok, Err, IfOk, OnOk};
+ghost use Rattle.std.specs.Prelude.{◌≡◌, ◌-◌, Err};
 ghost use Rattle.lazy_dfa.specs.Caches.{IsCacheOf};
 ghost use Rattle.search_types.specs.declared.match_error.MatchErrorKind.TheVariants.{GaveUp as SearchGaveUp};
-ghost use Rattle.lazy_dfa.specs.Dfas.{start_in};
-ghost use Rattle.lazy_dfa.specs.Ids.{unknown_id, dead_id};
-ghost use Rattle.lazy_dfa.specs.StartCalls.{mode_of, start_refusal, start_noted, start_first, IsStartKnown, StartGivesUp, TagsStart, StartNeedsClear, StartCleared, StartAdds};
-ghost use Rattle.lazy_dfa.specs.SearchStarts.{AnswersStart, error_at, forward_start, reverse_start};
-ghost use Rattle.lazy_dfa.specs.Steps.{IsHeld, Grew, WasCleared, most_inserts};
+ghost use Rattle.lazy_dfa.specs.SearchStarts.{AnswersStart, MakesStart, error_at, forward_start, reverse_start};
 
 use crate::dfa::{Cache, DFA};
 use crate::lazy_id::LazyStateID;
@@ -41,21 +37,8 @@ fn start_at<L: Ledger, M: Ledger>(
     requires { IsCacheOf dfa.now cache.old }
     ensures own { IsCacheOf dfa.now cache.new }
     ensures answer { AnswersStart dfa.now cache.old cache.new config.now quit_place place result }
-    ensures held { IfOk result (λ id. IsHeld cache.new id) }
-    ensures noted { IfOk result (λ id. (q : ℕ) → start_in dfa.now (mode_of config.now.anchored) ≡ Some q → start_noted dfa.now cache.new config.now ≡ id) }
-    ensures known { start_refusal dfa.now config.now ≡ None → (q : ℕ) → start_in dfa.now (mode_of config.now.anchored) ≡ Some q → start_noted dfa.now cache.old config.now ≢ unknown_id → result ≡ Ok (start_noted dfa.now cache.old config.now) }
-    ensures none { start_refusal dfa.now config.now ≡ None → start_in dfa.now (mode_of config.now.anchored) ≡ None → result ≡ Ok (dead_id cache.new.stride) }
-    ensures same { IsStartKnown dfa.now cache.old config.now → cache.new ≡ cache.old }
-    ensures free { IsStartKnown dfa.now cache.old config.now → work.new ≡ work.old }
-    ensures kept { Grew dfa.now cache.old cache.new ⊎ WasCleared cache.old cache.new 1 }
-    ensures remains { OnOk result (Grew dfa.now cache.old cache.new ⊎ StartCleared dfa.now cache.old cache.new config.now) }
-    ensures cause { Grew dfa.now cache.old cache.new ⊎ StartNeedsClear dfa.now cache.old config.now }
-    ensures adds { StartAdds dfa.now cache.old cache.new config.now }
-    ensures ok { OnOk result (¬ StartGivesUp dfa.now cache.old config.now) }
     ensures gave_up { result ≡ Err (SearchGaveUp place) → cache.new ≡ cache.old }
-    ensures tag { IfOk result (λ id. (q : ℕ) → start_in dfa.now (mode_of config.now.anchored) ≡ Some q → TagsStart dfa.now cache.old (start_first dfa.now config.now q) id) }
-    ensures determinized { work.new.determinized ≤ work.old.determinized + 1 }
-    ensures inserted { work.new.inserted ≤ work.old.inserted + most_inserts dfa.now }
+    ensures start { MakesStart dfa.now config.now cache.old cache.new work.old.determinized work.new.determinized work.old.inserted work.new.inserted result }
 {
     match dfa.start_state(cache, config, work) {
         Ok(id) => Ok(id),
@@ -80,21 +63,8 @@ impl DFA {
         requires { IsCacheOf self.now cache.old }
         ensures own { IsCacheOf self.now cache.new }
         ensures answer { AnswersStart self.now cache.old cache.new (forward_start input.now) (input.now.start - 1) input.now.start result }
-        ensures held { IfOk result (λ id. IsHeld cache.new id) }
-        ensures noted { IfOk result (λ id. (q : ℕ) → start_in self.now (mode_of (forward_start input.now).anchored) ≡ Some q → start_noted self.now cache.new (forward_start input.now) ≡ id) }
-        ensures known { start_refusal self.now (forward_start input.now) ≡ None → (q : ℕ) → start_in self.now (mode_of (forward_start input.now).anchored) ≡ Some q → start_noted self.now cache.old (forward_start input.now) ≢ unknown_id → result ≡ Ok (start_noted self.now cache.old (forward_start input.now)) }
-        ensures none { start_refusal self.now (forward_start input.now) ≡ None → start_in self.now (mode_of (forward_start input.now).anchored) ≡ None → result ≡ Ok (dead_id cache.new.stride) }
-        ensures same { IsStartKnown self.now cache.old (forward_start input.now) → cache.new ≡ cache.old }
-        ensures free { IsStartKnown self.now cache.old (forward_start input.now) → work.new ≡ work.old }
-        ensures kept { Grew self.now cache.old cache.new ⊎ WasCleared cache.old cache.new 1 }
-        ensures remains { OnOk result (Grew self.now cache.old cache.new ⊎ StartCleared self.now cache.old cache.new (forward_start input.now)) }
-        ensures cause { Grew self.now cache.old cache.new ⊎ StartNeedsClear self.now cache.old (forward_start input.now) }
-        ensures adds { StartAdds self.now cache.old cache.new (forward_start input.now) }
-        ensures ok { OnOk result (¬ StartGivesUp self.now cache.old (forward_start input.now)) }
         ensures gave_up { result ≡ Err (SearchGaveUp input.now.start) → cache.new ≡ cache.old }
-        ensures tag { IfOk result (λ id. (q : ℕ) → start_in self.now (mode_of (forward_start input.now).anchored) ≡ Some q → TagsStart self.now cache.old (start_first self.now (forward_start input.now) q) id) }
-        ensures determinized { work.new.determinized ≤ work.old.determinized + 1 }
-        ensures inserted { work.new.inserted ≤ work.old.inserted + most_inserts self.now }
+        ensures start { MakesStart self.now (forward_start input.now) cache.old cache.new work.old.determinized work.new.determinized work.old.inserted work.new.inserted result }
     {
         let place = input.start();
         let quit_place = place.saturating_sub(1);
@@ -114,21 +84,8 @@ impl DFA {
         requires { IsCacheOf self.now cache.old }
         ensures own { IsCacheOf self.now cache.new }
         ensures answer { AnswersStart self.now cache.old cache.new (reverse_start input.now) input.now.end input.now.end result }
-        ensures held { IfOk result (λ id. IsHeld cache.new id) }
-        ensures noted { IfOk result (λ id. (q : ℕ) → start_in self.now (mode_of (reverse_start input.now).anchored) ≡ Some q → start_noted self.now cache.new (reverse_start input.now) ≡ id) }
-        ensures known { start_refusal self.now (reverse_start input.now) ≡ None → (q : ℕ) → start_in self.now (mode_of (reverse_start input.now).anchored) ≡ Some q → start_noted self.now cache.old (reverse_start input.now) ≢ unknown_id → result ≡ Ok (start_noted self.now cache.old (reverse_start input.now)) }
-        ensures none { start_refusal self.now (reverse_start input.now) ≡ None → start_in self.now (mode_of (reverse_start input.now).anchored) ≡ None → result ≡ Ok (dead_id cache.new.stride) }
-        ensures same { IsStartKnown self.now cache.old (reverse_start input.now) → cache.new ≡ cache.old }
-        ensures free { IsStartKnown self.now cache.old (reverse_start input.now) → work.new ≡ work.old }
-        ensures kept { Grew self.now cache.old cache.new ⊎ WasCleared cache.old cache.new 1 }
-        ensures remains { OnOk result (Grew self.now cache.old cache.new ⊎ StartCleared self.now cache.old cache.new (reverse_start input.now)) }
-        ensures cause { Grew self.now cache.old cache.new ⊎ StartNeedsClear self.now cache.old (reverse_start input.now) }
-        ensures adds { StartAdds self.now cache.old cache.new (reverse_start input.now) }
-        ensures ok { OnOk result (¬ StartGivesUp self.now cache.old (reverse_start input.now)) }
         ensures gave_up { result ≡ Err (SearchGaveUp input.now.end) → cache.new ≡ cache.old }
-        ensures tag { IfOk result (λ id. (q : ℕ) → start_in self.now (mode_of (reverse_start input.now).anchored) ≡ Some q → TagsStart self.now cache.old (start_first self.now (reverse_start input.now) q) id) }
-        ensures determinized { work.new.determinized ≤ work.old.determinized + 1 }
-        ensures inserted { work.new.inserted ≤ work.old.inserted + most_inserts self.now }
+        ensures start { MakesStart self.now (reverse_start input.now) cache.old cache.new work.old.determinized work.new.determinized work.old.inserted work.new.inserted result }
     {
         let place = input.end();
         let config = StartConfig::from_input_reverse(input);

@@ -1,20 +1,11 @@
 //! Half searches: passes one after the other.
-ghost use Rattle.std.specs.Prelude.{slice_index_or, ◌≡◌, ◌⊎◌, ◌+◌, ◌*◌, ◌<◌, ◌≤◌, ℕ, Option, false, true, None, IfOk, IfErr, OnOk};
-ghost use Rattle.search_types.specs.declared.match_error.MatchErrorKind.TheVariants.{NoMemory};
+ghost use Rattle.std.specs.Prelude.{◌≡◌, ℕ, Option, false, true, IfOk};
 ghost use Rattle.search_types.specs.Inputs.{IsWithin};
-ghost use Rattle.search_types.specs.Modes.{is_supported};
-ghost use Rattle.lazy_dfa.specs.AnewTold.{IsToldSince};
-ghost use Rattle.lazy_dfa.specs.Caches.{IsCacheOf, greatest};
-ghost use Rattle.lazy_dfa.specs.Changes.{Changes, IsMadeBy};
-ghost use Rattle.lazy_dfa.specs.ConfigValue.{clears_of};
+ghost use Rattle.lazy_dfa.specs.Caches.{IsCacheOf};
 ghost use Rattle.lazy_dfa.specs.Dfas.{IsDfa, reader};
-ghost use Rattle.lazy_dfa.specs.LeftTold.{LeavesTold};
-ghost use Rattle.lazy_dfa.specs.Linked.{IsLinked, GrowsOrClears, IsMoved, passes_of};
 ghost use Rattle.lazy_dfa.specs.MadePasses.{MakesSearch};
-ghost use Rattle.lazy_dfa.specs.ScanLaws.{HasNoQuitNear, pass_count, unit_count};
-ghost use Rattle.lazy_dfa.specs.Scans.{scan};
-ghost use Rattle.lazy_dfa.specs.SearchAnswers.{Answers, told, told_of, told_by, half_of, HasReach, HasReachBack};
-ghost use Rattle.lazy_dfa.specs.Steps.{most_inserts};
+ghost use Rattle.lazy_dfa.specs.SearchAnswers.{half_of, HasReach, HasReachBack};
+ghost use Rattle.lazy_dfa.specs.SearchPromises.{MakesHalf};
 
 use crate::dfa::{Cache, DFA};
 use crate::passing::pass;
@@ -165,23 +156,8 @@ impl DFA {
         requires own { IsCacheOf self.now cache.old }
         requires is_forward { self.now.nfa.automaton.reverse ≡ false }
         ensures own { IsCacheOf self.now cache.new }
-        ensures answer { Answers self.now cache.new input.now result }
-        ensures sure { clears_of self.now.options ≡ None → is_supported (reader self.now).starts_for_each_pattern input.now.anchored ≡ true →
-            HasNoQuitNear (reader self.now) input.now.haystack input.now.start input.now.end → IfErr result (λ e. e ≡ NoMemory) }
-        ensures kept { GrowsOrClears self.now cache.old cache.new }
-        ensures changes { Changes self.now (IsMadeBy self.now input.now) cache.old cache.new (pass_count (reader self.now) input.now + unit_count (reader self.now) input.now) }
-        ensures linked { OnOk result (cache.new.clears ≡ cache.old.clears → cache.old.clears < greatest → IsLinked self.now cache.new input.now) }
-        ensures told { OnOk result (cache.new.clears ≡ cache.old.clears → cache.old.clears < greatest →
-            told_of cache.new ≡ told_by (reader self.now) input.now (told_of cache.old) (passes_of (reader self.now) input.now)) }
-        ensures left_told { IfErr result (λ e. cache.new.clears ≡ cache.old.clears → cache.old.clears < greatest →
-            LeavesTold (reader self.now) input.now e (told_of cache.old) (told_of cache.new)) }
-        ensures told_since { (cache.new.clears ≡ cache.old.clears → ⊥) → IsToldSince (reader self.now) input.now result (told_of cache.new) }
-        ensures moved { IsLinked self.now cache.old input.now → IsMoved cache.old cache.new }
-        ensures free { IsLinked self.now cache.old input.now → work.new ≡ work.old }
-        ensures sure_if_linked { IsLinked self.now cache.old input.now → result ≡ told (scan (reader self.now) input.now) }
+        ensures search { MakesHalf self.now input.now cache.old cache.new work.old.determinized work.new.determinized work.old.inserted work.new.inserted result }
         ensures reach { IfOk result (λ found. (o : Option (ℕ × ℕ)) × (found ≡ half_of o) × HasReach (reader self.now) input.now o) }
-        ensures determinized { work.new.determinized ≤ work.old.determinized + (pass_count (reader self.now) input.now + unit_count (reader self.now) input.now) }
-        ensures inserted { work.new.inserted ≤ work.old.inserted + (pass_count (reader self.now) input.now + unit_count (reader self.now) input.now) * most_inserts self.now }
     {
         search(self, cache, input, false, work)
     }
@@ -199,23 +175,8 @@ impl DFA {
         requires own { IsCacheOf self.now cache.old }
         requires is_reverse { self.now.nfa.automaton.reverse ≡ true }
         ensures own { IsCacheOf self.now cache.new }
-        ensures answer { Answers self.now cache.new input.now result }
-        ensures sure { clears_of self.now.options ≡ None → is_supported (reader self.now).starts_for_each_pattern input.now.anchored ≡ true →
-            HasNoQuitNear (reader self.now) input.now.haystack input.now.start input.now.end → IfErr result (λ e. e ≡ NoMemory) }
-        ensures kept { GrowsOrClears self.now cache.old cache.new }
-        ensures changes { Changes self.now (IsMadeBy self.now input.now) cache.old cache.new (pass_count (reader self.now) input.now + unit_count (reader self.now) input.now) }
-        ensures linked { OnOk result (cache.new.clears ≡ cache.old.clears → cache.old.clears < greatest → IsLinked self.now cache.new input.now) }
-        ensures told { OnOk result (cache.new.clears ≡ cache.old.clears → cache.old.clears < greatest →
-            told_of cache.new ≡ told_by (reader self.now) input.now (told_of cache.old) (passes_of (reader self.now) input.now)) }
-        ensures left_told { IfErr result (λ e. cache.new.clears ≡ cache.old.clears → cache.old.clears < greatest →
-            LeavesTold (reader self.now) input.now e (told_of cache.old) (told_of cache.new)) }
-        ensures told_since { (cache.new.clears ≡ cache.old.clears → ⊥) → IsToldSince (reader self.now) input.now result (told_of cache.new) }
-        ensures moved { IsLinked self.now cache.old input.now → IsMoved cache.old cache.new }
-        ensures free { IsLinked self.now cache.old input.now → work.new ≡ work.old }
-        ensures sure_if_linked { IsLinked self.now cache.old input.now → result ≡ told (scan (reader self.now) input.now) }
+        ensures search { MakesHalf self.now input.now cache.old cache.new work.old.determinized work.new.determinized work.old.inserted work.new.inserted result }
         ensures reach { IfOk result (λ found. (o : Option (ℕ × ℕ)) × (found ≡ half_of o) × HasReachBack (reader self.now) input.now o) }
-        ensures determinized { work.new.determinized ≤ work.old.determinized + (pass_count (reader self.now) input.now + unit_count (reader self.now) input.now) }
-        ensures inserted { work.new.inserted ≤ work.old.inserted + (pass_count (reader self.now) input.now + unit_count (reader self.now) input.now) * most_inserts self.now }
     {
         search(self, cache, input, true, work)
     }

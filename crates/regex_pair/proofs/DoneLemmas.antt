@@ -11,13 +11,12 @@ use Rattle.lazy_dfa.specs.Dfas.{Dfa, reader}
 use Rattle.lazy_dfa.specs.Linked.{AreLinked, passes_on, passes_of}
 use Rattle.lazy_dfa.specs.ScanLaws.{begins_at}
 use Rattle.lazy_dfa.specs.SearchAnswers.{told, told_of, told_by}
+use Rattle.lazy_dfa.specs.SearchPromises.{MakesHalf, TellsHalf, half_made}
 use Rattle.lazy_dfa.proofs.ForCallers.{scan_done}
-use Rattle.regex_pair.specs.MadeSearches.{MakesHalf, MakesMatch, MakesPair}
+use Rattle.regex_pair.specs.MadeSearches.{MakesMatch, MakesPair}
 use Rattle.regex_pair.specs.Matching.{match_search}
 use Rattle.regex_pair.specs.PairAnswers.{GoesBack}
 use Rattle.regex_pair.specs.Pairs.{Pair, PairCache}
-use Rattle.regex_pair.specs.PairAnswers.{half_made}
-use Rattle.regex_pair.specs.PairTold.{TellsHalf}
 use Rattle.regex_pair.proofs.AnswerLemmas.{answer, some_is_not_none}
 use Rattle.regex_pair.proofs.MatchLemmas.{tells_there}
 use Rattle.regex_pair.proofs.PairLemmas.{stops, untouched_grows}

@@ -10,7 +10,8 @@ use Rattle.lazy_dfa.specs.Linked.{IsLinked, passes_of}
 use Rattle.lazy_dfa.specs.Readers.{HalfAnswer, found, quit, unsupported}
 use Rattle.lazy_dfa.specs.Scans.{scan}
 use Rattle.lazy_dfa.specs.SearchAnswers.{Answers, told, told_of, told_by}
-use Rattle.regex_pair.specs.MadeSearches.{FindsEnd, MakesMatch, MakesHalf}
+use Rattle.lazy_dfa.specs.SearchPromises.{MakesHalf}
+use Rattle.regex_pair.specs.MadeSearches.{FindsEnd, MakesMatch}
 use Rattle.regex_pair.specs.Matching.{AnswersMatch, has_match, match_search, match_told}
 use Rattle.regex_pair.specs.Pairs.{Pair, PairCache}
 use Rattle.regex_pair.specs.PairTold.{is_some_half}

@@ -13,13 +13,14 @@ use Rattle.lazy_dfa.specs.Readers.{Reader, HalfAnswer, found, quit, unsupported}
 use Rattle.lazy_dfa.specs.ScanLaws.{HasNoQuitNear}
 use Rattle.lazy_dfa.specs.Scans.{scan}
 use Rattle.lazy_dfa.specs.SearchAnswers.{Answers, told, told_of, told_by}
+use Rattle.lazy_dfa.specs.SearchPromises.{MakesHalf, TellsHalf, half_made}
 use Rattle.lazy_dfa.specs.Steps.{most_inserts}
 use Rattle.regex_pair.specs.Joined.{is_start_known, back_from, from_start, with_start, answer_by_end, joined}
-use Rattle.regex_pair.specs.MadeSearches.{MakesHalf, MakesBack, MakesPair}
-use Rattle.regex_pair.specs.PairAnswers.{GoesBack, gives_up_forward, gives_up_back, AnswersPair, IsBackLinked, half_made, back_made_by}
+use Rattle.regex_pair.specs.MadeSearches.{MakesBack, MakesPair}
+use Rattle.regex_pair.specs.PairAnswers.{GoesBack, gives_up_forward, gives_up_back, AnswersPair, IsBackLinked, back_made_by}
 use Rattle.regex_pair.specs.PairAnswers.{back_made}
 use Rattle.regex_pair.specs.Pairs.{Pair, PairCache, AreCachesOf}
-use Rattle.regex_pair.specs.PairTold.{TellsHalf, TellsPair, tells_refusal, tells_end, tells_start, with_half}
+use Rattle.regex_pair.specs.PairTold.{TellsPair, tells_refusal, tells_end, tells_start, with_half}
 use Rattle.regex_pair.proofs.AnswerLemmas.{Half, Whole}
 use Rattle.regex_pair.proofs.AnswerLemmas.{answer, error, pair, ok_is_no_error, some_is_not_none, some_is_found, ok_is_told, finds_in_span}
 

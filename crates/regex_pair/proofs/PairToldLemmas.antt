@@ -11,10 +11,11 @@ use Rattle.lazy_dfa.specs.Dfas.{Dfa, reader}
 use Rattle.lazy_dfa.specs.Readers.{Reader, HalfAnswer, found, quit, unsupported}
 use Rattle.lazy_dfa.specs.Scans.{scan}
 use Rattle.lazy_dfa.specs.SearchAnswers.{Answers, told}
+use Rattle.lazy_dfa.specs.SearchPromises.{TellsHalf}
 use Rattle.regex_pair.specs.Joined.{is_start_known, back_from, from_start, with_start, answer_by_end, joined}
 use Rattle.regex_pair.specs.Matching.{has_match, match_search, match_told}
 use Rattle.regex_pair.specs.PairAnswers.{GoesBack}
-use Rattle.regex_pair.specs.PairTold.{TellsHalf, TellsMatch, TellsPair, tells_refusal, tells_end, tells_start, is_some_half, with_half}
+use Rattle.regex_pair.specs.PairTold.{TellsMatch, TellsPair, tells_refusal, tells_end, tells_start, is_some_half, with_half}
 use Rattle.regex_pair.specs.Pairs.{Pair, PairCache}
 use Rattle.regex_pair.proofs.AnswerLemmas.{Half, Whole, ok_is_no_error, ok_is_told}
 use Rattle.regex_pair.proofs.PairLemmas.{one_pair}

@@ -10,29 +10,14 @@ use Rattle.lazy_dfa.specs.ConfigValue.{clears_of}
 use Rattle.lazy_dfa.specs.Dfas.{Dfa, reader}
 use Rattle.lazy_dfa.specs.Linked.{IsLinked, GrowsOrClears, IsMoved, passes_of}
 use Rattle.lazy_dfa.specs.ScanLaws.{HasNoQuitNear}
-use Rattle.lazy_dfa.specs.Scans.{scan}
-use Rattle.lazy_dfa.specs.SearchAnswers.{Answers, told, told_of, told_by}
+use Rattle.lazy_dfa.specs.SearchAnswers.{told_of, told_by}
+use Rattle.lazy_dfa.specs.SearchPromises.{MakesHalf, half_made}
 use Rattle.lazy_dfa.specs.Steps.{most_inserts}
 use Rattle.regex_pair.specs.Joined.{back_from, joined}
 use Rattle.regex_pair.specs.Matching.{AnswersMatch, has_match, match_search}
-use Rattle.regex_pair.specs.PairAnswers.{AnswersPair, ArePathsLinked, GoesBack, IsBackLinked, half_made, back_made}
+use Rattle.regex_pair.specs.PairAnswers.{AnswersPair, ArePathsLinked, GoesBack, IsBackLinked, back_made}
 use Rattle.regex_pair.specs.Pairs.{Pair, PairCache, PairGrowsOrClears, IsPairMoved}
-use Rattle.regex_pair.specs.PairTold.{TellsHalf, TellsMatch, TellsPair, is_some_half, with_half}
-
--- one half search: what its contract says, whichever way it goes
-pub record MakesHalf (d : Dfa) (q : Search) (old new : CacheValue) (m1 m2 n1 n2 : ℕ)
-    (result : Result (Option HalfFound) MatchErrorKind) : Type 0 where
-  pub answer : Answers d new q result
-  pub sure : clears_of d.options ≡ None → is_supported (reader d).starts_for_each_pattern q.anchored ≡ true →
-      HasNoQuitNear (reader d) q.haystack q.start q.end → IfErr result (λ e. e ≡ NoMemory)
-  pub kept : GrowsOrClears d old new
-  pub linked : OnOk result (new.clears ≡ old.clears → old.clears < greatest → IsLinked d new q)
-  pub tells : TellsHalf d q old new result
-  pub moved : IsLinked d old q → IsMoved old new
-  pub free : IsLinked d old q → (m2 ≡ m1) × (n2 ≡ n1)
-  pub sure_if_linked : IsLinked d old q → result ≡ told (scan (reader d) q)
-  pub determinized : m2 ≤ m1 + half_made (reader d) q
-  pub inserted : n2 ≤ n1 + half_made (reader d) q * most_inserts d
+use Rattle.regex_pair.specs.PairTold.{TellsMatch, TellsPair, is_some_half, with_half}
 
 -- the search back from an end
 pub record MakesBack (p : Pair) (q : Search) (e : HalfFound) (old new : CacheValue) (m1 m2 n1 n2 : ℕ)
@@ -47,45 +32,62 @@ pub record FindsEnd (d : Dfa) (q : Search) (old new : CacheValue) (m1 m2 n1 n2 :
   pub made : MakesHalf d q old new m1 m2 n1 n2 half
   pub answer : result ≡ is_some_half half
 
--- a search over both
+-- A search over both. The numbers say how many states were made, and how many names were put into sets for them, before and after.
 pub record MakesPair (p : Pair) (q : Search) (old new : PairCache) (m1 m2 n1 n2 : ℕ)
     (result : Result (Option Found) MatchErrorKind) : Type 0 where
+  -- it answers what is joined, or memory lacked, or one of both gave up
   pub answer : AnswersPair p new q result
+  -- memory alone may lack, or the two are no pair, where no clear is refused, the mode is supported and no quit byte stands in or
+  -- beside the span
   pub sure : clears_of p.forward.options ≡ None → clears_of p.reverse.options ≡ None →
       is_supported (reader p.forward).starts_for_each_pattern q.anchored ≡ true →
       HasNoQuitNear (reader p.forward) q.haystack q.start q.end → HasNoQuitNear (reader p.reverse) q.haystack q.start q.end →
       IfErr result (λ e. (e ≡ NoMemory) ⊎ (e ≡ NotAPair))
+  -- each cache keeps what it has, or was cleared; where none goes back the second stays as it is
   pub kept : PairGrowsOrClears p old new
   pub untouched : ((e : ℕ × ℕ) → GoesBack p q e → ⊥) → new.reverse ≡ old.reverse
+  -- where it answers and a cache wasn't cleared, the path of the search over that is known now
   pub linked : OnOk result (new.forward.clears ≡ old.forward.clears → old.forward.clears < greatest → IsLinked p.forward new.forward q)
   pub back_linked : OnOk result (new.reverse.clears ≡ old.reverse.clears → old.reverse.clears < greatest → IsBackLinked p new.reverse q)
+  -- and it was told all that the search's passes tell
   pub is_told : OnOk result (new.forward.clears ≡ old.forward.clears → old.forward.clears < greatest →
       told_of new.forward ≡ told_by (reader p.forward) q (told_of old.forward) (passes_of (reader p.forward) q))
   pub back_told : OnOk result (new.reverse.clears ≡ old.reverse.clears → old.reverse.clears < greatest → (e : ℕ × ℕ) → GoesBack p q e →
       told_of new.reverse ≡ told_by (reader p.reverse) (back_from q e.0) (told_of old.reverse)
       (passes_of (reader p.reverse) (back_from q e.0)))
+  -- what both are told, whatever it answers
   pub tells : TellsPair p q old new result
+  -- over known paths nothing changes but how far searches came, nothing is made, and it answers
   pub moved : ArePathsLinked p old q → IsPairMoved old new
   pub free : ArePathsLinked p old q → (m2 ≡ m1) × (n2 ≡ n1)
   pub sure_if_linked : ArePathsLinked p old q → result ≡ joined p q
+  -- they make few states, and put few names into sets for them
   pub determinized : m2 ≤ m1 + (half_made (reader p.forward) q + back_made p q)
   pub inserted : n2 ≤ n1 + (half_made (reader p.forward) q * most_inserts p.forward + back_made p q * most_inserts p.reverse)
 
--- the search that tells whether there is a match
+-- the search that tells whether there is a match, and leaves the second cache as it is
 pub record MakesMatch (p : Pair) (q : Search) (old new : PairCache) (m1 m2 n1 n2 : ℕ) (result : Result Bool MatchErrorKind) : Type 0 where
+  -- it answers what its half search does, or memory lacked, or that one gave up
   pub answer : AnswersMatch p new q result
+  -- memory alone may lack where no clear is refused, the mode is supported and no quit byte stands in or beside the span
   pub sure : clears_of p.forward.options ≡ None → is_supported (reader p.forward).starts_for_each_pattern q.anchored ≡ true →
       HasNoQuitNear (reader p.forward) q.haystack q.start q.end → IfErr result (λ e. e ≡ NoMemory)
+  -- its cache keeps what it has, or was cleared; the second stays as it is
   pub kept : GrowsOrClears p.forward old.forward new.forward
   pub untouched : new.reverse ≡ old.reverse
+  -- where it answers and its cache wasn't cleared, the path of the search is known now
   pub linked : OnOk result (new.forward.clears ≡ old.forward.clears → old.forward.clears < greatest →
       IsLinked p.forward new.forward (match_search (reader p.forward) q))
+  -- and it was told all that its passes tell
   pub is_told : OnOk result (new.forward.clears ≡ old.forward.clears → old.forward.clears < greatest →
       told_of new.forward ≡ told_by (reader p.forward) (match_search (reader p.forward) q) (told_of old.forward)
       (passes_of (reader p.forward) (match_search (reader p.forward) q)))
+  -- what it is told, whatever the answer is
   pub tells : TellsMatch p q old new result
+  -- over a known path nothing changes but how far searches came, nothing is made, and it answers
   pub moved : IsLinked p.forward old.forward (match_search (reader p.forward) q) → IsMoved old.forward new.forward
   pub free : IsLinked p.forward old.forward (match_search (reader p.forward) q) → (m2 ≡ m1) × (n2 ≡ n1)
   pub sure_if_linked : IsLinked p.forward old.forward (match_search (reader p.forward) q) → result ≡ has_match p q
+  -- it makes few states, and puts few names into sets for them
   pub determinized : m2 ≤ m1 + half_made (reader p.forward) (match_search (reader p.forward) q)
   pub inserted : n2 ≤ n1 + half_made (reader p.forward) (match_search (reader p.forward) q) * most_inserts p.forward

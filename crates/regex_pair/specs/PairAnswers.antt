@@ -1,5 +1,5 @@
 -- What searches over two automata and their caches answer, what they leave, and what they cost.
-use Rattle.std.specs.Prelude.{◌≡◌, ◌⊎◌, ℕ, ◌+◌, false, Option, Some, None, Result, Err, if◌then◌else◌}
+use Rattle.std.specs.Prelude.{◌≡◌, ◌⊎◌, ℕ, false, Option, Some, None, Result, Err, if◌then◌else◌}
 use Rattle.search_types.specs.declared.match_error.MatchErrorKind.{MatchErrorKind}
 use Rattle.search_types.specs.declared.match_error.MatchErrorKind.TheVariants.{GaveUp, NoMemory}
 use Rattle.search_types.specs.Found.{Found}
@@ -7,10 +7,10 @@ use Rattle.search_types.specs.Inputs.{Search}
 use Rattle.lazy_dfa.specs.Caches.{CacheValue}
 use Rattle.lazy_dfa.specs.Dfas.{Dfa, reader}
 use Rattle.lazy_dfa.specs.Linked.{IsLinked, passes_of}
-use Rattle.lazy_dfa.specs.Readers.{Reader, HalfAnswer, found, quit, unsupported}
+use Rattle.lazy_dfa.specs.Readers.{HalfAnswer, found, quit, unsupported}
 use Rattle.lazy_dfa.specs.Scans.{scan}
-use Rattle.lazy_dfa.specs.ScanLaws.{pass_count, unit_count}
 use Rattle.lazy_dfa.specs.SearchAnswers.{GivesUpAmong}
+use Rattle.lazy_dfa.specs.SearchPromises.{half_made}
 use Rattle.regex_pair.specs.Joined.{is_start_known, back_from, joined}
 use Rattle.regex_pair.specs.Pairs.{Pair, PairCache}
 
@@ -48,11 +48,7 @@ pub record ArePathsLinked (p : Pair) (c : PairCache) (q : Search) : Type 0 where
 
 -- ---- work
 
--- a half search makes so many states at most
-abbrev pub half_made : Reader → Search → ℕ
-half_made r q = pass_count r q + unit_count r q
-
--- and the one back, where there is one
+-- the search back makes so many states at most, where there is one
 abbrev pub back_made_by : Pair → Search → HalfAnswer → ℕ
 back_made_by p q (found (Some e)) = if is_start_known (reader p.forward) q e.0 then 0 else half_made (reader p.reverse) (back_from q e.0)
 back_made_by p q (found None) = 0

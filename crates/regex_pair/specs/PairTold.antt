@@ -1,34 +1,18 @@
 -- How far searches over two automata came, as their caches are told, whatever they answer.
-use Rattle.std.specs.Prelude.{◌≡◌, ℕ, ◌<◌, Bool, true, false, Option, Some, None, Result, Ok, Err, IfErr, OnOk}
+use Rattle.std.specs.Prelude.{◌≡◌, ℕ, Bool, true, false, Option, Some, None, Result, Ok, Err}
 use Rattle.search_types.specs.declared.match_error.MatchErrorKind.{MatchErrorKind}
 use Rattle.search_types.specs.declared.match_error.MatchErrorKind.TheVariants.{NotAPair}
 use Rattle.search_types.specs.Found.{Found, HalfFound}
 use Rattle.search_types.specs.Inputs.{Search}
-use Rattle.lazy_dfa.specs.AnewTold.{IsToldSince}
-use Rattle.lazy_dfa.specs.Caches.{CacheValue, greatest}
-use Rattle.lazy_dfa.specs.Changes.{Changes, IsMadeBy}
-use Rattle.lazy_dfa.specs.Dfas.{Dfa, reader}
-use Rattle.lazy_dfa.specs.LeftTold.{LeavesTold}
-use Rattle.lazy_dfa.specs.Linked.{passes_of}
-use Rattle.lazy_dfa.specs.SearchAnswers.{Answers, told_of, told_by}
+use Rattle.lazy_dfa.specs.Dfas.{reader}
+use Rattle.lazy_dfa.specs.SearchPromises.{TellsHalf}
+use Rattle.lazy_dfa.specs.SearchAnswers.{Answers}
 use Rattle.regex_pair.specs.Joined.{back_from, joined}
 use Rattle.regex_pair.specs.Matching.{match_search}
-use Rattle.regex_pair.specs.PairAnswers.{GoesBack, half_made}
+use Rattle.regex_pair.specs.PairAnswers.{GoesBack}
 use Rattle.regex_pair.specs.Pairs.{Pair, PairCache}
 
--- ---- one half search
-
--- What it tells its cache: where nothing was cleared, all that its passes tell, or what those do up to its refusal; and else what
--- counts since the last clear. It changes of it what makes its states, and clears it for one of these alone.
-pub record TellsHalf (d : Dfa) (q : Search) (old new : CacheValue) (result : Result (Option HalfFound) MatchErrorKind) : Type 0 where
-  pub told : OnOk result (new.clears ≡ old.clears → old.clears < greatest →
-      told_of new ≡ told_by (reader d) q (told_of old) (passes_of (reader d) q))
-  pub left_told : IfErr result (λ e. new.clears ≡ old.clears → old.clears < greatest →
-      LeavesTold (reader d) q e (told_of old) (told_of new))
-  pub told_since : (new.clears ≡ old.clears → ⊥) → IsToldSince (reader d) q result (told_of new)
-  pub changes : Changes d (IsMadeBy d q) old new (half_made (reader d) q)
-
--- ---- both
+-- ---- a search
 
 -- the match with an end by what code answers of its start
 abbrev pub with_half : HalfFound → Result (Option HalfFound) MatchErrorKind → Result (Option Found) MatchErrorKind

@@ -19,12 +19,13 @@ ghost use Rattle.lazy_dfa.specs.Readers.{Reader, found};
 ghost use Rattle.lazy_dfa.specs.Scans.{scan};
 ghost use Rattle.lazy_dfa.specs.ScanLaws.{Agree, IsInReach};
 ghost use Rattle.lazy_dfa.specs.SearchAnswers.{told};
+ghost use Rattle.lazy_dfa.specs.SearchPromises.{TellsHalf};
 ghost use Rattle.regex_pair.specs.Finding.{AnswersAt, search_at};
 ghost use Rattle.regex_pair.specs.Joined.{joined, back_from};
 ghost use Rattle.regex_pair.specs.Matching.{has_match, is_some_match, match_search};
 ghost use Rattle.regex_pair.specs.PairAnswers.{GoesBack};
 ghost use Rattle.regex_pair.specs.PairLaws.{answer_at, AreSetAlike, IsInPairReach};
-ghost use Rattle.regex_pair.specs.PairTold.{TellsHalf, TellsMatch, TellsPair};
+ghost use Rattle.regex_pair.specs.PairTold.{TellsMatch, TellsPair};
 ghost use Rattle.regex_pair.specs.Pairs.{Pair, PairCache, IsPair};
 ghost use Rattle.regex_pair.specs.Reach.{HasPairReach};
 

@@ -1,21 +1,13 @@
 //! Searches over two automata.
-ghost use Rattle.std.specs.Prelude.{◌≡◌, ◌⊎◌, ◌+◌, ◌*◌, ◌<◌, ◌≤◌, ℕ, true, false, None, Ok, IfOk, IfErr, OnOk};
-ghost use Rattle.search_types.specs.declared.match_error.MatchErrorKind.TheVariants.{NoMemory, NotAPair};
+ghost use Rattle.std.specs.Prelude.{◌≡◌, ◌<◌, ◌≤◌, false, None, Ok, IfOk};
 ghost use Rattle.search_types.specs.Inputs.{IsWithin};
-ghost use Rattle.search_types.specs.Modes.{is_supported};
-ghost use Rattle.lazy_dfa.specs.Caches.{IsCacheOf, greatest};
-ghost use Rattle.lazy_dfa.specs.ConfigValue.{clears_of};
+ghost use Rattle.lazy_dfa.specs.Caches.{IsCacheOf};
 ghost use Rattle.lazy_dfa.specs.Dfas.{reader};
-ghost use Rattle.lazy_dfa.specs.Linked.{IsLinked, GrowsOrClears, IsMoved, passes_of};
-ghost use Rattle.lazy_dfa.specs.ScanLaws.{HasNoQuitNear};
-ghost use Rattle.lazy_dfa.specs.SearchAnswers.{told_of, told_by};
-ghost use Rattle.lazy_dfa.specs.Steps.{most_inserts};
-ghost use Rattle.regex_pair.specs.Joined.{back_from, is_start_known, joined};
-ghost use Rattle.regex_pair.specs.MadeSearches.{MakesHalf, MakesBack, FindsEnd, MakesMatch, MakesPair};
-ghost use Rattle.regex_pair.specs.Matching.{AnswersMatch, has_match, match_search};
-ghost use Rattle.regex_pair.specs.PairAnswers.{AnswersPair, ArePathsLinked, GoesBack, IsBackLinked, half_made, back_made};
-ghost use Rattle.regex_pair.specs.Pairs.{AreCachesOf, IsPair, PairGrowsOrClears, IsPairMoved};
-ghost use Rattle.regex_pair.specs.PairTold.{TellsMatch, TellsPair};
+ghost use Rattle.lazy_dfa.specs.SearchPromises.{MakesHalf};
+ghost use Rattle.regex_pair.specs.Joined.{back_from, is_start_known};
+ghost use Rattle.regex_pair.specs.MadeSearches.{MakesBack, FindsEnd, MakesMatch, MakesPair};
+ghost use Rattle.regex_pair.specs.Matching.{match_search};
+ghost use Rattle.regex_pair.specs.Pairs.{AreCachesOf, IsPair};
 ghost use Rattle.regex_pair.specs.Reach.{HasPairReach};
 
 use crate::regex::{Cache, Regex};
@@ -278,36 +270,10 @@ impl Regex {
     ) -> Result<Option<Match>, MatchError>
         requires own { AreCachesOf self.now cache.old }
         ensures own { AreCachesOf self.now cache.new }
-        ensures answer { AnswersPair self.now cache.new input.now result }
         ensures done { input.now.end < input.now.start → (result ≡ Ok None) × (cache.new ≡ cache.old) × (work.new ≡ work.old) }
-        ensures sure { clears_of self.now.forward.options ≡ None → clears_of self.now.reverse.options ≡ None →
-            is_supported (reader self.now.forward).starts_for_each_pattern input.now.anchored ≡ true →
-            HasNoQuitNear (reader self.now.forward) input.now.haystack input.now.start input.now.end →
-            HasNoQuitNear (reader self.now.reverse) input.now.haystack input.now.start input.now.end →
-            IfErr result (λ e. (e ≡ NoMemory) ⊎ (e ≡ NotAPair)) }
-        ensures kept { PairGrowsOrClears self.now cache.old cache.new }
-        ensures untouched { ((e : ℕ × ℕ) → GoesBack self.now input.now e → ⊥) → cache.new.reverse ≡ cache.old.reverse }
-        ensures linked { OnOk result (cache.new.forward.clears ≡ cache.old.forward.clears → cache.old.forward.clears < greatest →
-            IsLinked self.now.forward cache.new.forward input.now) }
-        ensures back_linked { OnOk result (cache.new.reverse.clears ≡ cache.old.reverse.clears → cache.old.reverse.clears < greatest →
-            IsBackLinked self.now cache.new.reverse input.now) }
-        ensures told { OnOk result (cache.new.forward.clears ≡ cache.old.forward.clears → cache.old.forward.clears < greatest →
-            told_of cache.new.forward ≡
-            told_by (reader self.now.forward) input.now (told_of cache.old.forward) (passes_of (reader self.now.forward) input.now)) }
-        ensures back_told { OnOk result (cache.new.reverse.clears ≡ cache.old.reverse.clears → cache.old.reverse.clears < greatest →
-            (e : ℕ × ℕ) → GoesBack self.now input.now e → told_of cache.new.reverse ≡
-            told_by (reader self.now.reverse) (back_from input.now e.0) (told_of cache.old.reverse)
-            (passes_of (reader self.now.reverse) (back_from input.now e.0))) }
-        ensures tells { TellsPair self.now input.now cache.old cache.new result }
-        ensures moved { ArePathsLinked self.now cache.old input.now → IsPairMoved cache.old cache.new }
-        ensures free { ArePathsLinked self.now cache.old input.now → work.new ≡ work.old }
-        ensures sure_if_linked { ArePathsLinked self.now cache.old input.now → result ≡ joined self.now input.now }
+        ensures search { MakesPair self.now input.now cache.old cache.new work.old.determinized work.new.determinized work.old.inserted
+            work.new.inserted result }
         ensures reach { IfOk result (λ o. HasPairReach self.now input.now o) }
-        ensures determinized { work.new.determinized ≤
-            work.old.determinized + (half_made (reader self.now.forward) input.now + back_made self.now input.now) }
-        ensures inserted { work.new.inserted ≤ work.old.inserted +
-            (half_made (reader self.now.forward) input.now * most_inserts self.now.forward +
-            back_made self.now input.now * most_inserts self.now.reverse) }
     {
         search_span(self, cache, input, work)
     }
@@ -321,36 +287,10 @@ impl Regex {
     ) -> Result<Option<Match>, MatchError>
         requires own { AreCachesOf self.now cache.old }
         ensures own { AreCachesOf self.now cache.new }
-        ensures answer { AnswersPair self.now cache.new input.now result }
         ensures done { input.now.end < input.now.start → (result ≡ Ok None) × (cache.new ≡ cache.old) × (work.new ≡ work.old) }
-        ensures sure { clears_of self.now.forward.options ≡ None → clears_of self.now.reverse.options ≡ None →
-            is_supported (reader self.now.forward).starts_for_each_pattern input.now.anchored ≡ true →
-            HasNoQuitNear (reader self.now.forward) input.now.haystack input.now.start input.now.end →
-            HasNoQuitNear (reader self.now.reverse) input.now.haystack input.now.start input.now.end →
-            IfErr result (λ e. (e ≡ NoMemory) ⊎ (e ≡ NotAPair)) }
-        ensures kept { PairGrowsOrClears self.now cache.old cache.new }
-        ensures untouched { ((e : ℕ × ℕ) → GoesBack self.now input.now e → ⊥) → cache.new.reverse ≡ cache.old.reverse }
-        ensures linked { OnOk result (cache.new.forward.clears ≡ cache.old.forward.clears → cache.old.forward.clears < greatest →
-            IsLinked self.now.forward cache.new.forward input.now) }
-        ensures back_linked { OnOk result (cache.new.reverse.clears ≡ cache.old.reverse.clears → cache.old.reverse.clears < greatest →
-            IsBackLinked self.now cache.new.reverse input.now) }
-        ensures told { OnOk result (cache.new.forward.clears ≡ cache.old.forward.clears → cache.old.forward.clears < greatest →
-            told_of cache.new.forward ≡
-            told_by (reader self.now.forward) input.now (told_of cache.old.forward) (passes_of (reader self.now.forward) input.now)) }
-        ensures back_told { OnOk result (cache.new.reverse.clears ≡ cache.old.reverse.clears → cache.old.reverse.clears < greatest →
-            (e : ℕ × ℕ) → GoesBack self.now input.now e → told_of cache.new.reverse ≡
-            told_by (reader self.now.reverse) (back_from input.now e.0) (told_of cache.old.reverse)
-            (passes_of (reader self.now.reverse) (back_from input.now e.0))) }
-        ensures tells { TellsPair self.now input.now cache.old cache.new result }
-        ensures moved { ArePathsLinked self.now cache.old input.now → IsPairMoved cache.old cache.new }
-        ensures free { ArePathsLinked self.now cache.old input.now → work.new ≡ work.old }
-        ensures sure_if_linked { ArePathsLinked self.now cache.old input.now → result ≡ joined self.now input.now }
+        ensures search { MakesPair self.now input.now cache.old cache.new work.old.determinized work.new.determinized work.old.inserted
+            work.new.inserted result }
         ensures reach { IfOk result (λ o. HasPairReach self.now input.now o) }
-        ensures determinized { work.new.determinized ≤
-            work.old.determinized + (half_made (reader self.now.forward) input.now + back_made self.now input.now) }
-        ensures inserted { work.new.inserted ≤ work.old.inserted +
-            (half_made (reader self.now.forward) input.now * most_inserts self.now.forward +
-            back_made self.now input.now * most_inserts self.now.reverse) }
     {
         self.try_search(cache, input, work)
     }
@@ -369,30 +309,9 @@ impl Regex {
     ) -> Result<bool, MatchError>
         requires own { AreCachesOf self.now cache.old }
         ensures own { AreCachesOf self.now cache.new }
-        ensures answer { AnswersMatch self.now cache.new input.now result }
         ensures done { input.now.end < input.now.start → (result ≡ Ok false) × (cache.new ≡ cache.old) × (work.new ≡ work.old) }
-        ensures sure { clears_of self.now.forward.options ≡ None →
-            is_supported (reader self.now.forward).starts_for_each_pattern input.now.anchored ≡ true →
-            HasNoQuitNear (reader self.now.forward) input.now.haystack input.now.start input.now.end → IfErr result (λ e. e ≡ NoMemory) }
-        ensures kept { GrowsOrClears self.now.forward cache.old.forward cache.new.forward }
-        ensures untouched { cache.new.reverse ≡ cache.old.reverse }
-        ensures linked { OnOk result (cache.new.forward.clears ≡ cache.old.forward.clears → cache.old.forward.clears < greatest →
-            IsLinked self.now.forward cache.new.forward (match_search (reader self.now.forward) input.now)) }
-        ensures told { OnOk result (cache.new.forward.clears ≡ cache.old.forward.clears → cache.old.forward.clears < greatest →
-            told_of cache.new.forward ≡
-            told_by (reader self.now.forward) (match_search (reader self.now.forward) input.now) (told_of cache.old.forward)
-            (passes_of (reader self.now.forward) (match_search (reader self.now.forward) input.now))) }
-        ensures tells { TellsMatch self.now input.now cache.old cache.new result }
-        ensures moved { IsLinked self.now.forward cache.old.forward (match_search (reader self.now.forward) input.now) →
-            IsMoved cache.old.forward cache.new.forward }
-        ensures free { IsLinked self.now.forward cache.old.forward (match_search (reader self.now.forward) input.now) →
-            work.new ≡ work.old }
-        ensures sure_if_linked { IsLinked self.now.forward cache.old.forward (match_search (reader self.now.forward) input.now) →
-            result ≡ has_match self.now input.now }
-        ensures determinized { work.new.determinized ≤
-            work.old.determinized + half_made (reader self.now.forward) (match_search (reader self.now.forward) input.now) }
-        ensures inserted { work.new.inserted ≤ work.old.inserted +
-            half_made (reader self.now.forward) (match_search (reader self.now.forward) input.now) * most_inserts self.now.forward }
+        ensures search { MakesMatch self.now input.now cache.old cache.new work.old.determinized work.new.determinized work.old.inserted
+            work.new.inserted result }
     {
         match_span(self, cache, input, work)
     }

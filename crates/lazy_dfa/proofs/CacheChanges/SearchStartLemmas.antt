@@ -1,5 +1,5 @@
 -- The answers of starts of searches, by those of starts.
-use Rattle.std.proofs.Common.{◌≡◌, ℕ, Option, Some, None, Result, Ok, Err, ap, ◌∙◌}
+use Rattle.std.proofs.Common.{◌≡◌, ℕ, true, false, Option, Some, None, Result, Ok, Err, ap, ◌∙◌, arith}
 use Rattle.std.specs.Prelude.{MatchOption, ⊤}
 use Rattle.search_types.specs.declared.match_error.MatchErrorKind.{MatchErrorKind}
 use Rattle.determinize_core.specs.Starts.{StartValue}
@@ -15,6 +15,13 @@ is_error r e = r ≡ Err e
 
 abbrev pub is_told : Result ℕ MatchErrorKind → MatchErrorKind → Type 0
 is_told r k = r ≡ Err k
+
+-- or this ID
+abbrev pub is_id : Result ℕ StartError → ℕ → Type 0
+is_id r id = r ≡ Ok id
+
+abbrev pub is_told_id : Result ℕ MatchErrorKind → ℕ → Type 0
+is_told_id r id = r ≡ Ok id
 
 never_refused : (o : Option StartError) (id : ℕ) (f : StartError → MatchErrorKind) →
     MatchOption o ⊤ (λ e. is_error (Ok id) e) → MatchOption o ⊤ (λ e. is_told (Ok id) (f e))
@@ -44,3 +51,16 @@ not_started d old new c quit_place place e told is h cause = record {
   start = λ x. tt;
   err = λ x. (e, cause x, is);
 }
+
+-- an ID that is the answer of a start is that of a search's start; a refusal is no ID
+abbrev told_id : ℕ → Result ℕ MatchErrorKind
+told_id id = Ok id
+
+same_id : (a b : ℕ) → is_id (Ok a) b → a ≡ b
+same_id a b is = cc
+
+pub same_answer : (a b : ℕ) → is_id (Ok a) b → is_told_id (Ok a) b
+same_answer a b is = ap told_id (same_id a b is)
+
+pub no_answer : (e : StartError) (id : ℕ) (P : Type 0) → is_id (Err e) id → P
+no_answer e id P is = let never : true ≡ false = cc in absurd (grind (arith, never))

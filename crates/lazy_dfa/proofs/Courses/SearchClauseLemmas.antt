@@ -22,10 +22,11 @@ use Rattle.lazy_dfa.specs.MadePasses.{IsSearchTold, MakesSearch}
 use Rattle.lazy_dfa.specs.PassLaws.{pass_len, splits}
 use Rattle.lazy_dfa.specs.Passes.{next_place, pass, first_value}
 use Rattle.lazy_dfa.specs.Readers.{Reader, found}
-use Rattle.lazy_dfa.specs.ScanLaws.{begins_at, passes_made, units_in_passes, pass_count, unit_count, HasNoQuitNear}
+use Rattle.lazy_dfa.specs.ScanLaws.{begins_at, passes_made, units_in_passes, HasNoQuitNear}
 use Rattle.lazy_dfa.specs.Scans.{scan}
 use Rattle.lazy_dfa.specs.SearchAnswers.{half_of, pair_of, told, GivesUpIn, at_start, at_unit, GivesUpAmong, Answers, told_of, told_by}
 use Rattle.lazy_dfa.specs.SearchAnswers.{made_by, HasReach, HasReachBack}
+use Rattle.lazy_dfa.specs.SearchPromises.{MakesHalf, half_made}
 use Rattle.lazy_dfa.specs.Steps.{most_inserts}
 use Rattle.lazy_dfa.specs.Changes.{Changes, IsMadeBy}
 use Rattle.lazy_dfa.proofs.Courses.AnswerLemmas.{ok_is_told, ok_is_found}
@@ -65,7 +66,7 @@ module _ (r : Reader) (q : Search) where
   by_mode true false p len made units ps one all = all
   by_mode false once p len made units ps one all = refl
 
-  pub made_is_counted : made_by r q (passes_of r q) ≡ pass_count r q + unit_count r q
+  made_is_counted : made_by r q (passes_of r q) ≡ half_made r q
   made_is_counted =
       by_mode (nat_le q.start q.end) (is_anchored q.anchored) (q.end - q.start, begins_at r q) (len_of (q.end - q.start) (begins_at r q))
       (passes_made r q.anchored q.earliest q.haystack (q.end - q.start) (begins_at r q))
@@ -114,17 +115,17 @@ module _ (d : Dfa) (q : Search) (old new : CacheValue) (m1 m2 n1 n2 : ℕ) (resu
   sure_by none o is (inr (inl e)) = subst HasNoMemory (sym e) refl
   sure_by none o is (inr (inr g)) = absurd (never_among d new none q g.0 (passes_of (reader d) q) g.2)
 
-  pub is_sure : clears_of d.options ≡ None → is_supported (reader d).starts_for_each_pattern q.anchored ≡ true →
+  is_sure : clears_of d.options ≡ None → is_supported (reader d).starts_for_each_pattern q.anchored ≡ true →
       HasNoQuitNear (reader d) q.haystack q.start q.end → HasNoMemory result
   is_sure none supported quiet = let there = scan_finds_near (reader d) q supported quiet in sure_by none there.0 there.1 made.answer
 
-  pub few_determinized : m2 ≤ m1 + (pass_count (reader d) q + unit_count (reader d) q)
+  few_determinized : m2 ≤ m1 + half_made (reader d) q
   few_determinized = subst (λ (k : ℕ). m2 ≤ m1 + k) (made_is_counted (reader d) q) made.determinized
 
-  pub few_inserted : n2 ≤ n1 + (pass_count (reader d) q + unit_count (reader d) q) * most_inserts d
+  few_inserted : n2 ≤ n1 + half_made (reader d) q * most_inserts d
   few_inserted = subst (λ (k : ℕ). n2 ≤ n1 + k * most_inserts d) (made_is_counted (reader d) q) made.inserted
 
-  pub few_changes : Changes d (IsMadeBy d q) old new (pass_count (reader d) q + unit_count (reader d) q)
+  few_changes : Changes d (IsMadeBy d q) old new (half_made (reader d) q)
   few_changes = subst (Changes d (IsMadeBy d q) old new) (made_is_counted (reader d) q) made.changes
 
   abbrev HasFollowed : Type 0
@@ -138,17 +139,17 @@ module _ (d : Dfa) (q : Search) (old new : CacheValue) (m1 m2 n1 n2 : ℕ) (resu
   on_ok (Ok f) A B g a = g a
   on_ok (Err e) A B g a = tt
 
-  pub is_linked_then : OnOk result (new.clears ≡ old.clears → old.clears < greatest → IsLinked d new q)
+  is_linked_then : OnOk result (new.clears ≡ old.clears → old.clears < greatest → IsLinked d new q)
   is_linked_then = on_ok result (HasFollowed ⊎ HasCleared old new) (new.clears ≡ old.clears → old.clears < greatest → IsLinked d new q)
       (λ kept same less. (not_forgotten kept same less).1) made.follows
 
-  pub is_told_then : OnOk result (new.clears ≡ old.clears → old.clears < greatest →
+  is_told_then : OnOk result (new.clears ≡ old.clears → old.clears < greatest →
       told_of new ≡ told_by (reader d) q (told_of old) (passes_of (reader d) q))
   is_told_then = on_ok result (HasFollowed ⊎ HasCleared old new)
       (new.clears ≡ old.clears → old.clears < greatest → told_of new ≡ told_by (reader d) q (told_of old) (passes_of (reader d) q))
       (λ kept same less. (not_forgotten kept same less).2) made.follows
 
-  pub is_left_then : IfErr result (λ e. new.clears ≡ old.clears → old.clears < greatest →
+  is_left_then : IfErr result (λ e. new.clears ≡ old.clears → old.clears < greatest →
       LeavesTold (reader d) q e (told_of old) (told_of new))
   is_left_then = left result made.anew
     where
@@ -158,7 +159,7 @@ module _ (d : Dfa) (q : Search) (old new : CacheValue) (m1 m2 n1 n2 : ℕ) (resu
       left (Err e) (inl l) = λ same less. l.0
       left (Err e) (inr c) = λ same less. absurd (not_cleared old new c.0 same less)
 
-  pub is_told_since : (new.clears ≡ old.clears → ⊥) → IsToldSince (reader d) q result (told_of new)
+  is_told_since : (new.clears ≡ old.clears → ⊥) → IsToldSince (reader d) q result (told_of new)
   is_told_since other = since result made.anew
     where
       since : (x : Result (Option HalfFound) MatchErrorKind) → IsSearchTold (reader d) q x old new →
@@ -167,6 +168,20 @@ module _ (d : Dfa) (q : Search) (old new : CacheValue) (m1 m2 n1 n2 : ℕ) (resu
       since (Ok f) (inr c) = c.1
       since (Err e) (inl same) = absurd (other same.1)
       since (Err e) (inr c) = c.1
+
+  pub makes_half : MakesHalf d q old new m1 m2 n1 n2 result
+  makes_half = record {
+    answer = made.answer;
+    sure = is_sure;
+    kept = made.kept;
+    linked = is_linked_then;
+    tells = record { told = is_told_then; left_told = is_left_then; told_since = is_told_since; changes = few_changes };
+    moved = λ linked. (made.free linked).0;
+    free = λ linked. ((made.free linked).1, (made.free linked).2);
+    sure_if_linked = λ linked. (made.free linked).3;
+    determinized = few_determinized;
+    inserted = few_inserted;
+  }
 
 half_of_pair : (f : Option HalfFound) → f ≡ half_of (pair_of f)
 half_of_pair None = refl

@@ -1,19 +1,24 @@
 -- What a call of an overlapping walk tells its callers.
 use Rattle.std.proofs.Common.{◌≡◌, ℕ, List, ◌∷◌, None, refl, sym, ap, ◌∙◌, inl, inr, subst, []}
-use Rattle.std.specs.Prelude.{Result, IfErr, ⊤}
+use Rattle.std.specs.Prelude.{◌⊎◌, ◌<◌, Result, Ok, Err, IfErr, OnOk, ⊤}
 use Rattle.search_types.specs.declared.match_error.MatchErrorKind.{MatchErrorKind}
 use Rattle.search_types.specs.declared.match_error.MatchErrorKind.TheVariants.{NoMemory}
 use Rattle.search_types.specs.Inputs.{Search}
 use Rattle.nfa_core.specs.Ways.{place_of}
-use Rattle.lazy_dfa.specs.Caches.{CacheValue}
+use Rattle.lazy_dfa.specs.Caches.{CacheValue, greatest}
 use Rattle.lazy_dfa.specs.ConfigValue.{clears_of}
 use Rattle.lazy_dfa.specs.declared.overlapping_state.Walk.{Walk}
 use Rattle.lazy_dfa.specs.Dfas.{Dfa, reader}
+use Rattle.lazy_dfa.specs.Linked.{Grows, HasCleared}
 use Rattle.lazy_dfa.specs.Passes.{first_value}
 use Rattle.lazy_dfa.specs.ScanLaws.{begins_at}
+use Rattle.lazy_dfa.specs.SearchAnswers.{told_of}
 use Rattle.lazy_dfa.specs.Walks.{rest_of, value_past, WalkState}
-use Rattle.lazy_dfa.specs.WalkAnswers.{call_place, told_left, GivesUpOn, at_start, at_unit, AnswersWalk, MakesCall}
+use Rattle.lazy_dfa.specs.WalkAnswers.{call_place, told_left, GivesUpOn, at_start, at_unit, AnswersWalk, told_by_call, MakesCall}
+use Rattle.lazy_dfa.specs.WalkPromises.{WalksOn}
+use Rattle.lazy_dfa.proofs.CacheChanges.LinkedLemmas.{not_cleared}
 use Rattle.lazy_dfa.proofs.Courses.SearchClauseLemmas.{has_room}
+use Rattle.lazy_dfa.proofs.OverlappingWalks.WalkToldLemmas.{call_is_left, call_is_told_since}
 
 abbrev HasNoMemory : Result ⊤ MatchErrorKind → Type 0
 HasNoMemory x = IfErr x (λ e. e ≡ NoMemory)
@@ -38,7 +43,32 @@ module _ (d : Dfa) (q : Search) (v : CacheValue) (w : Walk) (after : WalkState) 
   sure_by result no_refusal (inr (inl e)) = subst HasNoMemory (sym e) refl
   sure_by result no_refusal (inr (inr g)) = absurd (never_gives_up g.0 g.2)
 
-pub call_is_sure : (d : Dfa) (q : Search) (old new : CacheValue) (m1 m2 n1 n2 : ℕ) (w : Walk) (after : WalkState)
-    (result : Result ⊤ MatchErrorKind) → MakesCall d q old new m1 m2 n1 n2 w after result →
-    clears_of d.options ≡ None → (rest_of (reader d) q w).refusal ≡ None → HasNoMemory result
-call_is_sure d q old new m1 m2 n1 n2 w after result made none no_refusal = sure_by d q new w after none result no_refusal made.answer
+-- what a call does is what it promises
+module _ (d : Dfa) (q : Search) (old new : CacheValue) (m1 m2 n1 n2 : ℕ) (w : Walk) (after : WalkState)
+    (result : Result ⊤ MatchErrorKind) (made : MakesCall d q old new m1 m2 n1 n2 w after result) where
+  told_then : (x : Result ⊤ MatchErrorKind) →
+      OnOk x ((Grows d old new × (told_of new ≡ told_by_call (reader d) q w (told_of old))) ⊎ HasCleared old new) →
+      OnOk x (new.clears ≡ old.clears → old.clears < greatest → told_of new ≡ told_by_call (reader d) q w (told_of old))
+  told_then (Ok u) (inl kept) = λ same less. kept.1
+  told_then (Ok u) (inr cleared) = λ same less. absurd (not_cleared old new cleared same less)
+  told_then (Err e) t = tt
+
+  pub walks_on : WalksOn d q old new m1 m2 n1 n2 w after result
+  walks_on = record {
+    answer = made.answer;
+    ends = made.ends;
+    failed = made.failed;
+    sure = λ none no_refusal. sure_by d q new w after none result no_refusal made.answer;
+    kept = made.kept;
+    tells = record {
+      told = told_then result made.told;
+      left_told = call_is_left (reader d) q w old new result made.anew;
+      told_since = λ other. call_is_told_since (reader d) q w old new result made.anew other;
+      changes = made.changes;
+    };
+    still = made.still;
+    same = λ none reads. (made.quiet none reads).0;
+    free = λ none reads. ((made.quiet none reads).1, (made.quiet none reads).2);
+    determinized = made.determinized;
+    inserted = made.inserted;
+  }

@@ -9,16 +9,16 @@ returns-then-is_reverse-clause-start g c = let x = c.start_state_reverse.ensures
     c.start_state_reverse.new.work.inserted c.start_state_reverse.result
     true (sym c.if-is_reverse.true ∙ c.requires.is_reverse) (record {
       answer = x.answer;
-      noted = x.noted;
-      known = x.known;
-      none = x.none;
-      same = x.same;
-      free = λ k. (λ i. (x.free k i).determinized, λ i. (x.free k i).inserted);
-      kept = x.kept;
+      noted = x.start.noted;
+      known = x.start.known;
+      none = x.start.none;
+      same = x.start.same;
+      free = x.start.free;
+      kept = x.start.kept;
       gave_up = x.gave_up;
-      determinized = x.determinized;
-      inserted = x.inserted;
-      adds = x.adds;
+      determinized = x.start.determinized;
+      inserted = x.start.inserted;
+      adds = x.start.adds;
     })
 
 pub returns-else-is_reverse-clause-start : goal.returns-else-is_reverse-clause-start
@@ -28,14 +28,14 @@ returns-else-is_reverse-clause-start g c = let x = c.start_state_forward.ensures
     c.start_state_forward.new.work.inserted c.start_state_forward.result
     false (sym c.if-is_reverse.false ∙ c.requires.is_reverse) (record {
       answer = x.answer;
-      noted = x.noted;
-      known = x.known;
-      none = x.none;
-      same = x.same;
-      free = λ k. (λ i. (x.free k i).determinized, λ i. (x.free k i).inserted);
-      kept = x.kept;
+      noted = x.start.noted;
+      known = x.start.known;
+      none = x.start.none;
+      same = x.start.same;
+      free = x.start.free;
+      kept = x.start.kept;
       gave_up = x.gave_up;
-      determinized = x.determinized;
-      inserted = x.inserted;
-      adds = x.adds;
+      determinized = x.start.determinized;
+      inserted = x.start.inserted;
+      adds = x.start.adds;
     })

@@ -1,4 +1,6 @@
-use Rattle.lazy_dfa.proofs.CacheChanges.SearchStartLemmas.{started, not_started}
+use Rattle.lazy_dfa.specs.Ids.{dead_id}
+use Rattle.lazy_dfa.specs.StartCalls.{start_noted}
+use Rattle.lazy_dfa.proofs.CacheChanges.SearchStartLemmas.{started, not_started, same_answer, no_answer}
 use Rattle.lazy_dfa.proofs.search_starts.start_at.Goals as goal
 
 pub returns-in-Ok-clause-answer : goal.returns-in-Ok-clause-answer
@@ -21,59 +23,38 @@ returns-in-Ok-clause-own g c = c.in-Ok.ensures.own
 pub returns-in-Err-clause-own : goal.returns-in-Err-clause-own
 returns-in-Err-clause-own g c = c.in-Err.ensures.own
 
-pub returns-in-Ok-clause-kept : goal.returns-in-Ok-clause-kept
-returns-in-Ok-clause-kept g c = c.in-Ok.ensures.kept
+pub returns-in-Ok-clause-start : goal.returns-in-Ok-clause-start
+returns-in-Ok-clause-start g c = let x = c.in-Ok.ensures in record {
+  held = x.held;
+  noted = x.noted;
+  known = λ none q is there. same_answer c.in-Ok.id (start_noted c.args.dfa.now c.args.cache.now c.args.config.now) (x.known none q is there);
+  none = λ none is. same_answer c.in-Ok.id (dead_id c.start_state.new.cache.stride) (x.none none is);
+  same = x.same;
+  free = λ k. (λ i. (x.free k i).determinized, λ i. (x.free k i).inserted);
+  kept = x.kept;
+  remains = x.remains;
+  cause = x.cause;
+  adds = x.adds;
+  ok = x.ok;
+  tag = x.tag;
+  determinized = x.determinized;
+  inserted = x.inserted;
+}
 
-pub returns-in-Err-clause-kept : goal.returns-in-Err-clause-kept
-returns-in-Err-clause-kept g c = c.in-Err.ensures.kept
-
-pub returns-in-Ok-clause-same : goal.returns-in-Ok-clause-same
-returns-in-Ok-clause-same g c = c.in-Ok.ensures.same
-
-pub returns-in-Err-clause-same : goal.returns-in-Err-clause-same
-returns-in-Err-clause-same g c = c.in-Err.ensures.same
-
-pub returns-in-Ok-clause-free : goal.returns-in-Ok-clause-free
-returns-in-Ok-clause-free g c = c.in-Ok.ensures.free
-
-pub returns-in-Err-clause-free : goal.returns-in-Err-clause-free
-returns-in-Err-clause-free g c = c.in-Err.ensures.free
-
-pub returns-in-Ok-clause-cause : goal.returns-in-Ok-clause-cause
-returns-in-Ok-clause-cause g c = c.in-Ok.ensures.cause
-
-pub returns-in-Err-clause-cause : goal.returns-in-Err-clause-cause
-returns-in-Err-clause-cause g c = c.in-Err.ensures.cause
-
-pub returns-in-Ok-clause-adds : goal.returns-in-Ok-clause-adds
-returns-in-Ok-clause-adds g c = c.in-Ok.ensures.adds
-
-pub returns-in-Err-clause-adds : goal.returns-in-Err-clause-adds
-returns-in-Err-clause-adds g c = c.in-Err.ensures.adds
-
-pub returns-in-Ok-clause-determinized : goal.returns-in-Ok-clause-determinized
-returns-in-Ok-clause-determinized g c = c.in-Ok.ensures.determinized
-
-pub returns-in-Err-clause-determinized : goal.returns-in-Err-clause-determinized
-returns-in-Err-clause-determinized g c = c.in-Err.ensures.determinized
-
-pub returns-in-Ok-clause-inserted : goal.returns-in-Ok-clause-inserted
-returns-in-Ok-clause-inserted g c = c.in-Ok.ensures.inserted
-
-pub returns-in-Err-clause-inserted : goal.returns-in-Err-clause-inserted
-returns-in-Err-clause-inserted g c = c.in-Err.ensures.inserted
-
-pub returns-in-Ok-clause-held : goal.returns-in-Ok-clause-held
-returns-in-Ok-clause-held g c = c.in-Ok.ensures.held
-
-pub returns-in-Ok-clause-noted : goal.returns-in-Ok-clause-noted
-returns-in-Ok-clause-noted g c = c.in-Ok.ensures.noted
-
-pub returns-in-Ok-clause-remains : goal.returns-in-Ok-clause-remains
-returns-in-Ok-clause-remains g c = c.in-Ok.ensures.remains
-
-pub returns-in-Ok-clause-ok : goal.returns-in-Ok-clause-ok
-returns-in-Ok-clause-ok g c = c.in-Ok.ensures.ok
-
-pub returns-in-Ok-clause-tag : goal.returns-in-Ok-clause-tag
-returns-in-Ok-clause-tag g c = c.in-Ok.ensures.tag
+pub returns-in-Err-clause-start : goal.returns-in-Err-clause-start
+returns-in-Err-clause-start g c = let x = c.in-Err.ensures in record {
+  held = tt;
+  noted = tt;
+  known = λ none q is there. no_answer c.in-Err.e (start_noted c.args.dfa.now c.args.cache.now c.args.config.now) _ (x.known none q is there);
+  none = λ none is. no_answer c.in-Err.e (dead_id c.start_state.new.cache.stride) _ (x.none none is);
+  same = x.same;
+  free = λ k. (λ i. (x.free k i).determinized, λ i. (x.free k i).inserted);
+  kept = x.kept;
+  remains = tt;
+  cause = x.cause;
+  adds = x.adds;
+  ok = tt;
+  tag = tt;
+  determinized = x.determinized;
+  inserted = x.inserted;
+}

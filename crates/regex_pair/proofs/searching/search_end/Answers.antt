@@ -1,25 +1,10 @@
 use Rattle.std.proofs.Common.{subst}
 use Rattle.lazy_dfa.specs.Dfas.{Dfa}
-use Rattle.regex_pair.specs.MadeSearches.{MakesHalf}
+use Rattle.lazy_dfa.specs.SearchPromises.{MakesHalf}
 use Rattle.regex_pair.proofs.searching.search_end.Goals as goal
 
 pub returns-clause-search : goal.returns-clause-search
 returns-clause-search g c = subst (λ (d : Dfa). MakesHalf d c.args.input.now c.args.cache.now c.try_search_fwd.new.cache
     c.args.work.now.determinized c.try_search_fwd.new.work.determinized
-    c.args.work.now.inserted c.try_search_fwd.new.work.inserted c.try_search_fwd.result) c.forward.ensures.value (record {
-      answer = c.try_search_fwd.ensures.answer;
-      sure = c.try_search_fwd.ensures.sure;
-      kept = c.try_search_fwd.ensures.kept;
-      linked = c.try_search_fwd.ensures.linked;
-      tells = record {
-        told = c.try_search_fwd.ensures.told;
-        left_told = c.try_search_fwd.ensures.left_told;
-        told_since = c.try_search_fwd.ensures.told_since;
-        changes = c.try_search_fwd.ensures.changes;
-      };
-      moved = c.try_search_fwd.ensures.moved;
-      free = λ linked. (λ i. (c.try_search_fwd.ensures.free linked i).determinized, λ i. (c.try_search_fwd.ensures.free linked i).inserted);
-      sure_if_linked = c.try_search_fwd.ensures.sure_if_linked;
-      determinized = c.try_search_fwd.ensures.determinized;
-      inserted = c.try_search_fwd.ensures.inserted;
-    })
+    c.args.work.now.inserted c.try_search_fwd.new.work.inserted c.try_search_fwd.result) c.forward.ensures.value
+    c.try_search_fwd.ensures.search
