@@ -9,7 +9,7 @@ use Rattle.lazy_dfa.specs.Caches.{CacheValue, greatest}
 use Rattle.lazy_dfa.specs.ConfigValue.{clears_of}
 use Rattle.lazy_dfa.specs.declared.overlapping_state.Walk.{Walk}
 use Rattle.lazy_dfa.specs.Dfas.{Dfa, reader}
-use Rattle.lazy_dfa.specs.Linked.{Grows, HasCleared}
+use Rattle.lazy_dfa.specs.Linked.{CacheGrows, HasCleared}
 use Rattle.lazy_dfa.specs.Passes.{first_value}
 use Rattle.lazy_dfa.specs.ScanLaws.{begins_at}
 use Rattle.lazy_dfa.specs.SearchAnswers.{told_of}
@@ -47,7 +47,7 @@ module _ (d : Dfa) (q : Search) (v : CacheValue) (w : Walk) (after : WalkState) 
 module _ (d : Dfa) (q : Search) (old new : CacheValue) (m1 m2 n1 n2 : ℕ) (w : Walk) (after : WalkState)
     (result : Result ⊤ MatchErrorKind) (made : MakesCall d q old new m1 m2 n1 n2 w after result) where
   told_then : (x : Result ⊤ MatchErrorKind) →
-      OnOk x ((Grows d old new × (told_of new ≡ told_by_call (reader d) q w (told_of old))) ⊎ HasCleared old new) →
+      OnOk x ((CacheGrows d old new × (told_of new ≡ told_by_call (reader d) q w (told_of old))) ⊎ HasCleared old new) →
       OnOk x (new.clears ≡ old.clears → old.clears < greatest → told_of new ≡ told_by_call (reader d) q w (told_of old))
   told_then (Ok u) (inl kept) = λ same less. kept.1
   told_then (Ok u) (inr cleared) = λ same less. absurd (not_cleared old new cleared same less)
