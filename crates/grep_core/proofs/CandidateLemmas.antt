@@ -23,7 +23,7 @@ use Rattle.search_types.proofs.ForCallers.{starts_at, may_start_at}
 use Rattle.hir_core.specs.Tree.{Tree}
 use Rattle.hir_core.specs.Means.{Means}
 use Rattle.hir_core.proofs.ForCallers.{span_forward}
-use Rattle.line_trees.specs.LineTrees.{line_tree, has_crlf, block_of, looks_of}
+use Rattle.line_trees.specs.LineTrees.{line_tree, has_crlf, block_of, line_looks}
 use Rattle.hirscan.specs.Choices.{answer_from}
 use Rattle.hirscan.specs.LooseAnswers.{IsLooseAnswer}
 use Rattle.line_trees.proofs.ForCallers.{means_in_block, means_in_line}
@@ -55,7 +55,7 @@ EndNotBefore xs block at place = NoneEndsBefore xs (looks_by is_word_char line_s
 -- no tree means a span of the line
 abbrev HasNone : List Tree → List ℕ → Type 0
 HasNone xs line = (p : ℕ) (x : Tree) (i j : ℕ) → slice_get xs p ≡ Some x → i ≤ length line → j ≤ length line →
-    Means (looks_of is_word_char line) line x i j → ⊥
+    Means (line_looks is_word_char line) line x i j → ⊥
 
 -- then the line has no match
 no_match : (config : Config) (texts : List (List ℕ)) (xs : List Tree) (res : List Re) (line : List ℕ) → AllMean config texts xs →
@@ -77,11 +77,11 @@ plain_at xs p x listed all =
 none_in : (xs : List Tree) (block : List ℕ) (at x : ℕ) (line : List ℕ) → All (λ y. has_crlf y ≡ false) xs →
     EndNotBefore (map line_tree xs) block at x → StandsIn block at x line → HasNone xs line
 none_in xs block at x line plain least s p tree i j listed low high means =
-    let there : Means (looks_of is_word_char (block_of s.before line s.after)) (block_of s.before line s.after) (line_tree tree)
+    let there : Means (line_looks is_word_char (block_of s.before line s.after)) (block_of s.before line s.after) (line_tree tree)
     (length s.before + i) (length s.before + j) =
     means_in_block is_word_char s.before line s.after tree word_set s.between (plain_at xs p tree listed plain) i j low means in
     let here : Means (looks_by is_word_char line_settings block) block (line_tree tree) (length s.before + i) (length s.before + j) =
-    subst (λ (h : List ℕ). Means (looks_of is_word_char h) h (line_tree tree) (length s.before + i) (length s.before + j))
+    subst (λ (h : List ℕ). Means (line_looks is_word_char h) h (line_tree tree) (length s.before + i) (length s.before + j))
     (sym s.whole) there in
     let long : length block ≡ length s.before + (length line + length s.after) =
     ap length s.whole ∙ length-append s.before (line ++ s.after) ∙ ap (λ n. length s.before + n) (length-append line s.after) in
@@ -193,7 +193,7 @@ no_answer xs line (Some f) loose none = cc
 has_of : (config : Config) (texts : List (List ℕ)) (xs : List Tree) (res : List Re) (line : List ℕ) → AllMean config texts xs →
     AreReadAs config texts res → All (λ b. b < 256) line → (p : ℕ) (x : Tree) (i j : ℕ) → slice_get xs p ≡ Some x →
     i ≤ length line → j ≤ length line →
-    Means (looks_of is_word_char line) line x i j → (has : Bool) → (finds_of res).has_match line ≡ has →
+    Means (line_looks is_word_char line) line x i j → (has : Bool) → (finds_of res).has_match line ≡ has →
     true ≡ (finds_of res).has_match line
 has_of config texts xs res line mean read bytes p x i j listed low high means true is = sym is
 has_of config texts xs res line mean read bytes p x i j listed low high means false is =
@@ -280,7 +280,7 @@ match_here config texts p block at place it bytes start inside end none len foun
     (length (take at block) + (place - at))) (sym y.2)
     (subst (λ j. Means (looks_by is_word_char line_settings block) block span.tree (length (take at block) + (end.1.start - at)) j) high
     (subst (λ i. Means (looks_by is_word_char line_settings block) block span.tree i place) low span.means)) in
-    let here = subst (λ (h : List ℕ). Means (looks_of is_word_char h) h (line_tree y.0) (length (take at block) + (end.1.start - at))
+    let here = subst (λ (h : List ℕ). Means (line_looks is_word_char h) h (line_tree y.0) (length (take at block) + (end.1.start - at))
     (length (take at block) + (place - at)))
     whole there in
     let means = means_in_line is_word_char (take at block) (take len text) (drop len text) y.0 word_set (record {

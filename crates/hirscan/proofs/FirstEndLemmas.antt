@@ -22,7 +22,6 @@ use Rattle.nfa_core.proofs.ForCallers.{first_distinct}
 use Rattle.thompson_nfa.specs.Configs.{Options, reverse_of}
 use Rattle.thompson_nfa.specs.Denotes.{seen}
 use Rattle.thompson_nfa.specs.Compilations.{IsCompiled, IsPlainText, FindsInOrder, choices_from, pattern_start}
-use Rattle.thompson_nfa.specs.Compilations.{places_from as read_places}
 use Rattle.lazy_dfa.specs.Passes.{start_name}
 use Rattle.hirscan.proofs.EndLemmas.{listed_has}
 use Rattle.hirscan.proofs.OfferLemmas.{offered, pattern_offers, mode_offers, paired}
@@ -47,7 +46,7 @@ same_choices t (x ∷ xs) p k i e =
     ap₂ (λ (l m : List (ℕ × ℕ)). l ++ m) (ap (λ n. paired n (preferred_ends t.holds (seen t) x i)) e)
     (same_choices t xs (suc p) (k + 1) i (omega arith))
 
-pub same_over : (b c : ℕ → List (ℕ × ℕ)) (n i : ℕ) → ((k : ℕ) → b k ≡ c k) → flat_map b (read_places i n) ≡ flat_map c (places_from i n)
+pub same_over : (b c : ℕ → List (ℕ × ℕ)) (n i : ℕ) → ((k : ℕ) → b k ≡ c k) → flat_map b (places_from i n) ≡ flat_map c (places_from i n)
 same_over b c zero i same = refl
 same_over b c (suc n) i same = ap₂ (λ (l m : List (ℕ × ℕ)). l ++ m) (same i) (same_over b c n (suc i) same)
 
@@ -86,7 +85,7 @@ module _ (o : Options) (xs : List Tree) (n : Nfa) (compiled : IsCompiled o xs n)
       let same : n.automaton.start_unanchored ≡ name = cc in
       ap (λ k. first (ends_from n.automaton t (i, k))) (sym same)
       ∙ first_of_ends (ends_from n.automaton t (i, n.automaton.start_unanchored))
-      (flat_map (choices_from 0 xs t) (read_places i (suc e - i)))
+      (flat_map (choices_from 0 xs t) (places_from i (suc e - i)))
       (order.unanchored loops t i read low high)
       ∙ ap first_of (same_over (choices_from 0 xs t) (mode_offers looks (take e h) xs No) (suc e - i) i (λ k. same_choices t xs 0 0 k refl))
 

@@ -23,7 +23,6 @@ use Rattle.nfa_core.specs.Ways.{Text, ends_from}
 use Rattle.nfa_core.proofs.ForCallers.{none_in, has_first, pairs_equal}
 use Rattle.thompson_nfa.specs.Configs.{Options, reverse_of}
 use Rattle.thompson_nfa.specs.Compilations.{IsCompiled, IsPlainText, FindsSpans, HasStarts, pattern_start}
-use Rattle.thompson_nfa.specs.Compilations.{places_from as read_places}
 use Rattle.lazy_dfa.specs.Passes.{start_name}
 use Rattle.hirscan.specs.Choices.{Query}
 use Rattle.hirscan.specs.LooseAnswers.{IsFindable, IsCounted}
@@ -140,7 +139,7 @@ module _ (o : Options) (xs : List Tree) (n : Nfa) (compiled : IsCompiled o xs n)
       let l : List (ℕ × ℕ) = flat_map (by_pattern i) (places_from 0 (length xs)) in
       let same : first_of l ≡ Some (j, p) =
       first_some (all_ends i) others (j, p) (first_of l) is
-      (first_of_ends (all_ends i) (flat_map (by_pattern i) (read_places 0 (length xs))) (starts.anchored t i low)
+      (first_of_ends (all_ends i) (flat_map (by_pattern i) (places_from 0 (length xs))) (starts.anchored t i low)
       ∙ ap first_of (same_over (by_pattern i) (by_pattern i) (length xs) 0 (λ k. refl))) in
       let P : Option (ℕ × ℕ) → Type 0 = λ r. IsFirstOffer (by_pattern i) 0 (length xs) r in
       first_all_at mode i j p low (subst P same (first_found (by_pattern i) (length xs) 0))
@@ -202,7 +201,7 @@ module _ (o : Options) (xs : List Tree) (n : Nfa) (compiled : IsCompiled o xs n)
   unanchored i name low high is =
       let same : n.automaton.start_unanchored ≡ name = cc in
       ap (λ k. first (ends_from n.automaton t (i, k))) (sym same)
-      ∙ first_of_ends (ends_from n.automaton t (i, n.automaton.start_unanchored)) (flat_map all_ends (read_places i (suc e - i)))
+      ∙ first_of_ends (ends_from n.automaton t (i, n.automaton.start_unanchored)) (flat_map all_ends (places_from i (suc e - i)))
       (starts.unanchored refl t i read low high)
       ∙ ap first_of (same_over all_ends (loose_offers No) (suc e - i) i (λ k. refl))
 

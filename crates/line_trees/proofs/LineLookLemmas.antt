@@ -14,7 +14,7 @@ use Rattle.look_core.specs.declared.look.Look.TheVariants.{Start, End, StartLF, 
 use Rattle.look_core.specs.declared.look.Look.TheVariants.{WordUnicode, WordUnicodeNegate, WordStartAscii, WordEndAscii, WordStartUnicode}
 use Rattle.look_core.specs.declared.look.Look.TheVariants.{WordEndUnicode, WordStartHalfAscii, WordEndHalfAscii, WordStartHalfUnicode}
 use Rattle.look_core.specs.declared.look.Look.TheVariants.{WordEndHalfUnicode}
-use Rattle.line_trees.specs.LineTrees.{line_look, IsLineBetween, block_of, looks_of}
+use Rattle.line_trees.specs.LineTrees.{line_look, IsLineBetween, block_of, line_looks}
 use Rattle.line_trees.proofs.BesideLemmas.{StartsLine, EndsLine, starts_line, ends_line_at, feed_behind, feed_in_front}
 use Rattle.line_trees.proofs.BesideLemmas.{same_byte_at, same_byte_before, same_character_at, same_character_before}
 
@@ -153,7 +153,7 @@ module _ (before line after : List ℕ) (is : IsLineBetween before line after) w
     ]
 
     look_same : (l : Look) → is_anchor_crlf l ≡ false → (i : ℕ) → i ≤ length line →
-        looks_of words line l i ≡ looks_of words (block_of before line after) (line_look l) (length before + i)
+        line_looks words line l i ≡ line_looks words (block_of before line after) (line_look l) (length before + i)
     look_same Start u i l = start_same i l
     look_same End u i l = end_same i l
     look_same StartLF u i l = start_inside i l ∙ start_same i l
@@ -175,5 +175,5 @@ module _ (before line after : List ℕ) (is : IsLineBetween before line after) w
 
 pub same_looks : (words : ℕ → Bool) (before line after : List ℕ) (l : Look) (i : ℕ) → IsWordSet words → IsLineBetween before line after →
     is_anchor_crlf l ≡ false → i ≤ length line →
-    looks_of words line l i ≡ looks_of words (block_of before line after) (line_look l) (length before + i)
+    line_looks words line l i ≡ line_looks words (block_of before line after) (line_look l) (length before + i)
 same_looks words before line after l i set is u within = look_same before line after is words set l u i within

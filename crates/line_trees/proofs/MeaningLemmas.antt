@@ -11,7 +11,7 @@ use Rattle.look_core.specs.Looks.{IsWordSet}
 use Rattle.hir_core.specs.Tree.{Tree, empty, literal, byte_class, char_class, look, repetition, capture, nothing, cat, never, alt}
 use Rattle.hir_core.specs.Means.{Means, Rounds, SpellsMember, stands}
 use Rattle.hir_core.proofs.ForCallers.{span_within}
-use Rattle.line_trees.specs.LineTrees.{line_tree, has_crlf, IsLineBetween, block_of, looks_of, MeansInBlock, HasMatch}
+use Rattle.line_trees.specs.LineTrees.{line_tree, has_crlf, IsLineBetween, block_of, line_looks, MeansInBlock, HasMatch}
 use Rattle.line_trees.proofs.BesideLemmas.{rest_in_block, same_byte_at}
 use Rattle.line_trees.proofs.LineLookLemmas.{same_looks}
 
@@ -48,14 +48,14 @@ module _ (before line after : List ℕ) where
 -- ---- trees
 module _ (words : ℕ → Bool) (set : IsWordSet words) (before line after : List ℕ) (is : IsLineBetween before line after) where
   rounds_in_block : (x : Tree) → MeansInBlock words before line after x → (n s e : ℕ) → s ≤ length line →
-      Rounds (Means (looks_of words line) line x) n s e →
-      Rounds (Means (looks_of words (block_of before line after)) (block_of before line after) (line_tree x)) n
+      Rounds (Means (line_looks words line) line x) n s e →
+      Rounds (Means (line_looks words (block_of before line after)) (block_of before line after) (line_tree x)) n
       (length before + s) (length before + e)
   rounds_in_block x each zero s e l r = ap (λ (j : ℕ). length before + j) r
   rounds_in_block x each (suc n) s e l r = (
     length before + r.0,
     each s r.0 l r.1,
-    rounds_in_block x each n r.0 e (span_within (looks_of words line) line x s r.0 l r.1) r.2,
+    rounds_in_block x each n r.0 e (span_within (line_looks words line) line x s r.0 l r.1) r.2,
   )
 
   in_block : (x : Tree) → has_crlf x ≡ false → MeansInBlock words before line after x
@@ -72,7 +72,7 @@ module _ (words : ℕ → Bool) (set : IsWordSet words) (before line after : Lis
   in_block nothing u s e l m = ap (λ (j : ℕ). length before + j) m
   in_block (cat x y) u s e l m =
       let none = or_parts (has_crlf x) (has_crlf y) u in
-      let within = span_within (looks_of words line) line x s m.0 l m.1 in
+      let within = span_within (line_looks words line) line x s m.0 l m.1 in
       (length before + m.0, in_block x none.0 s m.0 l m.1, in_block y none.1 m.0 e within m.2)
   in_block never u s e l m = elim m [ ]
   in_block (alt x y) u s e l (inl m) = inl (in_block x (or_parts (has_crlf x) (has_crlf y) u).0 s e l m)
@@ -83,8 +83,8 @@ pub means_in_block : (words : ℕ → Bool) (before line after : List ℕ) (x : 
 means_in_block words before line after x set is u = in_block words set before line after is x u
 
 pub match_in_block : (words : ℕ → Bool) (before line after : List ℕ) (x : Tree) → IsWordSet words → IsLineBetween before line after →
-    has_crlf x ≡ false → HasMatch (looks_of words line) line x →
-    HasMatch (looks_of words (block_of before line after)) (block_of before line after) (line_tree x)
+    has_crlf x ≡ false → HasMatch (line_looks words line) line x →
+    HasMatch (line_looks words (block_of before line after)) (block_of before line after) (line_tree x)
 match_in_block words before line after x set is u m = record {
   start = length before + m.start;
   end = length before + m.end;

@@ -9,7 +9,7 @@ use Rattle.look_core.specs.Looks.{IsWordSet}
 use Rattle.hir_core.specs.Tree.{Tree, empty, literal, byte_class, char_class, look, repetition, capture, nothing, cat, never, alt}
 use Rattle.hir_core.specs.Means.{Means, Rounds, SpellsMember, stands}
 use Rattle.hir_core.proofs.ForCallers.{span_forward}
-use Rattle.line_trees.specs.LineTrees.{line_tree, has_crlf, IsLineBetween, block_of, looks_of, MeansInLine}
+use Rattle.line_trees.specs.LineTrees.{line_tree, has_crlf, IsLineBetween, block_of, line_looks, MeansInLine}
 use Rattle.line_trees.proofs.BesideLemmas.{rest_in_block, same_byte_at, begins_with}
 use Rattle.line_trees.proofs.LineLookLemmas.{same_looks}
 use Rattle.line_trees.proofs.MeaningLemmas.{same_range}
@@ -40,10 +40,10 @@ module _ (before line after : List ℕ) where
 -- ---- trees
 module _ (words : ℕ → Bool) (set : IsWordSet words) (before line after : List ℕ) (is : IsLineBetween before line after) where
   abbrev InBlock : Tree → ℕ → ℕ → Type 0
-  InBlock x i j = Means (looks_of words (block_of before line after)) (block_of before line after) (line_tree x) i j
+  InBlock x i j = Means (line_looks words (block_of before line after)) (block_of before line after) (line_tree x) i j
 
   forward_in_block : (x : Tree) (i j : ℕ) → InBlock x i j → i ≤ j
-  forward_in_block x i j m = span_forward (looks_of words (block_of before line after)) (block_of before line after) (line_tree x) i j m
+  forward_in_block x i j m = span_forward (line_looks words (block_of before line after)) (block_of before line after) (line_tree x) i j m
 
   -- rounds are spans of a repetition
   rounds_forward : (x : Tree) (n i j : ℕ) → Rounds (InBlock x) n i j → i ≤ j
@@ -54,7 +54,7 @@ module _ (words : ℕ → Bool) (set : IsWordSet words) (before line after : Lis
   place_of k s l = omega arith
 
   rounds_in_line : (x : Tree) → MeansInLine words before line after x → (n s e : ℕ) → e ≤ length line →
-      Rounds (InBlock x) n (length before + s) (length before + e) → Rounds (Means (looks_of words line) line x) n s e
+      Rounds (InBlock x) n (length before + s) (length before + e) → Rounds (Means (line_looks words line) line x) n s e
   rounds_in_line x each zero s e l r = omega (arith, r)
   rounds_in_line x each (suc n) s e l r =
       let j : ℕ = r.0 - length before in

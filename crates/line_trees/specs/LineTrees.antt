@@ -57,19 +57,19 @@ abbrev pub block_of : List ℕ → List ℕ → List ℕ → List ℕ
 block_of before line after = before ++ (line ++ after)
 
 -- how looks are read in a line, and in a block: a line feed ends a line, and these are the characters of words
-abbrev pub looks_of : (ℕ → Bool) → List ℕ → Looks
-looks_of words h = holds words (one_of 0x0A) h
+abbrev pub line_looks : (ℕ → Bool) → List ℕ → Looks
+line_looks words h = holds words (one_of 0x0A) h
 
 -- a span that the tree means in the line, its line tree means in the block, where the line's bytes stand there
 abbrev pub MeansInBlock : (ℕ → Bool) → List ℕ → List ℕ → List ℕ → Tree → Type 0
-MeansInBlock words before line after x = (s e : ℕ) → s ≤ length line → Means (looks_of words line) line x s e →
-    Means (looks_of words (block_of before line after)) (block_of before line after) (line_tree x) (length before + s) (length before + e)
+MeansInBlock words before line after x = (s e : ℕ) → s ≤ length line → Means (line_looks words line) line x s e →
+    Means (line_looks words (block_of before line after)) (block_of before line after) (line_tree x) (length before + s) (length before + e)
 
 -- and the other way round for what the line tree means in the block up to the line's end: it is meant in the line
 abbrev pub MeansInLine : (ℕ → Bool) → List ℕ → List ℕ → List ℕ → Tree → Type 0
 MeansInLine words before line after x = (s e : ℕ) → e ≤ length line →
-    Means (looks_of words (block_of before line after)) (block_of before line after) (line_tree x) (length before + s) (length before + e) →
-    Means (looks_of words line) line x s e
+    Means (line_looks words (block_of before line after)) (block_of before line after) (line_tree x) (length before + s) (length before + e) →
+    Means (line_looks words line) line x s e
 
 -- the tree has a match in the haystack
 pub record HasMatch (looks : Looks) (h : List ℕ) (x : Tree) : Type 0 where

@@ -5,7 +5,7 @@ ghost use Rattle.look_core.specs.Looks.{IsWordSet};
 ghost use Rattle.look_core.specs.declared.look.Look.{Look};
 ghost use Rattle.hir_core.specs.Facts.{minimum_len, LoopsRead};
 ghost use Rattle.hir_core.specs.Tree.{Tree};
-ghost use Rattle.line_trees.specs.LineTrees.{line_look, line_tree, has_crlf, IsLineBetween, block_of, looks_of};
+ghost use Rattle.line_trees.specs.LineTrees.{line_look, line_tree, has_crlf, IsLineBetween, block_of, line_looks};
 ghost use Rattle.line_trees.specs.LineTrees.{MeansInBlock, MeansInLine, HasMatch};
 
 /// At the places of a line each look but the two of carriage returns holds in the line just where its line look holds in the block.
@@ -13,7 +13,7 @@ ghost use Rattle.line_trees.specs.LineTrees.{MeansInBlock, MeansInLine, HasMatch
 pub fn line_looks_hold_in_the_block()
     ensures { (words : ℕ → Bool) (before line after : List ℕ) (l : Look) (i : ℕ) → IsWordSet words → IsLineBetween before line after →
         is_anchor_crlf l ≡ false → i ≤ length line →
-        looks_of words line l i ≡ looks_of words (block_of before line after) (line_look l) (length before + i) }
+        line_looks words line l i ≡ line_looks words (block_of before line after) (line_look l) (length before + i) }
 {}
 
 /// What a tree means in a line, its line tree means in each block with that line, at the same bytes: so a line with a match is a block
@@ -23,8 +23,8 @@ pub fn a_line_with_a_match_is_a_block_with_one()
     ensures spans { (words : ℕ → Bool) (before line after : List ℕ) (x : Tree) → IsWordSet words → IsLineBetween before line after →
         has_crlf x ≡ false → MeansInBlock words before line after x }
     ensures found { (words : ℕ → Bool) (before line after : List ℕ) (x : Tree) → IsWordSet words → IsLineBetween before line after →
-        has_crlf x ≡ false → HasMatch (looks_of words line) line x →
-        HasMatch (looks_of words (block_of before line after)) (block_of before line after) (line_tree x) }
+        has_crlf x ≡ false → HasMatch (line_looks words line) line x →
+        HasMatch (line_looks words (block_of before line after)) (block_of before line after) (line_tree x) }
 {}
 
 /// A match of the line tree in the block that reaches over no end of a line is a match of the tree in that line.

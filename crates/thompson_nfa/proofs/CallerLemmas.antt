@@ -14,7 +14,8 @@ use Rattle.nfa_core.specs.Places.{same_pair}
 use Rattle.nfa_core.specs.Walks.{distinct}
 use Rattle.nfa_core.specs.Ways.{Text, ends_from, span}
 use Rattle.nfa_core.proofs.ForCallers.{join_distinct_each, pairs_equal}
-use Rattle.thompson_nfa.specs.Compilations.{IsCompiled, HasStarts, IsPlainText, places_from, pattern_start}
+use Rattle.search_types.specs.FirstFound.{places_from}
+use Rattle.thompson_nfa.specs.Compilations.{IsCompiled, HasStarts, IsPlainText, pattern_start}
 use Rattle.thompson_nfa.specs.Compiled.{turned}
 use Rattle.thompson_nfa.specs.Configs.{Options, reverse_of}
 

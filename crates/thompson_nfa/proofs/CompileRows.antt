@@ -8,7 +8,8 @@ use Rattle.nfa_core.specs.Nfa.{Automaton, byte_range, binary_union, match_node}
 use Rattle.nfa_core.specs.Places.{same_pair}
 use Rattle.nfa_core.specs.Walks.{distinct}
 use Rattle.nfa_core.specs.Ways.{ends_from, whole}
-use Rattle.thompson_nfa.specs.Compilations.{places_from, pattern_start}
+use Rattle.search_types.specs.FirstFound.{places_from}
+use Rattle.thompson_nfa.specs.Compilations.{pattern_start}
 use Rattle.thompson_nfa.specs.Compiled.{turned, uses}
 
 -- ---- looks

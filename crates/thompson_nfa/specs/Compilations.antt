@@ -1,7 +1,8 @@
 -- The automaton that trees are compiled to: what its runs find, in which order, and how great it is.
-use Rattle.std.specs.Prelude.{◌*◌, ◌≡◌, ◌↔◌, ℕ, zero, suc, ◌-◌, ◌<◌, ◌≤◌, min, Bool, true, false, ◌&&◌, ◌==◌, List, [], ◌∷◌, ◌++◌, map}
+use Rattle.std.specs.Prelude.{◌*◌, ◌≡◌, ◌↔◌, ℕ, suc, ◌-◌, ◌<◌, ◌≤◌, min, Bool, true, false, ◌&&◌, ◌==◌, List, [], ◌∷◌, ◌++◌, map}
 use Rattle.std.specs.Prelude.{length, slice_get, get_or, All, Some, MatchOption, ⊤}
 use Rattle.std.specs.List.{flat_map, list_any}
+use Rattle.search_types.specs.FirstFound.{places_from}
 use Rattle.look_core.specs.declared.look.Look.{Look}
 use Rattle.look_core.specs.declared.look.Look.TheVariants.{Start, End}
 use Rattle.look_core.specs.LookSets.{has_look}
@@ -29,11 +30,6 @@ IsChoice reverse xs t i e = (x : Tree) × (slice_get xs e.1 ≡ Some x) × IsMea
 abbrev pub choices_from : ℕ → List Tree → Text → ℕ → List (ℕ × ℕ)
 choices_from p [] t i = []
 choices_from p (x ∷ xs) t i = map (λ j. (j, p)) (preferred_ends t.holds (seen t) x i) ++ choices_from (suc p) xs t i
-
--- so many places from i on
-abbrev pub places_from : ℕ → ℕ → List ℕ
-places_from i zero = []
-places_from i (suc n) = i ∷ places_from (suc i) n
 
 -- one who reads from place i may come to place k
 abbrev pub IsReadTo : Bool → Text → ℕ → ℕ → Type 0

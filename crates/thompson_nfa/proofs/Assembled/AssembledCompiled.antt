@@ -15,7 +15,8 @@ use Rattle.nfa_core.proofs.ForCallers.{smaller}
 use Rattle.thompson_nfa.specs.Compiled.{sum_of_bytes}
 use Rattle.thompson_nfa.specs.Configs.{Options, reverse_of, limit_of, is_shrunk}
 use Rattle.thompson_nfa.specs.Room.{list_room}
-use Rattle.thompson_nfa.specs.Compilations.{HasOneMatch, IsCompiled, places_from, pattern_start}
+use Rattle.search_types.specs.FirstFound.{places_from}
+use Rattle.thompson_nfa.specs.Compilations.{HasOneMatch, IsCompiled, pattern_start}
 use Rattle.thompson_nfa.specs.Assembled.{IsAssembled, AllAnchored}
 use Rattle.look_core.specs.declared.look.Look.{Look}
 use Rattle.look_core.specs.LookSets.{has_look}

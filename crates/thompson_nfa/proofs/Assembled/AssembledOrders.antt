@@ -17,7 +17,8 @@ use Rattle.nfa_core.specs.Drafted.{table_ways, table_match}
 use Rattle.nfa_core.proofs.ForCallers.{ends_listed}
 use Rattle.thompson_nfa.specs.Configs.{Options, reverse_of}
 use Rattle.thompson_nfa.specs.Denotes.{seen}
-use Rattle.thompson_nfa.specs.Compilations.{choices_from, places_from, pattern_start, IsPlainText, FindsInOrder}
+use Rattle.search_types.specs.FirstFound.{places_from}
+use Rattle.thompson_nfa.specs.Compilations.{choices_from, pattern_start, IsPlainText, FindsInOrder}
 use Rattle.thompson_nfa.specs.Assembled.{AcceptAll, IsAssembled, ComesBefore}
 use Rattle.thompson_nfa.proofs.Walks.OrderLemmas.{Listed, ListedFirsts}
 use Rattle.thompson_nfa.proofs.Walks.FindLemmas.{accepts_lists}

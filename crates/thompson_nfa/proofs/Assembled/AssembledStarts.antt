@@ -17,7 +17,8 @@ use Rattle.nfa_core.specs.Ways.{Text, ways, matched, ends_from}
 use Rattle.nfa_core.proofs.ForCallers.{none_in, pairs_equal, from_map, state_match, name_inside, is_well_formed, past_next, join_once_more}
 use Rattle.nfa_core.proofs.ForCallers.{ends_by_ways, renamed_pair, state_ways, from_mapped, every_of_all, chain_to, unequal}
 use Rattle.thompson_nfa.specs.Assembled.{AcceptAll, IsAssembled}
-use Rattle.thompson_nfa.specs.Compilations.{places_from, pattern_start}
+use Rattle.search_types.specs.FirstFound.{places_from}
+use Rattle.thompson_nfa.specs.Compilations.{pattern_start}
 use Rattle.thompson_nfa.specs.Configs.{Options}
 use Rattle.thompson_nfa.proofs.Walks.ApartLemmas.{kept_off}
 use Rattle.thompson_nfa.proofs.Walks.ChoiceLemmas.{accept_count}

@@ -22,7 +22,8 @@ use Rattle.nfa_core.proofs.ForCallers.{join_once_more, of_append, ends_by_ways, 
 use Rattle.nfa_core.proofs.ForCallers.{has_first, has_cons, names_equal, pairs_equal, from_map, state_match, one_state, name_inside}
 use Rattle.nfa_core.proofs.ForCallers.{is_well_formed, past_next}
 use Rattle.thompson_nfa.specs.Assembled.{IsAssembled, TriesEachPlace, AllAnchored}
-use Rattle.thompson_nfa.specs.Compilations.{places_from, IsReadTo, IsPlainText}
+use Rattle.search_types.specs.FirstFound.{places_from}
+use Rattle.thompson_nfa.specs.Compilations.{IsReadTo, IsPlainText}
 use Rattle.thompson_nfa.specs.Configs.{Options, reverse_of}
 use Rattle.thompson_nfa.specs.Denotes.{at}
 use Rattle.thompson_nfa.proofs.Walks.AnchorLemmas.{anchored_place}

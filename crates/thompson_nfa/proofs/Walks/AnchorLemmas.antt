@@ -14,7 +14,8 @@ use Rattle.nfa_core.specs.Ways.{Text}
 use Rattle.nfa_core.specs.Drafted.{Table}
 use Rattle.nfa_core.specs.BuilderStates.{empty_draft}
 use Rattle.thompson_nfa.specs.Denotes.{seen, IsMeant, Reaches, Halts, Orders}
-use Rattle.thompson_nfa.specs.Compilations.{IsChoice, choices_from, places_from, IsReadTo, IsPlainText, is_anchored_tree}
+use Rattle.search_types.specs.FirstFound.{places_from}
+use Rattle.thompson_nfa.specs.Compilations.{IsChoice, choices_from, IsReadTo, IsPlainText, is_anchored_tree}
 use Rattle.thompson_nfa.specs.Assembled.{AllAnchored}
 use Rattle.thompson_nfa.proofs.Walks.WayLemmas.{goes_empty}
 use Rattle.thompson_nfa.proofs.Walks.ReachLemmas.{reaches_pass}

@@ -7,7 +7,7 @@ use Rattle.nfa_core.specs.Walks.{lists_none}
 use Rattle.nfa_core.specs.Ways.{Text}
 use Rattle.nfa_core.specs.Drafted.{Table}
 use Rattle.thompson_nfa.specs.Denotes.{at, Orders}
-use Rattle.thompson_nfa.specs.Compilations.{places_from}
+use Rattle.search_types.specs.FirstFound.{places_from}
 use Rattle.thompson_nfa.specs.Assembled.{TriesEachPlace}
 use Rattle.thompson_nfa.proofs.Walks.WayLemmas.{goes_empty}
 use Rattle.thompson_nfa.proofs.Walks.OrderLemmas.{ListedFirsts, firsts_of, firsts_append, firsts_behind, orders_like, orders_join}
