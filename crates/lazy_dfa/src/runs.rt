@@ -10,8 +10,8 @@ use crate::circling::pass_over;
 use crate::dfa::{Cache, DFA};
 use crate::lazy_id::LazyStateID;
 
-/// How many bytes are read in one walk before there are two.
-const FEW: usize = 8;
+/// How many bytes are read before a search passes over bytes or makes two walks: a match often is as near as that.
+const FEW: usize = 4;
 
 /// How many bytes the second of two walks reads before it counts.
 const LEAD: usize = 8;
@@ -155,8 +155,8 @@ fn read_stretch(dfa: &DFA, cache: &Cache, haystack: &[u8], moved: Moved, end: us
     }
 }
 
-/// Goes on forward over known steps while no state has a tag: a few bytes in one walk, and then, as long as enough of them are left,
-/// by two at once. The loops stand in a function of its own, since how fast they are depends on where their code lies.
+/// Goes on forward over known steps while no state has a tag: by two walks at once, as long as enough bytes are left. The loops stand
+/// in a function of its own, since how fast they are depends on where their code lies.
 #[inline(never)]
 fn read_forward(
     dfa: &DFA,
@@ -175,12 +175,7 @@ fn read_forward(
     ensures { MovesTo dfa.now cache.now haystack.now (record { at = from; id = id }) end result }
 {
     dfa.is_made();
-    let few = from + (end - from).min(FEW);
-    let first = read_alone(dfa, cache, haystack, Moved { at: from, id }, few);
-    if first.has_stopped {
-        return first.moved;
-    }
-    let mut moved = first.moved;
+    let mut moved = Moved { at: from, id };
     'stretch: while end - moved.at >= 2 * HALF + LEAD {
         let stretch = read_stretch(dfa, cache, haystack, moved, end);
         if stretch.has_stopped {
@@ -191,8 +186,8 @@ fn read_forward(
     read_alone(dfa, cache, haystack, moved, end).moved
 }
 
-/// Goes on forward over known steps while no state has a tag; a search that isn't anchored passes over bytes, unless that didn't
-/// pay off.
+/// Goes on forward over known steps while no state has a tag: by a few bytes, and then a search that isn't anchored passes over bytes,
+/// unless that didn't pay off.
 #[inline(always)]
 pub(crate) fn run_forward(
     dfa: &DFA,
@@ -216,11 +211,17 @@ pub(crate) fn run_forward(
     ensures within { result.at ≤ end }
     ensures goes { (m n : ℕ) (best : Option (ℕ × ℕ)) → GoesTo dfa.now haystack.now (point cache.old m n from id best) (point cache.old m n result.at result.id best) (result.at - from) }
 {
-    let reads_all = is_anchored || cache.reads_all();
-    if !reads_all {
-        return skip_forward(dfa, cache, haystack, id, from, end);
+    dfa.is_made();
+    let near = from + (end - from).min(FEW);
+    let first = read_alone(dfa, cache, haystack, Moved { at: from, id }, near);
+    if first.has_stopped {
+        return first.moved;
     }
-    read_forward(dfa, cache, haystack, id, from, end)
+    let reads_all = is_anchored || cache.reads_all();
+    if reads_all {
+        return read_forward(dfa, cache, haystack, first.moved.id, first.moved.at, end);
+    }
+    skip_forward(dfa, cache, haystack, first.moved.id, first.moved.at, end)
 }
 
 /// Goes on in reverse over known steps while no state has a tag.
