@@ -213,15 +213,18 @@ pub(crate) fn run_forward(
 {
     dfa.is_made();
     let near = from + (end - from).min(FEW);
-    let first = read_alone(dfa, cache, haystack, Moved { at: from, id }, near);
-    if first.has_stopped {
-        return first.moved;
+    let first = walk_forward(dfa, cache, haystack, id, from, near, LazyStateID::unknown());
+    if first.at < near {
+        return Moved {
+            at: first.at,
+            id: first.id,
+        };
     }
     let reads_all = is_anchored || cache.reads_all();
     if reads_all {
-        return read_forward(dfa, cache, haystack, first.moved.id, first.moved.at, end);
+        return read_forward(dfa, cache, haystack, first.id, first.at, end);
     }
-    skip_forward(dfa, cache, haystack, first.moved.id, first.moved.at, end)
+    skip_forward(dfa, cache, haystack, first.id, first.at, end)
 }
 
 /// Goes on in reverse over known steps while no state has a tag.

@@ -1,6 +1,5 @@
-use Rattle.std.proofs.Common.{◌∙◌, sym, ◌+◌, ◌-◌, ◌<◌, ℕ, Option, get_or, subst, arith}
+use Rattle.std.proofs.Common.{◌∙◌, sym, ◌+◌, ◌<◌, get_or, arith}
 use Rattle.lazy_dfa.specs.Ids.{tag}
-use Rattle.lazy_dfa.specs.Points.{GoesTo, point}
 use Rattle.lazy_dfa.proofs.CacheChanges.ChangeLemmas.{plain_place}
 use Rattle.lazy_dfa.proofs.CacheChanges.IsCacheLemmas.{lt_of}
 use Rattle.lazy_dfa.proofs.PassedBytes.SkipLemmas.{row_next, stands, way_next}

@@ -1,4 +1,4 @@
-use Rattle.std.proofs.Common.{◌-◌, ◌+◌, ◌≤◌, ℕ, Option, get_or, refl, subst, arith}
+use Rattle.std.proofs.Common.{◌-◌, ◌+◌, ◌≤◌, ℕ, get_or, refl, subst, arith}
 use Rattle.lazy_dfa.specs.Points.{GoesTo, point}
 use Rattle.lazy_dfa.proofs.Courses.PointLemmas.{runs_none}
 use Rattle.lazy_dfa.proofs.PassedBytes.SkipLemmas.{way_behind, way_over}

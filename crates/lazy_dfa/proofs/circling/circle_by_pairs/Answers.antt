@@ -1,7 +1,6 @@
 use Rattle.std.proofs.Common.{◌≡◌, ◌-◌, ◌<◌, ◌≤◌, ⊎_elim, false, get_or, length, subst, arith}
 use Rattle.std.proofs.lemmas.Bool.{cases_lt}
 use Rattle.lazy_dfa.specs.ByteTests.{in_halves}
-use Rattle.lazy_dfa.specs.Points.{GoesTo, point}
 use Rattle.lazy_dfa.proofs.PassedBytes.PairLemmas.{way_before, way_past}
 use Rattle.lazy_dfa.proofs.circling.circle_by_pairs.Goals as goal
 
