@@ -26,8 +26,11 @@ use std::io::{ErrorKind, Read, Write};
 /// How many bytes are asked of the reader at once, at most.
 const BLOCK: usize = 65536;
 
-/// And at first: behind that no more than were told before, so that caches that are too small are made larger before much is searched.
+/// And at first, so that caches that are too small are made larger before much is searched.
 const FIRST_BLOCK: usize = 4096;
+
+/// How often so few are asked for.
+const FIRST_BLOCKS: u64 = 16;
 
 /// A line may not have more bytes.
 const LONGEST: usize = 1 << 30;
@@ -106,18 +109,18 @@ fn tell_read<W: Write>(
     Ok(is_task_over(task, progress))
 }
 
-/// How many bytes are asked of the reader, where so many were told before.
-fn block_len(told: u64) -> usize
+/// How many bytes are asked of the reader behind so many blocks.
+fn block_len(blocks: u64) -> usize
     ensures some { 0 < result }
     ensures most { result ≤ 65536 }
 {
-    if told < BLOCK as u64 {
-        return FIRST_BLOCK.max(told as usize);
+    if blocks < FIRST_BLOCKS {
+        return FIRST_BLOCK;
     }
     BLOCK
 }
 
-/// Reads one block more, and tells the lines that end in it.
+/// Reads one block more behind so many, and tells the lines that end in it.
 fn next_block<R: Read, W: Write>(
     alloc: Global,
     reader: &mut R,
@@ -126,6 +129,7 @@ fn next_block<R: Read, W: Write>(
     task: Task<'_>,
     read: &mut Held,
     progress: &mut Progress,
+    blocks: u64,
 ) -> Result<Next, Fault>
     requires waits { Waits task.what.now progress.old.telling.course }
     ensures same { finder.new ≡ finder.old }
@@ -140,7 +144,7 @@ fn next_block<R: Read, W: Write>(
         (W.contents writer.new)) }
 {
     let before = read.bytes().len();
-    let taken = match read.read_some(reader, block_len(progress.place)) {
+    let taken = match read.read_some(reader, block_len(blocks)) {
         Ok(taken) => taken,
         Err(e) => return Err(e),
     };
@@ -182,8 +186,8 @@ fn tell_blocks<R: Read, W: Write>(
         WritesPart task.entry (finds_by task.entry by) progress.old (read.old ++ text) (W.contents writer.old)
         (W.contents writer.new)) }
 {
-    for _ in 0..u64::MAX {
-        match next_block(alloc, reader, writer, finder, task, read, progress) {
+    for blocks in 0..u64::MAX {
+        match next_block(alloc, reader, writer, finder, task, read, progress, blocks) {
             Ok(Next::More) => {}
             Ok(Next::End) => return Ok(true),
             Ok(Next::Over) => return Ok(false),

@@ -3,8 +3,8 @@ use Rattle.grep_core.specs.Blocks.{SearchesBy, finds_by, ReadsAndWrites}
 use Rattle.grep_core.specs.Courses.{Waits}
 use Rattle.grep_core.proofs.reading.tell_blocks.Given as goal
 
-abbrev pub invariant-loop : goal.invariant-loop
-invariant-loop g l = record {
+abbrev pub invariant-loop-blocks : goal.invariant-loop-blocks
+invariant-loop-blocks g l = record {
   same : l.finder ≡ l.initial.finder;
   waits : Waits l.task.what.now l.progress.telling.course;
   reads : (by : SearchesBy l.task l.initial.finder) (text : List ℕ) → g.R.Read.remaining l.initial.reader ≡ Some text →
