@@ -21,7 +21,7 @@ get_behind (x ∷ xs) ys i =
     let one : suc (length xs) + i ≡ suc (length xs + i) = omega arith in
     ap (slice_get (x ∷ (xs ++ ys))) one ∙ get_behind xs ys i
 
-get_within : (xs ys : List ℕ) (i : ℕ) → i < length xs → slice_get (xs ++ ys) i ≡ slice_get xs i
+pub get_within : (xs ys : List ℕ) (i : ℕ) → i < length xs → slice_get (xs ++ ys) i ≡ slice_get xs i
 get_within [] ys i l = absurd (omega arith)
 get_within (x ∷ xs) ys zero l = refl
 get_within (x ∷ xs) ys (suc i) l = get_within xs ys i (omega arith)

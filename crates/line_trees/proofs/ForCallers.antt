@@ -6,4 +6,8 @@ pub use Rattle.line_trees.proofs.WithinLemmas.{means_in_line}
 -- each look by itself
 pub use Rattle.line_trees.proofs.LineLookLemmas.{same_looks}
 -- what a line tree keeps of the tree
-pub use Rattle.line_trees.proofs.KeptLemmas.{minimum_kept, loops_kept}
+pub use Rattle.line_trees.proofs.KeptLemmas.{minimum_kept, loops_kept, feeds_kept}
+-- what a tree means that reads no line feed has none among its bytes
+pub use Rattle.line_trees.proofs.FeedLemmas.{reads_none}
+-- the bytes of a part of a text
+pub use Rattle.line_trees.proofs.ListLemmas.{get_taken, get_dropped}

@@ -1,8 +1,8 @@
 -- What a line tree keeps of the tree.
-use Rattle.std.proofs.Common.{◌≡◌, ◌↔◌, Some, None, refl, sym, ap, ap₂, subst}
+use Rattle.std.proofs.Common.{◌≡◌, ◌↔◌, ◌||◌, Some, None, refl, sym, ap, ap₂, subst}
 use Rattle.hir_core.specs.Tree.{Tree, empty, literal, byte_class, char_class, look, repetition, capture, nothing, cat, never, alt}
 use Rattle.hir_core.specs.Facts.{sum_of_both, least_of_either, times, minimum_len, IsAboveZero, LoopsRead}
-use Rattle.line_trees.specs.LineTrees.{line_tree}
+use Rattle.line_trees.specs.LineTrees.{line_tree, reads_feed}
 
 pub minimum_kept : (x : Tree) → minimum_len (line_tree x) ≡ minimum_len x
 minimum_kept empty = refl
@@ -47,3 +47,16 @@ loops_here (alt x y) r = (loops_here x r.0, loops_here y r.1)
 
 pub loops_kept : (x : Tree) → LoopsRead (line_tree x) ↔ LoopsRead x
 loops_kept x = (loops_there x, loops_here x)
+
+pub feeds_kept : (x : Tree) → reads_feed (line_tree x) ≡ reads_feed x
+feeds_kept empty = refl
+feeds_kept (literal bytes) = refl
+feeds_kept (byte_class ranges) = refl
+feeds_kept (char_class ranges) = refl
+feeds_kept (look l) = refl
+feeds_kept (repetition min most greedy x) = feeds_kept x
+feeds_kept (capture index name x) = feeds_kept x
+feeds_kept nothing = refl
+feeds_kept (cat x y) = ap₂ (λ v w. v || w) (feeds_kept x) (feeds_kept y)
+feeds_kept never = refl
+feeds_kept (alt x y) = ap₂ (λ v w. v || w) (feeds_kept x) (feeds_kept y)

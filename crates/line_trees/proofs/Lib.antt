@@ -4,6 +4,7 @@ pub mod LineLookLemmas
 pub mod MeaningLemmas
 pub mod WithinLemmas
 pub mod KeptLemmas
+pub mod FeedLemmas
 pub mod ForCallers
 mod Rows
 pub mod ListLemmas

@@ -1,8 +1,23 @@
--- The line tree of parts one after the other, or of a choice, is that of the parts' line trees.
-use Rattle.std.proofs.Common.{◌≡◌, List, [], ◌∷◌, map, refl, ap}
+-- Lists: bytes at a place of a part of a text, and the line trees of parts one after the other, or of a choice.
+use Rattle.std.proofs.Common.{◌≡◌, ℕ, zero, suc, ◌+◌, ◌<◌, List, [], ◌∷◌, take, drop, slice_get, map, refl, ap, ◌∙◌, arith}
 use Rattle.hir_core.specs.Tree.{Tree, cat, alt, concat, alternation}
 use Rattle.line_trees.specs.LineTrees.{line_tree}
 
+-- ---- a part of a text
+pub get_taken : (n : ℕ) (xs : List ℕ) (k : ℕ) → k < n → slice_get (take n xs) k ≡ slice_get xs k
+get_taken zero xs k less = absurd (omega (arith, less))
+get_taken (suc n) [] k less = refl
+get_taken (suc n) (x ∷ xs) zero less = refl
+get_taken (suc n) (x ∷ xs) (suc k) less = get_taken n xs k (omega (arith, less))
+
+pub get_dropped : (n : ℕ) (xs : List ℕ) (k : ℕ) → slice_get (drop n xs) k ≡ slice_get xs (n + k)
+get_dropped zero xs k = let same : k ≡ 0 + k = omega arith in ap (slice_get xs) same
+get_dropped (suc n) [] k = refl
+get_dropped (suc n) (x ∷ xs) k =
+    let one : suc (n + k) ≡ suc n + k = omega arith in
+    get_dropped n xs k ∙ ap (slice_get (x ∷ xs)) one
+
+-- ---- the line tree is that of the parts' line trees
 pub line_of_concat : (xs : List Tree) → line_tree (concat xs) ≡ concat (map line_tree xs)
 line_of_concat [] = refl
 line_of_concat (x ∷ xs) = ap (cat (line_tree x)) (line_of_concat xs)

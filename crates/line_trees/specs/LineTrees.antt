@@ -1,14 +1,14 @@
 -- Text is searched in blocks of lines. A tree that is meant for one line is read for a block: where it asks for an edge of the
 -- haystack, its line tree asks for an edge of a line. The law is that what the tree means in a line, its line tree means in the block.
-use Rattle.std.specs.Prelude.{◌≡◌, ◌≢◌, ℕ, ◌+◌, ◌≤◌, ◌⊎◌, Bool, false, ◌||◌, List, [], ◌∷◌, ◌++◌, length}
-use Rattle.std.specs.List.{All}
+use Rattle.std.specs.Prelude.{◌≡◌, ◌≢◌, ◌==◌, ℕ, ◌+◌, ◌≤◌, ◌<◌, ◌⊎◌, Bool, false, ◌||◌, List, [], ◌∷◌, ◌++◌, length, slice_get, Some}
+use Rattle.std.specs.List.{All, list_any}
 use Rattle.look_core.specs.Codes.{is_anchor_crlf}
 use Rattle.look_core.specs.Looks.{holds}
 use Rattle.look_core.specs.Terminators.{one_of}
 use Rattle.look_core.specs.declared.look.Look.{Look}
 use Rattle.look_core.specs.declared.look.Look.TheVariants.{Start, End, StartLF, EndLF}
 use Rattle.hir_core.specs.Tree.{Tree, empty, literal, byte_class, char_class, look, repetition, capture, nothing, cat, never, alt}
-use Rattle.hir_core.specs.Means.{Looks, Means}
+use Rattle.hir_core.specs.Means.{Looks, Means, is_member}
 
 -- the look that holds in a block of lines where this one holds in a line of it
 abbrev pub line_look : Look → Look
@@ -45,6 +45,20 @@ has_crlf (cat x y) = has_crlf x || has_crlf y
 has_crlf never = false
 has_crlf (alt x y) = has_crlf x || has_crlf y
 
+-- Whether the tree may read a line feed: one stands in a literal, or a class has it. What a tree means that reads none lies in one line.
+abbrev pub reads_feed : Tree → Bool
+reads_feed empty = false
+reads_feed (literal bytes) = list_any (λ b. b == 0x0A) bytes
+reads_feed (byte_class ranges) = is_member ranges 0x0A
+reads_feed (char_class ranges) = is_member ranges 0x0A
+reads_feed (look l) = false
+reads_feed (repetition min most greedy x) = reads_feed x
+reads_feed (capture index name x) = reads_feed x
+reads_feed nothing = false
+reads_feed (cat x y) = reads_feed x || reads_feed y
+reads_feed never = false
+reads_feed (alt x y) = reads_feed x || reads_feed y
+
 -- A line stands between these two parts of a block: before it nothing, or text that a line feed ends; behind it nothing, or its own
 -- line feed and more. It has none itself. Bytes need be no UTF-8.
 pub record IsLineBetween (before line after : List ℕ) : Type 0 where
@@ -70,6 +84,10 @@ abbrev pub MeansInLine : (ℕ → Bool) → List ℕ → List ℕ → List ℕ �
 MeansInLine words before line after x = (s e : ℕ) → e ≤ length line →
     Means (line_looks words (block_of before line after)) (block_of before line after) (line_tree x) (length before + s) (length before + e) →
     Means (line_looks words line) line x s e
+
+-- no line feed stands from the one place up to the other
+abbrev pub HasNoFeedFrom : List ℕ → ℕ → ℕ → Type 0
+HasNoFeedFrom text from to = (i : ℕ) → from ≤ i → i < to → slice_get text i ≡ Some 0x0A → ⊥
 
 -- the tree has a match in the haystack
 pub record HasMatch (looks : Looks) (h : List ℕ) (x : Tree) : Type 0 where

@@ -4,9 +4,11 @@ ghost use Rattle.look_core.specs.Codes.{is_anchor_crlf};
 ghost use Rattle.look_core.specs.Looks.{IsWordSet};
 ghost use Rattle.look_core.specs.declared.look.Look.{Look};
 ghost use Rattle.hir_core.specs.Facts.{minimum_len, LoopsRead};
+ghost use Rattle.hir_core.specs.Means.{Looks, Means};
 ghost use Rattle.hir_core.specs.Tree.{Tree};
 ghost use Rattle.line_trees.specs.LineTrees.{line_look, line_tree, has_crlf, IsLineBetween, block_of, line_looks};
 ghost use Rattle.line_trees.specs.LineTrees.{MeansInBlock, MeansInLine, HasMatch};
+ghost use Rattle.line_trees.specs.LineTrees.{reads_feed, HasNoFeedFrom};
 
 /// At the places of a line each look but the two of carriage returns holds in the line just where its line look holds in the block.
 #[tactic(auto, using(crate::proofs::LineLookLemmas::same_looks))]
@@ -34,9 +36,17 @@ pub fn a_match_within_a_line_is_one_of_the_line()
         has_crlf x ≡ false → MeansInLine words before line after x }
 {}
 
-/// A line tree has the minimum length of the tree, and loops that read where the tree's do.
-#[tactic(auto, using(crate::proofs::KeptLemmas::minimum_kept, crate::proofs::KeptLemmas::loops_kept))]
+/// What a tree means that reads no line feed has none among its bytes, in any haystack: where its line tree has a match in a block, that
+/// match lies in one line.
+#[tactic(auto, using(crate::proofs::FeedLemmas::reads_none))]
+pub fn a_match_that_reads_no_feed_lies_in_one_line()
+    ensures { (looks : Looks) (h : List ℕ) (x : Tree) (s e : ℕ) → reads_feed x ≡ false → Means looks h x s e → HasNoFeedFrom h s e }
+{}
+
+/// A line tree has the minimum length of the tree, loops that read where the tree's do, and reads a line feed where the tree does.
+#[tactic(auto, using(crate::proofs::KeptLemmas::minimum_kept, crate::proofs::KeptLemmas::loops_kept, crate::proofs::KeptLemmas::feeds_kept))]
 pub fn line_trees_read_as_much()
     ensures least { (x : Tree) → minimum_len (line_tree x) ≡ minimum_len x }
     ensures loops { (x : Tree) → LoopsRead (line_tree x) ↔ LoopsRead x }
+    ensures feeds { (x : Tree) → reads_feed (line_tree x) ≡ reads_feed x }
 {}

@@ -1,9 +1,10 @@
 //! Trees that are read for blocks of lines, and the test for what has none.
-ghost use Rattle.std.specs.Prelude.{◌≡◌, IfOk, map, option_map, string_bytes};
+ghost use Rattle.std.specs.Prelude.{◌≡◌, ◌==◌, IfOk, map, option_map, string_bytes};
 ghost use Rattle.std.specs.List.{list_any};
 ghost use Rattle.look_core.specs.Codes.{is_anchor_crlf};
 ghost use Rattle.hir_core.specs.Tree.{concat, alternation};
-ghost use Rattle.line_trees.specs.LineTrees.{line_look, line_tree, has_crlf};
+ghost use Rattle.hir_core.specs.Means.{is_member};
+ghost use Rattle.line_trees.specs.LineTrees.{line_look, line_tree, has_crlf, reads_feed};
 
 use hir_core::{Hir, HirKind};
 use look_core::Look;
@@ -107,6 +108,61 @@ pub fn any_has_crlf(xs: &[Hir]) -> bool
 {
     for x in xs {
         if has_crlf(x) {
+            return true;
+        }
+    }
+    false
+}
+
+fn has_feed(bytes: &[u8]) -> bool
+    ensures { result ≡ list_any (λ b. b == 0x0A) bytes.now }
+{
+    bytes.contains(&b'\n')
+}
+
+fn has_feed_byte(ranges: &[(u8, u8)]) -> bool
+    ensures { result ≡ is_member ranges.now 0x0A }
+{
+    ranges
+        .iter()
+        .any(|range| range.0 <= b'\n' && b'\n' <= range.1)
+}
+
+fn has_feed_char(ranges: &[(char, char)]) -> bool
+    ensures { result ≡ is_member ranges.now 0x0A }
+{
+    ranges
+        .iter()
+        .any(|range| range.0 <= '\n' && '\n' <= range.1)
+}
+
+/// Whether the tree may read a line feed. What a tree means that reads none lies in one line
+/// ([`a_match_that_reads_no_feed_lies_in_one_line`](crate::laws::a_match_that_reads_no_feed_lies_in_one_line)).
+#[cycle(reads_feed)]
+pub fn reads_feed(x: &Hir) -> bool
+    ensures { result ≡ reads_feed x.now }
+{
+    match x.kind() {
+        HirKind::Empty | HirKind::Look(_) => false,
+        HirKind::Literal(bytes) => has_feed(bytes),
+        HirKind::Bytes(ranges) => has_feed_byte(ranges),
+        HirKind::Chars(ranges) => has_feed_char(ranges),
+        HirKind::Repetition { sub, .. } => reads_feed(sub),
+        HirKind::Capture { sub, .. } => reads_feed(sub),
+        HirKind::Concat(subs) => any_reads_feed(subs),
+        HirKind::Alternation(subs) => any_reads_feed(subs),
+    }
+}
+
+/// Whether some of the trees may read one.
+#[cycle(reads_feed)]
+pub fn any_reads_feed(xs: &[Hir]) -> bool
+    ensures any { result ≡ list_any reads_feed xs.now }
+    ensures concat { result ≡ reads_feed (concat xs.now) }
+    ensures alternation { result ≡ reads_feed (alternation xs.now) }
+{
+    for x in xs {
+        if reads_feed(x) {
             return true;
         }
     }
