@@ -1,10 +1,10 @@
 -- Lines that end before the least end of a match in the block have no match.
 use Rattle.std.proofs.Common.{◌≡◌, ◌≢◌, ◌≤◌, ◌<◌, ◌==◌, inl, inr, ℕ, zero, suc, ◌+◌, ◌-◌, Bool, false, List, [], ◌∷◌, ◌++◌, All, map}
 use Rattle.std.proofs.Common.{length, slice_get, slice_range}
-use Rattle.std.proofs.Common.{true, get_or, take, drop, nat_lt, ◌&&◌, Option, Some, None, refl, sym, ap, ◌∙◌, subst, arith, length-append}
+use Rattle.std.proofs.Common.{true, get_or, take, drop, nat_lt, ◌&&◌, ◌||◌, ◌⊎◌, not, Option, Some, None, refl, sym, ap, ◌∙◌, subst, arith, length-append}
 use Rattle.std.proofs.Common.{length-drop, take-append-drop, true≢false, lt-ltb}
 use Rattle.std.specs.List.{list_any}
-use Rattle.std.proofs.lemmas.Bool.{cases_lt, eq-eqb, eqb-true}
+use Rattle.std.proofs.lemmas.Bool.{cases_lt, eq-eqb, eqb-true, and_parts, or_cases}
 use Rattle.std.proofs.lemmas.List.Folds.{list_any_at}
 use Rattle.std.specs.Prelude.{is_some, option_map, IfSome}
 use Rattle.std.specs.List.{position, position_or_len}
@@ -23,10 +23,10 @@ use Rattle.search_types.proofs.ForCallers.{starts_at, may_start_at}
 use Rattle.hir_core.specs.Tree.{Tree}
 use Rattle.hir_core.specs.Means.{Means}
 use Rattle.hir_core.proofs.ForCallers.{span_forward}
-use Rattle.line_trees.specs.LineTrees.{line_tree, has_crlf, block_of, line_looks}
+use Rattle.line_trees.specs.LineTrees.{line_tree, has_crlf, reads_feed, block_of, line_looks, HasNoFeedFrom}
 use Rattle.hirscan.specs.Choices.{answer_from}
 use Rattle.hirscan.specs.LooseAnswers.{IsLooseAnswer}
-use Rattle.line_trees.proofs.ForCallers.{means_in_block, means_in_line}
+use Rattle.line_trees.proofs.ForCallers.{means_in_block, means_in_line, reads_none, feeds_kept, get_dropped}
 use Rattle.regex_pair.specs.Pairs.{Pair}
 use Rattle.earliest_ends.specs.Earliest.{IsSpanFrom, NoneEndsBefore, IsEarliestEnd, IsRefusal, looks_by}
 use Rattle.search_types.specs.declared.match_error.MatchErrorKind.{MatchErrorKind}
@@ -37,7 +37,7 @@ use Rattle.pattern_search.specs.Searches.{whole_query}
 use Rattle.pattern_search.proofs.ForCallers.{answer_is_loose, finds_what_is_written}
 use Rattle.pattern_search.proofs.ForCallers.{alike_some, same_patterns}
 use Rattle.grep_core.specs.declared.candidates.Stop.{Stop}
-use Rattle.grep_core.specs.Candidates.{IsCandidatesOf, IsLineStart, HaveNoMatch, HasMatchAt, HasNoFeedFrom, IsStop, IsStopIfAny, IsEnd}
+use Rattle.grep_core.specs.Candidates.{IsCandidatesOf, IsLineStart, HaveNoMatch, HasMatchAt, IsStop, IsStopIfAny, IsEnd}
 use Rattle.grep_core.specs.Candidates.{StopsInLine}
 use Rattle.grep_core.specs.Candidates.IsStop.{least_end, quit_byte}
 use Rattle.grep_core.specs.Lines.{split_lines}
@@ -45,7 +45,7 @@ use Rattle.grep_core.specs.Patterns.{finds_of}
 use Rattle.grep_core.specs.Searchers.{line_settings}
 use Rattle.grep_core.proofs.BlockLemmas.{is_feed, first_at, first_within, one_more, some_at}
 use Rattle.grep_core.proofs.JoinLemmas.{feed_there}
-use Rattle.grep_core.proofs.LineCutLemmas.{StandsIn, before_start, get_dropped, lines_between}
+use Rattle.grep_core.proofs.LineCutLemmas.{StandsIn, before_start, lines_between}
 use Rattle.grep_core.proofs.ToldLemmas.{is_search}
 
 -- of the spans that these trees mean in the block from a place on, none ends before this place
@@ -69,9 +69,11 @@ no_match config texts xs res line mean read bytes none =
     sym (ap (λ rs. (finds_of rs).has_match line) (same_patterns config texts written.patterns res written.are_read read))
     ∙ alike_some (λ m. m.start) (λ (f : Found). f.start) (find (alt_all written.patterns) line 0) None nothing
 
+of_listed : (P : Tree → Type 0) (xs : List Tree) (p : ℕ) (x : Tree) → slice_get xs p ≡ Some x → All P xs → P x
+of_listed P xs p x listed all = subst P (get_or_from_slice_get xs p x x listed) (all p x (slice_get_within xs p x listed))
+
 plain_at : (xs : List Tree) (p : ℕ) (x : Tree) → slice_get xs p ≡ Some x → All (λ y. has_crlf y ≡ false) xs → has_crlf x ≡ false
-plain_at xs p x listed all =
-    subst (λ y. has_crlf y ≡ false) (get_or_from_slice_get xs p x x listed) (all p x (slice_get_within xs p x listed))
+plain_at xs p x listed all = of_listed (λ y. has_crlf y ≡ false) xs p x listed all
 
 -- a span in a line that stands in the block is one of its line tree in the block, which ends in that line
 none_in : (xs : List Tree) (block : List ℕ) (at x : ℕ) (line : List ℕ) → All (λ y. has_crlf y ≡ false) xs →
@@ -97,7 +99,7 @@ none_in xs block at x line plain least s p tree i j listed low high means =
     absurd (omega (arith, least p (length s.before + i) (length s.before + j) span, s.ends, high))
 
 -- no line that ends before the place has a match
-pub have_none : (config : Config) (texts : List (List ℕ)) (p : Pair) (block text : List ℕ) (at x : ℕ) →
+pub have_none : (config : Config) (texts : List (List ℕ)) (p : Pair × Bool) (block text : List ℕ) (at x : ℕ) →
     (it : IsCandidatesOf config texts p) →
     All (λ b. b < 256) block → EndNotBefore (map line_tree it.trees) block at x → All (StandsIn block at x) (split_lines text) →
     HaveNoMatch config texts text
@@ -160,7 +162,7 @@ nothing_between config texts block at next low =
     let none : next - at ≡ 0 = omega (arith, low) in
     subst (λ n. HaveNoMatch config texts (take n (drop at block))) (sym none) (λ res read k line below. absurd (omega (arith, below)))
 
-module _ (config : Config) (texts : List (List ℕ)) (p : Pair) (block : List ℕ) (at : ℕ) (it : IsCandidatesOf config texts p)
+module _ (config : Config) (texts : List (List ℕ)) (p : Pair × Bool) (block : List ℕ) (at : ℕ) (it : IsCandidatesOf config texts p)
     (bytes : All (λ b. b < 256) block)
     (start : IsLineStart block at) where
   pub all_passed : IsStopIfAny (map line_tree it.trees) block at None → HaveNoMatch config texts (slice_range block at (length block))
@@ -251,65 +253,112 @@ not_past block at len place none feed = elim (cases_lt (at + len) place) [
   | inr over ↦ over
 ]
 
--- a span that ends before the end of the line from whose start the search went is one of the line
-pub match_here : (config : Config) (texts : List (List ℕ)) (p : Pair) (block : List ℕ) (at place : ℕ) →
+-- the span that ends there is of this line tree
+abbrev LineSpan : List Tree → List ℕ → ℕ → ℕ → Type 0
+LineSpan xs block at place = IsEnd (map line_tree xs) block at place
+
+line_tree_of : (xs : List Tree) (block : List ℕ) (at place : ℕ) (end : LineSpan xs block at place) →
+    (x : Tree) × (slice_get xs end.0 ≡ Some x) × (line_tree x ≡ end.1.span.tree)
+line_tree_of xs block at place end =
+    tree_of_line xs end.0 end.1.span.tree (slice_get xs end.0) refl (sym (slice_get-map line_tree xs end.0) ∙ end.1.span.listed)
+
+-- a span that starts in a line and ends before the end of that line is one of the line
+match_here : (config : Config) (texts : List (List ℕ)) (p : Pair × Bool) (block : List ℕ) (at start place : ℕ) →
     (it : IsCandidatesOf config texts p) →
-    All (λ b. b < 256) block → IsLineStart block at → at ≤ length block → IsEnd (map line_tree it.trees) block at place →
-    HasNoFeedFrom block at place → HasMatchAt config texts block at
-match_here config texts p block at place it bytes start inside end none len found res read =
-    let text : List ℕ = drop at block in
+    All (λ b. b < 256) block → IsLineStart block start → start ≤ length block → (end : LineSpan it.trees block at place) →
+    start ≤ end.1.start → HasNoFeedFrom block start place → HasMatchAt config texts block start
+match_here config texts p block at start place it bytes starts inside end from none len found res read =
+    let text : List ℕ = drop start block in
     let feed : slice_get text len ≡ Some 10 = feed_there text len found in
     let few : len < length text = first_within text len found in
-    let long : length text ≡ length block - at = length-drop at block in
+    let long : length text ≡ length block - start = length-drop start block in
     let cut : drop len text ≡ 10 ∷ drop (suc len) text = dropped text len 10 feed in
-    let front : length (take at block) ≡ at = length-take-le at block inside in
+    let front : length (take start block) ≡ start = length-take-le start block inside in
     let size : length (take len text) ≡ len = length-take-le len text (omega (arith, few)) in
-    let whole : block ≡ block_of (take at block) (take len text) (drop len text) =
-    sym (take-append-drop at block) ∙ ap (λ (t : List ℕ). take at block ++ t) (sym (take-append-drop len text)) in
+    let whole : block ≡ block_of (take start block) (take len text) (drop len text) =
+    sym (take-append-drop start block) ∙ ap (λ (t : List ℕ). take start block ++ t) (sym (take-append-drop len text)) in
     let span = end.1.span in
-    let y = tree_of_line it.trees end.0 span.tree (slice_get it.trees end.0) refl
-    (sym (slice_get-map line_tree it.trees end.0) ∙ span.listed) in
+    let y = line_tree_of it.trees block at place end in
     let forward = span_forward (looks_by is_word_char line_settings block) block span.tree end.1.start place span.means in
-    let early : place ≤ at + len = not_past block at len place none feed in
-    let low : end.1.start ≡ length (take at block) + (end.1.start - at) = omega (arith, front, span.from) in
-    let high : place ≡ length (take at block) + (place - at) = omega (arith, front, span.from, forward) in
-    let short : place - at ≤ length (take len text) = omega (arith, early, size) in
-    let there : Means (looks_by is_word_char line_settings block) block (line_tree y.0) (length (take at block) + (end.1.start - at))
-    (length (take at block) + (place - at)) =
-    subst (λ t. Means (looks_by is_word_char line_settings block) block t (length (take at block) + (end.1.start - at))
-    (length (take at block) + (place - at))) (sym y.2)
-    (subst (λ j. Means (looks_by is_word_char line_settings block) block span.tree (length (take at block) + (end.1.start - at)) j) high
-    (subst (λ i. Means (looks_by is_word_char line_settings block) block span.tree i place) low span.means)) in
-    let here = subst (λ (h : List ℕ). Means (line_looks is_word_char h) h (line_tree y.0) (length (take at block) + (end.1.start - at))
-    (length (take at block) + (place - at)))
+    let early : place ≤ start + len = not_past block start len place none feed in
+    let low : end.1.start ≡ length (take start block) + (end.1.start - start) = omega (arith, front, from) in
+    let high : place ≡ length (take start block) + (place - start) = omega (arith, front, from, forward) in
+    let short : place - start ≤ length (take len text) = omega (arith, early, size) in
+    let there : Means (looks_by is_word_char line_settings block) block (line_tree y.0) (length (take start block) + (end.1.start - start))
+    (length (take start block) + (place - start)) =
+    subst (λ t. Means (looks_by is_word_char line_settings block) block t (length (take start block) + (end.1.start - start))
+    (length (take start block) + (place - start))) (sym y.2)
+    (subst (λ j. Means (looks_by is_word_char line_settings block) block span.tree (length (take start block) + (end.1.start - start)) j)
+    high (subst (λ i. Means (looks_by is_word_char line_settings block) block span.tree i place) low span.means)) in
+    let here = subst (λ (h : List ℕ). Means (line_looks is_word_char h) h (line_tree y.0)
+    (length (take start block) + (end.1.start - start)) (length (take start block) + (place - start)))
     whole there in
-    let means = means_in_line is_word_char (take at block) (take len text) (drop len text) y.0 word_set (record {
-      starts = before_start block at start;
+    let means = means_in_line is_word_char (take start block) (take len text) (drop len text) y.0 word_set (record {
+      starts = before_start block start starts;
       ends = inr (drop (suc len) text, cut);
       without_feed = without_feed text len found;
-    }) (plain_at it.trees end.0 y.0 y.1 it.plain) (end.1.start - at) (place - at) short here in
+    }) (plain_at it.trees end.0 y.0 y.1 it.plain) (end.1.start - start) (place - start) short here in
     has_of config texts it.trees res (take len text) it.mean read
     (All-left (λ b. b < 256) (take len text) (drop len text)
-    (All-right (λ b. b < 256) (take at block) _ (subst (All (λ b. b < 256)) whole bytes)))
-    end.0 y.0 (end.1.start - at) (place - at) y.1 (omega (arith, forward, short)) short means
+    (All-right (λ b. b < 256) (take start block) _ (subst (All (λ b. b < 256)) whole bytes)))
+    end.0 y.0 (end.1.start - start) (place - start) y.1 (omega (arith, forward, short)) short means
     ((finds_of res).has_match (take len text)) refl
 
-pub match_known : (config : Config) (texts : List (List ℕ)) (p : Pair) (block : List ℕ) (at start place : ℕ) (ends : Bool) →
-    (it : IsCandidatesOf config texts p) → All (λ b. b < 256) block → IsLineStart block at → at ≤ length block →
-    (ends ≡ true → IsEnd (map line_tree it.trees) block at place) → HasNoFeedFrom block start place → (ends && start == at) ≡ true →
+-- a span without line feeds that ends in a line starts there
+starts_here : (xs : List Tree) (block : List ℕ) (at start place : ℕ) → All (λ x. reads_feed x ≡ false) xs →
+    (end : LineSpan xs block at place) → (at < start → start ≤ place) → (at < start → slice_get block (start - 1) ≡ Some 10) →
+    start ≤ end.1.start
+starts_here xs block at start place feedless end before feed = elim (cases_lt end.1.start start) [
+  | inl less ↦
+      let span = end.1.span in
+      let y = line_tree_of xs block at place end in
+      let reads : reads_feed span.tree ≡ false =
+      ap reads_feed (sym y.2) ∙ feeds_kept y.0 ∙ of_listed (λ x. reads_feed x ≡ false) xs end.0 y.0 y.1 feedless in
+      let over : at < start = omega (arith, span.from, less) in
+      absurd (reads_none (looks_by is_word_char line_settings block) block span.tree end.1.start place reads span.means (start - 1)
+      (omega (arith, less)) (omega (arith, less, before over)) (feed over))
+  | inr enough ↦ enough
+]
+
+line_starts_at : (block : List ℕ) (at start : ℕ) → IsLineStart block at → at ≤ start →
+    (at < start → slice_get block (start - 1) ≡ Some 10) → IsLineStart block start
+line_starts_at block at start starts from feed = elim (cases_lt at start) [
+  | inl over ↦ (λ above. feed over)
+  | inr same ↦ let is : at ≡ start = omega (arith, same, from) in subst (IsLineStart block) is starts
+]
+
+known_by : (e f s : Bool) → (e && (f || s)) ≡ true → (e ≡ true) × ((f ≡ true) ⊎ (s ≡ true))
+known_by e f s known =
+    let both = and_parts e (f || s) known in
+    (both.0, or_cases f s both.1)
+
+-- where a match ends in a line that can't have begun before it, the line has one
+pub match_known : (config : Config) (texts : List (List ℕ)) (p : Pair × Bool) (block : List ℕ) (at start place : ℕ) (ends : Bool) →
+    (it : IsCandidatesOf config texts p) → All (λ b. b < 256) block → IsLineStart block at → start ≤ length block → at ≤ start →
+    (at < start → start ≤ place) → (at < start → slice_get block (start - 1) ≡ Some 10) →
+    (ends ≡ true → LineSpan it.trees block at place) → HasNoFeedFrom block start place → (ends && (p.1 || start == at)) ≡ true →
     HasMatchAt config texts block start
-match_known config texts p block at start place false it bytes starts inside end none known = absurd (true≢false (sym known))
-match_known config texts p block at start place true it bytes starts inside end none known =
-    let same : at ≡ start = sym (eqb-true start at known) in
-    subst (λ (n : ℕ). HasMatchAt config texts block n) same
-    (match_here config texts p block at place it bytes starts inside (end refl)
-    (subst (λ (n : ℕ). HasNoFeedFrom block n place) (sym same) none))
+match_known config texts p block at start place ends it bytes starts inside from before feed end none known =
+    let by = known_by ends p.1 (start == at) known in
+    let span = end by.0 in
+    match_here config texts p block at start place it bytes (line_starts_at block at start starts from feed) inside span
+    (elim by.1 [
+      | inl feedless ↦ starts_here it.trees block at start place (it.feedless feedless) span before feed
+      | inr same ↦ let is : start ≡ at = eqb-true start at same in omega (arith, is, span.1.span.from)
+    ]) none
 
 -- ---- of which trees
-plain_by : (xs : List Tree) (k : ℕ) (d : Tree) (v : Bool) → list_any has_crlf xs ≡ false → k < length xs → has_crlf (get_or xs k d) ≡ v →
-    has_crlf (get_or xs k d) ≡ false
-plain_by xs k d true none below is = absurd (true≢false (sym (list_any_at has_crlf xs k d below is) ∙ none))
-plain_by xs k d false none below is = is
+without_by : (test : Tree → Bool) (xs : List Tree) (k : ℕ) (d : Tree) (v : Bool) → list_any test xs ≡ false → k < length xs →
+    test (get_or xs k d) ≡ v → test (get_or xs k d) ≡ false
+without_by test xs k d true none below is = absurd (true≢false (sym (list_any_at test xs k d below is) ∙ none))
+without_by test xs k d false none below is = is
+
+all_without : (test : Tree → Bool) (xs : List Tree) → list_any test xs ≡ false → All (λ x. test x ≡ false) xs
+all_without test xs none k d below = without_by test xs k d (test (get_or xs k d)) none below refl
 
 pub all_plain : (xs : List Tree) → list_any has_crlf xs ≡ false → All (λ x. has_crlf x ≡ false) xs
-all_plain xs none k d below = plain_by xs k d (has_crlf (get_or xs k d)) none below refl
+all_plain xs none = all_without has_crlf xs none
+
+pub all_feedless : (xs : List Tree) (told : Bool) → told ≡ list_any reads_feed xs → not told ≡ true → All (λ x. reads_feed x ≡ false) xs
+all_feedless xs true is feedless = absurd (true≢false (sym feedless))
+all_feedless xs false is feedless = all_without reads_feed xs (sym is)

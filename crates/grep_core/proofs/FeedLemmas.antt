@@ -9,7 +9,7 @@ use Rattle.std.proofs.lemmas.Simd.{trailing_mask_l, length-chunk, run_in_chunk_s
 use Rattle.std.specs.Int.Count.{count_trailing_zeros}
 use Rattle.std.specs.List.{position, position_or_len, prefix_len}
 use Rattle.std.specs.Simd.Lanes.{chunk, mask_l}
-use Rattle.grep_core.specs.Candidates.{HasNoFeedFrom}
+use Rattle.line_trees.specs.LineTrees.{HasNoFeedFrom}
 use Rattle.grep_core.proofs.BlockLemmas.{is_feed, first_at, some_at}
 
 -- none of the first bytes is a line feed

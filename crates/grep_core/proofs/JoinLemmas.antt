@@ -7,11 +7,13 @@ use Rattle.std.proofs.lemmas.List.{length-take-le}
 use Rattle.std.proofs.lemmas.List.Folds.{drop_split}
 use Rattle.std.proofs.lemmas.Option.{none-some}
 use Rattle.std.specs.List.{position, position_or_len}
-use Rattle.grep_core.specs.Candidates.{IsLineStart, HasNoFeedFrom}
+use Rattle.line_trees.specs.LineTrees.{HasNoFeedFrom}
+use Rattle.line_trees.proofs.ForCallers.{get_dropped}
+use Rattle.grep_core.specs.Candidates.{IsLineStart}
 use Rattle.grep_core.specs.Lines.{split_lines}
 use Rattle.grep_core.specs.Passing.{AreWhole}
 use Rattle.grep_core.proofs.BlockLemmas.{is_feed, first_at, one_more, some_at, turn, turn_counted}
-use Rattle.grep_core.proofs.LineCutLemmas.{before_start, get_dropped}
+use Rattle.grep_core.proofs.LineCutLemmas.{before_start}
 use Rattle.grep_core.proofs.WholeLemmas.{whole_behind, whole_none}
 
 -- ---- where the first line feed stands

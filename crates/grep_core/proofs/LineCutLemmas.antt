@@ -9,6 +9,7 @@ use Rattle.std.proofs.lemmas.List.Elements.{All-nil, All-cons, All-head, All-tai
 use Rattle.std.proofs.lemmas.List.Folds.{drop_split}
 use Rattle.std.proofs.lemmas.Option.{none-some, same_Some}
 use Rattle.line_trees.specs.LineTrees.{IsLineBetween, block_of}
+use Rattle.line_trees.proofs.ForCallers.{get_taken, get_dropped}
 use Rattle.grep_core.specs.Candidates.{IsLineStart}
 use Rattle.grep_core.specs.Lines.{put_first, split_lines}
 
@@ -134,19 +135,6 @@ take_one_more : (xs : List ℕ) (k b : ℕ) → slice_get xs k ≡ Some b → ta
 take_one_more [] k b e = absurd (none-some b e)
 take_one_more (x ∷ xs) zero b e = ap (λ c. c ∷ []) (same_Some x b e)
 take_one_more (x ∷ xs) (suc k) b e = ap (λ (t : List ℕ). x ∷ t) (take_one_more xs k b e)
-
-pub get_taken : (n : ℕ) (xs : List ℕ) (k : ℕ) → k < n → slice_get (take n xs) k ≡ slice_get xs k
-get_taken zero xs k less = absurd (omega (arith, less))
-get_taken (suc n) [] k less = refl
-get_taken (suc n) (x ∷ xs) zero less = refl
-get_taken (suc n) (x ∷ xs) (suc k) less = get_taken n xs k (omega (arith, less))
-
-pub get_dropped : (n : ℕ) (xs : List ℕ) (k : ℕ) → slice_get (drop n xs) k ≡ slice_get xs (n + k)
-get_dropped zero xs k = let same : k ≡ 0 + k = omega arith in ap (slice_get xs) same
-get_dropped (suc n) [] k = refl
-get_dropped (suc n) (x ∷ xs) k =
-    let one : suc (n + k) ≡ suc n + k = omega arith in
-    get_dropped n xs k ∙ ap (slice_get (x ∷ xs)) one
 
 pub before_start : (block : List ℕ) (at : ℕ) → IsLineStart block at → IsBefore (take at block)
 before_start block zero start = inl refl

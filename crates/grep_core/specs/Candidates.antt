@@ -1,12 +1,12 @@
 -- Which lines of a text may have a match, by a regex of trees that are read for blocks of lines.
-use Rattle.std.specs.Prelude.{◌≡◌, ◌==◌, ℕ, ◌+◌, ◌-◌, ◌<◌, ◌≤◌, true, false, List, All, drop, map, length, slice_get, take, Option, Some}
+use Rattle.std.specs.Prelude.{◌≡◌, ◌==◌, ℕ, ◌+◌, ◌-◌, ◌<◌, ◌≤◌, Bool, true, false, List, All, drop, map, length, slice_get, take, Option, Some}
 use Rattle.std.specs.Prelude.{None}
 use Rattle.std.specs.List.{position}
 use Rattle.ucd_perl.specs.Perl.{is_word_char}
 use Rattle.regex_hir.specs.Re.{Re}
 use Rattle.regex_syntax.specs.declared.Config.{Config}
 use Rattle.hir_core.specs.Tree.{Tree}
-use Rattle.line_trees.specs.LineTrees.{line_tree, has_crlf}
+use Rattle.line_trees.specs.LineTrees.{line_tree, has_crlf, reads_feed, HasNoFeedFrom}
 use Rattle.regex_pair.specs.Pairs.{Pair}
 use Rattle.hirscan.specs.Built.{IsBuilt, quit_bytes_for}
 use Rattle.hirscan.specs.Headline.{IsQuitBeside}
@@ -16,13 +16,15 @@ use Rattle.grep_core.specs.Lines.{split_lines}
 use Rattle.grep_core.specs.Patterns.{finds_of}
 use Rattle.grep_core.specs.Searchers.{IsMatchTold, line_settings, sized_settings}
 
--- The regex is built of the line trees of trees that mean these texts. No look in these trees knows carriage returns.
-pub record IsCandidatesOf (config : Config) (texts : List (List ℕ)) (p : Pair) : Type 0 where
+-- The regex is built of the line trees of trees that mean these texts. No look in these trees knows carriage returns. Where it is told
+-- that they are feedless, none of them reads a line feed, so a match of a block lies in one line.
+pub record IsCandidatesOf (config : Config) (texts : List (List ℕ)) (p : Pair × Bool) : Type 0 where
   pub trees : List Tree
   pub mean : AllMean config texts trees
   pub plain : All (λ x. has_crlf x ≡ false) trees
+  pub feedless : p.1 ≡ true → All (λ x. reads_feed x ≡ false) trees
   pub capacity : Option ℕ
-  pub built : IsBuilt (map line_tree trees) (sized_settings capacity) p
+  pub built : IsBuilt (map line_tree trees) (sized_settings capacity) p.0
 
 -- a line starts there: at the start of the text, or behind a line feed
 abbrev pub IsLineStart : List ℕ → ℕ → Type 0
@@ -37,10 +39,6 @@ HaveNoMatch config texts text =
 abbrev pub HasMatchAt : Config → List (List ℕ) → List ℕ → ℕ → Type 0
 HasMatchAt config texts block at =
     (len : ℕ) → position (λ b. b == 10) (drop at block) ≡ Some len → IsMatchTold config texts (take len (drop at block)) true
-
--- no line feed stands from the one place up to the other
-abbrev pub HasNoFeedFrom : List ℕ → ℕ → ℕ → Type 0
-HasNoFeedFrom text from to = (i : ℕ) → from ≤ i → i < to → slice_get text i ≡ Some 10 → ⊥
 
 -- At this place is the least end of the spans that these trees mean in the block from the place `at` on; or a byte at which searches for
 -- them give up stands there, and none of these spans ends before it.

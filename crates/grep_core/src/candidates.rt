@@ -1,15 +1,15 @@
 //! The lines of a block that may have a match.
-ghost use Rattle.std.specs.Prelude.{◌≡◌, ◌==◌, ◌&&◌, ◌≤◌, ◌<◌, ◌-◌, ℕ, List, length, map, option_map, slice_get, slice_range, is_some, not};
+ghost use Rattle.std.specs.Prelude.{◌≡◌, ◌==◌, ◌&&◌, ◌||◌, ◌≤◌, ◌<◌, ◌-◌, ℕ, List, length, map, option_map, slice_get, slice_range, is_some, not};
 ghost use Rattle.std.specs.Prelude.{true, Option, Some, IfErr, IfOk, IfSome};
 ghost use Rattle.std.specs.List.{list_any};
 ghost use Rattle.regex_syntax.specs.declared.Config.{Config as TextConfig};
 ghost use Rattle.hir_core.specs.Tree.{Tree};
-ghost use Rattle.line_trees.specs.LineTrees.{line_tree, has_crlf};
+ghost use Rattle.line_trees.specs.LineTrees.{line_tree, has_crlf, HasNoFeedFrom};
 ghost use Rattle.hirscan.specs.Built.{IsBuilt, RefusesBuild};
 ghost use Rattle.ucd_perl.specs.Perl.{is_word_char};
 ghost use Rattle.earliest_ends.specs.Earliest.{IsRefusal};
 ghost use Rattle.pattern_search.specs.Texts.{AllMean};
-ghost use Rattle.grep_core.specs.Candidates.{IsCandidatesOf, IsLineStart, HaveNoMatch, HasMatchAt, HasNoFeedFrom, IsStop, IsStopIfAny};
+ghost use Rattle.grep_core.specs.Candidates.{IsCandidatesOf, IsLineStart, HaveNoMatch, HasMatchAt, IsStop, IsStopIfAny};
 ghost use Rattle.grep_core.specs.Candidates.{IsEnd};
 ghost use Rattle.grep_core.specs.Candidates.{StopsInLine};
 ghost use Rattle.grep_core.specs.Searchers.{line_settings, sized_settings};
@@ -22,7 +22,7 @@ use earliest_ends::find_earliest_end;
 use hir_core::Hir;
 use hirscan::build;
 use lazy_dfa::BuildError;
-use line_trees::{all_line_trees, any_has_crlf};
+use line_trees::{all_line_trees, any_has_crlf, any_reads_feed};
 use pattern_search::parse_all;
 use pattern_text::Config;
 use regex_pair::regex::{Cache, Regex};
@@ -33,11 +33,13 @@ use std::marker::Model;
 /// A regex of patterns that are read for blocks of lines, and the caches of its searches.
 ///
 /// A line that has a match has one in each block with that line, so the lines before the earliest end of a match in the block have none.
-/// A match in the block need be none in a line, since it may reach over the ends of lines.
+/// A match in the block need be none in a line, since it may reach over the ends of lines; where no tree reads a line feed, it is one.
 #[derive(Drop)]
 pub(crate) struct Candidates {
     regex: Regex,
     cache: Cache,
+    /// Whether none of the trees reads a line feed.
+    feedless: bool,
 }
 
 /// Where the search of a block stops.
@@ -61,10 +63,11 @@ pub(crate) struct Reached {
 
 impl Model for Candidates {
     ghost use Rattle.regex_pair.specs.Pairs.{AreCachesOf, Pair, PairCache};
+    ghost use Rattle.std.specs.Prelude.{Bool};
 
-    ghost Value = { Pair × PairCache };
+    ghost Value = { (Pair × Bool) × PairCache };
 
-    ghost view = { λ s. (s.regex, s.cache) };
+    ghost view = { λ s. ((s.regex, s.feedless), s.cache) };
 
     ghost invariant = { λ s. AreCachesOf s.regex s.cache };
 }
@@ -114,14 +117,6 @@ fn stop_at(end: Option<usize>) -> Option<Stop>
     }
 }
 
-/// Whether the line that starts at this place is known to have a match, where the search went from the other: a match ends in it that can't
-/// have begun before it.
-fn is_known(stop: Stop, start: usize, at: usize) -> bool
-    ensures { result ≡ (stop.is_end && start == at) }
-{
-    stop.is_end && start == at
-}
-
 /// For blocks of lines, of patterns as text; none where there is no such regex, as where the patterns are refused, and then each line is
 /// searched by itself.
 pub(crate) fn candidates_of(
@@ -156,6 +151,7 @@ impl Candidates {
         if any_has_crlf(trees) {
             return Ok(None);
         }
+        let feedless = !any_reads_feed(trees);
         let Ok(trees) = all_line_trees(alloc, trees) else {
             return Err(BuildError::NoMemory);
         };
@@ -164,7 +160,11 @@ impl Candidates {
             Err(e) => return Err(e),
         };
         match Cache::new(alloc, &regex) {
-            Ok(cache) => Ok(Some(Candidates { regex, cache })),
+            Ok(cache) => Ok(Some(Candidates {
+                regex,
+                cache,
+                feedless,
+            })),
             Err(_) => Err(BuildError::NoMemory),
         }
     }
@@ -181,14 +181,22 @@ impl Candidates {
         self.cache.memory_usage()
     }
 
+    /// Whether the line that starts at this place is known to have a match, where the search went from the other: a match ends in it that
+    /// can't have begun before it, since the search didn't, or since it would have read the line feed between both.
+    fn is_known(&self, stop: Stop, start: usize, at: usize) -> bool
+        ensures { result ≡ (stop.is_end && (self.now.0.1 || start == at)) }
+    {
+        stop.is_end && (self.feedless || start == at)
+    }
+
     /// Where a search from this place on stops: at the least end of the matches in the block that start at this place or further on, or at
     /// a byte at which it gives up, before which none of them ends; or nowhere, where there is no such match.
     fn stop_from(&mut self, block: &[u8], at: usize) -> Result<Option<Stop>, Fault>
         requires { at ≤ length block.now }
         ensures same { self.new.0 ≡ self.old.0 }
-        ensures told { (xs : List Tree) (capacity : Option ℕ) → IsBuilt xs (sized_settings capacity) self.old.0 →
+        ensures told { (xs : List Tree) (capacity : Option ℕ) → IsBuilt xs (sized_settings capacity) self.old.0.0 →
             IfOk result (λ o. IsStopIfAny xs block.now at (option_map (λ stop. stop.place) o)) }
-        ensures ends { (xs : List Tree) (capacity : Option ℕ) → IsBuilt xs (sized_settings capacity) self.old.0 →
+        ensures ends { (xs : List Tree) (capacity : Option ℕ) → IsBuilt xs (sized_settings capacity) self.old.0.0 →
             IfOk result (λ o. IfSome o (λ stop. stop.is_end ≡ true → IsEnd xs block.now at stop.place)) }
         ensures refused { IfErr result (λ e. e ≡ NoMemory) }
     {
@@ -210,7 +218,7 @@ impl Candidates {
     /// stand before it have none. The given place is the start of a line. In the line that is answered ends a match in the block, the
     /// first that ends there, or in it stands a byte at which the search gives up, as one that isn't ASCII where words are asked for.
     ///
-    /// Where that match ends in the line from whose start the search went, it is one of the line.
+    /// Where that match ends in the line from whose start the search went, or where no tree reads a line feed, it is one of the line.
     pub(crate) fn next_line(&mut self, block: &[u8], at: usize) -> Result<Reached, Fault>
         requires within { at ≤ length block.now }
         requires starts { IsLineStart block.now at }
@@ -222,7 +230,7 @@ impl Candidates {
             IfOk result (λ r. HaveNoMatch config texts (slice_range block.now at r.start)) }
         ensures has { (config : TextConfig) (texts : List (List ℕ)) → IsCandidatesOf config texts self.old.0 →
             IfOk result (λ r. r.has ≡ true → HasMatchAt config texts block.now r.start) }
-        ensures stops { (xs : List Tree) (capacity : Option ℕ) → IsBuilt xs (sized_settings capacity) self.old.0 →
+        ensures stops { (xs : List Tree) (capacity : Option ℕ) → IsBuilt xs (sized_settings capacity) self.old.0.0 →
             IfOk result (λ r. r.start < length block.now → StopsInLine xs block.now at r.start) }
         ensures refused { IfErr result (λ e. e ≡ NoMemory) }
     {
@@ -241,7 +249,7 @@ impl Candidates {
                 let start = line_start(block, at, stop.place);
                 Ok(Reached {
                     start,
-                    has: is_known(stop, start, at),
+                    has: self.is_known(stop, start, at),
                     passed: stop.place.saturating_sub(at),
                 })
             }

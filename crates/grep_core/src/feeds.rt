@@ -2,7 +2,7 @@
 ghost use Rattle.std.specs.Prelude.{◌≡◌, ◌==◌, ◌+◌, ◌≤◌, length, map, true};
 ghost use Rattle.std.specs.List.{position};
 ghost use Rattle.std.specs.Simd.Lanes.{mask_l};
-ghost use Rattle.grep_core.specs.Candidates.{HasNoFeedFrom};
+ghost use Rattle.line_trees.specs.LineTrees.{HasNoFeedFrom};
 
 use std::simd::prelude::*;
 

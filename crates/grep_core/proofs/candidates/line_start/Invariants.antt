@@ -1,5 +1,5 @@
 use Rattle.std.proofs.Common.{◌-◌, ◌≤◌, length}
-use Rattle.grep_core.specs.Candidates.{HasNoFeedFrom}
+use Rattle.line_trees.specs.LineTrees.{HasNoFeedFrom}
 use Rattle.grep_core.proofs.candidates.line_start.Given as goal
 
 abbrev pub invariant-loop-start : goal.invariant-loop-start

@@ -1,5 +1,5 @@
 use Rattle.std.proofs.Common.{◌≤◌}
-use Rattle.grep_core.specs.Candidates.{HasNoFeedFrom}
+use Rattle.line_trees.specs.LineTrees.{HasNoFeedFrom}
 use Rattle.grep_core.proofs.feeds.pass_back.Given as goal
 
 abbrev pub invariant-wide : goal.invariant-wide

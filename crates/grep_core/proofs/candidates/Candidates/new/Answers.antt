@@ -3,7 +3,7 @@ use Rattle.hir_core.specs.Tree.{Tree}
 use Rattle.hirscan.specs.Built.{IsBuilt, RefusesBuild}
 use Rattle.hirscan.specs.declared.settings.Settings.{Settings}
 use Rattle.grep_core.specs.Searchers.{sized_settings}
-use Rattle.grep_core.proofs.CandidateLemmas.{all_plain}
+use Rattle.grep_core.proofs.CandidateLemmas.{all_plain, all_feedless}
 use Rattle.grep_core.proofs.candidates.Candidates.new.Goals as goal
 
 pub returns-in-Err-clause-refused : goal.returns-in-Err-clause-refused
@@ -16,6 +16,7 @@ returns-in-Ok-new-clause-candidates c config texts mean = record {
   trees = c.args.trees.now;
   mean = mean;
   plain = all_plain c.args.trees.now (sym c.any_has_crlf.ensures.any ∙ c.if-any_has_crlf.false);
+  feedless = all_feedless c.args.trees.now c.any_reads_feed-feedless.result c.any_reads_feed-feedless.ensures.any;
   capacity = c.args.capacity;
   built =
       subst (λ (xs : List Tree). IsBuilt xs (sized_settings c.args.capacity) c.in-Ok-build.regex) (c.deref.ensures.value ∙ c.in-Ok.ensures)

@@ -1,4 +1,5 @@
-use Rattle.std.proofs.Common.{◌≡◌, Option, map, sym, ◌∙◌, subst}
+use Rattle.std.proofs.Common.{◌≡◌, ◌==◌, ◌&&◌, ◌||◌, Bool, Option, map, sym, ◌∙◌, subst}
+use Rattle.regex_pair.specs.Pairs.{Pair}
 use Rattle.std.specs.Prelude.{option_map}
 use Rattle.line_trees.specs.LineTrees.{line_tree}
 use Rattle.grep_core.specs.declared.candidates.Stop.{Stop}
@@ -25,11 +26,14 @@ pub returns-in-Some-clause-has : goal.returns-in-Some-clause-has
 returns-in-Some-clause-has c config texts it known =
     match_known config texts c.args.self.now.0 c.args.block.now c.args.at c.line_start-start.result c.in-Some.stop.place
     c.in-Some.stop.is_end it
-    c.see_bytes.ensures c.requires.starts c.requires.within
+    c.see_bytes.ensures c.requires.starts c.line_start-start.ensures.within c.line_start-start.ensures.from
+    c.line_start-start.ensures.before c.line_start-start.ensures.starts
     (subst (λ (o : Option Stop). IfSome o (λ s. s.is_end ≡ true →
     IsEnd (map line_tree it.trees) c.args.block.now c.args.at s.place)) c.in-Some.is
     (c.in-Ok.ensures.ends (map line_tree it.trees) it.capacity it.built))
-    c.line_start-start.ensures.last (sym c.is_known.ensures ∙ known)
+    c.line_start-start.ensures.last (subst
+    (λ (p : Pair × Bool). (c.in-Some.stop.is_end && (p.1 || c.line_start-start.result == c.args.at)) ≡ true) c.stop_from.ensures.same
+    (sym c.is_known.ensures ∙ known))
 
 pub returns-in-Some-clause-stops : goal.returns-in-Some-clause-stops
 returns-in-Some-clause-stops c xs capacity built below =
