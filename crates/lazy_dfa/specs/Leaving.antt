@@ -1,6 +1,6 @@
 -- The bytes by which a state is left, and what a search for one passes over.
-use Rattle.std.specs.Prelude.{◌||◌, ◌==◌, ℕ, Bool, false, List}
-use Rattle.lazy_dfa.specs.ByteTests.{in_range, in_halves, NonePasses}
+use Rattle.std.specs.Prelude.{◌||◌, ◌==◌, ℕ, Bool, false}
+use Rattle.lazy_dfa.specs.ByteTests.{in_range, in_halves}
 use Rattle.lazy_dfa.specs.declared.leaving.Leaving.{Leaving}
 use Rattle.lazy_dfa.specs.declared.leaving.Leaving.TheVariants.{Never, One, Two, Three, Range, Ranges, Halves}
 
@@ -13,7 +13,3 @@ leaves (Three a b c) byte = byte == a || (byte == b || byte == c)
 leaves (Range a) byte = in_range a byte
 leaves (Ranges a b c d) byte = (in_range a byte || in_range b byte) || (in_range c byte || in_range d byte)
 leaves (Halves tables) byte = in_halves tables.low tables.high byte
-
--- no byte from a place on, and before another one, leaves
-abbrev pub NoneLeaves : Leaving → List ℕ → ℕ → ℕ → Type 0
-NoneLeaves leaving haystack from to = NonePasses (leaves leaving) haystack from to

@@ -6,6 +6,9 @@
 //! on; it is looked for anew in the next stretch of bytes that is read one by one. Bytes whose step isn't known yet, or that
 //! are quit bytes, count as leaving.
 //!
+//! Where few bytes leave the state, a search may be back in it with the next one. Then the cache notes too with which bytes behind one
+//! that leaves it may not be back, and two bytes in a row are looked for: one that leaves, and one of these.
+//!
 //! A skip costs about as much as the reading of a few bytes, so each is paid from a credit, to which it adds the bytes that
 //! it passed. Where the credit is used up, a search reads all bytes until the cache is cleared.
 ghost use Rattle.std.specs.Prelude.{◌≡◌, ℕ, ◌<◌, ◌≤◌, IfSome, true, false};
