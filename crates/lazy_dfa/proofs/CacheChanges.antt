@@ -10,7 +10,7 @@ pub mod StartCallLemmas
 pub mod StartChangeLemmas
 pub mod KeepLemmas
 pub mod LinkedLemmas
-pub mod KnownStepLemmas
+pub mod StepLemmas
 pub mod AddsLemmas
 pub mod ChangesLemmas
 pub mod ChangeLawLemmas

@@ -13,6 +13,7 @@ pub mod Leaving
 pub mod Skips
 pub mod Caches
 pub mod Steps
+pub mod StepPromises
 pub mod StartCalls
 pub mod SearchStarts
 pub mod Building

@@ -1,6 +1,6 @@
 -- One turn of a pass: a step of its cache by a unit, and what the new state says.
-use Rattle.std.specs.Prelude.{◌≡◌, ◌≢◌, ◌⊎◌, ℕ, suc, ◌+◌, ◌*◌, ◌≤◌, ◌&&◌, not, Bool, true, false, List, Option, Some, Result, Ok, Err, IfOk}
-use Rattle.std.specs.Prelude.{IfErr, IsSome}
+use Rattle.std.specs.Prelude.{◌≡◌, ◌⊎◌, ℕ, suc, ◌+◌, ◌*◌, ◌≤◌, ◌&&◌, not, Bool, true, false, List, Option, Some, Result, Ok, Err}
+use Rattle.std.specs.Prelude.{IsSome}
 use Rattle.search_core.specs.ByteSets.{has}
 use Rattle.nfa_core.specs.Ways.{place_of}
 use Rattle.determinize_core.specs.States.{StateValue}
@@ -13,14 +13,14 @@ use Rattle.lazy_dfa.specs.declared.cache_error.CacheError.TheVariants.{GaveUp, N
 use Rattle.lazy_dfa.specs.declared.turns.Seen.{Seen}
 use Rattle.lazy_dfa.specs.declared.turns.Turn.{Turn}
 use Rattle.lazy_dfa.specs.declared.turns.Turn.TheVariants.{GoesOn, Ends, Quits}
-use Rattle.lazy_dfa.specs.Dfas.{Dfa, reader, IsUnit}
-use Rattle.lazy_dfa.specs.Ids.{dead_id, quit_id, unknown_id, is_sentinel}
+use Rattle.lazy_dfa.specs.Dfas.{Dfa, reader}
+use Rattle.lazy_dfa.specs.Ids.{dead_id, quit_id}
 use Rattle.lazy_dfa.specs.Linked.{IsLinkedOver, HasCleared, GrowsOrClears, IsMoved}
 use Rattle.lazy_dfa.specs.Passes.{is_empty, is_dead, best_recorded}
 use Rattle.lazy_dfa.specs.Points.{Point, GoesTo, point}
 use Rattle.lazy_dfa.specs.Readers.{is_quit}
 use Rattle.lazy_dfa.specs.SearchAnswers.{pair_of, told_of}
-use Rattle.lazy_dfa.specs.Steps.{IsHeld, StepsTo, KeepsOrClears, noted, IsKnown, IsNoted, IsStepCause, StepAdds, most_inserts}
+use Rattle.lazy_dfa.specs.Steps.{most_inserts}
 
 -- What an ID that is held says of a pass that came to it by the unit at a place: of the dead state it ends, of the quit
 -- sentinel the unit is a quit byte, and else the match of the state's is recorded.
@@ -31,22 +31,6 @@ pub data Sees (v : CacheValue) (id place : ℕ) (best : Option (ℕ × ℕ)) (ea
       (earliest && not (is_empty s.matches)) ≡ true → Sees v id place best earliest seen
   sees_on : (s : StateValue) → HeldAt v id s → seen.id ≡ id → seen.turn ≡ GoesOn → pair_of seen.best ≡ best_recorded place s best →
       (earliest && not (is_empty s.matches)) ≡ false → Sees v id place best earliest seen
-
--- what a step from an ID by a unit, of either kind, says
-pub record IsStep (d : Dfa) (old new : CacheValue) (m1 m2 n1 n2 id : ℕ) (u : Option ℕ) (result : Result ℕ CacheError) : Type 0 where
-  pub unit : IsUnit u
-  pub kept : KeepsOrClears d old new
-  pub step : IfOk result (λ to. StepsTo d old new id u to)
-  pub notes : IfOk result (λ to. IsNoted d old new id u to)
-  pub held : IfOk result (λ to. IsHeld new to)
-  pub err : IfErr result (λ e. IsStepCause d old id u e)
-  pub gave_up : result ≡ Err GaveUp → new ≡ old
-  pub known : is_sentinel id ≡ false → noted d old id u ≢ unknown_id → result ≡ Ok (noted d old id u)
-  pub same : IsKnown d old id u → new ≡ old
-  pub free : IsKnown d old id u → (m2 ≡ m1) × (n2 ≡ n1)
-  pub determinized : m2 ≤ m1 + 1
-  pub inserted : n2 ≤ n1 + most_inserts d
-  pub adds : StepAdds d old new id u
 
 -- Of the cache and the work behind k units from a point and one more, whether that one was read or not.
 pub record Leaves (d : Dfa) (h : List ℕ) (from : Point) (new : CacheValue) (m n k : ℕ) : Type 0 where

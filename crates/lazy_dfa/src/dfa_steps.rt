@@ -1,11 +1,10 @@
 //! The steps of a DFA: what searches are made of.
-ghost use Rattle.std.specs.Prelude.{◌≡◌, ◌≢◌, ◌⊎◌, ◌↔◌, ◌+◌, ◌<◌, ◌≤◌, true, false, length, slice_index, IfOk, OnOk, IfErr, Ok, Err, None, Some};
+ghost use Rattle.std.specs.Prelude.{◌≡◌, ◌⊎◌, ◌↔◌, ◌<◌, true, length, slice_index, IfOk, None, Some};
 ghost use Rattle.determinize_core.specs.States.{StateValue};
-ghost use Rattle.lazy_dfa.specs.Ids.{tag, unknown_id, quit_id, is_sentinel};
+ghost use Rattle.lazy_dfa.specs.Ids.{tag, unknown_id};
 ghost use Rattle.lazy_dfa.specs.Caches.{IsCacheOf, HeldAt, IsRow};
-ghost use Rattle.lazy_dfa.specs.Readers.{is_quit};
-ghost use Rattle.lazy_dfa.specs.declared.cache_error.CacheError.TheVariants.{GaveUp};
-ghost use Rattle.lazy_dfa.specs.Steps.{IsHeld, GivesUp, IsStepCause, StepsTo, Grew, StepNeedsClear, ClearedFrom, KeepsOrClears, noted, IsKnown, IsNoted, TagsStep, StepAdds, most_inserts};
+ghost use Rattle.lazy_dfa.specs.StepPromises.{MakesStep};
+ghost use Rattle.lazy_dfa.specs.Steps.{IsHeld, noted};
 
 use crate::cache_error::CacheError;
 use crate::dfa::{Cache, DFA};
@@ -34,25 +33,8 @@ impl DFA {
         requires own { IsCacheOf self.now cache.old }
         requires held { IsHeld cache.old current }
         ensures own { IsCacheOf self.now cache.new }
-        ensures kept { KeepsOrClears self.now cache.old cache.new }
-        ensures remains { OnOk result (Grew self.now cache.old cache.new ⊎ ClearedFrom self.now cache.old cache.new current (Some input)) }
-        ensures cause { Grew self.now cache.old cache.new ⊎ StepNeedsClear self.now cache.old current (Some input) }
-        ensures adds { StepAdds self.now cache.old cache.new current (Some input) }
-        ensures gave_up { result ≡ Err GaveUp → cache.new ≡ cache.old }
-        ensures loops { is_sentinel current ≡ true → result ≡ Ok current }
-        ensures step { IfOk result (λ to. StepsTo self.now cache.old cache.new current (Some input) to) }
-        ensures noted { IfOk result (λ to. IsNoted self.now cache.old cache.new current (Some input) to) }
-        ensures tag { IfOk result (λ to. TagsStep self.now cache.old current (Some input) to) }
-        ensures quits { is_sentinel current ≡ false → is_quit self.now.quits (Some input) ≡ true → result ≡ Ok (quit_id cache.old.stride) }
-        ensures spares { is_quit self.now.quits (Some input) ≡ true → work.new ≡ work.old }
         ensures held { IfOk result (λ to. IsHeld cache.new to) }
-        ensures ok { OnOk result (¬ GivesUp self.now cache.old current (Some input)) }
-        ensures err { IfErr result (λ e. IsStepCause self.now cache.old current (Some input) e) }
-        ensures known { is_sentinel current ≡ false → noted self.now cache.old current (Some input) ≢ unknown_id → result ≡ Ok (noted self.now cache.old current (Some input)) }
-        ensures same { IsKnown self.now cache.old current (Some input) → cache.new ≡ cache.old }
-        ensures free { IsKnown self.now cache.old current (Some input) → work.new ≡ work.old }
-        ensures determinized { work.new.determinized ≤ work.old.determinized + 1 }
-        ensures inserted { work.new.inserted ≤ work.old.inserted + most_inserts self.now }
+        ensures step { MakesStep self.now current (Some input) cache.old cache.new work.old.determinized work.new.determinized work.old.inserted work.new.inserted result }
     {
         let class = self.class(input);
         let is_quit = self.is_quit(input);
@@ -73,23 +55,8 @@ impl DFA {
         requires own { IsCacheOf self.now cache.old }
         requires held { IsHeld cache.old current }
         ensures own { IsCacheOf self.now cache.new }
-        ensures kept { KeepsOrClears self.now cache.old cache.new }
-        ensures remains { OnOk result (Grew self.now cache.old cache.new ⊎ ClearedFrom self.now cache.old cache.new current None) }
-        ensures cause { Grew self.now cache.old cache.new ⊎ StepNeedsClear self.now cache.old current None }
-        ensures adds { StepAdds self.now cache.old cache.new current None }
-        ensures gave_up { result ≡ Err GaveUp → cache.new ≡ cache.old }
-        ensures loops { is_sentinel current ≡ true → result ≡ Ok current }
-        ensures step { IfOk result (λ to. StepsTo self.now cache.old cache.new current None to) }
-        ensures noted { IfOk result (λ to. IsNoted self.now cache.old cache.new current None to) }
-        ensures tag { IfOk result (λ to. TagsStep self.now cache.old current None to) }
         ensures held { IfOk result (λ to. IsHeld cache.new to) }
-        ensures ok { OnOk result (¬ GivesUp self.now cache.old current None) }
-        ensures err { IfErr result (λ e. IsStepCause self.now cache.old current None e) }
-        ensures known { is_sentinel current ≡ false → noted self.now cache.old current None ≢ unknown_id → result ≡ Ok (noted self.now cache.old current None) }
-        ensures same { IsKnown self.now cache.old current None → cache.new ≡ cache.old }
-        ensures free { IsKnown self.now cache.old current None → work.new ≡ work.old }
-        ensures determinized { work.new.determinized ≤ work.old.determinized + 1 }
-        ensures inserted { work.new.inserted ≤ work.old.inserted + most_inserts self.now }
+        ensures step { MakesStep self.now current None cache.old cache.new work.old.determinized work.new.determinized work.old.inserted work.new.inserted result }
     {
         let class = self.end_class();
         match step(self, cache, current, Unit::eoi(class), class, false, work) {

@@ -1,14 +1,15 @@
 //! Steps from state to state over a cache.
-ghost use Rattle.std.specs.Prelude.{◌≡◌, ◌≢◌, ◌⊎◌, ◌+◌, ◌%◌, ◌<◌, ◌≤◌, false, length, IfOk, OnOk, IfErr, Ok, Err, None, Some, true};
+ghost use Rattle.std.specs.Prelude.{◌≡◌, ◌⊎◌, ◌+◌, ◌%◌, ◌<◌, ◌≤◌, false, length, IfOk, OnOk, IfErr, Ok, Err, None, Some, true};
 ghost use Rattle.search_core.specs.Units.{unit_byte};
 ghost use Rattle.determinize_core.specs.Costs.{free_ways};
 ghost use Rattle.lazy_dfa.specs.Dfas.{IsStateOf, IsUnit, after, class_of, is_dead};
-ghost use Rattle.lazy_dfa.specs.Ids.{unknown_id, quit_id, is_sentinel, has_tag, start_tag};
+ghost use Rattle.lazy_dfa.specs.Ids.{unknown_id, has_tag, start_tag};
 ghost use Rattle.lazy_dfa.specs.Caches.{IsCacheOf, HeldAt, IsRow, Names, Fits, fits, is_refused, row_holding, state_at, with_state, needs_clear, lacks_room};
 ghost use Rattle.lazy_dfa.specs.ConfigValue.{clears_of, minimum_bytes_of};
 ghost use Rattle.lazy_dfa.specs.declared.cache_error.CacheError.TheVariants.{GaveUp};
 ghost use Rattle.lazy_dfa.specs.Readers.{is_quit, is_quit as is_quit_unit};
-ghost use Rattle.lazy_dfa.specs.Steps.{IsHeld, IsCause, GivesUp, IsStepCause, StepsTo, Added, Grew, StepNeedsClear, ClearedFrom, kept_alone, MadeRoom, AddsOrClears, KeepsOrClears, noted, IsKnown, IsNoted, TagsStep, ClearsFor, ComesTo, StepAdds, most_inserts};
+ghost use Rattle.lazy_dfa.specs.StepPromises.{MakesStep};
+ghost use Rattle.lazy_dfa.specs.Steps.{IsHeld, IsCause, GivesUp, IsStepCause, StepsTo, Added, Grew, StepNeedsClear, ClearedFrom, kept_alone, MadeRoom, AddsOrClears, KeepsOrClears, noted, IsNoted, TagsStep, ClearsFor, ComesTo, StepAdds, most_inserts};
 
 use crate::cache_error::CacheError;
 use crate::dfa::{Cache, DFA};
@@ -219,24 +220,7 @@ pub(crate) fn step<L: Ledger, M: Ledger>(
     requires class { class ≡ class_of dfa.now.classes (unit_byte unit) }
     requires quit { is_quit ≡ is_quit_unit dfa.now.quits (unit_byte unit) }
     ensures own { IsCacheOf dfa.now cache.new }
-    ensures kept { KeepsOrClears dfa.now cache.old cache.new }
-    ensures remains { OnOk result (Grew dfa.now cache.old cache.new ⊎ ClearedFrom dfa.now cache.old cache.new current (unit_byte unit)) }
-    ensures cause { Grew dfa.now cache.old cache.new ⊎ StepNeedsClear dfa.now cache.old current (unit_byte unit) }
-    ensures adds { StepAdds dfa.now cache.old cache.new current (unit_byte unit) }
-    ensures gave_up { result ≡ Err GaveUp → cache.new ≡ cache.old }
-    ensures loops { is_sentinel current ≡ true → result ≡ Ok current }
-    ensures step { IfOk result (λ to. StepsTo dfa.now cache.old cache.new current (unit_byte unit) to) }
-    ensures noted { IfOk result (λ to. IsNoted dfa.now cache.old cache.new current (unit_byte unit) to) }
-    ensures tag { IfOk result (λ to. TagsStep dfa.now cache.old current (unit_byte unit) to) }
-    ensures quits { is_sentinel current ≡ false → is_quit_unit dfa.now.quits (unit_byte unit) ≡ true → result ≡ Ok (quit_id cache.old.stride) }
-    ensures spares { is_quit_unit dfa.now.quits (unit_byte unit) ≡ true → work.new ≡ work.old }
-    ensures ok { OnOk result (¬ GivesUp dfa.now cache.old current (unit_byte unit)) }
-    ensures err { IfErr result (λ e. IsStepCause dfa.now cache.old current (unit_byte unit) e) }
-    ensures known { is_sentinel current ≡ false → noted dfa.now cache.old current (unit_byte unit) ≢ unknown_id → result ≡ Ok (noted dfa.now cache.old current (unit_byte unit)) }
-    ensures same { IsKnown dfa.now cache.old current (unit_byte unit) → cache.new ≡ cache.old }
-    ensures free { IsKnown dfa.now cache.old current (unit_byte unit) → work.new ≡ work.old }
-    ensures determinized { work.new.determinized ≤ work.old.determinized + 1 }
-    ensures inserted { work.new.inserted ≤ work.old.inserted + most_inserts dfa.now }
+    ensures step { MakesStep dfa.now current (unit_byte unit) cache.old cache.new work.old.determinized work.new.determinized work.old.inserted work.new.inserted result }
 {
     dfa.is_made();
     let stride = cache.stride();

@@ -1,12 +1,13 @@
 //! Turns of a pass: what is done with one unit.
-ghost use Rattle.std.specs.Prelude.{◌≡◌, ℕ, List};
+ghost use Rattle.std.specs.Prelude.{◌≡◌, ℕ, List, IfOk};
 ghost use Rattle.determinize_core.specs.Steps.{unit_at};
 ghost use Rattle.lazy_dfa.specs.Caches.{IsCacheOf, IsRow};
 ghost use Rattle.lazy_dfa.specs.Dfas.{IsUnit, class_of};
 ghost use Rattle.lazy_dfa.specs.Points.{point};
 ghost use Rattle.lazy_dfa.specs.SearchAnswers.{pair_of};
+ghost use Rattle.lazy_dfa.specs.StepPromises.{MakesStep};
 ghost use Rattle.lazy_dfa.specs.Steps.{IsHeld};
-ghost use Rattle.lazy_dfa.specs.Turns.{IsStep, IsTurn, Sees};
+ghost use Rattle.lazy_dfa.specs.Turns.{IsTurn, Sees};
 
 use crate::cache_error::CacheError;
 use crate::dfa::{Cache, DFA};
@@ -46,7 +47,8 @@ fn step_by<L: Ledger, M: Ledger>(
     requires own { IsCacheOf dfa.now cache.old }
     requires held { IsHeld cache.old current }
     ensures own { IsCacheOf dfa.now cache.new }
-    ensures step { IsStep dfa.now cache.old cache.new work.old.determinized work.new.determinized work.old.inserted work.new.inserted current unit result }
+    ensures held { IfOk result (λ to. IsHeld cache.new to) }
+    ensures step { MakesStep dfa.now current unit cache.old cache.new work.old.determinized work.new.determinized work.old.inserted work.new.inserted result }
 {
     match unit {
         Some(byte) => match dfa.next_state(cache, current, byte, work) {
@@ -84,7 +86,8 @@ fn step_row<L: Ledger, M: Ledger>(
     requires own { IsCacheOf dfa.now cache.old }
     requires row { IsRow cache.old current }
     ensures own { IsCacheOf dfa.now cache.new }
-    ensures step { IsStep dfa.now cache.old cache.new work.old.determinized work.new.determinized work.old.inserted work.new.inserted current unit result }
+    ensures held { IfOk result (λ to. IsHeld cache.new to) }
+    ensures step { MakesStep dfa.now current unit cache.old cache.new work.old.determinized work.new.determinized work.old.inserted work.new.inserted result }
 {
     dfa.is_made();
     let class = class_of_unit(dfa, unit);

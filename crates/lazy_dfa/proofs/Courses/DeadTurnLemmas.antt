@@ -17,7 +17,7 @@ use Rattle.lazy_dfa.specs.SearchAnswers.{pair_of}
 use Rattle.lazy_dfa.specs.PassPlaces.{IsWithinSpan, last_place, finished, EndsWith}
 use Rattle.lazy_dfa.specs.Turns.{IsTurn}
 use Rattle.lazy_dfa.proofs.CacheChanges.IsCacheLemmas.{le_of}
-use Rattle.lazy_dfa.proofs.CacheChanges.KnownStepLemmas.{known_held, known_step}
+use Rattle.lazy_dfa.proofs.CacheChanges.StepLemmas.{known_held, known_step}
 use Rattle.lazy_dfa.proofs.CacheChanges.LinkedLemmas.{is_cache_moved}
 use Rattle.lazy_dfa.proofs.Courses.SpanTurnLemmas.{row_moved, byte_ends}
 use Rattle.lazy_dfa.proofs.Courses.TurnStepLemmas.{see_dead, turn_made}

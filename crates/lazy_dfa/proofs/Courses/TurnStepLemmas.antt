@@ -24,8 +24,9 @@ use Rattle.lazy_dfa.specs.PassLaws.{unit_of}
 use Rattle.lazy_dfa.specs.Points.{Point, point}
 use Rattle.lazy_dfa.specs.Readers.{is_quit}
 use Rattle.lazy_dfa.specs.SearchAnswers.{pair_of, told_of}
+use Rattle.lazy_dfa.specs.StepPromises.{MakesStep}
 use Rattle.lazy_dfa.specs.Steps.{IsHeld, Grew, WasCleared, noted, IsKnown, GivesUp, IsStepCause, most_inserts}
-use Rattle.lazy_dfa.specs.Turns.{Sees, sees_dead, sees_quit, sees_end, sees_on, IsStep, Leaves, FailsOn, StaysRunning, TellsTheSame}
+use Rattle.lazy_dfa.specs.Turns.{Sees, sees_dead, sees_quit, sees_end, sees_on, Leaves, FailsOn, StaysRunning, TellsTheSame}
 use Rattle.lazy_dfa.specs.Turns.{GoesOne, IsSeen, IsTurn}
 use Rattle.lazy_dfa.proofs.CacheChanges.ChangeLemmas.{one_state}
 use Rattle.lazy_dfa.proofs.Courses.CourseLemmas.{state_behind_one, unmatched}
@@ -170,11 +171,6 @@ module _ (v : CacheValue) (id place : ℕ) (best : Option (ℕ × ℕ)) (earlies
 
 -- ---- a step
 
--- what a step by a unit says, for one who knows the unit by another name
-pub step_renamed : (d : Dfa) (old new : CacheValue) (m1 m2 n1 n2 id : ℕ) (u w : Option ℕ) (r : Result ℕ CacheError) → w ≡ u →
-    IsStep d old new m1 m2 n1 n2 id u r → IsStep d old new m1 m2 n1 n2 id w r
-step_renamed d old new m1 m2 n1 n2 id u w r e x = subst (λ (y : Option ℕ). IsStep d old new m1 m2 n1 n2 id y r) (sym e) x
-
 -- a quit byte
 quit_byte : (quits : List Bool) (u : Option ℕ) → is_quit quits u ≡ true → (b : ℕ) × (u ≡ Some b) × (get_or quits b false ≡ true)
 quit_byte quits None e = absurd (true≢false (sym e))
@@ -195,7 +191,7 @@ module _ (d : Dfa) (h : List ℕ) (old : CacheValue) (at id m1 n1 : ℕ) (u : Op
   known_first : IsLinkedOver d old h at id 1 → IsKnown d old id u
   known_first l = subst (IsKnown d old id) (sym is) (l.steps 0 (omega arith))
 
-  module _ (new : CacheValue) (m2 n2 : ℕ) (r : Result ℕ CacheError) (step : IsStep d old new m1 m2 n1 n2 id u r) where
+  module _ (new : CacheValue) (m2 n2 : ℕ) (r : Result ℕ CacheError) (step : MakesStep d id u old new m1 m2 n1 n2 r) where
     leaves_one : Leaves d h from new m2 n2 0
     leaves_one = record {
       kept = grows_of d old new step.kept;
@@ -230,7 +226,7 @@ module _ (d : Dfa) (h : List ℕ) (old : CacheValue) (at id m1 n1 : ℕ) (u : Op
   no_answer e to f = absurd cc
 
   module _ (new : CacheValue) (m2 n2 : ℕ) where
-    fails_on : (e : CacheError) → IsStep d old new m1 m2 n1 n2 id u (Err e) → FailsOn d h from new m2 n2 0
+    fails_on : (e : CacheError) → MakesStep d id u old new m1 m2 n1 n2 (Err e) → FailsOn d h from new m2 n2 0
     fails_on e step = record {
       leaves = leaves_one new m2 n2 (Err e) step;
       unknown = λ l. no_known (known_first l);
@@ -247,7 +243,7 @@ module _ (d : Dfa) (h : List ℕ) (old : CacheValue) (at id m1 n1 : ℕ) (u : Op
     gives_up (inl e) = absurd cc
     gives_up (inr g) = g.1
 
-    pub turn_refused : (e : CacheError) → IsStep d old new m1 m2 n1 n2 id u (Err e) → IsTurn d earliest h u from new m2 n2 (Err e)
+    pub turn_refused : (e : CacheError) → MakesStep d id u old new m1 m2 n1 n2 (Err e) → IsTurn d earliest h u from new m2 n2 (Err e)
     turn_refused NoMemory step = (
       fails_on NoMemory step,
       stays_running new m2 n2 (Err NoMemory) step,
@@ -264,7 +260,7 @@ module _ (d : Dfa) (h : List ℕ) (old : CacheValue) (at id m1 n1 : ℕ) (u : Op
 
     -- ---- where it leads
 
-    module _ (to : ℕ) (mine : IsCacheOf d new) (step : IsStep d old new m1 m2 n1 n2 id u (Ok to)) where
+    module _ (to : ℕ) (mine : IsCacheOf d new) (step : MakesStep d id u old new m1 m2 n1 n2 (Ok to)) where
       leads : Leads d new (state_at old row.0) u to
       leads = step.step (state_at old row.0) held_here
 
@@ -288,7 +284,7 @@ module _ (d : Dfa) (h : List ℕ) (old : CacheValue) (at id m1 n1 : ℕ) (u : Op
       goes_one : (last : Option (ℕ × ℕ)) → is_quit d.quits u ≡ false →
           ((s : StateValue) → HeldAt old id s → last ≡ best_recorded at (after d s u) best) →
           GoesOne d h from new m2 n2 to last
-      goes_one last quiet recs = goes_step d h old at id u own row is quiet new to m1 m2 n1 n2 best last mine step.kept step.step step.notes
+      goes_one last quiet recs = goes_step d h old at id u own row is quiet new to m1 m2 n1 n2 best last mine step.kept step.step step.noted
           step.same step.free
           step.determinized step.inserted recs step.adds
 
