@@ -38,10 +38,7 @@ impl DFA {
     {
         let class = self.class(input);
         let is_quit = self.is_quit(input);
-        match step(self, cache, current, Unit::u8(input), class, is_quit, work) {
-            Ok(to) => Ok(to),
-            Err(e) => Err(e),
-        }
+        step(self, cache, current, Unit::u8(input), class, is_quit, work)
     }
 
     /// The ID of the state behind the end of the input, as `DFA::next_eoi_state`. It is as [`next_state`](DFA::next_state)
@@ -59,10 +56,7 @@ impl DFA {
         ensures step { MakesStep self.now current None cache.old cache.new work.old.determinized work.new.determinized work.old.inserted work.new.inserted result }
     {
         let class = self.end_class();
-        match step(self, cache, current, Unit::eoi(class), class, false, work) {
-            Ok(to) => Ok(to),
-            Err(e) => Err(e),
-        }
+        step(self, cache, current, Unit::eoi(class), class, false, work)
     }
 
     /// What is known of the step from an untagged ID by a byte, as `DFA::next_state_untagged`: the ID to which it leads,

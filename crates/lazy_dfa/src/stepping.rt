@@ -236,8 +236,5 @@ pub(crate) fn step<L: Ledger, M: Ledger>(
         cache.set_cell(current, class, quit);
         return Ok(quit);
     }
-    match fill(dfa, cache, current, unit, class, work) {
-        Ok(to) => Ok(to),
-        Err(e) => Err(e),
-    }
+    fill(dfa, cache, current, unit, class, work)
 }

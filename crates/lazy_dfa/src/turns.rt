@@ -51,14 +51,8 @@ fn step_by<L: Ledger, M: Ledger>(
     ensures step { MakesStep dfa.now current unit cache.old cache.new work.old.determinized work.new.determinized work.old.inserted work.new.inserted result }
 {
     match unit {
-        Some(byte) => match dfa.next_state(cache, current, byte, work) {
-            Ok(to) => Ok(to),
-            Err(e) => Err(e),
-        },
-        None => match dfa.next_eoi_state(cache, current, work) {
-            Ok(to) => Ok(to),
-            Err(e) => Err(e),
-        },
+        Some(byte) => dfa.next_state(cache, current, byte, work),
+        None => dfa.next_eoi_state(cache, current, work),
     }
 }
 

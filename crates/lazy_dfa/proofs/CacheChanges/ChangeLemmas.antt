@@ -6,7 +6,6 @@ use Rattle.std.proofs.lemmas.Bool.{cases_lt, cases_eq, cases_Bool}
 use Rattle.std.proofs.lemmas.Bool.Decides.{leb_tells}
 use Rattle.std.specs.Prelude.{nat_le, not, ◌&&◌, is_none}
 use Rattle.std.proofs.Math.Nat.{mod-eq_of_lt}
-use Rattle.std.specs.Prelude.{Result, Ok, Err}
 use Rattle.std.proofs.lemmas.Slice.Eq.{bytes_eq-Decides}
 use lib.ListN.{get_or-append}
 use Rattle.determinize_core.specs.StateBytes.{encoded, is_match}
@@ -17,13 +16,13 @@ use Rattle.lazy_dfa.specs.Dfas.{Dfa, IsDfa, IsUnit, after, class_of, is_dead, co
 use Rattle.lazy_dfa.specs.Ids.{tag, unknown_id, is_sentinel, tagged, has_tag, start_tag}
 use Rattle.lazy_dfa.specs.Caches.{CacheValue, IsShaped, IsCacheOf, Leads, Names, names_dead, names_held, HeldAt, IsRow, same, row_holding}
 use Rattle.lazy_dfa.specs.Caches.{state_at, id_at, cell_at, with_state, cleared, usage, fits, Fits, is_refused, needs_clear, lacks_room}
-use Rattle.lazy_dfa.specs.Steps.{IsHeld, StepsTo, Added, Grew, WasCleared, ClearedFrom, kept_alone, MadeRoom, AddsOrClears, KeepsOrClears}
+use Rattle.lazy_dfa.specs.Steps.{Added, Grew, WasCleared, ClearedFrom, kept_alone, MadeRoom, AddsOrClears, KeepsOrClears}
 use Rattle.lazy_dfa.specs.Steps.{noted, IsKnown, IsNoted, GivesUp, StepNeedsClear, IsCause, IsStepCause}
 use Rattle.lazy_dfa.specs.declared.cache_error.CacheError.{CacheError}
 use Rattle.lazy_dfa.specs.declared.cache_error.CacheError.TheVariants.{GaveUp, NoMemory}
 use Rattle.lazy_dfa.proofs.CacheChanges.ListLemmas.{one_longer}
 use Rattle.lazy_dfa.proofs.CacheChanges.CacheLemmas.{IsShaped-cleared}
-use Rattle.lazy_dfa.proofs.CacheChanges.IsCacheLemmas.{names_added, names_cells, place_inside, untagged, row_place, row_is_plain, same_row, row_of_held}
+use Rattle.lazy_dfa.proofs.CacheChanges.IsCacheLemmas.{names_added, names_cells, place_inside, untagged, row_place, row_is_plain, same_row}
 use Rattle.lazy_dfa.proofs.CacheChanges.IsCacheLemmas.{row_quotient, le_of, lt_of}
 
 -- ---- a state more
@@ -450,45 +449,6 @@ module _ (d : Dfa) (v : CacheValue) (id c cell : ℕ) (u : Option ℕ) (made : I
 
   pub known_cell : nat_le unknown_id cell ≡ false → noted d v id u ≢ unknown_id
   known_cell e f = let l = lt_of unknown_id cell e in let g = noted_read in omega (arith, l, f, g)
-
--- what a step answers is held
-pub held_from : (d : Dfa) (v w : CacheValue) (id to : ℕ) (u : Option ℕ) → IsHeld v id → (is_sentinel id ≡ true → (to ≡ id) × (w ≡ v)) →
-    StepsTo d v w id u to → IsHeld w to
-held_from d v w id to u held loops steps = ⊎_elim
-    (λ (e : is_sentinel id ≡ true). subst (λ (n : ℕ). IsHeld w n) (sym (loops e).0)
-    (subst (λ (x : CacheValue). IsHeld x id) (sym (loops e).1) held))
-    (λ (e : is_sentinel id ≡ false).
-    let x = row_of_held v id held e in
-    led (state_at v x.0) (steps (state_at v x.0) (x.0, x.1, x.2, refl)))
-    (cases_Bool (is_sentinel id))
-  where
-    named : (s : StateValue) → Names w to s → IsHeld w to
-    named s (names_dead e f) = inl e
-    named s (names_held h) = inr (inr (h.0, h.1, h.2))
-
-    led : (s : StateValue) → Leads d w s u to → IsHeld w to
-    led s x = ⊎_elim
-        (λ (q : is_quit d.quits u ≡ true). inr (inl (x.quits q)))
-        (λ (q : is_quit d.quits u ≡ false). named (after d s u) (x.goes q))
-        (cases_Bool (is_quit d.quits u))
-
--- an answer of a step
-abbrev pub answered : ℕ → Result ℕ CacheError
-answered to = Ok to
-
-abbrev pub answered_err : CacheError → Result ℕ CacheError
-answered_err e = Err e
-
-abbrev answer_of : Result ℕ CacheError → ℕ
-answer_of (Ok to) = to
-answer_of (Err e) = 0
-
--- the same by what a step ensures
-pub step_held : (d : Dfa) (v w : CacheValue) (id to : ℕ) (u : Option ℕ) → IsHeld v id →
-    (is_sentinel id ≡ true → answered to ≡ answered id) →
-    (IsKnown d v id u → w ≡ v) → StepsTo d v w id u to → IsHeld w to
-step_held d v w id to u held loops unchanged steps =
-    held_from d v w id to u held (λ s. (ap (λ (r : Result ℕ CacheError). answer_of r) (loops s), unchanged (inl s))) steps
 
 -- what is read at an untagged ID
 pub plain_place : (d : Dfa) (v : CacheValue) (id c b : ℕ) → IsDfa d → IsCacheOf d v → b < 256 → c ≡ class_of d.classes (Some b) → id < tag →

@@ -1,6 +1,7 @@
 -- What steps promise that make no state: from a sentinel, one that is known, read from its cell, and one by a quit byte.
-use Rattle.std.proofs.Common.{◌≡◌, ℕ, ◌+◌, ◌%◌, true, false, get_or, set, Option, refl, sym, ap, ◌∙◌, subst, inl, inr, true≢false}
-use Rattle.std.specs.Prelude.{nat_le, Result, Ok, Err}
+use Rattle.std.proofs.Common.{◌≡◌, ℕ, ◌+◌, ◌%◌, true, false, get_or, set, Option, refl, sym, ap, ◌∙◌, subst, inl, inr, ⊎_elim, true≢false}
+use Rattle.std.specs.Prelude.{nat_le, Result, Ok, Err, IfOk}
+use Rattle.std.proofs.lemmas.Bool.{cases_Bool}
 use Rattle.lazy_dfa.specs.Caches.{CacheValue, IsShaped, IsCacheOf, IsRow, HeldAt, Leads, state_at}
 use Rattle.lazy_dfa.specs.declared.cache_error.CacheError.{CacheError}
 use Rattle.lazy_dfa.specs.declared.cache_error.CacheError.TheVariants.{GaveUp}
@@ -10,10 +11,11 @@ use Rattle.lazy_dfa.specs.Readers.{is_quit}
 use Rattle.lazy_dfa.specs.StepPromises.{MakesStep}
 use Rattle.lazy_dfa.specs.Steps.{IsHeld, StepsTo, Grew, IsKnown, noted, most_inserts}
 use Rattle.lazy_dfa.proofs.CacheChanges.AddsLemmas.{same_states, step_adds_none}
-use Rattle.lazy_dfa.proofs.CacheChanges.ChangeLemmas.{grew_refl, same_grew, added_refl, grew_cell, set_is_noted, no_row, noted_read, known_cell}
-use Rattle.lazy_dfa.proofs.CacheChanges.ChangeLemmas.{unknown_here, answered}
+use Rattle.lazy_dfa.proofs.CacheChanges.ChangeLemmas.{grew_refl, same_grew, added_refl, grew_cell, set_is_noted, no_row, noted_read}
+use Rattle.lazy_dfa.proofs.CacheChanges.ChangeLemmas.{known_cell, unknown_here}
 use Rattle.lazy_dfa.proofs.HalfSearches.CountedLemmas.{none_counted}
-use Rattle.lazy_dfa.proofs.CacheChanges.IsCacheLemmas.{no_step, known_leads, is_cache_stepped, leads_quit, leads_stepped, steps_of_row}
+use Rattle.lazy_dfa.proofs.CacheChanges.IsCacheLemmas.{row_of_held, no_step, known_leads, is_cache_stepped, leads_quit, leads_stepped}
+use Rattle.lazy_dfa.proofs.CacheChanges.IsCacheLemmas.{steps_of_row}
 use Rattle.lazy_dfa.proofs.CacheChanges.LinkedLemmas.{held_leads}
 use Rattle.lazy_dfa.proofs.CacheChanges.StartChangeLemmas.{known_tags, known_quits}
 
@@ -28,9 +30,29 @@ pub not_known_there : (d : Dfa) (v : CacheValue) (id : ℕ) (u : Option ℕ) →
 not_known_there d v id u shape row unknown (inl is) = no_row v id shape is row
 not_known_there d v id u shape row unknown (inr n) = n unknown
 
+abbrev answered : ℕ → Result ℕ CacheError
+answered to = Ok to
+
 no_refusal : (to : ℕ) (e : CacheError) → answered to ≡ Err e → ⊥
 no_refusal to e f = absurd cc
 
+abbrev answer_of : Result ℕ CacheError → ℕ
+answer_of (Ok to) = to
+answer_of (Err e) = 0
+
+-- what a step from an ID that is held answers is held
+pub step_held : (d : Dfa) (id : ℕ) (u : Option ℕ) (old new : CacheValue) (m1 m2 n1 n2 : ℕ) (r : Result ℕ CacheError) → IsHeld old id →
+    MakesStep d id u old new m1 m2 n1 n2 r → IfOk r (λ to. IsHeld new to)
+step_held d id u old new m1 m2 n1 n2 (Err e) held x = tt
+step_held d id u old new m1 m2 n1 n2 (Ok to) held x = ⊎_elim
+    (λ (is : is_sentinel id ≡ true). subst (IsHeld new) (sym (ap answer_of (x.loops is)))
+    (subst (λ (v : CacheValue). IsHeld v id) (sym (x.same (inl is))) held))
+    (λ (plain : is_sentinel id ≡ false).
+    let row = row_of_held old id held plain in
+    held_leads d new (state_at old row.0) u to (x.step (state_at old row.0) (row.0, row.1, row.2, refl)))
+    (cases_Bool (is_sentinel id))
+
+-- a sentinel leads to itself
 pub sentinel_step : (d : Dfa) (v : CacheValue) (id : ℕ) (u : Option ℕ) → IsShaped v → is_sentinel id ≡ true → (m n : ℕ) →
     MakesStep d id u v v m m n n (Ok id)
 sentinel_step d v id u shape is m n = record {
@@ -54,6 +76,7 @@ sentinel_step d v id u shape is m n = record {
   inserted = none_counted n (most_inserts d);
 }
 
+-- one that is known leads where its cell says
 module _ (d : Dfa) (v : CacheValue) (id c to : ℕ) (u : Option ℕ) (made : IsDfa d) (own : IsCacheOf d v) (row : IsRow v id)
     (unit : IsUnit u) (class : c ≡ class_of d.classes u) (read : to ≡ get_or v.cells (id % tag + c) 0)
     (known : nat_le unknown_id to ≡ false) where

@@ -74,12 +74,12 @@ fill-requires-clause-unknown g c = unknown_here c.args.dfa.now c.args.cache.now 
     (row_of_held c.args.cache.now c.args.current c.requires.held (sym c.is_sentinel.ensures ∙ c.if-is_sentinel.false))
     (sym c.is_not_known.ensures ∙ c.if-not-is_not_known.false)
 
-pub returns-in-Ok-clause-own : goal.returns-in-Ok-clause-own
-returns-in-Ok-clause-own g c = c.in-Ok.ensures.own
+pub returns-clause-own : goal.returns-clause-own
+returns-clause-own g c = c.fill.ensures.own
 
-pub returns-in-Ok-clause-step : goal.returns-in-Ok-clause-step
-returns-in-Ok-clause-step g c =
-    let x = c.in-Ok.ensures in
+pub returns-clause-step : goal.returns-clause-step
+returns-clause-step g c =
+    let x = c.fill.ensures in
     let row = row_of_held c.args.cache.now c.args.current c.requires.held (sym c.is_sentinel.ensures ∙ c.if-is_sentinel.false) in
     let quiet = sym c.requires.quit ∙ c.if-is_quit.false in
     let unknown = unknown_here c.args.dfa.now c.args.cache.now c.args.current c.args.class c.cell-cell.result
@@ -94,43 +94,10 @@ returns-in-Ok-clause-step g c =
       known = λ plain k. absurd (k unknown);
       noted = x.noted;
       ok = x.ok;
-      err = tt;
-      gave_up = x.gave_up;
-      kept = x.kept;
-      remains = x.remains;
-      cause = x.cause;
-      adds = x.adds;
-      same = λ k. absurd (never k);
-      free = λ k. absurd (never k);
-      spares = λ q. absurd (true≢false (sym q ∙ quiet));
-      determinized = one_counted c.fill.new.work.determinized c.args.work.now.determinized x.determinized;
-      inserted = x.inserted;
-    }
-
-pub returns-in-Err-clause-own : goal.returns-in-Err-clause-own
-returns-in-Err-clause-own g c = c.in-Err.ensures.own
-
-pub returns-in-Err-clause-step : goal.returns-in-Err-clause-step
-returns-in-Err-clause-step g c =
-    let x = c.in-Err.ensures in
-    let row = row_of_held c.args.cache.now c.args.current c.requires.held (sym c.is_sentinel.ensures ∙ c.if-is_sentinel.false) in
-    let quiet = sym c.requires.quit ∙ c.if-is_quit.false in
-    let unknown = unknown_here c.args.dfa.now c.args.cache.now c.args.current c.args.class c.cell-cell.result
-    (unit_byte c.args.unit) c.is_made.ensures c.requires.own c.requires.unit c.requires.class c.cell-cell.ensures row
-    (sym c.is_not_known.ensures ∙ c.if-not-is_not_known.false) in
-    let never = not_known_there c.args.dfa.now c.args.cache.now c.args.current (unit_byte c.args.unit) c.requires.own.shape row unknown in
-    record {
-      loops = λ is. absurd (no_row c.args.cache.now c.args.current c.requires.own.shape is row);
-      quits = λ plain q. absurd (true≢false (sym q ∙ quiet));
-      step = tt;
-      tag = tt;
-      known = λ plain k. absurd (k unknown);
-      noted = tt;
-      ok = tt;
       err = x.err;
       gave_up = x.gave_up;
       kept = x.kept;
-      remains = tt;
+      remains = x.remains;
       cause = x.cause;
       adds = x.adds;
       same = λ k. absurd (never k);
