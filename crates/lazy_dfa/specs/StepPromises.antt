@@ -23,12 +23,12 @@ pub record MakesStep (d : Dfa) (id : ℕ) (u : Option ℕ) (old new : CacheValue
   pub known : is_sentinel id ≡ false → noted d old id u ≢ unknown_id → r ≡ Ok (noted d old id u)
   -- and the answer is noted, where the ID stepped from still names its state
   pub noted : IfOk r (λ to. IsNoted d old new id u to)
-  -- it isn't told where it gives up, nor for any other cause but memory
+  -- it is refused where it gives up, and else for want of memory alone
   pub ok : OnOk r (¬ GivesUp d old id u)
   pub err : IfErr r (λ e. IsStepCause d old id u e)
   -- one that gives up leaves the cache as it is
   pub gave_up : r ≡ Err GaveUp → new ≡ old
-  -- the cache keeps what it has, or is cleared to two states at most, where a clear was needed; then these two alone are left
+  -- the cache keeps what it has, or is cleared where a clear was needed: then the states stepped from and stepped to alone are left
   pub kept : KeepsOrClears d old new
   pub remains : OnOk r (Grew d old new ⊎ ClearedFrom d old new id u)
   pub cause : Grew d old new ⊎ StepNeedsClear d old id u
@@ -37,7 +37,7 @@ pub record MakesStep (d : Dfa) (id : ℕ) (u : Option ℕ) (old new : CacheValue
   -- one that is known leaves the cache as it is, and makes nothing
   pub same : IsKnown d old id u → new ≡ old
   pub free : IsKnown d old id u → (m2 ≡ m1) × (n2 ≡ n1)
-  -- nor does one by a quit byte
+  -- a quit byte makes nothing either
   pub spares : is_quit d.quits u ≡ true → (m2 ≡ m1) × (n2 ≡ n1)
   -- it makes one state at most, and puts few names into sets for it
   pub determinized : m2 ≤ m1 + 1
