@@ -37,9 +37,9 @@ pub record AnswersStart (d : Dfa) (old new : CacheValue) (c : StartValue) (quit_
   pub start : start_refusal d c ≡ None → IfOk r (λ id. IsStart d new c id)
   pub err : start_refusal d c ≡ None → IfErr r (λ k. (e : StartError) × IsStartCause d old c e × (k ≡ error_at quit_place place e))
 
--- All else that a start promises, forward and in reverse alike. The numbers say how many states were made, and how many names were put
--- into sets for them, before and after.
-pub record MakesStart (d : Dfa) (c : StartValue) (old new : CacheValue) (m1 m2 n1 n2 : ℕ) (r : Result ℕ MatchErrorKind) : Type 0 where
+-- All else that a start promises, of a search over an input or not, whatever its refusals are. The numbers say how many states were
+-- made, and how many names were put into sets for them, before and after.
+pub record MakesStart {E : Type 0} (d : Dfa) (c : StartValue) (old new : CacheValue) (m1 m2 n1 n2 : ℕ) (r : Result ℕ E) : Type 0 where
   -- its ID is held, and noted where there is such a pattern
   pub held : IfOk r (λ id. IsHeld new id)
   pub noted : IfOk r (λ id. (q : ℕ) → start_in d (mode_of c.anchored) ≡ Some q → start_noted d new c ≡ id)

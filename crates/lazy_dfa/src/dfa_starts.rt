@@ -1,13 +1,12 @@
 //! The starts of searches over a DFA.
-ghost use Rattle.std.specs.Prelude.{◌≡◌, ◌≢◌, ◌⊎◌, ◌+◌, ◌<◌, ◌≤◌, ℕ, None, Some, Ok, Err, IfOk, OnOk, IfErr, MatchOption, MatchResult, IfSome, length, ⊤};
+ghost use Rattle.std.specs.Prelude.{◌≡◌, ◌<◌, ◌≤◌, None, Some, Ok, Err, IfOk, IfErr, MatchOption, IfSome, length, ⊤};
 ghost use Rattle.determinize_core.specs.Starts.{start_of};
 ghost use Rattle.lazy_dfa.specs.Caches.{IsCacheOf};
 ghost use Rattle.lazy_dfa.specs.Dfas.{start_in};
-ghost use Rattle.lazy_dfa.specs.Ids.{unknown_id, dead_id};
 ghost use Rattle.lazy_dfa.specs.declared.cache_error.CacheError.TheVariants.{GaveUp};
 ghost use Rattle.lazy_dfa.specs.declared.start_error.StartError.TheVariants.{Cache as CacheRefusal};
-ghost use Rattle.lazy_dfa.specs.StartCalls.{mode_of, behind_refusal, mode_refusal, start_refusal, start_error_of, start_noted, start_first, IsStart, IsStartKnown, IsStartCause, StartGivesUp, TagsStart, StartNeedsClear, StartCleared, StartAdds};
-ghost use Rattle.lazy_dfa.specs.Steps.{IsHeld, Grew, WasCleared, most_inserts};
+ghost use Rattle.lazy_dfa.specs.StartCalls.{mode_of, behind_refusal, mode_refusal, start_refusal, start_error_of, IsStart, IsStartCause};
+ghost use Rattle.lazy_dfa.specs.SearchStarts.{MakesStart};
 
 use crate::cache_error::CacheError;
 use crate::dfa::{Cache, DFA};
@@ -110,21 +109,8 @@ impl DFA {
         ensures refused { MatchOption (start_refusal self.now config.now) ⊤ (λ e. result ≡ Err e) }
         ensures start { start_refusal self.now config.now ≡ None → IfOk result (λ id. IsStart self.now cache.new config.now id) }
         ensures err { start_refusal self.now config.now ≡ None → IfErr result (λ e. IsStartCause self.now cache.old config.now e) }
-        ensures held { IfOk result (λ id. IsHeld cache.new id) }
-        ensures noted { IfOk result (λ id. (q : ℕ) → start_in self.now (mode_of config.now.anchored) ≡ Some q → start_noted self.now cache.new config.now ≡ id) }
-        ensures known { start_refusal self.now config.now ≡ None → (q : ℕ) → start_in self.now (mode_of config.now.anchored) ≡ Some q → start_noted self.now cache.old config.now ≢ unknown_id → result ≡ Ok (start_noted self.now cache.old config.now) }
-        ensures none { start_refusal self.now config.now ≡ None → start_in self.now (mode_of config.now.anchored) ≡ None → result ≡ Ok (dead_id cache.new.stride) }
-        ensures same { IsStartKnown self.now cache.old config.now → cache.new ≡ cache.old }
-        ensures free { IsStartKnown self.now cache.old config.now → work.new ≡ work.old }
-        ensures kept { Grew self.now cache.old cache.new ⊎ WasCleared cache.old cache.new 1 }
-        ensures remains { OnOk result (Grew self.now cache.old cache.new ⊎ StartCleared self.now cache.old cache.new config.now) }
-        ensures cause { Grew self.now cache.old cache.new ⊎ StartNeedsClear self.now cache.old config.now }
-        ensures adds { StartAdds self.now cache.old cache.new config.now }
-        ensures ok { OnOk result (¬ StartGivesUp self.now cache.old config.now) }
         ensures gave_up { result ≡ Err (CacheRefusal GaveUp) → cache.new ≡ cache.old }
-        ensures tag { IfOk result (λ id. (q : ℕ) → start_in self.now (mode_of config.now.anchored) ≡ Some q → TagsStart self.now cache.old (start_first self.now config.now q) id) }
-        ensures determinized { work.new.determinized ≤ work.old.determinized + 1 }
-        ensures inserted { work.new.inserted ≤ work.old.inserted + most_inserts self.now }
+        ensures made { MakesStart self.now config.now cache.old cache.new work.old.determinized work.new.determinized work.old.inserted work.new.inserted result }
     {
         self.is_made();
         let look_behind = config.get_look_behind();

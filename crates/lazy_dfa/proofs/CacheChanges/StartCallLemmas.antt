@@ -87,6 +87,9 @@ pub fine_of : (d : Dfa) (c : StartValue) (r : Option StartError) (o : Option ℕ
     mode_refusal d c.anchored ≡ None
 fine_of d c r o m none e f g = mode_fine d c (allowed_of d c r o m none e f g)
 
+told_known : (id n : ℕ) (r : Result ℕ CacheError) (t : Result ℕ StartError) → r ≡ Ok id → r ≡ Ok n → t ≡ Ok id → t ≡ Ok n
+told_known id n r t e f g = let same : id ≡ n = cc in g ∙ ap (λ (i : ℕ). Ok i) same
+
 module _ (d : Dfa) (c : StartValue) (n q : ℕ) (s : Start) (named : Some q ≡ start_in d (mode_of c.anchored))
     (number : n ≡ mode_of c.anchored)
     (is : s ≡ start_of d.nfa.terminator c.look_behind) where
@@ -133,6 +136,12 @@ module _ (d : Dfa) (c : StartValue) (n q : ℕ) (s : Start) (named : Some q ≡ 
   pub start_noted_at : (v : CacheValue) (id : ℕ) → get_or v.starts (slot_of_start n s) 0 ≡ id → start_noted d v c ≡ id
   start_noted_at v id e = ap (λ (i : ℕ). get_or v.starts i 0) (sym same_slot) ∙ e
 
+  -- one that was known is answered
+  pub start_known : (old : CacheValue) (id : ℕ) (r : Result ℕ CacheError) (t : Result ℕ StartError) → r ≡ Ok id → t ≡ Ok id →
+      r ≡ Ok (get_or old.starts (slot_of_start n s) 0) → t ≡ Ok (start_noted d old c)
+  start_known old id r t e f g =
+      told_known id (start_noted d old c) r t e (g ∙ ap (λ (i : ℕ). Ok (get_or old.starts i 0)) same_slot) f
+
   pub start_tagged : (old : CacheValue) (id : ℕ) → TagsStart d old (first_state d s q) id → (r : ℕ) →
       start_in d (mode_of c.anchored) ≡ Some r → TagsStart d old (start_first d c r) id
   start_tagged old id h r e =
@@ -158,6 +167,11 @@ module _ (d : Dfa) (c : StartValue) (n q : ℕ) (s : Start) (named : Some q ≡ 
           (subst (λ (t : Start). lacks_room d old (first_state d t q) ≡ true) is h.1);
     },
   )
+
+-- a start for a pattern that there isn't doesn't give up
+pub no_start_gives_up : (d : Dfa) (old : CacheValue) (c : StartValue) → start_in d (mode_of c.anchored) ≡ None → StartGivesUp d old c → ⊥
+no_start_gives_up d old c none gives =
+    subst (λ (o : Option ℕ). MatchOption o ⊥ (λ q. lacks_room d old (start_first d c q) ≡ true)) none gives.lacks
 
 -- a start gave up only where its state did
 pub gave_up_back : (e : CacheError) → start_error_of e ≡ Cache GaveUp → e ≡ GaveUp
@@ -187,6 +201,3 @@ pub told_gave_up : (e : CacheError) (x : StartError) (r : Result ℕ StartError)
 told_gave_up e x r s told f g h =
     let there : x ≡ Cache GaveUp = cc in
     g ∙ ap (λ (y : CacheError). Err y) (gave_up_back e (sym told ∙ there))
-
-pub told_known : (id n : ℕ) (r : Result ℕ CacheError) (t : Result ℕ StartError) → r ≡ Ok id → r ≡ Ok n → t ≡ Ok id → t ≡ Ok n
-told_known id n r t e f g = let same : id ≡ n = cc in g ∙ ap (λ (i : ℕ). Ok i) same

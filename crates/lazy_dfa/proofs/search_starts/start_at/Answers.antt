@@ -24,13 +24,13 @@ pub returns-in-Err-clause-own : goal.returns-in-Err-clause-own
 returns-in-Err-clause-own g c = c.in-Err.ensures.own
 
 pub returns-in-Ok-clause-start : goal.returns-in-Ok-clause-start
-returns-in-Ok-clause-start g c = let x = c.in-Ok.ensures in record {
+returns-in-Ok-clause-start g c = let x = c.in-Ok.ensures.made in record {
   held = x.held;
   noted = x.noted;
   known = λ none q is there. same_answer c.in-Ok.id (start_noted c.args.dfa.now c.args.cache.now c.args.config.now) (x.known none q is there);
   none = λ none is. same_answer c.in-Ok.id (dead_id c.start_state.new.cache.stride) (x.none none is);
   same = x.same;
-  free = λ k. (λ i. (x.free k i).determinized, λ i. (x.free k i).inserted);
+  free = x.free;
   kept = x.kept;
   remains = x.remains;
   cause = x.cause;
@@ -42,13 +42,13 @@ returns-in-Ok-clause-start g c = let x = c.in-Ok.ensures in record {
 }
 
 pub returns-in-Err-clause-start : goal.returns-in-Err-clause-start
-returns-in-Err-clause-start g c = let x = c.in-Err.ensures in record {
+returns-in-Err-clause-start g c = let x = c.in-Err.ensures.made in record {
   held = tt;
   noted = tt;
   known = λ none q is there. no_answer c.in-Err.e (start_noted c.args.dfa.now c.args.cache.now c.args.config.now) _ (x.known none q is there);
   none = λ none is. no_answer c.in-Err.e (dead_id c.start_state.new.cache.stride) _ (x.none none is);
   same = x.same;
-  free = λ k. (λ i. (x.free k i).determinized, λ i. (x.free k i).inserted);
+  free = x.free;
   kept = x.kept;
   remains = tt;
   cause = x.cause;
