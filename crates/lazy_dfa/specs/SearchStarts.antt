@@ -1,4 +1,4 @@
--- What starts of searches over an input answer, with the refusals of searches.
+-- What starts of searches over an input answer, with the refusals of searches, and what each start promises.
 use Rattle.std.specs.Prelude.{◌≡◌, ◌≢◌, ◌⊎◌, ℕ, ◌+◌, ◌≤◌, MatchOption, Some, None, Result, Ok, Err, IfOk, IfErr, OnOk, ⊤}
 use Rattle.search_core.specs.Text.{byte_at, byte_before}
 use Rattle.search_types.specs.Inputs.{Search}
