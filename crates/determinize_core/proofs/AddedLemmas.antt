@@ -43,41 +43,20 @@ kept_first a q qs xs = kept_by (is_kept a q) q xs (kept_among a qs) (kept_among 
 abbrev with_ids : StateValue → List ℕ → StateValue
 with_ids v ids = record v { ids = v.ids ++ ids }
 
-module _ (qs : List ℕ) (k : ℕ) (v w : StateValue) where
-  -- a state more was added
-  pub ids_left : (q : ℕ) (x : StateValue) → drop k qs ≡ q ∷ drop (k + 1) qs → x ≡ with_ids v (q ∷ []) → with_ids v (drop k qs) ≡ w →
-      with_ids x (drop (k + 1) qs) ≡ w
-  ids_left q x left e all =
-      ap (λ (y : StateValue). with_ids y (drop (k + 1) qs)) e
-      ∙ (ap (λ (l : List ℕ). record v { ids = l }) (append_assoc v.ids (q ∷ []) (drop (k + 1) qs))
-      ∙ (ap (with_ids v) (sym left) ∙ all))
+module _ (qs : List ℕ) (k : ℕ) (v w : StateValue) (a : Automaton) where
+  -- a state more was added, if it is kept
+  pub kept_left : (q : ℕ) (x : StateValue) → drop k qs ≡ q ∷ drop (k + 1) qs → x ≡ with_ids v (kept_among a (q ∷ [])) →
+      with_ids v (kept_among a (drop k qs)) ≡ w →
+      with_ids x (kept_among a (drop (k + 1) qs)) ≡ w
+  kept_left q x left e all =
+      ap (λ (y : StateValue). with_ids y (kept_among a (drop (k + 1) qs))) e
+      ∙ (ap (λ (l : List ℕ). record v { ids = l }) (sym (kept_first a q (drop (k + 1) qs) v.ids))
+      ∙ (ap (λ (l : List ℕ). with_ids v (kept_among a l)) (sym left) ∙ all))
 
   -- all were
-  pub ids_done : drop k qs ≡ [] → with_ids v (drop k qs) ≡ w → v ≡ w
-  ids_done none all = ap (λ (l : List ℕ). record v { ids = l }) (sym (append-nil v.ids)) ∙ (ap (with_ids v) (sym none) ∙ all)
-
-  -- the same of those that are kept
-  module _ (a : Automaton) where
-    pub kept_left : (q : ℕ) (x : StateValue) → drop k qs ≡ q ∷ drop (k + 1) qs → x ≡ with_ids v (kept_among a (q ∷ [])) →
-        with_ids v (kept_among a (drop k qs)) ≡ w →
-        with_ids x (kept_among a (drop (k + 1) qs)) ≡ w
-    kept_left q x left e all =
-        ap (λ (y : StateValue). with_ids y (kept_among a (drop (k + 1) qs))) e
-        ∙ (ap (λ (l : List ℕ). record v { ids = l }) (sym (kept_first a q (drop (k + 1) qs) v.ids))
-        ∙ (ap (λ (l : List ℕ). with_ids v (kept_among a l)) (sym left) ∙ all))
-
-    pub kept_done : drop k qs ≡ [] → with_ids v (kept_among a (drop k qs)) ≡ w → v ≡ w
-    kept_done none all = ap (λ (l : List ℕ). record v { ids = l }) (sym (append-nil v.ids))
-        ∙ (ap (λ (l : List ℕ). with_ids v (kept_among a l)) (sym none) ∙ all)
-
-module _ (a : Automaton) (qs : List ℕ) (k s all : ℕ) where
-  -- the looks of a state more were joined
-  pub looks_left : (q t : ℕ) → drop k qs ≡ q ∷ drop (k + 1) qs → t ≡ union_of s (look_of (node_at a q)) →
-      looks_with a s (drop k qs) ≡ all → looks_with a t (drop (k + 1) qs) ≡ all
-  looks_left q t left e h = ap (λ (n : ℕ). looks_with a n (drop (k + 1) qs)) e ∙ (ap (looks_with a s) (sym left) ∙ h)
-
-  pub looks_done : drop k qs ≡ [] → looks_with a s (drop k qs) ≡ all → s ≡ all
-  looks_done none h = sym (ap (looks_with a s) none) ∙ h
+  pub kept_done : drop k qs ≡ [] → with_ids v (kept_among a (drop k qs)) ≡ w → v ≡ w
+  kept_done none all = ap (λ (l : List ℕ). record v { ids = l }) (sym (append-nil v.ids))
+      ∙ (ap (λ (l : List ℕ). with_ids v (kept_among a l)) (sym none) ∙ all)
 
 -- ---- automata without looks, and without captures
 

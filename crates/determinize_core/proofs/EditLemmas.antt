@@ -64,14 +64,6 @@ keeps_half old new of e = told_unfinished (record (decoded_unfinished old) { is_
         ap (λ (f : ℕ). f ∷ ((in_four_bytes v.look_have ++ in_four_bytes v.look_need) ++ pattern_bytes (is_listed v.matches) 0 v.matches))
         (set_half (is_match v.matches) (is_listed v.matches) v.is_from_word v.is_half_crlf)
 
--- the looks
-pub keeps_have_unfinished : (old new : List ℕ) (looks : ℕ) → IsUnfinished old → IsLookSet looks →
-    new ≡ take 1 old ++ (in_four_bytes looks ++ drop 5 old) → IsUnfinished new ×
-    (decoded_unfinished new ≡ record (decoded_unfinished old) { look_have = looks })
-keeps_have_unfinished old new looks of within e = told_unfinished (record (decoded_unfinished old) { look_have = looks }) new
-    (record { have = within; need = of.state.need; patterns = of.state.patterns; once = of.state.once; states = of.state.states }) refl
-    (e ∙ ap (λ (xs : List ℕ). take 1 xs ++ (in_four_bytes looks ++ drop 5 xs)) of.same)
-
 pub keeps_have : (old new : List ℕ) (looks : ℕ) → IsEncoded old → IsLookSet looks →
     new ≡ take 1 old ++ (in_four_bytes looks ++ drop 5 old) →
     IsEncoded new × (decoded new ≡ record (decoded old) { look_have = looks })

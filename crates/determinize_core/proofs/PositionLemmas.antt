@@ -87,10 +87,6 @@ reads_at ps i p n m within read is =
     let inside : nat_lt i (length ps) ≡ true = grind (arith, within) in
     ap (λ (k : ℕ). nat_eq k m) read ∙ (ap (nat_eq (get_or ps i 0)) is ∙ rw inside refl)
 
--- one pattern or none
-pub few_noted : (noted ps : List ℕ) → length ps ≤ 1 → ArePositions noted ps
-few_noted noted ps few i past within = absurd (omega (arith, few, past, within))
-
 -- the same list
 pub noted_same : (noted ps qs : List ℕ) → qs ≡ ps → ArePositions noted ps → ArePositions noted qs
 noted_same noted ps qs same at = subst (ArePositions noted) (sym same) at

@@ -1,18 +1,13 @@
 -- What a start state is put together of.
-use Rattle.std.proofs.Common.{◌≡◌, ℕ, ◌+◌, ◌<◌, ◌≤◌, List, [], ◌∷◌, length, drop, All, ap, ◌∙◌, arith, subst}
+use Rattle.std.proofs.Common.{◌≡◌, ℕ, ◌+◌, ◌<◌, ◌≤◌, List, [], ◌∷◌, length, drop, All, ap, arith, subst}
 use Rattle.std.specs.Bool.{nat_eq}
 use Rattle.std.specs.List.{IsDistinct}
-use Rattle.look_core.specs.Terminators.{Terminator}
 use Rattle.nfa_core.specs.Walks.{Visits}
 use Rattle.nfa_core.specs.Nfa.{Automaton, IsWellFormed}
 use Rattle.nfa_core.specs.Reached.{AreBelow}
 use Rattle.nfa_core.proofs.ForCallers.{none_in, of_cons, names_equal, has_from_all}
-use Rattle.determinize_core.specs.States.{StateValue, dead}
-use Rattle.determinize_core.specs.LookBehind.{with_look_behind}
 use Rattle.determinize_core.specs.Costs.{known_ways, free_ways}
-use Rattle.determinize_core.specs.Steps.{known_steps, closed, with_states, behind_of_start, start_value}
-use Rattle.determinize_core.specs.declared.start.Start.{Start}
-use Rattle.determinize_core.proofs.KnownStateLemmas.{fresh_with_known}
+use Rattle.determinize_core.specs.Steps.{known_steps, closed}
 use Rattle.determinize_core.proofs.CloseAllLemmas.{closed_is, once_from_distinct, ways_once}
 
 pub one_inside : (n q : ℕ) → q < n → AreBelow n (q ∷ [])
@@ -23,18 +18,6 @@ module _ (a : Automaton) (formed : IsWellFormed a) (q : ℕ) (low : q < length a
   pub one_closed : set ≡ closed a looks (q ∷ [])
   one_closed = closed_is a looks formed (q ∷ []) set (one_inside (length a.states) q low)
       (subst (λ (l : List ℕ). Visits nat_eq (known_steps a looks) (q ∷ []) l set) none v)
-
-module _ (a : Automaton) (q looks : ℕ) (set : List ℕ) (closes : set ≡ closed a looks (q ∷ [])) where
-  pub start_builds : (t : Terminator) (s : Start) (w x m b : StateValue) → w ≡ dead → x ≡ with_look_behind (behind_of_start a t s) w →
-      looks ≡ x.look_have → m ≡ x → b ≡ with_states a set m →
-      b ≡ start_value a t s q
-  start_builds t s w x m b begun told known same built =
-      let first : x ≡ with_look_behind (behind_of_start a t s) dead = told ∙ ap (with_look_behind (behind_of_start a t s)) begun in
-      let looks_are : looks ≡ (behind_of_start a t s).look_have = known ∙ ap (λ (y : StateValue). y.look_have) (first
-      ∙ fresh_with_known (behind_of_start a t s)) in
-      built ∙ (ap (with_states a set) (same ∙ first)
-      ∙ (ap (λ (qs : List ℕ). with_states a qs (with_look_behind (behind_of_start a t s) dead)) closes
-      ∙ ap (λ (l : ℕ). with_states a (closed a l (q ∷ [])) (with_look_behind (behind_of_start a t s) dead)) looks_are))
 
 -- what the walk from a start has cost, wherever it was cut off
 pub start_costs : (a : Automaton) (looks : ℕ) (old set : List ℕ) → old ≡ [] → IsDistinct nat_eq set → All (λ q. q < length a.states) set →

@@ -1,6 +1,6 @@
 -- What the code of the sequences does at each step.
 use Rattle.std.proofs.Common.{◌≡◌, ℕ, zero, suc, ◌+◌, ◌-◌, ◌*◌, ◌/◌, ◌%◌, ◌<◌, ◌≤◌, inl, inr, Bool, true, false, ◌&&◌, min, get_or, List}
-use Rattle.std.proofs.Common.{[], ◌∷◌, ◌++◌, length, map, reverse, drop, refl, sym, ap, ◌∙◌, arith, lit<, length-drop, subst}
+use Rattle.std.proofs.Common.{[], ◌∷◌, ◌++◌, length, map, reverse, drop, refl, sym, ap, ◌∙◌, arith, lit<, length-drop}
 use Rattle.std.specs.Int.{is_in_range}
 use Rattle.std.proofs.lemmas.Bool.{cond-true, cond-false, le-leb, lt-leb, cases_lt}
 use Rattle.std.proofs.lemmas.Bool.Decides.{eqb_tells, nat_tests}
@@ -104,23 +104,6 @@ piece_between lo hi ordered high = elim (cases_lt lo 0x80) [
       (omega (arith, e, d.0), omega (arith, e, d.1, b.1, a.1))
 ]
 
--- and in the row of its start
-pub piece_row : (lo hi : ℕ) → lo ≤ hi → lo ≤ 0x10FFFF → piece_end lo hi ≤ row_end lo
-piece_row lo hi ordered high = elim (cases_lt lo 0x80) [
-  | inl ascii ↦ let e : piece_end lo hi ≡ min hi 0x7F = cond-true _ (min hi 0x7F) _ (le-leb lo 0x7F (omega arith)) in
-      let r : row_end lo ≡ 0x7F = cond-true _ 0x7F _ (le-leb lo 0x7F (omega arith)) in
-      omega (arith, e, r)
-  | inr more ↦
-      let last = min hi (row_end lo) in
-      let r = row_holds lo high in
-      let a = between 64 lo last (lit< tt) (omega arith) in
-      let b = between 4096 lo (block_end 64 lo last) (lit< tt) a.0 in
-      let d = between 262144 lo (block_end 4096 lo (block_end 64 lo last)) (lit< tt) b.0 in
-      let e : piece_end lo hi ≡ block_end 262144 lo (block_end 4096 lo (block_end 64 lo last)) =
-      cond-false _ (min hi 0x7F) _ (lt-leb lo 0x7F (omega arith)) in
-      omega (arith, e, d.1, b.1, a.1)
-]
-
 -- ---- the pieces left
 pub scalar_above : (n : ℕ) → n ≤ scalar_from n
 scalar_above n = grind (arith, nat_tests)
@@ -176,13 +159,3 @@ sequences_step lo hi l high = ap (map byte_ranges) (pieces_step lo hi l high)
 
 pub sequences_none : (lo hi : ℕ) → hi < scalar_from lo → utf8_sequences lo hi ≡ []
 sequences_none lo hi l = ap (map byte_ranges) (pieces_none (hi + 1 - lo) lo hi (omega arith))
-
--- the first sequence, by what was computed of its piece
-pub next_sequence : (lo hi first last : ℕ) (now : List (List (ℕ × ℕ))) (r : List (ℕ × ℕ)) → utf8_sequences lo hi ≡ now →
-    first ≡ scalar_from lo → first ≤ hi → hi ≤ 0x10FFFF → last ≡ piece_end first hi → r ≡ byte_ranges (first, last) →
-    now ≡ r ∷ utf8_sequences (last + 1) hi
-next_sequence lo hi first last now r view f l high e g =
-    let there : last ≡ piece_end (scalar_from lo) hi = e ∙ ap (λ (n : ℕ). piece_end n hi) f in
-    let all : r ≡ byte_ranges (scalar_from lo, piece_end (scalar_from lo) hi) = g ∙ (λ k. byte_ranges (f k, there k)) in
-    sym view ∙ sequences_step lo hi (subst (λ (n : ℕ). n ≤ hi) f l) high
-    ∙ (λ k. (sym all) k ∷ utf8_sequences ((sym there) k + 1) hi)

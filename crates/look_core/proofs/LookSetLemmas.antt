@@ -21,7 +21,7 @@ use Rattle.look_core.specs.declared.look.Look.TheVariants.{WordUnicode, WordUnic
 use Rattle.look_core.specs.declared.look.Look.TheVariants.{WordEndUnicode, WordStartHalfAscii, WordEndHalfAscii, WordStartHalfUnicode}
 use Rattle.look_core.specs.declared.look.Look.TheVariants.{WordEndHalfUnicode}
 use Rattle.look_core.specs.Codes.{bit_of, repr, same_look, all_looks}
-use Rattle.look_core.specs.LookSets.{IsLookSet, has_look, full_set, union_of, shared_by, without, with_look, without_look, members, has_any}
+use Rattle.look_core.specs.LookSets.{IsLookSet, has_look, union_of, shared_by, without, with_look, without_look, members, has_any}
 use Rattle.look_core.specs.LookSets.{IsFirstLook}
 use Rattle.look_core.proofs.LookRows.{look_at, look_at-bit_of, bit_of-lt, bit_of-look_at}
 
@@ -128,26 +128,6 @@ has_look-none WordStartHalfAscii = refl
 has_look-none WordEndHalfAscii = refl
 has_look-none WordStartHalfUnicode = refl
 has_look-none WordEndHalfUnicode = refl
-
-pub has_look-full : (l : Look) → has_look full_set l ≡ true
-has_look-full Start = refl
-has_look-full End = refl
-has_look-full StartLF = refl
-has_look-full EndLF = refl
-has_look-full StartCRLF = refl
-has_look-full EndCRLF = refl
-has_look-full WordAscii = refl
-has_look-full WordAsciiNegate = refl
-has_look-full WordUnicode = refl
-has_look-full WordUnicodeNegate = refl
-has_look-full WordStartAscii = refl
-has_look-full WordEndAscii = refl
-has_look-full WordStartUnicode = refl
-has_look-full WordEndUnicode = refl
-has_look-full WordStartHalfAscii = refl
-has_look-full WordEndHalfAscii = refl
-has_look-full WordStartHalfUnicode = refl
-has_look-full WordEndHalfUnicode = refl
 
 pub union-lt : (s t : ℕ) → IsLookSet s → IsLookSet t → IsLookSet (union_of s t)
 union-lt s t p q = or_lt 18 s t p q

@@ -1,14 +1,7 @@
-use Rattle.std.proofs.Common.{◌≡◌, length, arith, refl, sym, ap, ◌∙◌}
+use Rattle.std.proofs.Common.{◌≡◌, length, arith, sym, ap, ◌∙◌}
 use Rattle.nfa_core.specs.States.{is_epsilon}
-use Rattle.determinize_core.proofs.ClosureLemmas.{item_at, item_below, passes_none, passes_one, passes_all}
+use Rattle.determinize_core.proofs.ClosureLemmas.{item_at, item_below, passes_one, passes_all}
 use Rattle.determinize_core.proofs.closure.meet_leaves.Goals as goal
-
-pub loop-k-init : goal.loop-k-init
-loop-k-init g c = record {
-  passes = λ looks. passes_none c.args.nfa.now.automaton looks c.args.ids.now (g.S.NameSet.names c.args.set.now);
-  bound = refl;
-  cost = omega arith;
-}
 
 pub state-requires : goal.state-requires
 state-requires g c =

@@ -1,17 +1,9 @@
-use Rattle.std.proofs.Common.{◌+◌, ◌<◌, ◌≤◌, length, drop, ◌∷◌, [], arith, refl, ◌∙◌}
+use Rattle.std.proofs.Common.{◌+◌, ◌<◌, ◌≤◌, length, drop, ◌∷◌, [], arith, ◌∙◌}
 use Rattle.nfa_core.specs.Reached.{AreBelow}
 use Rattle.nfa_core.proofs.ForCallers.{has_from_all}
 use Rattle.determinize_core.proofs.AddedLemmas.{next_left, past_all}
-use Rattle.determinize_core.proofs.CloseAllLemmas.{closes_none, closes_more, closes_all, closes_cost, cut_cost}
+use Rattle.determinize_core.proofs.CloseAllLemmas.{closes_more, closes_all, closes_cost, cut_cost}
 use Rattle.determinize_core.proofs.next_state.close_all.Goals as goal
-
-pub loop-k-init : goal.loop-k-init
-loop-k-init g c = record {
-  closes = closes_none c.args.nfa.now.automaton c.args.looks (g.S.NameSet.names c.args.from.now) c.args.steps.now
-      (g.S.NameSet.names c.args.set.now) c.requires.none;
-  empty = c.requires.empty;
-  bound = refl;
-}
 
 pub loop-k-preserved : goal.loop-k-preserved
 loop-k-preserved g c =

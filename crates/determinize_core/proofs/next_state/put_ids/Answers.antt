@@ -2,7 +2,7 @@ use Rattle.std.proofs.Common.{◌≡◌, ◌+◌, ℕ, List, length, [], arith, 
 use Rattle.std.specs.Bool.{nat_eq}
 use Rattle.nfa_core.specs.Reached.{AreBelow}
 use Rattle.nfa_core.specs.Walks.{join}
-use Rattle.nfa_core.proofs.ForCallers.{has_from_all, taken_below, left_below}
+use Rattle.nfa_core.proofs.ForCallers.{has_from_all, left_below}
 use Rattle.determinize_core.proofs.CloseAllLemmas.{joins_one}
 use Rattle.determinize_core.proofs.next_state.put_ids.Goals as goal
 
@@ -16,12 +16,6 @@ loop-id-init g c =
       bound = refl;
       cost = ap (λ (xs : List ℕ). c.args.steps.now + length xs) all;
     }
-
-pub insert-requires : goal.insert-requires
-insert-requires g c =
-    let bound : g.S.NameSet.bound c.loop-id.set ≡ g.S.NameSet.bound c.args.set.now = c.loop-id.invariant.bound in
-    rw bound (taken_below (g.S.NameSet.bound c.args.set.now) c.in-Some.id c.next.new.self c.loop-id.id-iterator c.in-Some.ensures.steps
-    c.loop-id.invariant.below)
 
 pub loop-id-preserved : goal.loop-id-preserved
 loop-id-preserved g c =

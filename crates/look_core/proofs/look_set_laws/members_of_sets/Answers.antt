@@ -1,15 +1,6 @@
-use Rattle.look_core.proofs.LookSetLemmas.{has_look-none, has_look-full, has_look-repr, has_look-union, has_look-shared, has_look-without}
+use Rattle.look_core.proofs.LookSetLemmas.{has_look-union, has_look-shared, has_look-without}
 use Rattle.look_core.proofs.LookSetLemmas.{has_look-with, has_look-without_look}
 use Rattle.look_core.proofs.look_set_laws.members_of_sets.Goals as goal
-
-pub returns-clause-empty : goal.returns-clause-empty
-returns-clause-empty c = has_look-none
-
-pub returns-clause-full : goal.returns-clause-full
-returns-clause-full c = has_look-full
-
-pub returns-clause-singleton : goal.returns-clause-singleton
-returns-clause-singleton c = has_look-repr
 
 pub returns-clause-union : goal.returns-clause-union
 returns-clause-union c = has_look-union

@@ -1,6 +1,6 @@
 use Rattle.std.proofs.Common.{arith, sym, ◌∙◌}
 use Rattle.determinize_core.proofs.ValueLemmas.{few}
-use Rattle.determinize_core.proofs.PatternLemmas.{pattern_within, pattern_told, pattern_index, told_listed, alone}
+use Rattle.determinize_core.proofs.PatternLemmas.{pattern_within, pattern_told, pattern_index}
 use Rattle.determinize_core.proofs.state.State.match_pattern.Goals as goal
 
 pub overflow_mul-index : goal.overflow_mul-index
@@ -24,7 +24,3 @@ must-requires c = omega (
 pub returns-then-has_flag : goal.returns-then-has_flag
 returns-then-has_flag c = c.must.ensures ∙ (c.number_at.ensures ∙ pattern_told c.args.self.now c.as_bytes-bytes.result.now c.args.index
     c.as_bytes-bytes.ensures.state c.as_bytes-bytes.ensures.value (sym c.has_flag.ensures ∙ c.if-has_flag.true) c.requires)
-
-pub returns : goal.returns
-returns c = sym (alone c.args.self.now.matches c.args.index (sym (told_listed c.args.self.now c.as_bytes-bytes.result.now
-    c.as_bytes-bytes.ensures.value) ∙ (sym c.has_flag.ensures ∙ c.if-has_flag.false)) c.requires)
