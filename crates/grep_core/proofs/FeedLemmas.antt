@@ -1,12 +1,15 @@
 -- The first line feed of a text, behind bytes that are none.
-use Rattle.std.proofs.Common.{◌≡◌, ◌≤◌, ◌<◌, ◌*◌, ℕ, zero, suc, ◌+◌, Bool, true, false, not, cond, List, [], ◌∷◌, length, drop, get_or}
+use Rattle.std.proofs.Common.{◌≡◌, ◌≤◌, ◌<◌, ◌*◌, ◌^◌, inl, inr, ℕ, zero, suc, ◌+◌, ◌-◌, Bool, true, false, not, cond, List, [], ◌∷◌, length, drop, get_or}
 use Rattle.std.proofs.Common.{slice_get, map, nat_lt}
 use Rattle.std.proofs.Common.{Some, None, refl, sym, ap, ◌∙◌, subst, arith, ⊎_elim, length-drop}
 use Rattle.std.proofs.lemmas.Bool.{cases_lt, ltb-true, lt-ltb, eq-eqb, cond-true, true≢false}
 use Rattle.std.proofs.lemmas.List.Sums.{prefix_len_is}
 use Rattle.std.proofs.lemmas.Option.{none-some, same_Some}
-use Rattle.std.proofs.lemmas.Simd.{trailing_mask_l, length-chunk, run_in_chunk_stops, run_in_chunk_fails, none_from_empty_mask}
-use Rattle.std.specs.Int.Count.{count_trailing_zeros}
+use Rattle.std.proofs.lemmas.Simd.{trailing_mask_l, length-chunk, run_in_chunk_stops, run_in_chunk_fails, none_from_empty_mask, get_or-chunk}
+use Rattle.std.proofs.Math.Nat.{pow-suc}
+use Rattle.std.proofs.Math.Pow.{pow_mono}
+use Rattle.std.proofs.lemmas.Nat.{leading_length}
+use Rattle.std.specs.Int.Count.{count_leading_zeros, count_trailing_zeros}
 use Rattle.std.specs.List.{position, position_or_len, prefix_len}
 use Rattle.std.specs.Simd.Lanes.{chunk, mask_l}
 use Rattle.line_trees.specs.LineTrees.{HasNoFeedFrom}
@@ -102,8 +105,52 @@ got [] i b e = absurd (none-some b e)
 got (x ∷ xs) zero b e = same_Some x b e
 got (x ∷ xs) (suc i) b e = got xs i b e
 
-pub none_of_marks : (text : List ℕ) (at bits : ℕ) → at + 32 ≤ length text → bits ≡ mask_l (map is_feed (chunk at 32 text)) → bits ≡ 0 →
-    HasNoFeedFrom text at (at + 32)
-none_of_marks text at bits room told none i low high is =
-    absurd (true≢false (sym (eq-eqb (get_or text i 0) 10 (got text i 10 is))
-    ∙ none_from_empty_mask is_feed text at 32 0 room (sym told ∙ none) i low high))
+-- the bits of bytes are below as high a power of two as there are bytes
+few_marks : (bytes : List ℕ) → mask_l (map is_feed bytes) < 2 ^ length bytes
+few_marks [] = omega arith
+few_marks (x ∷ xs) = by (is_feed x) (few_marks xs)
+  where
+    by : (v : Bool) → mask_l (map is_feed xs) < 2 ^ length xs → cond v 1 0 + 2 * mask_l (map is_feed xs) < 2 ^ suc (length xs)
+    by true few = omega (arith, few, pow-suc 2 (length xs))
+    by false few = omega (arith, few, pow-suc 2 (length xs))
+
+-- where they are below a power of two, none is a line feed from its exponent on
+high_marks : (bytes : List ℕ) (m : ℕ) → mask_l (map is_feed bytes) < 2 ^ m → (k : ℕ) → m ≤ k → k < length bytes →
+    is_feed (get_or bytes k 0) ≡ false
+high_marks [] m low k from within = absurd (omega (arith, within))
+high_marks (x ∷ xs) zero low zero from within = by (is_feed x) low
+  where
+    by : (v : Bool) → cond v 1 0 + 2 * mask_l (map is_feed xs) < 1 → v ≡ false
+    by true low = absurd (omega (arith, low))
+    by false low = refl
+high_marks (x ∷ xs) zero low (suc k) from within = high_marks xs zero (omega (arith, low)) k (omega arith) (omega (arith, within))
+high_marks (x ∷ xs) (suc m) low zero from within = absurd (omega (arith, from))
+high_marks (x ∷ xs) (suc m) low (suc k) from within =
+    let less : cond (is_feed x) 1 0 + 2 * mask_l (map is_feed xs) < 2 ^ suc m = low in
+    high_marks xs m (omega (arith, less, pow-suc 2 m)) k (omega (arith, from)) (omega (arith, within))
+
+-- behind the highest bit of 32 bytes from a place on stands no line feed
+module _ (text : List ℕ) (at bits : ℕ) (room : at + 32 ≤ length text) (told : bits ≡ mask_l (map is_feed (chunk at 32 text))) where
+  long : length (chunk at 32 text) ≡ 32
+  long = length-chunk at 32 text room
+
+  small : bits < 2 ^ 32
+  small = subst (λ n. n < 2 ^ 32) (sym told) (subst (λ n. mask_l (map is_feed (chunk at 32 text)) < 2 ^ n) long (few_marks (chunk at 32 text)))
+
+  top : (m : ℕ) × (count_leading_zeros 64 bits + m ≡ 64) × (bits < 2 ^ m) × (2 ^ m ≤ 2 * bits + 1)
+  top = leading_length 64 bits (omega (arith, small))
+
+  pub top_within : 64 - count_leading_zeros 64 bits ≤ 32
+  top_within = elim (cases_lt 32 (64 - count_leading_zeros 64 bits)) [
+    | inl high ↦ absurd (omega (arith, small, top.3, pow_mono {i = 33} {j = top.0} (omega (arith, high, top.1))))
+    | inr low ↦ low
+  ]
+
+  pub none_behind : HasNoFeedFrom text (at + (64 - count_leading_zeros 64 bits)) (at + 32)
+  none_behind i low high is =
+      let m : 64 - count_leading_zeros 64 bits ≡ top.0 = omega (arith, top.1) in
+      let off : at + (i - at) ≡ i = omega (arith, low) in
+      let none = high_marks (chunk at 32 text) top.0 (subst (λ n. n < 2 ^ top.0) told top.2) (i - at) (omega (arith, m, low))
+      (omega (arith, long, low, high)) in
+      absurd (true≢false (sym (eq-eqb (get_or text i 0) 10 (got text i 10 is))
+      ∙ sym (ap (λ k. is_feed (get_or text k 0)) off) ∙ sym (ap is_feed (get_or-chunk at 32 text (i - at) 0 (omega (arith, low, high)))) ∙ none))

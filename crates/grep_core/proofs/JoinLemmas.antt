@@ -140,6 +140,24 @@ moves_on block at behind whole below on =
     on (λ none. let over = whole_none (drop at block) (whole_behind block at whole) none in
     absurd (omega (arith, over, below, length-drop at block)))
 
+-- behind lines that were passed, or none, and perhaps one more
+pub moves_past : (block : List ℕ) (at start behind : ℕ) → AreWhole block → at < length block → at ≤ start → start ≤ behind →
+    (position is_feed (drop start block) ≢ None → start < behind) → at < behind
+moves_past block at start behind whole below from past on = elim (cases_lt at start) [
+  | inl less ↦ omega (arith, less, past)
+  | inr over ↦
+      let same : start ≡ at = omega (arith, from, over) in
+      moves_on block at behind whole below
+      (λ some. subst (λ (n : ℕ). n < behind) same (on (λ none. some (sym (ap (λ (n : ℕ). position is_feed (drop n block)) same) ∙ none))))
+]
+
+pub starts_past : (block : List ℕ) (start behind : ℕ) → IsLineStart block start → start ≤ behind →
+    (start < behind → IsLineStart block behind) → IsLineStart block behind
+starts_past block start behind here past there = elim (cases_lt start behind) [
+  | inl less ↦ there less
+  | inr over ↦ let same : start ≡ behind = omega (arith, past, over) in subst (λ (n : ℕ). IsLineStart block n) same here
+]
+
 -- ---- the whole lines of a block, and what stands behind them
 rejoin : (block more : List ℕ) (whole done : ℕ) → done ≤ whole →
     drop done (take whole block) ++ (drop whole block ++ more) ≡ drop done block ++ more

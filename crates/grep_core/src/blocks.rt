@@ -8,7 +8,7 @@ ghost use Rattle.grep_core.specs.Lines.{split_lines};
 ghost use Rattle.grep_core.specs.Passing.{AreWhole};
 ghost use Rattle.grep_core.specs.Searchers.{IsMatchTold};
 
-use crate::candidates::line_start;
+use crate::candidates::{Reached, line_start};
 use crate::fault::Fault;
 use crate::feeds::feed_at;
 use crate::finder::Finder;
@@ -115,8 +115,49 @@ fn tell_here(
     Ok(at + len + 1)
 }
 
-/// Tells lines from the start of one on: those before the next one that may have a match, or else that one. The answer is the place behind
-/// them. The block has whole lines alone.
+/// Tells the lines from the start of one on that stand before the next one that may have a match, and answers where that one starts. The
+/// block has whole lines alone.
+fn tell_before(
+    alloc: Global,
+    out: &mut Vec<u8>,
+    finder: &mut Finder<'_>,
+    task: Task<'_>,
+    progress: &mut Progress,
+    block: &[u8],
+    at: usize,
+) -> Result<Reached, Fault>
+    requires waits { Waits task.what.now progress.old.telling.course }
+    requires within { at ≤ length block.now }
+    requires starts { IsLineStart block.now at }
+    requires whole { AreWhole block.now }
+    ensures same { finder.new ≡ finder.old }
+    ensures waits { OnOk result (Waits task.entry.what.now progress.new.telling.course) }
+    ensures from { IfOk result (λ r. at ≤ r.start) }
+    ensures within { IfOk result (λ r. r.start ≤ length block.now) }
+    ensures starts { IfOk result (λ r. IsLineStart block.now r.start) }
+    ensures has { IfOk result (λ r. r.has ≡ true → HasMatchAt finder.old.config finder.old.texts block.now r.start) }
+    ensures goes_on { IfOk result (λ r. (by : SearchesBy task.entry finder.old) (more : List ℕ) →
+        out.old.items ++ tells_lines task.entry (finds_by task.entry by) progress.old (split_lines (drop at block.now ++ more))
+        ≡ out.new.items ++ tells_lines task.entry (finds_by task.entry by) progress.new (split_lines (drop r.start block.now ++ more))) }
+    ensures counts { IfOk result (λ r. (by : SearchesBy task.entry finder.old) (more : List ℕ) →
+        counts_lines task.entry (finds_by task.entry by) progress.new (split_lines (drop r.start block.now ++ more))
+        ≡ counts_lines task.entry (finds_by task.entry by) progress.old (split_lines (drop at block.now ++ more))) }
+{
+    let reached = match finder.next_line(alloc, block, at) {
+        Ok(reached) => reached,
+        Err(e) => return Err(e),
+    };
+    if at < reached.start {
+        return match pass_lines(alloc, out, task, progress, &block[at..reached.start]) {
+            Ok(()) => Ok(reached),
+            Err(e) => Err(e),
+        };
+    }
+    Ok(reached)
+}
+
+/// Tells lines from the start of one on: those before the next one that may have a match, and that one, if it is known to have one or is
+/// the first. The answer is the place behind them. The block has whole lines alone.
 fn tell_next(
     alloc: Global,
     out: &mut Vec<u8>,
@@ -142,17 +183,24 @@ fn tell_next(
         counts_lines task.entry (finds_by task.entry by) progress.new (split_lines (drop next block.now ++ more))
         ≡ counts_lines task.entry (finds_by task.entry by) progress.old (split_lines (drop at block.now ++ more))) }
 {
-    let reached = match finder.next_line(alloc, block, at) {
+    let reached = match tell_before(alloc, out, finder, task, progress, block, at) {
         Ok(reached) => reached,
         Err(e) => return Err(e),
     };
-    if at < reached.start {
-        return match pass_lines(alloc, out, task, progress, &block[at..reached.start]) {
-            Ok(()) => Ok(reached.start),
-            Err(e) => Err(e),
-        };
+    let start = reached.start;
+    if at < start && !reached.has {
+        return Ok(start);
     }
-    let behind = match tell_here(alloc, out, finder, task, progress, block, at, reached.has) {
+    let behind = match tell_here(
+        alloc,
+        out,
+        finder,
+        task,
+        progress,
+        block,
+        start,
+        reached.has,
+    ) {
         Ok(behind) => behind,
         Err(e) => return Err(e),
     };

@@ -1,5 +1,5 @@
 //! Line feeds of a text: the first one, and how far back there is none. Many bytes are looked at at once.
-ghost use Rattle.std.specs.Prelude.{◌≡◌, ◌==◌, ◌+◌, ◌≤◌, length, map, true};
+ghost use Rattle.std.specs.Prelude.{◌≡◌, ◌==◌, ◌+◌, ◌≤◌, length, map};
 ghost use Rattle.std.specs.List.{position};
 ghost use Rattle.std.specs.Simd.Lanes.{mask_l};
 ghost use Rattle.line_trees.specs.LineTrees.{HasNoFeedFrom};
@@ -42,25 +42,34 @@ pub(crate) fn feed_at(text: &[u8]) -> Option<usize>
     }
 }
 
-/// Whether none of the 32 bytes from a place on is a line feed.
+/// Behind the last line feed of the 32 bytes from a place on, or that place where they have none.
 #[inline(always)]
-fn have_none(text: &[u8], at: usize) -> bool
+fn behind_feeds(text: &[u8], at: usize) -> usize
     requires { at + 32 ≤ length text.now }
-    ensures { result ≡ true → HasNoFeedFrom text.now at (at + 32) }
+    ensures from { at ≤ result }
+    ensures within { result ≤ at + 32 }
+    ensures none { HasNoFeedFrom text.now result (at + 32) }
 {
-    marks_of(u8x32::from_slice(&text[at..])) == 0
+    let marks = marks_of(u8x32::from_slice(&text[at..]));
+    at + (u64::BITS - marks.leading_zeros()) as usize
 }
 
-/// A place from which on, and before the given one, no line feed stands: many bytes at a time are passed over, but none before `at`.
+/// A place from which on, and before the given one, no line feed stands: behind the last line feed, or `at` where that stands further on.
+/// Among the first bytes of the text, which are too few to be looked at at once, none is passed over.
 pub(crate) fn pass_back(text: &[u8], at: usize, place: usize) -> usize
     requires { place ≤ length text.now }
     ensures from { at ≤ place → at ≤ result }
     ensures within { result ≤ place }
     ensures none { HasNoFeedFrom text.now result place }
 {
+    let low = at.min(place);
     let mut start = place;
-    'wide: while start.saturating_sub(at) >= LANES && have_none(text, start - LANES) {
-        start -= LANES;
+    'wide: while low < start && start >= LANES {
+        let first = start - LANES;
+        start = behind_feeds(text, first);
+        if first < start {
+            return start.max(low);
+        }
     }
-    start
+    start.max(low)
 }

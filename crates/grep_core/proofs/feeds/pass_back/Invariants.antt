@@ -3,7 +3,7 @@ use Rattle.line_trees.specs.LineTrees.{HasNoFeedFrom}
 use Rattle.grep_core.proofs.feeds.pass_back.Given as goal
 
 abbrev pub invariant-wide : goal.invariant-wide
-invariant-wide l = (l.start ≤ l.place) × (l.at ≤ l.place → l.at ≤ l.start) × HasNoFeedFrom l.text l.start l.place
+invariant-wide l = (l.start ≤ l.place) × (l.low ≤ l.place) × HasNoFeedFrom l.text l.start l.place
 
 abbrev pub decreases-wide : goal.decreases-wide
 decreases-wide l = l.start

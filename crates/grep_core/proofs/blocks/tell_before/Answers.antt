@@ -1,0 +1,24 @@
+use Rattle.grep_core.specs.Blocks.{finds_by, tells_lines, counts_lines}
+use Rattle.grep_core.proofs.JoinLemmas.{whole_range, starts_all, passed_told, passed_counted}
+use Rattle.grep_core.proofs.blocks.tell_before.Goals as goal
+
+pub pass_lines-requires-clause-whole : goal.pass_lines-requires-clause-whole
+pass_lines-requires-clause-whole c =
+    whole_range c.args.block.now c.args.at c.in-Ok.reached.start c.in-Ok.ensures.from
+    (starts_all c.args.block.now c.in-Ok.reached.start c.requires.whole c.in-Ok.ensures.within c.in-Ok.ensures.starts)
+
+pub returns-in-Ok-pass_lines-clause-starts : goal.returns-in-Ok-pass_lines-clause-starts
+returns-in-Ok-pass_lines-clause-starts c =
+    starts_all c.args.block.now c.in-Ok.reached.start c.requires.whole c.in-Ok.ensures.within c.in-Ok.ensures.starts
+
+pub returns-in-Ok-pass_lines-clause-goes_on : goal.returns-in-Ok-pass_lines-clause-goes_on
+returns-in-Ok-pass_lines-clause-goes_on c by more =
+    passed_told (tells_lines c.args.task (finds_by c.args.task by)) c.args.progress.now c.pass_lines.new.progress
+    c.args.block.now more c.args.out.now.items c.pass_lines.new.out.items c.args.at c.in-Ok.reached.start c.in-Ok.ensures.from
+    (c.in-Ok-pass_lines.ensures.goes_on c.args.finder.now by (c.in-Ok.ensures.passed by.patterns by.are_read))
+
+pub returns-in-Ok-pass_lines-clause-counts : goal.returns-in-Ok-pass_lines-clause-counts
+returns-in-Ok-pass_lines-clause-counts c by more =
+    passed_counted (counts_lines c.args.task (finds_by c.args.task by)) c.args.progress.now c.pass_lines.new.progress
+    c.args.block.now more c.args.at c.in-Ok.reached.start c.in-Ok.ensures.from
+    (c.in-Ok-pass_lines.ensures.counts c.args.finder.now by (c.in-Ok.ensures.passed by.patterns by.are_read))
