@@ -96,7 +96,8 @@ if_span : (b : Bool) (x y : FoundMatch) → option_map span_of_row (if b then So
 if_span true x y = refl
 if_span false x y = refl
 
-better_span : (a b : Option FoundMatch) → option_map span_of_row (better_match a b) ≡ sooner (option_map span_of_row a) (option_map span_of_row b)
+better_span : (a b : Option FoundMatch) →
+    option_map span_of_row (better_match a b) ≡ sooner (option_map span_of_row a) (option_map span_of_row b)
 better_span None b = refl
 better_span (Some a) None = refl
 better_span (Some a) (Some b) = if_span (nat_lt b.start a.start) b a

@@ -27,7 +27,8 @@ use Rattle.pattern_search.specs.Texts.{AreReadAs, AllMean}
 use Rattle.pattern_search.specs.Written.{AnswersWhatIsWritten}
 use Rattle.pattern_search.proofs.ForCallers.{alike_some, same_patterns}
 use Rattle.capi.specs.declared.failure.FoundMatch.{FoundMatch}
-use Rattle.capi.specs.Compiled.{AreBuiltOf, AreMarked, AreWhich, HasFoundStart, HasFoundSpan, IsTold, as_found, hits, mark, overlaid, span_of_row}
+use Rattle.capi.specs.Compiled.{AreBuiltOf, AreMarked, AreWhich, HasFoundStart, HasFoundSpan, IsTold, as_found, hits, mark, overlaid}
+use Rattle.capi.specs.Compiled.{span_of_row}
 use Rattle.capi.specs.Failures.{row_of}
 use Rattle.capi.proofs.ListLemmas.{whole_laid}
 

@@ -70,7 +70,8 @@ pub record IsListedSoFar (config : Config) (texts : List (List ℕ)) (h : List �
   pub taken : List FoundMatch
   pub counted : count ≡ length taken
   pub laid : rows ≡ overlaid taken old
-  pub rest : (res : List Re) → AreReadAs config texts res → (m : Option Match) × (option_map span_of_match m ≡ option_map span_of_row next) ×
+  pub rest : (res : List Re) → AreReadAs config texts res → (m : Option Match) ×
+      (option_map span_of_match m ≡ option_map span_of_row next) ×
       (map span_of_match (all_found config.utf8 (alt_all res) h) ≡
       map span_of_row taken ++ map span_of_match (matches_from (found_from config.utf8 (alt_all res) h) left m))
 
@@ -138,7 +139,8 @@ module _ (config : Config) (texts : List (List ℕ)) (h : List ℕ) (old : List 
   }
 
   all_by : (left count : ℕ) (rows : List FoundMatch) (o : Option FoundMatch) → (it : IsListedSoFar config texts h left count old rows o) →
-      ((res : List Re) → AreReadAs config texts res → map span_of_match (all_found config.utf8 (alt_all res) h) ≡ map span_of_row it.taken) →
+      ((res : List Re) → AreReadAs config texts res →
+      map span_of_match (all_found config.utf8 (alt_all res) h) ≡ map span_of_row it.taken) →
       AreAll config texts h count old rows
   all_by left count rows o it all = record {
     count = λ res read. it.counted ∙ sym (length-map it.taken span_of_row) ∙ ap length (sym (all res read))

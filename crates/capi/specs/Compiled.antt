@@ -74,7 +74,8 @@ IsNewRefused o texts (NotUtf8 pattern at) = ⊥
 IsNewRefused o texts (Text e) = IsFirstFault (config_of_options o) texts e.number e.error
 IsNewRefused o texts (EmptyLoop number) =
     (allows_empty_loops o ≡ false) × ((xs : List Tree) × AllMean (config_of_options o) texts xs × (first_empty_loop xs ≡ Some number))
-IsNewRefused o texts (Build e) = (e ≡ NoRoom) ⊎ ((xs : List Tree) × AllMean (config_of_options o) texts xs × ((s : Settings) × RefusesBuild xs s e))
+IsNewRefused o texts (Build e) = (e ≡ NoRoom) ⊎
+    ((xs : List Tree) × AllMean (config_of_options o) texts xs × ((s : Settings) × RefusesBuild xs s e))
 
 -- Why a search of a haystack tells nothing: it is no text where it has to be, which is told with how many of its bytes are; or memory
 -- lacks, or a regex of the toolchain would be larger than it may be.

@@ -1,7 +1,8 @@
 -- Lines that end before the least end of a match in the block have no match.
 use Rattle.std.proofs.Common.{◌≡◌, ◌≢◌, ◌≤◌, ◌<◌, ◌==◌, inl, inr, ℕ, zero, suc, ◌+◌, ◌-◌, Bool, false, List, [], ◌∷◌, ◌++◌, All, map}
 use Rattle.std.proofs.Common.{length, slice_get, slice_range}
-use Rattle.std.proofs.Common.{true, get_or, take, drop, nat_lt, ◌&&◌, ◌||◌, ◌⊎◌, not, Option, Some, None, refl, sym, ap, ◌∙◌, subst, arith, length-append}
+use Rattle.std.proofs.Common.{true, get_or, take, drop, nat_lt, ◌&&◌, ◌||◌, ◌⊎◌, not, Option, Some, None, refl, sym, ap, ◌∙◌, subst, arith}
+use Rattle.std.proofs.Common.{length-append}
 use Rattle.std.proofs.Common.{length-drop, take-append-drop, true≢false, lt-ltb}
 use Rattle.std.specs.List.{list_any}
 use Rattle.std.proofs.lemmas.Bool.{cases_lt, eq-eqb, eqb-true, and_parts, or_cases}

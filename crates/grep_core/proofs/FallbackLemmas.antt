@@ -130,7 +130,8 @@ told_any config texts rs line told bytes is p res q = is ∙ all_have config tex
 
 all_best : (config : Config) (texts : List (List ℕ)) (rs : List Regex) (res : List Re) (line : List ℕ) (start : ℕ) →
     All (λ x. x < 256) line →
-    AreRegexesOf config texts rs → AreReadAs config texts res → best_found_at (map regex_pattern rs) line start ≡ best_found_at res line start
+    AreRegexesOf config texts rs → AreReadAs config texts res →
+    best_found_at (map regex_pattern rs) line start ≡ best_found_at res line start
 all_best config [] [] [] line start bytes p q = refl
 all_best config [] [] (a ∷ res) line start bytes p q = absurd q
 all_best config [] (r ∷ rs) res line start bytes p q = absurd p
@@ -147,15 +148,18 @@ all_of rs line = spans_behind (best_found_at (map regex_pattern rs) line) (lengt
 pub told_all : (config : Config) (texts : List (List ℕ)) (rs : List Regex) (line : List ℕ) (told : List (ℕ × ℕ)) → All (λ x. x < 256) line →
     told ≡ filter is_some_text (all_of rs line) → AreRegexesOf config texts rs → AreTold config texts line told
 told_all config texts rs line told bytes is p res q =
-    let same : (i : ℕ) → best_found_at (map regex_pattern rs) line i ≡ best_found_at res line i = λ i. all_best config texts rs res line i bytes p q in
+    let same : (i : ℕ) → best_found_at (map regex_pattern rs) line i ≡ best_found_at res line i =
+    λ i. all_best config texts rs res line i bytes p q in
     is ∙ ap (filter is_some_text)
-    (same_spans (best_found_at (map regex_pattern rs) line) (best_found_at res line) same (length line + 1) (best_found_at (map regex_pattern rs) line 0)
+    (same_spans (best_found_at (map regex_pattern rs) line) (best_found_at res line) same (length line + 1)
+    (best_found_at (map regex_pattern rs) line 0)
     ∙ ap (spans_behind (best_found_at res line) (length line + 1)) (same 0) ∙ sym (all_spans res line))
 
 -- one regex after the other
 pub one_better : (rs : List Regex) (i : ℕ) (d : Regex) (line : List ℕ) (start : ℕ) (best found : Option (ℕ × ℕ)) (all : Option (ℕ × ℕ)) →
     i < length rs →
-    found ≡ found_at (regex_pattern (get_or rs i d)) line start → better best (best_found_at (map regex_pattern (drop i rs)) line start) ≡ all →
+    found ≡ found_at (regex_pattern (get_or rs i d)) line start →
+    better best (best_found_at (map regex_pattern (drop i rs)) line start) ≡ all →
     better (better best found) (best_found_at (map regex_pattern (drop (i + 1) rs)) line start) ≡ all
 one_better rs i d line start best found all below is so_far =
     let next : suc i ≡ i + 1 = omega arith in

@@ -1,11 +1,13 @@
 -- The first line feed of a text, behind bytes that are none.
-use Rattle.std.proofs.Common.{◌≡◌, ◌≤◌, ◌<◌, ◌*◌, ◌^◌, inl, inr, ℕ, zero, suc, ◌+◌, ◌-◌, Bool, true, false, not, cond, List, [], ◌∷◌, length, drop, get_or}
+use Rattle.std.proofs.Common.{◌≡◌, ◌≤◌, ◌<◌, ◌*◌, ◌^◌, inl, inr, ℕ, zero, suc, ◌+◌, ◌-◌, Bool, true, false, not, cond, List, [], ◌∷◌}
+use Rattle.std.proofs.Common.{length, drop, get_or}
 use Rattle.std.proofs.Common.{slice_get, map, nat_lt}
 use Rattle.std.proofs.Common.{Some, None, refl, sym, ap, ◌∙◌, subst, arith, ⊎_elim, length-drop}
 use Rattle.std.proofs.lemmas.Bool.{cases_lt, ltb-true, lt-ltb, eq-eqb, cond-true, true≢false}
 use Rattle.std.proofs.lemmas.List.Sums.{prefix_len_is}
 use Rattle.std.proofs.lemmas.Option.{none-some, same_Some}
-use Rattle.std.proofs.lemmas.Simd.{trailing_mask_l, length-chunk, run_in_chunk_stops, run_in_chunk_fails, none_from_empty_mask, get_or-chunk}
+use Rattle.std.proofs.lemmas.Simd.{trailing_mask_l, length-chunk, run_in_chunk_stops, run_in_chunk_fails, none_from_empty_mask}
+use Rattle.std.proofs.lemmas.Simd.{get_or-chunk}
 use Rattle.std.proofs.Math.Nat.{pow-suc}
 use Rattle.std.proofs.Math.Pow.{pow_mono}
 use Rattle.std.proofs.lemmas.Nat.{leading_length}
@@ -135,7 +137,8 @@ module _ (text : List ℕ) (at bits : ℕ) (room : at + 32 ≤ length text) (tol
   long = length-chunk at 32 text room
 
   small : bits < 2 ^ 32
-  small = subst (λ n. n < 2 ^ 32) (sym told) (subst (λ n. mask_l (map is_feed (chunk at 32 text)) < 2 ^ n) long (few_marks (chunk at 32 text)))
+  small = subst (λ n. n < 2 ^ 32) (sym told)
+      (subst (λ n. mask_l (map is_feed (chunk at 32 text)) < 2 ^ n) long (few_marks (chunk at 32 text)))
 
   top : (m : ℕ) × (count_leading_zeros 64 bits + m ≡ 64) × (bits < 2 ^ m) × (2 ^ m ≤ 2 * bits + 1)
   top = leading_length 64 bits (omega (arith, small))
@@ -153,4 +156,5 @@ module _ (text : List ℕ) (at bits : ℕ) (room : at + 32 ≤ length text) (tol
       let none = high_marks (chunk at 32 text) top.0 (subst (λ n. n < 2 ^ top.0) told top.2) (i - at) (omega (arith, m, low))
       (omega (arith, long, low, high)) in
       absurd (true≢false (sym (eq-eqb (get_or text i 0) 10 (got text i 10 is))
-      ∙ sym (ap (λ k. is_feed (get_or text k 0)) off) ∙ sym (ap is_feed (get_or-chunk at 32 text (i - at) 0 (omega (arith, low, high)))) ∙ none))
+      ∙ sym (ap (λ k. is_feed (get_or text k 0)) off) ∙ sym (ap is_feed (get_or-chunk at 32 text (i - at) 0 (omega (arith, low, high))))
+      ∙ none))

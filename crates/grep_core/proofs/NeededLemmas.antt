@@ -47,7 +47,8 @@ module _ (w : What) (f : LineMatcher) (name : Option (List ℕ)) where
       printed_matches w name role line (told_spans (with_needed_spans w f) line) ≡ printed_matches w name role line (told_spans f line)
   same_matches needs role line = ap (printed_matches w name role line) (same_spans needs line)
 
-same_report : (p : Print) (w : What) (f : LineMatcher) (name : List ℕ) (with_name : Bool) (known : Known) (lines : List TextLine) → w.print ≡ p →
+same_report : (p : Print) (w : What) (f : LineMatcher) (name : List ℕ) (with_name : Bool) (known : Known) (lines : List TextLine) →
+    w.print ≡ p →
     report_as p w (with_needed_spans w f) name with_name known lines (selected w f lines)
     ≡ report_as p w f name with_name known lines (selected w f lines)
 same_report Lines w f name with_name known lines is =
@@ -56,7 +57,8 @@ same_report Lines w f name with_name known lines is =
     (same_line w f (if with_name then Some name else None) w.color refl (ap (λ p. needs_of p w.color) is)) known
     (roles_of w (selected w f lines)) lines
 same_report Matches w f name with_name known lines is =
-    print_alike w (λ role line. printed_matches w (if with_name then Some name else None) role line (told_spans (with_needed_spans w f) line))
+    print_alike w (λ role line. printed_matches w (if with_name then Some name else None) role line
+    (told_spans (with_needed_spans w f) line))
     (λ role line. printed_matches w (if with_name then Some name else None) role line (told_spans f line))
     (same_matches w f (if with_name then Some name else None) (ap (λ p. needs_of p w.color) is)) known
     (roles_of w (selected w f lines)) lines
@@ -66,6 +68,7 @@ same_report NameIfNone w f name with_name known lines is = refl
 same_report Nothing w f name with_name known lines is = refl
 
 pub needed_report : (w : What) (f : LineMatcher) (name : List ℕ) (with_name : Bool) (known : Known) (text : List ℕ) →
-    report_as w.print w (with_needed_spans w f) name with_name known (text_lines text) (selected w (with_needed_spans w f) (text_lines text))
+    report_as w.print w (with_needed_spans w f) name with_name known (text_lines text)
+    (selected w (with_needed_spans w f) (text_lines text))
     ≡ report w f name with_name known text
 needed_report w f name with_name known text = same_report w.print w f name with_name known (text_lines text) refl

@@ -127,7 +127,8 @@ module _ (w : What) (f : LineMatcher) (n : ℕ) (kept : w.invert ≡ false) wher
     flags_two = flags_on number place front (last ++ more) lack
         ∙ sym (ap₂ (λ i k. none_of (items number place front) ++ flags i k (last ++ more)) numbers places)
 
-    run_counted : n + count_selected (flags next_number next_place (last ++ more)) ≡ n + count_selected (flags number place (front ++ (last ++ more)))
+    run_counted : n + count_selected (flags next_number next_place (last ++ more)) ≡ n + count_selected
+        (flags number place (front ++ (last ++ more)))
     run_counted = ap (λ k. n + k)
         (sym (ap count_selected flags_two ∙ none_counted (items number place front) (flags next_number next_place (last ++ more))))
 

@@ -135,7 +135,8 @@ pub all_spans : (res : List Re) (line : List ℕ) →
     ≡ spans_behind (best_found_at res line) (length line + 1) (best_found_at res line 0)
 all_spans res line =
     spans_of_matches (find (alt_all res) line) (length line + 1) (find (alt_all res) line 0)
-    ∙ same_spans (found_at (alt_all res) line) (best_found_at res line) (best_found res line) (length line + 1) (found_at (alt_all res) line 0)
+    ∙ same_spans (found_at (alt_all res) line) (best_found_at res line) (best_found res line) (length line + 1)
+    (found_at (alt_all res) line 0)
     ∙ ap (spans_behind (best_found_at res line) (length line + 1)) (best_found res line 0)
 
 -- one more span of those that aren't empty

@@ -59,11 +59,14 @@ pub starts_told : (p : Print) (w : What) (f : LineMatcher) (name : List ℕ) (wi
 starts_told Lines w f name with_name known c fresh is lines = starts_lines Lines w f (shown with_name name) known c fresh is lines
 starts_told Matches w f name with_name known c fresh is lines = starts_lines Matches w f (shown with_name name) known c fresh is lines
 starts_told Count w f name with_name known c fresh is lines =
-    ap (count_line w (shown with_name name)) (none_before (count_selected (flags_behind w f 0 lines)) ∙ ap count_selected (flags_none w f lines))
+    ap (count_line w (shown with_name name)) (none_before (count_selected (flags_behind w f 0 lines))
+    ∙ ap count_selected (flags_none w f lines))
 starts_told NameIfAny w f name with_name known c fresh is lines =
-    ap (λ n. if nat_lt 0 n then name_line w name else []) (none_before (count_selected (flags_behind w f 0 lines)) ∙ ap count_selected (flags_none w f lines))
+    ap (λ n. if nat_lt 0 n then name_line w name else []) (none_before (count_selected (flags_behind w f 0 lines))
+    ∙ ap count_selected (flags_none w f lines))
 starts_told NameIfNone w f name with_name known c fresh is lines =
-    ap (λ n. if nat_lt 0 n then [] else name_line w name) (none_before (count_selected (flags_behind w f 0 lines)) ∙ ap count_selected (flags_none w f lines))
+    ap (λ n. if nat_lt 0 n then [] else name_line w name) (none_before (count_selected (flags_behind w f 0 lines))
+    ∙ ap count_selected (flags_none w f lines))
 starts_told Nothing w f name with_name known c fresh is lines = refl
 
 -- at most so many lines are selected
@@ -130,11 +133,13 @@ line_told p w f name with_name c after n m sel has line found out new lines is s
     (flags_step w f n m sel has line lines is seen more) (sym spans)
     ∙ goes_on (flags_behind w f m lines) (map (told_item f) lines)
 
-one_counted : (sel : Bool) (n : ℕ) (flags : List Bool) → (n + (if sel then 1 else 0)) + count_selected flags ≡ n + count_selected (sel ∷ flags)
+one_counted : (sel : Bool) (n : ℕ) (flags : List Bool) →
+    (n + (if sel then 1 else 0)) + count_selected flags ≡ n + count_selected (sel ∷ flags)
 one_counted true n flags = let e : (n + 1) + count_selected flags ≡ n + suc (count_selected flags) = omega arith in e
 one_counted false n flags = let e : (n + 0) + count_selected flags ≡ n + count_selected flags = omega arith in e
 
-pub line_counted : (w : What) (f : LineMatcher) (n m : ℕ) (sel has : Bool) (line : TextLine) (lines : List TextLine) → sel ≡ selects w n has →
+pub line_counted : (w : What) (f : LineMatcher) (n m : ℕ) (sel has : Bool) (line : TextLine) (lines : List TextLine) →
+    sel ≡ selects w n has →
     has ≡ f.has_match line.bytes →
     m ≡ n + (if sel then 1 else 0) → m + count_selected (flags_behind w f m lines) ≡ n + count_selected (flags_behind w f n (line ∷ lines))
 line_counted w f n m sel has line lines is seen more =

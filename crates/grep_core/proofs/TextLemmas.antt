@@ -45,7 +45,8 @@ module _ (t : Task) (f : LineMatcher) where
       (λ l. Appends w v (tells_lines t wanted p (split_lines (l ++ a.rest)))) shown written))
 
   pub rest_part : (known : Known) (o p : Progress) (x y z text : List ℕ) (now u w v : Option (List ℕ)) → x ≡ [] → z ≡ y → Begins known o →
-      (a : ReadsAndWrites t (with_needed_spans t.what.now f) o p x y text now u w) → WritesPart t (with_needed_spans t.what.now f) p (z ++ a.rest) w v →
+      (a : ReadsAndWrites t (with_needed_spans t.what.now f) o p x y text now u w) →
+      WritesPart t (with_needed_spans t.what.now f) p (z ++ a.rest) w v →
       (n : ℕ) × Appends u v (take n (report t.what.now f t.name.now t.with_name known text))
   rest_part known o p x y z text now u w v none shown starts a part =
       text_part known o x text u v none starts (all_part t wanted o p x y text now u w v a

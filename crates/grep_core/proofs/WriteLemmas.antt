@@ -154,7 +154,8 @@ module _ (t : Task) (f : LineMatcher) where
     writes = record { told = []; written = Appends-nil w; on = record { printed = refl; counted = refl } };
   }
 
-  pub then_reads : (o p q : Progress) (x y z text : List ℕ) (now left u w v : Option (List ℕ)) (a : ReadsAndWrites t f o p x y text now u w) →
+  pub then_reads : (o p q : Progress) (x y z text : List ℕ) (now left u w v : Option (List ℕ))
+      (a : ReadsAndWrites t f o p x y text now u w) →
       ReadsAndWrites t f p q y z a.rest left w v → ReadsAndWrites t f o q x z text left u v
   then_reads o p q x y z text now left u w v a b = record {
     rest = b.rest;

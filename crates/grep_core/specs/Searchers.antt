@@ -59,4 +59,5 @@ abbrev pub IsSearcherRefused : Config → List (List ℕ) → Bool → SearcherE
 IsSearcherRefused config texts spans (Text e) = IsFirstFault config texts e.number e.error
 IsSearcherRefused config texts spans (EmptyLoop number) =
     (spans ≡ true) × ((xs : List Tree) × AllMean config texts xs × (first_empty_loop xs ≡ Some number))
-IsSearcherRefused config texts spans (Build e) = (e ≡ NoMemory) ⊎ ((xs : List Tree) × AllMean config texts xs × RefusesBuild xs line_settings e)
+IsSearcherRefused config texts spans (Build e) = (e ≡ NoMemory) ⊎
+    ((xs : List Tree) × AllMean config texts xs × RefusesBuild xs line_settings e)

@@ -88,7 +88,8 @@ impl<'t> Finder<'t> {
         ensures sought { IfOk result (λ f. f ≡
             record { config = record (config.now) { utf8 = false }; texts = map (λ t. t.now) texts.now; spans = with_matches }) }
         ensures searches { IfOk result (λ f. SearchesFor f with_matches) }
-        ensures refused { IfErr result (IsSearcherRefused (record (config.now) { utf8 = false }) (map (λ t. t.now) texts.now) with_matches) }
+        ensures refused { IfErr result (IsSearcherRefused (record (config.now) { utf8 = false }) (map (λ t. t.now) texts.now)
+            with_matches) }
     {
         regexes_answer_what_is_written();
         let config = config.utf8(false);

@@ -36,7 +36,8 @@ impl Progress {
     pub(crate) fn new(alloc: Global, known: Known) -> Progress
         ensures starts { (t : TheTask) → (f : LineMatcher) → (text : List ℕ) →
             tells_lines t f result (split_lines text) ≡
-            report_as t.what.now.print t.what.now f t.name.now t.with_name known (text_lines text) (selected t.what.now f (text_lines text)) }
+            report_as t.what.now.print t.what.now f t.name.now t.with_name known (text_lines text)
+            (selected t.what.now f (text_lines text)) }
         ensures counts { (t : TheTask) → (f : LineMatcher) → (text : List ℕ) →
             counts_lines t f result (split_lines text) ≡ count_selected (selected t.what.now f (text_lines text)) }
         ensures waits { (w : TheWhat) → Waits w result.telling.course }

@@ -30,7 +30,8 @@ setting_taken false = (
 )
 
 module _ (reads : IsReader hex_bytes IsHex) (s : HeadValue) where
-  patterns_taken : (xs done : List Tree) → AllFit 250 xs → AreTaken (pattern_lines xs) (state s done []) (state s (done ++ map printed_tree xs) [])
+  patterns_taken : (xs done : List Tree) → AllFit 250 xs →
+      AreTaken (pattern_lines xs) (state s done []) (state s (done ++ map printed_tree xs) [])
   patterns_taken [] done h = ap (λ (d : List Tree). state s d []) (sym (append-nil done))
   patterns_taken (x ∷ xs) done h =
       taken_append (lines_of x) ((codes "pattern" ∷ []) ∷ pattern_lines xs) (state s done []) (state s done (printed_tree x ∷ []))

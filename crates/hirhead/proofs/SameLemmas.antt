@@ -188,7 +188,8 @@ module _ (byte_members : (items : List (ℕ × ℕ)) (b : ℕ) → b < 256 → i
   matched config x None has m = absurd m
   matched config x (Some (re, names)) has m = (m.0, ends_stay re.value x has m.1, spans_stay re.value x m.2)
 
-  text_matched : (config : Config) (text : List ℕ) (x : Tree) → HasLines 0 x → MeansText config text x → MatchesText config text (printed_tree x)
+  text_matched : (config : Config) (text : List ℕ) (x : Tree) → HasLines 0 x → MeansText config text x →
+      MatchesText config text (printed_tree x)
   unfolding MeansText MatchesText
   text_matched config text x has m = matched config x (read config (chars text)) has m
 
@@ -202,5 +203,6 @@ module _ (byte_members : (items : List (ℕ × ℕ)) (b : ℕ) → b < 256 → i
 pub all_utf8 : (xs : List Tree) → All (λ x. IsTrue (is_utf8_tree x)) xs → All (λ x. IsTrue (is_utf8_tree x)) (map printed_tree xs)
 all_utf8 [] h = All-nil (λ x. IsTrue (is_utf8_tree x))
 all_utf8 (x ∷ xs) h =
-    All-cons (λ x. IsTrue (is_utf8_tree x)) (printed_tree x) (map printed_tree xs) (told_utf8 x (All-head (λ x. IsTrue (is_utf8_tree x)) x xs h))
+    All-cons (λ x. IsTrue (is_utf8_tree x)) (printed_tree x) (map printed_tree xs)
+    (told_utf8 x (All-head (λ x. IsTrue (is_utf8_tree x)) x xs h))
     (all_utf8 xs (All-tail (λ x. IsTrue (is_utf8_tree x)) x xs h))

@@ -172,7 +172,8 @@ module _ (reads : IsReader hex_bytes IsHex) (s : HeadValue) (done : List Tree) w
       (order_is greedy) h.3
       (record { below = below; stack_was = refl; stack_is = refl; patterns_stay = refl; setup_stays = refl; not_too_deep = low }))
 
-  taken_behind : (x : Tree) (n : ℕ) (parts below : List Tree) → length parts ≡ n → HasLines n x → height (join x parts (printed_tree x)) ≤ 250
+  taken_behind : (x : Tree) (n : ℕ) (parts below : List Tree) → length parts ≡ n → HasLines n x →
+      height (join x parts (printed_tree x)) ≤ 250
       → AreTaken (lines_behind n x) (at_stack (below ++ parts)) (at_stack (below ++ join x parts (printed_tree x) ∷ []))
   taken_behind empty n parts below len h low =
       leaf (codes "empty") [] n parts below empty len h refl refl low (λ b a r. empty_line refl r)
@@ -215,7 +216,8 @@ module _ (reads : IsReader hex_bytes IsHex) (s : HeadValue) (done : List Tree) w
       let inner = rest_below cat cat_above parts (cat (printed_tree x) (printed_tree y)) in
       let part = part_low (printed_tree x) (printed_tree y) (omega (arith, inner, low)) in
       let more = length-append parts (printed_tree x ∷ []) in
-      then_rest (lines_behind 0 x) (lines_behind (suc n) y) below parts (printed_tree x) (join y (parts ++ printed_tree x ∷ []) (printed_tree y))
+      then_rest (lines_behind 0 x) (lines_behind (suc n) y) below parts (printed_tree x)
+      (join y (parts ++ printed_tree x ∷ []) (printed_tree y))
       (joined cat parts (cat (printed_tree x) (printed_tree y))) e
       (alone x (at_stack ((below ++ parts) ++ [])) (below ++ parts) (taken_behind x 0 [] (below ++ parts) refl h.0) part)
       (taken_behind y (suc n) (parts ++ printed_tree x ∷ []) below (omega (arith, more, len)) h.2
@@ -228,7 +230,8 @@ module _ (reads : IsReader hex_bytes IsHex) (s : HeadValue) (done : List Tree) w
       let inner = rest_below alt alt_above parts (alt (printed_tree x) (printed_tree y)) in
       let part = part_low (printed_tree x) (printed_tree y) (omega (arith, inner, low)) in
       let more = length-append parts (printed_tree x ∷ []) in
-      then_rest (lines_behind 0 x) (lines_behind (suc n) y) below parts (printed_tree x) (join y (parts ++ printed_tree x ∷ []) (printed_tree y))
+      then_rest (lines_behind 0 x) (lines_behind (suc n) y) below parts (printed_tree x)
+      (join y (parts ++ printed_tree x ∷ []) (printed_tree y))
       (joined alt parts (alt (printed_tree x) (printed_tree y))) e
       (alone x (at_stack ((below ++ parts) ++ [])) (below ++ parts) (taken_behind x 0 [] (below ++ parts) refl h.0) part)
       (taken_behind y (suc n) (parts ++ printed_tree x ∷ []) below (omega (arith, more, len)) h.2

@@ -101,7 +101,8 @@ pub scalar_ranges_in_order : (items : List (ℕ × ℕ)) → list_all in_order i
 scalar_ranges_in_order items h = ranges_in_order 0 (scalar_ranges items) (scalar_ranges_apart items h)
 
 -- what was put has the ranges of all items, where no word has a fault
-pub same_ranges : (ws : List (List ℕ)) (items : List (ℕ × ℕ)) → first_fault_of (map scalar_item_fault ws) ≡ None → list_all in_order items ≡ true
+pub same_ranges : (ws : List (List ℕ)) (items : List (ℕ × ℕ)) → first_fault_of (map scalar_item_fault ws) ≡ None →
+    list_all in_order items ≡ true
     → ((c : ℕ) → is_member (map the_hex_ends ws) c ≡ is_member items c || false)
     → scalar_ranges items ≡ scalar_ranges (map the_hex_ends ws)
 same_ranges ws items none ordered same =

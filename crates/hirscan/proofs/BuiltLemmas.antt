@@ -18,7 +18,8 @@ use Rattle.look_core.proofs.ForCallers.{reversed_twice}
 use Rattle.thompson_nfa.proofs.ForCallers.{looks_are_used}
 use Rattle.lazy_dfa.specs.Accounting.{Measures, measures_of, least_capacity, effective_capacity}
 use Rattle.lazy_dfa.specs.Building.{class_in, classes_of, measures_with, dfa_of}
-use Rattle.lazy_dfa.specs.ConfigValue.{DfaOptions, no_dfa_options, changed_dfa_options, starts_each_of, word_boundary_of, by_hand, capacity_of, skips_check}
+use Rattle.lazy_dfa.specs.ConfigValue.{DfaOptions, no_dfa_options, changed_dfa_options, starts_each_of, word_boundary_of, by_hand}
+use Rattle.lazy_dfa.specs.ConfigValue.{capacity_of, skips_check}
 use Rattle.lazy_dfa.specs.Dfas.{Dfa, IsDfa}
 use Rattle.lazy_dfa.specs.Quits.{has_unicode_word, with_high_bytes, has_high_bytes, quit_bytes, is_unsupported}
 use Rattle.regex_pair.specs.Pairs.{Pair, back_options, pair_built}
@@ -70,7 +71,8 @@ module _ (xs : List Tree) (s : Settings) (reverse : Bool) (n : Nfa) (made : IsCo
   unsupported_are o = ap (λ (b : Bool). b && not (word_boundary_of o) && not (has_high_bytes (by_hand o))) words_are
 
 -- ---- the options of the automaton that reads in reverse change no measure
-same_map : (n : Nfa) (o : DfaOptions) (bytes : List ℕ) → map (class_in n (changed_dfa_options o back_options)) bytes ≡ map (class_in n o) bytes
+same_map : (n : Nfa) (o : DfaOptions) (bytes : List ℕ) →
+    map (class_in n (changed_dfa_options o back_options)) bytes ≡ map (class_in n o) bytes
 same_map n o bytes = refl
 
 same_classes : (n : Nfa) (o : DfaOptions) → classes_of n (changed_dfa_options o back_options) ≡ classes_of n o

@@ -25,7 +25,8 @@ use Rattle.hirscan.specs.Takes.{with_classes, with_shrink, with_head_anchored, w
 use Rattle.hirscan.specs.Takes.{utf8_line, line_line, two_bytes_line, capacity_line, quit_line, classes_line, shrink_line, anchored_line}
 use Rattle.hirscan.specs.Takes.{span_line}
 use Rattle.hirscan.specs.Takes.{empty_line, lit_line, bytes_line, chars_line, look_line, rep_line, cat_line, alt_line, pattern_line}
-use Rattle.hirscan.specs.LineFault.{first_fault_of, unless_read, word_fault, is_at_most, is_word_count, is_min_above_max, needed, top, below}
+use Rattle.hirscan.specs.LineFault.{first_fault_of, unless_read, word_fault, is_at_most, is_word_count, is_min_above_max, needed, top}
+use Rattle.hirscan.specs.LineFault.{below}
 use Rattle.hirscan.specs.LineFault.{new_tree, is_setting, is_setting_after_node, has_too_few_trees, is_too_deep, has_not_one_tree}
 use Rattle.hirscan.specs.LineFault.{has_tree_left_over, setup_after, after_setting, after_tree, after_line}
 use Rattle.hirscan.specs.Tells.{step_after}

@@ -12,7 +12,8 @@ use Rattle.nfa_core.specs.Places.{first}
 use Rattle.determinize_core.specs.States.{StateValue}
 use Rattle.determinize_core.specs.Steps.{unit_at, unit_behind}
 use Rattle.determinize_core.specs.Walked.{end_at}
-use Rattle.lazy_dfa.specs.Passes.{index_at, index_behind, is_empty, is_dead, unless_quit, if_supported, best_recorded, next_value, next_place}
+use Rattle.lazy_dfa.specs.Passes.{index_at, index_behind, is_empty, is_dead, unless_quit, if_supported, best_recorded, next_value}
+use Rattle.lazy_dfa.specs.Passes.{next_place}
 use Rattle.lazy_dfa.specs.Passes.{first_value, pass_from, pass}
 use Rattle.lazy_dfa.specs.Readers.{Reader, HalfAnswer, found, quit}
 use Rattle.lazy_dfa.specs.Scans.{scan}

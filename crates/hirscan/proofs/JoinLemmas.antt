@@ -139,7 +139,8 @@ module _ (xs : List Tree) (utf8 : Bool) (t : Terminator) (p : Pair) (regex : IsR
       some_joined : answer_by_end f r q (found (Some c)) ≡ answer b.place
       some_joined = choose (is_start_known f q c.0) refl
 
-    by_end : (o : Option (ℕ × ℕ)) → scan f q ≡ found o → (e : Ends o) → answer_by_end f r q (found o) ≡ Ok (found_by asks Nothing Best q.start o e)
+    by_end : (o : Option (ℕ × ℕ)) → scan f q ≡ found o → (e : Ends o) →
+        answer_by_end f r q (found o) ≡ Ok (found_by asks Nothing Best q.start o e)
     by_end None is e = refl
     by_end (Some c) is e = some_joined c is e
 

@@ -218,7 +218,8 @@ item_said w r h =
     let ordered : nat_lt r.1 r.0 ≡ false = le-ltb r.1 r.0 h.in_order in
     (rw (ends, ordered) refl, rw ends refl)
 
-pub items_said : (ws : List (List ℕ)) (rs : List (ℕ × ℕ)) → AreItems ws rs → (first_fault_of (map item_fault ws) ≡ None) × (map the_ends ws ≡ rs)
+pub items_said : (ws : List (List ℕ)) (rs : List (ℕ × ℕ)) → AreItems ws rs → (first_fault_of (map item_fault ws) ≡ None) ×
+    (map the_ends ws ≡ rs)
 items_said [] [] h = (refl, refl)
 items_said [] (r ∷ rs) h = absurd h
 items_said (w ∷ ws) [] h = absurd h

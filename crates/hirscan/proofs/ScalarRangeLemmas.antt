@@ -111,7 +111,8 @@ ends_in_order (Some r) h =
     let k : nat_lt r.1 r.0 ≡ false = (or_parts (not (is_scalar r.0) || not (is_scalar r.1)) _ f).1 in
     le-leb r.0 r.1 (ltb-false r.1 r.0 k)
 
-pub faultless_in_order : (ws : List (List ℕ)) → first_fault_of (map scalar_item_fault ws) ≡ None → list_all in_order (map the_hex_ends ws) ≡ true
+pub faultless_in_order : (ws : List (List ℕ)) → first_fault_of (map scalar_item_fault ws) ≡ None →
+    list_all in_order (map the_hex_ends ws) ≡ true
 faultless_in_order [] h = refl
 faultless_in_order (w ∷ ws) h =
     let p = first_none (scalar_item_fault w) (map scalar_item_fault ws) h in

@@ -11,7 +11,8 @@ use Rattle.hirscan.specs.Reply.{IsInputRefused, too_long, faulty, unfit, Asks}
 use Rattle.hirscan.proofs.SomeReadsLemmas.{reads_or_faulty}
 
 abbrev IsDecided : List ℕ → Type 0
-IsDecided input = ((cause : List ℕ) × IsInputRefused input cause) ⊎ ((setup : Setup) × (xs : List Tree) × (h : List ℕ) × Asks input setup xs h)
+IsDecided input = ((cause : List ℕ) × IsInputRefused input cause) ⊎
+    ((setup : Setup) × (xs : List Tree) × (h : List ℕ) × Asks input setup xs h)
 
 module _ (input : List ℕ) where
   by_cause : (at : HeadValue) (n : ℕ) → length input ≤ 2 ^ 30 → Reads input at_first at n → (o : Option (List ℕ)) →

@@ -12,7 +12,8 @@ use Rattle.hirscan.specs.declared.words.LineWord.{LineWord}
 use Rattle.hirscan.specs.declared.words.LineWord.TheVariants.{Utf8, Line, Capacity, Quit, Classes, Shrink, Anchored, Span, Empty, Lit}
 use Rattle.hirscan.specs.declared.words.LineWord.TheVariants.{Bytes, Chars, Look, Rep, Cat, Alt, Pattern, Find}
 use Rattle.hirscan.specs.Takes.{HeadValue}
-use Rattle.hirscan.specs.LineFault.{first_fault_of, when, known_fault, is_setting_after_node, is_word_count, is_class, left_fault, after_line}
+use Rattle.hirscan.specs.LineFault.{first_fault_of, when, known_fault, is_setting_after_node, is_word_count, is_class, left_fault}
+use Rattle.hirscan.specs.LineFault.{after_line}
 use Rattle.hirscan.specs.declared.fault.LineFault.{LineFault}
 use Rattle.hirscan.specs.declared.line.Step.{Step}
 use Rattle.hirscan.specs.Tells.{TellsLineFault, IsDone, step_after}
@@ -112,7 +113,8 @@ module _ (k : LineWord) (first : List (Bor (List ℕ))) (args : List (List ℕ))
         done_told r k (texts others) args at now (ap texts same ∙ all_first other many) (known_fault_left at settable many) h
 
 -- where there is no fault at all, none is the first, and no test says one
-pub first_none : (a : Option FaultKind) (rest : List (Option FaultKind)) → first_fault_of (a ∷ rest) ≡ None → (a ≡ None) × (first_fault_of rest ≡ None)
+pub first_none : (a : Option FaultKind) (rest : List (Option FaultKind)) → first_fault_of (a ∷ rest) ≡ None → (a ≡ None) ×
+    (first_fault_of rest ≡ None)
 first_none None rest h = (refl, h)
 first_none (Some k) rest h = absurd cc
 

@@ -21,7 +21,8 @@ use Rattle.hirscan.specs.Takes.{HeadValue, HasNoNode, Sets, Replaces, Takes, End
 use Rattle.hirscan.specs.Takes.{utf8_line, line_line, two_bytes_line, capacity_line, quit_line, classes_line, shrink_line, anchored_line}
 use Rattle.hirscan.specs.Takes.{span_line}
 use Rattle.hirscan.specs.Takes.{empty_line, lit_line, bytes_line, chars_line, look_line, rep_line, cat_line, alt_line, pattern_line}
-use Rattle.hirscan.specs.LineFault.{first_fault_of, when, unless_read, byte_fault, word_fault, is_setting_after_node, is_word_count, is_at_most}
+use Rattle.hirscan.specs.LineFault.{first_fault_of, when, unless_read, byte_fault, word_fault, is_setting_after_node, is_word_count}
+use Rattle.hirscan.specs.LineFault.{is_at_most}
 use Rattle.hirscan.specs.LineFault.{is_min_above_max, top, below, has_too_few_trees, is_too_deep, has_not_one_tree, has_tree_left_over}
 use Rattle.hirscan.specs.LineFault.{known_fault, setup_after, after_line}
 use Rattle.hirscan.specs.declared.line.Step.{Step}
@@ -62,7 +63,8 @@ no_fault_parts k args at h =
       none_left = when_none _ TreeLeftOver i.0;
     }
 
-first_skips : (a : Option FaultKind) (rest : List (Option FaultKind)) → a ≡ None → first_fault_of rest ≡ None → first_fault_of (a ∷ rest) ≡ None
+first_skips : (a : Option FaultKind) (rest : List (Option FaultKind)) → a ≡ None → first_fault_of rest ≡ None →
+    first_fault_of (a ∷ rest) ≡ None
 first_skips a rest e f = rw e f
 
 when_false : (b : Bool) (k : FaultKind) → b ≡ false → when b k ≡ None

@@ -13,7 +13,8 @@ use Rattle.hirscan.specs.declared.words.LineWord.{LineWord}
 use Rattle.hirscan.specs.declared.words.LineWord.TheVariants.{Utf8, Line, Capacity, Quit, Classes, Shrink, Anchored, Span, Empty, Lit}
 use Rattle.hirscan.specs.declared.words.LineWord.TheVariants.{Bytes, Chars, Look, Rep, Cat, Alt, Pattern, Find}
 use Rattle.hirscan.specs.Words.{is_scalar, class_ranges, scalar_ranges}
-use Rattle.hirscan.specs.Takes.{HeadValue, with_utf8, with_terminator, with_capacity, with_quit, with_classes, with_shrink, with_head_anchored}
+use Rattle.hirscan.specs.Takes.{HeadValue, with_utf8, with_terminator, with_capacity, with_quit, with_classes, with_shrink}
+use Rattle.hirscan.specs.Takes.{with_head_anchored}
 use Rattle.hirscan.specs.Takes.{with_head_span}
 use Rattle.hirscan.specs.Readers.{line_word, number, the_number, bound, the_bound, order, the_order, switch, the_switch, yes_or_no}
 use Rattle.hirscan.specs.Readers.{the_yes_or_no, hex_bytes, the_bytes, hex_byte, the_byte, item_ends, the_ends, hex_ends, the_hex_ends}

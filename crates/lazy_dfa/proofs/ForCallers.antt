@@ -16,7 +16,8 @@ pub use Rattle.lazy_dfa.proofs.HalfSearches.ScanLemmas.{scan_tells_mode, scan_mo
 -- whether there are starts for each pattern shows by that alone
 pub use Rattle.lazy_dfa.proofs.Automata.SupportLemmas.{scan_by_support}
 -- an answer depends on its reach, which has no quit byte, the place that is found, and lies in or beside the span
-pub use Rattle.lazy_dfa.proofs.HalfSearches.IntervalReachLemmas.{scan_by_reach, scan_is_quiet, scan_place_is_reached, reach_is_near, scan_in_span}
+pub use Rattle.lazy_dfa.proofs.HalfSearches.IntervalReachLemmas.{scan_by_reach, scan_is_quiet, scan_place_is_reached, reach_is_near}
+pub use Rattle.lazy_dfa.proofs.HalfSearches.IntervalReachLemmas.{scan_in_span}
 pub use Rattle.lazy_dfa.proofs.HalfSearches.HasReachLemmas.{scan_has_reach, scan_has_reach_back, start_is_state}
 -- one who reads forward reads the bytes from the one before the span on, as many as units are read, and one more
 pub use Rattle.lazy_dfa.proofs.HalfSearches.HasReachLemmas.{reached_forward, below_reach}
@@ -28,7 +29,8 @@ pub use Rattle.lazy_dfa.proofs.Automata.BuiltLemmas.{classes_by_marks}
 -- ---- overlapping walks
 -- where all matches are asked for, what is left of a walk is the ends of runs place by place: each is told once, in reading
 -- order, and at one place the ends of the preferred runs first; before a quit byte, those at the places before its unit
-pub use Rattle.lazy_dfa.proofs.OverlappingWalks.WalkEndLemmas.{rest_by_place, rest_has, rest_exactly, rest_once, rest_ordered, rest_best, rest_before_quit}
+pub use Rattle.lazy_dfa.proofs.OverlappingWalks.WalkEndLemmas.{rest_by_place, rest_has, rest_exactly, rest_once, rest_ordered, rest_best}
+pub use Rattle.lazy_dfa.proofs.OverlappingWalks.WalkEndLemmas.{rest_before_quit}
 -- each end lies in the span and at a place that counts; nothing is left over a done span, and no end of a pattern that doesn't exist
 pub use Rattle.lazy_dfa.proofs.OverlappingWalks.RestLemmas.{rest_in_span, rest_done, rest_of_no_pattern}
 -- by what a walk is refused, and where it isn't

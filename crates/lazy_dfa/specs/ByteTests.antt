@@ -34,4 +34,5 @@ NonePasses test haystack from to = (k : ℕ) → from ≤ k → k < to → test 
 
 -- no byte from a place on, and before another one, passes a test such that the byte behind it passes a second one
 abbrev pub NoPairs : (ℕ → Bool) → (ℕ → Bool) → List ℕ → ℕ → ℕ → Type 0
-NoPairs test second haystack from to = (k : ℕ) → from ≤ k → k < to → test (slice_index_or haystack k 0) && second (slice_index_or haystack (k + 1) 0) ≡ false
+NoPairs test second haystack from to = (k : ℕ) → from ≤ k → k < to →
+    test (slice_index_or haystack k 0) && second (slice_index_or haystack (k + 1) 0) ≡ false

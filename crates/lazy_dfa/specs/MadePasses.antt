@@ -48,7 +48,8 @@ pub record MakesPass (d : Dfa) (q : Search) (old new : CacheValue) (m1 m2 n1 n2 
       (result ≡ Err NoMemory) ⊎
       ((x : ℕ) × (result ≡ Err (GaveUp x)) × GivesUpIn d new q.anchored q.earliest q.haystack (span_len q) (begins_at (reader d) q) x)
   pub kept : GrowsOrClears d old new
-  pub follows : OnOk result ((CacheGrows d old new × IsLinkedPass d new q.anchored q.earliest q.haystack (span_len q) (begins_at (reader d) q) ×
+  pub follows : OnOk result ((CacheGrows d old new ×
+      IsLinkedPass d new q.anchored q.earliest q.haystack (span_len q) (begins_at (reader d) q) ×
       (told_of new ≡ told_by_pass (reader d) q.anchored q.earliest q.haystack (told_of old) (span_len q, begins_at (reader d) q))) ⊎
       HasCleared old new)
   pub free : IsLinkedPass d old q.anchored q.earliest q.haystack (span_len q) (begins_at (reader d) q) →

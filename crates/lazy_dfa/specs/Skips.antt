@@ -21,7 +21,8 @@ IsLeft cells classes id leaving = (byte : ℕ) → byte < 256 → leaves leaving
 abbrev pub IsBehind : List ℕ → List ℕ → ℕ → Leaving → HalfTables → Type 0
 IsBehind cells classes id leaving tables =
     (byte second : ℕ) → byte < 256 → second < 256 → leaves leaving byte ≡ true → in_halves tables.low tables.high second ≡ false →
-    (leaves leaving second ≡ false) × (cell_by cells classes id byte < tag) × (cell_by cells classes (cell_by cells classes id byte) second ≡ id)
+    (leaves leaving second ≡ false) × (cell_by cells classes id byte < tag) ×
+    (cell_by cells classes (cell_by cells classes id byte) second ≡ id)
 
 -- the tests that are noted are those of the state to stop at
 abbrev pub IsSkip : List ℕ → List ℕ → Skip → Type 0

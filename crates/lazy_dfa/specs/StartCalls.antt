@@ -10,7 +10,8 @@ use Rattle.determinize_core.specs.Starts.{StartValue, start_of}
 use Rattle.lazy_dfa.specs.ConfigValue.{starts_each_of, specializes}
 use Rattle.lazy_dfa.specs.Dfas.{Dfa, start_in, first_state, is_dead}
 use Rattle.lazy_dfa.specs.Ids.{tag, dead_id, unknown_id, tagged, has_tag, start_tag}
-use Rattle.lazy_dfa.specs.Caches.{CacheValue, Names, slot_of_start, id_at, row_holding, new_id, with_state, cleared, needs_clear, lacks_room}
+use Rattle.lazy_dfa.specs.Caches.{CacheValue, Names, slot_of_start, id_at, row_holding, new_id, with_state, cleared, needs_clear}
+use Rattle.lazy_dfa.specs.Caches.{lacks_room}
 use Rattle.lazy_dfa.specs.Readers.{is_quit}
 use Rattle.lazy_dfa.specs.Steps.{WasCleared, Grew, HasStatesOf, ComesTo}
 use Rattle.lazy_dfa.specs.declared.cache_error.CacheError.{CacheError}

@@ -212,7 +212,8 @@ IsRefusedThere is_reverse q at NoMemory = ⊤
 pub data LeavesCall (r : Reader) (q : Search) (w : Walk) (e : MatchErrorKind) (t new : Told) : Type 0 where
   left_failed : w ≡ Failed e → new ≡ t → LeavesCall r q w e t new
   left_at_start : w ≡ Fresh → IsRefusedFirst r.automaton.reverse (begins_at r q) e → new ≡ t → LeavesCall r q w e t new
-  left_at_unit : (k : ℕ) → k < call_units r q w → IsRefusedThere r.automaton.reverse q (place_of r.automaton.reverse (call_place r q w) k) e →
+  left_at_unit : (k : ℕ) → k < call_units r q w →
+      IsRefusedThere r.automaton.reverse q (place_of r.automaton.reverse (call_place r q w) k) e →
       HasNoQuit r q.haystack (call_place r q w) k →
       new ≡ walk_left r.automaton.reverse (is_quit_error e) q (call_place r q w) (min (t.searched + progress_len t.progress) greatest) 0 k →
       LeavesCall r q w e t new
@@ -240,9 +241,11 @@ IsCallToldSince r q w (Err e) new = FailsCallAnew r q w e new
 -- How far a call came, by its answer: as it does where nothing is cleared, or by where the cache was cleared.
 abbrev pub IsCallTold : Reader → Search → Walk → Result ⊤ MatchErrorKind → CacheValue → CacheValue → Type 0
 IsCallTold r q w (Ok u) old new =
-    ((told_of new ≡ told_by_call r q w (told_of old)) × (new.clears ≡ old.clears)) ⊎ (HasCleared old new × TellsCallAnew r q w (told_of new))
+    ((told_of new ≡ told_by_call r q w (told_of old)) × (new.clears ≡ old.clears)) ⊎
+    (HasCleared old new × TellsCallAnew r q w (told_of new))
 IsCallTold r q w (Err e) old new =
-    (LeavesCall r q w e (told_of old) (told_of new) × (new.clears ≡ old.clears)) ⊎ (HasCleared old new × FailsCallAnew r q w e (told_of new))
+    (LeavesCall r q w e (told_of old) (told_of new) × (new.clears ≡ old.clears)) ⊎
+    (HasCleared old new × FailsCallAnew r q w e (told_of new))
 
 -- ---- reading on
 

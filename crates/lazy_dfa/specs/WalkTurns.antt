@@ -1,5 +1,6 @@
 -- How a walk reads one unit of its span, for the functions that read on.
-use Rattle.std.specs.Prelude.{◌≡◌, ◌≢◌, ◌⊎◌, ℕ, suc, ◌<◌, ◌==◌, ◌&&◌, ◌||◌, not, Bool, true, false, List, Option, Some, None, Result, Ok, Err}
+use Rattle.std.specs.Prelude.{◌≡◌, ◌≢◌, ◌⊎◌, ℕ, suc, ◌<◌, ◌==◌, ◌&&◌, ◌||◌, not, Bool, true, false, List, Option, Some, None, Result, Ok}
+use Rattle.std.specs.Prelude.{Err}
 use Rattle.std.specs.Prelude.{if◌then◌else◌}
 use Rattle.search_core.specs.ByteSets.{has}
 use Rattle.nfa_core.specs.Ways.{place_of}
@@ -74,7 +75,8 @@ IsStepTo d q from new m n id best Quits = ⊥
 -- A unit was refused: it is a quit byte, the state behind it has no room and no clear is allowed, or memory lacked.
 abbrev pub RefusesUnit : Dfa → Search → Point → CacheValue → ℕ → ℕ → MatchErrorKind → Type 0
 RefusesUnit d q from new m n (Quit b x) = Leaves d q.haystack from new m n 0 ×
-    (unit_at d.nfa.automaton.reverse q.haystack from.at ≡ Some b) × (has d.quits b ≡ true) × (x ≡ index_at d.nfa.automaton.reverse from.at) ×
+    (unit_at d.nfa.automaton.reverse q.haystack from.at ≡ Some b) × (has d.quits b ≡ true) ×
+    (x ≡ index_at d.nfa.automaton.reverse from.at) ×
     TellsUnit d true q from.at from.cache new
 RefusesUnit d q from new m n (GaveUp x) = FailsOn d q.haystack from new m n 0 ×
     (is_quit d.quits (unit_at d.nfa.automaton.reverse q.haystack from.at) ≡ false) × (x ≡ gave_up_at d.nfa.automaton.reverse q from.at) ×

@@ -11,7 +11,8 @@ ghost use Rattle.std.specs.Prelude.{◌≡◌, ◌≤◌, ◌+◌, ◌^◌, ◌+
 ghost use Rattle.search_core.specs.Classes.{alphabet_size, IsLeastExponent};
 ghost use Rattle.determinize_core.specs.States.{StateValue};
 ghost use Rattle.determinize_core.specs.StateBytes.{encoded};
-ghost use Rattle.lazy_dfa.specs.Accounting.{Measures, stride_of, longest_state, state_cost, fresh_usage, measured_usage, least_capacity, effective_capacity};
+ghost use Rattle.lazy_dfa.specs.Accounting.{Measures, stride_of, longest_state, state_cost, fresh_usage, measured_usage, least_capacity};
+ghost use Rattle.lazy_dfa.specs.Accounting.{effective_capacity};
 
 use determinize_core::state_laws::states_are_short;
 
@@ -30,7 +31,8 @@ pub fn states_add_to_the_usage()
 
 /// A state lists each pattern and each state of the automaton once at most, so it has no more bytes than the longest one.
 pub fn states_are_no_longer_than_the_longest()
-    ensures { (m : Measures) (v : StateValue) → length v.matches ≤ m.patterns → length v.ids ≤ m.states → length (encoded v) ≤ longest_state m }
+    ensures { (m : Measures) (v : StateValue) → length v.matches ≤ m.patterns → length v.ids ≤ m.states →
+        length (encoded v) ≤ longest_state m }
 {
     states_are_short();
 }

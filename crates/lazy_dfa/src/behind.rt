@@ -75,7 +75,8 @@ impl Cache {
     ) -> bool
         ensures plain { result ≡ true → cell_by self.now.cells self.now.classes id byte < tag }
         ensures back { result ≡ true → (second : ℕ) → second < 256 → in_halves tables.now.low tables.now.high second ≡ false →
-            (leaves leaving.now second ≡ false) × (cell_by self.now.cells self.now.classes (cell_by self.now.cells self.now.classes id byte) second ≡ id) }
+            (leaves leaving.now second ≡ false) × (cell_by self.now.cells self.now.classes (cell_by self.now.cells self.now.classes id byte)
+            second ≡ id) }
     {
         let Some(next) = self.step_by(id, byte) else {
             return false;

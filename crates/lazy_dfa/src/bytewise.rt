@@ -41,7 +41,8 @@ pub(crate) fn walk_forward(
     ensures past { from ≤ result.at }
     ensures within { result.at ≤ limit }
     ensures further { result.pauses ≡ true → from < result.at }
-    ensures goes { (m n : ℕ) (best : Option (ℕ × ℕ)) → GoesTo dfa.now haystack.now (point cache.now m n from id best) (point cache.now m n result.at result.id best) (result.at - from) }
+    ensures goes { (m n : ℕ) (best : Option (ℕ × ℕ)) →
+        GoesTo dfa.now haystack.now (point cache.now m n from id best) (point cache.now m n result.at result.id best) (result.at - from) }
 {
     dfa.is_made();
     let mut at = from;
@@ -105,8 +106,12 @@ pub(crate) fn walk_both(
     ensures second_row { IsRow cache.now result.second }
     ensures second_untagged { result.second < tag }
     ensures most { result.count ≤ count }
-    ensures goes { (m n : ℕ) (best : Option (ℕ × ℕ)) → GoesTo dfa.now haystack.now (point cache.now m n from first best) (point cache.now m n (from + result.count) result.first best) (from + result.count - from) }
-    ensures second_goes { (m n : ℕ) (best : Option (ℕ × ℕ)) → GoesTo dfa.now haystack.now (point cache.now m n further second best) (point cache.now m n (further + result.count) result.second best) (further + result.count - further) }
+    ensures goes { (m n : ℕ) (best : Option (ℕ × ℕ)) →
+        GoesTo dfa.now haystack.now (point cache.now m n from first best) (point cache.now m n (from + result.count) result.first best)
+        (from + result.count - from) }
+    ensures second_goes { (m n : ℕ) (best : Option (ℕ × ℕ)) →
+        GoesTo dfa.now haystack.now (point cache.now m n further second best)
+        (point cache.now m n (further + result.count) result.second best) (further + result.count - further) }
 {
     dfa.is_made();
     let mut one = first;

@@ -51,9 +51,33 @@ impl Model for Cache {
 
     ghost Value = { CacheValue };
 
-    ghost view = { λ c. record { states = c.states.items; ids = c.ids.items; cells = c.cells.items; starts = c.starts.items; stride = c.stride; fresh = c.fresh; bound = c.workspace; clears = c.clears; searched = c.searched; progress = c.progress; classes = c.classes } };
+    ghost view = { λ c. record {
+      states = c.states.items;
+      ids = c.ids.items;
+      cells = c.cells.items;
+      starts = c.starts.items;
+      stride = c.stride;
+      fresh = c.fresh;
+      bound = c.workspace;
+      clears = c.clears;
+      searched = c.searched;
+      progress = c.progress;
+      classes = c.classes;
+    } };
 
-    ghost invariant = { λ c. IsKept (record { states = c.states.items; ids = c.ids.items; cells = c.cells.items; starts = c.starts.items; stride = c.stride; fresh = c.fresh; bound = c.workspace; clears = c.clears; searched = c.searched; progress = c.progress; classes = c.classes }) c.rows c.used × IsSkip c.cells.items c.classes c.skip };
+    ghost invariant = { λ c. IsKept (record {
+      states = c.states.items;
+      ids = c.ids.items;
+      cells = c.cells.items;
+      starts = c.starts.items;
+      stride = c.stride;
+      fresh = c.fresh;
+      bound = c.workspace;
+      clears = c.clears;
+      searched = c.searched;
+      progress = c.progress;
+      classes = c.classes;
+    }) c.rows c.used × IsSkip c.cells.items c.classes c.skip };
 }
 
 impl Cache {

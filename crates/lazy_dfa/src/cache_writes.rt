@@ -1,5 +1,6 @@
 //! What writes to a cache. Each call either writes all that it says or nothing: growths come before any write.
-ghost use Rattle.std.specs.Prelude.{◌≡◌, ◌+◌, ◌*◌, ◌%◌, ◌<◌, ◌≤◌, ◌⊎◌, [], ◌∷◌, ◌++◌, length, replicate, slice_set, IfOk, OnOk, OnErr, None, vec_len, vec_capacity};
+ghost use Rattle.std.specs.Prelude.{◌≡◌, ◌+◌, ◌*◌, ◌%◌, ◌<◌, ◌≤◌, ◌⊎◌, [], ◌∷◌, ◌++◌, length, replicate, slice_set, IfOk, OnOk, OnErr};
+ghost use Rattle.std.specs.Prelude.{None, vec_len, vec_capacity};
 ghost use Rattle.search_core.specs.Index.{greatest_index};
 ghost use Rattle.search_core.specs.Units.{unit_byte};
 ghost use Rattle.determinize_core.specs.Costs.{free_ways};
@@ -70,7 +71,8 @@ impl Cache {
         requires row { k < length self.old.states }
         requires bound { self.old.bound ≡ length nfa.now.automaton.states }
         requires stepped { IsStepped nfa.now.automaton (state_at self.old k) }
-        ensures value { IfOk result (λ behind. behind ≡ step_value nfa.now.automaton nfa.now.terminator kind (state_at self.old k) (unit_byte unit)) }
+        ensures value { IfOk result (λ behind. behind ≡ step_value nfa.now.automaton nfa.now.terminator kind (state_at self.old k)
+            (unit_byte unit)) }
         ensures same { self.new ≡ self.old }
         ensures determinized { work.new.determinized ≡ work.old.determinized + 1 }
         ensures inserted { work.new.inserted ≤ work.old.inserted + 3 * length nfa.now.automaton.states + 2 * free_ways nfa.now.automaton }

@@ -44,7 +44,8 @@ pub fn searches_add_states_on_their_way()
 /// clears that are allowed are spent. Where the count of clears is as before and hasn't stopped, it added states on its way alone;
 /// where it isn't, the first clear was for a state on its way that wasn't held and had no room.
 pub fn calls_clear_for_states_alone()
-    ensures count { (d : Dfa) (q : Search) (w : Walk) (old new : CacheValue) (n : ℕ) → Changes d (IsMadeOnCall d q w) old new n → old.clears ≤ greatest →
+    ensures count { (d : Dfa) (q : Search) (w : Walk) (old new : CacheValue) (n : ℕ) → Changes d (IsMadeOnCall d q w) old new n →
+        old.clears ≤ greatest →
         (old.clears ≤ new.clears) × (new.clears ≤ old.clears + n) }
     ensures room { (d : Dfa) (q : Search) (w : Walk) (old new : CacheValue) (n : ℕ) → IsDfa d → IsCacheOf d old → HasRoomFor d old n →
         Changes d (IsMadeOnCall d q w) old new n → AddsFew d (IsMadeOnCall d q w) old new n }
@@ -52,13 +53,14 @@ pub fn calls_clear_for_states_alone()
         Changes d (IsMadeOnCall d q w) old new n → AddsFew d (IsMadeOnCall d q w) old new n }
     ensures kept { (d : Dfa) (q : Search) (w : Walk) (old new : CacheValue) (n : ℕ) → IsDfa d → IsCacheOf d old → new.clears ≡ old.clears →
         old.clears < greatest → Changes d (IsMadeOnCall d q w) old new n → AddsFew d (IsMadeOnCall d q w) old new n }
-    ensures cleared { (d : Dfa) (q : Search) (w : Walk) (old new : CacheValue) (n : ℕ) → IsDfa d → IsCacheOf d old → (new.clears ≡ old.clears → ⊥) →
+    ensures cleared { (d : Dfa) (q : Search) (w : Walk) (old new : CacheValue) (n : ℕ) → IsDfa d → IsCacheOf d old →
+        (new.clears ≡ old.clears → ⊥) →
         Changes d (IsMadeOnCall d q w) old new n → FirstClear d (IsMadeOnCall d q w) old }
 {}
 
-/// A walk over a whole span, as that which tells which patterns match, clears its cache at most once for each state that it makes, and never where there is room for all of these or the
-/// clears that are allowed are spent. Where the count of clears is as before and hasn't stopped, it added states on its way alone;
-/// where it isn't, the first clear was for a state on its way that wasn't held and had no room.
+/// A walk over a whole span, as that which tells which patterns match, clears its cache at most once for each state that it makes, and
+/// never where there is room for all of these or the clears that are allowed are spent. Where the count of clears is as before and hasn't
+/// stopped, it added states on its way alone; where it isn't, the first clear was for a state on its way that wasn't held and had no room.
 pub fn walks_clear_for_states_alone()
     ensures count { (d : Dfa) (q : Search) (old new : CacheValue) (n : ℕ) → Changes d (IsMadeOnWalk d q) old new n → old.clears ≤ greatest →
         (old.clears ≤ new.clears) × (new.clears ≤ old.clears + n) }

@@ -42,7 +42,8 @@ fn comes_back(
     requires fits { at ≤ end }
     requires within { end ≤ length haystack.now }
     ensures within { result ≡ true → at + 2 ≤ end }
-    ensures goes { result ≡ true → (m n : ℕ) (best : Option (ℕ × ℕ)) → GoesTo dfa.now haystack.now (point cache.now m n at id best) (point cache.now m n (at + 2) id best) 2 }
+    ensures goes { result ≡ true → (m n : ℕ) (best : Option (ℕ × ℕ)) →
+        GoesTo dfa.now haystack.now (point cache.now m n at id best) (point cache.now m n (at + 2) id best) 2 }
 {
     dfa.is_made();
     if end - at < 2 {
@@ -77,7 +78,8 @@ fn circle<T: ByteTest>(
     requires stays { (byte : ℕ) → byte < 256 → T.passes test.now byte ≡ false → cell_by cache.now.cells cache.now.classes id byte ≡ id }
     ensures past { from ≤ result.at }
     ensures within { result.at ≤ end }
-    ensures goes { (m n : ℕ) (best : Option (ℕ × ℕ)) → GoesTo dfa.now haystack.now (point cache.now m n from id best) (point cache.now m n result.at id best) (result.at - from) }
+    ensures goes { (m n : ℕ) (best : Option (ℕ × ℕ)) →
+        GoesTo dfa.now haystack.now (point cache.now m n from id best) (point cache.now m n result.at id best) (result.at - from) }
 {
     dfa.is_made();
     let mut at = from;
@@ -130,7 +132,8 @@ fn circle_by_pairs<T: ByteTest>(
     requires pairs { AreSkipped cache.now.cells cache.now.classes id (T.passes test.now) (in_halves behind.now.low behind.now.high) }
     ensures past { from ≤ result.at }
     ensures within { result.at ≤ end }
-    ensures goes { (m n : ℕ) (best : Option (ℕ × ℕ)) → GoesTo dfa.now haystack.now (point cache.now m n from id best) (point cache.now m n result.at id best) (result.at - from) }
+    ensures goes { (m n : ℕ) (best : Option (ℕ × ℕ)) →
+        GoesTo dfa.now haystack.now (point cache.now m n from id best) (point cache.now m n result.at id best) (result.at - from) }
 {
     dfa.is_made();
     let to = find_pair(test, behind, haystack, from, end);
@@ -164,7 +167,8 @@ fn circle_few<T: ByteTest>(
     requires same { (byte : ℕ) → T.passes test.now byte ≡ leaves skip.now.leaving byte }
     ensures past { from ≤ result.at }
     ensures within { result.at ≤ end }
-    ensures goes { (m n : ℕ) (best : Option (ℕ × ℕ)) → GoesTo dfa.now haystack.now (point cache.now m n from id best) (point cache.now m n result.at id best) (result.at - from) }
+    ensures goes { (m n : ℕ) (best : Option (ℕ × ℕ)) →
+        GoesTo dfa.now haystack.now (point cache.now m n from id best) (point cache.now m n result.at id best) (result.at - from) }
 {
     match &skip.behind {
         Some(behind) => circle_by_pairs(
@@ -200,7 +204,8 @@ fn circle_by(
     requires within { end ≤ length haystack.now }
     ensures past { from ≤ result.at }
     ensures within { result.at ≤ end }
-    ensures goes { (m n : ℕ) (best : Option (ℕ × ℕ)) → GoesTo dfa.now haystack.now (point cache.now m n from id best) (point cache.now m n result.at id best) (result.at - from) }
+    ensures goes { (m n : ℕ) (best : Option (ℕ × ℕ)) →
+        GoesTo dfa.now haystack.now (point cache.now m n from id best) (point cache.now m n result.at id best) (result.at - from) }
 {
     dfa.is_made();
     let skip = cache.skip();
@@ -247,7 +252,8 @@ pub(crate) fn pass_over(
     ensures same { cache.new ≡ cache.old }
     ensures past { from ≤ result }
     ensures within { result ≤ end }
-    ensures goes { (m n : ℕ) (best : Option (ℕ × ℕ)) → GoesTo dfa.now haystack.now (point cache.old m n from id best) (point cache.old m n result id best) (result - from) }
+    ensures goes { (m n : ℕ) (best : Option (ℕ × ℕ)) →
+        GoesTo dfa.now haystack.now (point cache.old m n from id best) (point cache.old m n result id best) (result - from) }
 {
     if from == end {
         return end;

@@ -1,6 +1,7 @@
 ghost use Rattle.std.specs.Prelude.{◌≡◌, ◌<◌, ◌⊎◌, ℕ, Bool, true, false, Some, IsSome, slice_set};
 ghost use Rattle.search_core.specs.ByteSets.{has};
-ghost use Rattle.lazy_dfa.specs.ConfigValue.{no_dfa_options, changed_dfa_options, no_bytes, kind_of, starts_each_of, classes_on, word_boundary_of, by_hand, specializes, capacity_of, skips_check, clears_of, minimum_bytes_of};
+ghost use Rattle.lazy_dfa.specs.ConfigValue.{no_dfa_options, changed_dfa_options, no_bytes, kind_of, starts_each_of, classes_on};
+ghost use Rattle.lazy_dfa.specs.ConfigValue.{word_boundary_of, by_hand, specializes, capacity_of, skips_check, clears_of, minimum_bytes_of};
 
 use search_core::ByteSet;
 use search_types::MatchKind;

@@ -42,9 +42,23 @@ impl Model for DFA {
 
     ghost Value = { Dfa };
 
-    ghost view = { λ d. record { nfa = d.nfa; options = d.config; classes = d.classes; quits = d.quits; measures = d.measures; capacity = d.capacity } };
+    ghost view = { λ d. record {
+      nfa = d.nfa;
+      options = d.config;
+      classes = d.classes;
+      quits = d.quits;
+      measures = d.measures;
+      capacity = d.capacity;
+    } };
 
-    ghost invariant = { λ d. IsDfa (record { nfa = d.nfa; options = d.config; classes = d.classes; quits = d.quits; measures = d.measures; capacity = d.capacity }) × IsStartTable d.nfa.terminator d.start_map };
+    ghost invariant = { λ d. IsDfa (record {
+      nfa = d.nfa;
+      options = d.config;
+      classes = d.classes;
+      quits = d.quits;
+      measures = d.measures;
+      capacity = d.capacity;
+    }) × IsStartTable d.nfa.terminator d.start_map };
 }
 
 /// What the automaton is of.

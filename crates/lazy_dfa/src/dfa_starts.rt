@@ -110,7 +110,8 @@ impl DFA {
         ensures start { start_refusal self.now config.now ≡ None → IfOk result (λ id. IsStart self.now cache.new config.now id) }
         ensures err { start_refusal self.now config.now ≡ None → IfErr result (λ e. IsStartCause self.now cache.old config.now e) }
         ensures gave_up { result ≡ Err (CacheRefusal GaveUp) → cache.new ≡ cache.old }
-        ensures made { MakesStart self.now config.now cache.old cache.new work.old.determinized work.new.determinized work.old.inserted work.new.inserted result }
+        ensures made { MakesStart self.now config.now cache.old cache.new work.old.determinized work.new.determinized work.old.inserted
+            work.new.inserted result }
     {
         self.is_made();
         let look_behind = config.get_look_behind();

@@ -34,7 +34,8 @@ impl DFA {
         requires held { IsHeld cache.old current }
         ensures own { IsCacheOf self.now cache.new }
         ensures held { IfOk result (λ to. IsHeld cache.new to) }
-        ensures step { MakesStep self.now current (Some input) cache.old cache.new work.old.determinized work.new.determinized work.old.inserted work.new.inserted result }
+        ensures step { MakesStep self.now current (Some input) cache.old cache.new work.old.determinized work.new.determinized
+            work.old.inserted work.new.inserted result }
     {
         let class = self.class(input);
         let is_quit = self.is_quit(input);
@@ -53,7 +54,8 @@ impl DFA {
         requires held { IsHeld cache.old current }
         ensures own { IsCacheOf self.now cache.new }
         ensures held { IfOk result (λ to. IsHeld cache.new to) }
-        ensures step { MakesStep self.now current None cache.old cache.new work.old.determinized work.new.determinized work.old.inserted work.new.inserted result }
+        ensures step { MakesStep self.now current None cache.old cache.new work.old.determinized work.new.determinized work.old.inserted
+            work.new.inserted result }
     {
         let class = self.end_class();
         step(self, cache, current, Unit::eoi(class), class, false, work)

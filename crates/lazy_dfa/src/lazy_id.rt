@@ -1,5 +1,6 @@
 ghost use Rattle.std.specs.Prelude.{◌≡◌, ◌↔◌, ℕ, ◌+◌, ◌*◌, ◌<◌, ◌≤◌, nat_le, true};
-ghost use Rattle.lazy_dfa.specs.Ids.{tag, has_tag, unknown_tag, dead_tag, quit_tag, start_tag, match_tag, unknown_id, dead_id, quit_id, is_sentinel, tagged};
+ghost use Rattle.lazy_dfa.specs.Ids.{tag, has_tag, unknown_tag, dead_tag, quit_tag, start_tag, match_tag, unknown_id, dead_id, quit_id};
+ghost use Rattle.lazy_dfa.specs.Ids.{is_sentinel, tagged};
 
 use std::marker::Model;
 

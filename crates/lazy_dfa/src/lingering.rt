@@ -233,7 +233,8 @@ fn best_behind(dfa: &DFA, cache: &Cache, best: Option<HalfMatch>, met: Met) -> O
     requires row { met.id < unknown_id → IsRow cache.now met.id }
     requires matches { met.id < unknown_id → has_tag match_tag met.id ≡ true }
     ensures still { unknown_id ≤ met.id → pair_of result ≡ pair_of best }
-    ensures last { met.id < unknown_id → (s : StateValue) → HeldAt cache.now met.id s → pair_of result ≡ best_recorded met.last s (pair_of best) }
+    ensures last { met.id < unknown_id → (s : StateValue) → HeldAt cache.now met.id s →
+        pair_of result ≡ best_recorded met.last s (pair_of best) }
 {
     if met.id.is_not_known() {
         return best;
@@ -260,7 +261,8 @@ pub(crate) fn linger(
     ensures within { IsWithinSpan input.now result.at }
     ensures closer { left_at is_reverse input.now result.at ≤ left_at is_reverse input.now position.at }
     ensures goes { (m n : ℕ) → GoesBetween dfa.now input.now.earliest input.now.haystack
-        (point cache.now m n position.at position.id (pair_of position.best)) (point cache.now m n result.at result.id (pair_of result.best))
+        (point cache.now m n position.at position.id (pair_of position.best))
+        (point cache.now m n result.at result.id (pair_of result.best))
         (left_at is_reverse input.now position.at - left_at is_reverse input.now result.at) }
 {
     if input.get_earliest() {

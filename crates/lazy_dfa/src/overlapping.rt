@@ -26,8 +26,10 @@ fn begin<L: Ledger, M: Ledger>(
     requires own { IsCacheOf dfa.now cache.old }
     requires is_reverse { is_reverse ≡ dfa.now.nfa.automaton.reverse }
     ensures own { IsCacheOf dfa.now cache.new }
-    ensures call { IfOk result (λ told. MakesCall dfa.now input.now cache.old cache.new work.old.determinized work.new.determinized work.old.inserted work.new.inserted Fresh told (Ok tt)) }
-    ensures err { IfErr result (λ e. MakesCall dfa.now input.now cache.old cache.new work.old.determinized work.new.determinized work.old.inserted work.new.inserted Fresh (failed_by e) (Err e)) }
+    ensures call { IfOk result (λ told. MakesCall dfa.now input.now cache.old cache.new work.old.determinized work.new.determinized
+        work.old.inserted work.new.inserted Fresh told (Ok tt)) }
+    ensures err { IfErr result (λ e. MakesCall dfa.now input.now cache.old cache.new work.old.determinized work.new.determinized
+        work.old.inserted work.new.inserted Fresh (failed_by e) (Err e)) }
 {
     dfa.is_made();
     if input.is_done() {
@@ -61,8 +63,10 @@ fn resume<L: Ledger, M: Ledger>(
     requires is_reverse { is_reverse ≡ dfa.now.nfa.automaton.reverse }
     requires stops { StopsAt dfa.now cache.old input.now stop }
     ensures own { IsCacheOf dfa.now cache.new }
-    ensures call { IfOk result (λ told. MakesCall dfa.now input.now cache.old cache.new work.old.determinized work.new.determinized work.old.inserted work.new.inserted (Stopped stop) told (Ok tt)) }
-    ensures err { IfErr result (λ e. MakesCall dfa.now input.now cache.old cache.new work.old.determinized work.new.determinized work.old.inserted work.new.inserted (Stopped stop) (failed_by e) (Err e)) }
+    ensures call { IfOk result (λ told. MakesCall dfa.now input.now cache.old cache.new work.old.determinized work.new.determinized
+        work.old.inserted work.new.inserted (Stopped stop) told (Ok tt)) }
+    ensures err { IfErr result (λ e. MakesCall dfa.now input.now cache.old cache.new work.old.determinized work.new.determinized
+        work.old.inserted work.new.inserted (Stopped stop) (failed_by e) (Err e)) }
 {
     dfa.is_made();
     // A place that is not the last one lies before the end of a haystack, whose length has a next number.
@@ -92,8 +96,10 @@ fn go_on<L: Ledger, M: Ledger>(
     requires own { IsCacheOf dfa.now cache.old }
     requires walk { IsWalk dfa.now cache.old input.now walk }
     ensures own { IsCacheOf dfa.now cache.new }
-    ensures call { IfOk result (λ told. MakesCall dfa.now input.now cache.old cache.new work.old.determinized work.new.determinized work.old.inserted work.new.inserted walk told (Ok tt)) }
-    ensures err { IfErr result (λ e. MakesCall dfa.now input.now cache.old cache.new work.old.determinized work.new.determinized work.old.inserted work.new.inserted walk (failed_by e) (Err e)) }
+    ensures call { IfOk result (λ told. MakesCall dfa.now input.now cache.old cache.new work.old.determinized work.new.determinized
+        work.old.inserted work.new.inserted walk told (Ok tt)) }
+    ensures err { IfErr result (λ e. MakesCall dfa.now input.now cache.old cache.new work.old.determinized work.new.determinized
+        work.old.inserted work.new.inserted walk (failed_by e) (Err e)) }
 {
     let is_reverse = is_reverse(dfa);
     match walk {
@@ -115,7 +121,8 @@ pub(crate) fn call<L: Ledger, M: Ledger>(
     requires own { IsCacheOf dfa.now cache.old }
     requires walk { IsWalk dfa.now cache.old input.now state.old.walk }
     ensures own { IsCacheOf dfa.now cache.new }
-    ensures call { MakesCall dfa.now input.now cache.old cache.new work.old.determinized work.new.determinized work.old.inserted work.new.inserted state.old.walk state.new result }
+    ensures call { MakesCall dfa.now input.now cache.old cache.new work.old.determinized work.new.determinized work.old.inserted
+        work.new.inserted state.old.walk state.new result }
 {
     let told = match go_on(dfa, cache, input, state.walk, work) {
         Ok(told) => told,
@@ -154,7 +161,8 @@ impl DFA {
         requires walk { IsWalk self.now cache.old input.now state.old.walk }
         ensures own { IsCacheOf self.now cache.new }
         ensures walk { IsWalk self.now cache.new input.now state.new.walk }
-        ensures call { WalksOn self.now input.now cache.old cache.new work.old.determinized work.new.determinized work.old.inserted work.new.inserted state.old.walk state.new result }
+        ensures call { WalksOn self.now input.now cache.old cache.new work.old.determinized work.new.determinized work.old.inserted
+            work.new.inserted state.old.walk state.new result }
     {
         call(self, cache, input, state, work)
     }
@@ -174,7 +182,8 @@ impl DFA {
         requires walk { IsWalk self.now cache.old input.now state.old.walk }
         ensures own { IsCacheOf self.now cache.new }
         ensures walk { IsWalk self.now cache.new input.now state.new.walk }
-        ensures call { WalksOn self.now input.now cache.old cache.new work.old.determinized work.new.determinized work.old.inserted work.new.inserted state.old.walk state.new result }
+        ensures call { WalksOn self.now input.now cache.old cache.new work.old.determinized work.new.determinized work.old.inserted
+            work.new.inserted state.old.walk state.new result }
     {
         call(self, cache, input, state, work)
     }

@@ -9,7 +9,8 @@ use crate::byte_tests::{ByteTest, LANES, bits_of, marks_at};
 #[inline(always)]
 fn pair_bits<A: ByteTest, B: ByteTest>(first: &A, second: &B, haystack: &[u8], at: usize) -> u64
     requires { at + 33 ≤ length haystack.now }
-    ensures { result ≡ mask_l (map has_bits (zip2 bit_and (marked (A.passes first.now) (chunk at 32 haystack.now)) (marked (B.passes second.now) (chunk (at + 1) 32 haystack.now)))) }
+    ensures { result ≡ mask_l (map has_bits (zip2 bit_and (marked (A.passes first.now) (chunk at 32 haystack.now))
+        (marked (B.passes second.now) (chunk (at + 1) 32 haystack.now)))) }
 {
     bits_of(marks_at(first, haystack, at) & marks_at(second, haystack, at + 1))
 }

@@ -20,7 +20,8 @@ ghost use Rattle.lazy_dfa.specs.PassLaws.{IsLastEnd, IsNearestEnd, HasNoQuit, Ha
 /// Under leftmost-first a pass that meets no quit byte finds the end of the most preferred run, with its
 /// pattern.
 pub fn leftmost_passes_find_the_first_end()
-    ensures { (r : Reader) (mode : Anchored) (h : List ℕ) (s e i q : ℕ) (o : Option (ℕ × ℕ)) → r.kind ≡ LeftmostFirst → IsWellFormed r.automaton →
+    ensures { (r : Reader) (mode : Anchored) (h : List ℕ) (s e i q : ℕ) (o : Option (ℕ × ℕ)) → r.kind ≡ LeftmostFirst →
+        IsWellFormed r.automaton →
         i ≤ e → e ≤ length h → start_name r.automaton mode ≡ Some q → q < length r.automaton.states →
         pass r mode false h (bytes_left r.automaton.reverse (span r.terminator h s e) i) i ≡ found o →
         o ≡ first (ends_from r.automaton (span r.terminator h s e) (i, q)) }
@@ -29,7 +30,8 @@ pub fn leftmost_passes_find_the_first_end()
 /// Where all matches are asked for, a pass that meets no quit byte finds the last place in reading order at
 /// which a run ends, with the pattern of the best run there.
 pub fn passes_for_all_find_the_last_end()
-    ensures { (r : Reader) (mode : Anchored) (h : List ℕ) (s e i q : ℕ) (o : Option (ℕ × ℕ)) → r.kind ≡ AllMatches → IsWellFormed r.automaton →
+    ensures { (r : Reader) (mode : Anchored) (h : List ℕ) (s e i q : ℕ) (o : Option (ℕ × ℕ)) → r.kind ≡ AllMatches →
+        IsWellFormed r.automaton →
         i ≤ e → e ≤ length h → start_name r.automaton mode ≡ Some q → q < length r.automaton.states →
         pass r mode false h (bytes_left r.automaton.reverse (span r.terminator h s e) i) i ≡ found o →
         IsLastEnd r.automaton.reverse (ends_from r.automaton (span r.terminator h s e) (i, q)) o }
@@ -46,7 +48,8 @@ pub fn earliest_passes_find_the_nearest_end()
 
 /// Of a pattern that doesn't exist a pass finds nothing.
 pub fn passes_for_no_pattern_find_nothing()
-    ensures { (r : Reader) (mode : Anchored) (earliest : Bool) (h : List ℕ) (n i : ℕ) (o : Option (ℕ × ℕ)) → start_name r.automaton mode ≡ None →
+    ensures { (r : Reader) (mode : Anchored) (earliest : Bool) (h : List ℕ) (n i : ℕ) (o : Option (ℕ × ℕ)) →
+        start_name r.automaton mode ≡ None →
         pass r mode earliest h n i ≡ found o → o ≡ None }
 {}
 
@@ -60,16 +63,19 @@ pub fn passes_answer_the_first_quit_byte()
         IsQuitBehind r h i b x → pass r mode earliest h n i ≡ quit b x }
     ensures ahead { (r : Reader) (mode : Anchored) (earliest : Bool) (h : List ℕ) (n i b x : ℕ) →
         HasNoQuitBehind r h i → IsFirstQuit r h i (pass_len r mode earliest h n i) b x → pass r mode earliest h n i ≡ quit b x }
-    ensures found { (r : Reader) (mode : Anchored) (earliest : Bool) (h : List ℕ) (n i : ℕ) (o : Option (ℕ × ℕ)) → pass r mode earliest h n i ≡ found o →
+    ensures found { (r : Reader) (mode : Anchored) (earliest : Bool) (h : List ℕ) (n i : ℕ) (o : Option (ℕ × ℕ)) →
+        pass r mode earliest h n i ≡ found o →
         HasNoQuitBehind r h i × HasNoQuit r h i (pass_len r mode earliest h n i) }
-    ensures none { (r : Reader) (mode : Anchored) (earliest : Bool) (h : List ℕ) (n i : ℕ) → is_supported r.starts_for_each_pattern mode ≡ true →
+    ensures none { (r : Reader) (mode : Anchored) (earliest : Bool) (h : List ℕ) (n i : ℕ) →
+        is_supported r.starts_for_each_pattern mode ≡ true →
         HasNoQuitBehind r h i → HasNoQuit r h i (suc n) → (o : Option (ℕ × ℕ)) × (pass r mode earliest h n i ≡ found o) }
 {}
 
 /// A pass tells that it can't search in its mode exactly where the mode isn't supported and the byte behind its
 /// first place is no quit byte; it reads no unit then.
 pub fn passes_tell_modes_that_they_cannot_search_in()
-    ensures told { (r : Reader) (mode : Anchored) (earliest : Bool) (h : List ℕ) (n i : ℕ) → is_supported r.starts_for_each_pattern mode ≡ false →
+    ensures told { (r : Reader) (mode : Anchored) (earliest : Bool) (h : List ℕ) (n i : ℕ) →
+        is_supported r.starts_for_each_pattern mode ≡ false →
         HasNoQuitBehind r h i → pass r mode earliest h n i ≡ unsupported mode }
     ensures alone { (r : Reader) (mode m : Anchored) (earliest : Bool) (h : List ℕ) (n i : ℕ) → pass r mode earliest h n i ≡ unsupported m →
         (m ≡ mode) × (is_supported r.starts_for_each_pattern mode ≡ false) × HasNoQuitBehind r h i }

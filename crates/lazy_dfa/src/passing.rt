@@ -10,7 +10,8 @@ ghost use Rattle.lazy_dfa.specs.Passes.{index_at};
 ghost use Rattle.lazy_dfa.specs.Points.{point};
 ghost use Rattle.lazy_dfa.specs.Scans.{first_place};
 ghost use Rattle.lazy_dfa.specs.SearchAnswers.{pair_of, told_of};
-ghost use Rattle.lazy_dfa.specs.PassPlaces.{IsWithinSpan, last_place, left_at, tells, finished_where, error_of, told_begun, told_behind, BeginsFirst, GoesBetween, TurnsTo, RunsOn, StartsPass};
+ghost use Rattle.lazy_dfa.specs.PassPlaces.{IsWithinSpan, last_place, left_at, tells, finished_where, error_of, told_begun, told_behind};
+ghost use Rattle.lazy_dfa.specs.PassPlaces.{BeginsFirst, GoesBetween, TurnsTo, RunsOn, StartsPass};
 
 use crate::cache_error::CacheError;
 use crate::dfa::{Cache, DFA};
@@ -154,7 +155,8 @@ pub(crate) fn run(
     ensures within { IsWithinSpan input.now result.at }
     ensures closer { left_at is_reverse input.now result.at ≤ left_at is_reverse input.now position.at }
     ensures goes { (earliest : Bool) (m n : ℕ) → GoesBetween dfa.now earliest input.now.haystack
-        (point cache.old m n position.at position.id (pair_of position.best)) (point cache.old m n result.at result.id (pair_of result.best))
+        (point cache.old m n position.at position.id (pair_of position.best))
+        (point cache.old m n result.at result.id (pair_of result.best))
         (left_at is_reverse input.now position.at - left_at is_reverse input.now result.at) }
 {
     if position.id.is_tagged() {
@@ -211,7 +213,8 @@ fn run_known(
     ensures within { IsWithinSpan input.now result.at }
     ensures closer { left_at is_reverse input.now result.at ≤ left_at is_reverse input.now position.at }
     ensures goes { (m n : ℕ) → GoesBetween dfa.now input.now.earliest input.now.haystack
-        (point cache.old m n position.at position.id (pair_of position.best)) (point cache.old m n result.at result.id (pair_of result.best))
+        (point cache.old m n position.at position.id (pair_of position.best))
+        (point cache.old m n result.at result.id (pair_of result.best))
         (left_at is_reverse input.now position.at - left_at is_reverse input.now result.at) }
 {
     dfa.is_made();
@@ -238,7 +241,8 @@ fn run_further(
     ensures within { IsWithinSpan input.now result.at }
     ensures closer { left_at is_reverse input.now result.at ≤ left_at is_reverse input.now position.at }
     ensures goes { (m n : ℕ) → GoesBetween dfa.now input.now.earliest input.now.haystack
-        (point cache.old m n position.at position.id (pair_of position.best)) (point cache.old m n result.at result.id (pair_of result.best))
+        (point cache.old m n position.at position.id (pair_of position.best))
+        (point cache.old m n result.at result.id (pair_of result.best))
         (left_at is_reverse input.now position.at - left_at is_reverse input.now result.at) }
 {
     run_known(dfa, cache, input, is_reverse, position)
@@ -261,7 +265,9 @@ fn living_turn<L: Ledger, M: Ledger>(
     requires left { position.at ≢ last_place is_reverse input.now }
     requires running { IsSome cache.old.progress }
     ensures own { IsCacheOf dfa.now cache.new }
-    ensures turn { TurnsTo dfa.now input.now (point cache.old work.old.determinized work.old.inserted position.at position.id (pair_of position.best)) cache.new work.new.determinized work.new.inserted result }
+    ensures turn { TurnsTo dfa.now input.now
+        (point cache.old work.old.determinized work.old.inserted position.at position.id (pair_of position.best)) cache.new
+        work.new.determinized work.new.inserted result }
 {
     let haystack = input.haystack();
     let index = index_at(position.at, is_reverse);
@@ -324,7 +330,9 @@ fn byte_turn<L: Ledger, M: Ledger>(
     requires left { position.at ≢ last_place is_reverse input.now }
     requires running { IsSome cache.old.progress }
     ensures own { IsCacheOf dfa.now cache.new }
-    ensures turn { TurnsTo dfa.now input.now (point cache.old work.old.determinized work.old.inserted position.at position.id (pair_of position.best)) cache.new work.new.determinized work.new.inserted result }
+    ensures turn { TurnsTo dfa.now input.now
+        (point cache.old work.old.determinized work.old.inserted position.at position.id (pair_of position.best)) cache.new
+        work.new.determinized work.new.inserted result }
 {
     dfa.is_made();
     let haystack = input.haystack();
@@ -358,7 +366,9 @@ fn last_turn<L: Ledger, M: Ledger>(
     requires begun { input.now.start ≤ input.now.end }
     requires running { tells is_reverse input.now ≡ true → IsSome cache.old.progress }
     ensures own { IsCacheOf dfa.now cache.new }
-    ensures turn { TurnsTo dfa.now input.now (point cache.old work.old.determinized work.old.inserted position.at position.id (pair_of position.best)) cache.new work.new.determinized work.new.inserted result }
+    ensures turn { TurnsTo dfa.now input.now
+        (point cache.old work.old.determinized work.old.inserted position.at position.id (pair_of position.best)) cache.new
+        work.new.determinized work.new.inserted result }
 {
     let unit = unit_at(input.haystack(), position.at, is_reverse);
     let earliest = input.get_earliest();
@@ -408,7 +418,9 @@ fn turn_at<L: Ledger, M: Ledger>(
     requires within { IsWithinSpan input.now position.at }
     requires running { tells is_reverse input.now ≡ true → IsSome cache.old.progress }
     ensures own { IsCacheOf dfa.now cache.new }
-    ensures turn { TurnsTo dfa.now input.now (point cache.old work.old.determinized work.old.inserted position.at position.id (pair_of position.best)) cache.new work.new.determinized work.new.inserted result }
+    ensures turn { TurnsTo dfa.now input.now
+        (point cache.old work.old.determinized work.old.inserted position.at position.id (pair_of position.best)) cache.new
+        work.new.determinized work.new.inserted result }
 {
     if position.at == last_place(input, is_reverse) {
         last_turn(dfa, cache, input, is_reverse, position, work)
@@ -436,7 +448,8 @@ fn go_on<L: Ledger, M: Ledger>(
     requires running { BeginsFirst is_reverse input.now cache.old }
     ensures own { IsCacheOf dfa.now cache.new }
     ensures runs { (s : StateValue) → HeldAt cache.old id s → RunsOn dfa.now input.now s
-        (point cache.old work.old.determinized work.old.inserted (first_place is_reverse input.now.start input.now.end) id None) cache.new work.new.determinized work.new.inserted result }
+        (point cache.old work.old.determinized work.old.inserted (first_place is_reverse input.now.start input.now.end) id None) cache.new
+        work.new.determinized work.new.inserted result }
 {
     dfa.is_made();
     see_bytes(input.haystack());
@@ -470,7 +483,8 @@ pub(crate) fn start_of_pass<L: Ledger, M: Ledger>(
     requires own { IsCacheOf dfa.now cache.old }
     requires is_reverse { is_reverse ≡ dfa.now.nfa.automaton.reverse }
     ensures own { IsCacheOf dfa.now cache.new }
-    ensures start { StartsPass dfa.now input.now cache.old cache.new work.old.determinized work.new.determinized work.old.inserted work.new.inserted result }
+    ensures start { StartsPass dfa.now input.now cache.old cache.new work.old.determinized work.new.determinized work.old.inserted
+        work.new.inserted result }
 {
     if is_reverse {
         dfa.start_state_reverse(cache, input, work)
@@ -519,7 +533,8 @@ fn pass_in<L: Ledger, M: Ledger>(
     requires is_reverse { is_reverse ≡ dfa.now.nfa.automaton.reverse }
     requires begun { input.now.start ≤ input.now.end }
     ensures own { IsCacheOf dfa.now cache.new }
-    ensures pass { MakesPass dfa.now input.now cache.old cache.new work.old.determinized work.new.determinized work.old.inserted work.new.inserted result }
+    ensures pass { MakesPass dfa.now input.now cache.old cache.new work.old.determinized work.new.determinized work.old.inserted
+        work.new.inserted result }
 {
     dfa.is_made();
     let id = match start_of_pass(dfa, cache, input, is_reverse, work) {
@@ -546,7 +561,8 @@ fn pass_forward<L: Ledger, M: Ledger>(
     requires is_forward { dfa.now.nfa.automaton.reverse ≡ false }
     requires begun { input.now.start ≤ input.now.end }
     ensures own { IsCacheOf dfa.now cache.new }
-    ensures pass { MakesPass dfa.now input.now cache.old cache.new work.old.determinized work.new.determinized work.old.inserted work.new.inserted result }
+    ensures pass { MakesPass dfa.now input.now cache.old cache.new work.old.determinized work.new.determinized work.old.inserted
+        work.new.inserted result }
 {
     pass_in(dfa, cache, input, false, work)
 }
@@ -563,7 +579,8 @@ fn pass_reverse<L: Ledger, M: Ledger>(
     requires is_reverse { dfa.now.nfa.automaton.reverse ≡ true }
     requires begun { input.now.start ≤ input.now.end }
     ensures own { IsCacheOf dfa.now cache.new }
-    ensures pass { MakesPass dfa.now input.now cache.old cache.new work.old.determinized work.new.determinized work.old.inserted work.new.inserted result }
+    ensures pass { MakesPass dfa.now input.now cache.old cache.new work.old.determinized work.new.determinized work.old.inserted
+        work.new.inserted result }
 {
     pass_in(dfa, cache, input, true, work)
 }
@@ -581,7 +598,8 @@ pub(crate) fn pass<L: Ledger, M: Ledger>(
     requires is_reverse { is_reverse ≡ dfa.now.nfa.automaton.reverse }
     requires begun { input.now.start ≤ input.now.end }
     ensures own { IsCacheOf dfa.now cache.new }
-    ensures pass { MakesPass dfa.now input.now cache.old cache.new work.old.determinized work.new.determinized work.old.inserted work.new.inserted result }
+    ensures pass { MakesPass dfa.now input.now cache.old cache.new work.old.determinized work.new.determinized work.old.inserted
+        work.new.inserted result }
 {
     if is_reverse {
         pass_reverse(dfa, cache, input, work)

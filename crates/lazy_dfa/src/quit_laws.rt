@@ -14,9 +14,12 @@ ghost use Rattle.lazy_dfa.specs.Quits.{has_unicode_word, quit_bytes, is_unsuppor
 /// The quit bytes are those that were set by hand. Where the automaton has a look for words by characters and word
 /// boundaries are on, all bytes above 7F are quit bytes too, and else no other byte is one.
 pub fn quit_bytes_are_set_by_hand_or_high()
-    ensures by_hand { (a : Automaton) (boundaries : Bool) (set : List Bool) (b : ℕ) → b < 256 → has set b ≡ true → has (quit_bytes a boundaries set) b ≡ true }
-    ensures ascii { (a : Automaton) (boundaries : Bool) (set : List Bool) (b : ℕ) → b < 0x80 → has (quit_bytes a boundaries set) b ≡ has set b }
-    ensures high { (a : Automaton) (set : List Bool) (b : ℕ) → has_unicode_word a ≡ true → 0x80 ≤ b → b < 256 → has (quit_bytes a true set) b ≡ true }
+    ensures by_hand { (a : Automaton) (boundaries : Bool) (set : List Bool) (b : ℕ) → b < 256 → has set b ≡ true →
+        has (quit_bytes a boundaries set) b ≡ true }
+    ensures ascii { (a : Automaton) (boundaries : Bool) (set : List Bool) (b : ℕ) → b < 0x80 →
+        has (quit_bytes a boundaries set) b ≡ has set b }
+    ensures high { (a : Automaton) (set : List Bool) (b : ℕ) → has_unicode_word a ≡ true → 0x80 ≤ b → b < 256 →
+        has (quit_bytes a true set) b ≡ true }
     ensures plain { (a : Automaton) (boundaries : Bool) (set : List Bool) → has_unicode_word a ≡ false → quit_bytes a boundaries set ≡ set }
     ensures off { (a : Automaton) (set : List Bool) → quit_bytes a false set ≡ set }
     ensures len { (a : Automaton) (boundaries : Bool) (set : List Bool) → length set ≡ 256 → length (quit_bytes a boundaries set) ≡ 256 }
@@ -33,6 +36,7 @@ pub fn automata_are_unsupported_without_high_quit_bytes()
 
 /// So of an automaton that isn't refused and has a look for words by characters, each byte above 7F is a quit byte.
 pub fn unicode_words_quit_at_high_bytes()
-    ensures { (a : Automaton) (boundaries : Bool) (set : List Bool) (b : ℕ) → is_unsupported a boundaries set ≡ false → has_unicode_word a ≡ true →
+    ensures { (a : Automaton) (boundaries : Bool) (set : List Bool) (b : ℕ) → is_unsupported a boundaries set ≡ false →
+        has_unicode_word a ≡ true →
         0x80 ≤ b → b < 256 → has (quit_bytes a boundaries set) b ≡ true }
 {}

@@ -31,7 +31,8 @@ ghost use Rattle.lazy_dfa.specs.ScanLaws.{begins_at, IsFirstFound, ReadsAlike, I
 pub fn passes_depend_on_their_reach()
     ensures alike { (r : Reader) (mode : Anchored) (earliest : Bool) (h g : List ℕ) (n i : ℕ) →
         Agree h g (IsInPass r mode earliest h n i) → pass r mode earliest h n i ≡ pass r mode earliest g n i }
-    ensures quiet { (r : Reader) (mode : Anchored) (earliest : Bool) (h : List ℕ) (n i : ℕ) (o : Option (ℕ × ℕ)) → pass r mode earliest h n i ≡ found o →
+    ensures quiet { (r : Reader) (mode : Anchored) (earliest : Bool) (h : List ℕ) (n i : ℕ) (o : Option (ℕ × ℕ)) →
+        pass r mode earliest h n i ≡ found o →
         (x : ℕ) → IsInPass r mode earliest h n i x → is_quit r.quits (byte_at h x) ≡ false }
 {}
 
@@ -39,7 +40,8 @@ pub fn passes_depend_on_their_reach()
 /// the one by ASCII bytes, of the looks that the automaton has, at the places between the bytes in its reach. So where a
 /// reading of words by characters agrees there, what is found is what it defines. The automaton keeps no captures.
 pub fn passes_find_the_first_end_for_each_reading()
-    ensures { (r : Reader) (mode : Anchored) (h : List ℕ) (s e i q : ℕ) (holds : Look → ℕ → Bool) (o : Option (ℕ × ℕ)) → r.kind ≡ LeftmostFirst →
+    ensures { (r : Reader) (mode : Anchored) (h : List ℕ) (s e i q : ℕ) (holds : Look → ℕ → Bool) (o : Option (ℕ × ℕ)) →
+        r.kind ≡ LeftmostFirst →
         IsWellFormed r.automaton → list_any is_capture r.automaton.states ≡ false → i ≤ e → e ≤ length h →
         start_name r.automaton mode ≡ Some q → q < length r.automaton.states →
         ReadsAlike r holds h s e i (pass_len r mode false h (bytes_left r.automaton.reverse (span r.terminator h s e) i) i) →
@@ -49,7 +51,8 @@ pub fn passes_find_the_first_end_for_each_reading()
 
 /// So does a half search with its restarts.
 pub fn scans_find_the_first_ends_for_each_reading()
-    ensures { (r : Reader) (q : Search) (name : ℕ) (holds : Look → ℕ → Bool) (o : Option (ℕ × ℕ)) → r.kind ≡ LeftmostFirst → q.earliest ≡ false →
+    ensures { (r : Reader) (q : Search) (name : ℕ) (holds : Look → ℕ → Bool) (o : Option (ℕ × ℕ)) → r.kind ≡ LeftmostFirst →
+        q.earliest ≡ false →
         IsWellFormed r.automaton → list_any is_capture r.automaton.states ≡ false → q.start ≤ q.end → q.end ≤ length q.haystack →
         start_name r.automaton q.anchored ≡ Some name → name < length r.automaton.states →
         ReadsAlike r holds q.haystack q.start q.end (begins_at r q) (scan_len r q) →
@@ -75,7 +78,8 @@ pub fn scans_depend_on_their_reach()
 /// bytes there it finds the same, and under leftmost-first it found the first end for each reading of looks that agrees with
 /// the one by ASCII bytes up to there.
 pub fn scans_reach_a_place()
-    ensures { (r : Reader) (q : Search) (o : Option (ℕ × ℕ)) → r.automaton.reverse ≡ false → IsSound r.automaton → q.end ≤ length q.haystack →
+    ensures { (r : Reader) (q : Search) (o : Option (ℕ × ℕ)) → r.automaton.reverse ≡ false → IsSound r.automaton →
+        q.end ≤ length q.haystack →
         scan r q ≡ found o → HasReach r q o }
 {}
 

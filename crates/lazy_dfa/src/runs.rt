@@ -52,7 +52,8 @@ fn skip_forward(
     ensures untagged { result.id < tag }
     ensures past { from ≤ result.at }
     ensures within { result.at ≤ end }
-    ensures goes { (m n : ℕ) (best : Option (ℕ × ℕ)) → GoesTo dfa.now haystack.now (point cache.old m n from id best) (point cache.old m n result.at result.id best) (result.at - from) }
+    ensures goes { (m n : ℕ) (best : Option (ℕ × ℕ)) →
+        GoesTo dfa.now haystack.now (point cache.old m n from id best) (point cache.old m n result.at result.id best) (result.at - from) }
 {
     dfa.is_made();
     let mut at = from;
@@ -209,7 +210,8 @@ pub(crate) fn run_forward(
     ensures untagged { result.id < tag }
     ensures past { from ≤ result.at }
     ensures within { result.at ≤ end }
-    ensures goes { (m n : ℕ) (best : Option (ℕ × ℕ)) → GoesTo dfa.now haystack.now (point cache.old m n from id best) (point cache.old m n result.at result.id best) (result.at - from) }
+    ensures goes { (m n : ℕ) (best : Option (ℕ × ℕ)) →
+        GoesTo dfa.now haystack.now (point cache.old m n from id best) (point cache.old m n result.at result.id best) (result.at - from) }
 {
     dfa.is_made();
     let near = from + (end - from).min(FEW);
@@ -246,7 +248,8 @@ pub(crate) fn run_reverse(
     ensures untagged { result.id < tag }
     ensures past { result.at ≤ from }
     ensures within { end ≤ result.at }
-    ensures goes { (m n : ℕ) (best : Option (ℕ × ℕ)) → GoesTo dfa.now haystack.now (point cache.now m n from id best) (point cache.now m n result.at result.id best) (from - result.at) }
+    ensures goes { (m n : ℕ) (best : Option (ℕ × ℕ)) →
+        GoesTo dfa.now haystack.now (point cache.now m n from id best) (point cache.now m n result.at result.id best) (from - result.at) }
 {
     dfa.is_made();
     let mut at = from;

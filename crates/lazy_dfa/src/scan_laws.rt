@@ -2,7 +2,8 @@
 //! code: its contract is the law.
 //! ```rust
 //! pub fn nothing_is_found_of_no_pattern()
-//!     ensures { (r : Reader) (q : Search) (o : Option (ℕ × ℕ)) → start_name r.automaton q.anchored ≡ None → scan r q ≡ found o → o ≡ None }
+//!     ensures { (r : Reader) (q : Search) (o : Option (ℕ × ℕ)) → start_name r.automaton q.anchored ≡ None →
+//!         scan r q ≡ found o → o ≡ None }
 //! {
 //!     scans_for_no_pattern_find_nothing();
 //! }
@@ -17,12 +18,14 @@ ghost use Rattle.lazy_dfa.specs.Readers.{Reader, found, quit, unsupported};
 ghost use Rattle.lazy_dfa.specs.Passes.{start_name, pass};
 ghost use Rattle.lazy_dfa.specs.PassLaws.{HasNoQuitBehind, splits, pass_of};
 ghost use Rattle.lazy_dfa.specs.Scans.{passes, scan, unless_split};
-ghost use Rattle.lazy_dfa.specs.ScanLaws.{begins_at, IsOfPasses, IsFound, IsQuitNear, HasNoQuitNear, Splits, shorter, pass_count, unit_count};
+ghost use Rattle.lazy_dfa.specs.ScanLaws.{begins_at, IsOfPasses, IsFound, IsQuitNear, HasNoQuitNear, Splits, shorter, pass_count};
+ghost use Rattle.lazy_dfa.specs.ScanLaws.{unit_count};
 
 /// What a half search finds is what is wanted of the ends of runs: the end of the most preferred run, the last end or the
 /// nearest one, from the first of the places where it begins at which this end counts.
 pub fn scans_find_what_is_wanted()
-    ensures { (r : Reader) (q : Search) (name : ℕ) (o : Option (ℕ × ℕ)) → IsWellFormed r.automaton → q.start ≤ q.end → q.end ≤ length q.haystack →
+    ensures { (r : Reader) (q : Search) (name : ℕ) (o : Option (ℕ × ℕ)) → IsWellFormed r.automaton → q.start ≤ q.end →
+        q.end ≤ length q.haystack →
         start_name r.automaton q.anchored ≡ Some name → name < length r.automaton.states → scan r q ≡ found o → IsFound r q name o }
 {}
 
@@ -47,7 +50,8 @@ pub fn passes_begin_anew_where_an_end_splits()
 pub fn scans_make_passes()
     ensures done { (r : Reader) (q : Search) → q.end < q.start → scan r q ≡ found None }
     ensures anchored { (r : Reader) (q : Search) → q.start ≤ q.end → is_anchored q.anchored ≡ true → scan r q ≡
-        unless_split (counts r.between_characters q.haystack) (pass r q.anchored q.earliest q.haystack (q.end - q.start) (begins_at r q)) (found None) }
+        unless_split (counts r.between_characters q.haystack) (pass r q.anchored q.earliest q.haystack (q.end - q.start) (begins_at r q))
+        (found None) }
     ensures unanchored { (r : Reader) (q : Search) → q.start ≤ q.end → is_anchored q.anchored ≡ false →
         IsOfPasses r q.anchored q.earliest q.haystack (q.end - q.start) (begins_at r q) (scan r q) }
     ensures one { (r : Reader) (q : Search) → q.start ≤ q.end → r.between_characters ≡ false →
@@ -61,14 +65,16 @@ pub fn scans_begin_anew_over_one_byte_less()
         unless_split (counts r.between_characters q.haystack) (pass r q.anchored q.earliest q.haystack (q.end - q.start) (begins_at r q))
         (scan r (shorter r.automaton.reverse q)) }
     ensures last { (r : Reader) (q : Search) → q.start ≡ q.end → is_anchored q.anchored ≡ false → scan r q ≡
-        unless_split (counts r.between_characters q.haystack) (pass r q.anchored q.earliest q.haystack (q.end - q.start) (begins_at r q)) (found None) }
+        unless_split (counts r.between_characters q.haystack) (pass r q.anchored q.earliest q.haystack (q.end - q.start) (begins_at r q))
+        (found None) }
 {}
 
 /// A quit byte that a half search answers stands there, in or beside the span. Where none does and the mode is supported,
 /// it finds a match or none.
 pub fn scans_quit_near_their_span()
     ensures quits { (r : Reader) (q : Search) (b x : ℕ) → scan r q ≡ quit b x → IsQuitNear r q.haystack q.start q.end b x }
-    ensures none { (r : Reader) (q : Search) → is_supported r.starts_for_each_pattern q.anchored ≡ true → HasNoQuitNear r q.haystack q.start q.end →
+    ensures none { (r : Reader) (q : Search) → is_supported r.starts_for_each_pattern q.anchored ≡ true →
+        HasNoQuitNear r q.haystack q.start q.end →
         (o : Option (ℕ × ℕ)) × (scan r q ≡ found o) }
 {}
 

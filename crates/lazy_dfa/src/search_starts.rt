@@ -38,7 +38,8 @@ fn start_at<L: Ledger, M: Ledger>(
     ensures own { IsCacheOf dfa.now cache.new }
     ensures answer { AnswersStart dfa.now cache.old cache.new config.now quit_place place result }
     ensures gave_up { result ≡ Err (SearchGaveUp place) → cache.new ≡ cache.old }
-    ensures start { MakesStart dfa.now config.now cache.old cache.new work.old.determinized work.new.determinized work.old.inserted work.new.inserted result }
+    ensures start { MakesStart dfa.now config.now cache.old cache.new work.old.determinized work.new.determinized work.old.inserted
+        work.new.inserted result }
 {
     match dfa.start_state(cache, config, work) {
         Ok(id) => Ok(id),
@@ -64,7 +65,8 @@ impl DFA {
         ensures own { IsCacheOf self.now cache.new }
         ensures answer { AnswersStart self.now cache.old cache.new (forward_start input.now) (input.now.start - 1) input.now.start result }
         ensures gave_up { result ≡ Err (SearchGaveUp input.now.start) → cache.new ≡ cache.old }
-        ensures start { MakesStart self.now (forward_start input.now) cache.old cache.new work.old.determinized work.new.determinized work.old.inserted work.new.inserted result }
+        ensures start { MakesStart self.now (forward_start input.now) cache.old cache.new work.old.determinized work.new.determinized
+            work.old.inserted work.new.inserted result }
     {
         let place = input.start();
         let quit_place = place.saturating_sub(1);
@@ -85,7 +87,8 @@ impl DFA {
         ensures own { IsCacheOf self.now cache.new }
         ensures answer { AnswersStart self.now cache.old cache.new (reverse_start input.now) input.now.end input.now.end result }
         ensures gave_up { result ≡ Err (SearchGaveUp input.now.end) → cache.new ≡ cache.old }
-        ensures start { MakesStart self.now (reverse_start input.now) cache.old cache.new work.old.determinized work.new.determinized work.old.inserted work.new.inserted result }
+        ensures start { MakesStart self.now (reverse_start input.now) cache.old cache.new work.old.determinized work.new.determinized
+            work.old.inserted work.new.inserted result }
     {
         let place = input.end();
         let config = StartConfig::from_input_reverse(input);

@@ -52,7 +52,8 @@ fn search_again<L: Ledger, M: Ledger>(
     ensures made { IsDfa dfa.now }
     ensures within { IsWithin input.now }
     ensures own { IsCacheOf dfa.now cache.new }
-    ensures search { MakesSearch dfa.now input.now cache.old cache.new work.old.determinized work.new.determinized work.old.inserted work.new.inserted result }
+    ensures search { MakesSearch dfa.now input.now cache.old cache.new work.old.determinized work.new.determinized work.old.inserted
+        work.new.inserted result }
 {
     dfa.is_made();
     see_bytes(input.haystack());
@@ -103,7 +104,8 @@ fn search<L: Ledger, M: Ledger>(
     ensures made { IsDfa dfa.now }
     ensures within { IsWithin input.now }
     ensures own { IsCacheOf dfa.now cache.new }
-    ensures search { MakesSearch dfa.now input.now cache.old cache.new work.old.determinized work.new.determinized work.old.inserted work.new.inserted result }
+    ensures search { MakesSearch dfa.now input.now cache.old cache.new work.old.determinized work.new.determinized work.old.inserted
+        work.new.inserted result }
 {
     dfa.is_made();
     see_bytes(input.haystack());
@@ -156,7 +158,8 @@ impl DFA {
         requires own { IsCacheOf self.now cache.old }
         requires is_forward { self.now.nfa.automaton.reverse ≡ false }
         ensures own { IsCacheOf self.now cache.new }
-        ensures search { MakesHalf self.now input.now cache.old cache.new work.old.determinized work.new.determinized work.old.inserted work.new.inserted result }
+        ensures search { MakesHalf self.now input.now cache.old cache.new work.old.determinized work.new.determinized work.old.inserted
+            work.new.inserted result }
         ensures reach { IfOk result (λ found. (o : Option (ℕ × ℕ)) × (found ≡ half_of o) × HasReach (reader self.now) input.now o) }
     {
         search(self, cache, input, false, work)
@@ -175,7 +178,8 @@ impl DFA {
         requires own { IsCacheOf self.now cache.old }
         requires is_reverse { self.now.nfa.automaton.reverse ≡ true }
         ensures own { IsCacheOf self.now cache.new }
-        ensures search { MakesHalf self.now input.now cache.old cache.new work.old.determinized work.new.determinized work.old.inserted work.new.inserted result }
+        ensures search { MakesHalf self.now input.now cache.old cache.new work.old.determinized work.new.determinized work.old.inserted
+            work.new.inserted result }
         ensures reach { IfOk result (λ found. (o : Option (ℕ × ℕ)) × (found ≡ half_of o) × HasReachBack (reader self.now) input.now o) }
     {
         search(self, cache, input, true, work)

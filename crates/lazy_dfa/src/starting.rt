@@ -1,5 +1,6 @@
 //! The states in which searches start.
-ghost use Rattle.std.specs.Prelude.{◌≡◌, ◌≢◌, ◌⊎◌, ◌+◌, ◌<◌, ◌≤◌, true, false, length, slice_index_or, IfOk, OnOk, IfErr, OnErr, Ok, Err, None, Some};
+ghost use Rattle.std.specs.Prelude.{◌≡◌, ◌≢◌, ◌⊎◌, ◌+◌, ◌<◌, ◌≤◌, true, false, length, slice_index_or, IfOk, OnOk, IfErr, OnErr, Ok, Err};
+ghost use Rattle.std.specs.Prelude.{None, Some};
 ghost use Rattle.lazy_dfa.specs.Dfas.{IsStateOf, is_dead, start_in, first_state};
 ghost use Rattle.lazy_dfa.specs.Caches.{IsCacheOf, Names, Fits, row_holding, slot_of_start, needs_clear, lacks_room, cleared};
 ghost use Rattle.lazy_dfa.specs.ConfigValue.{specializes};
@@ -120,14 +121,21 @@ pub(crate) fn start_in_mode<L: Ledger, M: Ledger>(
     ensures own { IsCacheOf dfa.now cache.new }
     ensures start { IfOk result (λ id. Names cache.new id (first_state dfa.now start name)) }
     ensures noted { IfOk result (λ id. slice_index_or cache.new.starts (slot_of_start mode start) 0 ≡ id) }
-    ensures known { slice_index_or cache.old.starts (slot_of_start mode start) 0 ≢ unknown_id → result ≡ Ok (slice_index_or cache.old.starts (slot_of_start mode start) 0) }
+    ensures known { slice_index_or cache.old.starts (slot_of_start mode start) 0 ≢ unknown_id →
+        result ≡ Ok (slice_index_or cache.old.starts (slot_of_start mode start) 0) }
     ensures same { slice_index_or cache.old.starts (slot_of_start mode start) 0 ≢ unknown_id → cache.new ≡ cache.old }
     ensures free { slice_index_or cache.old.starts (slot_of_start mode start) 0 ≢ unknown_id → work.new ≡ work.old }
     ensures kept { Grew dfa.now cache.old cache.new ⊎ WasCleared cache.old cache.new 1 }
-    ensures remains { OnOk result (Grew dfa.now cache.old cache.new ⊎ ClearedFor dfa.now cache.old cache.new (slot_of_start mode start) (first_state dfa.now start name)) }
-    ensures cause { Grew dfa.now cache.old cache.new ⊎ ((slice_index_or cache.old.starts (slot_of_start mode start) 0 ≡ unknown_id) × (needs_clear dfa.now cache.old (first_state dfa.now start name) ≡ true)) }
-    ensures adds { (Grew dfa.now cache.old cache.new × HasStatesOf cache.new cache.old) ⊎ ComesTo (Grew dfa.now cache.old cache.new) dfa.now (specializes dfa.now.options) None (first_state dfa.now start name) cache.old cache.new }
-    ensures ok { OnOk result (slice_index_or cache.old.starts (slot_of_start mode start) 0 ≡ unknown_id → lacks_room dfa.now cache.old (first_state dfa.now start name) ≡ false) }
+    ensures remains { OnOk result (Grew dfa.now cache.old cache.new ⊎
+        ClearedFor dfa.now cache.old cache.new (slot_of_start mode start) (first_state dfa.now start name)) }
+    ensures cause { Grew dfa.now cache.old cache.new ⊎
+        ((slice_index_or cache.old.starts (slot_of_start mode start) 0 ≡ unknown_id) ×
+        (needs_clear dfa.now cache.old (first_state dfa.now start name) ≡ true)) }
+    ensures adds { (Grew dfa.now cache.old cache.new × HasStatesOf cache.new cache.old) ⊎
+        ComesTo (Grew dfa.now cache.old cache.new) dfa.now (specializes dfa.now.options) None (first_state dfa.now start name) cache.old
+        cache.new }
+    ensures ok { OnOk result (slice_index_or cache.old.starts (slot_of_start mode start) 0 ≡ unknown_id →
+        lacks_room dfa.now cache.old (first_state dfa.now start name) ≡ false) }
     ensures gave_up { result ≡ Err GaveUp → cache.new ≡ cache.old }
     ensures tag { IfOk result (λ id. TagsStart dfa.now cache.old (first_state dfa.now start name) id) }
     ensures unknown { OnErr result (slice_index_or cache.old.starts (slot_of_start mode start) 0 ≡ unknown_id) }

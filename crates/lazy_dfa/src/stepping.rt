@@ -4,12 +4,15 @@ ghost use Rattle.search_core.specs.Units.{unit_byte};
 ghost use Rattle.determinize_core.specs.Costs.{free_ways};
 ghost use Rattle.lazy_dfa.specs.Dfas.{IsStateOf, IsUnit, after, class_of, is_dead};
 ghost use Rattle.lazy_dfa.specs.Ids.{unknown_id, has_tag, start_tag};
-ghost use Rattle.lazy_dfa.specs.Caches.{IsCacheOf, HeldAt, IsRow, Names, Fits, fits, is_refused, row_holding, state_at, with_state, needs_clear, lacks_room};
+ghost use Rattle.lazy_dfa.specs.Caches.{IsCacheOf, HeldAt, IsRow, Names, Fits, fits, is_refused, row_holding, state_at, with_state};
+ghost use Rattle.lazy_dfa.specs.Caches.{needs_clear, lacks_room};
 ghost use Rattle.lazy_dfa.specs.ConfigValue.{clears_of, minimum_bytes_of};
 ghost use Rattle.lazy_dfa.specs.declared.cache_error.CacheError.TheVariants.{GaveUp};
 ghost use Rattle.lazy_dfa.specs.Readers.{is_quit, is_quit as is_quit_unit};
 ghost use Rattle.lazy_dfa.specs.StepPromises.{MakesStep};
-ghost use Rattle.lazy_dfa.specs.Steps.{IsHeld, IsCause, GivesUp, IsStepCause, StepsTo, Added, Grew, StepNeedsClear, ClearedFrom, kept_alone, MadeRoom, AddsOrClears, KeepsOrClears, noted, IsNoted, TagsStep, ClearsFor, ComesTo, StepAdds, most_inserts};
+ghost use Rattle.lazy_dfa.specs.Steps.{IsHeld, IsCause, GivesUp, IsStepCause, StepsTo, Added, Grew, StepNeedsClear, ClearedFrom};
+ghost use Rattle.lazy_dfa.specs.Steps.{kept_alone, MadeRoom, AddsOrClears, KeepsOrClears, noted, IsNoted, TagsStep, ClearsFor, ComesTo};
+ghost use Rattle.lazy_dfa.specs.Steps.{StepAdds, most_inserts};
 
 use crate::cache_error::CacheError;
 use crate::dfa::{Cache, DFA};
@@ -114,7 +117,8 @@ fn place(dfa: &DFA, cache: &mut Cache, k: usize, state: State) -> Result<Rows, C
     ensures gave_up { result ≡ Err GaveUp → cache.new ≡ cache.old }
     ensures from { IfOk result (λ rows. HeldAt cache.new rows.from (state_at cache.old k)) }
     ensures to { IfOk result (λ rows. Names cache.new rows.to state) }
-    ensures tag { IfOk result (λ rows. is_dead state ≡ false → row_holding state cache.old.states ≡ None → has_tag start_tag rows.to ≡ false) }
+    ensures tag { IfOk result (λ rows. is_dead state ≡ false → row_holding state cache.old.states ≡ None →
+        has_tag start_tag rows.to ≡ false) }
     ensures ok { OnOk result (lacks_room dfa.now cache.old state ≡ false) }
     ensures err { IfErr result (λ e. IsCause dfa.now cache.old state e) }
 {
@@ -220,7 +224,8 @@ pub(crate) fn step<L: Ledger, M: Ledger>(
     requires class { class ≡ class_of dfa.now.classes (unit_byte unit) }
     requires quit { is_quit ≡ is_quit_unit dfa.now.quits (unit_byte unit) }
     ensures own { IsCacheOf dfa.now cache.new }
-    ensures step { MakesStep dfa.now current (unit_byte unit) cache.old cache.new work.old.determinized work.new.determinized work.old.inserted work.new.inserted result }
+    ensures step { MakesStep dfa.now current (unit_byte unit) cache.old cache.new work.old.determinized work.new.determinized
+        work.old.inserted work.new.inserted result }
 {
     dfa.is_made();
     let stride = cache.stride();

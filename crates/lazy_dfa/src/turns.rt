@@ -48,7 +48,8 @@ fn step_by<L: Ledger, M: Ledger>(
     requires held { IsHeld cache.old current }
     ensures own { IsCacheOf dfa.now cache.new }
     ensures held { IfOk result (λ to. IsHeld cache.new to) }
-    ensures step { MakesStep dfa.now current unit cache.old cache.new work.old.determinized work.new.determinized work.old.inserted work.new.inserted result }
+    ensures step { MakesStep dfa.now current unit cache.old cache.new work.old.determinized work.new.determinized work.old.inserted
+        work.new.inserted result }
 {
     match unit {
         Some(byte) => dfa.next_state(cache, current, byte, work),
@@ -81,7 +82,8 @@ fn step_row<L: Ledger, M: Ledger>(
     requires row { IsRow cache.old current }
     ensures own { IsCacheOf dfa.now cache.new }
     ensures held { IfOk result (λ to. IsHeld cache.new to) }
-    ensures step { MakesStep dfa.now current unit cache.old cache.new work.old.determinized work.new.determinized work.old.inserted work.new.inserted result }
+    ensures step { MakesStep dfa.now current unit cache.old cache.new work.old.determinized work.new.determinized work.old.inserted
+        work.new.inserted result }
 {
     dfa.is_made();
     let class = class_of_unit(dfa, unit);
@@ -148,7 +150,9 @@ pub(crate) fn make_turn<L: Ledger, M: Ledger>(
     requires own { IsCacheOf dfa.now cache.old }
     requires row { IsRow cache.old current }
     ensures own { IsCacheOf dfa.now cache.new }
-    ensures turn { (h : List ℕ) → unit ≡ unit_at dfa.now.nfa.automaton.reverse h place → IsTurn dfa.now earliest h unit (point cache.old work.old.determinized work.old.inserted place current (pair_of best)) cache.new work.new.determinized work.new.inserted result }
+    ensures turn { (h : List ℕ) → unit ≡ unit_at dfa.now.nfa.automaton.reverse h place →
+        IsTurn dfa.now earliest h unit (point cache.old work.old.determinized work.old.inserted place current (pair_of best)) cache.new
+        work.new.determinized work.new.inserted result }
 {
     let id = match step_row(dfa, cache, current, unit, work) {
         Ok(id) => id,

@@ -41,8 +41,10 @@ pub fn walks_for_all_tell_the_ends_by_place()
 /// So it tells exactly the pairs of a place that counts and a pattern such that a run of the pattern ends there, each once,
 /// the places in reading order, and at one place the ends of the preferred runs first.
 pub fn walks_for_all_tell_each_end_once()
-    ensures exactly { (r : Reader) (q : Search) (name : ℕ) (x : ℕ × ℕ) → r.kind ≡ AllMatches → IsBegun r q name → (whole_rest r q).refusal ≡ None →
-        Has same_pair x (whole_rest r q).ends ↔ (Has same_pair x (ends_of r q name 0) × (counts r.between_characters q.haystack x.0 ≡ true)) }
+    ensures exactly { (r : Reader) (q : Search) (name : ℕ) (x : ℕ × ℕ) → r.kind ≡ AllMatches → IsBegun r q name →
+        (whole_rest r q).refusal ≡ None →
+        Has same_pair x (whole_rest r q).ends ↔ (Has same_pair x (ends_of r q name 0) ×
+        (counts r.between_characters q.haystack x.0 ≡ true)) }
     ensures once { (r : Reader) (q : Search) (name : ℕ) → r.kind ≡ AllMatches → IsBegun r q name → (whole_rest r q).refusal ≡ None →
         HasNoneTwice same_pair (whole_rest r q).ends }
     ensures ordered { (r : Reader) (q : Search) (name : ℕ) → r.kind ≡ AllMatches → IsBegun r q name → (whole_rest r q).refusal ≡ None →
@@ -55,7 +57,8 @@ pub fn walks_for_all_tell_each_end_once()
 /// A walk that meets a quit byte tells the ends at the places before this byte's unit but for its own place, since a match
 /// shows one unit late, and nothing where the quit byte stands behind its first place.
 pub fn walks_for_all_tell_the_ends_before_a_quit_byte()
-    ensures { (r : Reader) (q : Search) (name b x : ℕ) → r.kind ≡ AllMatches → IsBegun r q name → (whole_rest r q).refusal ≡ Some (Quit b x) →
+    ensures { (r : Reader) (q : Search) (name b x : ℕ) → r.kind ≡ AllMatches → IsBegun r q name →
+        (whole_rest r q).refusal ≡ Some (Quit b x) →
         (IsQuitBehind r q.haystack (begins_at r q) b x × ((whole_rest r q).ends ≡ [])) ⊎
         (HasNoQuitBehind r q.haystack (begins_at r q) × ((m : ℕ) × IsQuitUnit r q m b x × ((whole_rest r q).ends ≡ span_ends r q name m))) }
 {}
@@ -75,20 +78,25 @@ pub fn walks_may_have_nothing_to_tell()
 /// A walk is refused at a quit byte in or beside its span, or in a mode in which the automaton can't search, at once. Where no
 /// quit byte stands there and the mode is supported, it isn't.
 pub fn walks_are_refused_by_quit_bytes_and_modes_alone()
-    ensures quits { (r : Reader) (q : Search) (b x : ℕ) → (whole_rest r q).refusal ≡ Some (Quit b x) → IsQuitNear r q.haystack q.start q.end b x }
+    ensures quits { (r : Reader) (q : Search) (b x : ℕ) → (whole_rest r q).refusal ≡ Some (Quit b x) →
+        IsQuitNear r q.haystack q.start q.end b x }
     ensures unsupported { (r : Reader) (q : Search) → q.start ≤ q.end → is_supported r.starts_for_each_pattern q.anchored ≡ false →
         HasNoQuitBehind r q.haystack (begins_at r q) → whole_rest r q ≡ refused (UnsupportedAnchored q.anchored) }
     ensures alone { (r : Reader) (q : Search) (e : MatchErrorKind) → (whole_rest r q).refusal ≡ Some e →
-        ((b x : ℕ) × (e ≡ Quit b x)) ⊎ ((e ≡ UnsupportedAnchored q.anchored) × (is_supported r.starts_for_each_pattern q.anchored ≡ false)) }
-    ensures none { (r : Reader) (q : Search) → is_supported r.starts_for_each_pattern q.anchored ≡ true → HasNoQuitNear r q.haystack q.start q.end →
+        ((b x : ℕ) × (e ≡ Quit b x)) ⊎ ((e ≡ UnsupportedAnchored q.anchored) ×
+        (is_supported r.starts_for_each_pattern q.anchored ≡ false)) }
+    ensures none { (r : Reader) (q : Search) → is_supported r.starts_for_each_pattern q.anchored ≡ true →
+        HasNoQuitNear r q.haystack q.start q.end →
         (whole_rest r q).refusal ≡ None }
 {}
 
 /// A walk goes on over a cache that wasn't cleared since its last call, whatever else was done with it. The
 /// same count of clears tells that it wasn't.
 pub fn walks_go_on_where_nothing_was_cleared()
-    ensures grown { (d : Dfa) (old new : CacheValue) (q : Search) (w : Walk) → IsCacheOf d old → IsCacheOf d new → CacheGrows d old new → IsWalk d old q w → IsWalk d new q w }
-    ensures counted { (d : Dfa) (old new : CacheValue) (q : Search) (w : Walk) → IsCacheOf d old → IsCacheOf d new → GrowsOrClears d old new →
+    ensures grown { (d : Dfa) (old new : CacheValue) (q : Search) (w : Walk) → IsCacheOf d old → IsCacheOf d new → CacheGrows d old new →
+        IsWalk d old q w → IsWalk d new q w }
+    ensures counted { (d : Dfa) (old new : CacheValue) (q : Search) (w : Walk) → IsCacheOf d old → IsCacheOf d new →
+        GrowsOrClears d old new →
         new.clears ≡ old.clears → old.clears < greatest → IsWalk d old q w → IsWalk d new q w }
 {}
 
@@ -96,7 +104,8 @@ pub fn walks_go_on_where_nothing_was_cleared()
 /// no others.
 pub fn sets_get_the_patterns_of_all_ends()
     ensures members { (set : List Bool) (ends : List (ℕ × ℕ)) (p : ℕ) →
-        (has (which_from false set ends None).set p ≡ true) ↔ ((has set p ≡ true) ⊎ ((p < length set) × ((j : ℕ) × Has same_pair (j, p) ends))) }
+        (has (which_from false set ends None).set p ≡ true) ↔
+        ((has set p ≡ true) ⊎ ((p < length set) × ((j : ℕ) × Has same_pair (j, p) ends))) }
     ensures refused { (set : List Bool) (ends : List (ℕ × ℕ)) → (which_from false set ends None).refusal ≡ None }
     ensures room { (set : List Bool) (ends : List (ℕ × ℕ)) → length (with_ends set ends) ≡ length set }
 {}

@@ -146,7 +146,9 @@ fn step_at<L: Ledger, M: Ledger>(
     requires row { IsRow cache.old position.id }
     requires running { IsSome cache.old.progress }
     ensures own { IsCacheOf dfa.now cache.new }
-    ensures step { StepsAt dfa.now input.now (point cache.old work.old.determinized work.old.inserted position.at position.id (pair_of position.best)) cache.new work.new.determinized work.new.inserted result }
+    ensures step { StepsAt dfa.now input.now
+        (point cache.old work.old.determinized work.old.inserted position.at position.id (pair_of position.best)) cache.new
+        work.new.determinized work.new.inserted result }
 {
     let place = progress_at(input, is_reverse, position.at);
     let unit = unit_at(input.haystack(), position.at, is_reverse);
@@ -190,7 +192,9 @@ fn read_at<L: Ledger, M: Ledger>(
     requires within { IsWithinSpan input.now position.at }
     requires running { IsSome cache.old.progress }
     ensures own { IsCacheOf dfa.now cache.new }
-    ensures read { ReadsTo dfa.now input.now (point cache.old work.old.determinized work.old.inserted position.at position.id (pair_of position.best)) cache.new work.new.determinized work.new.inserted result }
+    ensures read { ReadsTo dfa.now input.now
+        (point cache.old work.old.determinized work.old.inserted position.at position.id (pair_of position.best)) cache.new
+        work.new.determinized work.new.inserted result }
 {
     let at = position.at;
     // a haystack is shorter than the greatest place, so there is a place behind each byte
@@ -243,7 +247,8 @@ pub(crate) fn read_on<L: Ledger, M: Ledger>(
     requires within { IsWithinSpan input.now first.at }
     requires state { HeldAt cache.old first.id (value_before (reader dfa.now) input.now first.at) }
     ensures own { IsCacheOf dfa.now cache.new }
-    ensures reads { ReadsOn dfa.now input.now first.at cache.old cache.new work.old.determinized work.new.determinized work.old.inserted work.new.inserted result }
+    ensures reads { ReadsOn dfa.now input.now first.at cache.old cache.new work.old.determinized work.new.determinized work.old.inserted
+        work.new.inserted result }
 {
     dfa.is_made();
     see_bytes(input.haystack());

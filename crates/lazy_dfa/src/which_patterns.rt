@@ -48,7 +48,8 @@ fn which<L: Ledger, M: Ledger>(
 ) -> Result<(), MatchError>
     requires { IsCacheOf dfa.now cache.old }
     ensures own { IsCacheOf dfa.now cache.new }
-    ensures which { MakesWhich dfa.now input.now cache.old cache.new work.old.determinized work.new.determinized work.old.inserted work.new.inserted patterns.old patterns.new result }
+    ensures which { MakesWhich dfa.now input.now cache.old cache.new work.old.determinized work.new.determinized work.old.inserted
+        work.new.inserted patterns.old patterns.new result }
 {
     dfa.is_made();
     let mut state = OverlappingState::start();
@@ -86,7 +87,8 @@ impl DFA {
         ensures own { IsCacheOf self.now cache.new }
         ensures answer { AnswersWhich self.now cache.new input.now patterns.old patterns.new result }
         ensures done { input.now.end < input.now.start → (result ≡ Ok tt) × (cache.new ≡ cache.old) × (patterns.new ≡ patterns.old) }
-        ensures sure { clears_of self.now.options ≡ None → (whole_rest (reader self.now) input.now).refusal ≡ None → IfErr result (λ e. e ≡ NoMemory) }
+        ensures sure { clears_of self.now.options ≡ None → (whole_rest (reader self.now) input.now).refusal ≡ None →
+            IfErr result (λ e. e ≡ NoMemory) }
         ensures kept { GrowsOrClears self.now cache.old cache.new }
         ensures changes { Changes self.now (IsMadeOnWalk self.now input.now) cache.old cache.new (which_made (reader self.now) input.now) }
         ensures told { IsWhichTold (reader self.now) input.now patterns.old patterns.new result cache.old cache.new }

@@ -1,5 +1,5 @@
--- Which trees read a line feed; and why the two looks of carriage returns are left out: behind a carriage return at a line's end both hold in the line, and neither in the
--- line with its line feed.
+-- Which trees read a line feed; and why the two looks of carriage returns are left out: behind a carriage return at a line's end both hold
+-- in the line, and neither in the line with its line feed.
 use Rattle.std.proofs.Common.{◌≡◌, ℕ, Bool, true, false, [], ◌∷◌, refl}
 use Rattle.look_core.specs.declared.look.Look.TheVariants.{StartCRLF, EndCRLF}
 use Rattle.hir_core.specs.Tree.{literal, char_class}

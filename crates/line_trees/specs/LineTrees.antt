@@ -82,7 +82,8 @@ MeansInBlock words before line after x = (s e : ℕ) → s ≤ length line → M
 -- and the other way round for what the line tree means in the block up to the line's end: it is meant in the line
 abbrev pub MeansInLine : (ℕ → Bool) → List ℕ → List ℕ → List ℕ → Tree → Type 0
 MeansInLine words before line after x = (s e : ℕ) → e ≤ length line →
-    Means (line_looks words (block_of before line after)) (block_of before line after) (line_tree x) (length before + s) (length before + e) →
+    Means (line_looks words (block_of before line after)) (block_of before line after) (line_tree x) (length before + s)
+    (length before + e) →
     Means (line_looks words line) line x s e
 
 -- no line feed stands from the one place up to the other

@@ -51,7 +51,8 @@ module _ (utf8 : Bool) (xs : List Tree) (h : List ℕ) (s : ℕ) (search : IsSea
       (b : Bool) → utf8 ≡ b → counts b h j ≡ true
   end_counts x i j text within starts m false is = refl
   end_counts x i j text within starts m true is = elim (cases_lt i j) [
-    | inl less ↦ span_end_bounded (pattern_looks h) h x i j (search.valid is) (text is) m less (span_within (pattern_looks h) h x i j within m)
+    | inl less ↦ span_end_bounded (pattern_looks h) h x i j (search.valid is) (text is) m less
+        (span_within (pattern_looks h) h x i j within m)
     | inr above ↦
         let forward = span_forward (pattern_looks h) h x i j m in
         let same : i ≡ j = omega arith in

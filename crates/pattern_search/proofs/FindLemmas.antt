@@ -140,7 +140,8 @@ module _ (utf8 : Bool) (res : List Re) (xs : List Tree) (same : AreSameEnds res 
   founds-or None b = refl
   founds-or (Some x) b = refl
 
-  here : (i : ℕ) (t : Option Trace) → option_map span_of_match (option_map (λ t. record { start = i; trace = t }) t) ≡ at_place i (trace_end t)
+  here : (i : ℕ) (t : Option Trace) → option_map span_of_match (option_map (λ t. record { start = i; trace = t }) t) ≡ at_place i
+      (trace_end t)
   here i None = refl
   here i (Some t) = refl
 

@@ -97,7 +97,8 @@ module _ (utf8 : Bool) (res : List Re) (xs : List Tree) (same : AreSameSpans res
       (b : Bool) → utf8 ≡ b → counts b h i ≡ true
   start_counts x i j text within ends m false is = refl
   start_counts x i j text within ends m true is = elim (cases_lt i j) [
-    | inl less ↦ span_start_bounded (pattern_looks h) h x i j (search.valid is) (text is) m less (span_within (pattern_looks h) h x i j within m)
+    | inl less ↦ span_start_bounded (pattern_looks h) h x i j (search.valid is) (text is) m less
+        (span_within (pattern_looks h) h x i j within m)
     | inr above ↦
         let forward = span_forward (pattern_looks h) h x i j m in
         let here : j ≡ i = omega (arith, above, forward) in

@@ -86,7 +86,8 @@ spans_of_captures a b x same s = record {
 pub spans_of_ends : (a : Re) (x : Tree) → LoopsRead x → SameEnds a x → SameSpans a x
 spans_of_ends a x loops s = record {
   at = λ h bytes i j within.
-      let both : is_some (attempt h a (only j) i) ≡ is_some (first_that_goes_on (λ l. trace_end (only j l)) (preferred_ends (pattern_looks h) h x i)) =
+      let both : is_some (attempt h a (only j) i) ≡ is_some
+      (first_that_goes_on (λ l. trace_end (only j l)) (preferred_ends (pattern_looks h) h x i)) =
       sym (some_end (attempt h a (only j) i)) ∙ ap is_some (s.at h bytes loops (only j) i within) in (
         λ m. preferred_ends_sound (pattern_looks h) h x i j (first_has j _ (sym both ∙ attempted h a i j m)),
         λ m. matched h a i j (both ∙ has_first j _ (preferred_ends_complete (pattern_looks h) h x i j m)),

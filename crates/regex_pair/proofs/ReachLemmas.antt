@@ -34,7 +34,8 @@ end_or n None = n
 end_or n (Some f) = f.end
 
 -- an answer comes from an end or none
-end_found : (f r : Reader) (q : Search) (a : HalfAnswer) (o : Option Found) → answer_by_end f r q a ≡ Ok o → (e : Option (ℕ × ℕ)) × (a ≡ found e)
+end_found : (f r : Reader) (q : Search) (a : HalfAnswer) (o : Option Found) → answer_by_end f r q a ≡ Ok o → (e : Option (ℕ × ℕ)) ×
+    (a ≡ found e)
 end_found f r q (found e) o is = (e, refl)
 end_found f r q (quit b x) o is = refused _ _ o is
 end_found f r q (unsupported mode) o is = refused _ _ o is

@@ -33,7 +33,8 @@ with_start e (unsupported mode) = Err (UnsupportedAnchored mode)
 
 -- the answer by what the search for an end answers
 abbrev pub answer_by_end : Reader → Reader → Search → HalfAnswer → Result (Option Found) MatchErrorKind
-answer_by_end f r q (found (Some e)) = if is_start_known f q e.0 then Ok (Some (from_start q e)) else with_start e (scan r (back_from q e.0))
+answer_by_end f r q (found (Some e)) = if is_start_known f q e.0 then Ok (Some (from_start q e)) else with_start e
+    (scan r (back_from q e.0))
 answer_by_end f r q (found None) = Ok None
 answer_by_end f r q (quit b x) = Err (Quit b x)
 answer_by_end f r q (unsupported mode) = Err (UnsupportedAnchored mode)

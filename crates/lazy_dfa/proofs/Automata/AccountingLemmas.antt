@@ -7,7 +7,8 @@ use Rattle.std.proofs.Math.Nat.{pow-succ', le-max_left, le-max_right, max-le}
 use Rattle.search_core.specs.Classes.{IsLeastExponent}
 use Rattle.determinize_core.specs.States.{StateValue}
 use Rattle.determinize_core.specs.StateBytes.{encoded}
-use Rattle.lazy_dfa.specs.Accounting.{Measures, power_from, longest_state, state_cost, states_cost, fresh_usage, measured_usage, least_capacity}
+use Rattle.lazy_dfa.specs.Accounting.{Measures, power_from, longest_state, state_cost, states_cost, fresh_usage, measured_usage}
+use Rattle.lazy_dfa.specs.Accounting.{least_capacity}
 use Rattle.lazy_dfa.specs.Accounting.{effective_capacity}
 
 -- ---- powers of two

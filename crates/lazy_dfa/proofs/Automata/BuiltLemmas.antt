@@ -213,7 +213,8 @@ pub dfa_is : (n : Nfa) (o : DfaOptions) (cs : List ℕ) (qs : List Bool) (m : Me
     cap ≡ effective_capacity (measures_with n o) (skips_check o) (capacity_of o) → made_dfa n o cs qs m cap ≡ dfa_of n o
 dfa_is n o cs qs m cap p q r s = λ i. made_dfa n o (p i) (q i) (r i) (s i)
 
-pub made_is_dfa : (n : Nfa) (o : DfaOptions) (cs : List ℕ) (qs : List Bool) (m : Measures) (cap : ℕ) → made_dfa n o cs qs m cap ≡ dfa_of n o →
+pub made_is_dfa : (n : Nfa) (o : DfaOptions) (cs : List ℕ) (qs : List Bool) (m : Measures) (cap : ℕ) →
+    made_dfa n o cs qs m cap ≡ dfa_of n o →
     IsSound n.automaton → is_unsupported n.automaton (word_boundary_of o) (by_hand o) ≡ false → is_too_small n o ≡ false →
     IsDfa (made_dfa n o cs qs m cap)
 made_is_dfa n o cs qs m cap e sound fine large = subst IsDfa (sym e) (is_dfa n o sound fine large)

@@ -7,7 +7,8 @@ use Rattle.search_types.specs.Modes.{is_anchored, is_supported}
 use Rattle.search_types.specs.Places.{counts}
 use Rattle.determinize_core.specs.States.{StateValue}
 use Rattle.determinize_core.specs.Steps.{unit_at, unit_behind}
-use Rattle.lazy_dfa.specs.Passes.{index_at, index_behind, is_dead, is_empty, unless_quit, if_supported, best_recorded, next_value, next_place}
+use Rattle.lazy_dfa.specs.Passes.{index_at, index_behind, is_dead, is_empty, unless_quit, if_supported, best_recorded, next_value}
+use Rattle.lazy_dfa.specs.Passes.{next_place}
 use Rattle.lazy_dfa.specs.Passes.{pass_from, start_name, start_or_dead, first_value, pass}
 use Rattle.lazy_dfa.specs.Readers.{Reader, HalfAnswer, found}
 use Rattle.lazy_dfa.specs.Scans.{unless_split, passes, first_place, begun_at, scan}

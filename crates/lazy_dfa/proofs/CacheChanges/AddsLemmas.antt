@@ -33,7 +33,8 @@ fits_true d s v f = both_true (nat_le (usage v + cost v.stride s) d.capacity) (n
     (le_true (usage v + cost v.stride s) d.capacity f.0) (le_true (length v.cells + v.stride) tag f.1)
 
 -- room is made by a clear
-pub clears_for : (d : Dfa) (from : Option ℕ) (s : StateValue) (v mid : CacheValue) → IsStateOf d s → is_dead s ≡ false → row_holding s v.states ≡ None →
+pub clears_for : (d : Dfa) (from : Option ℕ) (s : StateValue) (v mid : CacheValue) → IsStateOf d s → is_dead s ≡ false →
+    row_holding s v.states ≡ None →
     fits d.capacity s v ≡ false → is_refused (clears_of d.options) (minimum_bytes_of d.options) v ≡ false →
     (mid ≡ cleared v) ⊎ (mid ≡ kept_of from v) → ClearsFor d from s v mid
 clears_for d from s v mid is alive fresh full allowed left =
@@ -46,7 +47,8 @@ module _ (d : Dfa) (b : Bool) (from : Option ℕ) (s : StateValue) (v mid new : 
   comes_alone (inr x) e = inr (record { middle = mid; clears = x; states = inl (same_states mid new e) })
 
   -- or the state was
-  pub comes_with : (mid ≡ v) ⊎ ClearsFor d from s v mid → IsStateOf d s → is_dead s ≡ false → row_holding s v.states ≡ None → Fits d.capacity s mid →
+  pub comes_with : (mid ≡ v) ⊎ ClearsFor d from s v mid → IsStateOf d s → is_dead s ≡ false → row_holding s v.states ≡ None →
+      Fits d.capacity s mid →
       new ≡ with_state b s mid → ComesTo (Added v new) d b from s v new
   comes_with (inl f) is alive fresh fit e = inl (
     added_one v mid new b s shape f e,

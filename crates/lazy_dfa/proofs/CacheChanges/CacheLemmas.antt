@@ -14,7 +14,8 @@ use Rattle.lazy_dfa.specs.Dfas.{cost}
 use Rattle.lazy_dfa.specs.Accounting.{states_cost}
 use Rattle.lazy_dfa.specs.Ids.{tagged, tag, unknown_id}
 use Rattle.lazy_dfa.specs.declared.progress.Progress.{Progress}
-use Rattle.lazy_dfa.specs.Caches.{CacheValue, IsShaped, IsKept, Agrees, same, row_holding, state_at, new_id, with_state, cleared, empty_cache}
+use Rattle.lazy_dfa.specs.Caches.{CacheValue, IsShaped, IsKept, Agrees, same, row_holding, state_at, new_id, with_state, cleared}
+use Rattle.lazy_dfa.specs.Caches.{empty_cache}
 use Rattle.lazy_dfa.specs.Caches.{sentinel_rows}
 use Rattle.lazy_dfa.proofs.CacheChanges.ListLemmas.{or_last, or_last-false, pf-append, none_at, one_longer, below_or_last, at_old, at_last}
 
@@ -252,7 +253,8 @@ pub with_lists : (v : CacheValue) (states : List StateValue) (ids cells : List �
     record v { states = states; ids = ids; cells = cells } ≡ v
 with_lists v states ids cells e f g = λ k. record v { states = e k; ids = f k; cells = g k }
 
-pub IsKept-lists : {S : Type 0} (v : CacheValue) (rows : HashMap StateValue ℕ S) (used : ℕ) (states : List StateValue) (ids cells : List ℕ) →
+pub IsKept-lists : {S : Type 0} (v : CacheValue) (rows : HashMap StateValue ℕ S) (used : ℕ) (states : List StateValue)
+    (ids cells : List ℕ) →
     states ≡ v.states → ids ≡ v.ids → cells ≡ v.cells → IsKept v rows used →
     IsKept (record v { states = states; ids = ids; cells = cells }) rows used
 IsKept-lists v rows used states ids cells e f g =

@@ -233,7 +233,8 @@ module _ (d : Dfa) (P : Bool → StateValue → Type 0) (fit : IsDfa d) (v : Cac
           + states_cost d.measures.stride x.adds.added =
           ap (λ (k : ℕ). states_cost k x.before.states) x.own.stride
           ∙ (ap (states_cost d.measures.stride) x.adds.states ∙ costs_append d.measures.stride v.states x.adds.added) in
-          let was : states_cost v.stride v.states ≡ states_cost d.measures.stride v.states = ap (λ (k : ℕ). states_cost k v.states) own.stride in
+          let was : states_cost v.stride v.states ≡ states_cost d.measures.stride v.states =
+          ap (λ (k : ℕ). states_cost k v.states) own.stride in
           let more = costs_few x.adds.added x.adds.are in
           let one : cost x.before.stride x.state ≡ cost d.measures.stride x.state = ap (λ (k : ℕ). cost k x.state) x.own.stride in
           let short = x.is.short in
@@ -252,7 +253,8 @@ module _ (d : Dfa) (P : Bool → StateValue → Type 0) (fit : IsDfa d) (v : Cac
           let few = x.adds.few in
           let less = x.less in
           let fits = room.1 in
-          cells_fit (length x.before.cells) (length x.before.states) x.before.stride (length v.states + n + 3) d.measures.stride sized stride
+          cells_fit (length x.before.cells) (length x.before.states) x.before.stride (length v.states + n + 3) d.measures.stride sized
+          stride
           (omega (arith, long, few, less)) fits
         where
           cells_fit : (cells states stride k m : ℕ) → cells ≡ (states + 3) * stride → stride ≡ m → states + 4 ≤ k → k * m ≤ tag →

@@ -20,7 +20,8 @@ use Rattle.lazy_dfa.specs.Ids.{tag, tagged, unknown_id, quit_id}
 use Rattle.lazy_dfa.specs.Caches.{CacheValue, IsShaped, IsCacheOf, Leads, Names, names_dead, names_held, HeldAt, IsRow, same, row_holding}
 use Rattle.lazy_dfa.specs.Caches.{state_at, id_at, cell_at, slot_of_start, Begins, new_id, with_state, cleared, Fits}
 use Rattle.lazy_dfa.proofs.CacheChanges.ListLemmas.{found_at, one_longer, below_or_last, at_old, at_last}
-use Rattle.lazy_dfa.proofs.CacheChanges.CacheLemmas.{IsShaped-added, IsShaped-cleared, states_cost-append, grown, place_in_none, place_in_one, fresh_at}
+use Rattle.lazy_dfa.proofs.CacheChanges.CacheLemmas.{IsShaped-added, IsShaped-cleared, states_cost-append, grown, place_in_none}
+use Rattle.lazy_dfa.proofs.CacheChanges.CacheLemmas.{place_in_one, fresh_at}
 use Rattle.std.proofs.lemmas.Bool.Decides.{leb_tells}
 use Rattle.std.specs.Prelude.{nat_le, IfSome}
 use Rattle.determinize_core.specs.Steps.{step_value, start_value}
@@ -229,7 +230,8 @@ is_cache_set d v k to u made own l unit there =
           subst (λ (x : ℕ). Leads d (record v { cells = cells }) (state_at v j) w x) (sym read)
           (leads_cells d v cells (state_at v j) w (cell_at v j e) (own.steps j w below unit2 (λ z. known (read ∙ z)))))
           (cases_eq ((j + 3) * v.stride + e) at);
-      starts = λ m t l known q e. names_cells v cells (get_or v.starts (slot_of_start m t) 0) (first_state d t q) (own.starts m t l known q e);
+      starts = λ m t l known q e. names_cells v cells (get_or v.starts (slot_of_start m t) 0) (first_state d t q)
+          (own.starts m t l known q e);
     }
 
 -- ---- starts
@@ -309,7 +311,8 @@ is_cache_started d v m s to own inside there =
           (subst (λ (x : Start). Names (record v { starts = starts }) to (first_state d x q)) (sym both.1)
           (names_starts v starts to (first_state d s q) (there q f))))
           (λ (ne : slot_of_start n t ≢ slot_of_start m s).
-          let read : get_or starts (slot_of_start n t) 0 ≡ get_or v.starts (slot_of_start n t) 0 = get_or-set_other v.starts (slot_of_start m s) (slot_of_start n t) to 0 ne in
+          let read : get_or starts (slot_of_start n t) 0 ≡ get_or v.starts (slot_of_start n t) 0 =
+          get_or-set_other v.starts (slot_of_start m s) (slot_of_start n t) to 0 ne in
           subst (λ (x : ℕ). Names (record v { starts = starts }) x (first_state d t q)) (sym read)
           (names_starts v starts (get_or v.starts (slot_of_start n t) 0) (first_state d t q)
           (own.starts n t (rw length-set at l) (λ z. known (read ∙ z)) q e)))
@@ -503,7 +506,8 @@ pub first_is : (d : Dfa) (s : Start) (q : ℕ) (r : StateValue) → IsDfa d → 
     IsStateOf d r
 first_is d s q r made l e = subst (IsStateOf d) (sym e) (first_below d s q made l)
 
-pub known_begins : (d : Dfa) (v : CacheValue) (m i q id : ℕ) (s : Start) → IsCacheOf d v → i ≡ slot_of_start m s → slot_of_start m s < length v.starts →
+pub known_begins : (d : Dfa) (v : CacheValue) (m i q id : ℕ) (s : Start) → IsCacheOf d v → i ≡ slot_of_start m s →
+    slot_of_start m s < length v.starts →
     start_in d m ≡ Some q →
     id ≡ get_or v.starts i 0 → nat_le unknown_id id ≡ false → Names v id (first_state d s q)
 known_begins d v m i q id s own at inside named e known =
@@ -511,7 +515,8 @@ known_begins d v m i q id s own at inside named e known =
     subst (λ (n : ℕ). Names v n (first_state d s q)) (sym read)
     (own.starts m s inside (λ z. let l = lt_of unknown_id id known in absurd (omega (arith, l, read, z))) q named)
 
-module _ (d : Dfa) (v w : CacheValue) (m i q to : ℕ) (s : Start) (state : StateValue) (at : i ≡ slot_of_start m s) (is : state ≡ first_state d s q)
+module _ (d : Dfa) (v w : CacheValue) (m i q to : ℕ) (s : Start) (state : StateValue) (at : i ≡ slot_of_start m s)
+    (is : state ≡ first_state d s q)
     (names : Names v to state) (e : w ≡ record v { starts = set v.starts i to }) where
   pub started : IsCacheOf d v → slot_of_start m s < length v.starts → start_in d m ≡ Some q → IsCacheOf d w
   started own inside named =

@@ -13,8 +13,10 @@ use Rattle.lazy_dfa.specs.Ids.{unknown_id, dead_id}
 use Rattle.lazy_dfa.specs.Caches.{CacheValue, IsCacheOf, Names, slot_of_start, needs_clear, lacks_room}
 use Rattle.lazy_dfa.specs.Readers.{is_quit}
 use Rattle.lazy_dfa.specs.Steps.{Grew, IsCause}
-use Rattle.lazy_dfa.specs.StartCalls.{mode_of, quit_refusal, behind_refusal, mode_refusal, start_refusal, start_slot, start_first, start_noted}
-use Rattle.lazy_dfa.specs.StartCalls.{IsStartKnown, StartNeedsClear, ClearedFor, StartCleared, IsStart, TagsStart, StartGivesUp, IsStartCause}
+use Rattle.lazy_dfa.specs.StartCalls.{mode_of, quit_refusal, behind_refusal, mode_refusal, start_refusal, start_slot, start_first}
+use Rattle.lazy_dfa.specs.StartCalls.{start_noted}
+use Rattle.lazy_dfa.specs.StartCalls.{IsStartKnown, StartNeedsClear, ClearedFor, StartCleared, IsStart, TagsStart, StartGivesUp}
+use Rattle.lazy_dfa.specs.StartCalls.{IsStartCause}
 use Rattle.lazy_dfa.specs.StartCalls.{start_error_of}
 use Rattle.lazy_dfa.specs.declared.cache_error.CacheError.{CacheError}
 use Rattle.lazy_dfa.specs.declared.cache_error.CacheError.TheVariants.{GaveUp, NoMemory}
@@ -102,7 +104,8 @@ module _ (d : Dfa) (c : StartValue) (n q : ℕ) (s : Start) (named : Some q ≡ 
   known_here v none (inr (inl e)) z = let f : Some q ≡ None = named ∙ e in absurd cc
   known_here v none (inr (inr k)) z = k (ap (λ (i : ℕ). get_or v.starts i 0) (sym same_slot) ∙ z)
 
-  pub start_left : (v w : CacheValue) → Grew d v w ⊎ ClearedFor d v w (slot_of_start n s) (first_state d s q) → Grew d v w ⊎ StartCleared d v w c
+  pub start_left : (v w : CacheValue) → Grew d v w ⊎ ClearedFor d v w (slot_of_start n s) (first_state d s q) → Grew d v w ⊎
+      StartCleared d v w c
   start_left v w e = ⊎_elim
       (λ (g : Grew d v w). inl g)
       (λ (x : ClearedFor d v w (slot_of_start n s) (first_state d s q)). inr (record {
@@ -149,7 +152,8 @@ module _ (d : Dfa) (c : StartValue) (n q : ℕ) (s : Start) (named : Some q ≡ 
       let same : q ≡ r = cc in
       subst (λ (r : ℕ). TagsStart d old (start_first d c r) id) same (subst (λ (t : Start). TagsStart d old (first_state d t q) id) is h)
 
-  pub start_fits : (old : CacheValue) → (get_or old.starts (slot_of_start n s) 0 ≡ unknown_id → lacks_room d old (first_state d s q) ≡ false) →
+  pub start_fits : (old : CacheValue) → (get_or old.starts (slot_of_start n s) 0 ≡ unknown_id →
+      lacks_room d old (first_state d s q) ≡ false) →
       StartGivesUp d old c → ⊥
   start_fits old h gives =
       let lacks = subst (λ (o : Option ℕ). MatchOption o ⊥ (λ r. lacks_room d old (start_first d c r) ≡ true)) (sym named) gives.lacks in

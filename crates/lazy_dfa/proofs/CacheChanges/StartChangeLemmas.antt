@@ -1,5 +1,6 @@
 -- What start calls change of a cache, and which tag a start gets.
-use Rattle.std.proofs.Common.{◌≡◌, ◌≢◌, ℕ, ◌*◌, ◌+◌, ◌%◌, ◌/◌, ◌<◌, ◌≤◌, Bool, true, false, ◌⊎◌, length, get_or, set, refl, sym, ap, ◌∙◌, subst, inl}
+use Rattle.std.proofs.Common.{◌≡◌, ◌≢◌, ℕ, ◌*◌, ◌+◌, ◌%◌, ◌/◌, ◌<◌, ◌≤◌, Bool, true, false, ◌⊎◌, length, get_or, set, refl, sym, ap, ◌∙◌}
+use Rattle.std.proofs.Common.{subst, inl}
 use Rattle.std.proofs.Common.{inr, ⊎_elim, arith, true≢false, Option, Some, None, get_or-set_other}
 use Rattle.std.proofs.lemmas.Bool.{cases_eq}
 use Rattle.std.proofs.lemmas.Bool.Decides.{Decides-eqb}
@@ -12,7 +13,8 @@ use Rattle.lazy_dfa.specs.ConfigValue.{specializes}
 use Rattle.lazy_dfa.specs.Readers.{is_quit}
 use Rattle.lazy_dfa.specs.Dfas.{Dfa, IsDfa, class_of, after, first_state, start_in, is_dead}
 use Rattle.lazy_dfa.specs.Ids.{tag, unknown_id, quit_id, tagged, has_tag, start_tag}
-use Rattle.lazy_dfa.specs.Caches.{CacheValue, IsShaped, IsCacheOf, Names, names_dead, names_held, same, row_holding, slot_of_start, new_id, with_state}
+use Rattle.lazy_dfa.specs.Caches.{CacheValue, IsShaped, IsCacheOf, Names, names_dead, names_held, same, row_holding, slot_of_start, new_id}
+use Rattle.lazy_dfa.specs.Caches.{with_state}
 use Rattle.lazy_dfa.specs.Caches.{IsRow, id_at, state_at, cleared}
 use Rattle.lazy_dfa.specs.Steps.{Added, Grew, WasCleared, StepsTo, TagsStep}
 use Rattle.lazy_dfa.specs.StartCalls.{TagsStart, ClearedFor, PlacesStart, start_found, start_added}
@@ -44,7 +46,8 @@ known_name v id s i (names_held h) = let l = row_is_plain v id h.0 i h.1 h.2 in 
 
 -- ---- a start that isn't known
 
-pub unknown_start : (d : Dfa) (v : CacheValue) (m i q id : ℕ) (s : Start) → IsCacheOf d v → i ≡ slot_of_start m s → slot_of_start m s < length v.starts →
+pub unknown_start : (d : Dfa) (v : CacheValue) (m i q id : ℕ) (s : Start) → IsCacheOf d v → i ≡ slot_of_start m s →
+    slot_of_start m s < length v.starts →
     start_in d m ≡ Some q →
     id ≡ get_or v.starts i 0 → nat_le unknown_id id ≡ true → get_or v.starts (slot_of_start m s) 0 ≡ unknown_id
 unknown_start d v m i q id s own at inside named e high = ⊎_elim

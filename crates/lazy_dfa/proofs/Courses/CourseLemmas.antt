@@ -72,7 +72,8 @@ module _ (d : Dfa) (h : List ℕ) (at : ℕ) (u : Option ℕ) (is : u ≡ unit_o
   pub state_behind_one : (s : StateValue) → state_behind (reader d) h at s 1 ≡ after d s u
   state_behind_one s = step_from d h (place_of d.nfa.automaton.reverse at 0) s ∙ ap (after d s) (sym is)
 
-  pub best_behind_one : (s : StateValue) (best : Option (ℕ × ℕ)) → best_recorded at (after d s u) best ≡ best_behind (reader d) h at s best 1
+  pub best_behind_one : (s : StateValue) (best : Option (ℕ × ℕ)) →
+      best_recorded at (after d s u) best ≡ best_behind (reader d) h at s best 1
   best_behind_one s best =
       ap (λ (x : ℕ). best_recorded x (after d s u) best) (sym (place_zero d.nfa.automaton.reverse at))
       ∙ ap (λ (t : StateValue). best_recorded (place_of d.nfa.automaton.reverse at 0) t best) (sym (state_behind_one s))

@@ -74,7 +74,8 @@ module _ (d : Dfa) (v : CacheValue) (id next : ℕ) (u : Option ℕ) (own : IsCa
 
   goes_one : (h : List ℕ) (at m n : ℕ) (best : Option (ℕ × ℕ)) (t : StateValue) → HeldAt v next t → u ≡ unit_of (reader d) h at 0 →
       GoesTo d h (point v m n at id best) (point v m n (place_of d.nfa.automaton.reverse at 1) next (best_recorded at t best)) 1
-  goes_one h at m n best t held is = goes_step d h v at id u own row is quiet v next m m n n best (best_recorded at t best) own (grew_refl d v)
+  goes_one h at m n best t held is = goes_step d h v at id u own row is quiet v next m m n n best (best_recorded at t best) own
+      (grew_refl d v)
       leads (λ s g f. sym read) (λ k. refl) (λ k. (refl, refl)) (omega arith) (omega arith)
       (λ s g. ap (λ (x : StateValue). best_recorded at x best) (next_is s t g held))
       (step_adds_none d v v id u (same_grew d v) (refl, refl, refl))
@@ -111,13 +112,15 @@ module _ (d : Dfa) (v : CacheValue) (id next : ℕ) (u : Option ℕ) (own : IsCa
       matches = λ z. match_bit next high below;
       plain = λ z. absurd (omega (arith, z, below));
       goes = λ z t held m n best. ⊎_elim
-          (λ (e : met ≡ unknown_id). on m n best best (best_recorded at t best) (so_far.plain e m n best) (goes_one h at m n best t held is))
+          (λ (e : met ≡ unknown_id). on m n best best (best_recorded at t best) (so_far.plain e m n best)
+          (goes_one h at m n best t held is))
           (λ (e : met ≢ unknown_id).
           let r = so_far.row e in
           let s : StateValue = state_at v r.0 in
           let does : is_match t.matches ≡ true = sym (row_matches v next t own.shape held) ∙ match_bit next high below in
           subst (λ (b : Option (ℕ × ℕ)). Goes m n best b) (recorded_last s t last at best does)
-          (on m n best (best_recorded last s best) (best_recorded at t (best_recorded last s best)) (so_far.goes e s (r.0, r.1, r.2, refl) m n best)
+          (on m n best (best_recorded last s best) (best_recorded at t (best_recorded last s best))
+          (so_far.goes e s (r.0, r.1, r.2, refl) m n best)
           (goes_one h at m n (best_recorded last s best) t held is)))
           (cases_eq met unknown_id);
     }

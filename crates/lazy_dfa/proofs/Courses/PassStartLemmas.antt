@@ -26,7 +26,8 @@ use Rattle.lazy_dfa.specs.ScanLaws.{begins_at}
 use Rattle.lazy_dfa.specs.SearchAnswers.{told}
 use Rattle.lazy_dfa.specs.SearchStarts.{AnswersStart, error_at}
 use Rattle.lazy_dfa.specs.PassPlaces.{pass_start, StartsPass}
-use Rattle.lazy_dfa.specs.StartCalls.{mode_of, quit_refusal, behind_refusal, mode_refusal, start_refusal, start_noted, start_first, StartAdds}
+use Rattle.lazy_dfa.specs.StartCalls.{mode_of, quit_refusal, behind_refusal, mode_refusal, start_refusal, start_noted, start_first}
+use Rattle.lazy_dfa.specs.StartCalls.{StartAdds}
 use Rattle.lazy_dfa.specs.StartCalls.{IsStartKnown, IsStartCause}
 use Rattle.lazy_dfa.specs.Steps.{Grew, WasCleared, most_inserts}
 

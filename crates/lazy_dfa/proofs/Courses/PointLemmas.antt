@@ -29,9 +29,12 @@ use Rattle.lazy_dfa.proofs.CacheChanges.ChangesLemmas.{changes_into, changes_on,
 use Rattle.lazy_dfa.proofs.Courses.CourseLemmas.{state_there, best_there, read_there, state_behind_one, best_behind_one, read_one, not_dead}
 use Rattle.lazy_dfa.proofs.Courses.CourseLemmas.{unmatched}
 use Rattle.lazy_dfa.proofs.CacheChanges.IsCacheLemmas.{row_is_plain, le_of}
-use Rattle.lazy_dfa.proofs.CacheChanges.LinkedLemmas.{AreBytes, row_grows, grows_refl, grows_trans, grew_grows, has_cleared, cleared_grows, moved_refl}
-use Rattle.lazy_dfa.proofs.CacheChanges.LinkedLemmas.{moved_trans, moved_same, names_moved, noted_moved, moved_starts, grows_moved, id_moved}
-use Rattle.lazy_dfa.proofs.CacheChanges.LinkedLemmas.{linked_moved, id_grows, linked_grows, linked_none, linked_less, id_split, linked_split}
+use Rattle.lazy_dfa.proofs.CacheChanges.LinkedLemmas.{AreBytes, row_grows, grows_refl, grows_trans, grew_grows, has_cleared, cleared_grows}
+use Rattle.lazy_dfa.proofs.CacheChanges.LinkedLemmas.{moved_refl}
+use Rattle.lazy_dfa.proofs.CacheChanges.LinkedLemmas.{moved_trans, moved_same, names_moved, noted_moved, moved_starts, grows_moved}
+use Rattle.lazy_dfa.proofs.CacheChanges.LinkedLemmas.{id_moved}
+use Rattle.lazy_dfa.proofs.CacheChanges.LinkedLemmas.{linked_moved, id_grows, linked_grows, linked_none, linked_less, id_split}
+use Rattle.lazy_dfa.proofs.CacheChanges.LinkedLemmas.{linked_split}
 use Rattle.lazy_dfa.proofs.CacheChanges.LinkedLemmas.{linked_join, led_row, held_named, row_leads}
 use Rattle.nfa_core.proofs.ForCallers.{place_zero}
 use Rattle.lazy_dfa.proofs.HalfSearches.FoundLemmas.{place_add}

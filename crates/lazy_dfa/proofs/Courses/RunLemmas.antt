@@ -26,10 +26,12 @@ use Rattle.lazy_dfa.specs.SearchAnswers.{half_of, pair_of, told, give_up_place, 
 use Rattle.lazy_dfa.specs.PassPlaces.{last_place, came, tells, BeganFirst, told_behind, GoesBetween, EndsWith, RestAnew, IsRestTold, RunsOn}
 use Rattle.lazy_dfa.specs.Steps.{most_inserts}
 use Rattle.lazy_dfa.specs.Turns.{Leaves, FailsOn}
-use Rattle.lazy_dfa.proofs.CacheChanges.ChangesLemmas.{changes_into, changes_on, changes_moved, changes_from_moved, made_within, made_behind}
+use Rattle.lazy_dfa.proofs.CacheChanges.ChangesLemmas.{changes_into, changes_on, changes_moved, changes_from_moved, made_within}
+use Rattle.lazy_dfa.proofs.CacheChanges.ChangesLemmas.{made_behind}
 use Rattle.lazy_dfa.proofs.Courses.CourseLemmas.{state_there, unit_there, not_dead}
 use Rattle.lazy_dfa.proofs.CacheChanges.IsCacheLemmas.{row_is_plain}
-use Rattle.lazy_dfa.proofs.CacheChanges.LinkedLemmas.{AreBytes, grows_trans, grows_or_clears_trans, cleared_grows, moved_trans, names_moved, noted_moved}
+use Rattle.lazy_dfa.proofs.CacheChanges.LinkedLemmas.{AreBytes, grows_trans, grows_or_clears_trans, cleared_grows, moved_trans, names_moved}
+use Rattle.lazy_dfa.proofs.CacheChanges.LinkedLemmas.{noted_moved}
 use Rattle.lazy_dfa.proofs.CacheChanges.LinkedLemmas.{moved_starts, grows_moved, id_moved, linked_moved, linked_less}
 use Rattle.lazy_dfa.proofs.Courses.PassEndLemmas.{ends_dead, ends_stop, ends_last, ends_quit, reads_on}
 use Rattle.lazy_dfa.proofs.Courses.PointLemmas.{goes_on, held_plain, linked_from}

@@ -21,7 +21,8 @@ use Rattle.lazy_dfa.specs.Scans.{scan}
 use Rattle.lazy_dfa.specs.SearchAnswers.{pair_of, told, GivesUpIn}
 use Rattle.lazy_dfa.proofs.Courses.AnswerLemmas.{answer, ok_is_told, ok_is_found}
 use Rattle.lazy_dfa.proofs.CacheChanges.LinkedLemmas.{AreBytes}
-use Rattle.lazy_dfa.proofs.Courses.PassListLemmas.{first_pass, first_answer, first_splits, done_passes, whole_once, whole_scan, anchored_once}
+use Rattle.lazy_dfa.proofs.Courses.PassListLemmas.{first_pass, first_answer, first_splits, done_passes, whole_once, whole_scan}
+use Rattle.lazy_dfa.proofs.Courses.PassListLemmas.{anchored_once}
 use Rattle.lazy_dfa.proofs.Courses.PassListLemmas.{anchored_scan, lowest_once, lowest_scan, passes_begin, passes_anew, scan_anew}
 use Rattle.lazy_dfa.proofs.HalfSearches.ScanLemmas.{scan_done}
 use Rattle.lazy_dfa.proofs.Courses.SearchLemmas.{HasMade, HasCome, makes_one, fails_here, finishes}

@@ -22,7 +22,8 @@ use Rattle.lazy_dfa.specs.Steps.{most_inserts}
 use Rattle.lazy_dfa.specs.Changes.{Changes, unchanged, IsMadeIn, IsMadeAmong}
 use Rattle.lazy_dfa.proofs.CacheChanges.ChangesLemmas.{changes_into, changes_on, among_before, among_there}
 use Rattle.lazy_dfa.proofs.Courses.AnswerLemmas.{error, error_is_whole, gave_up_among}
-use Rattle.lazy_dfa.proofs.CacheChanges.LinkedLemmas.{AreBytes, grows_refl, grows_trans, cleared_grows, moved_refl, moved_trans, linked_pass_moved}
+use Rattle.lazy_dfa.proofs.CacheChanges.LinkedLemmas.{AreBytes, grows_refl, grows_trans, cleared_grows, moved_refl, moved_trans}
+use Rattle.lazy_dfa.proofs.CacheChanges.LinkedLemmas.{linked_pass_moved}
 use Rattle.lazy_dfa.proofs.CacheChanges.LinkedLemmas.{are_linked_grows}
 use Rattle.lazy_dfa.proofs.Courses.PassListLemmas.{first_pass, first_answer, whole_scan}
 use Rattle.look_core.proofs.ForCallers.{All-left, All-right}
@@ -156,7 +157,8 @@ module _ (d : Dfa) (q : Search) (old now next : CacheValue) (m1 m2 m3 n1 n2 n3 :
       more_inserted n1 n2 n3 (made_by r q ps) (suc (len_of r q p)) (made_by r q tail) (made_by r q (ps ++ p ∷ tail)) (most_inserts d)
       (made_join r q ps tail p) made.inserted pass.inserted
 
-  one_kept : (CacheGrows d now next × IsKnownPass next p × (told_of next ≡ told_by_pass r q.anchored q.earliest q.haystack (told_of now) p)) ⊎
+  one_kept : (CacheGrows d now next × IsKnownPass next p ×
+      (told_of next ≡ told_by_pass r q.anchored q.earliest q.haystack (told_of now) p)) ⊎
       HasCleared now next →
       HasKept now next (p ∷ [])
   one_kept (inl b) = inl (b.0, All-cons (IsKnownPass next) p [] b.1 (All-nil (IsKnownPass next)), b.2)
@@ -205,7 +207,8 @@ module _ (d : Dfa) (q : Search) (old now next : CacheValue) (m1 m2 m3 n1 n2 n3 :
       (changes_into d (IsMadeAmong d q ps) (IsMadeAmong d q (ps ++ p ∷ tail)) (among_before d q ps (p ∷ tail)) old now (made_by r q ps)
       made.changes)
       next (suc (len_of r q p)) (made_by r q (ps ++ p ∷ tail)) (omega (arith, sum))
-      (changes_into d (IsMadeIn d q.anchored q.earliest q.haystack p) (IsMadeAmong d q (ps ++ p ∷ tail)) (among_there d q ps tail p) now next
+      (changes_into d (IsMadeIn d q.anchored q.earliest q.haystack p) (IsMadeAmong d q (ps ++ p ∷ tail)) (among_there d q ps tail p) now
+      next
       (suc (len_of r q p)) pass.changes)
 
   pub makes_one : (f : Option HalfFound) → Pass (Ok f) → HasMade d q old next m1 m3 n1 n3 (ps ++ p ∷ [])
@@ -257,7 +260,8 @@ module _ (d : Dfa) (q : Search) (old now next : CacheValue) (m1 m2 m3 n1 n2 n3 :
       determinized = subst (λ (os : List (ℕ × ℕ)). m3 ≤ m1 + made_by r q os) all (few_made (Err x) tail pass);
       inserted = subst (λ (os : List (ℕ × ℕ)). n3 ≤ n1 + made_by r q os * most_inserts d) all (few_inserted (Err x) tail pass);
       anew = fails_anew pass made.anew pass.anew;
-      changes = subst (λ (os : List (ℕ × ℕ)). Changes d (IsMadeAmong d q os) old next (made_by r q os)) all (changes_made (Err x) tail pass);
+      changes = subst (λ (os : List (ℕ × ℕ)). Changes d (IsMadeAmong d q os) old next (made_by r q os)) all
+          (changes_made (Err x) tail pass);
     }
 
 -- all passes were made

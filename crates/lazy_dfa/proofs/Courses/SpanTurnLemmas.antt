@@ -35,7 +35,8 @@ use Rattle.lazy_dfa.specs.Turns.{Leaves, FailsOn, TellsTheSame, GoesOne, IsSeen,
 use Rattle.lazy_dfa.specs.Changes.{IsMadeAt}
 use Rattle.lazy_dfa.proofs.CacheChanges.ChangesLemmas.{changes_moved, changes_from_moved}
 use Rattle.lazy_dfa.proofs.CacheChanges.IsCacheLemmas.{le_of, lt_of}
-use Rattle.lazy_dfa.proofs.CacheChanges.LinkedLemmas.{moved_refl, moved_trans, names_moved, noted_moved, moved_starts, id_moved, linked_moved}
+use Rattle.lazy_dfa.proofs.CacheChanges.LinkedLemmas.{moved_refl, moved_trans, names_moved, noted_moved, moved_starts, id_moved}
+use Rattle.lazy_dfa.proofs.CacheChanges.LinkedLemmas.{linked_moved}
 
 -- ---- caches in which only searches came further
 

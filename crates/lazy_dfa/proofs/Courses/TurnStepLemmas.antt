@@ -300,7 +300,8 @@ module _ (d : Dfa) (h : List ℕ) (old : CacheValue) (at id m1 n1 : ℕ) (u : Op
           let quiet = quiet_if (λ q. omega (arith, e, q, mine.shape.narrow)) in
           let dies : (s : StateValue) → HeldAt old id s → after d s u ≡ dead =
           λ s g. to_dead (after d s u) e ((step.step s g).goes quiet) in (
-            goes_one last quiet (λ s g. b ∙ (unmatched dead at best refl ∙ ap (λ (x : StateValue). best_recorded at x best) (sym (dies s g)))),
+            goes_one last quiet (λ s g. b ∙ (unmatched dead at best refl
+                ∙ ap (λ (x : StateValue). best_recorded at x best) (sym (dies s g)))),
             tells_same new m2 n2 (Ok to) step,
             λ s g. inr (ap is_dead (state_behind_one d h at u is s ∙ dies s g)),
           )

@@ -41,11 +41,14 @@ use Rattle.lazy_dfa.specs.StartCalls.{mode_of, quit_refusal, behind_refusal, mod
 use Rattle.lazy_dfa.specs.StartCalls.{IsStartKnown}
 use Rattle.lazy_dfa.specs.Steps.{Grew, WasCleared, most_inserts}
 use Rattle.lazy_dfa.specs.Changes.{Changes, unchanged, IsMadeAt, IsMadeFirst, IsMadeIn}
-use Rattle.lazy_dfa.proofs.CacheChanges.ChangesLemmas.{changes_into, changes_more, changes_on, changes_moved, changes_from_moved, start_changes}
+use Rattle.lazy_dfa.proofs.CacheChanges.ChangesLemmas.{changes_into, changes_more, changes_on, changes_moved, changes_from_moved}
+use Rattle.lazy_dfa.proofs.CacheChanges.ChangesLemmas.{start_changes}
 use Rattle.lazy_dfa.proofs.Courses.AnewToldLemmas.{fresh_anew}
 use Rattle.lazy_dfa.proofs.CacheChanges.IsCacheLemmas.{row_is_plain}
-use Rattle.lazy_dfa.proofs.CacheChanges.LinkedLemmas.{grows_trans, grew_grows, has_cleared, start_grows_of, cleared_grows, grows_or_clears_trans}
-use Rattle.lazy_dfa.proofs.CacheChanges.LinkedLemmas.{moved_trans, moved_same, names_moved, grows_moved, linked_moved, linked_none, held_named}
+use Rattle.lazy_dfa.proofs.CacheChanges.LinkedLemmas.{grows_trans, grew_grows, has_cleared, start_grows_of, cleared_grows}
+use Rattle.lazy_dfa.proofs.CacheChanges.LinkedLemmas.{grows_or_clears_trans}
+use Rattle.lazy_dfa.proofs.CacheChanges.LinkedLemmas.{moved_trans, moved_same, names_moved, grows_moved, linked_moved, linked_none}
+use Rattle.lazy_dfa.proofs.CacheChanges.LinkedLemmas.{held_named}
 use Rattle.lazy_dfa.proofs.Courses.PassEndLemmas.{ends_dead}
 use Rattle.lazy_dfa.proofs.HalfSearches.PassQuitLemmas.{reads_all}
 use Rattle.lazy_dfa.proofs.Courses.PassStartLemmas.{named_alike, starts_dead, pass_told}

@@ -7,7 +7,8 @@ use Rattle.search_types.specs.Modes.{is_supported}
 use Rattle.determinize_core.specs.States.{StateValue}
 use Rattle.determinize_core.specs.Steps.{unit_at, unit_behind, step_value}
 use Rattle.lazy_dfa.specs.Readers.{Reader, HalfAnswer, found}
-use Rattle.lazy_dfa.specs.Passes.{index_at, index_behind, is_empty, is_dead, unless_quit, if_supported, best_recorded, next_value, next_place}
+use Rattle.lazy_dfa.specs.Passes.{index_at, index_behind, is_empty, is_dead, unless_quit, if_supported, best_recorded, next_value}
+use Rattle.lazy_dfa.specs.Passes.{next_place}
 use Rattle.lazy_dfa.specs.Passes.{pass_from, start_name, start_or_dead, first_value, pass}
 use Rattle.lazy_dfa.specs.PassLaws.{units_read, pass_len, unit_of}
 use Rattle.lazy_dfa.proofs.HalfSearches.PassQuitLemmas.{unit_first, unit_later, reads_all}
@@ -44,7 +45,8 @@ module _ (r : Reader) (earliest : Bool) (h g : List ℕ) where
 
   -- behind a unit, the pass over the one haystack or the other
   abbrev goes : List ℕ → ℕ → ℕ → Option (ℕ × ℕ) → StateValue → HalfAnswer
-  goes f n i best w = if stops w then found (best_recorded i w best) else pass_from r earliest f n (next_place r i) w (best_recorded i w best)
+  goes f n i best w = if stops w then found (best_recorded i w best) else pass_from r earliest f n (next_place r i) w
+      (best_recorded i w best)
 
   abbrev turn : Option ℕ → ℕ → HalfAnswer → HalfAnswer
   turn u i rest = unless_quit r.quits u (index_at r.automaton.reverse i) rest

@@ -13,7 +13,8 @@ use Rattle.determinize_core.specs.Steps.{unit_at, unit_behind, walk_value}
 use Rattle.determinize_core.specs.Walked.{end_at, latest_listed}
 use Rattle.determinize_core.proofs.ForCallers.{stays_dead, latest_is_first, all_listed}
 use Rattle.lazy_dfa.specs.Readers.{Reader, is_quit, HalfAnswer, found}
-use Rattle.lazy_dfa.specs.Passes.{index_at, is_dead, unless_quit, best_recorded, next_value, next_place, pass_from, start_name, start_or_dead}
+use Rattle.lazy_dfa.specs.Passes.{index_at, is_dead, unless_quit, best_recorded, next_value, next_place, pass_from, start_name}
+use Rattle.lazy_dfa.specs.Passes.{start_or_dead}
 use Rattle.lazy_dfa.specs.Passes.{first_value, pass}
 use Rattle.lazy_dfa.specs.PassLaws.{IsLastEnd}
 use Rattle.nfa_core.proofs.ForCallers.{ends_inside, place_zero}

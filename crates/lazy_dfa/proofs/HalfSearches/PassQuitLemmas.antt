@@ -9,11 +9,13 @@ use Rattle.determinize_core.specs.States.{StateValue}
 use Rattle.determinize_core.specs.Steps.{unit_at, unit_behind}
 use Rattle.search_types.specs.declared.anchored.Anchored.{Anchored}
 use Rattle.lazy_dfa.specs.Readers.{Reader, is_quit, HalfAnswer, found, quit, unsupported}
-use Rattle.lazy_dfa.specs.Passes.{index_at, index_behind, is_empty, is_dead, unless_quit, if_supported, best_recorded, next_value, next_place}
+use Rattle.lazy_dfa.specs.Passes.{index_at, index_behind, is_empty, is_dead, unless_quit, if_supported, best_recorded, next_value}
+use Rattle.lazy_dfa.specs.Passes.{next_place}
 use Rattle.lazy_dfa.specs.Passes.{pass_from, start_name, start_or_dead, first_value, pass}
 use Rattle.lazy_dfa.specs.PassLaws.{units_read, pass_len, unit_of, IsQuitAt, IsQuitBehind, HasNoQuitBehind, HasNoQuit, IsFirstQuit}
 use Rattle.lazy_dfa.proofs.HalfSearches.TurnLemmas.{place_later, turn_found, turn_quit, goes_on, found_no_quit, found_no_mode, quit_no_mode}
-use Rattle.lazy_dfa.proofs.HalfSearches.TurnLemmas.{no_quit_found, one_found, quit_or_on, unless_no_mode, mode_found, mode_quit, goes_in_mode}
+use Rattle.lazy_dfa.proofs.HalfSearches.TurnLemmas.{no_quit_found, one_found, quit_or_on, unless_no_mode, mode_found, mode_quit}
+use Rattle.lazy_dfa.proofs.HalfSearches.TurnLemmas.{goes_in_mode}
 use Rattle.nfa_core.proofs.ForCallers.{place_zero}
 
 -- the answers of passes from a state, which look at no mode

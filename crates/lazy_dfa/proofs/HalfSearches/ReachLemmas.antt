@@ -16,14 +16,16 @@ use Rattle.determinize_core.specs.States.{StateValue}
 use Rattle.determinize_core.specs.Steps.{unit_at, unit_behind}
 use Rattle.determinize_core.specs.Walked.{end_at}
 use Rattle.lazy_dfa.specs.Readers.{Reader, is_quit, HalfAnswer, found, quit, unsupported}
-use Rattle.lazy_dfa.specs.Passes.{index_at, is_empty, is_dead, best_recorded, next_value, next_place, pass_from, start_name, first_value, pass}
+use Rattle.lazy_dfa.specs.Passes.{index_at, is_empty, is_dead, best_recorded, next_value, next_place, pass_from, start_name, first_value}
+use Rattle.lazy_dfa.specs.Passes.{pass}
 use Rattle.lazy_dfa.specs.Scans.{unless_split, passes, first_place, scan}
 use Rattle.lazy_dfa.specs.PassLaws.{units_read, pass_len, unit_of, HasNoQuit, splits}
 use Rattle.lazy_dfa.specs.ScanLaws.{begins_at, larger, passes_len, scan_len}
 use Rattle.search_types.specs.Inputs.{Search}
 use Rattle.search_types.specs.Modes.{is_anchored}
 use Rattle.lazy_dfa.proofs.HalfSearches.TurnLemmas.{place_later, one_found, turn_found, found_no_quit, found_no_mode}
-use Rattle.lazy_dfa.proofs.HalfSearches.PassQuitLemmas.{unit_first, unit_later, reads_all, found_in_mode, found_without_quit, pass_units, dead_pass}
+use Rattle.lazy_dfa.proofs.HalfSearches.PassQuitLemmas.{unit_first, unit_later, reads_all, found_in_mode, found_without_quit, pass_units}
+use Rattle.lazy_dfa.proofs.HalfSearches.PassQuitLemmas.{dead_pass}
 use Rattle.lazy_dfa.proofs.HalfSearches.AlikeLemmas.{within, first_within, pass_alike}
 use Rattle.lazy_dfa.proofs.HalfSearches.RestartLemmas.{whole_stays, split_goes}
 use Rattle.lazy_dfa.proofs.HalfSearches.NearbyLemmas.{Fits, fits_next}

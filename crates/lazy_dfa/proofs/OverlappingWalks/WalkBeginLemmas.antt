@@ -34,14 +34,17 @@ use Rattle.lazy_dfa.specs.WalkAnswers.{call_made}
 use Rattle.lazy_dfa.proofs.CacheChanges.ChangesLemmas.{changes_more, changes_moved, start_changes}
 use Rattle.lazy_dfa.specs.WalkAnswers.{left_at_start, anew_at_start, fails_behind_start}
 use Rattle.lazy_dfa.specs.AnewTold.{IsFresh}
-use Rattle.lazy_dfa.proofs.CacheChanges.LinkedLemmas.{grows_trans, grew_grows, has_cleared, start_grows_of, cleared_grows, grows_or_clears_trans}
+use Rattle.lazy_dfa.proofs.CacheChanges.LinkedLemmas.{grows_trans, grew_grows, has_cleared, start_grows_of, cleared_grows}
+use Rattle.lazy_dfa.proofs.CacheChanges.LinkedLemmas.{grows_or_clears_trans}
 use Rattle.lazy_dfa.proofs.CacheChanges.LinkedLemmas.{grows_moved}
 use Rattle.lazy_dfa.proofs.Courses.SearchEndLemmas.{not_done, is_over}
-use Rattle.lazy_dfa.proofs.OverlappingWalks.WalkLeftLemmas.{begun_rest, begun_units, begun_value, dead_rest, dead_units, whole_from, done_left}
+use Rattle.lazy_dfa.proofs.OverlappingWalks.WalkLeftLemmas.{begun_rest, begun_units, begun_value, dead_rest, dead_units, whole_from}
+use Rattle.lazy_dfa.proofs.OverlappingWalks.WalkLeftLemmas.{done_left}
 use Rattle.lazy_dfa.proofs.OverlappingWalks.WalkLeftLemmas.{refused_whole, fit_whole}
 use Rattle.lazy_dfa.proofs.OverlappingWalks.WalkQuitLemmas.{no_quit_yet, came_first}
 use Rattle.lazy_dfa.proofs.Courses.WholePassLemmas.{min_twice, dead_named, row_named, same_told, fresh_start, refused_first}
-use Rattle.lazy_dfa.proofs.OverlappingWalks.WalkCallLemmas.{fine, failure, ended, tells_refusal, tells_none, still_call, told_with, makes_on, MakesIts}
+use Rattle.lazy_dfa.proofs.OverlappingWalks.WalkCallLemmas.{fine, failure, ended, tells_refusal, tells_none, still_call, told_with}
+use Rattle.lazy_dfa.proofs.OverlappingWalks.WalkCallLemmas.{makes_on, MakesIts}
 
 -- a done input
 pub done_call : (d : Dfa) (q : Search) (v : CacheValue) (m n : ℕ) → nat_le q.start q.end ≡ false →
@@ -123,7 +126,10 @@ module _ (d : Dfa) (q : Search) (old new : CacheValue) (m1 m2 n1 n2 : ℕ) (begu
     quits = λ quiet. tt;
     changes = first_changes d q begun old new own start.adds;
     anew = ⊎_elim
-        (λ (g : Grew d old new). inl (left_at_start refl (refused_first d q old new m1 m2 n1 n2 e start own) (same_told d old new g), g.clears))
+        (λ (g : Grew d old new). inl (
+          left_at_start refl (refused_first d q old new m1 m2 n1 n2 e start own) (same_told d old new g),
+          g.clears,
+        ))
         (λ (w : WasCleared old new 1). inr (
           has_cleared old new 1 w,
           fails_behind_start refl (told_of new) (fresh_start old new w)
@@ -279,5 +285,6 @@ module _ (d : Dfa) (q : Search) (old mid : CacheValue) (m1 m n1 n id : ℕ) (beg
     begins_walk new m2 n2 result x =
         makes_on d q Fresh old mid new m1 m m2 n1 n n2 made own reads_first (fits.1 ∙ begun_rest (reader d) q) (begun_units (reader d) q)
         so_far few_starts few_starts_put (λ fresh. start.start.0) begins_quietly told_first
-        (start_changes_so d q begun old mid own start.adds) result (subst (λ (b : Bool). ReadsOn d q (first_place b q.start q.end) mid new m m2 n n2 result) is
+        (start_changes_so d q begun old mid own start.adds) result
+        (subst (λ (b : Bool). ReadsOn d q (first_place b q.start q.end) mid new m m2 n n2 result) is
         x)

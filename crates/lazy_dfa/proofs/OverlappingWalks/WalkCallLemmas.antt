@@ -20,7 +20,8 @@ use Rattle.lazy_dfa.specs.Steps.{most_inserts}
 use Rattle.lazy_dfa.specs.Walks.{Rest, nothing_left, refused, others, rest_of, IsWalk, WalkState}
 use Rattle.lazy_dfa.specs.WalkAnswers.{lists_more, stop_behind, next_index}
 use Rattle.lazy_dfa.specs.WalkAnswers.{reads_on, call_place, units_there, call_units, call_starts, told_left, TellsNext, GivesUpOn, at_unit}
-use Rattle.lazy_dfa.specs.WalkAnswers.{AnswersWalk, failed_by, told_by_call, rest_at, units_at, told_by_reading, GivesUpFrom, ReadsOn, MakesCall}
+use Rattle.lazy_dfa.specs.WalkAnswers.{AnswersWalk, failed_by, told_by_call, rest_at, units_at, told_by_reading, GivesUpFrom, ReadsOn}
+use Rattle.lazy_dfa.specs.WalkAnswers.{MakesCall}
 use Rattle.lazy_dfa.specs.Changes.{Changes, unchanged, IsMadeAt}
 use Rattle.lazy_dfa.specs.WalkAnswers.{call_made, IsMadeOnCall}
 use Rattle.lazy_dfa.specs.WalkAnswers.{value_before}
@@ -235,7 +236,8 @@ module _ (d : Dfa) (q : Search) (w : Walk) (old mid new : CacheValue) (m1 m m2 n
   IsReadOk = ((told_of new ≡ told_by_reading r q at (told_of mid)) × (new.clears ≡ mid.clears)) ⊎ (HasCleared mid new × IsCut)
 
   told_ok : GrowsOrClears d mid new → IsReadOk →
-      ((told_of new ≡ told_by_call r q w (told_of old)) × (new.clears ≡ old.clears)) ⊎ (HasCleared old new × TellsCallAnew r q w (told_of new))
+      ((told_of new ≡ told_by_call r q w (told_of old)) × (new.clears ≡ old.clears)) ⊎
+      (HasCleared old new × TellsCallAnew r q w (told_of new))
   told_ok kept f = ⊎_elim
       (λ (s : (told_of mid ≡ told_of old) × (mid.clears ≡ old.clears)). ⊎_elim
       (λ (y : (told_of new ≡ told_by_reading r q at (told_of mid)) × (new.clears ≡ mid.clears)). inl (told_so s.0 y.0, y.1 ∙ s.1))
@@ -253,7 +255,8 @@ module _ (d : Dfa) (q : Search) (w : Walk) (old mid new : CacheValue) (m1 m m2 n
 
   module _ (e : MatchErrorKind) (kept : GrowsOrClears d mid new) where
     abbrev IsLeft : Told → ℕ → Type 0
-    IsLeft t k = told_of new ≡ walk_left r.automaton.reverse (is_quit_error e) q at (min (t.searched + progress_len t.progress) greatest) 0 k
+    IsLeft t k = told_of new ≡ walk_left r.automaton.reverse (is_quit_error e) q at (min (t.searched + progress_len t.progress) greatest) 0
+        k
 
     abbrev IsCutAt : ℕ → Type 0
     IsCutAt k = (m : ℕ) × (m ≤ k) × (told_of new ≡ walk_left r.automaton.reverse (is_quit_error e) q at 0 m k)

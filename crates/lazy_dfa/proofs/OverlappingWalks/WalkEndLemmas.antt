@@ -29,8 +29,10 @@ use Rattle.lazy_dfa.proofs.HalfSearches.TurnLemmas.{place_next, place_later, dea
 use Rattle.lazy_dfa.proofs.HalfSearches.LastLemmas.{pattern, is_at, none_mapped}
 use Rattle.lazy_dfa.proofs.HalfSearches.PassQuitLemmas.{unit_first, unit_later, none_more}
 use Rattle.lazy_dfa.proofs.HalfSearches.PassLemmas.{dead_next, walk, walk_steps, walk_starts}
-use Rattle.lazy_dfa.proofs.OverlappingWalks.PlaceEndLemmas.{HasRoom, order_told, best_by_place, has_by_place, once_by_place, ordered_by_place}
-use Rattle.lazy_dfa.proofs.OverlappingWalks.RestLemmas.{Turn, turn_ends, turn_quits, turn_goes, turn, rest_none, Begins, begins_done, begins_quit}
+use Rattle.lazy_dfa.proofs.OverlappingWalks.PlaceEndLemmas.{HasRoom, order_told, best_by_place, has_by_place, once_by_place}
+use Rattle.lazy_dfa.proofs.OverlappingWalks.PlaceEndLemmas.{ordered_by_place}
+use Rattle.lazy_dfa.proofs.OverlappingWalks.RestLemmas.{Turn, turn_ends, turn_quits, turn_goes, turn, rest_none, Begins, begins_done}
+use Rattle.lazy_dfa.proofs.OverlappingWalks.RestLemmas.{begins_quit}
 use Rattle.lazy_dfa.proofs.OverlappingWalks.RestLemmas.{begins_unfit, begins_there, begins, rest_in_span, no_quit_mode, quit_parts}
 
 -- ---- one place

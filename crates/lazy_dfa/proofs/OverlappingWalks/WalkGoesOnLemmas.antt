@@ -24,7 +24,8 @@ held_kept v w shape names id s h = held_of (names id s (names_held h))
     held_of (names_dead e f) = absurd (omega (arith, e, low))
     held_of (names_held g) = g
 
-pub stop_kept : (d : Dfa) (old new : CacheValue) (q : Search) (stop : Stop) → IsCacheOf d old → CacheGrows d old new → StopsAt d old q stop →
+pub stop_kept : (d : Dfa) (old new : CacheValue) (q : Search) (stop : Stop) → IsCacheOf d old → CacheGrows d old new →
+    StopsAt d old q stop →
     StopsAt d new q stop
 stop_kept d old new q stop own g at = record {
   within = at.within;

@@ -40,15 +40,18 @@ use Rattle.lazy_dfa.proofs.Courses.CourseLemmas.{read_there}
 use Rattle.lazy_dfa.specs.WalkAnswers.{StartsQuietly, HasReadQuietly, index_there, walk_over, walk_told, ends_there, IsRefusedThere}
 use Rattle.lazy_dfa.specs.LeftTold.{is_quit_error}
 use Rattle.lazy_dfa.specs.WalkTurns.{tells_end, TellsNone, stopped, TellsUnit, RefusesUnit, StopsWith, ReadsInto}
-use Rattle.lazy_dfa.proofs.OverlappingWalks.WalkToldLemmas.{IsWalking, UnitBy, unit_walked, unit_walks, walking_by, walking_later, walking_first, walk_is_told}
+use Rattle.lazy_dfa.proofs.OverlappingWalks.WalkToldLemmas.{IsWalking, UnitBy, unit_walked, unit_walks, walking_by, walking_later}
+use Rattle.lazy_dfa.proofs.OverlappingWalks.WalkToldLemmas.{walking_first, walk_is_told}
 use Rattle.lazy_dfa.proofs.Courses.CourseLemmas.{not_dead}
 use Rattle.lazy_dfa.proofs.CacheChanges.LinkedLemmas.{grows_trans, cleared_grows, grows_or_clears_trans, grows_moved}
 use Rattle.lazy_dfa.proofs.Courses.PassLoopLemmas.{next_within}
 use Rattle.lazy_dfa.proofs.Courses.RunLemmas.{row_holds, half_back}
 use Rattle.lazy_dfa.proofs.Courses.SpanTurnLemmas.{held_moved, finished_moves, told_there}
 use Rattle.lazy_dfa.proofs.OverlappingWalks.WalkQuitLemmas.{no_quit_yet, no_quit_once, no_quit_read, no_quit_on, came_steps}
-use Rattle.lazy_dfa.proofs.OverlappingWalks.WalkPlaceLemmas.{place_came, left_next, comes_far, past_next, past_one, value_later, rest_later, units_later}
-use Rattle.lazy_dfa.proofs.OverlappingWalks.WalkRestLemmas.{some_listed, none_left, dead_left, step_left, quit_left, pass_left, pass_units, tell_units}
+use Rattle.lazy_dfa.proofs.OverlappingWalks.WalkPlaceLemmas.{place_came, left_next, comes_far, past_next, past_one, value_later, rest_later}
+use Rattle.lazy_dfa.proofs.OverlappingWalks.WalkPlaceLemmas.{units_later}
+use Rattle.lazy_dfa.proofs.OverlappingWalks.WalkRestLemmas.{some_listed, none_left, dead_left, step_left, quit_left, pass_left, pass_units}
+use Rattle.lazy_dfa.proofs.OverlappingWalks.WalkRestLemmas.{tell_units}
 use Rattle.lazy_dfa.proofs.OverlappingWalks.WalkRestLemmas.{some_units, stops_first}
 use Rattle.lazy_dfa.proofs.Courses.WholePassLemmas.{min_twice}
 use Rattle.nfa_core.proofs.ForCallers.{place_zero}
@@ -318,7 +321,8 @@ module _ (d : Dfa) (q : Search) (made : IsDfa d) (from p : Point) (own : IsCache
       );
     }
 
-    pub ends_refused : (e : MatchErrorKind) → RefusesUnit d q p v m n e → ReadsOn d q from.at from.cache v from.determinized m from.inserted n
+    pub ends_refused : (e : MatchErrorKind) → RefusesUnit d q p v m n e →
+        ReadsOn d q from.at from.cache v from.determinized m from.inserted n
         (Err e)
     ends_refused (Quit b y) t =
         let left = x.rest ∙ quit_left (reader d) h (left_at rev q p.at) p.at now b alive t.1 t.2 in

@@ -21,7 +21,8 @@ use Rattle.lazy_dfa.specs.WalkAnswers.{StartsQuietly, HasReadQuietly}
 use Rattle.lazy_dfa.specs.Changes.{unchanged}
 use Rattle.lazy_dfa.proofs.OverlappingWalks.WalkQuitLemmas.{came_next}
 use Rattle.lazy_dfa.proofs.CacheChanges.LinkedLemmas.{grows_refl}
-use Rattle.lazy_dfa.proofs.OverlappingWalks.WalkLeftLemmas.{next_within, past_last, past_value, past_rest, past_units, lists_none, lists_one}
+use Rattle.lazy_dfa.proofs.OverlappingWalks.WalkLeftLemmas.{next_within, past_last, past_value, past_rest, past_units, lists_none}
+use Rattle.lazy_dfa.proofs.OverlappingWalks.WalkLeftLemmas.{lists_one}
 use Rattle.lazy_dfa.proofs.OverlappingWalks.WalkCallLemmas.{fine, ended, tells_none, still_call, makes_on, MakesIts}
 
 -- ---- walks that stopped
@@ -119,13 +120,15 @@ module _ (d : Dfa) (q : Search) (v : CacheValue) (m n : ℕ) (stop : Stop) (made
       ∙ ap not (is_other stop.at (last_place d.nfa.automaton.reverse q) apart_so))
       (behind d q v m n stop stops no_more ∙ past_rest (reader d) q stop.at stops.within apart_so)
       (past_units (reader d) q stop.at stops.within apart_so)
-      (inl (grows_refl d v, refl)) (omega arith) (omega arith) (λ fresh. no_fresh fresh) resumes_quietly (inl (refl, refl)) (unchanged v 0 refl) result
+      (inl (grows_refl d v, refl)) (omega arith) (omega arith) (λ fresh. no_fresh fresh) resumes_quietly (inl (refl, refl))
+      (unchanged v 0 refl) result
       (subst (λ (b : Bool). ReadsOn d q (place_of b stop.at 1) v new m m2 n n2 result) is x)
     where
       no_fresh : {P : Type 0} → Stopped stop ≡ Fresh → P
       no_fresh e = let never : true ≡ false = cc in absurd (true≢false never)
 
-      resumes_quietly : HasReadQuietly d q (Stopped stop) → StartsQuietly d q (came d.nfa.automaton.reverse q (next_place (reader d) stop.at))
+      resumes_quietly : HasReadQuietly d q (Stopped stop) →
+          StartsQuietly d q (came d.nfa.automaton.reverse q (next_place (reader d) stop.at))
       resumes_quietly quiet = subst (StartsQuietly d q) (sym (came_next d.nfa.automaton.reverse q stop.at stops.within apart_so)) quiet
 
       is_other : (i j : ℕ) → i ≢ j → (i == j) ≡ false

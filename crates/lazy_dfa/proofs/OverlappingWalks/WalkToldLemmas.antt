@@ -133,13 +133,18 @@ pub walk_is_told : (r : Reader) (q : Search) (at p k : ℕ) (t : Told) → IsWit
     walk_over r.automaton.reverse q at (min (t.searched + progress_len t.progress) greatest) 0 k ≡ told_by_reading r q at t
 walk_is_told r q at p k t start within place left units =
     ap so_many (ap (λ (n : ℕ). min (min (t.searched + progress_len t.progress) greatest + n) greatest) far
-    ∙ (min_twice (t.searched + progress_len t.progress) (pass_distance r.automaton.reverse (left_at r.automaton.reverse q at) (k + 1)) greatest
-    ∙ ap (λ (u : ℕ). min (t.searched + progress_len t.progress + pass_distance r.automaton.reverse (left_at r.automaton.reverse q at) u) greatest) (sym units)))
+    ∙ (min_twice (t.searched + progress_len t.progress) (pass_distance r.automaton.reverse (left_at r.automaton.reverse q at) (k + 1))
+    greatest
+    ∙ ap (λ (u : ℕ). min (t.searched + progress_len t.progress + pass_distance r.automaton.reverse (left_at r.automaton.reverse q at) u)
+    greatest) (sym units)))
   where
-    far : distance (index_there r.automaton.reverse q at 0) (index_there r.automaton.reverse q at k) ≡ pass_distance r.automaton.reverse (left_at r.automaton.reverse q at) (k + 1)
+    far : distance (index_there r.automaton.reverse q at 0) (index_there r.automaton.reverse q at k) ≡ pass_distance r.automaton.reverse
+        (left_at r.automaton.reverse q at) (k + 1)
     far =
-        ap (λ (i : ℕ). distance (gave_up_at r.automaton.reverse q i) (index_there r.automaton.reverse q at k)) (place_zero r.automaton.reverse at)
-        ∙ (ap (λ (i : ℕ). distance (gave_up_at r.automaton.reverse q at) (gave_up_at r.automaton.reverse q i)) (sym place) ∙ comes_far r.automaton.reverse q at p k start within left)
+        ap (λ (i : ℕ). distance (gave_up_at r.automaton.reverse q i) (index_there r.automaton.reverse q at k))
+        (place_zero r.automaton.reverse at)
+        ∙ (ap (λ (i : ℕ). distance (gave_up_at r.automaton.reverse q at) (gave_up_at r.automaton.reverse q i)) (sym place)
+        ∙ comes_far r.automaton.reverse q at p k start within left)
 
 -- ---- clauses
 

@@ -202,7 +202,8 @@ module _ (d : Dfa) (q : Search) (is_reverse : Bool) (same : is_reverse ≡ d.nfa
         (subst (λ (b : Bool). TellsUnit d b q at v0 v2) (wanted_is w) (before_told e turn))))
 
   -- by a quit byte
-  pub step_quits : (to : ℕ) (best2 : Option (ℕ × ℕ)) (turn : Turn) (v3 : CacheValue) (b index : ℕ) (err : MatchErrorKind) → place ≡ gave_up_at rev q at →
+  pub step_quits : (to : ℕ) (best2 : Option (ℕ × ℕ)) (turn : Turn) (v3 : CacheValue) (b index : ℕ) (err : MatchErrorKind) →
+      place ≡ gave_up_at rev q at →
       v3 ≡ finished place v2 →
       u ≡ unit_at rev q.haystack at → u ≡ Some b →
       index ≡ index_at is_reverse at → err ≡ Quit b index → turn ≡ Quits → IsSeen d false q.haystack u before v2 m2 n2 to best2 turn →
@@ -211,7 +212,8 @@ module _ (d : Dfa) (q : Search) (is_reverse : Bool) (same : is_reverse ≡ d.nfa
       let x = subst (λ (t : Turn). IsSeen d false q.haystack u before v2 m2 n2 to best2 t) e seen in
       let byte : x.2.0 ≡ b = one_byte x.2.0 b (sym x.2.1 ∙ some) in
       subst (λ (o : MatchErrorKind). RefusesUnit d q from v3 m2 n2 o) (sym told) (
-        leaves_forth d q.haystack from v2 v3 m2 n2 0 (finished_moves v2 v3 place ends) (leaves_back d v0 v1 moved q.haystack m1 n1 at id best v2 m2 n2 0 x.0),
+        leaves_forth d q.haystack from v2 v3 m2 n2 0 (finished_moves v2 v3 place ends)
+            (leaves_back d v0 v1 moved q.haystack m1 n1 at id best v2 m2 n2 0 x.0),
         sym is ∙ some,
         ap (has d.quits) (sym byte) ∙ x.2.2,
         here ∙ ap (λ (b : Bool). index_at b at) same,

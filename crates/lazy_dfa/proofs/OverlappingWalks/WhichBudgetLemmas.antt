@@ -34,7 +34,8 @@ use Rattle.lazy_dfa.specs.WalkAnswers.{units_met, lists_more, reads_on, call_pla
 use Rattle.lazy_dfa.specs.WalkAnswers.{at_start as on_start, at_unit as on_unit, which_made, StartsQuietly, HasReadQuietly}
 use Rattle.lazy_dfa.proofs.OverlappingWalks.WalkQuitLemmas.{no_quit_on}
 use Rattle.lazy_dfa.proofs.HalfSearches.TurnLemmas.{place_next}
-use Rattle.lazy_dfa.proofs.OverlappingWalks.WhichUnitLemmas.{told_at, first_met, read_behind, read_few, met_is_read, listed_place, no_first, no_head}
+use Rattle.lazy_dfa.proofs.OverlappingWalks.WhichUnitLemmas.{told_at, first_met, read_behind, read_few, met_is_read, listed_place, no_first}
+use Rattle.lazy_dfa.proofs.OverlappingWalks.WhichUnitLemmas.{no_head}
 use Rattle.nfa_core.proofs.ForCallers.{place_zero}
 use Rattle.lazy_dfa.proofs.HalfSearches.FoundLemmas.{place_add}
 use Rattle.lazy_dfa.proofs.OverlappingWalks.WalkPlaceLemmas.{place_came}
@@ -497,7 +498,8 @@ module _ (d : Dfa) (v : CacheValue) (q : Search) (x : ℕ) where
       ∙ read_at_first r q in
       at_unit m (omega (arith, less, all)) (there.0 ∙ same_give_up r.automaton.reverse q m fits small)
       (sym (ap (λ (k : ℕ). lacks_room d v (state r q (suc k))) (came_of r.automaton.reverse q m fits small)) ∙ there.1)
-      (λ before. there.2 (λ last. let end = is_last r.automaton.reverse q m fits small last in absurd (omega (arith, before, end)))) quiet.0 quiet.1
+      (λ before. there.2 (λ last. let end = is_last r.automaton.reverse q m fits small last in absurd (omega (arith, before, end)))) quiet.0
+      quiet.1
 
   at_first_units : (k : ℕ) → k < call_units r q Fresh → StartsQuietly d q (suc k) →
       GivesUpThere (place_of r.automaton.reverse (call_place r q Fresh) k) → GivesUp

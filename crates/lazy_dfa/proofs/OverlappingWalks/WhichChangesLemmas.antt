@@ -53,7 +53,8 @@ module _ (r : Reader) (q : Search) where
   -- a call that reads begins in the span, and comes no further than its last unit
   call_within : (w : Walk) → IsWithinWalk q w → reads_on r q w ≡ true → IsWithinSpan q (call_place r q w)
   call_within Fresh within on =
-      first_within rev q (leb-true q.start q.end (and_parts (nat_le q.start q.end) (is_supported r.starts_for_each_pattern q.anchored) on).0)
+      first_within rev q (leb-true q.start q.end
+      (and_parts (nat_le q.start q.end) (is_supported r.starts_for_each_pattern q.anchored) on).0)
   call_within Ended within on = absurd (true≢false (sym on))
   call_within (Failed e) within on = absurd (true≢false (sym on))
   call_within (Stopped stop) within on = next_within rev q stop.at within (is_apart stop on)
@@ -85,7 +86,8 @@ on_walk d q w within b s (inr (e, (k, lt, are, is))) = by (reads_on (reader d) q
         let all : call_units (reader d) q w ≡ units_there (reader d) q w =
         ap (λ (y : Bool). if y then units_there (reader d) q w else 0) on in
         let far = call_far (reader d) q w within on in
-        let one : came d.nfa.automaton.reverse q (call_place (reader d) q w) + suc k ≡ suc (came d.nfa.automaton.reverse q (call_place (reader d) q w) + k) = omega arith in
+        let one : came d.nfa.automaton.reverse q (call_place (reader d) q w) + suc k ≡ suc
+        (came d.nfa.automaton.reverse q (call_place (reader d) q w) + k) = omega arith in
         let there = sym (place_came d.nfa.automaton.reverse q (call_place (reader d) q w) (call_within (reader d) q w within on)) in
         inr (
           e,

@@ -1,6 +1,7 @@
 -- What a walk over a whole span has done when it has told so many ends, and how it ends.
 use Rattle.std.proofs.Common.{◌≡◌, ℕ, zero, suc, ◌+◌, ◌*◌, ◌<◌, ◌≤◌, ◌||◌, Bool, true, false, List, [], ◌∷◌, ◌++◌, length, drop, take}
-use Rattle.std.proofs.Common.{length-append, get_or, Option, Some, None, ◌↔◌, IsTrue, refl, sym, ap, ◌∙◌, inl, inr, ⊎_elim, subst, arith, append_assoc}
+use Rattle.std.proofs.Common.{length-append, get_or, Option, Some, None, ◌↔◌, IsTrue, refl, sym, ap, ◌∙◌, inl, inr, ⊎_elim, subst, arith}
+use Rattle.std.proofs.Common.{append_assoc}
 use Rattle.std.proofs.Common.{mul-le-mul_right, if◌then◌else◌, true≢false}
 use Rattle.std.specs.Prelude.{Result, Ok, Err, IfErr, ⊤}
 use Rattle.std.proofs.lemmas.Bool.{cases_Bool}
@@ -320,7 +321,8 @@ module _ (d : Dfa) (q : Search) (old now next : CacheValue) (m1 m2 m3 n1 n2 n3 :
         sym (ap (λ (b : Bool). if b then record { set = more; refusal = None } else which_from q.earliest more left rest.refusal) enough)
         ∙ step_is in
         over done_well more call (inl (ap (λ (x : Which). told_left [] x.refusal) is, ap (λ (x : Which). x.set) is))
-        (last_told more call (ap (λ (k : ℕ). come + k) (sym (calls_there ∙ ap (λ (b : Bool). if b then 1 else calls_then) enough)) ∙ stands.calls))
+        (last_told more call (ap (λ (k : ℕ). come + k) (sym (calls_there ∙ ap (λ (b : Bool). if b then 1 else calls_then) enough))
+        ∙ stands.calls))
 
     one_longer : length (stands.done ++ end_of_half half ∷ []) ≡ suc come
     one_longer = let sum = length-append stands.done (end_of_half half ∷ []) in omega (arith, sum)
@@ -391,6 +393,7 @@ is_sure d v q set after result (inl a) none quiet =
     (sym (a.0 ∙ ap (told_left [])
     (ap (λ (x : Option MatchErrorKind). (which_from q.earliest set (whole_rest (reader d) q).ends x).refusal) quiet
     ∙ no_refusal q.earliest set (whole_rest (reader d) q).ends))) tt
-is_sure d v q set after result (inr (k, _, added, inl lacks)) none quiet = subst (λ (x : Answer). IfErr x (λ e. e ≡ NoMemory)) (sym lacks) refl
+is_sure d v q set after result (inr (k, _, added, inl lacks)) none quiet = subst (λ (x : Answer). IfErr x (λ e. e ≡ NoMemory))
+    (sym lacks) refl
 is_sure d v q set after result (inr (k, _, added, inr g)) none quiet =
     absurd (never_here d v none q.anchored false q.haystack (span_len q) (begins_at (reader d) q) g.0 g.3)

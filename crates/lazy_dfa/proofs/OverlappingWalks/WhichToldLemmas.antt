@@ -125,7 +125,8 @@ module _ (r : Reader) (q : Search) (set : List Bool) (v : CacheValue) (past : q.
       (lt-leb q.start q.end past)
 
   pub done_told : IsToldAfter r q (calls_for q.earliest set (whole_rest r q).ends) v v
-  done_told = subst (λ (x : Rest). IsToldAfter r q (calls_for q.earliest set x.ends) v v) (sym (rest_done r q past)) (inl (sym nothing, refl))
+  done_told = subst (λ (x : Rest). IsToldAfter r q (calls_for q.earliest set x.ends) v v) (sym (rest_done r q past))
+      (inl (sym nothing, refl))
 
 pub none_told : (r : Reader) (q : Search) (v : CacheValue) → IsToldAfter r q 0 v v
 none_told r q v = inl (refl, refl)

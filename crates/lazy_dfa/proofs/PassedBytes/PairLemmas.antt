@@ -1,5 +1,6 @@
 -- Where two bytes in a row pass, by lanes, and where a search stands behind places at which none do.
-use Rattle.std.proofs.Common.{◌≡◌, ◌∙◌, ◌+◌, ◌-◌, ◌<◌, ◌≤◌, ◌&&◌, ℕ, zero, suc, List, length, get_or, map, Bool, true, false, not, cond, Option, Some}
+use Rattle.std.proofs.Common.{◌≡◌, ◌∙◌, ◌+◌, ◌-◌, ◌<◌, ◌≤◌, ◌&&◌, ℕ, zero, suc, List, length, get_or, map, Bool, true, false, not, cond}
+use Rattle.std.proofs.Common.{Option, Some}
 use Rattle.std.proofs.Common.{bit_and, ⊎_elim, inl, inr, refl, sym, ap, subst, arith, true≢false}
 use Rattle.std.proofs.lemmas.Bool.{cases_Bool, cases_lt, not-true}
 use Rattle.std.proofs.lemmas.List.{get_or-map, length-map}
@@ -101,7 +102,8 @@ module _ (d : Dfa) (v : CacheValue) (h : List ℕ) (made : IsDfa d) (own : IsCac
   byte_at k = get_or h k 0
 
   abbrev Way : ℕ → ℕ → Type 0
-  Way k next = (m n : ℕ) (best : Option (ℕ × ℕ)) → GoesTo d h (point v m n from id best) (point v m n (from + k) next best) (from + k - from)
+  Way k next = (m n : ℕ) (best : Option (ℕ × ℕ)) →
+      GoesTo d h (point v m n from id best) (point v m n (from + k) next best) (from + k - from)
 
   -- a byte that passes has one before it that doesn't
   fails_before : (k : ℕ) → from + k + 1 < to → p (byte_at (from + k + 1)) ≡ true → p (byte_at (from + k)) ≡ false
@@ -126,7 +128,8 @@ module _ (d : Dfa) (v : CacheValue) (h : List ℕ) (made : IsDfa d) (own : IsCac
       let f : from + k ≡ from + suc k - 1 = omega arith in
       subst (λ j. p (byte_at j) ≡ false) f (fails_before k (omega (arith, within)) (subst (λ j. p (byte_at j) ≡ true) e passes))
 
-  read : (k from_id next : ℕ) → cell_by v.cells v.classes from_id (byte_at k) ≡ next → next ≡ get_or v.cells (from_id + class_of d.classes (Some (byte_at k))) 0
+  read : (k from_id next : ℕ) → cell_by v.cells v.classes from_id (byte_at k) ≡ next →
+      next ≡ get_or v.cells (from_id + class_of d.classes (Some (byte_at k))) 0
   read k from_id next e =
       sym (subst (λ (cs : List ℕ). get_or v.cells (from_id + class_of cs (Some (byte_at k))) 0 ≡ next) own.classes e)
 
@@ -161,7 +164,8 @@ module _ (d : Dfa) (v : CacheValue) (h : List ℕ) (made : IsDfa d) (own : IsCac
       let e : 0 + 1 ≡ suc zero = omega arith in
       let f : from + suc zero - 1 ≡ from + zero = omega arith in
       let fails = subst (λ j. p (byte_at j) ≡ false) f (quiet (omega arith)) in
-      subst (λ j. Way j id) e (stays_one zero (omega (arith, within)) fails (way_far zero (omega (arith, within)) (λ l. absurd (omega (arith, l)))))
+      subst (λ j. Way j id) e (stays_one zero (omega (arith, within)) fails
+      (way_far zero (omega (arith, within)) (λ l. absurd (omega (arith, l)))))
   way_far (suc (suc k)) within quiet =
       let e : suc k + 1 ≡ suc (suc k) = omega arith in
       let f : k + 1 + 1 ≡ suc (suc k) = omega arith in

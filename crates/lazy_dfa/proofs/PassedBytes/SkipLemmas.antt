@@ -37,7 +37,8 @@ module _ (d : Dfa) (v : CacheValue) (h : List ℕ) (made : IsDfa d) (own : IsCac
 
   -- the same, where bytes are counted
   module _ (from first k id : ℕ) (row : IsRow v first) (here : IsRow v id) (low : id < tag) (inside : from + k < length h)
-      (so_far : (m n : ℕ) (best : Option (ℕ × ℕ)) → GoesTo d h (point v m n from first best) (point v m n (from + k) id best) (from + k - from))
+      (so_far : (m n : ℕ) (best : Option (ℕ × ℕ)) →
+      GoesTo d h (point v m n from first best) (point v m n (from + k) id best) (from + k - from))
       (next c : ℕ) (class : c ≡ class_of d.classes (Some (get_or h (from + k) 0))) (read : next ≡ get_or v.cells (id + c) 0)
       (plain : next < tag) where
     pub row_next : IsRow v next

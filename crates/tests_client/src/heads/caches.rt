@@ -81,7 +81,8 @@ pub fn passes_read_their_reach()
 }
 
 pub fn nothing_is_found_of_no_pattern()
-    ensures { (r : Reader) (q : Search) (o : Option (ℕ × ℕ)) → start_name r.automaton q.anchored ≡ None → scan r q ≡ found o → o ≡ None }
+    ensures { (r : Reader) (q : Search) (o : Option (ℕ × ℕ)) → start_name r.automaton q.anchored ≡ None →
+        scan r q ≡ found o → o ≡ None }
 {
     scans_for_no_pattern_find_nothing();
 }

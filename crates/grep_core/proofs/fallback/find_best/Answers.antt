@@ -8,7 +8,8 @@ use Rattle.grep_core.proofs.fallback.find_best.Goals as goal
 pub loop-regex-preserved : goal.loop-regex-preserved
 loop-regex-preserved c =
     let same : c.regex-item.result ≡ get_or c.args.regexes.now c.loop-regex.regex-index c.regex-item.result = search rules in
-    ap (λ b. better b (best_found_at (map regex_pattern (drop (c.loop-regex.regex-index + 1) c.args.regexes.now)) c.args.line.now c.args.start))
+    ap (λ b. better b (best_found_at (map regex_pattern (drop (c.loop-regex.regex-index + 1) c.args.regexes.now)) c.args.line.now
+    c.args.start))
     c.better-best.ensures
     ∙ one_better c.args.regexes.now c.loop-regex.regex-index c.regex-item.result c.args.line.now c.args.start
     (option_map span_pair c.loop-regex.best)

@@ -8,7 +8,8 @@ abbrev pub invariant-loop-alloc : goal.invariant-loop-alloc
 invariant-loop-alloc l = record {
   in_lines : l.done ≤ length l.lines;
   waits : Waits l.task.what.now l.progress.telling.course;
-  passes : (f : LineMatcher) → PassesTo l.task f l.initial.progress l.progress l.lines (drop l.done l.lines) l.initial.out.items l.out.items;
+  passes : (f : LineMatcher) → PassesTo l.task f l.initial.progress l.progress l.lines (drop l.done l.lines) l.initial.out.items
+      l.out.items;
 }
 
 abbrev pub decreases-loop-alloc : goal.decreases-loop-alloc

@@ -15,7 +15,8 @@ returns-in-Err-clause-fault g c by =
     some_of (g.R.Read.remaining c.args.reader.now) _
     (λ text is. text_part t (found_by by) c.args.known c.new-progress.result c.new-read.result text (g.W.Write.contents c.args.writer.now)
     (g.W.Write.contents c.tell_blocks.new.writer)
-    c.new-read.ensures (c.new-progress.ensures.starts t (with_needed_spans c.args.what.now (found_by by))) (c.in-Err.ensures.fault by text is))
+    c.new-read.ensures (c.new-progress.ensures.starts t (with_needed_spans c.args.what.now (found_by by)))
+    (c.in-Err.ensures.fault by text is))
 
 pub returns-in-Ok-finish-clause-told : goal.returns-in-Ok-finish-clause-told
 returns-in-Ok-finish-clause-told g c by =

@@ -50,7 +50,8 @@ both-preserved c =
           c.args.further c.args.second c.both.read c.both.other c.requires.second_row c.both.invariant.other_row
           c.both.invariant.other_untagged
           (omega (arith, c.both-test.true, c.requires.within)) c.both.invariant.other_goes
-          c.cell_of_untagged-other_next.result c.class-in-both.result c.class-in-both.ensures c.cell_of_untagged-other_next.ensures other_plain;
+          c.cell_of_untagged-other_next.result c.class-in-both.result c.class-in-both.ensures c.cell_of_untagged-other_next.ensures
+          other_plain;
       other_untagged = other_plain;
       most = omega (arith, c.both-test.true);
       goes = way_next c.args.dfa.now c.args.cache.now c.args.haystack.now c.is_made.ensures c.requires.own (λ i. omega (
@@ -67,5 +68,6 @@ both-preserved c =
           c.args.further c.args.second c.both.read c.both.other c.requires.second_row c.both.invariant.other_row
           c.both.invariant.other_untagged
           (omega (arith, c.both-test.true, c.requires.within)) c.both.invariant.other_goes
-          c.cell_of_untagged-other_next.result c.class-in-both.result c.class-in-both.ensures c.cell_of_untagged-other_next.ensures other_plain;
+          c.cell_of_untagged-other_next.result c.class-in-both.result c.class-in-both.ensures c.cell_of_untagged-other_next.ensures
+          other_plain;
     }

@@ -12,7 +12,9 @@ pub returns-clause-spent : goal.returns-clause-spent
 returns-clause-spent c = λ d q w old new n made own spent changes. kept_if_spent d (IsMadeOnCall d q w) made old own new n spent changes
 
 pub returns-clause-kept : goal.returns-clause-kept
-returns-clause-kept c = λ d q w old new n made own same less changes. kept_if_same d (IsMadeOnCall d q w) made old own new n same less changes
+returns-clause-kept c = λ d q w old new n made own same less changes. kept_if_same d (IsMadeOnCall d q w) made old own new n same less
+    changes
 
 pub returns-clause-cleared : goal.returns-clause-cleared
-returns-clause-cleared c = λ d q w old new n made own differ changes. first_of_clears d (IsMadeOnCall d q w) made old own new n differ changes
+returns-clause-cleared c = λ d q w old new n made own differ changes. first_of_clears d (IsMadeOnCall d q w) made old own new n differ
+    changes

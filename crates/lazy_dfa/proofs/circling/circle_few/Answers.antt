@@ -22,7 +22,8 @@ circle_by_pairs-requires-clause-pairs g c =
       plain = λ byte second l m passes fails. subst (λ (id : ℕ). cell_by cells classes id byte < tag) c.requires.stop (
           (told byte second l m (sym (same byte) ∙ passes) fails).1
           );
-      back = λ byte second l m passes fails. subst (λ (id : ℕ). cell_by cells classes (cell_by cells classes id byte) second ≡ id) c.requires.stop (
+      back = λ byte second l m passes fails. subst (λ (id : ℕ). cell_by cells classes (cell_by cells classes id byte) second ≡ id)
+          c.requires.stop (
           (told byte second l m (sym (same byte) ∙ passes) fails).2
           );
     }

@@ -13,7 +13,8 @@ returns-in-No-clause-name c =
     ∙ sym (ap (λ (m : Anchored). start_in c.args.dfa.now (mode_of m)) c.in-No.is)
 
 pub returns-in-No-clause-below : goal.returns-in-No-clause-below
-returns-in-No-clause-below c = subst (λ (n : Nfa). c.start_unanchored.result < length n.automaton.states) c.get_nfa-nfa.ensures c.start_unanchored.ensures.in_range
+returns-in-No-clause-below c = subst (λ (n : Nfa). c.start_unanchored.result < length n.automaton.states) c.get_nfa-nfa.ensures
+    c.start_unanchored.ensures.in_range
 
 pub returns-in-Yes-clause-name : goal.returns-in-Yes-clause-name
 returns-in-Yes-clause-name c =
@@ -21,7 +22,8 @@ returns-in-Yes-clause-name c =
     ∙ sym (ap (λ (m : Anchored). start_in c.args.dfa.now (mode_of m)) c.in-Yes.is)
 
 pub returns-in-Yes-clause-below : goal.returns-in-Yes-clause-below
-returns-in-Yes-clause-below c = subst (λ (n : Nfa). c.start_anchored.result < length n.automaton.states) c.get_nfa-nfa.ensures c.start_anchored.ensures.in_range
+returns-in-Yes-clause-below c = subst (λ (n : Nfa). c.start_anchored.result < length n.automaton.states) c.get_nfa-nfa.ensures
+    c.start_anchored.ensures.in_range
 
 pub returns-in-Pattern-clause-below : goal.returns-in-Pattern-clause-below
 returns-in-Pattern-clause-below c =

@@ -37,14 +37,17 @@ loop-at-preserved-then-eq c =
     let on = lingers_on d v sid next (Some b) c.requires.own unit c.loop-at.invariant.row read below h c.is_made.ensures
     (λ i. omega (arith, c.type_inv.haystack i))
     c.args.from c.args.id at c.loop-at.met.id c.loop-at.met.last (at - c.args.from) c.requires.row c.loop-at.invariant.lingers
-    (at + 1) (at + 1 - c.args.from) (forward_unit d h at c.requires.is_forward (omega (arith, c.loop-at-test.true, c.requires.within))) (forward_place d at c.requires.is_forward) (omega (arith, c.loop-at.invariant.past))
+    (at + 1) (at + 1 - c.args.from) (forward_unit d h at c.requires.is_forward (omega (arith, c.loop-at-test.true, c.requires.within)))
+    (forward_place d at c.requires.is_forward) (omega (arith, c.loop-at.invariant.past))
     c.meet-now.result.id c.meet-now.result.last c.meet-now.ensures.matching c.meet-now.ensures.plain in
     record {
       row = c.loop-at.invariant.row;
       past = omega (arith, c.loop-at.invariant.past, c.stay_forward-stayed.ensures.past, c.loop-at-test.true);
       within = c.stay_forward-stayed.ensures.within;
-      lingers = c.stay_forward-stayed.ensures.lingers c.args.from c.args.id (omega (arith, c.loop-at.invariant.past, c.loop-at-test.true)) c.requires.row
-          (subst (λ (x : ℕ). Lingers d h v c.args.from c.args.id (at + 1) x c.meet-now.result.id c.meet-now.result.last (at + 1 - c.args.from))
+      lingers = c.stay_forward-stayed.ensures.lingers c.args.from c.args.id (omega (arith, c.loop-at.invariant.past, c.loop-at-test.true))
+          c.requires.row
+          (subst (λ (x : ℕ). Lingers d h v c.args.from c.args.id (at + 1) x c.meet-now.result.id c.meet-now.result.last
+          (at + 1 - c.args.from))
           ((Decides-eqb next sid).0 (sym c.eq.ensures ∙ c.if-eq.true)) on);
     }
 
@@ -63,7 +66,8 @@ loop-at-preserved c =
     let on = lingers_on d v sid next (Some b) c.requires.own unit c.loop-at.invariant.row read below h c.is_made.ensures
     (λ i. omega (arith, c.type_inv.haystack i))
     c.args.from c.args.id at c.loop-at.met.id c.loop-at.met.last (at - c.args.from) c.requires.row c.loop-at.invariant.lingers
-    (at + 1) (at + 1 - c.args.from) (forward_unit d h at c.requires.is_forward (omega (arith, c.loop-at-test.true, c.requires.within))) (forward_place d at c.requires.is_forward) (omega (arith, c.loop-at.invariant.past))
+    (at + 1) (at + 1 - c.args.from) (forward_unit d h at c.requires.is_forward (omega (arith, c.loop-at-test.true, c.requires.within)))
+    (forward_place d at c.requires.is_forward) (omega (arith, c.loop-at.invariant.past))
     c.meet-now.result.id c.meet-now.result.last c.meet-now.ensures.matching c.meet-now.ensures.plain in
     record {
       row = row_next d v sid next (Some b) c.requires.own unit c.loop-at.invariant.row read below;

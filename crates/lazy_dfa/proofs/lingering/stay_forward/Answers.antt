@@ -31,7 +31,8 @@ loop-at-preserved c =
     let unit : b < 256 = omega (arith, c.type_inv.haystack at) in
     let same = (Decides-eqb next id).0 (sym c.eq-stays.ensures ∙ c.if-not-stays.false) in
     let below = subst (λ (n : ℕ). n < start_tag) same (c.is_of_row.ensures.0 c.if-not-is_of_row.false) in
-    let read = sym same ∙ noted_read d v id c.class.result next (Some b) c.is_made.ensures c.requires.own unit c.class.ensures c.cell-next.ensures in
+    let read = sym same ∙ noted_read d v id c.class.result next (Some b) c.is_made.ensures c.requires.own unit c.class.ensures
+    c.cell-next.ensures in
     record {
       past = omega (arith, c.loop-at.invariant.past);
       within = omega (arith, c.loop-at-test.true);

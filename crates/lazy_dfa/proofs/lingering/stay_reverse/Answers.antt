@@ -31,7 +31,8 @@ loop-at-preserved c =
     let unit : b < 256 = omega (arith, c.type_inv.haystack (at - 1)) in
     let same = (Decides-eqb next id).0 (sym c.eq-stays.ensures ∙ c.if-not-stays.false) in
     let below = subst (λ (n : ℕ). n < start_tag) same (c.is_of_row.ensures.0 c.if-not-is_of_row.false) in
-    let read = sym same ∙ noted_read d v id c.class.result next (Some b) c.is_made.ensures c.requires.own unit c.class.ensures c.cell-next.ensures in
+    let read = sym same ∙ noted_read d v id c.class.result next (Some b) c.is_made.ensures c.requires.own unit c.class.ensures
+    c.cell-next.ensures in
     record {
       past = omega (arith, c.loop-at.invariant.past, c.loop-at-test.true);
       within = omega (arith, c.loop-at-test.true);
@@ -39,7 +40,8 @@ loop-at-preserved c =
           (λ i. omega (arith, c.type_inv.haystack i))
           start first at c.loop-at.now.id c.loop-at.now.last (start - at) row
           (c.loop-at.invariant.lingers start first l row x)
-          (at - 1) (start - (at - 1)) (reverse_unit d h at c.requires.is_reverse (omega (arith, c.loop-at-test.true)) (omega (arith, c.loop-at.invariant.past, c.requires.within)))
+          (at - 1) (start - (at - 1)) (reverse_unit d h at c.requires.is_reverse (omega (arith, c.loop-at-test.true))
+          (omega (arith, c.loop-at.invariant.past, c.requires.within)))
           (reverse_place d at c.requires.is_reverse) (omega (arith, l, c.loop-at.invariant.past, c.loop-at-test.true))
           c.meet-now.result.id c.meet-now.result.last c.meet-now.ensures.matching c.meet-now.ensures.plain;
     }

@@ -9,7 +9,8 @@ use Rattle.lazy_dfa.specs.WalkAnswers.{MakesCall, ReadsOn, value_before}
 use Rattle.lazy_dfa.proofs.CacheChanges.LinkedLemmas.{is_cache_moved}
 use Rattle.lazy_dfa.proofs.Courses.SearchEndLemmas.{not_done}
 use Rattle.lazy_dfa.proofs.OverlappingWalks.WalkLeftLemmas.{first_within}
-use Rattle.lazy_dfa.proofs.OverlappingWalks.WalkBeginLemmas.{is_done, is_begun, done_call, refused_call, dead_moved, dead_call, begins_held, begins_walk}
+use Rattle.lazy_dfa.proofs.OverlappingWalks.WalkBeginLemmas.{is_done, is_begun, done_call, refused_call, dead_moved, dead_call, begins_held}
+use Rattle.lazy_dfa.proofs.OverlappingWalks.WalkBeginLemmas.{begins_walk}
 use Rattle.lazy_dfa.proofs.overlapping.begin.Goals as goal
 
 pub returns-then-is_done-clause-call : goal.returns-then-is_done-clause-call

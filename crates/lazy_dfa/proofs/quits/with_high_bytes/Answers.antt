@@ -1,5 +1,6 @@
 use Rattle.std.proofs.Common.{◌≡◌, ◌∙◌, ◌+◌, sym, subst, arith, List, Bool, ℕ}
-use Rattle.lazy_dfa.proofs.Automata.QuitLemmas.{IsSettled, settled_all, settled_none, settled_in, settled_out, wanted_by_set, wanted_high, unwanted}
+use Rattle.lazy_dfa.proofs.Automata.QuitLemmas.{IsSettled, settled_all, settled_none, settled_in, settled_out, wanted_by_set, wanted_high}
+use Rattle.lazy_dfa.proofs.Automata.QuitLemmas.{unwanted}
 use Rattle.lazy_dfa.proofs.quits.with_high_bytes.Goals as goal
 use Rattle.lazy_dfa.proofs.quits.with_high_bytes.Goals.{then-contains, then-contains-via-then-contains}
 use Rattle.lazy_dfa.proofs.quits.with_high_bytes.Goals.{then-contains-via-else-contains+then-byte-ge128, else-contains+else-byte-ge128}

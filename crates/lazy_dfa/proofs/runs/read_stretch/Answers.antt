@@ -33,7 +33,8 @@ returns-then-rest-clause-reads c =
     let first : Moved = record { at = c.args.moved.at + lead.count + both.count; id = both.first } in
     let join = c.args.moved.at + 48 + 8 in
     let near : c.args.moved.at + lead.count ≤ join = omega (arith, c.walk_both-lead.ensures.most) in
-    let far : c.args.moved.at + lead.count + both.count ≤ join = omega (arith, c.walk_both-lead.ensures.most, c.walk_both-both.ensures.most) in
+    let far : c.args.moved.at + lead.count + both.count ≤ join =
+    omega (arith, c.walk_both-lead.ensures.most, c.walk_both-both.ensures.most) in
     let up = c.requires.is_forward in
     let read = reads_walk d v h c.is_made.ensures c.requires.own (λ i. omega (arith, c.type_inv.haystack i)) up c.args.moved lead.count
     lead.first join c.walk_both-lead.ensures.row c.walk_both-lead.ensures.untagged near c.walk_both-lead.ensures.goes in
@@ -55,7 +56,8 @@ returns-clause-reads c =
     let first : Moved = record { at = c.args.moved.at + lead.count + both.count; id = both.first } in
     let join = c.args.moved.at + 48 + 8 in
     let near : c.args.moved.at + lead.count ≤ join = omega (arith, c.walk_both-lead.ensures.most) in
-    let far : c.args.moved.at + lead.count + both.count ≤ join = omega (arith, c.walk_both-lead.ensures.most, c.walk_both-both.ensures.most) in
+    let far : c.args.moved.at + lead.count + both.count ≤ join =
+    omega (arith, c.walk_both-lead.ensures.most, c.walk_both-both.ensures.most) in
     let up = c.requires.is_forward in
     let read = reads_walk d v h c.is_made.ensures c.requires.own (λ i. omega (arith, c.type_inv.haystack i)) up c.args.moved lead.count
     lead.first join c.walk_both-lead.ensures.row c.walk_both-lead.ensures.untagged near c.walk_both-lead.ensures.goes in

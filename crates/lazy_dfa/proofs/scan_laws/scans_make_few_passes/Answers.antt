@@ -1,4 +1,5 @@
-use Rattle.lazy_dfa.proofs.HalfSearches.CountLemmas.{no_passes, one_pass_counted, anchored_pass_counted, few_passes_counted, few_units_counted}
+use Rattle.lazy_dfa.proofs.HalfSearches.CountLemmas.{no_passes, one_pass_counted, anchored_pass_counted, few_passes_counted}
+use Rattle.lazy_dfa.proofs.HalfSearches.CountLemmas.{few_units_counted}
 use Rattle.lazy_dfa.proofs.scan_laws.scans_make_few_passes.Goals as goal
 
 pub returns-clause-done : goal.returns-clause-done

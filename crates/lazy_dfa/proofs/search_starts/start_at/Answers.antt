@@ -27,7 +27,8 @@ pub returns-in-Ok-clause-start : goal.returns-in-Ok-clause-start
 returns-in-Ok-clause-start g c = let x = c.in-Ok.ensures.made in record {
   held = x.held;
   noted = x.noted;
-  known = λ none q is there. same_answer c.in-Ok.id (start_noted c.args.dfa.now c.args.cache.now c.args.config.now) (x.known none q is there);
+  known = λ none q is there. same_answer c.in-Ok.id (start_noted c.args.dfa.now c.args.cache.now c.args.config.now)
+      (x.known none q is there);
   none = λ none is. same_answer c.in-Ok.id (dead_id c.start_state.new.cache.stride) (x.none none is);
   same = x.same;
   free = x.free;
@@ -45,7 +46,8 @@ pub returns-in-Err-clause-start : goal.returns-in-Err-clause-start
 returns-in-Err-clause-start g c = let x = c.in-Err.ensures.made in record {
   held = tt;
   noted = tt;
-  known = λ none q is there. no_answer c.in-Err.e (start_noted c.args.dfa.now c.args.cache.now c.args.config.now) _ (x.known none q is there);
+  known = λ none q is there. no_answer c.in-Err.e (start_noted c.args.dfa.now c.args.cache.now c.args.config.now) _
+      (x.known none q is there);
   none = λ none is. no_answer c.in-Err.e (dead_id c.start_state.new.cache.stride) _ (x.none none is);
   same = x.same;
   free = x.free;

@@ -207,7 +207,8 @@ pub pass-requires-clause-own : goal.pass-requires-clause-own
 pass-requires-clause-own g c = c.loop-rest.invariant.own
 
 pub pass-requires-clause-begun : goal.pass-requires-clause-begun
-pass-requires-clause-begun g c = not_done c.is_done.result c.loop-rest.rest.start c.loop-rest.rest.end c.is_done.ensures c.loop-rest-test.true
+pass-requires-clause-begun g c = not_done c.is_done.result c.loop-rest.rest.start c.loop-rest.rest.end c.is_done.ensures
+    c.loop-rest-test.true
 
 pub set_end-requires : goal.set_end-requires
 set_end-requires g c = lower_span c.loop-rest.rest.haystack c.loop-rest.rest.start c.loop-rest.rest.end c.end-then-is_reverse.result

@@ -6,7 +6,8 @@ use Rattle.lazy_dfa.specs.StartCalls.{PlacesStart}
 use Rattle.lazy_dfa.specs.Steps.{IsCause, Added, Grew}
 use Rattle.lazy_dfa.proofs.CacheChanges.ChangeLemmas.{same_grew, grew_added}
 use Rattle.lazy_dfa.proofs.CacheChanges.IsCacheLemmas.{started, names_started, known_begins}
-use Rattle.lazy_dfa.proofs.CacheChanges.StartChangeLemmas.{not_fresh, unknown_start, unmade_start, on_err, grew_start, start_kept, start_remains, start_tags}
+use Rattle.lazy_dfa.proofs.CacheChanges.StartChangeLemmas.{not_fresh, unknown_start, unmade_start, on_err, grew_start, start_kept}
+use Rattle.lazy_dfa.proofs.CacheChanges.StartChangeLemmas.{start_remains, start_tags}
 use Rattle.lazy_dfa.proofs.CacheChanges.AddsLemmas.{same_states, start_comes}
 use Rattle.lazy_dfa.proofs.starting.start_in_mode.Goals as goal
 

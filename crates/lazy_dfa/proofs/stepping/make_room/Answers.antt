@@ -2,7 +2,8 @@ use Rattle.std.proofs.Common.{◌∙◌, ◌≡◌, sym, subst, Some, None, inl,
 use Rattle.lazy_dfa.specs.Ids.{has_tag, start_tag}
 use Rattle.lazy_dfa.specs.Caches.{CacheValue, IsCacheOf, HeldAt, Fits, id_at, state_at, row_holding, with_state, cleared}
 use Rattle.lazy_dfa.proofs.CacheChanges.IsCacheLemmas.{is_cache_kept, is_cache_refused, fresh_beside, kept_held, fits_beside}
-use Rattle.lazy_dfa.proofs.CacheChanges.ChangeLemmas.{room_refused, cleared_one, fits_is, lacks_not_fitting, lacks_not_allowed, lacks_all, needs_all}
+use Rattle.lazy_dfa.proofs.CacheChanges.ChangeLemmas.{room_refused, cleared_one, fits_is, lacks_not_fitting, lacks_not_allowed, lacks_all}
+use Rattle.lazy_dfa.proofs.CacheChanges.ChangeLemmas.{needs_all}
 use Rattle.lazy_dfa.proofs.CacheChanges.AddsLemmas.{clears_for}
 use Rattle.lazy_dfa.proofs.CacheChanges.KeepLemmas.{keep_room, keep_counted}
 use Rattle.lazy_dfa.proofs.stepping.make_room.Goals as goal

@@ -4,7 +4,8 @@ use Rattle.lazy_dfa.specs.Caches.{CacheValue, IsCacheOf, HeldAt, Names, names_de
 use Rattle.lazy_dfa.proofs.CacheChanges.IsCacheLemmas.{is_cache_added, alive_of, held_added, new_held}
 use Rattle.lazy_dfa.proofs.CacheChanges.StartChangeLemmas.{made_tag}
 use Rattle.lazy_dfa.proofs.HalfSearches.TurnLemmas.{dead_is}
-use Rattle.lazy_dfa.proofs.CacheChanges.ChangeLemmas.{added_refl, adds_after, adds_nothing, made_after, added_none, added_one, lacks_not_dead, lacks_not_found}
+use Rattle.lazy_dfa.proofs.CacheChanges.ChangeLemmas.{added_refl, adds_after, adds_nothing, made_after, added_none, added_one}
+use Rattle.lazy_dfa.proofs.CacheChanges.ChangeLemmas.{lacks_not_dead, lacks_not_found}
 use Rattle.lazy_dfa.proofs.CacheChanges.AddsLemmas.{comes_none, comes_alone, comes_with}
 use Rattle.lazy_dfa.proofs.stepping.place.Goals as goal
 
@@ -129,7 +130,8 @@ returns-in_err-to-clause-adds c = comes_alone c.args.dfa.now false (Some c.args.
 pub returns-clause-adds : goal.returns-clause-adds
 returns-clause-adds c = comes_with c.args.dfa.now false (Some c.args.k) c.args.state c.args.cache.now
     c.make_room.new.cache c.add_state.new.self c.requires.own.shape c.in_ok-from.ensures.clears c.requires.is
-    (sym c.is_dead_state.ensures ∙ c.if-is_dead_state.false) (sym c.find.ensures.place ∙ c.in_default.is) c.in_ok-from.ensures.fits c.in_ok-to.ensures.ok
+    (sym c.is_dead_state.ensures ∙ c.if-is_dead_state.false) (sym c.find.ensures.place ∙ c.in_default.is) c.in_ok-from.ensures.fits
+    c.in_ok-to.ensures.ok
 
 pub returns-then-is_dead_state-clause-own : goal.returns-then-is_dead_state-clause-own
 returns-then-is_dead_state-clause-own c = c.requires.own

@@ -7,7 +7,8 @@ use Rattle.lazy_dfa.specs.WalkAnswers.{ReadsOn}
 use Rattle.lazy_dfa.specs.WalkTurns.{ReadsInto}
 use Rattle.lazy_dfa.proofs.CacheChanges.LinkedLemmas.{is_cache_moved}
 use Rattle.lazy_dfa.proofs.Courses.SpanTurnLemmas.{row_moved}
-use Rattle.lazy_dfa.proofs.OverlappingWalks.WalkReadLemmas.{started_moves, begins_on, stands_run, stands_next, next_there, ends_over, ends_refused}
+use Rattle.lazy_dfa.proofs.OverlappingWalks.WalkReadLemmas.{started_moves, begins_on, stands_run, stands_next, next_there, ends_over}
+use Rattle.lazy_dfa.proofs.OverlappingWalks.WalkReadLemmas.{ends_refused}
 use Rattle.lazy_dfa.proofs.walk_reads.read_on.Goals as goal
 
 pub run-position-requires-clause-own : goal.run-position-requires-clause-own

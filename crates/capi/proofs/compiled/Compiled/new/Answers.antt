@@ -11,7 +11,8 @@ pub invariant_of-result : goal.invariant_of-result
 invariant_of-result c = (
   subst (λ (ts : List (List ℕ)). AreToldOf (config_of_options c.args.options.now) ts LeftmostFirst c.in-Ok.made.loops c.in-Ok-of.automata)
       (sym c.in-Ok-owned.ensures)
-      (subst (λ (p : Pair). AreToldOf (config_of_options c.args.options.now) (read_texts c.args.texts.now) LeftmostFirst c.in-Ok.made.loops p)
+      (subst (λ (p : Pair). AreToldOf (config_of_options c.args.options.now) (read_texts c.args.texts.now) LeftmostFirst c.in-Ok.made.loops
+      p)
       (sym c.in-Ok-of.ensures)
       c.in-Ok.ensures.made.0),
   subst (λ (ts : List (List ℕ)). IfSome c.first_walker-walker.result (AreBuiltOf (config_of_options c.args.options.now) ts AllMatches))

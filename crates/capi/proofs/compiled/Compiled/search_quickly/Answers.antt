@@ -13,8 +13,10 @@ returns-clause-found c =
 
 pub returns-clause-preferred : goal.returns-clause-preferred
 returns-clause-preferred c =
-    subst (λ (v : Regexed). v.loops ≡ true → HasFoundSpan (config_by v) v.texts c.args.haystack.now c.args.from c.in-Ok.found) c.self.view_is
-    (λ on. c.in-Ok.ensures.preferred (config_of_options c.self.inside.options) (map string_bytes c.self.inside.texts.items) c.self.invariant.0.0
+    subst (λ (v : Regexed). v.loops ≡ true → HasFoundSpan (config_by v) v.texts c.args.haystack.now c.args.from c.in-Ok.found)
+    c.self.view_is
+    (λ on. c.in-Ok.ensures.preferred (config_of_options c.self.inside.options) (map string_bytes c.self.inside.texts.items)
+    c.self.invariant.0.0
     (subst (λ (v : Regexed). (config_by v).utf8 ≡ true → IsValidText c.args.haystack.now) (sym c.self.view_is) c.requires.valid)
     (c.self.invariant.0.1.0 on))
 

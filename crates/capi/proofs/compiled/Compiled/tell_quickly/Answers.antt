@@ -29,7 +29,8 @@ invariant_of-self c = c.self.invariant
 pub invariant_of-self-2 : goal.invariant_of-self-2
 invariant_of-self-2 c = (
   c.self.invariant.0,
-  subst (AreBuiltOf (config_of_options c.self.inside.options) (map string_bytes c.self.inside.texts.items) AllMatches) (sym c.which.ensures.same)
+  subst (AreBuiltOf (config_of_options c.self.inside.options) (map string_bytes c.self.inside.texts.items) AllMatches)
+      (sym c.which.ensures.same)
       (subst (λ (o : Option Pair). IfSome o (AreBuiltOf (config_of_options c.self.inside.options)
       (map string_bytes c.self.inside.texts.items) AllMatches))
       c.in-Some-walker.is c.self.invariant.1),
@@ -39,7 +40,8 @@ invariant_of-self-2 c = (
 pub invariant_of-self-in-Err-tests_of : goal.invariant_of-self-in-Err-tests_of
 invariant_of-self-in-Err-tests_of c = (
   c.self.invariant.0,
-  subst (AreBuiltOf (config_of_options c.self.inside.options) (map string_bytes c.self.inside.texts.items) AllMatches) (sym c.which.ensures.same)
+  subst (AreBuiltOf (config_of_options c.self.inside.options) (map string_bytes c.self.inside.texts.items) AllMatches)
+      (sym c.which.ensures.same)
       (subst (λ (o : Option Pair). IfSome o (AreBuiltOf (config_of_options c.self.inside.options)
       (map string_bytes c.self.inside.texts.items) AllMatches))
       c.in-Some-walker.is c.self.invariant.1),
@@ -49,7 +51,8 @@ invariant_of-self-in-Err-tests_of c = (
 pub invariant_of-self-in-Err : goal.invariant_of-self-in-Err
 invariant_of-self-in-Err c = (
   c.self.invariant.0,
-  subst (AreBuiltOf (config_of_options c.self.inside.options) (map string_bytes c.self.inside.texts.items) AllMatches) (sym c.which.ensures.same)
+  subst (AreBuiltOf (config_of_options c.self.inside.options) (map string_bytes c.self.inside.texts.items) AllMatches)
+      (sym c.which.ensures.same)
       (subst (λ (o : Option Pair). IfSome o (AreBuiltOf (config_of_options c.self.inside.options)
       (map string_bytes c.self.inside.texts.items) AllMatches))
       c.in-Some-walker.is c.self.invariant.1),

@@ -1,4 +1,5 @@
-use Rattle.std.proofs.Common.{List, [], ◌∷◌, ◌++◌, ◌≤◌, None, replicate, length, sym, ap, subst, ◌∙◌, ◌+◌, ◌*◌, ◌≡◌, ℕ, Bool, cond, Some, refl, arith}
+use Rattle.std.proofs.Common.{List, [], ◌∷◌, ◌++◌, ◌≤◌, None, replicate, length, sym, ap, subst, ◌∙◌, ◌+◌, ◌*◌, ◌≡◌, ℕ, Bool, cond, Some}
+use Rattle.std.proofs.Common.{refl, arith}
 use Rattle.determinize_core.specs.States.{IsState, StateValue}
 use Rattle.lazy_dfa.specs.Ids.{tag, tagged}
 use Rattle.lazy_dfa.specs.Caches.{CacheValue, IsKept, same, new_id, row_holding, with_state}

@@ -3,7 +3,8 @@ use Rattle.search_types.specs.declared.anchored.Anchored.{Anchored}
 use Rattle.determinize_core.specs.Starts.{start_of}
 use Rattle.lazy_dfa.specs.Dfas.{start_in, first_state}
 use Rattle.lazy_dfa.specs.StartCalls.{mode_of}
-use Rattle.lazy_dfa.proofs.CacheChanges.StartCallLemmas.{slot_inside, fine_of, allowed_of, known_here, start_left, start_needs, start_names, start_noted_at, start_tagged, start_fits, start_cause, start_known}
+use Rattle.lazy_dfa.proofs.CacheChanges.StartCallLemmas.{slot_inside, fine_of, allowed_of, known_here, start_left, start_needs, start_names}
+use Rattle.lazy_dfa.proofs.CacheChanges.StartCallLemmas.{start_noted_at, start_tagged, start_fits, start_cause, start_known}
 use Rattle.lazy_dfa.proofs.CacheChanges.StartCallLemmas.{no_start_gives_up, refusal_is, none_refused, one_refused, not_none, told_gave_up}
 use Rattle.lazy_dfa.proofs.HalfSearches.CountedLemmas.{none_counted}
 use Rattle.lazy_dfa.specs.Steps.{most_inserts}
@@ -65,32 +66,38 @@ pub returns-in_default-name_of-clause-gave_up : goal.returns-in_default-name_of-
 returns-in_default-name_of-clause-gave_up g c e = refl
 
 pub returns-in-Some-clause-refused : goal.returns-in-Some-clause-refused
-returns-in-Some-clause-refused g c = one_refused _ c.in-Some.e _ (refusal_is c.args.self.now c.args.config.now c.check_start.result c.get_look_behind-look_behind.result
+returns-in-Some-clause-refused g c = one_refused _ c.in-Some.e _
+    (refusal_is c.args.self.now c.args.config.now c.check_start.result c.get_look_behind-look_behind.result
     c.get_anchored.result (Some c.in-Some.e) c.in-Some.is c.check_start.ensures
     c.get_look_behind-look_behind.ensures c.get_anchored.ensures) refl
 
 pub returns-in-Some-clause-err : goal.returns-in-Some-clause-err
-returns-in-Some-clause-err g c none = absurd (not_none _ c.in-Some.e (refusal_is c.args.self.now c.args.config.now c.check_start.result c.get_look_behind-look_behind.result
+returns-in-Some-clause-err g c none = absurd
+    (not_none _ c.in-Some.e (refusal_is c.args.self.now c.args.config.now c.check_start.result c.get_look_behind-look_behind.result
     c.get_anchored.result (Some c.in-Some.e) c.in-Some.is c.check_start.ensures
     c.get_look_behind-look_behind.ensures c.get_anchored.ensures) none)
 
 pub returns-in_default-name_of-clause-refused : goal.returns-in_default-name_of-clause-refused
-returns-in_default-name_of-clause-refused g c = none_refused _ _ (refusal_is c.args.self.now c.args.config.now c.check_start.result c.get_look_behind-look_behind.result
+returns-in_default-name_of-clause-refused g c =
+    none_refused _ _ (refusal_is c.args.self.now c.args.config.now c.check_start.result c.get_look_behind-look_behind.result
     c.get_anchored.result None c.in_default.is c.check_start.ensures
     c.get_look_behind-look_behind.ensures c.get_anchored.ensures)
 
 pub returns-in-Ok-clause-refused : goal.returns-in-Ok-clause-refused
-returns-in-Ok-clause-refused g c = none_refused _ _ (refusal_is c.args.self.now c.args.config.now c.check_start.result c.get_look_behind-look_behind.result
+returns-in-Ok-clause-refused g c = none_refused _ _
+    (refusal_is c.args.self.now c.args.config.now c.check_start.result c.get_look_behind-look_behind.result
     c.get_anchored.result None c.in_default.is c.check_start.ensures
     c.get_look_behind-look_behind.ensures c.get_anchored.ensures)
 
 pub returns-in-Err-clause-refused : goal.returns-in-Err-clause-refused
-returns-in-Err-clause-refused g c = none_refused _ _ (refusal_is c.args.self.now c.args.config.now c.check_start.result c.get_look_behind-look_behind.result
+returns-in-Err-clause-refused g c = none_refused _ _
+    (refusal_is c.args.self.now c.args.config.now c.check_start.result c.get_look_behind-look_behind.result
     c.get_anchored.result None c.in_default.is c.check_start.ensures
     c.get_look_behind-look_behind.ensures c.get_anchored.ensures)
 
 pub returns-in-Err-clause-gave_up : goal.returns-in-Err-clause-gave_up
-returns-in-Err-clause-gave_up g c e = c.in-Err.ensures.gave_up (told_gave_up c.in-Err.e c.start_error-told.result _ _ c.start_error-told.ensures
+returns-in-Err-clause-gave_up g c e = c.in-Err.ensures.gave_up
+    (told_gave_up c.in-Err.e c.start_error-told.result _ _ c.start_error-told.ensures
     refl refl e)
 
 pub returns-in-Some-clause-made : goal.returns-in-Some-clause-made
