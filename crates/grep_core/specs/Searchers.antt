@@ -1,14 +1,18 @@
 -- What a searcher of lines is of, and what it tells of a line.
-use Rattle.std.specs.Prelude.{◌≡◌, ◌⊎◌, ℕ, Bool, true, false, List, Option, Some}
+use Rattle.std.specs.Prelude.{◌≡◌, ◌⊎◌, ℕ, Bool, true, false, List, Option, Some, Err}
 use Rattle.std.specs.List.{filter}
 use Rattle.regex_hir.specs.Re.{Re}
 use Rattle.regex_syntax.specs.declared.Config.{Config}
 use Rattle.hir_core.specs.Tree.{Tree}
 use Rattle.lazy_dfa.specs.declared.build_error.BuildError.TheVariants.{NoMemory}
-use Rattle.regex_pair.specs.Pairs.{Pair}
+use Rattle.search_types.specs.declared.match_error.MatchErrorKind.{MatchErrorKind}
+use Rattle.search_types.specs.declared.match_error.MatchErrorKind.TheVariants.{NoMemory as LacksMemory}
+use Rattle.regex_pair.specs.PairAnswers.{AnswersPair}
+use Rattle.regex_pair.specs.Pairs.{Pair, PairCache}
 use Rattle.hirscan.specs.declared.settings.Settings.{Settings}
 use Rattle.hirscan.specs.Built.{IsBuilt, RefusesBuild, default_settings, program_settings}
 use Rattle.hirscan.specs.Loops.{first_empty_loop}
+use Rattle.pattern_search.specs.Searches.{whole_search}
 use Rattle.pattern_search.specs.Texts.{AreReadAs, AllMean, IsFirstFault}
 use Rattle.grep_core.specs.declared.searcher.SearcherError.{SearcherError}
 use Rattle.grep_core.specs.declared.searcher.SearcherError.TheVariants.{Text, EmptyLoop, Build}
@@ -37,6 +41,10 @@ IsMatchTold config texts line told = (res : List Re) → AreReadAs config texts 
 -- the matches of the line that aren't empty are told as what the texts are read as has them
 abbrev pub AreTold : Config → List (List ℕ) → List ℕ → List (ℕ × ℕ) → Type 0
 AreTold config texts line told = (res : List Re) → AreReadAs config texts res → told ≡ filter is_some_text ((finds_of res).spans line)
+
+-- why a search of the line is refused: as a search by the regex from some place of the line on is, or for want of memory
+abbrev pub IsLineRefused : Pair → List ℕ → MatchErrorKind → Type 0
+IsLineRefused p line e = (e ≡ LacksMemory) ⊎ ((at : ℕ) × (c : PairCache) × AnswersPair p c (whole_search line at) (Err e))
 
 -- what is sought in lines: the texts of patterns, the options under which these are read, and whether matches may be asked for
 pub record Sought : Type 0 where

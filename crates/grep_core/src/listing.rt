@@ -1,14 +1,17 @@
 // All matches of a line, by the iterator.
-ghost use Rattle.std.specs.Prelude.{◌≡◌, ◌++◌, ◌∷◌, [], IfOk, OnOk, map};
+ghost use Rattle.std.specs.Prelude.{◌≡◌, ◌++◌, ◌∷◌, ◌⊎◌, [], ℕ, Err, IfErr, IfOk, OnOk, map};
 ghost use Rattle.std.specs.List.{filter};
-ghost use Rattle.regex_pair.specs.Pairs.{AreCachesOf};
+ghost use Rattle.search_types.specs.declared.match_error.MatchErrorKind.TheVariants.{NoMemory};
+ghost use Rattle.regex_pair.specs.Finding.{search_at};
+ghost use Rattle.regex_pair.specs.PairAnswers.{AnswersPair};
+ghost use Rattle.regex_pair.specs.Pairs.{AreCachesOf, PairCache};
 ghost use Rattle.regex_pair.specs.Taken.{IsWholeList};
 ghost use Rattle.pattern_search.specs.Searches.{span_of_found};
 ghost use Rattle.grep_core.specs.Printing.{span_pair};
 ghost use Rattle.grep_core.specs.Report.{is_some_text};
 
 use regex_pair::regex::{Cache, Regex};
-use regex_pair::taken_laws::a_step_takes_one_more;
+use regex_pair::taken_laws::{a_step_is_refused_as_a_search_is, a_step_takes_one_more};
 use search_types::{Input, Match, MatchError, Span};
 use std::alloc::{AllocError, Global};
 
@@ -29,8 +32,11 @@ pub(crate) fn list(
     requires own { AreCachesOf re.now cache.old }
     ensures own { AreCachesOf re.now cache.new }
     ensures whole { IfOk result (λ all. IsWholeList re.now input.entry all.items) }
+    ensures refused { IfErr result (λ e. (e ≡ NoMemory) ⊎
+        ((k : ℕ) × (c : PairCache) × AnswersPair re.now c (search_at input.entry k) (Err e))) }
 {
     a_step_takes_one_more();
+    a_step_is_refused_as_a_search_is();
     let mut all = Vec::new(alloc);
     for item in re.find_iter(cache, input) {
         match item {

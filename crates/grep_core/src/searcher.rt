@@ -5,7 +5,7 @@ ghost use Rattle.hir_core.specs.Facts.{LoopsRead};
 ghost use Rattle.hirscan.specs.Loops.{first_empty_loop};
 ghost use Rattle.lazy_dfa.specs.ConfigValue.{no_dfa_options};
 ghost use Rattle.grep_core.specs.Printing.{span_pair};
-ghost use Rattle.grep_core.specs.Searchers.{IsSearcherOf, IsMatchTold, AreTold, IsSearcherRefused, sized_settings};
+ghost use Rattle.grep_core.specs.Searchers.{IsSearcherOf, IsMatchTold, AreTold, IsLineRefused, IsSearcherRefused, sized_settings};
 
 use crate::listing::{list, spans_of};
 use hir_core::Hir;
@@ -147,6 +147,7 @@ impl Searcher {
         ensures same { self.new.0 ≡ self.old.0 }
         ensures told { (config : TextConfig) (texts : List (List ℕ)) → IsSearcherOf config texts self.old.0 →
             IfOk result (λ told. IsMatchTold config texts line.now told) }
+        ensures refused { IfErr result (IsLineRefused self.old.0 line.now) }
     {
         see_bytes(line);
         regexes_answer_what_is_written();
@@ -163,6 +164,7 @@ impl Searcher {
         ensures told { (config : TextConfig) (texts : List (List ℕ)) → (it : IsSearcherOf config texts self.old.0) →
             All LoopsRead it.trees →
             IfOk result (λ found. AreTold config texts line.now (map span_pair found.items)) }
+        ensures refused { IfErr result (IsLineRefused self.old.0 line.now) }
     {
         see_bytes(line);
         regexes_answer_what_is_written();

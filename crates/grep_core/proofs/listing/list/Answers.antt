@@ -1,5 +1,5 @@
-use Rattle.std.proofs.Common.{◌∙◌}
-use Rattle.regex_pair.specs.FindSteps.{finds_from}
+use Rattle.std.proofs.Common.{inr, ◌∙◌}
+use Rattle.regex_pair.specs.FindSteps.{caches_of, finds_from}
 use Rattle.regex_pair.proofs.ForCallers.{taken_so}
 use Rattle.grep_core.proofs.listing.list.Goals as goal
 
@@ -15,6 +15,14 @@ loop-item-preserved c =
           c.in-Ok.found was.1 was.3 step)
           c.in_ok-push-in-Ok.ensures,
     )
+
+pub returns-in-Err-clause-refused : goal.returns-in-Err-clause-refused
+returns-in-Err-clause-refused c =
+    let step = rw c.in-Err.is at c.in-Some.ensures.steps in
+    let was = c.loop-item.invariant in
+    let refused = c.a_step_is_refused_as_a_search_is.ensures c.args.re.now c.args.input c.loop-item.all.items c.loop-item.item-iterator
+    c.next.new.self c.in-Err.e was.1 was.3 step in
+    inr (refused.0, caches_of c.next.new.self, refused.3)
 
 pub returns-clause-whole : goal.returns-clause-whole
 returns-clause-whole c = record {

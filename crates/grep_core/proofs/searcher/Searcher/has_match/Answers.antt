@@ -1,4 +1,4 @@
-use Rattle.std.proofs.Common.{refl, subst, ◌∙◌, Ok}
+use Rattle.std.proofs.Common.{refl, subst, ◌∙◌, Ok, Err, inr}
 use Rattle.regex_pair.specs.Pairs.{Pair, PairCache}
 use Rattle.search_types.specs.Inputs.{Search}
 use Rattle.pattern_search.specs.Searches.{whole_search}
@@ -15,3 +15,11 @@ returns-clause-told c config texts it res read =
     (subst (λ (v : Pair × PairCache). AnswersPair v.0 c.find.new.cache (whole_search c.args.line.now 0) (Ok c.in-Ok.found)) c.self.view_is
     (subst (λ (q : Search). AnswersPair c.self.inside.regex c.find.new.cache q (Ok c.in-Ok.found)) c.new.ensures c.in-Ok.ensures.answer))
     res read
+
+pub returns-in-Err-clause-refused : goal.returns-in-Err-clause-refused
+returns-in-Err-clause-refused c = inr (
+  0,
+  c.find.new.cache,
+  subst (λ (v : Pair × PairCache). AnswersPair v.0 c.find.new.cache (whole_search c.args.line.now 0) (Err c.in-Err.e)) c.self.view_is
+      (subst (λ (q : Search). AnswersPair c.self.inside.regex c.find.new.cache q (Err c.in-Err.e)) c.new.ensures c.in-Err.ensures.answer),
+)

@@ -1,12 +1,15 @@
-use Rattle.std.proofs.Common.{refl, subst, ◌∙◌, ap, map, List}
+use Rattle.std.proofs.Common.{◌≡◌, ℕ, ◌⊎◌, refl, subst, ◌∙◌, ap, map, List, Err}
 use Rattle.std.specs.List.{filter}
+use Rattle.search_types.specs.declared.match_error.MatchErrorKind.TheVariants.{NoMemory}
 use Rattle.search_types.specs.Found.{Found}
 use Rattle.search_types.specs.Inputs.{Search}
 use Rattle.regex_pair.specs.Pairs.{Pair, PairCache}
+use Rattle.regex_pair.specs.Finding.{search_at}
+use Rattle.regex_pair.specs.PairAnswers.{AnswersPair}
 use Rattle.regex_pair.specs.Taken.{IsWholeList}
 use Rattle.pattern_search.specs.Searches.{whole_search, span_of_found}
 use Rattle.grep_core.specs.Report.{is_some_text}
-use Rattle.grep_core.specs.Searchers.{sized_settings}
+use Rattle.grep_core.specs.Searchers.{IsLineRefused, sized_settings}
 use Rattle.grep_core.proofs.ToldLemmas.{all_told}
 use Rattle.grep_core.proofs.searcher.Searcher.matches.Goals as goal
 
@@ -17,3 +20,10 @@ returns-clause-told c config texts it loops = all_told config texts c.args.self.
     (subst (λ (v : Pair × PairCache). IsWholeList v.0 (whole_search c.args.line.now 0) c.in-Ok.all.items) c.self.view_is
     (subst (λ (q : Search). IsWholeList c.self.inside.regex q c.in-Ok.all.items) c.new.ensures c.in-Ok.ensures.whole))
     (c.in_ok-spans.ensures ∙ ap (λ (fs : List Found). filter is_some_text (map span_of_found fs)) c.deref.ensures.value)
+
+pub returns-in-Err-clause-refused : goal.returns-in-Err-clause-refused
+returns-in-Err-clause-refused c =
+    subst (λ (v : Pair × PairCache). IsLineRefused v.0 c.args.line.now c.in-Err.e) c.self.view_is
+    (subst (λ (q : Search). (c.in-Err.e ≡ NoMemory) ⊎
+    ((at : ℕ) × (x : PairCache) × AnswersPair c.self.inside.regex x (search_at q at) (Err c.in-Err.e))) c.new.ensures
+    c.in-Err.ensures.refused)
