@@ -17,7 +17,7 @@ use Rattle.lazy_dfa.specs.Changes.{Changes, IsMadeAt}
 use Rattle.lazy_dfa.specs.Courses.{state_behind, HasNoStop, stops_behind}
 use Rattle.lazy_dfa.specs.declared.cache_error.CacheError.{CacheError}
 use Rattle.lazy_dfa.specs.declared.cache_error.CacheError.TheVariants.{GaveUp as StepGaveUp, NoMemory as StepNoMemory}
-use Rattle.lazy_dfa.specs.declared.passing.Position.{Position}
+use Rattle.lazy_dfa.specs.declared.position.Position.{Position}
 use Rattle.lazy_dfa.specs.declared.passing.Turned.{Turned}
 use Rattle.lazy_dfa.specs.Dfas.{Dfa, reader, start_in}
 use Rattle.lazy_dfa.specs.Ids.{unknown_id}

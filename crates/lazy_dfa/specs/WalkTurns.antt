@@ -16,7 +16,7 @@ use Rattle.lazy_dfa.specs.AnewTold.{anew_if}
 use Rattle.lazy_dfa.specs.Caches.{CacheValue, HeldAt, IsRow, lacks_room}
 use Rattle.lazy_dfa.specs.Courses.{state_behind}
 use Rattle.lazy_dfa.specs.declared.overlapping_state.Walk.TheVariants.{Ended, Stopped}
-use Rattle.lazy_dfa.specs.declared.passing.Position.{Position}
+use Rattle.lazy_dfa.specs.declared.position.Position.{Position}
 use Rattle.lazy_dfa.specs.declared.turns.Seen.{Seen}
 use Rattle.lazy_dfa.specs.declared.turns.Turn.{Turn}
 use Rattle.lazy_dfa.specs.declared.turns.Turn.TheVariants.{GoesOn, Ends, Quits}

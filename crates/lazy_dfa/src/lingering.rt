@@ -12,7 +12,7 @@ ghost use Rattle.lazy_dfa.specs.PassPlaces.{IsWithinSpan, left_at, GoesBetween};
 
 use crate::dfa::{Cache, DFA};
 use crate::lazy_id::LazyStateID;
-use crate::passing::Position;
+use crate::position::Position;
 use search_types::{HalfMatch, Input};
 
 /// The ID of a state that matches, with the place from which its unit was read; the unknown ID where there was none.

@@ -8,7 +8,8 @@ ghost use Rattle.lazy_dfa.specs.declared.overlapping_state.Walk.TheVariants.{Fre
 
 use crate::dfa::{Cache, DFA};
 use crate::overlapping_state::{OverlappingState, Stop, Walk};
-use crate::passing::{Position, first_place, last_place, next_place, start_of_pass};
+use crate::passing::{first_place, last_place, next_place, start_of_pass};
+use crate::position::Position;
 use crate::searching::is_reverse;
 use crate::walk_reads::{lists_more, progress_at, read_on, tell};
 use crate::work::Work;

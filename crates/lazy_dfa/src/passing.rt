@@ -17,19 +17,12 @@ use crate::cache_error::CacheError;
 use crate::dfa::{Cache, DFA};
 use crate::lazy_id::LazyStateID;
 use crate::lingering::linger;
+use crate::position::Position;
 use crate::runs::{run_forward, run_reverse, see_bytes};
 use crate::turns::{Turn, make_turn};
 use crate::work::Work;
 use search_types::{HalfMatch, Input, MatchError, MatchErrorKind};
 use std::sync::ledger::Ledger;
-
-/// Where a pass stands: before the unit at a place, in a state that isn't dead, with the match that it recorded last.
-#[derive(Clone, Copy)]
-pub(crate) struct Position {
-    pub(crate) at: usize,
-    pub(crate) id: LazyStateID,
-    pub(crate) best: Option<HalfMatch>,
-}
 
 /// What comes of a turn in a span: the pass goes on from a stand, or it has ended with the match that was recorded last.
 #[derive(Clone, Copy)]

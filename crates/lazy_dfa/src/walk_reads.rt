@@ -15,9 +15,8 @@ ghost use Rattle.lazy_dfa.specs.declared.overlapping_state.Walk.TheVariants.{Sto
 use crate::dfa::{Cache, DFA};
 use crate::lazy_id::LazyStateID;
 use crate::overlapping_state::{OverlappingState, Stop, Walk};
-use crate::passing::{
-    Position, finish_where, index_at, last_place, next_place, refusal, run, unit_at,
-};
+use crate::passing::{finish_where, index_at, last_place, next_place, refusal, run, unit_at};
+use crate::position::Position;
 use crate::runs::see_bytes;
 use crate::searching::is_between_characters;
 use crate::turns::{Seen, Turn, make_turn};

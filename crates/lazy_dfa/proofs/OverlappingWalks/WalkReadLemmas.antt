@@ -16,7 +16,7 @@ use Rattle.search_types.specs.Inputs.{Search}
 use Rattle.search_types.specs.Places.{counts}
 use Rattle.lazy_dfa.specs.Caches.{CacheValue, IsCacheOf, IsRow, HeldAt, Names, names_dead, names_held, greatest, progress_len, lacks_room}
 use Rattle.lazy_dfa.specs.Courses.{state_behind}
-use Rattle.lazy_dfa.specs.declared.passing.Position.{Position}
+use Rattle.lazy_dfa.specs.declared.position.Position.{Position}
 use Rattle.lazy_dfa.specs.declared.overlapping_state.Walk.TheVariants.{Ended, Stopped}
 use Rattle.lazy_dfa.specs.Dfas.{Dfa, IsDfa, reader}
 use Rattle.lazy_dfa.specs.Linked.{CacheGrows, HasCleared, GrowsOrClears, IsMoved}

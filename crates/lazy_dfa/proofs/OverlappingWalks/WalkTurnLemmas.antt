@@ -19,7 +19,7 @@ use Rattle.lazy_dfa.specs.Courses.{state_behind, stops_behind}
 use Rattle.lazy_dfa.specs.declared.cache_error.CacheError.{CacheError}
 use Rattle.lazy_dfa.specs.declared.cache_error.CacheError.TheVariants.{GaveUp, NoMemory}
 use Rattle.lazy_dfa.specs.declared.overlapping_state.Stop.{Stop}
-use Rattle.lazy_dfa.specs.declared.passing.Position.{Position}
+use Rattle.lazy_dfa.specs.declared.position.Position.{Position}
 use Rattle.lazy_dfa.specs.declared.progress.Progress.{Progress}
 use Rattle.lazy_dfa.specs.declared.turns.Turn.{Turn}
 use Rattle.lazy_dfa.specs.declared.turns.Turn.TheVariants.{GoesOn, Ends, Quits}
