@@ -16,10 +16,6 @@ use Rattle.lazy_dfa.specs.Accounting.{effective_capacity}
 pub twice : (j : ℕ) → 2 * 2 ^ j ≡ 2 ^ suc j
 twice j = sym (pow-succ' 2 j)
 
-if_more : (b : Bool) (s later top : ℕ) → (b ≡ true → s ≡ top) → (b ≡ false → later ≡ top) → (if b then s else later) ≡ top
-if_more true s later top here on = here refl
-if_more false s later top here on = on refl
-
 module _ (k n : ℕ) (least : IsLeastExponent k n) where
   -- the power before it is too small
   too_small : (j : ℕ) → j ≤ k → n ≤ 2 ^ j → j ≡ k

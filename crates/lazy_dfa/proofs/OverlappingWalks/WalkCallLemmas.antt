@@ -80,10 +80,6 @@ on_ok : {A B X : Type 0} (r : Result A B) → X → OnOk r X
 on_ok (Ok a) x = x
 on_ok (Err e) x = tt
 
-not_read : (b : Bool) (k : ℕ) → b ≡ false → (if b then k else 0) ≡ 0
-not_read true k e = absurd (true≢false e)
-not_read false k e = refl
-
 -- a call that leaves the cache as it was
 module _ (d : Dfa) (q : Search) (v : CacheValue) (m n : ℕ) (w : Walk) (after : WalkState) (result : Result ⊤ MatchErrorKind)
     (tells : TellsNext (reader d) q w after result) (silent : reads_on (reader d) q w ≡ false) where
