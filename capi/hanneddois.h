@@ -28,9 +28,9 @@
  *   - Nobody else writes to what a call reads, or reads or writes what it writes, while it runs; and what a call
  *     writes doesn't overlap with anything else that it is given.
  *
- * Where automata give up, as at a byte above 0x7F beside a word boundary of Unicode, slower regexes of the same
- * patterns answer, which are made when they are first needed. A search is refused there only where memory lacks or
- * these are too large.
+ * Where automata give up, as at a byte above 0x7F where patterns have a word boundary of Unicode, slower regexes of
+ * the same patterns answer, which are made when they are first needed. A search is refused there only where memory
+ * lacks or these are too large.
  *
  * No call aborts, waits, prints, starts a thread or calls back. Memory comes from malloc, realloc and free.
  */

@@ -1,6 +1,7 @@
 -- Lists that are laid over others, one by one.
-use Rattle.std.proofs.Common.{◌≡◌, ℕ, zero, suc, ◌+◌, ◌<◌, ◌≤◌, List, [], ◌∷◌, ◌++◌, length, map, take, slice_get, slice_set}
+use Rattle.std.proofs.Common.{◌≡◌, ℕ, zero, suc, ◌+◌, ◌<◌, ◌≤◌, List, [], ◌∷◌, ◌++◌, All, length, map, take, slice_get, slice_set}
 use Rattle.std.proofs.Common.{slice_index_or, Some, refl, sym, ap, ◌∙◌, arith, length-append, length-take-le, take-suc, take_all}
+use Rattle.std.proofs.lemmas.List.Elements.{All-nil, All-cons, All-head, All-tail}
 use Rattle.std.proofs.lemmas.Option.{none-some, same_Some}
 use Rattle.capi.specs.declared.failure.FoundMatch.{FoundMatch}
 use Rattle.capi.specs.Compiled.{overlaid}
@@ -80,3 +81,11 @@ one_more_byte bytes at d old room now below is put =
 pub all_bytes : (bytes : List ℕ) (at : ℕ) (old room : List ℕ) → length bytes ≤ at → room ≡ overlaid (take at bytes) old →
     room ≡ overlaid bytes old
 all_bytes bytes at old room above is = is ∙ ap (λ (bs : List ℕ). overlaid bs old) (take_all at bytes above)
+
+-- what holds of each in the first list holds of as many places of what it is laid over
+pub all_laid : {A : Type 0} (P : A → Type 0) (xs ys : List A) → All P xs → All P (take (length xs) (overlaid xs ys))
+unfolding overlaid
+all_laid P [] ys each = All-nil P
+all_laid P (x ∷ xs) [] each = All-nil P
+all_laid P (x ∷ xs) (y ∷ ys) each =
+    All-cons P x (take (length xs) (overlaid xs ys)) (All-head P x xs each) (all_laid P xs ys (All-tail P x xs each))

@@ -1,22 +1,24 @@
 -- All matches, one after the other.
 use Rattle.std.proofs.Common.{◌≡◌, ℕ, zero, suc, ◌+◌, ◌-◌, ◌<◌, ◌==◌, Bool, true, false, List, [], ◌∷◌, ◌++◌, length, map, slice_set}
-use Rattle.std.proofs.Common.{Option, Some, None}
+use Rattle.std.proofs.Common.{Option, Some, None, All, subst, take}
+use Rattle.std.specs.Prelude.{IfSome}
 use Rattle.std.proofs.Common.{option_map, if◌then◌else◌, refl, sym, ap, ap₂, ◌∙◌, arith, append_assoc, append-nil}
 use Rattle.std.proofs.lemmas.Option.{none-some, same_Some}
 use Rattle.std.proofs.lemmas.List.{length-map}
+use Rattle.std.proofs.lemmas.List.Elements.{All-nil, All-cons, All-append}
 use Rattle.regex_hir.specs.Re.{Re}
 use Rattle.regex_hir.specs.Meaning.{alt_all}
 use Rattle.regex_hir.specs.Find.{Match, find_after, matches_from}
 use Rattle.regex_hir.specs.Text.{is_some_and}
 use Rattle.regex_hir.proofs.FindLemmas.{first_between_past}
 use Rattle.regex_syntax.specs.declared.Config.{Config}
-use Rattle.pattern_search.specs.Searches.{found_from, all_found, span_of_match}
+use Rattle.pattern_search.specs.Searches.{found_from, all_found, span_of_match, IsOfFirstPattern}
 use Rattle.pattern_search.specs.Texts.{AreReadAs}
 use Rattle.pattern_search.proofs.ForCallers.{all_from_start}
 use Rattle.pattern_search.proofs.ForCallers.{tried, found_is}
 use Rattle.capi.specs.declared.failure.FoundMatch.{FoundMatch}
-use Rattle.capi.specs.Compiled.{AreAll, HasFoundSpan, IsNext, overlaid, span_of_row}
-use Rattle.capi.proofs.ListLemmas.{map_laid, map_more, one_more_row, one_more_counted}
+use Rattle.capi.specs.Compiled.{AreAll, HasFoundSpan, HasPattern, IsNext, as_found, overlaid, span_of_row}
+use Rattle.capi.proofs.ListLemmas.{all_laid, map_laid, map_more, one_more_row, one_more_counted}
 
 -- ---- the next one
 -- behind the haystack nothing is found
@@ -70,18 +72,22 @@ pub record IsListedSoFar (config : Config) (texts : List (List ℕ)) (h : List �
   pub taken : List FoundMatch
   pub counted : count ≡ length taken
   pub laid : rows ≡ overlaid taken old
+  pub named : (res : List Re) → AreReadAs config texts res → All (λ r. IsOfFirstPattern res h (as_found r)) taken
+  pub next_named : HasPattern config texts h next
   pub rest : (res : List Re) → AreReadAs config texts res → (m : Option Match) ×
       (option_map span_of_match m ≡ option_map span_of_row next) ×
       (map span_of_match (all_found config.utf8 (alt_all res) h) ≡
       map span_of_row taken ++ map span_of_match (matches_from (found_from config.utf8 (alt_all res) h) left m))
 
 module _ (config : Config) (texts : List (List ℕ)) (h : List ℕ) (old : List FoundMatch) where
-  pub listing_begins : (next : Option FoundMatch) → old ≡ overlaid [] old → HasFoundSpan config texts h 0 next →
-      IsListedSoFar config texts h (length h + 1 - 0) 0 old old next
-  listing_begins next laid found = let whole : length h + 1 ≡ length h + 1 - 0 = omega arith in record {
+  pub listing_begins : (next : Option FoundMatch) → old ≡ overlaid [] old → HasPattern config texts h next →
+      HasFoundSpan config texts h 0 next → IsListedSoFar config texts h (length h + 1 - 0) 0 old old next
+  listing_begins next laid named found = let whole : length h + 1 ≡ length h + 1 - 0 = omega arith in record {
     taken = [];
     counted = refl;
     laid = laid;
+    named = λ res read. All-nil (λ r. IsOfFirstPattern res h (as_found r));
+    next_named = named;
     rest = λ res read. (
       found_from config.utf8 (alt_all res) h 0,
       found res read,
@@ -117,12 +123,17 @@ module _ (config : Config) (texts : List (List ℕ)) (h : List ℕ) (old : List 
 
   pub listing_goes_on : (left less count : ℕ) (rows now : List FoundMatch) (o next : Option FoundMatch) (f : FoundMatch) →
       left ≡ suc less → o ≡ Some f →
-      now ≡ slice_set rows count f → IsNext config texts h f.end next →
+      now ≡ slice_set rows count f → IsNext config texts h f.end next → HasPattern config texts h next →
       IsListedSoFar config texts h left count old rows o → IsListedSoFar config texts h less (count + 1) old now next
-  listing_goes_on left less count rows now o next f more some put found it = record {
+  listing_goes_on left less count rows now o next f more some put found named it = record {
     taken = it.taken ++ f ∷ [];
     counted = one_more_counted it.taken f count it.counted;
     laid = one_more_row it.taken f count old rows now it.counted it.laid put;
+    named = λ res read.
+        let P : FoundMatch → Type 0 = λ r. IsOfFirstPattern res h (as_found r) in
+        All-append P it.taken (f ∷ []) (it.named res read)
+        (All-cons P f [] (subst (λ (p : Option FoundMatch). IfSome p P) some (it.next_named res read)) (All-nil P));
+    next_named = named;
     rest = λ res read.
         let s = found_from config.utf8 (alt_all res) h in
         let r = it.rest res read in (
@@ -147,6 +158,10 @@ module _ (config : Config) (texts : List (List ℕ)) (h : List ℕ) (old : List 
         ∙ length-map (all_found config.utf8 (alt_all res) h) span_of_match;
     rows = λ res read. ap (map span_of_row) it.laid ∙ map_laid span_of_row it.taken old
         ∙ ap (λ (xs : List (ℕ × ℕ)). overlaid xs (map span_of_row old)) (sym (all res read));
+    patterns = λ res read.
+        let P : FoundMatch → Type 0 = λ r. IsOfFirstPattern res h (as_found r) in
+        subst (λ (rs : List FoundMatch). All P (take count rs)) (sym it.laid)
+        (subst (λ (n : ℕ). All P (take n (overlaid it.taken old))) (sym it.counted) (all_laid P it.taken old (it.named res read)));
   }
 
   no_match : (m : Option Match) (o : Option FoundMatch) → option_map span_of_match m ≡ option_map span_of_row o → o ≡ None → m ≡ None

@@ -1,28 +1,94 @@
 -- Texts that are cut off one by one.
-use Rattle.std.proofs.Common.{◌≡◌, ℕ, suc, ◌+◌, ◌<◌, ◌≤◌, List, [], ◌∷◌, ◌++◌, length, take, drop, slice_index_or, sym, ap, ap₂, ◌∙◌}
-use Rattle.std.proofs.Common.{append_assoc, append-nil, arith, drop-cons, drop_of_length-le}
-use Rattle.capi.specs.Texts.{cut}
+use Rattle.std.proofs.Common.{◌≡◌, ◌≢◌, ℕ, suc, ◌+◌, ◌-◌, ◌<◌, ◌≤◌, List, [], ◌∷◌, ◌++◌, length, take, drop, slice_index_or, slice_get}
+use Rattle.std.proofs.Common.{Option, Some, refl, subst, sym, ap, ap₂, ◌∙◌, append_assoc, append-nil, arith, drop-cons, drop_of_length-le}
+use Rattle.std.proofs.Common.{length-append, length-drop, zero, ◌==◌, false, true≢false}
+use Rattle.std.specs.List.{sum_by}
+use Rattle.std.proofs.lemmas.List.Sums.{sum_by-drop_more, sum_by-take-drop}
+use Rattle.capi.specs.declared.failure.NewError.{NewError}
+use Rattle.capi.specs.declared.failure.NewError.TheVariants.{NotUtf8}
+use Rattle.capi.specs.Compiled.{IsCutRefused}
+use Rattle.capi.specs.Texts.{IsNoText, cut}
 
--- the texts so far, and those that the rest is cut into, are those of the whole
+-- So many texts are cut off so far: with those that the rest is cut into they are those of the whole, and the lengths that are left sum up
+-- to the rest as all do to the whole.
 abbrev pub IsCutSoFar : List ℕ → List ℕ → ℕ → List (List ℕ) → List ℕ → Type 0
-IsCutSoFar lengths bytes n texts rest = texts ++ cut (drop n lengths) rest ≡ cut lengths bytes
+IsCutSoFar lengths bytes n texts rest =
+    (texts ++ cut (drop n lengths) rest ≡ cut lengths bytes) × (length texts ≡ n) ×
+    (sum_by (λ k. k) (drop n lengths) + length bytes ≡ sum_by (λ k. k) lengths + length rest)
+
+abbrev total : List ℕ → ℕ
+total ns = sum_by (λ n. n) ns
+
+total_none : total [] ≡ 0
+total_none = let twice : total [] + total [] ≡ total [] = sum_by-take-drop (λ n. n) [] 0 in omega (arith, twice)
+
+-- the lengths that are left sum up to the next one and those behind it
+left_sum : (lengths : List ℕ) (n d : ℕ) → n < length lengths →
+    total (drop n lengths) ≡ slice_index_or lengths n d + total (drop (n + 1) lengths)
+left_sum lengths n d below = sum_by-drop_more (λ n. n) lengths n d below
 
 pub one_more_cut : (lengths bytes : List ℕ) (n d : ℕ) (texts more : List (List ℕ)) (rest text behind : List ℕ) → n < length lengths →
+    slice_index_or lengths n d ≤ length rest →
     text ≡ take (slice_index_or lengths n d) rest → behind ≡ drop (slice_index_or lengths n d) rest → more ≡ texts ++ text ∷ [] →
     IsCutSoFar lengths bytes n texts rest → IsCutSoFar lengths bytes (n + 1) more behind
 unfolding cut
-one_more_cut lengths bytes n d texts more rest text behind below here there is so_far =
+one_more_cut lengths bytes n d texts more rest text behind below fits here there is so_far =
     let k = slice_index_or lengths n d in
     let step : suc n ≡ n + 1 = omega arith in
-    ap (λ (m : ℕ). more ++ cut (drop m lengths) behind) (sym step)
-    ∙ ap (λ (ts : List (List ℕ)). ts ++ cut (drop (suc n) lengths) behind) is
-    ∙ append_assoc texts (text ∷ []) (cut (drop (suc n) lengths) behind)
-    ∙ ap₂ (λ (t b : List ℕ). texts ++ t ∷ cut (drop (suc n) lengths) b) here there
-    ∙ ap (λ (ns : List ℕ). texts ++ cut ns rest) (sym (drop-cons lengths n d below))
-    ∙ so_far
+    let shorter : length behind ≡ length rest - k = ap length there ∙ length-drop k rest in (
+      ap (λ (m : ℕ). more ++ cut (drop m lengths) behind) (sym step)
+          ∙ ap (λ (ts : List (List ℕ)). ts ++ cut (drop (suc n) lengths) behind) is
+          ∙ append_assoc texts (text ∷ []) (cut (drop (suc n) lengths) behind)
+          ∙ ap₂ (λ (t b : List ℕ). texts ++ t ∷ cut (drop (suc n) lengths) b) here there
+          ∙ ap (λ (ns : List ℕ). texts ++ cut ns rest) (sym (drop-cons lengths n d below))
+          ∙ so_far.0,
+      ap length is ∙ length-append texts (text ∷ []) ∙ ap (λ (m : ℕ). m + 1) so_far.1,
+      omega (arith, so_far.2, left_sum lengths n d below, shorter, fits),
+    )
 
 pub all_cut : (lengths bytes : List ℕ) (n : ℕ) (texts : List (List ℕ)) (rest : List ℕ) → length lengths ≤ n →
     IsCutSoFar lengths bytes n texts rest → texts ≡ cut lengths bytes
 unfolding cut
 all_cut lengths bytes n texts rest above so_far =
-    sym (append-nil texts) ∙ ap (λ (ns : List ℕ). texts ++ cut ns rest) (sym (drop_of_length-le lengths above)) ∙ so_far
+    sym (append-nil texts) ∙ ap (λ (ns : List ℕ). texts ++ cut ns rest) (sym (drop_of_length-le lengths above)) ∙ so_far.0
+
+-- where the next length is above what is left, or something is left behind all of them, they don't sum up to the whole
+pub too_few : (lengths bytes : List ℕ) (n d : ℕ) (texts : List (List ℕ)) (rest : List ℕ) → n < length lengths →
+    length rest < slice_index_or lengths n d → IsCutSoFar lengths bytes n texts rest → total lengths ≢ length bytes
+too_few lengths bytes n d texts rest below more so_far same =
+    absurd (omega (arith, so_far.2, left_sum lengths n d below, more, same))
+
+positive : (n : ℕ) → false ≡ (n == 0) → 0 < n
+positive zero e = absurd (true≢false (sym e))
+positive (suc n) e = omega arith
+
+pub too_many : (lengths bytes : List ℕ) (n : ℕ) (texts : List (List ℕ)) (rest : List ℕ) → length lengths ≤ n →
+    false ≡ (length rest == 0) → IsCutSoFar lengths bytes n texts rest → total lengths ≢ length bytes
+too_many lengths bytes n texts rest above some so_far same =
+    let left : 0 < length rest = positive (length rest) some in
+    let none : total (drop n lengths) ≡ 0 = ap total (drop_of_length-le lengths above) ∙ total_none in
+    absurd (omega (arith, so_far.2, none, left, same))
+
+got_behind : (ts us : List (List ℕ)) (t : List ℕ) → slice_get (ts ++ t ∷ us) (length ts) ≡ Some t
+got_behind [] us t = refl
+got_behind (x ∷ ts) us t = got_behind ts us t
+
+-- the text of a number is the one that is cut off next
+pub next_text : (lengths bytes : List ℕ) (n d : ℕ) (texts : List (List ℕ)) (rest text : List ℕ) → n < length lengths →
+    text ≡ take (slice_index_or lengths n d) rest → IsCutSoFar lengths bytes n texts rest → Some text ≡ slice_get (cut lengths bytes) n
+unfolding cut
+next_text lengths bytes n d texts rest text below here so_far =
+    let k = slice_index_or lengths n d in
+    ap Some here
+    ∙ sym (got_behind texts (cut (drop (suc n) lengths) (drop k rest)) (take k rest))
+    ∙ ap (λ (ns : List ℕ). slice_get (texts ++ cut ns rest) (length texts)) (sym (drop-cons lengths n d below))
+    ∙ ap (λ (ts : List (List ℕ)). slice_get ts (length texts)) so_far.0
+    ∙ ap (slice_get (cut lengths bytes)) so_far.1
+
+-- and where that one is refused, its number is told
+pub refused_text : (lengths bytes : List ℕ) (n d : ℕ) (texts : List (List ℕ)) (rest text : List ℕ) → n < length lengths →
+    text ≡ take (slice_index_or lengths n d) rest → IsCutSoFar lengths bytes n texts rest → (e : NewError) →
+    (at : ℕ) × (e ≡ NotUtf8 n at) × IsNoText (Some text) at → IsCutRefused lengths bytes e
+refused_text lengths bytes n d texts rest text below here so_far e it =
+    subst (IsCutRefused lengths bytes) (sym it.1)
+    (subst (λ (o : Option (List ℕ)). IsNoText o it.0) (next_text lengths bytes n d texts rest text below here so_far) it.2)

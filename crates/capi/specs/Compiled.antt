@@ -1,20 +1,18 @@
 -- What a compiled regex is of, and what it tells.
 use Rattle.std.specs.Prelude.{◌≡◌, ◌≢◌, ◌⊎◌, ◌↔◌, ℕ, Bool, true, false, List, [], ◌∷◌, All, Option, Some, IfSome, map, length, option_map}
-use Rattle.std.specs.Prelude.{is_some, ⊤}
-use Rattle.std.specs.List.{filter}
-use Rattle.std.specs.Str.Lossy.{utf8_valid_len}
+use Rattle.std.specs.Prelude.{is_some, take, ⊤}
+use Rattle.std.specs.List.{filter, slice_get, sum_by}
 use Rattle.regex_hir.specs.Re.{Re}
 use Rattle.regex_hir.specs.Meaning.{alt_all}
 use Rattle.regex_hir.specs.Find.{find_after}
 use Rattle.regex_syntax.specs.declared.Config.{Config}
-use Rattle.search_core.specs.Utf8.{IsValidText}
 use Rattle.look_core.specs.Terminators.{one_of}
 use Rattle.hir_core.specs.Facts.{LoopsRead, is_utf8_tree}
 use Rattle.hir_core.specs.Tree.{Tree}
 use Rattle.search_types.specs.declared.match_kind.MatchKind.{MatchKind}
+use Rattle.search_types.specs.declared.match_kind.MatchKind.TheVariants.{LeftmostFirst}
 use Rattle.search_types.specs.Found.{Found}
 use Rattle.lazy_dfa.specs.ConfigValue.{kind_of}
-use Rattle.lazy_dfa.specs.declared.build_error.BuildError.TheVariants.{NoMemory as NoRoom}
 use Rattle.regex_pair.specs.Pairs.{Pair}
 use Rattle.hirscan.specs.declared.settings.Settings.{Settings}
 use Rattle.hirscan.specs.Built.{IsBuilt, RefusesBuild}
@@ -28,7 +26,8 @@ use Rattle.capi.specs.declared.failure.SearchError.{SearchError}
 use Rattle.capi.specs.declared.failure.SearchError.TheVariants.{BadArgument as BadSearch, NoMemory as NoneFree, NotUtf8 as NoText}
 use Rattle.capi.specs.declared.failure.SearchError.TheVariants.{TooLarge as TooGreat}
 use Rattle.capi.specs.declared.options.Options.{Options}
-use Rattle.capi.specs.Options.{config_of_options, has_known_flags, allows_empty_loops}
+use Rattle.capi.specs.Options.{config_of_options, settings_of, has_known_flags, allows_empty_loops}
+use Rattle.capi.specs.Texts.{IsNoText, cut}
 
 -- what a contract sees of a compiled regex: the options and the texts that it is made of, and whether each repetition without a bound in
 -- these has a body that reads
@@ -66,23 +65,39 @@ pub record IsMadeOf (o : Options) (texts : List (List ℕ)) (v : Regexed) : Type
   pub loops_told : (v.loops ≡ true) ↔ All LoopsRead trees
   pub loops_read : allows_empty_loops o ≡ false → v.loops ≡ true
 
+-- Why there is no regex of texts that finds matches of this kind under these options.
+abbrev pub IsKindRefused : MatchKind → Options → List (List ℕ) → NewError → Type 0
+IsKindRefused kind o texts BadArgument = has_known_flags o ≡ false
+IsKindRefused kind o texts NoMemory = ⊤
+IsKindRefused kind o texts (NotUtf8 pattern at) = ⊥
+IsKindRefused kind o texts (Text e) = IsFirstFault (config_of_options o) texts e.number e.error
+IsKindRefused kind o texts (EmptyLoop number) =
+    (allows_empty_loops o ≡ false) × ((xs : List Tree) × AllMean (config_of_options o) texts xs × (first_empty_loop xs ≡ Some number))
+IsKindRefused kind o texts (Build e) =
+    (xs : List Tree) × AllMean (config_of_options o) texts xs × RefusesBuild xs (settings_of o kind) e
+
 -- Why there is no regex of texts under these options.
 abbrev pub IsNewRefused : Options → List (List ℕ) → NewError → Type 0
-IsNewRefused o texts BadArgument = has_known_flags o ≡ false
-IsNewRefused o texts NoMemory = ⊤
-IsNewRefused o texts (NotUtf8 pattern at) = ⊥
-IsNewRefused o texts (Text e) = IsFirstFault (config_of_options o) texts e.number e.error
-IsNewRefused o texts (EmptyLoop number) =
-    (allows_empty_loops o ≡ false) × ((xs : List Tree) × AllMean (config_of_options o) texts xs × (first_empty_loop xs ≡ Some number))
-IsNewRefused o texts (Build e) = (e ≡ NoRoom) ⊎
-    ((xs : List Tree) × AllMean (config_of_options o) texts xs × ((s : Settings) × RefusesBuild xs s e))
+IsNewRefused = IsKindRefused LeftmostFirst
+
+-- Why texts that stand one behind the other aren't told apart by these lengths: there is no length, or they don't sum up to the bytes; the
+-- text of a number is no UTF-8 from a place on; or memory lacks.
+abbrev pub IsCutRefused : List ℕ → List ℕ → NewError → Type 0
+IsCutRefused lengths bytes BadArgument = (lengths ≡ []) ⊎ (sum_by (λ n. n) lengths ≢ length bytes)
+IsCutRefused lengths bytes NoMemory = ⊤
+IsCutRefused lengths bytes (NotUtf8 pattern at) = IsNoText (slice_get (cut lengths bytes) pattern) at
+IsCutRefused lengths bytes _ = ⊥
+
+-- why a caller's call for a regex of such texts is refused
+abbrev pub IsCallRefused : Options → List ℕ → List ℕ → NewError → Type 0
+IsCallRefused o lengths bytes e = IsCutRefused lengths bytes e ⊎ IsNewRefused o (cut lengths bytes) e
 
 -- Why a search of a haystack tells nothing: it is no text where it has to be, which is told with how many of its bytes are; or memory
 -- lacks, or a regex of the toolchain would be larger than it may be.
 abbrev pub IsSearchRefused : Config → List ℕ → SearchError → Type 0
 IsSearchRefused config h BadSearch = ⊥
 IsSearchRefused config h NoneFree = ⊤
-IsSearchRefused config h (NoText at) = (config.utf8 ≡ true) × (at ≡ utf8_valid_len h) × (IsValidText h → ⊥)
+IsSearchRefused config h (NoText at) = (config.utf8 ≡ true) × IsNoText (Some h) at
 IsSearchRefused config h TooGreat = ⊤
 
 -- the same where marks are asked for: there has to be one for each text
@@ -96,12 +111,16 @@ span_of_row r = (r.start, r.end)
 abbrev pub as_found : FoundMatch → Found
 as_found r = record { pattern = r.pattern; start = r.start; end = r.end }
 
+-- what is found is of the first pattern that matches from there
+abbrev pub HasPattern : Config → List (List ℕ) → List ℕ → Option FoundMatch → Type 0
+HasPattern config texts h o = (res : List Re) → AreReadAs config texts res → IfSome o (λ f. IsOfFirstPattern res h (as_found f))
+
 -- What is told of a search from a place on has the start that the toolchain's matcher finds for what the texts are read as, if it finds
 -- one, and is of the first pattern that matches from there.
 pub record HasFoundStart (config : Config) (texts : List (List ℕ)) (h : List ℕ) (at : ℕ) (o : Option FoundMatch) : Type 0 where
   pub start : (res : List Re) → AreReadAs config texts res →
       option_map (λ m. m.start) (found_from config.utf8 (alt_all res) h at) ≡ option_map (λ f. f.start) o
-  pub pattern : (res : List Re) → AreReadAs config texts res → IfSome o (λ f. IsOfFirstPattern res h (as_found f))
+  pub pattern : HasPattern config texts h o
 
 -- and also the end that it finds
 abbrev pub HasFoundSpan : Config → List (List ℕ) → List ℕ → ℕ → Option FoundMatch → Type 0
@@ -125,12 +144,13 @@ overlaid [] ys = ys
 overlaid (x ∷ xs) [] = []
 overlaid (x ∷ xs) (y ∷ ys) = x ∷ overlaid xs ys
 
--- These are all matches that the matcher finds, so many: the first of them lie in the rows, as far as these have room, and the rows
--- behind them are what they were.
+-- These are all matches that the matcher finds, so many: the first of them lie in the rows, as far as these have room, each of the first
+-- pattern that matches from its start, and the rows behind them are what they were.
 pub record AreAll (config : Config) (texts : List (List ℕ)) (h : List ℕ) (n : ℕ) (old new : List FoundMatch) : Type 0 where
   pub count : (res : List Re) → AreReadAs config texts res → n ≡ length (all_found config.utf8 (alt_all res) h)
   pub rows : (res : List Re) → AreReadAs config texts res →
       map span_of_row new ≡ overlaid (map span_of_match (all_found config.utf8 (alt_all res) h)) (map span_of_row old)
+  pub patterns : (res : List Re) → AreReadAs config texts res → All (λ r. IsOfFirstPattern res h (as_found r)) (take n new)
 
 -- ---- which patterns match
 

@@ -1,6 +1,10 @@
 -- What the numbers of a caller's options mean.
-use Rattle.std.specs.Prelude.{ℕ, ◌/◌, ◌%◌, Bool, not, if◌then◌else◌, nat_eq, nat_lt}
+use Rattle.std.specs.Prelude.{ℕ, ◌/◌, ◌%◌, Bool, true, not, if◌then◌else◌, nat_eq, nat_lt, Option, Some, None}
 use Rattle.regex_syntax.specs.declared.Config.{Config}
+use Rattle.look_core.specs.Terminators.{one_of}
+use Rattle.search_types.specs.declared.match_kind.MatchKind.{MatchKind}
+use Rattle.lazy_dfa.specs.ConfigValue.{DfaOptions, no_dfa_options}
+use Rattle.hirscan.specs.declared.settings.Settings.{Settings}
 use Rattle.capi.specs.declared.options.Options.{Options}
 
 -- a flag is a power of two
@@ -32,4 +36,24 @@ config_of_options o = record {
   octal = is_flag_set o.flags 64;
   utf8 = is_flag_set o.flags 256;
   nest_limit = nest_limit_of o;
+}
+
+-- the automata of a regex that finds matches of this kind
+abbrev pub dfa_options_of : Options → MatchKind → DfaOptions
+dfa_options_of o kind = record no_dfa_options {
+  match_kind = Some kind;
+  unicode_word_boundary = Some true;
+  byte_classes = Some (not (is_flag_set o.flags 4096));
+  skip_cache_capacity_check = Some (is_flag_set o.flags 2048);
+  cache_capacity = if nat_eq o.capacity 0 then None else Some o.capacity;
+}
+
+-- how that regex is built
+abbrev pub settings_of : Options → MatchKind → Settings
+settings_of o kind = record {
+  utf8 = is_flag_set o.flags 256;
+  line_terminator = one_of 10;
+  shrink = is_flag_set o.flags 8192;
+  size_limit = Some (if nat_eq o.size_limit 0 then 67108864 else o.size_limit);
+  dfa = dfa_options_of o kind;
 }

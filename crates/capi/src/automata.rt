@@ -7,7 +7,7 @@ ghost use Rattle.hir_core.specs.Facts.{LoopsRead};
 ghost use Rattle.search_types.specs.declared.match_kind.MatchKind.TheVariants.{LeftmostFirst};
 ghost use Rattle.hirscan.specs.Loops.{first_empty_loop};
 ghost use Rattle.pattern_search.specs.Searches.{whole_search};
-ghost use Rattle.capi.specs.Compiled.{AreBuiltOf, AreToldOf, HasFoundStart, HasFoundSpan, IsNewRefused};
+ghost use Rattle.capi.specs.Compiled.{AreBuiltOf, AreToldOf, HasFoundStart, HasFoundSpan, IsKindRefused};
 ghost use Rattle.capi.specs.Failures.{row_of};
 ghost use Rattle.capi.specs.Options.{config_of_options, allows_empty_loops};
 
@@ -72,7 +72,7 @@ pub(crate) fn regex_of(
 ) -> Result<Made, NewError>
     ensures made { IfOk result (λ m. (it : AreToldOf (config_of_options options.now) (map (λ t. t.now) texts.now) kind m.loops m.regex) ×
         (allows_empty_loops options.now ≡ false → m.loops ≡ true)) }
-    ensures refused { IfErr result (IsNewRefused options.now (map (λ t. t.now) texts.now)) }
+    ensures refused { IfErr result (IsKindRefused kind options.now (map (λ t. t.now) texts.now)) }
 {
     let config = options.config();
     let trees = match parse_all(alloc, texts, &config) {

@@ -2,7 +2,7 @@
 ghost use Rattle.std.specs.Prelude.{◌≡◌, ◌≤◌, ◌==◌, IfErr, IfOk, length, slice_set, true};
 ghost use Rattle.regex_hir.specs.Text.{is_some_and};
 ghost use Rattle.search_core.specs.Utf8.{IsValidText};
-ghost use Rattle.capi.specs.Compiled.{AreAll, IsNext, IsSearchRefused, config_by};
+ghost use Rattle.capi.specs.Compiled.{AreAll, HasPattern, IsNext, IsSearchRefused, config_by};
 
 use crate::compiled::Compiled;
 use crate::failure::{FoundMatch, SearchError};
@@ -38,6 +38,7 @@ impl Compiled {
         requires valid { (config_by self.old).utf8 ≡ true → IsValidText haystack.now }
         ensures same { self.new ≡ self.old }
         ensures next { self.old.loops ≡ true → IfOk result (IsNext (config_by self.old) self.old.texts haystack.now end) }
+        ensures pattern { IfOk result (HasPattern (config_by self.old) self.old.texts haystack.now) }
         ensures refused { IfErr result (IsSearchRefused (config_by self.old) haystack.now) }
     {
         if haystack.len() < end {

@@ -1,8 +1,7 @@
 //! What a caller may set.
-ghost use Rattle.std.specs.Prelude.{◌≡◌, ◌<◌, ◌+◌, ◌≤◌, Bool};
-ghost use Rattle.look_core.specs.Terminators.{one_of};
-ghost use Rattle.lazy_dfa.specs.ConfigValue.{kind_of};
+ghost use Rattle.std.specs.Prelude.{◌≡◌, ◌<◌, if◌then◌else◌, nat_eq};
 ghost use Rattle.capi.specs.Options.{is_flag_set, has_known_flags, config_of_options, nest_limit_of, allows_empty_loops};
+ghost use Rattle.capi.specs.Options.{dfa_options_of, settings_of};
 
 use hirscan::Settings;
 use lazy_dfa::dfa;
@@ -113,7 +112,7 @@ impl Options {
 
     /// The options of both automata, which find matches of this kind.
     fn dfa(&self, kind: MatchKind) -> dfa::Config
-        ensures { kind_of result ≡ kind }
+        ensures { result ≡ dfa_options_of self.now kind }
     {
         let config = dfa::Config::new()
             .match_kind(kind)
@@ -127,7 +126,9 @@ impl Options {
         }
     }
 
-    fn size_limit(&self) -> usize {
+    fn size_limit(&self) -> usize
+        ensures { result ≡ (if nat_eq self.now.size_limit 0 then 0x400_0000 else self.now.size_limit) }
+    {
         if self.size_limit == 0 {
             SIZE_LIMIT
         } else {
@@ -137,9 +138,7 @@ impl Options {
 
     /// How regexes that find matches of this kind are built.
     pub fn settings(&self, kind: MatchKind) -> Settings
-        ensures kind { kind_of result.dfa ≡ kind }
-        ensures lines { result.line_terminator ≡ one_of 10 }
-        ensures mode { result.utf8 ≡ (config_of_options self.now).utf8 }
+        ensures { result ≡ settings_of self.now kind }
     {
         Settings {
             utf8: self.has(UTF8),

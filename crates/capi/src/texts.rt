@@ -1,12 +1,15 @@
 //! Texts that stand one behind the other.
-ghost use Rattle.std.specs.Prelude.{◌≡◌, ◌≢◌, ◌<◌, ◌++◌, ◌∷◌, [], ℕ, map, length, IfOk, IfErr, OnOk, take, drop, string_bytes};
-ghost use Rattle.capi.specs.Texts.{cut};
+ghost use Rattle.std.specs.Prelude.{◌≡◌, ◌≢◌, ◌<◌, ◌++◌, ◌∷◌, [], ℕ, Some, map, length, IfOk, IfErr, OnOk, take, drop, string_bytes};
+ghost use Rattle.capi.specs.Compiled.{IsCutRefused};
+ghost use Rattle.capi.specs.declared.failure.NewError.TheVariants.{NoMemory, NotUtf8};
+ghost use Rattle.capi.specs.Texts.{IsNoText, cut};
 
 use crate::failure::NewError;
 use std::alloc::{AllocError, Global};
 
 fn push<'t>(texts: &mut Vec<&'t str>, text: &'t str) -> Result<(), NewError>
-    ensures { OnOk result (map (λ t. t.now) texts.new.items ≡ map (λ t. t.now) texts.old.items ++ text.now ∷ []) }
+    ensures more { OnOk result (map (λ t. t.now) texts.new.items ≡ map (λ t. t.now) texts.old.items ++ text.now ∷ []) }
+    ensures refused { IfErr result (λ e. e ≡ NoMemory) }
 {
     match texts.push(text) {
         Ok(()) => Ok(()),
@@ -16,7 +19,8 @@ fn push<'t>(texts: &mut Vec<&'t str>, text: &'t str) -> Result<(), NewError>
 
 /// The bytes as the text of this number.
 fn text_of(bytes: &[u8], number: usize) -> Result<&str, NewError>
-    ensures { IfOk result (λ t. t.now ≡ bytes.now) }
+    ensures same { IfOk result (λ t. t.now ≡ bytes.now) }
+    ensures refused { IfErr result (λ e. (at : ℕ) × (e ≡ NotUtf8 number at) × IsNoText (Some bytes.now) at) }
 {
     match str::from_utf8(bytes) {
         Ok(text) => Ok(text),
@@ -35,22 +39,29 @@ pub fn texts_of<'t>(
     bytes: &'t [u8],
     lengths: &[usize],
 ) -> Result<Vec<&'t str>, NewError>
-    ensures { IfOk result (λ ts. map (λ t. t.now) ts.items ≡ cut lengths.now bytes.now) }
+    ensures texts { IfOk result (λ ts. map (λ t. t.now) ts.items ≡ cut lengths.now bytes.now) }
+    ensures refused { IfErr result (IsCutRefused lengths.now bytes.now) }
 {
+    if lengths.is_empty() {
+        return Err(NewError::BadArgument);
+    }
     let mut texts = Vec::new(alloc);
     let mut rest = bytes;
     for (number, length) in lengths.iter().enumerate() {
-        let Some((text, behind)) = rest.split_at_checked(*length) else {
+        let Some((part, behind)) = rest.split_at_checked(*length) else {
             return Err(NewError::BadArgument);
         };
-        push(&mut texts, text_of(text, number)?)?;
+        let text = match text_of(part, number) {
+            Ok(text) => text,
+            Err(e) => return Err(e),
+        };
+        push(&mut texts, text)?;
         rest = behind;
     }
-    if rest.is_empty() && !lengths.is_empty() {
-        Ok(texts)
-    } else {
-        Err(NewError::BadArgument)
+    if !rest.is_empty() {
+        return Err(NewError::BadArgument);
     }
+    Ok(texts)
 }
 
 fn push_owned(texts: &mut Vec<String>, text: String) -> Result<(), AllocError>

@@ -1,7 +1,27 @@
 -- What the calls answer, in terms of the texts and options of which a handle's regex is made.
-use Rattle.std.specs.Prelude.{◌≡◌, ◌<◌, ℕ, List, true, false, Option, Some, None, length}
+use Rattle.std.specs.Prelude.{◌≡◌, ◌≢◌, ◌<◌, ℕ, List, true, false, Option, Some, None, length}
 use Rattle.capi.specs.Compiled.{Regexed, config_by, IsTold, HasFoundStart, HasFoundSpan, AreAll, AreMarked}
+use Rattle.capi.specs.Compiled.{IsCallRefused, IsSearchRefused, IsWhichRefused}
+use Rattle.capi.specs.Failures.{failure_of_new, failure_of_search, without_cause}
+use Rattle.capi.specs.declared.failure.Failure.{Failure}
 use Rattle.capi.specs.declared.failure.FoundMatch.{FoundMatch}
+use Rattle.capi.specs.declared.failure.NewError.{NewError}
+use Rattle.capi.specs.declared.failure.SearchError.{SearchError}
+use Rattle.capi.specs.declared.options.Options.{Options}
+
+-- a status that isn't 0 tells why there is no regex of these texts; which cause a text is refused for is told by words alone
+abbrev pub RefusesNew : Options → List ℕ → List ℕ → Failure → Type 0
+RefusesNew o lengths texts f =
+    f.status ≢ 0 → (e : NewError) × (without_cause f ≡ failure_of_new e) × IsCallRefused o lengths texts e
+
+-- a status above 1 tells why the search tells nothing of the haystack
+abbrev pub RefusesSearch : Regexed → List ℕ → Failure → Type 0
+RefusesSearch v h f = 1 < f.status → (e : SearchError) × (f ≡ failure_of_search e) × IsSearchRefused (config_by v) h e
+
+-- the same where patterns are marked
+abbrev pub RefusesWhich : Regexed → List ℕ → List ℕ → Failure → Type 0
+RefusesWhich v h marks f =
+    1 < f.status → (e : SearchError) × (f ≡ failure_of_search e) × IsWhichRefused (config_by v) v.texts h marks e
 
 -- a status of 0 says that there is a match, and one of 1 that there is none
 pub record AnswersIsMatch (v : Regexed) (h : List ℕ) (status : ℕ) : Type 0 where

@@ -8,11 +8,12 @@
 mod apart;
 mod handle;
 
-ghost use Rattle.std.specs.Prelude.{◌≡◌, ◌≢◌, ◌<◌, Some, None, IfSome, IfOk, length, replicate};
-ghost use Rattle.capi.specs.Compiled.{IsMadeOf};
+ghost use Rattle.std.specs.Prelude.{◌≡◌, ◌≢◌, ◌<◌, ◌≤◌, Some, None, IfSome, IfOk, IfErr, length, replicate};
+ghost use Rattle.capi.specs.Compiled.{IsMadeOf, IsCallRefused};
 ghost use Rattle.capi.specs.Failures.{plain};
 ghost use Rattle.capi.specs.Texts.{cut};
 ghost use Rattle.hanneddois.specs.Answers.{AnswersIsMatch, AnswersFind, AnswersAll, AnswersWhichMatch, pattern_count_of};
+ghost use Rattle.hanneddois.specs.Answers.{RefusesNew, RefusesSearch, RefusesWhich};
 
 use capi::{Compiled, Failure, FoundMatch, NewError, Options, error_text, texts_of};
 use handle::Handle;
@@ -53,7 +54,8 @@ fn made(
     lengths: &[usize],
     options: &Options,
 ) -> Result<Box<Compiled>, NewError>
-    ensures { IfOk result (λ b. IsMadeOf options.now (cut lengths.now texts.now) b.value) }
+    ensures made { IfOk result (λ b. IsMadeOf options.now (cut lengths.now texts.now) b.value) }
+    ensures refused { IfErr result (IsCallRefused options.now lengths.now texts.now) }
 {
     let texts = match texts_of(alloc, texts, lengths) {
         Ok(texts) => texts,
@@ -85,7 +87,9 @@ pub extern "C" fn hanneddois_new(
     ensures told { error.new.status ≡ result }
     ensures holds { result ≡ 0 → regex.new.value ≢ None }
     ensures made { IfSome regex.new.value (IsMadeOf options.now (cut lengths.now texts.now)) }
-    ensures refused { result ≢ 0 → regex.new.value ≡ None }
+    ensures empty { result ≢ 0 → regex.new.value ≡ None }
+    ensures plain { result ≡ 0 → error.new ≡ plain 0 }
+    ensures refused { RefusesNew options.now lengths.now texts.now error.new }
 {
     drop(regex.take(alloc));
     match made(alloc, texts, lengths, options) {
@@ -156,8 +160,10 @@ pub extern "C" fn hanneddois_is_match(
 ) -> u32
     ensures told { error.new.status ≡ result }
     ensures same { regex.new.value ≡ regex.old.value }
-    ensures empty { regex.old.value ≡ None → result ≡ 2 }
+    ensures plain { result < 2 → error.new ≡ plain result }
+    ensures empty { regex.old.value ≡ None → error.new ≡ plain 2 }
     ensures answer { IfSome regex.old.value (λ v. AnswersIsMatch v haystack.now result) }
+    ensures refused { IfSome regex.old.value (λ v. RefusesSearch v haystack.now error.new) }
 {
     let Some(mut inside) = regex.take(alloc) else {
         return end(BAD_ARGUMENT, error);
@@ -184,9 +190,12 @@ pub extern "C" fn hanneddois_find_at(
 ) -> u32
     ensures told { error.new.status ≡ result }
     ensures same { regex.new.value ≡ regex.old.value }
-    ensures empty { regex.old.value ≡ None → result ≡ 2 }
-    ensures behind { length haystack.now < from → result ≡ 2 }
+    ensures plain { result < 2 → error.new ≡ plain result }
+    ensures none { 0 < result → found.new ≡ record { pattern = 0; start = 0; end = 0 } }
+    ensures empty { regex.old.value ≡ None → error.new ≡ plain 2 }
+    ensures behind { length haystack.now < from → error.new ≡ plain 2 }
     ensures answer { IfSome regex.old.value (λ v. AnswersFind v haystack.now from found.new result) }
+    ensures refused { from ≤ length haystack.now → IfSome regex.old.value (λ v. RefusesSearch v haystack.now error.new) }
 {
     *found = FoundMatch::zero();
     if haystack.len() < from {
@@ -219,8 +228,10 @@ pub extern "C" fn hanneddois_find_all(
 ) -> u32
     ensures told { error.new.status ≡ result }
     ensures same { regex.new.value ≡ regex.old.value }
-    ensures empty { regex.old.value ≡ None → result ≡ 2 }
+    ensures plain { result < 2 → error.new ≡ plain result }
+    ensures empty { regex.old.value ≡ None → error.new ≡ plain 2 }
     ensures answer { IfSome regex.old.value (λ v. AnswersAll v haystack.now count.new matches.old matches.new result) }
+    ensures refused { IfSome regex.old.value (λ v. RefusesSearch v haystack.now error.new) }
 {
     *count = 0;
     let Some(mut inside) = regex.take(alloc) else {
@@ -249,9 +260,11 @@ pub extern "C" fn hanneddois_which(
 ) -> u32
     ensures told { error.new.status ≡ result }
     ensures same { regex.new.value ≡ regex.old.value }
-    ensures empty { regex.old.value ≡ None → result ≡ 2 }
-    ensures refused { 1 < result → matched.new ≡ replicate (length matched.old) 0 }
+    ensures plain { result < 2 → error.new ≡ plain result }
+    ensures none { 1 < result → (matched.new ≡ replicate (length matched.old) 0) × (count.new ≡ 0) }
+    ensures empty { regex.old.value ≡ None → error.new ≡ plain 2 }
     ensures answer { IfSome regex.old.value (λ v. AnswersWhichMatch v haystack.now count.new matched.new result) }
+    ensures refused { IfSome regex.old.value (λ v. RefusesWhich v haystack.now matched.old error.new) }
 {
     *count = 0;
     let Some(mut inside) = regex.take(alloc) else {

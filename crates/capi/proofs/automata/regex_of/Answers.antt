@@ -1,23 +1,22 @@
-use Rattle.std.proofs.Common.{List, subst, true, ◌≡◌, ◌↔◌, All, inr}
+use Rattle.std.proofs.Common.{List, ap, subst, true, ◌≡◌, ◌↔◌, All}
 use Rattle.regex_syntax.specs.declared.Config.{Config}
 use Rattle.hir_core.specs.Facts.{LoopsRead, is_utf8_tree}
 use Rattle.hir_core.specs.Tree.{Tree}
+use Rattle.lazy_dfa.specs.ConfigValue.{kind_of}
+use Rattle.hirscan.specs.declared.settings.Settings.{Settings}
 use Rattle.hirscan.specs.Built.{IsBuilt, RefusesBuild}
 use Rattle.pattern_search.specs.Texts.{AllMean}
 use Rattle.pattern_search.proofs.ForCallers.{read_texts}
 use Rattle.capi.proofs.automata.regex_of.Goals as goal
 
 pub returns-in-Err-build-clause-refused : goal.returns-in-Err-build-clause-refused
-returns-in-Err-build-clause-refused c =
-    inr (
-      c.in-Ok.trees.items,
-      subst (λ (k : Config). AllMean k (read_texts c.args.texts.now) c.in-Ok.trees.items) c.config-config.ensures c.in-Ok.ensures.means,
-      (
-        c.settings-settings.result,
-        subst (λ (xs : List Tree). RefusesBuild xs c.settings-settings.result c.in-Err-build.e)
-            c.deref-3.ensures.value c.in-Err-build.ensures.refused,
-      ),
-    )
+returns-in-Err-build-clause-refused c = (
+  c.in-Ok.trees.items,
+  subst (λ (k : Config). AllMean k (read_texts c.args.texts.now) c.in-Ok.trees.items) c.config-config.ensures c.in-Ok.ensures.means,
+  subst (λ (s : Settings). RefusesBuild c.in-Ok.trees.items s c.in-Err-build.e) c.settings-settings.ensures
+      (subst (λ (xs : List Tree). RefusesBuild xs c.settings-settings.result c.in-Err-build.e)
+      c.deref-3.ensures.value c.in-Err-build.ensures.refused),
+)
 
 pub returns-clause-made : goal.returns-clause-made
 returns-clause-made c =
@@ -32,9 +31,9 @@ returns-clause-made c =
               c.config-config.ensures c.in-Ok.ensures.means;
           built = subst (λ (xs : List Tree). IsBuilt xs c.settings-settings.result c.in-Ok-build.regex)
               c.deref-3.ensures.value c.in-Ok-build.ensures.built;
-          kind_is = c.settings-settings.ensures.kind;
-          lines = c.settings-settings.ensures.lines;
-          mode = c.settings-settings.ensures.mode;
+          kind_is = ap (λ (s : Settings). kind_of s.dfa) c.settings-settings.ensures;
+          lines = ap (λ (s : Settings). s.line_terminator) c.settings-settings.ensures;
+          mode = ap (λ (s : Settings). s.utf8) c.settings-settings.ensures;
           utf8_trees = subst (λ (k : Config). k.utf8 ≡ true →
               All (λ x. is_utf8_tree x ≡ true) c.in-Ok.trees.items) c.config-config.ensures c.in-Ok.ensures.utf8;
         },

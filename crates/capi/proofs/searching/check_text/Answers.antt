@@ -8,6 +8,5 @@ returns-in-Ok-clause-text c = λ on. valid_of_utf8 c.args.haystack.now c.in-Ok.e
 pub returns-in-Err-clause-refused : goal.returns-in-Err-clause-refused
 returns-in-Err-clause-refused c config same = (
   sym same ∙ c.if-not-utf8.false,
-  c.valid_up_to.ensures ∙ c.in-Err.ensures.valid_len,
-  λ valid. c.in-Err.ensures.cases.0 (utf8_of_valid c.args.haystack.now valid),
+  (c.valid_up_to.ensures ∙ c.in-Err.ensures.valid_len, λ valid. c.in-Err.ensures.cases.0 (utf8_of_valid c.args.haystack.now valid)),
 )

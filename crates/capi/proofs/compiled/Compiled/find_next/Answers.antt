@@ -1,5 +1,5 @@
 use Rattle.std.proofs.Common.{◌≡◌, ◌+◌, ◌∙◌, subst, sym, true}
-use Rattle.capi.specs.Compiled.{Regexed, HasFoundSpan, config_by}
+use Rattle.capi.specs.Compiled.{Regexed, HasFoundSpan, HasPattern, config_by}
 use Rattle.capi.proofs.NextLemmas.{next_beyond, next_later, next_none, next_there}
 use Rattle.capi.proofs.compiled.Compiled.find_next.Goals as goal
 
@@ -24,3 +24,8 @@ returns-clause-next c on =
     (subst (λ (v : Regexed). v.loops ≡ true → HasFoundSpan (config_by v) v.texts c.args.haystack.now (c.args.end + 1) c.in-Ok-search.later)
     c.search.ensures.same
     c.in-Ok-search.ensures.preferred on)
+
+pub returns-clause-pattern : goal.returns-clause-pattern
+returns-clause-pattern c =
+    subst (λ (v : Regexed). HasPattern (config_by v) v.texts c.args.haystack.now c.in-Ok-search.later) c.search.ensures.same
+    c.in-Ok-search.ensures.found.pattern

@@ -1,5 +1,5 @@
 use Rattle.std.proofs.Common.{◌≡◌, ℕ, ◌+◌, ◌-◌, ◌∙◌, arith, length, subst, sym, true}
-use Rattle.capi.specs.Compiled.{Regexed, AreAll, IsNext, config_by}
+use Rattle.capi.specs.Compiled.{Regexed, AreAll, HasPattern, IsNext, config_by}
 use Rattle.capi.proofs.ListLemmas.{none_laid}
 use Rattle.capi.proofs.NextLemmas.{listing_begins, listing_ends, listing_goes_on, listing_runs_out}
 use Rattle.capi.proofs.compiled.Compiled.list.Goals as goal
@@ -8,8 +8,7 @@ pub loop-count-init : goal.loop-count-init
 loop-count-init c = (
   c.search.ensures.same,
   λ on. listing_begins (config_by c.args.self.now) c.args.self.now.texts c.args.haystack.now c.args.rows.now c.in-Ok.next
-      (sym (none_laid c.args.rows.now))
-      (c.in-Ok.ensures.preferred on),
+      (sym (none_laid c.args.rows.now)) c.in-Ok.ensures.found.pattern (c.in-Ok.ensures.preferred on),
 )
 
 pub loop-count-preserved : goal.loop-count-preserved
@@ -22,6 +21,8 @@ loop-count-preserved c = (
       (subst (λ (v : Regexed). v.loops ≡ true →
       IsNext (config_by v) v.texts c.args.haystack.now c.in-Some.found.end c.in-Ok-find_next.next) c.loop-count.invariant.0
       c.in-Ok-find_next.ensures.next on)
+      (subst (λ (v : Regexed). HasPattern (config_by v) v.texts c.args.haystack.now c.in-Ok-find_next.next) c.loop-count.invariant.0
+      c.in-Ok-find_next.ensures.pattern)
       (c.loop-count.invariant.1 on),
 )
 
