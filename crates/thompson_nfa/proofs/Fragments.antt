@@ -15,7 +15,5 @@ pub mod ConcatLemmas
 pub mod CopyLemmas
 pub mod AlternativeLemmas
 pub mod FormRefusals
-pub mod TreeLemmas
-pub mod MayLead
 pub mod DoesLemmas
 pub mod DoesCases

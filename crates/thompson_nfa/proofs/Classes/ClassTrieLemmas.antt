@@ -2,12 +2,12 @@
 use Rattle.std.proofs.Common.{◌≡◌, inl, inr, ℕ, suc, ◌+◌, ◌<◌, ◌≤◌, List, [], ◌∷◌, ◌++◌, reverse, length, get_or, take, slice_get, Some}
 use Rattle.std.proofs.Common.{true, refl, sym, ap, ◌∙◌, subst, append_assoc, append-nil}
 use Rattle.std.proofs.lemmas.Grind.{flat_map-append}
-use Rattle.std.proofs.lemmas.List.{reverse-append, reverse-reverse, map-append, take_more, take_all}
+use Rattle.std.proofs.lemmas.List.{reverse-append, reverse-reverse, map-append, take_more}
 use Rattle.hir_core.specs.Sequences.{is_in_ranges, utf8_sequences}
 use Rattle.hir_core.specs.BySequences.{sequences_of}
 use Rattle.hir_core.proofs.ForCallers.{sequence_short}
 use Rattle.thompson_nfa.specs.RangeTries.{IsInSome, AreRanges}
-use Rattle.thompson_nfa.specs.ClassTries.{turned_round, HasTurned, GainsTurned, IsTurnedSpelling, AreTurnedSpellings}
+use Rattle.thompson_nfa.specs.ClassTries.{turned_round, GainsTurned, IsTurnedSpelling, AreTurnedSpellings}
 use Rattle.thompson_nfa.proofs.Tries.TrieLemmas.{in_append, in_left, in_right}
 use Rattle.thompson_nfa.proofs.Classes.TurnedStrings.{turned_round_in, spelling_turned, turned_spell}
 use Rattle.thompson_nfa.proofs.Classes.ScalarCountLemmas.{class_spells}
@@ -23,9 +23,6 @@ ranges_turned [] a = tt
 ranges_turned (r ∷ q) a = subst AreRanges (sym (reverse-append (r ∷ []) q)) (ranges_push (reverse q) r (ranges_turned q a.1) a.0)
 
 -- ---- one after the other
-
-pub gained_none : (old : List (List (ℕ × ℕ))) → GainsTurned old [] old
-gained_none old = record { only = λ s h. inl h; kept = λ s h. h; added = λ s h. absurd h }
 
 turned_append : (xs ys : List (List (ℕ × ℕ))) → turned_round (xs ++ ys) ≡ turned_round xs ++ turned_round ys
 turned_append xs ys = map-append reverse xs ys
@@ -74,9 +71,6 @@ pub record GainsTo (old new left all : List (List (ℕ × ℕ))) : Type 0 where
   pub split : met ++ left ≡ all
   pub gained : GainsTurned old met new
 
-pub none_gained : (old left all : List (List (ℕ × ℕ))) → left ≡ all → GainsTo old old left all
-none_gained old left all e = record { met = []; split = e; gained = gained_none old }
-
 pub got_behind : (xs : List (List (ℕ × ℕ))) (x : List (ℕ × ℕ)) (rest : List (List (ℕ × ℕ))) →
     slice_get (xs ++ x ∷ rest) (length xs) ≡ Some x
 got_behind [] x rest = refl
@@ -89,12 +83,6 @@ next_gained old mid new left rest all q so_far e one = record {
   split = append_assoc so_far.met (q ∷ []) rest ∙ ap (λ (l : List (List (ℕ × ℕ))). so_far.met ++ l) (sym e) ∙ so_far.split;
   gained = gained_more old mid new so_far.met (q ∷ []) so_far.gained one;
 }
-
-pub all_gained : (old new left all : List (List (ℕ × ℕ))) → GainsTo old new left all → left ≡ [] → GainsTurned old all new
-all_gained old new left all so_far none =
-    let whole : so_far.met ≡ all = sym (append-nil so_far.met) ∙ ap (λ (l : List (List (ℕ × ℕ))). so_far.met ++ l) (sym none)
-    ∙ so_far.split in
-    subst (λ (l : List (List (ℕ × ℕ))). GainsTurned old l new) whole so_far.gained
 
 ranges_from : (q : List (ℕ × ℕ)) → ((k : ℕ) (r : ℕ × ℕ) → slice_get q k ≡ Some r → (r.0 ≤ r.1) × (r.1 < 256)) → AreRanges q
 ranges_from [] a = tt
@@ -124,9 +112,6 @@ module _ (old mid left rest : List (List (ℕ × ℕ))) (lo hi : ℕ) (q : List 
 
 -- ---- the sequences of all ranges
 
-pub class_begun : (new : List (List (ℕ × ℕ))) (ranges : List (ℕ × ℕ)) → new ≡ [] → GainsTurned [] (sequences_of (take 0 ranges)) new
-class_begun new ranges e = subst (λ (l : List (List (ℕ × ℕ))). GainsTurned [] [] l) (sym e) (gained_none [])
-
 pub class_spelled : (new : List (List (ℕ × ℕ))) (rs : List (ℕ × ℕ)) → GainsTurned [] (sequences_of rs) new → AreTurnedSpellings new
 class_spelled new rs g s h = elim (g.only s h) [ inl none ↦ absurd none | inr in_class ↦ class_turned rs s in_class ]
 
@@ -142,10 +127,3 @@ class_next mid new i ranges d less so_far more =
     ∙ ap sequences_of (sym (take_more ranges i d less)) in
     subst (λ (l : List (List (ℕ × ℕ))). GainsTurned [] l new) joined (gained_more [] mid new (sequences_of (take i ranges))
     (utf8_sequences here.0 here.1) so_far more)
-
-pub class_whole : (new : List (List (ℕ × ℕ))) (i : ℕ) (ranges : List (ℕ × ℕ)) → GainsTurned [] (sequences_of (take i ranges)) new →
-    length ranges ≤ i → HasTurned new (sequences_of ranges)
-class_whole new i ranges so_far past =
-    let g : GainsTurned [] (sequences_of ranges) new = subst (λ (rs : List (ℕ × ℕ)). GainsTurned [] (sequences_of rs) new)
-    (take_all i ranges past) so_far in
-    record { only = λ s h. elim (g.only s h) [ inl none ↦ absurd none | inr in_class ↦ in_class ]; kept = g.added }

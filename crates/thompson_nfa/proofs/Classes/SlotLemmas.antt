@@ -1,8 +1,8 @@
 -- What slots hold after a write, and after the version has gone up.
 use Rattle.std.proofs.Common.{◌≡◌, ℕ, zero, suc, ◌+◌, List, [], ◌∷◌, Option, Some, None, false, All, map, length, set, replicate, take}
-use Rattle.std.proofs.Common.{drop, ◌++◌, refl, sym, ap, ◌∙◌, subst, nat_eq, eq-eqb, arith}
+use Rattle.std.proofs.Common.{drop, ◌++◌, refl, ap, ◌∙◌, nat_eq, eq-eqb, arith}
 use Rattle.std.proofs.lemmas.List.{map-set, length-replicate}
-use Rattle.std.proofs.lemmas.List.Elements.{All-head, All-tail, All-replicate, All-weaker, All-set}
+use Rattle.std.proofs.lemmas.List.Elements.{All-head, All-tail}
 use Rattle.std.proofs.lemmas.Grind.{common_steps}
 use Rattle.std.proofs.lemmas.Bool.Decides.{nat_tests}
 use Rattle.thompson_nfa.specs.declared.slots.Slot.{Slot}
@@ -49,25 +49,3 @@ pub slots_forgotten : {K : Type 0} → (v n len : ℕ) (old new : List (Option (
     map (current v) (take len (new ++ drop (length new) old)) ≡ replicate n None
 slots_forgotten v n len old new a b e =
     rw (all_written n len old new a b e) (slots_made v n new e)
-
--- ---- versions
-
-pub up_made : {K : Type 0} → (v n : ℕ) (slots : List (Option (Slot K))) → slots ≡ replicate n None → All (IsUpTo v) slots
-up_made {K} v n slots e =
-    let P : List (Option (Slot K)) → Type 0 = λ xs. All (IsUpTo v) xs in
-    subst P (sym e) (All-replicate (IsUpTo v) n None tt)
-
-up_later : {K : Type 0} → (v : ℕ) (slot : Option (Slot K)) → IsUpTo v slot → IsUpTo (v + 1) slot
-up_later v None up = tt
-up_later v (Some slot) up = omega (arith, up)
-
-pub up_past : {K : Type 0} → (v : ℕ) (slots : List (Option (Slot K))) → All (IsUpTo v) slots → All (IsUpTo (v + 1)) slots
-up_past {K} v slots up = All-weaker (IsUpTo {K = K} v) (IsUpTo (v + 1)) (up_later v) slots up
-
-pub up_set : {K : Type 0} → (v : ℕ) (slots : List (Option (Slot K))) (at : ℕ) (key : K) (id : ℕ) → All (IsUpTo v) slots →
-    All (IsUpTo v) (set slots at (Some (record { version = v; key = key; id = id })))
-up_set {K} v slots at key id up = All-set (IsUpTo {K = K} v) slots at (Some (record { version = v; key = key; id = id })) (omega arith) up
-
-pub up_forgotten : {K : Type 0} → (v n len : ℕ) (old new : List (Option (Slot K))) → len ≡ n → length old ≡ n → new ≡ replicate n None →
-    All (IsUpTo v) (take len (new ++ drop (length new) old))
-up_forgotten v n len old new a b e = up_made v n (take len (new ++ drop (length new) old)) (all_written n len old new a b e ∙ e)

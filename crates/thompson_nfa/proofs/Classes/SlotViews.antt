@@ -1,5 +1,5 @@
 -- A table whose keys are seen by a function of them.
-use Rattle.std.proofs.Common.{◌≡◌, ℕ, zero, suc, List, [], ◌∷◌, Option, Some, None, map, get_or, set, replicate, refl, ap}
+use Rattle.std.proofs.Common.{◌≡◌, ℕ, zero, suc, List, ◌∷◌, Option, Some, None, map, set, replicate, refl, ap}
 use Rattle.std.proofs.lemmas.List.{map-set}
 use Rattle.std.specs.Option.{option_map}
 use Rattle.thompson_nfa.specs.SlotTables.{SlotTable, empty_table}
@@ -8,25 +8,9 @@ pub viewed_none : {A B : Type 0} → (f : A → B) (n : ℕ) → map (option_map
 viewed_none f zero = refl
 viewed_none f (suc n) = ap (λ xs. None ∷ xs) (viewed_none f n)
 
-pub viewed_at : {A B : Type 0} → (f : A → B) (xs : List (Option A)) (i : ℕ) →
-    get_or (map (option_map f) xs) i None ≡ option_map f (get_or xs i None)
-viewed_at f [] i = refl
-viewed_at f (x ∷ xs) zero = refl
-viewed_at f (x ∷ xs) (suc i) = viewed_at f xs i
-
 pub viewed_set : {A B : Type 0} → (f : A → B) (xs : List (Option A)) (i : ℕ) (a : A) →
     map (option_map f) (set xs i (Some a)) ≡ set (map (option_map f) xs) i (Some (f a))
 viewed_set f xs i a = map-set (option_map f) xs i (Some a)
-
--- what holds nothing is seen as nothing
-pub viewed_nothing : {A B : Type 0} → (f : A → B) (o : Option A) (b : B) → o ≡ None → option_map f o ≡ Some b → ⊥
-viewed_nothing f None b e g = cc
-viewed_nothing f (Some a) b e g = cc
-
--- what holds a value is seen as that value's view
-pub viewed_value : {A B : Type 0} → (f : A → B) (o : Option A) (a : A) (b : B) → o ≡ Some a → option_map f o ≡ Some b → f a ≡ b
-viewed_value f None a b e g = cc
-viewed_value f (Some x) a b e g = cc
 
 -- a table that holds nothing is seen as one
 pub viewed_empty : {A B : Type 0} → (f : A × ℕ → B × ℕ) (t : SlotTable A) (n : ℕ) → t ≡ empty_table n →

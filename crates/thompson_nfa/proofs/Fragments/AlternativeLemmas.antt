@@ -1,8 +1,7 @@
 -- Fragments of alternations: the parts so far.
 use Rattle.std.proofs.Common.{◌≡◌, ℕ, zero, suc, ◌+◌, ◌*◌, ◌<◌, ◌≤◌, Bool, true, List, [], ◌∷◌, ◌++◌, length, take, drop, get_or, sym, ap}
-use Rattle.std.proofs.Common.{◌∙◌, subst, arith, drop_of_length-le, false}
+use Rattle.std.proofs.Common.{◌∙◌, subst, arith, false}
 use Rattle.std.proofs.lemmas.List.{take_more, take_all}
-use Rattle.search_types.specs.Groups.{Groups}
 use Rattle.hir_core.specs.Tree.{Tree, alternation}
 use Rattle.nfa_core.specs.BuilderStates.{Assembly, empty_draft, union_draft}
 use Rattle.nfa_core.specs.declared.build_error.BuildError.{BuildError}
@@ -14,7 +13,6 @@ use Rattle.thompson_nfa.specs.Room.{room}
 use Rattle.thompson_nfa.specs.ByteRoom.{byte_room}
 use Rattle.thompson_nfa.specs.LiteralParts.{are_literals}
 use Rattle.thompson_nfa.specs.declared.compiling.How.{How}
-use Rattle.thompson_nfa.specs.declared.which_captures.WhichCaptures.{WhichCaptures}
 use Rattle.thompson_nfa.proofs.Walks.SameLemmas.{same_alternation_one}
 use Rattle.thompson_nfa.proofs.Fragments.PartBytes.{part_bytes, bytes_of_alternation, two_bytes}
 use Rattle.thompson_nfa.proofs.Fragments.JoinLemmas.{does_same}
@@ -236,10 +234,6 @@ module _ (how : How) (old b : Assembly) (u z i : ℕ) (xs : List Tree) (cs : Cas
       let P : List Tree → Type 0 = λ ys. Does old b u z (alternation ys) in
       subst P (take_all i xs over) (branches_does old b u z cs.n (take i xs) cs.branches)
 
-  pub cases_groups : length xs ≤ i → b.groups ≡ with_groups_of how.which (length old.starts) (alternation xs) old.groups
-  cases_groups over =
-      sym (ap (λ ys. with_groups_of how.which (length old.starts) (alternation ys) b.groups) (drop_of_length-le xs over)) ∙ cs.groups
-
 -- a part takes no more than all
 part_room : (shrink : Bool) (xs : List Tree) (i : ℕ) (x : Tree) → i < length xs → x ≡ get_or xs i x → room shrink x ≤ rooms shrink xs
 part_room shrink [] i x l is = absurd (omega arith)
@@ -256,16 +250,6 @@ pub single_does : (a b : Assembly) (s e : ℕ) (x : Tree) (xs : List Tree) → l
     Does a b s e (alternation xs)
 single_does a b s e x xs l is d = let P : List Tree → Type 0 = λ ys. Does a b s e (alternation ys) in
     subst P (sym (one_of xs x l is)) (does_same a b s e x (alternation (x ∷ [])) (same_alternation_one x) d)
-
-pub single_groups : (kept : WhichCaptures) (p : ℕ) (x : Tree) (xs : List Tree) (old now : Groups) → length xs ≡ 1 → x ≡ get_or xs 0 x →
-    now ≡ with_groups_of kept p x old → now ≡ with_groups_of kept p (alternation xs) old
-single_groups kept p x xs old now l is g = g ∙ sym (ap (λ ys. with_groups_of kept p (alternation ys) old) (one_of xs x l is))
-
-pub single_made : (shrink : Bool) (a b : Assembly) (s e : ℕ) (x : Tree) (xs : List Tree) → length xs ≡ 1 → x ≡ get_or xs 0 x →
-    Makes a b s e (room shrink x) → Makes a b s e (room shrink (alternation xs))
-single_made shrink a b s e x xs l is m =
-    let c = room_of_alternation shrink xs in let d : rooms shrink xs ≡ room shrink x + 0 = ap (rooms shrink) (one_of xs x l is) in
-    made_capped (room shrink (alternation xs)) m (omega arith)
 
 pub part_refused : (how : How) (old new : Assembly) (i : ℕ) (x : Tree) (xs : List Tree) (e : BuildError) → i < length xs →
     x ≡ get_or xs i x → RefusesFragment how.which old new (room how.shrink x) x e →

@@ -1,5 +1,5 @@
 -- Fragments of captures.
-use Rattle.std.proofs.Common.{◌≡◌, ◌⊎◌, inl, inr, ℕ, ◌+◌, ◌*◌, ◌<◌, ◌≤◌}
+use Rattle.std.proofs.Common.{◌≡◌, ◌⊎◌, ℕ, ◌+◌, ◌≤◌}
 use Rattle.std.proofs.Common.{Bool, true, false, length, Option, Some, None, nat_lt, if◌then◌else◌}
 use Rattle.std.proofs.Common.{refl, sym, ap, ◌∙◌, subst, arith, ⊎_elim}
 use Rattle.std.specs.Option.{option_or}
@@ -17,10 +17,9 @@ use Rattle.nfa_core.specs.Renaming.{stands_for}
 use Rattle.nfa_core.specs.Drafted.{Table}
 use Rattle.nfa_core.specs.declared.build_error.BuildError.{BuildError}
 use Rattle.nfa_core.specs.declared.build_error.BuildError.TheVariants as error
-use Rattle.thompson_nfa.specs.Compiled.{Finished, AllComeOut, IsTame, Makes, Does, sum_of_bytes}
+use Rattle.thompson_nfa.specs.Compiled.{Finished, AllComeOut, IsTame, Makes, Does}
 use Rattle.thompson_nfa.specs.Added.{AddsDraft, Led}
-use Rattle.thompson_nfa.specs.NotedGroups.{with_groups_of, keeps_group}
-use Rattle.thompson_nfa.specs.Refusals.{RefusesGroup, QuitsGroup, RefusesFragment, RefusesTree, RefusesStep, Stays}
+use Rattle.thompson_nfa.specs.Refusals.{RefusesGroup, QuitsGroup, RefusesFragment, RefusesStep, Stays}
 use Rattle.thompson_nfa.specs.declared.which_captures.WhichCaptures.{WhichCaptures}
 use Rattle.thompson_nfa.proofs.Steps.LookLemmas.{quiet_led, quiet_added, adds_around}
 use Rattle.thompson_nfa.proofs.Steps.SizeLemmas.{AddedAt, added_at, MadeAt, made_at, LedAt}
@@ -29,8 +28,8 @@ use Rattle.thompson_nfa.proofs.Fragments.LeafLemmas.{tame_one}
 use Rattle.thompson_nfa.proofs.Steps.StepLemmas.{added_of, added_group, refused_name}
 use Rattle.thompson_nfa.proofs.Steps.NotedLemmas.{group_in, known_of_in, known_group}
 use Rattle.thompson_nfa.proofs.Steps.ByteLemmas.{group_bytes}
-use Rattle.thompson_nfa.proofs.Steps.ProgressLemmas.{Progress, first_added, then_added, then_made, then_led, made, step_later, size_kept}
-use Rattle.thompson_nfa.proofs.Steps.ProgressLemmas.{then_quits, refuses, then_refuses}
+use Rattle.thompson_nfa.proofs.Steps.ProgressLemmas.{Progress, first_added, then_added, then_made, then_led, made}
+use Rattle.thompson_nfa.proofs.Steps.ProgressLemmas.{then_quits, refuses}
 use Rattle.thompson_nfa.proofs.Fragments.RepeatLemmas.{reads_as}
 use Rattle.thompson_nfa.proofs.Walks.AheadLemmas.{denotes_capture, denotes_capture_plain}
 use Rattle.thompson_nfa.proofs.Steps.RoomLemmas.{numbered}
@@ -120,54 +119,6 @@ start_refused old new index e same told = record {
   passed = group_bytes (length old.starts) index old e (start_cause old index e told);
 }
 
--- the whole capture is refused
-group_later : (kept : WhichCaptures) (p index : ℕ) (name : Option Name) (x : Tree) (old mid : Assembly) (k m : ℕ) (e : BuildError) →
-    mid.size_limit ≡ old.size_limit → keeps_group kept index ≡ true →
-    length mid.drafts ≤ length old.drafts + k → k < m → RefusesGroup p index mid e → sum_of_bytes mid + 24 ≤ sum_of_bytes old + 4096 * m →
-    RefusesTree kept p old m (capture index name x) e
-group_later kept p index name x old mid k m error.TooManyPatterns size keeps states le r room = r
-group_later kept p index name x old mid k m error.TooManyStates size keeps states le r room =
-    step_later old mid 1 24 m m error.TooManyStates size (omega arith) room (omega arith) r
-group_later kept p index name x old mid k m (error.ExceededSizeLimit limit) size keeps states le r room =
-    step_later old mid 1 24 m m (error.ExceededSizeLimit limit) size (omega arith) room (omega arith) r
-group_later kept p index name x old mid k m error.UnsupportedCaptures size keeps states le r room = r
-group_later kept p index name x old mid k m (error.Captures err) size keeps states le r room = (index, inl (refl, keeps), r)
-group_later kept p index name x old mid k m error.NoMemory size keeps states le r room = r
-
-pub start_quits : (kept : WhichCaptures) (old new : Assembly) (index m : ℕ) (name : Option Name) (x : Tree) (e : BuildError) →
-    keeps_group kept index ≡ true → 1 ≤ m → QuitsGroup old new index e →
-    RefusesFragment kept old new m (capture index name x) e
-start_quits kept old new index m name x e keeps le r = record {
-  settings = r.settings;
-  cause = group_later kept (length old.starts) index name x old old 0 m e refl keeps (omega arith) (omega arith) r.cause (omega arith);
-}
-
-pub end_quits : {kept : WhichCaptures} {old mid new : Assembly} {k s : ℕ} {e : BuildError} (index m : ℕ) (name : Option Name)
-    (x : Tree) → Progress false old mid k s → keeps_group kept index ≡ true → k < m →
-    QuitsGroup mid new index e → RefusesFragment kept old new m (capture index name x) e
-end_quits {kept} {old} {mid} {new} {k} {s} {e} index m name x p keeps le r =
-    let starts : length mid.starts ≡ length old.starts = ap (λ (b : Assembly). length b.starts) p.partly.grows.settings in
-    let P : ℕ → Type 0 = λ pattern. RefusesGroup pattern index mid e in
-    record {
-      settings = r.settings ∙ ap (λ (b : Assembly). record b { drafts = new.drafts; groups = new.groups }) p.partly.grows.settings;
-      cause = group_later kept (length old.starts) index name x old mid k m e (size_kept p.partly.grows) keeps p.states le
-          (subst P starts r.cause) (omega arith);
-    }
-
--- the groups of a capture whose states are made, and of another
-pub capture_groups : (kept : WhichCaptures) (p q index : ℕ) (name shown : Option Name) (x : Tree) (old begun now : Groups) →
-    keeps_group kept index ≡ true → begun ≡ with_group old p index name → name ≡ shown → q ≡ p →
-    now ≡ with_groups_of kept q x begun → now ≡ with_groups_of kept p (capture index shown x) old
-capture_groups kept p q index name shown x old begun now keeps first same here is =
-    is ∙ ap (λ k. with_groups_of kept k x begun) here ∙ ap (with_groups_of kept p x) (first ∙ ap (with_group old p index) same)
-    ∙ sym (ap (λ (b : Bool). with_groups_of kept p x (if b then with_group old p index shown else old)) keeps)
-
-pub plain_groups : (kept : WhichCaptures) (p index : ℕ) (shown : Option Name) (x : Tree) (old now : Groups) →
-    keeps_group kept index ≡ false → now ≡ with_groups_of kept p x old → now ≡ with_groups_of kept p (capture index shown x) old
-plain_groups kept p index shown x old now drops is =
-    is ∙ sym (ap (λ (b : Bool). with_groups_of kept p x (if b then with_group old p index shown
-    else old)) drops)
-
 pub plain_does : (old new : Assembly) (s e index : ℕ) (name : Option Name) (x : Tree) → Does old new s e x →
     Does old new s e (capture index name x)
 plain_does old new s e index name x does =
@@ -192,17 +143,9 @@ module _ {t0 t1 : Assembly} {a index : ℕ} (name : Option Name)
     first.size,
   )) start_known refl) (omega arith)
 
-  pub body_refused : {new : Assembly} {n : ℕ} {err : BuildError} (kept : WhichCaptures) (shown : Option Name) (x : Tree) →
-      RefusesFragment kept t1 new n x err → RefusesFragment kept t0 new (n + 2) (capture index shown x) err
-  body_refused {new} {n} kept shown x r = then_refuses (n + 2) (capture index shown x) with_start r (λ other h. inr h) (omega arith)
-
   module _ {t2 : Assembly} {s e n : ℕ} (body : Makes t1 t2 s e n) where
     with_body : Progress false t0 t2 (1 + n) 4000
     with_body = then_made 4000 with_start body (omega arith)
-
-    pub end_step_refused : {new : Assembly} {err : BuildError} (kept : WhichCaptures) (shown : Option Name) (x : Tree) →
-        keeps_group kept index ≡ true → QuitsGroup t2 new index err → RefusesFragment kept t0 new (n + 2) (capture index shown x) err
-    end_step_refused kept shown x keeps r = end_quits index (n + 2) shown x with_body keeps (omega arith) r
 
     module _ {t3 : Assembly} {z pattern : ℕ} (last : AddsDraft t2 t3 z (capture_end_draft pattern index 0) t2.groups)
         (same_pattern : pattern ≡ length t0.starts) where
@@ -224,11 +167,6 @@ module _ {t0 t1 : Assembly} {a index : ℕ} (name : Option Name)
           Stays t3 new 0 4 err → RefusesFragment kept t0 new (n + 2) (capture index shown x) err
       lead_refused kept shown x r = refuses kept (n + 2) (capture index shown x)
           (then_quits (n + 2) with_end r (omega arith) (omega arith)) (omega arith)
-
-      pub lead_on_refused : {t4 new : Assembly} {err : BuildError} (kept : WhichCaptures) (shown : Option Name) (x : Tree) →
-          Led t3 t4 a s → Stays t4 new 0 4 err → RefusesFragment kept t0 new (n + 2) (capture index shown x) err
-      lead_on_refused kept shown x led r = refuses kept (n + 2) (capture index shown x)
-          (then_quits (n + 2) (with_lead led) r (omega arith) (omega arith)) (omega arith)
 
 module _ (t0 t1 t2 t3 t4 t5 : Assembly) (a s e z n index pattern : ℕ) (name : Option Name)
     (first : AddsDraft t0 t1 a (capture_start_draft (length t0.starts) index 0) (with_group t0.groups (length t0.starts) index name))

@@ -17,7 +17,7 @@ use Rattle.thompson_nfa.specs.declared.compiling.How.{How}
 use Rattle.thompson_nfa.specs.declared.which_captures.WhichCaptures.{WhichCaptures}
 use Rattle.thompson_nfa.specs.declared.which_captures.WhichCaptures.TheVariants as which
 use Rattle.thompson_nfa.proofs.Walks.SameLemmas.{same_concat_one}
-use Rattle.thompson_nfa.proofs.Fragments.TurnLemmas.{first_left, last_left, left_all, left_none, concat_joins, concat_begun, concat_ended}
+use Rattle.thompson_nfa.proofs.Fragments.TurnLemmas.{first_left, last_left, left_all, concat_joins, concat_begun, concat_ended}
 use Rattle.thompson_nfa.proofs.Fragments.PartBytes.{part_bytes, left_bytes, bytes_of_concat}
 use Rattle.thompson_nfa.proofs.Fragments.JoinLemmas.{join_made, join_does, does_first, does_all, does_same}
 use Rattle.thompson_nfa.proofs.Steps.ProgressLemmas.{Includes, first_made, then_made, made_capped, then_quits, refuses, then_refuses}
@@ -164,10 +164,6 @@ module _ (how : How) (old mid : Assembly) (start end i : ℕ) (xs : List Tree) (
   pub parts_does : length xs ≤ i → Does old mid start end (concat xs)
   parts_does over = does_all old mid start end (concat (left_after old.reverse i xs)) (concat xs)
       (concat_ended old.reverse i xs over) ps.does
-
-  pub parts_groups : length xs ≤ i → mid.groups ≡ with_groups_of how.which (length old.starts) (concat xs) old.groups
-  parts_groups over = sym (ap (λ ys. with_groups_of how.which (length old.starts) (concat ys) mid.groups) (left_none old.reverse i xs over))
-      ∙ ps.groups
 
   pub parts_weigh : Weighs old mid (byte_room how.shrink (concat xs))
   parts_weigh = omega (arith, ps.bytes, bytes_of_concat how.shrink xs)

@@ -100,16 +100,6 @@ pub copies_left : (how : How) (old b : Assembly) (start end i n : ℕ) (x : Tree
     sum_of_bytes b + byte_room how.shrink x + 4 ≤ sum_of_bytes old + n * (byte_room how.shrink x + 4)
 copies_left how old b start end i n x cs l = omega (arith, cs.weighs, copy_bytes i n (byte_room how.shrink x) l)
 
-pub copies_made : (how : How) (old b : Assembly) (start end i n : ℕ) (x : Tree) → Copies how old b start end i x → i ≤ n → n ≤ i →
-    Makes old b start end (n * room how.shrink x)
-copies_made how old b start end i n x cs le ge = let same : i ≡ n = omega arith in
-    let P : ℕ → Type 0 = λ k. Makes old b start end (k * room how.shrink x) in subst P same cs.made
-
-pub copies_weigh : (how : How) (old b : Assembly) (start end i n : ℕ) (x : Tree) → Copies how old b start end i x → i ≤ n → n ≤ i →
-    Weighs old b (n * (byte_room how.shrink x + 4))
-copies_weigh how old b start end i n x cs le ge = let same : i ≡ n = omega arith in
-    let P : ℕ → Type 0 = λ k. Weighs old b (k * (byte_room how.shrink x + 4)) in subst P same cs.weighs
-
 pub copies_refused : (how : How) (old b new : Assembly) (start end i n : ℕ) (x : Tree) (e : BuildError) → Copies how old b start end i x →
     i < n → RefusesFragment how.which b new (room how.shrink x) x e →
     RefusesFragment how.which old new (n * room how.shrink x) x e
@@ -217,9 +207,6 @@ module _ (how : How) (old b : Assembly) (start end z i low most total : ℕ) (gr
   pub rounds_last : sum_of_bytes b + 4 ≤ sum_of_bytes old + repeated_bytes low (Some most) (byte_room how.shrink x)
   rounds_last = omega (arith, rs.bytes)
 
-  pub rounds_weigh : (new : Assembly) → Led b new end z → Weighs old new (repeated_bytes low (Some most) (byte_room how.shrink x))
-  rounds_weigh new led = omega (arith, led.bytes, rs.bytes)
-
   pub rounds_refused : (new : Assembly) (e : BuildError) → i < most → RefusesFragment how.which b new (room how.shrink x + 1) x e →
       RefusesFragment how.which old new total x e
   rounds_refused new e l r =
@@ -234,10 +221,6 @@ module _ (how : How) (old b : Assembly) (start end z i low most total : ℕ) (gr
       let fits = rs.fits in
       refuses how.which total x (then_quits total (then_made 8 rs.options.progress m (omega arith)) r (omega arith) (omega arith))
       (omega arith)
-
-  pub rounds_last_refused : (new : Assembly) (e : BuildError) → Stays b new 0 4 e → RefusesFragment how.which old new total x e
-  rounds_last_refused new e r = let fits = rs.fits in refuses how.which total x
-      (then_quits total rs.options.progress r (omega arith) (omega arith)) (omega arith)
 
   pub rounds_made : (new : Assembly) → Led b new end z → most ≤ i → Makes old new start z total
   rounds_made new led over =

@@ -1,11 +1,11 @@
 -- The bytes of parts, and of rounds.
-use Rattle.std.proofs.Common.{◌≡◌, ℕ, zero, suc, ◌+◌, ◌-◌, ◌*◌, ◌<◌, ◌≤◌, max, Bool, true, false, ◌&&◌, List, [], ◌∷◌, ◌++◌, length, take}
-use Rattle.std.proofs.Common.{drop, get_or, Some, None, refl, sym, ap, ◌∙◌, arith, if◌then◌else◌}
+use Rattle.std.proofs.Common.{◌≡◌, ℕ, zero, suc, ◌+◌, ◌-◌, ◌*◌, ◌<◌, ◌≤◌, Bool, true, false, ◌&&◌, List, [], ◌∷◌, ◌++◌, length, take}
+use Rattle.std.proofs.Common.{drop, get_or, refl, sym, ap, ◌∙◌, arith, if◌then◌else◌}
 use Rattle.std.specs.List.{list_all}
 use Rattle.std.proofs.lemmas.Bool.{and_parts, le-leb}
 use Rattle.hir_core.specs.Tree.{Tree, empty, literal, byte_class, char_class, look, repetition, capture, nothing, cat, never, alt}
 use Rattle.hir_core.specs.Tree.{concat, alternation}
-use Rattle.thompson_nfa.specs.ByteRoom.{byte_room, has_literals, is_choice, choice_bytes, apart_bytes, repeated_bytes}
+use Rattle.thompson_nfa.specs.ByteRoom.{byte_room, has_literals, is_choice, choice_bytes, apart_bytes}
 use Rattle.thompson_nfa.specs.LiteralParts.{is_literal, are_literals, bytes_of_literal}
 use Rattle.thompson_nfa.specs.Turned.{turned_place, left_after}
 use Rattle.thompson_nfa.proofs.Fragments.TurnLemmas.{first_left, last_left}
@@ -92,11 +92,6 @@ choice_is x [] = refl
 choice_is x (y ∷ xs) = ap (λ b. b && list_all is_literal (x ∷ y ∷ xs)) (le-leb 2 (length (x ∷ y ∷ xs)) (omega arith))
     ∙ all_literals (x ∷ y ∷ xs)
 
-pub few_parts : (xs : List Tree) → length xs ≤ 1 → are_literals xs ≡ false
-few_parts [] few = refl
-few_parts (x ∷ []) few = refl
-few_parts (x ∷ y ∷ xs) few = absurd (omega arith)
-
 -- parts that aren't all literals, or none, or one
 pub bytes_of_alternation : (shrink : Bool) (xs : List Tree) → are_literals xs ≡ false →
     part_bytes 8 shrink xs + 48 ≤ byte_room shrink (alternation xs)
@@ -135,19 +130,9 @@ once : (k n : ℕ) → 0 < k → n ≤ k * n
 once zero n l = absurd (omega arith)
 once (suc k) n l = omega arith
 
-pub repeated_once : (low n : ℕ) → n + 92 ≤ repeated_bytes low None n
-repeated_once low n = let e = once (max low 1) (n + 4) (omega arith) in omega arith
-
 pub copies_before : (low k : ℕ) → 0 < low → (low - 1) * k + k ≡ low * k
 copies_before zero k l = absurd (omega arith)
 copies_before (suc low) k l = let e : suc low - 1 ≡ low = omega arith in ap (λ n. n * k + k) e ∙ omega arith
-
-pub at_least_bytes : (low n : ℕ) → 1 < low → (low - 1) * (n + 4) + n + 36 ≤ repeated_bytes low None n
-at_least_bytes low n some =
-    let e = copies_before low (n + 4) (omega arith) in
-    let most : max low 1 ≡ low = omega arith in
-    let f = ap (λ k. k * (n + 4)) most in
-    omega arith
 
 pub copy_bytes : (i n k : ℕ) → i < n → i * (k + 4) + k + 4 ≤ n * (k + 4)
 copy_bytes i zero k l = absurd (omega arith)
@@ -156,6 +141,3 @@ copy_bytes (suc i) (suc n) k l = let e = copy_bytes i n k (omega arith) in omega
 
 pub round_bytes : (i most n : ℕ) → i < most → (most - i) * n ≡ (most - (i + 1)) * n + n
 round_bytes i most n l = let e : most - i ≡ suc (most - (i + 1)) = omega arith in ap (λ k. k * n) e ∙ omega arith
-
-pub none_owed : (low most n : ℕ) → low ≡ 0 → repeated_bytes 0 (Some most) n ≡ repeated_bytes low (Some most) n
-none_owed low most n none = ap (λ k. repeated_bytes k (Some most) n) (sym none)

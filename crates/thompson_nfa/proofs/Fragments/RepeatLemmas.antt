@@ -1,6 +1,5 @@
 -- Fragments of repetitions.
-use Rattle.std.proofs.Common.{◌≡◌, ◌==◌, ℕ, ◌+◌, Bool, true, false, length, Option, None, refl, sym, ap, ◌∙◌, subst, arith, ⊎_elim, eq-eqb}
-use Rattle.std.proofs.lemmas.Bool.{cases_Bool, eqb-true}
+use Rattle.std.proofs.Common.{◌≡◌, ℕ, ◌+◌, Bool, true, false, length, None, refl, ap, ◌∙◌, subst, arith}
 use Rattle.hir_core.specs.Tree.{Tree, repetition}
 use Rattle.search_types.specs.Groups.{Groups}
 use Rattle.nfa_core.specs.BuilderStates.{DraftNode, Assembly, draft_at, patched, draft_bytes, is_sparse, empty_draft}
@@ -8,7 +7,7 @@ use Rattle.nfa_core.specs.Renaming.{stands_for}
 use Rattle.nfa_core.specs.Drafted.{Table}
 use Rattle.thompson_nfa.specs.Choice.{no_choice}
 use Rattle.thompson_nfa.specs.Denotes.{Denotes, choice}
-use Rattle.thompson_nfa.specs.Compiled.{Grows, Finished, AllComeOut, IsTame, Makes, Does, is_above_zero}
+use Rattle.thompson_nfa.specs.Compiled.{Grows, Finished, AllComeOut, IsTame, Makes, Does}
 use Rattle.thompson_nfa.specs.Added.{AddsDraft, Led}
 use Rattle.thompson_nfa.proofs.Steps.LookLemmas.{quiet_led, quiet_added, quiet_choice, adds_around}
 use Rattle.thompson_nfa.proofs.Steps.SizeLemmas.{AddedAt, added_at, MadeAt, made_at, LedAt}
@@ -27,10 +26,6 @@ choice_stands false a b = refl
 pub choice_kind : (greedy : Bool) (a : ℕ) → is_sparse (patched a (no_choice greedy)) ≡ false
 choice_kind true a = refl
 choice_kind false a = refl
-
-pub no_choice_kind : (greedy : Bool) → is_sparse (no_choice greedy) ≡ false
-no_choice_kind true = refl
-no_choice_kind false = refl
 
 pub no_choice_bytes : (greedy : Bool) → draft_bytes (no_choice greedy) ≡ 24
 no_choice_bytes true = refl
@@ -259,19 +254,3 @@ module _ (t0 t1 t2 t3 t4 t5 t6 t7 t8 t9 : Assembly) (greedy : Bool) (s e u q z n
     looks = λ l. quiet_led p8 l ∙ quiet_led p7 l ∙ quiet_led p6 l ∙ quiet_added p5 (λ k. refl) l ∙ quiet_choice greedy p4 l
         ∙ quiet_led p3 l ∙ quiet_led p2 l ∙ quiet_choice greedy p1 l ∙ does.looks l;
   }
-
--- ---- which of the two forms a loop has
-
-pub loop_form : (q : ℕ) (some : Bool) (least : Option ℕ) → some ≡ is_above_zero least → some ≡ true → (q == q) ≡ is_above_zero least
-loop_form q some least is reads = eq-eqb q q refl ∙ sym reads ∙ is
-
-pub other_form : (same some : Bool) (least : Option ℕ) → same ≡ false → some ≡ is_above_zero least → some ≡ false →
-    same ≡ is_above_zero least
-other_form same some least apart is none = apart ∙ sym none ∙ is
-
--- the choice at the start and the state at the end are two
-pub loops_apart : {a b c : Assembly} {q z : ℕ} {draft last : DraftNode} {groups more : Groups} → AddsDraft a b q draft groups →
-    AddsDraft b c z last more → (q == z) ≡ false
-loops_apart {a} {b} {c} {q} {z} x y =
-    ⊎_elim (λ (same : (q == z) ≡ true). let e : q ≡ z = eqb-true q z same in absurd (omega (arith, e, x.is, x.size, y.is)))
-    (λ other. other) (cases_Bool (q == z))

@@ -1,13 +1,12 @@
 -- Strings in groups: what one more edge adds.
 use Rattle.std.proofs.Common.{◌≡◌, ℕ, zero, suc, ◌+◌, ◌<◌, ◌≤◌, min, Bool, true, false, List, [], ◌∷◌, ◌++◌, length, get_or, Option, Some}
 use Rattle.std.proofs.Common.{None, nat_eq, nat_le, if◌then◌else◌, refl, sym, ap, ◌∙◌, subst, arith, length-append, append_assoc}
-use Rattle.std.proofs.Common.{append-nil, ⊎_elim, drop, drop_of_length-le}
+use Rattle.std.proofs.Common.{append-nil, ⊎_elim}
 use Rattle.std.proofs.lemmas.Bool.{cases_eq, cases_lt}
 use Rattle.std.proofs.lemmas.Grind.{common_steps}
 use Rattle.thompson_nfa.specs.declared.literal_groups.Edge.{Edge}
 use denote.Ref.{Bor}
 use Rattle.std.proofs.lemmas.List.{map-append, length-map}
-use Rattle.thompson_nfa.proofs.Fragments.TurnLemmas.{first_left}
 use Rattle.thompson_nfa.specs.LiteralGroups.{texts, texts_of_groups, with_tail, tails, lesser, with_first}
 use Rattle.thompson_nfa.specs.LiteralGroups.{next_of, each_behind, chunk_strings}
 use Rattle.thompson_nfa.specs.LiteralGroups.{Ascends, LeadWithin, bytes_in, bytes_in_all, strings_in_all, AllSome, IsChunk}
@@ -395,43 +394,3 @@ group_count {V} items gs = length-map gs (λ (v : V). texts (items v))
 
 pub next_above : (low b : ℕ) (strings : List (List ℕ)) → next_of low strings ≡ Some b → low ≤ b
 next_above low b strings e = let P : Option ℕ → Type 0 = λ o. IsNext low strings o in (subst P e (next_is low strings)).0
-
--- ---- the loop over strings
-
--- the string at the place, and those behind it
-tails_at : (b : ℕ) (ss : List (Bor (List ℕ))) (i : ℕ) (d : Bor (List ℕ)) (w : List ℕ) → i < length ss → (get_or ss i d).now ≡ w →
-    tails b (texts (drop i ss)) ≡ with_tail b w (tails b (texts (drop (i + 1) ss)))
-tails_at b ss i d w l is =
-    ap (λ (rs : List (Bor (List ℕ))). tails b (texts rs)) (first_left ss i (get_or ss i d) d l refl)
-    ∙ ap (λ (v : List ℕ). with_tail b v (tails b (texts (drop (i + 1) ss)))) is
-
--- a string that is empty has no tail
-without_tail : (b : ℕ) (w : List ℕ) (rest : List (List ℕ)) → length w ≡ 0 → with_tail b w rest ≡ rest
-without_tail b [] rest none = refl
-without_tail b (a ∷ w) rest none = absurd (omega arith)
-
-module _ (b : ℕ) (ss : List (Bor (List ℕ))) (i : ℕ) (all : List (Bor (List ℕ)))
-    (so_far : texts all ++ tails b (texts (drop i ss)) ≡ tails b (texts ss)) where
-  pub tails_done : length ss ≤ i → texts all ≡ tails b (texts ss)
-  tails_done over = sym (append-nil (texts all))
-      ∙ sym (ap (λ (rs : List (Bor (List ℕ))). texts all ++ tails b (texts rs)) (drop_of_length-le ss over)) ∙ so_far
-
-  module _ (d : Bor (List ℕ)) (l : i < length ss) where
-    pub tails_empty : length (get_or ss i d).now ≡ 0 → texts all ++ tails b (texts (drop (i + 1) ss)) ≡ tails b (texts ss)
-    tails_empty none =
-        ap (λ (r : List (List ℕ)). texts all ++ r) (sym (tails_at b ss i d (get_or ss i d).now l refl
-        ∙ without_tail b (get_or ss i d).now (tails b (texts (drop (i + 1) ss))) none)) ∙ so_far
-
-    module _ (a : ℕ) (r : Bor (List ℕ)) (is : (get_or ss i d).now ≡ a ∷ r.now) where
-      pub tails_other : (a ≡ b → ⊥) → texts all ++ tails b (texts (drop (i + 1) ss)) ≡ tails b (texts ss)
-      tails_other ne =
-          ap (λ (ws : List (List ℕ)). texts all ++ ws) (sym (tails_at b ss i d (a ∷ r.now) l is
-          ∙ tail_other a b r.now (tails b (texts (drop (i + 1) ss))) ne)) ∙ so_far
-
-      pub tails_same : (all2 : List (Bor (List ℕ))) → a ≡ b → all2 ≡ all ++ r ∷ [] →
-          texts all2 ++ tails b (texts (drop (i + 1) ss)) ≡ tails b (texts ss)
-      tails_same all2 e pushed =
-          ap (λ (ws : List (List ℕ)). ws ++ tails b (texts (drop (i + 1) ss))) (ap texts pushed ∙ map-append (λ (v : Bor (List ℕ)). v.now)
-          all (r ∷ [])) ∙ append_assoc (texts all) (r.now ∷ []) (tails b (texts (drop (i + 1) ss)))
-          ∙ ap (λ (ws : List (List ℕ)). texts all ++ ws) (sym (tails_at b ss i d (a ∷ r.now) l is
-          ∙ tail_same a b r.now (tails b (texts (drop (i + 1) ss))) e)) ∙ so_far

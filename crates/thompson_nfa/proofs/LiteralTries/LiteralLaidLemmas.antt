@@ -1,17 +1,17 @@
 -- The nodes of a trie of strings: what one more node adds.
-use Rattle.std.proofs.Common.{◌≡◌, ℕ, zero, suc, ◌+◌, ◌-◌, ◌<◌, ◌≤◌, List, [], ◌∷◌, ◌++◌, map, length, drop, get_or, nat_eq, refl, sym, ap}
+use Rattle.std.proofs.Common.{◌≡◌, ℕ, zero, suc, ◌+◌, ◌-◌, ◌<◌, ◌≤◌, List, [], ◌∷◌, ◌++◌, length, drop, get_or, nat_eq, refl, sym, ap}
 use Rattle.std.proofs.Common.{◌∙◌, subst, arith, length-append, ⊎_elim}
 use Rattle.std.proofs.lemmas.Bool.{cases_lt}
-use Rattle.std.proofs.lemmas.List.{map-append, drop-append-le}
+use Rattle.std.proofs.lemmas.List.{drop-append-le}
 use Rattle.std.proofs.Math.Seq.{drop-nil}
 use denote.Ref.{Bor}
 use Rattle.nfa_core.specs.Walks.{distinct}
 use Rattle.thompson_nfa.specs.declared.literal_groups.Edge.{Edge}
-use Rattle.thompson_nfa.specs.LiteralGroups.{texts, texts_of_groups, bytes_in, bytes_in_all, strings_in_all, AllSome}
+use Rattle.thompson_nfa.specs.LiteralGroups.{texts, bytes_in, bytes_in_all, strings_in_all, AllSome}
 use Rattle.thompson_nfa.specs.LiteralLaid.{NodeValue, no_node, node_weight, weight_in_all, matches_in_all, HasStrings, LaysNode}
 use Rattle.thompson_nfa.specs.LiteralStems.{BeginAll, without_first, behind_text}
 use Rattle.thompson_nfa.specs.LiteralTries.{literal_ends_of, edges_in, matches_in, IsNode}
-use Rattle.thompson_nfa.proofs.LiteralTries.LiteralGroupLemmas.{group_count, all_some_append, all_bytes_append, all_strings_append}
+use Rattle.thompson_nfa.proofs.LiteralTries.LiteralGroupLemmas.{all_some_append, all_bytes_append, all_strings_append}
 use Rattle.thompson_nfa.proofs.LiteralTries.LiteralNodeLemmas.{are_wider, strings_kept, texts_long}
 use Rattle.thompson_nfa.proofs.LiteralTries.LiteralStemLemmas.{behind_long, behind_bytes, behind_without}
 
@@ -293,43 +293,3 @@ pub next_held : (nodes : List NodeValue) (held : List (List (List ℕ))) (string
     LaidNext nodes held nodes2 held2 k → NodesHeld nodes2 held2 strings × (left_of nodes2 held2 < left_of nodes held)
 next_held nodes held strings nodes2 held2 k so_far at less x = taken_next nodes held strings so_far k at less x.0 x.1 x.3 x.4 x.2 x.5
     nodes2 held2 x.6 x.7
-
-module _ {W V : Type 0} (value : W → NodeValue) (items_of : V → List (Bor (List ℕ))) (groups kept : List V) (k : ℕ)
-    (row taken : List (Bor (List ℕ))) (row_is : row ≡ taken) (taken_is : texts taken ≡ get_or (texts_of_groups items_of groups) k []) where
-  texts_are : texts row ≡ get_or (texts_of_groups items_of groups) k []
-  texts_are = ap texts row_is ∙ taken_is
-
-  pub row_some : 1 ≤ length (get_or (texts_of_groups items_of groups) k []) → 1 ≤ length row
-  row_some some = omega (arith, texts_long row, ap length texts_are, some)
-
-  module _ (n : ℕ) (is_n : n ≡ length kept) (as_many : length (texts_of_groups items_of kept) ≡ length (texts_of_groups items_of groups))
-      (later : drop (k + 1) (texts_of_groups items_of kept) ≡ drop (k + 1) (texts_of_groups items_of groups))
-      (none fresh : List V) (is_none : none ≡ []) (node : W) (lays : LaysNode n (texts_of_groups items_of none)
-      (texts_of_groups items_of fresh)
-      (value node) (texts row)) where
-    lays_row : LaysNode (length (texts_of_groups items_of groups)) [] (texts_of_groups items_of fresh) (value node)
-        (get_or (texts_of_groups items_of groups) k [])
-    lays_row =
-        let P : List V → Type 0 =
-        λ vs. LaysNode n (texts_of_groups items_of vs) (texts_of_groups items_of fresh) (value node) (texts row) in
-        let Q : List (List ℕ) → Type 0 = λ ws. LaysNode n [] (texts_of_groups items_of fresh) (value node) ws in
-        let R : ℕ → Type 0 =
-        λ m. LaysNode m [] (texts_of_groups items_of fresh) (value node) (get_or (texts_of_groups items_of groups) k []) in
-        let same : n ≡ length (texts_of_groups items_of groups) = omega (arith, is_n, as_many, group_count items_of kept) in
-        subst R same (subst Q texts_are (subst P is_none lays))
-
-    pub next_laid : (rows rows2 : List W) (groups2 : List V) → k ≡ length rows → rows2 ≡ rows ++ node ∷ [] → groups2 ≡ kept ++ fresh →
-        LaidNext (map value rows) (texts_of_groups items_of groups) (map value rows2) (texts_of_groups items_of groups2) (length rows)
-    next_laid rows rows2 groups2 at e1 e2 =
-        let P : ℕ → Type 0 =
-        λ j. LaidNext (map value rows) (texts_of_groups items_of groups) (map value rows2) (texts_of_groups items_of groups2) j in
-        subst P at (
-          texts_of_groups items_of kept,
-          texts_of_groups items_of fresh,
-          value node,
-          as_many,
-          later,
-          lays_row,
-          ap (map value) e1 ∙ map-append value rows (node ∷ []),
-          ap (texts_of_groups items_of) e2 ∙ map-append (λ (v : V). texts (items_of v)) kept fresh,
-        )

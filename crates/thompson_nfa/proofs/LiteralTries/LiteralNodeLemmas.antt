@@ -14,7 +14,6 @@ use Rattle.thompson_nfa.specs.declared.literal_groups.Edge.{Edge}
 use Rattle.thompson_nfa.specs.LiteralGroups.{texts, tails, run_of, each_behind, chunk_strings, Ascends, LeadWithin, bytes_in, bytes_in_all}
 use Rattle.thompson_nfa.specs.LiteralGroups.{strings_in_all, AllSome, IsChunk, AddsGroups}
 use Rattle.thompson_nfa.specs.LiteralTries.{literal_ends_of, IsLike, item_strings, node_strings, edges_in, chunks_in, matches_in, AreChunks}
-use Rattle.thompson_nfa.specs.LiteralTries.{IsNode}
 use Rattle.thompson_nfa.proofs.LiteralTries.LiteralGroupLemmas.{all_some_append, chunk_kept, inside_wider}
 
 -- ---- ends
@@ -582,39 +581,3 @@ module _ (first : ℕ) (old new : List (List (List ℕ))) (items : List (List Ed
       let w = some_text (get_or (take n rest) 0 d).now (is_some (length (get_or (take n rest) 0 d).now) ne) in
       chunk_next first old new items (texts rest) matched all so_far more items2 edges (texts (take n rest))
       (texts (take m (drop n rest))) turn w.0 w.1 (here ∙ w.2) one is adds chunk
-
--- all strings were met
-no_texts : (xs : List (Bor (List ℕ))) → length xs ≤ 0 → texts xs ≡ []
-no_texts [] none = refl
-no_texts (x ∷ xs) none = absurd (omega arith)
-
-module _ (first : ℕ) (old new : List (List (List ℕ))) (items : List (List Edge)) (rest : List (Bor (List ℕ))) (matched : Bool)
-    (all : List (List ℕ)) (so_far : Listing first old new items (texts rest) matched all) (none : length rest ≤ 0) where
-  met_all : so_far.met ≡ all
-  met_all = sym (append-nil so_far.met) ∙ ap (λ (l : List (List ℕ)). so_far.met ++ l) (sym (no_texts rest none)) ∙ so_far.split
-
-  pub listed_groups : AddsGroups old new (edges_in items) all
-  listed_groups =
-      let P : List (List ℕ) → Type 0 = λ l. AddsGroups old new (edges_in items) l in
-      subst P met_all (record {
-        added = so_far.added;
-        is = so_far.is;
-        one_each = so_far.one_each;
-        some = so_far.some_added;
-        room = so_far.room;
-        no_more = omega (arith, so_far.no_more);
-      })
-
-  pub listed_ends : matches_in items + strings_in_all new ≤ strings_in_all old + length all
-  listed_ends = omega (arith, so_far.no_more, ap length met_all)
-
-  pub listed_node : 1 ≤ length all → (before : List (List (List ℕ))) → length before ≡ first → IsNode first (before ++ new) items all
-  listed_node some before len =
-      let P : List (List ℕ) → Type 0 = λ l. IsLike (node_strings (before ++ new) items) l in
-      record {
-        like = subst P met_all (so_far.like before len);
-        chunks = so_far.chunks before len;
-        some = so_far.some (omega (arith, some, ap length met_all));
-        few = one_at_most matched (length items) (chunks_in items) so_far.few;
-        parted = one_less matched (length items) (matches_in items) so_far.parted;
-      }

@@ -10,7 +10,6 @@ use Rattle.nfa_core.specs.BuilderStates.{Assembly, draft_at, patched, is_sparse,
 use Rattle.nfa_core.specs.Drafted.{Table}
 use Rattle.nfa_core.specs.Renaming.{stands_for}
 use Rattle.nfa_core.specs.declared.build_error.BuildError.{BuildError}
-use Rattle.thompson_nfa.specs.Added.{AddsDraft}
 use Rattle.thompson_nfa.specs.Compiled.{Finished, ComesOut, Makes, Weighs, Does, sum_of_bytes}
 use Rattle.thompson_nfa.specs.Denotes.{Denotes}
 use Rattle.thompson_nfa.specs.LiteralGroups.{bytes_in}
@@ -24,8 +23,7 @@ use Rattle.hir_core.specs.Tree.{Tree, alternation}
 use Rattle.thompson_nfa.proofs.Steps.LookLemmas.{adds_none, quiet_plain, uses_literals}
 use Rattle.thompson_nfa.proofs.Walks.AheadLemmas.{denotes_then_empty}
 use Rattle.thompson_nfa.proofs.Walks.DenoteLemmas.{denotes_empty}
-use Rattle.thompson_nfa.proofs.Steps.GrowLemmas.{Partly, partly_joined, partly_added}
-use Rattle.thompson_nfa.proofs.Fragments.LeafLemmas.{tame_one}
+use Rattle.thompson_nfa.proofs.Steps.GrowLemmas.{Partly, partly_joined}
 use Rattle.thompson_nfa.proofs.LiteralTries.LiteralNodeLemmas.{are_wider}
 use Rattle.thompson_nfa.proofs.LiteralTries.LiteralTreeLemmas.{node_tree, denotes_node}
 use Rattle.thompson_nfa.proofs.Steps.OutLemmas.{out_here, out_next, out_at}
@@ -87,29 +85,6 @@ matches_left : (nodes : List NodeValue) (k : ℕ) → matches_in_all (drop k nod
 matches_left nodes zero = omega arith
 matches_left [] (suc k) = omega arith
 matches_left (n ∷ nodes) (suc k) = omega (arith, matches_left nodes k)
-
-pub trie_begun : (old mid : Assembly) (end : ℕ) (nodes : List NodeValue) (strings : List (List ℕ)) (names : List ℕ) (k : ℕ) →
-    IsLaidTrie nodes strings → AddsDraft old mid end (empty_draft 0) old.groups → length names ≡ length nodes →
-    All (λ q. q ≡ end) names → k ≡ length nodes → TrieTo old mid end nodes strings names k
-trie_begun old mid end nodes strings names k trie added long same past =
-    let is = added.is in let size = added.size in
-    record {
-      trie = trie;
-      within = omega arith;
-      end_is = is;
-      partly = partly_added added (tame_one mid (empty_draft 0) 0 refl (omega arith) refl refl);
-      groups = added.groups_are;
-      here = added.here;
-      longer = omega arith;
-      states = omega arith;
-      bytes = omega (arith, added.bytes);
-      weighs = omega (arith, added.bytes);
-      numbered = added.numbered;
-      stands = λ q l h. absurd (omega arith);
-      names_long = long;
-      names_there = All-weaker (λ q. q ≡ end) (IsThere old mid) (λ q e. (omega arith, omega arith)) names same;
-      denotes = λ table has n l h. absurd (omega arith);
-    }
 
 set_there : (P : ℕ → Type 0) (names : List ℕ) (k id : ℕ) → All P names → P id → All P (set names k id)
 set_there P names k id all p n d l =
@@ -193,9 +168,6 @@ module _ (old mid : Assembly) (end : ℕ) (nodes : List NodeValue) (strings : Li
     id_in = let a = so_far.end_is in let b = so_far.longer in let g = longer in
         ⊎_elim (λ (e : id ≡ end). (omega arith, omega arith)) (λ (n : (length mid.drafts ≤ id) × (id < length grown.drafts)). let l = n.0 in
         (omega arith, n.1)) adds.there
-
-    pub stem_there : id < length grown.drafts
-    stem_there = id_in.1
 
     pub stem_refused : (new : Assembly) (e : BuildError) → Quits grown new (length node.stem) e → Quits old new (1 + 2 * bytes_in strings) e
     stem_refused new e r =
@@ -388,9 +360,6 @@ module _ {V : Type 0} (value_of : V → NodeValue) (rows : List V) (old mid : As
         let Q : List (List Edge) → Type 0 = λ is. AddsNode mid grown now end is id in
         subst P now_is (subst Q row_is adds)
 
-    pub turn_there : id < length grown.drafts
-    turn_there = stem_there old mid end (map value_of rows) strings names k next less (value_of v) here grown id adds_here
-
     module _ (w : V) (got2 : w ≡ get_or rows k w) where
       stem_is : (value_of w).stem ≡ (value_of v).stem
       stem_is = ap (λ (x : V). (value_of x).stem) (got2 ∙ same_got rows k w v (omega (arith, less, length-map rows value_of)) ∙ sym got)
@@ -430,9 +399,6 @@ module _ (old mid : Assembly) (end : ℕ) (nodes : List NodeValue) (strings : Li
 
   pub all_made : Makes old mid start end (1 + 2 * bytes_in strings)
   all_made = trie_made old mid end nodes strings names all_nodes start first_is
-
-  pub all_weigh : Weighs old mid (24 + 32 * bytes_in strings + 36 * length strings)
-  all_weigh = omega (arith, all_nodes.weighs, all_nodes.trie.room, all_nodes.trie.ended)
 
   pub all_does : Does old mid start end (literals old.reverse strings)
   all_does = trie_does old mid end nodes strings names all_nodes start first_is

@@ -192,11 +192,6 @@ module _ (kept : WhichCaptures) (p : ℕ) where
   pub noted_twice : (x : Tree) (groups : Groups) → with_groups_of kept p x (with_groups_of kept p x groups) ≡ with_groups_of kept p x groups
   noted_twice x groups = noted_same x (with_groups_of kept p x groups) (λ j n. noted_in x groups j n)
 
-  pub noted_bounded : (x : Tree) (groups : Groups) (min most : ℕ) (greedy : Bool) → 0 < most →
-      with_groups_of kept p (repetition min (Some most) greedy x) groups ≡ with_groups_of kept p x groups
-  noted_bounded x groups min zero greedy l = absurd (omega arith)
-  noted_bounded x groups min (suc most) greedy l = refl
-
 -- a group that is there is known to the states at its ends
 groups_at : (groups : Groups) (p : ℕ) → groups_of groups p ≡ get_or groups p []
 groups_at [] p = refl

@@ -1,6 +1,6 @@
 -- An insertion, from its steps: the pieces of a node, and the node that is made of what follows them.
 use Rattle.std.proofs.Common.{◌≡◌, ◌⊎◌, inl, inr, ℕ, zero, suc, ◌+◌, ◌<◌, ◌≤◌, List, [], ◌∷◌, ◌++◌, map, length, get_or, take, true, Result}
-use Rattle.std.proofs.Common.{Ok, Err, IfOk, OnErr, refl, sym, ap, ◌∙◌, arith, subst, length-append}
+use Rattle.std.proofs.Common.{Ok, Err, IfOk, refl, sym, ap, ◌∙◌, arith, subst, length-append}
 use Rattle.std.proofs.lemmas.Bool.{false≢true}
 use Rattle.std.specs.List.{AllZip}
 use Rattle.std.specs.declared.alloc.AllocError.{AllocError}
@@ -143,26 +143,6 @@ later_more u v w f g =
 
 pub later_push : (v : List (List (List (ℕ × ℕ)))) (x : List (List (ℕ × ℕ))) (w : List (List (List (ℕ × ℕ)))) → w ≡ v ++ x ∷ [] → IsLater v w
 later_push v x w e = rw e (record { len = omega (arith, length-append v (x ∷ [])); same = λ i l. get_or_append_left v (x ∷ []) [] i l })
-
-pub inserting_none : (v : List (List (List (ℕ × ℕ)))) (start stop : ℕ) (rest : List (ℕ × ℕ)) (es : List Edge) → es ≡ [] →
-    IsInserting v v start stop rest [] es
-inserting_none v start stop rest es none =
-    let P : List Edge → Type 0 = λ xs. IsInserting v v start stop rest [] xs in
-    subst P (sym none) (record { later = later_itself v; inside = tt; steps = tt })
-
--- a node was pushed, or all is as it was
-pub later_pushed : (v w x : List (List (List (ℕ × ℕ)))) (row : List (List (ℕ × ℕ))) (r : Result Next AllocError) → IsLater v w →
-    IfOk r (λ _. x ≡ w ++ row ∷ []) → OnErr r (x ≡ w) → IsLater v x
-later_pushed v w x row (Ok n) f ok err = later_more v w x f (later_push w row x ok)
-later_pushed v w x row (Err e) f ok err = let P : List (List (List (ℕ × ℕ))) → Type 0 = IsLater v in subst P (sym err) f
-
-pub inside_pushed : (w x : List (List (List (ℕ × ℕ)))) (row : List (List (ℕ × ℕ))) (r : Result Next AllocError) →
-    IfOk r (λ n. n ≡ Node (length w)) → IfOk r (λ _. x ≡ w ++ row ∷ []) → IfOk r (λ n. IsInside (length x) n)
-inside_pushed w x row (Ok n) is ok =
-    let P : Next → Type 0 = λ m. IsInside (length x) m in
-    let less : length w < length x = omega (arith, ap length ok, length-append w (row ∷ [])) in
-    subst P (sym is) less
-inside_pushed w x row (Err e) is ok = tt
 
 module _ (v w x : List (List (List (ℕ × ℕ)))) (start stop : ℕ) (rest : List (ℕ × ℕ)) (ps es : List Edge) (i : ℕ) (p e : Edge)
     (l : i < length ps) (at : p ≡ get_or ps i p)

@@ -1,11 +1,6 @@
 -- Each sequence stands next in what is left.
-use Rattle.std.proofs.Common.{◌∙◌}
-use Rattle.thompson_nfa.proofs.Classes.ClassTrieLemmas.{none_gained, next_ranges, next_turned, met_turned, next_gained, all_gained}
+use Rattle.thompson_nfa.proofs.Classes.ClassTrieLemmas.{next_ranges, next_turned, met_turned, next_gained}
 use Rattle.thompson_nfa.proofs.class_trie.insert_range.Goals as goal
-
-pub loop-sequence-init : goal.loop-sequence-init
-loop-sequence-init c = none_gained c.args.trie.now _ _ (c.into_iter-sequence-iterator.ensures.into_iter_gives
-    ∙ c.new-sequence-items.ensures)
 
 pub insert_turned-requires-clause-ordered : goal.insert_turned-requires-clause-ordered
 insert_turned-requires-clause-ordered c = next_ranges _ _ _ _ c.args.first c.args.last _ c.loop-sequence.invariant c.in-Some.ensures.steps
@@ -19,6 +14,3 @@ insert_turned-requires-clause-new c = next_turned _ _ _ _ c.args.first c.args.la
 
 pub loop-sequence-preserved : goal.loop-sequence-preserved
 loop-sequence-preserved c = next_gained _ _ _ _ _ _ _ c.loop-sequence.invariant c.in-Some.ensures.steps c.in_ok-insert_turned.ensures
-
-pub returns : goal.returns
-returns c = all_gained _ _ _ _ c.loop-sequence.invariant c.in-None.ensures.steps.0

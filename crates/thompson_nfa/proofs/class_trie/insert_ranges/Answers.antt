@@ -1,10 +1,7 @@
 -- The ranges that were met are in the trie.
 use Rattle.std.proofs.Common.{take}
-use Rattle.thompson_nfa.proofs.Classes.ClassTrieLemmas.{class_begun, class_spelled, class_next, class_whole}
+use Rattle.thompson_nfa.proofs.Classes.ClassTrieLemmas.{class_spelled, class_next}
 use Rattle.thompson_nfa.proofs.class_trie.insert_ranges.Goals as goal
-
-pub loop-range-init : goal.loop-range-init
-loop-range-init c = class_begun _ c.args.ranges.now c.requires
 
 pub insert_range-requires : goal.insert_range-requires
 insert_range-requires c = class_spelled _ (take c.loop-range.range-index c.args.ranges.now) c.loop-range.invariant
@@ -14,6 +11,3 @@ loop-range-preserved c = class_next _ _ c.loop-range.range-index c.args.ranges.n
   0,
   0,
 ) c.loop-range-test.true c.loop-range.invariant c.in_ok-insert_range.ensures
-
-pub returns : goal.returns
-returns c = class_whole _ c.loop-range.range-index c.args.ranges.now c.loop-range.invariant c.loop-range-test.false

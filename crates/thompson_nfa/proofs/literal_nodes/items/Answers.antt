@@ -1,8 +1,7 @@
 use Rattle.std.proofs.Common.{arith, ap, ◌∙◌, map, refl}
 use Rattle.std.proofs.lemmas.List.{map-append}
 use Rattle.thompson_nfa.specs.LiteralGroups.{texts}
-use Rattle.thompson_nfa.proofs.LiteralTries.LiteralNodeLemmas.{no_item, match_turn, chunk_turn, listed_groups, listed_ends, listed_node}
-use Rattle.thompson_nfa.proofs.LiteralTries.LiteralNodeLemmas.{texts_long}
+use Rattle.thompson_nfa.proofs.LiteralTries.LiteralNodeLemmas.{no_item, match_turn, chunk_turn}
 use Rattle.thompson_nfa.proofs.literal_nodes.items.Goals as goal
 
 pub loop-rest-init : goal.loop-rest-init
@@ -26,15 +25,3 @@ loop-rest-preserved c =
     )) (omega (arith, c.turn_len-len.ensures.within)) _ _ _
     c.in_ok-chunk.field-0.items c.if-is_empty.ensures (ap (λ xs. map (λ x. x.items) xs) c.in_ok-push.ensures.items
     ∙ map-append (λ x. x.items) _ _) c.in_ok-chunk.ensures.adds c.in_ok-chunk.ensures.chunk
-
-pub returns-clause-adds : goal.returns-clause-adds
-returns-clause-adds c = listed_groups c.args.first _ _ _ c.loop-rest.rest.now c.loop-rest.matched (texts c.args.strings.now)
-    c.loop-rest.invariant (omega (arith, c.loop-rest-test.false))
-
-pub returns-clause-ended : goal.returns-clause-ended
-returns-clause-ended c = listed_ends c.args.first _ _ _ c.loop-rest.rest.now c.loop-rest.matched (texts c.args.strings.now)
-    c.loop-rest.invariant (omega (arith, c.loop-rest-test.false))
-
-pub returns-clause-node : goal.returns-clause-node
-returns-clause-node c = listed_node c.args.first _ _ _ c.loop-rest.rest.now c.loop-rest.matched (texts c.args.strings.now)
-    c.loop-rest.invariant (omega (arith, c.loop-rest-test.false)) (omega (arith, c.requires.some, texts_long c.args.strings.now))

@@ -3,17 +3,11 @@ use Rattle.std.proofs.lemmas.List.{length-map}
 use Rattle.thompson_nfa.specs.LiteralGroups.{texts}
 use Rattle.thompson_nfa.specs.LiteralLaid.{node_value}
 use Rattle.thompson_nfa.proofs.Steps.ErrorLemmas.{handed}
-use Rattle.thompson_nfa.proofs.LiteralTries.LiteralTrieLemmas.{trie_begun, turn_some, turn_few, turn_parted}
+use Rattle.thompson_nfa.proofs.LiteralTries.LiteralTrieLemmas.{turn_some, turn_few, turn_parted}
 use Rattle.thompson_nfa.proofs.LiteralTries.LiteralTrieLemmas.{turn_chunks, turn_refused, turn_passed}
-use Rattle.thompson_nfa.proofs.LiteralTries.LiteralTrieLemmas.{turn_there, turn_stem_refused, turn_stem_passed, turn_compiled}
-use Rattle.thompson_nfa.proofs.LiteralTries.LiteralTrieLemmas.{all_made, all_weigh, all_does}
+use Rattle.thompson_nfa.proofs.LiteralTries.LiteralTrieLemmas.{turn_stem_refused, turn_stem_passed, turn_compiled}
+use Rattle.thompson_nfa.proofs.LiteralTries.LiteralTrieLemmas.{all_made, all_does}
 use Rattle.thompson_nfa.proofs.literal_trie.compile_strings.Goals as goal
-
-pub loop-i-init : goal.loop-i-init
-loop-i-init c =
-    trie_begun _ _ c.in_ok-end.end _ (texts c.args.strings.items) c.in_ok-names.names.items _ c.in_ok-laid.ensures c.in_ok-end.ensures
-    (omega (arith, c.in_ok-names.ensures.0, c.len.ensures, length-map c.in_ok-laid.laid.items node_value))
-    c.in_ok-names.ensures.1 (omega (arith, c.len-i.ensures, length-map c.in_ok-laid.laid.items node_value))
 
 pub add_node-requires-clause-some : goal.add_node-requires-clause-some
 add_node-requires-clause-some c =
@@ -48,13 +42,6 @@ add_node-requires-clause-chunks c =
     (texts c.args.strings.items) c.loop-i.names.items c.deref-in-loop-i.result.now c.loop-i.i _ c.loop-i.invariant c.loop-i-test.true
     refl c.index.result.now
     c.index.ensures (map (λ x. x.items) c.deref.result.now) (ap (map (λ x. x.items)) c.deref.ensures.value) c.deref-in-loop-i.ensures.value
-
-pub add_text-requires : goal.add_text-requires
-add_text-requires c =
-    turn_there node_value c.in_ok-laid.laid.items _ _ c.in_ok-end.end (texts c.args.strings.items) c.loop-i.names.items
-    c.deref-in-loop-i.result.now c.loop-i.i _ c.loop-i.invariant c.loop-i-test.true refl c.index.result.now
-    c.index.ensures (map (λ x. x.items) c.deref.result.now) (ap (map (λ x. x.items)) c.deref.ensures.value) c.deref-in-loop-i.ensures.value
-    c.add_node.new.builder c.in_ok-id.id c.in_ok-id.ensures.added
 
 pub returns-in_err-id-clause-refused : goal.returns-in_err-id-clause-refused
 returns-in_err-id-clause-refused c =
@@ -105,10 +92,6 @@ loop-i-preserved c =
 
 pub returns-clause-made : goal.returns-clause-made
 returns-clause-made c = all_made _ _ c.in_ok-end.end _ (texts c.args.strings.items) c.loop-i.names.items c.loop-i.i c.loop-i.invariant
-    c.loop-i-test.false _ c.index-2.ensures
-
-pub returns-clause-weighs : goal.returns-clause-weighs
-returns-clause-weighs c = all_weigh _ _ c.in_ok-end.end _ (texts c.args.strings.items) c.loop-i.names.items c.loop-i.i c.loop-i.invariant
     c.loop-i-test.false _ c.index-2.ensures
 
 pub returns-clause-denotes : goal.returns-clause-denotes

@@ -9,9 +9,8 @@ use Rattle.thompson_nfa.specs.TrieSteps.{IsCover}
 use Rattle.thompson_nfa.specs.RangeCovers.{edge_of}
 use Rattle.thompson_nfa.proofs.Tries.NodeLemmas.{inside_more}
 use Rattle.thompson_nfa.proofs.Tries.InsertLemmas.{with_none, nil_of_length, read_itself, rest_apart, first_ok, next_kept, next_at}
-use Rattle.thompson_nfa.proofs.Tries.InsertLemmas.{later_itself, later_more, inserting_none}
+use Rattle.thompson_nfa.proofs.Tries.InsertLemmas.{later_itself}
 use Rattle.thompson_nfa.proofs.Tries.InsertLemmas.{inserting_within, inserting_beside, edges_rise, with_pushed_if}
-use Rattle.thompson_nfa.proofs.Tries.InsertLemmas.{later_pushed, inside_pushed}
 use Rattle.thompson_nfa.proofs.range_insert.+insert_below.Goals as goal
 use Rattle.thompson_nfa.proofs.range_insert.+insert_below.Goals.{then-is_within+in_ok-next, else-is_within}
 
@@ -84,35 +83,3 @@ returns-clause-more t c =
     c.in-Some.first.now c.in-Some.ensures.cases.0 ps c.loop-piece.edges.items
     cover c.requires.apart c.requires.ordered c.loop-piece.piece-index c.loop-piece.invariant c.loop-piece-test.false c.push-2.result
     c.push-2.ensures.node c.push-2.ensures.ok
-
-pub loop-piece-init : goal.loop-piece-init
-loop-piece-init t c = inserting_none c.args.nodes.now c.in-Some.first.now.start (c.in-Some.first.now.end + 1)
-    (map bytes_of c.in-Some.rest.now) c.in_ok-edges.edges.items c.in_ok-edges.ensures.items
-
-pub push-requires-2-clause-inside : goal.push-requires-2-clause-inside
-push-requires-2-clause-inside t c = c.loop-piece.invariant.inside
-
-pub returns-clause-later : goal.returns-clause-later
-returns-clause-later t c = later_pushed c.args.nodes.now c.loop-piece.nodes c.push-2.new.self _ c.push-2.result
-    c.loop-piece.invariant.later c.push-2.ensures.ok c.push-2.ensures.err
-
-pub returns-in_err-edges-clause-later : goal.returns-in_err-edges-clause-later
-returns-in_err-edges-clause-later t c = later_itself c.args.nodes.now
-
-pub returns-in_err-next-clause-later : goal.returns-in_err-next-clause-later
-returns-in_err-next-clause-later t c = later_more c.args.nodes.now c.loop-piece.nodes c.insert_below.new.nodes
-    c.loop-piece.invariant.later c.insert_below.ensures.later
-
-pub returns-in_err-pieces-clause-later : goal.returns-in_err-pieces-clause-later
-returns-in_err-pieces-clause-later t c = later_itself c.args.nodes.now
-
-pub returns-in_err-push-clause-later : goal.returns-in_err-push-clause-later
-returns-in_err-push-clause-later t c = elim c.if-is_within.branch [
-  | then-is_within+in_ok-next w ↦
-      rw w.nodes-is (later_more c.args.nodes.now c.loop-piece.nodes w.insert_below.new.nodes c.loop-piece.invariant.later
-      w.insert_below.ensures.later)
-  | else-is_within w ↦ rw w.nodes-is c.loop-piece.invariant.later
-]
-
-pub returns-clause-inside : goal.returns-clause-inside
-returns-clause-inside t c = inside_pushed c.loop-piece.nodes c.push-2.new.self _ c.push-2.result c.push-2.ensures.node c.push-2.ensures.ok

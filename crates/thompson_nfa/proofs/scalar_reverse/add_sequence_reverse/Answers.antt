@@ -2,7 +2,7 @@ use Rattle.thompson_nfa.proofs.Steps.ErrorLemmas.{handed}
 use Rattle.thompson_nfa.proofs.Classes.SuffixSteps.{ranges_share, last_refused, others_few, last_rising, still_there, still_kind}
 use Rattle.thompson_nfa.proofs.Classes.SuffixSteps.{way_refused}
 use Rattle.std.proofs.Common.{arith}
-use Rattle.thompson_nfa.proofs.Classes.ClassBytes.{others_counted, others_long, ranges_weigh}
+use Rattle.thompson_nfa.proofs.Classes.ClassBytes.{others_long, ranges_weigh}
 use Rattle.thompson_nfa.proofs.scalar_reverse.add_sequence_reverse.Goals as goal
 
 pub last_range-requires-clause-ready : goal.last_range-requires-clause-ready
@@ -28,10 +28,6 @@ pub returns-in_err-lead-clause-refused : goal.returns-in_err-lead-clause-refused
 returns-in_err-lead-clause-refused c = handed _ _ c.in_err-lead.field-0.0 c.from_residual-in_err-lead.ensures.1
     (way_refused _ _ _ _ _ _ _ _ _ _ _ c.in_ok-next.ensures.shared c.in_ok-first.ensures.added _ _
     (others_few _ _ c.as_slice-ranges.ensures c.requires.few) c.in_err-lead.ensures)
-
-pub returns-in_err-next-clause-passed : goal.returns-in_err-next-clause-passed
-returns-in_err-next-clause-passed c = handed _ _ c.in_err-next.field-0.0 c.from_residual.ensures.1
-    (omega (arith, others_counted _ _ c.as_slice-ranges.ensures c.requires.some, c.in_err-next.ensures.passed))
 
 pub returns-in_err-first-clause-passed : goal.returns-in_err-first-clause-passed
 returns-in_err-first-clause-passed c = handed _ _ c.in_err-first.field-0.0 c.from_residual-in_err-first.ensures.1

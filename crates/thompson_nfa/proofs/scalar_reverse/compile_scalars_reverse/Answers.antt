@@ -43,9 +43,6 @@ returns-in_err-add_sequences_reverse-clause-passed c = handed _ _ c.in_err-add_s
       c.in_err-add_sequences_reverse.ensures.passed,
     ))
 
-pub returns-clause-weighs : goal.returns-clause-weighs
-returns-clause-weighs c = omega (arith, c.loop-range.invariant.1)
-
 pub returns-clause-made : goal.returns-clause-made
 returns-clause-made c = ranges_made _ _ _ _ c.loop-range.range-index c.args.ranges.now c.loop-range.invariant.0.met c.loop-range-test.false
 

@@ -1,6 +1,6 @@
 -- New slots hold nothing, and so do those of an earlier version.
 use Rattle.std.proofs.Common.{◌≡◌, length, replicate, None, ◌∙◌, ap, arith}
-use Rattle.thompson_nfa.proofs.Classes.SlotLemmas.{slots_made, slots_past, slots_forgotten, up_made, up_past, up_forgotten}
+use Rattle.thompson_nfa.proofs.Classes.SlotLemmas.{slots_made, slots_past, slots_forgotten}
 use Rattle.thompson_nfa.proofs.slots.Slots.clear.Goals as goal
 
 pub returns-in_ok-self-inside-clause-ok : goal.returns-in_ok-self-inside-clause-ok
@@ -23,17 +23,3 @@ returns-else-self-lt65535-clause-ok g c =
     let e = slots_forgotten 0 c.self.inside.capacity c.self.inside.slots.len c.self.inside.slots.items c.forget_slots.new.slots count len
     new in
     rw (← c.self.view_is) (rw e)
-
-pub invariant_of-self : goal.invariant_of-self
-invariant_of-self g c = up_made c.self.inside.version c.self.inside.capacity c.in_ok-self-inside.field-0.items c.in_ok-self-inside.ensures
-
-pub invariant_of-self-then-self-lt65535 : goal.invariant_of-self-then-self-lt65535
-invariant_of-self-then-self-lt65535 g c = up_past c.self.inside.version c.self.inside.slots.items c.self.invariant
-
-pub invariant_of-self-else-self-lt65535 : goal.invariant_of-self-else-self-lt65535
-invariant_of-self-else-self-lt65535 g c =
-    let len : length c.self.inside.slots.items ≡ c.self.inside.capacity = omega (arith, c.len.ensures, c.if-len-self.false) in
-    let count : c.self.inside.slots.len ≡ c.self.inside.capacity = omega (arith, c.len.ensures, c.if-len-self.false) in
-    let new : c.forget_slots.new.slots ≡ replicate c.self.inside.capacity None =
-    c.forget_slots.ensures ∙ ap (λ n. replicate n None) (ap length c.deref_mut.ensures.value ∙ len) in
-    up_forgotten 0 c.self.inside.capacity c.self.inside.slots.len c.self.inside.slots.items c.forget_slots.new.slots count len new
