@@ -1,13 +1,13 @@
 -- How many bytes caches are taken to need.
-use Rattle.std.proofs.Common.{◌≡◌, ℕ, zero, suc, ◌+◌, ◌*◌, ◌^◌, ◌<◌, ◌≤◌, max, Bool, true, false, List, [], ◌∷◌, ◌++◌, length, refl, sym}
+use Rattle.std.proofs.Common.{◌≡◌, ℕ, zero, suc, ◌+◌, ◌*◌, ◌^◌, ◌<◌, ◌≤◌, Bool, true, false, List, [], ◌∷◌, ◌++◌, length, sym}
 use Rattle.std.proofs.Common.{ap, ◌∙◌, ⊎_elim, arith, if◌then◌else◌}
 use Rattle.std.proofs.lemmas.Bool.{cases_lt}
 use Rattle.std.proofs.lemmas.Bool.Decides.{leb_tells}
-use Rattle.std.proofs.Math.Nat.{pow-succ', le-max_left, le-max_right, max-le}
+use Rattle.std.proofs.Math.Nat.{pow-succ', le-max_right}
 use Rattle.search_core.specs.Classes.{IsLeastExponent}
 use Rattle.determinize_core.specs.States.{StateValue}
 use Rattle.determinize_core.specs.StateBytes.{encoded}
-use Rattle.lazy_dfa.specs.Accounting.{Measures, power_from, longest_state, state_cost, states_cost, fresh_usage, measured_usage}
+use Rattle.lazy_dfa.specs.Accounting.{Measures, power_from, state_cost, states_cost, measured_usage}
 use Rattle.lazy_dfa.specs.Accounting.{least_capacity}
 use Rattle.lazy_dfa.specs.Accounting.{effective_capacity}
 
@@ -57,33 +57,12 @@ pub costs_of_more : (stride : ℕ) (held : List StateValue) (v : StateValue) →
 costs_of_more stride [] v = omega arith
 costs_of_more stride (w ∷ held) v = let rest = costs_of_more stride held v in omega (arith, rest)
 
-pub usage_of_none : (m : Measures) → measured_usage m [] ≡ fresh_usage m
-usage_of_none m = omega arith
-
 pub usage_of_more : (m : Measures) (held : List StateValue) (v : StateValue) →
     measured_usage m (held ++ v ∷ []) ≡ measured_usage m held + state_cost m.stride (length (encoded v))
 usage_of_more m held v = let rest = costs_of_more m.stride held v in omega (arith, rest)
-
-pub two_fit : (m : Measures) (v w : StateValue) → length (encoded v) ≤ longest_state m → length (encoded w) ≤ longest_state m →
-    measured_usage m (v ∷ w ∷ []) ≤ least_capacity m
-two_fit m v w short small = fits (length (encoded v)) (length (encoded w)) (longest_state m) (fresh_usage m) short small
-  where
-    fits : (a b longest fresh : ℕ) → a ≤ longest → b ≤ longest →
-        fresh + (state_cost m.stride a + (state_cost m.stride b + 0)) ≤ fresh + 2 * state_cost m.stride longest
-    fits a b longest fresh l k = omega (arith, l, k)
 
 -- ---- capacities
 
 pub raised : (m : Measures) (skips : Bool) (given : ℕ) → given ≤ effective_capacity m skips given
 raised m true given = le-max_right (least_capacity m) given
 raised m false given = omega arith
-
-pub raised_to_least : (m : Measures) (given : ℕ) → least_capacity m ≤ effective_capacity m true given
-raised_to_least m given = le-max_left (least_capacity m) given
-
-pub not_raised : (m : Measures) (skips : Bool) (given : ℕ) → least_capacity m ≤ given → effective_capacity m skips given ≡ given
-not_raised m false given l = refl
-not_raised m true given l = larger (least_capacity m) given l
-  where
-    larger : (a b : ℕ) → a ≤ b → max a b ≡ b
-    larger a b l = let up : max a b ≤ b = max-le l (omega arith) in let low = le-max_right a b in omega (arith, up, low)

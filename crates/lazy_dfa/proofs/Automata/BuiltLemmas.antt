@@ -1,7 +1,7 @@
 -- That what is built of a sound NFA keeps to IsDfa.
 use Rattle.std.proofs.Common.{◌≡◌, ℕ, zero, suc, ◌+◌, ◌-◌, ◌<◌, ◌≤◌, Bool, true, false, ◌&&◌, not, ◌⊎◌, nat_lt, max, List, length, get_or}
-use Rattle.std.proofs.Common.{map, take, Option, Some, None, Ok, Err, if◌then◌else◌, replicate, inl, inr, refl, sym, ap, ◌∙◌, subst, ⊎_elim}
-use Rattle.std.proofs.Common.{arith, Result}
+use Rattle.std.proofs.Common.{map, take, Option, Some, None, if◌then◌else◌, replicate, inl, inr, refl, sym, ap, ◌∙◌, subst, ⊎_elim}
+use Rattle.std.proofs.Common.{arith}
 use Rattle.std.proofs.lemmas.Bool.{cases_Bool, cases_lt, lt-ltb}
 use Rattle.std.proofs.lemmas.List.{length-take, length-replicate}
 use Rattle.std.proofs.lemmas.List.FromFn.{get_or-map-range_with_len, fill_by_all}
@@ -19,11 +19,9 @@ use Rattle.nfa_core.specs.NfaValue.{Nfa, IsSound, told_apart_by}
 use Rattle.nfa_core.proofs.ForCallers.{bytes_alike, all_unmarked}
 use Rattle.determinize_core.specs.Steps.{step_value}
 use Rattle.determinize_core.proofs.ForCallers.{units_step_alike}
-use Rattle.lazy_dfa.specs.Accounting.{Measures, stride_of, start_count, least_capacity, effective_capacity}
-use Rattle.lazy_dfa.specs.declared.build_error.BuildError.{BuildError}
-use Rattle.lazy_dfa.specs.declared.build_error.BuildError.TheVariants.{InsufficientCacheCapacity, Unsupported}
-use Rattle.lazy_dfa.specs.Building.{quits_of, class_in, classes_of, measures_with, dfa_of, is_too_small, built}
-use Rattle.lazy_dfa.specs.ConfigValue.{DfaOptions, kind_of, classes_on, starts_each_of, word_boundary_of, by_hand, capacity_of, skips_check}
+use Rattle.lazy_dfa.specs.Accounting.{Measures, stride_of, least_capacity, effective_capacity}
+use Rattle.lazy_dfa.specs.Building.{quits_of, class_in, classes_of, measures_with, dfa_of, is_too_small}
+use Rattle.lazy_dfa.specs.ConfigValue.{DfaOptions, kind_of, classes_on, word_boundary_of, by_hand, capacity_of, skips_check}
 use Rattle.lazy_dfa.specs.Dfas.{Dfa, IsUnit, class_of, Alike, after, IsDfa}
 use Rattle.lazy_dfa.specs.Quits.{is_unsupported}
 use Rattle.lazy_dfa.proofs.Automata.BuildLemmas.{power_small, power_enough}
@@ -179,9 +177,6 @@ is_dfa n o sound fine large = record {
 
 -- ---- what is built, by its parts
 
-abbrev pub made_measures : ℕ → ℕ → ℕ → ℕ → Measures
-made_measures states patterns stride starts = record { states = states; patterns = patterns; stride = stride; starts = starts }
-
 abbrev pub made_dfa : Nfa → DfaOptions → List ℕ → List Bool → Measures → ℕ → Dfa
 made_dfa n o cs qs m cap = record { nfa = n; options = o; classes = cs; quits = qs; measures = m; capacity = cap }
 
@@ -202,12 +197,6 @@ marked_classes n o cs m len numbered is on =
     by_range (class_in n o) 256 cs len (λ b l. numbered b l
     ∙ (ap (λ (w : List Bool). marks_below w b) is ∙ sym (ap (λ (t : Bool). if t then marks_below (marks n o) b else b) on)))
 
-pub measures_are : (n : Nfa) (o : DfaOptions) (states patterns stride starts : ℕ) → states ≡ length n.automaton.states →
-    patterns ≡ length n.automaton.start_pattern →
-    stride ≡ stride_of (classes_of n o) → starts ≡ start_count (starts_each_of o) (length n.automaton.start_pattern) →
-    made_measures states patterns stride starts ≡ measures_with n o
-measures_are n o states patterns stride starts p q r s = λ i. made_measures (p i) (q i) (r i) (s i)
-
 pub dfa_is : (n : Nfa) (o : DfaOptions) (cs : List ℕ) (qs : List Bool) (m : Measures) (cap : ℕ) → cs ≡ classes_of n o → qs ≡ quits_of n o →
     m ≡ measures_with n o →
     cap ≡ effective_capacity (measures_with n o) (skips_check o) (capacity_of o) → made_dfa n o cs qs m cap ≡ dfa_of n o
@@ -219,16 +208,6 @@ pub made_is_dfa : (n : Nfa) (o : DfaOptions) (cs : List ℕ) (qs : List Bool) (m
     IsDfa (made_dfa n o cs qs m cap)
 made_is_dfa n o cs qs m cap e sound fine large = subst IsDfa (sym e) (is_dfa n o sound fine large)
 
-pub built_dfa : (n : Nfa) (o : DfaOptions) (d : Dfa) → is_unsupported n.automaton (word_boundary_of o) (by_hand o) ≡ false →
-    is_too_small n o ≡ false →
-    d ≡ dfa_of n o → Ok d ≡ built n o
-built_dfa n o d e f is =
-    ap (λ (x : Dfa). Ok x) is
-    ∙ sym (ap (λ (t : Bool). if t then Err Unsupported else if is_too_small n o
-    then Err (InsufficientCacheCapacity (least_capacity (measures_with n o)) (capacity_of o)) else Ok (dfa_of n o)) e
-    ∙ ap (λ (t : Bool). if t then Err (InsufficientCacheCapacity (least_capacity (measures_with n o)) (capacity_of o))
-    else Ok (dfa_of n o)) f)
-
 -- what the test of the code says of the capacity
 pub too_small_is : (n : Nfa) (o : DfaOptions) (skips : Bool) (given least : ℕ) (t : Bool) → skips ≡ skips_check o → given ≡ capacity_of o →
     least ≡ least_capacity (measures_with n o) → t ≡ (not skips && nat_lt given least) → t ≡ is_too_small n o
@@ -238,26 +217,3 @@ pub capacity_is : (n : Nfa) (o : DfaOptions) (skips : Bool) (given least cap : �
     least ≡ least_capacity (measures_with n o) → cap ≡ (if skips then max least given else given) →
     cap ≡ effective_capacity (measures_with n o) (skips_check o) (capacity_of o)
 capacity_is n o skips given least cap p q r e = e ∙ (λ i. if p i then max (r i) (q i) else q i)
-
--- ---- what a call answers, by what it was told
-
-abbrev built_by : Bool → Bool → Nfa → DfaOptions → Result Dfa BuildError
-built_by x y n o =
-    if x then Err Unsupported
-    else if y then Err (InsufficientCacheCapacity (least_capacity (measures_with n o)) (capacity_of o)) else Ok (dfa_of n o)
-
-module _ (n : Nfa) (o p : DfaOptions) (same : o ≡ p) (b : Bool)
-    (told : b ≡ is_unsupported n.automaton (word_boundary_of o) (by_hand o)) where
-  pub built_unsupported : b ≡ true → Err Unsupported ≡ built n p
-  built_unsupported t = sym (ap (built n) (sym same) ∙ ap (λ (x : Bool). built_by x (is_too_small n o) n o) (sym told ∙ t))
-
-  module _ (f : b ≡ false) (y : Bool) (small : y ≡ is_too_small n o) where
-    pub built_small : y ≡ true → (least given : ℕ) → least ≡ least_capacity (measures_with n o) → given ≡ capacity_of o →
-        Err (InsufficientCacheCapacity least given) ≡ built n p
-    built_small t least given e g =
-        (λ k. Err (InsufficientCacheCapacity (e k) (g k)))
-        ∙ sym (ap (built n) (sym same) ∙ (λ k. built_by ((sym told ∙ f) k) ((sym small ∙ t) k) n o))
-
-    pub built_well : y ≡ false → (d : Dfa) → d ≡ dfa_of n o → Ok d ≡ built n p
-    built_well t d e = ap (λ (x : Dfa). Ok x) e
-        ∙ sym (ap (built n) (sym same) ∙ (λ k. built_by ((sym told ∙ f) k) ((sym small ∙ t) k) n o))

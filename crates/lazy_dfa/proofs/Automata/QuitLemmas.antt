@@ -94,6 +94,3 @@ none_here set n small e =
 pub high_from : (set : List Bool) → has_high_bytes set ≡ all_from set 0x80
 unfolding has_high_bytes
 high_from set = refl
-
-pub all_over : (set : List Bool) → all_from set 256 ≡ true
-all_over set = refl

@@ -103,10 +103,6 @@ pub quits_of_high : (a : Automaton) (set : List Bool) (b : ℕ) → has_unicode_
     has (quit_bytes a true set) b ≡ true
 quits_of_high a set b unicode from to = quits_of_wide a true set b (and_from (has_unicode_word a) true unicode refl) from to
 
-pub quits_without_words : (a : Automaton) (boundaries : Bool) (set : List Bool) → has_unicode_word a ≡ false →
-    quit_bytes a boundaries set ≡ set
-quits_without_words a boundaries set none = quits_plain a boundaries set (not_both (has_unicode_word a) boundaries none)
-
 pub quits_off : (a : Automaton) (set : List Bool) → quit_bytes a false set ≡ set
 quits_off a set = quits_plain a false set (and_off (has_unicode_word a))
 

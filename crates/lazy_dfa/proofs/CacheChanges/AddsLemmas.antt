@@ -6,14 +6,14 @@ use Rattle.std.proofs.lemmas.Bool.Decides.{leb_tells}
 use Rattle.determinize_core.specs.States.{StateValue}
 use Rattle.determinize_core.specs.Starts.{StartValue, start_of}
 use Rattle.determinize_core.specs.declared.start.Start.{Start}
-use Rattle.lazy_dfa.specs.ConfigValue.{clears_of, minimum_bytes_of, specializes}
+use Rattle.lazy_dfa.specs.ConfigValue.{specializes}
 use Rattle.lazy_dfa.specs.Dfas.{Dfa, IsStateOf, after, is_dead, start_in, first_state, cost}
 use Rattle.lazy_dfa.specs.Ids.{tag}
-use Rattle.lazy_dfa.specs.Caches.{CacheValue, IsShaped, Fits, fits, is_refused, row_holding, state_at, id_at, with_state, usage, cleared}
+use Rattle.lazy_dfa.specs.Caches.{CacheValue, IsShaped, Fits, fits, row_holding, state_at, id_at, with_state, usage}
 use Rattle.lazy_dfa.specs.Readers.{is_quit}
 use Rattle.lazy_dfa.specs.StartCalls.{mode_of, start_refusal, StartAdds}
-use Rattle.lazy_dfa.specs.Steps.{Added, Grew, HasStatesOf, ClearsFor, ComesTo, StepAdds, kept_of}
-use Rattle.lazy_dfa.proofs.CacheChanges.ChangeLemmas.{added_none, added_one, added_refl, needs_all}
+use Rattle.lazy_dfa.specs.Steps.{Added, Grew, HasStatesOf, ClearsFor, ComesTo, StepAdds}
+use Rattle.lazy_dfa.proofs.CacheChanges.ChangeLemmas.{added_none, added_one}
 use Rattle.lazy_dfa.proofs.CacheChanges.IsCacheLemmas.{same_row}
 
 pub same_states : (v w : CacheValue) → w ≡ v → HasStatesOf w v
@@ -31,14 +31,6 @@ le_true m n l = ⊎_elim (λ p. p.0) (λ q. let g = q.1 in absurd (omega (arith,
 fits_true : (d : Dfa) (s : StateValue) (v : CacheValue) → Fits d.capacity s v → fits d.capacity s v ≡ true
 fits_true d s v f = both_true (nat_le (usage v + cost v.stride s) d.capacity) (nat_le (length v.cells + v.stride) tag)
     (le_true (usage v + cost v.stride s) d.capacity f.0) (le_true (length v.cells + v.stride) tag f.1)
-
--- room is made by a clear
-pub clears_for : (d : Dfa) (from : Option ℕ) (s : StateValue) (v mid : CacheValue) → IsStateOf d s → is_dead s ≡ false →
-    row_holding s v.states ≡ None →
-    fits d.capacity s v ≡ false → is_refused (clears_of d.options) (minimum_bytes_of d.options) v ≡ false →
-    (mid ≡ cleared v) ⊎ (mid ≡ kept_of from v) → ClearsFor d from s v mid
-clears_for d from s v mid is alive fresh full allowed left =
-    record { is = is; needs = needs_all d v s alive fresh full; allowed = allowed; left = left }
 
 module _ (d : Dfa) (b : Bool) (from : Option ℕ) (s : StateValue) (v mid new : CacheValue) (shape : IsShaped v) where
   -- a state that isn't the dead one nor held, for which room was made or is there, and then nothing was added
@@ -61,11 +53,6 @@ module _ (d : Dfa) (b : Bool) (from : Option ℕ) (s : StateValue) (v mid new : 
     }),
   )
   comes_with (inr x) is alive fresh fit e = inr (record { middle = mid; clears = x; states = inr (same_states (with_state b s mid) new e) })
-
--- where it is the dead one, or held
-pub comes_none : (d : Dfa) (b : Bool) (from : Option ℕ) (s : StateValue) (v : CacheValue) → IsShaped v →
-    ComesTo (Added v v) d b from s v v
-comes_none d b from s v shape = inl (added_refl v shape, inl (refl, refl, refl))
 
 -- the same with a write behind it that leaves the states
 module _ (d : Dfa) (b : Bool) (from : Option ℕ) (s : StateValue) (v mid new : CacheValue) (same : HasStatesOf new mid) (K L : Type 0)

@@ -1,10 +1,10 @@
 -- What calls change of a cache: nothing, a state more, a step more, or all but two states.
 use Rattle.std.proofs.Common.{◌≡◌, ◌≢◌, ℕ, ◌+◌, ◌%◌, ◌/◌, ◌-◌, ◌<◌, ◌≤◌, Bool, true, false, ◌⊎◌, List, [], ◌∷◌, ◌*◌, length, get_or, set}
-use Rattle.std.proofs.Common.{replicate, refl, sym, ap, ◌∙◌, subst, inl, inr, ⊎_elim, arith, true≢false, Option, Some, None}
+use Rattle.std.proofs.Common.{replicate, refl, sym, ap, ◌∙◌, subst, inl, inr, ⊎_elim, arith, true≢false, Option, Some}
 use Rattle.std.proofs.Common.{get_or-set_same, get_or-set_other}
 use Rattle.std.proofs.lemmas.Bool.{cases_lt, cases_eq, cases_Bool}
 use Rattle.std.proofs.lemmas.Bool.Decides.{leb_tells}
-use Rattle.std.specs.Prelude.{nat_le, not, ◌&&◌, is_none}
+use Rattle.std.specs.Prelude.{nat_le, not, ◌&&◌}
 use Rattle.std.proofs.Math.Nat.{mod-eq_of_lt}
 use Rattle.std.proofs.lemmas.Slice.Eq.{bytes_eq-Decides}
 use lib.ListN.{get_or-append}
@@ -12,10 +12,10 @@ use Rattle.determinize_core.specs.StateBytes.{encoded, is_match}
 use Rattle.determinize_core.specs.States.{StateValue, dead}
 use Rattle.lazy_dfa.specs.ConfigValue.{clears_of, minimum_bytes_of}
 use Rattle.lazy_dfa.specs.Readers.{is_quit}
-use Rattle.lazy_dfa.specs.Dfas.{Dfa, IsDfa, IsUnit, after, class_of, is_dead, cost}
+use Rattle.lazy_dfa.specs.Dfas.{Dfa, IsDfa, IsUnit, after, class_of}
 use Rattle.lazy_dfa.specs.Ids.{tag, unknown_id, is_sentinel, tagged, has_tag, start_tag}
-use Rattle.lazy_dfa.specs.Caches.{CacheValue, IsShaped, IsCacheOf, Leads, Names, names_dead, names_held, HeldAt, IsRow, same, row_holding}
-use Rattle.lazy_dfa.specs.Caches.{state_at, id_at, cell_at, with_state, cleared, usage, fits, Fits, is_refused, needs_clear, lacks_room}
+use Rattle.lazy_dfa.specs.Caches.{CacheValue, IsShaped, IsCacheOf, Leads, Names, names_dead, names_held, HeldAt, IsRow, same}
+use Rattle.lazy_dfa.specs.Caches.{state_at, id_at, cell_at, with_state, cleared, fits, is_refused, needs_clear, lacks_room}
 use Rattle.lazy_dfa.specs.Steps.{Added, Grew, WasCleared, ClearedFrom, kept_alone, MadeRoom, AddsOrClears, KeepsOrClears}
 use Rattle.lazy_dfa.specs.Steps.{noted, IsKnown, IsNoted, GivesUp, StepNeedsClear, IsCause, IsStepCause}
 use Rattle.lazy_dfa.specs.declared.cache_error.CacheError.{CacheError}
@@ -61,18 +61,6 @@ cleared_few v w e = subst (λ (x : CacheValue). WasCleared v x 1) (sym e) (recor
   progress = refl;
   few = omega arith;
 })
-
-pub cleared_one : (v w : CacheValue) (b : Bool) (s : StateValue) → w ≡ with_state b s (cleared v) → WasCleared v w 1
-cleared_one v w b s e = subst (λ (x : CacheValue). WasCleared v x 1) (sym e) (record {
-  clears = refl;
-  searched = refl;
-  progress = refl;
-  few = omega arith;
-})
-
--- a clear that was refused by memory
-pub room_refused : (v w : CacheValue) → (w ≡ v) ⊎ (w ≡ cleared v) → MadeRoom v w
-room_refused v w e = ⊎_elim (λ (f : w ≡ v). inl f) (λ (f : w ≡ cleared v). inr (cleared_few v w f)) e
 
 -- and one of a state behind the room that was made
 pub adds_after : (v mid new : CacheValue) (b : Bool) (s : StateValue) → IsShaped v → MadeRoom v mid → new ≡ with_state b s mid →
@@ -325,69 +313,18 @@ no_dead : (x y z w : Bool) → x ≡ true → refuses x y z w ≡ false
 no_dead true y z w e = refl
 no_dead false y z w e = absurd (true≢false (sym e))
 
-no_new : (x y z w : Bool) → y ≡ false → refuses x y z w ≡ false
-no_new true y z w e = refl
-no_new false true z w e = absurd (true≢false e)
-no_new false false z w e = refl
-
-no_fit : (x y z w : Bool) → z ≡ true → refuses x y z w ≡ false
-no_fit true y z w e = refl
-no_fit false false z w e = refl
-no_fit false true true w e = refl
-no_fit false true false w e = absurd (true≢false (sym e))
-
 no_refusal : (x y z w : Bool) → w ≡ false → refuses x y z w ≡ false
 no_refusal true y z w e = refl
 no_refusal false false z w e = refl
 no_refusal false true true w e = refl
 no_refusal false true false w e = e
 
-all_refuse : (x y z w : Bool) → x ≡ false → y ≡ true → z ≡ false → w ≡ true → refuses x y z w ≡ true
-all_refuse x y z w a b c e = rw (a, b, c, e) refl
-
-all_need : (x y z : Bool) → x ≡ false → y ≡ true → z ≡ false → (not x && (y && not z)) ≡ true
-all_need x y z a b c = rw (a, b, c) refl
-
 module _ (d : Dfa) (v : CacheValue) (s : StateValue) where
-  abbrev dead_one : Bool
-  dead_one = is_dead s
-
-  abbrev new_one : Bool
-  new_one = is_none (row_holding s v.states)
-
   abbrev fitting : Bool
   fitting = fits d.capacity s v
 
   abbrev refused : Bool
   refused = is_refused (clears_of d.options) (minimum_bytes_of d.options) v
-
-  pub lacks_not_dead : is_dead s ≡ true → lacks_room d v s ≡ false
-  lacks_not_dead e = no_dead dead_one new_one fitting refused e
-
-  pub lacks_not_found : (o : Option ℕ) → o ≡ row_holding s v.states → is_none o ≡ false → lacks_room d v s ≡ false
-  lacks_not_found o e n = no_new dead_one new_one fitting refused (ap is_none (sym e) ∙ n)
-
-  pub lacks_not_fitting : fits d.capacity s v ≡ true → lacks_room d v s ≡ false
-  lacks_not_fitting e = no_fit dead_one new_one fitting refused e
-
-  pub lacks_not_allowed : is_refused (clears_of d.options) (minimum_bytes_of d.options) v ≡ false → lacks_room d v s ≡ false
-  lacks_not_allowed e = no_refusal dead_one new_one fitting refused e
-
-  pub lacks_all : is_dead s ≡ false → row_holding s v.states ≡ None → fits d.capacity s v ≡ false →
-      is_refused (clears_of d.options) (minimum_bytes_of d.options) v ≡ true → lacks_room d v s ≡ true
-  lacks_all a b c e = all_refuse dead_one new_one fitting refused a (ap is_none b) c e
-
-  pub needs_all : is_dead s ≡ false → row_holding s v.states ≡ None → fits d.capacity s v ≡ false → needs_clear d v s ≡ true
-  needs_all a b c = all_need dead_one new_one fitting a (ap is_none b) c
-
-  pub fits_is : fits d.capacity s v ≡ true → Fits d.capacity s v
-  fits_is e =
-      let b = both (nat_le (usage v + cost v.stride s) d.capacity) (nat_le (length v.cells + v.stride) tag) e in
-      (le_of (usage v + cost v.stride s) d.capacity b.0, le_of (length v.cells + v.stride) tag b.1)
-    where
-      both : (x y : Bool) → (x && y) ≡ true → (x ≡ true) × (y ≡ true)
-      both true y e = (refl, e)
-      both false y e = absurd (true≢false (sym e))
 
 -- the cause of a step that was refused, and that a step which was made has none
 module _ (d : Dfa) (v mid : CacheValue) (id k : ℕ) (u : Option ℕ) (s : StateValue) (shape : IsShaped v) (same_cache : mid ≡ v)

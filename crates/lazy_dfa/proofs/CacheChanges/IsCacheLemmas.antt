@@ -20,7 +20,7 @@ use Rattle.lazy_dfa.specs.Ids.{tag, tagged, unknown_id, quit_id}
 use Rattle.lazy_dfa.specs.Caches.{CacheValue, IsShaped, IsCacheOf, Leads, Names, names_dead, names_held, HeldAt, IsRow, same, row_holding}
 use Rattle.lazy_dfa.specs.Caches.{state_at, id_at, cell_at, slot_of_start, Begins, new_id, with_state, cleared, Fits}
 use Rattle.lazy_dfa.proofs.CacheChanges.ListLemmas.{found_at, one_longer, below_or_last, at_old, at_last}
-use Rattle.lazy_dfa.proofs.CacheChanges.CacheLemmas.{IsShaped-added, IsShaped-cleared, states_cost-append, grown, place_in_none}
+use Rattle.lazy_dfa.proofs.CacheChanges.CacheLemmas.{IsShaped-added, IsShaped-cleared, states_cost-append, place_in_none}
 use Rattle.lazy_dfa.proofs.CacheChanges.CacheLemmas.{place_in_one, fresh_at}
 use Rattle.std.proofs.lemmas.Bool.Decides.{leb_tells}
 use Rattle.std.specs.Prelude.{nat_le, IfSome}
@@ -362,13 +362,6 @@ module _ (d : Dfa) (v : CacheValue) (k : ℕ) (made : IsDfa d) (own : IsCacheOf 
   pub kept_held : (b : Bool) → HeldAt (with_state b x (cleared v)) (new_id (cleared v) b x) x
   kept_held b = new_held (cleared v) b x (IsShaped-cleared v (cleared v).clears own.shape)
 
-  pub fits_beside : (b : Bool) (s : StateValue) → IsStateOf d s → Fits d.capacity s (with_state b x (cleared v))
-  fits_beside b s is =
-      let few = (IsShaped-cleared v (cleared v).clears own.shape).sized in
-      let more = grown (cleared v).cells v.stride in
-      let short = (own.states k l).short in
-      (omega (arith, made.enough, short, is.short, own.stride, own.fresh), omega (arith, few, more, own.shape.narrow))
-
   pub fresh_beside : (b : Bool) (s : StateValue) → row_holding s v.states ≡ None → row_holding s (with_state b x (cleared v)).states ≡ None
   fresh_beside b s none = place_in_one s x (fresh_at s v.states k none l)
 
@@ -429,9 +422,6 @@ row_of_held v id (inr (inr x)) f = x
 pub no_step : (d : Dfa) (v : CacheValue) (id r : ℕ) (u : Option ℕ) → IsShaped v → nat_le 0x2000_0000 id ≡ true → StepsTo d v v id u r
 no_step d v id r u i e s h = let l = row_is_plain v id h.0 i h.1 h.2 in let g = le_of 0x2000_0000 id e in absurd (omega (arith, l, g))
 
-pub no_sentinel : (id r : ℕ) → nat_le 0x2000_0000 id ≡ false → 0x2000_0000 ≤ id → r ≡ id
-no_sentinel id r e g = let l = lt_of 0x2000_0000 id e in absurd (omega (arith, l, g))
-
 pub same_row : (v : CacheValue) (j k : ℕ) → IsShaped v → j < length v.states → k < length v.states → id_at v j ≡ id_at v k → j ≡ k
 same_row v j k i l m e =
     let p : (j + 3) * v.stride ≡ (k + 3) * v.stride = sym (untagged v i j l) ∙ (ap (λ (n : ℕ). n % tag) e ∙ untagged v i k m) in
@@ -486,11 +476,6 @@ steps_of_row d old new id k u to i l e led s h =
     subst (λ (t : StateValue). Leads d new t u to) (ap (state_at old) same ∙ sym h.3) led
 
 -- ---- starts
-
-pub fits_in_cleared : (d : Dfa) (v : CacheValue) (s : StateValue) → IsDfa d → IsCacheOf d v → IsStateOf d s → Fits d.capacity s (cleared v)
-fits_in_cleared d v s made own is =
-    let few = (IsShaped-cleared v (cleared v).clears own.shape).sized in
-    (omega (arith, made.enough, is.short, own.stride, own.fresh), omega (arith, few, own.shape.narrow))
 
 pub first_of : (d : Dfa) (a : Automaton) (t : Terminator) (s : Start) (q : ℕ) (r : StateValue) → a ≡ d.nfa.automaton →
     t ≡ d.nfa.terminator → r ≡ start_value a t s q → r ≡ first_state d s q

@@ -5,7 +5,7 @@ use Rattle.search_types.specs.declared.match_error.MatchErrorKind.{MatchErrorKin
 use Rattle.determinize_core.specs.Starts.{StartValue}
 use Rattle.lazy_dfa.specs.Caches.{CacheValue}
 use Rattle.lazy_dfa.specs.Dfas.{Dfa}
-use Rattle.lazy_dfa.specs.StartCalls.{start_refusal, IsStart, IsStartCause}
+use Rattle.lazy_dfa.specs.StartCalls.{start_refusal, IsStart}
 use Rattle.lazy_dfa.specs.SearchStarts.{AnswersStart, error_at}
 use Rattle.lazy_dfa.specs.declared.start_error.StartError.{StartError}
 
@@ -40,16 +40,6 @@ started d old new c quit_place place id h is = record {
   refused = never_refused (start_refusal d c) id (error_at quit_place place) h;
   start = is;
   err = λ e. tt;
-}
-
-pub not_started : (d : Dfa) (old new : CacheValue) (c : StartValue) (quit_place place : ℕ) (e : StartError) (told : MatchErrorKind) →
-    told ≡ error_at quit_place place e → MatchOption (start_refusal d c) ⊤ (λ x. is_error (Err e) x) →
-    (start_refusal d c ≡ None → IsStartCause d old c e) →
-    AnswersStart d old new c quit_place place (Err told)
-not_started d old new c quit_place place e told is h cause = record {
-  refused = is_refused (start_refusal d c) e told (error_at quit_place place) is h;
-  start = λ x. tt;
-  err = λ x. (e, cause x, is);
 }
 
 -- an ID that is the answer of a start is that of a search's start; a refusal is no ID

@@ -9,19 +9,16 @@ use Rattle.determinize_core.specs.declared.start.Start.{Start}
 use Rattle.lazy_dfa.specs.Accounting.{Measures, start_count}
 use Rattle.lazy_dfa.specs.ConfigValue.{starts_each_of}
 use Rattle.lazy_dfa.specs.Dfas.{Dfa, IsDfa, start_in, first_state}
-use Rattle.lazy_dfa.specs.Ids.{unknown_id, dead_id}
-use Rattle.lazy_dfa.specs.Caches.{CacheValue, IsCacheOf, Names, slot_of_start, needs_clear, lacks_room}
+use Rattle.lazy_dfa.specs.Ids.{unknown_id}
+use Rattle.lazy_dfa.specs.Caches.{CacheValue, IsCacheOf, slot_of_start, needs_clear, lacks_room}
 use Rattle.lazy_dfa.specs.Readers.{is_quit}
-use Rattle.lazy_dfa.specs.Steps.{Grew, IsCause}
+use Rattle.lazy_dfa.specs.Steps.{Grew}
 use Rattle.lazy_dfa.specs.StartCalls.{mode_of, quit_refusal, behind_refusal, mode_refusal, start_refusal, start_slot, start_first}
 use Rattle.lazy_dfa.specs.StartCalls.{start_noted}
-use Rattle.lazy_dfa.specs.StartCalls.{IsStartKnown, StartNeedsClear, ClearedFor, StartCleared, IsStart, TagsStart, StartGivesUp}
-use Rattle.lazy_dfa.specs.StartCalls.{IsStartCause}
-use Rattle.lazy_dfa.specs.StartCalls.{start_error_of}
+use Rattle.lazy_dfa.specs.StartCalls.{IsStartKnown, StartNeedsClear, ClearedFor, StartCleared, TagsStart, StartGivesUp}
 use Rattle.lazy_dfa.specs.declared.cache_error.CacheError.{CacheError}
-use Rattle.lazy_dfa.specs.declared.cache_error.CacheError.TheVariants.{GaveUp, NoMemory}
 use Rattle.lazy_dfa.specs.declared.start_error.StartError.{StartError}
-use Rattle.lazy_dfa.specs.declared.start_error.StartError.TheVariants.{Cache, UnsupportedAnchored}
+use Rattle.lazy_dfa.specs.declared.start_error.StartError.TheVariants.{UnsupportedAnchored}
 use Rattle.lazy_dfa.proofs.CacheChanges.IsCacheLemmas.{numbered_back}
 
 inside_of : {X : Type 0} (xs : List X) (k : ℕ) (x : X) → slice_get xs k ≡ Some x → k < length xs
@@ -130,12 +127,6 @@ module _ (d : Dfa) (c : StartValue) (n q : ℕ) (s : Start) (named : Some q ≡ 
       }))
       e
 
-  -- what the call for this slot tells is told of the start
-  pub start_names : (v : CacheValue) (id : ℕ) → Names v id (first_state d s q) → IsStart d v c id
-  start_names v id h = subst (λ (o : Option ℕ). MatchOption o (id ≡ dead_id v.stride)
-      (λ r. Names v id (first_state d (start_of d.nfa.terminator c.look_behind) r))) named
-      (subst (λ (t : Start). Names v id (first_state d t q)) is h)
-
   pub start_noted_at : (v : CacheValue) (id : ℕ) → get_or v.starts (slot_of_start n s) 0 ≡ id → start_noted d v c ≡ id
   start_noted_at v id e = ap (λ (i : ℕ). get_or v.starts i 0) (sym same_slot) ∙ e
 
@@ -160,28 +151,6 @@ module _ (d : Dfa) (c : StartValue) (n q : ℕ) (s : Start) (named : Some q ≡ 
       let none = h (ap (λ (i : ℕ). get_or old.starts i 0) same_slot ∙ gives.unknown) in
       true≢false (sym lacks ∙ (sym (ap (λ (t : Start). lacks_room d old (first_state d t q)) is) ∙ none))
 
-  pub start_cause : (old : CacheValue) (e : CacheError) (x : StartError) → x ≡ start_error_of e →
-      get_or old.starts (slot_of_start n s) 0 ≡ unknown_id → IsCause d old (first_state d s q) e → IsStartCause d old c x
-  start_cause old e x told unknown (inl f) = inl (told ∙ ap start_error_of f)
-  start_cause old e x told unknown (inr h) = inr (
-    told ∙ ap start_error_of h.0,
-    record {
-      unknown = ap (λ (i : ℕ). get_or old.starts i 0) (sym same_slot) ∙ unknown;
-      lacks = subst (λ (o : Option ℕ). MatchOption o ⊥ (λ r. lacks_room d old (start_first d c r) ≡ true)) named
-          (subst (λ (t : Start). lacks_room d old (first_state d t q) ≡ true) is h.1);
-    },
-  )
-
--- a start for a pattern that there isn't doesn't give up
-pub no_start_gives_up : (d : Dfa) (old : CacheValue) (c : StartValue) → start_in d (mode_of c.anchored) ≡ None → StartGivesUp d old c → ⊥
-no_start_gives_up d old c none gives =
-    subst (λ (o : Option ℕ). MatchOption o ⊥ (λ q. lacks_room d old (start_first d c q) ≡ true)) none gives.lacks
-
--- a start gave up only where its state did
-pub gave_up_back : (e : CacheError) → start_error_of e ≡ Cache GaveUp → e ≡ GaveUp
-gave_up_back GaveUp told = refl
-gave_up_back NoMemory told = absurd cc
-
 -- what is refused, and what isn't
 pub refusal_is : (d : Dfa) (c : StartValue) (r : Option StartError) (o : Option ℕ) (m : Anchored) (x : Option StartError) → r ≡ x →
     r ≡ behind_refusal d o (mode_refusal d m) → o ≡ c.look_behind → m ≡ c.anchored →
@@ -199,9 +168,3 @@ one_refused o e r f g = subst (λ (x : Option StartError). MatchOption x ⊤ (λ
 
 pub not_none : {X : Type 0} (o : Option X) (x : X) → o ≡ Some x → o ≡ None → ⊥
 not_none o x f g = let h : Some x ≡ None = sym f ∙ g in absurd cc
-
-pub told_gave_up : (e : CacheError) (x : StartError) (r : Result ℕ StartError) (s : Result ℕ CacheError) → x ≡ start_error_of e →
-    r ≡ Err x → s ≡ Err e → r ≡ Err (Cache GaveUp) → s ≡ Err GaveUp
-told_gave_up e x r s told f g h =
-    let there : x ≡ Cache GaveUp = cc in
-    g ∙ ap (λ (y : CacheError). Err y) (gave_up_back e (sym told ∙ there))

@@ -19,11 +19,6 @@ use Rattle.lazy_dfa.proofs.CacheChanges.IsCacheLemmas.{steps_of_row}
 use Rattle.lazy_dfa.proofs.CacheChanges.LinkedLemmas.{held_leads}
 use Rattle.lazy_dfa.proofs.CacheChanges.StartChangeLemmas.{known_tags, known_quits}
 
--- what a step by a unit promises, for one who knows the unit by another name
-pub step_renamed : (d : Dfa) (id : ℕ) (u w : Option ℕ) (old new : CacheValue) (m1 m2 n1 n2 : ℕ) (r : Result ℕ CacheError) → w ≡ u →
-    MakesStep d id u old new m1 m2 n1 n2 r → MakesStep d id w old new m1 m2 n1 n2 r
-step_renamed d id u w old new m1 m2 n1 n2 r e x = subst (λ (y : Option ℕ). MakesStep d id y old new m1 m2 n1 n2 r) (sym e) x
-
 -- from a row a step of which nothing is noted isn't known
 pub not_known_there : (d : Dfa) (v : CacheValue) (id : ℕ) (u : Option ℕ) → IsShaped v → IsRow v id → noted d v id u ≡ unknown_id →
     IsKnown d v id u → ⊥

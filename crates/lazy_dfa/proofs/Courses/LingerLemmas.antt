@@ -201,12 +201,6 @@ module _ (d : Dfa) (v : CacheValue) (q : Search) (h : List ℕ) (is_reverse : Bo
       counted false e = absurd (true≢false (sym e))
       counted true e = omega (arith, stop, past, within)
 
--- the ID that was met last is known by a run only where it is that of a row
-pub met_below : (d : Dfa) (h : List ℕ) (v : CacheValue) (from first at id met last k : ℕ) → Lingers d h v from first at id met last k →
-    met < unknown_id → IsRow v met × (has_tag match_tag met ≡ true)
-met_below d h v from first at id met last k lingers l = let n : met ≢ unknown_id = λ e. omega (arith, e, l) in
-    (lingers.row n, lingers.matches n)
-
 -- ---- two runs one after the other
 
 pub between_both : (d : Dfa) (v : CacheValue) (q : Search) (is_reverse : Bool) (i j k x y z : ℕ) (a b c : Option (ℕ × ℕ)) → IsDfa d →

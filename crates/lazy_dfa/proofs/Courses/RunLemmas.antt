@@ -74,9 +74,6 @@ module _ (d : Dfa) (earliest : Bool) (h : List ℕ) (made : IsDfa d) (bytes : Ar
 abbrev pub as_told : CacheValue → CacheValue → CacheValue
 as_told v w = record w { searched = v.searched; progress = v.progress }
 
-pub as_told_moves : (v w : CacheValue) → IsMoved w (as_told v w)
-as_told_moves v w = refl
-
 pub as_told_back : (v w : CacheValue) → IsMoved (as_told v w) w
 as_told_back v w = refl
 

@@ -1,6 +1,5 @@
 -- How many passes half searches make, and how many units these read.
-use Rattle.std.proofs.Common.{◌≡◌, ℕ, zero, suc, ◌+◌, ◌-◌, ◌*◌, ◌<◌, ◌≤◌, Bool, true, false, List, refl, ap, ◌∙◌, arith, if◌then◌else◌}
-use Rattle.std.proofs.lemmas.Bool.{le-leb}
+use Rattle.std.proofs.Common.{ℕ, zero, suc, ◌+◌, ◌-◌, ◌*◌, ◌≤◌, Bool, true, false, List, arith, if◌then◌else◌}
 use Rattle.std.specs.Bool.{nat_le}
 use Rattle.search_types.specs.declared.anchored.Anchored.{Anchored}
 use Rattle.search_types.specs.Inputs.{Search}
@@ -11,7 +10,6 @@ use Rattle.lazy_dfa.specs.Passes.{next_place, pass}
 use Rattle.lazy_dfa.specs.PassLaws.{pass_len, splits}
 use Rattle.lazy_dfa.specs.ScanLaws.{begins_at, passes_made, units_in_passes, pass_count, unit_count}
 use Rattle.lazy_dfa.proofs.HalfSearches.PassQuitLemmas.{pass_units}
-use Rattle.lazy_dfa.proofs.HalfSearches.ScanLemmas.{not_split, past_le}
 
 -- one pass more where an end splits
 one_more : (b : Bool) (m n : ℕ) → m ≤ n → (if b then suc m else 1) ≤ suc n
@@ -32,12 +30,6 @@ module _ (r : Reader) (mode : Anchored) (earliest : Bool) (h : List ℕ) where
   few_passes (suc n) i =
       one_more (split (suc n) i) (passes_made r mode earliest h n (next_place r i)) (suc n) (few_passes n (next_place r i))
 
-  pub one_made : (n i : ℕ) → r.between_characters ≡ false → passes_made r mode earliest h n i ≡ 1
-  one_made zero i e = refl
-  one_made (suc n) i e =
-      ap (λ (b : Bool). if b then suc (passes_made r mode earliest h n (next_place r i)) else 1)
-      (ap (λ (w : Bool). splits (counts w h) (pass r mode earliest h (suc n) i)) e ∙ not_split h (pass r mode earliest h (suc n) i))
-
   pub few_units_made : (n i : ℕ) → units_in_passes r mode earliest h n i ≤ passes_made r mode earliest h n i * suc n
   few_units_made zero i = let few = pass_units r mode earliest h 0 i in omega (arith, few)
   few_units_made (suc n) i =
@@ -55,10 +47,6 @@ either_units : (a : Bool) (n one made units : ℕ) → one ≤ suc n → units �
     (if a then one else units) ≤ (if a then 1 else made) * suc n
 either_units true n one made units few all = omega (arith, few)
 either_units false n one made units few all = all
-
-either_one : (a : Bool) (made : ℕ) → made ≡ 1 → (if a then 1 else made) ≡ 1
-either_one true made e = refl
-either_one false made e = e
 
 begun_few : (b : Bool) (m top : ℕ) → m ≤ top → (if b then m else 0) ≤ top
 begun_few true m top l = l
@@ -86,19 +74,6 @@ module _ (r : Reader) (q : Search) where
 
   abbrev units : ℕ
   units = units_in_passes r q.anchored q.earliest q.haystack n (begins_at r q)
-
-  pub no_passes : q.end < q.start → pass_count r q ≡ 0
-  no_passes past = ap (λ (b : Bool). if b then made_in_mode else 0) (past_le q.start q.end past)
-
-  made_if_begun : q.start ≤ q.end → pass_count r q ≡ made_in_mode
-  made_if_begun l = ap (λ (b : Bool). if b then made_in_mode else 0) (le-leb q.start q.end l)
-
-  pub one_pass_counted : q.start ≤ q.end → r.between_characters ≡ false → pass_count r q ≡ 1
-  one_pass_counted l e = made_if_begun l
-      ∙ either_one (is_anchored q.anchored) made (one_made r q.anchored q.earliest q.haystack n (begins_at r q) e)
-
-  pub anchored_pass_counted : q.start ≤ q.end → is_anchored q.anchored ≡ true → pass_count r q ≡ 1
-  anchored_pass_counted l a = made_if_begun l ∙ ap (λ (b : Bool). if b then 1 else made) a
 
   pub few_passes_counted : pass_count r q ≤ suc n
   few_passes_counted = begun_few begun made_in_mode (suc n)

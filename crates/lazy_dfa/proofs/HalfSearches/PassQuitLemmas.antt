@@ -248,11 +248,6 @@ mode_of_plain : (is : Bool) (mode m : Anchored) (a : HalfAnswer) → IsPlain a �
 mode_of_plain true mode m a plain e = absurd (plain_no_mode m a plain e)
 mode_of_plain false mode m a plain e = let same : unsupported mode ≡ unsupported m = e in (cc, refl)
 
-pub byte_of_quit : (quits : List Bool) (u : Option ℕ) (index b x : ℕ) (rest : HalfAnswer) → IsQuitAt quits u index b x →
-    unless_quit quits u index rest ≡ quit b x
-byte_of_quit quits u index b x rest at = ap (λ (w : Option ℕ). unless_quit quits w index rest) at.0
-    ∙ ap (λ (q : Bool). if q then quit b index else rest) at.1 ∙ ap (quit b) (sym at.2)
-
 module _ (r : Reader) (mode : Anchored) (earliest : Bool) (h : List ℕ) (n i : ℕ) where
   abbrev back : Option ℕ
   back = unit_behind r.automaton.reverse h i
@@ -293,9 +288,6 @@ module _ (r : Reader) (mode : Anchored) (earliest : Bool) (h : List ℕ) (n i : 
             (quit_is_first r earliest h (suc n) i begun None b x fit.1),
       ))
       (quit_or_on r.quits back back_index b x rest e)
-
-  pub quits_behind : (b x : ℕ) → IsQuitBehind r h i b x → pass r mode earliest h n i ≡ quit b x
-  quits_behind b x at = byte_of_quit r.quits back back_index b x rest at
 
   pub quits_first : (b x : ℕ) → HasNoQuitBehind r h i → IsFirstQuit r h i (pass_len r mode earliest h n i) b x →
       pass r mode earliest h n i ≡ quit b x

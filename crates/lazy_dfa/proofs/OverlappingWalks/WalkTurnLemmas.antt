@@ -1,8 +1,8 @@
 -- One unit of a walk in its span: what a step says of it, and what comes of that.
-use Rattle.std.proofs.Common.{◌≡◌, ◌≢◌, ◌⊎◌, inl, inr, ℕ, ◌+◌, ◌*◌, ◌<◌, ◌≤◌, ◌==◌, ◌&&◌, ◌||◌, not, nat_le, nat_lt, is_none, min, Bool}
+use Rattle.std.proofs.Common.{◌≡◌, ◌≢◌, ◌⊎◌, inl, inr, ℕ, ◌+◌, ◌*◌, ◌==◌, ◌&&◌, ◌||◌, not, nat_le, is_none, min, Bool}
 use Rattle.std.proofs.Common.{true, false, true≢false, List, [], ◌∷◌, length, Option, Some, None, Err, IsSome, refl, sym, ap, ◌∙◌, subst}
 use Rattle.std.proofs.Common.{⊎_elim, arith}
-use Rattle.std.proofs.lemmas.Bool.{cases_lt, le-ltb, eqb-true, eq-eqb, and_parts}
+use Rattle.std.proofs.lemmas.Bool.{eqb-true, eq-eqb}
 use Rattle.search_core.specs.ByteSets.{has}
 use Rattle.nfa_core.specs.Ways.{place_of}
 use Rattle.determinize_core.specs.States.{StateValue}
@@ -18,7 +18,6 @@ use Rattle.lazy_dfa.specs.ConfigValue.{clears_of, minimum_bytes_of}
 use Rattle.lazy_dfa.specs.Courses.{state_behind, stops_behind}
 use Rattle.lazy_dfa.specs.declared.cache_error.CacheError.{CacheError}
 use Rattle.lazy_dfa.specs.declared.cache_error.CacheError.TheVariants.{GaveUp, NoMemory}
-use Rattle.lazy_dfa.specs.declared.overlapping_state.Stop.{Stop}
 use Rattle.lazy_dfa.specs.declared.position.Position.{Position}
 use Rattle.lazy_dfa.specs.declared.progress.Progress.{Progress}
 use Rattle.lazy_dfa.specs.declared.turns.Turn.{Turn}
@@ -33,11 +32,8 @@ use Rattle.lazy_dfa.specs.LeftTold.{told_at}
 use Rattle.lazy_dfa.specs.SearchAnswers.{pair_of, told_of, running_at}
 use Rattle.lazy_dfa.specs.PassPlaces.{last_place, finished, finished_where, error_of, gave_up_at}
 use Rattle.lazy_dfa.specs.Turns.{FailsOn, GoesOne, IsSeen, IsTurn}
-use Rattle.lazy_dfa.specs.Walks.{value_past, StopsAt}
-use Rattle.lazy_dfa.specs.WalkAnswers.{lists_more}
 use Rattle.lazy_dfa.specs.WalkTurns.{tells_end, is_over, TellsUnit, IsStepTo, RefusesUnit, StopsWith, ReadsInto}
 use Rattle.lazy_dfa.proofs.OverlappingWalks.WalkToldLemmas.{unit_stepped, unit_finished}
-use Rattle.lazy_dfa.proofs.CacheChanges.ChangeLemmas.{one_state}
 use Rattle.lazy_dfa.proofs.Courses.SpanTurnLemmas.{held_moved, leaves_forth, goes_back, began_moved, moved_is, some_moved, runs_there}
 use Rattle.lazy_dfa.proofs.Courses.SpanTurnLemmas.{finished_moves, fails_back, leaves_back}
 use Rattle.lazy_dfa.proofs.Courses.TurnStepLemmas.{row_matches, has_not}
@@ -316,19 +312,3 @@ module _ (d : Dfa) (q : Search) (is_reverse : Bool) (same : is_reverse ≡ d.nfa
       none GoesOn f = first_no tells last f
       none Ends f = absurd (true≢false f)
       none Quits f = absurd (true≢false f)
-
--- ---- where a walk stopped
-
--- the state where a walk stopped lists an end at its index
-pub lists_there : (d : Dfa) (v : CacheValue) (q : Search) (stop : Stop) → IsShaped v → StopsAt d v q stop →
-    lists_more (reader d) q stop ≡ true →
-    (s : StateValue) → HeldAt v stop.id s → stop.index < length s.matches
-lists_there d v q stop i x more s held =
-    let same : s ≡ value_past (reader d) q stop.at = sym (one_state v stop.id x.held.0 s i x.held.1 x.held.2 held) ∙ sym x.held.3 in
-    subst (λ (t : StateValue). stop.index < length t.matches) (sym same)
-    (below stop.index (length (value_past (reader d) q stop.at).matches)
-    (and_parts (counts (reader d).between_characters q.haystack stop.at)
-    (nat_lt stop.index (length (value_past (reader d) q stop.at).matches)) more).1)
-  where
-    below : (a b : ℕ) → nat_lt a b ≡ true → a < b
-    below a b e = ⊎_elim (λ (l : a < b). l) (λ (l : b ≤ a). absurd (true≢false (sym e ∙ le-ltb a b l))) (cases_lt a b)

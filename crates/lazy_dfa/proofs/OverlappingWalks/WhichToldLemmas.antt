@@ -1,6 +1,6 @@
 -- What the calls of a walk over a whole span tell, one after the other, and that the ID at which a walk stopped doesn't show in what
 -- it tells.
-use Rattle.std.proofs.Common.{◌≡◌, ℕ, suc, ◌+◌, ◌<◌, ◌≤◌, ◌&&◌, Bool, true, false, true≢false, List, None, refl, sym, ap}
+use Rattle.std.proofs.Common.{◌≡◌, ℕ, suc, ◌+◌, ◌<◌, ◌≤◌, ◌&&◌, Bool, true, false, true≢false, List, None, refl, ap}
 use Rattle.std.proofs.Common.{◌∙◌, inl, inr, subst, if◌then◌else◌}
 use Rattle.std.specs.Prelude.{Result, Ok, Err, min, ⊤}
 use Rattle.std.proofs.lemmas.Bool.{lt-leb}
@@ -16,13 +16,11 @@ use Rattle.lazy_dfa.specs.Linked.{HasCleared, GrowsOrClears}
 use Rattle.lazy_dfa.specs.Readers.{Reader}
 use Rattle.lazy_dfa.specs.PassPlaces.{left_at}
 use Rattle.lazy_dfa.specs.SearchAnswers.{told_of, Told, pass_distance}
-use Rattle.lazy_dfa.specs.Walks.{Rest, whole_rest}
 use Rattle.lazy_dfa.specs.WalkAnswers.{without_id, walk_behind, walk_after, told_by_call, GivesUpOn, at_start, at_unit}
 use Rattle.lazy_dfa.specs.WalkAnswers.{LeavesCall, left_failed, left_at_start, left_at_unit, TellsCallAnew, anew_at_start, anew_at}
 use Rattle.lazy_dfa.specs.WalkAnswers.{FailsCallAnew, fails_behind_start, fails_behind, IsCallTold, told_last, told_before}
-use Rattle.lazy_dfa.specs.WalkAnswers.{left_last, left_before, IsToldAfter, IsLeftAfter, call_place, call_units, calls_for}
+use Rattle.lazy_dfa.specs.WalkAnswers.{left_last, left_before, IsToldAfter, IsLeftAfter, call_place, call_units}
 use Rattle.lazy_dfa.proofs.CacheChanges.LinkedLemmas.{cleared_grows}
-use Rattle.lazy_dfa.proofs.OverlappingWalks.RestLemmas.{rest_done}
 
 -- ---- without the ID
 
@@ -123,10 +121,6 @@ module _ (r : Reader) (q : Search) (set : List Bool) (v : CacheValue) (past : q.
   nothing : told_by_call r q Fresh (told_of v) ≡ told_of v
   nothing = ap (λ (b : Bool). if b && is_supported r.starts_for_each_pattern q.anchored then read else told_of v)
       (lt-leb q.start q.end past)
-
-  pub done_told : IsToldAfter r q (calls_for q.earliest set (whole_rest r q).ends) v v
-  done_told = subst (λ (x : Rest). IsToldAfter r q (calls_for q.earliest set x.ends) v v) (sym (rest_done r q past))
-      (inl (sym nothing, refl))
 
 pub none_told : (r : Reader) (q : Search) (v : CacheValue) → IsToldAfter r q 0 v v
 none_told r q v = inl (refl, refl)

@@ -1,8 +1,5 @@
-use Rattle.lazy_dfa.proofs.Automata.AccountingLemmas.{usage_of_none, usage_of_more}
+use Rattle.lazy_dfa.proofs.Automata.AccountingLemmas.{usage_of_more}
 use Rattle.lazy_dfa.proofs.accounting_laws.states_add_to_the_usage.Goals as goal
-
-pub returns-clause-none : goal.returns-clause-none
-returns-clause-none c = λ m. usage_of_none m
 
 pub returns-clause-more : goal.returns-clause-more
 returns-clause-more c = λ m held v. usage_of_more m held v

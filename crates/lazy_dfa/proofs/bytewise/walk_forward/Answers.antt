@@ -28,9 +28,6 @@ returns-then-eq-clause-row c = row_on c.args.dfa.now c.args.cache.now c.args.hay
     c.loop-at.invariant.goes c.cell_of_untagged-next.result c.class.result c.class.ensures c.cell_of_untagged-next.ensures
     (lt_of 0x800_0000 c.cell_of_untagged-next.result (sym c.is_tagged.ensures ∙ c.if-is_tagged.false))
 
-pub returns-then-eq-clause-untagged : goal.returns-then-eq-clause-untagged
-returns-then-eq-clause-untagged c = lt_of 0x800_0000 c.cell_of_untagged-next.result (sym c.is_tagged.ensures ∙ c.if-is_tagged.false)
-
 pub returns-then-eq-clause-goes : goal.returns-then-eq-clause-goes
 returns-then-eq-clause-goes c = way_on c.args.dfa.now c.args.cache.now c.args.haystack.now c.is_made.ensures c.requires.own
     (λ i. omega (arith, c.type_inv.haystack i)) c.requires.is_forward

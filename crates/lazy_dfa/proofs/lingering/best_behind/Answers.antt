@@ -1,25 +1,13 @@
-use Rattle.std.proofs.Common.{ℕ, ap, sym, refl, ◌∙◌, Some, arith}
+use Rattle.std.proofs.Common.{ℕ, ap, sym, refl, ◌∙◌, Some}
 use Rattle.search_types.specs.Found.{HalfFound}
 use Rattle.lazy_dfa.specs.SearchAnswers.{pair_of}
-use Rattle.lazy_dfa.proofs.CacheChanges.IsCacheLemmas.{le_of, lt_of}
+use Rattle.lazy_dfa.proofs.CacheChanges.IsCacheLemmas.{lt_of}
 use Rattle.lazy_dfa.proofs.Courses.TurnStepLemmas.{matches_there, row_matches, first_recorded}
 use Rattle.lazy_dfa.proofs.lingering.best_behind.Goals as goal
-
-pub match_pattern-pattern-requires-clause-row : goal.match_pattern-pattern-requires-clause-row
-match_pattern-pattern-requires-clause-row c = c.requires.row (lt_of 0x8000_0000 c.args.met.id (sym c.is_not_known.ensures
-    ∙ c.if-is_not_known.false))
 
 pub match_pattern-pattern-requires-clause-inside : goal.match_pattern-pattern-requires-clause-inside
 match_pattern-pattern-requires-clause-inside c = matches_there c.args.cache.now c.args.met.id c.requires.own.shape
     (c.requires.matches (lt_of 0x8000_0000 c.args.met.id (sym c.is_not_known.ensures ∙ c.if-is_not_known.false)))
-
-pub returns-then-is_not_known-clause-last : goal.returns-then-is_not_known-clause-last
-returns-then-is_not_known-clause-last c l = let m = le_of 0x8000_0000 c.args.met.id (sym c.is_not_known.ensures ∙ c.if-is_not_known.true) in
-    absurd (omega (arith, l, m))
-
-pub returns-clause-still : goal.returns-clause-still
-returns-clause-still c l = let m = lt_of 0x8000_0000 c.args.met.id (sym c.is_not_known.ensures ∙ c.if-is_not_known.false) in
-    absurd (omega (arith, l, m))
 
 pub returns-clause-last : goal.returns-clause-last
 returns-clause-last c l s held =

@@ -7,13 +7,6 @@ use Rattle.lazy_dfa.proofs.Courses.LingerLemmas.{lingers_on}
 use Rattle.lazy_dfa.proofs.Courses.PointLemmas.{forward_unit, forward_place}
 use Rattle.lazy_dfa.proofs.lingering.stay_forward.Goals as goal
 
-pub loop-at-init : goal.loop-at-init
-loop-at-init c = record {
-  past = omega arith;
-  within = c.requires.fits;
-  lingers = λ start first l row x. x;
-}
-
 pub cell-next-requires : goal.cell-next-requires
 cell-next-requires c = row_place c.args.dfa.now c.args.cache.now c.args.id c.class.result
     (Some (get_or c.args.haystack.now c.loop-at.at 0)) c.is_made.ensures c.requires.own

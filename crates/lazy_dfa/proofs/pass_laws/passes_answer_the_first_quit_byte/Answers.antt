@@ -1,11 +1,8 @@
-use Rattle.lazy_dfa.proofs.HalfSearches.PassQuitLemmas.{pass_quits, quits_behind, quits_first, found_without_quit, without_quit_found}
+use Rattle.lazy_dfa.proofs.HalfSearches.PassQuitLemmas.{pass_quits, quits_first, found_without_quit, without_quit_found}
 use Rattle.lazy_dfa.proofs.pass_laws.passes_answer_the_first_quit_byte.Goals as goal
 
 pub returns-clause-quits : goal.returns-clause-quits
 returns-clause-quits c = λ r mode earliest h n i b x is. pass_quits r mode earliest h n i b x is
-
-pub returns-clause-behind : goal.returns-clause-behind
-returns-clause-behind c = λ r mode earliest h n i b x there. quits_behind r mode earliest h n i b x there
 
 pub returns-clause-ahead : goal.returns-clause-ahead
 returns-clause-ahead c = λ r mode earliest h n i b x none there. quits_first r mode earliest h n i b x none there

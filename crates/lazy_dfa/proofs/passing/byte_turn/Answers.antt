@@ -10,15 +10,6 @@ cell-next-requires g c = row_place c.args.dfa.now c.args.cache.now c.args.positi
     (Some (get_or c.haystack-haystack.result.now c.index_at-here.result 0)) c.is_made.ensures c.requires.own
     (c.see_bytes.ensures c.index_at-here.result) c.class.ensures c.requires.row
 
-pub returns-then-not-is_dead_cell-clause-own : goal.returns-then-not-is_dead_cell-clause-own
-returns-then-not-is_dead_cell-clause-own g c = c.living_turn.ensures.own
-
-pub returns-then-not-is_dead_cell-clause-turn : goal.returns-then-not-is_dead_cell-clause-turn
-returns-then-not-is_dead_cell-clause-turn g c = c.living_turn.ensures.turn
-
-pub search_finish-requires : goal.search_finish-requires
-search_finish-requires g c = c.requires.running
-
 pub returns-clause-own : goal.returns-clause-own
 returns-clause-own g c = is_cache_moved c.args.dfa.now c.args.cache.now c.search_finish.new.self
     (finished_moves c.args.cache.now c.search_finish.new.self c.index_at-here.result c.search_finish.ensures) c.requires.own

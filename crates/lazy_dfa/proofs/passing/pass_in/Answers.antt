@@ -45,24 +45,3 @@ returns-clause-pass g c = goes_further c.args.dfa.now c.args.input.now c.args.ca
     c.go_on.new.cache
     c.begin_at_first.new.cache c.go_on.new.work.determinized c.go_on.new.work.inserted c.go_on.result
     (sym c.is_dead.ensures ∙ c.if-is_dead.false) c.begin_at_first.ensures.moved c.begin_at_first.ensures.told c.go_on.ensures.runs
-
-pub start_of_pass-requires-clause-own : goal.start_of_pass-requires-clause-own
-start_of_pass-requires-clause-own g c = c.requires.own
-
-pub start_of_pass-requires-clause-is_reverse : goal.start_of_pass-requires-clause-is_reverse
-start_of_pass-requires-clause-is_reverse g c = c.requires.is_reverse
-
-pub returns-in-Err-clause-own : goal.returns-in-Err-clause-own
-returns-in-Err-clause-own g c = c.in-Err.ensures.own
-
-pub go_on-requires-clause-is_reverse : goal.go_on-requires-clause-is_reverse
-go_on-requires-clause-is_reverse g c = c.requires.is_reverse
-
-pub go_on-requires-clause-begun : goal.go_on-requires-clause-begun
-go_on-requires-clause-begun g c = c.requires.begun
-
-pub go_on-requires-clause-running : goal.go_on-requires-clause-running
-go_on-requires-clause-running g c = c.begin_at_first.ensures.running
-
-pub returns-clause-own : goal.returns-clause-own
-returns-clause-own g c = c.go_on.ensures.own

@@ -1,4 +1,4 @@
-use Rattle.lazy_dfa.proofs.Automata.QuitSetLemmas.{quits_by_hand, quits_of_ascii, quits_of_high, quits_without_words, quits_off, quits_len}
+use Rattle.lazy_dfa.proofs.Automata.QuitSetLemmas.{quits_by_hand, quits_of_ascii, quits_of_high, quits_off, quits_len}
 use Rattle.lazy_dfa.proofs.quit_laws.quit_bytes_are_set_by_hand_or_high.Goals as goal
 
 pub returns-clause-by_hand : goal.returns-clause-by_hand
@@ -9,9 +9,6 @@ returns-clause-ascii c = λ a boundaries set b l. quits_of_ascii a boundaries se
 
 pub returns-clause-high : goal.returns-clause-high
 returns-clause-high c = λ a set b unicode from to. quits_of_high a set b unicode from to
-
-pub returns-clause-plain : goal.returns-clause-plain
-returns-clause-plain c = λ a boundaries set none. quits_without_words a boundaries set none
 
 pub returns-clause-off : goal.returns-clause-off
 returns-clause-off c = λ a set. quits_off a set

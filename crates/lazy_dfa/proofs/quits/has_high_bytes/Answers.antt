@@ -1,5 +1,5 @@
-use Rattle.std.proofs.Common.{◌≡◌, ◌∙◌, sym, ap, arith}
-use Rattle.lazy_dfa.proofs.Automata.QuitLemmas.{high_from, all_here, all_over, all_from}
+use Rattle.std.proofs.Common.{◌∙◌, sym}
+use Rattle.lazy_dfa.proofs.Automata.QuitLemmas.{high_from, all_here}
 use Rattle.lazy_dfa.proofs.quits.has_high_bytes.Goals as goal
 
 pub loop-byte-init : goal.loop-byte-init
@@ -8,8 +8,3 @@ loop-byte-init c = high_from c.args.set.now
 pub loop-byte-preserved : goal.loop-byte-preserved
 loop-byte-preserved c = c.loop-byte.invariant ∙ all_here c.args.set.now c.loop-byte.byte c.loop-byte-test.true (sym c.contains.ensures
     ∙ c.if-not-contains.false)
-
-pub returns : goal.returns
-returns c =
-    let over : c.loop-byte.byte ≡ 256 = omega (arith, c.loop-byte-test.false, c.loop-byte.auto.byte-end) in
-    sym (c.loop-byte.invariant ∙ (ap (all_from c.args.set.now) over ∙ all_over c.args.set.now))

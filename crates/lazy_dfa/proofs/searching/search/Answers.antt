@@ -5,17 +5,6 @@ use Rattle.lazy_dfa.proofs.Courses.SearchLemmas.{begins}
 use Rattle.lazy_dfa.proofs.Courses.SearchEndLemmas.{not_done, is_over, each_counts, done_ends, fails, none_ends, counted_ends}
 use Rattle.lazy_dfa.proofs.searching.search.Goals as goal
 
-pub search_again-requires : goal.search_again-requires
-search_again-requires g c = c.requires.own
-
-pub returns-then-is_between_characters : goal.returns-then-is_between_characters
-returns-then-is_between_characters g c = record {
-  made = c.search_again.ensures.made;
-  within = c.search_again.ensures.within;
-  own = c.search_again.ensures.own;
-  search = c.search_again.ensures.search;
-}
-
 pub returns-then-is_done : goal.returns-then-is_done
 returns-then-is_done g c = record {
   made = c.is_made.ensures;
@@ -27,16 +16,6 @@ returns-then-is_done g c = record {
       c.args.work.now.inserted refl)
       (is_over c.is_done.result c.args.input.now.start c.args.input.now.end c.is_done.ensures c.if-is_done.true);
 }
-
-pub pass-requires-clause-own : goal.pass-requires-clause-own
-pass-requires-clause-own g c = c.requires.own
-
-pub pass-requires-clause-is_reverse : goal.pass-requires-clause-is_reverse
-pass-requires-clause-is_reverse g c = c.requires.is_reverse
-
-pub pass-requires-clause-begun : goal.pass-requires-clause-begun
-pass-requires-clause-begun g c = not_done c.is_done.result c.args.input.now.start c.args.input.now.end c.is_done.ensures
-    c.if-is_done.false
 
 pub returns-in-Err : goal.returns-in-Err
 returns-in-Err g c = record {

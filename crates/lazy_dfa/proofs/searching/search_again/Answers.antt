@@ -4,7 +4,6 @@ use Rattle.search_types.specs.Inputs.{with_span}
 use Rattle.search_types.specs.Modes.{is_anchored}
 use Rattle.lazy_dfa.specs.Dfas.{reader}
 use Rattle.lazy_dfa.proofs.CacheChanges.LinkedLemmas.{AreBytes}
-use Rattle.lazy_dfa.proofs.CacheChanges.KeepLemmas.{lower_span, upper_span}
 use Rattle.lazy_dfa.proofs.Courses.SearchLemmas.{begins}
 use Rattle.lazy_dfa.proofs.Courses.SearchEndLemmas.{not_done, is_over, each_counts, boundary_counts, inside_counts, above_none, lower_end}
 use Rattle.lazy_dfa.proofs.Courses.SearchEndLemmas.{done_ends, fails, none_ends, counted_ends, anchored_ends, lowest_ends, goes_forward}
@@ -139,86 +138,3 @@ returns-clause-search g c = done_ends c.args.dfa.now c.args.input.now c.loop-res
     c.args.work.now.determinized
     c.loop-rest.work.determinized c.args.work.now.inserted c.loop-rest.work.inserted c.loop-rest.invariant.stands
     (is_over c.is_done.result c.loop-rest.rest.start c.loop-rest.rest.end c.is_done.ensures c.loop-rest-test.false)
-
-pub returns-in-Err-clause-made : goal.returns-in-Err-clause-made
-returns-in-Err-clause-made g c = c.is_made.ensures
-
-pub returns-in-Err-clause-within : goal.returns-in-Err-clause-within
-returns-in-Err-clause-within g c = c.haystack.ensures.within
-
-pub returns-in-Err-clause-own : goal.returns-in-Err-clause-own
-returns-in-Err-clause-own g c = c.in-Err.ensures.own
-
-pub returns-clause-made : goal.returns-clause-made
-returns-clause-made g c = c.is_made.ensures
-
-pub returns-clause-within : goal.returns-clause-within
-returns-clause-within g c = c.haystack.ensures.within
-
-pub returns-clause-own : goal.returns-clause-own
-returns-clause-own g c = c.loop-rest.invariant.own
-
-pub returns-in_default-clause-made : goal.returns-in_default-clause-made
-returns-in_default-clause-made g c = c.is_made.ensures
-
-pub returns-in_default-clause-within : goal.returns-in_default-clause-within
-returns-in_default-clause-within g c = c.haystack.ensures.within
-
-pub returns-in_default-clause-own : goal.returns-in_default-clause-own
-returns-in_default-clause-own g c = c.in-Ok.ensures.own
-
-pub returns-then-not-between_characters-clause-made : goal.returns-then-not-between_characters-clause-made
-returns-then-not-between_characters-clause-made g c = c.is_made.ensures
-
-pub returns-then-not-between_characters-clause-within : goal.returns-then-not-between_characters-clause-within
-returns-then-not-between_characters-clause-within g c = c.haystack.ensures.within
-
-pub returns-then-not-between_characters-clause-own : goal.returns-then-not-between_characters-clause-own
-returns-then-not-between_characters-clause-own g c = c.in-Ok.ensures.own
-
-pub returns-then-is_char_boundary-clause-made : goal.returns-then-is_char_boundary-clause-made
-returns-then-is_char_boundary-clause-made g c = c.is_made.ensures
-
-pub returns-then-is_char_boundary-clause-within : goal.returns-then-is_char_boundary-clause-within
-returns-then-is_char_boundary-clause-within g c = c.haystack.ensures.within
-
-pub returns-then-is_char_boundary-clause-own : goal.returns-then-is_char_boundary-clause-own
-returns-then-is_char_boundary-clause-own g c = c.in-Ok.ensures.own
-
-pub returns-then-is_anchored-clause-made : goal.returns-then-is_anchored-clause-made
-returns-then-is_anchored-clause-made g c = c.is_made.ensures
-
-pub returns-then-is_anchored-clause-within : goal.returns-then-is_anchored-clause-within
-returns-then-is_anchored-clause-within g c = c.haystack.ensures.within
-
-pub returns-then-is_anchored-clause-own : goal.returns-then-is_anchored-clause-own
-returns-then-is_anchored-clause-own g c = c.in-Ok.ensures.own
-
-pub returns-then-end-eq0-clause-made : goal.returns-then-end-eq0-clause-made
-returns-then-end-eq0-clause-made g c = c.is_made.ensures
-
-pub returns-then-end-eq0-clause-within : goal.returns-then-end-eq0-clause-within
-returns-then-end-eq0-clause-within g c = c.haystack.ensures.within
-
-pub returns-then-end-eq0-clause-own : goal.returns-then-end-eq0-clause-own
-returns-then-end-eq0-clause-own g c = c.in-Ok.ensures.own
-
-pub pass-requires-clause-own : goal.pass-requires-clause-own
-pass-requires-clause-own g c = c.loop-rest.invariant.own
-
-pub pass-requires-clause-begun : goal.pass-requires-clause-begun
-pass-requires-clause-begun g c = not_done c.is_done.result c.loop-rest.rest.start c.loop-rest.rest.end c.is_done.ensures
-    c.loop-rest-test.true
-
-pub set_end-requires : goal.set_end-requires
-set_end-requires g c = lower_span c.loop-rest.rest.haystack c.loop-rest.rest.start c.loop-rest.rest.end c.end-then-is_reverse.result
-    c.end-then-is_reverse.ensures.value c.end-then-is_reverse.ensures.within
-    (not_done c.is_done.result c.loop-rest.rest.start c.loop-rest.rest.end c.is_done.ensures c.loop-rest-test.true)
-
-pub set_start-requires : goal.set_start-requires
-set_start-requires g c = upper_span c.loop-rest.rest.haystack c.loop-rest.rest.start c.loop-rest.rest.end c.start.result
-    c.start.ensures.value c.start.ensures.within
-    (not_done c.is_done.result c.loop-rest.rest.start c.loop-rest.rest.end c.is_done.ensures c.loop-rest-test.true)
-
-pub pass-requires-clause-is_reverse : goal.pass-requires-clause-is_reverse
-pass-requires-clause-is_reverse g c = c.is_reverse-is_reverse.ensures

@@ -1,40 +1,19 @@
-use Rattle.std.proofs.Common.{get_or, ◌≡◌, ◌⊎◌, ◌∙◌, ◌+◌, ◌*◌, ◌<◌, ℕ, true, sym, subst, ap, inl, inr, ⊎_elim, set, length, refl}
+use Rattle.std.proofs.Common.{◌≡◌, ◌⊎◌, ◌∙◌, ◌+◌, ◌*◌, ◌<◌, ℕ, true, sym, subst, ap, inl, inr, ⊎_elim, set, length, refl}
 use Rattle.determinize_core.specs.States.{StateValue}
-use Rattle.lazy_dfa.specs.Caches.{CacheValue, IsCacheOf, slot_of_start, cleared, needs_clear}
+use Rattle.lazy_dfa.specs.Caches.{CacheValue, slot_of_start, cleared, needs_clear}
 use Rattle.lazy_dfa.specs.Dfas.{first_state}
 use Rattle.lazy_dfa.specs.StartCalls.{PlacesStart}
-use Rattle.lazy_dfa.specs.Steps.{IsCause, Added, Grew}
-use Rattle.lazy_dfa.proofs.CacheChanges.ChangeLemmas.{same_grew, grew_added}
+use Rattle.lazy_dfa.specs.Steps.{IsCause, Added}
+use Rattle.lazy_dfa.proofs.CacheChanges.ChangeLemmas.{grew_added}
 use Rattle.lazy_dfa.proofs.CacheChanges.IsCacheLemmas.{started, names_started, known_begins}
 use Rattle.lazy_dfa.proofs.CacheChanges.StartChangeLemmas.{not_fresh, unknown_start, unmade_start, on_err, grew_start, start_kept}
 use Rattle.lazy_dfa.proofs.CacheChanges.StartChangeLemmas.{start_remains, start_tags}
 use Rattle.lazy_dfa.proofs.CacheChanges.AddsLemmas.{same_states, start_comes}
 use Rattle.lazy_dfa.proofs.starting.start_in_mode.Goals as goal
 
-pub start-known-requires : goal.start-known-requires
-start-known-requires g c = subst (λ (n : ℕ). c.args.mode * 7 + n < length c.args.cache.now.starts)
-    (sym c.as_usize.ensures.number) c.requires.inside
-
-pub returns-then-not-is_not_known-clause-start : goal.returns-then-not-is_not_known-clause-start
-returns-then-not-is_not_known-clause-start g c = known_begins c.args.dfa.now c.args.cache.now c.args.mode
-    (c.args.mode * 7 + c.as_usize.result) c.args.name c.start-known.result c.args.start c.requires.own
-    (ap (λ (n : ℕ). c.args.mode * 7 + n) c.as_usize.ensures.number) c.requires.inside c.requires.named c.start-known.ensures
-    (sym c.is_not_known.ensures ∙ c.if-not-is_not_known.true)
-
-pub returns-in_err-state-clause-own : goal.returns-in_err-state-clause-own
-returns-in_err-state-clause-own g c = subst (IsCacheOf c.args.dfa.now) (sym c.first_of.ensures.same) c.requires.own
-
-pub place_start-requires-clause-own : goal.place_start-requires-clause-own
-place_start-requires-clause-own g c = subst (IsCacheOf c.args.dfa.now) (sym c.first_of.ensures.same) c.requires.own
-
 pub returns-in-Err-clause-err : goal.returns-in-Err-clause-err
 returns-in-Err-clause-err g c = subst (λ (s : StateValue). IsCause c.args.dfa.now c.args.cache.now s c.in-Err.e) c.in_ok-state.ensures.value
     (subst (λ (v : CacheValue). IsCause c.args.dfa.now v c.in_ok-state.state c.in-Err.e) c.first_of.ensures.same c.in-Err.ensures.err)
-
-pub set_start-requires : goal.set_start-requires
-set_start-requires g c = subst (λ (n : ℕ). c.args.mode * 7 + n < length c.place_start.new.cache.starts) (sym c.as_usize.ensures.number)
-    (subst (λ (n : ℕ). slot_of_start c.args.mode c.args.start < n) (sym (c.in-Ok.ensures.slots
-    ∙ ap (λ (v : CacheValue). length v.starts) c.first_of.ensures.same)) c.requires.inside)
 
 pub returns-in-Ok-clause-own : goal.returns-in-Ok-clause-own
 returns-in-Ok-clause-own g c = started c.args.dfa.now c.place_start.new.cache c.set_start.new.self c.args.mode
@@ -173,13 +152,6 @@ returns-in-Ok-clause-tag g c = start_tags c.args.dfa.now c.args.cache.now c.plac
 
 -- ---- a clear only where the start asks for one
 
-pub returns-then-not-is_not_known-clause-cause : goal.returns-then-not-is_not_known-clause-cause
-returns-then-not-is_not_known-clause-cause g c = inl (same_grew c.args.dfa.now c.args.cache.now)
-
-pub returns-in_err-state-clause-cause : goal.returns-in_err-state-clause-cause
-returns-in_err-state-clause-cause g c = inl (subst (Grew c.args.dfa.now c.args.cache.now) (sym c.first_of.ensures.same)
-    (same_grew c.args.dfa.now c.args.cache.now))
-
 pub returns-in-Err-clause-cause : goal.returns-in-Err-clause-cause
 returns-in-Err-clause-cause g c = ⊎_elim
     (λ (a : Added c.first_of.new.cache c.place_start.new.cache). inl (grew_added c.args.dfa.now c.args.cache.now c.place_start.new.cache
@@ -218,15 +190,6 @@ returns-in-Ok-clause-cause g c = ⊎_elim
 
 -- ---- what is added
 
-pub returns-then-not-is_not_known-clause-adds : goal.returns-then-not-is_not_known-clause-adds
-returns-then-not-is_not_known-clause-adds g c = inl (same_grew c.args.dfa.now c.args.cache.now, (refl, refl, refl))
-
-pub returns-in_err-state-clause-adds : goal.returns-in_err-state-clause-adds
-returns-in_err-state-clause-adds g c = inl (
-  subst (Grew c.args.dfa.now c.args.cache.now) (sym c.first_of.ensures.same) (same_grew c.args.dfa.now c.args.cache.now),
-  same_states c.args.cache.now c.first_of.new.cache c.first_of.ensures.same,
-)
-
 pub returns-in-Err-clause-adds : goal.returns-in-Err-clause-adds
 returns-in-Err-clause-adds g c = inr (start_comes c.args.dfa.now c.args.cache.now c.first_of.new.cache c.place_start.new.cache
     c.place_start.new.cache c.in_ok-state.state (first_state c.args.dfa.now c.args.start c.args.name) c.first_of.ensures.same
@@ -248,47 +211,3 @@ returns-in-Ok-clause-adds g c = inr (start_comes c.args.dfa.now c.args.cache.now
     (sym c.is_not_known.ensures ∙ c.if-not-is_not_known.false))
     (placed g c) (noted_at g c))
     c.in-Ok.ensures.adds)
-
-pub returns-then-not-is_not_known-clause-own : goal.returns-then-not-is_not_known-clause-own
-returns-then-not-is_not_known-clause-own g c = c.requires.own
-
-pub returns-then-not-is_not_known-clause-noted : goal.returns-then-not-is_not_known-clause-noted
-returns-then-not-is_not_known-clause-noted g c = sym (c.start-known.ensures
-    ∙ ap (λ (n : ℕ). get_or c.args.cache.now.starts (c.args.mode * 7 + n) 0) c.as_usize.ensures.number)
-
-pub returns-then-not-is_not_known-clause-same : goal.returns-then-not-is_not_known-clause-same
-returns-then-not-is_not_known-clause-same g c e = refl
-
-pub returns-then-not-is_not_known-clause-free : goal.returns-then-not-is_not_known-clause-free
-returns-then-not-is_not_known-clause-free g c e = refl
-
-pub returns-then-not-is_not_known-clause-kept : goal.returns-then-not-is_not_known-clause-kept
-returns-then-not-is_not_known-clause-kept g c = inl (same_grew c.args.dfa.now c.args.cache.now)
-
-pub returns-then-not-is_not_known-clause-remains : goal.returns-then-not-is_not_known-clause-remains
-returns-then-not-is_not_known-clause-remains g c = inl (same_grew c.args.dfa.now c.args.cache.now)
-
-pub returns-then-not-is_not_known-clause-gave_up : goal.returns-then-not-is_not_known-clause-gave_up
-returns-then-not-is_not_known-clause-gave_up g c e = refl
-
-pub first_of-requires-clause-own : goal.first_of-requires-clause-own
-first_of-requires-clause-own g c = c.requires.own
-
-pub first_of-requires-clause-below : goal.first_of-requires-clause-below
-first_of-requires-clause-below g c = c.requires.below
-
-pub returns-in_err-state-clause-same : goal.returns-in_err-state-clause-same
-returns-in_err-state-clause-same g c e = c.first_of.ensures.same
-
-pub returns-in_err-state-clause-kept : goal.returns-in_err-state-clause-kept
-returns-in_err-state-clause-kept g c = inl (subst (Grew c.args.dfa.now c.args.cache.now) (sym c.first_of.ensures.same)
-    (same_grew c.args.dfa.now c.args.cache.now))
-
-pub returns-in_err-state-clause-gave_up : goal.returns-in_err-state-clause-gave_up
-returns-in_err-state-clause-gave_up g c e = c.first_of.ensures.same
-
-pub returns-in-Err-clause-own : goal.returns-in-Err-clause-own
-returns-in-Err-clause-own g c = c.in-Err.ensures.own
-
-pub returns-in-Err-clause-gave_up : goal.returns-in-Err-clause-gave_up
-returns-in-Err-clause-gave_up g c e = c.in-Err.ensures.gave_up e ∙ c.first_of.ensures.same

@@ -1,27 +1,13 @@
-use Rattle.std.proofs.Common.{◌≡◌, ◌⊎◌, true, false, sym, subst, inl, inr, ⊎_elim, ◌<◌, length, refl, Some}
+use Rattle.std.proofs.Common.{◌≡◌, ◌⊎◌, true, false, subst, inl, inr, ⊎_elim, refl, Some}
 use Rattle.search_core.specs.Units.{unit_byte}
-use Rattle.lazy_dfa.specs.Caches.{CacheValue, IsCacheOf, HeldAt, Leads, state_at, with_state, needs_clear}
-use Rattle.lazy_dfa.specs.Steps.{Added, Grew, AddsOrClears, KeepsOrClears, kept_alone}
+use Rattle.lazy_dfa.specs.Caches.{CacheValue, HeldAt, Leads, state_at, with_state, needs_clear}
+use Rattle.lazy_dfa.specs.Steps.{Added, Grew, AddsOrClears, kept_alone}
 use Rattle.lazy_dfa.proofs.CacheChanges.IsCacheLemmas.{row_place, is_cache_stepped, leads_stepped, leads_to, steps_of_row}
-use Rattle.lazy_dfa.proofs.CacheChanges.ChangeLemmas.{grew_refl, grew_of, grew_added, grew_cell, grew_set, remains_set}
-use Rattle.lazy_dfa.proofs.CacheChanges.ChangeLemmas.{same_grew, set_is_noted, step_cause, step_needs, no_cause}
+use Rattle.lazy_dfa.proofs.CacheChanges.ChangeLemmas.{grew_of, grew_added, grew_cell, grew_set, remains_set}
+use Rattle.lazy_dfa.proofs.CacheChanges.ChangeLemmas.{set_is_noted, step_cause, step_needs, no_cause}
 use Rattle.lazy_dfa.proofs.CacheChanges.StartChangeLemmas.{step_tags}
-use Rattle.lazy_dfa.proofs.CacheChanges.AddsLemmas.{same_states, comes_written, step_adds, step_adds_none}
+use Rattle.lazy_dfa.proofs.CacheChanges.AddsLemmas.{same_states, comes_written, step_adds}
 use Rattle.lazy_dfa.proofs.stepping.fill.Goals as goal
-
-pub returns-in_err-state-clause-own : goal.returns-in_err-state-clause-own
-returns-in_err-state-clause-own g c = subst (IsCacheOf c.args.dfa.now) (sym c.state_behind.ensures.same) c.requires.own
-
-pub returns-in_err-state-clause-kept : goal.returns-in_err-state-clause-kept
-returns-in_err-state-clause-kept g c = subst (KeepsOrClears c.args.dfa.now c.args.cache.now) (sym c.state_behind.ensures.same)
-    (grew_refl c.args.dfa.now c.args.cache.now)
-
-pub place-requires-clause-own : goal.place-requires-clause-own
-place-requires-clause-own g c = subst (IsCacheOf c.args.dfa.now) (sym c.state_behind.ensures.same) c.requires.own
-
-pub place-requires-clause-row : goal.place-requires-clause-row
-place-requires-clause-row g c = subst (λ (v : CacheValue). c.row-k.result < length v.states)
-    (sym c.state_behind.ensures.same) c.row-k.ensures.inside
 
 pub returns-in-Err-clause-kept : goal.returns-in-Err-clause-kept
 returns-in-Err-clause-kept g c = grew_of c.args.dfa.now c.args.cache.now c.place.new.cache c.is_made.ensures c.requires.own
@@ -93,10 +79,6 @@ returns-in-Ok-clause-step g c =
 
 -- ---- a clear only where the state asks for one
 
-pub returns-in_err-state-clause-cause : goal.returns-in_err-state-clause-cause
-returns-in_err-state-clause-cause g c = inl (subst (Grew c.args.dfa.now c.args.cache.now) (sym c.state_behind.ensures.same)
-    (same_grew c.args.dfa.now c.args.cache.now))
-
 pub returns-in-Err-clause-cause : goal.returns-in-Err-clause-cause
 returns-in-Err-clause-cause g c = ⊎_elim
     (λ (a : Added c.state_behind.new.cache c.place.new.cache). inl (grew_added c.args.dfa.now c.args.cache.now c.place.new.cache
@@ -137,12 +119,6 @@ grows_by : (g : Rattle.lazy_dfa.proofs.stepping.fill.Given.Over) (c : goal.In-Er
     Grew c.args.dfa.now c.args.cache.now c.place.new.cache
 grows_by g c a = grew_added c.args.dfa.now c.args.cache.now c.place.new.cache
     c.is_made.ensures c.requires.own (subst (λ (v : CacheValue). Added v c.place.new.cache) c.state_behind.ensures.same a)
-
-pub returns-in_err-state-clause-adds : goal.returns-in_err-state-clause-adds
-returns-in_err-state-clause-adds g c = step_adds_none c.args.dfa.now c.args.cache.now c.state_behind.new.cache c.args.id
-    (unit_byte c.args.unit)
-    (subst (Grew c.args.dfa.now c.args.cache.now) (sym c.state_behind.ensures.same) (same_grew c.args.dfa.now c.args.cache.now))
-    (same_states c.args.cache.now c.state_behind.new.cache c.state_behind.ensures.same)
 
 pub returns-in-Err-clause-adds : goal.returns-in-Err-clause-adds
 returns-in-Err-clause-adds g c = step_adds c.args.dfa.now c.args.cache.now c.state_behind.new.cache c.place.new.cache c.args.id

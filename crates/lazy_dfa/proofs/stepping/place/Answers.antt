@@ -1,20 +1,12 @@
-use Rattle.std.proofs.Common.{◌≡◌, ◌∙◌, sym, subst, ap, true, false, ℕ, refl, inl, inr, ⊎_elim, Some, None, true≢false}
+use Rattle.std.proofs.Common.{◌≡◌, ◌∙◌, sym, subst, ap, true, false, ℕ, refl, inl, inr, ⊎_elim, Some}
 use Rattle.lazy_dfa.specs.Ids.{dead_id}
 use Rattle.lazy_dfa.specs.Caches.{CacheValue, IsCacheOf, HeldAt, Names, names_dead, names_held, state_at, with_state, needs_clear}
 use Rattle.lazy_dfa.proofs.CacheChanges.IsCacheLemmas.{is_cache_added, alive_of, held_added, new_held}
 use Rattle.lazy_dfa.proofs.CacheChanges.StartChangeLemmas.{made_tag}
 use Rattle.lazy_dfa.proofs.HalfSearches.TurnLemmas.{dead_is}
-use Rattle.lazy_dfa.proofs.CacheChanges.ChangeLemmas.{added_refl, adds_after, adds_nothing, made_after, added_none, added_one}
-use Rattle.lazy_dfa.proofs.CacheChanges.ChangeLemmas.{lacks_not_dead, lacks_not_found}
-use Rattle.lazy_dfa.proofs.CacheChanges.AddsLemmas.{comes_none, comes_alone, comes_with}
+use Rattle.lazy_dfa.proofs.CacheChanges.ChangeLemmas.{adds_after, adds_nothing, made_after, added_none, added_one}
+use Rattle.lazy_dfa.proofs.CacheChanges.AddsLemmas.{comes_alone, comes_with}
 use Rattle.lazy_dfa.proofs.stepping.place.Goals as goal
-
-pub returns-then-is_dead_state-clause-kept : goal.returns-then-is_dead_state-clause-kept
-returns-then-is_dead_state-clause-kept c = inl (added_refl c.args.cache.now c.requires.own.shape)
-
-pub returns-then-is_dead_state-clause-ok : goal.returns-then-is_dead_state-clause-ok
-returns-then-is_dead_state-clause-ok c = lacks_not_dead c.args.dfa.now c.args.cache.now c.args.state (sym c.is_dead_state.ensures
-    ∙ c.if-is_dead_state.true)
 
 pub returns-then-is_dead_state-clause-to : goal.returns-then-is_dead_state-clause-to
 returns-then-is_dead_state-clause-to c = names_dead (c.dead.ensures ∙ ap dead_id c.stride-stride.ensures.stride)
@@ -23,22 +15,6 @@ returns-then-is_dead_state-clause-to c = names_dead (c.dead.ensures ∙ ap dead_
 pub returns-in-Some-clause-to : goal.returns-in-Some-clause-to
 returns-in-Some-clause-to c = subst (λ (n : ℕ). Names c.args.cache.now n c.args.state) (sym c.id-to.ensures)
     (names_held c.in-Some.ensures.held)
-
-pub returns-in-Some-clause-kept : goal.returns-in-Some-clause-kept
-returns-in-Some-clause-kept c = inl (added_refl c.args.cache.now c.requires.own.shape)
-
-pub returns-in-Some-clause-ok : goal.returns-in-Some-clause-ok
-returns-in-Some-clause-ok c = lacks_not_found c.args.dfa.now c.args.cache.now c.args.state (Some c.in-Some.j) c.in-Some.ensures.place refl
-
-pub returns-then-is_dead_state-clause-made : goal.returns-then-is_dead_state-clause-made
-returns-then-is_dead_state-clause-made c = inl (added_refl c.args.cache.now c.requires.own.shape)
-
-pub returns-in-Some-clause-made : goal.returns-in-Some-clause-made
-returns-in-Some-clause-made c = inl (added_refl c.args.cache.now c.requires.own.shape)
-
-pub returns-in_err-from-clause-kept : goal.returns-in_err-from-clause-kept
-returns-in_err-from-clause-kept c = adds_nothing c.args.cache.now c.make_room.new.cache c.make_room.new.cache c.requires.own.shape
-    c.in_err-from.ensures.room refl
 
 pub returns-in_err-to-clause-kept : goal.returns-in_err-to-clause-kept
 returns-in_err-to-clause-kept c = adds_nothing c.args.cache.now c.make_room.new.cache c.add_state.new.self c.requires.own.shape
@@ -71,12 +47,6 @@ returns-clause-to c = subst (λ (w : CacheValue). Names w c.in_ok-to.to c.args.s
 
 -- ---- a clear only where the state asks for one
 
-pub returns-then-is_dead_state-clause-cause : goal.returns-then-is_dead_state-clause-cause
-returns-then-is_dead_state-clause-cause c = inl (added_refl c.args.cache.now c.requires.own.shape)
-
-pub returns-in-Some-clause-cause : goal.returns-in-Some-clause-cause
-returns-in-Some-clause-cause c = inl (added_refl c.args.cache.now c.requires.own.shape)
-
 pub returns-in_err-from-clause-cause : goal.returns-in_err-from-clause-cause
 returns-in_err-from-clause-cause c = ⊎_elim
     (λ (f : c.make_room.new.cache ≡ c.args.cache.now). inl (added_none c.args.cache.now c.make_room.new.cache c.requires.own.shape f))
@@ -99,25 +69,11 @@ returns-clause-cause c = ⊎_elim
 
 -- ---- a state that is added has no tag of starts
 
-pub returns-then-is_dead_state-clause-tag : goal.returns-then-is_dead_state-clause-tag
-returns-then-is_dead_state-clause-tag c alive fresh = absurd (true≢false (sym (sym c.is_dead_state.ensures ∙ c.if-is_dead_state.true)
-    ∙ alive))
-
-pub returns-in-Some-clause-tag : goal.returns-in-Some-clause-tag
-returns-in-Some-clause-tag c alive fresh = let f : Some c.in-Some.j ≡ None = c.in-Some.ensures.place ∙ fresh in absurd cc
-
 pub returns-clause-tag : goal.returns-clause-tag
 returns-clause-tag c alive fresh = made_tag c.make_room.new.cache c.args.state c.in_ok-to.to c.in_ok-from.ensures.own.shape.positive
     c.in_ok-from.ensures.fits.1 c.in_ok-to.ensures.id
 
 -- ---- what is added
-
-pub returns-then-is_dead_state-clause-adds : goal.returns-then-is_dead_state-clause-adds
-returns-then-is_dead_state-clause-adds c = comes_none c.args.dfa.now false (Some c.args.k) c.args.state c.args.cache.now
-    c.requires.own.shape
-
-pub returns-in-Some-clause-adds : goal.returns-in-Some-clause-adds
-returns-in-Some-clause-adds c = comes_none c.args.dfa.now false (Some c.args.k) c.args.state c.args.cache.now c.requires.own.shape
 
 pub returns-in_err-from-clause-adds : goal.returns-in_err-from-clause-adds
 returns-in_err-from-clause-adds c = comes_alone c.args.dfa.now false (Some c.args.k) c.args.state c.args.cache.now
@@ -132,42 +88,3 @@ returns-clause-adds c = comes_with c.args.dfa.now false (Some c.args.k) c.args.s
     c.make_room.new.cache c.add_state.new.self c.requires.own.shape c.in_ok-from.ensures.clears c.requires.is
     (sym c.is_dead_state.ensures ∙ c.if-is_dead_state.false) (sym c.find.ensures.place ∙ c.in_default.is) c.in_ok-from.ensures.fits
     c.in_ok-to.ensures.ok
-
-pub returns-then-is_dead_state-clause-own : goal.returns-then-is_dead_state-clause-own
-returns-then-is_dead_state-clause-own c = c.requires.own
-
-pub returns-then-is_dead_state-clause-gave_up : goal.returns-then-is_dead_state-clause-gave_up
-returns-then-is_dead_state-clause-gave_up c e = refl
-
-pub returns-in-Some-clause-own : goal.returns-in-Some-clause-own
-returns-in-Some-clause-own c = c.requires.own
-
-pub returns-in-Some-clause-gave_up : goal.returns-in-Some-clause-gave_up
-returns-in-Some-clause-gave_up c e = refl
-
-pub make_room-requires-clause-own : goal.make_room-requires-clause-own
-make_room-requires-clause-own c = c.requires.own
-
-pub make_room-requires-clause-row : goal.make_room-requires-clause-row
-make_room-requires-clause-row c = c.requires.row
-
-pub make_room-requires-clause-is : goal.make_room-requires-clause-is
-make_room-requires-clause-is c = c.requires.is
-
-pub make_room-requires-clause-alive : goal.make_room-requires-clause-alive
-make_room-requires-clause-alive c = sym c.is_dead_state.ensures ∙ c.if-is_dead_state.false
-
-pub make_room-requires-clause-fresh : goal.make_room-requires-clause-fresh
-make_room-requires-clause-fresh c = sym c.in_default.ensures.place
-
-pub returns-in_err-from-clause-own : goal.returns-in_err-from-clause-own
-returns-in_err-from-clause-own c = c.in_err-from.ensures.own
-
-pub returns-in_err-to-clause-own : goal.returns-in_err-to-clause-own
-returns-in_err-to-clause-own c = subst (IsCacheOf c.args.dfa.now) (sym c.in_err-to.ensures.err) c.in_ok-from.ensures.own
-
-pub returns-clause-ok : goal.returns-clause-ok
-returns-clause-ok c = c.in_ok-from.ensures.ok
-
-pub add_state-requires-clause-fresh : goal.add_state-requires-clause-fresh
-add_state-requires-clause-fresh c = c.in_ok-from.ensures.fresh

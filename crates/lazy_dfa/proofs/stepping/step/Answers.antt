@@ -9,9 +9,6 @@ use Rattle.lazy_dfa.proofs.stepping.step.Goals as goal
 
 -- ---- a sentinel
 
-pub returns-then-is_sentinel-clause-own : goal.returns-then-is_sentinel-clause-own
-returns-then-is_sentinel-clause-own g c = c.requires.own
-
 pub returns-then-is_sentinel-clause-step : goal.returns-then-is_sentinel-clause-step
 returns-then-is_sentinel-clause-step g c = sentinel_step c.args.dfa.now c.args.cache.now c.args.current (unit_byte c.args.unit)
     c.requires.own.shape (sym c.is_sentinel.ensures ∙ c.if-is_sentinel.true) c.args.work.now.determinized c.args.work.now.inserted
@@ -22,9 +19,6 @@ pub cell-cell-requires : goal.cell-cell-requires
 cell-cell-requires g c = row_place c.args.dfa.now c.args.cache.now c.args.current c.args.class
     (unit_byte c.args.unit) c.is_made.ensures c.requires.own c.requires.unit c.requires.class
     (row_of_held c.args.cache.now c.args.current c.requires.held (sym c.is_sentinel.ensures ∙ c.if-is_sentinel.false))
-
-pub returns-then-not-is_not_known-clause-own : goal.returns-then-not-is_not_known-clause-own
-returns-then-not-is_not_known-clause-own g c = c.requires.own
 
 pub returns-then-not-is_not_known-clause-step : goal.returns-then-not-is_not_known-clause-step
 returns-then-not-is_not_known-clause-step g c = known_step c.args.dfa.now c.args.cache.now c.args.current c.args.class
@@ -52,30 +46,11 @@ returns-then-is_quit-clause-step g c = quit_step c.args.dfa.now c.args.cache.now
 
 -- ---- a step that is made
 
-pub fill-requires-clause-own : goal.fill-requires-clause-own
-fill-requires-clause-own g c = c.requires.own
-
-pub fill-requires-clause-row : goal.fill-requires-clause-row
-fill-requires-clause-row g c = row_of_held c.args.cache.now c.args.current c.requires.held (sym c.is_sentinel.ensures
-    ∙ c.if-is_sentinel.false)
-
-pub fill-requires-clause-unit : goal.fill-requires-clause-unit
-fill-requires-clause-unit g c = c.requires.unit
-
-pub fill-requires-clause-no_quit : goal.fill-requires-clause-no_quit
-fill-requires-clause-no_quit g c = sym c.requires.quit ∙ c.if-is_quit.false
-
-pub fill-requires-clause-class : goal.fill-requires-clause-class
-fill-requires-clause-class g c = c.requires.class
-
 pub fill-requires-clause-unknown : goal.fill-requires-clause-unknown
 fill-requires-clause-unknown g c = unknown_here c.args.dfa.now c.args.cache.now c.args.current c.args.class c.cell-cell.result
     (unit_byte c.args.unit) c.is_made.ensures c.requires.own c.requires.unit c.requires.class c.cell-cell.ensures
     (row_of_held c.args.cache.now c.args.current c.requires.held (sym c.is_sentinel.ensures ∙ c.if-is_sentinel.false))
     (sym c.is_not_known.ensures ∙ c.if-not-is_not_known.false)
-
-pub returns-clause-own : goal.returns-clause-own
-returns-clause-own g c = c.fill.ensures.own
 
 pub returns-clause-step : goal.returns-clause-step
 returns-clause-step g c =

@@ -1,4 +1,4 @@
-use Rattle.std.proofs.Common.{◌∙◌, sym, inr}
+use Rattle.std.proofs.Common.{◌∙◌, sym}
 use Rattle.lazy_dfa.proofs.CacheChanges.IsCacheLemmas.{row_place}
 use Rattle.lazy_dfa.proofs.CacheChanges.StepLemmas.{known_held, known_step}
 use Rattle.lazy_dfa.proofs.turns.step_row.Goals as goal
@@ -18,9 +18,3 @@ returns-then-not-is_not_known-clause-held g c = known_held c.args.dfa.now c.args
     c.class_of_unit-class.result c.cell-cell.result c.args.unit c.is_made.ensures c.requires.own c.requires.row
     c.class_of_unit-class.ensures.unit c.class_of_unit-class.ensures.class c.cell-cell.ensures
     (sym c.is_not_known.ensures ∙ c.if-not-is_not_known.true)
-
-pub step_by-requires-clause-held : goal.step_by-requires-clause-held
-step_by-requires-clause-held g c = inr (inr c.requires.row)
-
-pub returns-clause-step : goal.returns-clause-step
-returns-clause-step g c = c.step_by.ensures.step

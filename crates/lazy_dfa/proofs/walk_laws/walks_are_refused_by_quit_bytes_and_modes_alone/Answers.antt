@@ -1,11 +1,8 @@
-use Rattle.lazy_dfa.proofs.OverlappingWalks.RestLemmas.{quit_is_near, rest_unfit, refusal_kinds, quiet_goes}
+use Rattle.lazy_dfa.proofs.OverlappingWalks.RestLemmas.{quit_is_near, refusal_kinds, quiet_goes}
 use Rattle.lazy_dfa.proofs.walk_laws.walks_are_refused_by_quit_bytes_and_modes_alone.Goals as goal
 
 pub returns-clause-quits : goal.returns-clause-quits
 returns-clause-quits c = λ r q b x is. quit_is_near r q b x is
-
-pub returns-clause-unsupported : goal.returns-clause-unsupported
-returns-clause-unsupported c = λ r q l unfit none. rest_unfit r q l unfit none
 
 pub returns-clause-alone : goal.returns-clause-alone
 returns-clause-alone c = λ r q e is. refusal_kinds r q e is

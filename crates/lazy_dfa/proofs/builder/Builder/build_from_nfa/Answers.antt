@@ -2,7 +2,7 @@ use Rattle.std.proofs.Common.{◌∙◌, ap, sym, subst}
 use Rattle.look_core.specs.Terminators.{Terminator}
 use Rattle.determinize_core.specs.Starts.{IsStartTable}
 use Rattle.lazy_dfa.specs.Accounting.{Measures, least_capacity}
-use Rattle.lazy_dfa.proofs.Automata.BuiltLemmas.{built_unsupported, built_small, built_well, made_is_dfa, dfa_is, too_small_is, capacity_is}
+use Rattle.lazy_dfa.proofs.Automata.BuiltLemmas.{made_is_dfa, dfa_is, too_small_is, capacity_is}
 use Rattle.lazy_dfa.proofs.builder.Builder.build_from_nfa.Goals as goal
 
 pub invariant_of-result : goal.invariant_of-result
@@ -24,34 +24,3 @@ invariant_of-result c = (
       ∙ ap (λ (m : Measures). least_capacity m) c.measures_of-measures.ensures) c.is_refused.ensures) ∙ c.if-is_refused.false),
   subst (λ (t : Terminator). IsStartTable t c.new-start_map.result) c.look_matcher.ensures c.new-start_map.ensures.table,
 )
-
-pub returns-then-is_unsupported : goal.returns-then-is_unsupported
-returns-then-is_unsupported c = built_unsupported c.args.nfa c.self.inside.config c.args.self.now c.self.view_is c.is_unsupported.result
-    c.is_unsupported.ensures c.if-is_unsupported.true
-
-pub returns-then-is_refused : goal.returns-then-is_refused
-returns-then-is_refused c = built_small c.args.nfa c.self.inside.config c.args.self.now c.self.view_is c.is_unsupported.result
-    c.is_unsupported.ensures c.if-is_unsupported.false c.is_refused.result
-    ((too_small_is c.args.nfa c.self.inside.config c.get_skip_cache_capacity_check-skips.result c.get_cache_capacity-given.result
-    c.least_capacity-minimum.result c.is_refused.result
-    c.get_skip_cache_capacity_check-skips.ensures c.get_cache_capacity-given.ensures (c.least_capacity-minimum.ensures
-    ∙ ap (λ (m : Measures). least_capacity m) c.measures_of-measures.ensures) c.is_refused.ensures))
-    c.if-is_refused.true c.least_capacity-minimum.result c.get_cache_capacity-given.result
-    (c.least_capacity-minimum.ensures ∙ ap (λ (m : Measures). least_capacity m) c.measures_of-measures.ensures)
-    c.get_cache_capacity-given.ensures
-
-pub returns : goal.returns
-returns c = built_well c.args.nfa c.self.inside.config c.args.self.now c.self.view_is c.is_unsupported.result
-    c.is_unsupported.ensures c.if-is_unsupported.false c.is_refused.result
-    ((too_small_is c.args.nfa c.self.inside.config c.get_skip_cache_capacity_check-skips.result c.get_cache_capacity-given.result
-    c.least_capacity-minimum.result c.is_refused.result
-    c.get_skip_cache_capacity_check-skips.ensures c.get_cache_capacity-given.ensures (c.least_capacity-minimum.ensures
-    ∙ ap (λ (m : Measures). least_capacity m) c.measures_of-measures.ensures) c.is_refused.ensures))
-    c.if-is_refused.false _
-    (dfa_is c.args.nfa c.self.inside.config c.classes_of-classes.result c.quit_bytes-quits.result c.measures_of-measures.result
-    c.capacity_for-capacity.result
-    c.classes_of-classes.ensures c.quit_bytes-quits.ensures c.measures_of-measures.ensures
-    (capacity_is c.args.nfa c.self.inside.config c.get_skip_cache_capacity_check-skips.result c.get_cache_capacity-given.result
-    c.least_capacity-minimum.result c.capacity_for-capacity.result
-    c.get_skip_cache_capacity_check-skips.ensures c.get_cache_capacity-given.ensures (c.least_capacity-minimum.ensures
-    ∙ ap (λ (m : Measures). least_capacity m) c.measures_of-measures.ensures) c.capacity_for-capacity.ensures))

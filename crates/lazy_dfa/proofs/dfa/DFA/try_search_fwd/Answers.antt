@@ -1,4 +1,3 @@
-use Rattle.std.proofs.Common.{sym}
 use Rattle.lazy_dfa.proofs.Courses.SearchClauseLemmas.{makes_half, reaches}
 use Rattle.lazy_dfa.proofs.dfa.DFA.try_search_fwd.Goals as goal
 
@@ -10,6 +9,3 @@ returns-clause-search g c = makes_half c.args.self.now c.args.input.now c.args.c
 pub returns-clause-reach : goal.returns-clause-reach
 returns-clause-reach g c = reaches c.args.self.now c.args.input.now c.search.new.cache c.search.result c.search.ensures.made
     c.search.ensures.within.0 c.search.ensures.search.answer c.requires.is_forward
-
-pub search-requires-clause-is_reverse : goal.search-requires-clause-is_reverse
-search-requires-clause-is_reverse g c = sym c.requires.is_forward
