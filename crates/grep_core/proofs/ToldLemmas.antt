@@ -15,7 +15,7 @@ use Rattle.pattern_search.specs.Searches.{whole_search}
 use Rattle.pattern_search.specs.Texts.{AllMean}
 use Rattle.pattern_search.specs.Written.{AnswersWhatIsWritten}
 use Rattle.pattern_search.proofs.ForCallers.{alike_some, same_patterns}
-use Rattle.grep_core.specs.Patterns.{finds_of}
+use Rattle.grep_core.specs.Patterns.{matches_in, spans_in}
 use Rattle.std.specs.List.{filter}
 use Rattle.hir_core.specs.Facts.{LoopsRead}
 use Rattle.pattern_search.specs.Searches.{span_of_found}
@@ -40,7 +40,7 @@ pub told_of : (config : Config) (texts : List (List ℕ)) (p : Pair) (c : PairCa
 told_of config texts p c line o law it bytes answer res read =
     let written = law it.capacity it.trees it.mean it.built in
     sym (alike_some _ _ _ _ (written.answers.starts line 0 (is_search it.trees line bytes) c o answer))
-    ∙ ap (λ rs. (finds_of rs).has_match line) (same_patterns config texts written.patterns res written.are_read read)
+    ∙ ap (λ rs. matches_in rs line) (same_patterns config texts written.patterns res written.are_read read)
 
 pub all_told : (config : Config) (texts : List (List ℕ)) (p : Pair) (line : List ℕ) (fs : List Found) (told : List (ℕ × ℕ)) →
     ((k : Option ℕ) (xs : List Tree) → AllMean config texts xs → IsBuilt xs (sized_settings k) p →
@@ -52,4 +52,4 @@ all_told config texts p line fs told law it loops bytes l spans res read =
     spans
     ∙ ap (filter is_some_text)
     (sym (written.answers.all loops line (is_search it.trees line bytes) fs l.old l.new l.regex l.taken l.over)
-    ∙ ap (λ rs. (finds_of rs).spans line) (same_patterns config texts written.patterns res written.are_read read))
+    ∙ ap (λ rs. spans_in rs line) (same_patterns config texts written.patterns res written.are_read read))

@@ -15,7 +15,7 @@ written fixed pattern = if fixed then encode_utf8_all (escaped_text (chars patte
 abbrev pub line_config : How → Config
 line_config how = record default_config {
   utf8 = false;
-  flags = record (default_config.flags) { case_insensitive = how.ignore_case; multi_line = how.crlf; crlf = how.crlf };
+  flags = record (default_config.flags) { case_insensitive = how.ignore_case };
 }
 
 -- whether what the grammar reads is a pattern within the limit on nesting

@@ -17,7 +17,7 @@ use Rattle.pattern_search.specs.Texts.{AreReadAs, AllMean, IsFirstFault}
 use Rattle.grep_core.specs.declared.searcher.SearcherError.{SearcherError}
 use Rattle.grep_core.specs.declared.searcher.SearcherError.TheVariants.{Text, EmptyLoop, Build}
 use Rattle.grep_core.specs.Report.{LineMatcher, is_some_text}
-use Rattle.grep_core.specs.Patterns.{finds_of}
+use Rattle.grep_core.specs.Patterns.{finds_of, matches_in, spans_in}
 
 -- lines are any bytes
 abbrev pub line_settings : Settings
@@ -36,20 +36,22 @@ pub record IsSearcherOf (config : Config) (texts : List (List ℕ)) (p : Pair) :
 
 -- whether the line has a match is told as what the texts are read as has it
 abbrev pub IsMatchTold : Config → List (List ℕ) → List ℕ → Bool → Type 0
-IsMatchTold config texts line told = (res : List Re) → AreReadAs config texts res → told ≡ (finds_of res).has_match line
+IsMatchTold config texts line told = (res : List Re) → AreReadAs config texts res → told ≡ matches_in res line
 
 -- the matches of the line that aren't empty are told as what the texts are read as has them
 abbrev pub AreTold : Config → List (List ℕ) → List ℕ → List (ℕ × ℕ) → Type 0
-AreTold config texts line told = (res : List Re) → AreReadAs config texts res → told ≡ filter is_some_text ((finds_of res).spans line)
+AreTold config texts line told = (res : List Re) → AreReadAs config texts res → told ≡ filter is_some_text (spans_in res line)
 
 -- why a search of the line is refused: as a search by the regex from some place of the line on is, or for want of memory
 abbrev pub IsLineRefused : Pair → List ℕ → MatchErrorKind → Type 0
 IsLineRefused p line e = (e ≡ LacksMemory) ⊎ ((at : ℕ) × (c : PairCache) × AnswersPair p c (whole_search line at) (Err e))
 
--- what is sought in lines: the texts of patterns, the options under which these are read, and whether matches may be asked for
+-- what is sought in lines: the texts of patterns, the options under which these are read, whether a carriage return before a line feed belongs
+-- to the end of a line, and whether matches may be asked for
 pub record Sought : Type 0 where
   pub config : Config
   pub texts : List (List ℕ)
+  pub crlf : Bool
   pub spans : Bool
 
 -- What is found in lines is what the patterns have that are written in the texts. Matches are asked for only where they may be.
@@ -59,7 +61,7 @@ pub record SearchesFor (s : Sought) (spans : Bool) : Type 0 where
   pub are_read : AreReadAs s.config s.texts patterns
 
 abbrev pub found_by : {s : Sought} {spans : Bool} → SearchesFor s spans → LineMatcher
-found_by by = finds_of by.patterns
+found_by {s} {spans} by = finds_of s.crlf by.patterns
 
 -- Why there is no searcher of texts: the first that is no pattern, or that has an empty loop where matches are asked for; or no regex is
 -- built of their trees, or memory lacked.

@@ -29,6 +29,7 @@ pub struct Finder<'t> {
     searcher: Searcher,
     texts: &'t [&'t str],
     config: Config,
+    crlf: bool,
     with_matches: bool,
     regexes: Option<Vec<Regex>>,
     candidates: Option<Candidates>,
@@ -49,12 +50,12 @@ impl<'t> Model for Finder<'t> {
 
     ghost Value = { Sought };
 
-    ghost view = { λ f. record { config = f.config; texts = map (λ t. t.now) f.texts.now; spans = f.with_matches } };
+    ghost view = { λ f. record { config = f.config; texts = map (λ t. t.now) f.texts.now; crlf = f.crlf; spans = f.with_matches } };
 
     ghost invariant = { λ f. (f.config ≡ record (f.config) { utf8 = false })
         × ((it : IsSearcherOf f.config (map (λ t. t.now) f.texts.now) f.searcher.0) × (f.with_matches ≡ true → All LoopsRead it.trees))
         × IfSome f.regexes (λ rs. AreRegexesOf f.config (map (λ t. t.now) f.texts.now) rs.items)
-        × IfSome f.candidates (λ c. IsCandidatesOf f.config (map (λ t. t.now) f.texts.now) c.0) };
+        × IfSome f.candidates (λ c. IsCandidatesOf f.config (map (λ t. t.now) f.texts.now) f.crlf c.0) };
 }
 
 /// Whether a search was refused for want of memory.
@@ -83,10 +84,12 @@ impl<'t> Finder<'t> {
         alloc: Global,
         texts: &'t [&'t str],
         config: &Config,
+        crlf: bool,
         with_matches: bool,
     ) -> Result<Finder<'t>, SearcherError>
         ensures sought { IfOk result (λ f. f ≡
-            record { config = record (config.now) { utf8 = false }; texts = map (λ t. t.now) texts.now; spans = with_matches }) }
+            record { config = record (config.now) { utf8 = false }; texts = map (λ t. t.now) texts.now; crlf = crlf;
+                spans = with_matches }) }
         ensures searches { IfOk result (λ f. SearchesFor f with_matches) }
         ensures refused { IfErr result (IsSearcherRefused (record (config.now) { utf8 = false }) (map (λ t. t.now) texts.now)
             with_matches) }
@@ -101,14 +104,22 @@ impl<'t> Finder<'t> {
             searcher,
             texts,
             config,
+            crlf,
             with_matches,
             regexes: None,
-            candidates: candidates_of(alloc, texts, &config, None),
+            candidates: candidates_of(alloc, texts, &config, crlf, None),
             line_size: Size::first(),
             block_size: Size::first(),
             slow: 0,
             past_clears: 0,
         })
+    }
+
+    /// Whether a carriage return before a line feed belongs to the end of a line.
+    pub(crate) fn crlf(&self) -> bool
+        ensures { result ≡ self.now.crlf }
+    {
+        self.crlf
     }
 
     /// Gives the search of blocks larger caches, where its own were cleared too soon and memory suffices.
@@ -126,7 +137,13 @@ impl<'t> Finder<'t> {
         ensures { self.new ≡ self.old }
     {
         let clears = clears_of(&self.candidates);
-        if let Some(larger) = candidates_of(alloc, self.texts, &self.config, Some(size.capacity)) {
+        if let Some(larger) = candidates_of(
+            alloc,
+            self.texts,
+            &self.config,
+            self.crlf,
+            Some(size.capacity),
+        ) {
             self.candidates = Some(larger);
             self.block_size = size;
             self.past_clears = self.past_clears.saturating_add(clears);
@@ -192,8 +209,8 @@ impl<'t> Finder<'t> {
         ensures from { IfOk result (λ r. at ≤ r.start) }
         ensures within { IfOk result (λ r. r.start ≤ length block.now) }
         ensures starts { IfOk result (λ r. r.start < length block.now → IsLineStart block.now r.start) }
-        ensures passed { IfOk result (λ r. HaveNoMatch self.old.config self.old.texts (slice_range block.now at r.start)) }
-        ensures has { IfOk result (λ r. r.has ≡ true → HasMatchAt self.old.config self.old.texts block.now r.start) }
+        ensures passed { IfOk result (λ r. HaveNoMatch self.old.config self.old.texts self.old.crlf (slice_range block.now at r.start)) }
+        ensures has { IfOk result (λ r. r.has ≡ true → HasMatchAt self.old.config self.old.texts self.old.crlf block.now r.start) }
     {
         self.grow_candidates(alloc);
         let reached = match self.reach(block, at) {
@@ -212,8 +229,8 @@ impl<'t> Finder<'t> {
         ensures from { IfOk result (λ r. at ≤ r.start) }
         ensures within { IfOk result (λ r. r.start ≤ length block.now) }
         ensures starts { IfOk result (λ r. r.start < length block.now → IsLineStart block.now r.start) }
-        ensures passed { IfOk result (λ r. HaveNoMatch self.old.config self.old.texts (slice_range block.now at r.start)) }
-        ensures has { IfOk result (λ r. r.has ≡ true → HasMatchAt self.old.config self.old.texts block.now r.start) }
+        ensures passed { IfOk result (λ r. HaveNoMatch self.old.config self.old.texts self.old.crlf (slice_range block.now at r.start)) }
+        ensures has { IfOk result (λ r. r.has ≡ true → HasMatchAt self.old.config self.old.texts self.old.crlf block.now r.start) }
     {
         let Some(candidates) = &mut self.candidates else {
             return Ok(Reached {

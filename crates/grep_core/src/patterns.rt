@@ -27,8 +27,6 @@ pub fn config_of(how: &How) -> Config
     Config::new()
         .utf8(false)
         .case_insensitive(how.ignore_case)
-        .multi_line(how.crlf)
-        .crlf(how.crlf)
 }
 
 /// The pattern as a text of the syntax.

@@ -13,6 +13,7 @@ returns-in-Err-clause-refused c =
 
 pub returns-in-Ok-new-clause-candidates : goal.returns-in-Ok-new-clause-candidates
 returns-in-Ok-new-clause-candidates c config texts mean = record {
+  same = refl;
   trees = c.args.trees.now;
   mean = mean;
   plain = all_plain c.args.trees.now (sym c.any_has_crlf.ensures.any ∙ c.if-any_has_crlf.false);
