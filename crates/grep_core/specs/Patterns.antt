@@ -1,13 +1,15 @@
--- How patterns tell lines apart: by what the toolchain's matcher finds in each line for their alternation, the first preferred.
+-- How patterns tell lines apart: by what the toolchain's matcher finds in each line for the alternation of the parsed patterns, each of
+-- them bounded as lines or words are asked for. The first is preferred.
 use Rattle.std.specs.Prelude.{List, map, is_some}
 use Rattle.regex_hir.specs.Re.{Re}
-use Rattle.regex_hir.specs.Meaning.{alt_all}
 use Rattle.regex_hir.specs.Find.{find, find_all}
 use Rattle.pattern_search.specs.Searches.{span_of_match}
+use Rattle.grep_core.specs.Bounded.{patterns_of}
 use Rattle.grep_core.specs.Report.{LineMatcher}
+use Rattle.grep_core.specs.declared.patterns.How.{How}
 
-abbrev pub finds_of : List Re → LineMatcher
-finds_of res = record {
-  has_match = λ line. is_some (find (alt_all res) line 0);
-  spans = λ line. map span_of_match (find_all (alt_all res) line);
+abbrev pub finds_of : How → List Re → LineMatcher
+finds_of how res = record {
+  has_match = λ line. is_some (find (patterns_of how res) line 0);
+  spans = λ line. map span_of_match (find_all (patterns_of how res) line);
 }

@@ -3,13 +3,13 @@ ghost use Rattle.std.specs.Prelude.{◌≡◌, ◌==◌, ◌&&◌, ◌||◌, ◌
 ghost use Rattle.std.specs.Prelude.{is_some, not};
 ghost use Rattle.std.specs.Prelude.{true, Option, Some, IfErr, IfOk, IfSome};
 ghost use Rattle.std.specs.List.{list_any};
-ghost use Rattle.regex_syntax.specs.declared.Config.{Config as TextConfig};
 ghost use Rattle.hir_core.specs.Tree.{Tree};
 ghost use Rattle.line_trees.specs.LineTrees.{line_tree, has_crlf, HasNoFeedFrom};
 ghost use Rattle.hirscan.specs.Built.{IsBuilt, RefusesBuild};
 ghost use Rattle.ucd_perl.specs.Perl.{is_word_char};
 ghost use Rattle.earliest_ends.specs.Earliest.{IsRefusal};
-ghost use Rattle.pattern_search.specs.Texts.{AllMean};
+ghost use Rattle.grep_core.specs.BoundedTrees.{AreTreesOf};
+ghost use Rattle.grep_core.specs.declared.patterns.How.{How};
 ghost use Rattle.grep_core.specs.Candidates.{IsCandidatesOf, IsLineStart, HaveNoMatch, HasMatchAt, IsStop, IsStopIfAny};
 ghost use Rattle.grep_core.specs.Candidates.{IsEnd};
 ghost use Rattle.grep_core.specs.Candidates.{StopsInLine};
@@ -18,14 +18,13 @@ ghost use Rattle.grep_core.specs.declared.fault.Fault.TheVariants.{NoMemory};
 
 use crate::fault::Fault;
 use crate::feeds::pass_back;
-use crate::searcher::{see_bytes, settings};
+use crate::patterns::How;
+use crate::searcher::{see_bytes, settings, trees_of};
 use earliest_ends::find_earliest_end;
 use hir_core::Hir;
 use hirscan::build;
 use lazy_dfa::BuildError;
 use line_trees::{all_line_trees, any_has_crlf, any_reads_feed};
-use pattern_search::parse_all;
-use pattern_text::Config;
 use regex_pair::regex::{Cache, Regex};
 use search_types::{MatchError, MatchErrorKind};
 use std::alloc::Global;
@@ -123,12 +122,12 @@ fn stop_at(end: Option<usize>) -> Option<Stop>
 pub(crate) fn candidates_of(
     alloc: Global,
     texts: &[&str],
-    config: &Config,
+    how: &How,
     capacity: Option<usize>,
 ) -> Option<Candidates>
-    ensures { IfSome result (λ c. IsCandidatesOf config.now (map (λ t. t.now) texts.now) c.0) }
+    ensures { IfSome result (λ c. IsCandidatesOf how.now (map (λ t. t.now) texts.now) c.0) }
 {
-    let Ok(trees) = parse_all(alloc, texts, config) else {
+    let Ok(trees) = trees_of(alloc, how, texts) else {
         return None;
     };
     let Ok(candidates) = Candidates::new(alloc, &trees, capacity) else {
@@ -145,8 +144,8 @@ impl Candidates {
         capacity: Option<usize>,
     ) -> Result<Option<Candidates>, BuildError>
         ensures some { IfOk result (λ o. is_some o ≡ not (list_any has_crlf trees.now)) }
-        ensures candidates { (config : TextConfig) (texts : List (List ℕ)) → AllMean config texts trees.now →
-            IfOk result (λ o. IfSome o (λ c. IsCandidatesOf config texts c.0)) }
+        ensures candidates { (how : How) (texts : List (List ℕ)) → AreTreesOf how texts trees.now →
+            IfOk result (λ o. IfSome o (λ c. IsCandidatesOf how texts c.0)) }
         ensures refused { IfErr result (λ e. RefusesBuild (map line_tree trees.now) (sized_settings capacity) e) }
     {
         if any_has_crlf(trees) {
@@ -227,10 +226,10 @@ impl Candidates {
         ensures from { IfOk result (λ r. at ≤ r.start) }
         ensures within { IfOk result (λ r. r.start ≤ length block.now) }
         ensures starts { IfOk result (λ r. r.start < length block.now → IsLineStart block.now r.start) }
-        ensures passed { (config : TextConfig) (texts : List (List ℕ)) → IsCandidatesOf config texts self.old.0 →
-            IfOk result (λ r. HaveNoMatch config texts (slice_range block.now at r.start)) }
-        ensures has { (config : TextConfig) (texts : List (List ℕ)) → IsCandidatesOf config texts self.old.0 →
-            IfOk result (λ r. r.has ≡ true → HasMatchAt config texts block.now r.start) }
+        ensures passed { (how : How) (texts : List (List ℕ)) → IsCandidatesOf how texts self.old.0 →
+            IfOk result (λ r. HaveNoMatch how texts (slice_range block.now at r.start)) }
+        ensures has { (how : How) (texts : List (List ℕ)) → IsCandidatesOf how texts self.old.0 →
+            IfOk result (λ r. r.has ≡ true → HasMatchAt how texts block.now r.start) }
         ensures stops { (xs : List Tree) (capacity : Option ℕ) → IsBuilt xs (sized_settings capacity) self.old.0.0 →
             IfOk result (λ r. r.start < length block.now → StopsInLine xs block.now at r.start) }
         ensures refused { IfErr result (λ e. e ≡ NoMemory) }

@@ -39,9 +39,9 @@ fn has_match(
     line: &[u8],
     is_known: bool,
 ) -> Result<bool, Fault>
-    requires { is_known ≡ true → IsMatchTold finder.old.config finder.old.texts line.now true }
+    requires { is_known ≡ true → IsMatchTold finder.old.how finder.old.texts line.now true }
     ensures same { finder.new ≡ finder.old }
-    ensures told { IfOk result (λ told. IsMatchTold finder.old.config finder.old.texts line.now told) }
+    ensures told { IfOk result (λ told. IsMatchTold finder.old.how finder.old.texts line.now told) }
 {
     if is_known {
         return Ok(true);
@@ -60,7 +60,7 @@ pub(crate) fn look_at(
     line: &[u8],
     is_known: bool,
 ) -> Result<Seen, Fault>
-    requires { is_known ≡ true → IsMatchTold finder.old.config finder.old.texts line.now true }
+    requires { is_known ≡ true → IsMatchTold finder.old.how finder.old.texts line.now true }
     ensures same { finder.new ≡ finder.old }
     ensures has { IfOk result (λ seen. (by : SearchesFor finder.old (needs_spans what.now)) → seen.has ≡ (found_by by).has_match line.now) }
     ensures found { IfOk result (λ seen. (by : SearchesFor finder.old (needs_spans what.now)) →

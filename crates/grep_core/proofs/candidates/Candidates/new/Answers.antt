@@ -12,7 +12,7 @@ returns-in-Err-clause-refused c =
     (subst (λ (s : Settings). RefusesBuild c.deref.result.now s c.in-Err.e) c.settings.ensures c.in-Err.ensures.refused)
 
 pub returns-in-Ok-new-clause-candidates : goal.returns-in-Ok-new-clause-candidates
-returns-in-Ok-new-clause-candidates c config texts mean = record {
+returns-in-Ok-new-clause-candidates c how texts mean = record {
   trees = c.args.trees.now;
   mean = mean;
   plain = all_plain c.args.trees.now (sym c.any_has_crlf.ensures.any ∙ c.if-any_has_crlf.false);
