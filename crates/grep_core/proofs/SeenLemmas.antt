@@ -4,12 +4,13 @@ use Rattle.std.proofs.Common.{refl, sym, ap, ◌∙◌, subst, arith}
 use Rattle.std.specs.Prelude.{is_some}
 use Rattle.std.specs.List.{filter}
 use Rattle.regex_hir.specs.Re.{Re}
-use Rattle.regex_hir.specs.Meaning.{alt_all}
 use Rattle.regex_hir.specs.Find.{Match, find, matches_from}
-use Rattle.regex_syntax.specs.declared.Config.{Config}
 use Rattle.hir_core.specs.Facts.{LoopsRead}
 use Rattle.regex_pair.specs.Pairs.{Pair}
 use Rattle.pattern_search.specs.Searches.{span_of_match}
+use Rattle.grep_core.specs.Bounded.{patterns_of}
+use Rattle.grep_core.specs.Meant.{line_config}
+use Rattle.grep_core.specs.declared.patterns.How.{How}
 use Rattle.grep_core.specs.declared.what.What.{What}
 use Rattle.grep_core.specs.Lines.{SplitLine, searched}
 use Rattle.grep_core.specs.Patterns.{finds_of, spans_in}
@@ -29,33 +30,35 @@ no_spans true found e = ap (filter is_some_text) e
 no_spans false found e = refl
 
 -- a line without a match has no matches
-pub none_found : (w : What) (crlf : Bool) (res : List Re) (line : SplitLine) (has : Bool) → has ≡ (finds_of crlf res).has_match line →
-    has ≡ false → filter is_some_text ((with_needed_spans w (finds_of crlf res)).spans line) ≡ []
-none_found w crlf res line has told none =
-    let bytes : List ℕ = searched crlf line in
-    no_spans (needs_spans w) (spans_in res bytes)
-    (ap (map span_of_match) (none_from (find (alt_all res) bytes) (length bytes + 1) (find (alt_all res) bytes 0) (sym told ∙ none)))
+pub none_found : (w : What) (how : How) (res : List Re) (line : SplitLine) (has : Bool) → has ≡ (finds_of how res).has_match line →
+    has ≡ false →
+    filter is_some_text ((with_needed_spans w (finds_of how res)).spans line) ≡ []
+none_found w how res line has told none =
+    let bytes : List ℕ = searched how.crlf line in
+    no_spans (needs_spans w) (spans_in how res bytes)
+    (ap (map span_of_match)
+    (none_from (find (patterns_of how res) bytes) (length bytes + 1) (find (patterns_of how res) bytes 0) (sym told ∙ none)))
 
 -- where matches don't count there are none
-pub none_needed : (w : What) (crlf : Bool) (res : List Re) (line : SplitLine) → needs_spans w ≡ false →
-    filter is_some_text ((with_needed_spans w (finds_of crlf res)).spans line) ≡ []
-none_needed w crlf res line none = ap (λ b. filter is_some_text (if b then (finds_of crlf res).spans line else [])) none
+pub none_needed : (w : What) (how : How) (res : List Re) (line : SplitLine) → needs_spans w ≡ false →
+    filter is_some_text ((with_needed_spans w (finds_of how res)).spans line) ≡ []
+none_needed w how res line none = ap (λ b. filter is_some_text (if b then (finds_of how res).spans line else [])) none
 
 -- what a finder knows of its searcher
-abbrev pub IsOwn : Config → List (List ℕ) → Bool → Pair → Type 0
-IsOwn config texts spans p = (it : IsSearcherOf config texts p) × (spans ≡ true → All LoopsRead it.trees)
+abbrev pub IsOwn : How → List (List ℕ) → Bool → Pair → Type 0
+IsOwn how texts spans p = (it : IsSearcherOf how texts p) × (spans ≡ true → All LoopsRead it.trees)
 
 -- and where they count these are all
-pub all_needed : (w : What) (crlf : Bool) (res : List Re) (line : SplitLine) (found : List (ℕ × ℕ)) → needs_spans w ≡ true →
-    found ≡ filter is_some_text ((finds_of crlf res).spans line) →
-    found ≡ filter is_some_text ((with_needed_spans w (finds_of crlf res)).spans line)
-all_needed w crlf res line found needs told =
-    told ∙ sym (ap (λ b. filter is_some_text (if b then (finds_of crlf res).spans line else [])) needs)
+pub all_needed : (w : What) (how : How) (res : List Re) (line : SplitLine) (found : List (ℕ × ℕ)) → needs_spans w ≡ true →
+    found ≡ filter is_some_text ((finds_of how res).spans line) →
+    found ≡ filter is_some_text ((with_needed_spans w (finds_of how res)).spans line)
+all_needed w how res line found needs told =
+    told ∙ sym (ap (λ b. filter is_some_text (if b then (finds_of how res).spans line else [])) needs)
 
 -- a finder that seeks the same
 abbrev pub moved_by : {p q : Sought} {spans : Bool} → q ≡ p → SearchesFor p spans → SearchesFor q spans
 moved_by {p} {q} {spans} same by = record {
   may = λ asked. ap (λ (s : Sought). s.spans) same ∙ by.may asked;
   patterns = by.patterns;
-  are_read = subst (λ (s : Sought). AreReadAs s.config s.texts by.patterns) (sym same) by.are_read;
+  are_read = subst (λ (s : Sought). AreReadAs (line_config s.how) s.texts by.patterns) (sym same) by.are_read;
 }

@@ -31,8 +31,8 @@ pub(crate) fn tell_one(
     is_known: bool,
 ) -> Result<(), Fault>
     requires waits { Waits task.what.now progress.old.telling.course }
-    requires known { is_known ≡ true → IsMatchTold finder.old.config finder.old.texts
-        (searched finder.old.crlf (record { bytes = bytes.now; is_ended = is_ended })) true }
+    requires known { is_known ≡ true → IsMatchTold finder.old.how finder.old.texts
+        (searched finder.old.how.crlf (record { bytes = bytes.now; is_ended = is_ended })) true }
     ensures same { finder.new ≡ finder.old }
     ensures waits { OnOk result (Waits task.entry.what.now progress.new.telling.course) }
     ensures goes_on { OnOk result ((by : SearchesBy task.entry finder.old) (lines : List SplitLine) →
@@ -86,7 +86,7 @@ fn tell_here(
 ) -> Result<usize, Fault>
     requires waits { Waits task.what.now progress.old.telling.course }
     requires within { at ≤ length block.now }
-    requires known { is_known ≡ true → HasMatchAt finder.old.config finder.old.texts finder.old.crlf block.now at }
+    requires known { is_known ≡ true → HasMatchAt finder.old.how finder.old.texts block.now at }
     ensures same { finder.new ≡ finder.old }
     ensures waits { OnOk result (Waits task.entry.what.now progress.new.telling.course) }
     ensures within { IfOk result (λ next. next ≤ length block.now) }
@@ -139,7 +139,7 @@ fn tell_before(
     ensures from { IfOk result (λ r. at ≤ r.start) }
     ensures within { IfOk result (λ r. r.start ≤ length block.now) }
     ensures starts { IfOk result (λ r. IsLineStart block.now r.start) }
-    ensures has { IfOk result (λ r. r.has ≡ true → HasMatchAt finder.old.config finder.old.texts finder.old.crlf block.now r.start) }
+    ensures has { IfOk result (λ r. r.has ≡ true → HasMatchAt finder.old.how finder.old.texts block.now r.start) }
     ensures goes_on { IfOk result (λ r. (by : SearchesBy task.entry finder.old) (more : List ℕ) →
         out.old.items ++ tells_lines task.entry (finds_by task.entry by) progress.old (split_lines (drop at block.now ++ more))
         ≡ out.new.items ++ tells_lines task.entry (finds_by task.entry by) progress.new (split_lines (drop r.start block.now ++ more))) }

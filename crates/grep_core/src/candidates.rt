@@ -1,15 +1,15 @@
 //! The lines of a block that may have a match.
-ghost use Rattle.std.specs.Prelude.{◌≡◌, ◌==◌, ◌&&◌, ◌||◌, ◌≤◌, ◌<◌, ◌-◌, ℕ, Bool, List, length, map, option_map, slice_get, slice_range};
+ghost use Rattle.std.specs.Prelude.{◌≡◌, ◌==◌, ◌&&◌, ◌||◌, ◌≤◌, ◌<◌, ◌-◌, ℕ, List, length, map, option_map, slice_get, slice_range};
 ghost use Rattle.std.specs.Prelude.{is_some, not};
 ghost use Rattle.std.specs.Prelude.{true, Option, Some, IfErr, IfOk, IfSome};
 ghost use Rattle.std.specs.List.{list_any};
-ghost use Rattle.regex_syntax.specs.declared.Config.{Config as TextConfig};
 ghost use Rattle.hir_core.specs.Tree.{Tree};
 ghost use Rattle.line_trees.specs.LineTrees.{line_tree, has_crlf, HasNoFeedFrom};
 ghost use Rattle.hirscan.specs.Built.{IsBuilt, RefusesBuild};
 ghost use Rattle.ucd_perl.specs.Perl.{is_word_char};
 ghost use Rattle.earliest_ends.specs.Earliest.{IsRefusal};
-ghost use Rattle.pattern_search.specs.Texts.{AllMean};
+ghost use Rattle.grep_core.specs.BoundedTrees.{AreTreesOf};
+ghost use Rattle.grep_core.specs.declared.patterns.How.{How};
 ghost use Rattle.grep_core.specs.Candidates.{IsCandidatesOf, IsLineStart, HaveNoMatch, HasMatchAt, IsStop, IsStopIfAny};
 ghost use Rattle.grep_core.specs.Candidates.{IsEnd};
 ghost use Rattle.grep_core.specs.Candidates.{StopsInLine};
@@ -18,14 +18,13 @@ ghost use Rattle.grep_core.specs.declared.fault.Fault.TheVariants.{NoMemory};
 
 use crate::fault::Fault;
 use crate::feeds::pass_back;
-use crate::searcher::{see_bytes, settings};
+use crate::patterns::How;
+use crate::searcher::{see_bytes, settings, trees_of};
 use earliest_ends::find_earliest_end;
 use hir_core::Hir;
 use hirscan::build;
 use lazy_dfa::BuildError;
 use line_trees::{all_line_trees, any_has_crlf, any_reads_feed};
-use pattern_search::parse_all;
-use pattern_text::Config;
 use regex_pair::regex::{Cache, Regex};
 use search_types::{MatchError, MatchErrorKind};
 use std::alloc::Global;
@@ -35,14 +34,14 @@ use std::marker::Model;
 ///
 /// A line that has a match has one in each block with that line, so the lines before the earliest end of a match in the block have none.
 /// A match in the block need not be one in a line, since it may reach over the ends of lines. If no tree reads a line feed it is one, unless
-/// a carriage return belongs to the end of a line: then a match of the block may read it, and each line is searched by itself.
+/// a carriage return belongs to the end of a line: then a match of the block may read it, so each such line is searched by itself.
 #[derive(Drop)]
 pub(crate) struct Candidates {
     regex: Regex,
     cache: Cache,
     /// Whether none of the trees reads a line feed.
     feedless: bool,
-    /// Whether a carriage return before a line feed belongs to the end of a line.
+    /// Whether a carriage return right before a line feed belongs to the end of a line.
     crlf: bool,
 }
 
@@ -126,23 +125,22 @@ fn stop_at(end: Option<usize>) -> Option<Stop>
 pub(crate) fn candidates_of(
     alloc: Global,
     texts: &[&str],
-    config: &Config,
-    crlf: bool,
+    how: &How,
     capacity: Option<usize>,
 ) -> Option<Candidates>
-    ensures { IfSome result (λ c. IsCandidatesOf config.now (map (λ t. t.now) texts.now) crlf c.0) }
+    ensures { IfSome result (λ c. IsCandidatesOf how.now (map (λ t. t.now) texts.now) c.0) }
 {
-    let Ok(trees) = parse_all(alloc, texts, config) else {
+    let Ok(trees) = trees_of(alloc, how, texts) else {
         return None;
     };
-    let Ok(candidates) = Candidates::new(alloc, &trees, crlf, capacity) else {
+    let Ok(candidates) = Candidates::new(alloc, &trees, how.crlf, capacity) else {
         return None;
     };
     candidates
 }
 
 impl Candidates {
-    /// Of trees that texts have; none where a look in them knows carriage returns, since nothing is said of such trees in blocks.
+    /// Of trees that texts have; none if one of them has a look at carriage returns, since nothing is said of such trees in blocks.
     pub(crate) fn new(
         alloc: Global,
         trees: &[Hir],
@@ -150,8 +148,8 @@ impl Candidates {
         capacity: Option<usize>,
     ) -> Result<Option<Candidates>, BuildError>
         ensures some { IfOk result (λ o. is_some o ≡ not (list_any has_crlf trees.now)) }
-        ensures candidates { (config : TextConfig) (texts : List (List ℕ)) → AllMean config texts trees.now →
-            IfOk result (λ o. IfSome o (λ c. IsCandidatesOf config texts crlf c.0)) }
+        ensures candidates { (how : How) (texts : List (List ℕ)) → how.crlf ≡ crlf → AreTreesOf how texts trees.now →
+            IfOk result (λ o. IfSome o (λ c. IsCandidatesOf how texts c.0)) }
         ensures refused { IfErr result (λ e. RefusesBuild (map (line_tree crlf) trees.now) (sized_settings capacity) e) }
     {
         if any_has_crlf(trees) {
@@ -234,10 +232,10 @@ impl Candidates {
         ensures from { IfOk result (λ r. at ≤ r.start) }
         ensures within { IfOk result (λ r. r.start ≤ length block.now) }
         ensures starts { IfOk result (λ r. r.start < length block.now → IsLineStart block.now r.start) }
-        ensures passed { (config : TextConfig) (texts : List (List ℕ)) (crlf : Bool) → IsCandidatesOf config texts crlf self.old.0 →
-            IfOk result (λ r. HaveNoMatch config texts crlf (slice_range block.now at r.start)) }
-        ensures has { (config : TextConfig) (texts : List (List ℕ)) (crlf : Bool) → IsCandidatesOf config texts crlf self.old.0 →
-            IfOk result (λ r. r.has ≡ true → HasMatchAt config texts crlf block.now r.start) }
+        ensures passed { (how : How) (texts : List (List ℕ)) → IsCandidatesOf how texts self.old.0 →
+            IfOk result (λ r. HaveNoMatch how texts (slice_range block.now at r.start)) }
+        ensures has { (how : How) (texts : List (List ℕ)) → IsCandidatesOf how texts self.old.0 →
+            IfOk result (λ r. r.has ≡ true → HasMatchAt how texts block.now r.start) }
         ensures stops { (xs : List Tree) (capacity : Option ℕ) → IsBuilt xs (sized_settings capacity) self.old.0.regex →
             IfOk result (λ r. r.start < length block.now → StopsInLine xs block.now at r.start) }
         ensures refused { IfErr result (λ e. e ≡ NoMemory) }

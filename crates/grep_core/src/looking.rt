@@ -40,9 +40,9 @@ fn has_match(
     line: &[u8],
     is_known: bool,
 ) -> Result<bool, Fault>
-    requires { is_known ≡ true → IsMatchTold finder.old.config finder.old.texts line.now true }
+    requires { is_known ≡ true → IsMatchTold finder.old.how finder.old.texts line.now true }
     ensures same { finder.new ≡ finder.old }
-    ensures told { IfOk result (λ told. IsMatchTold finder.old.config finder.old.texts line.now told) }
+    ensures told { IfOk result (λ told. IsMatchTold finder.old.how finder.old.texts line.now told) }
 {
     if is_known {
         return Ok(true);
@@ -82,7 +82,7 @@ fn look_in(
     line: &[u8],
     is_known: bool,
 ) -> Result<Seen, Fault>
-    requires { is_known ≡ true → IsMatchTold finder.old.config finder.old.texts line.now true }
+    requires { is_known ≡ true → IsMatchTold finder.old.how finder.old.texts line.now true }
     ensures same { finder.new ≡ finder.old }
     ensures has { IfOk result (λ seen. (by : SearchesFor finder.old (needs_spans what.now)) →
         seen.has ≡ (found_by by).has_match (unended line.now)) }
@@ -115,8 +115,8 @@ pub(crate) fn look_at(
     is_ended: bool,
     is_known: bool,
 ) -> Result<Seen, Fault>
-    requires { is_known ≡ true → IsMatchTold finder.old.config finder.old.texts
-        (searched finder.old.crlf (record { bytes = bytes.now; is_ended = is_ended })) true }
+    requires { is_known ≡ true → IsMatchTold finder.old.how finder.old.texts
+        (searched finder.old.how.crlf (record { bytes = bytes.now; is_ended = is_ended })) true }
     ensures same { finder.new ≡ finder.old }
     ensures has { IfOk result (λ seen. (by : SearchesFor finder.old (needs_spans what.now)) →
         seen.has ≡ (found_by by).has_match (record { bytes = bytes.now; is_ended = is_ended })) }

@@ -15,10 +15,10 @@ returns-then-not-has-clause-found c by =
     ap (map span_pair) c.new.ensures.items
     ∙ elim c.then-not-has.branch [
       | then-not-has-via-then-not-has w ↦
-          sym (none_found c.args.what.now c.args.finder.now.crlf by.patterns (unended c.args.line.now) c.in-Ok.has
+          sym (none_found c.args.what.now _ by.patterns (unended c.args.line.now) c.in-Ok.has
           (c.in-Ok.ensures.told by.patterns by.are_read) w.if-not-has.true)
       | then-not-has-via-else-not-has+then-not-needs_spans w ↦
-          sym (none_needed c.args.what.now c.args.finder.now.crlf by.patterns (unended c.args.line.now) (sym w.needs_spans.ensures ∙ w.if-not-needs_spans.true))
+          sym (none_needed c.args.what.now _ by.patterns (unended c.args.line.now) (sym w.needs_spans.ensures ∙ w.if-not-needs_spans.true))
     ]
 
 pub returns-in-Ok-matches-clause-has : goal.returns-in-Ok-matches-clause-has
@@ -27,7 +27,7 @@ returns-in-Ok-matches-clause-has c by = c.in-Ok.ensures.told by.patterns by.are_
 pub returns-in-Ok-matches-clause-found : goal.returns-in-Ok-matches-clause-found
 returns-in-Ok-matches-clause-found c by =
     let needs : needs_spans c.args.what.now ≡ true = sym c.needs_spans.ensures ∙ c.if-not-needs_spans.false in
-    all_needed c.args.what.now c.args.finder.now.crlf by.patterns (unended c.args.line.now) (map span_pair c.in-Ok-matches.found.items) needs
-    (subst (λ (s : Sought). s.spans ≡ true → AreTold s.config s.texts c.args.line.now (map span_pair c.in-Ok-matches.found.items))
+    all_needed c.args.what.now _ by.patterns (unended c.args.line.now) (map span_pair c.in-Ok-matches.found.items) needs
+    (subst (λ (s : Sought). s.spans ≡ true → AreTold s.how s.texts c.args.line.now (map span_pair c.in-Ok-matches.found.items))
     c.has_match.ensures.same
     c.in-Ok-matches.ensures.told (by.may needs) by.patterns by.are_read)

@@ -1,9 +1,9 @@
 use Rattle.std.proofs.Common.{Bool, Option, ℕ, refl, sym, subst}
 use Rattle.ucd_perl.specs.Perl.{is_word_char}
 use Rattle.pattern_text.specs.Words.{word_set}
-use Rattle.regex_pair.specs.Pairs.{Pair, PairCache}
+use Rattle.regex_pair.specs.Pairs.{PairCache}
 use Rattle.hirscan.specs.Built.{IsBuilt}
-use Rattle.grep_core.specs.Candidates.{IsStopIfAny}
+use Rattle.grep_core.specs.Candidates.{BlockRegex, IsStopIfAny}
 use Rattle.grep_core.specs.Searchers.{sized_settings}
 use Rattle.grep_core.proofs.CandidateLemmas.{end_told, ends_told}
 use Rattle.grep_core.proofs.candidates.Candidates.stop_from.Goals as goal
