@@ -36,16 +36,24 @@ look_spans l =
 
 -- ---- the tests of words
 start_ends : SameEnds word_start word_start_tree
-start_ends = same_alternation _ _ (look_ends assertion.WordStartUnicode, (look_ends assertion.WordStartHalfUnicode, tt))
+start_ends = same_alternation (re.look assertion.WordStartUnicode ∷ re.look assertion.WordStartHalfUnicode ∷ [])
+    (tree.look (translated_look assertion.WordStartUnicode) ∷ tree.look (translated_look assertion.WordStartHalfUnicode) ∷ [])
+    (look_ends assertion.WordStartUnicode, (look_ends assertion.WordStartHalfUnicode, tt))
 
 end_ends : SameEnds word_end word_end_tree
-end_ends = same_alternation _ _ (look_ends assertion.WordEndUnicode, (look_ends assertion.WordEndHalfUnicode, tt))
+end_ends = same_alternation (re.look assertion.WordEndUnicode ∷ re.look assertion.WordEndHalfUnicode ∷ [])
+    (tree.look (translated_look assertion.WordEndUnicode) ∷ tree.look (translated_look assertion.WordEndHalfUnicode) ∷ [])
+    (look_ends assertion.WordEndUnicode, (look_ends assertion.WordEndHalfUnicode, tt))
 
 start_spans : SameSpans word_start word_start_tree
-start_spans = spans_alternation _ _ (look_spans assertion.WordStartUnicode, (look_spans assertion.WordStartHalfUnicode, tt))
+start_spans = spans_alternation (re.look assertion.WordStartUnicode ∷ re.look assertion.WordStartHalfUnicode ∷ [])
+    (tree.look (translated_look assertion.WordStartUnicode) ∷ tree.look (translated_look assertion.WordStartHalfUnicode) ∷ [])
+    (look_spans assertion.WordStartUnicode, (look_spans assertion.WordStartHalfUnicode, tt))
 
 end_spans : SameSpans word_end word_end_tree
-end_spans = spans_alternation _ _ (look_spans assertion.WordEndUnicode, (look_spans assertion.WordEndHalfUnicode, tt))
+end_spans = spans_alternation (re.look assertion.WordEndUnicode ∷ re.look assertion.WordEndHalfUnicode ∷ [])
+    (tree.look (translated_look assertion.WordEndUnicode) ∷ tree.look (translated_look assertion.WordEndHalfUnicode) ∷ [])
+    (look_spans assertion.WordEndUnicode, (look_spans assertion.WordEndHalfUnicode, tt))
 
 -- ---- a pattern and its tree between both
 bounded_ends : (how : How) (a : Re) (x : Tree) → SameEnds a x → SameEnds (bounded how a) (bounded_tree how x)
@@ -53,8 +61,11 @@ bounded_ends how a x same = by how.lines how.words
   where
     by : (lines words : Bool) → SameEnds (bounded (record how { lines = lines; words = words }) a)
         (bounded_tree (record how { lines = lines; words = words }) x)
-    by true words = same_concat _ _ (look_ends assertion.Start, (same, (look_ends assertion.End, tt)))
-    by false true = same_concat _ _ (start_ends, (same, (end_ends, tt)))
+    by true words = same_concat (re.look assertion.Start ∷ a ∷ re.look assertion.End ∷ [])
+        (tree.look (translated_look assertion.Start) ∷ x ∷ tree.look (translated_look assertion.End) ∷ [])
+        (look_ends assertion.Start, (same, (look_ends assertion.End, tt)))
+    by false true = same_concat (word_start ∷ a ∷ word_end ∷ []) (word_start_tree ∷ x ∷ word_end_tree ∷ [])
+        (start_ends, (same, (end_ends, tt)))
     by false false = same
 
 bounded_spans : (how : How) (a : Re) (x : Tree) → SameSpans a x → SameSpans (bounded how a) (bounded_tree how x)
@@ -62,8 +73,11 @@ bounded_spans how a x same = by how.lines how.words
   where
     by : (lines words : Bool) → SameSpans (bounded (record how { lines = lines; words = words }) a)
         (bounded_tree (record how { lines = lines; words = words }) x)
-    by true words = spans_concat _ _ (look_spans assertion.Start, (same, (look_spans assertion.End, tt)))
-    by false true = spans_concat _ _ (start_spans, (same, (end_spans, tt)))
+    by true words = spans_concat (re.look assertion.Start ∷ a ∷ re.look assertion.End ∷ [])
+        (tree.look (translated_look assertion.Start) ∷ x ∷ tree.look (translated_look assertion.End) ∷ [])
+        (look_spans assertion.Start, (same, (look_spans assertion.End, tt)))
+    by false true = spans_concat (word_start ∷ a ∷ word_end ∷ []) (word_start_tree ∷ x ∷ word_end_tree ∷ [])
+        (start_spans, (same, (end_spans, tt)))
     by false false = same
 
 all_ends : (how : How) (res : List Re) (xs : List Tree) → AreSameEnds res xs → AreSameEnds (map (bounded how) res) (map (bounded_tree how) xs)
