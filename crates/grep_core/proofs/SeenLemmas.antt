@@ -8,7 +8,7 @@ use Rattle.regex_hir.specs.Find.{Match, find, matches_from}
 use Rattle.hir_core.specs.Facts.{LoopsRead}
 use Rattle.regex_pair.specs.Pairs.{Pair}
 use Rattle.pattern_search.specs.Searches.{span_of_match}
-use Rattle.grep_core.specs.Bounded.{patterns_of}
+use Rattle.grep_core.specs.Bounded.{line_pattern}
 use Rattle.grep_core.specs.Meant.{line_config}
 use Rattle.grep_core.specs.declared.patterns.How.{How}
 use Rattle.grep_core.specs.declared.what.What.{What}
@@ -33,7 +33,7 @@ pub none_found : (w : What) (how : How) (res : List Re) (line : List ℕ) (has :
     filter is_some_text ((with_needed_spans w (finds_of how res)).spans line) ≡ []
 none_found w how res line has told none =
     no_spans (needs_spans w) ((finds_of how res).spans line)
-    (ap (map span_of_match) (none_from (find (patterns_of how res) line) (length line + 1) (find (patterns_of how res) line 0) (sym told ∙ none)))
+    (ap (map span_of_match) (none_from (find (line_pattern how res) line) (length line + 1) (find (line_pattern how res) line 0) (sym told ∙ none)))
 
 -- where matches don't count there are none
 pub none_needed : (w : What) (how : How) (res : List Re) (line : List ℕ) → needs_spans w ≡ false →

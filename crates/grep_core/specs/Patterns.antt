@@ -4,12 +4,12 @@ use Rattle.std.specs.Prelude.{List, map, is_some}
 use Rattle.regex_hir.specs.Re.{Re}
 use Rattle.regex_hir.specs.Find.{find, find_all}
 use Rattle.pattern_search.specs.Searches.{span_of_match}
-use Rattle.grep_core.specs.Bounded.{patterns_of}
+use Rattle.grep_core.specs.Bounded.{line_pattern}
 use Rattle.grep_core.specs.Report.{LineMatcher}
 use Rattle.grep_core.specs.declared.patterns.How.{How}
 
 abbrev pub finds_of : How → List Re → LineMatcher
 finds_of how res = record {
-  has_match = λ line. is_some (find (patterns_of how res) line 0);
-  spans = λ line. map span_of_match (find_all (patterns_of how res) line);
+  has_match = λ line. is_some (find (line_pattern how res) line 0);
+  spans = λ line. map span_of_match (find_all (line_pattern how res) line);
 }
