@@ -13,7 +13,7 @@ use Rattle.regex_hir.specs.Text.{byte_before}
 use Rattle.regex_hir.specs.declared.look.Look.TheVariants.{Start, End}
 use Rattle.regex_hir.proofs.FindLemmas.{find_complete, find_sound, IsFirst-of_first_between}
 use Rattle.regex_hir.proofs.MatchesLemmas.{Matches-IsSpan}
-use Rattle.grep_core.specs.Bounded.{bounded, is_kept, may_end_word, may_start_word, patterns_of, word_end, word_start, HasKeptSpan}
+use Rattle.grep_core.specs.Bounded.{bounded, span_counts, may_end_word, may_start_word, line_pattern, word_end, word_start, HasKeptSpan}
 use Rattle.grep_core.specs.declared.patterns.How.{How}
 
 both : (a b : Bool) → a ≡ true → b ≡ true → (a && b) ≡ true
@@ -120,7 +120,7 @@ spans_end line i may = elim (end_here (is_word (side_after line i)) (is_word (si
 -- ---- a pattern between both
 module _ (re : Re) (line : List ℕ) (i j : ℕ) (low : i ≤ length line) where
   abbrev Kept : How → Type 0
-  Kept how = (is_kept how line i j ≡ true) × Matches line re i j
+  Kept how = (span_counts how line i j ≡ true) × Matches line re i j
 
   line_there : (how : How) → Matches line (bounded (record how { lines = true }) re) i j → Kept (record how { lines = true })
   line_there how (l, first, (m, body, (n, last, e))) =
@@ -164,11 +164,11 @@ module _ (re : Re) (line : List ℕ) (i j : ℕ) (low : i ≤ length line) where
   by how false false = (λ spans. (refl, spans), λ kept. kept.1)
 
 pub kept_spans : (how : How) (re : Re) (line : List ℕ) (i j : ℕ) → i ≤ length line →
-    Matches line (bounded how re) i j ↔ ((is_kept how line i j ≡ true) × Matches line re i j)
+    Matches line (bounded how re) i j ↔ ((span_counts how line i j ≡ true) × Matches line re i j)
 kept_spans how re line i j low = by re line i j low how how.lines how.words
 
 -- ---- several patterns
-listed_there : (how : How) (res : List Re) (line : List ℕ) (i j : ℕ) → Matches line (patterns_of how res) i j →
+listed_there : (how : How) (res : List Re) (line : List ℕ) (i j : ℕ) → Matches line (line_pattern how res) i j →
     (n : ℕ) × (re : Re) × (slice_get res n ≡ Some re) × Matches line (bounded how re) i j
 unfolding in_ranges
 listed_there how [] line i j m = absurd (true≢false (sym m.2))
@@ -178,7 +178,7 @@ listed_there how (a ∷ res) line i j (inr m) =
     (suc rest.0, rest.1, rest.2, rest.3)
 
 listed_here : (how : How) (res : List Re) (line : List ℕ) (i j n : ℕ) (re : Re) → slice_get res n ≡ Some re →
-    Matches line (bounded how re) i j → Matches line (patterns_of how res) i j
+    Matches line (bounded how re) i j → Matches line (line_pattern how res) i j
 listed_here how [] line i j n re listed m = absurd (none-some re listed)
 listed_here how (a ∷ res) line i j zero re listed m = inl (subst (λ r. Matches line (bounded how r) i j) (sym (same_Some a re listed)) m)
 listed_here how (a ∷ res) line i j (suc n) re listed m = inr (listed_here how res line i j n re listed m)
@@ -187,12 +187,12 @@ start_within : (re : Re) (line : List ℕ) (m : Match) → find re line 0 ≡ So
 unfolding find
 start_within re line m is = (IsFirst-of_first_between _ 0 (length line) m is).to
 
-match_of : (how : How) (res : List Re) (line : List ℕ) (o : Option Match) → find (patterns_of how res) line 0 ≡ o → is_some o ≡ true →
+match_of : (how : How) (res : List Re) (line : List ℕ) (o : Option Match) → find (line_pattern how res) line 0 ≡ o → is_some o ≡ true →
     HasKeptSpan how res line
 match_of how res line None is some = absurd (true≢false (sym some))
 match_of how res line (Some m) is some =
-    let low = start_within (patterns_of how res) line m is in
-    let found = (find_sound (patterns_of how res) line 0 m is).1 in
+    let low = start_within (line_pattern how res) line m is in
+    let found = (find_sound (line_pattern how res) line 0 m is).1 in
     let it = listed_there how res line m.start m.trace.end found in
     let spans = (kept_spans how it.1 line m.start m.trace.end low).0 it.3 in
     record {
@@ -207,10 +207,10 @@ match_of how res line (Some m) is some =
     }
 
 pub has_kept_span : (how : How) (res : List Re) (line : List ℕ) →
-    (is_some (find (patterns_of how res) line 0) ≡ true) ↔ HasKeptSpan how res line
+    (is_some (find (line_pattern how res) line 0) ≡ true) ↔ HasKeptSpan how res line
 has_kept_span how res line = (
-  match_of how res line (find (patterns_of how res) line 0) refl,
-  λ it. find_complete (patterns_of how res) line 0 it.start it.end (omega arith) it.within
+  match_of how res line (find (line_pattern how res) line 0) refl,
+  λ it. find_complete (line_pattern how res) line 0 it.start it.end (omega arith) it.within
       (listed_here how res line it.start it.end it.number it.pattern it.listed
       ((kept_spans how it.pattern line it.start it.end it.within).1 (it.kept, it.matches))),
 )

@@ -33,7 +33,7 @@ use Rattle.pattern_text.specs.Words.{word_set}
 use Rattle.pattern_search.specs.Texts.{AreReadAs}
 use Rattle.pattern_search.specs.Searches.{whole_query}
 use Rattle.pattern_search.proofs.ForCallers.{alike_some, answer_is_loose}
-use Rattle.grep_core.specs.Bounded.{patterns_of}
+use Rattle.grep_core.specs.Bounded.{line_pattern}
 use Rattle.grep_core.specs.BoundedTrees.{AreTreesOf}
 use Rattle.grep_core.specs.Meant.{line_config}
 use Rattle.grep_core.specs.declared.candidates.Stop.{Stop}
@@ -63,11 +63,11 @@ HasNone xs line = (p : ℕ) (x : Tree) (i j : ℕ) → slice_get xs p ≡ Some x
 no_match : (how : How) (texts : List (List ℕ)) (xs : List Tree) (res : List Re) (line : List ℕ) → AreTreesOf how texts xs →
     AreReadAs (line_config how) texts res → All (λ b. b < 256) line → HasNone xs line → matches_in how res line ≡ false
 no_match how texts xs res line mean read bytes none =
-    let nothing : option_map (λ m. m.start) (find (patterns_of how res) line 0) ≡ option_map (λ (f : Found). f.start) None =
+    let nothing : option_map (λ m. m.start) (find (line_pattern how res) line 0) ≡ option_map (λ (f : Found). f.start) None =
     (starts_of how texts xs mean res read).loose line 0 (is_search xs line bytes) None (λ i p j starts it.
     none p it.findable.span.tree i j it.findable.span.listed
     (starts_at No 0 (length line) i starts).to_last it.findable.within it.findable.span.means) in
-    alike_some (λ m. m.start) (λ (f : Found). f.start) (find (patterns_of how res) line 0) None nothing
+    alike_some (λ m. m.start) (λ (f : Found). f.start) (find (line_pattern how res) line 0) None nothing
 
 of_listed : (P : Tree → Type 0) (xs : List Tree) (p : ℕ) (x : Tree) → slice_get xs p ≡ Some x → All P xs → P x
 of_listed P xs p x listed all = subst P (get_or_from_slice_get xs p x x listed) (all p x (slice_get_within xs p x listed))
@@ -199,7 +199,7 @@ has_of : (how : How) (texts : List (List ℕ)) (xs : List Tree) (res : List Re) 
 has_of how texts xs res line mean read bytes p x i j listed low high means true is = sym is
 has_of how texts xs res line mean read bytes p x i j listed low high means false is =
     let none : is_some (answer_from (whole_query false xs line) 0) ≡ false =
-    sym (alike_some (λ m. m.start) (λ (f : Found). f.start) (find (patterns_of how res) line 0)
+    sym (alike_some (λ m. m.start) (λ (f : Found). f.start) (find (line_pattern how res) line 0)
     (answer_from (whole_query false xs line) 0)
     ((starts_of how texts xs mean res read).preferred line 0 (is_search xs line bytes)))
     ∙ is in

@@ -13,7 +13,7 @@ use Rattle.regex_syntax.specs.Captures.{SameCaptures}
 use Rattle.regex_syntax.specs.Grammar.{Names, read}
 use Rattle.regex_syntax.specs.Verdict.{Reads}
 use Rattle.regex_syntax.proofs.CapturesLemmas.{alike_refl, alike_of_eq, alike_alt, alike_cat, ◌also◌}
-use Rattle.grep_core.specs.Bounded.{bounded, patterns_of}
+use Rattle.grep_core.specs.Bounded.{bounded, line_pattern}
 use Rattle.grep_core.specs.Fallbacks.{IsTreeOfText, AreTreesOfTexts, IsProgramOf, found_at, spans_behind}
 use Rattle.grep_core.specs.Meant.{line_config}
 use Rattle.pattern_search.specs.Texts.{AreReadAs}
@@ -62,7 +62,7 @@ one_more_tree how ts d n old new hir below is p q =
 
 -- ---- the program of all of them
 all_same : (how : How) (texts : List (List ℕ)) (hirs : List Hir) (res : List Re) → AreTreesOfTexts how texts hirs →
-    AreReadAs (line_config how) texts res → SameCaptures (alt_all (map meaning hirs)) (patterns_of how res)
+    AreReadAs (line_config how) texts res → SameCaptures (alt_all (map meaning hirs)) (line_pattern how res)
 all_same how [] [] [] p q = alike_refl _
 all_same how [] [] (a ∷ res) p q = absurd q
 all_same how [] (x ∷ hirs) res p q = absurd p
@@ -78,7 +78,7 @@ program_is how texts hirs p is trees res found = alike_of_eq is also all_same ho
 pub told_any : (how : How) (texts : List (List ℕ)) (p : Program) (line : List ℕ) (told : Bool) → All (λ x. x < 256) line →
     told ≡ is_some (find (pattern_of p) line 0) → IsProgramOf how texts p → IsMatchTold how texts line told
 told_any how texts p line told bytes is it res found =
-    is ∙ same_has (pattern_of p) (patterns_of how res) line 0 (it res found) bytes
+    is ∙ same_has (pattern_of p) (line_pattern how res) line 0 (it res found) bytes
 
 -- the spans of its matches, one after the other
 abbrev pub all_of : Program → List ℕ → List (ℕ × ℕ)
@@ -87,10 +87,10 @@ all_of p line = spans_behind (found_at (pattern_of p) line) (length line + 1) (f
 pub told_all : (how : How) (texts : List (List ℕ)) (p : Program) (line : List ℕ) (told : List (ℕ × ℕ)) → All (λ x. x < 256) line →
     told ≡ filter is_some_text (all_of p line) → IsProgramOf how texts p → AreTold how texts line told
 told_all how texts p line told bytes is it res found =
-    let same : (i : ℕ) → found_at (pattern_of p) line i ≡ found_at (patterns_of how res) line i =
-    λ i. same_found (pattern_of p) (patterns_of how res) line i (it res found) bytes in
+    let same : (i : ℕ) → found_at (pattern_of p) line i ≡ found_at (line_pattern how res) line i =
+    λ i. same_found (pattern_of p) (line_pattern how res) line i (it res found) bytes in
     is ∙ ap (filter is_some_text)
-    (same_spans (found_at (pattern_of p) line) (found_at (patterns_of how res) line) same (length line + 1)
+    (same_spans (found_at (pattern_of p) line) (found_at (line_pattern how res) line) same (length line + 1)
     (found_at (pattern_of p) line 0)
-    ∙ ap (spans_behind (found_at (patterns_of how res) line) (length line + 1)) (same 0)
-    ∙ sym (spans_of_matches (find (patterns_of how res) line) (length line + 1) (find (patterns_of how res) line 0)))
+    ∙ ap (spans_behind (found_at (line_pattern how res) line) (length line + 1)) (same 0)
+    ∙ sym (spans_of_matches (find (line_pattern how res) line) (length line + 1) (find (line_pattern how res) line 0)))

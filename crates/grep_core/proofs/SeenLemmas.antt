@@ -8,7 +8,7 @@ use Rattle.regex_hir.specs.Find.{Match, find, matches_from}
 use Rattle.hir_core.specs.Facts.{LoopsRead}
 use Rattle.regex_pair.specs.Pairs.{Pair}
 use Rattle.pattern_search.specs.Searches.{span_of_match}
-use Rattle.grep_core.specs.Bounded.{patterns_of}
+use Rattle.grep_core.specs.Bounded.{line_pattern}
 use Rattle.grep_core.specs.Meant.{line_config}
 use Rattle.grep_core.specs.declared.patterns.How.{How}
 use Rattle.grep_core.specs.declared.what.What.{What}
@@ -37,7 +37,7 @@ none_found w how res line has told none =
     let bytes : List ℕ = searched how.crlf line in
     no_spans (needs_spans w) (spans_in how res bytes)
     (ap (map span_of_match)
-    (none_from (find (patterns_of how res) bytes) (length bytes + 1) (find (patterns_of how res) bytes 0) (sym told ∙ none)))
+    (none_from (find (line_pattern how res) bytes) (length bytes + 1) (find (line_pattern how res) bytes 0) (sym told ∙ none)))
 
 -- where matches don't count there are none
 pub none_needed : (w : What) (how : How) (res : List Re) (line : SplitLine) → needs_spans w ≡ false →

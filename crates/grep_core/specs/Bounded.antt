@@ -25,8 +25,8 @@ bounded how re =
     else re
 
 -- of several parsed patterns: their alternation, in their order
-abbrev pub patterns_of : How → List Re → Re
-patterns_of how res = alt_all (map (bounded how) res)
+abbrev pub line_pattern : How → List Re → Re
+line_pattern how res = alt_all (map (bounded how) res)
 
 -- Whether a match of words may start at this offset. No word character stands before it. And a word character follows, or the offset is
 -- the start of the line, or what stands before it is a whole character: bytes that are no UTF-8 might be part of a word.
@@ -38,8 +38,8 @@ abbrev pub may_end_word : List ℕ → ℕ → Bool
 may_end_word line i = not (is_word (side_after line i)) && (is_word (side_before line i) || is_whole (side_after line i))
 
 -- Which spans of a line count, whatever the pattern: the whole line; those that may start and end where they do; or all.
-abbrev pub is_kept : How → List ℕ → ℕ → ℕ → Bool
-is_kept how line i j =
+abbrev pub span_counts : How → List ℕ → ℕ → ℕ → Bool
+span_counts how line i j =
     if how.lines then i == 0 && j == length line
     else if how.words then may_start_word line i && may_end_word line j
     else true
@@ -52,5 +52,5 @@ pub record HasKeptSpan (how : How) (res : List Re) (line : List ℕ) : Type 0 wh
   pub start : ℕ
   pub end : ℕ
   pub within : start ≤ length line
-  pub kept : is_kept how line start end ≡ true
+  pub kept : span_counts how line start end ≡ true
   pub matches : Matches line pattern start end

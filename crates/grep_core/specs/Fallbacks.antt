@@ -12,7 +12,7 @@ use Rattle.regex_meta.specs.Programs.{pattern_of}
 use Rattle.regex_meta.specs.declared.program.Program.{Program}
 use Rattle.regex_syntax.specs.Captures.{SameCaptures}
 use Rattle.regex_syntax.specs.Grammar.{read}
-use Rattle.grep_core.specs.Bounded.{bounded, patterns_of}
+use Rattle.grep_core.specs.Bounded.{bounded, line_pattern}
 use Rattle.grep_core.specs.Meant.{line_config}
 use Rattle.grep_core.specs.declared.patterns.How.{How}
 
@@ -30,7 +30,7 @@ AreTreesOfTexts how _ _ = ⊥
 
 -- the program searches for what the texts are read as
 abbrev pub IsProgramOf : How → List (List ℕ) → Program → Type 0
-IsProgramOf how texts p = (res : List Re) → AreReadAs (line_config how) texts res → SameCaptures (pattern_of p) (patterns_of how res)
+IsProgramOf how texts p = (res : List Re) → AreReadAs (line_config how) texts res → SameCaptures (pattern_of p) (line_pattern how res)
 
 -- the span of the match from an offset on
 abbrev pub found_at : Re → List ℕ → ℕ → Option (ℕ × ℕ)
