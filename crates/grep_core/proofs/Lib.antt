@@ -12,6 +12,7 @@ mod NeededLemmas
 mod NumberLemmas
 mod PassLemmas
 mod ReportRows
+mod ReturnLemmas
 mod RunLemmas
 mod SeenLemmas
 mod SpanLemmas

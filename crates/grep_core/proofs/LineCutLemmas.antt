@@ -260,8 +260,8 @@ module _ (block : List ℕ) (at x : ℕ) where
 
   searched_at : (crlf v : Bool) (bytes : List ℕ) → StandsIn block at x (record { bytes = bytes; is_ended = v }) →
       IsSearchedIn crlf block at x (searched crlf (record { bytes = bytes; is_ended = v }))
-  searched_at false v bytes s =
-      stands_whole false (record { bytes = bytes; is_ended = v }) s (follows_plain v bytes s.after s.ending)
+  searched_at false true bytes s = stands_whole false (ended bytes) s (follows_plain true bytes s.after s.ending)
+  searched_at false false bytes s = stands_whole false (unended bytes) s (follows_plain false bytes s.after s.ending)
   searched_at true true bytes s = stands_ended bytes s
   searched_at true false bytes s = stands_whole true (unended bytes) s (inl s.ending)
 

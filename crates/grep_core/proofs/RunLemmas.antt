@@ -18,7 +18,7 @@ pub all_lack : (t : Task) (s : Sought) (by : SearchesBy t s) (lines : List Split
     All (Lacks (finds_by t by)) lines
 all_lack t s by lines none =
     All-weaker (λ line. (found_by by).has_match line ≡ false) (Lacks (finds_by t by))
-    (λ line lacks. record { no_match = lacks; no_text = none_found t.what.now _ by.patterns line false (sym lacks) refl }) lines none
+    (λ line lacks. record { no_match = lacks; no_text = none_found t.what.now by.how by.patterns line false (sym lacks) refl }) lines none
 
 -- the first of the lines that are left, and the others
 cut_lines : (block text piece : List ℕ) (done len : ℕ) → text ≡ drop done block → position is_feed text ≡ Some len →

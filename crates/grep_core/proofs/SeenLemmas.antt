@@ -12,10 +12,11 @@ use Rattle.grep_core.specs.Bounded.{line_pattern}
 use Rattle.grep_core.specs.Meant.{line_config}
 use Rattle.grep_core.specs.declared.patterns.How.{How}
 use Rattle.grep_core.specs.declared.what.What.{What}
-use Rattle.grep_core.specs.Lines.{SplitLine, searched}
-use Rattle.grep_core.specs.Patterns.{finds_of, spans_in}
+use Rattle.grep_core.specs.Lines.{SplitLine, searched, split_lines}
+use Rattle.grep_core.specs.Patterns.{finds_of, matches_in, spans_in}
 use Rattle.grep_core.specs.Report.{is_some_text}
-use Rattle.grep_core.specs.Searchers.{Sought, IsSearcherOf, SearchesFor}
+use Rattle.grep_core.specs.Candidates.{HaveNoMatch}
+use Rattle.grep_core.specs.Searchers.{AreTold, IsMatchTold, Sought, IsSearcherOf, SearchesFor, found_by}
 use Rattle.pattern_search.specs.Texts.{AreReadAs}
 use Rattle.grep_core.specs.Telling.{needs_spans, with_needed_spans}
 
@@ -59,6 +60,24 @@ all_needed w how res line found needs told =
 abbrev pub moved_by : {p q : Sought} {spans : Bool} → q ≡ p → SearchesFor p spans → SearchesFor q spans
 moved_by {p} {q} {spans} same by = record {
   may = λ asked. ap (λ (s : Sought). s.spans) same ∙ by.may asked;
+  how = by.how;
+  same = by.same ∙ sym (ap (λ (s : Sought). s.how) same);
   patterns = by.patterns;
-  are_read = subst (λ (s : Sought). AreReadAs (line_config s.how) s.texts by.patterns) (sym same) by.are_read;
+  are_read = subst (λ (s : Sought). AreReadAs (line_config by.how) s.texts by.patterns) (sym same) by.are_read;
 }
+
+-- what is told of some bytes, for what is sought
+pub told_by : (s : Sought) (spans : Bool) (by : SearchesFor s spans) (line : List ℕ) (told : Bool) → IsMatchTold s.how s.texts line told →
+    told ≡ matches_in by.how by.patterns line
+told_by s spans by line told match =
+    subst (λ (h : How). IsMatchTold h s.texts line told) (sym by.same) match by.patterns by.are_read
+
+pub spans_by : (s : Sought) (spans : Bool) (by : SearchesFor s spans) (line : List ℕ) (told : List (ℕ × ℕ)) →
+    AreTold s.how s.texts line told → told ≡ filter is_some_text (spans_in by.how by.patterns line)
+spans_by s spans by line told all =
+    subst (λ (h : How). AreTold h s.texts line told) (sym by.same) all by.patterns by.are_read
+
+pub none_by : (s : Sought) (spans : Bool) (by : SearchesFor s spans) (text : List ℕ) → HaveNoMatch s.how s.texts text →
+    All (λ line. (found_by by).has_match line ≡ false) (split_lines text)
+none_by s spans by text none =
+    subst (λ (h : How). HaveNoMatch h s.texts text) (sym by.same) none by.patterns by.are_read

@@ -58,11 +58,13 @@ pub record Sought : Type 0 where
 -- What is found in lines is what the patterns have that are written in the texts. Matches are asked for only where they may be.
 pub record SearchesFor (s : Sought) (spans : Bool) : Type 0 where
   pub may : spans ≡ true → s.spans ≡ true
+  pub how : How
+  pub same : how ≡ s.how
   pub patterns : List Re
-  pub are_read : AreReadAs (line_config s.how) s.texts patterns
+  pub are_read : AreReadAs (line_config how) s.texts patterns
 
 abbrev pub found_by : {s : Sought} {spans : Bool} → SearchesFor s spans → LineMatcher
-found_by {s} {spans} by = finds_of s.how by.patterns
+found_by by = finds_of by.how by.patterns
 
 -- Why there is no searcher of texts: the first that is no pattern, or that has an empty loop where matches are asked for; or no regex is
 -- built of their trees, or memory lacked.

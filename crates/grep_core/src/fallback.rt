@@ -100,10 +100,14 @@ pub(crate) fn program_of(alloc: Global, how: &How, texts: &[&str]) -> Result<Box
     let Ok(groups) = u32::try_from(trees.groups) else {
         return Err(Fault::TooLarge);
     };
-    match Program::new(alloc, Hir::Alternation(trees.hirs), groups, SIZE_LIMIT) {
-        Ok(program) => boxed(alloc, program),
-        Err(Error::OutOfMemory) => Err(Fault::NoMemory),
-        Err(_) => Err(Fault::TooLarge),
+    let program = match Program::new(alloc, Hir::Alternation(trees.hirs), groups, SIZE_LIMIT) {
+        Ok(program) => program,
+        Err(Error::OutOfMemory) => return Err(Fault::NoMemory),
+        Err(_) => return Err(Fault::TooLarge),
+    };
+    match boxed(alloc, program) {
+        Ok(boxed) => Ok(boxed),
+        Err(e) => Err(e),
     }
 }
 

@@ -65,13 +65,17 @@ fn searched(crlf: bool, line: &[u8], is_ended: bool) -> &[u8]
 }
 
 /// The bytes without the carriage return with which they end, if they do.
+#[tactic(auto, using(crate::proofs::ReturnLemmas::none_left_out, crate::proofs::ReturnLemmas::return_left_out, crate::proofs::ReturnLemmas::other_kept))]
 fn without_return(bytes: &[u8]) -> &[u8]
     ensures { result.now ≡ without_return bytes.now }
 {
-    match bytes.split_last() {
-        Some((b'\r', front)) => front,
-        _ => bytes,
+    let Some((last, front)) = bytes.split_last() else {
+        return bytes;
+    };
+    if *last == b'\r' {
+        return front;
     }
+    bytes
 }
 
 /// Whether some bytes have a match, and which of their matches aren't empty, if these count. It may be known that they have one.

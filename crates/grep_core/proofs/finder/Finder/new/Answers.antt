@@ -1,3 +1,4 @@
+use Rattle.std.proofs.Common.{refl}
 use Rattle.grep_core.proofs.BoundedTreeLemmas.{read_as}
 use Rattle.pattern_search.proofs.ForCallers.{read_texts}
 use Rattle.grep_core.proofs.finder.Finder.new.Goals as goal
@@ -6,4 +7,4 @@ pub returns-clause-searches : goal.returns-clause-searches
 returns-clause-searches c =
     let it = c.in-Ok.ensures.searcher.0 in
     let read = read_as c.args.how.now (read_texts c.args.texts.now) it.trees it.mean in
-    record { may = λ asked. asked; patterns = read.0; are_read = read.1 }
+    record { may = λ asked. asked; how = c.args.how.now; same = refl; patterns = read.0; are_read = read.1 }

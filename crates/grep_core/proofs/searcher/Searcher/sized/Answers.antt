@@ -28,3 +28,6 @@ returns-in-Err-build-clause-refused c first =
           (subst (λ (s : Settings). RefusesBuild c.deref-2.result.now s c.in-Err-build.e)
           c.settings.ensures c.in-Err-build.ensures.refused)),
     )
+
+pub returns-in-Err-clause-refused : goal.returns-in-Err-clause-refused
+returns-in-Err-clause-refused c first = c.in-Err.ensures.refused c.args.with_matches
