@@ -18,6 +18,9 @@ returns-in-Ok-new-clause-searcher c = (
   subst (λ (xs : List Tree). c.args.with_matches ≡ true → All LoopsRead xs) c.deref.ensures.value c.in_default.ensures.none,
 )
 
+pub returns-in-Err-clause-refused : goal.returns-in-Err-clause-refused
+returns-in-Err-clause-refused c first = c.in-Err.ensures.refused c.args.with_matches
+
 pub returns-in-Err-build-clause-refused : goal.returns-in-Err-build-clause-refused
 returns-in-Err-build-clause-refused c first =
     inr (
