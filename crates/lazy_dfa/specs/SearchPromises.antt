@@ -29,9 +29,9 @@ pub record TellsHalf (d : Dfa) (q : Search) (old new : CacheValue) (result : Res
       told_of new ≡ told_by (reader d) q (told_of old) (passes_of (reader d) q))
   -- where it is refused, what they tell up to there
   pub left_told : IfErr result (λ e. new.clears ≡ old.clears → old.clears < greatest →
-      LeavesTold (reader d) q e (told_of old) (told_of new))
+      LeavesTold d q e (told_of old) new)
   -- where something was, what counts since the last clear
-  pub told_since : (new.clears ≡ old.clears → ⊥) → IsToldSince (reader d) q result (told_of new)
+  pub told_since : (new.clears ≡ old.clears → ⊥) → IsToldSince d q result new
   -- its states are added one by one, and the cache is cleared for one of these alone
   pub changes : Changes d (IsMadeBy d q) old new (half_made (reader d) q)
 

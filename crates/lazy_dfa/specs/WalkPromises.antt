@@ -23,9 +23,9 @@ pub record TellsCall (d : Dfa) (q : Search) (w : Walk) (old new : CacheValue) (r
       told_of new ≡ told_by_call (reader d) q w (told_of old))
   -- where it is refused, its way up to there
   pub left_told : IfErr result (λ e. new.clears ≡ old.clears → old.clears < greatest →
-      LeavesCall (reader d) q w e (told_of old) (told_of new))
+      LeavesCall d q w e (told_of old) new)
   -- where something was, what counts since the last clear
-  pub told_since : (new.clears ≡ old.clears → ⊥) → IsCallToldSince (reader d) q w result (told_of new)
+  pub told_since : (new.clears ≡ old.clears → ⊥) → IsCallToldSince d q w result new
   -- its states are added one by one, and the cache is cleared for one of these alone
   pub changes : Changes d (IsMadeOnCall d q w) old new (call_made (reader d) q w)
 

@@ -91,7 +91,7 @@ impl DFA {
             IfErr result (λ e. e ≡ NoMemory) }
         ensures kept { GrowsOrClears self.now cache.old cache.new }
         ensures changes { Changes self.now (IsMadeOnWalk self.now input.now) cache.old cache.new (which_made (reader self.now) input.now) }
-        ensures told { IsWhichTold (reader self.now) input.now patterns.old patterns.new result cache.old cache.new }
+        ensures told { IsWhichTold self.now input.now patterns.old patterns.new result cache.old cache.new }
         ensures determinized { work.new.determinized ≤ work.old.determinized + which_made (reader self.now) input.now }
         ensures inserted { work.new.inserted ≤ work.old.inserted + which_made (reader self.now) input.now * most_inserts self.now }
     {

@@ -204,7 +204,7 @@ module _ (d : Dfa) (q : Search) (made : IsDfa d) (bytes : AreBytes q.haystack) (
   alive : is_dead state ≡ false
   alive = let x = held_here in not_dead state (λ e. mine.lives x.0 x.1 (sym x.3 ∙ e))
 
-  next_is : state_behind (reader d) h p.at state 1 ≡ state_behind (reader d) h from.at s (suc k)
+  pub next_is : state_behind (reader d) h p.at state 1 ≡ state_behind (reader d) h from.at s (suc k)
   next_is = let one : k + 1 ≡ suc k = omega arith in
       state_there (reader d) h from.at p.at k goes.place s 1 ∙ ap (state_behind (reader d) h from.at s) one
 
