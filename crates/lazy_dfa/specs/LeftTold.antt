@@ -63,8 +63,8 @@ is_quit_error NotAPair = false
 is_quit_error NoMemory = false
 
 -- a row has this state
-abbrev pub HoldsState : CacheValue → StateValue → Type 0
-HoldsState v s = (id : ℕ) × HeldAt v id s
+abbrev pub HasRowOf : CacheValue → StateValue → Type 0
+HasRowOf v s = (id : ℕ) × HeldAt v id s
 
 -- The errors of a pass that fails at its start, at place i: the byte before it is a quit byte, the mode isn't supported, its first
 -- state has no room and no clear is allowed, or an allocation failed.
@@ -83,7 +83,7 @@ abbrev pub IsRefusedAt : Dfa → CacheValue → List ℕ → StateValue → ℕ 
 IsRefusedAt d v h s n i k (Quit b x) =
     (unit_of (reader d) h i k ≡ Some b) × (x ≡ index_at d.nfa.automaton.reverse (place_of d.nfa.automaton.reverse i k))
 IsRefusedAt d v h s n i k (GaveUp x) = (x ≡ give_up_place d.nfa.automaton.reverse n i k) ×
-    HoldsState v (state_behind (reader d) h i s k) × (lacks_room d v (state_behind (reader d) h i s (suc k)) ≡ true)
+    HasRowOf v (state_behind (reader d) h i s k) × (lacks_room d v (state_behind (reader d) h i s (suc k)) ≡ true)
 IsRefusedAt d v h s n i k (HaystackTooLong len) = ⊥
 IsRefusedAt d v h s n i k (UnsupportedAnchored mode) = ⊥
 IsRefusedAt d v h s n i k NotAPair = ⊥

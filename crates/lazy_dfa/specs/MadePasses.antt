@@ -9,7 +9,6 @@ use Rattle.lazy_dfa.specs.AnewTold.{TellsAnew, FailsAnew, ToldSince, FailsSince}
 use Rattle.lazy_dfa.specs.Caches.{CacheValue}
 use Rattle.lazy_dfa.specs.Changes.{Changes, IsMadeIn, IsMadeBy}
 use Rattle.lazy_dfa.specs.Dfas.{Dfa, reader}
-use Rattle.lazy_dfa.specs.Readers.{Reader}
 use Rattle.lazy_dfa.specs.LeftTold.{LeavesPass, LeavesTold}
 use Rattle.lazy_dfa.specs.Linked.{IsLinkedPass, IsLinked, CacheGrows, HasCleared, GrowsOrClears, IsMoved, passes_of}
 use Rattle.lazy_dfa.specs.Passes.{pass}

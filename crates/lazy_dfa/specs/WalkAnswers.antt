@@ -15,7 +15,7 @@ use Rattle.determinize_core.specs.States.{StateValue}
 use Rattle.determinize_core.specs.Steps.{unit_at}
 use Rattle.lazy_dfa.specs.AnewTold.{IsFresh}
 use Rattle.lazy_dfa.specs.Caches.{CacheValue, greatest, distance, progress_len, lacks_room}
-use Rattle.lazy_dfa.specs.LeftTold.{is_quit_error, HoldsState, IsRefusedFirst}
+use Rattle.lazy_dfa.specs.LeftTold.{is_quit_error, HasRowOf, IsRefusedFirst}
 use Rattle.lazy_dfa.specs.Changes.{Changes, IsMadeAt, IsMadeFirst}
 use Rattle.lazy_dfa.specs.declared.overlapping_state.Stop.{Stop}
 use Rattle.lazy_dfa.specs.declared.overlapping_state.Walk.{Walk}
@@ -210,7 +210,7 @@ abbrev pub IsRefusedThere : Dfa → CacheValue → Search → ℕ → MatchError
 IsRefusedThere d v q at (Quit b x) =
     (unit_at d.nfa.automaton.reverse q.haystack at ≡ Some b) × (x ≡ index_at d.nfa.automaton.reverse at)
 IsRefusedThere d v q at (GaveUp x) = (x ≡ gave_up_at d.nfa.automaton.reverse q at) ×
-    HoldsState v (value_before (reader d) q at) × (lacks_room d v (value_past (reader d) q at) ≡ true)
+    HasRowOf v (value_before (reader d) q at) × (lacks_room d v (value_past (reader d) q at) ≡ true)
 IsRefusedThere d v q at (HaystackTooLong len) = ⊥
 IsRefusedThere d v q at (UnsupportedAnchored mode) = ⊥
 IsRefusedThere d v q at NotAPair = ⊥
@@ -322,22 +322,25 @@ pub record ReadsOn (d : Dfa) (q : Search) (at : ℕ) (old new : CacheValue) (m1 
 -- ---- what calls change
 
 -- the state in which a fresh walk starts
-pub record IsWalkStart (d : Dfa) (q : Search) (w : Walk) (b : Bool) (s : StateValue) : Type 0 where
+pub record IsWalkStart (d : Dfa) (q : Search) (w : Walk) (b : Bool) (o : Option StateValue) (s : StateValue) : Type 0 where
   pub fresh : w ≡ Fresh
-  pub first : IsMadeFirst d q.anchored q.haystack (begins_at (reader d) q) b s
+  pub first : IsMadeFirst d q.anchored q.haystack (begins_at (reader d) q) b o s
 
 -- a state of a call: that one, or one behind a unit that the call reads
-abbrev pub IsMadeOnCall : Dfa → Search → Walk → Bool → StateValue → Type 0
-IsMadeOnCall d q w b s =
-    IsWalkStart d q w b s ⊎
+abbrev pub IsMadeOnCall : Dfa → Search → Walk → Bool → Option StateValue → StateValue → Type 0
+IsMadeOnCall d q w b o s =
+    IsWalkStart d q w b o s ⊎
     IsMadeAt (reader d) q.haystack (call_place (reader d) q w) (value_before (reader d) q (call_place (reader d) q w))
-    (call_units (reader d) q w) b s
+    (call_units (reader d) q w) b o s
 
 -- a state of a walk over a whole span: its first one, or one behind a unit of the span
-abbrev pub IsMadeOnWalk : Dfa → Search → Bool → StateValue → Type 0
-IsMadeOnWalk d q b s =
-    IsMadeFirst d q.anchored q.haystack (begins_at (reader d) q) b s ⊎
-    ((b ≡ false) × ((k : ℕ) × (k ≤ span_len q) × (s ≡ state_behind (reader d) q.haystack (begins_at (reader d) q)
+abbrev pub IsMadeOnWalk : Dfa → Search → Bool → Option StateValue → StateValue → Type 0
+IsMadeOnWalk d q b o s =
+    IsMadeFirst d q.anchored q.haystack (begins_at (reader d) q) b o s ⊎
+    ((b ≡ false) × ((k : ℕ) × (k ≤ span_len q) ×
+    (o ≡ Some (state_behind (reader d) q.haystack (begins_at (reader d) q)
+    (first_value (reader d) q.anchored q.haystack (begins_at (reader d) q)) k)) ×
+    (s ≡ state_behind (reader d) q.haystack (begins_at (reader d) q)
     (first_value (reader d) q.anchored q.haystack (begins_at (reader d) q)) (suc k))))
 
 -- ---- calls

@@ -1,7 +1,7 @@
 //! Laws of states that have no room. Each function has no code: its contract is the law.
 //! ```rust
 //! pub fn a_state_that_is_held_has_room()
-//!     ensures { (d : Dfa) (v : CacheValue) (s : StateValue) → HoldsState v s → lacks_room d v s ≡ true → ⊥ }
+//!     ensures { (d : Dfa) (v : CacheValue) (s : StateValue) → HasRowOf v s → lacks_room d v s ≡ true → ⊥ }
 //! {
 //!     held_states_have_room();
 //! }
@@ -13,7 +13,7 @@ ghost use Rattle.search_types.specs.declared.match_error.MatchErrorKind.TheVaria
 ghost use Rattle.search_types.specs.Inputs.{Search};
 ghost use Rattle.lazy_dfa.specs.Caches.{CacheValue, lacks_room};
 ghost use Rattle.lazy_dfa.specs.Dfas.{Dfa, reader};
-ghost use Rattle.lazy_dfa.specs.LeftTold.{HoldsState, LeavesPass};
+ghost use Rattle.lazy_dfa.specs.LeftTold.{HasRowOf, LeavesPass};
 ghost use Rattle.lazy_dfa.specs.Passes.{first_value};
 ghost use Rattle.lazy_dfa.specs.ScanLaws.{begins_at};
 ghost use Rattle.lazy_dfa.specs.SearchAnswers.{Told, told_of};
@@ -23,7 +23,7 @@ ghost use Rattle.lazy_dfa.specs.declared.overlapping_state.Walk.TheVariants.{Fre
 /// A state that is held never lacks room. So the two cases of a search that gives up exclude each other: at its start the first state
 /// isn't held, and at the first unit it is.
 pub fn held_states_have_room()
-    ensures { (d : Dfa) (v : CacheValue) (s : StateValue) → HoldsState v s → lacks_room d v s ≡ true → ⊥ }
+    ensures { (d : Dfa) (v : CacheValue) (s : StateValue) → HasRowOf v s → lacks_room d v s ≡ true → ⊥ }
 {}
 
 /// If the first state of a pass has no room and nothing was cleared, the pass gives up and reports no progress. In reverse the pass is

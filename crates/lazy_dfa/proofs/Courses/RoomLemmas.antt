@@ -1,5 +1,5 @@
 -- Which state has no room where a search gives up.
-use Rattle.std.proofs.Common.{◌≡◌, ℕ, suc, ◌+◌, ◌-◌, ◌<◌, ◌≤◌, ◌==◌, Bool, true, false, true≢false, not, ◌&&◌, if◌then◌else◌, nat_lt, List}
+use Rattle.std.proofs.Common.{◌≡◌, ℕ, ◌+◌, ◌-◌, ◌<◌, ◌≤◌, ◌==◌, Bool, true, false, true≢false, not, ◌&&◌, if◌then◌else◌, List}
 use Rattle.std.proofs.Common.{Option, Some, None, refl, sym, ap, ◌∙◌, subst, ⊎_elim, arith}
 use Rattle.std.specs.Prelude.{is_none}
 use Rattle.std.proofs.lemmas.Bool.{cases_lt, lt-ltb, le-ltb}
@@ -13,9 +13,8 @@ use Rattle.lazy_dfa.specs.ConfigValue.{clears_of, minimum_bytes_of}
 use Rattle.lazy_dfa.specs.Courses.{state_behind}
 use Rattle.lazy_dfa.specs.declared.overlapping_state.Walk.TheVariants.{Fresh}
 use Rattle.lazy_dfa.specs.Dfas.{Dfa, reader, is_dead}
-use Rattle.lazy_dfa.specs.LeftTold.{HoldsState, LeavesPass, left_first, left_at_unit}
+use Rattle.lazy_dfa.specs.LeftTold.{HasRowOf, LeavesPass, left_first, left_at_unit}
 use Rattle.lazy_dfa.specs.Passes.{index_at, first_value}
-use Rattle.lazy_dfa.specs.PassLaws.{pass_len}
 use Rattle.lazy_dfa.specs.PassPlaces.{gave_up_at}
 use Rattle.lazy_dfa.specs.Scans.{first_place}
 use Rattle.lazy_dfa.specs.ScanLaws.{begins_at}
@@ -37,7 +36,7 @@ none_of : (o : Option ℕ) → is_none o ≡ true → o ≡ None
 none_of None e = refl
 none_of (Some k) e = absurd (true≢false (sym e))
 
-pub held_room : (d : Dfa) (v : CacheValue) (s : StateValue) → HoldsState v s → lacks_room d v s ≡ true → ⊥
+pub held_room : (d : Dfa) (v : CacheValue) (s : StateValue) → HasRowOf v s → lacks_room d v s ≡ true → ⊥
 held_room d v s held lacks =
     let parts = parts_of (is_dead s) (is_none (row_holding s v.states))
     (not (fits d.capacity s v) && is_refused (clears_of d.options) (minimum_bytes_of d.options) v) lacks in
@@ -72,7 +71,7 @@ module _ (d : Dfa) (v : CacheValue) (mode : Anchored) (earliest : Bool) (h : Lis
   told_nothing_first fits lacks (left_at_unit k less refused left) =
       let few = pass_units (reader d) mode earliest h n i in
       let zero : k ≡ 0 = first_unit d.nfa.automaton.reverse n i k fits (omega (arith, few, less)) refused.0 in
-      absurd (held_room d v first (subst (λ (j : ℕ). HoldsState v (state_behind (reader d) h i first j)) zero refused.1) lacks)
+      absurd (held_room d v first (subst (λ (j : ℕ). HasRowOf v (state_behind (reader d) h i first j)) zero refused.1) lacks)
 
 -- ---- calls of a walk
 
@@ -102,4 +101,4 @@ module _ (d : Dfa) (v : CacheValue) (q : Search) (t : Told) where
   told_nothing_begun lacks (left_at_unit_of_call k less refused quiet left) =
       let there = first_there d.nfa.automaton.reverse q k refused.0 in
       absurd (held_room d v (first_value (reader d) q.anchored q.haystack begun)
-      (subst (HoldsState v) (ap (value_before (reader d) q) there ∙ begun_value (reader d) q) refused.1) lacks)
+      (subst (HasRowOf v) (ap (value_before (reader d) q) there ∙ begun_value (reader d) q) refused.1) lacks)

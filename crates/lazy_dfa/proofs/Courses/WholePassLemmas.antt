@@ -20,7 +20,7 @@ use Rattle.lazy_dfa.specs.Caches.{lacks_room}
 use Rattle.lazy_dfa.specs.ConfigValue.{starts_each_of}
 use Rattle.lazy_dfa.specs.Courses.{state_behind}
 use Rattle.lazy_dfa.specs.declared.start_error.StartError.{StartError}
-use Rattle.lazy_dfa.specs.declared.start_error.StartError.TheVariants.{Cache, Quit, UnsupportedAnchored, NoMemory}
+use Rattle.lazy_dfa.specs.declared.start_error.StartError.TheVariants.{Quit, UnsupportedAnchored}
 use Rattle.lazy_dfa.specs.Dfas.{Dfa, IsDfa, reader, start_in}
 use Rattle.lazy_dfa.specs.Ids.{unknown_id, dead_id, has_tag, dead_tag}
 use Rattle.lazy_dfa.specs.LeftTold.{told_from, LeftAt, is_quit_error, IsRefusedFirst, IsRefusedAt, LeavesPass, left_first, left_at_unit}
@@ -317,7 +317,7 @@ module _ (d : Dfa) (q : Search) (old new : CacheValue) (m1 m2 n1 n2 : ℕ) (e : 
         start.kept;
     changes = changes_more d (IsMadeIn d q.anchored q.earliest q.haystack (span_len q, at)) old new 1 (suc length) (omega arith)
         (start_changes d q.anchored q.haystack at (IsMadeIn d q.anchored q.earliest q.haystack (span_len q, at))
-        (λ (b : Bool) (s : StateValue) (x : IsMadeFirst d q.anchored q.haystack at b s). inl x) old new own start.adds);
+        (λ (b : Bool) (o : Option StateValue) (s : StateValue) (x : IsMadeFirst d q.anchored q.haystack at b o s). inl x) old new own start.adds);
   }
 
 -- ---- a start that is told
@@ -545,11 +545,11 @@ module _ (d : Dfa) (q : Search) (old mid : CacheValue) (m1 m n1 n id : ℕ) (mad
       anew = told_anew_pass result runs.anew;
       changes = changes_on d (IsMadeIn d q.anchored q.earliest q.haystack (span_len q, from)) old mid 1
           (start_changes d q.anchored q.haystack from (IsMadeIn d q.anchored q.earliest q.haystack (span_len q, from))
-          (λ (b : Bool) (s : StateValue) (x : IsMadeFirst d q.anchored q.haystack from b s). inl x) old mid own start.adds)
+          (λ (b : Bool) (o : Option StateValue) (s : StateValue) (x : IsMadeFirst d q.anchored q.haystack from b o s). inl x) old mid own start.adds)
           new all (suc all) (omega arith)
           (changes_into d (IsMadeAt (reader d) q.haystack from first all)
           (IsMadeIn d q.anchored q.earliest q.haystack (span_len q, from))
-          (λ (b : Bool) (s : StateValue) (x : IsMadeAt (reader d) q.haystack from first all b s). inr x) mid new all
+          (λ (b : Bool) (o : Option StateValue) (s : StateValue) (x : IsMadeAt (reader d) q.haystack from first all b o s). inr x) mid new all
           (subst (λ (k : ℕ). Changes d (IsMadeAt (reader d) q.haystack from first k) mid new k) same_len
           (changes_from_moved d (IsMadeAt (reader d) q.haystack from first units) mid here new units moved runs.changes)));
     }

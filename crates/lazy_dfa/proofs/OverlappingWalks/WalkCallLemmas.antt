@@ -175,7 +175,8 @@ module _ (d : Dfa) (q : Search) (w : Walk) (old mid new : CacheValue) (m1 m m2 n
   changes_so c =
       changes_on d (IsMadeOnCall d q w) old mid (call_starts q w) begun new (call_units r q w) (call_made r q w) (omega arith)
       (changes_into d (IsMadeAt r q.haystack at (value_before r q at) (call_units r q w)) (IsMadeOnCall d q w)
-      (λ (b : Bool) (s : StateValue) (y : IsMadeAt r q.haystack at (value_before r q at) (call_units r q w) b s). inr y)
+      (λ (b : Bool) (o : Option StateValue) (s : StateValue)
+      (y : IsMadeAt r q.haystack at (value_before r q at) (call_units r q w) b o s). inr y)
       mid new (call_units r q w)
       (subst (λ (k : ℕ). Changes d (IsMadeAt r q.haystack at (value_before r q at) k) mid new k) (sym same_units) c))
 

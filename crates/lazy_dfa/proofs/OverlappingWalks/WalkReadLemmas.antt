@@ -162,10 +162,10 @@ module _ (d : Dfa) (q : Search) (made : IsDfa d) (from p : Point) (own : IsCache
       (made_within (reader d) h from.at was x.steps u (omega (arith, le))) from.cache p.cache x.steps x.changes)
       w l u le
       (changes_into d (IsMadeAt (reader d) h p.at now l) (IsMadeAt (reader d) h from.at was u)
-      (λ (b : Bool) (t : StateValue) (y : IsMadeAt (reader d) h p.at now l b t).
-      made_within (reader d) h from.at was (x.steps + l) u le b t
-      (made_behind (reader d) h from.at p.at x.steps l x.place was x.read b t
-      (subst (λ (s : StateValue). IsMadeAt (reader d) h p.at s l b t) (sym later) y))) p.cache w l c)
+      (λ (b : Bool) (o : Option StateValue) (t : StateValue) (y : IsMadeAt (reader d) h p.at now l b o t).
+      made_within (reader d) h from.at was (x.steps + l) u le b o t
+      (made_behind (reader d) h from.at p.at x.steps l x.place was x.read b o t
+      (subst (λ (s : StateValue). IsMadeAt (reader d) h p.at s l b o t) (sym later) y))) p.cache w l c)
 
   abbrev before : ℕ
   before = min (from.cache.searched + progress_len from.cache.progress) greatest
@@ -334,18 +334,18 @@ module _ (d : Dfa) (q : Search) (made : IsDfa d) (from p : Point) (own : IsCache
         ∙ ap (λ (i : ℕ). Err (Quit b i)) (sym t.3)))
     ends_refused (GaveUp y) t = refuses (GaveUp y) t.0.leaves (t.2, (p.id, held_moved p.cache v p.id now t.6 x.state), lacks_here t.3)
         t.5 (inr (inr (
-      y,
-      refl,
-      record {
-        unit = x.steps;
-        read = let a = some_here in let e = x.units in omega (arith, a, e);
-        place = t.2 ∙ ap (gave_up_at rev q) x.place;
-        lacks = ap (λ (i : ℕ). lacks_room d v (value_past (reader d) q i)) (sym x.place) ∙ lacks_here t.3;
-        running = λ far. t.4 (λ e. far (sym x.place ∙ e));
-        quits = let one : x.steps + 1 ≡ suc x.steps = omega arith in subst (HasNoQuit (reader d) h from.at) one
-            (no_quit_on (reader d) h from.at p.at x.steps 1 x.place x.quits (no_quit_once (reader d) h p.at t.1));
-      },
-    )))
+          y,
+          refl,
+          record {
+            unit = x.steps;
+            read = let a = some_here in let e = x.units in omega (arith, a, e);
+            place = t.2 ∙ ap (gave_up_at rev q) x.place;
+            lacks = ap (λ (i : ℕ). lacks_room d v (value_past (reader d) q i)) (sym x.place) ∙ lacks_here t.3;
+            running = λ far. t.4 (λ e. far (sym x.place ∙ e));
+            quits = let one : x.steps + 1 ≡ suc x.steps = omega arith in subst (HasNoQuit (reader d) h from.at) one
+                (no_quit_on (reader d) h from.at p.at x.steps 1 x.place x.quits (no_quit_once (reader d) h p.at t.1));
+          },
+        )))
     ends_refused NoMemory t = refuses NoMemory t.0.leaves tt t.1 (inr (inl refl))
     ends_refused (HaystackTooLong len) t = absurd t
     ends_refused (UnsupportedAnchored mode) t = absurd t
