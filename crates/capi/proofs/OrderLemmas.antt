@@ -15,7 +15,7 @@ use Rattle.pattern_search.specs.Texts.{AreReadAs}
 use Rattle.pattern_search.proofs.ForCallers.{tried, found_is}
 use Rattle.capi.specs.declared.failure.FoundMatch.{FoundMatch}
 use Rattle.capi.specs.Compiled.{HasFoundStart, as_found, overlaid}
-use Rattle.capi.specs.Lists.{AreFirstListed, AreInOrder, AreListed, ComesNext, Follows, IsFoundFrom, IsNextListed, last_end}
+use Rattle.capi.specs.Lists.{AreFirstListed, AreInOrder, AreListed, ComesNext, IsNextMatch, IsFoundFrom, IsNextListed, end_of_last}
 use Rattle.capi.specs.Lists.{found_there, found_later}
 use Rattle.capi.proofs.ListLemmas.{one_more_row, one_more_counted}
 
@@ -60,11 +60,11 @@ elsewhere (Some f) end is = not_there f end is
 
 module _ (utf8 : Bool) (res : List Re) (h : List ℕ) (end : ℕ) where
   follows_there : (o : Option FoundMatch) → IsFoundFrom utf8 res h end o → is_some_and o (λ f. FoundMatch.end f == end) ≡ false →
-      Follows utf8 res h end o
+      IsNextMatch utf8 res h end o
   follows_there o it other = found_there it (elsewhere o end other)
 
   follows_later : (o next : Option FoundMatch) → IsFoundFrom utf8 res h end o → is_some_and o (λ f. FoundMatch.end f == end) ≡ true →
-      IsFoundFrom utf8 res h (end + 1) next → Follows utf8 res h end next
+      IsFoundFrom utf8 res h (end + 1) next → IsNextMatch utf8 res h end next
   follows_later None next it ends later = absurd (true≢false (sym ends))
   follows_later (Some f) next it ends later = found_later f (eqb-true f.end end ends) it later
 
@@ -105,26 +105,26 @@ module _ (utf8 : Bool) (res : List Re) (h : List ℕ) where
       let span = span_found utf8 res h (end + 1) f later in
       (omega (arith, span.0, span.1), span.2)
 
-  reaches : (last : Option ℕ) (fs : List FoundMatch) → AreInOrder utf8 res h last fs → reached last + length fs ≤ reached (last_end last fs)
+  reaches : (last : Option ℕ) (fs : List FoundMatch) → AreInOrder utf8 res h last fs → reached last + length fs ≤ reached (end_of_last last fs)
   unfolding reached
   reaches last [] it = omega arith
   reaches last (f ∷ fs) it = omega (arith, (rises last f it.0).0, reaches (Some f.end) fs it.1)
 
   -- where there are more of them than bytes, none follows
   none_more : (fs : List FoundMatch) → AreInOrder utf8 res h None fs → length h < length fs → (o : Option FoundMatch) →
-      ComesNext utf8 res h (last_end None fs) o → ComesNext utf8 res h (last_end None fs) None
+      ComesNext utf8 res h (end_of_last None fs) o → ComesNext utf8 res h (end_of_last None fs) None
   unfolding reached
   none_more fs it many None next = next
   none_more fs it many (Some f) next =
-      let high = rises (last_end None fs) f next in
+      let high = rises (end_of_last None fs) f next in
       absurd (omega (arith, reaches None fs it, high.0, high.1))
 
   one_more_in_order : (last : Option ℕ) (fs : List FoundMatch) (f : FoundMatch) → AreInOrder utf8 res h last fs →
-      ComesNext utf8 res h (last_end last fs) (Some f) → AreInOrder utf8 res h last (fs ++ f ∷ [])
+      ComesNext utf8 res h (end_of_last last fs) (Some f) → AreInOrder utf8 res h last (fs ++ f ∷ [])
   one_more_in_order last [] f it next = (next, tt)
   one_more_in_order last (g ∷ fs) f it next = (it.0, one_more_in_order (Some g.end) fs f it.1 next)
 
-end_of_more : (last : Option ℕ) (fs : List FoundMatch) (f : FoundMatch) → last_end last (fs ++ f ∷ []) ≡ Some f.end
+end_of_more : (last : Option ℕ) (fs : List FoundMatch) (f : FoundMatch) → end_of_last last (fs ++ f ∷ []) ≡ Some f.end
 end_of_more last [] f = refl
 end_of_more last (g ∷ fs) f = end_of_more (Some g.end) fs f
 
@@ -132,7 +132,7 @@ end_of_more last (g ∷ fs) f = end_of_more (Some g.end) fs f
 pub record IsInOrderSoFar (config : Config) (texts : List (List ℕ)) (h : List ℕ) (count : ℕ) (old rows : List FoundMatch)
     (next : Option FoundMatch) : Type 0 where
   pub taken : AreFirstListed config texts h count old rows
-  pub next_is : (res : List Re) → AreReadAs config texts res → ComesNext config.utf8 res h (last_end None taken.matches) next
+  pub next_is : (res : List Re) → AreReadAs config texts res → ComesNext config.utf8 res h (end_of_last None taken.matches) next
 
 module _ (config : Config) (texts : List (List ℕ)) (h : List ℕ) (old : List FoundMatch) where
   -- before the first search
@@ -152,7 +152,7 @@ module _ (config : Config) (texts : List (List ℕ)) (h : List ℕ) (old : List 
     count = one_more_counted it.taken.matches f count it.taken.count;
     rows = one_more_row it.taken.matches f count old rows now it.taken.count it.taken.rows put;
     in_order = λ res read. one_more_in_order config.utf8 res h None it.taken.matches f (it.taken.in_order res read)
-        (subst (ComesNext config.utf8 res h (last_end None it.taken.matches)) some (it.next_is res read));
+        (subst (ComesNext config.utf8 res h (end_of_last None it.taken.matches)) some (it.next_is res read));
   }
 
   pub order_goes_on : (count : ℕ) (rows now : List FoundMatch) (o next : Option FoundMatch) (f : FoundMatch) → o ≡ Some f →
@@ -169,7 +169,7 @@ module _ (config : Config) (texts : List (List ℕ)) (h : List ℕ) (old : List 
       IsInOrderSoFar config texts h count old rows o → AreListed config texts h count old rows
   order_ends count rows o none it = record {
     first = it.taken;
-    none_left = λ res read. subst (ComesNext config.utf8 res h (last_end None it.taken.matches)) none (it.next_is res read);
+    none_left = λ res read. subst (ComesNext config.utf8 res h (end_of_last None it.taken.matches)) none (it.next_is res read);
   }
 
   pub order_runs_out : (count : ℕ) (rows : List FoundMatch) (o : Option FoundMatch) → length h < count →

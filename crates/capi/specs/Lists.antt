@@ -16,19 +16,19 @@ pub record IsFoundFrom (utf8 : Bool) (res : List Re) (h : List ℕ) (at : ℕ) (
 
 -- The match that follows one with this end, or none: what a search from there finds, unless that is an empty match right there. Then
 -- the empty match is skipped, and it is what a search from the next offset finds.
-pub data Follows (utf8 : Bool) (res : List Re) (h : List ℕ) (end : ℕ) (o : Option FoundMatch) : Type 0 where
-  found_there : IsFoundFrom utf8 res h end o → IfSome o (λ f. f.end ≢ end) → Follows utf8 res h end o
+pub data IsNextMatch (utf8 : Bool) (res : List Re) (h : List ℕ) (end : ℕ) (o : Option FoundMatch) : Type 0 where
+  found_there : IsFoundFrom utf8 res h end o → IfSome o (λ f. f.end ≢ end) → IsNextMatch utf8 res h end o
   found_later : (skipped : FoundMatch) → skipped.end ≡ end → IsFoundFrom utf8 res h end (Some skipped) →
-      IsFoundFrom utf8 res h (end + 1) o → Follows utf8 res h end o
+      IsFoundFrom utf8 res h (end + 1) o → IsNextMatch utf8 res h end o
 
 -- the same for the patterns of texts
 abbrev pub IsNextListed : Config → List (List ℕ) → List ℕ → ℕ → Option FoundMatch → Type 0
-IsNextListed config texts h end o = (res : List Re) → AreReadAs config texts res → Follows config.utf8 res h end o
+IsNextListed config texts h end o = (res : List Re) → AreReadAs config texts res → IsNextMatch config.utf8 res h end o
 
 -- the first match, or the one that follows a match with this end
 abbrev pub ComesNext : Bool → List Re → List ℕ → Option ℕ → Option FoundMatch → Type 0
 ComesNext utf8 res h None o = IsFoundFrom utf8 res h 0 o
-ComesNext utf8 res h (Some end) o = Follows utf8 res h end o
+ComesNext utf8 res h (Some end) o = IsNextMatch utf8 res h end o
 
 -- each of these matches comes next after the one before it
 abbrev pub AreInOrder : Bool → List Re → List ℕ → Option ℕ → List FoundMatch → Type 0
@@ -36,9 +36,9 @@ AreInOrder utf8 res h last [] = ⊤
 AreInOrder utf8 res h last (f ∷ fs) = ComesNext utf8 res h last (Some f) × AreInOrder utf8 res h (Some f.end) fs
 
 -- the end of the last of these matches, where there is one
-abbrev pub last_end : Option ℕ → List FoundMatch → Option ℕ
-last_end last [] = last
-last_end last (f ∷ fs) = last_end (Some f.end) fs
+abbrev pub end_of_last : Option ℕ → List FoundMatch → Option ℕ
+end_of_last last [] = last
+end_of_last last (f ∷ fs) = end_of_last (Some f.end) fs
 
 -- So many matches are in order from the first one on. They lie in the rows as far as these have room, and rows after them are unchanged.
 pub record AreFirstListed (config : Config) (texts : List (List ℕ)) (h : List ℕ) (n : ℕ) (old new : List FoundMatch) : Type 0 where
@@ -50,4 +50,4 @@ pub record AreFirstListed (config : Config) (texts : List (List ℕ)) (h : List 
 -- and no match follows the last of them
 pub record AreListed (config : Config) (texts : List (List ℕ)) (h : List ℕ) (n : ℕ) (old new : List FoundMatch) : Type 0 where
   pub first : AreFirstListed config texts h n old new
-  pub none_left : (res : List Re) → AreReadAs config texts res → ComesNext config.utf8 res h (last_end None first.matches) None
+  pub none_left : (res : List Re) → AreReadAs config texts res → ComesNext config.utf8 res h (end_of_last None first.matches) None
