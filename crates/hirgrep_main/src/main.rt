@@ -3,7 +3,6 @@
 #![tactic(auto)]
 
 mod asked;
-mod command;
 mod counting;
 mod input;
 mod loops;
@@ -14,11 +13,11 @@ mod patterns;
 mod searching;
 mod walking;
 
-use crate::asked::{Asked, asked_of};
-use crate::command::command;
+use crate::asked::{Asked, asked_of, is_colorful};
 use crate::patterns::{lines_of, patterns_of};
 use crate::searching::search;
 use clap::ArgMatches;
+use grep_options::command;
 use std::alloc::AllocError;
 use std::env;
 use std::process::ExitCode;
@@ -63,7 +62,7 @@ fn run_words(rt: &HostRuntime, asked: &Asked, words: &[&str]) -> Result<u8, Allo
 }
 
 fn run_matches(rt: &HostRuntime, matches: &ArgMatches<'_>) -> Result<u8, AllocError> {
-    let asked = asked_of(rt, matches);
+    let asked = asked_of(matches, is_colorful(rt));
     if !enter(rt, matches.get_strs("directory").unwrap_or(&[])) {
         return Ok(2);
     }

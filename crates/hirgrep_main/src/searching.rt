@@ -10,7 +10,7 @@ use crate::messages::{tell_no_finder, tell_refused};
 use crate::outcome::Outcome;
 use crate::output::Output;
 use crate::walking::{Kind, is_folder, is_output, kind_of, push_folder};
-use grep_core::{Finder, Known, Print, config_of, needs_spans, searched_text, tell_text};
+use grep_core::{Finder, Print, config_of, needs_spans, searched_text, tell_text};
 use pattern_search::parse_all;
 use std::alloc::{AllocError, Global};
 use std::fs;
@@ -56,15 +56,6 @@ fn texts_of(
     Ok(Some(texts))
 }
 
-/// What is known of the lines of the texts so far, of which some were printed where anything was selected or printed.
-fn known_of(outcome: &Outcome) -> Known {
-    if outcome.selected || outcome.printed {
-        Known::EarlierPrinted
-    } else {
-        Known::NonePrinted
-    }
-}
-
 /// Searches what a reader gives, which goes by this name.
 fn search_reader<R: Read + Drop>(
     rt: &HostRuntime,
@@ -82,7 +73,7 @@ fn search_reader<R: Read + Drop>(
         &task.asked.what,
         name.as_bytes(),
         task.with_name,
-        known_of(outcome),
+        outcome.known(),
         &mut reader,
         &mut writer,
     );
@@ -318,7 +309,7 @@ fn search_by(
     asked: &Asked,
     files: &[&str],
 ) -> Result<u8, AllocError> {
-    let mut outcome = Outcome::default();
+    let mut outcome = Outcome::new();
     if !selects_none(asked) {
         search_files(rt, finder, asked, &mut outcome, files)?;
     }
