@@ -49,6 +49,7 @@ number_reads {E} G o r only none some = go o refl
     read : (t : List ℕ) (v : Option ℕ) → ReadsOne G t v → v ≡ number_in t
     read t (Some n) h = let p = only t (Ok n) h in ap Some p.1 ∙ sym (number_if t p.0)
     read t None h = sym (number_unless t (only t (Err h.0) h.1))
+
     go : (p : Option (List ℕ)) → o ≡ p → r ≡ option_and_then number_in p
     go None e = none e
     go (Some t) e = read t r (some t e)
@@ -84,6 +85,7 @@ integer_reads {E} G o r only none some = go o refl
     read : (t : List ℕ) (v : Option ℤ) → ReadsOne G t v → v ≡ integer_in t
     read t (Some n) h = let p = only t (Ok n) h in ap Some p.1 ∙ sym (integer_if t p.0)
     read t None h = sym (integer_unless t (only t (Err h.0) h.1))
+
     go : (p : Option (List ℕ)) → o ≡ p → r ≡ option_and_then integer_in p
     go None e = none e
     go (Some t) e = read t r (some t e)

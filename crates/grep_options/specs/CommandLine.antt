@@ -24,8 +24,8 @@ abbrev pub letter_of : Option ℕ → List ℕ
 letter_of None = []
 letter_of (Some c) = c ∷ []
 
-abbrev pub row_of : Arg → OptionRow
-row_of a = record {
+abbrev pub option_row : Arg → OptionRow
+option_row a = record {
   name = a.id.now;
   letter = letter_of a.short;
   long = option_map (λ s. s.now) a.long;
@@ -36,12 +36,12 @@ row_of a = record {
   is_global = a.global;
 }
 
-abbrev pub rows_of : List Arg → List OptionRow
-rows_of = map row_of
+abbrev pub option_rows : List Arg → List OptionRow
+option_rows = map option_row
 
 -- these options were added at the end
-pub record Adds (old new : List Arg) (rows : List OptionRow) : Type 0 where
-  pub added : rows_of new ≡ rows_of old ++ rows
+pub record AddsOptions (old new : List Arg) (rows : List OptionRow) : Type 0 where
+  pub added : option_rows new ≡ option_rows old ++ rows
 
 -- an option whose long name is the one under which its value is held
 abbrev pub option : List ℕ → List ℕ → ArgAction → OptionRow
@@ -64,15 +64,15 @@ flag name letter = option name letter SetTrue
 abbrev pub flag_over : List ℕ → List ℕ → List ℕ → OptionRow
 flag_over name letter other = record (flag name letter) { turns_off = other ∷ [] }
 
-abbrev pub lists : List OptionRow
-lists =
+abbrev pub list_options : List OptionRow
+list_options =
     option (codes "regexp") (codes "e") Append
     ∷ option (codes "file") (codes "f") Append
     ∷ option (codes "directory") [] Append
     ∷ []
 
-abbrev pub selecting : List OptionRow
-selecting =
+abbrev pub selecting_options : List OptionRow
+selecting_options =
     flag (codes "ignore-case") (codes "i")
     ∷ flag (codes "fixed-strings") (codes "F")
     ∷ flag (codes "word-regexp") (codes "w")
@@ -80,30 +80,30 @@ selecting =
     ∷ flag (codes "invert-match") (codes "v")
     ∷ []
 
-abbrev pub quiet : OptionRow
-quiet = record (flag (codes "quiet") (codes "q")) { aliases = codes "silent" ∷ [] }
+abbrev pub quiet_option : OptionRow
+quiet_option = record (flag (codes "quiet") (codes "q")) { aliases = codes "silent" ∷ [] }
 
-abbrev pub printing : List OptionRow
-printing =
+abbrev pub printing_options : List OptionRow
+printing_options =
     flag (codes "count") (codes "c")
     ∷ flag (codes "only-matching") (codes "o")
     ∷ flag (codes "no-messages") (codes "s")
     ∷ flag (codes "line-number") (codes "n")
     ∷ flag (codes "byte-offset") (codes "b")
     ∷ flag (codes "recursive") (codes "r")
-    ∷ quiet
+    ∷ quiet_option
     ∷ []
 
-abbrev pub pairs : List OptionRow
-pairs =
+abbrev pub paired_options : List OptionRow
+paired_options =
     flag_over (codes "with-filename") (codes "H") (codes "no-filename")
     ∷ flag_over (codes "no-filename") (codes "h") (codes "with-filename")
     ∷ flag_over (codes "files-with-matches") (codes "l") (codes "files-without-match")
     ∷ flag_over (codes "files-without-match") (codes "L") (codes "files-with-matches")
     ∷ []
 
-abbrev pub numbers : List OptionRow
-numbers =
+abbrev pub number_options : List OptionRow
+number_options =
     option (codes "max-count") (codes "m") Set
     ∷ option (codes "after-context") (codes "A") Set
     ∷ option (codes "before-context") (codes "B") Set
@@ -111,24 +111,24 @@ numbers =
     ∷ []
 
 -- a use without a value is one of `auto`
-abbrev pub color : OptionRow
-color = record (option (codes "color") [] Set) { aliases = codes "colour" ∷ []; missing = codes "auto" ∷ [] }
+abbrev pub color_option : OptionRow
+color_option = record (option (codes "color") [] Set) { aliases = codes "colour" ∷ []; missing = codes "auto" ∷ [] }
 
 -- the words that are no option's
-abbrev pub words : OptionRow
-words = record (option (codes "words") [] Append) { long = None }
+abbrev pub words_option : OptionRow
+words_option = record (option (codes "words") [] Append) { long = None }
 
-abbrev pub others : List OptionRow
-others =
-    color
+abbrev pub other_options : List OptionRow
+other_options =
+    color_option
     ∷ flag (codes "crlf") []
     ∷ flag (codes "stats") []
     ∷ option (codes "help") [] Help
     ∷ option (codes "version") (codes "V") Version
     ∷ flag (codes "tell-input") []
-    ∷ words
+    ∷ words_option
     ∷ []
 
 -- all options, in the order in which they are listed
 abbrev pub options : List OptionRow
-options = lists ++ (selecting ++ (printing ++ (pairs ++ (numbers ++ others))))
+options = list_options ++ (selecting_options ++ (printing_options ++ (paired_options ++ (number_options ++ other_options))))

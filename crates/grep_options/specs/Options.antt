@@ -47,14 +47,14 @@ abbrev pub is_set : Found → List ℕ → Bool
 is_set f name = is_text (codes "true") (one_text f name)
 
 -- the number that was given for the option
-abbrev pub number_of : Found → List ℕ → Option ℕ
-number_of f name = option_and_then number_in (one_text f name)
+abbrev pub number_given : Found → List ℕ → Option ℕ
+number_given f name = option_and_then number_in (one_text f name)
 
-abbrev pub integer_of : Found → List ℕ → Option ℤ
-integer_of f name = option_and_then integer_in (one_text f name)
+abbrev pub integer_given : Found → List ℕ → Option ℤ
+integer_given f name = option_and_then integer_in (one_text f name)
 
-abbrev pub limit_of : Found → List ℕ → Option ℕ
-limit_of f name = option_and_then natural (integer_of f name)
+abbrev pub limit_given : Found → List ℕ → Option ℕ
+limit_given f name = option_and_then natural (integer_given f name)
 
 -- all texts that were given for the option, or as no option's
 abbrev pub texts_given : Found → List ℕ → List (List ℕ)

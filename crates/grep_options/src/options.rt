@@ -2,22 +2,22 @@
 ghost use Rattle.std.specs.Prelude.{◌≡◌, ◌∷◌, [], OnOk, IfOk, codes};
 ghost use Rattle.clap.specs.Words.{args_of};
 ghost use Rattle.clap.specs.declared.builder.action.ArgAction.TheVariants.{Append, Help, Set, Version};
-ghost use Rattle.grep_options.specs.CommandLine.{Adds, color, flag, flag_over, lists, numbers, option, options, others, pairs, printing, quiet};
-ghost use Rattle.grep_options.specs.CommandLine.{row_of, rows_of, selecting, words};
+ghost use Rattle.grep_options.specs.CommandLine.{AddsOptions, color_option, flag, flag_over, list_options, number_options, option, options, other_options, paired_options, printing_options, quiet_option};
+ghost use Rattle.grep_options.specs.CommandLine.{option_row, option_rows, selecting_options, words_option};
 
 use clap::{Arg, ArgAction, Command, value_parser};
 use std::alloc::{AllocError, Global};
 
 /// An option whose long name is the one under which its value is held.
 fn option<'a>(alloc: Global, id: &'a str, action: ArgAction, help: &'a str) -> Arg<'a>
-    ensures { row_of result ≡ option id.entry.now [] action }
+    ensures { option_row result ≡ option id.entry.now [] action }
 {
     Arg::new(alloc, id).long(id).help(help).action(action)
 }
 
 /// Appends an option. It is the one function that drops one for which there is no room.
 fn push<'a>(args: &mut Vec<Arg<'a>>, arg: Arg<'a>) -> Result<(), AllocError>
-    ensures { OnOk result (Adds args.old.items args.new.items (row_of arg.entry ∷ [])) }
+    ensures { OnOk result (AddsOptions args.old.items args.new.items (option_row arg.entry ∷ [])) }
 {
     args.push(arg)?;
     Ok(())
@@ -31,7 +31,7 @@ fn push_flag<'a>(
     short: char,
     help: &'a str,
 ) -> Result<(), AllocError>
-    ensures { OnOk result (Adds args.old.items args.new.items (flag id.entry.now (short ∷ []) ∷ [])) }
+    ensures { OnOk result (AddsOptions args.old.items args.new.items (flag id.entry.now (short ∷ []) ∷ [])) }
 {
     let arg = option(alloc, id, ArgAction::SetTrue, help);
     push(args, arg.short(short))
@@ -46,7 +46,7 @@ fn push_pair<'a>(
     other: &'a str,
     help: &'a str,
 ) -> Result<(), AllocError>
-    ensures { OnOk result (Adds args.old.items args.new.items (flag_over id.entry.now (short ∷ []) other.entry.now ∷ [])) }
+    ensures { OnOk result (AddsOptions args.old.items args.new.items (flag_over id.entry.now (short ∷ []) other.entry.now ∷ [])) }
 {
     let arg = option(alloc, id, ArgAction::SetTrue, help);
     let arg = arg.short(short).overrides_with(other)?;
@@ -60,15 +60,21 @@ fn push_long<'a>(
     id: &'a str,
     help: &'a str,
 ) -> Result<(), AllocError>
-    ensures { OnOk result (Adds args.old.items args.new.items (flag id.entry.now [] ∷ [])) }
+    ensures { OnOk result (AddsOptions args.old.items args.new.items (flag id.entry.now [] ∷ [])) }
 {
     push(args, option(alloc, id, ArgAction::SetTrue, help))
 }
 
 fn push_selecting<'a>(alloc: Global, args: &mut Vec<Arg<'a>>) -> Result<(), AllocError>
-    ensures { OnOk result (Adds args.old.items args.new.items selecting) }
+    ensures { OnOk result (AddsOptions args.old.items args.new.items selecting_options) }
 {
-    push_flag(alloc, args, "ignore-case", 'i', "letters match in either case")?;
+    push_flag(
+        alloc,
+        args,
+        "ignore-case",
+        'i',
+        "letters match in either case",
+    )?;
     push_flag(alloc, args, "fixed-strings", 'F', "patterns are plain text")?;
     let words = "a match neither starts nor ends inside a word";
     push_flag(alloc, args, "word-regexp", 'w', words)?;
@@ -78,9 +84,15 @@ fn push_selecting<'a>(alloc: Global, args: &mut Vec<Arg<'a>>) -> Result<(), Allo
 }
 
 fn push_printing<'a>(alloc: Global, args: &mut Vec<Arg<'a>>) -> Result<(), AllocError>
-    ensures { OnOk result (Adds args.old.items args.new.items printing) }
+    ensures { OnOk result (AddsOptions args.old.items args.new.items printing_options) }
 {
-    push_flag(alloc, args, "count", 'c', "print how many lines are selected")?;
+    push_flag(
+        alloc,
+        args,
+        "count",
+        'c',
+        "print how many lines are selected",
+    )?;
     let matching = "print the matches that aren't empty, each as a line";
     push_flag(alloc, args, "only-matching", 'o', matching)?;
     let silent = "don't tell of files that can't be read";
@@ -95,7 +107,7 @@ fn push_printing<'a>(alloc: Global, args: &mut Vec<Arg<'a>>) -> Result<(), Alloc
 }
 
 fn push_quiet<'a>(alloc: Global, args: &mut Vec<Arg<'a>>) -> Result<(), AllocError>
-    ensures { OnOk result (Adds args.old.items args.new.items (quiet ∷ [])) }
+    ensures { OnOk result (AddsOptions args.old.items args.new.items (quiet_option ∷ [])) }
 {
     let help = "print nothing, and end at the first line that is selected";
     let arg = option(alloc, "quiet", ArgAction::SetTrue, help);
@@ -104,7 +116,7 @@ fn push_quiet<'a>(alloc: Global, args: &mut Vec<Arg<'a>>) -> Result<(), AllocErr
 }
 
 fn push_pairs<'a>(alloc: Global, args: &mut Vec<Arg<'a>>) -> Result<(), AllocError>
-    ensures { OnOk result (Adds args.old.items args.new.items pairs) }
+    ensures { OnOk result (AddsOptions args.old.items args.new.items paired_options) }
 {
     let (with, without) = ("with-filename", "no-filename");
     let help = "print the file's name before each line";
@@ -120,7 +132,7 @@ fn push_pairs<'a>(alloc: Global, args: &mut Vec<Arg<'a>>) -> Result<(), AllocErr
 
 /// An option that takes a number of lines.
 fn number<'a>(alloc: Global, id: &'a str, short: char, help: &'a str) -> Arg<'a>
-    ensures { row_of result ≡ option id.entry.now (short ∷ []) Set }
+    ensures { option_row result ≡ option id.entry.now (short ∷ []) Set }
 {
     option(alloc, id, ArgAction::Set, help)
         .short(short)
@@ -134,14 +146,14 @@ fn push_number<'a>(
     short: char,
     help: &'a str,
 ) -> Result<(), AllocError>
-    ensures { OnOk result (Adds args.old.items args.new.items (option id.entry.now (short ∷ []) Set ∷ [])) }
+    ensures { OnOk result (AddsOptions args.old.items args.new.items (option id.entry.now (short ∷ []) Set ∷ [])) }
 {
     let arg = number(alloc, id, short, help);
     push(args, arg.value_parser(value_parser!(u64)))
 }
 
 fn push_most<'a>(alloc: Global, args: &mut Vec<Arg<'a>>) -> Result<(), AllocError>
-    ensures { OnOk result (Adds args.old.items args.new.items (option (codes "max-count") (codes "m") Set ∷ [])) }
+    ensures { OnOk result (AddsOptions args.old.items args.new.items (option (codes "max-count") (codes "m") Set ∷ [])) }
 {
     let help = "select no more lines of a file than so many; a negative number is no limit";
     let arg = number(alloc, "max-count", 'm', help);
@@ -150,7 +162,7 @@ fn push_most<'a>(alloc: Global, args: &mut Vec<Arg<'a>>) -> Result<(), AllocErro
 }
 
 fn push_numbers<'a>(alloc: Global, args: &mut Vec<Arg<'a>>) -> Result<(), AllocError>
-    ensures { OnOk result (Adds args.old.items args.new.items numbers) }
+    ensures { OnOk result (AddsOptions args.old.items args.new.items number_options) }
 {
     push_most(alloc, args)?;
     let help = "print so many lines behind each selected one";
@@ -163,7 +175,7 @@ fn push_numbers<'a>(alloc: Global, args: &mut Vec<Arg<'a>>) -> Result<(), AllocE
 
 /// An option that may be given several times, whose values may look like options.
 fn list<'a>(alloc: Global, id: &'a str, value: &'a str, help: &'a str) -> Arg<'a>
-    ensures { row_of result ≡ option id.entry.now [] Append }
+    ensures { option_row result ≡ option id.entry.now [] Append }
 {
     option(alloc, id, ArgAction::Append, help)
         .allow_hyphen_values(true)
@@ -171,7 +183,7 @@ fn list<'a>(alloc: Global, id: &'a str, value: &'a str, help: &'a str) -> Arg<'a
 }
 
 fn push_lists<'a>(alloc: Global, args: &mut Vec<Arg<'a>>) -> Result<(), AllocError>
-    ensures { OnOk result (Adds args.old.items args.new.items lists) }
+    ensures { OnOk result (AddsOptions args.old.items args.new.items list_options) }
 {
     let help = "a pattern, or several, one a line; may be given several times";
     push(args, list(alloc, "regexp", "PATTERN", help).short('e'))?;
@@ -182,7 +194,7 @@ fn push_lists<'a>(alloc: Global, args: &mut Vec<Arg<'a>>) -> Result<(), AllocErr
 }
 
 fn push_color<'a>(alloc: Global, args: &mut Vec<Arg<'a>>) -> Result<(), AllocError>
-    ensures { OnOk result (Adds args.old.items args.new.items (color ∷ [])) }
+    ensures { OnOk result (AddsOptions args.old.items args.new.items (color_option ∷ [])) }
 {
     let help = "mark names, numbers and matches for a terminal; auto: where the reply goes to one";
     let arg = option(alloc, "color", ArgAction::Set, help)
@@ -196,7 +208,7 @@ fn push_color<'a>(alloc: Global, args: &mut Vec<Arg<'a>>) -> Result<(), AllocErr
 }
 
 fn push_help<'a>(alloc: Global, args: &mut Vec<Arg<'a>>) -> Result<(), AllocError>
-    ensures { OnOk result (Adds args.old.items args.new.items (option (codes "help") [] Help ∷ option (codes "version") (codes "V") Version ∷ [])) }
+    ensures { OnOk result (AddsOptions args.old.items args.new.items (option (codes "help") [] Help ∷ option (codes "version") (codes "V") Version ∷ [])) }
 {
     push(args, option(alloc, "help", ArgAction::Help, "print this"))?;
     let arg = option(alloc, "version", ArgAction::Version, "print the version");
@@ -205,7 +217,7 @@ fn push_help<'a>(alloc: Global, args: &mut Vec<Arg<'a>>) -> Result<(), AllocErro
 
 /// What the script gives that runs the program unproved: such a run has no terminal, so the script has to know whether one was wanted.
 fn push_hidden<'a>(alloc: Global, args: &mut Vec<Arg<'a>>) -> Result<(), AllocError>
-    ensures { OnOk result (Adds args.old.items args.new.items (flag (codes "tell-input") [] ∷ [])) }
+    ensures { OnOk result (AddsOptions args.old.items args.new.items (flag (codes "tell-input") [] ∷ [])) }
 {
     let help = "tell where standard input is read";
     let arg = option(alloc, "tell-input", ArgAction::SetTrue, help);
@@ -213,9 +225,10 @@ fn push_hidden<'a>(alloc: Global, args: &mut Vec<Arg<'a>>) -> Result<(), AllocEr
 }
 
 fn push_words<'a>(alloc: Global, args: &mut Vec<Arg<'a>>) -> Result<(), AllocError>
-    ensures { OnOk result (Adds args.old.items args.new.items (words ∷ [])) }
+    ensures { OnOk result (AddsOptions args.old.items args.new.items (words_option ∷ [])) }
 {
-    let help = "the pattern, where none is given by -e or -f, and the files; - or none is standard input";
+    let help =
+        "the pattern, where none is given by -e or -f, and the files; - or none is standard input";
     let arg = Arg::new(alloc, "words")
         .help(help)
         .action(ArgAction::Append)
@@ -225,12 +238,13 @@ fn push_words<'a>(alloc: Global, args: &mut Vec<Arg<'a>>) -> Result<(), AllocErr
 }
 
 fn push_others<'a>(alloc: Global, args: &mut Vec<Arg<'a>>) -> Result<(), AllocError>
-    ensures { OnOk result (Adds args.old.items args.new.items others) }
+    ensures { OnOk result (AddsOptions args.old.items args.new.items other_options) }
 {
     push_color(alloc, args)?;
     let help = "a carriage return before the line feed belongs to the end of a line";
     push_long(alloc, args, "crlf", help)?;
-    let help = "tell on standard error, at the end, how many lines were selected and what the search took";
+    let help =
+        "tell on standard error, at the end, how many lines were selected and what the search took";
     push_long(alloc, args, "stats", help)?;
     push_help(alloc, args)?;
     push_hidden(alloc, args)?;
@@ -239,7 +253,7 @@ fn push_others<'a>(alloc: Global, args: &mut Vec<Arg<'a>>) -> Result<(), AllocEr
 
 /// All options, in the order in which they are listed.
 fn push_all<'a>(alloc: Global, args: &mut Vec<Arg<'a>>) -> Result<(), AllocError>
-    ensures { OnOk result (Adds args.old.items args.new.items options) }
+    ensures { OnOk result (AddsOptions args.old.items args.new.items options) }
 {
     push_lists(alloc, args)?;
     push_selecting(alloc, args)?;
@@ -268,7 +282,7 @@ fn without_options<'a>(alloc: Global) -> Result<Command<'a>, AllocError>
 
 /// The command line: these options, and no others.
 pub fn command<'a>(alloc: Global) -> Result<Command<'a>, AllocError>
-    ensures { IfOk result (λ c. rows_of (args_of c) ≡ options) }
+    ensures { IfOk result (λ c. option_rows (args_of c) ≡ options) }
 {
     let mut args = Vec::new(alloc);
     push_all(alloc, &mut args)?;

@@ -1,7 +1,7 @@
 //! The values of options, as the matches of a command line hold them.
 ghost use Rattle.std.specs.Prelude.{◌≡◌};
 ghost use Rattle.clap.specs.Words.{found_of};
-ghost use Rattle.grep_options.specs.Options.{integer_of, is_set, limit_of, natural, number_of};
+ghost use Rattle.grep_options.specs.Options.{integer_given, is_set, limit_given, natural, number_given};
 
 use clap::ArgMatches;
 
@@ -17,7 +17,7 @@ pub fn is_set(matches: &ArgMatches<'_>, name: &str) -> bool
 
 /// The number that was given for the option.
 pub fn number(matches: &ArgMatches<'_>, name: &str) -> Option<u64>
-    ensures { result ≡ number_of (found_of matches.now) name.now }
+    ensures { result ≡ number_given (found_of matches.now) name.now }
 {
     matches.get_one::<u64>(name)
 }
@@ -31,14 +31,14 @@ fn natural(number: i64) -> Option<u64>
 
 /// The number that was given for the option, which may be negative.
 fn integer(matches: &ArgMatches<'_>, name: &str) -> Option<i64>
-    ensures { result ≡ integer_of (found_of matches.now) name.now }
+    ensures { result ≡ integer_given (found_of matches.now) name.now }
 {
     matches.get_one::<i64>(name)
 }
 
 /// The limit that was given for the option. A negative number is no limit.
 pub fn limit(matches: &ArgMatches<'_>, name: &str) -> Option<u64>
-    ensures { result ≡ limit_of (found_of matches.now) name.now }
+    ensures { result ≡ limit_given (found_of matches.now) name.now }
 {
     let number = integer(matches, name)?;
     natural(number)

@@ -3,7 +3,7 @@ use Rattle.std.specs.Prelude.{ℕ, Bool, true, false, List, codes, Option, Some,
 use Rattle.std.specs.Option.{option_or}
 use Rattle.clap.specs.Words.{first_value}
 use Rattle.clap.specs.declared.parser.matches.Found.{Found}
-use Rattle.grep_options.specs.Options.{is_set, is_text, limit_of, number_of}
+use Rattle.grep_options.specs.Options.{is_set, is_text, limit_given, number_given}
 use Rattle.grep_core.specs.declared.patterns.How.{How}
 use Rattle.grep_core.specs.declared.what.Context.{Context}
 use Rattle.grep_core.specs.declared.what.Print.{Print}
@@ -41,8 +41,8 @@ context_by None (Some after) = Some (record { before = 0; after = after })
 
 -- -B, -A, -C: the first two count over the third
 abbrev pub context_of : Found → Option Context
-context_of f = context_by (option_or (number_of f (codes "before-context")) (number_of f (codes "context")))
-    (option_or (number_of f (codes "after-context")) (number_of f (codes "context")))
+context_of f = context_by (option_or (number_given f (codes "before-context")) (number_given f (codes "context")))
+    (option_or (number_given f (codes "after-context")) (number_given f (codes "context")))
 
 -- --color: `auto` marks what goes to a terminal with colours
 abbrev pub color_by : Option (List ℕ) → Bool → Bool
@@ -52,8 +52,8 @@ color_by word is_colorful =
     else false
 
 -- -h, -H
-abbrev pub names_of : Found → Names
-names_of f =
+abbrev pub asked_names : Found → Names
+asked_names f =
     if is_set f (codes "no-filename") then Never
     else if is_set f (codes "with-filename") then Always
     else IfSeveral
@@ -66,7 +66,7 @@ what_of f is_colorful = record {
   numbers = is_set f (codes "line-number");
   offsets = is_set f (codes "byte-offset");
   context = context_of f;
-  most = limit_of f (codes "max-count");
+  most = limit_given f (codes "max-count");
   color = color_by (first_value f (codes "color")) is_colorful;
 }
 
@@ -75,7 +75,7 @@ abbrev pub asked_of : Found → Bool → Asked
 asked_of f is_colorful = record {
   how = how_of f;
   what = what_of f is_colorful;
-  names = names_of f;
+  names = asked_names f;
   recursive = is_set f (codes "recursive");
   silent = is_set f (codes "no-messages");
   stats = is_set f (codes "stats");

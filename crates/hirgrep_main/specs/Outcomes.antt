@@ -41,9 +41,13 @@ is_of_output TooLong = false
 is_of_output TooLarge = false
 
 -- after a file whose search returned this. A selected line ends a search that prints nothing, and a failed write ends every search.
-abbrev pub kept : Print → Outcome → Result ℕ Fault → Outcome
-kept print o (Ok n) = record (with_lines o n) { ended = o.ended || (nat_lt 0 n && prints_nothing print) }
-kept print o (Err fault) = record (with_failure o) { ended = o.ended || is_of_output fault }
+abbrev pub after_result : Print → Outcome → Result ℕ Fault → Outcome
+after_result print o (Ok n) = record (with_lines o n) { ended = o.ended || (nat_lt 0 n && prints_nothing print) }
+after_result print o (Err fault) = record (with_failure o) { ended = o.ended || is_of_output fault }
+
+-- after a file of which so many bytes were read, that something was printed of or not, and whose search returned this
+abbrev pub after_search : Print → Outcome → ℕ → Bool → Result ℕ Fault → Outcome
+after_search print o bytes wrote told = after_result print (with_file (record o { printed = o.printed || wrote }) bytes) told
 
 -- whether lines of earlier files were printed, which part groups of lines
 abbrev pub known_of : Outcome → Known

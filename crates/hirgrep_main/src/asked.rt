@@ -1,7 +1,7 @@
 //! What the options ask for.
 ghost use Rattle.std.specs.Prelude.{◌≡◌, codes};
 ghost use Rattle.clap.specs.Words.{first_value, found_of};
-ghost use Rattle.hirgrep_main.specs.Asks.{asked_of, color_by, context_by, context_of, how_of, names_of, print_of, what_of};
+ghost use Rattle.hirgrep_main.specs.Asks.{asked_of, color_by, context_by, context_of, how_of, asked_names, print_of, what_of};
 
 use clap::ArgMatches;
 use grep_core::{Context, How, Print, What};
@@ -112,7 +112,7 @@ fn color_of(matches: &ArgMatches<'_>, is_colorful: bool) -> bool
 
 /// Whether the names of files stand before lines. Of `-h` and `-H` the later one has turned off the other.
 fn names_of(matches: &ArgMatches<'_>) -> Names
-    ensures { result ≡ names_of (found_of matches.now) }
+    ensures { result ≡ asked_names (found_of matches.now) }
 {
     if is_set(matches, "no-filename") {
         return Names::Never;

@@ -1,7 +1,7 @@
 //! What comes of a search.
 ghost use Rattle.std.specs.Prelude.{◌≡◌, nat_lt};
 ghost use Rattle.hirgrep_main.specs.Decisions.{prints_nothing, status};
-ghost use Rattle.hirgrep_main.specs.Outcomes.{is_of_output, kept, known_of, no_outcome, with_failure, with_file, with_lines};
+ghost use Rattle.hirgrep_main.specs.Outcomes.{after_search, is_of_output, after_result, known_of, no_outcome, with_failure, with_file, with_lines};
 
 use crate::asked::Asked;
 use crate::messages::tell_fault;
@@ -74,8 +74,17 @@ impl Outcome {
         }
     }
 
+    /// After a failure before the first file.
+    pub fn failure() -> Outcome
+        ensures { result ≡ with_failure no_outcome }
+    {
+        let mut outcome = Outcome::new();
+        outcome.failed = true;
+        outcome
+    }
+
     /// Counts a file of which so many bytes were read.
-    pub fn count(&mut self, bytes: u64)
+    fn count(&mut self, bytes: u64)
         ensures { self.new ≡ with_file self.old bytes }
     {
         self.files = self.files.saturating_add(1);
@@ -95,7 +104,7 @@ impl Outcome {
 
     /// Keeps what the search of a file returned: how many lines are selected, or why it failed, without a message.
     fn keep_result(&mut self, print: Print, told: Result<u64, Fault>)
-        ensures { self.new ≡ kept print self.old told }
+        ensures { self.new ≡ after_result print self.old told }
     {
         match told {
             Ok(lines) => {
@@ -110,8 +119,8 @@ impl Outcome {
     }
 
     /// Keeps what the search of the file of this name returned.
-    pub fn keep(&mut self, rt: &HostRuntime, asked: &Asked, name: &str, told: Result<u64, Fault>)
-        ensures { self.new ≡ kept asked.now.what.print self.old told }
+    fn keep(&mut self, rt: &HostRuntime, asked: &Asked, name: &str, told: Result<u64, Fault>)
+        ensures { self.new ≡ after_result asked.now.what.print self.old told }
     {
         if let Err(fault) = told {
             if is_told(asked, fault) {
@@ -119,6 +128,23 @@ impl Outcome {
             }
         }
         self.keep_result(asked.what.print, told);
+    }
+
+    /// Keeps what came of the file of this name: how many bytes were read, whether anything was printed, and what its search returned.
+    pub fn keep_search(
+        &mut self,
+        rt: &HostRuntime,
+        asked: &Asked,
+        name: &str,
+        bytes: u64,
+        wrote: bool,
+        told: Result<u64, Fault>,
+    )
+        ensures { self.new ≡ after_search asked.now.what.print self.old bytes wrote told }
+    {
+        self.printed |= wrote;
+        self.count(bytes);
+        self.keep(rt, asked, name, told);
     }
 
     /// Keeps that something can't be read.
