@@ -1,7 +1,7 @@
 //! Searching files, one after the other.
 ghost use Rattle.std.specs.Prelude.{◌≡◌, ℕ, Bool, true, false, Result, IfErr, IfOk, IfSome, OnOk, map, string_bytes, take, if◌then◌else◌};
 ghost use Rattle.std.specs.Io.KnownBytes.{Appends};
-ghost use Rattle.grep_core.specs.Meant.{searched_text};
+ghost use Rattle.grep_core.specs.Meant.{written};
 ghost use Rattle.grep_core.specs.Report.{counted_as, report, selected_count};
 ghost use Rattle.grep_core.specs.Searchers.{SearchesFor, found_by};
 ghost use Rattle.grep_core.specs.Telling.{needs_spans, prints_lines};
@@ -13,12 +13,13 @@ ghost use Rattle.hirgrep_main.specs.Outcomes.{Continues, after_search, no_outcom
 use crate::asked::{Asked, Names};
 use crate::counting::Counting;
 use crate::input::input;
-use crate::messages::{tell_no_finder, tell_refused};
+use crate::messages::tell_no_finder;
 use crate::outcome::Outcome;
 use crate::output::Output;
 use crate::walking::{Kind, is_folder, is_output, kind_of, push_folder};
-use grep_core::{Fault, Finder, Known, Print, config_of, needs_spans, searched_text, tell_text};
-use pattern_search::parse_all;
+use grep_core::{
+    Fault, Finder, Known, Print, SearcherError, config_of, needs_spans, pattern_source, tell_text,
+};
 use std::alloc::{AllocError, Global};
 use std::io::{Read, Write};
 use std::rt::Runtime;
@@ -44,40 +45,16 @@ fn strs_of<'a>(alloc: Global, texts: &'a [String]) -> Result<Vec<&'a str>, Alloc
     Ok(words)
 }
 
-/// The texts of which regexes are made for the patterns.
-fn searched_texts(
-    alloc: Global,
-    asked: &Asked,
-    patterns: &[&str],
-) -> Result<Vec<String>, AllocError>
-    ensures { IfOk result (λ v. map string_bytes v.items ≡ map (λ p. searched_text asked.now.how p.now) patterns.now) }
+/// The patterns in the syntax that is parsed.
+fn texts_of(alloc: Global, asked: &Asked, patterns: &[&str]) -> Result<Vec<String>, AllocError>
+    ensures { IfOk result (λ v. map string_bytes v.items ≡ map (λ p. written asked.now.how.fixed p.now) patterns.now) }
 {
     let mut texts = Vec::new(alloc);
     for pattern in patterns {
-        let text = searched_text(alloc, &asked.how, pattern)?;
+        let text = pattern_source(alloc, asked.how.fixed, pattern)?;
         texts.push(text)?;
     }
     Ok(texts)
-}
-
-/// The same, or none where a pattern is refused, which is told.
-fn texts_of(
-    rt: &HostRuntime,
-    asked: &Asked,
-    patterns: &[&str],
-) -> Result<Option<Vec<String>>, AllocError>
-    ensures { IfOk result (λ o. IfSome o
-        (λ v. map string_bytes v.items ≡ map (λ p. searched_text asked.now.how p.now) patterns.now)) }
-{
-    let alloc = rt.alloc();
-    if !asked.how.fixed {
-        if let Err(error) = parse_all(alloc, patterns, &config_of(&asked.how)) {
-            tell_refused(rt, patterns, error)?;
-            return Ok(None);
-        }
-    }
-    let texts = searched_texts(alloc, asked, patterns)?;
-    Ok(Some(texts))
 }
 
 /// Searches what a reader gives, and writes what is printed of it: the report of what was asked, under this name.
@@ -456,6 +433,20 @@ fn search_by(
     Ok(outcome)
 }
 
+/// Tells why the patterns can't be searched for, which is a failure.
+fn refuse_patterns(
+    rt: &HostRuntime,
+    asked: &Asked,
+    patterns: &[&str],
+    texts: &[&str],
+    error: SearcherError,
+) -> Result<Outcome, AllocError>
+    ensures { IfOk result (λ o. o ≡ with_failure no_outcome) }
+{
+    tell_no_finder(rt, &config_of(&asked.how), patterns, texts, error)?;
+    Ok(Outcome::failure())
+}
+
 /// Searches files for the texts of patterns. The finder is the only value of its kind that it owns, since proofs of what a function drops
 /// grow faster than what it owns.
 fn search_texts(
@@ -465,17 +456,13 @@ fn search_texts(
     texts: &[&str],
     files: &[&str],
 ) -> Result<Outcome, AllocError> {
-    let config = config_of(&asked.how);
-    match Finder::new(rt.alloc(), texts, &config, needs_spans(&asked.what)) {
+    match Finder::new(rt.alloc(), texts, &asked.how, needs_spans(&asked.what)) {
         Ok(mut finder) => {
             let outcome = search_by(rt, &mut finder, asked, files);
             drop(finder);
             outcome
         }
-        Err(error) => {
-            tell_no_finder(rt, &config, patterns, texts, error)?;
-            Ok(Outcome::failure())
-        }
+        Err(error) => refuse_patterns(rt, asked, patterns, texts, error),
     }
 }
 
@@ -487,9 +474,7 @@ pub fn search(
     files: &[&str],
 ) -> Result<Outcome, AllocError> {
     let patterns = strs_of(rt.alloc(), patterns)?;
-    let Some(texts) = texts_of(rt, asked, patterns.as_slice())? else {
-        return Ok(Outcome::failure());
-    };
+    let texts = texts_of(rt.alloc(), asked, patterns.as_slice())?;
     let words = strs_of(rt.alloc(), texts.as_slice())?;
     search_texts(rt, asked, patterns.as_slice(), words.as_slice(), files)
 }
