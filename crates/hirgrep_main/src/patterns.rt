@@ -2,7 +2,7 @@
 ghost use Rattle.std.specs.Prelude.{◌≡◌, ◌++◌, ◌∷◌, [], ℕ, List, IfOk, IfSome, IsTrue, OnOk, length, map, string_bytes};
 ghost use Rattle.std.specs.List.{flat_map};
 ghost use Rattle.clap.specs.Words.{found_of};
-ghost use Rattle.hirgrep_main.specs.Given.{ArePatterns, patterns_of_file, gives_patterns, lines_as_patterns};
+ghost use Rattle.hirgrep_main.specs.Given.{ArePatterns, patterns_of_file, gives_patterns, lines_as_patterns, pattern_in};
 
 use crate::asked::Asked;
 use crate::input::input;
@@ -38,15 +38,46 @@ pub fn lines_of(alloc: Global, text: &str) -> Result<Vec<String>, AllocError>
     Ok(patterns)
 }
 
+/// A line of a file of patterns. With `crlf` it loses the carriage return at its end.
+fn pattern_in(crlf: bool, line: &str) -> &str
+    ensures { result.now ≡ pattern_in crlf line.now }
+{
+    if !crlf {
+        return line;
+    }
+    line.strip_suffix('\r').unwrap_or(line)
+}
+
+/// Appends the patterns in the lines of a file.
+fn push_file_lines(
+    alloc: Global,
+    patterns: &mut Vec<String>,
+    crlf: bool,
+    lines: &str,
+) -> Result<(), AllocError>
+    ensures { OnOk result (map string_bytes patterns.new.items
+        ≡ map string_bytes patterns.old.items ++ map (pattern_in crlf) (lines_as_patterns lines.now)) }
+{
+    for line in lines.split('\n') {
+        push_line(alloc, patterns, pattern_in(crlf, line))?;
+    }
+    Ok(())
+}
+
 /// Appends the patterns in a file of this text, one a line; an empty file gives none.
-fn push_text(alloc: Global, patterns: &mut Vec<String>, text: &str) -> Result<(), AllocError>
-    ensures { OnOk result (map string_bytes patterns.new.items ≡ map string_bytes patterns.old.items ++ patterns_of_file text.now) }
+fn push_text(
+    alloc: Global,
+    patterns: &mut Vec<String>,
+    crlf: bool,
+    text: &str,
+) -> Result<(), AllocError>
+    ensures { OnOk result (map string_bytes patterns.new.items ≡ map string_bytes patterns.old.items ++ patterns_of_file crlf text.now) }
 {
     if text.is_empty() {
         return Ok(());
     }
     let lines = text.strip_suffix('\n').unwrap_or(text);
-    push_lines(alloc, patterns, lines)
+    push_file_lines(alloc, patterns, crlf, lines)
 }
 
 /// Appends the patterns that arguments give.
@@ -86,13 +117,13 @@ fn push_files(
     names: &[&str],
 ) -> Result<bool, AllocError>
     ensures { IfOk result (λ is_read. IsTrue is_read → (texts : List (List ℕ)) × (length texts ≡ length names.now)
-        × (map string_bytes patterns.new.items ≡ map string_bytes patterns.old.items ++ flat_map patterns_of_file texts)) }
+        × (map string_bytes patterns.new.items ≡ map string_bytes patterns.old.items ++ flat_map (patterns_of_file asked.now.how.crlf) texts)) }
 {
     for name in names {
         let Some(text) = text_of(rt, asked, name) else {
             return Ok(false);
         };
-        push_text(rt.alloc(), patterns, text.as_str())?;
+        push_text(rt.alloc(), patterns, asked.how.crlf, text.as_str())?;
     }
     Ok(true)
 }
@@ -110,7 +141,7 @@ pub fn patterns_of(
     asked: &Asked,
     matches: &ArgMatches<'_>,
 ) -> Result<Option<Vec<String>>, AllocError>
-    ensures { IfOk result (λ o. IfSome o (λ v. ArePatterns (found_of matches.now) (map string_bytes v.items))) }
+    ensures { IfOk result (λ o. IfSome o (λ v. ArePatterns asked.now.how.crlf (found_of matches.now) (map string_bytes v.items))) }
 {
     let alloc = rt.alloc();
     let mut patterns = Vec::new(alloc);
