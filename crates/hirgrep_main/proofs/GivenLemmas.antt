@@ -1,5 +1,6 @@
 -- Patterns that are appended text after text.
-use Rattle.std.proofs.Common.{◌≡◌, ◌≢◌, ◌∙◌, ◌==◌, ℕ, ◌+◌, Bool, true, false, List, [], ◌∷◌, ◌++◌, length, ap, cond, sym, refl, append_assoc, arith}
+use Rattle.std.proofs.Common.{◌≡◌, ◌≢◌, ◌∙◌, ◌==◌, ℕ, ◌+◌, Bool, true, false, List, [], ◌∷◌, ◌++◌, length}
+use Rattle.std.proofs.Common.{ap, append_assoc, arith, cond, refl, sym}
 use Rattle.std.proofs.lemmas.Bool.Decides.{nat_tests}
 use Rattle.std.specs.Prelude.{MatchOption, Option, Some, None, unwrap_or}
 use Rattle.std.specs.Borrow.{Bor}
@@ -55,8 +56,9 @@ pub files_on : (old now new : List (List ℕ)) (k : ℕ) (text : List ℕ) → A
     → AreOfFiles old new (k + 1)
 files_on old now new k text (texts, count, e) f =
     let all : flat_map patterns_of_file texts ++ patterns_of_file text ≡ flat_map patterns_of_file (texts ++ text ∷ []) =
-    ap (λ xs. flat_map patterns_of_file texts ++ xs) (sym (one_text text)) ∙ sym (flat_map-append patterns_of_file texts (text ∷ [])) in (
+    ap (λ xs. flat_map patterns_of_file texts ++ xs) (sym (one_text text)) ∙ sym (flat_map-append patterns_of_file texts (text ∷ [])) in
+    let moved = append_assoc old (flat_map patterns_of_file texts) (patterns_of_file text) in (
       texts ++ text ∷ [],
       length_push texts text ∙ ap (λ m. m + 1) count,
-      f ∙ (ap (λ m. m ++ patterns_of_file text) e ∙ (append_assoc old (flat_map patterns_of_file texts) (patterns_of_file text) ∙ ap (λ m. old ++ m) all)),
+      f ∙ (ap (λ m. m ++ patterns_of_file text) e ∙ (moved ∙ ap (λ m. old ++ m) all)),
     )
