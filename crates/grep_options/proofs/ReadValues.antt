@@ -3,7 +3,8 @@ use Rattle.std.proofs.Common.{◌≡◌, ◌∙◌, ◌<◌, ◌^◌, ℕ, ℤ, 
 use Rattle.std.specs.Prelude.{FitsSigned, Option, Some, None, Result, Ok, Err, option_and_then}
 use Rattle.std.specs.List.{list_all}
 use Rattle.std.specs.Char.{digit_value}
-use Rattle.std.specs.Str.Parse.{AllDigits, IsNumeral, ParsesSigned, ParsesUnsigned, digits_value, signed_digits_value, without_leading_plus, without_leading_sign}
+use Rattle.std.specs.Str.Parse.{AllDigits, IsNumeral, ParsesSigned, ParsesUnsigned, digits_value, signed_digits_value}
+use Rattle.std.specs.Str.Parse.{without_leading_plus, without_leading_sign}
 use Rattle.std.proofs.lemmas.Bool.Decides.{nat_tests}
 use Rattle.clap.specs.Words.{ReadsOne}
 use Rattle.grep_options.specs.Options.{integer_in, is_numeral, is_signed_word, number_in}

@@ -1,5 +1,6 @@
 -- Options that are added in turn.
-use Rattle.std.proofs.Common.{◌≡◌, ◌∙◌, ℕ, Bool, true, false, List, ◌++◌, ◌∷◌, [], ◌||◌, map, ap, sym, refl, append_assoc, slice_get, unwrap_or}
+use Rattle.std.proofs.Common.{◌≡◌, ◌∙◌, ℕ, Bool, true, false, List, ◌++◌, ◌∷◌, [], ◌||◌}
+use Rattle.std.proofs.Common.{ap, append_assoc, map, refl, sym, slice_get, unwrap_or}
 use Rattle.std.proofs.lemmas.List.{append-nil, append_cancel_left, map-append}
 use Rattle.std.specs.List.{list_any}
 use Rattle.clap.specs.Words.{AddsArg, AddsInTurn, App, Rule, args_of, rule_of}
@@ -39,8 +40,10 @@ row_by r turned_off is_global = record {
 one_added : (old : Command) (a : Arg) (new : Command) → AddsArg old a new → a.global ≡ false
     → option_rows (args_of new) ≡ option_rows (args_of old) ++ option_row a ∷ []
 one_added old a new h is_local =
-    let rules : map rule_of (args_of new) ≡ map rule_of (args_of old) ++ rule_of a ∷ [] = ap (λ (x : App). x.top.rules) (h.shape is_local) in
-    let same = append_cancel_left (map rule_of (args_of old)) _ _ (sym (map-append rule_of (args_of old) (h.arg ∷ [])) ∙ (sym (ap (map rule_of) h.args) ∙ rules)) in
+    let old_rules = map rule_of (args_of old) in
+    let rules : map rule_of (args_of new) ≡ old_rules ++ rule_of a ∷ [] = ap (λ (x : App). x.top.rules) (h.shape is_local) in
+    let arg_rules = ap (map rule_of) h.args ∙ map-append rule_of (args_of old) (h.arg ∷ []) in
+    let same = append_cancel_left old_rules _ _ (sym arg_rules ∙ rules) in
     let rule : rule_of h.arg ≡ rule_of a = ap (λ rs. unwrap_or (slice_get rs 0) (rule_of a)) same in
     let row : option_row h.arg ≡ option_row a = ap₃ row_by rule (ap (map (λ s. s.now)) h.rules.overrides) h.rules.global in
     ap option_rows h.args ∙ (map-append option_row (args_of old) (h.arg ∷ []) ∙ ap (λ r. option_rows (args_of old) ++ r ∷ []) row)

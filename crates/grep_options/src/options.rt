@@ -2,8 +2,9 @@
 ghost use Rattle.std.specs.Prelude.{◌≡◌, ◌∷◌, [], OnOk, IfOk, codes};
 ghost use Rattle.clap.specs.Words.{args_of};
 ghost use Rattle.clap.specs.declared.builder.action.ArgAction.TheVariants.{Append, Help, Set, Version};
-ghost use Rattle.grep_options.specs.CommandLine.{AddsOptions, color_option, flag, flag_over, list_options, number_options, option, options, other_options, paired_options, printing_options, quiet_option};
-ghost use Rattle.grep_options.specs.CommandLine.{option_row, option_rows, selecting_options, words_option};
+ghost use Rattle.grep_options.specs.CommandLine.{AddsOptions, color_option, flag, flag_over, list_options, number_options, option};
+ghost use Rattle.grep_options.specs.CommandLine.{option_row, option_rows, options, other_options, paired_options, printing_options};
+ghost use Rattle.grep_options.specs.CommandLine.{quiet_option, selecting_options, words_option};
 
 use clap::{Arg, ArgAction, Command, value_parser};
 use std::alloc::{AllocError, Global};
@@ -208,7 +209,8 @@ fn push_color<'a>(alloc: Global, args: &mut Vec<Arg<'a>>) -> Result<(), AllocErr
 }
 
 fn push_help<'a>(alloc: Global, args: &mut Vec<Arg<'a>>) -> Result<(), AllocError>
-    ensures { OnOk result (AddsOptions args.old.items args.new.items (option (codes "help") [] Help ∷ option (codes "version") (codes "V") Version ∷ [])) }
+    ensures { OnOk result (AddsOptions args.old.items args.new.items
+        (option (codes "help") [] Help ∷ option (codes "version") (codes "V") Version ∷ [])) }
 {
     push(args, option(alloc, "help", ArgAction::Help, "print this"))?;
     let arg = option(alloc, "version", ArgAction::Version, "print the version");

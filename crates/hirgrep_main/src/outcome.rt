@@ -1,7 +1,8 @@
 //! What comes of a search.
 ghost use Rattle.std.specs.Prelude.{◌≡◌, nat_lt};
 ghost use Rattle.hirgrep_main.specs.Decisions.{prints_nothing, status};
-ghost use Rattle.hirgrep_main.specs.Outcomes.{after_search, is_of_output, after_result, known_of, no_outcome, with_failure, with_file, with_lines};
+ghost use Rattle.hirgrep_main.specs.Outcomes.{after_result, after_search, is_of_output, known_of, no_outcome};
+ghost use Rattle.hirgrep_main.specs.Outcomes.{with_failure, with_file, with_lines};
 
 use crate::asked::Asked;
 use crate::messages::tell_fault;

@@ -3,5 +3,6 @@ use Rattle.hirgrep_main.proofs.searching.search_reader.Goals as goal
 
 pub returns-clause-continues : goal.returns-clause-continues
 returns-clause-continues g c =
-    continues_as (continues_searched c.args.task.asked.now.what.print c.args.outcome.now c.count.result c.wrote.result c.tell_reader-told.result)
+    let print = c.args.task.asked.now.what.print in
+    continues_as (continues_searched print c.args.outcome.now c.count.result c.wrote.result c.tell_reader-told.result)
     c.keep_search.ensures
