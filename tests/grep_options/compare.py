@@ -6,7 +6,7 @@ import itertools
 import os
 import random
 
-from . import crlf_rows
+from . import crlf_rows, syntax
 from .files import FILES, LARGE, PATTERN_FILES
 from .known import GREP, RIPGREP, Case
 from .options import CRLF, CRLF_FILES, OPTIONS, PATTERNS, pairs
@@ -121,6 +121,17 @@ class Comparison:
             if (wanted == got) != (note == crlf_rows.ALIKE):
                 self.tell(words, f"ripgrep has {got}, by hand {wanted}, and the row says: {note}")
 
+    def other_syntax(self, has_grep):
+        """What GNU grep reads otherwise: it neither rejects what is rejected here, nor selects the same lines."""
+        cases = [(mode, it, None) for mode, patterns in syntax.REJECTED.items() for it in patterns] + syntax.OTHER
+        for mode, pattern, lines in cases:
+            ours = self.run([self.program, "-e", pattern, "syntax"], b"")
+            printed = "".join(f"{it}\n" for it in lines or ()).encode()
+            wanted = (2, b"") if lines is None else (0 if lines else 1, printed)
+            self.check([pattern], ("hirgrep", ours), ("hand", wanted))
+            if has_grep and self.run(["grep", "-a", mode, "-e", pattern, "syntax"], b"") == wanted:
+                self.tell([pattern], f"GNU grep does the same with {mode}")
+
 
 def write_all(folder, files):
     os.mkdir(folder)
@@ -133,10 +144,11 @@ def compare_options(program, room, run, tell, tools, is_all):
     """tools are those of grep and rg that there are; run also takes the folder to run in."""
     options, returns = os.path.join(room, "options"), os.path.join(room, "returns")
     write_all(options, {**FILES, **PATTERN_FILES})
-    write_all(returns, crlf_rows.FILES)
+    write_all(returns, {**crlf_rows.FILES, "syntax": "".join(f"{it}\n" for it in syntax.LINES).encode()})
     in_options = Comparison(program, lambda words, given: run(words, options, given)[:2], tell)
     in_returns = Comparison(program, lambda words, given: run(words, returns, given)[:2], tell)
     in_returns.rows()
+    in_returns.other_syntax("grep" in tools)
     in_options.with_crlf(None if is_all else 1)
     if "grep" in tools:
         in_options.beside_grep(None if is_all else 2)
