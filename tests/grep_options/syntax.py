@@ -2,11 +2,12 @@
 docs/DIFFERENCES.md lists. What a pattern selects here is written by hand, from the grammar of the crate regex; GNU grep has to do
 otherwise, else the page says too much."""
 
-LINES = ("", "a", "b", "ab", "aa", "d", "n", "7", "ä", "]", "a]", ")", "a)", "(a)", "{", "a{", "+", "a+", "?", "|", "\\", "&", "-", "~", ".", "=", "a^", "`a'", "\t")
+LINES = ("", "a", "b", "ab", "aa", "d", "n", "7", "ä", "]", "a]", ")", "a)", "(a)", "{", "a{", "+", "a+")
+LINES += ("?", "|", "\\", "&", "-", "~", ".", "=", "a^", "`a'", "\t")
 WITH_A = ("a", "ab", "aa", "a]", "a)", "(a)", "a{", "a+", "a^", "`a'")
 
 REJECTED = {
-    "-E": [")", "a)", "*a", "+a", "?a", "(*a)", "a|*b", "{1}a", "{", "a{", "a{1", "a{x", "a{,2}b", "(a)\\1", "[a[b]", "\\y", "\\ä", "(?a)"],
+    "-E": ") a) *a +a ?a (*a) a|*b {1}a { a{ a{1 a{x a{,2}b (a)\\1 [a[b] \\y \\ä (?a)".split(),
     "-G": ["(", ")", "*a", "\\(*a\\)b)", "{", "a{", "\\(a\\)\\1", "[a[b]", "\\y"],
 }
 
