@@ -1,12 +1,12 @@
-"""Runs hirgrep with every option and every pair of options over the small files: compared with GNU grep, and with --crlf, which GNU grep
-doesn't have, with the definition (report.py). The definition is compared with GNU grep too, and with ripgrep where that has the same
---crlf."""
+"""Runs hirgrep with every option and every pair of options over the small files, and compares it with GNU grep. With --crlf, which GNU
+grep doesn't have, it is compared with the definition (report.py). The definition itself is compared with GNU grep, and with ripgrep where
+that has the same --crlf."""
 
 import itertools
 import os
 import random
 
-from . import crlf_rows
+from . import crlf_rows, syntax
 from .files import FILES, LARGE, PATTERN_FILES
 from .known import GREP, RIPGREP, Case
 from .options import CRLF, CRLF_FILES, OPTIONS, PATTERNS, pairs
@@ -51,33 +51,33 @@ def cases(options, added, names, most):
 
 
 def one_ending(result):
-    """Whether a line ends by a carriage return and a line feed, or by a line feed alone, isn't told."""
+    """The result with each line ended by a line feed alone."""
     return result[0], result[1].replace(b"\r\n", b"\n")
 
 
 class Comparison:
-    """run gives the status and what is printed for some words and an input; tell says what is wrong with words."""
+    """run returns the status and the output for some words and an input; complain prints what is wrong with words."""
 
-    def __init__(self, program, run, tell):
-        self.program, self.run, self.tell = program, run, tell
+    def __init__(self, program, run, complain):
+        self.program, self.run, self.complain = program, run, complain
 
     def check(self, words, first, second):
-        """Both are by whom, and what came: the status and what was printed."""
+        """Both are who says so, and a result."""
         if first[1] == second[1]:
             return
         rows = itertools.zip_longest(*(it[1][1].split(b"\n") for it in (first, second)))
         row = next((it for it in rows if it[0] != it[1]), "no line")
-        self.tell(words, f"status {first[1][0]} by {first[0]}, {second[1][0]} by {second[0]}; the lines that differ: {row}")
+        self.complain(words, f"status {first[1][0]} by {first[0]}, {second[1][0]} by {second[0]}; the lines that differ: {row}")
 
     def check_grep(self, case, given=b""):
         words = words_of(case)
         self.check(words, ("hirgrep", self.run([self.program, *words], given)), ("GNU grep", self.run(grep_words(case), given)))
 
-    def beside_grep(self, most):
+    def compare_with_grep(self, most):
         for case in filter(is_usable, cases(OPTIONS, (), tuple(FILES), most)):
             self.check_grep(without_known(GREP, case))
 
-    def inputs_beside_grep(self, most):
+    def compare_inputs(self, most):
         """Each option over standard input, and with a file that isn't there."""
         pick = random.Random(SEED)
         alone = [it for it in cases(OPTIONS, (), (), most) if len(it.options) < 2 and is_usable(it)]
@@ -88,19 +88,19 @@ class Comparison:
             if known.files and not case.has("-r"):
                 self.check_grep(case, FILES[name])
 
-    def definition_beside_grep(self, most):
+    def compare_definition(self, most):
         for case in filter(is_usable, cases(OPTIONS, (), SMALL, most)):
             case = without_known(GREP, case)
             if not case.files:
                 continue
             self.check(words_of(case), ("the definition", report(case.asked(), case.data())), ("GNU grep", self.run(grep_words(case), b"")))
 
-    def with_crlf(self, most):
+    def compare_crlf(self, most):
         for case in cases(OPTIONS + CRLF_FILES, (CRLF,), SMALL, most):
             words = words_of(case)
             self.check(words, ("hirgrep", self.run([self.program, *words], b"")), ("the definition", report(case.asked(), case.data())))
 
-    def definition_beside_ripgrep(self, most):
+    def compare_definition_with_ripgrep(self, most):
         options = [it for it in OPTIONS + CRLF_FILES if it.ripgrep]
         for case in cases(options, (CRLF,), SMALL, most):
             case = without_known(RIPGREP, case)
@@ -109,17 +109,28 @@ class Comparison:
                 ours = one_ending(report(case.asked(), case.data()))
                 self.check(words, ("the definition", ours), ("ripgrep", one_ending(self.run(words, b""))))
 
-    def rows(self):
+    def check_rows(self):
         for words, status, printed, _ in crlf_rows.ROWS:
             words = ["--crlf", *words]
             self.check(words, ("hirgrep", self.run([self.program, *words], b"")), ("hand", (status, printed)))
 
-    def rows_beside_ripgrep(self):
+    def compare_rows_with_ripgrep(self):
         for words, status, printed, note in crlf_rows.ROWS:
             words = [*RIPGREP_WORDS, "--crlf", "--include-zero", *words]
             wanted, got = one_ending((status, printed)), one_ending(self.run(words, b""))
             if (wanted == got) != (note == crlf_rows.ALIKE):
-                self.tell(words, f"ripgrep has {got}, by hand {wanted}, and the row says: {note}")
+                self.complain(words, f"ripgrep has {got}, by hand {wanted}, and the row says: {note}")
+
+    def check_syntax(self, has_grep):
+        """Patterns that GNU grep reads otherwise: its result must differ from what is wanted here."""
+        cases = [(mode, it, None) for mode, patterns in syntax.REJECTED.items() for it in patterns] + syntax.OTHER
+        for mode, pattern, lines in cases:
+            ours = self.run([self.program, "-e", pattern, "syntax"], b"")
+            printed = "".join(f"{it}\n" for it in lines or ()).encode()
+            wanted = (2, b"") if lines is None else (0 if lines else 1, printed)
+            self.check([pattern], ("hirgrep", ours), ("hand", wanted))
+            if has_grep and self.run(["grep", "-a", mode, "-e", pattern, "syntax"], b"") == wanted:
+                self.complain([pattern], f"GNU grep does the same with {mode}")
 
 
 def write_all(folder, files):
@@ -129,19 +140,20 @@ def write_all(folder, files):
             file.write(data)
 
 
-def compare_options(program, room, run, tell, tools, is_all):
-    """tools are those of grep and rg that there are; run also takes the folder to run in."""
+def compare_options(program, room, run, complain, tools, is_all):
+    """tools are those of grep and rg that are installed; run also takes the folder to run in."""
     options, returns = os.path.join(room, "options"), os.path.join(room, "returns")
     write_all(options, {**FILES, **PATTERN_FILES})
-    write_all(returns, crlf_rows.FILES)
-    in_options = Comparison(program, lambda words, given: run(words, options, given)[:2], tell)
-    in_returns = Comparison(program, lambda words, given: run(words, returns, given)[:2], tell)
-    in_returns.rows()
-    in_options.with_crlf(None if is_all else 1)
+    write_all(returns, {**crlf_rows.FILES, "syntax": "".join(f"{it}\n" for it in syntax.LINES).encode()})
+    in_options = Comparison(program, lambda words, given: run(words, options, given)[:2], complain)
+    in_returns = Comparison(program, lambda words, given: run(words, returns, given)[:2], complain)
+    in_returns.check_rows()
+    in_returns.check_syntax("grep" in tools)
+    in_options.compare_crlf(None if is_all else 1)
     if "grep" in tools:
-        in_options.beside_grep(None if is_all else 2)
-        in_options.inputs_beside_grep(3)
-        in_options.definition_beside_grep(None if is_all else 1)
+        in_options.compare_with_grep(None if is_all else 2)
+        in_options.compare_inputs(3)
+        in_options.compare_definition(None if is_all else 1)
     if "rg" in tools:
-        in_returns.rows_beside_ripgrep()
-        in_options.definition_beside_ripgrep(None if is_all else 1)
+        in_returns.compare_rows_with_ripgrep()
+        in_options.compare_definition_with_ripgrep(None if is_all else 1)

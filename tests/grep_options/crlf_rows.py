@@ -87,7 +87,7 @@ ROWS = [
     (("-m", "2", "-c", "", "lines"), 0, b"2\n", ALIKE),
     (("-m0", "o", "lines"), 1, b"", ALIKE),
     (("--color=always", "one", "lines"), 0, MARKED % b"one" + b"\r\n", OTHER),
-    (("--color=always", "[a-z]+$", "foo"), 0, b"a " + MARKED % b"foo" + b"\r\n" + MARKED % b"foo" + b"\r\n" + MARKED % b"bar" + b"\n", OTHER),
+    (("--color=always", "fo+$", "foo"), 0, b"a " + MARKED % b"foo" + b"\r\n" + MARKED % b"foo" + b"\r\n", OTHER),
     (("--color=always", "-n", "^$", "lines"), 0, NUMBER % 2 + b"\r\n", OTHER),
     (("--color=always", "-o", "one", "lines"), 0, MARKED % b"one" + b"\n", OTHER),
     (("--color=always", "-v", "o", "lines"), 0, b"\r\nlast\n", ALIKE),

@@ -60,12 +60,13 @@ def is_perl_beyond_ascii(case):
     return case.pattern.syntax == "-P" and case.reads(LETTERS | BROKEN)
 
 
-def asks_for_words_beside_broken_bytes(case):
-    """Next to a byte that isn't UTF-8 `\\b` never holds for GNU grep, and `\\B` always. Here such a byte is no word for `\\b`, and `\\B` doesn't hold."""
+def asks_for_words_next_to_broken_bytes(case):
+    """Next to a byte that isn't UTF-8 `\\b` never holds for GNU grep, and `\\B` always. Here such a byte is no word for `\\b`, and `\\B`
+    doesn't hold."""
     return ("\\b" in case.pattern.text or "\\B" in case.pattern.text) and case.reads(BROKEN)
 
 
-def is_a_word_beside_broken_bytes(case):
+def is_a_word_next_to_broken_bytes(case):
     """With -w a byte that isn't UTF-8 is no word for GNU grep. Here it counts as none only next to a match's own word character."""
     return case.has("-w") and case.reads(BROKEN) and not (case.pattern.begins_and_ends_words and not case.may_be_empty())
 
@@ -127,8 +128,8 @@ GREP = [
     takes_fewer_than_none,
     takes_what_is_no_character,
     is_perl_beyond_ascii,
-    asks_for_words_beside_broken_bytes,
-    is_a_word_beside_broken_bytes,
+    asks_for_words_next_to_broken_bytes,
+    is_a_word_next_to_broken_bytes,
     is_the_empty_word,
     is_by_the_order_of_patterns,
 ]

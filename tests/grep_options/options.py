@@ -86,8 +86,10 @@ class Pattern:
     may_be_empty: bool = False
 
 
-WORDS = [Pattern(it, begins_and_ends_words=True) for it in ("ab", "a", "x", "^a", "b$", "a|x", "ab$|^x", "^(ab|x)$", "(ab)+", "a{1,2}b", "(a|b)b", "[ab]+", "x?ab", "ä", "É", "щ_1|μ", "\\w+", "[0-9]+", "\\bab\\b", "ab\\b")]
-SIGNS = [Pattern(it) for it in ("-", "a.", ".b", ".", "[^a]", "[^ab]+", "b[^a]", "\\W", "\\.", "\\s", "\\Ba", "-|a", "€.", "a.*", "\\$|\\^", " ab?")]
+WHOLE_WORDS = "ab a x ^a b$ a|x ab$|^x ^(ab|x)$ (ab)+ a{1,2}b (a|b)b [ab]+ x?ab ä É щ_1|μ \\w+ [0-9]+ \\bab\\b ab\\b"
+OTHERS = "- a. .b . [^a] [^ab]+ b[^a] \\W \\. \\s \\Ba -|a €. a.* \\$|\\^"
+WORDS = [Pattern(it, begins_and_ends_words=True) for it in WHOLE_WORDS.split()]
+SIGNS = [Pattern(it) for it in [*OTHERS.split(), " ab?"]]
 EMPTY = [Pattern(it, begins_and_ends_words=True, may_be_empty=True) for it in ("", "^", "$", "^$", "x*", "(ab)*", "a?", "ab|")]
 ANY = [Pattern(it, may_be_empty=True) for it in (".*", "^.*$", "-?", "\\W*")]
 PERL = [Pattern(it, "-P") for it in ("\\d+", "(?i:AB)", "a.+?b", "(?:ab|x)$", "a\\x62", "\\Aab", "\\S+\\s\\S", "a{2,}?|b")]
