@@ -46,7 +46,7 @@ find_running() {
     done
     [ -n "$why" ] || why=$needs advice='run it on such a system'
 }
-needs='the programs in dist/ need Linux on x86-64 with glibc 2.34 or later'
+needs='the programs in dist/ need Linux on x86-64 with SSE4.2, and glibc 2.34 or later'
 
 # Sets `system` to words that differ between two systems that share this folder, as a host and its containers do.
 name_system() {
