@@ -1,5 +1,6 @@
-# Of the programs that stand at the top: which crates each is made of, whether it is built, and the two ways to an answer. It is
+# Of the programs that stand at the top: which crates each is made of, whether it is built, and the three ways to an answer. It is
 # read by these scripts, which set `top`, the repository's folder.
+. "$top/scripts/dist.sh"
 
 # The crates that a program is made of, each after those that it uses; libraries of the toolchain have no folder here. The list of
 # crates has each crate behind those that it uses.
@@ -55,10 +56,11 @@ is_built() {
     [ -z "$(find "$@" -type f -newer "$program" -print 2>/dev/null | head -n 1)" ]
 }
 
-# Ends the script where the toolchain's command isn't there.
+# Ends the script if the toolchain's command isn't there. If dist/ was asked before, `why` says why it has no answer, and `advice` what
+# to do.
 need_rt() {
     command -v rt >/dev/null 2>&1 && return
-    echo "$1: there is no command rt on the path, and without the Rattle toolchain nothing can be run or proved" >&2
+    echo "$1: there is no command rt on the path, so nothing can be proved or built here${why:+, and $why: $advice}" >&2
     exit 2
 }
 
@@ -122,31 +124,47 @@ run_unproved() {
     try_program "$1" <"$folder/input"
 }
 
-# Answers by the program as it was built, or else with nothing proved. The program holds all that it reads and writes, so it asks for
-# its memory in large pages, of which it takes fewer; not where addresses are scarce, since it asks for some that it doesn't use.
+# Sets `program` to what answers by the name $1: what ./prove built if it is newer than dist/, else the program of dist/ that runs here,
+# else what ./prove built before. If there is none of them, fails and sets `why`.
+choose_program() {
+    why='dist/ is older than what ./prove built'
+    program=$(program_of "$1")
+    { [ ! -f "$manifest" ] || [ "$program" -nt "$manifest" ]; } && is_built "$1" && return
+    if choose_ready "$1"; then
+        program=$top/dist/$ready/$1
+        return
+    fi
+    is_built "$1"
+}
+
+# Before an unproved run: reports why it is one, or ends the script where even that can't be had.
+tell_unproved() {
+    need_rt "$1"
+    echo "$1: $why, and nothing is proved yet, so this answer is checked as it runs and no more; ./prove proves and builds the program" >&2
+}
+
+# Answers by a built program, or else with nothing proved. The program holds all that it reads and writes, so it asks for its memory in
+# large pages, of which it takes fewer; not where addresses are scarce, since it asks for some that it doesn't use.
 answer() {
-    if is_built "$1"; then
+    if choose_program "$1"; then
         tell_terminal "$1"
         if [ "$(ulimit -v)" = unlimited ]; then
             GLIBC_TUNABLES=${GLIBC_TUNABLES:-glibc.malloc.hugetlb=1:glibc.malloc.top_pad=67108864}
             export GLIBC_TUNABLES
         fi
-        exec "$(program_of "$1")"
+        exec "$program"
     fi
-    need_rt "$1"
-    echo "$1: nothing is proved yet, so this answer is checked as it runs and no more; ./prove proves and builds the program" >&2
+    tell_unproved "$1"
     tell_terminal "$1"
     run_unproved "$1"
 }
 
-# Ends with the answer of the program as it was built, with the arguments behind its name; where it isn't built, makes the folder of an
-# unproved run.
+# Ends with the answer of a built program, with the arguments behind its name; if there is none, makes the folder of an unproved run.
 answer_if_built() {
     name=$1
     shift
-    is_built "$name" && exec "$(program_of "$name")" "$@"
-    need_rt "$name"
-    echo "$name: nothing is proved yet, so this answer is checked as it runs and no more; ./prove proves and builds the program" >&2
+    choose_program "$name" && exec "$program" "$@"
+    tell_unproved "$name"
     make_folder
 }
 

@@ -6,13 +6,16 @@
         print(match.start, match.end)
 
 Haystacks are bytes, or str where the regex is made with UTF8; offsets count bytes. The shared library is libhanneddois.so beside
-this file or in ../out, or where HANNEDDOIS_LIBRARY says.
+this file or in ../out, or where ./install put it, or where HANNEDDOIS_LIBRARY says.
 """
 
 import collections
 import ctypes
 import os
 import pathlib
+
+# The path of the shared library, which ./install writes into its copy of this file.
+_INSTALLED = None
 
 (CASE_INSENSITIVE, MULTI_LINE, DOT_MATCHES_NEW_LINE, SWAP_GREED, IGNORE_WHITESPACE, CRLF, OCTAL, NO_UNICODE, UTF8, EMPTY_LOOPS, WHICH,
  RAISE_CAPACITY, NO_BYTE_CLASSES, SHRINK) = (1 << i for i in range(14))
@@ -53,7 +56,7 @@ class Error(Exception):
 def _load():
     here = pathlib.Path(__file__).resolve().parent
     places = [here / "libhanneddois.so", here.parent / "out" / "libhanneddois.so"]
-    named = os.environ.get("HANNEDDOIS_LIBRARY")
+    named = os.environ.get("HANNEDDOIS_LIBRARY") or _INSTALLED
     library = ctypes.CDLL(named or str(next((it for it in places if it.exists()), places[-1])))
     size, word = ctypes.c_size_t, ctypes.c_uint32
     handle, error, data = ctypes.POINTER(_Handle), ctypes.POINTER(_Error), ctypes.c_char_p
