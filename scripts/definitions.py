@@ -1,11 +1,11 @@
 #!/usr/bin/env python3
-"""Lists the definitions that the contract of one function rests on: each one that it cites, and each one that these cite in turn.
+"""Lists the definitions on which the contract of a function rests: each one that it cites, and each one that these cite in turn.
 
-    scripts/definitions grep_core reading tell_text
+    scripts/definitions.py grep_core reading tell_text [CLAUSE..]
 
-names the crate, the module and the function. Definitions of this repository and of the toolchain's libraries count; the standard
-library `std` and the logic's own words end the search, and so do names that are declared by code (types, traits): they are listed
-apart. Prints one line for each definition: the library, the file and the name."""
+names the crate, the module and the function, and the clauses of it that are meant, if not all. Definitions of this repository and of
+the toolchain's libraries count. Words of the standard library `std` and of the logic, and names that code declares (types and their
+variants), end the search. Prints a line for each definition: the library, the file, the name, and the comment above it."""
 import functools
 import os
 import re
@@ -13,8 +13,7 @@ import shutil
 import sys
 
 TOP = os.path.dirname(os.path.dirname(os.path.realpath(__file__)))
-WORD = r"[^\W\d][\w']*"
-NAME = re.compile(r"(?:◌?[^\s\w(){}\[\].,;:◌\"]+◌?)|" + WORD)
+NAME = re.compile(r"[^\W\d][\w']*")
 
 
 def kit():
@@ -50,16 +49,18 @@ HEAD = re.compile(r"^(?:abbrev |unfoldable )?(?:pub )?(?:abbrev |unfoldable )?(?
 
 
 def flat_lines(path):
-    """Returns the lines of a file, what stands within a module of parameters or in a mutual block as if it stood alone."""
-    inside = False
+    """Returns the lines of a file; what is within a module of parameters or a mutual block stands as if it were alone."""
+    opened = []  # the indents of the blocks that are open
     with open(path, encoding="utf-8") as file:
         for line in file.read().split("\n"):
-            if line.strip() and not line[0].isspace():
-                inside = re.match(r"module _ .*where$|(abbrev |unfoldable )?mutual$", line) is not None
-                if inside:
-                    yield ""
-                    continue
-            yield line[2:] if inside and line.startswith("  ") else line
+            indent = len(line) - len(line.lstrip())
+            while line.strip() and opened and indent <= opened[-1]:
+                opened.pop()
+            if re.match(r"\s*(module _ .*where|(abbrev |unfoldable )?mutual)$", line) and indent == 2 * len(opened):
+                opened.append(indent)
+                yield ""
+            else:
+                yield line[2 * len(opened) :] if line.startswith("  " * len(opened)) else line
 
 
 @functools.lru_cache(None)
@@ -77,10 +78,12 @@ def definitions_in(path):
             continue
         if not line[0].isspace() and not line.startswith(("use ", "pub mod ", "mod ", "pub use ", "module ")):
             head = HEAD.match(line)
-            if head and line.split()[0] not in found:
+            if line.split()[0] in found:
+                name = line.split()[0]
+            elif head:
                 name = head[2]
                 found.setdefault(name, [head[1] or "value", "", comment])
-                comment = ""
+            comment = ""
         if name:
             found[name][1] += without_comments(line) + "\n"
     for name, (kind, text, comment) in list(found.items()):
@@ -99,27 +102,33 @@ def file_of(path):
     return name if os.path.isfile(name) else None
 
 
-def contract_of(crate, module, function):
-    """Returns the text of a function's contract and the imports of its file."""
+def contract_of(crate, module, function, clauses=()):
+    """Returns the text of a function's contract, or of these clauses of it, and the text of its file."""
     with open(f"{TOP}/crates/{crate}/src/{module}.rt", encoding="utf-8") as file:
         text = file.read()
-    found = re.search(rf"(?m)^( *)(?:pub(?:\(crate\))? )?fn {function}\b.*?^\1\{{", text, re.S)
+    found = re.search(rf"(?m)^( *)pub fn {function}\b(.*?)^\1\{{$", text, re.S)
     if not found:
-        sys.exit(f"{module}.rt has no function {function}")
-    clauses = re.findall(r"(?s)\b(?:ensures|requires)\b(?:\s*\w+)?\s*\{.*?\}(?=\s*(?:ensures|requires|\{|$))", found[0])
-    head = found[0].split(" ensures ")[0].split(" requires ")[0]
-    return "\n".join(clauses), text, head
+        raise LookupError(f"crates/{crate}/src/{module}.rt has no public function {function}")
+    parts = re.split(r"(?m)^\s*(?:ensures|requires)\b\s*", found[2])[1:]
+    if clauses:
+        parts = [it for it in parts if it.split()[0] in clauses]
+        if len(parts) != len(clauses):
+            raise LookupError(f"{function} in crates/{crate}/src/{module}.rt hasn't each of the clauses {', '.join(clauses)}")
+    return "\n".join(parts), text
 
 
-def fold(crate, module, function):
-    """Returns the definitions that the contract rests on, and the words of `std` and of code that end the search."""
-    text, whole, _ = contract_of(crate, module, function)
-    reached, ends = {}, set()
-    queue = [(text, imports_of(without_comments(whole)), None)]
+def fold(functions):
+    """Returns the definitions on which the contracts of these functions rest, and the words of `std` and of code that end the search.
+    Each function is a crate, a module, a name, and the names of its clauses, if only these are meant."""
+    reached, ends, queue = {}, set(), []
+    for each in functions:
+        text, whole = contract_of(*each)
+        queue.append((text, imports_of(without_comments(whole)), None))
     while queue:
         text, names, path = queue.pop(0)
-        for word in dict.fromkeys(NAME.findall(text)):
-            own = definitions_in(path) if path else {}
+        own = definitions_in(path) if path else {}
+        operators = [it for it in [*names, *own] if "◌" in it and it.replace("◌", "") in text]
+        for word in dict.fromkeys([*NAME.findall(text), *operators]):
             if word in names:
                 module_path, name = names[word]
                 file = file_of(module_path)
@@ -146,7 +155,7 @@ def fold(crate, module, function):
     return reached, ends
 
 
-def place_of(file):
+def where(file):
     """Returns the library and the file below its folder."""
     base = TOP + "/crates/" if file.startswith(TOP + "/crates/") else kit() + "/"
     name, _, rest = file[len(base) :].partition("/specs/")
@@ -154,15 +163,16 @@ def place_of(file):
 
 
 def main():
-    if len(sys.argv) != 4:
+    if len(sys.argv) < 4:
         sys.exit(__doc__)
-    reached, ends = fold(*sys.argv[1:])
+    try:
+        reached, ends = fold([(*sys.argv[1:4], tuple(sys.argv[4:]))])
+    except LookupError as error:
+        sys.exit(f"definitions: {error}")
     for file, name in reached:
-        print(*place_of(file), name, "|", reached[file, name][2])
+        library_name, inside = where(file)
+        print(f"{library_name} {inside} {name}: {reached[file, name][2]}")
     print(f"{len(reached)} definitions; {len(ends)} words of std and of code", file=sys.stderr)
-    if os.environ.get("ENDS"):
-        for it in sorted(ends):
-            print(*it, file=sys.stderr)
 
 
 if __name__ == "__main__":
