@@ -106,7 +106,8 @@ def contract_of(crate, module, function, clauses=()):
     """Returns the text of a function's contract, or of these clauses of it, and the text of its file."""
     with open(f"{TOP}/crates/{crate}/src/{module}.rt", encoding="utf-8") as file:
         text = file.read()
-    found = re.search(rf"(?m)^( *)pub fn {function}\b(.*?)^\1\{{$", text, re.S)
+    tried = [re.search(rf"(?m)^( *)pub fn {name}\b(.*?)^\1\{{$", text, re.S) for name in function.split("|")]
+    found = next((it for it in tried if it), None)
     if not found:
         raise LookupError(f"crates/{crate}/src/{module}.rt has no public function {function}")
     parts = re.split(r"(?m)^\s*(?:ensures|requires)\b\s*", found[2])[1:]
