@@ -4,7 +4,7 @@ use Rattle.std.proofs.Common.{drop-drop, append-nil, nat_eq, Some, None, nat_lt,
 use Rattle.std.proofs.lemmas.Option.{none-some, same_Some}
 use Rattle.std.proofs.lemmas.Bool.{ltb-true, ltb-false}
 use Rattle.std.specs.List.{position, position_or_len}
-use Rattle.grep_core.specs.Lines.{put_first, split_lines}
+use Rattle.grep_core.specs.Lines.{SplitLine, ended, put_first, split_lines, unended}
 
 abbrev pub is_feed : ℕ → Bool
 is_feed b = b == 10
@@ -14,8 +14,8 @@ pub first_at : (x : ℕ) (xs : List ℕ) (v : Bool) → is_feed x ≡ v →
 first_at x xs v e = ap (λ b. cond (not b) (1 + position_or_len is_feed xs) 0) e
 
 by_first : (x : ℕ) (xs more : List ℕ) (v : Bool) → is_feed x ≡ v →
-    split_lines (x ∷ (xs ++ more)) ≡ (if v then [] ∷ split_lines (xs ++ more) else put_first x (split_lines (xs ++ more)))
-by_first x xs more v e = ap (λ b. if b then [] ∷ split_lines (xs ++ more) else put_first x (split_lines (xs ++ more))) e
+    split_lines (x ∷ (xs ++ more)) ≡ (if v then ended [] ∷ split_lines (xs ++ more) else put_first x (split_lines (xs ++ more)))
+by_first x xs more v e = ap (λ b. if b then ended [] ∷ split_lines (xs ++ more) else put_first x (split_lines (xs ++ more))) e
 
 pub one_more : (n : ℕ) → 1 + n ≡ suc n
 one_more n = omega arith
@@ -26,17 +26,17 @@ two_more n = omega arith
 -- a text's first line ends at its first line feed
 abbrev IsCut : List ℕ → List ℕ → Type 0
 IsCut more text =
-    split_lines (text ++ more) ≡ take (position_or_len is_feed text) text ∷ split_lines
+    split_lines (text ++ more) ≡ ended (take (position_or_len is_feed text) text) ∷ split_lines
     (drop (position_or_len is_feed text + 1) text ++ more)
 
 cut_by : (x : ℕ) (xs more : List ℕ) → (position_or_len is_feed xs < length xs → IsCut more xs) → (v : Bool) → is_feed x ≡ v →
     position_or_len is_feed (x ∷ xs) < length (x ∷ xs) → IsCut more (x ∷ xs)
 cut_by x xs more rest true e few =
-    by_first x xs more true e ∙ sym (ap (λ k. take k (x ∷ xs) ∷ split_lines (drop (k + 1) (x ∷ xs) ++ more)) (first_at x xs true e))
+    by_first x xs more true e ∙ sym (ap (λ k. ended (take k (x ∷ xs)) ∷ split_lines (drop (k + 1) (x ∷ xs) ++ more)) (first_at x xs true e))
 cut_by x xs more rest false e few =
     by_first x xs more false e
     ∙ ap (put_first x) (rest (omega (arith, few, first_at x xs false e)))
-    ∙ sym (ap₂ (λ k j. take k (x ∷ xs) ∷ split_lines (drop j (x ∷ xs) ++ more))
+    ∙ sym (ap₂ (λ k j. ended (take k (x ∷ xs)) ∷ split_lines (drop j (x ∷ xs) ++ more))
     (first_at x xs false e ∙ one_more (position_or_len is_feed xs))
     (ap (λ k. k + 1) (first_at x xs false e) ∙ two_more (position_or_len is_feed xs)))
 
@@ -49,11 +49,11 @@ some_at true k n e = (refl, same_Some k n e)
 some_at false k n e = absurd (none-some n e)
 
 pub first_line : (text more : List ℕ) (n : ℕ) → position is_feed text ≡ Some n →
-    split_lines (text ++ more) ≡ take n text ∷ split_lines (drop (n + 1) text ++ more)
+    split_lines (text ++ more) ≡ ended (take n text) ∷ split_lines (drop (n + 1) text ++ more)
 first_line text more n e =
     let at = some_at (nat_lt (position_or_len is_feed text) (length text)) (position_or_len is_feed text) n e in
     cut text more (ltb-true (position_or_len is_feed text) (length text) at.0)
-    ∙ ap (λ k. take k text ∷ split_lines (drop (k + 1) text ++ more)) at.1
+    ∙ ap (λ k. ended (take k text) ∷ split_lines (drop (k + 1) text ++ more)) at.1
 
 pub first_within : (text : List ℕ) (n : ℕ) → position is_feed text ≡ Some n → n < length text
 first_within text n e =
@@ -64,63 +64,63 @@ none_at : (b : Bool) (k : ℕ) → cond b (Some k) None ≡ None → b ≡ false
 none_at true k e = absurd (none-some k (sym e))
 none_at false k e = refl
 
-alone_by : (x : ℕ) (xs : List ℕ) → (0 < length xs → length xs ≤ position_or_len is_feed xs → split_lines xs ≡ xs ∷ []) → (v : Bool) →
+alone_by : (x : ℕ) (xs : List ℕ) → (0 < length xs → length xs ≤ position_or_len is_feed xs → split_lines xs ≡ unended xs ∷ []) → (v : Bool) →
     is_feed x ≡ v →
-    length (x ∷ xs) ≤ position_or_len is_feed (x ∷ xs) → split_lines (x ∷ xs) ≡ (x ∷ xs) ∷ []
+    length (x ∷ xs) ≤ position_or_len is_feed (x ∷ xs) → split_lines (x ∷ xs) ≡ unended (x ∷ xs) ∷ []
 alone_by x xs rest true e many = absurd (omega (arith, many, first_at x xs true e))
-alone_by x [] rest false e many = ap (λ b. if b then [] ∷ [] else put_first x []) e
+alone_by x [] rest false e many = ap (λ b. if b then ended [] ∷ [] else put_first x []) e
 alone_by x (y ∷ ys) rest false e many =
-    ap (λ b. if b then [] ∷ split_lines (y ∷ ys) else put_first x (split_lines (y ∷ ys))) e
+    ap (λ b. if b then ended [] ∷ split_lines (y ∷ ys) else put_first x (split_lines (y ∷ ys))) e
     ∙ ap (put_first x) (rest (omega arith) (omega (arith, many, first_at x (y ∷ ys) false e)))
 
-alone : (text : List ℕ) → 0 < length text → length text ≤ position_or_len is_feed text → split_lines text ≡ text ∷ []
+alone : (text : List ℕ) → 0 < length text → length text ≤ position_or_len is_feed text → split_lines text ≡ unended text ∷ []
 alone [] some many = absurd (omega (arith, some))
 alone (x ∷ xs) some many = alone_by x xs (alone xs) (is_feed x) refl many
 
-pub last_line : (text : List ℕ) → position is_feed text ≡ None → 0 < length text → split_lines text ≡ text ∷ []
+pub last_line : (text : List ℕ) → position is_feed text ≡ None → 0 < length text → split_lines text ≡ unended text ∷ []
 last_line [] e some = absurd (omega (arith, some))
 last_line (x ∷ xs) e some =
     alone (x ∷ xs) some (ltb-false (position_or_len is_feed (x ∷ xs)) (length (x ∷ xs))
     (none_at (nat_lt (position_or_len is_feed (x ∷ xs)) (length (x ∷ xs))) (position_or_len is_feed (x ∷ xs)) e))
 
 -- one turn of the loop over a block's lines
-pub turn : {P : Type 0} (tells : P → List (List ℕ) → List ℕ) (p q : P) (block more text piece all out new : List ℕ) (done len : ℕ) →
+pub turn : {P : Type 0} (tells : P → List SplitLine → List ℕ) (p q : P) (block more text piece all out new : List ℕ) (done len : ℕ) →
     text ≡ drop done block → position is_feed text ≡ Some len → piece ≡ take len text →
     all ≡ out ++ tells p (split_lines (drop done block ++ more)) →
-    ((lines : List (List ℕ)) → out ++ tells p (piece ∷ lines) ≡ new ++ tells q lines) →
+    ((lines : List SplitLine) → out ++ tells p (ended piece ∷ lines) ≡ new ++ tells q lines) →
     all ≡ new ++ tells q (split_lines (drop (done + (len + 1)) block ++ more))
 turn tells p q block more text piece all out new done len rest found cut so_far goes_on =
     so_far
     ∙ ap (λ t. out ++ tells p (split_lines (t ++ more))) (sym rest)
     ∙ ap (λ lines. out ++ tells p lines) (first_line text more len found)
-    ∙ ap (λ line. out ++ tells p (line ∷ split_lines (drop (len + 1) text ++ more))) (sym cut)
+    ∙ ap (λ line. out ++ tells p (ended line ∷ split_lines (drop (len + 1) text ++ more))) (sym cut)
     ∙ goes_on (split_lines (drop (len + 1) text ++ more))
     ∙ ap (λ t. new ++ tells q (split_lines (drop (len + 1) t ++ more))) rest
     ∙ ap (λ t. new ++ tells q (split_lines (t ++ more))) (drop-drop (len + 1) done block)
 
-pub turn_counted : {P : Type 0} (counts : P → List (List ℕ) → ℕ) (p q : P) (block more text piece : List ℕ) (all done len : ℕ) →
+pub turn_counted : {P : Type 0} (counts : P → List SplitLine → ℕ) (p q : P) (block more text piece : List ℕ) (all done len : ℕ) →
     text ≡ drop done block → position is_feed text ≡ Some len → piece ≡ take len text →
     counts p (split_lines (drop done block ++ more)) ≡ all →
-    ((lines : List (List ℕ)) → counts q lines ≡ counts p (piece ∷ lines)) →
+    ((lines : List SplitLine) → counts q lines ≡ counts p (ended piece ∷ lines)) →
     counts q (split_lines (drop (done + (len + 1)) block ++ more)) ≡ all
 turn_counted counts p q block more text piece all done len rest found cut so_far goes_on =
     sym (ap (λ t. counts q (split_lines (drop (len + 1) t ++ more))) rest
     ∙ ap (λ t. counts q (split_lines (t ++ more))) (drop-drop (len + 1) done block))
     ∙ goes_on (split_lines (drop (len + 1) text ++ more))
-    ∙ ap (λ line. counts p (line ∷ split_lines (drop (len + 1) text ++ more))) cut
+    ∙ ap (λ line. counts p (ended line ∷ split_lines (drop (len + 1) text ++ more))) cut
     ∙ ap (counts p) (sym (first_line text more len found))
     ∙ ap (λ t. counts p (split_lines (t ++ more))) rest
     ∙ so_far
 
 -- a last line that no line feed ends
-pub open_told : {P : Type 0} (tells : P → List (List ℕ) → List ℕ) (p q : P) (rest out new : List ℕ) → position is_feed rest ≡ None →
+pub open_told : {P : Type 0} (tells : P → List SplitLine → List ℕ) (p q : P) (rest out new : List ℕ) → position is_feed rest ≡ None →
     0 < length rest →
-    out ++ tells p (rest ∷ []) ≡ new ++ tells q [] → out ++ tells p (split_lines rest) ≡ new ++ tells q []
+    out ++ tells p (unended rest ∷ []) ≡ new ++ tells q [] → out ++ tells p (split_lines rest) ≡ new ++ tells q []
 open_told tells p q rest out new unended some told = ap (λ lines. out ++ tells p lines) (last_line rest unended some) ∙ told
 
-pub open_counted : {P : Type 0} (counts : P → List (List ℕ) → ℕ) (p q : P) (rest : List ℕ) → position is_feed rest ≡ None →
+pub open_counted : {P : Type 0} (counts : P → List SplitLine → ℕ) (p q : P) (rest : List ℕ) → position is_feed rest ≡ None →
     0 < length rest →
-    counts q [] ≡ counts p (rest ∷ []) → counts q [] ≡ counts p (split_lines rest)
+    counts q [] ≡ counts p (unended rest ∷ []) → counts q [] ≡ counts p (split_lines rest)
 open_counted counts p q rest unended some told = told ∙ sym (ap (counts p) (last_line rest unended some))
 
 pub none_open : (rest : List ℕ) → length rest ≡ 0 → split_lines rest ≡ []
@@ -128,7 +128,7 @@ none_open [] none = refl
 none_open (x ∷ xs) none = absurd (omega (arith, none))
 
 -- what is left of a text that has ended
-pub tail_told : {P : Type 0} (tells : P → List (List ℕ) → List ℕ) (p q r : P) (read rest out one two three : List ℕ) (done : ℕ) →
+pub tail_told : {P : Type 0} (tells : P → List SplitLine → List ℕ) (p q r : P) (read rest out one two three : List ℕ) (done : ℕ) →
     rest ≡ drop done read →
     out ++ tells p (split_lines (read ++ [])) ≡ one ++ tells q (split_lines (drop done read ++ [])) →
     one ++ tells q (split_lines rest) ≡ two ++ tells r [] →
@@ -140,7 +140,7 @@ tail_told tells p q r read rest out one two three done is whole unended end =
     ∙ unended
     ∙ sym end
 
-pub tail_counted : {P : Type 0} (counts : P → List (List ℕ) → ℕ) (p q r : P) (read rest : List ℕ) (done : ℕ) → rest ≡ drop done read →
+pub tail_counted : {P : Type 0} (counts : P → List SplitLine → ℕ) (p q r : P) (read rest : List ℕ) (done : ℕ) → rest ≡ drop done read →
     counts q (split_lines (drop done read ++ [])) ≡ counts p (split_lines (read ++ [])) → counts r [] ≡ counts q (split_lines rest) →
     counts r [] ≡ counts p (split_lines read)
 tail_counted counts p q r read rest done is whole unended =

@@ -14,9 +14,7 @@ use Rattle.std.proofs.lemmas.List.Elements.{All-nil, All-cons}
 use Rattle.std.proofs.lemmas.Option.{none-some, same_Some, slice_get_within, get_or_from_slice_get, slice_get-map}
 use Rattle.ucd_perl.specs.Perl.{is_word_char}
 use Rattle.regex_hir.specs.Re.{Re}
-use Rattle.regex_hir.specs.Meaning.{alt_all}
 use Rattle.regex_hir.specs.Find.{find}
-use Rattle.regex_syntax.specs.declared.Config.{Config}
 use Rattle.look_core.proofs.ForCallers.{All-left, All-right}
 use Rattle.search_types.specs.declared.anchored.Anchored.TheVariants.{No}
 use Rattle.search_types.specs.Found.{Found}
@@ -28,25 +26,28 @@ use Rattle.line_trees.specs.LineTrees.{line_tree, has_crlf, reads_feed, block_of
 use Rattle.hirscan.specs.Choices.{answer_from}
 use Rattle.hirscan.specs.LooseAnswers.{IsLooseAnswer}
 use Rattle.line_trees.proofs.ForCallers.{means_in_block, means_in_line, reads_none, feeds_kept, get_dropped}
-use Rattle.regex_pair.specs.Pairs.{Pair}
 use Rattle.earliest_ends.specs.Earliest.{IsSpanFrom, NoneEndsBefore, IsEarliestEnd, IsRefusal, looks_by}
 use Rattle.search_types.specs.declared.match_error.MatchErrorKind.{MatchErrorKind}
 use Rattle.search_types.specs.declared.match_error.MatchErrorKind.TheVariants.{Quit}
 use Rattle.pattern_text.specs.Words.{word_set}
-use Rattle.pattern_search.specs.Texts.{AreReadAs, AllMean}
+use Rattle.pattern_search.specs.Texts.{AreReadAs}
 use Rattle.pattern_search.specs.Searches.{whole_query}
-use Rattle.pattern_search.proofs.ForCallers.{answer_is_loose, finds_what_is_written}
-use Rattle.pattern_search.proofs.ForCallers.{alike_some, same_patterns}
+use Rattle.pattern_search.proofs.ForCallers.{alike_some, answer_is_loose}
+use Rattle.grep_core.specs.Bounded.{line_pattern}
+use Rattle.grep_core.specs.BoundedTrees.{AreTreesOf}
+use Rattle.grep_core.specs.Meant.{line_config}
 use Rattle.grep_core.specs.declared.candidates.Stop.{Stop}
-use Rattle.grep_core.specs.Candidates.{IsCandidatesOf, IsLineStart, HaveNoMatch, HasMatchAt, IsStop, IsStopIfAny, IsEnd}
+use Rattle.grep_core.specs.declared.patterns.How.{How}
+use Rattle.grep_core.specs.Candidates.{BlockRegex, IsCandidatesOf, IsLineStart, HaveNoMatch, HasMatchAt, IsStop, IsStopIfAny, IsEnd}
 use Rattle.grep_core.specs.Candidates.{StopsInLine}
 use Rattle.grep_core.specs.Candidates.IsStop.{least_end, quit_byte}
-use Rattle.grep_core.specs.Lines.{split_lines}
-use Rattle.grep_core.specs.Patterns.{finds_of}
+use Rattle.grep_core.specs.Lines.{ended, searched, split_lines}
+use Rattle.grep_core.specs.Patterns.{matches_in}
 use Rattle.grep_core.specs.Searchers.{line_settings}
+use Rattle.grep_core.proofs.BoundedTreeLemmas.{starts_of}
 use Rattle.grep_core.proofs.BlockLemmas.{is_feed, first_at, first_within, one_more, some_at}
 use Rattle.grep_core.proofs.JoinLemmas.{feed_there}
-use Rattle.grep_core.proofs.LineCutLemmas.{StandsIn, before_start, lines_between}
+use Rattle.grep_core.proofs.LineCutLemmas.{IsSearchedIn, StandsIn, before_start, lines_between, searched_in}
 use Rattle.grep_core.proofs.ToldLemmas.{is_search}
 
 -- of the spans that these trees mean in the block from a place on, none ends before this place
@@ -59,16 +60,14 @@ HasNone xs line = (p : ℕ) (x : Tree) (i j : ℕ) → slice_get xs p ≡ Some x
     Means (line_looks is_word_char line) line x i j → ⊥
 
 -- then the line has no match
-no_match : (config : Config) (texts : List (List ℕ)) (xs : List Tree) (res : List Re) (line : List ℕ) → AllMean config texts xs →
-    AreReadAs config texts res → All (λ b. b < 256) line → HasNone xs line → (finds_of res).has_match line ≡ false
-no_match config texts xs res line mean read bytes none =
-    let written = finds_what_is_written config texts xs mean in
-    let nothing : option_map (λ m. m.start) (find (alt_all written.patterns) line 0) ≡ option_map (λ (f : Found). f.start) None =
-    (written.starts false).loose line 0 (is_search xs line bytes) None (λ i p j starts it.
+no_match : (how : How) (texts : List (List ℕ)) (xs : List Tree) (res : List Re) (line : List ℕ) → AreTreesOf how texts xs →
+    AreReadAs (line_config how) texts res → All (λ b. b < 256) line → HasNone xs line → matches_in how res line ≡ false
+no_match how texts xs res line mean read bytes none =
+    let nothing : option_map (λ m. m.start) (find (line_pattern how res) line 0) ≡ option_map (λ (f : Found). f.start) None =
+    (starts_of how texts xs mean res read).loose line 0 (is_search xs line bytes) None (λ i p j starts it.
     none p it.findable.span.tree i j it.findable.span.listed
     (starts_at No 0 (length line) i starts).to_last it.findable.within it.findable.span.means) in
-    sym (ap (λ rs. (finds_of rs).has_match line) (same_patterns config texts written.patterns res written.are_read read))
-    ∙ alike_some (λ m. m.start) (λ (f : Found). f.start) (find (alt_all written.patterns) line 0) None nothing
+    alike_some (λ m. m.start) (λ (f : Found). f.start) (find (line_pattern how res) line 0) None nothing
 
 of_listed : (P : Tree → Type 0) (xs : List Tree) (p : ℕ) (x : Tree) → slice_get xs p ≡ Some x → All P xs → P x
 of_listed P xs p x listed all = subst P (get_or_from_slice_get xs p x x listed) (all p x (slice_get_within xs p x listed))
@@ -77,22 +76,22 @@ plain_at : (xs : List Tree) (p : ℕ) (x : Tree) → slice_get xs p ≡ Some x �
 plain_at xs p x listed all = of_listed (λ y. has_crlf y ≡ false) xs p x listed all
 
 -- a span in a line that stands in the block is one of its line tree in the block, which ends in that line
-none_in : (xs : List Tree) (block : List ℕ) (at x : ℕ) (line : List ℕ) → All (λ y. has_crlf y ≡ false) xs →
-    EndNotBefore (map line_tree xs) block at x → StandsIn block at x line → HasNone xs line
-none_in xs block at x line plain least s p tree i j listed low high means =
-    let there : Means (line_looks is_word_char (block_of s.before line s.after)) (block_of s.before line s.after) (line_tree tree)
+none_in : (crlf : Bool) (xs : List Tree) (block : List ℕ) (at x : ℕ) (line : List ℕ) → All (λ y. has_crlf y ≡ false) xs →
+    EndNotBefore (map (line_tree crlf) xs) block at x → IsSearchedIn crlf block at x line → HasNone xs line
+none_in crlf xs block at x line plain least s p tree i j listed low high means =
+    let there : Means (line_looks is_word_char (block_of s.before line s.after)) (block_of s.before line s.after) (line_tree crlf tree)
     (length s.before + i) (length s.before + j) =
-    means_in_block is_word_char s.before line s.after tree word_set s.between (plain_at xs p tree listed plain) i j low means in
-    let here : Means (looks_by is_word_char line_settings block) block (line_tree tree) (length s.before + i) (length s.before + j) =
-    subst (λ (h : List ℕ). Means (line_looks is_word_char h) h (line_tree tree) (length s.before + i) (length s.before + j))
+    means_in_block crlf is_word_char s.before line s.after tree word_set s.between (plain_at xs p tree listed plain) i j low means in
+    let here : Means (looks_by is_word_char line_settings block) block (line_tree crlf tree) (length s.before + i) (length s.before + j) =
+    subst (λ (h : List ℕ). Means (line_looks is_word_char h) h (line_tree crlf tree) (length s.before + i) (length s.before + j))
     (sym s.whole) there in
     let long : length block ≡ length s.before + (length line + length s.after) =
     ap length s.whole ∙ length-append s.before (line ++ s.after) ∙ ap (λ n. length s.before + n) (length-append line s.after) in
-    let span : IsSpanFrom (map line_tree xs) (looks_by is_word_char line_settings block) block at (length block) p (length s.before + i)
+    let span : IsSpanFrom (map (line_tree crlf) xs) (looks_by is_word_char line_settings block) block at (length block) p (length s.before + i)
     (length s.before + j) =
     record {
-      tree = line_tree tree;
-      listed = slice_get-map line_tree xs p ∙ ap (option_map line_tree) listed;
+      tree = line_tree crlf tree;
+      listed = slice_get-map (line_tree crlf) xs p ∙ ap (option_map (line_tree crlf)) listed;
       means = here;
       from = omega (arith, s.from);
       within = omega (arith, long, high);
@@ -100,15 +99,15 @@ none_in xs block at x line plain least s p tree i j listed low high means =
     absurd (omega (arith, least p (length s.before + i) (length s.before + j) span, s.ends, high))
 
 -- no line that ends before the place has a match
-pub have_none : (config : Config) (texts : List (List ℕ)) (p : Pair × Bool) (block text : List ℕ) (at x : ℕ) →
-    (it : IsCandidatesOf config texts p) →
-    All (λ b. b < 256) block → EndNotBefore (map line_tree it.trees) block at x → All (StandsIn block at x) (split_lines text) →
-    HaveNoMatch config texts text
-have_none config texts p block text at x it bytes least all res read k line below =
-    let s = all k line below in
-    no_match config texts it.trees res _ it.mean read
+pub have_none : (how : How) (texts : List (List ℕ)) (p : BlockRegex) (block text : List ℕ) (at x : ℕ) →
+    (it : IsCandidatesOf how texts p) →
+    All (λ b. b < 256) block → EndNotBefore (map (line_tree how.crlf) it.trees) block at x → All (StandsIn block at x) (split_lines text) →
+    HaveNoMatch how texts text
+have_none how texts p block text at x it bytes least all res read k line below =
+    let s = searched_in block at x how.crlf _ (all k line below) in
+    no_match how texts it.trees res _ it.mean read
     (All-left (λ b. b < 256) _ s.after (All-right (λ b. b < 256) s.before _ (subst (All (λ b. b < 256)) s.whole bytes)))
-    (none_in it.trees block at x _ it.plain least s)
+    (none_in how.crlf it.trees block at x _ it.plain least s)
 
 -- ---- what a search tells
 pub end_told : (xs : List Tree) (block : List ℕ) (at : ℕ) (o : Option ℕ) →
@@ -157,32 +156,32 @@ stops_in_line xs block at start x stop fits none = record {
 }
 
 -- ---- what is passed over
-nothing_between : (config : Config) (texts : List (List ℕ)) (block : List ℕ) (at next : ℕ) → next ≤ at →
-    HaveNoMatch config texts (slice_range block at next)
-nothing_between config texts block at next low =
+nothing_between : (how : How) (texts : List (List ℕ)) (block : List ℕ) (at next : ℕ) → next ≤ at →
+    HaveNoMatch how texts (slice_range block at next)
+nothing_between how texts block at next low =
     let none : next - at ≡ 0 = omega (arith, low) in
-    subst (λ n. HaveNoMatch config texts (take n (drop at block))) (sym none) (λ res read k line below. absurd (omega (arith, below)))
+    subst (λ n. HaveNoMatch how texts (take n (drop at block))) (sym none) (λ res read k line below. absurd (omega (arith, below)))
 
-module _ (config : Config) (texts : List (List ℕ)) (p : Pair × Bool) (block : List ℕ) (at : ℕ) (it : IsCandidatesOf config texts p)
+module _ (how : How) (texts : List (List ℕ)) (p : BlockRegex) (block : List ℕ) (at : ℕ) (it : IsCandidatesOf how texts p)
     (bytes : All (λ b. b < 256) block)
     (start : IsLineStart block at) where
-  pub all_passed : IsStopIfAny (map line_tree it.trees) block at None → HaveNoMatch config texts (slice_range block at (length block))
+  pub all_passed : IsStopIfAny (map (line_tree how.crlf) it.trees) block at None → HaveNoMatch how texts (slice_range block at (length block))
   all_passed none = elim (cases_lt at (length block)) [
     | inl less ↦
-        have_none config texts p block (slice_range block at (length block)) at (suc (length block)) it bytes
+        have_none how texts p block (slice_range block at (length block)) at (suc (length block)) it bytes
         (λ q i j s. absurd (none q i j s))
         (lines_between block at (length block) (suc (length block)) start less (omega arith) (omega arith) (inr (refl, omega arith)))
-    | inr over ↦ nothing_between config texts block at (length block) over
+    | inr over ↦ nothing_between how texts block at (length block) over
   ]
 
-  pub lines_passed : (place next : ℕ) → IsStop (map line_tree it.trees) block at place → next ≤ length block →
-      (at < next → next ≤ place) → (at < next → slice_get block (next - 1) ≡ Some 10) → HaveNoMatch config texts (slice_range block at next)
+  pub lines_passed : (place next : ℕ) → IsStop (map (line_tree how.crlf) it.trees) block at place → next ≤ length block →
+      (at < next → next ≤ place) → (at < next → slice_get block (next - 1) ≡ Some 10) → HaveNoMatch how texts (slice_range block at next)
   lines_passed place next stop within fits feed = elim (cases_lt at next) [
     | inl less ↦
-        have_none config texts p block (slice_range block at next) at place it bytes
-        (none_before (map line_tree it.trees) block at place stop)
+        have_none how texts p block (slice_range block at next) at place it bytes
+        (none_before (map (line_tree how.crlf) it.trees) block at place stop)
         (lines_between block at next place start less within (fits less) (inl (feed less)))
-    | inr over ↦ nothing_between config texts block at next over
+    | inr over ↦ nothing_between how texts block at next over
   ]
 
 -- ---- a line that is known to have a match
@@ -193,20 +192,17 @@ no_answer xs line None loose none = loose
 no_answer xs line (Some f) loose none = cc
 
 -- where a tree means a span of the line, the line has a match
-has_of : (config : Config) (texts : List (List ℕ)) (xs : List Tree) (res : List Re) (line : List ℕ) → AllMean config texts xs →
-    AreReadAs config texts res → All (λ b. b < 256) line → (p : ℕ) (x : Tree) (i j : ℕ) → slice_get xs p ≡ Some x →
+has_of : (how : How) (texts : List (List ℕ)) (xs : List Tree) (res : List Re) (line : List ℕ) → AreTreesOf how texts xs →
+    AreReadAs (line_config how) texts res → All (λ b. b < 256) line → (p : ℕ) (x : Tree) (i j : ℕ) → slice_get xs p ≡ Some x →
     i ≤ length line → j ≤ length line →
-    Means (line_looks is_word_char line) line x i j → (has : Bool) → (finds_of res).has_match line ≡ has →
-    true ≡ (finds_of res).has_match line
-has_of config texts xs res line mean read bytes p x i j listed low high means true is = sym is
-has_of config texts xs res line mean read bytes p x i j listed low high means false is =
-    let written = finds_what_is_written config texts xs mean in
-    let same = same_patterns config texts written.patterns res written.are_read read in
+    Means (line_looks is_word_char line) line x i j → (has : Bool) → matches_in how res line ≡ has → true ≡ matches_in how res line
+has_of how texts xs res line mean read bytes p x i j listed low high means true is = sym is
+has_of how texts xs res line mean read bytes p x i j listed low high means false is =
     let none : is_some (answer_from (whole_query false xs line) 0) ≡ false =
-    sym (alike_some (λ m. m.start) (λ (f : Found). f.start) (find (alt_all written.patterns) line 0)
+    sym (alike_some (λ m. m.start) (λ (f : Found). f.start) (find (line_pattern how res) line 0)
     (answer_from (whole_query false xs line) 0)
-    ((written.starts false).preferred line 0 (is_search xs line bytes)))
-    ∙ ap (λ rs. (finds_of rs).has_match line) same ∙ is in
+    ((starts_of how texts xs mean res read).preferred line 0 (is_search xs line bytes)))
+    ∙ is in
     absurd (no_answer xs line (answer_from (whole_query false xs line) 0) (answer_is_loose (whole_query false xs line) 0) none i p j
     (may_start_at No 0 (length line) i (omega arith) (omega arith) low)
     (record {
@@ -220,10 +216,10 @@ has_of config texts xs res line mean read bytes p x i j listed low high means fa
     }))
 
 -- the tree of a line tree
-tree_of_line : (xs : List Tree) (p : ℕ) (y : Tree) (o : Option Tree) → slice_get xs p ≡ o → option_map line_tree o ≡ Some y →
-    (x : Tree) × (slice_get xs p ≡ Some x) × (line_tree x ≡ y)
+tree_of_line : (xs : List Tree) (p : ℕ) (y : Tree) (o : Option Tree) → slice_get xs p ≡ o → option_map (line_tree false) o ≡ Some y →
+    (x : Tree) × (slice_get xs p ≡ Some x) × (line_tree false x ≡ y)
 tree_of_line xs p y None is e = absurd (none-some y e)
-tree_of_line xs p y (Some x) is e = (x, is, same_Some (line_tree x) y e)
+tree_of_line xs p y (Some x) is e = (x, is, same_Some (line_tree false x) y e)
 
 dropped : (xs : List ℕ) (n b : ℕ) → slice_get xs n ≡ Some b → drop n xs ≡ b ∷ drop (suc n) xs
 dropped [] n b e = absurd (none-some b e)
@@ -256,19 +252,19 @@ not_past block at len place none feed = elim (cases_lt (at + len) place) [
 
 -- the span that ends there is of this line tree
 abbrev LineSpan : List Tree → List ℕ → ℕ → ℕ → Type 0
-LineSpan xs block at place = IsEnd (map line_tree xs) block at place
+LineSpan xs block at place = IsEnd (map (line_tree false) xs) block at place
 
 line_tree_of : (xs : List Tree) (block : List ℕ) (at place : ℕ) (end : LineSpan xs block at place) →
-    (x : Tree) × (slice_get xs end.0 ≡ Some x) × (line_tree x ≡ end.1.span.tree)
+    (x : Tree) × (slice_get xs end.0 ≡ Some x) × (line_tree false x ≡ end.1.span.tree)
 line_tree_of xs block at place end =
-    tree_of_line xs end.0 end.1.span.tree (slice_get xs end.0) refl (sym (slice_get-map line_tree xs end.0) ∙ end.1.span.listed)
+    tree_of_line xs end.0 end.1.span.tree (slice_get xs end.0) refl (sym (slice_get-map (line_tree false) xs end.0) ∙ end.1.span.listed)
 
 -- a span that starts in a line and ends before the end of that line is one of the line
-match_here : (config : Config) (texts : List (List ℕ)) (p : Pair × Bool) (block : List ℕ) (at start place : ℕ) →
-    (it : IsCandidatesOf config texts p) →
+match_here : (how : How) (texts : List (List ℕ)) (p : BlockRegex) (block : List ℕ) (at start place : ℕ) →
+    (it : IsCandidatesOf how texts p) → how.crlf ≡ false →
     All (λ b. b < 256) block → IsLineStart block start → start ≤ length block → (end : LineSpan it.trees block at place) →
-    start ≤ end.1.start → HasNoFeedFrom block start place → HasMatchAt config texts block start
-match_here config texts p block at start place it bytes starts inside end from none len found res read =
+    start ≤ end.1.start → HasNoFeedFrom block start place → HasMatchAt how texts block start
+match_here how texts p block at start place it lone bytes starts inside end from none len found res read =
     let text : List ℕ = drop start block in
     let feed : slice_get text len ≡ Some 10 = feed_there text len found in
     let few : len < length text = first_within text len found in
@@ -285,13 +281,13 @@ match_here config texts p block at start place it bytes starts inside end from n
     let low : end.1.start ≡ length (take start block) + (end.1.start - start) = omega (arith, front, from) in
     let high : place ≡ length (take start block) + (place - start) = omega (arith, front, from, forward) in
     let short : place - start ≤ length (take len text) = omega (arith, early, size) in
-    let there : Means (looks_by is_word_char line_settings block) block (line_tree y.0) (length (take start block) + (end.1.start - start))
+    let there : Means (looks_by is_word_char line_settings block) block (line_tree false y.0) (length (take start block) + (end.1.start - start))
     (length (take start block) + (place - start)) =
     subst (λ t. Means (looks_by is_word_char line_settings block) block t (length (take start block) + (end.1.start - start))
     (length (take start block) + (place - start))) (sym y.2)
     (subst (λ j. Means (looks_by is_word_char line_settings block) block span.tree (length (take start block) + (end.1.start - start)) j)
     high (subst (λ i. Means (looks_by is_word_char line_settings block) block span.tree i place) low span.means)) in
-    let here = subst (λ (h : List ℕ). Means (line_looks is_word_char h) h (line_tree y.0)
+    let here = subst (λ (h : List ℕ). Means (line_looks is_word_char h) h (line_tree false y.0)
     (length (take start block) + (end.1.start - start)) (length (take start block) + (place - start)))
     whole there in
     let means = means_in_line is_word_char (take start block) (take len text) (drop len text) y.0 word_set (record {
@@ -299,11 +295,12 @@ match_here config texts p block at start place it bytes starts inside end from n
       ends = inr (drop (suc len) text, cut);
       without_feed = without_feed text len found;
     }) (plain_at it.trees end.0 y.0 y.1 it.plain) (end.1.start - start) (place - start) short here in
-    has_of config texts it.trees res (take len text) it.mean read
+    has_of how texts it.trees res (take len text) it.mean read
     (All-left (λ b. b < 256) (take len text) (drop len text)
     (All-right (λ b. b < 256) (take start block) _ (subst (All (λ b. b < 256)) whole bytes)))
     end.0 y.0 (end.1.start - start) (place - start) y.1 (omega (arith, forward, short)) short means
-    ((finds_of res).has_match (take len text)) refl
+    (matches_in how res (take len text)) refl
+    ∙ sym (ap (λ v. matches_in how res (searched v (ended (take len text)))) lone)
 
 -- a span without line feeds that ends in a line starts there
 starts_here : (xs : List Tree) (block : List ℕ) (at start place : ℕ) → All (λ x. reads_feed x ≡ false) xs →
@@ -314,7 +311,7 @@ starts_here xs block at start place feedless end before feed = elim (cases_lt en
       let span = end.1.span in
       let y = line_tree_of xs block at place end in
       let reads : reads_feed span.tree ≡ false =
-      ap reads_feed (sym y.2) ∙ feeds_kept y.0 ∙ of_listed (λ x. reads_feed x ≡ false) xs end.0 y.0 y.1 feedless in
+      ap reads_feed (sym y.2) ∙ feeds_kept false y.0 ∙ of_listed (λ x. reads_feed x ≡ false) xs end.0 y.0 y.1 feedless in
       let over : at < start = omega (arith, span.from, less) in
       absurd (reads_none (looks_by is_word_char line_settings block) block span.tree end.1.start place reads span.means (start - 1)
       (omega (arith, less)) (omega (arith, less, before over)) (feed over))
@@ -328,21 +325,26 @@ line_starts_at block at start starts from feed = elim (cases_lt at start) [
   | inr same ↦ let is : at ≡ start = omega (arith, same, from) in subst (IsLineStart block) is starts
 ]
 
-known_by : (e f s : Bool) → (e && (f || s)) ≡ true → (e ≡ true) × ((f ≡ true) ⊎ (s ≡ true))
-known_by e f s known =
+known_by : (c e f s : Bool) → (not c && (e && (f || s))) ≡ true → (c ≡ false) × ((e ≡ true) × ((f ≡ true) ⊎ (s ≡ true)))
+known_by true e f s known = absurd (true≢false (sym known))
+known_by false e f s known =
     let both = and_parts e (f || s) known in
-    (both.0, or_cases f s both.1)
+    (refl, (both.0, or_cases f s both.1))
 
 -- where a match ends in a line that can't have begun before it, the line has one
-pub match_known : (config : Config) (texts : List (List ℕ)) (p : Pair × Bool) (block : List ℕ) (at start place : ℕ) (ends : Bool) →
-    (it : IsCandidatesOf config texts p) → All (λ b. b < 256) block → IsLineStart block at → start ≤ length block → at ≤ start →
+pub match_known : (how : How) (texts : List (List ℕ)) (p : BlockRegex) (block : List ℕ) (at start place : ℕ) (ends : Bool) →
+    (it : IsCandidatesOf how texts p) → All (λ b. b < 256) block → IsLineStart block at → start ≤ length block → at ≤ start →
     (at < start → start ≤ place) → (at < start → slice_get block (start - 1) ≡ Some 10) →
-    (ends ≡ true → LineSpan it.trees block at place) → HasNoFeedFrom block start place → (ends && (p.1 || start == at)) ≡ true →
-    HasMatchAt config texts block start
-match_known config texts p block at start place ends it bytes starts inside from before feed end none known =
-    let by = known_by ends p.1 (start == at) known in
-    let span = end by.0 in
-    match_here config texts p block at start place it bytes (line_starts_at block at start starts from feed) inside span
+    (ends ≡ true → IsEnd (map (line_tree how.crlf) it.trees) block at place) → HasNoFeedFrom block start place →
+    (not p.crlf && (ends && (p.feedless || start == at))) ≡ true →
+    HasMatchAt how texts block start
+match_known how texts p block at start place ends it bytes starts inside from before feed end none known =
+    let all = known_by p.crlf ends p.feedless (start == at) known in
+    let by = all.1 in
+    let lone : how.crlf ≡ false = sym it.same ∙ all.0 in
+    let span : LineSpan it.trees block at place =
+    subst (λ (v : Bool). IsEnd (map (line_tree v) it.trees) block at place) lone (end by.0) in
+    match_here how texts p block at start place it lone bytes (line_starts_at block at start starts from feed) inside span
     (elim by.1 [
       | inl feedless ↦ starts_here it.trees block at start place (it.feedless feedless) span before feed
       | inr same ↦ let is : start ≡ at = eqb-true start at same in omega (arith, is, span.1.span.from)

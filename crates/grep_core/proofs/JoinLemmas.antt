@@ -10,7 +10,7 @@ use Rattle.std.specs.List.{position, position_or_len}
 use Rattle.line_trees.specs.LineTrees.{HasNoFeedFrom}
 use Rattle.line_trees.proofs.ForCallers.{get_dropped}
 use Rattle.grep_core.specs.Candidates.{IsLineStart}
-use Rattle.grep_core.specs.Lines.{split_lines}
+use Rattle.grep_core.specs.Lines.{SplitLine, ended, split_lines}
 use Rattle.grep_core.specs.Passing.{AreWhole}
 use Rattle.grep_core.proofs.BlockLemmas.{is_feed, first_at, one_more, some_at, turn, turn_counted}
 use Rattle.grep_core.proofs.LineCutLemmas.{before_start}
@@ -99,17 +99,17 @@ starts_behind block text at len next rest found is some =
     let place : next - 1 ≡ at + len = omega (arith, is) in
     ap (slice_get block) place ∙ sym (get_dropped at block len) ∙ sym (ap (λ t. slice_get t len) rest) ∙ feed_there text len found
 
-pub here_told : {P : Type 0} (tells : P → List (List ℕ) → List ℕ) (p q : P) (block more text piece out new : List ℕ) (at len next : ℕ) →
+pub here_told : {P : Type 0} (tells : P → List SplitLine → List ℕ) (p q : P) (block more text piece out new : List ℕ) (at len next : ℕ) →
     text ≡ drop at block → position is_feed text ≡ Some len → piece ≡ take len text → next ≡ at + (len + 1) →
-    ((lines : List (List ℕ)) → out ++ tells p (piece ∷ lines) ≡ new ++ tells q lines) →
+    ((lines : List SplitLine) → out ++ tells p (ended piece ∷ lines) ≡ new ++ tells q lines) →
     out ++ tells p (split_lines (drop at block ++ more)) ≡ new ++ tells q (split_lines (drop next block ++ more))
 here_told tells p q block more text piece out new at len next rest found cut is goes_on =
     turn tells p q block more text piece (out ++ tells p (split_lines (drop at block ++ more))) out new at len rest found cut refl goes_on
     ∙ sym (ap (λ n. new ++ tells q (split_lines (drop n block ++ more))) is)
 
-pub here_counted : {P : Type 0} (counts : P → List (List ℕ) → ℕ) (p q : P) (block more text piece : List ℕ) (at len next : ℕ) →
+pub here_counted : {P : Type 0} (counts : P → List SplitLine → ℕ) (p q : P) (block more text piece : List ℕ) (at len next : ℕ) →
     text ≡ drop at block → position is_feed text ≡ Some len → piece ≡ take len text → next ≡ at + (len + 1) →
-    ((lines : List (List ℕ)) → counts q lines ≡ counts p (piece ∷ lines)) →
+    ((lines : List SplitLine) → counts q lines ≡ counts p (ended piece ∷ lines)) →
     counts q (split_lines (drop next block ++ more)) ≡ counts p (split_lines (drop at block ++ more))
 here_counted counts p q block more text piece at len next rest found cut is goes_on =
     ap (λ n. counts q (split_lines (drop n block ++ more))) is
@@ -120,13 +120,13 @@ parted : (block more : List ℕ) (at next : ℕ) → at ≤ next → drop at blo
 parted block more at next low =
     ap (λ (t : List ℕ). t ++ more) (drop_split block at next low) ∙ append_assoc (slice_range block at next) (drop next block) more
 
-pub passed_told : {P : Type 0} (tells : P → List (List ℕ) → List ℕ) (p q : P) (block more out new : List ℕ) (at next : ℕ) → at ≤ next →
+pub passed_told : {P : Type 0} (tells : P → List SplitLine → List ℕ) (p q : P) (block more out new : List ℕ) (at next : ℕ) → at ≤ next →
     ((m : List ℕ) → out ++ tells p (split_lines (slice_range block at next ++ m)) ≡ new ++ tells q (split_lines m)) →
     out ++ tells p (split_lines (drop at block ++ more)) ≡ new ++ tells q (split_lines (drop next block ++ more))
 passed_told tells p q block more out new at next low passed =
     ap (λ t. out ++ tells p (split_lines t)) (parted block more at next low) ∙ passed (drop next block ++ more)
 
-pub passed_counted : {P : Type 0} (counts : P → List (List ℕ) → ℕ) (p q : P) (block more : List ℕ) (at next : ℕ) → at ≤ next →
+pub passed_counted : {P : Type 0} (counts : P → List SplitLine → ℕ) (p q : P) (block more : List ℕ) (at next : ℕ) → at ≤ next →
     ((m : List ℕ) → counts q (split_lines m) ≡ counts p (split_lines (slice_range block at next ++ m))) →
     counts q (split_lines (drop next block ++ more)) ≡ counts p (split_lines (drop at block ++ more))
 passed_counted counts p q block more at next low passed =
@@ -167,7 +167,7 @@ rejoin block more zero (suc d) less = absurd (omega (arith, less))
 rejoin [] more (suc w) (suc d) less = refl
 rejoin (x ∷ xs) more (suc w) (suc d) less = rejoin xs more w d (omega (arith, less))
 
-pub block_told : {P : Type 0} (tells : P → List (List ℕ) → List ℕ) (p q : P) (block more all out new : List ℕ) (whole done next : ℕ) →
+pub block_told : {P : Type 0} (tells : P → List SplitLine → List ℕ) (p q : P) (block more all out new : List ℕ) (whole done next : ℕ) →
     done ≤ whole → next ≤ whole →
     all ≡ out ++ tells p (split_lines (drop done block ++ more)) →
     ((m : List ℕ) → out ++ tells p (split_lines (drop done (take whole block) ++ m)) ≡
@@ -179,7 +179,7 @@ block_told tells p q block more all out new whole done next low high so_far goes
     ∙ goes_on (drop whole block ++ more)
     ∙ ap (λ t. new ++ tells q (split_lines t)) (rejoin block more whole next high)
 
-pub block_counted : {P : Type 0} (counts : P → List (List ℕ) → ℕ) (p q : P) (block more : List ℕ) (all whole done next : ℕ) →
+pub block_counted : {P : Type 0} (counts : P → List SplitLine → ℕ) (p q : P) (block more : List ℕ) (all whole done next : ℕ) →
     done ≤ whole → next ≤ whole →
     counts p (split_lines (drop done block ++ more)) ≡ all →
     ((m : List ℕ) → counts q (split_lines (drop next (take whole block) ++ m)) ≡

@@ -1,4 +1,6 @@
 mod BlockLemmas
+mod BoundedLemmas
+mod BoundedTreeLemmas
 mod CourseLemmas
 mod FallbackLemmas
 mod FeedLemmas
@@ -6,12 +8,11 @@ mod HeldLemmas
 mod JoinLemmas
 mod LoopLemmas
 mod MarkLemmas
-mod MeantLemmas
 mod NeededLemmas
 mod NumberLemmas
 mod PassLemmas
-mod RegexLemmas
 mod ReportRows
+mod ReturnLemmas
 mod RunLemmas
 mod SeenLemmas
 mod SpanLemmas

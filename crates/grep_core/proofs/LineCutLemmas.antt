@@ -8,10 +8,12 @@ use Rattle.std.proofs.lemmas.List.{length-take-le, drop_all}
 use Rattle.std.proofs.lemmas.List.Elements.{All-nil, All-cons, All-head, All-tail, All-append}
 use Rattle.std.proofs.lemmas.List.Folds.{drop_split}
 use Rattle.std.proofs.lemmas.Option.{none-some, same_Some}
-use Rattle.line_trees.specs.LineTrees.{IsLineBetween, block_of}
+use Rattle.search_core.specs.Text.{byte_before}
+use Rattle.look_core.proofs.ForCallers.{All-left}
+use Rattle.line_trees.specs.LineTrees.{FollowsLine, IsLineBetween, block_of}
 use Rattle.line_trees.proofs.ForCallers.{get_taken, get_dropped}
 use Rattle.grep_core.specs.Candidates.{IsLineStart}
-use Rattle.grep_core.specs.Lines.{put_first, split_lines}
+use Rattle.grep_core.specs.Lines.{SplitLine, ended, put_first, searched, split_lines, unended, without_return}
 
 abbrev pub HasNoFeed : List ℕ → Type 0
 HasNoFeed line = All (λ b. b ≢ 10) line
@@ -20,14 +22,30 @@ HasNoFeed line = All (λ b. b ≢ 10) line
 abbrev pub IsBefore : List ℕ → Type 0
 IsBefore before = (before ≡ []) ⊎ ((front : List ℕ) × (before ≡ front ++ (10 ∷ [])))
 
--- the line stands in the block, at this place or behind it, and ends before x
-pub record StandsIn (block : List ℕ) (at x : ℕ) (line : List ℕ) : Type 0 where
+-- what follows a line in the block: its line feed and more, or nothing
+abbrev pub Ending : Bool → List ℕ → Type 0
+Ending true after = (rest : List ℕ) × (after ≡ 10 ∷ rest)
+Ending false after = after ≡ []
+
+-- the line stands in the block, at this offset or after it, and ends before x
+pub record StandsIn (block : List ℕ) (at x : ℕ) (line : SplitLine) : Type 0 where
   pub before : List ℕ
   pub after : List ℕ
-  pub between : IsLineBetween before line after
-  pub whole : block ≡ block_of before line after
+  pub starts : IsBefore before
+  pub ending : Ending line.is_ended after
+  pub without_feed : HasNoFeed line.bytes
+  pub whole : block ≡ block_of before line.bytes after
   pub from : at ≤ length before
-  pub ends : length before + length line < x
+  pub ends : length before + length line.bytes < x
+
+-- the bytes for which it is searched stand there too
+pub record IsSearchedIn (crlf : Bool) (block : List ℕ) (at x : ℕ) (bytes : List ℕ) : Type 0 where
+  pub before : List ℕ
+  pub after : List ℕ
+  pub between : IsLineBetween crlf before bytes after
+  pub whole : block ≡ block_of before bytes after
+  pub from : at ≤ length before
+  pub ends : length before + length bytes < x
 
 -- ---- how lines are split
 is_no_feed : (b : ℕ) → b ≢ 10 → (v : Bool) → (b == 10) ≡ v → (b == 10) ≡ false
@@ -35,15 +53,15 @@ is_no_feed b none true e = absurd (none (eqb-true b 10 e))
 is_no_feed b none false e = e
 
 put : (b : ℕ) (bs : List ℕ) → b ≢ 10 → split_lines (b ∷ bs) ≡ put_first b (split_lines bs)
-put b bs none = ap (λ v. if v then [] ∷ split_lines bs else put_first b (split_lines bs)) (is_no_feed b none (b == 10) refl)
+put b bs none = ap (λ v. if v then ended [] ∷ split_lines bs else put_first b (split_lines bs)) (is_no_feed b none (b == 10) refl)
 
-split_ended : (line rest : List ℕ) → HasNoFeed line → split_lines (line ++ (10 ∷ rest)) ≡ line ∷ split_lines rest
+split_ended : (line rest : List ℕ) → HasNoFeed line → split_lines (line ++ (10 ∷ rest)) ≡ ended line ∷ split_lines rest
 split_ended [] rest none = refl
 split_ended (b ∷ bs) rest none =
     put b (bs ++ (10 ∷ rest)) (All-head (λ c. c ≢ 10) b bs none)
     ∙ ap (put_first b) (split_ended bs rest (All-tail (λ c. c ≢ 10) b bs none))
 
-split_last : (b : ℕ) (bs : List ℕ) → HasNoFeed (b ∷ bs) → split_lines (b ∷ bs) ≡ (b ∷ bs) ∷ []
+split_last : (b : ℕ) (bs : List ℕ) → HasNoFeed (b ∷ bs) → split_lines (b ∷ bs) ≡ unended (b ∷ bs) ∷ []
 split_last b [] none = put b [] (All-head (λ c. c ≢ 10) b [] none)
 split_last b (c ∷ cs) none =
     put b (c ∷ cs) (All-head (λ d. d ≢ 10) b (c ∷ cs) none)
@@ -68,10 +86,12 @@ module _ (block : List ℕ) (at x : ℕ) (after : List ℕ) where
   last_line before b bs starts none whole from (inl e) = absurd (grind (arith, e.0 refl))
   last_line before b bs starts none whole from (inr e) =
       subst (All (StandsIn block at x)) (sym (split_last b bs none))
-      (All-cons (StandsIn block at x) (b ∷ bs) [] (record {
+      (All-cons (StandsIn block at x) (unended (b ∷ bs)) [] (record {
         before = before;
         after = after;
-        between = record { starts = starts; ends = inl e.0; without_feed = none };
+        starts = starts;
+        ending = e.0;
+        without_feed = none;
         whole = whole;
         from = from;
         ends = omega (arith, e.1);
@@ -107,10 +127,12 @@ module _ (block : List ℕ) (at x : ℕ) (after : List ℕ) where
       let long = length-append before (line ++ (10 ∷ [])) in
       let longer = length-append line (10 ∷ []) in
       subst (All (StandsIn block at x)) (sym (ap (λ c. split_lines (line ++ (c ∷ bs))) feed ∙ split_ended line bs none))
-      (All-cons (StandsIn block at x) line (split_lines bs) (record {
+      (All-cons (StandsIn block at x) (ended line) (split_lines bs) (record {
         before = before;
         after = 10 ∷ (bs ++ after);
-        between = record { starts = starts; ends = inr (bs ++ after, refl); without_feed = none };
+        starts = starts;
+        ending = (bs ++ after, refl);
+        without_feed = none;
         whole = here;
         from = from;
         ends = omega (arith, fits);
@@ -169,3 +191,79 @@ lines_between block at next x start low high fits end =
           get_taken (next - at) (drop at block) k (omega (arith, is, len)) ∙ get_dropped at block k ∙ ap (slice_get block) place ∙ feed),
     )
     ending (inr last) len front = inr (drop_all next block (omega (arith, last.0)), omega (arith, last.1, len, front, low))
+
+-- ---- the bytes for which a line is searched
+-- bytes end with a carriage return, which is left out, or they don't
+abbrev EndsWithout : List ℕ → Type 0
+EndsWithout bytes = (without_return bytes ≡ bytes) × (byte_before bytes (length bytes) ≢ Some 13)
+
+return_by : (b : ℕ) (v : Bool) → (b == 13) ≡ v → EndsWithout (b ∷ []) ⊎ (b ∷ [] ≡ without_return (b ∷ []) ++ (13 ∷ []))
+return_by b true e =
+    inr (ap (λ (c : ℕ). c ∷ []) (eqb-true b 13 e) ∙ ap (λ (v : Bool). (if v then [] else b ∷ []) ++ (13 ∷ [])) (sym e))
+return_by b false e = inl (
+  ap (λ (v : Bool). if v then [] else b ∷ []) e,
+  λ same. absurd (grind (arith, eq-eqb b 13 (same_Some b 13 same), e)),
+)
+
+pub returns : (bytes : List ℕ) → EndsWithout bytes ⊎ (bytes ≡ without_return bytes ++ (13 ∷ []))
+returns [] = inl (refl, λ same. absurd (none-some 13 same))
+returns (b ∷ []) = return_by b (b == 13) refl
+returns (b ∷ c ∷ bs) = elim (returns (c ∷ bs)) [
+  | inl without ↦ inl (ap (λ (t : List ℕ). b ∷ t) without.0, without.1)
+  | inr one ↦ inr (ap (λ (t : List ℕ). b ∷ t) one)
+]
+
+module _ (block : List ℕ) (at x : ℕ) where
+  -- the whole line
+  stands_whole : (crlf : Bool) (line : SplitLine) (s : StandsIn block at x line) → FollowsLine crlf line.bytes s.after →
+      IsSearchedIn crlf block at x line.bytes
+  stands_whole crlf line s follows = record {
+    before = s.before;
+    after = s.after;
+    between = record { starts = s.starts; ends = follows; without_feed = s.without_feed };
+    whole = s.whole;
+    from = s.from;
+    ends = s.ends;
+  }
+
+  follows_plain : (v : Bool) (line after : List ℕ) → Ending v after → FollowsLine false line after
+  follows_plain true line after e = inr e
+  follows_plain false line after e = inl e
+
+  -- the line without its carriage return
+  stands_cut : (bytes : List ℕ) (s : StandsIn block at x (ended bytes)) → bytes ≡ without_return bytes ++ (13 ∷ []) →
+      IsSearchedIn true block at x (without_return bytes)
+  stands_cut bytes s one =
+      let front : List ℕ = without_return bytes in
+      let long = ap length one ∙ length-append front (13 ∷ []) in
+      record {
+        before = s.before;
+        after = 13 ∷ s.after;
+        between = record {
+          starts = s.starts;
+          ends = inr (inl (s.after, refl));
+          without_feed = All-left (λ b. b ≢ 10) front (13 ∷ []) (subst (λ (t : List ℕ). HasNoFeed t) one s.without_feed);
+        };
+        whole = s.whole ∙ ap (λ (t : List ℕ). block_of s.before t s.after) one
+            ∙ ap (λ (t : List ℕ). s.before ++ t) (append_assoc front (13 ∷ []) s.after);
+        from = s.from;
+        ends = omega (arith, s.ends, long);
+      }
+
+  stands_ended : (bytes : List ℕ) → StandsIn block at x (ended bytes) → IsSearchedIn true block at x (without_return bytes)
+  stands_ended bytes s = elim (returns bytes) [
+    | inl without ↦
+        subst (λ (t : List ℕ). IsSearchedIn true block at x t) (sym without.0)
+        (stands_whole true (ended bytes) s (inr (inr (s.ending, without.1))))
+    | inr one ↦ stands_cut bytes s one
+  ]
+
+  searched_at : (crlf v : Bool) (bytes : List ℕ) → StandsIn block at x (record { bytes = bytes; is_ended = v }) →
+      IsSearchedIn crlf block at x (searched crlf (record { bytes = bytes; is_ended = v }))
+  searched_at false true bytes s = stands_whole false (ended bytes) s (follows_plain true bytes s.after s.ending)
+  searched_at false false bytes s = stands_whole false (unended bytes) s (follows_plain false bytes s.after s.ending)
+  searched_at true true bytes s = stands_ended bytes s
+  searched_at true false bytes s = stands_whole true (unended bytes) s (inl s.ending)
+
+  pub searched_in : (crlf : Bool) (line : SplitLine) → StandsIn block at x line → IsSearchedIn crlf block at x (searched crlf line)
+  searched_in crlf line s = searched_at crlf line.is_ended line.bytes s

@@ -29,13 +29,13 @@ print_alike w one two same b (Beside ∷ rs) (x ∷ xs) =
 
 module _ (w : What) (f : LineMatcher) (name : Option (List ℕ)) where
   same_spans : needs_spans w ≡ true → (line : TextLine) → told_spans (with_needed_spans w f) line ≡ told_spans f line
-  same_spans needs line = ap (λ b. filter is_some_text (if b then f.spans line.bytes else [])) needs
+  same_spans needs line = ap (λ b. filter is_some_text (if b then f.spans line.content else [])) needs
 
   unmarked : w.color ≡ false → (role : Role) (line : TextLine) (found : List (ℕ × ℕ)) →
-      printed_line w name role line found ≡ fields w name role line.number line.place ++ (line.bytes ++ 10 ∷ [])
+      printed_line w name role line found ≡ fields w name role line.number line.place ++ (line.content.bytes ++ 10 ∷ [])
   unmarked plain role line found =
       ap (λ b. fields w name role line.number line.place
-      ++ ((if b && has_marks w role then marked_from line.bytes 0 found else line.bytes) ++ 10 ∷ [])) plain
+      ++ ((if b && has_marks w role then marked_from line.content.bytes 0 found else line.content.bytes) ++ 10 ∷ [])) plain
 
   same_line : (color : Bool) → w.color ≡ color → needs_spans w ≡ w.color → (role : Role) (line : TextLine) →
       printed_line w name role line (told_spans (with_needed_spans w f) line) ≡ printed_line w name role line (told_spans f line)

@@ -13,7 +13,7 @@ use Rattle.grep_core.specs.declared.what.What.{What}
 use Rattle.grep_core.specs.Blocks.{tells_lines, counts_lines}
 use Rattle.grep_core.specs.Candidates.{IsLineStart}
 use Rattle.grep_core.specs.Courses.{Item}
-use Rattle.grep_core.specs.Lines.{numbered, split_lines}
+use Rattle.grep_core.specs.Lines.{SplitLine, numbered, split_lines}
 use Rattle.grep_core.specs.Passing.{AreWhole, MayPass, PassesTo, held_of}
 use Rattle.grep_core.specs.Report.{LineMatcher, behind_hidden, is_wanted}
 use Rattle.grep_core.specs.Selecting.{count_selected, limited}
@@ -21,14 +21,14 @@ use Rattle.grep_core.specs.Telling.{flags_behind, left_of, prints_lines, tells_a
 use Rattle.grep_core.proofs.BlockLemmas.{is_feed}
 use Rattle.grep_core.proofs.PassLemmas.{passed_over}
 
-wanted_same : (w : What) (f : LineMatcher) (i k j l : ℕ) (lines : List (List ℕ)) →
+wanted_same : (w : What) (f : LineMatcher) (i k j l : ℕ) (lines : List SplitLine) →
     map (is_wanted w f) (numbered i k lines) ≡ map (is_wanted w f) (numbered j l lines)
 wanted_same w f i k j l [] = refl
 wanted_same w f i k j l (line ∷ lines) =
-    ap (λ rest. is_wanted w f (record { number = i; place = k; bytes = line }) ∷ rest)
-    (wanted_same w f (i + 1) (k + length line + 1) (j + 1) (l + length line + 1) lines)
+    ap (λ rest. is_wanted w f (record { number = i; place = k; content = line }) ∷ rest)
+    (wanted_same w f (i + 1) (k + length line.bytes + 1) (j + 1) (l + length line.bytes + 1) lines)
 
-flags_same : (w : What) (f : LineMatcher) (n i k j l : ℕ) (lines : List (List ℕ)) →
+flags_same : (w : What) (f : LineMatcher) (n i k j l : ℕ) (lines : List SplitLine) →
     flags_behind w f n (numbered i k lines) ≡ flags_behind w f n (numbered j l lines)
 flags_same w f n i k j l lines = ap (limited (left_of w.most n)) (wanted_same w f i k j l lines)
 
@@ -46,7 +46,7 @@ module _ (t : Task) (f : LineMatcher) (number place : ℕ) (c : Telling) where
   abbrev at : ℕ → ℕ → Progress
   at i k = record { number = i; place = k; telling = c }
 
-  told_same : (i k j l : ℕ) (lines : List (List ℕ)) → prints_lines t.what.now.print ≡ false →
+  told_same : (i k j l : ℕ) (lines : List SplitLine) → prints_lines t.what.now.print ≡ false →
       tells_lines t f (at i k) lines ≡ tells_lines t f (at j l) lines
   told_same i k j l lines none =
       ap (λ flags. tells_as t.what.now.print t.what.now t.name.now t.with_name c.course c.count flags
@@ -56,7 +56,7 @@ module _ (t : Task) (f : LineMatcher) (number place : ℕ) (c : Telling) where
       (flags_behind t.what.now f c.count (numbered j l lines))
       (map (told_item f) (numbered i k lines)) (map (told_item f) (numbered j l lines)) none
 
-  counted_same : (i k j l : ℕ) (lines : List (List ℕ)) → counts_lines t f (at i k) lines ≡ counts_lines t f (at j l) lines
+  counted_same : (i k j l : ℕ) (lines : List SplitLine) → counts_lines t f (at i k) lines ≡ counts_lines t f (at j l) lines
   counted_same i k j l lines = ap (λ flags. c.count + count_selected flags) (flags_same t.what.now f c.count i k j l lines)
 
   -- lines that were passed over need not be counted

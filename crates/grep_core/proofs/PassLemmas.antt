@@ -18,7 +18,7 @@ use Rattle.grep_core.specs.declared.what.What.{What}
 use Rattle.grep_core.specs.Blocks.{tells_lines, counts_lines}
 use Rattle.grep_core.specs.Candidates.{IsLineStart}
 use Rattle.grep_core.specs.Courses.{Item, print_item, still, waiting_item}
-use Rattle.grep_core.specs.Lines.{numbered, split_lines}
+use Rattle.grep_core.specs.Lines.{SplitLine, ended, numbered, split_lines}
 use Rattle.grep_core.specs.Passing.{AreWhole, Lacks, MayPass, PassesTo, held_of}
 use Rattle.grep_core.specs.Report.{LineMatcher, before_of, after_of, behind_hidden, count_line, name_line}
 use Rattle.grep_core.specs.Selecting.{count_selected}
@@ -84,42 +84,42 @@ module _ (w : What) (name : List ℕ) (with_name : Bool) (c d : Course) (n : ℕ
 
 -- ---- lines without a match aren't selected
 module _ (w : What) (f : LineMatcher) (n : ℕ) (kept : w.invert ≡ false) where
-  abbrev items : ℕ → ℕ → List (List ℕ) → List Item
+  abbrev items : ℕ → ℕ → List SplitLine → List Item
   items number place lines = map (told_item f) (numbered number place lines)
 
-  abbrev flags : ℕ → ℕ → List (List ℕ) → List Bool
+  abbrev flags : ℕ → ℕ → List SplitLine → List Bool
   flags number place lines = flags_behind w f n (numbered number place lines)
 
-  items_on : (number place : ℕ) (lines more : List (List ℕ)) →
+  items_on : (number place : ℕ) (lines more : List SplitLine) →
       items number place (lines ++ more) ≡ items number place lines ++ items (number + length lines) (place + all_bytes lines) more
   items_on number place [] more = ap₂ (λ i k. items i k more) (no_more number) (no_more place)
   items_on number place (line ∷ lines) more =
-      ap (λ rest. told_item f (record { number = number; place = place; bytes = line }) ∷ rest)
-      (items_on (number + 1) (place + length line + 1) lines more
-      ∙ ap₂ (λ i k. items (number + 1) (place + length line + 1) lines ++ items i k more)
-      (more_first number (length lines)) (more_bytes place (length line) (all_bytes lines)))
+      ap (λ rest. told_item f (record { number = number; place = place; content = line }) ∷ rest)
+      (items_on (number + 1) (place + length line.bytes + 1) lines more
+      ∙ ap₂ (λ i k. items (number + 1) (place + length line.bytes + 1) lines ++ items i k more)
+      (more_first number (length lines)) (more_bytes place (length line.bytes) (all_bytes lines)))
 
-  as_many : (number place : ℕ) (lines : List (List ℕ)) → length (items number place lines) ≡ length lines
+  as_many : (number place : ℕ) (lines : List SplitLine) → length (items number place lines) ≡ length lines
   as_many number place [] = refl
-  as_many number place (line ∷ lines) = ap suc (as_many (number + 1) (place + length line + 1) lines)
+  as_many number place (line ∷ lines) = ap suc (as_many (number + 1) (place + length line.bytes + 1) lines)
 
-  flags_on : (number place : ℕ) (lines more : List (List ℕ)) → All (Lacks f) lines →
+  flags_on : (number place : ℕ) (lines more : List SplitLine) → All (Lacks f) lines →
       flags number place (lines ++ more)
       ≡ none_of (items number place lines) ++ flags (number + length lines) (place + all_bytes lines) more
   flags_on number place [] more lack = ap₂ (λ i k. flags i k more) (no_more number) (no_more place)
   flags_on number place (line ∷ lines) more lack =
-      flags_step w f n n false false (record { number = number; place = place; bytes = line })
-      (numbered (number + 1) (place + length line + 1) (lines ++ more)) (unselected w n kept)
+      flags_step w f n n false false (record { number = number; place = place; content = line })
+      (numbered (number + 1) (place + length line.bytes + 1) (lines ++ more)) (unselected w n kept)
       (sym ((All-head (Lacks f) line lines lack).no_match)) (no_more n)
       ∙ ap (λ rest. false ∷ rest)
-      (flags_on (number + 1) (place + length line + 1) lines more (All-tail (Lacks f) line lines lack)
-      ∙ ap₂ (λ i k. none_of (items (number + 1) (place + length line + 1) lines) ++ flags i k more)
-      (more_first number (length lines)) (more_bytes place (length line) (all_bytes lines)))
+      (flags_on (number + 1) (place + length line.bytes + 1) lines more (All-tail (Lacks f) line lines lack)
+      ∙ ap₂ (λ i k. none_of (items (number + 1) (place + length line.bytes + 1) lines) ++ flags i k more)
+      (more_first number (length lines)) (more_bytes place (length line.bytes) (all_bytes lines)))
 
-  module _ (name : List ℕ) (with_name : Bool) (c d : Course) (front last more : List (List ℕ)) (number place next_number next_place : ℕ)
+  module _ (name : List ℕ) (with_name : Bool) (c d : Course) (front last more : List SplitLine) (number place next_number next_place : ℕ)
       (lack : All (Lacks f) front) (also : All (Lacks f) last)
       (numbers : next_number ≡ number + length front) (places : next_place ≡ place + all_bytes front) where
-    abbrev tells : Course → ℕ → ℕ → List (List ℕ) → List ℕ
+    abbrev tells : Course → ℕ → ℕ → List SplitLine → List ℕ
     tells e i k lines = tells_as w.print w name with_name e n (flags i k lines) (items i k lines)
 
     flags_two : flags number place (front ++ (last ++ more))
@@ -177,7 +177,7 @@ module _ (text : List ℕ) (start : ℕ) (whole : AreWhole text) (starts : IsLin
 
   module _ (f : LineMatcher) (lack : All (Lacks f) (split_lines text)) where
     parted : All (Lacks f) (split_lines (take start text) ++ split_lines (drop start text))
-    parted = subst (λ (lines : List (List ℕ)). All (Lacks f) lines) both lack
+    parted = subst (λ (lines : List SplitLine). All (Lacks f) lines) both lack
 
     front_lack : All (Lacks f) (split_lines (take start text))
     front_lack = All-left (Lacks f) (split_lines (take start text)) (split_lines (drop start text)) parted
@@ -198,8 +198,8 @@ pub passed_over : (t : Task) (f : LineMatcher) (p : Progress) (c : Course) (numb
 passed_over t f p c number place held feeds start text part out may whole within some starts held_is enough cut counted numbers places
     same empty known =
     let w : What = t.what.now in
-    let front : List (List ℕ) = split_lines (take start text) in
-    let last : List (List ℕ) = split_lines (drop start text) in
+    let front : List SplitLine = split_lines (take start text) in
+    let last : List SplitLine = split_lines (drop start text) in
     let long = length-take-le start text within in
     let as_far : place ≡ p.place + all_bytes front =
     places ∙ ap (λ k. p.place + k) (sym (whole_bytes (take start text) (front_whole text start whole starts) ∙ long)) in
@@ -275,8 +275,8 @@ then_passes t f p q r lines rest last out mid now a b = record {
 
 pub passes_line : (t : Task) (f : LineMatcher) (p q : Progress) (block text piece out now : List ℕ) (done len : ℕ) →
     text ≡ drop done block → position is_feed text ≡ Some len → piece ≡ take len text →
-    (Lacks f piece → (lines : List (List ℕ)) → out ++ tells_lines t f p (piece ∷ lines) ≡ now ++ tells_lines t f q lines) →
-    (Lacks f piece → (lines : List (List ℕ)) → counts_lines t f q lines ≡ counts_lines t f p (piece ∷ lines)) →
+    (Lacks f (ended piece) → (lines : List SplitLine) → out ++ tells_lines t f p (ended piece ∷ lines) ≡ now ++ tells_lines t f q lines) →
+    (Lacks f (ended piece) → (lines : List SplitLine) → counts_lines t f q lines ≡ counts_lines t f p (ended piece ∷ lines)) →
     PassesTo t f p q (drop done block) (drop (done + (len + 1)) block) out now
 passes_line t f p q block text piece out now done len rest found cut told counts = record {
   lack = λ lack. others_lack f block text piece done len rest found cut lack;

@@ -6,6 +6,7 @@ use Rattle.grep_core.specs.declared.known.Known.TheVariants.{NonePrinted, Earlie
 use Rattle.grep_core.specs.declared.what.Context.{Context}
 use Rattle.grep_core.specs.declared.what.Print.TheVariants.{Lines, Matches, Count, NameIfAny, NameIfNone}
 use Rattle.grep_core.specs.declared.what.What.{What}
+use Rattle.grep_core.specs.Lines.{ended, searched, unended}
 use Rattle.grep_core.specs.Report.{LineMatcher, report}
 
 -- each `a` is a match
@@ -18,7 +19,7 @@ has_a [] = false
 has_a (b ∷ bs) = if b == 97 then true else has_a bs
 
 abbrev letters : LineMatcher
-letters = record { has_match = has_a; spans = spans_from 0 }
+letters = record { has_match = λ line. has_a line.bytes; spans = λ line. spans_from 0 line.bytes }
 
 -- a line, with text behind it
 abbrev line : List ℕ → List ℕ → List ℕ
@@ -102,3 +103,42 @@ named = refl
 
 not_named : report (record plain { print = NameIfNone }) letters (codes "t") false NonePrinted text ≡ []
 not_named = refl
+
+-- ---- lines that end with a carriage return and a line feed; what is expected is what ripgrep 13 prints with --crlf
+abbrev is_empty : List ℕ → Bool
+is_empty [] = true
+is_empty (b ∷ bs) = false
+
+-- `^$`, in the bytes for which a line is searched
+abbrev empty_lines : Bool → LineMatcher
+empty_lines crlf = record { has_match = λ line. is_empty (searched crlf line); spans = λ line. (0, 0) ∷ [] }
+
+abbrev returns : List ℕ → List ℕ → List ℕ
+returns text rest = text ++ 13 ∷ 10 ∷ rest
+
+abbrev with_returns : List ℕ
+with_returns = returns (codes "one") (returns [] (returns (codes "two") (codes "last")))
+
+-- -n '^$'
+empty_lines_alone : report (record plain { numbers = true }) (empty_lines true) (codes "t") false NonePrinted with_returns
+    ≡ numbered 2 (codes ":" ++ returns [] [])
+empty_lines_alone = Prim.search (rules, common_steps)
+
+-- without --crlf no line is empty
+none_is_empty : report (record plain { print = Count }) (empty_lines false) (codes "t") false NonePrinted with_returns ≡ line (decimal 0) []
+none_is_empty = refl
+
+cut_before_the_return : searched true (ended (codes "a" ++ 13 ∷ [])) ≡ codes "a"
+cut_before_the_return = refl
+
+cut_once : searched true (ended (codes "a" ++ 13 ∷ 13 ∷ [])) ≡ codes "a" ++ 13 ∷ []
+cut_once = refl
+
+inside_kept : searched true (ended (codes "a" ++ 13 ∷ codes "b")) ≡ codes "a" ++ 13 ∷ codes "b"
+inside_kept = refl
+
+last_line_kept : searched true (unended (codes "a" ++ 13 ∷ [])) ≡ codes "a" ++ 13 ∷ []
+last_line_kept = refl
+
+kept_unasked : searched false (ended (codes "a" ++ 13 ∷ [])) ≡ codes "a" ++ 13 ∷ []
+kept_unasked = refl

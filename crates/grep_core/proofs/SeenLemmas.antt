@@ -4,16 +4,19 @@ use Rattle.std.proofs.Common.{refl, sym, ap, ◌∙◌, subst, arith}
 use Rattle.std.specs.Prelude.{is_some}
 use Rattle.std.specs.List.{filter}
 use Rattle.regex_hir.specs.Re.{Re}
-use Rattle.regex_hir.specs.Meaning.{alt_all}
 use Rattle.regex_hir.specs.Find.{Match, find, matches_from}
-use Rattle.regex_syntax.specs.declared.Config.{Config}
 use Rattle.hir_core.specs.Facts.{LoopsRead}
 use Rattle.regex_pair.specs.Pairs.{Pair}
 use Rattle.pattern_search.specs.Searches.{span_of_match}
+use Rattle.grep_core.specs.Bounded.{line_pattern}
+use Rattle.grep_core.specs.Meant.{line_config}
+use Rattle.grep_core.specs.declared.patterns.How.{How}
 use Rattle.grep_core.specs.declared.what.What.{What}
-use Rattle.grep_core.specs.Patterns.{finds_of}
+use Rattle.grep_core.specs.Lines.{SplitLine, searched, split_lines}
+use Rattle.grep_core.specs.Patterns.{finds_of, matches_in, spans_in}
 use Rattle.grep_core.specs.Report.{is_some_text}
-use Rattle.grep_core.specs.Searchers.{Sought, IsSearcherOf, SearchesFor}
+use Rattle.grep_core.specs.Candidates.{HaveNoMatch}
+use Rattle.grep_core.specs.Searchers.{AreTold, IsMatchTold, Sought, IsSearcherOf, SearchesFor, found_by}
 use Rattle.pattern_search.specs.Texts.{AreReadAs}
 use Rattle.grep_core.specs.Telling.{needs_spans, with_needed_spans}
 
@@ -28,30 +31,53 @@ no_spans true found e = ap (filter is_some_text) e
 no_spans false found e = refl
 
 -- a line without a match has no matches
-pub none_found : (w : What) (res : List Re) (line : List ℕ) (has : Bool) → has ≡ (finds_of res).has_match line → has ≡ false →
-    filter is_some_text ((with_needed_spans w (finds_of res)).spans line) ≡ []
-none_found w res line has told none =
-    no_spans (needs_spans w) ((finds_of res).spans line)
-    (ap (map span_of_match) (none_from (find (alt_all res) line) (length line + 1) (find (alt_all res) line 0) (sym told ∙ none)))
+pub none_found : (w : What) (how : How) (res : List Re) (line : SplitLine) (has : Bool) → has ≡ (finds_of how res).has_match line →
+    has ≡ false →
+    filter is_some_text ((with_needed_spans w (finds_of how res)).spans line) ≡ []
+none_found w how res line has told none =
+    let bytes : List ℕ = searched how.crlf line in
+    no_spans (needs_spans w) (spans_in how res bytes)
+    (ap (map span_of_match)
+    (none_from (find (line_pattern how res) bytes) (length bytes + 1) (find (line_pattern how res) bytes 0) (sym told ∙ none)))
 
 -- where matches don't count there are none
-pub none_needed : (w : What) (res : List Re) (line : List ℕ) → needs_spans w ≡ false →
-    filter is_some_text ((with_needed_spans w (finds_of res)).spans line) ≡ []
-none_needed w res line none = ap (λ b. filter is_some_text (if b then (finds_of res).spans line else [])) none
+pub none_needed : (w : What) (how : How) (res : List Re) (line : SplitLine) → needs_spans w ≡ false →
+    filter is_some_text ((with_needed_spans w (finds_of how res)).spans line) ≡ []
+none_needed w how res line none = ap (λ b. filter is_some_text (if b then (finds_of how res).spans line else [])) none
 
 -- what a finder knows of its searcher
-abbrev pub IsOwn : Config → List (List ℕ) → Bool → Pair → Type 0
-IsOwn config texts spans p = (it : IsSearcherOf config texts p) × (spans ≡ true → All LoopsRead it.trees)
+abbrev pub IsOwn : How → List (List ℕ) → Bool → Pair → Type 0
+IsOwn how texts spans p = (it : IsSearcherOf how texts p) × (spans ≡ true → All LoopsRead it.trees)
 
 -- and where they count these are all
-pub all_needed : (w : What) (res : List Re) (line : List ℕ) (found : List (ℕ × ℕ)) → needs_spans w ≡ true →
-    found ≡ filter is_some_text ((finds_of res).spans line) → found ≡ filter is_some_text ((with_needed_spans w (finds_of res)).spans line)
-all_needed w res line found needs told = told ∙ sym (ap (λ b. filter is_some_text (if b then (finds_of res).spans line else [])) needs)
+pub all_needed : (w : What) (how : How) (res : List Re) (line : SplitLine) (found : List (ℕ × ℕ)) → needs_spans w ≡ true →
+    found ≡ filter is_some_text ((finds_of how res).spans line) →
+    found ≡ filter is_some_text ((with_needed_spans w (finds_of how res)).spans line)
+all_needed w how res line found needs told =
+    told ∙ sym (ap (λ b. filter is_some_text (if b then (finds_of how res).spans line else [])) needs)
 
 -- a finder that seeks the same
 abbrev pub moved_by : {p q : Sought} {spans : Bool} → q ≡ p → SearchesFor p spans → SearchesFor q spans
 moved_by {p} {q} {spans} same by = record {
   may = λ asked. ap (λ (s : Sought). s.spans) same ∙ by.may asked;
+  how = by.how;
+  same = by.same ∙ sym (ap (λ (s : Sought). s.how) same);
   patterns = by.patterns;
-  are_read = subst (λ (s : Sought). AreReadAs s.config s.texts by.patterns) (sym same) by.are_read;
+  are_read = subst (λ (s : Sought). AreReadAs (line_config by.how) s.texts by.patterns) (sym same) by.are_read;
 }
+
+-- what is told of some bytes, for what is sought
+pub told_by : (s : Sought) (spans : Bool) (by : SearchesFor s spans) (line : List ℕ) (told : Bool) → IsMatchTold s.how s.texts line told →
+    told ≡ matches_in by.how by.patterns line
+told_by s spans by line told match =
+    subst (λ (h : How). IsMatchTold h s.texts line told) (sym by.same) match by.patterns by.are_read
+
+pub spans_by : (s : Sought) (spans : Bool) (by : SearchesFor s spans) (line : List ℕ) (told : List (ℕ × ℕ)) →
+    AreTold s.how s.texts line told → told ≡ filter is_some_text (spans_in by.how by.patterns line)
+spans_by s spans by line told all =
+    subst (λ (h : How). AreTold h s.texts line told) (sym by.same) all by.patterns by.are_read
+
+pub none_by : (s : Sought) (spans : Bool) (by : SearchesFor s spans) (text : List ℕ) → HaveNoMatch s.how s.texts text →
+    All (λ line. (found_by by).has_match line ≡ false) (split_lines text)
+none_by s spans by text none =
+    subst (λ (h : How). HaveNoMatch h s.texts text) (sym by.same) none by.patterns by.are_read

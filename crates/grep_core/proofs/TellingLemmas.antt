@@ -110,17 +110,17 @@ abbrev pub selects : What → ℕ → Bool → Bool
 selects w n has = (if w.invert then not has else has) && may_select w.most n
 
 pub flags_step : (w : What) (f : LineMatcher) (n m : ℕ) (sel has : Bool) (line : TextLine) (lines : List TextLine) → sel ≡ selects w n has →
-    has ≡ f.has_match line.bytes →
+    has ≡ f.has_match line.content →
     m ≡ n + (if sel then 1 else 0) → flags_behind w f n (line ∷ lines) ≡ sel ∷ flags_behind w f m lines
 flags_step w f n m sel has line lines is seen more =
-    let same : selects w n (f.has_match line.bytes) ≡ sel = sym (is ∙ ap (selects w n) seen) in
+    let same : selects w n (f.has_match line.content) ≡ sel = sym (is ∙ ap (selects w n) seen) in
     limited_step w.most n (is_wanted w f line) (map (is_wanted w f) lines)
     ∙ ap (λ t. t ∷ limited (left_of w.most (n + (if t then 1 else 0))) (map (is_wanted w f) lines)) same
     ∙ ap (λ k. sel ∷ limited (left_of w.most k) (map (is_wanted w f) lines)) (sym more)
 
 pub line_told : (p : Print) (w : What) (f : LineMatcher) (name : List ℕ) (with_name : Bool) (c after : Course) (n m : ℕ) (sel has : Bool)
     (line : TextLine)
-    (found : List (ℕ × ℕ)) (out new : List ℕ) (lines : List TextLine) → sel ≡ selects w n has → has ≡ f.has_match line.bytes →
+    (found : List (ℕ × ℕ)) (out new : List ℕ) (lines : List TextLine) → sel ≡ selects w n has → has ≡ f.has_match line.content →
     found ≡ told_spans f line →
     m ≡ n + (if sel then 1 else 0) →
     ((flags : List Bool) (items : List Item) →
@@ -140,7 +140,7 @@ one_counted false n flags = let e : (n + 0) + count_selected flags ≡ n + count
 
 pub line_counted : (w : What) (f : LineMatcher) (n m : ℕ) (sel has : Bool) (line : TextLine) (lines : List TextLine) →
     sel ≡ selects w n has →
-    has ≡ f.has_match line.bytes →
+    has ≡ f.has_match line.content →
     m ≡ n + (if sel then 1 else 0) → m + count_selected (flags_behind w f m lines) ≡ n + count_selected (flags_behind w f n (line ∷ lines))
 line_counted w f n m sel has line lines is seen more =
     ap (λ k. k + count_selected (flags_behind w f m lines)) more

@@ -4,13 +4,13 @@ use Rattle.std.proofs.Common.{count_by, if◌then◌else◌, refl, sym, ap, ◌�
 use Rattle.std.proofs.lemmas.List.{drop_all}
 use Rattle.std.proofs.lemmas.List.Sums.{sum_by-append, sum_by-cons}
 use Rattle.std.specs.List.{position}
-use Rattle.grep_core.specs.Lines.{put_first, split_lines}
+use Rattle.grep_core.specs.Lines.{SplitLine, ended, put_first, split_lines}
 use Rattle.grep_core.specs.Passing.{AreWhole}
 use Rattle.grep_core.proofs.BlockLemmas.{is_feed, last_line}
 
 lines_by : (x : ℕ) (xs : List ℕ) (v : Bool) → is_feed x ≡ v →
-    split_lines (x ∷ xs) ≡ (if v then [] ∷ split_lines xs else put_first x (split_lines xs))
-lines_by x xs v e = ap (λ b. if b then [] ∷ split_lines xs else put_first x (split_lines xs)) e
+    split_lines (x ∷ xs) ≡ (if v then ended [] ∷ split_lines xs else put_first x (split_lines xs))
+lines_by x xs v e = ap (λ b. if b then ended [] ∷ split_lines xs else put_first x (split_lines xs)) e
 
 feeds_by : (x : ℕ) (xs : List ℕ) (v : Bool) → is_feed x ≡ v → count_by is_feed (x ∷ xs) ≡ cond v 1 0 + count_by is_feed xs
 feeds_by x xs v e = sum_by-cons (λ b. cond (is_feed b) 1 0) x xs ∙ ap (λ b. cond b 1 0 + count_by is_feed xs) e
@@ -22,13 +22,13 @@ feeds_on text done len =
     ∙ sum_by-append (λ b. cond (is_feed b) 1 0) (take done text) (take len (drop done text))
 
 -- ---- a text has a line
-some_first : (b : ℕ) (lines : List (List ℕ)) → 0 < length (put_first b lines)
+some_first : (b : ℕ) (lines : List SplitLine) → 0 < length (put_first b lines)
 some_first b [] = omega arith
 some_first b (line ∷ lines) = omega arith
 
 some_by : (x : ℕ) (xs : List ℕ) (v : Bool) → is_feed x ≡ v → 0 < length (split_lines (x ∷ xs))
-some_by x xs true e = subst (λ (lines : List (List ℕ)). 0 < length lines) (sym (lines_by x xs true e)) (omega arith)
-some_by x xs false e = subst (λ (lines : List (List ℕ)). 0 < length lines) (sym (lines_by x xs false e)) (some_first x (split_lines xs))
+some_by x xs true e = subst (λ (lines : List SplitLine). 0 < length lines) (sym (lines_by x xs true e)) (omega arith)
+some_by x xs false e = subst (λ (lines : List SplitLine). 0 < length lines) (sym (lines_by x xs false e)) (some_first x (split_lines xs))
 
 some_lines : (first : List ℕ) → 0 < length (split_lines (first ++ 10 ∷ []))
 some_lines [] = omega arith
@@ -39,7 +39,7 @@ some_whole text (inl none) some = absurd (omega (arith, some, ap length none))
 some_whole text (inr it) some = subst (λ (t : List ℕ). 0 < length (split_lines t)) (sym it.1) (some_lines it.0)
 
 -- ---- its lines stand before those of what follows
-put_before : (b : ℕ) (lines more : List (List ℕ)) → 0 < length lines → put_first b (lines ++ more) ≡ put_first b lines ++ more
+put_before : (b : ℕ) (lines more : List SplitLine) → 0 < length lines → put_first b (lines ++ more) ≡ put_first b lines ++ more
 put_before b [] more some = absurd (omega (arith, some))
 put_before b (line ∷ lines) more some = refl
 
@@ -48,7 +48,7 @@ joins_by : (x : ℕ) (xs more : List ℕ) (v : Bool) → is_feed x ≡ v →
     split_lines (x ∷ ((xs ++ 10 ∷ []) ++ more)) ≡ split_lines (x ∷ (xs ++ 10 ∷ [])) ++ split_lines more
 joins_by x xs more true e rest =
     lines_by x ((xs ++ 10 ∷ []) ++ more) true e
-    ∙ ap (λ (lines : List (List ℕ)). [] ∷ lines) rest
+    ∙ ap (λ (lines : List SplitLine). ended [] ∷ lines) rest
     ∙ sym (ap (λ lines. lines ++ split_lines more) (lines_by x (xs ++ 10 ∷ []) true e))
 joins_by x xs more false e rest =
     lines_by x ((xs ++ 10 ∷ []) ++ more) false e
@@ -67,7 +67,7 @@ whole_joins text more (inr it) =
     ap (λ t. split_lines (t ++ more)) it.1 ∙ joins it.0 more ∙ sym (ap (λ t. split_lines t ++ split_lines more) it.1)
 
 -- ---- it has as many lines as line feeds
-length_put : (b : ℕ) (lines : List (List ℕ)) → 0 < length lines → length (put_first b lines) ≡ length lines
+length_put : (b : ℕ) (lines : List SplitLine) → 0 < length lines → length (put_first b lines) ≡ length lines
 length_put b [] some = absurd (omega (arith, some))
 length_put b (line ∷ lines) some = refl
 
@@ -91,11 +91,11 @@ whole_counts text (inl none) = ap (λ t. length (split_lines t)) none ∙ sym (a
 whole_counts text (inr it) = ap (λ t. length (split_lines t)) it.1 ∙ counts it.0 ∙ sym (ap (count_by is_feed) it.1)
 
 -- ---- and its bytes are those of its lines, each with a line feed
-abbrev pub all_bytes : List (List ℕ) → ℕ
+abbrev pub all_bytes : List SplitLine → ℕ
 all_bytes [] = 0
-all_bytes (line ∷ lines) = length line + 1 + all_bytes lines
+all_bytes (line ∷ lines) = length line.bytes + 1 + all_bytes lines
 
-bytes_put : (b : ℕ) (lines : List (List ℕ)) → 0 < length lines → all_bytes (put_first b lines) ≡ 1 + all_bytes lines
+bytes_put : (b : ℕ) (lines : List SplitLine) → 0 < length lines → all_bytes (put_first b lines) ≡ 1 + all_bytes lines
 bytes_put b [] some = absurd (omega (arith, some))
 bytes_put b (line ∷ lines) some = omega arith
 

@@ -3,19 +3,19 @@ use Rattle.std.specs.Prelude.{◌≡◌, ℕ, List, [], ◌++◌, Option, Some, 
 use Rattle.std.specs.Io.KnownBytes.{Appends}
 use Rattle.grep_core.specs.declared.progress.Progress.{Progress}
 use Rattle.grep_core.specs.declared.progress.Task.{Task}
-use Rattle.grep_core.specs.Lines.{TextLine, numbered, split_lines}
+use Rattle.grep_core.specs.Lines.{SplitLine, TextLine, numbered, split_lines}
 use Rattle.grep_core.specs.Report.{LineMatcher, counted_as}
 use Rattle.grep_core.specs.Searchers.{Sought, SearchesFor, found_by}
 use Rattle.grep_core.specs.Telling.{needs_spans, with_needed_spans, still_told, count_in_all}
 
 -- the lines of a text, of which the first is the next one
-abbrev pub next_lines : Progress → List (List ℕ) → List TextLine
+abbrev pub next_lines : Progress → List SplitLine → List TextLine
 next_lines p lines = numbered p.number p.place lines
 
-abbrev pub tells_lines : Task → LineMatcher → Progress → List (List ℕ) → List ℕ
+abbrev pub tells_lines : Task → LineMatcher → Progress → List SplitLine → List ℕ
 tells_lines t f p lines = still_told t.what.now f t.name.now t.with_name p.telling (next_lines p lines)
 
-abbrev pub counts_lines : Task → LineMatcher → Progress → List (List ℕ) → ℕ
+abbrev pub counts_lines : Task → LineMatcher → Progress → List SplitLine → ℕ
 counts_lines t f p lines = count_in_all t.what.now f p.telling (next_lines p lines)
 
 -- what is found in lines, as far as the task asks for it
@@ -49,6 +49,6 @@ WritesPart t f p text empty full = (n : ℕ) × Appends empty full (take n (tell
 
 -- nothing of the next lines is told, whatever they are
 pub record IsOver (t : Task) (p : Progress) : Type 0 where
-  pub printed : (f : LineMatcher) (lines : List (List ℕ)) → tells_lines t f p lines ≡ tells_lines t f p []
-  pub counted : (f : LineMatcher) (lines : List (List ℕ)) →
+  pub printed : (f : LineMatcher) (lines : List SplitLine) → tells_lines t f p lines ≡ tells_lines t f p []
+  pub counted : (f : LineMatcher) (lines : List SplitLine) →
       counted_as t.what.now.print (counts_lines t f p lines) ≡ counted_as t.what.now.print (counts_lines t f p [])

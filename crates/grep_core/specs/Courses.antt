@@ -31,7 +31,7 @@ abbrev pub print_item : What → Option (List ℕ) → Role → Item → List �
 print_item w name role it = print_as w.print w name role it
 
 abbrev pub waiting_item : Waiting → Item
-waiting_item it = item (record { number = it.number; place = it.place; bytes = it.bytes.items }) (map span_pair it.found.items)
+waiting_item it = item (record { number = it.number; place = it.place; content = record { bytes = it.bytes.items; is_ended = it.is_ended } }) (map span_pair it.found.items)
 
 -- of the lines that wait, none of them selected, and of those behind them
 abbrev pub still : What → Option (List ℕ) → Course → List Bool → List Item → List ℕ

@@ -10,4 +10,6 @@ pub mod Blocks
 pub mod Passing
 pub mod Fallbacks
 pub mod Meant
+pub mod Bounded
+pub mod BoundedTrees
 pub mod Candidates

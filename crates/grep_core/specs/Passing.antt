@@ -6,7 +6,7 @@ use Rattle.grep_core.specs.declared.progress.Task.{Task}
 use Rattle.grep_core.specs.declared.course.Course.{Course}
 use Rattle.grep_core.specs.declared.what.What.{What}
 use Rattle.grep_core.specs.Blocks.{tells_lines, counts_lines}
-use Rattle.grep_core.specs.Lines.{split_lines}
+use Rattle.grep_core.specs.Lines.{SplitLine, split_lines}
 use Rattle.grep_core.specs.Report.{LineMatcher, before_of, is_some_text}
 use Rattle.grep_core.specs.Telling.{prints_lines}
 
@@ -15,7 +15,7 @@ abbrev pub AreWhole : List ℕ → Type 0
 AreWhole text = (text ≡ []) ⊎ ((first : List ℕ) × (text ≡ first ++ 10 ∷ []))
 
 -- a line has no match, and no text of one
-pub record Lacks (f : LineMatcher) (line : List ℕ) : Type 0 where
+pub record Lacks (f : LineMatcher) (line : SplitLine) : Type 0 where
   pub no_match : f.has_match line ≡ false
   pub no_text : filter is_some_text (f.spans line) ≡ []
 

@@ -38,9 +38,9 @@ fields w name role number place =
     ++ (if_asked w.numbers (field w role (codes "32") (decimal number))
     ++ if_asked w.offsets (field w role (codes "32") (decimal place)))
 
--- a line that is lent
+-- a borrowed line
 abbrev pub text_line : Line → TextLine
-text_line line = record { number = line.number; place = line.place; bytes = line.bytes.now }
+text_line line = record { number = line.number; place = line.place; content = record { bytes = line.bytes.now; is_ended = line.is_ended } }
 
 abbrev pub span_pair : Span → ℕ × ℕ
 span_pair s = (s.start, s.end)
@@ -61,13 +61,13 @@ abbrev pub line_bytes : What → List (ℕ × ℕ) → Role → List ℕ → Lis
 line_bytes w found role line = if w.color && has_marks w role then marked_from line 0 found else line
 
 abbrev pub printed_line : What → Option (List ℕ) → Role → TextLine → List (ℕ × ℕ) → List ℕ
-printed_line w name role line found = fields w name role line.number line.place ++ (line_bytes w found role line.bytes ++ 10 ∷ [])
+printed_line w name role line found = fields w name role line.number line.place ++ (line_bytes w found role line.content.bytes ++ 10 ∷ [])
 
 -- a match in a line of this role, as a line of its own
 abbrev pub printed_match : What → Option (List ℕ) → Role → TextLine → ℕ × ℕ → List ℕ
 printed_match w name role line s =
     fields w name role line.number (line.place + s.0)
-    ++ (coloured w.color (codes "01;31") (slice_range line.bytes s.0 s.1) ++ 10 ∷ [])
+    ++ (coloured w.color (codes "01;31") (slice_range line.content.bytes s.0 s.1) ++ 10 ∷ [])
 
 -- the matches of a line, in lines in which they would be marked
 abbrev pub printed_matches : What → Option (List ℕ) → Role → TextLine → List (ℕ × ℕ) → List ℕ

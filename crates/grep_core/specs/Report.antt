@@ -7,7 +7,7 @@ use Rattle.grep_core.specs.declared.what.Print.{Print}
 use Rattle.grep_core.specs.declared.known.Known.{Known}
 use Rattle.grep_core.specs.declared.known.Known.TheVariants.{NonePrinted, LastPrinted, EarlierPrinted}
 use Rattle.grep_core.specs.declared.what.What.{What}
-use Rattle.grep_core.specs.Lines.{TextLine, text_lines}
+use Rattle.grep_core.specs.Lines.{SplitLine, TextLine, text_lines}
 use Rattle.grep_core.specs.declared.role.Role.{Role}
 use Rattle.grep_core.specs.declared.role.Role.TheVariants.{Selected, Beside, Hidden}
 use Rattle.grep_core.specs.Selecting.{limited, count_selected, roles}
@@ -15,18 +15,18 @@ use Rattle.grep_core.specs.Printing.{coloured, printed_line, printed_matches, gr
 
 -- how lines are told apart: whether a line has a match, and the spans of all its matches, from left to right
 pub record LineMatcher : Type 0 where
-  pub has_match : List ℕ → Bool
-  pub spans : List ℕ → List (ℕ × ℕ)
+  pub has_match : SplitLine → Bool
+  pub spans : SplitLine → List (ℕ × ℕ)
 
 -- the matches of a line that aren't empty
 abbrev pub is_some_text : ℕ × ℕ → Bool
 is_some_text s = nat_lt s.0 s.1
 
 abbrev pub told_spans : LineMatcher → TextLine → List (ℕ × ℕ)
-told_spans f line = filter is_some_text (f.spans line.bytes)
+told_spans f line = filter is_some_text (f.spans line.content)
 
 abbrev pub is_wanted : What → LineMatcher → TextLine → Bool
-is_wanted w f line = if w.invert then not (f.has_match line.bytes) else f.has_match line.bytes
+is_wanted w f line = if w.invert then not (f.has_match line.content) else f.has_match line.content
 
 -- which of the lines are selected
 abbrev pub selected : What → LineMatcher → List TextLine → List Bool

@@ -4,7 +4,7 @@ ghost use Rattle.std.specs.List.{position};
 ghost use Rattle.grep_core.specs.Blocks.{SearchesBy, finds_by, tells_lines, counts_lines};
 ghost use Rattle.grep_core.specs.Candidates.{HasMatchAt, IsLineStart};
 ghost use Rattle.grep_core.specs.Courses.{Waits};
-ghost use Rattle.grep_core.specs.Lines.{split_lines};
+ghost use Rattle.grep_core.specs.Lines.{SplitLine, searched, split_lines};
 ghost use Rattle.grep_core.specs.Passing.{AreWhole};
 ghost use Rattle.grep_core.specs.Searchers.{IsMatchTold};
 
@@ -19,7 +19,7 @@ use crate::progress::{Progress, Task, pass};
 use crate::telling::tell_line;
 use std::alloc::Global;
 
-/// Tells one line, which is given without its line feed. It may be known that it has a match.
+/// Goes on by one line, which is given without its line feed. It may be known that it has a match.
 pub(crate) fn tell_one(
     alloc: Global,
     out: &mut Vec<u8>,
@@ -27,24 +27,27 @@ pub(crate) fn tell_one(
     task: Task<'_>,
     progress: &mut Progress,
     bytes: &[u8],
+    is_ended: bool,
     is_known: bool,
 ) -> Result<(), Fault>
     requires waits { Waits task.what.now progress.old.telling.course }
-    requires known { is_known ≡ true → IsMatchTold finder.old.config finder.old.texts bytes.now true }
+    requires known { is_known ≡ true → IsMatchTold finder.old.how finder.old.texts
+        (searched finder.old.how.crlf (record { bytes = bytes.now; is_ended = is_ended })) true }
     ensures same { finder.new ≡ finder.old }
     ensures waits { OnOk result (Waits task.entry.what.now progress.new.telling.course) }
-    ensures goes_on { OnOk result ((by : SearchesBy task.entry finder.old) (lines : List (List ℕ)) →
-        out.old.items ++ tells_lines task.entry (finds_by task.entry by) progress.old (bytes.now ∷ lines)
+    ensures goes_on { OnOk result ((by : SearchesBy task.entry finder.old) (lines : List SplitLine) →
+        out.old.items ++ tells_lines task.entry (finds_by task.entry by) progress.old (record { bytes = bytes.now; is_ended = is_ended } ∷ lines)
         ≡ out.new.items ++ tells_lines task.entry (finds_by task.entry by) progress.new lines) }
-    ensures counts { OnOk result ((by : SearchesBy task.entry finder.old) (lines : List (List ℕ)) →
+    ensures counts { OnOk result ((by : SearchesBy task.entry finder.old) (lines : List SplitLine) →
         counts_lines task.entry (finds_by task.entry by) progress.new lines ≡
-        counts_lines task.entry (finds_by task.entry by) progress.old (bytes.now ∷ lines)) }
+        counts_lines task.entry (finds_by task.entry by) progress.old (record { bytes = bytes.now; is_ended = is_ended } ∷ lines)) }
 {
-    let seen = look_at(alloc, finder, task.what, bytes, is_known)?;
+    let seen = look_at(alloc, finder, task.what, bytes, is_ended, is_known)?;
     let line = Line {
         number: progress.number,
         place: progress.place,
         bytes,
+        is_ended,
     };
     tell_line(
         alloc,
@@ -83,7 +86,7 @@ fn tell_here(
 ) -> Result<usize, Fault>
     requires waits { Waits task.what.now progress.old.telling.course }
     requires within { at ≤ length block.now }
-    requires known { is_known ≡ true → HasMatchAt finder.old.config finder.old.texts block.now at }
+    requires known { is_known ≡ true → HasMatchAt finder.old.how finder.old.texts block.now at }
     ensures same { finder.new ≡ finder.old }
     ensures waits { OnOk result (Waits task.entry.what.now progress.new.telling.course) }
     ensures within { IfOk result (λ next. next ≤ length block.now) }
@@ -107,6 +110,7 @@ fn tell_here(
         task,
         progress,
         &block[at..at + len],
+        true,
         is_known,
     ) {
         Ok(()) => {}
@@ -135,7 +139,7 @@ fn tell_before(
     ensures from { IfOk result (λ r. at ≤ r.start) }
     ensures within { IfOk result (λ r. r.start ≤ length block.now) }
     ensures starts { IfOk result (λ r. IsLineStart block.now r.start) }
-    ensures has { IfOk result (λ r. r.has ≡ true → HasMatchAt finder.old.config finder.old.texts block.now r.start) }
+    ensures has { IfOk result (λ r. r.has ≡ true → HasMatchAt finder.old.how finder.old.texts block.now r.start) }
     ensures goes_on { IfOk result (λ r. (by : SearchesBy task.entry finder.old) (more : List ℕ) →
         out.old.items ++ tells_lines task.entry (finds_by task.entry by) progress.old (split_lines (drop at block.now ++ more))
         ≡ out.new.items ++ tells_lines task.entry (finds_by task.entry by) progress.new (split_lines (drop r.start block.now ++ more))) }

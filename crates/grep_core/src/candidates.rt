@@ -3,13 +3,13 @@ ghost use Rattle.std.specs.Prelude.{◌≡◌, ◌==◌, ◌&&◌, ◌||◌, ◌
 ghost use Rattle.std.specs.Prelude.{is_some, not};
 ghost use Rattle.std.specs.Prelude.{true, Option, Some, IfErr, IfOk, IfSome};
 ghost use Rattle.std.specs.List.{list_any};
-ghost use Rattle.regex_syntax.specs.declared.Config.{Config as TextConfig};
 ghost use Rattle.hir_core.specs.Tree.{Tree};
 ghost use Rattle.line_trees.specs.LineTrees.{line_tree, has_crlf, HasNoFeedFrom};
 ghost use Rattle.hirscan.specs.Built.{IsBuilt, RefusesBuild};
 ghost use Rattle.ucd_perl.specs.Perl.{is_word_char};
 ghost use Rattle.earliest_ends.specs.Earliest.{IsRefusal};
-ghost use Rattle.pattern_search.specs.Texts.{AllMean};
+ghost use Rattle.grep_core.specs.BoundedTrees.{AreTreesOf};
+ghost use Rattle.grep_core.specs.declared.patterns.How.{How};
 ghost use Rattle.grep_core.specs.Candidates.{IsCandidatesOf, IsLineStart, HaveNoMatch, HasMatchAt, IsStop, IsStopIfAny};
 ghost use Rattle.grep_core.specs.Candidates.{IsEnd};
 ghost use Rattle.grep_core.specs.Candidates.{StopsInLine};
@@ -18,14 +18,13 @@ ghost use Rattle.grep_core.specs.declared.fault.Fault.TheVariants.{NoMemory};
 
 use crate::fault::Fault;
 use crate::feeds::pass_back;
-use crate::searcher::{see_bytes, settings};
+use crate::patterns::How;
+use crate::searcher::{see_bytes, settings, trees_of};
 use earliest_ends::find_earliest_end;
 use hir_core::Hir;
 use hirscan::build;
 use lazy_dfa::BuildError;
 use line_trees::{all_line_trees, any_has_crlf, any_reads_feed};
-use pattern_search::parse_all;
-use pattern_text::Config;
 use regex_pair::regex::{Cache, Regex};
 use search_types::{MatchError, MatchErrorKind};
 use std::alloc::Global;
@@ -34,13 +33,16 @@ use std::marker::Model;
 /// A regex of patterns that are read for blocks of lines, and the caches of its searches.
 ///
 /// A line that has a match has one in each block with that line, so the lines before the earliest end of a match in the block have none.
-/// A match in the block need be none in a line, since it may reach over the ends of lines; where no tree reads a line feed, it is one.
+/// A match in the block need not be one in a line, since it may reach over the ends of lines. If no tree reads a line feed it is one, unless
+/// a carriage return belongs to the end of a line: then a match of the block may read it, so each such line is searched by itself.
 #[derive(Drop)]
 pub(crate) struct Candidates {
     regex: Regex,
     cache: Cache,
     /// Whether none of the trees reads a line feed.
     feedless: bool,
+    /// Whether a carriage return right before a line feed belongs to the end of a line.
+    crlf: bool,
 }
 
 /// Where the search of a block stops.
@@ -63,12 +65,12 @@ pub(crate) struct Reached {
 }
 
 impl Model for Candidates {
-    ghost use Rattle.regex_pair.specs.Pairs.{AreCachesOf, Pair, PairCache};
-    ghost use Rattle.std.specs.Prelude.{Bool};
+    ghost use Rattle.regex_pair.specs.Pairs.{AreCachesOf, PairCache};
+    ghost use Rattle.grep_core.specs.Candidates.{BlockRegex};
 
-    ghost Value = { (Pair × Bool) × PairCache };
+    ghost Value = { BlockRegex × PairCache };
 
-    ghost view = { λ s. ((s.regex, s.feedless), s.cache) };
+    ghost view = { λ s. (record { regex = s.regex; feedless = s.feedless; crlf = s.crlf }, s.cache) };
 
     ghost invariant = { λ s. AreCachesOf s.regex s.cache };
 }
@@ -123,37 +125,38 @@ fn stop_at(end: Option<usize>) -> Option<Stop>
 pub(crate) fn candidates_of(
     alloc: Global,
     texts: &[&str],
-    config: &Config,
+    how: &How,
     capacity: Option<usize>,
 ) -> Option<Candidates>
-    ensures { IfSome result (λ c. IsCandidatesOf config.now (map (λ t. t.now) texts.now) c.0) }
+    ensures { IfSome result (λ c. IsCandidatesOf how.now (map (λ t. t.now) texts.now) c.0) }
 {
-    let Ok(trees) = parse_all(alloc, texts, config) else {
+    let Ok(trees) = trees_of(alloc, how, texts) else {
         return None;
     };
-    let Ok(candidates) = Candidates::new(alloc, &trees, capacity) else {
+    let Ok(candidates) = Candidates::new(alloc, &trees, how.crlf, capacity) else {
         return None;
     };
     candidates
 }
 
 impl Candidates {
-    /// Of trees that texts have; none where a look in them knows carriage returns, since nothing is said of such trees in blocks.
+    /// Of trees that texts have; none if one of them has a look at carriage returns, since nothing is said of such trees in blocks.
     pub(crate) fn new(
         alloc: Global,
         trees: &[Hir],
+        crlf: bool,
         capacity: Option<usize>,
     ) -> Result<Option<Candidates>, BuildError>
         ensures some { IfOk result (λ o. is_some o ≡ not (list_any has_crlf trees.now)) }
-        ensures candidates { (config : TextConfig) (texts : List (List ℕ)) → AllMean config texts trees.now →
-            IfOk result (λ o. IfSome o (λ c. IsCandidatesOf config texts c.0)) }
-        ensures refused { IfErr result (λ e. RefusesBuild (map line_tree trees.now) (sized_settings capacity) e) }
+        ensures candidates { (how : How) (texts : List (List ℕ)) → how.crlf ≡ crlf → AreTreesOf how texts trees.now →
+            IfOk result (λ o. IfSome o (λ c. IsCandidatesOf how texts c.0)) }
+        ensures refused { IfErr result (λ e. RefusesBuild (map (line_tree crlf) trees.now) (sized_settings capacity) e) }
     {
         if any_has_crlf(trees) {
             return Ok(None);
         }
         let feedless = !any_reads_feed(trees);
-        let Ok(trees) = all_line_trees(alloc, trees) else {
+        let Ok(trees) = all_line_trees(alloc, trees, crlf) else {
             return Err(BuildError::NoMemory);
         };
         let regex = match build(alloc, &trees, &settings(capacity)) {
@@ -165,6 +168,7 @@ impl Candidates {
                 regex,
                 cache,
                 feedless,
+                crlf,
             })),
             Err(_) => Err(BuildError::NoMemory),
         }
@@ -182,12 +186,13 @@ impl Candidates {
         self.cache.memory_usage()
     }
 
-    /// Whether the line that starts at this place is known to have a match, where the search went from the other: a match ends in it that
-    /// can't have begun before it, since the search didn't, or since it would have read the line feed between both.
+    /// Whether the line that starts at this offset is known to have a match, if the search went from the other: a match ends in it that
+    /// can't have begun before it, since the search didn't, or since it would have read the line feed between both. If a carriage return
+    /// belongs to the end of a line, no line is known to have one.
     fn is_known(&self, stop: Stop, start: usize, at: usize) -> bool
-        ensures { result ≡ (stop.is_end && (self.now.0.1 || start == at)) }
+        ensures { result ≡ (not self.now.0.crlf && (stop.is_end && (self.now.0.feedless || start == at))) }
     {
-        stop.is_end && (self.feedless || start == at)
+        !self.crlf && stop.is_end && (self.feedless || start == at)
     }
 
     /// Where a search from this place on stops: at the least end of the matches in the block that start at this place or further on, or at
@@ -195,9 +200,9 @@ impl Candidates {
     fn stop_from(&mut self, block: &[u8], at: usize) -> Result<Option<Stop>, Fault>
         requires { at ≤ length block.now }
         ensures same { self.new.0 ≡ self.old.0 }
-        ensures told { (xs : List Tree) (capacity : Option ℕ) → IsBuilt xs (sized_settings capacity) self.old.0.0 →
+        ensures told { (xs : List Tree) (capacity : Option ℕ) → IsBuilt xs (sized_settings capacity) self.old.0.regex →
             IfOk result (λ o. IsStopIfAny xs block.now at (option_map (λ stop. stop.place) o)) }
-        ensures ends { (xs : List Tree) (capacity : Option ℕ) → IsBuilt xs (sized_settings capacity) self.old.0.0 →
+        ensures ends { (xs : List Tree) (capacity : Option ℕ) → IsBuilt xs (sized_settings capacity) self.old.0.regex →
             IfOk result (λ o. IfSome o (λ stop. stop.is_end ≡ true → IsEnd xs block.now at stop.place)) }
         ensures refused { IfErr result (λ e. e ≡ NoMemory) }
     {
@@ -227,11 +232,11 @@ impl Candidates {
         ensures from { IfOk result (λ r. at ≤ r.start) }
         ensures within { IfOk result (λ r. r.start ≤ length block.now) }
         ensures starts { IfOk result (λ r. r.start < length block.now → IsLineStart block.now r.start) }
-        ensures passed { (config : TextConfig) (texts : List (List ℕ)) → IsCandidatesOf config texts self.old.0 →
-            IfOk result (λ r. HaveNoMatch config texts (slice_range block.now at r.start)) }
-        ensures has { (config : TextConfig) (texts : List (List ℕ)) → IsCandidatesOf config texts self.old.0 →
-            IfOk result (λ r. r.has ≡ true → HasMatchAt config texts block.now r.start) }
-        ensures stops { (xs : List Tree) (capacity : Option ℕ) → IsBuilt xs (sized_settings capacity) self.old.0.0 →
+        ensures passed { (how : How) (texts : List (List ℕ)) → IsCandidatesOf how texts self.old.0 →
+            IfOk result (λ r. HaveNoMatch how texts (slice_range block.now at r.start)) }
+        ensures has { (how : How) (texts : List (List ℕ)) → IsCandidatesOf how texts self.old.0 →
+            IfOk result (λ r. r.has ≡ true → HasMatchAt how texts block.now r.start) }
+        ensures stops { (xs : List Tree) (capacity : Option ℕ) → IsBuilt xs (sized_settings capacity) self.old.0.regex →
             IfOk result (λ r. r.start < length block.now → StopsInLine xs block.now at r.start) }
         ensures refused { IfErr result (λ e. e ≡ NoMemory) }
     {

@@ -23,6 +23,7 @@ pub(crate) struct Waiting {
     number: u64,
     place: u64,
     bytes: Vec<u8>,
+    is_ended: bool,
     found: Vec<Span>,
 }
 
@@ -63,6 +64,7 @@ fn push_waiting(
         number: it.number,
         place: it.place,
         bytes: &it.bytes,
+        is_ended: it.is_ended,
     };
     push_item(alloc, out, what, name, Role::Beside, line, &it.found)?;
     Ok(())
@@ -180,6 +182,7 @@ fn waiting_of(alloc: Global, line: Line<'_>, found: &[Span]) -> Result<Waiting, 
         number: line.number,
         place: line.place,
         bytes,
+        is_ended: line.is_ended,
         found,
     })
 }

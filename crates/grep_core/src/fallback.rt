@@ -1,147 +1,139 @@
-//! Lines in which a search gives up, searched by the toolchain's regexes.
-ghost use Rattle.std.specs.Prelude.{◌≡◌, ◌+◌, ◌<◌, ◌∷◌, ◌++◌, ◌==◌, ℕ, List, [], All, IfOk, OnOk, false, is_some, map, option_map};
-ghost use Rattle.regex.specs.Patterns.{find};
-ghost use Rattle.regex.specs.Bytes.{regex_pattern, regex_source, regex_config, IsReadFromSource};
-ghost use Rattle.regex.specs.Views.{builder_source, builder_config};
+//! Lines in which a search gives up, searched by the toolchain's own engines: by one program for all patterns.
+ghost use Rattle.std.specs.Prelude.{◌≡◌, ◌≤◌, ◌∷◌, ◌++◌, ◌==◌, ℕ, List, [], IfOk, OnOk, length, map, option_map};
+ghost use Rattle.std.specs.List.{filter};
 ghost use Rattle.regex_hir.specs.Text.{is_some_and};
-ghost use Rattle.regex_syntax.specs.declared.Config.{Config as TextConfig};
-ghost use Rattle.grep_core.specs.Fallbacks.{AreRegexesOf, IsRegexOfText, better, best_found_at, found_at, next_behind};
+ghost use Rattle.regex_meta.specs.Programs.{pattern_of};
+ghost use Rattle.grep_core.specs.Fallbacks.{AreTreesOfTexts, IsProgramOf, IsTreeOfText, found_at, next_behind};
 ghost use Rattle.grep_core.specs.Printing.{span_pair};
 ghost use Rattle.grep_core.specs.Report.{is_some_text};
 ghost use Rattle.grep_core.specs.Searchers.{AreTold, IsMatchTold};
-ghost use Rattle.std.specs.List.{filter};
+ghost use Rattle.grep_core.specs.declared.patterns.How.{How};
 
+use crate::bounded::bounded_pattern;
 use crate::fault::Fault;
+use crate::patterns::{How, config_of};
 use crate::searcher::see_bytes;
-use pattern_text::Config;
-use regex::bytes::Regex;
-use regex::{Error, RegexBuilder};
+use regex_compile::Error;
+use regex_hir::Hir;
+use regex_meta::{Program, Searcher};
+use regex_syntax::ErrorKind;
 use search_types::Span;
 use std::alloc::{AllocError, Global};
 
-/// A builder that reads the text under these options.
-fn builder_of<'s>(text: &'s str, config: &Config) -> RegexBuilder<'s>
-    ensures source { builder_source result ≡ text.now }
-    ensures config { (record (builder_config result) { utf8 = false }) ≡ (record (config.now) { utf8 = false }) }
-{
-    let options = config.options();
-    let flags = options.flags;
-    RegexBuilder::new(text)
-        .case_insensitive(flags.case_insensitive)
-        .multi_line(flags.multi_line)
-        .dot_matches_new_line(flags.dot_matches_new_line)
-        .swap_greed(flags.swap_greed)
-        .unicode(flags.unicode)
-        .crlf(flags.crlf)
-        .ignore_whitespace(flags.ignore_whitespace)
-        .octal(options.octal)
-        .nest_limit(options.nest_limit)
-        .size_limit(1 << 34)
+/// The bytes that a program may take.
+const SIZE_LIMIT: usize = 1 << 34;
+
+/// A tree, and how many groups its pattern has, group 0 included.
+#[derive(Drop)]
+struct Tree {
+    hir: Hir,
+    groups: usize,
 }
 
-/// The regex of a text. UTF-8 mode is off, whatever the options say.
-fn regex_of(alloc: Global, text: &str, config: &Config) -> Result<Regex, Fault>
-    ensures { IfOk result (IsRegexOfText (record (config.now) { utf8 = false }) text.now) }
+/// The tree of a text.
+fn tree_of(alloc: Global, how: &How, text: &str) -> Result<Tree, Fault>
+    ensures { IfOk result (λ t. IsTreeOfText how.now text.now t.hir) }
 {
-    match builder_of(text, config).build_bytes(alloc) {
-        Ok(regex) => Ok(regex),
-        Err(Error::OutOfMemory) => Err(Fault::NoMemory),
-        Err(_) => Err(Fault::TooLarge),
+    let parsed = match regex_syntax::parse(alloc, text, &config_of(how).options()) {
+        Ok(parsed) => parsed,
+        Err(error) => return Err(fault_of(error.kind == ErrorKind::OutOfMemory)),
+    };
+    let groups = parsed.names.len();
+    match bounded_pattern(alloc, how, parsed.hir) {
+        Ok(hir) => Ok(Tree { hir, groups }),
+        Err(_) => Err(Fault::NoMemory),
     }
 }
 
-/// The regexes of texts, one for each and in their order.
-pub(crate) fn regexes_of(
-    alloc: Global,
-    texts: &[&str],
-    config: &Config,
-) -> Result<Vec<Regex>, Fault>
-    ensures { IfOk result (λ rs. AreRegexesOf (record (config.now) { utf8 = false }) (map (λ t. t.now) texts.now) rs.items) }
+fn fault_of(lacks_memory: bool) -> Fault {
+    if lacks_memory {
+        Fault::NoMemory
+    } else {
+        Fault::TooLarge
+    }
+}
+
+/// Trees of several patterns, and the greatest number of groups that one has.
+#[derive(Drop)]
+struct Trees {
+    hirs: Vec<Hir>,
+    groups: usize,
+}
+
+/// The trees of texts, in their order.
+fn trees_of(alloc: Global, how: &How, texts: &[&str]) -> Result<Trees, Fault>
+    ensures { IfOk result (λ t. AreTreesOfTexts how.now (map (λ t. t.now) texts.now) t.hirs.items) }
 {
-    let mut regexes = Vec::new(alloc);
+    let mut hirs = Vec::new(alloc);
+    let mut groups = 1;
     for text in texts {
-        let regex = match regex_of(alloc, text, config) {
-            Ok(regex) => regex,
+        let tree = match tree_of(alloc, how, text) {
+            Ok(tree) => tree,
             Err(e) => return Err(e),
         };
-        match regexes.push(regex) {
+        groups = groups.max(tree.groups);
+        match hirs.push(tree.hir) {
             Ok(()) => {}
             Err(_) => return Err(Fault::NoMemory),
         }
     }
-    Ok(regexes)
+    Ok(Trees { hirs, groups })
+}
+
+fn boxed(alloc: Global, program: Program) -> Result<Box<Program>, Fault>
+    ensures { IfOk result (λ p. p.value ≡ program) }
+{
+    match Box::new(alloc, program) {
+        Ok(program) => Ok(program),
+        Err(_) => Err(Fault::NoMemory),
+    }
+}
+
+/// A program for the texts of patterns.
+pub(crate) fn program_of(alloc: Global, how: &How, texts: &[&str]) -> Result<Box<Program>, Fault>
+    ensures { IfOk result (λ p. IsProgramOf how.now (map (λ t. t.now) texts.now) p.value) }
+{
+    let trees = match trees_of(alloc, how, texts) {
+        Ok(trees) => trees,
+        Err(e) => return Err(e),
+    };
+    let Ok(groups) = u32::try_from(trees.groups) else {
+        return Err(Fault::TooLarge);
+    };
+    let program = match Program::new(alloc, Hir::Alternation(trees.hirs), groups, SIZE_LIMIT) {
+        Ok(program) => program,
+        Err(Error::OutOfMemory) => return Err(Fault::NoMemory),
+        Err(_) => return Err(Fault::TooLarge),
+    };
+    match boxed(alloc, program) {
+        Ok(boxed) => Ok(boxed),
+        Err(e) => Err(e),
+    }
 }
 
 /// Whether the line has a match.
-fn has_one(alloc: Global, regex: &Regex, line: &[u8]) -> Result<bool, AllocError>
-    ensures { IfOk result (λ told. told ≡ is_some (find (regex_pattern regex.now) line.now 0)) }
-{
-    let mut matcher = regex.matcher(alloc)?;
-    Ok(matcher.is_match(line))
-}
-
-/// Whether it has one of some pattern.
-pub(crate) fn has_any(alloc: Global, regexes: &[Regex], line: &[u8]) -> Result<bool, AllocError>
-    ensures { IfOk result (λ told. (config : TextConfig) (texts : List (List ℕ)) → AreRegexesOf config texts regexes.now →
-        IsMatchTold config texts line.now told) }
+pub(crate) fn has_one(alloc: Global, program: &Program, line: &[u8]) -> Result<bool, AllocError>
+    ensures { IfOk result (λ told. (how : How) (texts : List (List ℕ)) → IsProgramOf how texts program.now →
+        IsMatchTold how texts line.now told) }
 {
     see_bytes(line);
-    for regex in regexes {
-        if has_one(alloc, regex, line)? {
-            return Ok(true);
-        }
-    }
-    Ok(false)
+    let mut searcher = Searcher::new(alloc, program)?;
+    Ok(searcher.is_match(line, 0))
 }
 
-/// The span of the match from a place on.
-fn find_one(
-    alloc: Global,
-    regex: &Regex,
-    line: &[u8],
-    start: usize,
-) -> Result<Option<Span>, AllocError>
-    ensures { IfOk result (λ s. option_map span_pair s ≡ found_at (regex_pattern regex.now) line.now start) }
+/// The span of the match from an offset on.
+fn find_from(searcher: &mut Searcher<'_>, line: &[u8], start: usize) -> Option<Span>
+    requires { start ≤ length line.now }
+    ensures found { option_map span_pair result ≡ found_at (pattern_of searcher.old.program.now) line.now start }
+    ensures same { searcher.new.program.now ≡ searcher.old.program.now }
 {
-    let mut matcher = regex.matcher(alloc)?;
-    match matcher.find_at(line, start) {
-        Some(found) => Ok(Some(Span {
-            start: found.start(),
-            end: found.end(),
-        })),
-        None => Ok(None),
+    match searcher.find(line, start) {
+        Some((start, end)) => Some(Span { start, end }),
+        None => None,
     }
 }
 
-/// Of two spans the one with the lesser start, and else the first.
-fn better(first: Option<Span>, second: Option<Span>) -> Option<Span>
-    ensures { option_map span_pair result ≡ better (option_map span_pair first) (option_map span_pair second) }
-{
-    match (first, second) {
-        (None, second) => second,
-        (Some(a), Some(b)) if b.start < a.start => Some(b),
-        (Some(a), _) => Some(a),
-    }
-}
-
-/// The best span from a place on.
-fn find_best(
-    alloc: Global,
-    regexes: &[Regex],
-    line: &[u8],
-    start: usize,
-) -> Result<Option<Span>, AllocError>
-    ensures { IfOk result (λ s. option_map span_pair s ≡ best_found_at (map regex_pattern regexes.now) line.now start) }
-{
-    let mut best = None;
-    for regex in regexes {
-        let found = find_one(alloc, regex, line, start)?;
-        best = better(best, found);
-    }
-    Ok(best)
-}
-
-/// Whether there is one, and it ends at this place.
+/// Whether there is one, and it ends at this offset.
 fn ends_at(next: Option<Span>, end: usize) -> bool
     ensures { result ≡ is_some_and (option_map span_pair next) (λ s. s.1 == end) }
 {
@@ -151,23 +143,22 @@ fn ends_at(next: Option<Span>, end: usize) -> bool
     }
 }
 
-/// The best one behind one that ended at this place.
-fn find_next(
-    alloc: Global,
-    regexes: &[Regex],
-    line: &[u8],
-    end: usize,
-) -> Result<Option<Span>, AllocError>
-    ensures { IfOk result (λ s. option_map span_pair s ≡ next_behind (best_found_at (map regex_pattern regexes.now) line.now) end) }
+/// The next one after one that ended at this offset.
+fn find_next(searcher: &mut Searcher<'_>, line: &[u8], end: usize) -> Option<Span>
+    ensures found { option_map span_pair result ≡ next_behind (found_at (pattern_of searcher.old.program.now) line.now) end }
+    ensures same { searcher.new.program.now ≡ searcher.old.program.now }
 {
-    let next = find_best(alloc, regexes, line, end)?;
+    if end > line.len() {
+        return None;
+    }
+    let next = find_from(searcher, line, end);
     if !ends_at(next, end) {
-        return Ok(next);
+        return next;
     }
     if end >= line.len() {
-        return Ok(None);
+        return None;
     }
-    find_best(alloc, regexes, line, end + 1)
+    find_from(searcher, line, end + 1)
 }
 
 fn push_some(found: &mut Vec<Span>, span: Span) -> Result<(), AllocError>
@@ -179,25 +170,26 @@ fn push_some(found: &mut Vec<Span>, span: Span) -> Result<(), AllocError>
     Ok(())
 }
 
-/// The matches of some pattern that aren't empty, from left to right.
+/// The matches that aren't empty, from left to right.
 pub(crate) fn all_matches(
     alloc: Global,
-    regexes: &[Regex],
+    program: &Program,
     line: &[u8],
 ) -> Result<Vec<Span>, AllocError>
-    ensures { IfOk result (λ found. (config : TextConfig) (texts : List (List ℕ)) → AreRegexesOf config texts regexes.now →
-        AreTold config texts line.now (map span_pair found.items)) }
+    ensures { IfOk result (λ found. (how : How) (texts : List (List ℕ)) → IsProgramOf how texts program.now →
+        AreTold how texts line.now (map span_pair found.items)) }
 {
     see_bytes(line);
+    let mut searcher = Searcher::new(alloc, program)?;
     let mut found = Vec::new(alloc);
-    let mut next = find_best(alloc, regexes, line, 0)?;
+    let mut next = find_from(&mut searcher, line, 0);
     let most = line.len() + 1;
     for step in 0..most {
         let Some(span) = next else {
             return Ok(found);
         };
         push_some(&mut found, span)?;
-        next = find_next(alloc, regexes, line, span.end)?;
+        next = find_next(&mut searcher, line, span.end);
     }
     Ok(found)
 }

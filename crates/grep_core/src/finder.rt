@@ -1,26 +1,25 @@
-//! Patterns are found by automata, and where these give up at a quit byte by the toolchain's regexes of the same texts.
+//! Patterns are found by automata, and where these give up at a quit byte by a program of the toolchain for the same patterns.
 ghost use Rattle.std.specs.Prelude.{◌≡◌, IfErr, IfOk, map, false, true, ◌≤◌, ◌<◌, length, slice_range};
 ghost use Rattle.grep_core.specs.Candidates.{HaveNoMatch, HasMatchAt, IsLineStart};
-ghost use Rattle.grep_core.specs.Fallbacks.{AreRegexesOf};
+ghost use Rattle.grep_core.specs.Fallbacks.{IsProgramOf};
 ghost use Rattle.grep_core.specs.Printing.{span_pair};
 ghost use Rattle.grep_core.specs.Searchers.{IsMatchTold, AreTold, IsSearcherRefused, SearchesFor};
 
 use crate::candidates::{Candidates, Reached, candidates_of};
-use crate::fallback::{all_matches, has_any, regexes_of};
+use crate::fallback::{all_matches, has_one, program_of};
 use crate::fault::Fault;
+use crate::patterns::How;
 use crate::searcher::{Searcher, SearcherError};
 use crate::sizes::Size;
-use pattern_search::regex_laws::regexes_answer_what_is_written;
-use pattern_text::Config;
-use regex::bytes::Regex;
+use regex_meta::Program;
 use search_types::{MatchError, MatchErrorKind, Span};
 use std::alloc::Global;
 use std::marker::Model;
 
 /// Finds patterns in lines.
 ///
-/// Automata find them but in lines in which these give up at a quit byte, as where `\b` stands beside what isn't ASCII: there the
-/// toolchain's regexes of the same texts do, which are made when the first such line comes.
+/// Automata find them, except in lines in which these give up at a quit byte, as where `\b` stands next to what isn't ASCII: there a
+/// program of the toolchain for the same patterns does, which is made when the first such line comes.
 ///
 /// Where the caches of the automata are cleared too soon, as where a thousand words are looked for in prose, they are made larger, up to
 /// 256 MiB for each.
@@ -28,9 +27,9 @@ use std::marker::Model;
 pub struct Finder<'t> {
     searcher: Searcher,
     texts: &'t [&'t str],
-    config: Config,
+    how: How,
     with_matches: bool,
-    regexes: Option<Vec<Regex>>,
+    program: Option<Box<Program>>,
     candidates: Option<Candidates>,
     /// How large the caches of the search of lines are, and of the search of blocks.
     line_size: Size,
@@ -44,17 +43,17 @@ impl<'t> Model for Finder<'t> {
     ghost use Rattle.std.specs.Prelude.{◌≡◌, All, IfSome, false, true, map};
     ghost use Rattle.hir_core.specs.Facts.{LoopsRead};
     ghost use Rattle.grep_core.specs.Candidates.{IsCandidatesOf};
-    ghost use Rattle.grep_core.specs.Fallbacks.{AreRegexesOf};
+    ghost use Rattle.grep_core.specs.Fallbacks.{IsProgramOf};
     ghost use Rattle.grep_core.specs.Searchers.{IsSearcherOf, Sought};
 
     ghost Value = { Sought };
 
-    ghost view = { λ f. record { config = f.config; texts = map (λ t. t.now) f.texts.now; spans = f.with_matches } };
+    ghost view = { λ f. record { how = f.how; texts = map (λ t. t.now) f.texts.now; spans = f.with_matches } };
 
-    ghost invariant = { λ f. (f.config ≡ record (f.config) { utf8 = false })
-        × ((it : IsSearcherOf f.config (map (λ t. t.now) f.texts.now) f.searcher.0) × (f.with_matches ≡ true → All LoopsRead it.trees))
-        × IfSome f.regexes (λ rs. AreRegexesOf f.config (map (λ t. t.now) f.texts.now) rs.items)
-        × IfSome f.candidates (λ c. IsCandidatesOf f.config (map (λ t. t.now) f.texts.now) c.0) };
+    ghost invariant = { λ f.
+        ((it : IsSearcherOf f.how (map (λ t. t.now) f.texts.now) f.searcher.0) × (f.with_matches ≡ true → All LoopsRead it.trees))
+        × IfSome f.program (λ p. IsProgramOf f.how (map (λ t. t.now) f.texts.now) p.value)
+        × IfSome f.candidates (λ c. IsCandidatesOf f.how (map (λ t. t.now) f.texts.now) c.0) };
 }
 
 /// Whether a search was refused for want of memory.
@@ -75,40 +74,45 @@ fn clears_of(candidates: &Option<Candidates>) -> usize {
 
 impl<'t> Finder<'t> {
     /// A finder for patterns as text, which may be asked for matches, or only for whether there is one. Any bytes are searched, whether
-    /// they are UTF-8 or not, so that mode of the options is off whatever they say.
+    /// they are UTF-8 or not. Each text is parsed by itself, and what is parsed is then bounded as `how` asks, so no text reaches into
+    /// what stands around it.
     ///
-    /// It is refused where a text is no pattern, and, where matches are asked for, where a pattern has an unbounded repetition of what
-    /// matches the empty text.
+    /// It is refused where a text is no pattern, with its number and the offset in the text, and, where matches are asked for, where a
+    /// pattern has an unbounded repetition of what matches the empty text.
     pub fn new(
         alloc: Global,
         texts: &'t [&'t str],
-        config: &Config,
+        how: &How,
         with_matches: bool,
     ) -> Result<Finder<'t>, SearcherError>
         ensures sought { IfOk result (λ f. f ≡
-            record { config = record (config.now) { utf8 = false }; texts = map (λ t. t.now) texts.now; spans = with_matches }) }
+            record { how = how.now; texts = map (λ t. t.now) texts.now; spans = with_matches }) }
         ensures searches { IfOk result (λ f. SearchesFor f with_matches) }
-        ensures refused { IfErr result (IsSearcherRefused (record (config.now) { utf8 = false }) (map (λ t. t.now) texts.now)
-            with_matches) }
+        ensures refused { IfErr result (IsSearcherRefused how.now (map (λ t. t.now) texts.now) with_matches) }
     {
-        regexes_answer_what_is_written();
-        let config = config.utf8(false);
-        let searcher = match Searcher::new(alloc, texts, &config, with_matches) {
+        let searcher = match Searcher::new(alloc, texts, how, with_matches) {
             Ok(searcher) => searcher,
             Err(e) => return Err(e),
         };
         Ok(Finder {
             searcher,
             texts,
-            config,
+            how: *how,
             with_matches,
-            regexes: None,
-            candidates: candidates_of(alloc, texts, &config, None),
+            program: None,
+            candidates: candidates_of(alloc, texts, how, None),
             line_size: Size::first(),
             block_size: Size::first(),
             slow: 0,
             past_clears: 0,
         })
+    }
+
+    /// Whether a carriage return right before a line feed belongs to the end of a line.
+    pub(crate) fn crlf(&self) -> bool
+        ensures { result ≡ self.now.how.crlf }
+    {
+        self.how.crlf
     }
 
     /// Gives the search of blocks larger caches, where its own were cleared too soon and memory suffices.
@@ -126,7 +130,7 @@ impl<'t> Finder<'t> {
         ensures { self.new ≡ self.old }
     {
         let clears = clears_of(&self.candidates);
-        if let Some(larger) = candidates_of(alloc, self.texts, &self.config, Some(size.capacity)) {
+        if let Some(larger) = candidates_of(alloc, self.texts, &self.how, Some(size.capacity)) {
             self.candidates = Some(larger);
             self.block_size = size;
             self.past_clears = self.past_clears.saturating_add(clears);
@@ -152,7 +156,7 @@ impl<'t> Finder<'t> {
         if let Ok(larger) = Searcher::sized(
             alloc,
             self.texts,
-            &self.config,
+            &self.how,
             self.with_matches,
             capacity,
         ) {
@@ -192,8 +196,8 @@ impl<'t> Finder<'t> {
         ensures from { IfOk result (λ r. at ≤ r.start) }
         ensures within { IfOk result (λ r. r.start ≤ length block.now) }
         ensures starts { IfOk result (λ r. r.start < length block.now → IsLineStart block.now r.start) }
-        ensures passed { IfOk result (λ r. HaveNoMatch self.old.config self.old.texts (slice_range block.now at r.start)) }
-        ensures has { IfOk result (λ r. r.has ≡ true → HasMatchAt self.old.config self.old.texts block.now r.start) }
+        ensures passed { IfOk result (λ r. HaveNoMatch self.old.how self.old.texts (slice_range block.now at r.start)) }
+        ensures has { IfOk result (λ r. r.has ≡ true → HasMatchAt self.old.how self.old.texts block.now r.start) }
     {
         self.grow_candidates(alloc);
         let reached = match self.reach(block, at) {
@@ -212,8 +216,8 @@ impl<'t> Finder<'t> {
         ensures from { IfOk result (λ r. at ≤ r.start) }
         ensures within { IfOk result (λ r. r.start ≤ length block.now) }
         ensures starts { IfOk result (λ r. r.start < length block.now → IsLineStart block.now r.start) }
-        ensures passed { IfOk result (λ r. HaveNoMatch self.old.config self.old.texts (slice_range block.now at r.start)) }
-        ensures has { IfOk result (λ r. r.has ≡ true → HasMatchAt self.old.config self.old.texts block.now r.start) }
+        ensures passed { IfOk result (λ r. HaveNoMatch self.old.how self.old.texts (slice_range block.now at r.start)) }
+        ensures has { IfOk result (λ r. r.has ≡ true → HasMatchAt self.old.how self.old.texts block.now r.start) }
     {
         let Some(candidates) = &mut self.candidates else {
             return Ok(Reached {
@@ -244,38 +248,38 @@ impl<'t> Finder<'t> {
         }
     }
 
-    /// In how many lines the automata gave up, so that the toolchain's regexes told whether there is a match.
+    /// In how many lines the automata gave up, so that the toolchain's program told whether there is a match.
     pub fn slow_lines(&self) -> u64 {
         self.slow
     }
 
-    /// Takes the regexes out, which are made where they aren't yet.
-    fn take_regexes(&mut self, alloc: Global) -> Result<Vec<Regex>, Fault>
+    /// Takes the program out, which is made where it isn't yet.
+    fn take_program(&mut self, alloc: Global) -> Result<Box<Program>, Fault>
         ensures same { self.new ≡ self.old }
-        ensures regexes { IfOk result (λ rs. AreRegexesOf self.old.config self.old.texts rs.items) }
+        ensures program { IfOk result (λ p. IsProgramOf self.old.how self.old.texts p.value) }
     {
-        if let Some(regexes) = self.regexes.take() {
-            return Ok(regexes);
+        if let Some(program) = self.program.take() {
+            return Ok(program);
         }
-        let regexes = match regexes_of(alloc, self.texts, &self.config) {
-            Ok(regexes) => regexes,
+        let program = match program_of(alloc, &self.how, self.texts) {
+            Ok(program) => program,
             Err(e) => return Err(e),
         };
-        Ok(regexes)
+        Ok(program)
     }
 
-    /// Whether the line has a match, by the regexes.
+    /// Whether the line has a match, by the program.
     fn has_match_slowly(&mut self, alloc: Global, line: &[u8]) -> Result<bool, Fault>
         ensures same { self.new ≡ self.old }
-        ensures told { IfOk result (λ told. IsMatchTold self.old.config self.old.texts line.now told) }
+        ensures told { IfOk result (λ told. IsMatchTold self.old.how self.old.texts line.now told) }
     {
         self.slow = self.slow.saturating_add(1);
-        let regexes = match self.take_regexes(alloc) {
-            Ok(regexes) => regexes,
+        let program = match self.take_program(alloc) {
+            Ok(program) => program,
             Err(e) => return Err(e),
         };
-        let told = has_any(alloc, &regexes, line);
-        self.regexes = Some(regexes);
+        let told = has_one(alloc, &program, line);
+        self.program = Some(program);
         let has = match told {
             Ok(has) => has,
             Err(_) => return Err(Fault::NoMemory),
@@ -283,17 +287,17 @@ impl<'t> Finder<'t> {
         Ok(has)
     }
 
-    /// The matches of the line that aren't empty, by the regexes.
+    /// The matches of the line that aren't empty, by the program.
     fn matches_slowly(&mut self, alloc: Global, line: &[u8]) -> Result<Vec<Span>, Fault>
         ensures same { self.new ≡ self.old }
-        ensures told { IfOk result (λ found. AreTold self.old.config self.old.texts line.now (map span_pair found.items)) }
+        ensures told { IfOk result (λ found. AreTold self.old.how self.old.texts line.now (map span_pair found.items)) }
     {
-        let regexes = match self.take_regexes(alloc) {
-            Ok(regexes) => regexes,
+        let program = match self.take_program(alloc) {
+            Ok(program) => program,
             Err(e) => return Err(e),
         };
-        let told = all_matches(alloc, &regexes, line);
-        self.regexes = Some(regexes);
+        let told = all_matches(alloc, &program, line);
+        self.program = Some(program);
         let found = match told {
             Ok(found) => found,
             Err(_) => return Err(Fault::NoMemory),
@@ -304,7 +308,7 @@ impl<'t> Finder<'t> {
     /// Whether the line has a match, by the automata.
     fn has_match_quickly(&mut self, line: &[u8]) -> Result<bool, MatchError>
         ensures same { self.new ≡ self.old }
-        ensures told { IfOk result (λ told. IsMatchTold self.old.config self.old.texts line.now told) }
+        ensures told { IfOk result (λ told. IsMatchTold self.old.how self.old.texts line.now told) }
     {
         let told = match self.searcher.has_match(line) {
             Ok(told) => told,
@@ -318,7 +322,7 @@ impl<'t> Finder<'t> {
     fn matches_quickly(&mut self, alloc: Global, line: &[u8]) -> Result<Vec<Span>, MatchError>
         ensures same { self.new ≡ self.old }
         ensures told { self.old.spans ≡ true →
-            IfOk result (λ found. AreTold self.old.config self.old.texts line.now (map span_pair found.items)) }
+            IfOk result (λ found. AreTold self.old.how self.old.texts line.now (map span_pair found.items)) }
     {
         let found = match self.searcher.matches(alloc, line) {
             Ok(found) => found,
@@ -331,7 +335,7 @@ impl<'t> Finder<'t> {
     /// Whether the line has a match of some pattern.
     pub(crate) fn has_match(&mut self, alloc: Global, line: &[u8]) -> Result<bool, Fault>
         ensures same { self.new ≡ self.old }
-        ensures told { IfOk result (λ told. IsMatchTold self.old.config self.old.texts line.now told) }
+        ensures told { IfOk result (λ told. IsMatchTold self.old.how self.old.texts line.now told) }
     {
         self.grow_searcher(alloc);
         let error = match self.has_match_quickly(line) {
@@ -351,7 +355,7 @@ impl<'t> Finder<'t> {
     pub(crate) fn matches(&mut self, alloc: Global, line: &[u8]) -> Result<Vec<Span>, Fault>
         ensures same { self.new ≡ self.old }
         ensures told { self.old.spans ≡ true →
-            IfOk result (λ found. AreTold self.old.config self.old.texts line.now (map span_pair found.items)) }
+            IfOk result (λ found. AreTold self.old.how self.old.texts line.now (map span_pair found.items)) }
     {
         self.grow_searcher(alloc);
         let error = match self.matches_quickly(alloc, line) {

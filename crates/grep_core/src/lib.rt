@@ -1,11 +1,13 @@
 //! Searching lines: which lines of a text patterns select, and what is printed of them.
 //!
 //! [`What`] says what is asked for. What is printed then is defined in `specs/Report.antt`, over the lines of `Lines.antt`, which are
-//! selected as `Selecting.antt` has it and printed as `Printing.antt` does; which lines patterns select stands in `Patterns.antt`.
+//! selected as `Selecting.antt` has it and printed as `Printing.antt` does; which lines patterns select stands in `Patterns.antt`, over
+//! `Bounded.antt` for whole lines and whole words, with laws in [`laws`].
 //! A [`Searcher`] tells whether a line has a match.
 #![tactic(auto)]
 
 mod blocks;
+mod bounded;
 mod candidates;
 mod course;
 mod fallback;
@@ -15,6 +17,7 @@ mod finder;
 mod held;
 mod items;
 mod known;
+pub mod laws;
 mod line;
 mod listing;
 mod looking;
@@ -34,7 +37,7 @@ pub use finder::Finder;
 pub use known::Known;
 pub use line::Line;
 pub use looking::needs_spans;
-pub use patterns::{How, config_of, searched_text};
+pub use patterns::{How, config_of, pattern_source};
 pub use reading::tell_text;
 pub use role::Role;
 pub use searcher::SearcherError;

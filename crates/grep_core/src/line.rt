@@ -6,4 +6,6 @@ pub struct Line<'a> {
     /// Where its first byte stands in the text, counted from 0.
     pub place: u64,
     pub bytes: &'a [u8],
+    /// Whether a line feed ends it; the last line of a text may have none.
+    pub is_ended: bool,
 }

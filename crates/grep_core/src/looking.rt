@@ -1,5 +1,6 @@
 //! What is seen of a line.
 ghost use Rattle.std.specs.Prelude.{◌≡◌, IfOk, map, true};
+ghost use Rattle.grep_core.specs.Lines.{searched, unended, without_return};
 ghost use Rattle.grep_core.specs.Printing.{span_pair};
 ghost use Rattle.grep_core.specs.Report.{is_some_text};
 ghost use Rattle.grep_core.specs.Searchers.{IsMatchTold, SearchesFor, found_by};
@@ -39,9 +40,9 @@ fn has_match(
     line: &[u8],
     is_known: bool,
 ) -> Result<bool, Fault>
-    requires { is_known ≡ true → IsMatchTold finder.old.config finder.old.texts line.now true }
+    requires { is_known ≡ true → IsMatchTold finder.old.how finder.old.texts line.now true }
     ensures same { finder.new ≡ finder.old }
-    ensures told { IfOk result (λ told. IsMatchTold finder.old.config finder.old.texts line.now told) }
+    ensures told { IfOk result (λ told. IsMatchTold finder.old.how finder.old.texts line.now told) }
 {
     if is_known {
         return Ok(true);
@@ -52,19 +53,45 @@ fn has_match(
     }
 }
 
-/// Whether a line has a match, and which of its matches aren't empty, where these count. It may be known that it has one.
-pub(crate) fn look_at(
+/// The bytes of a line against which patterns are matched: the line without its line feed and, with `crlf`, without one carriage return
+/// right before that.
+fn searched(crlf: bool, line: &[u8], is_ended: bool) -> &[u8]
+    ensures { result.now ≡ searched crlf (record { bytes = line.now; is_ended = is_ended }) }
+{
+    if !crlf || !is_ended {
+        return line;
+    }
+    without_return(line)
+}
+
+/// The bytes without the carriage return with which they end, if they do.
+#[tactic(auto, using(crate::proofs::ReturnLemmas::none_left_out, crate::proofs::ReturnLemmas::return_left_out, crate::proofs::ReturnLemmas::other_kept))]
+fn without_return(bytes: &[u8]) -> &[u8]
+    ensures { result.now ≡ without_return bytes.now }
+{
+    let Some((last, front)) = bytes.split_last() else {
+        return bytes;
+    };
+    if *last == b'\r' {
+        return front;
+    }
+    bytes
+}
+
+/// Whether some bytes have a match, and which of their matches aren't empty, if these count. It may be known that they have one.
+fn look_in(
     alloc: Global,
     finder: &mut Finder<'_>,
     what: &What,
     line: &[u8],
     is_known: bool,
 ) -> Result<Seen, Fault>
-    requires { is_known ≡ true → IsMatchTold finder.old.config finder.old.texts line.now true }
+    requires { is_known ≡ true → IsMatchTold finder.old.how finder.old.texts line.now true }
     ensures same { finder.new ≡ finder.old }
-    ensures has { IfOk result (λ seen. (by : SearchesFor finder.old (needs_spans what.now)) → seen.has ≡ (found_by by).has_match line.now) }
+    ensures has { IfOk result (λ seen. (by : SearchesFor finder.old (needs_spans what.now)) →
+        seen.has ≡ (found_by by).has_match (unended line.now)) }
     ensures found { IfOk result (λ seen. (by : SearchesFor finder.old (needs_spans what.now)) →
-        map span_pair seen.found.items ≡ filter is_some_text ((with_needed_spans what.now (found_by by)).spans line.now)) }
+        map span_pair seen.found.items ≡ filter is_some_text ((with_needed_spans what.now (found_by by)).spans (unended line.now))) }
 {
     let has = match has_match(alloc, finder, line, is_known) {
         Ok(has) => has,
@@ -78,6 +105,31 @@ pub(crate) fn look_at(
     }
     match finder.matches(alloc, line) {
         Ok(found) => Ok(Seen { has, found }),
+        Err(e) => Err(e),
+    }
+}
+
+/// Whether a line has a match, and which of its matches aren't empty, if these count. The line is given without its line feed. It may be
+/// known that it has a match.
+pub(crate) fn look_at(
+    alloc: Global,
+    finder: &mut Finder<'_>,
+    what: &What,
+    bytes: &[u8],
+    is_ended: bool,
+    is_known: bool,
+) -> Result<Seen, Fault>
+    requires { is_known ≡ true → IsMatchTold finder.old.how finder.old.texts
+        (searched finder.old.how.crlf (record { bytes = bytes.now; is_ended = is_ended })) true }
+    ensures same { finder.new ≡ finder.old }
+    ensures has { IfOk result (λ seen. (by : SearchesFor finder.old (needs_spans what.now)) →
+        seen.has ≡ (found_by by).has_match (record { bytes = bytes.now; is_ended = is_ended })) }
+    ensures found { IfOk result (λ seen. (by : SearchesFor finder.old (needs_spans what.now)) → map span_pair seen.found.items
+        ≡ filter is_some_text ((with_needed_spans what.now (found_by by)).spans (record { bytes = bytes.now; is_ended = is_ended }))) }
+{
+    let line = searched(finder.crlf(), bytes, is_ended);
+    match look_in(alloc, finder, what, line, is_known) {
+        Ok(seen) => Ok(seen),
         Err(e) => Err(e),
     }
 }

@@ -4,7 +4,7 @@ ghost use Rattle.std.specs.Prelude.{length};
 ghost use Rattle.grep_core.specs.Blocks.{SearchesBy, finds_by, tells_lines, counts_lines};
 ghost use Rattle.grep_core.specs.Candidates.{IsLineStart};
 ghost use Rattle.grep_core.specs.Courses.{Waits};
-ghost use Rattle.grep_core.specs.Lines.{split_lines};
+ghost use Rattle.grep_core.specs.Lines.{SplitLine, ended, split_lines};
 ghost use Rattle.grep_core.specs.Passing.{AreWhole, Lacks, MayPass, PassesTo, held_of};
 ghost use Rattle.grep_core.specs.Report.{LineMatcher};
 ghost use Rattle.grep_core.specs.Searchers.{Sought, found_by};
@@ -149,16 +149,17 @@ fn tell_without(
 ) -> Result<(), Fault>
     requires { Waits task.what.now progress.old.telling.course }
     ensures waits { OnOk result (Waits task.entry.what.now progress.new.telling.course) }
-    ensures goes_on { OnOk result ((f : LineMatcher) → Lacks f bytes.now → (lines : List (List ℕ)) →
-        out.old.items ++ tells_lines task.entry f progress.old (bytes.now ∷ lines)
+    ensures goes_on { OnOk result ((f : LineMatcher) → Lacks f (ended bytes.now) → (lines : List SplitLine) →
+        out.old.items ++ tells_lines task.entry f progress.old (ended bytes.now ∷ lines)
         ≡ out.new.items ++ tells_lines task.entry f progress.new lines) }
-    ensures counts { OnOk result ((f : LineMatcher) → Lacks f bytes.now → (lines : List (List ℕ)) →
-        counts_lines task.entry f progress.new lines ≡ counts_lines task.entry f progress.old (bytes.now ∷ lines)) }
+    ensures counts { OnOk result ((f : LineMatcher) → Lacks f (ended bytes.now) → (lines : List SplitLine) →
+        counts_lines task.entry f progress.new lines ≡ counts_lines task.entry f progress.old (ended bytes.now ∷ lines)) }
 {
     let line = Line {
         number: progress.number,
         place: progress.place,
         bytes,
+        is_ended: true,
     };
     tell_line(
         alloc,

@@ -220,7 +220,7 @@ fn tell_open_line(
     if rest.is_empty() {
         return Ok(());
     }
-    match tell_one(alloc, out, finder, task, progress, rest, false) {
+    match tell_one(alloc, out, finder, task, progress, rest, false, false) {
         Ok(()) => Ok(()),
         Err(e) => Err(e),
     }

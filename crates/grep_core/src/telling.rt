@@ -135,11 +135,11 @@ pub(crate) fn tell_line(
     found: &[Span],
 ) -> Result<(), Fault>
     requires { Waits what.now telling.old.course }
-    ensures goes_on { OnOk result ((f : LineMatcher) → has ≡ f.has_match line.entry.bytes.now →
+    ensures goes_on { OnOk result ((f : LineMatcher) → has ≡ f.has_match (text_line line.entry).content →
         map span_pair found.now ≡ told_spans f (text_line line.entry) → (lines : List TextLine) →
         out.old.items ++ still_told what.now f name.now with_name telling.old (text_line line.entry ∷ lines)
         ≡ out.new.items ++ still_told what.now f name.now with_name telling.new lines) }
-    ensures counts { OnOk result ((f : LineMatcher) → has ≡ f.has_match line.entry.bytes.now → (lines : List TextLine) →
+    ensures counts { OnOk result ((f : LineMatcher) → has ≡ f.has_match (text_line line.entry).content → (lines : List TextLine) →
         count_in_all what.now f telling.new lines ≡ count_in_all what.now f telling.old (text_line line.entry ∷ lines)) }
     ensures waits { OnOk result (Waits what.now telling.new.course) }
 {

@@ -28,7 +28,7 @@ fn tell_pattern(
 }
 
 /// Tells why a pattern is refused, and shows the place.
-pub fn tell_refused(
+fn tell_refused(
     rt: &HostRuntime,
     patterns: &[&str],
     error: TextError,
@@ -55,7 +55,7 @@ fn tell_loop(
     tell_pattern(rt, number, message, pattern, place)
 }
 
-/// Tells why there is no finder of these texts, which are made of the patterns and read under these options.
+/// Tells why there is no finder of these texts, which are the patterns in the syntax that is parsed, under these options.
 pub fn tell_no_finder(
     rt: &HostRuntime,
     config: &Config,

@@ -6,12 +6,11 @@ ghost use Rattle.hirgrep_main.specs.Decisions.{is_most, shows_names, may_run_on,
 use crate::asked::{Asked, Names};
 use crate::counting::Counting;
 use crate::input::input;
-use crate::messages::{tell_no_finder, tell_refused};
+use crate::messages::tell_no_finder;
 use crate::outcome::Outcome;
 use crate::output::Output;
 use crate::walking::{Kind, is_folder, is_output, kind_of, push_folder};
-use grep_core::{Finder, Known, Print, config_of, needs_spans, searched_text, tell_text};
-use pattern_search::parse_all;
+use grep_core::{Finder, Known, Print, config_of, needs_spans, pattern_source, tell_text};
 use std::alloc::{AllocError, Global};
 use std::fs;
 use std::io::Read;
@@ -35,25 +34,14 @@ fn strs_of<'a>(alloc: Global, texts: &'a [String]) -> Result<Vec<&'a str>, Alloc
     Ok(words)
 }
 
-/// The texts of which regexes are made for the patterns, or none where a pattern is refused, which is told.
-fn texts_of(
-    rt: &HostRuntime,
-    asked: &Asked,
-    patterns: &[&str],
-) -> Result<Option<Vec<String>>, AllocError> {
-    let alloc = rt.alloc();
-    if !asked.how.fixed {
-        if let Err(error) = parse_all(alloc, patterns, &config_of(&asked.how)) {
-            tell_refused(rt, patterns, error)?;
-            return Ok(None);
-        }
-    }
+/// The patterns in the syntax that is parsed.
+fn texts_of(alloc: Global, asked: &Asked, patterns: &[&str]) -> Result<Vec<String>, AllocError> {
     let mut texts = Vec::new(alloc);
     for pattern in patterns {
-        let text = searched_text(alloc, &asked.how, pattern)?;
+        let text = pattern_source(alloc, asked.how.fixed, pattern)?;
         texts.push(text)?;
     }
-    Ok(Some(texts))
+    Ok(texts)
 }
 
 /// What is known of the lines of the texts so far, of which some were printed where anything was selected or printed.
@@ -337,15 +325,14 @@ fn search_texts(
     texts: &[&str],
     files: &[&str],
 ) -> Result<u8, AllocError> {
-    let config = config_of(&asked.how);
-    match Finder::new(rt.alloc(), texts, &config, needs_spans(&asked.what)) {
+    match Finder::new(rt.alloc(), texts, &asked.how, needs_spans(&asked.what)) {
         Ok(mut finder) => {
             let status = search_by(rt, &mut finder, asked, files);
             drop(finder);
             status
         }
         Err(error) => {
-            tell_no_finder(rt, &config, patterns, texts, error)?;
+            tell_no_finder(rt, &config_of(&asked.how), patterns, texts, error)?;
             Ok(2)
         }
     }
@@ -359,9 +346,7 @@ pub fn search(
     files: &[&str],
 ) -> Result<u8, AllocError> {
     let patterns = strs_of(rt.alloc(), patterns)?;
-    let Some(texts) = texts_of(rt, asked, patterns.as_slice())? else {
-        return Ok(2);
-    };
+    let texts = texts_of(rt.alloc(), asked, patterns.as_slice())?;
     let words = strs_of(rt.alloc(), texts.as_slice())?;
     search_texts(rt, asked, patterns.as_slice(), words.as_slice(), files)
 }

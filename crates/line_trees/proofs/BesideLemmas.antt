@@ -1,7 +1,7 @@
 -- What stands beside a place of a line, as a byte and as a character, is what stands there in a block with that line. The exceptions are
 -- the line's edges, where the line has nothing and the block nothing or a line feed. A line feed is a character of its own: it neither
 -- begins nor continues a longer spelling, whatever bytes stand beside it, so no character reaches over the edges.
-use Rattle.std.proofs.Common.{◌≡◌, ℕ, zero, suc, ◌+◌, ◌-◌, ◌<◌, ◌≤◌, ◌⊎◌, inl, inr, List, [], ◌∷◌, ◌++◌, length, get_or, take, drop}
+use Rattle.std.proofs.Common.{◌≡◌, ℕ, zero, suc, ◌+◌, ◌-◌, ◌<◌, ◌≤◌, ◌⊎◌, inl, inr, Bool, true, false, List, [], ◌∷◌, ◌++◌, length, get_or, take, drop}
 use Rattle.std.proofs.Common.{slice_get, Option, Some, None, refl, sym, ap, subst, ◌∙◌, arith, length-append, length-drop}
 use Rattle.std.proofs.Common.{drop-drop, append_assoc, take_at, drop_at, take-append-drop}
 use Rattle.std.proofs.lemmas.Bool.{cases_lt}
@@ -12,6 +12,7 @@ use Rattle.search_core.specs.Utf8.{IsContinuation, Spells, SpellsFirst, SpellsLa
 use Rattle.search_core.specs.Utf8.Spells.{from_0000}
 use Rattle.search_core.specs.Characters.{character_at, character_before}
 use Rattle.search_core.proofs.ForCallers.{spelling_tails, character_begins, begun_character, ended_character}
+use Rattle.line_trees.specs.LineTrees.{FollowsLine}
 use Rattle.line_trees.proofs.ReachLemmas.{character_reaches}
 
 -- ---- texts that are put together
@@ -70,12 +71,37 @@ module _ (c : ℕ) (text more : List ℕ) (some : 0 < length text) (low : get_or
     joined = begins_with text more f.spelling f.rest f.joined first_is_short;
   }
 
+-- ---- what follows a line
+-- a byte with which the end of a line begins
+abbrev pub IsEnding : ℕ → Type 0
+IsEnding b = (b ≡ 0x0A) ⊎ (b ≡ 0x0D)
+
+pub ending_is_low : (b : ℕ) → IsEnding b → b < 0x80
+ending_is_low b (inl e) = omega (arith, e)
+ending_is_low b (inr e) = omega (arith, e)
+
+pub record BeginsEnd (after : List ℕ) : Type 0 where
+  pub byte : ℕ
+  pub rest : List ℕ
+  pub ending : IsEnding byte
+  pub joined : after ≡ byte ∷ rest
+
+abbrev pub Follows : List ℕ → Type 0
+Follows after = (after ≡ []) ⊎ BeginsEnd after
+
+pub follows : (crlf : Bool) (line after : List ℕ) → FollowsLine crlf line after → Follows after
+follows false line after (inl none) = inl none
+follows false line after (inr r) = inr (record { byte = 0x0A; rest = r.0; ending = inl refl; joined = r.1 })
+follows true line after (inl none) = inl none
+follows true line after (inr (inl r)) = inr (record { byte = 0x0D; rest = r.0; ending = inr refl; joined = r.1 })
+follows true line after (inr (inr r)) = inr (record { byte = 0x0A; rest = r.0.0; ending = inl refl; joined = r.0.1 })
+
 -- ---- beside the places of a line
 -- the byte behind the line, and the one in front of it, are of ASCII, where there are any
-pub feed_behind : (after : List ℕ) → (after ≡ []) ⊎ ((rest : List ℕ) × (after ≡ 0x0A ∷ rest)) → get_or after 0 0 < 0x80
+pub feed_behind : (after : List ℕ) → Follows after → get_or after 0 0 < 0x80
 feed_behind after s =
     let Low : List ℕ → Type 0 = λ t. get_or t 0 0 < 0x80 in
-    elim s [ inl e ↦ subst Low (sym e) (omega arith) | inr r ↦ subst Low (sym r.1) (omega arith) ]
+    elim s [ inl e ↦ subst Low (sym e) (omega arith) | inr f ↦ subst Low (sym f.joined) (ending_is_low f.byte f.ending) ]
 
 pub feed_in_front : (before : List ℕ) → (before ≡ []) ⊎ ((front : List ℕ) × (before ≡ front ++ (0x0A ∷ []))) →
     get_or before (length before - 1) 0 < 0x80
@@ -137,17 +163,30 @@ module _ (before line after : List ℕ) where
       (λ j m. same_get j (omega arith)) (low_in_front low)
 
 -- ---- beside the edges of the line
--- a line feed is a character
+-- a line feed is a character, and so is a carriage return
 feed_spells : Spells 0x0A (0x0A ∷ [])
 feed_spells = from_0000 0x0A (omega arith, omega arith) refl refl
+
+return_spells : Spells 0x0D (0x0D ∷ [])
+return_spells = from_0000 0x0D (omega arith, omega arith) refl refl
+
+ending_spells : (b : ℕ) → IsEnding b → Spells b (b ∷ [])
+ending_spells b (inl e) = subst (λ (c : ℕ). Spells c (c ∷ [])) (sym e) feed_spells
+ending_spells b (inr e) = subst (λ (c : ℕ). Spells c (c ∷ [])) (sym e) return_spells
 
 -- in front of a place of the block there is nothing, as it is the block's start, or a line feed
 abbrev pub StartsLine : List ℕ → ℕ → Type 0
 StartsLine h k = ((k ≡ 0) × (byte_before h k ≡ None)) ⊎ ((byte_before h k ≡ Some 0x0A) × (character_before h k ≡ Some 0x0A))
 
--- behind it there is nothing, as it is the block's end, or a line feed
+-- after it there is nothing, as it is the block's end, or the end of a line
+pub record EndsWith (h : List ℕ) (k : ℕ) : Type 0 where
+  pub byte : ℕ
+  pub ending : IsEnding byte
+  pub at : byte_at h k ≡ Some byte
+  pub character : character_at h k ≡ Some byte
+
 abbrev pub EndsLine : List ℕ → ℕ → Type 0
-EndsLine h k = ((k ≡ length h) × (byte_at h k ≡ None)) ⊎ ((byte_at h k ≡ Some 0x0A) × (character_at h k ≡ Some 0x0A))
+EndsLine h k = ((k ≡ length h) × (byte_at h k ≡ None)) ⊎ EndsWith h k
 
 starts_behind_feed : (front more : List ℕ) (k : ℕ) → k ≡ length (front ++ (0x0A ∷ [])) → StartsLine ((front ++ (0x0A ∷ [])) ++ more) k
 starts_behind_feed front more k e =
@@ -175,8 +214,13 @@ starts_line before more k s e = elim s [
       subst (λ (b : List ℕ). StartsLine (b ++ more) k) (sym r.1) (starts_behind_feed r.0 more k (e ∙ ap length r.1))
 ]
 
-pub ends_line_at : (front after : List ℕ) (k : ℕ) → (after ≡ []) ⊎ ((rest : List ℕ) × (after ≡ 0x0A ∷ rest)) →
-    k ≡ length front → EndsLine (front ++ after) k
+-- the byte after a part of a text
+pub byte_after : (front after rest : List ℕ) (k b : ℕ) → k ≡ length front → after ≡ b ∷ rest → byte_at (front ++ after) k ≡ Some b
+byte_after front after rest k b e joined =
+    let offset : k ≡ length front + 0 = omega (arith, e) in
+    ap (slice_get (front ++ after)) offset ∙ get_behind front after 0 ∙ ap (λ (t : List ℕ). slice_get t 0) joined
+
+pub ends_line_at : (front after : List ℕ) (k : ℕ) → Follows after → k ≡ length front → EndsLine (front ++ after) k
 ends_line_at front after k s e =
     let sum = length-append front after in
     elim s [
@@ -184,11 +228,16 @@ ends_line_at front after k s e =
           let no_more = ap length none in
           let place : k ≡ length (front ++ after) = omega arith in
           inl (place, slice_get_past (front ++ after) k (omega arith))
-      | inr r ↦
-          let place : k ≡ length front + 0 = omega arith in
-          let byte : byte_at (front ++ after) k ≡ Some 0x0A =
-          ap (slice_get (front ++ after)) place ∙ get_behind front after 0 ∙ ap (λ (t : List ℕ). slice_get t 0) r.1 in
-          let first : SpellsFirst 0x0A (drop k (front ++ after)) =
-          record { spelling = 0x0A ∷ []; rest = r.0; spells = feed_spells; joined = drop_at front after k (sym e) ∙ r.1 } in
-          inr (byte, begun_character (front ++ after) k 0x0A first)
+      | inr f ↦
+          inr (record {
+            byte = f.byte;
+            ending = f.ending;
+            at = byte_after front after f.rest k f.byte e f.joined;
+            character = begun_character (front ++ after) k f.byte (record {
+              spelling = f.byte ∷ [];
+              rest = f.rest;
+              spells = ending_spells f.byte f.ending;
+              joined = drop_at front after k (sym e) ∙ f.joined;
+            });
+          })
     ]

@@ -4,7 +4,7 @@ pub use Rattle.line_trees.proofs.MeaningLemmas.{means_in_block, match_in_block}
 -- what the line tree means in the block between two places of one line, the tree means in the line
 pub use Rattle.line_trees.proofs.WithinLemmas.{means_in_line}
 -- each look by itself
-pub use Rattle.line_trees.proofs.LineLookLemmas.{same_looks}
+pub use Rattle.line_trees.proofs.LineLookLemmas.{same_looks, looks_go_on}
 -- what a line tree keeps of the tree
 pub use Rattle.line_trees.proofs.KeptLemmas.{minimum_kept, loops_kept, feeds_kept}
 -- what a tree means that reads no line feed has none among its bytes

@@ -1,5 +1,5 @@
 -- Lists: bytes at a place of a part of a text, and the line trees of parts one after the other, or of a choice.
-use Rattle.std.proofs.Common.{◌≡◌, ℕ, zero, suc, ◌+◌, ◌<◌, List, [], ◌∷◌, take, drop, slice_get, map, refl, ap, ◌∙◌, arith}
+use Rattle.std.proofs.Common.{◌≡◌, ℕ, zero, suc, ◌+◌, ◌<◌, Bool, List, [], ◌∷◌, take, drop, slice_get, map, refl, ap, ◌∙◌, arith}
 use Rattle.hir_core.specs.Tree.{Tree, cat, alt, concat, alternation}
 use Rattle.line_trees.specs.LineTrees.{line_tree}
 
@@ -18,10 +18,10 @@ get_dropped (suc n) (x ∷ xs) k =
     get_dropped n xs k ∙ ap (slice_get (x ∷ xs)) one
 
 -- ---- the line tree is that of the parts' line trees
-pub line_of_concat : (xs : List Tree) → line_tree (concat xs) ≡ concat (map line_tree xs)
-line_of_concat [] = refl
-line_of_concat (x ∷ xs) = ap (cat (line_tree x)) (line_of_concat xs)
+pub line_of_concat : (crlf : Bool) (xs : List Tree) → line_tree crlf (concat xs) ≡ concat (map (line_tree crlf) xs)
+line_of_concat crlf [] = refl
+line_of_concat crlf (x ∷ xs) = ap (cat (line_tree crlf x)) (line_of_concat crlf xs)
 
-pub line_of_alternation : (xs : List Tree) → line_tree (alternation xs) ≡ alternation (map line_tree xs)
-line_of_alternation [] = refl
-line_of_alternation (x ∷ xs) = ap (alt (line_tree x)) (line_of_alternation xs)
+pub line_of_alternation : (crlf : Bool) (xs : List Tree) → line_tree crlf (alternation xs) ≡ alternation (map (line_tree crlf) xs)
+line_of_alternation crlf [] = refl
+line_of_alternation crlf (x ∷ xs) = ap (alt (line_tree crlf x)) (line_of_alternation crlf xs)

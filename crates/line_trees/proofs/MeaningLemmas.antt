@@ -13,7 +13,7 @@ use Rattle.hir_core.specs.Means.{Means, Rounds, SpellsMember, stands}
 use Rattle.hir_core.proofs.ForCallers.{span_within}
 use Rattle.line_trees.specs.LineTrees.{line_tree, has_crlf, IsLineBetween, block_of, line_looks, MeansInBlock, HasMatch}
 use Rattle.line_trees.proofs.BesideLemmas.{rest_in_block, same_byte_at}
-use Rattle.line_trees.proofs.LineLookLemmas.{same_looks}
+use Rattle.line_trees.proofs.LineLookLemmas.{looks_go_on}
 
 -- ---- leaves
 module _ (before line after : List ℕ) where
@@ -46,10 +46,11 @@ module _ (before line after : List ℕ) where
   }
 
 -- ---- trees
-module _ (words : ℕ → Bool) (set : IsWordSet words) (before line after : List ℕ) (is : IsLineBetween before line after) where
-  rounds_in_block : (x : Tree) → MeansInBlock words before line after x → (n s e : ℕ) → s ≤ length line →
+module _ (crlf : Bool) (words : ℕ → Bool) (set : IsWordSet words) (before line after : List ℕ)
+    (is : IsLineBetween crlf before line after) where
+  rounds_in_block : (x : Tree) → MeansInBlock crlf words before line after x → (n s e : ℕ) → s ≤ length line →
       Rounds (Means (line_looks words line) line x) n s e →
-      Rounds (Means (line_looks words (block_of before line after)) (block_of before line after) (line_tree x)) n
+      Rounds (Means (line_looks words (block_of before line after)) (block_of before line after) (line_tree crlf x)) n
       (length before + s) (length before + e)
   rounds_in_block x each zero s e l r = ap (λ (j : ℕ). length before + j) r
   rounds_in_block x each (suc n) s e l r = (
@@ -58,7 +59,7 @@ module _ (words : ℕ → Bool) (set : IsWordSet words) (before line after : Lis
     rounds_in_block x each n r.0 e (span_within (line_looks words line) line x s r.0 l r.1) r.2,
   )
 
-  in_block : (x : Tree) → has_crlf x ≡ false → MeansInBlock words before line after x
+  in_block : (x : Tree) → has_crlf x ≡ false → MeansInBlock crlf words before line after x
   in_block empty u s e l m = ap (λ (j : ℕ). length before + j) m
   in_block (literal bytes) u s e l m = (omega (arith, m.0), stands_in_block before line after s bytes l m.1)
   in_block (byte_class ranges) u s e l m =
@@ -66,7 +67,7 @@ module _ (words : ℕ → Bool) (set : IsWordSet words) (before line after : Lis
       (omega (arith, m.0), m.1, sym (same_byte_at before line after s inside) ∙ m.2, m.3)
   in_block (char_class ranges) u s e l m = member_in_block before line after ranges s e m
   in_block (look o) u s e l m =
-      (ap (λ (j : ℕ). length before + j) m.0, sym (same_looks words before line after o s set is u l) ∙ m.1)
+      (ap (λ (j : ℕ). length before + j) m.0, looks_go_on crlf words before line after o s set is u l m.1)
   in_block (repetition min most greedy x) u s e l m = (m.0, m.1, m.2, rounds_in_block x (in_block x u) m.0 s e l m.3)
   in_block (capture index name x) u s e l m = in_block x u s e l m
   in_block nothing u s e l m = ap (λ (j : ℕ). length before + j) m
@@ -78,16 +79,16 @@ module _ (words : ℕ → Bool) (set : IsWordSet words) (before line after : Lis
   in_block (alt x y) u s e l (inl m) = inl (in_block x (or_parts (has_crlf x) (has_crlf y) u).0 s e l m)
   in_block (alt x y) u s e l (inr m) = inr (in_block y (or_parts (has_crlf x) (has_crlf y) u).1 s e l m)
 
-pub means_in_block : (words : ℕ → Bool) (before line after : List ℕ) (x : Tree) → IsWordSet words → IsLineBetween before line after →
-    has_crlf x ≡ false → MeansInBlock words before line after x
-means_in_block words before line after x set is u = in_block words set before line after is x u
+pub means_in_block : (crlf : Bool) (words : ℕ → Bool) (before line after : List ℕ) (x : Tree) → IsWordSet words →
+    IsLineBetween crlf before line after → has_crlf x ≡ false → MeansInBlock crlf words before line after x
+means_in_block crlf words before line after x set is u = in_block crlf words set before line after is x u
 
-pub match_in_block : (words : ℕ → Bool) (before line after : List ℕ) (x : Tree) → IsWordSet words → IsLineBetween before line after →
-    has_crlf x ≡ false → HasMatch (line_looks words line) line x →
-    HasMatch (line_looks words (block_of before line after)) (block_of before line after) (line_tree x)
-match_in_block words before line after x set is u m = record {
+pub match_in_block : (crlf : Bool) (words : ℕ → Bool) (before line after : List ℕ) (x : Tree) → IsWordSet words →
+    IsLineBetween crlf before line after → has_crlf x ≡ false → HasMatch (line_looks words line) line x →
+    HasMatch (line_looks words (block_of before line after)) (block_of before line after) (line_tree crlf x)
+match_in_block crlf words before line after x set is u m = record {
   start = length before + m.start;
   end = length before + m.end;
   within = omega (arith, m.within, length-append before (line ++ after), length-append line after);
-  means = in_block words set before line after is x u m.start m.end m.within m.means;
+  means = in_block crlf words set before line after is x u m.start m.end m.within m.means;
 }

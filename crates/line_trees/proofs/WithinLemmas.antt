@@ -38,12 +38,12 @@ module _ (before line after : List ℕ) where
       }
 
 -- ---- trees
-module _ (words : ℕ → Bool) (set : IsWordSet words) (before line after : List ℕ) (is : IsLineBetween before line after) where
+module _ (words : ℕ → Bool) (set : IsWordSet words) (before line after : List ℕ) (is : IsLineBetween false before line after) where
   abbrev InBlock : Tree → ℕ → ℕ → Type 0
-  InBlock x i j = Means (line_looks words (block_of before line after)) (block_of before line after) (line_tree x) i j
+  InBlock x i j = Means (line_looks words (block_of before line after)) (block_of before line after) (line_tree false x) i j
 
   forward_in_block : (x : Tree) (i j : ℕ) → InBlock x i j → i ≤ j
-  forward_in_block x i j m = span_forward (line_looks words (block_of before line after)) (block_of before line after) (line_tree x) i j m
+  forward_in_block x i j m = span_forward (line_looks words (block_of before line after)) (block_of before line after) (line_tree false x) i j m
 
   -- rounds are spans of a repetition
   rounds_forward : (x : Tree) (n i j : ℕ) → Rounds (InBlock x) n i j → i ≤ j
@@ -95,6 +95,6 @@ module _ (words : ℕ → Bool) (set : IsWordSet words) (before line after : Lis
   in_line (alt x y) u s e l (inl m) = inl (in_line x (or_parts (has_crlf x) (has_crlf y) u).0 s e l m)
   in_line (alt x y) u s e l (inr m) = inr (in_line y (or_parts (has_crlf x) (has_crlf y) u).1 s e l m)
 
-pub means_in_line : (words : ℕ → Bool) (before line after : List ℕ) (x : Tree) → IsWordSet words → IsLineBetween before line after →
+pub means_in_line : (words : ℕ → Bool) (before line after : List ℕ) (x : Tree) → IsWordSet words → IsLineBetween false before line after →
     has_crlf x ≡ false → MeansInLine words before line after x
 means_in_line words before line after x set is u = in_line words set before line after is x u

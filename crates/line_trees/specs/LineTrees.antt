@@ -1,37 +1,45 @@
 -- Text is searched in blocks of lines. A tree that is meant for one line is read for a block: where it asks for an edge of the
 -- haystack, its line tree asks for an edge of a line. The law is that what the tree means in a line, its line tree means in the block.
-use Rattle.std.specs.Prelude.{◌≡◌, ◌≢◌, ◌==◌, ℕ, ◌+◌, ◌≤◌, ◌<◌, ◌⊎◌, Bool, false, ◌||◌, List, [], ◌∷◌, ◌++◌, length, slice_get, Some}
+use Rattle.std.specs.Prelude.{◌≡◌, ◌≢◌, ◌==◌, ℕ, ◌+◌, ◌≤◌, ◌<◌, ◌⊎◌, Bool, true, false, ◌||◌, List, [], ◌∷◌, ◌++◌, length, slice_get, Some}
+use Rattle.std.specs.Prelude.{if◌then◌else◌}
 use Rattle.std.specs.List.{All, list_any}
+use Rattle.search_core.specs.Text.{byte_before}
 use Rattle.look_core.specs.Codes.{is_anchor_crlf}
 use Rattle.look_core.specs.Looks.{holds}
 use Rattle.look_core.specs.Terminators.{one_of}
 use Rattle.look_core.specs.declared.look.Look.{Look}
-use Rattle.look_core.specs.declared.look.Look.TheVariants.{Start, End, StartLF, EndLF}
+use Rattle.look_core.specs.declared.look.Look.TheVariants.{Start, End, StartLF, EndLF, EndCRLF}
 use Rattle.hir_core.specs.Tree.{Tree, empty, literal, byte_class, char_class, look, repetition, capture, nothing, cat, never, alt}
 use Rattle.hir_core.specs.Means.{Looks, Means, is_member}
 
+-- The look at the end of a line in a block. With `crlf` one carriage return right before the line feed belongs to the end of the line,
+-- so the line ends before it.
+abbrev pub line_end : Bool → Look
+line_end crlf = if crlf then EndCRLF else EndLF
+
 -- the look that holds in a block of lines where this one holds in a line of it
-abbrev pub line_look : Look → Look
-line_look Start = StartLF
-line_look End = EndLF
-line_look l = l
+abbrev pub line_look : Bool → Look → Look
+line_look crlf Start = StartLF
+line_look crlf End = line_end crlf
+line_look crlf EndLF = line_end crlf
+line_look crlf l = l
 
 -- the tree with each of its looks replaced so
-abbrev pub line_tree : Tree → Tree
-line_tree empty = empty
-line_tree (literal bytes) = literal bytes
-line_tree (byte_class ranges) = byte_class ranges
-line_tree (char_class ranges) = char_class ranges
-line_tree (look l) = look (line_look l)
-line_tree (repetition min most greedy x) = repetition min most greedy (line_tree x)
-line_tree (capture index name x) = capture index name (line_tree x)
-line_tree nothing = nothing
-line_tree (cat x y) = cat (line_tree x) (line_tree y)
-line_tree never = never
-line_tree (alt x y) = alt (line_tree x) (line_tree y)
+abbrev pub line_tree : Bool → Tree → Tree
+line_tree crlf empty = empty
+line_tree crlf (literal bytes) = literal bytes
+line_tree crlf (byte_class ranges) = byte_class ranges
+line_tree crlf (char_class ranges) = char_class ranges
+line_tree crlf (look l) = look (line_look crlf l)
+line_tree crlf (repetition min most greedy x) = repetition min most greedy (line_tree crlf x)
+line_tree crlf (capture index name x) = capture index name (line_tree crlf x)
+line_tree crlf nothing = nothing
+line_tree crlf (cat x y) = cat (line_tree crlf x) (line_tree crlf y)
+line_tree crlf never = never
+line_tree crlf (alt x y) = alt (line_tree crlf x) (line_tree crlf y)
 
--- Whether a look stands in the tree that knows carriage returns. Where a line ends with one, these two looks hold behind it in the
--- line alone, which ends there, and not in the block, where a line feed follows: so nothing is said of trees that have them.
+-- Whether the tree has a look at carriage returns. If a line ends with one, these two looks hold after it in the line alone, which ends
+-- there, and not in the block, where a line feed follows. So the laws leave out trees that have them.
 abbrev pub has_crlf : Tree → Bool
 has_crlf empty = false
 has_crlf (literal bytes) = false
@@ -59,11 +67,18 @@ reads_feed (cat x y) = reads_feed x || reads_feed y
 reads_feed never = false
 reads_feed (alt x y) = reads_feed x || reads_feed y
 
--- A line stands between these two parts of a block: before it nothing, or text that a line feed ends; behind it nothing, or its own
--- line feed and more. It has none itself. Bytes need be no UTF-8.
-pub record IsLineBetween (before line after : List ℕ) : Type 0 where
+-- What follows a line in a block: nothing, or its line feed and more. With `crlf` the line was cut before the carriage return that belongs
+-- to its end, which then follows; a line whose line feed follows at once doesn't end with a carriage return.
+abbrev pub FollowsLine : Bool → List ℕ → List ℕ → Type 0
+FollowsLine false line after = (after ≡ []) ⊎ ((rest : List ℕ) × (after ≡ 0x0A ∷ rest))
+FollowsLine true line after = (after ≡ []) ⊎ (((rest : List ℕ) × (after ≡ 0x0D ∷ rest))
+    ⊎ (((rest : List ℕ) × (after ≡ 0x0A ∷ rest)) × (byte_before line (length line) ≢ Some 0x0D)))
+
+-- A line stands between these two parts of a block: before it stands nothing, or text that a line feed ends. It has no line feed itself.
+-- The bytes need not be UTF-8.
+pub record IsLineBetween (crlf : Bool) (before line after : List ℕ) : Type 0 where
   pub starts : (before ≡ []) ⊎ ((front : List ℕ) × (before ≡ front ++ (0x0A ∷ [])))
-  pub ends : (after ≡ []) ⊎ ((rest : List ℕ) × (after ≡ 0x0A ∷ rest))
+  pub ends : FollowsLine crlf line after
   pub without_feed : All (λ b. b ≢ 0x0A) line
 
 -- the block
@@ -75,14 +90,16 @@ abbrev pub line_looks : (ℕ → Bool) → List ℕ → Looks
 line_looks words h = holds words (one_of 0x0A) h
 
 -- a span that the tree means in the line, its line tree means in the block, where the line's bytes stand there
-abbrev pub MeansInBlock : (ℕ → Bool) → List ℕ → List ℕ → List ℕ → Tree → Type 0
-MeansInBlock words before line after x = (s e : ℕ) → s ≤ length line → Means (line_looks words line) line x s e →
-    Means (line_looks words (block_of before line after)) (block_of before line after) (line_tree x) (length before + s) (length before + e)
+abbrev pub MeansInBlock : Bool → (ℕ → Bool) → List ℕ → List ℕ → List ℕ → Tree → Type 0
+MeansInBlock crlf words before line after x = (s e : ℕ) → s ≤ length line → Means (line_looks words line) line x s e →
+    Means (line_looks words (block_of before line after)) (block_of before line after) (line_tree crlf x)
+    (length before + s) (length before + e)
 
--- and the other way round for what the line tree means in the block up to the line's end: it is meant in the line
+-- And the other way round, for what the line tree means in the block up to the line's end: it is meant in the line. With `crlf` this need
+-- not be so, since a look at the end of a line then also holds before a carriage return inside the line.
 abbrev pub MeansInLine : (ℕ → Bool) → List ℕ → List ℕ → List ℕ → Tree → Type 0
 MeansInLine words before line after x = (s e : ℕ) → e ≤ length line →
-    Means (line_looks words (block_of before line after)) (block_of before line after) (line_tree x) (length before + s)
+    Means (line_looks words (block_of before line after)) (block_of before line after) (line_tree false x) (length before + s)
     (length before + e) →
     Means (line_looks words line) line x s e
 

@@ -1,5 +1,5 @@
 //! Laws of trees that are meant for one line and read for a block of lines. Each function has no code: its contract is the law.
-ghost use Rattle.std.specs.Prelude.{◌≡◌, ◌↔◌, ◌≤◌, ◌+◌, ℕ, Bool, false, List, length};
+ghost use Rattle.std.specs.Prelude.{◌≡◌, ◌↔◌, ◌≤◌, ◌+◌, ℕ, Bool, false, true, List, length};
 ghost use Rattle.look_core.specs.Codes.{is_anchor_crlf};
 ghost use Rattle.look_core.specs.Looks.{IsWordSet};
 ghost use Rattle.look_core.specs.declared.look.Look.{Look};
@@ -10,29 +10,34 @@ ghost use Rattle.line_trees.specs.LineTrees.{line_look, line_tree, has_crlf, IsL
 ghost use Rattle.line_trees.specs.LineTrees.{MeansInBlock, MeansInLine, HasMatch};
 ghost use Rattle.line_trees.specs.LineTrees.{reads_feed, HasNoFeedFrom};
 
-/// At the places of a line each look but the two of carriage returns holds in the line just where its line look holds in the block.
-#[tactic(auto, using(crate::proofs::LineLookLemmas::same_looks))]
+/// At each offset of a line, every look but the two at carriage returns holds in the line exactly where its line look holds in the block. If
+/// a carriage return belongs to the end of a line, its line look holds there at least.
+#[tactic(auto, using(crate::proofs::LineLookLemmas::same_looks, crate::proofs::LineLookLemmas::looks_go_on))]
 pub fn line_looks_hold_in_the_block()
-    ensures { (words : ℕ → Bool) (before line after : List ℕ) (l : Look) (i : ℕ) → IsWordSet words → IsLineBetween before line after →
-        is_anchor_crlf l ≡ false → i ≤ length line →
-        line_looks words line l i ≡ line_looks words (block_of before line after) (line_look l) (length before + i) }
+    ensures same { (words : ℕ → Bool) (before line after : List ℕ) (l : Look) (i : ℕ) → IsWordSet words →
+        IsLineBetween false before line after → is_anchor_crlf l ≡ false → i ≤ length line →
+        line_looks words line l i ≡ line_looks words (block_of before line after) (line_look false l) (length before + i) }
+    ensures at_least { (crlf : Bool) (words : ℕ → Bool) (before line after : List ℕ) (l : Look) (i : ℕ) → IsWordSet words →
+        IsLineBetween crlf before line after → is_anchor_crlf l ≡ false → i ≤ length line → line_looks words line l i ≡ true →
+        line_looks words (block_of before line after) (line_look crlf l) (length before + i) ≡ true }
 {}
 
-/// What a tree means in a line, its line tree means in each block with that line, at the same bytes: so a line with a match is a block
-/// with one. A block with a match need have no line with one, since the match may reach over the ends of lines.
+/// What a tree means in a line, its line tree means in each block with that line, at the same bytes. So a line with a match is a block
+/// with one. A block with a match need not have a line with one, since the match may reach over the ends of lines.
 #[tactic(auto, using(crate::proofs::MeaningLemmas::means_in_block, crate::proofs::MeaningLemmas::match_in_block))]
 pub fn a_line_with_a_match_is_a_block_with_one()
-    ensures spans { (words : ℕ → Bool) (before line after : List ℕ) (x : Tree) → IsWordSet words → IsLineBetween before line after →
-        has_crlf x ≡ false → MeansInBlock words before line after x }
-    ensures found { (words : ℕ → Bool) (before line after : List ℕ) (x : Tree) → IsWordSet words → IsLineBetween before line after →
-        has_crlf x ≡ false → HasMatch (line_looks words line) line x →
-        HasMatch (line_looks words (block_of before line after)) (block_of before line after) (line_tree x) }
+    ensures spans { (crlf : Bool) (words : ℕ → Bool) (before line after : List ℕ) (x : Tree) → IsWordSet words →
+        IsLineBetween crlf before line after → has_crlf x ≡ false → MeansInBlock crlf words before line after x }
+    ensures found { (crlf : Bool) (words : ℕ → Bool) (before line after : List ℕ) (x : Tree) → IsWordSet words →
+        IsLineBetween crlf before line after → has_crlf x ≡ false → HasMatch (line_looks words line) line x →
+        HasMatch (line_looks words (block_of before line after)) (block_of before line after) (line_tree crlf x) }
 {}
 
-/// A match of the line tree in the block that reaches over no end of a line is a match of the tree in that line.
+/// A match of the line tree in the block that reaches over no end of a line is a match of the tree in that line, if a line feed alone ends
+/// lines.
 #[tactic(auto, using(crate::proofs::WithinLemmas::means_in_line))]
 pub fn a_match_within_a_line_is_one_of_the_line()
-    ensures { (words : ℕ → Bool) (before line after : List ℕ) (x : Tree) → IsWordSet words → IsLineBetween before line after →
+    ensures { (words : ℕ → Bool) (before line after : List ℕ) (x : Tree) → IsWordSet words → IsLineBetween false before line after →
         has_crlf x ≡ false → MeansInLine words before line after x }
 {}
 
@@ -46,7 +51,7 @@ pub fn a_match_that_reads_no_feed_lies_in_one_line()
 /// A line tree has the minimum length of the tree, loops that read where the tree's do, and reads a line feed where the tree does.
 #[tactic(auto, using(crate::proofs::KeptLemmas::minimum_kept, crate::proofs::KeptLemmas::loops_kept, crate::proofs::KeptLemmas::feeds_kept))]
 pub fn line_trees_read_as_much()
-    ensures least { (x : Tree) → minimum_len (line_tree x) ≡ minimum_len x }
-    ensures loops { (x : Tree) → LoopsRead (line_tree x) ↔ LoopsRead x }
-    ensures feeds { (x : Tree) → reads_feed (line_tree x) ≡ reads_feed x }
+    ensures least { (crlf : Bool) (x : Tree) → minimum_len (line_tree crlf x) ≡ minimum_len x }
+    ensures loops { (crlf : Bool) (x : Tree) → LoopsRead (line_tree crlf x) ↔ LoopsRead x }
+    ensures feeds { (crlf : Bool) (x : Tree) → reads_feed (line_tree crlf x) ≡ reads_feed x }
 {}

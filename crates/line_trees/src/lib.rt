@@ -8,5 +8,6 @@ pub mod laws;
 mod trees;
 
 pub use trees::{
-    all_line_trees, any_has_crlf, any_reads_feed, has_crlf, line_look, line_tree, reads_feed,
+    all_line_trees, any_has_crlf, any_reads_feed, has_crlf, line_end, line_look, line_tree,
+    reads_feed,
 };

@@ -4,19 +4,26 @@ ghost use Rattle.std.specs.List.{list_any};
 ghost use Rattle.look_core.specs.Codes.{is_anchor_crlf};
 ghost use Rattle.hir_core.specs.Tree.{concat, alternation};
 ghost use Rattle.hir_core.specs.Means.{is_member};
-ghost use Rattle.line_trees.specs.LineTrees.{line_look, line_tree, has_crlf, reads_feed};
+ghost use Rattle.line_trees.specs.LineTrees.{line_end, line_look, line_tree, has_crlf, reads_feed};
 
 use hir_core::{Hir, HirKind};
 use look_core::Look;
 use std::alloc::{AllocError, Global};
 
+/// The look at the end of a line in a block. With `crlf` a carriage return right before the line feed belongs to the end of the line.
+pub fn line_end(crlf: bool) -> Look
+    ensures { result ≡ line_end crlf }
+{
+    if crlf { Look::EndCRLF } else { Look::EndLF }
+}
+
 /// The look that holds in a block of lines where this one holds in a line of it.
-pub fn line_look(look: Look) -> Look
-    ensures { result ≡ line_look look }
+pub fn line_look(look: Look, crlf: bool) -> Look
+    ensures { result ≡ line_look crlf look }
 {
     match look {
         Look::Start => Look::StartLF,
-        Look::End => Look::EndLF,
+        Look::End | Look::EndLF => line_end(crlf),
         other => other,
     }
 }
@@ -32,45 +39,46 @@ fn copied(alloc: Global, name: &Option<String>) -> Result<Option<String>, AllocE
 }
 
 /// The tree with each of its looks replaced by its line look. What the tree means in a line, this one means in each block with that line
-/// ([`a_line_with_a_match_is_a_block_with_one`](crate::laws::a_line_with_a_match_is_a_block_with_one)). Refused only for want of memory.
+/// ([`a_line_with_a_match_is_a_block_with_one`](crate::laws::a_line_with_a_match_is_a_block_with_one)). The only error is a failed
+/// allocation.
 #[cycle(line_tree)]
-pub fn line_tree(alloc: Global, x: &Hir) -> Result<Hir, AllocError>
-    ensures { IfOk result (λ y. y ≡ line_tree x.now) }
+pub fn line_tree(alloc: Global, x: &Hir, crlf: bool) -> Result<Hir, AllocError>
+    ensures { IfOk result (λ y. y ≡ line_tree crlf x.now) }
 {
     match x.kind() {
         HirKind::Empty | HirKind::Literal(_) | HirKind::Bytes(_) | HirKind::Chars(_) => {
             let y = x.try_clone(alloc)?;
             Ok(y)
         }
-        HirKind::Look(look) => Ok(Hir::look(line_look(*look))),
+        HirKind::Look(look) => Ok(Hir::look(line_look(*look, crlf))),
         HirKind::Repetition {
             min,
             max,
             greedy,
             sub,
         } => {
-            let body = line_tree(alloc, sub)?;
+            let body = line_tree(alloc, sub, crlf)?;
             let y = Hir::repetition(alloc, *min, *max, *greedy, body)?;
             Ok(y)
         }
         HirKind::Capture { index, name, sub } => {
-            let body = line_tree(alloc, sub)?;
+            let body = line_tree(alloc, sub, crlf)?;
             let y = Hir::capture(alloc, *index, copied(alloc, name)?, body)?;
             Ok(y)
         }
-        HirKind::Concat(subs) => Ok(Hir::concat(all_line_trees(alloc, subs)?)),
-        HirKind::Alternation(subs) => Ok(Hir::alternation(all_line_trees(alloc, subs)?)),
+        HirKind::Concat(subs) => Ok(Hir::concat(all_line_trees(alloc, subs, crlf)?)),
+        HirKind::Alternation(subs) => Ok(Hir::alternation(all_line_trees(alloc, subs, crlf)?)),
     }
 }
 
 /// The line trees of these trees, in their order.
 #[cycle(line_tree)]
-pub fn all_line_trees(alloc: Global, xs: &[Hir]) -> Result<Vec<Hir>, AllocError>
-    ensures { IfOk result (λ ys. ys.items ≡ map line_tree xs.now) }
+pub fn all_line_trees(alloc: Global, xs: &[Hir], crlf: bool) -> Result<Vec<Hir>, AllocError>
+    ensures { IfOk result (λ ys. ys.items ≡ map (line_tree crlf) xs.now) }
 {
     let mut ys = Vec::new(alloc);
     for x in xs {
-        ys.push(line_tree(alloc, x)?)?;
+        ys.push(line_tree(alloc, x, crlf)?)?;
     }
     Ok(ys)
 }

@@ -1,5 +1,8 @@
+use Rattle.std.specs.Prelude.{slice_range}
 use Rattle.grep_core.specs.Blocks.{finds_by, tells_lines, counts_lines}
+use Rattle.grep_core.specs.Telling.{needs_spans}
 use Rattle.grep_core.proofs.JoinLemmas.{whole_range, starts_all, passed_told, passed_counted}
+use Rattle.grep_core.proofs.SeenLemmas.{none_by}
 use Rattle.grep_core.proofs.blocks.tell_before.Goals as goal
 
 pub pass_lines-requires-clause-whole : goal.pass_lines-requires-clause-whole
@@ -15,10 +18,14 @@ pub returns-in-Ok-pass_lines-clause-goes_on : goal.returns-in-Ok-pass_lines-clau
 returns-in-Ok-pass_lines-clause-goes_on c by more =
     passed_told (tells_lines c.args.task (finds_by c.args.task by)) c.args.progress.now c.pass_lines.new.progress
     c.args.block.now more c.args.out.now.items c.pass_lines.new.out.items c.args.at c.in-Ok.reached.start c.in-Ok.ensures.from
-    (c.in-Ok-pass_lines.ensures.goes_on c.args.finder.now by (c.in-Ok.ensures.passed by.patterns by.are_read))
+    (c.in-Ok-pass_lines.ensures.goes_on c.args.finder.now by
+    (none_by c.args.finder.now (needs_spans c.args.task.what.now) by
+    (slice_range c.args.block.now c.args.at c.in-Ok.reached.start) c.in-Ok.ensures.passed))
 
 pub returns-in-Ok-pass_lines-clause-counts : goal.returns-in-Ok-pass_lines-clause-counts
 returns-in-Ok-pass_lines-clause-counts c by more =
     passed_counted (counts_lines c.args.task (finds_by c.args.task by)) c.args.progress.now c.pass_lines.new.progress
     c.args.block.now more c.args.at c.in-Ok.reached.start c.in-Ok.ensures.from
-    (c.in-Ok-pass_lines.ensures.counts c.args.finder.now by (c.in-Ok.ensures.passed by.patterns by.are_read))
+    (c.in-Ok-pass_lines.ensures.counts c.args.finder.now by
+    (none_by c.args.finder.now (needs_spans c.args.task.what.now) by
+    (slice_range c.args.block.now c.args.at c.in-Ok.reached.start) c.in-Ok.ensures.passed))

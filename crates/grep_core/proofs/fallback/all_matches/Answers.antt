@@ -1,7 +1,8 @@
-use Rattle.std.proofs.Common.{ap, arith, length, map, option_map, ◌+◌, ◌-◌}
-use Rattle.regex.specs.Bytes.{regex_pattern}
+use Rattle.std.proofs.Common.{◌≡◌, ◌∙◌, ap, arith, length, map, option_map, subst, ◌+◌, ◌-◌}
 use Rattle.std.specs.List.{filter}
-use Rattle.grep_core.specs.Fallbacks.{best_found_at}
+use Rattle.regex_meta.specs.Programs.{pattern_of}
+use Rattle.regex_meta.specs.declared.program.Program.{Program}
+use Rattle.grep_core.specs.Fallbacks.{found_at, next_behind}
 use Rattle.grep_core.specs.Printing.{span_pair}
 use Rattle.grep_core.specs.Report.{is_some_text}
 use Rattle.grep_core.proofs.FallbackLemmas.{all_of, told_all}
@@ -9,25 +10,32 @@ use Rattle.grep_core.proofs.SpanLemmas.{all_counted, all_found, one_more_span}
 use Rattle.grep_core.proofs.fallback.all_matches.Goals as goal
 
 pub loop-step-preserved : goal.loop-step-preserved
-loop-step-preserved c =
-    one_more_span (best_found_at (map regex_pattern c.args.regexes.now) c.args.line.now)
-    (filter is_some_text (all_of c.args.regexes.now c.args.line.now))
-    (map span_pair c.loop-step.found.items) (map span_pair c.push_some.new.found.items) (length c.args.line.now + 1) c.loop-step.step
-    (option_map span_pair c.loop-step.next) (option_map span_pair c.in_ok-next-2.next) (span_pair c.in-Some.span) c.loop-step-test.true
-    (ap (option_map span_pair) c.in-Some.is) c.in_ok-next-2.ensures c.in_ok-push_some.ensures c.loop-step.invariant
+loop-step-preserved c = (
+  c.find_next-next.ensures.same ∙ c.loop-step.invariant.0,
+  one_more_span (found_at (pattern_of c.args.program.now) c.args.line.now)
+      (filter is_some_text (all_of c.args.program.now c.args.line.now))
+      (map span_pair c.loop-step.found.items) (map span_pair c.push_some.new.found.items) (length c.args.line.now + 1) c.loop-step.step
+      (option_map span_pair c.loop-step.next) (option_map span_pair c.find_next-next.result) (span_pair c.in-Some.span)
+      c.loop-step-test.true
+      (ap (option_map span_pair) c.in-Some.is)
+      (subst (λ (p : Program). option_map span_pair c.find_next-next.result
+      ≡ next_behind (found_at (pattern_of p) c.args.line.now) c.in-Some.span.end)
+      c.loop-step.invariant.0 c.find_next-next.ensures.found)
+      c.in_ok-push_some.ensures c.loop-step.invariant.1,
+)
 
 pub returns-in_default : goal.returns-in_default
-returns-in_default c config texts are =
-    told_all config texts c.args.regexes.now c.args.line.now (map span_pair c.loop-step.found.items) c.see_bytes.ensures
-    (all_found (best_found_at (map regex_pattern c.args.regexes.now) c.args.line.now)
-    (filter is_some_text (all_of c.args.regexes.now c.args.line.now))
+returns-in_default c how texts it =
+    told_all how texts c.args.program.now c.args.line.now (map span_pair c.loop-step.found.items) c.see_bytes.ensures
+    (all_found (found_at (pattern_of c.args.program.now) c.args.line.now)
+    (filter is_some_text (all_of c.args.program.now c.args.line.now))
     (map span_pair c.loop-step.found.items) (length c.args.line.now + 1 - c.loop-step.step) (option_map span_pair c.loop-step.next)
-    (ap (option_map span_pair) c.in_default.is) c.loop-step.invariant) are
+    (ap (option_map span_pair) c.in_default.is) c.loop-step.invariant.1) it
 
 pub returns : goal.returns
-returns c config texts are =
-    told_all config texts c.args.regexes.now c.args.line.now (map span_pair c.loop-step.found.items) c.see_bytes.ensures
-    (all_counted (best_found_at (map regex_pattern c.args.regexes.now) c.args.line.now)
-    (filter is_some_text (all_of c.args.regexes.now c.args.line.now))
+returns c how texts it =
+    told_all how texts c.args.program.now c.args.line.now (map span_pair c.loop-step.found.items) c.see_bytes.ensures
+    (all_counted (found_at (pattern_of c.args.program.now) c.args.line.now)
+    (filter is_some_text (all_of c.args.program.now c.args.line.now))
     (map span_pair c.loop-step.found.items) (length c.args.line.now + 1 - c.loop-step.step) (option_map span_pair c.loop-step.next)
-    (omega (arith, c.loop-step-test.false)) c.loop-step.invariant) are
+    (omega (arith, c.loop-step-test.false)) c.loop-step.invariant.1) it

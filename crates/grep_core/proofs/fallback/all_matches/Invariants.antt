@@ -1,7 +1,7 @@
 use Rattle.std.proofs.Common.{◌≡◌, ◌++◌, ◌-◌, map, option_map}
 use Rattle.std.specs.List.{filter}
-use Rattle.regex.specs.Bytes.{regex_pattern}
-use Rattle.grep_core.specs.Fallbacks.{best_found_at, spans_behind}
+use Rattle.regex_meta.specs.Programs.{pattern_of}
+use Rattle.grep_core.specs.Fallbacks.{found_at, spans_behind}
 use Rattle.grep_core.specs.Printing.{span_pair}
 use Rattle.grep_core.specs.Report.{is_some_text}
 use Rattle.grep_core.proofs.FallbackLemmas.{all_of}
@@ -9,6 +9,7 @@ use Rattle.grep_core.proofs.fallback.all_matches.Given as goal
 
 abbrev pub invariant-loop-step : goal.invariant-loop-step
 invariant-loop-step l =
-    filter is_some_text (all_of l.regexes l.line)
+    (l.searcher.program.now ≡ l.program)
+    × (filter is_some_text (all_of l.program l.line)
     ≡ map span_pair l.found.items ++ filter is_some_text
-    (spans_behind (best_found_at (map regex_pattern l.regexes) l.line) (l.most - l.step) (option_map span_pair l.next))
+    (spans_behind (found_at (pattern_of l.program) l.line) (l.most - l.step) (option_map span_pair l.next)))

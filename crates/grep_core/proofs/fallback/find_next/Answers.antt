@@ -1,13 +1,17 @@
-use Rattle.std.proofs.Common.{ℕ, Option, ap, arith, map, sym, ◌+◌, ◌==◌, ◌∙◌}
-use Rattle.regex.specs.Bytes.{regex_pattern}
+use Rattle.std.proofs.Common.{ℕ, Option, ap, arith, sym, ◌+◌, ◌==◌, ◌∙◌}
 use Rattle.regex_hir.specs.Text.{is_some_and}
-use Rattle.grep_core.specs.Fallbacks.{best_found_at}
-use Rattle.grep_core.proofs.SpanLemmas.{beyond, next_beyond}
+use Rattle.regex_meta.specs.Programs.{pattern_of}
+use Rattle.grep_core.specs.Fallbacks.{found_at}
+use Rattle.grep_core.proofs.SpanLemmas.{found_beyond, next_beyond, none_beyond}
 use Rattle.grep_core.proofs.fallback.find_next.Goals as goal
 
-pub returns-then-end-line : goal.returns-then-end-line
-returns-then-end-line c =
-    next_beyond (best_found_at (map regex_pattern c.args.regexes.now) c.args.line.now) c.args.end
-    (ap (λ (o : Option (ℕ × ℕ)). is_some_and o (λ s. s.1 == c.args.end)) (sym c.in_ok-next.ensures) ∙ sym c.ends_at.ensures
+pub returns-then-end-line-clause-found : goal.returns-then-end-line-clause-found
+returns-then-end-line-clause-found c =
+    none_beyond (pattern_of c.args.searcher.now.program.now) c.args.line.now c.args.end c.if-end-line.true
+
+pub returns-then-end-line-2-clause-found : goal.returns-then-end-line-2-clause-found
+returns-then-end-line-2-clause-found c =
+    next_beyond (found_at (pattern_of c.args.searcher.now.program.now) c.args.line.now) c.args.end
+    (ap (λ (o : Option (ℕ × ℕ)). is_some_and o (λ s. s.1 == c.args.end)) (sym c.find_from-next.ensures.found) ∙ sym c.ends_at.ensures
     ∙ c.if-not-ends_at.false)
-    (beyond (map regex_pattern c.args.regexes.now) c.args.line.now (c.args.end + 1) (omega (arith, c.if-end-line.true)))
+    (found_beyond (pattern_of c.args.searcher.now.program.now) c.args.line.now (c.args.end + 1) (omega (arith, c.if-end-line-2.true)))

@@ -22,10 +22,10 @@ pub line_tree-returns-in_ok-all_line_trees-in-Concat : goal.line_tree-returns-in
 line_tree-returns-in_ok-all_line_trees-in-Concat t c =
     let is = ap concat c.deref-in-Concat.ensures.value ∙ sym (ap node c.in-Concat.is) ∙ c.kind.ensures.is in
     c.concat.ensures ∙ ap concat c.in_ok-all_line_trees-in-Concat.ensures
-    ∙ sym (line_of_concat c.deref-in-Concat.result.now) ∙ ap line_tree is
+    ∙ sym (line_of_concat c.args.crlf c.deref-in-Concat.result.now) ∙ ap (line_tree c.args.crlf) is
 
 pub line_tree-returns-in_ok-all_line_trees-in-Alternation : goal.line_tree-returns-in_ok-all_line_trees-in-Alternation
 line_tree-returns-in_ok-all_line_trees-in-Alternation t c =
     let is = ap alternation c.deref-in-Alternation.ensures.value ∙ sym (ap node c.in-Alternation.is) ∙ c.kind.ensures.is in
     c.alternation.ensures ∙ ap alternation c.in_ok-all_line_trees-in-Alternation.ensures
-    ∙ sym (line_of_alternation c.deref-in-Alternation.result.now) ∙ ap line_tree is
+    ∙ sym (line_of_alternation c.args.crlf c.deref-in-Alternation.result.now) ∙ ap (line_tree c.args.crlf) is

@@ -11,4 +11,4 @@ abbrev pub decreases-all_line_trees : goal.decreases-all_line_trees
 decreases-all_line_trees l = 2 * weight (concat l.xs.now)
 
 abbrev pub invariant-all_line_trees-loop-x : goal.invariant-all_line_trees-loop-x
-invariant-all_line_trees-loop-x l = l.ys.items ≡ map line_tree (take l.x-index l.xs)
+invariant-all_line_trees-loop-x l = l.ys.items ≡ map (line_tree l.crlf) (take l.x-index l.xs)

@@ -1,38 +1,37 @@
 use Rattle.std.proofs.Common.{◌≡◌, ◌==◌, ◌&&◌, ◌||◌, Bool, Option, map, sym, ◌∙◌, subst}
-use Rattle.regex_pair.specs.Pairs.{Pair}
-use Rattle.std.specs.Prelude.{option_map}
+use Rattle.std.specs.Prelude.{not, option_map}
 use Rattle.line_trees.specs.LineTrees.{line_tree}
 use Rattle.grep_core.specs.declared.candidates.Stop.{Stop}
-use Rattle.grep_core.specs.Candidates.{IsStopIfAny, IsEnd}
+use Rattle.grep_core.specs.Candidates.{BlockRegex, IsStopIfAny, IsEnd}
 use Rattle.std.specs.Prelude.{IfSome, true}
 use Rattle.grep_core.proofs.CandidateLemmas.{all_passed, lines_passed, match_known, stops_in_line}
 use Rattle.grep_core.proofs.candidates.Candidates.next_line.Goals as goal
 
 pub returns-in-None-clause-passed : goal.returns-in-None-clause-passed
-returns-in-None-clause-passed c config texts it =
-    all_passed config texts c.args.self.now.0 c.args.block.now c.args.at it c.see_bytes.ensures c.requires.starts
-    (subst (λ (o : Option Stop). IsStopIfAny (map line_tree it.trees) c.args.block.now c.args.at (option_map (λ s. s.place) o)) c.in-None.is
-    (c.in-Ok.ensures.told (map line_tree it.trees) it.capacity it.built))
+returns-in-None-clause-passed c how texts it =
+    all_passed how texts c.args.self.now.0 c.args.block.now c.args.at it c.see_bytes.ensures c.requires.starts
+    (subst (λ (o : Option Stop). IsStopIfAny (map (line_tree how.crlf) it.trees) c.args.block.now c.args.at (option_map (λ s. s.place) o)) c.in-None.is
+    (c.in-Ok.ensures.told (map (line_tree how.crlf) it.trees) it.capacity it.built))
 
 pub returns-in-Some-clause-passed : goal.returns-in-Some-clause-passed
-returns-in-Some-clause-passed c config texts it =
-    lines_passed config texts c.args.self.now.0 c.args.block.now c.args.at it c.see_bytes.ensures c.requires.starts c.in-Some.stop.place
+returns-in-Some-clause-passed c how texts it =
+    lines_passed how texts c.args.self.now.0 c.args.block.now c.args.at it c.see_bytes.ensures c.requires.starts c.in-Some.stop.place
     c.line_start-start.result
-    (subst (λ (o : Option Stop). IsStopIfAny (map line_tree it.trees) c.args.block.now c.args.at (option_map (λ s. s.place) o)) c.in-Some.is
-    (c.in-Ok.ensures.told (map line_tree it.trees) it.capacity it.built))
+    (subst (λ (o : Option Stop). IsStopIfAny (map (line_tree how.crlf) it.trees) c.args.block.now c.args.at (option_map (λ s. s.place) o)) c.in-Some.is
+    (c.in-Ok.ensures.told (map (line_tree how.crlf) it.trees) it.capacity it.built))
     c.line_start-start.ensures.within c.line_start-start.ensures.before c.line_start-start.ensures.starts
 
 pub returns-in-Some-clause-has : goal.returns-in-Some-clause-has
-returns-in-Some-clause-has c config texts it known =
-    match_known config texts c.args.self.now.0 c.args.block.now c.args.at c.line_start-start.result c.in-Some.stop.place
+returns-in-Some-clause-has c how texts it known =
+    match_known how texts c.args.self.now.0 c.args.block.now c.args.at c.line_start-start.result c.in-Some.stop.place
     c.in-Some.stop.is_end it
     c.see_bytes.ensures c.requires.starts c.line_start-start.ensures.within c.line_start-start.ensures.from
     c.line_start-start.ensures.before c.line_start-start.ensures.starts
     (subst (λ (o : Option Stop). IfSome o (λ s. s.is_end ≡ true →
-    IsEnd (map line_tree it.trees) c.args.block.now c.args.at s.place)) c.in-Some.is
-    (c.in-Ok.ensures.ends (map line_tree it.trees) it.capacity it.built))
+    IsEnd (map (line_tree how.crlf) it.trees) c.args.block.now c.args.at s.place)) c.in-Some.is
+    (c.in-Ok.ensures.ends (map (line_tree how.crlf) it.trees) it.capacity it.built))
     c.line_start-start.ensures.last (subst
-    (λ (p : Pair × Bool). (c.in-Some.stop.is_end && (p.1 || c.line_start-start.result == c.args.at)) ≡ true) c.stop_from.ensures.same
+    (λ (p : BlockRegex). (not p.crlf && (c.in-Some.stop.is_end && (p.feedless || c.line_start-start.result == c.args.at))) ≡ true) c.stop_from.ensures.same
     (sym c.is_known.ensures ∙ known))
 
 pub returns-in-Some-clause-stops : goal.returns-in-Some-clause-stops

@@ -7,24 +7,22 @@ use Rattle.grep_core.proofs.finder.Finder.matches_quickly.Goals as goal
 
 pub invariant_of-self : goal.invariant_of-self
 invariant_of-self c = (
-  c.self.invariant.0,
-  subst (λ (p : Pair). IsOwn c.self.inside.config (map (λ t. t.now) c.self.inside.texts.now) c.self.inside.with_matches p)
-      (sym c.matches.ensures.same) c.self.invariant.1,
+  subst (λ (p : Pair). IsOwn c.self.inside.how (map (λ t. t.now) c.self.inside.texts.now) c.self.inside.with_matches p)
+      (sym c.matches.ensures.same) c.self.invariant.0,
+  c.self.invariant.1,
   c.self.invariant.2,
-  c.self.invariant.3,
 )
 
 pub invariant_of-self-2 : goal.invariant_of-self-2
 invariant_of-self-2 c = (
-  c.self.invariant.0,
-  subst (λ (p : Pair). IsOwn c.self.inside.config (map (λ t. t.now) c.self.inside.texts.now) c.self.inside.with_matches p)
-      (sym c.matches.ensures.same) c.self.invariant.1,
+  subst (λ (p : Pair). IsOwn c.self.inside.how (map (λ t. t.now) c.self.inside.texts.now) c.self.inside.with_matches p)
+      (sym c.matches.ensures.same) c.self.invariant.0,
+  c.self.invariant.1,
   c.self.invariant.2,
-  c.self.invariant.3,
 )
 
 pub returns-clause-told : goal.returns-clause-told
 returns-clause-told c =
-    subst (λ (s : Sought). s.spans ≡ true → AreTold s.config s.texts c.args.line.now (map span_pair c.in-Ok.found.items)) c.self.view_is
-    (λ asked. c.in-Ok.ensures.told c.self.inside.config (map (λ t. t.now) c.self.inside.texts.now) c.self.invariant.1.0
-    (c.self.invariant.1.1 asked))
+    subst (λ (s : Sought). s.spans ≡ true → AreTold s.how s.texts c.args.line.now (map span_pair c.in-Ok.found.items)) c.self.view_is
+    (λ asked. c.in-Ok.ensures.told c.self.inside.how (map (λ t. t.now) c.self.inside.texts.now) c.self.invariant.0.0
+    (c.self.invariant.0.1 asked))

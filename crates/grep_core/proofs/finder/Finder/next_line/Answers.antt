@@ -5,12 +5,12 @@ use Rattle.grep_core.proofs.finder.Finder.next_line.Goals as goal
 
 pub returns-clause-passed : goal.returns-clause-passed
 returns-clause-passed c =
-    subst (λ (s : Sought). HaveNoMatch s.config s.texts (slice_range c.args.block.now c.args.at c.in-Ok.reached.start))
+    subst (λ (s : Sought). HaveNoMatch s.how s.texts (slice_range c.args.block.now c.args.at c.in-Ok.reached.start))
     c.grow_candidates.ensures
     c.in-Ok.ensures.passed
 
 pub returns-clause-has : goal.returns-clause-has
 returns-clause-has c =
     subst (λ (s : Sought). c.in-Ok.reached.has ≡ true →
-    HasMatchAt s.config s.texts c.args.block.now c.in-Ok.reached.start) c.grow_candidates.ensures
+    HasMatchAt s.how s.texts c.args.block.now c.in-Ok.reached.start) c.grow_candidates.ensures
     c.in-Ok.ensures.has

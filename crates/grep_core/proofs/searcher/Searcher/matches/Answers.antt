@@ -14,8 +14,8 @@ use Rattle.grep_core.proofs.ToldLemmas.{all_told}
 use Rattle.grep_core.proofs.searcher.Searcher.matches.Goals as goal
 
 pub returns-clause-told : goal.returns-clause-told
-returns-clause-told c config texts it loops = all_told config texts c.args.self.now.0 c.args.line.now c.in-Ok.all.items _
-    (λ k xs mean built. c.regexes_answer_what_is_written.ensures config texts xs mean (sized_settings k) c.args.self.now.0 built refl refl)
+returns-clause-told c how texts it loops = all_told how texts c.args.self.now.0 c.args.line.now c.in-Ok.all.items _
+    (λ rs xs k ends spans built. c.regexes_answer_what_patterns_say.ensures rs xs ends spans (sized_settings k) c.args.self.now.0 built refl refl)
     it loops c.see_bytes.ensures
     (subst (λ (v : Pair × PairCache). IsWholeList v.0 (whole_search c.args.line.now 0) c.in-Ok.all.items) c.self.view_is
     (subst (λ (q : Search). IsWholeList c.self.inside.regex q c.in-Ok.all.items) c.new.ensures c.in-Ok.ensures.whole))

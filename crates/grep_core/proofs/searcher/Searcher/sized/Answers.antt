@@ -10,7 +10,7 @@ pub returns-in-Ok-new-clause-searcher : goal.returns-in-Ok-new-clause-searcher
 returns-in-Ok-new-clause-searcher c = (
   record {
     trees = c.in-Ok.trees.items;
-    mean = c.in-Ok.ensures.means;
+    mean = c.in-Ok.ensures.trees;
     capacity = c.args.capacity;
     built = subst (λ (xs : List Tree). IsBuilt xs (sized_settings c.args.capacity) c.in-Ok-build.regex) c.deref-2.ensures.value
         (subst (λ (s : Settings). IsBuilt c.deref-2.result.now s c.in-Ok-build.regex) c.settings.ensures c.in-Ok-build.ensures.built);
@@ -22,9 +22,12 @@ pub returns-in-Err-build-clause-refused : goal.returns-in-Err-build-clause-refus
 returns-in-Err-build-clause-refused c first =
     inr (
       c.in-Ok.trees.items,
-      c.in-Ok.ensures.means,
+      c.in-Ok.ensures.trees,
       subst (λ k. RefusesBuild c.in-Ok.trees.items (sized_settings k) c.in-Err-build.e) first
           (subst (λ (xs : List Tree). RefusesBuild xs (sized_settings c.args.capacity) c.in-Err-build.e) c.deref-2.ensures.value
           (subst (λ (s : Settings). RefusesBuild c.deref-2.result.now s c.in-Err-build.e)
           c.settings.ensures c.in-Err-build.ensures.refused)),
     )
+
+pub returns-in-Err-clause-refused : goal.returns-in-Err-clause-refused
+returns-in-Err-clause-refused c first = c.in-Err.ensures.refused c.args.with_matches

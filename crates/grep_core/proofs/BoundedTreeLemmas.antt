@@ -1,0 +1,121 @@
+-- The trees of patterns that count only as a whole line or as whole words match as these patterns do.
+use Rattle.std.proofs.Common.{◌≡◌, ℕ, Bool, true, false, List, [], ◌∷◌, map, refl, sym, ap, ◌∙◌, subst}
+use Rattle.regex_hir.specs.Meaning.{meaning}
+use Rattle.regex_hir.specs.Re.{Re}
+use Rattle.regex_hir.specs.Re as re
+use Rattle.regex_hir.specs.declared.hir.Hir.TheVariants as pattern
+use Rattle.regex_hir.specs.declared.look.Look.{Look as Assertion}
+use Rattle.regex_hir.specs.declared.look.Look.TheVariants as assertion
+use Rattle.regex_hir.proofs.MeaningLemmas.{meaning-Look}
+use Rattle.look_core.specs.declared.look.Look.{Look}
+use Rattle.hir_core.specs.Tree.{Tree}
+use Rattle.hir_core.specs.Tree as tree
+use Rattle.pattern_text.specs.SameEnds.{AreSameEnds, AreSameSpans, SameEnds, SameSpans}
+use Rattle.pattern_text.specs.Translated.{translated, translated_look}
+use Rattle.pattern_text.proofs.ForCallers.{same_alternation, same_concat, same_ends, same_spans, spans_alternation, spans_concat}
+use Rattle.pattern_text.proofs.ForCallers.{translated-Look}
+use Rattle.pattern_search.specs.Searches.{StartsAsRead}
+use Rattle.pattern_search.specs.Texts.{AreReadAs}
+use Rattle.pattern_search.specs.Written.{FindsWhatIsWritten}
+use Rattle.pattern_search.proofs.ForCallers.{finds_what_is_written, same_patterns, starts_as_read}
+use Rattle.grep_core.specs.Bounded.{bounded, word_end, word_start}
+use Rattle.grep_core.specs.BoundedTrees.{AreTreesOf, bounded_tree, word_end_tree, word_start_tree}
+use Rattle.grep_core.specs.Meant.{line_config}
+use Rattle.grep_core.specs.declared.patterns.How.{How}
+
+-- ---- one look
+look_ends : (l : Assertion) → SameEnds (re.look l) (tree.look (translated_look l))
+look_ends l =
+    subst (λ (a : Re). SameEnds a (tree.look (translated_look l))) (meaning-Look l)
+    (subst (λ (x : Tree). SameEnds (meaning (pattern.Look l)) x) (translated-Look [] l) (same_ends [] (pattern.Look l)))
+
+look_spans : (l : Assertion) → SameSpans (re.look l) (tree.look (translated_look l))
+look_spans l =
+    subst (λ (a : Re). SameSpans a (tree.look (translated_look l))) (meaning-Look l)
+    (subst (λ (x : Tree). SameSpans (meaning (pattern.Look l)) x) (translated-Look [] l) (same_spans [] (pattern.Look l)))
+
+-- ---- the tests of words
+start_ends : SameEnds word_start word_start_tree
+start_ends = same_alternation (re.look assertion.WordStartUnicode ∷ re.look assertion.WordStartHalfUnicode ∷ [])
+    (tree.look (translated_look assertion.WordStartUnicode) ∷ tree.look (translated_look assertion.WordStartHalfUnicode) ∷ [])
+    (look_ends assertion.WordStartUnicode, (look_ends assertion.WordStartHalfUnicode, tt))
+
+end_ends : SameEnds word_end word_end_tree
+end_ends = same_alternation (re.look assertion.WordEndUnicode ∷ re.look assertion.WordEndHalfUnicode ∷ [])
+    (tree.look (translated_look assertion.WordEndUnicode) ∷ tree.look (translated_look assertion.WordEndHalfUnicode) ∷ [])
+    (look_ends assertion.WordEndUnicode, (look_ends assertion.WordEndHalfUnicode, tt))
+
+start_spans : SameSpans word_start word_start_tree
+start_spans = spans_alternation (re.look assertion.WordStartUnicode ∷ re.look assertion.WordStartHalfUnicode ∷ [])
+    (tree.look (translated_look assertion.WordStartUnicode) ∷ tree.look (translated_look assertion.WordStartHalfUnicode) ∷ [])
+    (look_spans assertion.WordStartUnicode, (look_spans assertion.WordStartHalfUnicode, tt))
+
+end_spans : SameSpans word_end word_end_tree
+end_spans = spans_alternation (re.look assertion.WordEndUnicode ∷ re.look assertion.WordEndHalfUnicode ∷ [])
+    (tree.look (translated_look assertion.WordEndUnicode) ∷ tree.look (translated_look assertion.WordEndHalfUnicode) ∷ [])
+    (look_spans assertion.WordEndUnicode, (look_spans assertion.WordEndHalfUnicode, tt))
+
+-- ---- a pattern and its tree between both
+bounded_ends : (how : How) (a : Re) (x : Tree) → SameEnds a x → SameEnds (bounded how a) (bounded_tree how x)
+bounded_ends how a x same = by how.lines how.words
+  where
+    by : (lines words : Bool) → SameEnds (bounded (record how { lines = lines; words = words }) a)
+        (bounded_tree (record how { lines = lines; words = words }) x)
+    by true words = same_concat (re.look assertion.Start ∷ a ∷ re.look assertion.End ∷ [])
+        (tree.look (translated_look assertion.Start) ∷ x ∷ tree.look (translated_look assertion.End) ∷ [])
+        (look_ends assertion.Start, (same, (look_ends assertion.End, tt)))
+    by false true = same_concat (word_start ∷ a ∷ word_end ∷ []) (word_start_tree ∷ x ∷ word_end_tree ∷ [])
+        (start_ends, (same, (end_ends, tt)))
+    by false false = same
+
+bounded_spans : (how : How) (a : Re) (x : Tree) → SameSpans a x → SameSpans (bounded how a) (bounded_tree how x)
+bounded_spans how a x same = by how.lines how.words
+  where
+    by : (lines words : Bool) → SameSpans (bounded (record how { lines = lines; words = words }) a)
+        (bounded_tree (record how { lines = lines; words = words }) x)
+    by true words = spans_concat (re.look assertion.Start ∷ a ∷ re.look assertion.End ∷ [])
+        (tree.look (translated_look assertion.Start) ∷ x ∷ tree.look (translated_look assertion.End) ∷ [])
+        (look_spans assertion.Start, (same, (look_spans assertion.End, tt)))
+    by false true = spans_concat (word_start ∷ a ∷ word_end ∷ []) (word_start_tree ∷ x ∷ word_end_tree ∷ [])
+        (start_spans, (same, (end_spans, tt)))
+    by false false = same
+
+all_ends : (how : How) (res : List Re) (xs : List Tree) → AreSameEnds res xs → AreSameEnds (map (bounded how) res) (map (bounded_tree how) xs)
+all_ends how [] [] same = tt
+all_ends how [] (x ∷ xs) same = absurd same
+all_ends how (a ∷ res) [] same = absurd same
+all_ends how (a ∷ res) (x ∷ xs) same = (bounded_ends how a x same.0, all_ends how res xs same.1)
+
+all_spans : (how : How) (res : List Re) (xs : List Tree) → AreSameSpans res xs →
+    AreSameSpans (map (bounded how) res) (map (bounded_tree how) xs)
+all_spans how [] [] same = tt
+all_spans how [] (x ∷ xs) same = absurd same
+all_spans how (a ∷ res) [] same = absurd same
+all_spans how (a ∷ res) (x ∷ xs) same = (bounded_spans how a x same.0, all_spans how res xs same.1)
+
+-- ---- trees of texts
+module _ (how : How) (texts : List (List ℕ)) (xs : List Tree) (it : AreTreesOf how texts xs) where
+  written : FindsWhatIsWritten (line_config how) texts it.parsed
+  written = finds_what_is_written (line_config how) texts it.parsed it.mean
+
+  -- the texts are patterns
+  pub read_as : (res : List Re) × AreReadAs (line_config how) texts res
+  read_as = (written.patterns, written.are_read)
+
+  module _ (res : List Re) (read : AreReadAs (line_config how) texts res) where
+    same : written.patterns ≡ res
+    same = same_patterns (line_config how) texts written.patterns res written.are_read read
+
+    pub ends_of : AreSameEnds (map (bounded how) res) xs
+    ends_of =
+        subst (AreSameEnds (map (bounded how) res)) (sym it.are_bounded)
+        (all_ends how res it.parsed (subst (λ (rs : List Re). AreSameEnds rs it.parsed) same written.same_ends))
+
+    pub spans_of : AreSameSpans (map (bounded how) res) xs
+    spans_of =
+        subst (AreSameSpans (map (bounded how) res)) (sym it.are_bounded)
+        (all_spans how res it.parsed (subst (λ (rs : List Re). AreSameSpans rs it.parsed) same written.same_spans))
+
+    -- and each search for the trees finds where these match
+    pub starts_of : StartsAsRead false (map (bounded how) res) xs
+    starts_of = starts_as_read (map (bounded how) res) xs spans_of false
