@@ -33,6 +33,9 @@
  * lacks or these are too large.
  *
  * No call aborts, waits, prints, starts a thread or calls back. Memory comes from malloc, realloc and free.
+ *
+ * Two promises of this header can't be stated in a contract and are only tested: that memory is freed, and that a call
+ * returns HANNEDDOIS_NO_MEMORY only if an allocation failed.
  */
 #ifndef HANNEDDOIS_H
 #define HANNEDDOIS_H
@@ -64,7 +67,7 @@ enum {
     HANNEDDOIS_NONE = 1,
     /* An argument isn't one that the call takes. */
     HANNEDDOIS_BAD_ARGUMENT = 2,
-    /* There is no memory left. A search may be tried again. */
+    /* An allocation failed. A search may be tried again. */
     HANNEDDOIS_NO_MEMORY = 3,
     /* A pattern is no UTF-8: error.pattern is its number, error.start the place of the first faulty byte. */
     HANNEDDOIS_NOT_UTF8 = 4,
@@ -125,7 +128,7 @@ enum {
        looks through its whole haystack once for this. */
     HANNEDDOIS_UTF8 = 1 << 8,
     /* Patterns that repeat without a bound what may match the empty text aren't refused. The end of a match of such a
-       pattern is one that it has, but may be another than the preferred one. */
+       pattern is one that it has, but may be another than the preferred one. Its start is always the leftmost one. */
     HANNEDDOIS_EMPTY_LOOPS = 1 << 9,
     /* The automaton that hanneddois_which needs is made by hanneddois_new rather than by the first call of it. */
     HANNEDDOIS_WHICH = 1 << 10,
@@ -156,8 +159,8 @@ typedef struct hanneddois_options {
  * so on. The lengths have to sum up to texts_length; else, and where count is 0, the call is refused as
  * HANNEDDOIS_BAD_ARGUMENT. Of matches that start at the same place the one of the earlier pattern is preferred.
  *
- * What stood in *regex before is freed. Returns HANNEDDOIS_OK, and *regex is the new one; or a refusal, which *error
- * tells too, and *regex is empty.
+ * Returns HANNEDDOIS_OK, and *regex is the new one; or a refusal, which *error tells too, and *regex is empty. What
+ * stood in *regex before is freed in both cases; this is tested.
  */
 hanneddois_status hanneddois_new(
     hanneddois_regex *regex,
@@ -193,8 +196,11 @@ hanneddois_status hanneddois_find_at(
 /*
  * All matches from left to right: each is the leftmost one from the end of the last, and an empty one isn't taken
  * where the last one ended. Writes the first of them to `matches`, at most matches_length, and to *count how many
- * there are in all: HANNEDDOIS_OK where there is any, HANNEDDOIS_NONE, or a refusal. Where it is refused, the matches
- * before the one whose search was refused are counted and written.
+ * there are in all. Returns HANNEDDOIS_OK if there is any, HANNEDDOIS_NONE and a count of 0, or an error. After an
+ * error *count is the number of matches before the search that failed, and these are written as far as they fit; for
+ * an empty regex it is 0. Rows after the last match are unchanged.
+ *
+ * With HANNEDDOIS_EMPTY_LOOPS the list goes on from the end that each match has. It ends only if no match follows.
  */
 hanneddois_status hanneddois_find_all(
     hanneddois_regex *regex,
@@ -206,8 +212,8 @@ hanneddois_status hanneddois_find_all(
 /*
  * Which patterns match anywhere in the haystack, also where their matches overlap: writes 1 to matched[i] where
  * pattern i does, and 0 elsewhere, and to *count how many do: HANNEDDOIS_OK where some pattern matches,
- * HANNEDDOIS_NONE, or a refusal, where all is 0. matched_length has to be the number of patterns; else it is
- * HANNEDDOIS_BAD_ARGUMENT. The first call makes an automaton of its own for this.
+ * HANNEDDOIS_NONE and a count of 0, or a refusal, where all is 0. matched_length has to be the number of patterns; else
+ * it is HANNEDDOIS_BAD_ARGUMENT. The first call makes an automaton of its own for this.
  */
 hanneddois_status hanneddois_which(
     hanneddois_regex *regex,

@@ -36,6 +36,39 @@ def step_by_step(spans):
     return kept
 
 
+# Patterns that repeat what may be empty, without looks.
+EMPTY_LOOPS = [r"(?:a*)*", r"(?:a*)*b", r"(?:a|b*)*", r"(?:|a)+", r"(?:a|)*c", r"(?:a?){2,}", r"(?:(?:a*)+b?)*", r"x(?:a*b*)+"]
+
+
+def may_follow(pattern, haystack, row, last):
+    """Whether a list may go on with this row, or end where it is None, after a match that ended at `last`; by Python's spans alone."""
+    size, whole = len(haystack), re.compile(pattern.encode())
+
+    def starts_from(place):
+        return [i for i in range(place, size + 1) if any(whole.fullmatch(haystack, i, j) for j in range(i, size + 1))]
+
+    def is_first_from(place):
+        starts = starts_from(place)
+        if row is None:
+            return not starts
+        return bool(starts) and row[0] == starts[0] and bool(whole.fullmatch(haystack, *row))
+
+    if last is None:
+        return is_first_from(0)
+    skips_empty = starts_from(last)[:1] == [last] and whole.fullmatch(haystack, last, last)
+    return (is_first_from(last) and (row is None or row[1] != last)) or (bool(skips_empty) and is_first_from(last + 1))
+
+
+def is_list(pattern, haystack, rows):
+    """Whether each of the rows may follow the one before it, and none the last."""
+    last = None
+    for row in [*rows, None]:
+        if not may_follow(pattern, haystack, row, last):
+            return False
+        last = row and row[1]
+    return True
+
+
 def by_program(program, pattern, haystack):
     ran = subprocess.run([out / program, pattern], input=haystack, capture_output=True, timeout=60)
     spans = [tuple(map(int, line.split())) for line in ran.stdout.decode().splitlines()]
@@ -66,6 +99,12 @@ def main():
     for program in programs:
         status, spans, said = by_program(program, "a(b", b"")
         check(f"{program}, a(b", (status, spans, said), (2, [], "find: unclosed group\n    a(b\n     ^\n"))
+
+    for pattern in EMPTY_LOOPS:
+        regex = hanneddois.compile(pattern, hanneddois.EMPTY_LOOPS)
+        for haystack in [*HAYSTACKS, b"baab", b"aacbcca", b"xabbaxa"]:
+            rows = [(match.start, match.end) for match in regex.find_iter(haystack)]
+            check(f"python, {pattern} in {haystack}: {rows}", is_list(pattern, haystack, rows), True)
 
     regex = hanneddois.compile("é+", hanneddois.UTF8)
     check("python, str", [tuple(match) for match in regex.find_iter("aééb")], [(0, 1, 5)])

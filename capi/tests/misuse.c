@@ -73,6 +73,14 @@ static void refusals(void)
     options.flags = HANNEDDOIS_EMPTY_LOOPS;
     CHECK(make(&regex, "(a*)*b", &options) == HANNEDDOIS_OK);
     CHECK(hanneddois_is_match(&regex, bytes("aab"), 3, &error) == HANNEDDOIS_OK);
+    /* Spans by Python's re: each b ends a match, so they have one end each. */
+    hanneddois_match rows[3];
+    size_t count = 7;
+    memset(rows, 0x55, sizeof rows);
+    CHECK(hanneddois_find_all(&regex, bytes("xxaabcab"), 8, rows, 3, &count, &error) == HANNEDDOIS_OK && count == 2);
+    CHECK(rows[0].start == 2 && rows[0].end == 5 && rows[1].start == 6 && rows[1].end == 8);
+    CHECK(rows[2].start == (size_t)0x5555555555555555);
+    CHECK(hanneddois_find_all(&regex, bytes("xxx"), 3, rows, 3, &count, &error) == HANNEDDOIS_NONE && count == 0);
     options.flags = 1u << 20;
     CHECK(make(&regex, "a", &options) == HANNEDDOIS_BAD_ARGUMENT && regex.inside == NULL);
     options.flags = 0;

@@ -4,5 +4,6 @@ mod FoundLemmas
 mod ListLemmas
 mod LoopLemmas
 mod NextLemmas
+mod OrderLemmas
 mod RefusalLemmas
 mod TextLemmas

@@ -1,8 +1,10 @@
 -- All matches, one after the other.
-use Rattle.std.proofs.Common.{◌≡◌, ℕ, zero, suc, ◌+◌, ◌-◌, ◌<◌, ◌==◌, Bool, true, false, List, [], ◌∷◌, ◌++◌, length, map, slice_set}
+use Rattle.std.proofs.Common.{◌≡◌, ℕ, zero, suc, ◌+◌, ◌-◌, ◌<◌, ◌≤◌, ◌==◌, Bool, true, false, List, [], ◌∷◌, ◌++◌, length, map, slice_set}
 use Rattle.std.proofs.Common.{Option, Some, None, All, subst, take}
 use Rattle.std.specs.Prelude.{IfSome}
 use Rattle.std.proofs.Common.{option_map, if◌then◌else◌, refl, sym, ap, ap₂, ◌∙◌, arith, append_assoc, append-nil}
+use Rattle.std.proofs.Common.{length-append}
+use Rattle.std.proofs.lemmas.Grind.{common_steps}
 use Rattle.std.proofs.lemmas.Option.{none-some, same_Some}
 use Rattle.std.proofs.lemmas.List.{length-map}
 use Rattle.std.proofs.lemmas.List.Elements.{All-nil, All-cons, All-append}
@@ -17,7 +19,7 @@ use Rattle.pattern_search.specs.Texts.{AreReadAs}
 use Rattle.pattern_search.proofs.ForCallers.{all_from_start}
 use Rattle.pattern_search.proofs.ForCallers.{tried, found_is}
 use Rattle.capi.specs.declared.failure.FoundMatch.{FoundMatch}
-use Rattle.capi.specs.Compiled.{AreAll, HasFoundSpan, HasPattern, IsNext, as_found, overlaid, span_of_row}
+use Rattle.capi.specs.Compiled.{AreAll, AreFirstOfAll, HasFoundSpan, HasPattern, IsNext, as_found, overlaid, span_of_row}
 use Rattle.capi.proofs.ListLemmas.{all_laid, map_laid, map_more, one_more_row, one_more_counted}
 
 -- ---- the next one
@@ -188,3 +190,64 @@ module _ (config : Config) (texts : List (List ℕ)) (h : List ℕ) (old : List 
       r.2
       ∙ ap (λ (xs : List Match). map span_of_row it.taken ++ map span_of_match xs) (ap (λ (n : ℕ). matches_from s n r.0) out ∙ over s r.0)
       ∙ append-nil (map span_of_row it.taken))
+
+  -- ---- the first of them, where a search fails
+  -- a list begins with its first part
+  first_part : {A : Type 0} (xs ys : List A) → take (length xs) (xs ++ ys) ≡ xs
+  first_part xs ys = grind (arith, common_steps)
+
+  first_by : (fs : List FoundMatch) (count : ℕ) (rows : List FoundMatch) → count ≡ length fs → rows ≡ overlaid fs old →
+      ((res : List Re) → AreReadAs config texts res → All (λ r. IsOfFirstPattern res h (as_found r)) fs) →
+      ((res : List Re) → AreReadAs config texts res → (more : List (ℕ × ℕ)) ×
+      (map span_of_match (all_found config.utf8 (alt_all res) h) ≡ map span_of_row fs ++ more)) →
+      AreFirstOfAll config texts h count old rows
+  first_by fs count rows counted laid named begins = record {
+    count = λ res read.
+        let all = begins res read in
+        omega (
+          arith,
+          counted,
+          length-map fs span_of_row,
+          length-map (all_found config.utf8 (alt_all res) h) span_of_match,
+          length-append (map span_of_row fs) all.0,
+          ap length all.1,
+        );
+    rows = λ res read.
+        let all = begins res read in
+        ap (map span_of_row) laid ∙ map_laid span_of_row fs old
+        ∙ ap (λ (xs : List (ℕ × ℕ)). overlaid xs (map span_of_row old))
+        (sym (first_part (map span_of_row fs) all.0)
+        ∙ ap (λ (n : ℕ). take n (map span_of_row fs ++ all.0)) (length-map fs span_of_row ∙ sym counted)
+        ∙ ap (take count) (sym all.1));
+    patterns = λ res read.
+        let P : FoundMatch → Type 0 = λ r. IsOfFirstPattern res h (as_found r) in
+        subst (λ (rs : List FoundMatch). All P (take count rs)) (sym laid)
+        (subst (λ (n : ℕ). All P (take n (overlaid fs old))) (sym counted) (all_laid P fs old (named res read)));
+  }
+
+  pub none_first : old ≡ overlaid [] old → AreFirstOfAll config texts h 0 old old
+  none_first laid = first_by [] 0 old refl laid (λ res read. All-nil (λ r. IsOfFirstPattern res h (as_found r)))
+      (λ res read. (map span_of_match (all_found config.utf8 (alt_all res) h), refl))
+
+  -- the row of the last one is written before the search that fails
+  pub listing_fails_behind : (left count : ℕ) (rows now : List FoundMatch) (o : Option FoundMatch) (f : FoundMatch) →
+      0 < left → o ≡ Some f → now ≡ slice_set rows count f →
+      IsListedSoFar config texts h left count old rows o → AreFirstOfAll config texts h (count + 1) old now
+  listing_fails_behind left count rows now o f some_left some put it =
+      first_by (it.taken ++ f ∷ []) (count + 1) now (one_more_counted it.taken f count it.counted)
+      (one_more_row it.taken f count old rows now it.counted it.laid put)
+      (λ res read.
+      let P : FoundMatch → Type 0 = λ r. IsOfFirstPattern res h (as_found r) in
+      All-append P it.taken (f ∷ []) (it.named res read)
+      (All-cons P f [] (subst (λ (p : Option FoundMatch). IfSome p P) some (it.next_named res read)) (All-nil P)))
+      (λ res read.
+      let s = found_from config.utf8 (alt_all res) h in
+      let r = it.rest res read in
+      let more = map span_of_match (matches_from s (left - 1) (find_after s f.end)) in (
+        more,
+        r.2
+            ∙ ap (λ (xs : List (ℕ × ℕ)). map span_of_row it.taken ++ xs)
+            (step_by s left (left - 1) r.0 f (omega (arith, some_left)) (r.1 ∙ ap (option_map span_of_row) some))
+            ∙ sym (append_assoc (map span_of_row it.taken) (span_of_row f ∷ []) more)
+            ∙ ap (λ (xs : List (ℕ × ℕ)). xs ++ more) (sym (map_more span_of_row it.taken f)),
+      ))

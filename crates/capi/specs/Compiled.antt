@@ -1,5 +1,5 @@
 -- What a compiled regex is of, and what it tells.
-use Rattle.std.specs.Prelude.{◌≡◌, ◌≢◌, ◌⊎◌, ◌↔◌, ℕ, Bool, true, false, List, [], ◌∷◌, All, Option, Some, IfSome, map, length, option_map}
+use Rattle.std.specs.Prelude.{◌≡◌, ◌≢◌, ◌⊎◌, ◌↔◌, ◌≤◌, ℕ, Bool, true, false, List, [], ◌∷◌, All, Option, Some, IfSome, map, length, option_map}
 use Rattle.std.specs.Prelude.{is_some, take, ⊤}
 use Rattle.std.specs.List.{filter, slice_get, sum_by}
 use Rattle.regex_hir.specs.Re.{Re}
@@ -150,6 +150,14 @@ pub record AreAll (config : Config) (texts : List (List ℕ)) (h : List ℕ) (n 
   pub count : (res : List Re) → AreReadAs config texts res → n ≡ length (all_found config.utf8 (alt_all res) h)
   pub rows : (res : List Re) → AreReadAs config texts res →
       map span_of_row new ≡ overlaid (map span_of_match (all_found config.utf8 (alt_all res) h)) (map span_of_row old)
+  pub patterns : (res : List Re) → AreReadAs config texts res → All (λ r. IsOfFirstPattern res h (as_found r)) (take n new)
+
+-- These are the first matches that the matcher finds, so many and no more than there are: they lie in the rows as far as these have room,
+-- each of the first pattern that matches from its start, and rows after them are unchanged.
+pub record AreFirstOfAll (config : Config) (texts : List (List ℕ)) (h : List ℕ) (n : ℕ) (old new : List FoundMatch) : Type 0 where
+  pub count : (res : List Re) → AreReadAs config texts res → n ≤ length (all_found config.utf8 (alt_all res) h)
+  pub rows : (res : List Re) → AreReadAs config texts res →
+      map span_of_row new ≡ overlaid (take n (map span_of_match (all_found config.utf8 (alt_all res) h))) (map span_of_row old)
   pub patterns : (res : List Re) → AreReadAs config texts res → All (λ r. IsOfFirstPattern res h (as_found r)) (take n new)
 
 -- ---- which patterns match

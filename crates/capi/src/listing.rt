@@ -2,7 +2,8 @@
 ghost use Rattle.std.specs.Prelude.{◌≡◌, ◌≤◌, ◌==◌, IfErr, IfOk, length, slice_set, true};
 ghost use Rattle.regex_hir.specs.Text.{is_some_and};
 ghost use Rattle.search_core.specs.Utf8.{IsValidText};
-ghost use Rattle.capi.specs.Compiled.{AreAll, HasPattern, IsNext, IsSearchRefused, config_by};
+ghost use Rattle.capi.specs.Compiled.{AreAll, AreFirstOfAll, HasPattern, IsNext, IsSearchRefused, config_by};
+ghost use Rattle.capi.specs.Lists.{AreFirstListed, AreListed, IsNextListed};
 
 use crate::compiled::Compiled;
 use crate::failure::{FoundMatch, SearchError};
@@ -39,6 +40,7 @@ impl Compiled {
         ensures same { self.new ≡ self.old }
         ensures next { self.old.loops ≡ true → IfOk result (IsNext (config_by self.old) self.old.texts haystack.now end) }
         ensures pattern { IfOk result (HasPattern (config_by self.old) self.old.texts haystack.now) }
+        ensures listed { IfOk result (IsNextListed (config_by self.old) self.old.texts haystack.now end) }
         ensures refused { IfErr result (IsSearchRefused (config_by self.old) haystack.now) }
     {
         if haystack.len() < end {
@@ -72,6 +74,10 @@ impl Compiled {
         ensures same { self.new ≡ self.old }
         ensures all { self.old.loops ≡ true →
             IfOk result.1 (λ _. AreAll (config_by self.old) self.old.texts haystack.now result.0 rows.old rows.new) }
+        ensures first { self.old.loops ≡ true →
+            IfErr result.1 (λ _. AreFirstOfAll (config_by self.old) self.old.texts haystack.now result.0 rows.old rows.new) }
+        ensures listed { IfOk result.1 (λ _. AreListed (config_by self.old) self.old.texts haystack.now result.0 rows.old rows.new) }
+        ensures begun { IfErr result.1 (λ _. AreFirstListed (config_by self.old) self.old.texts haystack.now result.0 rows.old rows.new) }
         ensures refused { IfErr result.1 (IsSearchRefused (config_by self.old) haystack.now) }
     {
         let mut next = match self.search(alloc, haystack, 0) {
@@ -103,6 +109,10 @@ impl Compiled {
         ensures same { self.new ≡ self.old }
         ensures all { self.old.loops ≡ true →
             IfOk result.1 (λ _. AreAll (config_by self.old) self.old.texts haystack.now result.0 rows.old rows.new) }
+        ensures first { self.old.loops ≡ true →
+            IfErr result.1 (λ _. AreFirstOfAll (config_by self.old) self.old.texts haystack.now result.0 rows.old rows.new) }
+        ensures listed { IfOk result.1 (λ _. AreListed (config_by self.old) self.old.texts haystack.now result.0 rows.old rows.new) }
+        ensures begun { IfErr result.1 (λ _. AreFirstListed (config_by self.old) self.old.texts haystack.now result.0 rows.old rows.new) }
         ensures refused { IfErr result.1 (IsSearchRefused (config_by self.old) haystack.now) }
     {
         match self.check(haystack) {

@@ -1,4 +1,4 @@
-ghost use Rattle.std.specs.Prelude.{◌≡◌, ℕ, ◌∷◌, [], ◌++◌, IfOk, OnOk, OnErr, ◌≤◌};
+ghost use Rattle.std.specs.Prelude.{◌≡◌, ℕ, ◌∷◌, [], ◌++◌, IfOk, OnOk, OnErr, ◌≤◌, length};
 ghost use Rattle.search_core.specs.Index.{greatest_index};
 ghost use Rattle.determinize_core.specs.States.{StateValue, IsState};
 ghost use Rattle.determinize_core.specs.StateBytes.{encoded, IsEncoded, decoded, zigzag};
@@ -65,8 +65,11 @@ impl StateBuilderNFA {
         Ok(state)
     }
 
-    /// Drops what was built, and keeps the memory.
-    pub fn clear(self) -> StateBuilderEmpty {
+    /// Drops what was built, and keeps the memory: the next state has room for at least as many bytes as this one took. As every
+    /// empty builder, it begins with the dead state.
+    pub fn clear(self) -> StateBuilderEmpty
+        ensures { length (encoded self) ≤ result }
+    {
         StateBuilderEmpty::from_bytes(self.bytes, self.positions)
     }
 

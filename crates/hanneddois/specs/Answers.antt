@@ -1,7 +1,8 @@
 -- What the calls answer, in terms of the texts and options of which a handle's regex is made.
 use Rattle.std.specs.Prelude.{◌≡◌, ◌≢◌, ◌<◌, ℕ, List, true, false, Option, Some, None, length}
-use Rattle.capi.specs.Compiled.{Regexed, config_by, IsTold, HasFoundStart, HasFoundSpan, AreAll, AreMarked}
+use Rattle.capi.specs.Compiled.{Regexed, config_by, IsTold, HasFoundStart, HasFoundSpan, AreAll, AreFirstOfAll, AreMarked}
 use Rattle.capi.specs.Compiled.{IsCallRefused, IsSearchRefused, IsWhichRefused}
+use Rattle.capi.specs.Lists.{AreListed, AreFirstListed}
 use Rattle.capi.specs.Failures.{failure_of_new, failure_of_search, without_cause}
 use Rattle.capi.specs.declared.failure.Failure.{Failure}
 use Rattle.capi.specs.declared.failure.FoundMatch.{FoundMatch}
@@ -34,17 +35,19 @@ pub record AnswersFind (v : Regexed) (h : List ℕ) (from : ℕ) (found : FoundM
   pub preferred : status ≡ 0 → v.loops ≡ true → HasFoundSpan (config_by v) v.texts h from (Some found)
   pub none : status ≡ 1 → HasFoundStart (config_by v) v.texts h from None
 
--- where repetitions read, so many matches, of which the first lie in the rows
+-- So many matches were counted, and the first of them lie in the rows. Where the call succeeds these are all: all that the matcher finds
+-- where repetitions read, and whatever they read one after the other until none follows. Where it fails they are the first ones.
 pub record AnswersAll (v : Regexed) (h : List ℕ) (n : ℕ) (old new : List FoundMatch) (status : ℕ) : Type 0 where
-  pub some : status ≡ 0 → v.loops ≡ true → AreAll (config_by v) v.texts h n old new
   pub any : status ≡ 0 → 0 < n
-  pub none : status ≡ 1 → v.loops ≡ true → AreAll (config_by v) v.texts h 0 old new
+  pub all : status < 2 → v.loops ≡ true → AreAll (config_by v) v.texts h n old new
+  pub listed : status < 2 → AreListed (config_by v) v.texts h n old new
+  pub first : 1 < status → v.loops ≡ true → AreFirstOfAll (config_by v) v.texts h n old new
+  pub begun : 1 < status → AreFirstListed (config_by v) v.texts h n old new
 
 -- so many patterns that match, which are marked
 pub record AnswersWhichMatch (v : Regexed) (h : List ℕ) (n : ℕ) (marks : List ℕ) (status : ℕ) : Type 0 where
-  pub some : status ≡ 0 → AreMarked (config_by v) v.texts h n marks
   pub any : status ≡ 0 → 0 < n
-  pub none : status ≡ 1 → AreMarked (config_by v) v.texts h 0 marks
+  pub marked : status < 2 → AreMarked (config_by v) v.texts h n marks
 
 abbrev pub pattern_count_of : Option Regexed → ℕ
 pattern_count_of None = 0

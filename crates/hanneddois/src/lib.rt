@@ -229,19 +229,20 @@ pub extern "C" fn hanneddois_find_all(
     ensures told { error.new.status ≡ result }
     ensures same { regex.new.value ≡ regex.old.value }
     ensures plain { result < 2 → error.new ≡ plain result }
-    ensures empty { regex.old.value ≡ None → error.new ≡ plain 2 }
+    ensures empty { regex.old.value ≡ None → (error.new ≡ plain 2) × (count.new ≡ 0) × (matches.new ≡ matches.old) }
+    ensures none { result ≡ 1 → count.new ≡ 0 }
     ensures answer { IfSome regex.old.value (λ v. AnswersAll v haystack.now count.new matches.old matches.new result) }
     ensures refused { IfSome regex.old.value (λ v. RefusesSearch v haystack.now error.new) }
 {
-    *count = 0;
     let Some(mut inside) = regex.take(alloc) else {
+        *count = 0;
         return end(BAD_ARGUMENT, error);
     };
-    let (found, told) = inside.find_all(alloc, haystack, matches);
+    let (listed, told) = inside.find_all(alloc, haystack, matches);
     regex.put(alloc, inside);
-    *count = found;
+    *count = listed;
     match told {
-        Ok(()) if found > 0 => end(OK, error),
+        Ok(()) if listed > 0 => end(OK, error),
         Ok(()) => end(NONE, error),
         Err(e) => refuse(e.failure(), error),
     }
@@ -261,7 +262,8 @@ pub extern "C" fn hanneddois_which(
     ensures told { error.new.status ≡ result }
     ensures same { regex.new.value ≡ regex.old.value }
     ensures plain { result < 2 → error.new ≡ plain result }
-    ensures none { 1 < result → (matched.new ≡ replicate (length matched.old) 0) × (count.new ≡ 0) }
+    ensures none { 0 < result → count.new ≡ 0 }
+    ensures unmarked { 1 < result → matched.new ≡ replicate (length matched.old) 0 }
     ensures empty { regex.old.value ≡ None → error.new ≡ plain 2 }
     ensures answer { IfSome regex.old.value (λ v. AnswersWhichMatch v haystack.now count.new matched.new result) }
     ensures refused { IfSome regex.old.value (λ v. RefusesWhich v haystack.now matched.old error.new) }

@@ -1,1 +1,4 @@
+pub mod Asks
 pub mod Decisions
+pub mod Given
+pub mod Outcomes

@@ -1,7 +1,11 @@
 //! What the options ask for.
+ghost use Rattle.std.specs.Prelude.{◌≡◌, codes};
+ghost use Rattle.clap.specs.Words.{first_value, found_of};
+ghost use Rattle.hirgrep_main.specs.Asks.{asked_of, color_by, context_by, context_of, how_of, asked_names, print_of, what_of};
 
 use clap::ArgMatches;
 use grep_core::{Context, How, Print, What};
+use grep_options::{is_set, limit, number};
 use std::env;
 use std::io::IsTerminal;
 use std::rt::Runtime;
@@ -29,98 +33,122 @@ pub struct Asked {
     pub tells_input: bool,
 }
 
-fn how_of(matches: &ArgMatches<'_>) -> How {
+/// How patterns are meant.
+fn how_of(matches: &ArgMatches<'_>) -> How
+    ensures { result ≡ how_of (found_of matches.now) }
+{
     How {
-        fixed: matches.get_flag("fixed-strings"),
-        ignore_case: matches.get_flag("ignore-case"),
-        lines: matches.get_flag("line-regexp"),
-        words: matches.get_flag("word-regexp"),
-        crlf: matches.get_flag("crlf"),
+        fixed: is_set(matches, "fixed-strings"),
+        ignore_case: is_set(matches, "ignore-case"),
+        lines: is_set(matches, "line-regexp"),
+        words: is_set(matches, "word-regexp"),
+        crlf: is_set(matches, "crlf"),
     }
 }
 
 /// What is printed: of several options the one that prints least counts. Of `-l` and `-L` the later one has turned off the other.
-fn print_of(matches: &ArgMatches<'_>) -> Print {
-    if matches.get_flag("quiet") {
+fn print_of(matches: &ArgMatches<'_>) -> Print
+    ensures { result ≡ print_of (found_of matches.now) }
+{
+    if is_set(matches, "quiet") {
         return Print::Nothing;
     }
-    if matches.get_flag("files-without-match") {
+    if is_set(matches, "files-without-match") {
         return Print::NameIfNone;
     }
-    if matches.get_flag("files-with-matches") {
+    if is_set(matches, "files-with-matches") {
         return Print::NameIfAny;
     }
-    if matches.get_flag("count") {
+    if is_set(matches, "count") {
         return Print::Count;
     }
-    if matches.get_flag("only-matching") {
+    if is_set(matches, "only-matching") {
         return Print::Matches;
     }
     Print::Lines
 }
 
-fn context_of(matches: &ArgMatches<'_>) -> Option<Context> {
-    let both = matches.get_one::<u64>("context");
-    let before = matches.get_one::<u64>("before-context").or(both);
-    let after = matches.get_one::<u64>("after-context").or(both);
-    if before.is_none() && after.is_none() {
-        return None;
+/// Lines before and after each selected line, where either is asked for.
+fn context_by(before: Option<u64>, after: Option<u64>) -> Option<Context>
+    ensures { result ≡ context_by before after }
+{
+    match (before, after) {
+        (None, None) => None,
+        _ => Some(Context {
+            before: before.unwrap_or(0),
+            after: after.unwrap_or(0),
+        }),
     }
-    Some(Context {
-        before: before.unwrap_or(0),
-        after: after.unwrap_or(0),
-    })
 }
 
-/// How many lines are selected at most; a negative number is no limit.
-fn most_of(matches: &ArgMatches<'_>) -> Option<u64> {
-    let most = matches.get_one::<i64>("max-count")?;
-    u64::try_from(most).ok()
+/// Lines of context: `-B` and `-A` count over `-C`.
+fn context_of(matches: &ArgMatches<'_>) -> Option<Context>
+    ensures { result ≡ context_of (found_of matches.now) }
+{
+    let both = number(matches, "context");
+    let before = number(matches, "before-context").or(both);
+    let after = number(matches, "after-context").or(both);
+    context_by(before, after)
 }
 
-/// Whether the reply goes to a terminal that knows colours.
-fn is_colorful(rt: &HostRuntime) -> bool {
+/// Whether standard output is a terminal with colours.
+pub fn is_colorful(rt: &HostRuntime) -> bool {
     match env::var(rt, "TERM") {
         Ok(term) => rt.stdout().is_terminal() && term.as_str() != "dumb",
         Err(_) => false,
     }
 }
 
-fn color_of(rt: &HostRuntime, matches: &ArgMatches<'_>) -> bool {
+/// Whether matches and names are marked, where standard output is a terminal with colours or isn't.
+fn color_of(matches: &ArgMatches<'_>, is_colorful: bool) -> bool
+    ensures { result ≡ color_by (first_value (found_of matches.now) (codes "color")) is_colorful }
+{
     match matches.get_str("color") {
         Some("always") => true,
-        Some("auto") => is_colorful(rt),
+        Some("auto") => is_colorful,
         _ => false,
     }
 }
 
-fn names_of(matches: &ArgMatches<'_>) -> Names {
-    if matches.get_flag("no-filename") {
+/// Whether the names of files stand before lines. Of `-h` and `-H` the later one has turned off the other.
+fn names_of(matches: &ArgMatches<'_>) -> Names
+    ensures { result ≡ asked_names (found_of matches.now) }
+{
+    if is_set(matches, "no-filename") {
         return Names::Never;
     }
-    if matches.get_flag("with-filename") {
+    if is_set(matches, "with-filename") {
         return Names::Always;
     }
     Names::IfSeveral
 }
 
-pub fn asked_of(rt: &HostRuntime, matches: &ArgMatches<'_>) -> Asked {
-    let what = What {
-        invert: matches.get_flag("invert-match"),
+/// What is printed of each text.
+fn what_of(matches: &ArgMatches<'_>, is_colorful: bool) -> What
+    ensures { result ≡ what_of (found_of matches.now) is_colorful }
+{
+    What {
+        invert: is_set(matches, "invert-match"),
         print: print_of(matches),
-        numbers: matches.get_flag("line-number"),
-        offsets: matches.get_flag("byte-offset"),
+        numbers: is_set(matches, "line-number"),
+        offsets: is_set(matches, "byte-offset"),
         context: context_of(matches),
-        most: most_of(matches),
-        color: color_of(rt, matches),
-    };
+        most: limit(matches, "max-count"),
+        color: color_of(matches, is_colorful),
+    }
+}
+
+/// What the options ask for, where standard output is a terminal with colours or isn't.
+pub fn asked_of(matches: &ArgMatches<'_>, is_colorful: bool) -> Asked
+    ensures { result ≡ asked_of (found_of matches.now) is_colorful }
+{
     Asked {
         how: how_of(matches),
-        what,
+        what: what_of(matches, is_colorful),
         names: names_of(matches),
-        recursive: matches.get_flag("recursive"),
-        silent: matches.get_flag("no-messages"),
-        stats: matches.get_flag("stats"),
-        tells_input: matches.get_flag("tell-input"),
+        recursive: is_set(matches, "recursive"),
+        silent: is_set(matches, "no-messages"),
+        stats: is_set(matches, "stats"),
+        tells_input: is_set(matches, "tell-input"),
     }
 }

@@ -2,8 +2,10 @@
 //! Its status is 0 where a line is selected, 1 where none is, and 2 where something fails, which standard error tells.
 #![tactic(auto)]
 
+ghost use Rattle.std.specs.Prelude.{◌≡◌, [], IfOk};
+ghost use Rattle.hirgrep_main.specs.Outcomes.{no_outcome, with_failure};
+
 mod asked;
-mod command;
 mod counting;
 mod input;
 mod loops;
@@ -14,11 +16,12 @@ mod patterns;
 mod searching;
 mod walking;
 
-use crate::asked::{Asked, asked_of};
-use crate::command::command;
-use crate::patterns::{lines_of, patterns_of};
+use crate::asked::{Asked, asked_of, is_colorful};
+use crate::outcome::Outcome;
+use crate::patterns::{gives_patterns, lines_of, patterns_of};
 use crate::searching::search;
 use clap::ArgMatches;
+use grep_options::command;
 use std::alloc::AllocError;
 use std::env;
 use std::process::ExitCode;
@@ -41,15 +44,17 @@ fn run_given(
     asked: &Asked,
     matches: &ArgMatches<'_>,
     files: &[&str],
-) -> Result<u8, AllocError> {
+) -> Result<Outcome, AllocError> {
     match patterns_of(rt, asked, matches)? {
         Some(patterns) => search(rt, asked, patterns.as_slice(), files),
-        None => Ok(2),
+        None => Ok(Outcome::failure()),
     }
 }
 
 /// Searches for the pattern that is the first of the words, which are no options.
-fn run_words(rt: &HostRuntime, asked: &Asked, words: &[&str]) -> Result<u8, AllocError> {
+fn run_words(rt: &HostRuntime, asked: &Asked, words: &[&str]) -> Result<Outcome, AllocError>
+    ensures { words.now ≡ [] → IfOk result (λ o. o ≡ with_failure no_outcome) }
+{
     match words.split_first() {
         Some((pattern, files)) => {
             let patterns = lines_of(rt.alloc(), pattern)?;
@@ -57,21 +62,31 @@ fn run_words(rt: &HostRuntime, asked: &Asked, words: &[&str]) -> Result<u8, Allo
         }
         None => {
             let _ = eprintln!(rt; "hirgrep: no pattern; hirgrep --help tells what there is");
-            Ok(2)
+            Ok(Outcome::failure())
         }
     }
 }
 
-fn run_matches(rt: &HostRuntime, matches: &ArgMatches<'_>) -> Result<u8, AllocError> {
-    let asked = asked_of(rt, matches);
+/// Searches as is asked for, in the folder that is named, if it is there.
+fn run_asked(
+    rt: &HostRuntime,
+    asked: &Asked,
+    matches: &ArgMatches<'_>,
+) -> Result<Outcome, AllocError> {
     if !enter(rt, matches.get_strs("directory").unwrap_or(&[])) {
-        return Ok(2);
+        return Ok(Outcome::failure());
     }
     let words = matches.get_strs("words").unwrap_or(&[]);
-    if matches.contains_id("regexp") || matches.contains_id("file") {
-        return run_given(rt, &asked, matches, words);
+    if gives_patterns(matches) {
+        return run_given(rt, asked, matches, words);
     }
-    run_words(rt, &asked, words)
+    run_words(rt, asked, words)
+}
+
+fn run_matches(rt: &HostRuntime, matches: &ArgMatches<'_>) -> Result<u8, AllocError> {
+    let asked = asked_of(matches, is_colorful(rt));
+    let outcome = run_asked(rt, &asked, matches)?;
+    Ok(outcome.status(&asked))
 }
 
 fn run(rt: &HostRuntime) -> Result<u8, AllocError> {

@@ -28,11 +28,7 @@ fn tell_pattern(
 }
 
 /// Tells why a pattern is refused, and shows the place.
-fn tell_refused(
-    rt: &HostRuntime,
-    patterns: &[&str],
-    error: TextError,
-) -> Result<(), AllocError> {
+fn tell_refused(rt: &HostRuntime, patterns: &[&str], error: TextError) -> Result<(), AllocError> {
     let number = error.number;
     let ParseError::Refused { kind, span } = error.error else {
         return Err(AllocError);

@@ -1,16 +1,17 @@
 //! What comes of a search.
-ghost use Rattle.std.specs.Prelude.{◌≡◌, ◌||◌, nat_lt};
-ghost use Rattle.hirgrep_main.specs.Decisions.{counted, prints_nothing, status};
+ghost use Rattle.std.specs.Prelude.{◌≡◌, nat_lt};
+ghost use Rattle.hirgrep_main.specs.Decisions.{prints_nothing, status};
+ghost use Rattle.hirgrep_main.specs.Outcomes.{after_search, is_of_output, after_result, known_of, no_outcome, with_failure, with_file, with_lines};
 
 use crate::asked::Asked;
 use crate::messages::tell_fault;
-use grep_core::{Fault, Finder, Print};
+use grep_core::{Fault, Finder, Known, Print};
 use std::io;
 use std::io::ErrorKind;
 use std::rt::Runtime;
 
 /// What came of the files so far.
-#[derive(Clone, Copy, Default)]
+#[derive(Clone, Copy)]
 pub struct Outcome {
     /// A line was selected.
     pub selected: bool,
@@ -29,7 +30,9 @@ pub struct Outcome {
 }
 
 /// Whether what is printed can't be written.
-fn is_of_output(fault: Fault) -> bool {
+fn is_of_output(fault: Fault) -> bool
+    ensures { result ≡ is_of_output fault }
+{
     match fault {
         Fault::Write(_) => true,
         _ => false,
@@ -56,19 +59,42 @@ fn is_told(asked: &Asked, fault: Fault) -> bool {
 }
 
 impl Outcome {
+    /// Before the first file.
+    pub fn new() -> Outcome
+        ensures { result ≡ no_outcome }
+    {
+        Outcome {
+            selected: false,
+            printed: false,
+            failed: false,
+            ended: false,
+            files: 0,
+            bytes: 0,
+            lines: 0,
+        }
+    }
+
+    /// After a failure before the first file.
+    pub fn failure() -> Outcome
+        ensures { result ≡ with_failure no_outcome }
+    {
+        let mut outcome = Outcome::new();
+        outcome.failed = true;
+        outcome
+    }
+
     /// Counts a file of which so many bytes were read.
-    pub fn count(&mut self, bytes: u64)
-        ensures { self.new ≡ record (self.old) { files = counted self.old.files 1; bytes = counted self.old.bytes bytes } }
+    fn count(&mut self, bytes: u64)
+        ensures { self.new ≡ with_file self.old bytes }
     {
         self.files = self.files.saturating_add(1);
         self.bytes = self.bytes.saturating_add(bytes);
     }
 
-    /// Counts the lines that were selected of a file. The answer says whether there are any.
+    /// Counts the lines that were selected of a file. Returns whether there are any.
     fn count_lines(&mut self, lines: u64) -> bool
         ensures any { result ≡ nat_lt 0 lines }
-        ensures counted { self.new ≡
-            record (self.old) { selected = self.old.selected || nat_lt 0 lines; lines = counted self.old.lines lines } }
+        ensures counted { self.new ≡ with_lines self.old lines }
     {
         let any = lines > 0;
         self.selected |= any;
@@ -76,25 +102,55 @@ impl Outcome {
         any
     }
 
-    /// Keeps that this text was told, with so many lines that are selected, or that it wasn't.
-    pub fn keep(&mut self, rt: &HostRuntime, asked: &Asked, name: &str, told: Result<u64, Fault>) {
+    /// Keeps what the search of a file returned: how many lines are selected, or why it failed, without a message.
+    fn keep_result(&mut self, print: Print, told: Result<u64, Fault>)
+        ensures { self.new ≡ after_result print self.old told }
+    {
         match told {
             Ok(lines) => {
                 let any = self.count_lines(lines);
-                self.ended |= any && asked.what.print == Print::Nothing;
+                self.ended |= any && prints_nothing(print);
             }
             Err(fault) => {
-                if is_told(asked, fault) {
-                    tell_fault(rt, name, fault);
-                }
                 self.failed = true;
                 self.ended |= is_of_output(fault);
             }
         }
     }
 
+    /// Keeps what the search of the file of this name returned.
+    fn keep(&mut self, rt: &HostRuntime, asked: &Asked, name: &str, told: Result<u64, Fault>)
+        ensures { self.new ≡ after_result asked.now.what.print self.old told }
+    {
+        if let Err(fault) = told {
+            if is_told(asked, fault) {
+                tell_fault(rt, name, fault);
+            }
+        }
+        self.keep_result(asked.what.print, told);
+    }
+
+    /// Keeps what came of the file of this name: how many bytes were read, whether anything was printed, and what its search returned.
+    pub fn keep_search(
+        &mut self,
+        rt: &HostRuntime,
+        asked: &Asked,
+        name: &str,
+        bytes: u64,
+        wrote: bool,
+        told: Result<u64, Fault>,
+    )
+        ensures { self.new ≡ after_search asked.now.what.print self.old bytes wrote told }
+    {
+        self.printed |= wrote;
+        self.count(bytes);
+        self.keep(rt, asked, name, told);
+    }
+
     /// Keeps that something can't be read.
-    pub fn fail(&mut self, rt: &HostRuntime, asked: &Asked, path: &str, error: io::Error) {
+    pub fn fail(&mut self, rt: &HostRuntime, asked: &Asked, path: &str, error: io::Error)
+        ensures { self.new ≡ with_failure self.old }
+    {
         self.failed = true;
         if !asked.silent {
             let _ = eprintln!(rt; "hirgrep: {path}: {error}");
@@ -102,10 +158,23 @@ impl Outcome {
     }
 
     /// Keeps that something isn't searched, for this reason.
-    pub fn refuse(&mut self, rt: &HostRuntime, asked: &Asked, path: &str, reason: &str) {
+    pub fn refuse(&mut self, rt: &HostRuntime, asked: &Asked, path: &str, reason: &str)
+        ensures { self.new ≡ with_failure self.old }
+    {
         self.failed = true;
         if !asked.silent {
             let _ = eprintln!(rt; "hirgrep: {path}: {reason}");
+        }
+    }
+
+    /// What is known of the lines of earlier files: some were printed where anything was selected or printed.
+    pub fn known(&self) -> Known
+        ensures { result ≡ known_of self.now }
+    {
+        if self.selected || self.printed {
+            Known::EarlierPrinted
+        } else {
+            Known::NonePrinted
         }
     }
 

@@ -1,17 +1,21 @@
-//! Standard output, and whether anything was written to it.
+//! A writer that knows whether it was given bytes.
+ghost use Rattle.std.specs.Prelude.{◌≡◌, false};
 
 use std::io;
-use std::io::{Stdout, Write};
+use std::io::Write;
 
-/// Standard output.
+/// A writer, and whether it was given bytes.
 #[derive(Drop)]
-pub struct Output {
-    writer: Stdout,
+pub struct Output<W> {
+    writer: W,
     wrote: bool,
 }
 
-impl Output {
-    pub fn new(writer: Stdout) -> Output {
+impl<W> Output<W> {
+    pub fn new(writer: W) -> Output<W>
+        ensures writer { result.writer ≡ writer }
+        ensures wrote { result.wrote ≡ false }
+    {
         Output {
             writer,
             wrote: false,
@@ -19,18 +23,33 @@ impl Output {
     }
 
     /// Whether it was given bytes.
-    pub fn wrote(&self) -> bool {
+    pub fn wrote(&self) -> bool
+        ensures { result ≡ self.now.wrote }
+    {
         self.wrote
     }
 }
 
-impl Write for Output {
-    fn write(&mut self, buf: &[u8]) -> io::Result<usize> {
+impl<W: Write> Write for Output<W> {
+    ghost use Rattle.std.specs.Prelude.{◌≡◌, true};
+    ghost use Rattle.std.specs.Io.{WritesAtMost};
+    ghost use Rattle.std.specs.Io.KnownBytes.{Keeps, WriteAppends};
+
+    ghost contents = { λ o. W.contents o.writer };
+
+    fn write(&mut self, buf: &[u8]) -> io::Result<usize>
+        ensures bound { WritesAtMost result buf.now }
+        ensures bytes { WriteAppends (W.contents self.old.writer) (W.contents self.new.writer) result buf.now }
+        ensures wrote { self.new.wrote ≡ true }
+    {
         self.wrote = true;
         self.writer.write(buf)
     }
 
-    fn flush(&mut self) -> io::Result<()> {
+    fn flush(&mut self) -> io::Result<()>
+        ensures bytes { Keeps (W.contents self.old.writer) (W.contents self.new.writer) }
+        ensures wrote { self.new.wrote ≡ self.old.wrote }
+    {
         self.writer.flush()
     }
 }

@@ -1,4 +1,8 @@
 //! The patterns that options give.
+ghost use Rattle.std.specs.Prelude.{◌≡◌, ◌++◌, ◌∷◌, [], ℕ, List, IfOk, IfSome, IsTrue, OnOk, length, map, string_bytes};
+ghost use Rattle.std.specs.List.{flat_map};
+ghost use Rattle.clap.specs.Words.{found_of};
+ghost use Rattle.hirgrep_main.specs.Given.{ArePatterns, patterns_of_file, gives_patterns, lines_as_patterns};
 
 use crate::asked::Asked;
 use crate::input::input;
@@ -7,13 +11,18 @@ use std::alloc::{AllocError, Global};
 use std::rt::Runtime;
 use std::{fs, io};
 
-fn push_line(alloc: Global, patterns: &mut Vec<String>, line: &str) -> Result<(), AllocError> {
+fn push_line(alloc: Global, patterns: &mut Vec<String>, line: &str) -> Result<(), AllocError>
+    ensures { OnOk result (map string_bytes patterns.new.items ≡ map string_bytes patterns.old.items ++ line.now ∷ []) }
+{
     let line = String::from_str(alloc, line)?;
     patterns.push(line)?;
     Ok(())
 }
 
-fn push_lines(alloc: Global, patterns: &mut Vec<String>, text: &str) -> Result<(), AllocError> {
+/// Appends the patterns in a text, one a line.
+fn push_lines(alloc: Global, patterns: &mut Vec<String>, text: &str) -> Result<(), AllocError>
+    ensures { OnOk result (map string_bytes patterns.new.items ≡ map string_bytes patterns.old.items ++ lines_as_patterns text.now) }
+{
     for line in text.split('\n') {
         push_line(alloc, patterns, line)?;
     }
@@ -21,10 +30,34 @@ fn push_lines(alloc: Global, patterns: &mut Vec<String>, text: &str) -> Result<(
 }
 
 /// The patterns that an argument gives, one a line.
-pub fn lines_of(alloc: Global, text: &str) -> Result<Vec<String>, AllocError> {
+pub fn lines_of(alloc: Global, text: &str) -> Result<Vec<String>, AllocError>
+    ensures { IfOk result (λ v. map string_bytes v.items ≡ lines_as_patterns text.now) }
+{
     let mut patterns = Vec::new(alloc);
     push_lines(alloc, &mut patterns, text)?;
     Ok(patterns)
+}
+
+/// Appends the patterns in a file of this text, one a line; an empty file gives none.
+fn push_text(alloc: Global, patterns: &mut Vec<String>, text: &str) -> Result<(), AllocError>
+    ensures { OnOk result (map string_bytes patterns.new.items ≡ map string_bytes patterns.old.items ++ patterns_of_file text.now) }
+{
+    if text.is_empty() {
+        return Ok(());
+    }
+    let lines = text.strip_suffix('\n').unwrap_or(text);
+    push_lines(alloc, patterns, lines)
+}
+
+/// Appends the patterns that arguments give.
+fn push_given(alloc: Global, patterns: &mut Vec<String>, given: &[&str]) -> Result<(), AllocError>
+    ensures { OnOk result (map string_bytes patterns.new.items
+        ≡ map string_bytes patterns.old.items ++ flat_map lines_as_patterns (map (λ s. s.now) given.now)) }
+{
+    for text in given {
+        push_lines(alloc, patterns, text)?;
+    }
+    Ok(())
 }
 
 fn read_file(rt: &HostRuntime, asked: &Asked, name: &str) -> io::Result<String> {
@@ -34,53 +67,55 @@ fn read_file(rt: &HostRuntime, asked: &Asked, name: &str) -> io::Result<String> 
     fs::read_to_string(rt, name)
 }
 
-/// The patterns that a file gives, one a line; an empty file gives none. The answer is no where it can't be read, which is told.
-fn push_file(
-    rt: &HostRuntime,
-    asked: &Asked,
-    patterns: &mut Vec<String>,
-    name: &str,
-) -> Result<bool, AllocError> {
-    let text = match read_file(rt, asked, name) {
-        Ok(text) => text,
+/// The text of a file of patterns. There is none where it can't be read, which is told.
+fn text_of(rt: &HostRuntime, asked: &Asked, name: &str) -> Option<String> {
+    match read_file(rt, asked, name) {
+        Ok(text) => Some(text),
         Err(e) => {
             let _ = eprintln!(rt; "hirgrep: {name}: {e}");
-            return Ok(false);
+            None
         }
-    };
-    if text.is_empty() {
-        return Ok(true);
     }
-    let lines = text.as_str().strip_suffix('\n').unwrap_or(text.as_str());
-    push_lines(rt.alloc(), patterns, lines)?;
-    Ok(true)
 }
 
+/// Appends the patterns that files give. The answer is no where one can't be read, which is told.
 fn push_files(
     rt: &HostRuntime,
     asked: &Asked,
     patterns: &mut Vec<String>,
     names: &[&str],
-) -> Result<bool, AllocError> {
+) -> Result<bool, AllocError>
+    ensures { IfOk result (λ is_read. IsTrue is_read → (texts : List (List ℕ)) × (length texts ≡ length names.now)
+        × (map string_bytes patterns.new.items ≡ map string_bytes patterns.old.items ++ flat_map patterns_of_file texts)) }
+{
     for name in names {
-        if !push_file(rt, asked, patterns, name)? {
+        let Some(text) = text_of(rt, asked, name) else {
             return Ok(false);
-        }
+        };
+        push_text(rt.alloc(), patterns, text.as_str())?;
     }
     Ok(true)
 }
 
-/// The patterns that options give, or none where a file of them can't be read, which is told.
+/// Whether `-e` or `-f` gives patterns, so that all other words are files.
+pub fn gives_patterns(matches: &ArgMatches<'_>) -> bool
+    ensures { result ≡ gives_patterns (found_of matches.now) }
+{
+    matches.contains_id("regexp") || matches.contains_id("file")
+}
+
+/// The patterns that `-e` and `-f` give, or none where a file of them can't be read, which is told.
 pub fn patterns_of(
     rt: &HostRuntime,
     asked: &Asked,
     matches: &ArgMatches<'_>,
-) -> Result<Option<Vec<String>>, AllocError> {
+) -> Result<Option<Vec<String>>, AllocError>
+    ensures { IfOk result (λ o. IfSome o (λ v. ArePatterns (found_of matches.now) (map string_bytes v.items))) }
+{
     let alloc = rt.alloc();
     let mut patterns = Vec::new(alloc);
-    for text in matches.get_strs("regexp").unwrap_or(&[]) {
-        push_lines(alloc, &mut patterns, text)?;
-    }
+    let given = matches.get_strs("regexp").unwrap_or(&[]);
+    push_given(alloc, &mut patterns, given)?;
     let names = matches.get_strs("file").unwrap_or(&[]);
     let is_read = push_files(rt, asked, &mut patterns, names)?;
     Ok(if is_read { Some(patterns) } else { None })

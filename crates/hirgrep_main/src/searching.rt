@@ -1,7 +1,14 @@
 //! Searching files, one after the other.
-ghost use Rattle.std.specs.Prelude.{◌≡◌};
-ghost use Rattle.grep_core.specs.Telling.{prints_lines};
-ghost use Rattle.hirgrep_main.specs.Decisions.{is_most, shows_names, may_run_on, prints_names_if_none, selects_none};
+ghost use Rattle.std.specs.Prelude.{◌≡◌, ℕ, Bool, true, false, Result, IfErr, IfOk, IfSome, OnOk, map, string_bytes, take, if◌then◌else◌};
+ghost use Rattle.std.specs.Io.KnownBytes.{Appends};
+ghost use Rattle.grep_core.specs.Meant.{written};
+ghost use Rattle.grep_core.specs.Report.{counted_as, report, selected_count};
+ghost use Rattle.grep_core.specs.Searchers.{SearchesFor, found_by};
+ghost use Rattle.grep_core.specs.Telling.{needs_spans, prints_lines};
+ghost use Rattle.grep_core.specs.declared.fault.Fault.{Fault as TheFault};
+ghost use Rattle.hirgrep_main.specs.Decisions.{is_most, may_run_on, prints_names_if_none, selects_none, shows_names};
+ghost use Rattle.hirgrep_main.specs.declared.searching.Named.TheVariants.{Folder};
+ghost use Rattle.hirgrep_main.specs.Outcomes.{Continues, after_search, no_outcome, with_failure};
 
 use crate::asked::{Asked, Names};
 use crate::counting::Counting;
@@ -10,11 +17,13 @@ use crate::messages::tell_no_finder;
 use crate::outcome::Outcome;
 use crate::output::Output;
 use crate::walking::{Kind, is_folder, is_output, kind_of, push_folder};
-use grep_core::{Finder, Known, Print, config_of, needs_spans, pattern_source, tell_text};
+use grep_core::{
+    Fault, Finder, Known, Print, SearcherError, config_of, needs_spans, pattern_source, tell_text,
+};
 use std::alloc::{AllocError, Global};
-use std::fs;
-use std::io::Read;
+use std::io::{Read, Write};
 use std::rt::Runtime;
+use std::{fs, io};
 
 /// What files are searched for, and how they are told.
 #[derive(Clone, Copy)]
@@ -26,7 +35,9 @@ struct Task<'a> {
     bare: bool,
 }
 
-fn strs_of<'a>(alloc: Global, texts: &'a [String]) -> Result<Vec<&'a str>, AllocError> {
+fn strs_of<'a>(alloc: Global, texts: &'a [String]) -> Result<Vec<&'a str>, AllocError>
+    ensures { IfOk result (λ v. map (λ s. s.now) v.items ≡ map string_bytes texts.now) }
+{
     let mut words: Vec<&str> = Vec::new(alloc);
     for text in texts {
         words.push(text.as_str())?;
@@ -35,7 +46,9 @@ fn strs_of<'a>(alloc: Global, texts: &'a [String]) -> Result<Vec<&'a str>, Alloc
 }
 
 /// The patterns in the syntax that is parsed.
-fn texts_of(alloc: Global, asked: &Asked, patterns: &[&str]) -> Result<Vec<String>, AllocError> {
+fn texts_of(alloc: Global, asked: &Asked, patterns: &[&str]) -> Result<Vec<String>, AllocError>
+    ensures { IfOk result (λ v. map string_bytes v.items ≡ map (λ p. written asked.now.how.fixed p.now) patterns.now) }
+{
     let mut texts = Vec::new(alloc);
     for pattern in patterns {
         let text = pattern_source(alloc, asked.how.fixed, pattern)?;
@@ -44,39 +57,69 @@ fn texts_of(alloc: Global, asked: &Asked, patterns: &[&str]) -> Result<Vec<Strin
     Ok(texts)
 }
 
-/// What is known of the lines of the texts so far, of which some were printed where anything was selected or printed.
-fn known_of(outcome: &Outcome) -> Known {
-    if outcome.selected || outcome.printed {
-        Known::EarlierPrinted
-    } else {
-        Known::NonePrinted
-    }
+/// Searches what a reader gives, and writes what is printed of it: the report of what was asked, under this name.
+fn tell_reader<R: Read, W: Write>(
+    alloc: Global,
+    finder: &mut Finder<'_>,
+    task: Task<'_>,
+    known: Known,
+    name: &str,
+    reader: &mut R,
+    writer: &mut W,
+) -> Result<u64, Fault>
+    ensures same { finder.new ≡ finder.old }
+    ensures told { OnOk result ((by : SearchesFor finder.old (needs_spans task.entry.asked.now.what)) →
+        IfSome (R.remaining reader.old) (λ text. Appends (W.contents writer.old) (W.contents writer.new)
+        (report task.entry.asked.now.what (found_by by) name.now task.entry.with_name known text))) }
+    ensures selected { IfOk result (λ n. (by : SearchesFor finder.old (needs_spans task.entry.asked.now.what)) →
+        IfSome (R.remaining reader.old) (λ text.
+        n ≡ counted_as task.entry.asked.now.what.print (selected_count task.entry.asked.now.what (found_by by) text))) }
+    ensures fault { IfErr result (λ _. (by : SearchesFor finder.old (needs_spans task.entry.asked.now.what)) →
+        IfSome (R.remaining reader.old) (λ text. (n : ℕ) × Appends (W.contents writer.old) (W.contents writer.new)
+        (take n (report task.entry.asked.now.what (found_by by) name.now task.entry.with_name known text)))) }
+{
+    tell_text(
+        alloc,
+        finder,
+        &task.asked.what,
+        name.as_bytes(),
+        task.with_name,
+        known,
+        reader,
+        writer,
+    )
 }
 
-/// Searches what a reader gives, which goes by this name.
-fn search_reader<R: Read + Drop>(
+/// Searches what a reader gives, which goes by this name, and keeps what came of it.
+fn search_reader<R: Read + Drop, W: Write + Drop>(
     rt: &HostRuntime,
     finder: &mut Finder<'_>,
     task: Task<'_>,
     outcome: &mut Outcome,
     name: &str,
     reader: R,
-) {
+    writer: W,
+)
+    ensures same { finder.new ≡ finder.old }
+    ensures came { (told : Result ℕ TheFault) × (bytes : ℕ) × (wrote : Bool)
+        × (outcome.new ≡ after_search task.entry.asked.now.what.print outcome.old bytes wrote told)
+        × IfOk told (λ n. (by : SearchesFor finder.old (needs_spans task.entry.asked.now.what)) →
+        IfSome (R.remaining reader) (λ text.
+        n ≡ counted_as task.entry.asked.now.what.print (selected_count task.entry.asked.now.what (found_by by) text))) }
+    ensures continues { Continues outcome.old outcome.new }
+{
     let mut reader = Counting::new(reader);
-    let mut writer = Output::new(rt.stdout());
-    let told = tell_text(
+    let mut writer = Output::new(writer);
+    let told = tell_reader(
         rt.alloc(),
         finder,
-        &task.asked.what,
-        name.as_bytes(),
-        task.with_name,
-        known_of(outcome),
+        task,
+        outcome.known(),
+        name,
         &mut reader,
         &mut writer,
     );
-    outcome.printed |= writer.wrote();
-    outcome.count(reader.count());
-    outcome.keep(rt, task.asked, name, told);
+    outcome.keep_search(rt, task.asked, name, reader.count(), writer.wrote(), told);
 }
 
 fn prints_lines(print: Print) -> bool
@@ -114,14 +157,17 @@ fn may_run_on(asked: &Asked) -> bool
     prints_lines(asked.what.print) && !is_most(1, asked.what.most)
 }
 
-/// Whether what is printed would come into what is read, which is told.
+/// Whether what is printed would come into what is read, which is told and kept as a failure.
 fn is_refused_output(
     rt: &HostRuntime,
     task: Task<'_>,
     outcome: &mut Outcome,
     name: &str,
     path: &str,
-) -> bool {
+) -> bool
+    ensures came { outcome.new ≡ (if result then with_failure outcome.old else outcome.old) }
+    ensures continues { Continues outcome.old outcome.new }
+{
     let is_refused = may_run_on(task.asked) && is_output(rt, path);
     if is_refused {
         outcome.refuse(rt, task.asked, name, "input file is also the output");
@@ -130,12 +176,15 @@ fn is_refused_output(
 }
 
 /// Searches standard input.
-fn search_input(rt: &HostRuntime, finder: &mut Finder<'_>, task: Task<'_>, outcome: &mut Outcome) {
+fn search_input(rt: &HostRuntime, finder: &mut Finder<'_>, task: Task<'_>, outcome: &mut Outcome)
+    ensures { Continues outcome.old outcome.new }
+{
     let name = "(standard input)";
     let reader = input(rt, task.asked);
-    if !is_refused_output(rt, task, outcome, name, "/dev/stdin") {
-        search_reader(rt, finder, task, outcome, name, reader);
+    if is_refused_output(rt, task, outcome, name, "/dev/stdin") {
+        return;
     }
+    search_reader(rt, finder, task, outcome, name, reader, rt.stdout());
 }
 
 fn shown_name<'a>(task: Task<'_>, path: &'a str) -> &'a str {
@@ -145,6 +194,24 @@ fn shown_name<'a>(task: Task<'_>, path: &'a str) -> &'a str {
     path.strip_prefix("./").unwrap_or(path)
 }
 
+/// Searches what was opened, or keeps that it can't be.
+fn search_opened<R: Read + Drop>(
+    rt: &HostRuntime,
+    finder: &mut Finder<'_>,
+    task: Task<'_>,
+    outcome: &mut Outcome,
+    name: &str,
+    opened: io::Result<R>,
+)
+    ensures unread { IfErr opened (λ _. outcome.new ≡ with_failure outcome.old) }
+    ensures continues { Continues outcome.old outcome.new }
+{
+    match opened {
+        Ok(reader) => search_reader(rt, finder, task, outcome, name, reader, rt.stdout()),
+        Err(e) => outcome.fail(rt, task.asked, name, e),
+    }
+}
+
 /// Searches a file.
 fn search_file(
     rt: &HostRuntime,
@@ -152,33 +219,41 @@ fn search_file(
     task: Task<'_>,
     outcome: &mut Outcome,
     path: &str,
-) {
+)
+    ensures { Continues outcome.old outcome.new }
+{
     let name = shown_name(task, path);
     if is_refused_output(rt, task, outcome, name, path) {
         return;
     }
-    match fs::open(rt, path) {
-        Ok(file) => search_reader(rt, finder, task, outcome, name, file),
-        Err(e) => outcome.fail(rt, task.asked, name, e),
-    }
+    search_opened(rt, finder, task, outcome, name, fs::open(rt, path));
 }
 
-/// Searches what was met in a folder, and puts what a folder has before what is left.
-fn search_met(
+/// Searches what was met in a folder, where that is known, and puts what a folder has before what is left.
+fn search_kind(
     rt: &HostRuntime,
     finder: &mut Finder<'_>,
     task: Task<'_>,
     outcome: &mut Outcome,
     left: &mut Vec<String>,
     path: &str,
-) -> Result<(), AllocError> {
-    match kind_of(rt, path) {
-        Ok(Kind::File) => search_file(rt, finder, task, outcome, path),
-        Ok(Kind::Folder) => push_folder(rt, task.asked, outcome, left, path)?,
-        Ok(Kind::Other) => {}
-        Err(e) => outcome.fail(rt, task.asked, shown_name(task, path), e),
+    kind: io::Result<Kind>,
+) -> Result<(), AllocError>
+    ensures unread { IfErr kind (λ _. outcome.new ≡ with_failure outcome.old) }
+    ensures continues { Continues outcome.old outcome.new }
+{
+    match kind {
+        Ok(Kind::File) => {
+            search_file(rt, finder, task, outcome, path);
+            Ok(())
+        }
+        Ok(Kind::Folder) => push_folder(rt, task.asked, outcome, left, path),
+        Ok(Kind::Other) => Ok(()),
+        Err(e) => {
+            outcome.fail(rt, task.asked, shown_name(task, path), e);
+            Ok(())
+        }
     }
-    Ok(())
 }
 
 /// Searches the files of a folder, and of the folders in it.
@@ -188,16 +263,62 @@ fn search_folder(
     task: Task<'_>,
     outcome: &mut Outcome,
     path: &str,
-) -> Result<(), AllocError> {
+) -> Result<(), AllocError>
+    ensures { Continues outcome.old outcome.new }
+{
     let mut left = Vec::new(rt.alloc());
     push_folder(rt, task.asked, outcome, &mut left, path)?;
-    for _ in 0..u64::MAX {
+    for _index in 0..u64::MAX {
         let Some(path) = left.pop() else {
             break;
         };
-        search_met(rt, finder, task, outcome, &mut left, path.as_str())?;
+        let kind = kind_of(rt, path.as_str());
+        search_kind(rt, finder, task, outcome, &mut left, path.as_str(), kind)?;
         if outcome.ended {
             break;
+        }
+    }
+    Ok(())
+}
+
+/// What an argument names.
+#[derive(Clone, Copy, PartialEq, Eq)]
+enum Named {
+    Input,
+    File,
+    Folder,
+}
+
+fn named_at(rt: &HostRuntime, path: &str) -> Named {
+    if path == "-" {
+        return Named::Input;
+    }
+    if is_folder(rt, path) {
+        return Named::Folder;
+    }
+    Named::File
+}
+
+/// Searches what an argument names, or keeps that a folder isn't searched.
+fn search_as(
+    rt: &HostRuntime,
+    finder: &mut Finder<'_>,
+    task: Task<'_>,
+    outcome: &mut Outcome,
+    path: &str,
+    named: Named,
+) -> Result<(), AllocError>
+    ensures folder { named ≡ Folder → task.entry.asked.now.recursive ≡ false → outcome.new ≡ with_failure outcome.old }
+    ensures continues { Continues outcome.old outcome.new }
+{
+    match named {
+        Named::Input => search_input(rt, finder, task, outcome),
+        Named::File => search_file(rt, finder, task, outcome, path),
+        Named::Folder => {
+            if task.asked.recursive {
+                return search_folder(rt, finder, task, outcome, path);
+            }
+            outcome.refuse(rt, task.asked, path, "Is a directory");
         }
     }
     Ok(())
@@ -210,20 +331,10 @@ fn search_named(
     task: Task<'_>,
     outcome: &mut Outcome,
     path: &str,
-) -> Result<(), AllocError> {
-    if path == "-" {
-        search_input(rt, finder, task, outcome);
-        return Ok(());
-    }
-    if !is_folder(rt, path) {
-        search_file(rt, finder, task, outcome, path);
-        return Ok(());
-    }
-    if task.asked.recursive {
-        return search_folder(rt, finder, task, outcome, path);
-    }
-    outcome.refuse(rt, task.asked, path, "Is a directory");
-    Ok(())
+) -> Result<(), AllocError>
+    ensures { Continues outcome.old outcome.new }
+{
+    search_as(rt, finder, task, outcome, path, named_at(rt, path))
 }
 
 /// Whether names stand before lines, where several files may be searched or only one.
@@ -252,7 +363,9 @@ fn search_all(
     task: Task<'_>,
     outcome: &mut Outcome,
     files: &[&str],
-) -> Result<(), AllocError> {
+) -> Result<(), AllocError>
+    ensures { Continues outcome.old outcome.new }
+{
     for path in files {
         search_named(rt, finder, task, outcome, path)?;
         if outcome.ended {
@@ -262,14 +375,16 @@ fn search_all(
     Ok(())
 }
 
-/// The same, or where they name nothing the folder where it runs, or standard input.
+/// Searches what arguments name, or where they name nothing the folder where it runs, or standard input.
 fn search_files(
     rt: &HostRuntime,
     finder: &mut Finder<'_>,
     asked: &Asked,
     outcome: &mut Outcome,
     files: &[&str],
-) -> Result<(), AllocError> {
+) -> Result<(), AllocError>
+    ensures { Continues outcome.old outcome.new }
+{
     if !files.is_empty() {
         let task = Task {
             asked,
@@ -299,21 +414,37 @@ fn selects_none(asked: &Asked) -> bool
     is_most(0, asked.what.most) && !prints_names_if_none(asked.what.print)
 }
 
-/// Searches files by a finder, and gives the status.
+/// Searches files by a finder.
 fn search_by(
     rt: &HostRuntime,
     finder: &mut Finder<'_>,
     asked: &Asked,
     files: &[&str],
-) -> Result<u8, AllocError> {
-    let mut outcome = Outcome::default();
+) -> Result<Outcome, AllocError>
+    ensures { selects_none asked.now.what ≡ true → IfOk result (λ o. o ≡ no_outcome) }
+{
+    let mut outcome = Outcome::new();
     if !selects_none(asked) {
         search_files(rt, finder, asked, &mut outcome, files)?;
     }
     if asked.stats {
         outcome.tell_stats(rt, finder);
     }
-    Ok(outcome.status(asked))
+    Ok(outcome)
+}
+
+/// Tells why the patterns can't be searched for, which is a failure.
+fn refuse_patterns(
+    rt: &HostRuntime,
+    asked: &Asked,
+    patterns: &[&str],
+    texts: &[&str],
+    error: SearcherError,
+) -> Result<Outcome, AllocError>
+    ensures { IfOk result (λ o. o ≡ with_failure no_outcome) }
+{
+    tell_no_finder(rt, &config_of(&asked.how), patterns, texts, error)?;
+    Ok(Outcome::failure())
 }
 
 /// Searches files for the texts of patterns. The finder is the only value of its kind that it owns, since proofs of what a function drops
@@ -324,17 +455,14 @@ fn search_texts(
     patterns: &[&str],
     texts: &[&str],
     files: &[&str],
-) -> Result<u8, AllocError> {
+) -> Result<Outcome, AllocError> {
     match Finder::new(rt.alloc(), texts, &asked.how, needs_spans(&asked.what)) {
         Ok(mut finder) => {
-            let status = search_by(rt, &mut finder, asked, files);
+            let outcome = search_by(rt, &mut finder, asked, files);
             drop(finder);
-            status
+            outcome
         }
-        Err(error) => {
-            tell_no_finder(rt, &config_of(&asked.how), patterns, texts, error)?;
-            Ok(2)
-        }
+        Err(error) => refuse_patterns(rt, asked, patterns, texts, error),
     }
 }
 
@@ -344,7 +472,7 @@ pub fn search(
     asked: &Asked,
     patterns: &[String],
     files: &[&str],
-) -> Result<u8, AllocError> {
+) -> Result<Outcome, AllocError> {
     let patterns = strs_of(rt.alloc(), patterns)?;
     let texts = texts_of(rt.alloc(), asked, patterns.as_slice())?;
     let words = strs_of(rt.alloc(), texts.as_slice())?;

@@ -1,4 +1,5 @@
 //! The files of folders.
+ghost use Rattle.hirgrep_main.specs.Outcomes.{Continues};
 
 use crate::asked::Asked;
 use crate::outcome::Outcome;
@@ -53,7 +54,9 @@ fn read_entries(
     outcome: &mut Outcome,
     path: &str,
     paths: &mut Vec<String>,
-) -> io::Result<()> {
+) -> io::Result<()>
+    ensures { Continues outcome.old outcome.new }
+{
     for entry in fs::read_dir(rt, path)? {
         match entry {
             Ok(entry) => {
@@ -73,7 +76,9 @@ pub fn push_folder(
     outcome: &mut Outcome,
     left: &mut Vec<String>,
     path: &str,
-) -> Result<(), AllocError> {
+) -> Result<(), AllocError>
+    ensures { Continues outcome.old outcome.new }
+{
     let mut paths = Vec::new(rt.alloc());
     if let Err(e) = read_entries(rt, asked, outcome, path, &mut paths) {
         outcome.fail(rt, asked, path, e);

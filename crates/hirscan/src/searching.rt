@@ -1,5 +1,5 @@
 //! Searches over a regex that is built of trees, for a caller who counts no work.
-ghost use Rattle.std.specs.Prelude.{◌≡◌, ◌<◌, ◌↔◌, ℕ, Bool, List, All, IfOk, IsTrue};
+ghost use Rattle.std.specs.Prelude.{◌≡◌, ◌<◌, ◌↔◌, ℕ, Bool, List, All, None, Ok, IfOk, IsTrue};
 ghost use Rattle.std.specs.List.{list_all};
 ghost use Rattle.search_core.specs.Utf8.{IsValidText};
 ghost use Rattle.look_core.specs.Looks.{IsWordSet};
@@ -74,6 +74,7 @@ fn search_counted<L: Ledger, M: Ledger>(
     requires some2 { 0 < second.parts }
     ensures own { AreCachesOf re.now cache.new }
     ensures answer { AnswersPair re.now cache.new input.now result }
+    ensures done { input.now.end < input.now.start → (result ≡ Ok None) × (cache.new ≡ cache.old) }
     ensures kept { PairGrowsOrClears re.now cache.old cache.new }
 {
     let mut work = Work::<L, M>::new(first, second);
@@ -82,10 +83,12 @@ fn search_counted<L: Ledger, M: Ledger>(
 
 /// One search, refused as [`Regex::try_search`] is. Where the regex is built of trees, finds the leftmost-first match and the search
 /// is one of the laws' ([`is_search_of`], [`all_loops_read`](crate::all_loops_read)), an answer is the one that the trees define.
+/// Over a done span the search returns `Ok(None)` and leaves the caches as they were.
 pub fn find(re: &Regex, cache: &mut Cache, input: &Input<'_>) -> Result<Option<Match>, MatchError>
     requires own { AreCachesOf re.now cache.old }
     ensures own { AreCachesOf re.now cache.new }
     ensures answer { AnswersPair re.now cache.new input.now result }
+    ensures done { input.now.end < input.now.start → (result ≡ Ok None) × (cache.new ≡ cache.old) }
     ensures defined { (xs : List Tree) (s : Settings) → IsBuilt xs s re.now → FindsFirst s → IsSearchOf xs s.utf8 input.now →
         All LoopsRead xs → (words : ℕ → Bool) → IsWordSet words → IfOk result (λ o. o ≡ answer_to words xs s input.now) }
     ensures kept { PairGrowsOrClears re.now cache.old cache.new }

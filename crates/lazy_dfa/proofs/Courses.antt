@@ -21,3 +21,4 @@ pub mod SearchLemmas
 pub mod SearchEndLemmas
 pub mod SearchClauseLemmas
 pub mod PassLoopLemmas
+pub mod RoomLemmas

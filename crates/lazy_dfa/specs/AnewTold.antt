@@ -6,13 +6,14 @@ use Rattle.search_types.specs.declared.match_error.MatchErrorKind.{MatchErrorKin
 use Rattle.search_types.specs.Found.{HalfFound}
 use Rattle.search_types.specs.Inputs.{Search}
 use Rattle.nfa_core.specs.Ways.{place_of}
-use Rattle.lazy_dfa.specs.Caches.{greatest, progress_len, begun_anew}
+use Rattle.lazy_dfa.specs.Caches.{CacheValue, greatest, progress_len, begun_anew}
+use Rattle.lazy_dfa.specs.Dfas.{Dfa, reader}
 use Rattle.lazy_dfa.specs.LeftTold.{has_finished, is_quit_error, IsRefusedAt, LeavesPass}
 use Rattle.lazy_dfa.specs.Linked.{passes_of}
-use Rattle.lazy_dfa.specs.Passes.{index_at}
+use Rattle.lazy_dfa.specs.Passes.{index_at, first_value}
 use Rattle.lazy_dfa.specs.PassLaws.{pass_len}
 use Rattle.lazy_dfa.specs.Readers.{Reader}
-use Rattle.lazy_dfa.specs.SearchAnswers.{Told, pass_distance, told_by_pass, told_by}
+use Rattle.lazy_dfa.specs.SearchAnswers.{Told, told_of, pass_distance, told_by_pass, told_by}
 
 -- ---- a clear
 
@@ -58,11 +59,12 @@ pub record CutAt (is_reverse quits : Bool) (n i k : ℕ) (new : Told) : Type 0 w
   pub told : new ≡ cut_left is_reverse quits n i from k (index_at is_reverse (place_of is_reverse i byte))
 
 -- one that is refused
-pub data FailsAnew (r : Reader) (mode : Anchored) (earliest : Bool) (h : List ℕ) (p : ℕ ×
-    ℕ) (e : MatchErrorKind) (new : Told) : Type 0 where
-  fails_first : (s : Told) → IsFresh s → LeavesPass r mode earliest h p e s new → FailsAnew r mode earliest h p e new
-  fails_inside : (k : ℕ) → k < pass_len r mode earliest h p.0 p.1 → IsRefusedAt r.automaton.reverse p.0 p.1 k e →
-      CutAt r.automaton.reverse (is_quit_error e) p.0 p.1 k new → FailsAnew r mode earliest h p e new
+pub data FailsAnew (d : Dfa) (mode : Anchored) (earliest : Bool) (h : List ℕ) (p : ℕ ×
+    ℕ) (e : MatchErrorKind) (new : CacheValue) : Type 0 where
+  fails_first : (s : Told) → IsFresh s → LeavesPass d mode earliest h p e s new → FailsAnew d mode earliest h p e new
+  fails_inside : (k : ℕ) → k < pass_len (reader d) mode earliest h p.0 p.1 →
+      IsRefusedAt d new h (first_value (reader d) mode h p.1) p.0 p.1 k e →
+      CutAt d.nfa.automaton.reverse (is_quit_error e) p.0 p.1 k (told_of new) → FailsAnew d mode earliest h p e new
 
 -- ---- searches
 
@@ -77,14 +79,14 @@ pub record ToldSince (r : Reader) (q : Search) (ps : List (ℕ × ℕ)) (new : T
   pub told : new ≡ told_by r q first behind
 
 -- a half search is refused in a pass behind that one, or in the pass in which the cache was cleared last
-pub data FailsSince (r : Reader) (q : Search) (e : MatchErrorKind) (new : Told) : Type 0 where
-  fails_later : (done behind : List (ℕ × ℕ)) (refused : ℕ × ℕ) (t : Told) → passes_of r q ≡ done ++ refused ∷ behind →
-      ToldSince r q done t →
-      LeavesPass r q.anchored q.earliest q.haystack refused e t new → FailsSince r q e new
-  fails_there : (done behind : List (ℕ × ℕ)) (refused : ℕ × ℕ) → passes_of r q ≡ done ++ refused ∷ behind →
-      FailsAnew r q.anchored q.earliest q.haystack refused e new → FailsSince r q e new
+pub data FailsSince (d : Dfa) (q : Search) (e : MatchErrorKind) (new : CacheValue) : Type 0 where
+  fails_later : (done behind : List (ℕ × ℕ)) (refused : ℕ × ℕ) (t : Told) → passes_of (reader d) q ≡ done ++ refused ∷ behind →
+      ToldSince (reader d) q done t →
+      LeavesPass d q.anchored q.earliest q.haystack refused e t new → FailsSince d q e new
+  fails_there : (done behind : List (ℕ × ℕ)) (refused : ℕ × ℕ) → passes_of (reader d) q ≡ done ++ refused ∷ behind →
+      FailsAnew d q.anchored q.earliest q.haystack refused e new → FailsSince d q e new
 
 -- both answers
-abbrev pub IsToldSince : Reader → Search → Result (Option HalfFound) MatchErrorKind → Told → Type 0
-IsToldSince r q (Ok found) new = ToldSince r q (passes_of r q) new
-IsToldSince r q (Err e) new = FailsSince r q e new
+abbrev pub IsToldSince : Dfa → Search → Result (Option HalfFound) MatchErrorKind → CacheValue → Type 0
+IsToldSince d q (Ok found) new = ToldSince (reader d) q (passes_of (reader d) q) (told_of new)
+IsToldSince d q (Err e) new = FailsSince d q e new

@@ -7,12 +7,15 @@ use Rattle.search_types.specs.declared.match_error.MatchErrorKind.TheVariants.{Q
 use Rattle.search_types.specs.declared.match_error.MatchErrorKind.TheVariants.{NoMemory}
 use Rattle.search_types.specs.Inputs.{Search}
 use Rattle.nfa_core.specs.Ways.{place_of}
-use Rattle.lazy_dfa.specs.Caches.{greatest, progress_len, moved_to}
+use Rattle.determinize_core.specs.States.{StateValue}
+use Rattle.determinize_core.specs.Steps.{unit_behind}
+use Rattle.lazy_dfa.specs.Caches.{CacheValue, HeldAt, greatest, progress_len, moved_to, lacks_room}
+use Rattle.lazy_dfa.specs.Courses.{state_behind}
+use Rattle.lazy_dfa.specs.Dfas.{Dfa, reader}
 use Rattle.lazy_dfa.specs.Linked.{passes_of}
-use Rattle.lazy_dfa.specs.Passes.{index_at, index_behind}
-use Rattle.lazy_dfa.specs.PassLaws.{pass_len}
-use Rattle.lazy_dfa.specs.Readers.{Reader}
-use Rattle.lazy_dfa.specs.SearchAnswers.{give_up_place, Told, told_behind, told_by}
+use Rattle.lazy_dfa.specs.Passes.{index_at, index_behind, first_value}
+use Rattle.lazy_dfa.specs.PassLaws.{pass_len, unit_of}
+use Rattle.lazy_dfa.specs.SearchAnswers.{give_up_place, Told, told_of, told_behind, told_by}
 
 -- ---- what is told
 
@@ -59,38 +62,50 @@ is_quit_error (UnsupportedAnchored mode) = false
 is_quit_error NotAPair = false
 is_quit_error NoMemory = false
 
--- a pass from place i may be refused so at its start: for the byte behind it, or the mode, or in want of room or memory
-abbrev pub IsRefusedFirst : Bool → ℕ → MatchErrorKind → Type 0
-IsRefusedFirst is_reverse i (Quit b x) = x ≡ index_behind is_reverse i
-IsRefusedFirst is_reverse i (GaveUp x) = x ≡ i
-IsRefusedFirst is_reverse i (HaystackTooLong len) = ⊥
-IsRefusedFirst is_reverse i (UnsupportedAnchored mode) = ⊤
-IsRefusedFirst is_reverse i NotAPair = ⊥
-IsRefusedFirst is_reverse i NoMemory = ⊤
+-- a row has this state
+abbrev pub HasRowOf : CacheValue → StateValue → Type 0
+HasRowOf v s = (id : ℕ) × HeldAt v id s
 
--- and one over n bytes at unit k
-abbrev pub IsRefusedAt : Bool → ℕ → ℕ → ℕ → MatchErrorKind → Type 0
-IsRefusedAt is_reverse n i k (Quit b x) = x ≡ index_at is_reverse (place_of is_reverse i k)
-IsRefusedAt is_reverse n i k (GaveUp x) = x ≡ give_up_place is_reverse n i k
-IsRefusedAt is_reverse n i k (HaystackTooLong len) = ⊥
-IsRefusedAt is_reverse n i k (UnsupportedAnchored mode) = ⊥
-IsRefusedAt is_reverse n i k NotAPair = ⊥
-IsRefusedAt is_reverse n i k NoMemory = ⊤
+-- The errors of a pass that fails at its start, at place i: the byte before it is a quit byte, the mode isn't supported, its first
+-- state has no room and no clear is allowed, or an allocation failed.
+abbrev pub IsRefusedFirst : Dfa → CacheValue → Anchored → List ℕ → ℕ → MatchErrorKind → Type 0
+IsRefusedFirst d v mode h i (Quit b x) =
+    (unit_behind d.nfa.automaton.reverse h i ≡ Some b) × (x ≡ index_behind d.nfa.automaton.reverse i)
+IsRefusedFirst d v mode h i (GaveUp x) = (x ≡ i) × (lacks_room d v (first_value (reader d) mode h i) ≡ true)
+IsRefusedFirst d v mode h i (HaystackTooLong len) = ⊥
+IsRefusedFirst d v mode h i (UnsupportedAnchored mode2) = ⊤
+IsRefusedFirst d v mode h i NotAPair = ⊥
+IsRefusedFirst d v mode h i NoMemory = ⊤
+
+-- The errors of a pass over n bytes from place i, in state s there, that fails at unit k: that is a quit byte, the state after it has
+-- no room and no clear is allowed while the state before it is held, or an allocation failed.
+abbrev pub IsRefusedAt : Dfa → CacheValue → List ℕ → StateValue → ℕ → ℕ → ℕ → MatchErrorKind → Type 0
+IsRefusedAt d v h s n i k (Quit b x) =
+    (unit_of (reader d) h i k ≡ Some b) × (x ≡ index_at d.nfa.automaton.reverse (place_of d.nfa.automaton.reverse i k))
+IsRefusedAt d v h s n i k (GaveUp x) = (x ≡ give_up_place d.nfa.automaton.reverse n i k) ×
+    HasRowOf v (state_behind (reader d) h i s k) × (lacks_room d v (state_behind (reader d) h i s (suc k)) ≡ true)
+IsRefusedAt d v h s n i k (HaystackTooLong len) = ⊥
+IsRefusedAt d v h s n i k (UnsupportedAnchored mode) = ⊥
+IsRefusedAt d v h s n i k NotAPair = ⊥
+IsRefusedAt d v h s n i k NoMemory = ⊤
 
 -- ---- what searches leave
 
--- a pass over so many bytes from a place is refused at its start, where it has told nothing, or at a unit that it reads
-pub data LeavesPass (r : Reader) (mode : Anchored) (earliest : Bool) (h : List ℕ) (p : ℕ ×
-    ℕ) (e : MatchErrorKind) (t new : Told) : Type 0 where
-  left_first : IsRefusedFirst r.automaton.reverse p.1 e → new ≡ t → LeavesPass r mode earliest h p e t new
-  left_at_unit : (k : ℕ) → k < pass_len r mode earliest h p.0 p.1 → IsRefusedAt r.automaton.reverse p.0 p.1 k e →
-      LeftAt r.automaton.reverse (is_quit_error e) p.0 p.1 k (told_from r.automaton.reverse p t) new →
-      LeavesPass r mode earliest h p e t new
+-- A pass over so many bytes from a place fails at its start, where it has reported nothing, or at a unit that it reads. A quit byte
+-- and a state without room say which: a pass that gives up at its start has no first state, and one that gives up at a unit holds the
+-- state before that. Running out of memory doesn't say it, so the progress is then that of the start or of any unit.
+pub data LeavesPass (d : Dfa) (mode : Anchored) (earliest : Bool) (h : List ℕ) (p : ℕ ×
+    ℕ) (e : MatchErrorKind) (t : Told) (new : CacheValue) : Type 0 where
+  left_first : IsRefusedFirst d new mode h p.1 e → told_of new ≡ t → LeavesPass d mode earliest h p e t new
+  left_at_unit : (k : ℕ) → k < pass_len (reader d) mode earliest h p.0 p.1 →
+      IsRefusedAt d new h (first_value (reader d) mode h p.1) p.0 p.1 k e →
+      LeftAt d.nfa.automaton.reverse (is_quit_error e) p.0 p.1 k (told_from d.nfa.automaton.reverse p t) (told_of new) →
+      LeavesPass d mode earliest h p e t new
 
 -- of the passes of a half search one is refused, and those before it have told all that they do
-pub record LeavesTold (r : Reader) (q : Search) (e : MatchErrorKind) (t new : Told) : Type 0 where
+pub record LeavesTold (d : Dfa) (q : Search) (e : MatchErrorKind) (t : Told) (new : CacheValue) : Type 0 where
   pub done : List (ℕ × ℕ)
   pub refused : ℕ × ℕ
   pub behind : List (ℕ × ℕ)
-  pub all : passes_of r q ≡ done ++ refused ∷ behind
-  pub left : LeavesPass r q.anchored q.earliest q.haystack refused e (told_by r q t done) new
+  pub all : passes_of (reader d) q ≡ done ++ refused ∷ behind
+  pub left : LeavesPass d q.anchored q.earliest q.haystack refused e (told_by (reader d) q t done) new

@@ -9,7 +9,6 @@ use Rattle.lazy_dfa.specs.AnewTold.{TellsAnew, FailsAnew, ToldSince, FailsSince}
 use Rattle.lazy_dfa.specs.Caches.{CacheValue}
 use Rattle.lazy_dfa.specs.Changes.{Changes, IsMadeIn, IsMadeBy}
 use Rattle.lazy_dfa.specs.Dfas.{Dfa, reader}
-use Rattle.lazy_dfa.specs.Readers.{Reader}
 use Rattle.lazy_dfa.specs.LeftTold.{LeavesPass, LeavesTold}
 use Rattle.lazy_dfa.specs.Linked.{IsLinkedPass, IsLinked, CacheGrows, HasCleared, GrowsOrClears, IsMoved, passes_of}
 use Rattle.lazy_dfa.specs.Passes.{pass}
@@ -24,22 +23,21 @@ abbrev pub span_len : Search → ℕ
 span_len q = q.end - q.start
 
 -- How far a pass came, by its answer: as it does where nothing is cleared, or by where its search began anew.
-abbrev pub IsPassTold : Reader → Anchored → Bool → List ℕ → ℕ × ℕ → Result (Option HalfFound) MatchErrorKind → CacheValue → CacheValue →
-    Type 0
-IsPassTold r mode earliest h p (Ok found) old new =
-    ((told_of new ≡ told_by_pass r mode earliest h (told_of old) p) × (new.clears ≡ old.clears)) ⊎
-    (HasCleared old new × TellsAnew r mode earliest h p (told_of new))
-IsPassTold r mode earliest h p (Err e) old new =
-    (LeavesPass r mode earliest h p e (told_of old) (told_of new) × (new.clears ≡ old.clears)) ⊎
-    (HasCleared old new × FailsAnew r mode earliest h p e (told_of new))
+abbrev pub IsPassTold : Dfa → Anchored → Bool → List ℕ → ℕ × ℕ → Result (Option HalfFound) MatchErrorKind → CacheValue → CacheValue → Type 0
+IsPassTold d mode earliest h p (Ok found) old new =
+    ((told_of new ≡ told_by_pass (reader d) mode earliest h (told_of old) p) × (new.clears ≡ old.clears)) ⊎
+    (HasCleared old new × TellsAnew (reader d) mode earliest h p (told_of new))
+IsPassTold d mode earliest h p (Err e) old new =
+    (LeavesPass d mode earliest h p e (told_of old) new × (new.clears ≡ old.clears)) ⊎
+    (HasCleared old new × FailsAnew d mode earliest h p e new)
 
 -- and a half search
-abbrev pub IsSearchTold : Reader → Search → Result (Option HalfFound) MatchErrorKind → CacheValue → CacheValue → Type 0
-IsSearchTold r q (Ok found) old new =
-    ((told_of new ≡ told_by r q (told_of old) (passes_of r q)) × (new.clears ≡ old.clears)) ⊎
-    (HasCleared old new × ToldSince r q (passes_of r q) (told_of new))
-IsSearchTold r q (Err e) old new =
-    (LeavesTold r q e (told_of old) (told_of new) × (new.clears ≡ old.clears)) ⊎ (HasCleared old new × FailsSince r q e (told_of new))
+abbrev pub IsSearchTold : Dfa → Search → Result (Option HalfFound) MatchErrorKind → CacheValue → CacheValue → Type 0
+IsSearchTold d q (Ok found) old new =
+    ((told_of new ≡ told_by (reader d) q (told_of old) (passes_of (reader d) q)) × (new.clears ≡ old.clears)) ⊎
+    (HasCleared old new × ToldSince (reader d) q (passes_of (reader d) q) (told_of new))
+IsSearchTold d q (Err e) old new =
+    (LeavesTold d q e (told_of old) new × (new.clears ≡ old.clears)) ⊎ (HasCleared old new × FailsSince d q e new)
 
 -- one pass of a search over its whole span
 pub record MakesPass (d : Dfa) (q : Search) (old new : CacheValue) (m1 m2 n1 n2 : ℕ)
@@ -57,7 +55,7 @@ pub record MakesPass (d : Dfa) (q : Search) (old new : CacheValue) (m1 m2 n1 n2 
       (begins_at (reader d) q)))
   pub determinized : m2 ≤ m1 + suc (pass_len (reader d) q.anchored q.earliest q.haystack (span_len q) (begins_at (reader d) q))
   pub inserted : n2 ≤ n1 + suc (pass_len (reader d) q.anchored q.earliest q.haystack (span_len q) (begins_at (reader d) q)) * most_inserts d
-  pub anew : IsPassTold (reader d) q.anchored q.earliest q.haystack (span_len q, begins_at (reader d) q) result old new
+  pub anew : IsPassTold d q.anchored q.earliest q.haystack (span_len q, begins_at (reader d) q) result old new
   pub changes : Changes d (IsMadeIn d q.anchored q.earliest q.haystack (span_len q, begins_at (reader d) q)) old new
       (suc (pass_len (reader d) q.anchored q.earliest q.haystack (span_len q) (begins_at (reader d) q)))
 
@@ -71,5 +69,5 @@ pub record MakesSearch (d : Dfa) (q : Search) (old new : CacheValue) (m1 m2 n1 n
   pub free : IsLinked d old q → IsMoved old new × (m2 ≡ m1) × (n2 ≡ n1) × (result ≡ told (scan (reader d) q))
   pub determinized : m2 ≤ m1 + made_by (reader d) q (passes_of (reader d) q)
   pub inserted : n2 ≤ n1 + made_by (reader d) q (passes_of (reader d) q) * most_inserts d
-  pub anew : IsSearchTold (reader d) q result old new
+  pub anew : IsSearchTold d q result old new
   pub changes : Changes d (IsMadeBy d q) old new (made_by (reader d) q (passes_of (reader d) q))

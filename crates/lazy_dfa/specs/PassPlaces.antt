@@ -166,7 +166,8 @@ TurnsTo d q from new m n (Err (Quit b x)) = Leaves d q.haystack from new m n 0 �
 TurnsTo d q from new m n (Err (GaveUp x)) = FailsOn d q.haystack from new m n 0 ×
     (is_quit d.quits (unit_at d.nfa.automaton.reverse q.haystack from.at) ≡ false) × (x ≡ gave_up_at d.nfa.automaton.reverse q from.at) ×
     ((s : StateValue) → HeldAt from.cache from.id s → lacks_room d new (state_behind (reader d) q.haystack from.at s 1) ≡ true) ×
-    (from.at ≢ last_place d.nfa.automaton.reverse q → running_at new.progress ≡ Some x) × TellsTurn d false false q from.at from.cache new
+    (from.at ≢ last_place d.nfa.automaton.reverse q → running_at new.progress ≡ Some x) × TellsTurn d false false q from.at from.cache new ×
+    IsMoved from.cache new
 TurnsTo d q from new m n (Err NoMemory) = FailsOn d q.haystack from new m n 0 × TellsTurn d false false q from.at from.cache new
 TurnsTo d q from new m n (Err (HaystackTooLong len)) = ⊥
 TurnsTo d q from new m n (Err (UnsupportedAnchored mode)) = ⊥
@@ -195,7 +196,7 @@ IsRestTold d q s i (Ok found) old new =
     (units_read (reader d) q.earliest q.haystack (suc (span_len q)) i s) (told_of new))
 IsRestTold d q s i (Err e) old new =
     (k : ℕ) × (k < units_read (reader d) q.earliest q.haystack (suc (span_len q)) i s) ×
-    IsRefusedAt d.nfa.automaton.reverse (span_len q) i k e ×
+    IsRefusedAt d new q.haystack s (span_len q) i k e ×
     ((LeftAt d.nfa.automaton.reverse (is_quit_error e) (span_len q) i k (told_of old) (told_of new) × (new.clears ≡ old.clears)) ⊎
     (HasCleared old new × RestFails d.nfa.automaton.reverse (is_quit_error e) q i k (told_of new)))
 

@@ -27,12 +27,13 @@ pub record TellsHalf (d : Dfa) (q : Search) (old new : CacheValue) (result : Res
   -- where it answers and nothing was cleared, all that its passes tell
   pub told : OnOk result (new.clears ≡ old.clears → old.clears < greatest →
       told_of new ≡ told_by (reader d) q (told_of old) (passes_of (reader d) q))
-  -- where it is refused, what they tell up to there
+  -- where it fails, what they report up to there, and out of memory up to a start or to some unit
   pub left_told : IfErr result (λ e. new.clears ≡ old.clears → old.clears < greatest →
-      LeavesTold (reader d) q e (told_of old) (told_of new))
+      LeavesTold d q e (told_of old) new)
   -- where something was, what counts since the last clear
-  pub told_since : (new.clears ≡ old.clears → ⊥) → IsToldSince (reader d) q result (told_of new)
-  -- its states are added one by one, and the cache is cleared for one of these alone
+  pub told_since : (new.clears ≡ old.clears → ⊥) → IsToldSince d q result new
+  -- its states are added one by one, and the cache is cleared for one of these alone: then it keeps at most the state from which the
+  -- step to that one started
   pub changes : Changes d (IsMadeBy d q) old new (half_made (reader d) q)
 
 -- All of it. The numbers say how many states were made, and how many names were put into sets for them, before and after.

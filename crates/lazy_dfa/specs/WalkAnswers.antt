@@ -12,9 +12,10 @@ use Rattle.search_types.specs.Places.{counts}
 use Rattle.nfa_core.specs.Places.{first}
 use Rattle.nfa_core.specs.Ways.{place_of}
 use Rattle.determinize_core.specs.States.{StateValue}
+use Rattle.determinize_core.specs.Steps.{unit_at}
 use Rattle.lazy_dfa.specs.AnewTold.{IsFresh}
 use Rattle.lazy_dfa.specs.Caches.{CacheValue, greatest, distance, progress_len, lacks_room}
-use Rattle.lazy_dfa.specs.LeftTold.{is_quit_error, IsRefusedFirst}
+use Rattle.lazy_dfa.specs.LeftTold.{is_quit_error, HasRowOf, IsRefusedFirst}
 use Rattle.lazy_dfa.specs.Changes.{Changes, IsMadeAt, IsMadeFirst}
 use Rattle.lazy_dfa.specs.declared.overlapping_state.Stop.{Stop}
 use Rattle.lazy_dfa.specs.declared.overlapping_state.Walk.{Walk}
@@ -198,25 +199,37 @@ ends_there is_reverse quits q at = quits || at == last_place is_reverse q
 abbrev pub walk_left : Bool → Bool → Search → ℕ → ℕ → ℕ → ℕ → Told
 walk_left is_reverse quits q at before m k = walk_told (ends_there is_reverse quits q (place_of is_reverse at k)) is_reverse q at before m k
 
--- a call may be refused so at the unit at a place
-abbrev pub IsRefusedThere : Bool → Search → ℕ → MatchErrorKind → Type 0
-IsRefusedThere is_reverse q at (Quit b x) = x ≡ index_at is_reverse at
-IsRefusedThere is_reverse q at (GaveUp x) = x ≡ gave_up_at is_reverse q at
-IsRefusedThere is_reverse q at (HaystackTooLong len) = ⊥
-IsRefusedThere is_reverse q at (UnsupportedAnchored mode) = ⊥
-IsRefusedThere is_reverse q at NotAPair = ⊥
-IsRefusedThere is_reverse q at NoMemory = ⊤
+-- the state before the unit at a place of the span, where all units before it are read
+abbrev pub value_before : Reader → Search → ℕ → StateValue
+value_before r q at =
+    state_behind r q.haystack (begins_at r q) (first_value r q.anchored q.haystack (begins_at r q)) (came r.automaton.reverse q at)
 
--- What a call has told that is refused, where nothing was cleared: nothing where the walk had failed, or is refused at its start.
--- Else it was at a unit that it reads, behind units that aren't quit bytes.
-pub data LeavesCall (r : Reader) (q : Search) (w : Walk) (e : MatchErrorKind) (t new : Told) : Type 0 where
-  left_failed : w ≡ Failed e → new ≡ t → LeavesCall r q w e t new
-  left_at_start : w ≡ Fresh → IsRefusedFirst r.automaton.reverse (begins_at r q) e → new ≡ t → LeavesCall r q w e t new
-  left_at_unit : (k : ℕ) → k < call_units r q w →
-      IsRefusedThere r.automaton.reverse q (place_of r.automaton.reverse (call_place r q w) k) e →
-      HasNoQuit r q.haystack (call_place r q w) k →
-      new ≡ walk_left r.automaton.reverse (is_quit_error e) q (call_place r q w) (min (t.searched + progress_len t.progress) greatest) 0 k →
-      LeavesCall r q w e t new
+-- The errors of a call that fails at the unit at a place: that is a quit byte, the state after it has no room and no clear is allowed
+-- while the state before it is held, or an allocation failed.
+abbrev pub IsRefusedThere : Dfa → CacheValue → Search → ℕ → MatchErrorKind → Type 0
+IsRefusedThere d v q at (Quit b x) =
+    (unit_at d.nfa.automaton.reverse q.haystack at ≡ Some b) × (x ≡ index_at d.nfa.automaton.reverse at)
+IsRefusedThere d v q at (GaveUp x) = (x ≡ gave_up_at d.nfa.automaton.reverse q at) ×
+    HasRowOf v (value_before (reader d) q at) × (lacks_room d v (value_past (reader d) q at) ≡ true)
+IsRefusedThere d v q at (HaystackTooLong len) = ⊥
+IsRefusedThere d v q at (UnsupportedAnchored mode) = ⊥
+IsRefusedThere d v q at NotAPair = ⊥
+IsRefusedThere d v q at NoMemory = ⊤
+
+-- What a failed call has reported where nothing was cleared: nothing where the walk had failed before, or fails at its start. Else it
+-- fails at a unit that it reads, after units that aren't quit bytes. A quit byte and a state without room say which: a walk that gives
+-- up at its start has no first state, and one that gives up at a unit holds the state before that. Running out of memory doesn't say
+-- it, so the progress is then that of the start or of any unit.
+pub data LeavesCall (d : Dfa) (q : Search) (w : Walk) (e : MatchErrorKind) (t : Told) (new : CacheValue) : Type 0 where
+  left_failed : w ≡ Failed e → told_of new ≡ t → LeavesCall d q w e t new
+  left_at_start : w ≡ Fresh → IsRefusedFirst d new q.anchored q.haystack (begins_at (reader d) q) e → told_of new ≡ t →
+      LeavesCall d q w e t new
+  left_at_unit : (k : ℕ) → k < call_units (reader d) q w →
+      IsRefusedThere d new q (place_of d.nfa.automaton.reverse (call_place (reader d) q w) k) e →
+      HasNoQuit (reader d) q.haystack (call_place (reader d) q w) k →
+      told_of new ≡ walk_left d.nfa.automaton.reverse (is_quit_error e) q (call_place (reader d) q w)
+      (min (t.searched + progress_len t.progress) greatest) 0 k →
+      LeavesCall d q w e t new
 
 -- What one tells in which the cache was cleared last: with the walk's start, or at unit m, from which on the way counts.
 pub data TellsCallAnew (r : Reader) (q : Search) (w : Walk) (new : Told) : Type 0 where
@@ -224,35 +237,30 @@ pub data TellsCallAnew (r : Reader) (q : Search) (w : Walk) (new : Told) : Type 
   anew_at : (m : ℕ) → m < call_units r q w → new ≡ walk_over r.automaton.reverse q (call_place r q w) 0 m (call_units r q w - 1) →
       TellsCallAnew r q w new
 
--- the same of one that is refused
-pub data FailsCallAnew (r : Reader) (q : Search) (w : Walk) (e : MatchErrorKind) (new : Told) : Type 0 where
-  fails_behind_start : w ≡ Fresh → (s : Told) → IsFresh s → LeavesCall r q w e s new → FailsCallAnew r q w e new
-  fails_behind : (m k : ℕ) → m ≤ k → k < call_units r q w →
-      IsRefusedThere r.automaton.reverse q (place_of r.automaton.reverse (call_place r q w) k) e →
-      HasNoQuit r q.haystack (call_place r q w) k →
-      new ≡ walk_left r.automaton.reverse (is_quit_error e) q (call_place r q w) 0 m k →
-      FailsCallAnew r q w e new
+-- and one that fails
+pub data FailsCallAnew (d : Dfa) (q : Search) (w : Walk) (e : MatchErrorKind) (new : CacheValue) : Type 0 where
+  fails_behind_start : w ≡ Fresh → (s : Told) → IsFresh s → LeavesCall d q w e s new → FailsCallAnew d q w e new
+  fails_behind : (m k : ℕ) → m ≤ k → k < call_units (reader d) q w →
+      IsRefusedThere d new q (place_of d.nfa.automaton.reverse (call_place (reader d) q w) k) e →
+      HasNoQuit (reader d) q.haystack (call_place (reader d) q w) k →
+      told_of new ≡ walk_left d.nfa.automaton.reverse (is_quit_error e) q (call_place (reader d) q w) 0 m k →
+      FailsCallAnew d q w e new
 
 -- both answers
-abbrev pub IsCallToldSince : Reader → Search → Walk → Result ⊤ MatchErrorKind → Told → Type 0
-IsCallToldSince r q w (Ok u) new = TellsCallAnew r q w new
-IsCallToldSince r q w (Err e) new = FailsCallAnew r q w e new
+abbrev pub IsCallToldSince : Dfa → Search → Walk → Result ⊤ MatchErrorKind → CacheValue → Type 0
+IsCallToldSince d q w (Ok u) new = TellsCallAnew (reader d) q w (told_of new)
+IsCallToldSince d q w (Err e) new = FailsCallAnew d q w e new
 
 -- How far a call came, by its answer: as it does where nothing is cleared, or by where the cache was cleared.
-abbrev pub IsCallTold : Reader → Search → Walk → Result ⊤ MatchErrorKind → CacheValue → CacheValue → Type 0
-IsCallTold r q w (Ok u) old new =
-    ((told_of new ≡ told_by_call r q w (told_of old)) × (new.clears ≡ old.clears)) ⊎
-    (HasCleared old new × TellsCallAnew r q w (told_of new))
-IsCallTold r q w (Err e) old new =
-    (LeavesCall r q w e (told_of old) (told_of new) × (new.clears ≡ old.clears)) ⊎
-    (HasCleared old new × FailsCallAnew r q w e (told_of new))
+abbrev pub IsCallTold : Dfa → Search → Walk → Result ⊤ MatchErrorKind → CacheValue → CacheValue → Type 0
+IsCallTold d q w (Ok u) old new =
+    ((told_of new ≡ told_by_call (reader d) q w (told_of old)) × (new.clears ≡ old.clears)) ⊎
+    (HasCleared old new × TellsCallAnew (reader d) q w (told_of new))
+IsCallTold d q w (Err e) old new =
+    (LeavesCall d q w e (told_of old) new × (new.clears ≡ old.clears)) ⊎
+    (HasCleared old new × FailsCallAnew d q w e new)
 
 -- ---- reading on
-
--- the state before the unit at a place of the span, where all units before it are read
-abbrev pub value_before : Reader → Search → ℕ → StateValue
-value_before r q at =
-    state_behind r q.haystack (begins_at r q) (first_value r q.anchored q.haystack (begins_at r q)) (came r.automaton.reverse q at)
 
 -- what is left of a walk that is to read this unit
 abbrev pub rest_at : Reader → Search → ℕ → Rest
@@ -271,17 +279,17 @@ told_by_reading r q at t = record {
 }
 
 -- how far reading on came, by its answer
-abbrev pub IsReadTold : Reader → Search → ℕ → Result WalkState MatchErrorKind → CacheValue → CacheValue → Type 0
-IsReadTold r q at (Ok w) old new =
-    ((told_of new ≡ told_by_reading r q at (told_of old)) × (new.clears ≡ old.clears)) ⊎
-    (HasCleared old new × ((m : ℕ) × (m < units_at r q at) ×
-    (told_of new ≡ walk_over r.automaton.reverse q at 0 m (units_at r q at - 1))))
-IsReadTold r q at (Err e) old new =
-    (k : ℕ) × (k < units_at r q at) × IsRefusedThere r.automaton.reverse q (place_of r.automaton.reverse at k) e ×
-    HasNoQuit r q.haystack at k ×
-    (((told_of new ≡ walk_left r.automaton.reverse (is_quit_error e) q at (min (old.searched + progress_len old.progress) greatest) 0 k) ×
+abbrev pub IsReadTold : Dfa → Search → ℕ → Result WalkState MatchErrorKind → CacheValue → CacheValue → Type 0
+IsReadTold d q at (Ok w) old new =
+    ((told_of new ≡ told_by_reading (reader d) q at (told_of old)) × (new.clears ≡ old.clears)) ⊎
+    (HasCleared old new × ((m : ℕ) × (m < units_at (reader d) q at) ×
+    (told_of new ≡ walk_over d.nfa.automaton.reverse q at 0 m (units_at (reader d) q at - 1))))
+IsReadTold d q at (Err e) old new =
+    (k : ℕ) × (k < units_at (reader d) q at) × IsRefusedThere d new q (place_of d.nfa.automaton.reverse at k) e ×
+    HasNoQuit (reader d) q.haystack at k ×
+    (((told_of new ≡ walk_left d.nfa.automaton.reverse (is_quit_error e) q at (min (old.searched + progress_len old.progress) greatest) 0 k) ×
     (new.clears ≡ old.clears)) ⊎
-    (HasCleared old new × ((m : ℕ) × (m ≤ k) × (told_of new ≡ walk_left r.automaton.reverse (is_quit_error e) q at 0 m k))))
+    (HasCleared old new × ((m : ℕ) × (m ≤ k) × (told_of new ≡ walk_left d.nfa.automaton.reverse (is_quit_error e) q at 0 m k))))
 
 -- a unit that is read from there lacks a state
 pub record GivesUpFrom (d : Dfa) (v : CacheValue) (q : Search) (at x : ℕ) : Type 0 where
@@ -309,27 +317,30 @@ pub record ReadsOn (d : Dfa) (q : Search) (at : ℕ) (old new : CacheValue) (m1 
   pub quits : IfOk result (λ w. StartsQuietly d q (came d.nfa.automaton.reverse q at) → HasReadQuietly d q w.walk)
   pub changes : Changes d (IsMadeAt (reader d) q.haystack at (value_before (reader d) q at) (units_at (reader d) q at)) old new
       (units_at (reader d) q at)
-  pub anew : IsReadTold (reader d) q at result old new
+  pub anew : IsReadTold d q at result old new
 
 -- ---- what calls change
 
 -- the state in which a fresh walk starts
-pub record IsWalkStart (d : Dfa) (q : Search) (w : Walk) (b : Bool) (s : StateValue) : Type 0 where
+pub record IsWalkStart (d : Dfa) (q : Search) (w : Walk) (b : Bool) (o : Option StateValue) (s : StateValue) : Type 0 where
   pub fresh : w ≡ Fresh
-  pub first : IsMadeFirst d q.anchored q.haystack (begins_at (reader d) q) b s
+  pub first : IsMadeFirst d q.anchored q.haystack (begins_at (reader d) q) b o s
 
 -- a state of a call: that one, or one behind a unit that the call reads
-abbrev pub IsMadeOnCall : Dfa → Search → Walk → Bool → StateValue → Type 0
-IsMadeOnCall d q w b s =
-    IsWalkStart d q w b s ⊎
+abbrev pub IsMadeOnCall : Dfa → Search → Walk → Bool → Option StateValue → StateValue → Type 0
+IsMadeOnCall d q w b o s =
+    IsWalkStart d q w b o s ⊎
     IsMadeAt (reader d) q.haystack (call_place (reader d) q w) (value_before (reader d) q (call_place (reader d) q w))
-    (call_units (reader d) q w) b s
+    (call_units (reader d) q w) b o s
 
 -- a state of a walk over a whole span: its first one, or one behind a unit of the span
-abbrev pub IsMadeOnWalk : Dfa → Search → Bool → StateValue → Type 0
-IsMadeOnWalk d q b s =
-    IsMadeFirst d q.anchored q.haystack (begins_at (reader d) q) b s ⊎
-    ((b ≡ false) × ((k : ℕ) × (k ≤ span_len q) × (s ≡ state_behind (reader d) q.haystack (begins_at (reader d) q)
+abbrev pub IsMadeOnWalk : Dfa → Search → Bool → Option StateValue → StateValue → Type 0
+IsMadeOnWalk d q b o s =
+    IsMadeFirst d q.anchored q.haystack (begins_at (reader d) q) b o s ⊎
+    ((b ≡ false) × ((k : ℕ) × (k ≤ span_len q) ×
+    (o ≡ Some (state_behind (reader d) q.haystack (begins_at (reader d) q)
+    (first_value (reader d) q.anchored q.haystack (begins_at (reader d) q)) k)) ×
+    (s ≡ state_behind (reader d) q.haystack (begins_at (reader d) q)
     (first_value (reader d) q.anchored q.haystack (begins_at (reader d) q)) (suc k))))
 
 -- ---- calls
@@ -349,7 +360,7 @@ pub record MakesCall (d : Dfa) (q : Search) (old new : CacheValue) (m1 m2 n1 n2 
   pub inserted : n2 ≤ n1 + call_made (reader d) q w * most_inserts d
   pub quits : HasReadQuietly d q w → HasReadQuietly d q after.walk
   pub changes : Changes d (IsMadeOnCall d q w) old new (call_made (reader d) q w)
-  pub anew : IsCallTold (reader d) q w result old new
+  pub anew : IsCallTold d q w result old new
 
 -- ---- which patterns
 
@@ -414,9 +425,10 @@ pub data ToldAnew (r : Reader) (q : Search) : ℕ → Told → Type 0 where
       ToldAnew r q (suc k) new
 
 -- the same of a walk whose call behind k others is refused
-pub data LeftAnew (r : Reader) (q : Search) (e : MatchErrorKind) (k : ℕ) (new : Told) : Type 0 where
-  left_last : FailsCallAnew r q (walk_after r q k) e new → LeftAnew r q e k new
-  left_before : (before : Told) → ToldAnew r q k before → LeavesCall r q (walk_after r q k) e before new → LeftAnew r q e k new
+pub data LeftAnew (d : Dfa) (q : Search) (e : MatchErrorKind) (k : ℕ) (new : CacheValue) : Type 0 where
+  left_last : FailsCallAnew d q (walk_after (reader d) q k) e new → LeftAnew d q e k new
+  left_before : (before : Told) → ToldAnew (reader d) q k before → LeavesCall d q (walk_after (reader d) q k) e before new →
+      LeftAnew d q e k new
 
 -- what it has told with its first k calls
 abbrev pub IsToldAfter : Reader → Search → ℕ → CacheValue → CacheValue → Type 0
@@ -424,17 +436,18 @@ IsToldAfter r q k old new =
     ((told_of new ≡ told_after r q (told_of old) k) × (new.clears ≡ old.clears)) ⊎ (HasCleared old new × ToldAnew r q k (told_of new))
 
 -- and with the refused one behind these
-abbrev pub IsLeftAfter : Reader → Search → MatchErrorKind → ℕ → CacheValue → CacheValue → Type 0
-IsLeftAfter r q e k old new =
-    (LeavesCall r q (walk_after r q k) e (told_after r q (told_of old) k) (told_of new) × (new.clears ≡ old.clears)) ⊎
-    (HasCleared old new × LeftAnew r q e k (told_of new))
+abbrev pub IsLeftAfter : Dfa → Search → MatchErrorKind → ℕ → CacheValue → CacheValue → Type 0
+IsLeftAfter d q e k old new =
+    (LeavesCall d q (walk_after (reader d) q k) e (told_after (reader d) q (told_of old) k) new × (new.clears ≡ old.clears)) ⊎
+    (HasCleared old new × LeftAnew d q e k new)
 
 -- How far a walk over a whole span came, by its answer: through all calls that it makes, or up to the refused one behind k others,
 -- whose ends were added.
-abbrev pub IsWhichTold : Reader → Search → List Bool → List Bool → Result ⊤ MatchErrorKind → CacheValue → CacheValue → Type 0
-IsWhichTold r q set after (Ok u) old new = IsToldAfter r q (calls_for q.earliest set (whole_rest r q).ends) old new
-IsWhichTold r q set after (Err e) old new =
-    (k : ℕ) × (k ≤ length (whole_rest r q).ends) × (after ≡ with_ends set (take k (whole_rest r q).ends)) × IsLeftAfter r q e k old new
+abbrev pub IsWhichTold : Dfa → Search → List Bool → List Bool → Result ⊤ MatchErrorKind → CacheValue → CacheValue → Type 0
+IsWhichTold d q set after (Ok u) old new = IsToldAfter (reader d) q (calls_for q.earliest set (whole_rest (reader d) q).ends) old new
+IsWhichTold d q set after (Err e) old new =
+    (k : ℕ) × (k ≤ length (whole_rest (reader d) q).ends) × (after ≡ with_ends set (take k (whole_rest (reader d) q).ends)) ×
+    IsLeftAfter d q e k old new
 
 -- it makes so many states at most: one for its start, and one for each unit of one pass
 abbrev pub which_made : Reader → Search → ℕ
@@ -448,4 +461,4 @@ pub record MakesWhich (d : Dfa) (q : Search) (old new : CacheValue) (m1 m2 n1 n2
   pub determinized : m2 ≤ m1 + which_made (reader d) q
   pub inserted : n2 ≤ n1 + which_made (reader d) q * most_inserts d
   pub changes : Changes d (IsMadeOnWalk d q) old new (which_made (reader d) q)
-  pub told : IsWhichTold (reader d) q set after result old new
+  pub told : IsWhichTold d q set after result old new

@@ -21,12 +21,13 @@ pub record TellsCall (d : Dfa) (q : Search) (w : Walk) (old new : CacheValue) (r
   -- where it answers and nothing was cleared, its whole way
   pub told : OnOk result (new.clears ≡ old.clears → old.clears < greatest →
       told_of new ≡ told_by_call (reader d) q w (told_of old))
-  -- where it is refused, its way up to there
+  -- where it fails, its way up to there, and out of memory up to its start or to some unit
   pub left_told : IfErr result (λ e. new.clears ≡ old.clears → old.clears < greatest →
-      LeavesCall (reader d) q w e (told_of old) (told_of new))
+      LeavesCall d q w e (told_of old) new)
   -- where something was, what counts since the last clear
-  pub told_since : (new.clears ≡ old.clears → ⊥) → IsCallToldSince (reader d) q w result (told_of new)
-  -- its states are added one by one, and the cache is cleared for one of these alone
+  pub told_since : (new.clears ≡ old.clears → ⊥) → IsCallToldSince d q w result new
+  -- its states are added one by one, and the cache is cleared for one of these alone: then it keeps at most the state from which the
+  -- step to that one started
   pub changes : Changes d (IsMadeOnCall d q w) old new (call_made (reader d) q w)
 
 -- All of it, from one state of the walk to the next. The numbers say how many states were made, and how many names were put into

@@ -23,7 +23,7 @@ use Rattle.lazy_dfa.specs.declared.turns.Turn.TheVariants.{GoesOn, Ends, Quits}
 use Rattle.lazy_dfa.specs.declared.walk_reads.Read.{Read}
 use Rattle.lazy_dfa.specs.Dfas.{Dfa, reader}
 use Rattle.lazy_dfa.specs.LeftTold.{told_at, told_finished}
-use Rattle.lazy_dfa.specs.Linked.{HasCleared}
+use Rattle.lazy_dfa.specs.Linked.{HasCleared, IsMoved}
 use Rattle.lazy_dfa.specs.Passes.{index_at, is_empty, is_dead}
 use Rattle.lazy_dfa.specs.Points.{Point}
 use Rattle.lazy_dfa.specs.Readers.{Reader, is_quit}
@@ -82,7 +82,7 @@ RefusesUnit d q from new m n (GaveUp x) = FailsOn d q.haystack from new m n 0 ×
     (is_quit d.quits (unit_at d.nfa.automaton.reverse q.haystack from.at) ≡ false) × (x ≡ gave_up_at d.nfa.automaton.reverse q from.at) ×
     ((s : StateValue) → HeldAt from.cache from.id s → lacks_room d new (state_behind (reader d) q.haystack from.at s 1) ≡ true) ×
     (from.at ≢ last_place d.nfa.automaton.reverse q → running_at new.progress ≡ Some x) ×
-    TellsUnit d (from.at == last_place d.nfa.automaton.reverse q) q from.at from.cache new
+    TellsUnit d (from.at == last_place d.nfa.automaton.reverse q) q from.at from.cache new × IsMoved from.cache new
 RefusesUnit d q from new m n NoMemory = FailsOn d q.haystack from new m n 0 ×
     TellsUnit d (from.at == last_place d.nfa.automaton.reverse q) q from.at from.cache new
 RefusesUnit d q from new m n (HaystackTooLong len) = ⊥

@@ -11,7 +11,7 @@
 ghost use Rattle.std.specs.Prelude.{◌≡◌, ◌+◌, ◌<◌, ◌≤◌, ℕ};
 ghost use Rattle.search_types.specs.Inputs.{Search};
 ghost use Rattle.lazy_dfa.specs.Caches.{CacheValue, IsCacheOf, greatest};
-ghost use Rattle.lazy_dfa.specs.Changes.{Changes, IsMadeBy, HasRoomFor, IsSpent, FirstClear, AddsFew};
+ghost use Rattle.lazy_dfa.specs.Changes.{Changes, IsMadeBy, HasRoomFor, IsSpent, FirstClear, AddsFew, LastClear};
 ghost use Rattle.lazy_dfa.specs.Dfas.{Dfa, IsDfa};
 ghost use Rattle.lazy_dfa.specs.WalkAnswers.{IsMadeOnCall, IsMadeOnWalk};
 ghost use Rattle.lazy_dfa.specs.declared.overlapping_state.Walk.{Walk};
@@ -40,9 +40,17 @@ pub fn searches_add_states_on_their_way()
         Changes d (IsMadeBy d q) old new n → FirstClear d (IsMadeBy d q) old }
 {}
 
+/// If a half search cleared its cache, the last clear left at most one state: that from which the clearing step started. A clear for a
+/// start left none. All else that is held after the search was made since.
+pub fn searches_keep_the_state_that_they_clear_from()
+    ensures { (d : Dfa) (q : Search) (old new : CacheValue) (n : ℕ) → (new.clears ≡ old.clears → ⊥) → Changes d (IsMadeBy d q) old new n →
+        LastClear d (IsMadeBy d q) new n }
+{}
+
 /// A call of a walk clears its cache at most once for each state that it makes, and never where there is room for all of these or the
 /// clears that are allowed are spent. Where the count of clears is as before and hasn't stopped, it added states on its way alone;
-/// where it isn't, the first clear was for a state on its way that wasn't held and had no room.
+/// where it isn't, the first clear was for a state on its way that wasn't held and had no room, and the last one left at most the state
+/// from which its step started.
 pub fn calls_clear_for_states_alone()
     ensures count { (d : Dfa) (q : Search) (w : Walk) (old new : CacheValue) (n : ℕ) → Changes d (IsMadeOnCall d q w) old new n →
         old.clears ≤ greatest →
@@ -56,11 +64,14 @@ pub fn calls_clear_for_states_alone()
     ensures cleared { (d : Dfa) (q : Search) (w : Walk) (old new : CacheValue) (n : ℕ) → IsDfa d → IsCacheOf d old →
         (new.clears ≡ old.clears → ⊥) →
         Changes d (IsMadeOnCall d q w) old new n → FirstClear d (IsMadeOnCall d q w) old }
+    ensures left { (d : Dfa) (q : Search) (w : Walk) (old new : CacheValue) (n : ℕ) → (new.clears ≡ old.clears → ⊥) →
+        Changes d (IsMadeOnCall d q w) old new n → LastClear d (IsMadeOnCall d q w) new n }
 {}
 
 /// A walk over a whole span, as that which tells which patterns match, clears its cache at most once for each state that it makes, and
 /// never where there is room for all of these or the clears that are allowed are spent. Where the count of clears is as before and hasn't
-/// stopped, it added states on its way alone; where it isn't, the first clear was for a state on its way that wasn't held and had no room.
+/// stopped, it added states on its way alone; where it isn't, the first clear was for a state on its way that wasn't held and had no room,
+/// and the last one left at most the state from which its step started.
 pub fn walks_clear_for_states_alone()
     ensures count { (d : Dfa) (q : Search) (old new : CacheValue) (n : ℕ) → Changes d (IsMadeOnWalk d q) old new n → old.clears ≤ greatest →
         (old.clears ≤ new.clears) × (new.clears ≤ old.clears + n) }
@@ -72,4 +83,6 @@ pub fn walks_clear_for_states_alone()
         old.clears < greatest → Changes d (IsMadeOnWalk d q) old new n → AddsFew d (IsMadeOnWalk d q) old new n }
     ensures cleared { (d : Dfa) (q : Search) (old new : CacheValue) (n : ℕ) → IsDfa d → IsCacheOf d old → (new.clears ≡ old.clears → ⊥) →
         Changes d (IsMadeOnWalk d q) old new n → FirstClear d (IsMadeOnWalk d q) old }
+    ensures left { (d : Dfa) (q : Search) (old new : CacheValue) (n : ℕ) → (new.clears ≡ old.clears → ⊥) →
+        Changes d (IsMadeOnWalk d q) old new n → LastClear d (IsMadeOnWalk d q) new n }
 {}

@@ -13,7 +13,7 @@
 //!
 //! Options are in `ConfigValue.antt`, an automaton in `Dfas.antt`, a cache and how it belongs to its automaton in
 //! `Caches.antt`, steps in `Steps.antt`, starts in `StartCalls.antt`, those of searches over an input in
-//! `SearchStarts.antt`. What is built of an NFA, and why it is refused, is in `Building.antt`.
+//! `SearchStarts.antt`. What a search reports that gives up is in `LeftTold.antt`, with laws in [`room_laws`]. What is built of an NFA, and why it is refused, is in `Building.antt`.
 //! ```rust
 //! pub fn was_never_cleared(cache: &Cache) -> bool {
 //!     cache.clear_count() == 0
@@ -55,6 +55,7 @@ mod progress;
 pub mod quit_laws;
 mod quits;
 pub mod reach_laws;
+pub mod room_laws;
 mod runs;
 pub mod scan_laws;
 mod search_starts;

@@ -149,7 +149,10 @@ impl DFA {
     /// and where memory lacks. A refused walk has failed: it answers the same refusal for good. The cache is of use after that.
     ///
     /// It adds no states but those on its way, and clears the cache only where one of these isn't held and has no room
-    /// ([`change_laws`](crate::change_laws)).
+    /// ([`change_laws`](crate::change_laws)). A clear keeps at most the state from which the clearing step started.
+    ///
+    /// If nothing was cleared, the cache knows exactly how far a call came that answers, quits or gives up. A walk that fails at its
+    /// start reports nothing. Running out of memory has no offset: the progress is then that of a failed start or of some unit.
     pub fn try_search_overlapping_fwd<L: Ledger, M: Ledger>(
         &self,
         cache: &mut Cache,

@@ -134,15 +134,17 @@ impl DFA {
     /// allowed, at the place of the byte to be read, or memory lacked. The cache is of use after that too.
     ///
     /// It adds no states but those on its way, at most one for each pass and each unit, and clears the cache only where one of
-    /// these isn't held and has no room: [`change_laws`](crate::change_laws) say when that is never.
+    /// these isn't held and has no room: [`change_laws`](crate::change_laws) say when that is never. A clear keeps at most the
+    /// state from which the clearing step started, and none where a start clears the cache.
     ///
     /// Where no quit byte stands in or beside the span, no least count of clears is set and the mode is supported, it
     /// answers, if memory suffices. Where the cache isn't cleared on the way, all steps of the search are known afterwards,
     /// and a search whose steps are known makes no states and takes no memory.
     ///
-    /// Where nothing was cleared, the cache knows how far the search came, after a refusal too. At a quit byte of the span it
-    /// has ended. Where it gave up at a byte, or memory lacked, it still goes on and is at that byte; a pass that can't start
-    /// tells nothing. At the unit behind the span a search forward still goes on, and one in reverse ended at the span's start.
+    /// If nothing was cleared, the cache knows exactly how far the search came, after an error too. At a quit byte of the span the
+    /// search has ended. Where it gave up at a byte, it still goes on and is at that byte. A pass that fails at its start reports
+    /// nothing. At the unit after the span a search forward still goes on, and one in reverse ended at the span's start. Running
+    /// out of memory has no offset, so the progress is then that of a failed start or of some unit of the search.
     /// Where the cache was cleared, nothing counts that was searched before the last clear, and the search that goes on began
     /// at the byte where it was then.
     ///

@@ -74,7 +74,7 @@ impl DFA {
     /// The ends are those that a walk tells. Patterns at or above the set's capacity are skipped. Behind an end at which the set is
     /// full, and behind the first one where the earliest end is enough, no more are looked for. It is refused as the walk is: the
     /// patterns of the ends that its calls told by then were added, those before the unit at which it was refused, and stay. The
-    /// cache is told of each call as the walk tells it. A done span has no ends, and is never refused.
+    /// cache is told of each call as the walk tells it, so a walk that gives up at its start reports nothing. A done span has no ends, and is never refused.
     pub fn try_which_overlapping_matches<L: Ledger, M: Ledger>(
         &self,
         cache: &mut Cache,
@@ -91,7 +91,7 @@ impl DFA {
             IfErr result (λ e. e ≡ NoMemory) }
         ensures kept { GrowsOrClears self.now cache.old cache.new }
         ensures changes { Changes self.now (IsMadeOnWalk self.now input.now) cache.old cache.new (which_made (reader self.now) input.now) }
-        ensures told { IsWhichTold (reader self.now) input.now patterns.old patterns.new result cache.old cache.new }
+        ensures told { IsWhichTold self.now input.now patterns.old patterns.new result cache.old cache.new }
         ensures determinized { work.new.determinized ≤ work.old.determinized + which_made (reader self.now) input.now }
         ensures inserted { work.new.inserted ≤ work.old.inserted + which_made (reader self.now) input.now * most_inserts self.now }
     {

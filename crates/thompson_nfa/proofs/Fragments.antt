@@ -3,6 +3,8 @@
 pub mod CaseLemmas
 pub mod RoundLemmas
 pub mod LeafLemmas
+pub mod TakeLemmas
+pub mod ExactLemmas
 pub mod JoinLemmas
 pub mod TurnLemmas
 pub mod PartBytes

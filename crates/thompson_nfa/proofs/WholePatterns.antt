@@ -8,5 +8,6 @@ pub mod UnionLemmas
 pub mod UnitedLemmas
 pub mod StartLemmas
 pub mod AssembleLemmas
+pub mod ListLemmas
 pub mod RefusalLemmas
 pub mod FinishLemmas

@@ -1,5 +1,6 @@
 -- What stands in a builder when all patterns are compiled, before it is built.
-use Rattle.std.specs.Prelude.{◌≡◌, ◌≢◌, ◌⊎◌, ℕ, suc, ◌*◌, ◌<◌, ◌≤◌, Bool, true, false, ◌&&◌, List, [], ◌∷◌, length, All}
+use Rattle.std.specs.Prelude.{◌≡◌, ◌≢◌, ◌⊎◌, ℕ, suc, ◌+◌, ◌*◌, ◌<◌, ◌≤◌, Bool, true, false, ◌&&◌, List, [], ◌∷◌, length, All}
+use Rattle.search_core.specs.Index.{greatest_index}
 use Rattle.look_core.specs.declared.look.Look.{Look}
 use Rattle.hir_core.specs.Tree.{Tree}
 use Rattle.nfa_core.specs.BuilderStates.{DraftNode, Assembly, empty_draft, sparse_draft, union_draft, union_reverse_draft, fail_draft}
@@ -77,3 +78,5 @@ pub record IsAssembled (o : Options) (xs : List Tree) (b : Assembly) (anchored u
   pub looks : (l : Look) → looks_in b.drafts l ≡ any_uses (reverse_of o) xs l
   pub states : length b.drafts ≤ list_room (is_shrunk o) xs
   pub bytes : sum_of_bytes b ≤ 4096 * list_room (is_shrunk o) xs
+  -- so the count of bytes doesn't stop at its largest number
+  pub counted : sum_of_bytes b ≤ 4096 * (greatest_index + 1)

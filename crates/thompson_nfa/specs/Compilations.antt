@@ -1,7 +1,7 @@
 -- The automaton that trees are compiled to: what its runs find, in which order, and how great it is.
 use Rattle.std.specs.Prelude.{◌*◌, ◌≡◌, ◌↔◌, ℕ, suc, ◌-◌, ◌<◌, ◌≤◌, min, Bool, true, false, ◌&&◌, ◌==◌, List, [], ◌∷◌, ◌++◌, map}
 use Rattle.std.specs.Prelude.{length, slice_get, get_or, All, Some, MatchOption, ⊤}
-use Rattle.std.specs.List.{flat_map, list_any}
+use Rattle.std.specs.List.{flat_map, list_any, list_all}
 use Rattle.search_types.specs.FirstFound.{places_from}
 use Rattle.look_core.specs.declared.look.Look.{Look}
 use Rattle.look_core.specs.declared.look.Look.TheVariants.{Start, End}
@@ -20,6 +20,8 @@ use Rattle.thompson_nfa.specs.Configs.{Options, utf8_of, reverse_of, limit_of, c
 use Rattle.thompson_nfa.specs.Compiled.{turned}
 use Rattle.thompson_nfa.specs.Denotes.{seen, IsMeant}
 use Rattle.thompson_nfa.specs.NotedGroups.{noted_from}
+use Rattle.thompson_nfa.specs.ByteRoom.{Bound, at_least}
+use Rattle.thompson_nfa.specs.ListBytes.{list_bytes}
 use Rattle.thompson_nfa.specs.Room.{list_room}
 
 -- pattern p, with the end e, is a choice at place i: its tree is one that leads from i to e
@@ -43,6 +45,10 @@ is_anchored_tree true x = has_look (look_set_suffix x) End
 
 abbrev pub pattern_start : Automaton → ℕ → ℕ
 pattern_start a p = get_or a.start_pattern p 0
+
+-- how many bytes the states of a compile of the trees take, at least or at most
+abbrev pub bytes_needed : Bound → Options → List Tree → ℕ
+bytes_needed b o xs = list_bytes b (captures_of o) (list_all (is_anchored_tree (reverse_of o)) xs) xs
 
 -- a text of bytes that ends in its haystack, and whose looks at the haystack's edges are read as they are
 pub record IsPlainText (t : Text) : Type 0 where
@@ -114,4 +120,5 @@ pub record IsCompiled (o : Options) (xs : List Tree) (n : Nfa) : Type 0 where
   pub bytes : memory_of n.automaton.states ≤ 4096 * list_room (is_shrunk o) xs
   pub looks : (l : Look) → has_look (looks_of n.automaton.states) l ≡ list_any (λ x. has_look (looks_used x) (turned (reverse_of o) l)) xs
   pub starts : HasStarts (reverse_of o) (length xs) n
-  pub limit : MatchOption (limit_of o) ⊤ (λ most. memory_of n.automaton.states ≤ most)
+  -- the states are within the limit, and so is what it takes to make them
+  pub limit : MatchOption (limit_of o) ⊤ (λ most. (memory_of n.automaton.states ≤ most) × (bytes_needed at_least o xs ≤ most))

@@ -7,7 +7,7 @@ use Rattle.look_core.specs.declared.look.Look.{Look}
 use Rattle.look_core.specs.Codes.{repr, reversed}
 use Rattle.look_core.specs.LookSets.{has_look}
 use Rattle.hir_core.specs.Tree.{Tree, empty, literal, byte_class, char_class, look, repetition, capture, nothing, cat, never, alt}
-use Rattle.nfa_core.specs.BuilderStates.{DraftNode, look_draft, match_draft, Assembly, draft_at, patched, draft_bytes, is_sparse}
+use Rattle.nfa_core.specs.BuilderStates.{DraftNode, look_draft, match_draft, Assembly, draft_at, patched, draft_bytes, way_bytes, is_sparse}
 use Rattle.nfa_core.specs.Renaming.{stands_for, going_on}
 use Rattle.nfa_core.specs.CanBuild.{names_of, is_known}
 use Rattle.nfa_core.specs.Drafted.{Table}
@@ -108,6 +108,20 @@ sum_of_bytes b = sum_by draft_bytes b.drafts
 -- the states that were added, and the ways that they lead, take so many bytes at most
 abbrev pub Weighs : Assembly → Assembly → ℕ → Type 0
 Weighs old new bytes = sum_of_bytes new ≤ sum_of_bytes old + bytes
+
+-- the bytes that one more way of the state takes
+abbrev pub way_at : Assembly → ℕ → ℕ
+way_at b q = way_bytes (draft_at b.drafts q)
+
+-- What was added takes so many bytes at least and at most, with the way by which its end is led on.
+pub record Takes (old new : Assembly) (end low high : ℕ) : Type 0 where
+  pub least : sum_of_bytes old + low ≤ sum_of_bytes new + way_at new end
+  pub most : sum_of_bytes new + way_at new end ≤ sum_of_bytes old + high
+
+-- the same of what isn't led on
+pub record TakesInAll (old new : Assembly) (low high : ℕ) : Type 0 where
+  pub least : sum_of_bytes old + low ≤ sum_of_bytes new
+  pub most : sum_of_bytes new ≤ sum_of_bytes old + high
 
 -- where the fragment is
 pub record IsFragment (old new : Assembly) (start end : ℕ) : Type 0 where

@@ -1,13 +1,28 @@
--- How many bytes the states of a compile of a list of trees may take.
-use Rattle.std.specs.Prelude.{ℕ, ◌+◌, Bool, List, [], ◌∷◌}
-use Rattle.hir_core.specs.Tree.{Tree}
-use Rattle.thompson_nfa.specs.ByteRoom.{byte_room}
+-- How many bytes the states of a compile of a list of trees take.
+use Rattle.std.specs.Prelude.{ℕ, ◌+◌, Bool, false, List, [], ◌∷◌, None, if◌then◌else◌}
+use Rattle.hir_core.specs.Tree.{Tree, capture}
+use Rattle.thompson_nfa.specs.ByteRoom.{Bound, tree_bytes}
+use Rattle.thompson_nfa.specs.declared.which_captures.WhichCaptures.{WhichCaptures}
 
--- what patterns need at most: 88 beside their trees'
-abbrev pub bytes_for : Bool → List Tree → ℕ
-bytes_for shrink [] = 0
-bytes_for shrink (x ∷ xs) = byte_room shrink x + 88 + bytes_for shrink xs
+-- a pattern: its tree as group 0, and the state in which it matches
+abbrev pub pattern_bytes : Bound → WhichCaptures → Tree → ℕ
+pattern_bytes b which x = tree_bytes b which false (capture 0 None x) + 24
 
--- and what stands before them, and leads to them
-abbrev pub patterns_bytes : Bool → List Tree → ℕ
-patterns_bytes shrink xs = bytes_for shrink xs + 124
+-- patterns, with the way to each of them
+abbrev pub bytes_for : Bound → WhichCaptures → List Tree → ℕ
+bytes_for b which [] = 0
+bytes_for b which (x ∷ xs) = pattern_bytes b which x + 4 + bytes_for b which xs
+
+-- patterns, and what leads to them: a state that leads nowhere, nothing where there is one pattern, or a choice
+abbrev pub patterns_bytes : Bound → WhichCaptures → List Tree → ℕ
+patterns_bytes b which [] = 24
+patterns_bytes b which (x ∷ []) = pattern_bytes b which x
+patterns_bytes b which (x ∷ y ∷ xs) = bytes_for b which (x ∷ y ∷ xs) + 24
+
+-- what stands before them, and leads to them: one state where all trees are anchored, and else a choice, a state that reads any byte
+-- and one that leads back
+abbrev pub start_bytes : Bool → ℕ
+start_bytes anchored = if anchored then 24 else 88
+
+abbrev pub list_bytes : Bound → WhichCaptures → Bool → List Tree → ℕ
+list_bytes b which anchored xs = start_bytes anchored + patterns_bytes b which xs

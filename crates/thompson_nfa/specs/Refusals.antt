@@ -8,7 +8,7 @@ use Rattle.hir_core.specs.Tree.{Tree}
 use Rattle.nfa_core.specs.BuilderStates.{Assembly}
 use Rattle.nfa_core.specs.declared.build_error.BuildError.{BuildError}
 use Rattle.nfa_core.specs.declared.build_error.BuildError.TheVariants as error
-use Rattle.thompson_nfa.specs.Compiled.{sum_of_bytes}
+use Rattle.thompson_nfa.specs.Compiled.{sum_of_bytes, way_at}
 use Rattle.thompson_nfa.specs.NotedGroups.{HasGroup}
 use Rattle.thompson_nfa.specs.declared.which_captures.WhichCaptures.{WhichCaptures}
 
@@ -50,6 +50,11 @@ pub record Stays (old new : Assembly) (n bytes : ℕ) (e : BuildError) : Type 0 
   pub same : new ≡ old
   pub cause : RefusesStep old n bytes e
   pub passed : Passes old bytes e
+
+-- the same of a step by which the state q is led on, which takes what one more way of it does
+pub record StaysAt (old new : Assembly) (q : ℕ) (e : BuildError) : Type 0 where
+  pub stays : Stays old new 0 4 e
+  pub passed : Passes old (way_at old q) e
 
 -- a fragment of n states for the tree is refused, and the builder has its settings
 pub record RefusesFragment (kept : WhichCaptures) (old new : Assembly) (n : ℕ) (x : Tree) (e : BuildError) : Type 0 where

@@ -9,7 +9,8 @@ use Rattle.nfa_core.specs.BuilderStates.{Assembly}
 use Rattle.nfa_core.specs.declared.build_error.BuildError.{BuildError}
 use Rattle.nfa_core.specs.declared.build_error.BuildError.TheVariants as error
 use Rattle.thompson_nfa.specs.Configs.{Options, reverse_of, limit_of, captures_of, is_any, is_shrunk}
-use Rattle.thompson_nfa.specs.ListBytes.{patterns_bytes}
+use Rattle.thompson_nfa.specs.ByteRoom.{at_most}
+use Rattle.thompson_nfa.specs.Compilations.{bytes_needed}
 use Rattle.thompson_nfa.specs.NotedGroups.{HasGroup, noted_from}
 use Rattle.thompson_nfa.specs.Refusals.{RefusesStates, RefusesIndex}
 use Rattle.thompson_nfa.specs.Room.{list_room}
@@ -34,9 +35,9 @@ RefusesGroups o xs err =
 abbrev pub RefusesTrees : Options → List Tree → BuildError → Type 0
 RefusesTrees o xs error.TooManyPatterns = greatest_index + 1 < length xs
 RefusesTrees o xs error.TooManyStates = (greatest_index + 1 < list_room (is_shrunk o) xs) × FitsStates (limit_of o) ×
-    (24 * (greatest_index + 1) ≤ patterns_bytes (is_shrunk o) xs)
+    (24 * (greatest_index + 1) ≤ bytes_needed (at_most (is_shrunk o)) o xs)
 RefusesTrees o xs (error.ExceededSizeLimit limit) = (limit_of o ≡ Some limit) × (limit < 4096 * list_room (is_shrunk o) xs) ×
-    (limit < patterns_bytes (is_shrunk o) xs)
+    (limit < bytes_needed (at_most (is_shrunk o)) o xs)
 RefusesTrees o xs error.UnsupportedCaptures = (reverse_of o && is_any (captures_of o)) ≡ true
 RefusesTrees o xs (error.Captures err) = (reverse_of o ≡ false) × RefusesGroups o xs err
 RefusesTrees o xs error.NoMemory = Unit {0}

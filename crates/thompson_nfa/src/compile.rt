@@ -3,8 +3,8 @@ ghost use Rattle.std.specs.Prelude.{◌≡◌, ◌<◌, ◌≤◌, ◌+◌, ◌-
 ghost use Rattle.std.specs.Prelude.{IfErr, IfSome, Some, None, option_map, string_bytes};
 ghost use Rattle.hir_core.specs.Facts.{minimum_len};
 ghost use Rattle.hir_core.specs.Tree.{repetition, capture, concat, alternation};
-ghost use Rattle.thompson_nfa.specs.ByteRoom.{byte_room};
-ghost use Rattle.thompson_nfa.specs.Compiled.{IsReady, Makes, Weighs, Does, DoesCopies, DoesOption, is_above_zero};
+ghost use Rattle.thompson_nfa.specs.ByteRoom.{tree_least, tree_most, group_bytes, loop_bytes, rounds_bytes};
+ghost use Rattle.thompson_nfa.specs.Compiled.{IsReady, Makes, Takes, Does, DoesCopies, DoesOption, is_above_zero};
 ghost use Rattle.thompson_nfa.specs.NotedGroups.{with_groups_of, keeps_group};
 ghost use Rattle.thompson_nfa.specs.Refusals.{RefusesFragment, Passes};
 ghost use Rattle.thompson_nfa.specs.Room.{room};
@@ -33,11 +33,12 @@ pub(crate) fn compile(
     requires { IsReady how.which builder.old }
     ensures made { IfOk result (λ f. Makes builder.old builder.new f.start f.end (room how.shrink x.now)) }
     ensures denotes { IfOk result (λ f. Does builder.old builder.new f.start f.end (x.now)) }
-    ensures weighs { IfOk result (λ _. Weighs builder.old builder.new (byte_room how.shrink x.now)) }
+    ensures weighs { IfOk result (λ f. Takes builder.old builder.new f.end
+        (tree_least how.which x.now) (tree_most how.which how.shrink x.now)) }
     ensures groups { IfOk result (λ _. builder.new.groups ≡
         with_groups_of how.which (length builder.old.starts) (x.now) builder.old.groups) }
     ensures refused { IfErr result (λ e. RefusesFragment how.which builder.old builder.new (room how.shrink x.now) (x.now) e) }
-    ensures passed { IfErr result (λ e. Passes builder.old (byte_room how.shrink x.now) e) }
+    ensures passed { IfErr result (λ e. Passes builder.old (tree_most how.which how.shrink x.now) e) }
 {
     match x.kind() {
         HirKind::Empty => empty(builder),
@@ -97,12 +98,13 @@ pub(crate) fn captured(
     ensures made { IfOk result (λ f. Makes builder.old builder.new f.start f.end (room how.shrink x.now + 2)) }
     ensures denotes { IfOk result (λ f. Does builder.old builder.new f.start f.end
         (capture index (option_map string_bytes name.now) x.now)) }
-    ensures weighs { IfOk result (λ _. Weighs builder.old builder.new (byte_room how.shrink x.now + 56)) }
+    ensures weighs { IfOk result (λ f. Takes builder.old builder.new f.end
+        (group_bytes how.which index + tree_least how.which x.now) (group_bytes how.which index + tree_most how.which how.shrink x.now)) }
     ensures groups { IfOk result (λ _. builder.new.groups ≡
         with_groups_of how.which (length builder.old.starts) (capture index (option_map string_bytes name.now) x.now) builder.old.groups) }
     ensures refused { IfErr result (λ e. RefusesFragment how.which builder.old builder.new (room how.shrink x.now + 2)
         (capture index (option_map string_bytes name.now) x.now) e) }
-    ensures passed { IfErr result (λ e. Passes builder.old (byte_room how.shrink x.now + 56) e) }
+    ensures passed { IfErr result (λ e. Passes builder.old (group_bytes how.which index + tree_most how.which how.shrink x.now) e) }
 {
     if !keeps(how.which, index) {
         let body = compile(builder, alloc, how, shared, x)?;
@@ -129,12 +131,13 @@ fn concatenation(
     requires { IsReady how.which builder.old }
     ensures made { IfOk result (λ f. Makes builder.old builder.new f.start f.end (room how.shrink (concat subs.now))) }
     ensures denotes { IfOk result (λ f. Does builder.old builder.new f.start f.end (concat subs.now)) }
-    ensures weighs { IfOk result (λ _. Weighs builder.old builder.new (byte_room how.shrink (concat subs.now))) }
+    ensures weighs { IfOk result (λ f. Takes builder.old builder.new f.end
+        (tree_least how.which (concat subs.now)) (tree_most how.which how.shrink (concat subs.now))) }
     ensures groups { IfOk result (λ _. builder.new.groups ≡
         with_groups_of how.which (length builder.old.starts) (concat subs.now) builder.old.groups) }
     ensures refused { IfErr result (λ e. RefusesFragment how.which builder.old builder.new
         (room how.shrink (concat subs.now)) (concat subs.now) e) }
-    ensures passed { IfErr result (λ e. Passes builder.old (byte_room how.shrink (concat subs.now)) e) }
+    ensures passed { IfErr result (λ e. Passes builder.old (tree_most how.which how.shrink (concat subs.now)) e) }
 {
     if subs.len() == 0 {
         let none = empty(builder)?;
@@ -180,11 +183,14 @@ fn zero_or_more(
     requires { IsReady how.which builder.old }
     ensures made { IfOk result (λ f. Makes builder.old builder.new f.start f.end (room how.shrink x.now + 3)) }
     ensures denotes { IfOk result (λ f. Does builder.old builder.new f.start f.end (repetition 0 None greedy x.now)) }
-    ensures weighs { IfOk result (λ _. Weighs builder.old builder.new (byte_room how.shrink x.now + 92)) }
+    ensures weighs { IfOk result (λ f. Takes builder.old builder.new f.end
+        (loop_bytes (is_above_zero (minimum_len x.now)) (tree_least how.which x.now))
+        (loop_bytes (is_above_zero (minimum_len x.now)) (tree_most how.which how.shrink x.now))) }
     ensures groups { IfOk result (λ _. builder.new.groups ≡
         with_groups_of how.which (length builder.old.starts) (x.now) builder.old.groups) }
     ensures refused { IfErr result (λ e. RefusesFragment how.which builder.old builder.new (room how.shrink x.now + 3) (x.now) e) }
-    ensures passed { IfErr result (λ e. Passes builder.old (byte_room how.shrink x.now + 92) e) }
+    ensures passed { IfErr result (λ e. Passes builder.old
+        (loop_bytes (is_above_zero (minimum_len x.now)) (tree_most how.which how.shrink x.now)) e) }
     ensures form { IfOk result (λ f. (f.start == f.end) ≡ is_above_zero (minimum_len x.now)) }
 {
     let some = reads(x);
@@ -215,11 +221,12 @@ fn zero_or_more_of_empty(
     requires { IsReady how.which builder.old }
     ensures made { IfOk result (λ f. Makes builder.old builder.new f.start f.end (room how.shrink x.now + 3)) }
     ensures denotes { IfOk result (λ f. Does builder.old builder.new f.start f.end (repetition 0 None greedy x.now)) }
-    ensures weighs { IfOk result (λ _. Weighs builder.old builder.new (byte_room how.shrink x.now + 92)) }
+    ensures weighs { IfOk result (λ f. Takes builder.old builder.new f.end
+        (tree_least how.which x.now + 88) (tree_most how.which how.shrink x.now + 88)) }
     ensures groups { IfOk result (λ _. builder.new.groups ≡
         with_groups_of how.which (length builder.old.starts) (x.now) builder.old.groups) }
     ensures refused { IfErr result (λ e. RefusesFragment how.which builder.old builder.new (room how.shrink x.now + 3) (x.now) e) }
-    ensures passed { IfErr result (λ e. Passes builder.old (byte_room how.shrink x.now + 92) e) }
+    ensures passed { IfErr result (λ e. Passes builder.old (tree_most how.which how.shrink x.now + 88) e) }
     ensures apart { IfOk result (λ f. (f.start == f.end) ≡ false) }
 {
     let body = compile(builder, alloc, how, shared, x)?;
@@ -250,11 +257,12 @@ fn one_or_more(
     requires { IsReady how.which builder.old }
     ensures made { IfOk result (λ f. Makes builder.old builder.new f.start f.end (room how.shrink x.now + 1)) }
     ensures denotes { IfOk result (λ f. Does builder.old builder.new f.start f.end (repetition 1 None greedy x.now)) }
-    ensures weighs { IfOk result (λ _. Weighs builder.old builder.new (byte_room how.shrink x.now + 32)) }
+    ensures weighs { IfOk result (λ f. Takes builder.old builder.new f.end
+        (tree_least how.which x.now + 32) (tree_most how.which how.shrink x.now + 32)) }
     ensures groups { IfOk result (λ _. builder.new.groups ≡
         with_groups_of how.which (length builder.old.starts) (x.now) builder.old.groups) }
     ensures refused { IfErr result (λ e. RefusesFragment how.which builder.old builder.new (room how.shrink x.now + 1) (x.now) e) }
-    ensures passed { IfErr result (λ e. Passes builder.old (byte_room how.shrink x.now + 32) e) }
+    ensures passed { IfErr result (λ e. Passes builder.old (tree_most how.which how.shrink x.now + 32) e) }
 {
     let body = compile(builder, alloc, how, shared, x)?;
     let union = add_choice(builder, alloc, greedy)?;
@@ -280,11 +288,12 @@ fn copies(
     requires some { 1 ≤ n }
     ensures made { IfOk result (λ f. Makes builder.old builder.new f.start f.end (n * room how.shrink x.now)) }
     ensures denotes { IfOk result (λ f. DoesCopies builder.old builder.new f.start f.end n x.now) }
-    ensures weighs { IfOk result (λ _. Weighs builder.old builder.new (n * (byte_room how.shrink x.now + 4))) }
+    ensures weighs { IfOk result (λ f. Takes builder.old builder.new f.end
+        (n * tree_least how.which x.now) (n * tree_most how.which how.shrink x.now)) }
     ensures groups { IfOk result (λ _. builder.new.groups ≡
         with_groups_of how.which (length builder.old.starts) (x.now) builder.old.groups) }
     ensures refused { IfErr result (λ e. RefusesFragment how.which builder.old builder.new (n * room how.shrink x.now) (x.now) e) }
-    ensures passed { IfErr result (λ e. Passes builder.old (n * (byte_room how.shrink x.now + 4)) e) }
+    ensures passed { IfErr result (λ e. Passes builder.old (n * tree_most how.which how.shrink x.now) e) }
 {
     let first = compile(builder, alloc, how, shared, x)?;
     let mut end = first.end;
@@ -313,12 +322,13 @@ fn at_least(
     requires { IsReady how.which builder.old }
     ensures made { IfOk result (λ f. Makes builder.old builder.new f.start f.end (room how.shrink (repetition min None greedy x.now))) }
     ensures denotes { IfOk result (λ f. Does builder.old builder.new f.start f.end (repetition min None greedy x.now)) }
-    ensures weighs { IfOk result (λ _. Weighs builder.old builder.new (byte_room how.shrink (repetition min None greedy x.now))) }
+    ensures weighs { IfOk result (λ f. Takes builder.old builder.new f.end
+        (tree_least how.which (repetition min None greedy x.now)) (tree_most how.which how.shrink (repetition min None greedy x.now))) }
     ensures groups { IfOk result (λ _. builder.new.groups ≡
         with_groups_of how.which (length builder.old.starts) (repetition min None greedy x.now) builder.old.groups) }
     ensures refused { IfErr result (λ e. RefusesFragment how.which builder.old builder.new
         (room how.shrink (repetition min None greedy x.now)) (repetition min None greedy x.now) e) }
-    ensures passed { IfErr result (λ e. Passes builder.old (byte_room how.shrink (repetition min None greedy x.now)) e) }
+    ensures passed { IfErr result (λ e. Passes builder.old (tree_most how.which how.shrink (repetition min None greedy x.now)) e) }
 {
     if min == 0 {
         let any = zero_or_more(builder, alloc, how, shared, x, greedy)?;
@@ -352,11 +362,12 @@ fn option(
     requires there { exit < length builder.old.drafts }
     ensures made { IfOk result (λ f. Makes builder.old builder.new f.start f.end (room how.shrink x.now + 1)) }
     ensures denotes { IfOk result (λ f. DoesOption builder.old builder.new f.start f.end exit greedy x.now) }
-    ensures weighs { IfOk result (λ _. Weighs builder.old builder.new (byte_room how.shrink x.now + 32)) }
+    ensures weighs { IfOk result (λ f. Takes builder.old builder.new f.end
+        (tree_least how.which x.now + 32) (tree_most how.which how.shrink x.now + 32)) }
     ensures groups { IfOk result (λ _. builder.new.groups ≡
         with_groups_of how.which (length builder.old.starts) (x.now) builder.old.groups) }
     ensures refused { IfErr result (λ e. RefusesFragment how.which builder.old builder.new (room how.shrink x.now + 1) (x.now) e) }
-    ensures passed { IfErr result (λ e. Passes builder.old (byte_room how.shrink x.now + 32) e) }
+    ensures passed { IfErr result (λ e. Passes builder.old (tree_most how.which how.shrink x.now + 32) e) }
 {
     let union = add_choice(builder, alloc, greedy)?;
     let body = compile(builder, alloc, how, shared, x)?;
@@ -383,12 +394,13 @@ fn up_to(
     requires some { 1 ≤ most }
     ensures made { IfOk result (λ f. Makes builder.old builder.new f.start f.end (most * (room how.shrink x.now + 1) + 1)) }
     ensures denotes { IfOk result (λ f. Does builder.old builder.new f.start f.end (repetition 0 (Some most) greedy x.now)) }
-    ensures weighs { IfOk result (λ _. Weighs builder.old builder.new (byte_room how.shrink (repetition 0 (Some most) greedy x.now))) }
+    ensures weighs { IfOk result (λ f. Takes builder.old builder.new f.end
+        (rounds_bytes 0 most (tree_least how.which x.now)) (rounds_bytes 0 most (tree_most how.which how.shrink x.now))) }
     ensures groups { IfOk result (λ _. builder.new.groups ≡
         with_groups_of how.which (length builder.old.starts) (x.now) builder.old.groups) }
     ensures refused { IfErr result (λ e. RefusesFragment how.which builder.old builder.new
         (most * (room how.shrink x.now + 1) + 1) (x.now) e) }
-    ensures passed { IfErr result (λ e. Passes builder.old (byte_room how.shrink (repetition 0 (Some most) greedy x.now)) e) }
+    ensures passed { IfErr result (λ e. Passes builder.old (rounds_bytes 0 most (tree_most how.which how.shrink x.now)) e) }
 {
     let exit = add_empty(builder)?;
     let first = option(builder, alloc, how, shared, x, greedy, exit)?;
@@ -423,12 +435,13 @@ fn owed_and_more(
     ensures made { IfOk result (λ f. Makes builder.old builder.new f.start f.end
         (min * room how.shrink x.now + (most - min) * (room how.shrink x.now + 1) + 1)) }
     ensures denotes { IfOk result (λ f. Does builder.old builder.new f.start f.end (repetition min (Some most) greedy x.now)) }
-    ensures weighs { IfOk result (λ _. Weighs builder.old builder.new (byte_room how.shrink (repetition min (Some most) greedy x.now))) }
+    ensures weighs { IfOk result (λ f. Takes builder.old builder.new f.end
+        (rounds_bytes min most (tree_least how.which x.now)) (rounds_bytes min most (tree_most how.which how.shrink x.now))) }
     ensures groups { IfOk result (λ _. builder.new.groups ≡
         with_groups_of how.which (length builder.old.starts) (x.now) builder.old.groups) }
     ensures refused { IfErr result (λ e. RefusesFragment how.which builder.old builder.new
         (min * room how.shrink x.now + (most - min) * (room how.shrink x.now + 1) + 1) (x.now) e) }
-    ensures passed { IfErr result (λ e. Passes builder.old (byte_room how.shrink (repetition min (Some most) greedy x.now)) e) }
+    ensures passed { IfErr result (λ e. Passes builder.old (rounds_bytes min most (tree_most how.which how.shrink x.now)) e) }
 {
     let prefix = copies(builder, alloc, how, shared, x, min)?;
     let exit = add_empty(builder)?;
@@ -462,12 +475,14 @@ fn between(
     ensures made { IfOk result (λ f. Makes builder.old builder.new f.start f.end
         (room how.shrink (repetition min (Some most) greedy x.now))) }
     ensures denotes { IfOk result (λ f. Does builder.old builder.new f.start f.end (repetition min (Some most) greedy x.now)) }
-    ensures weighs { IfOk result (λ _. Weighs builder.old builder.new (byte_room how.shrink (repetition min (Some most) greedy x.now))) }
+    ensures weighs { IfOk result (λ f. Takes builder.old builder.new f.end
+        (tree_least how.which (repetition min (Some most) greedy x.now))
+        (tree_most how.which how.shrink (repetition min (Some most) greedy x.now))) }
     ensures groups { IfOk result (λ _. builder.new.groups ≡
         with_groups_of how.which (length builder.old.starts) (repetition min (Some most) greedy x.now) builder.old.groups) }
     ensures refused { IfErr result (λ e. RefusesFragment how.which builder.old builder.new
         (room how.shrink (repetition min (Some most) greedy x.now)) (repetition min (Some most) greedy x.now) e) }
-    ensures passed { IfErr result (λ e. Passes builder.old (byte_room how.shrink (repetition min (Some most) greedy x.now)) e) }
+    ensures passed { IfErr result (λ e. Passes builder.old (tree_most how.which how.shrink (repetition min (Some most) greedy x.now)) e) }
 {
     if most == 0 {
         let none = empty(builder)?;
@@ -497,12 +512,13 @@ fn alternatives(
     requires { IsReady how.which builder.old }
     ensures made { IfOk result (λ f. Makes builder.old builder.new f.start f.end (room how.shrink (alternation subs.now))) }
     ensures denotes { IfOk result (λ f. Does builder.old builder.new f.start f.end (alternation subs.now)) }
-    ensures weighs { IfOk result (λ _. Weighs builder.old builder.new (byte_room how.shrink (alternation subs.now))) }
+    ensures weighs { IfOk result (λ f. Takes builder.old builder.new f.end
+        (tree_least how.which (alternation subs.now)) (tree_most how.which how.shrink (alternation subs.now))) }
     ensures groups { IfOk result (λ _. builder.new.groups ≡
         with_groups_of how.which (length builder.old.starts) (alternation subs.now) builder.old.groups) }
     ensures refused { IfErr result (λ e. RefusesFragment how.which builder.old builder.new
         (room how.shrink (alternation subs.now)) (alternation subs.now) e) }
-    ensures passed { IfErr result (λ e. Passes builder.old (byte_room how.shrink (alternation subs.now)) e) }
+    ensures passed { IfErr result (λ e. Passes builder.old (tree_most how.which how.shrink (alternation subs.now)) e) }
 {
     if subs.len() == 0 {
         let none = fail(builder)?;

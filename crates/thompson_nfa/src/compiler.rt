@@ -69,7 +69,8 @@ impl Compiler {
     ///
     /// It is refused where groups are asked for in an automaton that reads in reverse, or break a rule, where
     /// there are more patterns or states than can be numbered, where the states take more bytes than they may,
-    /// and where memory lacks.
+    /// and where memory lacks. Where no states may be shared, the size limit is exact to the byte:
+    /// [`limits_are_exact_where_no_states_are_shared`](crate::room_laws::limits_are_exact_where_no_states_are_shared).
     pub fn build_many_from_hir(&mut self, exprs: &[Hir]) -> Result<NFA, BuildError>
         ensures options { self.new ≡ self.old }
         ensures compiled { IfOk result (λ n. IsCompiled self.old exprs.now n) }

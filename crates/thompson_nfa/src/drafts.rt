@@ -6,7 +6,7 @@ ghost use Rattle.nfa_core.specs.BuilderStates.{capture_start_draft, capture_end_
 ghost use Rattle.nfa_core.specs.BuilderStates.{fail_draft, union_draft, union_reverse_draft, draft_at, is_sparse};
 ghost use Rattle.thompson_nfa.specs.Added.{AddsDraft, Led};
 ghost use Rattle.thompson_nfa.specs.Choice.{no_choice};
-ghost use Rattle.thompson_nfa.specs.Refusals.{Stays, QuitsGroup};
+ghost use Rattle.thompson_nfa.specs.Refusals.{Stays, StaysAt, QuitsGroup};
 
 use look_core::Look;
 use nfa_core::{BuildError, Builder, Transition};
@@ -75,7 +75,7 @@ pub(crate) fn lead(builder: &mut Builder, from: StateID, to: StateID) -> Result<
     requires from { from < length builder.old.drafts }
     requires to { to < length builder.old.drafts }
     requires kind { is_sparse (draft_at builder.old.drafts from) ≡ false }
-    ensures { MatchResult result (λ _. Led builder.old builder.new from to) (λ e. Stays builder.old builder.new 0 4 e) }
+    ensures { MatchResult result (λ _. Led builder.old builder.new from to) (λ e. StaysAt builder.old builder.new from e) }
 {
     builder.patch(from, to)?;
     Ok(())

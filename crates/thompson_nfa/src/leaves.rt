@@ -1,7 +1,7 @@
 //! Fragments of trees without parts.
-ghost use Rattle.std.specs.Prelude.{◌≡◌, ◌<◌, ◌≤◌, ◌+◌, ◌*◌, [], ◌∷◌, length, IfOk, IfErr};
+ghost use Rattle.std.specs.Prelude.{◌≡◌, ◌<◌, ◌≤◌, ◌+◌, ◌*◌, [], ◌∷◌, length, max, IfOk, IfErr};
 ghost use Rattle.hir_core.specs.Tree.{empty, literal, byte_class, look, never};
-ghost use Rattle.thompson_nfa.specs.Compiled.{Makes, Does, Weighs};
+ghost use Rattle.thompson_nfa.specs.Compiled.{Makes, Does, Takes};
 ghost use Rattle.thompson_nfa.specs.Refusals.{Quits, Passes};
 ghost use Rattle.thompson_nfa.specs.Turned.{turned_place};
 
@@ -11,11 +11,11 @@ use look_core::Look;
 use nfa_core::{BuildError, Builder};
 
 /// One state that stands for what follows.
-#[tactic(auto, using(crate::proofs::Fragments::LeafLemmas::empty_does, crate::proofs::Fragments::LeafLemmas::empty_made, crate::proofs::Steps::ProgressLemmas::first_quits))]
+#[tactic(auto, using(crate::proofs::Fragments::LeafLemmas::empty_does, crate::proofs::Fragments::LeafLemmas::empty_made, crate::proofs::Fragments::TakeLemmas::one_takes, crate::proofs::Steps::ProgressLemmas::first_quits))]
 pub(crate) fn empty(builder: &mut Builder) -> Result<Fragment, BuildError>
     ensures made { IfOk result (λ f. Makes builder.old builder.new f.start f.end 1) }
     ensures denotes { IfOk result (λ f. Does builder.old builder.new f.start f.end empty) }
-    ensures weighs { IfOk result (λ _. Weighs builder.old builder.new 24) }
+    ensures weighs { IfOk result (λ f. Takes builder.old builder.new f.end 24 24) }
     ensures passed { IfErr result (λ e. Passes builder.old 24 e) }
     ensures groups { IfOk result (λ _. builder.new.groups ≡ builder.old.groups) }
     ensures refused { IfErr result (λ e. Quits builder.old builder.new 1 e) }
@@ -25,11 +25,11 @@ pub(crate) fn empty(builder: &mut Builder) -> Result<Fragment, BuildError>
 }
 
 /// One state that leads nowhere.
-#[tactic(auto, using(crate::proofs::Fragments::LeafLemmas::fail_does, crate::proofs::Fragments::LeafLemmas::fail_made, crate::proofs::Steps::ProgressLemmas::first_quits))]
+#[tactic(auto, using(crate::proofs::Fragments::LeafLemmas::fail_does, crate::proofs::Fragments::LeafLemmas::fail_made, crate::proofs::Fragments::TakeLemmas::one_takes, crate::proofs::Steps::ProgressLemmas::first_quits))]
 pub(crate) fn fail(builder: &mut Builder) -> Result<Fragment, BuildError>
     ensures made { IfOk result (λ f. Makes builder.old builder.new f.start f.end 1) }
     ensures denotes { IfOk result (λ f. Does builder.old builder.new f.start f.end never) }
-    ensures weighs { IfOk result (λ _. Weighs builder.old builder.new 24) }
+    ensures weighs { IfOk result (λ f. Takes builder.old builder.new f.end 24 24) }
     ensures passed { IfErr result (λ e. Passes builder.old 24 e) }
     ensures groups { IfOk result (λ _. builder.new.groups ≡ builder.old.groups) }
     ensures refused { IfErr result (λ e. Quits builder.old builder.new 1 e) }
@@ -39,12 +39,12 @@ pub(crate) fn fail(builder: &mut Builder) -> Result<Fragment, BuildError>
 }
 
 /// One state that reads a byte from the first to the last.
-#[tactic(auto, using(crate::proofs::Fragments::LeafLemmas::range_does, crate::proofs::Fragments::LeafLemmas::range_made, crate::proofs::Steps::ProgressLemmas::first_quits))]
+#[tactic(auto, using(crate::proofs::Fragments::LeafLemmas::range_does, crate::proofs::Fragments::LeafLemmas::range_made, crate::proofs::Fragments::TakeLemmas::one_takes, crate::proofs::Steps::ProgressLemmas::first_quits))]
 pub(crate) fn byte_range(builder: &mut Builder, start: u8, end: u8) -> Result<Fragment, BuildError>
     requires { start ≤ end }
     ensures made { IfOk result (λ f. Makes builder.old builder.new f.start f.end 1) }
     ensures denotes { IfOk result (λ f. Does builder.old builder.new f.start f.end (byte_class ((start, end) ∷ []))) }
-    ensures weighs { IfOk result (λ _. Weighs builder.old builder.new 24) }
+    ensures weighs { IfOk result (λ f. Takes builder.old builder.new f.end 24 24) }
     ensures passed { IfErr result (λ e. Passes builder.old 24 e) }
     ensures groups { IfOk result (λ _. builder.new.groups ≡ builder.old.groups) }
     ensures refused { IfErr result (λ e. Quits builder.old builder.new 1 e) }
@@ -55,11 +55,11 @@ pub(crate) fn byte_range(builder: &mut Builder, start: u8, end: u8) -> Result<Fr
 
 /// One state that leads on where the look holds; where the automaton reads in reverse, it has the look that
 /// holds there.
-#[tactic(auto, using(crate::proofs::Fragments::LeafLemmas::look_does, crate::proofs::Fragments::LeafLemmas::look_made, crate::proofs::Steps::ProgressLemmas::first_quits))]
+#[tactic(auto, using(crate::proofs::Fragments::LeafLemmas::look_does, crate::proofs::Fragments::LeafLemmas::look_made, crate::proofs::Fragments::TakeLemmas::one_takes, crate::proofs::Steps::ProgressLemmas::first_quits))]
 pub(crate) fn look(builder: &mut Builder, assertion: Look) -> Result<Fragment, BuildError>
     ensures made { IfOk result (λ f. Makes builder.old builder.new f.start f.end 1) }
     ensures denotes { IfOk result (λ f. Does builder.old builder.new f.start f.end (look assertion)) }
-    ensures weighs { IfOk result (λ _. Weighs builder.old builder.new 24) }
+    ensures weighs { IfOk result (λ f. Takes builder.old builder.new f.end 24 24) }
     ensures passed { IfErr result (λ e. Passes builder.old 24 e) }
     ensures groups { IfOk result (λ _. builder.new.groups ≡ builder.old.groups) }
     ensures refused { IfErr result (λ e. Quits builder.old builder.new 1 e) }
@@ -83,11 +83,11 @@ pub(crate) fn turned_place(reverse: bool, i: usize, len: usize) -> usize
 }
 
 /// One state that reads the byte.
-#[tactic(auto, using(crate::proofs::Fragments::LeafLemmas::byte_does, crate::proofs::Fragments::LeafLemmas::range_made, crate::proofs::Steps::ProgressLemmas::first_quits))]
+#[tactic(auto, using(crate::proofs::Fragments::LeafLemmas::byte_does, crate::proofs::Fragments::LeafLemmas::range_made, crate::proofs::Fragments::TakeLemmas::one_takes, crate::proofs::Steps::ProgressLemmas::first_quits))]
 fn byte(builder: &mut Builder, byte: u8) -> Result<Fragment, BuildError>
     ensures made { IfOk result (λ f. Makes builder.old builder.new f.start f.end 1) }
     ensures denotes { IfOk result (λ f. Does builder.old builder.new f.start f.end (literal (byte ∷ []))) }
-    ensures weighs { IfOk result (λ _. Weighs builder.old builder.new 24) }
+    ensures weighs { IfOk result (λ f. Takes builder.old builder.new f.end 24 24) }
     ensures passed { IfErr result (λ e. Passes builder.old 24 e) }
     ensures groups { IfOk result (λ _. builder.new.groups ≡ builder.old.groups) }
     ensures refused { IfErr result (λ e. Quits builder.old builder.new 1 e) }
@@ -100,8 +100,9 @@ fn byte(builder: &mut Builder, byte: u8) -> Result<Fragment, BuildError>
 pub(crate) fn literal(builder: &mut Builder, bytes: &[u8]) -> Result<Fragment, BuildError>
     ensures made { IfOk result (λ f. Makes builder.old builder.new f.start f.end (length bytes.now + 1)) }
     ensures denotes { IfOk result (λ f. Does builder.old builder.new f.start f.end (literal bytes.now)) }
-    ensures weighs { IfOk result (λ _. Weighs builder.old builder.new (28 * length bytes.now + 24)) }
-    ensures passed { IfErr result (λ e. Passes builder.old (28 * length bytes.now + 24) e) }
+    ensures weighs { IfOk result (λ f. Takes builder.old builder.new f.end
+        (24 * max (length bytes.now) 1) (24 * max (length bytes.now) 1)) }
+    ensures passed { IfErr result (λ e. Passes builder.old (24 * max (length bytes.now) 1) e) }
     ensures groups { IfOk result (λ _. builder.new.groups ≡ builder.old.groups) }
     ensures refused { IfErr result (λ e. Quits builder.old builder.new (length bytes.now + 1) e) }
 {

@@ -3,7 +3,7 @@ ghost use Rattle.std.specs.Prelude.{◌≡◌, true, [], length, IfOk, IfErr};
 ghost use Rattle.hir_core.specs.Facts.{count};
 ghost use Rattle.hir_core.specs.Tree.{alternation};
 ghost use Rattle.thompson_nfa.specs.ByteRoom.{choice_bytes};
-ghost use Rattle.thompson_nfa.specs.Compiled.{Makes, Weighs, Does};
+ghost use Rattle.thompson_nfa.specs.Compiled.{Makes, Takes, Does};
 ghost use Rattle.thompson_nfa.specs.LiteralParts.{is_literal, are_literals, bytes_of_literal};
 ghost use Rattle.thompson_nfa.specs.Refusals.{Quits, Passes};
 
@@ -66,7 +66,7 @@ pub(crate) fn compile_literals(
     requires { are_literals subs.now ≡ true }
     ensures made { IfOk result (λ f. Makes builder.old builder.new f.start f.end (count (alternation subs.now))) }
     ensures denotes { IfOk result (λ f. Does builder.old builder.new f.start f.end (alternation subs.now)) }
-    ensures weighs { IfOk result (λ _. Weighs builder.old builder.new (choice_bytes (alternation subs.now))) }
+    ensures weighs { IfOk result (λ f. Takes builder.old builder.new f.end 0 (choice_bytes (alternation subs.now))) }
     ensures passed { IfErr result (λ e. Passes builder.old (choice_bytes (alternation subs.now)) e) }
     ensures groups { IfOk result (λ _. builder.new.groups ≡ builder.old.groups) }
     ensures refused { IfErr result (λ e. Quits builder.old builder.new (count (alternation subs.now)) e) }

@@ -7,15 +7,15 @@ ghost use Rattle.nfa_core.specs.BuilderStates.{match_draft, union_draft, draft_a
 ghost use Rattle.nfa_core.specs.Renaming.{past};
 ghost use Rattle.thompson_nfa.specs.Added.{AddsDraft};
 ghost use Rattle.thompson_nfa.specs.Assembled.{IsAssembled};
-ghost use Rattle.thompson_nfa.specs.ByteRoom.{byte_room};
-ghost use Rattle.thompson_nfa.specs.Compiled.{Weighs};
+ghost use Rattle.thompson_nfa.specs.ByteRoom.{at_least, at_most};
+ghost use Rattle.thompson_nfa.specs.Compiled.{Takes, TakesInAll, sum_of_bytes, way_at};
 ghost use Rattle.thompson_nfa.specs.Configs.{reverse_of, captures_of, is_any, is_shrunk};
-ghost use Rattle.thompson_nfa.specs.ListBytes.{bytes_for, patterns_bytes};
+ghost use Rattle.thompson_nfa.specs.ListBytes.{pattern_bytes, bytes_for, patterns_bytes, start_bytes};
 ghost use Rattle.thompson_nfa.specs.Patterns.{HasAll, HasStart, LeadsToFurther, LeadsToPatterns, RefusesPatterns, begun_with, room_for};
 ghost use Rattle.thompson_nfa.specs.Refusals.{Stays, Passes};
 ghost use Rattle.thompson_nfa.specs.RefusedTrees.{Breaks};
 ghost use Rattle.thompson_nfa.specs.Room.{room};
-ghost use Rattle.thompson_nfa.specs.Compilations.{is_anchored_tree};
+ghost use Rattle.thompson_nfa.specs.Compilations.{is_anchored_tree, bytes_needed};
 ghost use Rattle.thompson_nfa.specs.Prefix.{HasPrefix};
 ghost use Rattle.thompson_nfa.specs.declared.which_captures.WhichCaptures.TheVariants as which_captures;
 
@@ -61,8 +61,9 @@ fn compile_pattern(
     ensures has { IfOk result (λ start. HasAll how.which builder.old builder.new
         (start ∷ []) (expr.now ∷ []) (room how.shrink expr.now + 3) 4) }
     ensures refused { IfErr result (λ e. RefusesPatterns how.which builder.old (room how.shrink expr.now + 3) (expr.now ∷ []) e) }
-    ensures weighs { IfOk result (λ _. Weighs builder.old builder.new (byte_room how.shrink expr.now + 84)) }
-    ensures passed { IfErr result (λ e. Passes builder.old (byte_room how.shrink expr.now + 84) e) }
+    ensures weighs { IfOk result (λ _. TakesInAll builder.old builder.new
+        (pattern_bytes at_least how.which expr.now) (pattern_bytes (at_most how.shrink) how.which expr.now)) }
+    ensures passed { IfErr result (λ e. Passes builder.old (pattern_bytes (at_most how.shrink) how.which expr.now) e) }
 {
     builder.start_pattern()?;
     let unnamed: Option<String> = None;
@@ -87,10 +88,12 @@ fn compile_further(
     requires numbered { length builder.old.starts + length exprs.now ≤ greatest_index + 1 }
     requires there { union < length builder.old.drafts }
     requires kind { is_sparse (draft_at builder.old.drafts union) ≡ false }
+    requires way { way_at builder.old union ≡ 4 }
     ensures has { IfOk result (λ _. LeadsToFurther how.which union builder.old builder.new exprs.now (room_for how.shrink exprs.now)) }
     ensures refused { IfErr result (λ e. RefusesPatterns how.which builder.old (room_for how.shrink exprs.now) exprs.now e) }
-    ensures weighs { IfOk result (λ _. Weighs builder.old builder.new (bytes_for how.shrink exprs.now)) }
-    ensures passed { IfErr result (λ e. Passes builder.old (bytes_for how.shrink exprs.now) e) }
+    ensures weighs { IfOk result (λ _. TakesInAll builder.old builder.new
+        (bytes_for at_least how.which exprs.now) (bytes_for (at_most how.shrink) how.which exprs.now)) }
+    ensures passed { IfErr result (λ e. Passes builder.old (bytes_for (at_most how.shrink) how.which exprs.now) e) }
 {
     for expr in exprs {
         let start = compile_pattern(builder, alloc, how, shared, expr)?;
@@ -113,8 +116,9 @@ fn compile_patterns(
     requires numbered { length builder.old.starts + length exprs.now ≤ greatest_index + 1 }
     ensures has { IfOk result (λ c. LeadsToPatterns how.which builder.old builder.new c exprs.now (room_for how.shrink exprs.now + 1)) }
     ensures refused { IfErr result (λ e. RefusesPatterns how.which builder.old (room_for how.shrink exprs.now + 1) exprs.now e) }
-    ensures weighs { IfOk result (λ _. Weighs builder.old builder.new (bytes_for how.shrink exprs.now + 32)) }
-    ensures passed { IfErr result (λ e. Passes builder.old (bytes_for how.shrink exprs.now + 32) e) }
+    ensures weighs { IfOk result (λ _. TakesInAll builder.old builder.new
+        (patterns_bytes at_least how.which exprs.now) (patterns_bytes (at_most how.shrink) how.which exprs.now)) }
+    ensures passed { IfErr result (λ e. Passes builder.old (patterns_bytes (at_most how.shrink) how.which exprs.now) e) }
 {
     let Some((first, rest)) = exprs.split_first() else {
         let none = add_fail(builder)?;
@@ -135,8 +139,8 @@ fn compile_patterns(
 /// Adds what stands before the patterns.
 fn add_start(builder: &mut Builder, alloc: Global, anchored: bool) -> Result<StateID, BuildError>
     ensures has { MatchResult result (λ u. HasStart anchored builder.old builder.new u) (λ e. Breaks builder.old builder.new 3 e) }
-    ensures weighs { IfOk result (λ _. Weighs builder.old builder.new 88) }
-    ensures passed { IfErr result (λ e. Passes builder.old 88 e) }
+    ensures weighs { IfOk result (λ u. Takes builder.old builder.new u (start_bytes anchored) (start_bytes anchored)) }
+    ensures passed { IfErr result (λ e. Passes builder.old (start_bytes anchored) e) }
 {
     if anchored {
         let start = add_empty(builder)?;
@@ -161,7 +165,8 @@ pub(crate) fn compile_all(
     ensures apart { IfOk result (λ s. past builder.new.drafts s.anchored ≢ s.unanchored) }
     ensures refused { IfErr result (λ e. RefusesPatterns (captures_of config.now) builder.old
         (room_for (is_shrunk config.now) exprs.now + 4) exprs.now e) }
-    ensures passed { IfErr result (λ e. Passes builder.old (patterns_bytes (is_shrunk config.now) exprs.now) e) }
+    ensures passed { IfErr result (λ e. Passes builder.old (bytes_needed (at_most (is_shrunk config.now)) config.now exprs.now) e) }
+    ensures needed { IfOk result (λ _. bytes_needed at_least config.now exprs.now ≤ sum_of_bytes builder.new) }
 {
     let which = config.get_which_captures();
     let shrink = config.is_shrunk();
@@ -219,6 +224,7 @@ fn add_any_byte(builder: &mut Builder, alloc: Global, next: StateID) -> Result<S
 /// Adds a state that goes on at each place, past any bytes, to what it is led to later.
 pub(crate) fn add_prefix(builder: &mut Builder, alloc: Global) -> Result<StateID, BuildError>
     ensures has { MatchResult result (λ u. HasPrefix builder.old builder.new u) (λ e. Breaks builder.old builder.new 3 e) }
+    ensures weighs { IfOk result (λ u. Takes builder.old builder.new u 88 88) }
     ensures passed { IfErr result (λ e. Passes builder.old 88 e) }
 {
     let union = add_choice(builder, alloc, false)?;

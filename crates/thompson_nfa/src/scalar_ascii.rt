@@ -4,7 +4,7 @@ ghost use Rattle.std.specs.Prelude.{◌≡◌, ◌+◌, ◌*◌, true, length, I
 ghost use Rattle.hir_core.specs.Facts.{count, is_ascending};
 ghost use Rattle.hir_core.specs.Tree.{char_class};
 ghost use Rattle.thompson_nfa.specs.AsciiClasses.{is_ascii};
-ghost use Rattle.thompson_nfa.specs.Compiled.{Makes, Weighs, Does};
+ghost use Rattle.thompson_nfa.specs.Compiled.{Makes, Takes, Does};
 ghost use Rattle.thompson_nfa.specs.Refusals.{Quits, Passes};
 
 use crate::class::byte_class;
@@ -43,7 +43,8 @@ pub(crate) fn compile_ascii(
     requires ascii { is_ascii ranges.now ≡ true }
     ensures made { IfOk result (λ f. Makes builder.old builder.new f.start f.end (count (char_class ranges.now))) }
     ensures does { IfOk result (λ f. Does builder.old builder.new f.start f.end (char_class ranges.now)) }
-    ensures weighs { IfOk result (λ _. Weighs builder.old builder.new (48 + 8 * length ranges.now)) }
+    ensures weighs { IfOk result (λ f. Takes builder.old builder.new f.end
+        (48 + 8 * length ranges.now) (48 + 8 * length ranges.now)) }
     ensures passed { IfErr result (λ e. Passes builder.old (48 + 8 * length ranges.now) e) }
     ensures groups { IfOk result (λ _. builder.new.groups ≡ builder.old.groups) }
     ensures refused { IfErr result (λ e. Quits builder.old builder.new (count (char_class ranges.now)) e) }

@@ -2,8 +2,8 @@
 ghost use Rattle.std.specs.Prelude.{◌≡◌, true, IfOk, IfErr};
 ghost use Rattle.hir_core.specs.Facts.{is_ascending};
 ghost use Rattle.hir_core.specs.Tree.{char_class};
-ghost use Rattle.thompson_nfa.specs.ByteRoom.{class_bytes, byte_room};
-ghost use Rattle.thompson_nfa.specs.Compiled.{Makes, Weighs, Does};
+ghost use Rattle.thompson_nfa.specs.ByteRoom.{at_least, at_most, class_bytes, scalar_bytes};
+ghost use Rattle.thompson_nfa.specs.Compiled.{Makes, Takes, Does};
 ghost use Rattle.thompson_nfa.specs.Refusals.{Quits, Passes};
 ghost use Rattle.thompson_nfa.specs.Room.{room};
 
@@ -27,7 +27,7 @@ fn scalar_states(
     requires { is_ascending ranges.now ≡ true }
     ensures made { IfOk result (λ f. Makes builder.old builder.new f.start f.end (room how.shrink (char_class ranges.now))) }
     ensures does { IfOk result (λ f. Does builder.old builder.new f.start f.end (char_class ranges.now)) }
-    ensures weighs { IfOk result (λ _. Weighs builder.old builder.new (class_bytes how.shrink ranges.now)) }
+    ensures weighs { IfOk result (λ f. Takes builder.old builder.new f.end 0 (class_bytes how.shrink ranges.now)) }
     ensures passed { IfErr result (λ e. Passes builder.old (class_bytes how.shrink ranges.now) e) }
     ensures groups { IfOk result (λ _. builder.new.groups ≡ builder.old.groups) }
     ensures refused { IfErr result (λ e. Quits builder.old builder.new (room how.shrink (char_class ranges.now)) e) }
@@ -59,8 +59,9 @@ pub(crate) fn compile_scalars(
     requires { is_ascending ranges.now ≡ true }
     ensures made { IfOk result (λ f. Makes builder.old builder.new f.start f.end (room how.shrink (char_class ranges.now))) }
     ensures does { IfOk result (λ f. Does builder.old builder.new f.start f.end (char_class ranges.now)) }
-    ensures weighs { IfOk result (λ _. Weighs builder.old builder.new (byte_room how.shrink (char_class ranges.now))) }
-    ensures passed { IfErr result (λ e. Passes builder.old (byte_room how.shrink (char_class ranges.now)) e) }
+    ensures weighs { IfOk result (λ f. Takes builder.old builder.new f.end
+        (scalar_bytes at_least ranges.now) (scalar_bytes (at_most how.shrink) ranges.now)) }
+    ensures passed { IfErr result (λ e. Passes builder.old (scalar_bytes (at_most how.shrink) ranges.now) e) }
     ensures groups { IfOk result (λ _. builder.new.groups ≡ builder.old.groups) }
     ensures refused { IfErr result (λ e. Quits builder.old builder.new (room how.shrink (char_class ranges.now)) e) }
 {

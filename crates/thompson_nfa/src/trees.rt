@@ -8,7 +8,9 @@ ghost use Rattle.nfa_core.specs.NfaValue.{memory_of};
 ghost use Rattle.nfa_core.specs.Renaming.{past};
 ghost use Rattle.nfa_core.specs.declared.build_error.BuildError.TheVariants.{NoMemory, TooManyPatterns, UnsupportedCaptures};
 ghost use Rattle.thompson_nfa.specs.Assembled.{IsAssembled};
-ghost use Rattle.thompson_nfa.specs.Compilations.{IsCompiled};
+ghost use Rattle.thompson_nfa.specs.ByteRoom.{at_least};
+ghost use Rattle.thompson_nfa.specs.Compilations.{IsCompiled, bytes_needed};
+ghost use Rattle.thompson_nfa.specs.Compiled.{sum_of_bytes};
 ghost use Rattle.thompson_nfa.specs.Configs.{reverse_of, captures_of, is_any};
 ghost use Rattle.thompson_nfa.specs.Patterns.{begun_with, told_under};
 ghost use Rattle.thompson_nfa.specs.RefusedTrees.{RefusesTrees};
@@ -110,10 +112,11 @@ fn finish(
 ) -> Result<NFA, BuildError>
     requires assembled { IsAssembled config.now exprs.now builder.now starts.anchored starts.unanchored }
     requires apart { past builder.now.drafts starts.anchored ≢ starts.unanchored }
+    requires needed { bytes_needed at_least config.now exprs.now ≤ sum_of_bytes builder.now }
     ensures compiled { IfOk result (λ n. IsCompiled config.now exprs.now n) }
     ensures refused { IfErr result (λ e. RefusesTrees config.now exprs.now e) }
 {
-    let _ = (config.get_utf8(), exprs.len());
+    let _ = (config.get_utf8(), exprs.len(), builder.memory_usage());
     let nfa = build(builder, starts)?;
     nfa.is_sound();
     reached_states_are_led_to();

@@ -8,8 +8,10 @@ use Rattle.std.proofs.lemmas.List.{append_assoc, append-nil, length-append}
 use Rattle.std.proofs.lemmas.List.Elements.{All-nil, All-head, All-tail, All-push}
 use Rattle.determinize_core.specs.States.{StateValue}
 use Rattle.lazy_dfa.specs.Accounting.{states_cost}
-use Rattle.lazy_dfa.specs.Caches.{CacheValue, IsCacheOf, usage, fits, is_refused, needs_clear, with_state, cleared, row_holding, greatest}
-use Rattle.lazy_dfa.specs.Changes.{Changes, unchanged, keeps, adds, clears, greatest_cost, HasRoomFor, IsSpent, FirstClear, AddsFew}
+use Rattle.lazy_dfa.specs.Caches.{CacheValue, IsCacheOf, state_at, usage, fits, is_refused, needs_clear, with_state, cleared, row_holding}
+use Rattle.lazy_dfa.specs.Caches.{greatest}
+use Rattle.lazy_dfa.specs.Changes.{Changes, unchanged, keeps, adds, clears, row_state, greatest_cost, HasRoomFor, IsSpent, FirstClear}
+use Rattle.lazy_dfa.specs.Changes.{AddsFew, LastClear}
 use Rattle.lazy_dfa.specs.ConfigValue.{clears_of, minimum_bytes_of}
 use Rattle.lazy_dfa.specs.Dfas.{Dfa, IsDfa, IsStateOf, is_dead, cost}
 use Rattle.lazy_dfa.specs.Ids.{tag}
@@ -34,13 +36,13 @@ room_clears d b from s v w x =
 one_more : (a b c n m : ℕ) → c ≡ min (b + 1) greatest → a ≤ b → b ≤ a + m → m < n → b ≤ greatest → (a ≤ c) × (c ≤ a + n) × (c ≤ greatest)
 one_more a b c n m e f g l h = (omega (arith, e, f, h), omega (arith, e, g, l), omega (arith, e))
 
-module _ (d : Dfa) (P : Bool → StateValue → Type 0) (v : CacheValue) (small : v.clears ≤ greatest) where
+module _ (d : Dfa) (P : Bool → Option StateValue → StateValue → Type 0) (v : CacheValue) (small : v.clears ≤ greatest) where
   pub clears_few : (w : CacheValue) (n : ℕ) → Changes d P v w n → (v.clears ≤ w.clears) × (w.clears ≤ v.clears + n) × (w.clears ≤ greatest)
   clears_few _ _ (unchanged w n e) = let f = ap (λ (x : CacheValue). x.clears) e in
       (omega (arith, f), omega (arith, f), omega (arith, f, small))
   clears_few _ _ (keeps mid w n c g e) = let x = clears_few mid n c in let a = x.0 in let b = x.1 in let h = x.2 in let f = e.2 in
       (omega (arith, a, f), omega (arith, b, f), omega (arith, h, f))
-  clears_few _ _ (adds b s mid w m n l c own made g a) =
+  clears_few _ _ (adds b o s mid w m n l c own made g a) =
       let x = clears_few mid m c in let lo = x.0 in let hi = x.1 in let h = x.2 in let f = a.states.2 in
       (omega (arith, lo, f), omega (arith, hi, f, l), omega (arith, h, f))
   clears_few _ _ (clears b from s mid w m n l c own made x) =
@@ -50,23 +52,24 @@ module _ (d : Dfa) (P : Bool → StateValue → Type 0) (v : CacheValue) (small 
 -- ---- what is added
 
 -- a course that cleared the cache: without a clear it came to a state that asked for one
-pub record Cleared (d : Dfa) (P : Bool → StateValue → Type 0) (v w : CacheValue) (n : ℕ) : Type 0 where
+pub record Cleared (d : Dfa) (P : Bool → Option StateValue → StateValue → Type 0) (v w : CacheValue) (n : ℕ) : Type 0 where
   pub before : CacheValue
   pub made_before : ℕ
   pub less : made_before < n
   pub adds : AddsFew d P v before made_before
   pub own : IsCacheOf d before
   pub is_start : Bool
+  pub from : Option StateValue
   pub state : StateValue
-  pub made : P is_start state
+  pub made : P is_start from state
   pub is : IsStateOf d state
   pub needs : needs_clear d before state ≡ true
   pub allowed : is_refused (clears_of d.options) (minimum_bytes_of d.options) before ≡ false
   pub cleared : min (v.clears + 1) greatest ≤ w.clears
 
-module _ (d : Dfa) (P : Bool → StateValue → Type 0) (fit : IsDfa d) (v : CacheValue) (own : IsCacheOf d v) where
+module _ (d : Dfa) (P : Bool → Option StateValue → StateValue → Type 0) (fit : IsDfa d) (v : CacheValue) (own : IsCacheOf d v) where
   abbrev Made : StateValue → Type 0
-  Made s = (b : Bool) × P b s
+  Made s = (b : Bool) × (o : Option StateValue) × P b o s
 
   add_none : (w : CacheValue) (n : ℕ) → w ≡ v → AddsFew d P v w n
   add_none w n e = record {
@@ -88,14 +91,14 @@ module _ (d : Dfa) (P : Bool → StateValue → Type 0) (fit : IsDfa d) (v : Cac
     are = a.are;
   }
 
-  add_one : (b : Bool) (s : StateValue) (mid w : CacheValue) (m n : ℕ) → m < n → P b s → CacheGrows d mid w → AddsState d b s mid w →
-      AddsFew d P v mid m → AddsFew d P v w n
-  add_one b s mid w m n l made g x a = record {
+  add_one : (b : Bool) (o : Option StateValue) (s : StateValue) (mid w : CacheValue) (m n : ℕ) → m < n → P b o s → CacheGrows d mid w →
+      AddsState d b s mid w → AddsFew d P v mid m → AddsFew d P v w n
+  add_one b o s mid w m n l made g x a = record {
     grows = grows_trans d v mid w fit own a.grows g;
     added = a.added ++ s ∷ [];
     states = x.states.0 ∙ (ap (λ (xs : List StateValue). xs ++ s ∷ []) a.states ∙ append_assoc v.states a.added (s ∷ []));
     few = let e = length-append a.added (s ∷ []) in let f = a.few in omega (arith, e, f, l);
-    made = All-push Made a.added s a.made (b, made);
+    made = All-push Made a.added s a.made (b, o, made);
     are = All-push (IsStateOf d) a.added s a.are x.is;
   }
 
@@ -108,6 +111,7 @@ module _ (d : Dfa) (P : Bool → StateValue → Type 0) (fit : IsDfa d) (v : Cac
         adds = x.adds;
         own = x.own;
         is_start = x.is_start;
+        from = x.from;
         state = x.state;
         made = x.made;
         is = x.is;
@@ -125,6 +129,7 @@ module _ (d : Dfa) (P : Bool → StateValue → Type 0) (fit : IsDfa d) (v : Cac
         adds = x.adds;
         own = x.own;
         is_start = x.is_start;
+        from = x.from;
         state = x.state;
         made = x.made;
         is = x.is;
@@ -133,8 +138,8 @@ module _ (d : Dfa) (P : Bool → StateValue → Type 0) (fit : IsDfa d) (v : Cac
         cleared = omega (arith, c, more);
       }
 
-  room_made : (b : Bool) (from : Option ℕ) (s : StateValue) (mid w : CacheValue) (m n : ℕ) → m < n → IsCacheOf d mid → P b s →
-      MakesRoom d b from s mid w → AddsFew d P v mid m → Cleared d P v w n
+  room_made : (b : Bool) (from : Option ℕ) (s : StateValue) (mid w : CacheValue) (m n : ℕ) → m < n → IsCacheOf d mid →
+      P b (row_state from mid) s → MakesRoom d b from s mid w → AddsFew d P v mid m → Cleared d P v w n
   room_made b from s mid w m n l mine made x a =
       let e = room_clears d b from s mid w x in
       let f = a.grows.clears in
@@ -145,6 +150,7 @@ module _ (d : Dfa) (P : Bool → StateValue → Type 0) (fit : IsDfa d) (v : Cac
         adds = a;
         own = mine;
         is_start = b;
+        from = row_state from mid;
         state = s;
         made = made;
         is = x.clears.is;
@@ -163,8 +169,8 @@ module _ (d : Dfa) (P : Bool → StateValue → Type 0) (fit : IsDfa d) (v : Cac
       (λ (a : AddsFew d P v mid n). inl (add_keeps mid w n g e a))
       (λ (x : Cleared d P v mid n). inr (still mid w n n (omega arith) (no_less mid.clears w.clears e.2) x))
       (added_or_cleared mid n c)
-  added_or_cleared _ _ (adds b s mid w m n l c mine made g x) = ⊎_elim
-      (λ (a : AddsFew d P v mid m). inl (add_one b s mid w m n l made g x a))
+  added_or_cleared _ _ (adds b o s mid w m n l c mine made g x) = ⊎_elim
+      (λ (a : AddsFew d P v mid m). inl (add_one b o s mid w m n l made g x a))
       (λ (y : Cleared d P v mid m). inr (still mid w m n (omega (arith, l)) (no_less mid.clears w.clears x.states.2) y))
       (added_or_cleared mid m c)
   added_or_cleared _ _ (clears b from s mid w m n l c mine made x) = ⊎_elim
@@ -188,6 +194,7 @@ module _ (d : Dfa) (P : Bool → StateValue → Type 0) (fit : IsDfa d) (v : Cac
         before = x.before;
         grows = x.adds.grows;
         is_start = x.is_start;
+        from = x.from;
         state = x.state;
         made = x.made;
         needs = x.needs;
@@ -284,3 +291,92 @@ module _ (d : Dfa) (P : Bool → StateValue → Type 0) (fit : IsDfa d) (v : Cac
       never : Cleared d P v w n → ⊥
       never x = true≢false (sym x.needs ∙ no_need (is_dead x.state) (is_none (row_holding x.state x.before.states))
           (fits d.capacity x.state x.before) (fits_before x))
+
+-- ---- what the last clear left
+
+module _ (d : Dfa) (P : Bool → Option StateValue → StateValue → Type 0) (v : CacheValue) where
+  abbrev IsMade : StateValue → Type 0
+  IsMade s = (b : Bool) × (o : Option StateValue) × P b o s
+
+  later : (mid w : CacheValue) (m n : ℕ) → m ≤ n → w.states ≡ mid.states → LastClear d P mid m → LastClear d P w n
+  later mid w m n l e x = record {
+    is_start = x.is_start;
+    from = x.from;
+    state = x.state;
+    made = x.made;
+    kept = x.kept;
+    alone = x.alone;
+    added = x.added;
+    states = e ∙ x.states;
+    few = let f = x.few in omega (arith, l, f);
+    since = x.since;
+  }
+
+  one_later : (b : Bool) (o : Option StateValue) (s : StateValue) (mid w : CacheValue) (m n : ℕ) → m < n → P b o s →
+      w.states ≡ mid.states ++ s ∷ [] → LastClear d P mid m → LastClear d P w n
+  one_later b o s mid w m n l made e x = record {
+    is_start = x.is_start;
+    from = x.from;
+    state = x.state;
+    made = x.made;
+    kept = x.kept;
+    alone = x.alone;
+    added = x.added ++ s ∷ [];
+    states = e ∙ (ap (λ (xs : List StateValue). xs ++ s ∷ []) x.states ∙ append_assoc x.kept x.added (s ∷ []));
+    few = let long = length-append x.added (s ∷ []) in let f = x.few in omega (arith, long, f, l);
+    since = All-push IsMade x.added s x.since (b, o, made);
+  }
+
+  abbrev IsKept : Option StateValue → List StateValue → Type 0
+  IsKept from kept = (kept ≡ []) ⊎ ((s : StateValue) × (from ≡ Some s) × (kept ≡ s ∷ []))
+
+  -- what a clear leaves
+  left_of : (from : Option ℕ) (mid : CacheValue) → IsKept (row_state from mid) (kept_of from mid).states
+  left_of None mid = inl refl
+  left_of (Some k) mid = inr (state_at mid k, refl, refl)
+
+  left_by : (from : Option ℕ) (mid middle : CacheValue) → (middle ≡ cleared mid) ⊎ (middle ≡ kept_of from mid) →
+      IsKept (row_state from mid) middle.states
+  left_by from mid middle (inl e) = inl (ap (λ (x : CacheValue). x.states) e)
+  left_by from mid middle (inr e) = subst (λ (x : CacheValue). IsKept (row_state from mid) x.states) (sym e) (left_of from mid)
+
+  room_left : (b : Bool) (from : Option ℕ) (s : StateValue) (mid w : CacheValue) (m n : ℕ) → m < n → P b (row_state from mid) s →
+      MakesRoom d b from s mid w → LastClear d P w n
+  room_left b from s mid w m n l made x = by x.states
+    where
+      left : IsKept (row_state from mid) x.middle.states
+      left = left_by from mid x.middle x.clears.left
+
+      by : HasStatesOf w x.middle ⊎ HasStatesOf w (with_state b s x.middle) → LastClear d P w n
+      by (inl e) = record {
+        is_start = b;
+        from = row_state from mid;
+        state = s;
+        made = made;
+        kept = x.middle.states;
+        alone = left;
+        added = [];
+        states = e.0 ∙ sym (append-nil x.middle.states);
+        few = omega arith;
+        since = All-nil IsMade;
+      }
+      by (inr e) = record {
+        is_start = b;
+        from = row_state from mid;
+        state = s;
+        made = made;
+        kept = x.middle.states;
+        alone = left;
+        added = s ∷ [];
+        states = e.0;
+        few = omega (arith, l);
+        since = All-push IsMade [] s (All-nil IsMade) (b, row_state from mid, made);
+      }
+
+  pub last_of_clears : (w : CacheValue) (n : ℕ) → (w.clears ≡ v.clears → ⊥) → Changes d P v w n → LastClear d P w n
+  last_of_clears _ _ differ (unchanged w n e) = absurd (differ (ap (λ (x : CacheValue). x.clears) e))
+  last_of_clears _ _ differ (keeps mid w n c g e) =
+      later mid w n n (omega arith) e.0 (last_of_clears mid n (λ same. differ (e.2 ∙ same)) c)
+  last_of_clears _ _ differ (adds b o s mid w m n l c own made g x) =
+      one_later b o s mid w m n l made x.states.0 (last_of_clears mid m (λ same. differ (x.states.2 ∙ same)) c)
+  last_of_clears _ _ differ (clears b from s mid w m n l c own made x) = room_left b from s mid w m n l made x

@@ -1,5 +1,5 @@
 -- How far searches came on whose way the cache was cleared, worked out by hand.
-use Rattle.std.proofs.Common.{◌≡◌, ℕ, true, false, [], ◌∷◌, ◌++◌, replicate, Some, None, refl, arith}
+use Rattle.std.proofs.Common.{◌≡◌, ℕ, true, false, [], ◌∷◌, ◌++◌, replicate, Some, None, refl, sym, ap, ◌∙◌, subst, arith}
 use Rattle.search_types.specs.declared.match_kind.MatchKind.TheVariants.{LeftmostFirst}
 use Rattle.search_types.specs.declared.match_error.MatchErrorKind.TheVariants.{NoMemory}
 use Rattle.search_types.specs.declared.anchored.Anchored.TheVariants.{No}
@@ -9,11 +9,13 @@ use Rattle.nfa_core.specs.Nfa.{byte_range, binary_union, match_node}
 use Rattle.determinize_core.specs.LookBehind.{families_of}
 use Rattle.determinize_core.specs.KnownBefore.{known_lines, known_words}
 use Rattle.lazy_dfa.specs.AnewTold.{told_anew, cut_told, cut_left, cleared_first, cleared_inside, ToldSince, FailsSince, fails_later}
+use Rattle.lazy_dfa.specs.Caches.{CacheValue}
+use Rattle.lazy_dfa.specs.Dfas.{Dfa, reader}
 use Rattle.lazy_dfa.specs.LeftTold.{left_first}
 use Rattle.lazy_dfa.specs.Linked.{passes_of}
 use Rattle.lazy_dfa.specs.Passes.{next_value, pass_from, start_or_dead}
 use Rattle.lazy_dfa.specs.Readers.{Reader}
-use Rattle.lazy_dfa.specs.SearchAnswers.{Told}
+use Rattle.lazy_dfa.specs.SearchAnswers.{Told, told_of}
 
 abbrev so_many : ℕ → Told
 so_many n = record { searched = n; progress = None }
@@ -99,14 +101,15 @@ cleared_at_its_end = record {
 }
 
 -- cleared in the first pass, and the second one has no memory to start
-refused_behind_it : FailsSince of_nothing inside NoMemory (so_many 1)
+refused_behind_it : (d : Dfa) (v : CacheValue) → reader d ≡ of_nothing → told_of v ≡ so_many 1 → FailsSince d inside NoMemory v
 unfolding families_of known_lines known_words next_value start_or_dead pass_from
-refused_behind_it = fails_later ((1, 1) ∷ []) [] (0, 2) (so_many 1) refl (record {
-  done = [];
-  cut = (1, 1);
-  behind = [];
-  all = refl;
-  first = so_many 1;
-  anew = cleared_inside 0 (omega arith) refl;
-  told = refl;
-}) (left_first tt refl)
+refused_behind_it d v is same = fails_later ((1, 1) ∷ []) [] (0, 2) (so_many 1) (ap (λ (r : Reader). passes_of r inside) is ∙ refl)
+    (subst (λ (r : Reader). ToldSince r inside ((1, 1) ∷ []) (so_many 1)) (sym is) (record {
+      done = [];
+      cut = (1, 1);
+      behind = [];
+      all = refl;
+      first = so_many 1;
+      anew = cleared_inside 0 (omega arith) refl;
+      told = refl;
+    })) (left_first tt same)

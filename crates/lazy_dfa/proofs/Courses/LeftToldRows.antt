@@ -1,17 +1,22 @@
 -- How far searches came that were refused, worked out by hand.
-use Rattle.std.proofs.Common.{◌≡◌, ℕ, true, false, [], ◌∷◌, ◌++◌, replicate, Some, None, refl, arith}
+use Rattle.std.proofs.Common.{◌≡◌, ℕ, ◌<◌, true, false, List, [], ◌∷◌, ◌++◌, replicate, Some, None, refl, sym, ap, ◌∙◌, subst, arith}
 use Rattle.search_types.specs.declared.match_kind.MatchKind.TheVariants.{LeftmostFirst}
 use Rattle.search_types.specs.declared.anchored.Anchored.TheVariants.{No}
-use Rattle.search_types.specs.declared.match_error.MatchErrorKind.TheVariants.{NoMemory}
+use Rattle.search_types.specs.declared.match_error.MatchErrorKind.TheVariants.{GaveUp, NoMemory}
 use Rattle.search_types.specs.Inputs.{Search}
 use Rattle.look_core.specs.Terminators.{one_of}
+use Rattle.nfa_core.specs.Ways.{place_of}
 use Rattle.nfa_core.specs.Nfa.{byte_range, binary_union, match_node}
 use Rattle.determinize_core.specs.LookBehind.{families_of}
 use Rattle.determinize_core.specs.KnownBefore.{known_lines, known_words}
+use Rattle.lazy_dfa.specs.Caches.{CacheValue, lacks_room}
+use Rattle.lazy_dfa.specs.Dfas.{Dfa, reader}
 use Rattle.lazy_dfa.specs.LeftTold.{told_from, left_told, LeavesTold, left_first, left_at_unit}
-use Rattle.lazy_dfa.specs.Passes.{next_value, pass_from, start_or_dead}
+use Rattle.lazy_dfa.specs.Linked.{passes_of}
+use Rattle.lazy_dfa.specs.Passes.{index_at, next_value, first_value, pass_from, start_or_dead}
+use Rattle.lazy_dfa.specs.PassLaws.{pass_len}
 use Rattle.lazy_dfa.specs.Readers.{Reader}
-use Rattle.lazy_dfa.specs.SearchAnswers.{Told}
+use Rattle.lazy_dfa.specs.SearchAnswers.{Told, told_of, told_by}
 
 abbrev nothing_told : Told
 nothing_told = record { searched = 0; progress = None }
@@ -87,22 +92,59 @@ of_nothing = record {
 abbrev inside : Search
 inside = record { haystack = 0xCE ∷ 0xB2 ∷ []; start = 1; end = 2; anchored = No; earliest = false }
 
-first_pass_has_no_room : LeavesTold of_nothing inside NoMemory nothing_told nothing_told
-unfolding families_of known_lines known_words next_value start_or_dead pass_from
-first_pass_has_no_room = record { done = []; refused = (1, 1); behind = (0, 2) ∷ []; all = refl; left = left_first tt refl }
+module _ (d : Dfa) (v : CacheValue) (is : reader d ≡ of_nothing) where
+  abbrev AllAre : List (ℕ × ℕ) → Type 0
+  AllAre ps = passes_of (reader d) inside ≡ ps
 
--- the first pass has read its byte, on from 1, and looked no further
-second_pass_has_no_room : LeavesTold of_nothing inside NoMemory nothing_told (so_many 1)
-unfolding families_of known_lines known_words next_value start_or_dead pass_from
-second_pass_has_no_room = record { done = (1, 1) ∷ []; refused = (0, 2); behind = []; all = refl; left = left_first tt refl }
+  both_passes : AllAre ((1, 1) ∷ (0, 2) ∷ [])
+  unfolding families_of known_lines known_words next_value start_or_dead pass_from
+  both_passes = ap (λ (r : Reader). passes_of r inside) is ∙ refl
 
--- nor at its unit, where it has begun
-second_pass_has_none_at_the_end : LeavesTold of_nothing inside NoMemory nothing_told (goes_on 1 2 2)
-unfolding families_of known_lines known_words next_value start_or_dead pass_from
-second_pass_has_none_at_the_end = record {
-  done = (1, 1) ∷ [];
-  refused = (0, 2);
-  behind = [];
-  all = refl;
-  left = left_at_unit 0 (omega arith) tt (record { byte = 0; read = omega arith; there = λ l. refl; told = refl });
-}
+  first_pass_has_no_room : told_of v ≡ nothing_told → LeavesTold d inside NoMemory nothing_told v
+  first_pass_has_no_room same = record {
+    done = [];
+    refused = (1, 1);
+    behind = (0, 2) ∷ [];
+    all = both_passes;
+    left = left_first tt same;
+  }
+
+  -- it gives up since its first state has no room, and has reported nothing
+  first_pass_gives_up : lacks_room d v (first_value (reader d) No inside.haystack 1) ≡ true → told_of v ≡ nothing_told →
+      LeavesTold d inside (GaveUp 1) nothing_told v
+  first_pass_gives_up lacks same = record {
+    done = [];
+    refused = (1, 1);
+    behind = (0, 2) ∷ [];
+    all = both_passes;
+    left = left_first (refl, lacks) same;
+  }
+
+  -- the first pass has read its byte, on from 1, and looked no further
+  second_pass_has_no_room : told_of v ≡ so_many 1 → LeavesTold d inside NoMemory nothing_told v
+  unfolding families_of known_lines known_words next_value start_or_dead pass_from
+  second_pass_has_no_room same = record {
+    done = (1, 1) ∷ [];
+    refused = (0, 2);
+    behind = [];
+    all = both_passes;
+    left = left_first tt (same ∙ sym (ap (λ (r : Reader). told_by r inside nothing_told ((1, 1) ∷ [])) is));
+  }
+
+  -- nor at its unit, where it has begun
+  second_pass_has_none_at_the_end : told_of v ≡ goes_on 1 2 2 → LeavesTold d inside NoMemory nothing_told v
+  unfolding families_of known_lines known_words next_value start_or_dead pass_from
+  second_pass_has_none_at_the_end same = record {
+    done = (1, 1) ∷ [];
+    refused = (0, 2);
+    behind = [];
+    all = both_passes;
+    left = left_at_unit 0 (subst (λ (r : Reader). 0 < pass_len r No false inside.haystack 0 2) (sym is) (omega arith)) tt (record {
+      byte = 0;
+      read = omega arith;
+      there = λ l. refl;
+      told = same ∙ sym (ap (λ (r : Reader). left_told r.automaton.reverse false 0 0
+          (index_at r.automaton.reverse (place_of r.automaton.reverse 2 0))
+          (told_from r.automaton.reverse (0, 2) (told_by r inside nothing_told ((1, 1) ∷ [])))) is);
+    });
+  }

@@ -5,18 +5,19 @@ use Rattle.std.proofs.lemmas.Bool.{cases_lt, cases_eq, le-ltb, lt-ltb, ne_eqb, e
 use Rattle.std.proofs.lemmas.Bool.Decides.{leb_tells}
 use Rattle.nfa_core.specs.Ways.{place_of}
 use Rattle.determinize_core.specs.States.{StateValue}
+use Rattle.determinize_core.specs.Steps.{unit_at}
 use Rattle.search_types.specs.declared.match_error.MatchErrorKind.{MatchErrorKind}
 use Rattle.search_types.specs.declared.match_error.MatchErrorKind.TheVariants.{Quit, GaveUp, HaystackTooLong, UnsupportedAnchored, NotAPair}
 use Rattle.search_types.specs.declared.match_error.MatchErrorKind.TheVariants.{NoMemory}
 use Rattle.search_types.specs.Found.{HalfFound}
 use Rattle.search_types.specs.Inputs.{Search}
-use Rattle.lazy_dfa.specs.Caches.{CacheValue, IsCacheOf, HeldAt, IsRow, greatest}
-use Rattle.lazy_dfa.specs.Courses.{HasNoStop}
+use Rattle.lazy_dfa.specs.Caches.{CacheValue, IsCacheOf, HeldAt, IsRow, greatest, lacks_room}
+use Rattle.lazy_dfa.specs.Courses.{HasNoStop, state_behind}
 use Rattle.lazy_dfa.specs.declared.position.Position.{Position}
 use Rattle.lazy_dfa.specs.declared.progress.Progress.{Progress}
 use Rattle.lazy_dfa.specs.Dfas.{Dfa, IsDfa, reader}
 use Rattle.lazy_dfa.specs.LeftTold.{is_quit_error, IsRefusedAt, LeftAt}
-use Rattle.lazy_dfa.specs.Linked.{HasCleared}
+use Rattle.lazy_dfa.specs.Linked.{HasCleared, IsMoved}
 use Rattle.lazy_dfa.specs.MadePasses.{span_len}
 use Rattle.lazy_dfa.specs.Passes.{index_at}
 use Rattle.lazy_dfa.specs.Points.{Point, Follows, point, began}
@@ -28,8 +29,9 @@ use Rattle.lazy_dfa.specs.Turns.{Leaves}
 use Rattle.lazy_dfa.proofs.Courses.AnewToldLemmas.{came_last, came_less, IsGoing, going_by, going_later, begun_so, going_first, going_on}
 use Rattle.lazy_dfa.proofs.Courses.AnewToldLemmas.{refused_so, ends_told}
 use Rattle.lazy_dfa.proofs.CacheChanges.LinkedLemmas.{AreBytes, cleared_grows}
-use Rattle.lazy_dfa.proofs.Courses.SpanTurnLemmas.{cleared_between}
-use Rattle.lazy_dfa.proofs.Courses.RunLemmas.{between_on, reads_this, runs_found, runs_quit, runs_no_memory, runs_gave_up}
+use Rattle.lazy_dfa.proofs.Courses.SpanTurnLemmas.{cleared_between, held_moved}
+use Rattle.lazy_dfa.proofs.Courses.RunLemmas.{between_on, held_here, next_is, reads_this, runs_found, runs_quit, runs_no_memory}
+use Rattle.lazy_dfa.proofs.Courses.RunLemmas.{runs_gave_up}
 
 -- ---- places
 
@@ -243,7 +245,7 @@ module _ (d : Dfa) (q : Search) (is_reverse : Bool) (is : is_reverse ≡ d.nfa.a
       untold : tells is_reverse q ≡ false → (told_of p.cache ≡ told_of from.cache) × (p.cache.clears ≡ from.cache.clears)
       untold t = (ap told_of (same t), ap (λ (c : CacheValue). c.clears) (same t))
 
-      left : (e : MatchErrorKind) → IsRefusedAt back (span_len q) from.at k e → Leaves d q.haystack p v m n 0 →
+      left : (e : MatchErrorKind) → IsRefusedAt d v q.haystack s (span_len q) from.at k e → Leaves d q.haystack p v m n 0 →
           TellsTurn d (is_quit_error e) false q p.at p.cache v →
           IsRestTold d q s from.at (Err e) from.cache v
       left e refused leaves turn = (
@@ -266,13 +268,29 @@ module _ (d : Dfa) (q : Search) (is_reverse : Bool) (is : is_reverse ≡ d.nfa.a
           ∙ (gave_up_there is_reverse q p.at from.at k within (place ∙ ap (λ (y : Bool). place_of y from.at k) (sym is)) refl
           ∙ ap (λ (y : Bool). give_up_place y (span_len q) from.at k) is))
 
+      -- the unit is a quit byte, or the state after it has no room and the one before it is held
+      quit_here : (b x : ℕ) → unit_at back q.haystack p.at ≡ Some b → x ≡ index_at back p.at →
+          IsRefusedAt d v q.haystack s (span_len q) from.at k (Quit b x)
+      quit_here b x unit is = (sym (ap (unit_at back q.haystack) place) ∙ unit, is ∙ ap (index_at back) place)
+
+      gave_up_here : (x : ℕ) → x ≡ gave_up_at back q p.at → IsMoved p.cache v →
+          ((t : StateValue) → HeldAt p.cache p.id t → lacks_room d v (state_behind (reader d) q.haystack p.at t 1) ≡ true) →
+          IsRefusedAt d v q.haystack s (span_len q) from.at k (GaveUp x)
+      gave_up_here x is moved lacks =
+          let state = state_behind (reader d) q.haystack from.at s k in
+          let there = held_here d q made bytes s from p k own mine held here none between inside in (
+            gave_up_place x is,
+            (p.id, held_moved p.cache v p.id state moved there),
+            sym (ap (lacks_room d v) (next_is d q made bytes s from p k own mine held here none between inside)) ∙ lacks state there,
+          )
+
       pub ends_error : (e : MatchErrorKind) → TurnsTo d q p v m n (Err e) → RunsOn d q s from v m n (Err e)
       ends_error (Quit b x) t = runs_quit d q made bytes s from p k own mine held here none between inside v m n t.0 b x t.1 t.2 t.3
-          (left (Quit b x) (t.3 ∙ ap (index_at back) place) t.0 t.4)
+          (left (Quit b x) (quit_here b x t.1 t.3) t.0 t.4)
       ends_error (GaveUp x) t =
           runs_gave_up d q made bytes s from p k own mine held here none between inside v m n t.0 x (gave_up_place x t.2) t.3
           (λ l. t.4 (λ e. let far = came_last is_reverse q p.at (e ∙ ap (λ (y : Bool). last_place y q) (sym is)) in omega (arith, l, far)))
-          t.1 (left (GaveUp x) (gave_up_place x t.2) t.0.leaves t.5)
+          t.1 (left (GaveUp x) (gave_up_here x t.2 t.6 t.3) t.0.leaves t.5)
       ends_error NoMemory t = runs_no_memory d q made bytes s from p k own mine held here none between inside v m n t.0
           (left NoMemory tt t.0.leaves t.1)
       ends_error (HaystackTooLong len) t = absurd t

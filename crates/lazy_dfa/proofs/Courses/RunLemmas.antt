@@ -204,7 +204,7 @@ module _ (d : Dfa) (q : Search) (made : IsDfa d) (bytes : AreBytes q.haystack) (
   alive : is_dead state ≡ false
   alive = let x = held_here in not_dead state (λ e. mine.lives x.0 x.1 (sym x.3 ∙ e))
 
-  next_is : state_behind (reader d) h p.at state 1 ≡ state_behind (reader d) h from.at s (suc k)
+  pub next_is : state_behind (reader d) h p.at state 1 ≡ state_behind (reader d) h from.at s (suc k)
   next_is = let one : k + 1 ≡ suc k = omega arith in
       state_there (reader d) h from.at p.at k goes.place s 1 ∙ ap (state_behind (reader d) h from.at s) one
 
@@ -252,9 +252,9 @@ module _ (d : Dfa) (q : Search) (made : IsDfa d) (bytes : AreBytes q.haystack) (
         (made_within (reader d) h from.at s k units (omega (arith, l))) from.cache p.cache k (goes.changes s (names_held held)))
         new 1 units (omega (arith, l))
         (changes_into d (IsMadeAt (reader d) h p.at state 1) (IsMadeAt (reader d) h from.at s units)
-        (λ (b : Bool) (t : StateValue) (y : IsMadeAt (reader d) h p.at state 1 b t).
-        made_within (reader d) h from.at s (k + 1) units (omega (arith, l)) b t
-        (made_behind (reader d) h from.at p.at k 1 goes.place s read b t y)) p.cache new 1 (x.changes state (names_held held_here)))
+        (λ (b : Bool) (o : Option StateValue) (t : StateValue) (y : IsMadeAt (reader d) h p.at state 1 b o t).
+        made_within (reader d) h from.at s (k + 1) units (omega (arith, l)) b o t
+        (made_behind (reader d) h from.at p.at k 1 goes.place s read b o t y)) p.cache new 1 (x.changes state (names_held held_here)))
 
     -- the unit is a quit byte
     pub runs_quit : (b y : ℕ) → unit_at d.nfa.automaton.reverse h p.at ≡ Some b → has d.quits b ≡ true →

@@ -150,20 +150,20 @@ module _ (d : Dfa) (q : Search) (old new : CacheValue) (m1 m2 n1 n2 : ℕ) (resu
       (λ kept same less. (not_forgotten kept same less).2) made.follows
 
   is_left_then : IfErr result (λ e. new.clears ≡ old.clears → old.clears < greatest →
-      LeavesTold (reader d) q e (told_of old) (told_of new))
+      LeavesTold d q e (told_of old) new)
   is_left_then = left result made.anew
     where
-      left : (x : Result (Option HalfFound) MatchErrorKind) → IsSearchTold (reader d) q x old new →
-          IfErr x (λ e. new.clears ≡ old.clears → old.clears < greatest → LeavesTold (reader d) q e (told_of old) (told_of new))
+      left : (x : Result (Option HalfFound) MatchErrorKind) → IsSearchTold d q x old new →
+          IfErr x (λ e. new.clears ≡ old.clears → old.clears < greatest → LeavesTold d q e (told_of old) new)
       left (Ok f) t = tt
       left (Err e) (inl l) = λ same less. l.0
       left (Err e) (inr c) = λ same less. absurd (not_cleared old new c.0 same less)
 
-  is_told_since : (new.clears ≡ old.clears → ⊥) → IsToldSince (reader d) q result (told_of new)
+  is_told_since : (new.clears ≡ old.clears → ⊥) → IsToldSince d q result new
   is_told_since other = since result made.anew
     where
-      since : (x : Result (Option HalfFound) MatchErrorKind) → IsSearchTold (reader d) q x old new →
-          IsToldSince (reader d) q x (told_of new)
+      since : (x : Result (Option HalfFound) MatchErrorKind) → IsSearchTold d q x old new →
+          IsToldSince d q x new
       since (Ok f) (inl same) = absurd (other same.1)
       since (Ok f) (inr c) = c.1
       since (Err e) (inl same) = absurd (other same.1)

@@ -190,7 +190,7 @@ module _ (d : Dfa) (q : Search) (old now next : CacheValue) (m1 m2 m3 n1 n2 n3 :
   since_now : TellsAnew r q.anchored q.earliest q.haystack p (told_of next) → ToldSince r q (ps ++ p ∷ []) (told_of next)
   since_now t = record { done = ps; cut = p; behind = []; all = refl; first = told_of next; anew = t; told = refl }
 
-  anew_one : (f : Option HalfFound) → Pass (Ok f) → IsTold now ps → IsPassTold r q.anchored q.earliest q.haystack p (Ok f) now next →
+  anew_one : (f : Option HalfFound) → Pass (Ok f) → IsTold now ps → IsPassTold d q.anchored q.earliest q.haystack p (Ok f) now next →
       IsTold next (ps ++ p ∷ [])
   anew_one f pass (inl a) (inl b) = inl (
     b.0 ∙ (ap (λ (t : Told). told_by_pass r q.anchored q.earliest q.haystack t p) a.0 ∙ sym (told_join r q (told_of old) ps p)),
@@ -235,15 +235,15 @@ module _ (d : Dfa) (q : Search) (old now next : CacheValue) (m1 m2 m3 n1 n2 n3 :
     answered (inr (inr g)) =
         inr (inr (g.0, g.1, subst (λ (os : List (ℕ × ℕ)). GivesUpAmong d next q g.0 os) all (gave_up_among d next q g.0 ps tail p g.2)))
 
-    fails_anew : Pass (Err x) → IsTold now ps → IsPassTold r q.anchored q.earliest q.haystack p (Err x) now next →
-        IsSearchTold r q (Err x) old next
+    fails_anew : Pass (Err x) → IsTold now ps → IsPassTold d q.anchored q.earliest q.haystack p (Err x) now next →
+        IsSearchTold d q (Err x) old next
     fails_anew pass (inl a) (inl l) = inl (
       record {
         done = ps;
         refused = p;
         behind = tail;
         all = sym all;
-        left = subst (λ (t : Told). LeavesPass r q.anchored q.earliest q.haystack p x t (told_of next)) a.0 l.0;
+        left = subst (λ (t : Told). LeavesPass d q.anchored q.earliest q.haystack p x t next) a.0 l.0;
       },
       l.1 ∙ a.1,
     )

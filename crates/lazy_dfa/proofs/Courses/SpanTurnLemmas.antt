@@ -392,6 +392,7 @@ module _ (d : Dfa) (q : Search) (is_reverse : Bool) (same : is_reverse ≡ d.nfa
     λ s held. turn.2 s (held_moved v0 v1 id s moved held),
     λ far. ap (λ (v : CacheValue). running_at v.progress) turn.3 ∙ runs far,
     inl (tells false (ap told_of turn.3), ap (λ (v : CacheValue). v.clears) turn.3 ∙ moved_clears v0 v1 moved),
+    subst (λ (v : CacheValue). IsMoved v0 v) (sym turn.3) moved,
   )
 
   -- a turn that was refused

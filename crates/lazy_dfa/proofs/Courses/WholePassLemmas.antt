@@ -20,7 +20,7 @@ use Rattle.lazy_dfa.specs.Caches.{lacks_room}
 use Rattle.lazy_dfa.specs.ConfigValue.{starts_each_of}
 use Rattle.lazy_dfa.specs.Courses.{state_behind}
 use Rattle.lazy_dfa.specs.declared.start_error.StartError.{StartError}
-use Rattle.lazy_dfa.specs.declared.start_error.StartError.TheVariants.{Cache, Quit, UnsupportedAnchored, NoMemory}
+use Rattle.lazy_dfa.specs.declared.start_error.StartError.TheVariants.{Quit, UnsupportedAnchored}
 use Rattle.lazy_dfa.specs.Dfas.{Dfa, IsDfa, reader, start_in}
 use Rattle.lazy_dfa.specs.Ids.{unknown_id, dead_id, has_tag, dead_tag}
 use Rattle.lazy_dfa.specs.LeftTold.{told_from, LeftAt, is_quit_error, IsRefusedFirst, IsRefusedAt, LeavesPass, left_first, left_at_unit}
@@ -222,11 +222,31 @@ fresh_start old new w = fresh_anew (told_of old) (told_of new) (λ i. record { s
 pub same_told : (d : Dfa) (a b : CacheValue) → Grew d a b → told_of b ≡ told_of a
 same_told d a b g = λ n. record { searched = g.searched n; progress = g.progress n }
 
-first_error : (is_reverse : Bool) (i : ℕ) (x : StartError) → IsRefusedFirst is_reverse i (error_at (index_behind is_reverse i) i x)
-first_error is_reverse i (Cache e) = refl
-first_error is_reverse i (Quit b) = refl
-first_error is_reverse i (UnsupportedAnchored mode) = tt
-first_error is_reverse i NoMemory = tt
+-- a start that is refused whatever the cache holds is so for the byte before it or for the mode
+abbrev IsRefusedFor : Anchored → Option ℕ → StartError → Type 0
+IsRefusedFor mode o x = ((b : ℕ) × (o ≡ Some b) × (x ≡ Quit b)) ⊎ (x ≡ UnsupportedAnchored mode)
+
+mode_is : (fit : Bool) (mode : Anchored) (x : StartError) → (if fit then None else Some (UnsupportedAnchored mode)) ≡ Some x →
+    x ≡ UnsupportedAnchored mode
+mode_is true mode x e = absurd cc
+mode_is false mode x e = cc
+
+refused_for : (d : Dfa) (mode : Anchored) (o : Option ℕ) (x : StartError) → behind_refusal d o (mode_refusal d mode) ≡ Some x →
+    IsRefusedFor mode o x
+refused_for d mode None x e = inr (mode_is (is_supported (starts_each_of d.options) mode) mode x e)
+refused_for d mode (Some b) x e = by (is_quit d.quits (Some b)) e
+  where
+    by : (quits : Bool) → quit_refusal quits b (mode_refusal d mode) ≡ Some x → IsRefusedFor mode (Some b) x
+    by true e = inl (b, refl, cc)
+    by false e = inr (mode_is (is_supported (starts_each_of d.options) mode) mode x e)
+
+first_error : (d : Dfa) (v : CacheValue) (mode : Anchored) (h : List ℕ) (i : ℕ) (x : StartError) →
+    IsRefusedFor mode (unit_behind d.nfa.automaton.reverse h i) x →
+    IsRefusedFirst d v mode h i (error_at (index_behind d.nfa.automaton.reverse i) i x)
+first_error d v mode h i x (inl (b, unit, is)) =
+    subst (λ (y : StartError). IsRefusedFirst d v mode h i (error_at (index_behind d.nfa.automaton.reverse i) i y)) (sym is) (unit, refl)
+first_error d v mode h i x (inr is) =
+    subst (λ (y : StartError). IsRefusedFirst d v mode h i (error_at (index_behind d.nfa.automaton.reverse i) i y)) (sym is) tt
 
 module _ (d : Dfa) (q : Search) (old new : CacheValue) (m1 m2 n1 n2 : ℕ) (e : MatchErrorKind)
     (start : StartsPass d q old new m1 m2 n1 n2 (Err e)) (own : IsCacheOf d old) where
@@ -239,28 +259,29 @@ module _ (d : Dfa) (q : Search) (old new : CacheValue) (m1 m2 n1 n2 : ℕ) (e : 
   abbrev length : ℕ
   length = pass_len (reader d) q.anchored q.earliest q.haystack (span_len q) at
 
-  pub refused_first : IsRefusedFirst d.nfa.automaton.reverse at e
+  pub refused_first : IsRefusedFirst d new q.anchored q.haystack at e
   refused_first = ⊎_elim
       (λ (x : (start_refusal d (pass_start d q) ≢ None) × (Err e ≡ told whole)). by (start_refusal d (pass_start d q)) refl x.0 x.1)
       (λ (x : (e ≡ SearchNoMemory) ⊎ ((e ≡ GaveUp at) × (lacks_room d new (first_value (reader d) q.anchored q.haystack at) ≡ true) ×
       (start_refusal d (pass_start d q) ≡ None))).
       ⊎_elim
-      (λ (f : e ≡ SearchNoMemory). subst (IsRefusedFirst d.nfa.automaton.reverse at) (sym f) tt)
+      (λ (f : e ≡ SearchNoMemory). subst (IsRefusedFirst d new q.anchored q.haystack at) (sym f) tt)
       (λ (f : (e ≡ GaveUp at) × (lacks_room d new (first_value (reader d) q.anchored q.haystack at) ≡ true) ×
       (start_refusal d (pass_start d q) ≡ None)). subst
-      (IsRefusedFirst d.nfa.automaton.reverse at) (sym f.0) refl)
+      (IsRefusedFirst d new q.anchored q.haystack at) (sym f.0) (refl, f.1))
       x)
       start.err
     where
       by : (o : Option StartError) → start_refusal d (pass_start d q) ≡ o → start_refusal d (pass_start d q) ≢ None → Err e ≡ told whole →
-          IsRefusedFirst d.nfa.automaton.reverse at e
+          IsRefusedFirst d new q.anchored q.haystack at e
       by None f some is = absurd (some f)
       by (Some x) f some is =
           let same : e ≡ error_at (index_behind d.nfa.automaton.reverse at) at x =
           one_failed e (error_at (index_behind d.nfa.automaton.reverse at) at x)
           (is ∙ sym (pass_told d (unit_behind d.nfa.automaton.reverse q.haystack at) q.anchored (index_behind d.nfa.automaton.reverse at) at
           (pass_from (reader d) q.earliest q.haystack (suc (span_len q)) at (first_value (reader d) q.anchored q.haystack at) None) x f)) in
-          subst (IsRefusedFirst d.nfa.automaton.reverse at) (sym same) (first_error d.nfa.automaton.reverse at x)
+          subst (IsRefusedFirst d new q.anchored q.haystack at) (sym same) (first_error d new q.anchored q.haystack at x
+          (refused_for d q.anchored (unit_behind d.nfa.automaton.reverse q.haystack at) x f))
 
   pub refused_pass : MakesPass d q old new m1 m2 n1 n2 (Err e)
   refused_pass = record {
@@ -296,7 +317,7 @@ module _ (d : Dfa) (q : Search) (old new : CacheValue) (m1 m2 n1 n2 : ℕ) (e : 
         start.kept;
     changes = changes_more d (IsMadeIn d q.anchored q.earliest q.haystack (span_len q, at)) old new 1 (suc length) (omega arith)
         (start_changes d q.anchored q.haystack at (IsMadeIn d q.anchored q.earliest q.haystack (span_len q, at))
-        (λ (b : Bool) (s : StateValue) (x : IsMadeFirst d q.anchored q.haystack at b s). inl x) old new own start.adds);
+        (λ (b : Bool) (o : Option StateValue) (s : StateValue) (x : IsMadeFirst d q.anchored q.haystack at b o s). inl x) old new own start.adds);
   }
 
 -- ---- a start that is told
@@ -416,20 +437,20 @@ module _ (d : Dfa) (q : Search) (old mid : CacheValue) (m1 m n1 n id : ℕ) (mad
         (pass_distance d.nfa.automaton.reverse (span_len q) all)) (nothing_told (told_of new) tell)))
 
     told_ok : (f : Option HalfFound) → IsRestTold d q first from (Ok f) here new →
-        IsPassTold (reader d) q.anchored q.earliest q.haystack p (Ok f) old new
+        IsPassTold d q.anchored q.earliest q.haystack p (Ok f) old new
     told_ok f (inl e) = ⊎_elim
         (λ (g : Grew d old mid). inl (told_behind_all g e.0, clears_here g e.1))
         (λ (w : WasCleared old mid 1). inr (clear_first w, cleared_first (told_of mid) (fresh_start old mid w) (told_behind_mid e.0)))
         start.kept
     told_ok f (inr c) = inr (cleared_here c.0, pass_anew c.1)
 
-    module _ (e : MatchErrorKind) (k : ℕ) (less : k < units) (at : IsRefusedAt d.nfa.automaton.reverse (span_len q) from k e) where
+    module _ (e : MatchErrorKind) (k : ℕ) (less : k < units) (at : IsRefusedAt d new q.haystack first (span_len q) from k e) where
       less_all : k < all
       less_all = subst (λ (n : ℕ). k < n) same_len less
 
       left_from : (t : Told) → LeftAt d.nfa.automaton.reverse (is_quit_error e) (span_len q) from k (told_from d.nfa.automaton.reverse p t)
           (told_of new) →
-          LeavesPass (reader d) q.anchored q.earliest q.haystack p e t (told_of new)
+          LeavesPass d q.anchored q.earliest q.haystack p e t new
       left_from t l = left_at_unit k less_all at l
 
       begun_mid : told_of here ≡ told_from d.nfa.automaton.reverse p (told_of mid)
@@ -439,7 +460,7 @@ module _ (d : Dfa) (q : Search) (old mid : CacheValue) (m1 m n1 n id : ℕ) (mad
       Left t = LeftAt d.nfa.automaton.reverse (is_quit_error e) (span_len q) from k t (told_of new)
 
       fails_so : RestFails d.nfa.automaton.reverse (is_quit_error e) q from k (told_of new) →
-          FailsAnew (reader d) q.anchored q.earliest q.haystack p e (told_of new)
+          FailsAnew d q.anchored q.earliest q.haystack p e new
       fails_so (fails_at cut) = fails_inside k less_all at cut
       fails_so (fails_untold tell fresh l) =
           fails_first (told_of new) fresh (left_from (told_of new) (subst Left
@@ -449,7 +470,7 @@ module _ (d : Dfa) (q : Search) (old mid : CacheValue) (m1 m n1 n id : ℕ) (mad
       told_err : (LeftAt d.nfa.automaton.reverse (is_quit_error e) (span_len q) from k (told_of here) (told_of new) ×
           (new.clears ≡ here.clears)) ⊎
           (HasCleared here new × RestFails d.nfa.automaton.reverse (is_quit_error e) q from k (told_of new)) →
-          IsPassTold (reader d) q.anchored q.earliest q.haystack p (Err e) old new
+          IsPassTold d q.anchored q.earliest q.haystack p (Err e) old new
       told_err (inl l) = ⊎_elim
           (λ (g : Grew d old mid). inl (
             left_from (told_of old) (subst Left (begun_mid ∙ ap (told_from d.nfa.automaton.reverse p) (same_told d old mid g)) l.0),
@@ -464,7 +485,7 @@ module _ (d : Dfa) (q : Search) (old mid : CacheValue) (m1 m n1 n id : ℕ) (mad
       told_err (inr c) = inr (cleared_here c.0, fails_so c.1)
 
     told_anew_pass : (r : Result (Option HalfFound) MatchErrorKind) → IsRestTold d q first from r here new →
-        IsPassTold (reader d) q.anchored q.earliest q.haystack p r old new
+        IsPassTold d q.anchored q.earliest q.haystack p r old new
     told_anew_pass (Ok f) x = told_ok f x
     told_anew_pass (Err e) x = told_err e x.0 x.1 x.2 x.3
 
@@ -524,11 +545,11 @@ module _ (d : Dfa) (q : Search) (old mid : CacheValue) (m1 m n1 n id : ℕ) (mad
       anew = told_anew_pass result runs.anew;
       changes = changes_on d (IsMadeIn d q.anchored q.earliest q.haystack (span_len q, from)) old mid 1
           (start_changes d q.anchored q.haystack from (IsMadeIn d q.anchored q.earliest q.haystack (span_len q, from))
-          (λ (b : Bool) (s : StateValue) (x : IsMadeFirst d q.anchored q.haystack from b s). inl x) old mid own start.adds)
+          (λ (b : Bool) (o : Option StateValue) (s : StateValue) (x : IsMadeFirst d q.anchored q.haystack from b o s). inl x) old mid own start.adds)
           new all (suc all) (omega arith)
           (changes_into d (IsMadeAt (reader d) q.haystack from first all)
           (IsMadeIn d q.anchored q.earliest q.haystack (span_len q, from))
-          (λ (b : Bool) (s : StateValue) (x : IsMadeAt (reader d) q.haystack from first all b s). inr x) mid new all
+          (λ (b : Bool) (o : Option StateValue) (s : StateValue) (x : IsMadeAt (reader d) q.haystack from first all b o s). inr x) mid new all
           (subst (λ (k : ℕ). Changes d (IsMadeAt (reader d) q.haystack from first k) mid new k) same_len
           (changes_from_moved d (IsMadeAt (reader d) q.haystack from first units) mid here new units moved runs.changes)));
     }

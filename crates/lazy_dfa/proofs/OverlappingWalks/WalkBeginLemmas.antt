@@ -78,7 +78,7 @@ start_changes_so : (d : Dfa) (q : Search) → nat_le q.start q.end ≡ true → 
 start_changes_so d q begun old new own adds =
     subst (Changes d (IsMadeOnCall d q Fresh) old new) (sym (one_start q begun))
     (start_changes d q.anchored q.haystack (begins_at (reader d) q) (IsMadeOnCall d q Fresh)
-    (λ (b : Bool) (s : StateValue) (x : IsMadeFirst d q.anchored q.haystack (begins_at (reader d) q) b s).
+    (λ (b : Bool) (o : Option StateValue) (s : StateValue) (x : IsMadeFirst d q.anchored q.haystack (begins_at (reader d) q) b o s).
     inl (record { fresh = refl; first = x })) old new own adds)
 
 -- and with it a call that reads nothing

@@ -111,7 +111,7 @@ module _ (d : Dfa) (q : Search) (v : CacheValue) (m n : ℕ) (w : Walk) (after :
         progress = None;
       } else told_of v) silent
 
-      none_told : (x : Result ⊤ MatchErrorKind) → IfErr x (λ e. w ≡ Failed e) → IsCallTold (reader d) q w x v v
+      none_told : (x : Result ⊤ MatchErrorKind) → IfErr x (λ e. w ≡ Failed e) → IsCallTold d q w x v v
       none_told (Ok u) was = inl (sym same_told, refl)
       none_told (Err e) was = inl (left_failed was refl, refl)
 
@@ -175,7 +175,8 @@ module _ (d : Dfa) (q : Search) (w : Walk) (old mid new : CacheValue) (m1 m m2 n
   changes_so c =
       changes_on d (IsMadeOnCall d q w) old mid (call_starts q w) begun new (call_units r q w) (call_made r q w) (omega arith)
       (changes_into d (IsMadeAt r q.haystack at (value_before r q at) (call_units r q w)) (IsMadeOnCall d q w)
-      (λ (b : Bool) (s : StateValue) (y : IsMadeAt r q.haystack at (value_before r q at) (call_units r q w) b s). inr y)
+      (λ (b : Bool) (o : Option StateValue) (s : StateValue)
+      (y : IsMadeAt r q.haystack at (value_before r q at) (call_units r q w) b o s). inr y)
       mid new (call_units r q w)
       (subst (λ (k : ℕ). Changes d (IsMadeAt r q.haystack at (value_before r q at) k) mid new k) (sym same_units) c))
 
@@ -261,10 +262,10 @@ module _ (d : Dfa) (q : Search) (w : Walk) (old mid new : CacheValue) (m1 m m2 n
     IsReadErr k = (IsLeft (told_of mid) k × (new.clears ≡ mid.clears)) ⊎ (HasCleared mid new × IsCutAt k)
 
     abbrev IsErr : Type 0
-    IsErr = (LeavesCall r q w e (told_of old) (told_of new) × (new.clears ≡ old.clears)) ⊎
-        (HasCleared old new × FailsCallAnew r q w e (told_of new))
+    IsErr = (LeavesCall d q w e (told_of old) new × (new.clears ≡ old.clears)) ⊎
+        (HasCleared old new × FailsCallAnew d q w e new)
 
-    module _ (k : ℕ) (less : k < units_at r q at) (there : IsRefusedThere r.automaton.reverse q (place_of r.automaton.reverse at k) e)
+    module _ (k : ℕ) (less : k < units_at r q at) (there : IsRefusedThere d new q (place_of r.automaton.reverse at k) e)
         (quiet : HasNoQuit r q.haystack at k) where
       less_call : k < call_units r q w
       less_call = subst (λ (u : ℕ). k < u) (sym same_units) less
@@ -286,7 +287,7 @@ module _ (d : Dfa) (q : Search) (w : Walk) (old mid new : CacheValue) (m1 m m2 n
           ))
           told_mid
 
-    told_err : IsReadTold r q at (Err e) mid new → IsErr
+    told_err : IsReadTold d q at (Err e) mid new → IsErr
     told_err x = err_by x.0 x.1 x.2 x.3 x.4
 
   reads_not : {P : Type 0} → reads_on r q w ≡ false → P

@@ -62,8 +62,8 @@ module _ (d : Dfa) (q : Search) (old new : CacheValue) (m1 m2 n1 n2 : ℕ) (w : 
     kept = made.kept;
     tells = record {
       told = told_then result made.told;
-      left_told = call_is_left (reader d) q w old new result made.anew;
-      told_since = λ other. call_is_told_since (reader d) q w old new result made.anew other;
+      left_told = call_is_left d q w old new result made.anew;
+      told_since = λ other. call_is_told_since d q w old new result made.anew other;
       changes = made.changes;
     };
     still = made.still;

@@ -162,10 +162,10 @@ module _ (d : Dfa) (q : Search) (made : IsDfa d) (from p : Point) (own : IsCache
       (made_within (reader d) h from.at was x.steps u (omega (arith, le))) from.cache p.cache x.steps x.changes)
       w l u le
       (changes_into d (IsMadeAt (reader d) h p.at now l) (IsMadeAt (reader d) h from.at was u)
-      (λ (b : Bool) (t : StateValue) (y : IsMadeAt (reader d) h p.at now l b t).
-      made_within (reader d) h from.at was (x.steps + l) u le b t
-      (made_behind (reader d) h from.at p.at x.steps l x.place was x.read b t
-      (subst (λ (s : StateValue). IsMadeAt (reader d) h p.at s l b t) (sym later) y))) p.cache w l c)
+      (λ (b : Bool) (o : Option StateValue) (t : StateValue) (y : IsMadeAt (reader d) h p.at now l b o t).
+      made_within (reader d) h from.at was (x.steps + l) u le b o t
+      (made_behind (reader d) h from.at p.at x.steps l x.place was x.read b o t
+      (subst (λ (s : StateValue). IsMadeAt (reader d) h p.at s l b o t) (sym later) y))) p.cache w l c)
 
   abbrev before : ℕ
   before = min (from.cache.searched + progress_len from.cache.progress) greatest
@@ -296,7 +296,7 @@ module _ (d : Dfa) (q : Search) (made : IsDfa d) (from p : Point) (own : IsCache
     few_names : n ≤ p.inserted + 1 * most_inserts d → n ≤ from.inserted + units_at (reader d) q from.at * most_inserts d
     few_names f = many_names (units_at (reader d) q from.at) (let a = some_here in let e = x.units in omega (arith, a, e)) f
 
-    refuses : (e : MatchErrorKind) → Leaves d h p v m n 0 → IsRefusedThere rev q p.at e →
+    refuses : (e : MatchErrorKind) → Leaves d h p v m n 0 → IsRefusedThere d v q p.at e →
         TellsUnit d (ends_there rev (is_quit_error e) q p.at) q p.at p.cache v →
         ((told_left (rest_at (reader d) q from.at).ends (rest_at (reader d) q from.at).refusal ≡ Err e) ⊎ (e ≡ NoMemory) ⊎
         ((y : ℕ) × (e ≡ GaveUp y) × GivesUpFrom d v q from.at y)) →
@@ -314,34 +314,38 @@ module _ (d : Dfa) (q : Search) (made : IsDfa d) (from p : Point) (own : IsCache
       anew = (
         x.steps,
         let a = some_here in let e = x.units in omega (arith, a, e),
-        subst (λ (i : ℕ). IsRefusedThere rev q i e) x.place there,
+        subst (λ (i : ℕ). IsRefusedThere d v q i e) x.place there,
         x.quits,
         told_here v leaves.kept (ends_there rev (is_quit_error e) q (place_of rev from.at x.steps))
             (subst (λ (i : ℕ). TellsUnit d (ends_there rev (is_quit_error e) q i) q p.at p.cache v) x.place told),
       );
     }
 
+    lacks_here : ((s : StateValue) → HeldAt p.cache p.id s → lacks_room d v (state_behind (reader d) h p.at s 1) ≡ true) →
+        lacks_room d v (value_past (reader d) q p.at) ≡ true
+    lacks_here lacks = ap (lacks_room d v) (sym (past_one (reader d) q p.at within)) ∙ lacks now x.state
+
     pub ends_refused : (e : MatchErrorKind) → RefusesUnit d q p v m n e →
         ReadsOn d q from.at from.cache v from.determinized m from.inserted n
         (Err e)
     ends_refused (Quit b y) t =
         let left = x.rest ∙ quit_left (reader d) h (left_at rev q p.at) p.at now b alive t.1 t.2 in
-        refuses (Quit b y) t.0 t.3 t.4 (inl (ap (λ (rest : Rest). told_left rest.ends rest.refusal) left
+        refuses (Quit b y) t.0 (t.1, t.3) t.4 (inl (ap (λ (rest : Rest). told_left rest.ends rest.refusal) left
         ∙ ap (λ (i : ℕ). Err (Quit b i)) (sym t.3)))
-    ends_refused (GaveUp y) t = refuses (GaveUp y) t.0.leaves t.2 t.5 (inr (inr (
-      y,
-      refl,
-      record {
-        unit = x.steps;
-        read = let a = some_here in let e = x.units in omega (arith, a, e);
-        place = t.2 ∙ ap (gave_up_at rev q) x.place;
-        lacks = ap (λ (i : ℕ). lacks_room d v (value_past (reader d) q i)) (sym x.place)
-            ∙ (ap (lacks_room d v) (sym (past_one (reader d) q p.at within)) ∙ t.3 now x.state);
-        running = λ far. t.4 (λ e. far (sym x.place ∙ e));
-        quits = let one : x.steps + 1 ≡ suc x.steps = omega arith in subst (HasNoQuit (reader d) h from.at) one
-            (no_quit_on (reader d) h from.at p.at x.steps 1 x.place x.quits (no_quit_once (reader d) h p.at t.1));
-      },
-    )))
+    ends_refused (GaveUp y) t = refuses (GaveUp y) t.0.leaves (t.2, (p.id, held_moved p.cache v p.id now t.6 x.state), lacks_here t.3)
+        t.5 (inr (inr (
+          y,
+          refl,
+          record {
+            unit = x.steps;
+            read = let a = some_here in let e = x.units in omega (arith, a, e);
+            place = t.2 ∙ ap (gave_up_at rev q) x.place;
+            lacks = ap (λ (i : ℕ). lacks_room d v (value_past (reader d) q i)) (sym x.place) ∙ lacks_here t.3;
+            running = λ far. t.4 (λ e. far (sym x.place ∙ e));
+            quits = let one : x.steps + 1 ≡ suc x.steps = omega arith in subst (HasNoQuit (reader d) h from.at) one
+                (no_quit_on (reader d) h from.at p.at x.steps 1 x.place x.quits (no_quit_once (reader d) h p.at t.1));
+          },
+        )))
     ends_refused NoMemory t = refuses NoMemory t.0.leaves tt t.1 (inr (inl refl))
     ends_refused (HaystackTooLong len) t = absurd t
     ends_refused (UnsupportedAnchored mode) t = absurd t

@@ -148,15 +148,15 @@ walk_is_told r q at p k t start within place left units =
 
 -- ---- clauses
 
-module _ (r : Reader) (q : Search) (w : Walk) (old new : CacheValue) where
-  pub call_is_left : (result : Result ⊤ MatchErrorKind) → IsCallTold r q w result old new →
-      IfErr result (λ e. new.clears ≡ old.clears → old.clears < greatest → LeavesCall r q w e (told_of old) (told_of new))
+module _ (d : Dfa) (q : Search) (w : Walk) (old new : CacheValue) where
+  pub call_is_left : (result : Result ⊤ MatchErrorKind) → IsCallTold d q w result old new →
+      IfErr result (λ e. new.clears ≡ old.clears → old.clears < greatest → LeavesCall d q w e (told_of old) new)
   call_is_left (Ok u) told = tt
   call_is_left (Err e) (inl l) = λ same less. l.0
   call_is_left (Err e) (inr c) = λ same less. absurd (not_cleared old new c.0 same less)
 
-  pub call_is_told_since : (result : Result ⊤ MatchErrorKind) → IsCallTold r q w result old new → (new.clears ≡ old.clears → ⊥) →
-      IsCallToldSince r q w result (told_of new)
+  pub call_is_told_since : (result : Result ⊤ MatchErrorKind) → IsCallTold d q w result old new → (new.clears ≡ old.clears → ⊥) →
+      IsCallToldSince d q w result new
   call_is_told_since (Ok u) (inl same) other = absurd (other same.1)
   call_is_told_since (Ok u) (inr c) other = c.1
   call_is_told_since (Err e) (inl same) other = absurd (other same.1)

@@ -34,6 +34,7 @@ use Rattle.lazy_dfa.specs.PassPlaces.{last_place, finished, finished_where, erro
 use Rattle.lazy_dfa.specs.Turns.{FailsOn, GoesOne, IsSeen, IsTurn}
 use Rattle.lazy_dfa.specs.WalkTurns.{tells_end, is_over, TellsUnit, IsStepTo, RefusesUnit, StopsWith, ReadsInto}
 use Rattle.lazy_dfa.proofs.OverlappingWalks.WalkToldLemmas.{unit_stepped, unit_finished}
+use Rattle.lazy_dfa.proofs.CacheChanges.LinkedLemmas.{moved_trans}
 use Rattle.lazy_dfa.proofs.Courses.SpanTurnLemmas.{held_moved, leaves_forth, goes_back, began_moved, moved_is, some_moved, runs_there}
 use Rattle.lazy_dfa.proofs.Courses.SpanTurnLemmas.{finished_moves, fails_back, leaves_back}
 use Rattle.lazy_dfa.proofs.Courses.TurnStepLemmas.{row_matches, has_not}
@@ -162,6 +163,7 @@ module _ (d : Dfa) (q : Search) (is_reverse : Bool) (same : is_reverse ≡ d.nfa
       λ s held. turn.2 s (held_moved v0 v1 id s moved held),
       λ far. ap (λ (v : CacheValue). running_at v.progress) turn.3 ∙ runs_there v0 v1 place moves runs,
       tells,
+      subst (λ (v : CacheValue). IsMoved v0 v) (sym turn.3) moved,
     )
 
     refused_last : (e : CacheError) → at ≡ last_place rev q → v3 ≡ finished place v2 → IsTurn d false q.haystack u before v2 m2 n2 (Err e) →
@@ -181,6 +183,7 @@ module _ (d : Dfa) (q : Search) (is_reverse : Bool) (same : is_reverse ≡ d.nfa
               ∙ (still_lacks d v2 place (state_behind (reader d) q.haystack at s 1) at_place ∙ turn.2 s (held_moved v0 v1 id s moved held)),
           λ far. absurd (far last),
           tells,
+          moved_trans v0 v2 v3 (subst (λ (v : CacheValue). IsMoved v0 v) (sym turn.3) moved) (finished_moves v2 v3 place f),
         )
 
     wanted_is : {wanted : Bool} → wanted ≡ (at == last_place is_reverse q) → wanted ≡ (at == last_place rev q)

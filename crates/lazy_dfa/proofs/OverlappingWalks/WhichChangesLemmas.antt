@@ -1,6 +1,6 @@
 -- What the calls of a walk over a whole span change: they make states of the span.
 use Rattle.std.proofs.Common.{◌≡◌, ◌≢◌, ℕ, zero, suc, ◌+◌, ◌≤◌, ◌==◌, ◌&&◌, ◌||◌, not, Bool, true, false, List, refl, sym, ap, ◌∙◌}
-use Rattle.std.proofs.Common.{inl, inr, arith, true≢false, if◌then◌else◌}
+use Rattle.std.proofs.Common.{inl, inr, arith, true≢false, if◌then◌else◌, Option, Some}
 use Rattle.std.specs.Prelude.{nat_le}
 use Rattle.std.proofs.lemmas.Bool.{and_parts, leb-true, eq-eqb}
 use Rattle.determinize_core.specs.States.{StateValue}
@@ -73,12 +73,12 @@ module _ (r : Reader) (q : Search) where
       omega (arith, few, next, all)
 
 -- a state of a call is one of the walk over the whole span
-pub on_walk : (d : Dfa) (q : Search) (w : Walk) → IsWithinWalk q w → (b : Bool) (s : StateValue) → IsMadeOnCall d q w b s →
-    IsMadeOnWalk d q b s
-on_walk d q w within b s (inl x) = inl x.first
-on_walk d q w within b s (inr (e, (k, lt, are, is))) = by (reads_on (reader d) q w) refl
+pub on_walk : (d : Dfa) (q : Search) (w : Walk) → IsWithinWalk q w → (b : Bool) (o : Option StateValue) (s : StateValue) →
+    IsMadeOnCall d q w b o s → IsMadeOnWalk d q b o s
+on_walk d q w within b o s (inl x) = inl x.first
+on_walk d q w within b o s (inr (e, (k, lt, are, from, is))) = by (reads_on (reader d) q w) refl
   where
-    by : (on : Bool) → reads_on (reader d) q w ≡ on → IsMadeOnWalk d q b s
+    by : (on : Bool) → reads_on (reader d) q w ≡ on → IsMadeOnWalk d q b o s
     by false off =
         let none : call_units (reader d) q w ≡ 0 = ap (λ (y : Bool). if y then units_there (reader d) q w else 0) off in
         absurd (omega (arith, lt, none))
@@ -94,6 +94,9 @@ on_walk d q w within b s (inr (e, (k, lt, are, is))) = by (reads_on (reader d) q
           (
             came d.nfa.automaton.reverse q (call_place (reader d) q w) + k,
             omega (arith, lt, all, far),
+            from ∙ ap Some (state_there (reader d) q.haystack (begins_at (reader d) q) (call_place (reader d) q w)
+                (came d.nfa.automaton.reverse q (call_place (reader d) q w)) there
+                (first_value (reader d) q.anchored q.haystack (begins_at (reader d) q)) k),
             is ∙ (state_there (reader d) q.haystack (begins_at (reader d) q) (call_place (reader d) q w)
                 (came d.nfa.automaton.reverse q (call_place (reader d) q w)) there
                 (first_value (reader d) q.anchored q.haystack (begins_at (reader d) q)) (suc k)

@@ -192,7 +192,7 @@ module _ (d : Dfa) (q : Search) (old now next : CacheValue) (m1 m2 m3 n1 n2 n3 :
 
   -- the walk is over with this call
   over : (result : Answer) (new : List Bool) → Call result → AnswersWhich d next q set new result →
-      IsWhichTold r q set new result old next → MakesWhich d q old next m1 m3 n1 n3 set new result
+      IsWhichTold d q set new result old next → MakesWhich d q old next m1 m3 n1 n3 set new result
   over result new call answer told = record {
     answer = answer;
     kept = grows_or_clears_trans d old now next fit own stands.kept call.kept;
@@ -216,7 +216,7 @@ module _ (d : Dfa) (q : Search) (old now next : CacheValue) (m1 m2 m3 n1 n2 n3 :
   told_on call = told_next d q old now next w come call.kept stands.behind stands.told call.anew
 
   -- where one call more is made
-  last_told : (new : List Bool) → Call done_well → come + 1 ≡ needed → IsWhichTold r q set new done_well old next
+  last_told : (new : List Bool) → Call done_well → come + 1 ≡ needed → IsWhichTold d q set new done_well old next
   last_told new call last =
       subst (λ (k : ℕ). IsToldAfter r q k old next) (let e = last in one_more come needed e) (told_on call)
     where

@@ -47,32 +47,32 @@ module _ (d : Dfa) (v : CacheValue) (q : Search) (x : ℕ) where
   same_give_up (Failed e) g = g
   same_give_up (Stopped stop) g = stopped_gives_up stop g
 
-module _ (r : Reader) (q : Search) (stop : Stop) where
+module _ (d : Dfa) (q : Search) (stop : Stop) where
   abbrev bare : Walk
   bare = without_id (Stopped stop)
 
-  stopped_leaves : (e : MatchErrorKind) (t new : Told) → LeavesCall r q (Stopped stop) e t new → LeavesCall r q bare e t new
+  stopped_leaves : (e : MatchErrorKind) (t : Told) (new : CacheValue) → LeavesCall d q (Stopped stop) e t new → LeavesCall d q bare e t new
   stopped_leaves e t new (left_failed is same) = not_failed stop e is
   stopped_leaves e t new (left_at_start fresh refused same) = not_fresh stop fresh
   stopped_leaves e t new (left_at_unit k less there quiet is) = left_at_unit k less there quiet is
 
-  stopped_anew : (new : Told) → TellsCallAnew r q (Stopped stop) new → TellsCallAnew r q bare new
+  stopped_anew : (new : Told) → TellsCallAnew (reader d) q (Stopped stop) new → TellsCallAnew (reader d) q bare new
   stopped_anew new (anew_at_start fresh s is told) = not_fresh stop fresh
   stopped_anew new (anew_at m less is) = anew_at m less is
 
-  stopped_fails : (e : MatchErrorKind) (new : Told) → FailsCallAnew r q (Stopped stop) e new → FailsCallAnew r q bare e new
+  stopped_fails : (e : MatchErrorKind) (new : CacheValue) → FailsCallAnew d q (Stopped stop) e new → FailsCallAnew d q bare e new
   stopped_fails e new (fails_behind_start fresh s is left) = not_fresh stop fresh
   stopped_fails e new (fails_behind m k le less there quiet is) = fails_behind m k le less there quiet is
 
-module _ (r : Reader) (q : Search) (old new : CacheValue) where
-  stopped_told : (stop : Stop) (result : Result ⊤ MatchErrorKind) → IsCallTold r q (Stopped stop) result old new →
-      IsCallTold r q (without_id (Stopped stop)) result old new
+module _ (d : Dfa) (q : Search) (old new : CacheValue) where
+  stopped_told : (stop : Stop) (result : Result ⊤ MatchErrorKind) → IsCallTold d q (Stopped stop) result old new →
+      IsCallTold d q (without_id (Stopped stop)) result old new
   stopped_told stop (Ok u) (inl same) = inl same
-  stopped_told stop (Ok u) (inr anew) = inr (anew.0, stopped_anew r q stop (told_of new) anew.1)
-  stopped_told stop (Err e) (inl same) = inl (stopped_leaves r q stop e (told_of old) (told_of new) same.0, same.1)
-  stopped_told stop (Err e) (inr anew) = inr (anew.0, stopped_fails r q stop e (told_of new) anew.1)
+  stopped_told stop (Ok u) (inr anew) = inr (anew.0, stopped_anew d q stop (told_of new) anew.1)
+  stopped_told stop (Err e) (inl same) = inl (stopped_leaves d q stop e (told_of old) new same.0, same.1)
+  stopped_told stop (Err e) (inr anew) = inr (anew.0, stopped_fails d q stop e new anew.1)
 
-  same_told : (w : Walk) (result : Result ⊤ MatchErrorKind) → IsCallTold r q w result old new → IsCallTold r q (without_id w) result old new
+  same_told : (w : Walk) (result : Result ⊤ MatchErrorKind) → IsCallTold d q w result old new → IsCallTold d q (without_id w) result old new
   same_told Fresh result t = t
   same_told Ended result t = t
   same_told (Failed e) result t = t
@@ -91,20 +91,20 @@ module _ (d : Dfa) (q : Search) (old now next : CacheValue) (w : Walk) (k : ℕ)
   cleared_next : HasCleared now next → now.clears ≡ old.clears → HasCleared old next
   cleared_next cleared same = subst (λ (n : ℕ). min (n + 1) greatest ≤ next.clears) same cleared
 
-  pub told_next : IsCallTold r q w (Ok tt) now next → IsToldAfter r q (suc k) old next
-  told_next call = by so_far (subst (λ (x : Walk). IsCallTold r q x (Ok tt) now next) behind (same_told r q now next w (Ok tt) call))
+  pub told_next : IsCallTold d q w (Ok tt) now next → IsToldAfter r q (suc k) old next
+  told_next call = by so_far (subst (λ (x : Walk). IsCallTold d q x (Ok tt) now next) behind (same_told d q now next w (Ok tt) call))
     where
-      by : IsToldAfter r q k old now → IsCallTold r q there (Ok tt) now next → IsToldAfter r q (suc k) old next
+      by : IsToldAfter r q k old now → IsCallTold d q there (Ok tt) now next → IsToldAfter r q (suc k) old next
       by (inl s) (inl c) = inl (c.0 ∙ ap (told_by_call r q there) s.0, c.1 ∙ s.1)
       by (inl s) (inr c) = inr (cleared_next c.0 s.1, told_last k (told_of next) c.1)
       by (inr s) (inl c) = inr (cleared_grows d old now next s.0 kept, told_before k (told_of now) (told_of next) s.1 c.0)
       by (inr s) (inr c) = inr (cleared_grows d old now next s.0 kept, told_last k (told_of next) c.1)
 
-  pub left_next : (e : MatchErrorKind) → IsCallTold r q w (Err e) now next → IsLeftAfter r q e k old next
-  left_next e call = by so_far (subst (λ (x : Walk). IsCallTold r q x (Err e) now next) behind (same_told r q now next w (Err e) call))
+  pub left_next : (e : MatchErrorKind) → IsCallTold d q w (Err e) now next → IsLeftAfter d q e k old next
+  left_next e call = by so_far (subst (λ (x : Walk). IsCallTold d q x (Err e) now next) behind (same_told d q now next w (Err e) call))
     where
-      by : IsToldAfter r q k old now → IsCallTold r q there (Err e) now next → IsLeftAfter r q e k old next
-      by (inl s) (inl c) = inl (subst (λ (t : Told). LeavesCall r q there e t (told_of next)) s.0 c.0, c.1 ∙ s.1)
+      by : IsToldAfter r q k old now → IsCallTold d q there (Err e) now next → IsLeftAfter d q e k old next
+      by (inl s) (inl c) = inl (subst (λ (t : Told). LeavesCall d q there e t next) s.0 c.0, c.1 ∙ s.1)
       by (inl s) (inr c) = inr (cleared_next c.0 s.1, left_last c.1)
       by (inr s) (inl c) = inr (cleared_grows d old now next s.0 kept, left_before (told_of now) s.1 c.0)
       by (inr s) (inr c) = inr (cleared_grows d old now next s.0 kept, left_last c.1)

@@ -1,6 +1,6 @@
 -- The automaton that is built of a compile's states is the one that the trees are compiled to.
 use Rattle.std.proofs.Common.{◌≡◌, ◌≢◌, ◌↔◌, ℕ, suc, ◌-◌, ◌*◌, ◌≤◌, min, arith, true, false, List, [], length, Some, slice_get, sym, ap}
-use Rattle.std.proofs.Common.{◌∙◌, subst}
+use Rattle.std.proofs.Common.{◌∙◌, subst, Option, None}
 use Rattle.std.specs.Prelude.{MatchOption, ⊤}
 use Rattle.std.specs.Bool.{nat_eq}
 use Rattle.hir_core.specs.Tree.{Tree}
@@ -16,7 +16,8 @@ use Rattle.thompson_nfa.specs.Compiled.{sum_of_bytes}
 use Rattle.thompson_nfa.specs.Configs.{Options, reverse_of, limit_of, is_shrunk}
 use Rattle.thompson_nfa.specs.Room.{list_room}
 use Rattle.search_types.specs.FirstFound.{places_from}
-use Rattle.thompson_nfa.specs.Compilations.{HasOneMatch, IsCompiled, pattern_start}
+use Rattle.thompson_nfa.specs.ByteRoom.{at_least}
+use Rattle.thompson_nfa.specs.Compilations.{HasOneMatch, IsCompiled, pattern_start, bytes_needed}
 use Rattle.thompson_nfa.specs.Assembled.{IsAssembled, AllAnchored}
 use Rattle.look_core.specs.declared.look.Look.{Look}
 use Rattle.look_core.specs.LookSets.{has_look}
@@ -59,12 +60,18 @@ assembled_bytes : (o : Options) (xs : List Tree) (b : Assembly) (A U : ℕ) → 
 assembled_bytes o xs b A U is = capped_below (sum_of_bytes b) 18446744073709551615 (memory_of (automaton_of b A U).states)
     (4096 * list_room (is_shrunk o) xs) (smaller b A U) is.bytes
 
+both_within : (limit : Option ℕ) (memory needed : ℕ) → MatchOption limit ⊤ (λ most. memory ≤ most) →
+    MatchOption limit ⊤ (λ most. needed ≤ most) → MatchOption limit ⊤ (λ most. (memory ≤ most) × (needed ≤ most))
+both_within None memory needed within fits = within
+both_within (Some most) memory needed within fits = (within, fits)
+
 pub assembled_is_compiled : (o : Options) (xs : List Tree) (b : Assembly) (A U : ℕ) → IsAssembled o xs b A U →
     ((AllAnchored (reverse_of o) xs → ⊥) → past b.drafts A ≢ U) → AreLedTo (automaton_of b A U) →
     (n : Nfa) → n.automaton ≡ automaton_of b A U → n.utf8 ≡ b.utf8 → n.terminator ≡ b.terminator → n.groups ≡ b.groups →
-    MatchOption (limit_of o) ⊤ (λ most. memory_of n.automaton.states ≤ most) → IsCompiled o xs n
-assembled_is_compiled o xs b A U is apart reached n same utf8 terminator groups limit = record {
-  limit = limit;
+    MatchOption (limit_of o) ⊤ (λ most. memory_of n.automaton.states ≤ most) →
+    MatchOption (limit_of o) ⊤ (λ most. bytes_needed at_least o xs ≤ most) → IsCompiled o xs n
+assembled_is_compiled o xs b A U is apart reached n same utf8 terminator groups limit needed = record {
+  limit = both_within (limit_of o) (memory_of n.automaton.states) (bytes_needed at_least o xs) limit needed;
   starts = record {
     anchored = λ t i place.
         let P : Automaton → Type 0 =

@@ -63,11 +63,11 @@ counted_bytes ((first, last) ∷ ranges) = omega (
 )
 
 -- a class that isn't shrunk
-pub plain_bytes : (shrink : Bool) (ranges : List (ℕ × ℕ)) → 48 + sequence_bytes (sequences_of ranges) ≤ class_bytes shrink ranges
+pub plain_bytes : (shrink : Bool) (ranges : List (ℕ × ℕ)) → 52 + sequence_bytes (sequences_of ranges) ≤ class_bytes shrink ranges
 plain_bytes false ranges = omega arith
 plain_bytes true ranges = omega (arith, counted_bytes ranges, sequences_below_scalars ranges)
 
-pub class_shrunk : (shrink : Bool) (ranges : List (ℕ × ℕ)) → shrink ≡ true → class_bytes shrink ranges ≡ 48 + 104 * scalars_in ranges
+pub class_shrunk : (shrink : Bool) (ranges : List (ℕ × ℕ)) → shrink ≡ true → class_bytes shrink ranges ≡ 52 + 104 * scalars_in ranges
 class_shrunk shrink ranges is = ap (λ b. class_bytes b ranges) is
 
 -- ---- sequences that share states in reverse

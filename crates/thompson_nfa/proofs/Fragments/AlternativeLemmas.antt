@@ -1,20 +1,22 @@
 -- Fragments of alternations: the parts so far.
 use Rattle.std.proofs.Common.{◌≡◌, ℕ, zero, suc, ◌+◌, ◌*◌, ◌<◌, ◌≤◌, Bool, true, List, [], ◌∷◌, ◌++◌, length, take, drop, get_or, sym, ap}
-use Rattle.std.proofs.Common.{◌∙◌, subst, arith, false}
+use Rattle.std.proofs.Common.{◌∙◌, subst, arith, false, drop_of_length-le}
 use Rattle.std.proofs.lemmas.List.{take_more, take_all}
 use Rattle.hir_core.specs.Tree.{Tree, alternation}
 use Rattle.nfa_core.specs.BuilderStates.{Assembly, empty_draft, union_draft}
 use Rattle.nfa_core.specs.declared.build_error.BuildError.{BuildError}
-use Rattle.thompson_nfa.specs.Compiled.{Makes, Weighs, Does, sum_of_bytes}
+use Rattle.thompson_nfa.specs.Compiled.{Makes, Takes, Does, sum_of_bytes, way_at}
 use Rattle.thompson_nfa.specs.Added.{AddsDraft, Led}
 use Rattle.thompson_nfa.specs.NotedGroups.{with_groups_of}
-use Rattle.thompson_nfa.specs.Refusals.{RefusesFragment, Stays}
+use Rattle.thompson_nfa.specs.Refusals.{RefusesFragment, Passes, Stays, StaysAt}
 use Rattle.thompson_nfa.specs.Room.{room}
-use Rattle.thompson_nfa.specs.ByteRoom.{byte_room}
+use Rattle.thompson_nfa.specs.ByteRoom.{Bound, at_least, at_most, tree_bytes, tree_least, tree_most}
 use Rattle.thompson_nfa.specs.LiteralParts.{are_literals}
 use Rattle.thompson_nfa.specs.declared.compiling.How.{How}
+use Rattle.thompson_nfa.specs.declared.which_captures.WhichCaptures.{WhichCaptures}
 use Rattle.thompson_nfa.proofs.Walks.SameLemmas.{same_alternation_one}
-use Rattle.thompson_nfa.proofs.Fragments.PartBytes.{part_bytes, bytes_of_alternation, two_bytes}
+use Rattle.thompson_nfa.proofs.Fragments.PartBytes.{part_bytes, bytes_of_alternation, bytes_of_part, two_bytes}
+use Rattle.thompson_nfa.proofs.Fragments.TakeLemmas.{way_kept, two_least, two_most, union_way, end_way}
 use Rattle.thompson_nfa.proofs.Fragments.JoinLemmas.{does_same}
 use Rattle.thompson_nfa.proofs.Fragments.TurnLemmas.{first_left}
 use Rattle.thompson_nfa.proofs.Fragments.BranchLemmas.{Branches, branches_open, branches_then, branches_made, branches_does}
@@ -31,7 +33,12 @@ pub record Cases (how : How) (old mid : Assembly) (u z i : ℕ) (xs : List Tree)
   pub groups : with_groups_of how.which (length old.starts) (alternation (drop i xs)) mid.groups ≡
       with_groups_of how.which (length old.starts)
       (alternation xs) old.groups
-  pub bytes : sum_of_bytes mid + part_bytes 8 how.shrink (drop i xs) ≤ sum_of_bytes old + part_bytes 8 how.shrink xs + 48
+  pub bytes_least : sum_of_bytes old + part_bytes at_least how.which 4 xs + 48
+      ≤ sum_of_bytes mid + part_bytes at_least how.which 4 (drop i xs)
+  pub bytes_most : sum_of_bytes mid + part_bytes (at_most how.shrink) how.which 4 (drop i xs)
+      ≤ sum_of_bytes old + part_bytes (at_most how.shrink) how.which 4 xs + 48
+  pub union_way : way_at mid u ≡ 4
+  pub end_way : way_at mid z ≡ 0
 
 -- the list begins with these two
 two_first : (xs : List Tree) (x y : Tree) → 1 < length xs → x ≡ get_or xs 0 x → y ≡ get_or xs 1 y → xs ≡ x ∷ y ∷ drop 2 xs
@@ -114,7 +121,8 @@ module _ (how : How) (t0 t1 t2 : Assembly) (s1 e1 s2 e2 : ℕ) (x y : Tree) (xs 
         (p7 : Led t6 t7 u s2) (p8 : Led t7 t8 e2 z) where
       pub cases_open : Does t0 t1 s1 e1 x → Does t1 t2 s2 e2 y → t1.groups ≡ with_groups_of how.which (length t0.starts) x t0.groups →
           t2.groups ≡ with_groups_of how.which (length t1.starts) y t1.groups →
-          Weighs t0 t1 (byte_room how.shrink x) → Weighs t1 t2 (byte_room how.shrink y) → Cases how t0 t8 u z 2 xs
+          Takes t0 t1 e1 (tree_least how.which x) (tree_most how.which how.shrink x) →
+          Takes t1 t2 e2 (tree_least how.which y) (tree_most how.which how.shrink y) → Cases how t0 t8 u z 2 xs
       cases_open does1 does2 g1 g2 w1 w2 =
           let same = two_first xs x y two is_x is_y in
           let d = counted in
@@ -133,27 +141,43 @@ module _ (how : How) (t0 t1 t2 : Assembly) (s1 e1 s2 e2 : ℕ) (x y : Tree) (xs 
             fits = omega arith;
             groups = ap (with_groups_of how.which (length t0.starts) (alternation (drop 2 xs))) groups
                 ∙ sym (ap (λ ys. with_groups_of how.which (length t0.starts) (alternation ys) t0.groups) same);
-            bytes = omega (
+            bytes_least = omega (
               arith,
-              w1,
-              w2,
-              union.bytes,
-              last.bytes,
-              p5.bytes,
-              p6.bytes,
-              p7.bytes,
-              p8.bytes,
-              two_bytes how.shrink xs x y two is_x is_y,
+              two_least t0 t1 t2 t3 t4 t5 s1 e1 (room how.shrink x) s2 e2 (room how.shrink y) u z (tree_least how.which x)
+                  (tree_most how.which how.shrink x) (tree_least how.which y) (tree_most how.which how.shrink y) first w1 second w2
+                  union last p5 t6 p6 t7 p7 t8 p8,
+              two_bytes at_least how.which xs x y two is_x is_y,
             );
+            bytes_most = omega (
+              arith,
+              two_most t0 t1 t2 t3 t4 t5 s1 e1 (room how.shrink x) s2 e2 (room how.shrink y) u z (tree_least how.which x)
+                  (tree_most how.which how.shrink x) (tree_least how.which y) (tree_most how.which how.shrink y) first w1 second w2
+                  union last p5 t6 p6 t7 p7 t8 p8,
+              two_bytes (at_most how.shrink) how.which xs x y two is_x is_y,
+            );
+            union_way = union_way t0 t1 t2 t3 t4 t5 s1 e1 (room how.shrink x) s2 e2 (room how.shrink y) u z (tree_least how.which x)
+                (tree_most how.which how.shrink x) (tree_least how.which y) (tree_most how.which how.shrink y) first w1 second w2
+                union last p5 t6 p6 t7 p7 t8 p8;
+            end_way = end_way t0 t1 t2 t3 t4 t5 s1 e1 (room how.shrink x) s2 e2 (room how.shrink y) u z (tree_least how.which x)
+                (tree_most how.which how.shrink x) (tree_least how.which y) (tree_most how.which how.shrink y) first w1 second w2
+                union last p5 t6 p6 t7 p7 t8 p8;
           }
+
+sized_by : (b : Bound) (which : WhichCaptures) (xs : List Tree) (i : ℕ) (x : Tree) → i < length xs → x ≡ get_or xs i x →
+    part_bytes b which 4 (drop i xs) ≡ tree_bytes b which false x + 4 + part_bytes b which 4 (drop (i + 1) xs)
+sized_by b which xs i x l is = ap (part_bytes b which 4) (first_left xs i x x l is)
 
 module _ (how : How) (old b : Assembly) (u z i : ℕ) (xs : List Tree) (cs : Cases how old b u z i xs) where
   pub cases_then : (c d f : Assembly) (s e : ℕ) (x : Tree) → i < length xs → x ≡ get_or xs i x → Makes b c s e (room how.shrink x) →
       Does b c s e x → c.groups ≡ with_groups_of how.which (length b.starts) x b.groups →
-      Led c d u s → Led d f e z → Weighs b c (byte_room how.shrink x) → Cases how old f u z (i + 1) xs
+      Led c d u s → Led d f e z →
+      Takes b c e (tree_least how.which x) (tree_most how.which how.shrink x) → Cases how old f u z (i + 1) xs
   cases_then c d f s e x l is m does g p1 p2 w =
-      let sized : part_bytes 8 how.shrink (drop i xs) ≡ byte_room how.shrink x + 8 + part_bytes 8 how.shrink (drop (i + 1) xs) =
-      ap (part_bytes 8 how.shrink) (first_left xs i x x l is) in
+      let here = cs.branches.u_new in
+      let below = cs.branches.u_z in
+      let inside = cs.branches.z_there in
+      let u_way : way_at c u ≡ 4 = way_kept m.fragment.grows u (omega arith) ∙ cs.union_way in
+      let z_way : way_at c z ≡ 0 = way_kept m.fragment.grows z inside ∙ cs.end_way in
       let fits = cs.fits in
       let split = first_left xs i x x l is in
       let counted : rooms how.shrink (drop i xs) ≡ room how.shrink x + rooms how.shrink (drop (i + 1) xs) = ap (rooms how.shrink) split in
@@ -170,20 +194,54 @@ module _ (how : How) (old b : Assembly) (u z i : ℕ) (xs : List Tree) (cs : Cas
         fits = omega arith;
         groups = ap (with_groups_of how.which (length old.starts) (alternation (drop (i + 1) xs))) groups
             ∙ sym (ap (λ ys. with_groups_of how.which (length old.starts) (alternation ys) b.groups) split) ∙ cs.groups;
-        bytes = omega (arith, w, cs.bytes, p1.bytes, p2.bytes, sized);
+        bytes_least = omega (arith, w.least, cs.bytes_least, u_way, p1.takes, p1.ways e, p2.takes, sized_by at_least how.which xs i x l is);
+        bytes_most = omega (
+          arith,
+          w.most,
+          cs.bytes_most,
+          u_way,
+          p1.takes,
+          p1.ways e,
+          p2.takes,
+          sized_by (at_most how.shrink) how.which xs i x l is,
+        );
+        union_way = p2.ways u ∙ p1.ways u ∙ u_way;
+        end_way = p2.ways z ∙ p1.ways z ∙ z_way;
       }
 
-  pub cases_weigh : are_literals xs ≡ false → Weighs old b (byte_room how.shrink (alternation xs))
-  cases_weigh other = omega (arith, cs.bytes, bytes_of_alternation how.shrink xs other)
+  pub cases_weigh : length xs ≤ i → 1 < length xs → are_literals xs ≡ false →
+      Takes old b z (tree_least how.which (alternation xs)) (tree_most how.which how.shrink (alternation xs))
+  cases_weigh over two other = record {
+    least = omega (
+      arith,
+      cs.bytes_least,
+      bytes_of_alternation at_least how.which xs two other,
+      ap (part_bytes at_least how.which 4) (drop_of_length-le xs over),
+    );
+    most = omega (arith, cs.bytes_most, bytes_of_alternation (at_most how.shrink) how.which xs two other, cs.end_way);
+  }
 
-  sized : (x : Tree) → i < length xs → x ≡ get_or xs i x →
-      part_bytes 8 how.shrink (drop i xs) ≡ byte_room how.shrink x + 8 + part_bytes 8 how.shrink (drop (i + 1) xs)
-  sized x l is = ap (part_bytes 8 how.shrink) (first_left xs i x x l is)
+  -- the next part, and the way to it
+  pub cases_left : are_literals xs ≡ false → (x : Tree) → i < length xs → 1 < length xs → x ≡ get_or xs i x →
+      sum_of_bytes b + tree_most how.which how.shrink x + 4 ≤ sum_of_bytes old + tree_most how.which how.shrink (alternation xs)
+  cases_left other x l two is = omega (
+    arith,
+    cs.bytes_most,
+    sized_by (at_most how.shrink) how.which xs i x l is,
+    bytes_of_alternation (at_most how.shrink) how.which xs two other,
+  )
 
-  -- the next part, and the ways to it and from it
-  pub cases_left : are_literals xs ≡ false → (x : Tree) → i < length xs → x ≡ get_or xs i x →
-      sum_of_bytes b + byte_room how.shrink x + 8 ≤ sum_of_bytes old + byte_room how.shrink (alternation xs)
-  cases_left other x l is = omega (arith, cs.bytes, sized x l is, bytes_of_alternation how.shrink xs other)
+  -- the way from it
+  pub cases_lead_passed : are_literals xs ≡ false → (x : Tree) → i < length xs → 1 < length xs → x ≡ get_or xs i x →
+      (c d new : Assembly) (s e n : ℕ) (err : BuildError) → Makes b c s e n →
+      Takes b c e (tree_least how.which x) (tree_most how.which how.shrink x) → Led c d u s → StaysAt d new e err →
+      Passes old (tree_most how.which how.shrink (alternation xs)) err
+  cases_lead_passed other x l two is c d new s e n err m w p1 r =
+      let here = cs.branches.u_new in
+      let below = cs.branches.u_z in
+      let inside = cs.branches.z_there in
+      let u_way : way_at c u ≡ 4 = way_kept m.fragment.grows u (omega arith) ∙ cs.union_way in
+      omega (arith, cases_left other x l two is, w.most, u_way, p1.takes, p1.ways e, r.passed)
 
   pub cases_refused : (new : Assembly) (x : Tree) (e : BuildError) → i < length xs → x ≡ get_or xs i x →
       RefusesFragment how.which b new (room how.shrink x) x e →
@@ -240,6 +298,15 @@ part_room shrink [] i x l is = absurd (omega arith)
 part_room shrink (y ∷ xs) zero x l is = let e = ap (room shrink) is in omega arith
 part_room shrink (y ∷ xs) (suc i) x l is = let e = part_room shrink xs i x (omega arith) is in omega arith
 
+-- and no more bytes
+pub first_alternative : (how : How) (x : Tree) (xs : List Tree) → 1 < length xs → are_literals xs ≡ false → x ≡ get_or xs 0 x →
+    tree_most how.which how.shrink x ≤ tree_most how.which how.shrink (alternation xs)
+first_alternative how x xs two other is = omega (
+  arith,
+  bytes_of_part (at_most how.shrink) how.which 4 xs 0 x (omega arith) is,
+  bytes_of_alternation (at_most how.shrink) how.which xs two other,
+)
+
 -- of one part, and of none
 one_of : (xs : List Tree) (x : Tree) → length xs ≡ 1 → x ≡ get_or xs 0 x → xs ≡ x ∷ []
 one_of [] x l e = absurd (omega arith)
@@ -250,6 +317,10 @@ pub single_does : (a b : Assembly) (s e : ℕ) (x : Tree) (xs : List Tree) → l
     Does a b s e (alternation xs)
 single_does a b s e x xs l is d = let P : List Tree → Type 0 = λ ys. Does a b s e (alternation ys) in
     subst P (sym (one_of xs x l is)) (does_same a b s e x (alternation (x ∷ [])) (same_alternation_one x) d)
+
+pub single_bytes : (b : Bound) (which : WhichCaptures) (x : Tree) (xs : List Tree) → length xs ≡ 1 → x ≡ get_or xs 0 x →
+    tree_bytes b which false x ≡ tree_bytes b which false (alternation xs)
+single_bytes b which x xs l is = sym (ap (λ ys. tree_bytes b which false (alternation ys)) (one_of xs x l is))
 
 pub part_refused : (how : How) (old new : Assembly) (i : ℕ) (x : Tree) (xs : List Tree) (e : BuildError) → i < length xs →
     x ≡ get_or xs i x → RefusesFragment how.which old new (room how.shrink x) x e →

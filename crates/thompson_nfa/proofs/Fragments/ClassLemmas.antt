@@ -6,11 +6,11 @@ use Rattle.std.proofs.lemmas.List.{length-map}
 use Rattle.hir_core.specs.Facts.{rises_from, is_ascending}
 use Rattle.hir_core.specs.Tree.{byte_class}
 use Rattle.nfa_core.specs.BuilderStates.{DraftNode, Assembly, draft_at, patched, draft_bytes, is_sparse, AscendsFrom, empty_draft}
-use Rattle.nfa_core.specs.BuilderStates.{sparse_draft}
+use Rattle.nfa_core.specs.BuilderStates.{sparse_draft, way_bytes}
 use Rattle.nfa_core.specs.Renaming.{stands_for}
 use Rattle.nfa_core.specs.CanBuild.{names_of}
 use Rattle.nfa_core.specs.declared.build_error.BuildError.{BuildError}
-use Rattle.thompson_nfa.specs.Compiled.{AllComeOut, IsTame, Makes, Does}
+use Rattle.thompson_nfa.specs.Compiled.{AllComeOut, IsTame, Makes, Does, Takes, sum_of_bytes, way_at}
 use Rattle.thompson_nfa.specs.Added.{AddsDraft}
 use Rattle.thompson_nfa.specs.Refusals.{Stays, Quits}
 use Rattle.thompson_nfa.proofs.Steps.LookLemmas.{quiet_added, adds_none}
@@ -79,6 +79,12 @@ module _ (a b c : Assembly) (end start : ℕ) (ranges : List (ℕ × ℕ)) (firs
       subst P first.is (all_join table target end start (length c.drafts)
       (all_here table target end start (omega arith) (out_next table target end target (ap stands_for last) (out_at table target)))
       (all_here table target start (length c.drafts) (omega arith) (out_here table target start (ap stands_for other)))))
+
+  pub class_takes : Takes a c end (48 + 8 * length ranges) (48 + 8 * length ranges)
+  class_takes =
+      let long : length (to_one end ranges) ≡ length ranges = length-map ranges (λ r. (r.0, r.1, end)) in
+      let way : way_at c end ≡ 0 = ap way_bytes class_end in
+      record { least = omega (arith, first.bytes, second.bytes, long, way); most = omega (arith, first.bytes, second.bytes, long, way) }
 
   pub class_does : Does a c start end (byte_class ranges)
   class_does = record {

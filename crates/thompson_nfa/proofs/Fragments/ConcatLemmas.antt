@@ -6,19 +6,20 @@ use Rattle.hir_core.specs.Tree.{Tree, concat, alternation}
 use Rattle.hir_core.specs.Weight.{weight}
 use Rattle.nfa_core.specs.BuilderStates.{Assembly}
 use Rattle.nfa_core.specs.declared.build_error.BuildError.{BuildError}
-use Rattle.thompson_nfa.specs.Compiled.{Makes, Weighs, Does, DoesFirst, IsReady, sum_of_bytes}
+use Rattle.thompson_nfa.specs.Compiled.{Makes, Takes, Does, DoesFirst, IsReady, sum_of_bytes, way_at}
 use Rattle.thompson_nfa.specs.Added.{Led}
 use Rattle.thompson_nfa.specs.NotedGroups.{with_groups_of, HasGroup}
-use Rattle.thompson_nfa.specs.Refusals.{RefusesFragment, Stays}
+use Rattle.thompson_nfa.specs.Refusals.{RefusesFragment, Passes, Stays, StaysAt}
 use Rattle.thompson_nfa.specs.Turned.{turned_place, left_after}
 use Rattle.thompson_nfa.specs.Room.{room}
-use Rattle.thompson_nfa.specs.ByteRoom.{byte_room}
+use Rattle.thompson_nfa.specs.ByteRoom.{Bound, at_least, at_most, tree_bytes, tree_least, tree_most}
 use Rattle.thompson_nfa.specs.declared.compiling.How.{How}
 use Rattle.thompson_nfa.specs.declared.which_captures.WhichCaptures.{WhichCaptures}
 use Rattle.thompson_nfa.specs.declared.which_captures.WhichCaptures.TheVariants as which
 use Rattle.thompson_nfa.proofs.Walks.SameLemmas.{same_concat_one}
-use Rattle.thompson_nfa.proofs.Fragments.TurnLemmas.{first_left, last_left, left_all, concat_joins, concat_begun, concat_ended}
+use Rattle.thompson_nfa.proofs.Fragments.TurnLemmas.{first_left, last_left, left_all, left_none, concat_joins, concat_begun, concat_ended}
 use Rattle.thompson_nfa.proofs.Fragments.PartBytes.{part_bytes, left_bytes, bytes_of_concat}
+use Rattle.thompson_nfa.proofs.Fragments.TakeLemmas.{way_kept}
 use Rattle.thompson_nfa.proofs.Fragments.JoinLemmas.{join_made, join_does, does_first, does_all, does_same}
 use Rattle.thompson_nfa.proofs.Steps.ProgressLemmas.{Includes, first_made, then_made, made_capped, then_quits, refuses, then_refuses}
 use Rattle.thompson_nfa.proofs.Steps.ProgressLemmas.{first_refuses}
@@ -104,16 +105,26 @@ pub record Parts (how : How) (old mid : Assembly) (start end i : ℕ) (xs : List
   pub groups : with_groups_of how.which (length old.starts) (concat (left_after old.reverse i xs)) mid.groups ≡
       with_groups_of how.which (length old.starts)
       (concat xs) old.groups
-  pub bytes : sum_of_bytes mid + part_bytes 4 how.shrink (left_after old.reverse i xs) ≤ sum_of_bytes old + part_bytes 4 how.shrink xs
+  pub bytes_least : sum_of_bytes old + part_bytes at_least how.which 0 xs ≤ sum_of_bytes mid + way_at mid end
+      + part_bytes at_least how.which 0 (left_after old.reverse i xs)
+  pub bytes_most : sum_of_bytes mid + way_at mid end + part_bytes (at_most how.shrink) how.which 0 (left_after old.reverse i xs)
+      ≤ sum_of_bytes old + part_bytes (at_most how.shrink) how.which 0 xs
+
+-- the first part, and the others
+parted : (b : Bound) (which : WhichCaptures) (back : Bool) (xs : List Tree) (x : Tree) → 0 < length xs →
+    x ≡ get_or xs (turned_place back 0 (length xs)) x →
+    part_bytes b which 0 xs ≡ tree_bytes b which false x + part_bytes b which 0 (left_after back 1 xs)
+parted b which back xs x some is = omega (
+  arith,
+  left_bytes b which 0 back xs 0 x some is,
+  ap (part_bytes b which 0) (left_all back xs),
+)
 
 pub parts_first : (how : How) (old mid : Assembly) (s e : ℕ) (x : Tree) (xs : List Tree) → IsReady how.which old → 0 < length xs →
     x ≡ get_or xs (turned_place old.reverse 0 (length xs)) x →
     Makes old mid s e (room how.shrink x) → Does old mid s e x → mid.groups ≡ with_groups_of how.which (length old.starts) x old.groups →
-    Weighs old mid (byte_room how.shrink x) → Parts how old mid s e 1 xs
+    Takes old mid e (tree_least how.which x) (tree_most how.which how.shrink x) → Parts how old mid s e 1 xs
 parts_first how old mid s e x xs ready some is m d g w =
-    let sized = left_bytes 4 how.shrink old.reverse xs 0 x some is in
-    let sized_all : part_bytes 4 how.shrink (left_after old.reverse 0 xs) ≡ part_bytes 4 how.shrink xs =
-    ap (part_bytes 4 how.shrink) (left_all old.reverse xs) in
     let counted = left_room how.shrink old.reverse xs 0 x some is in
     let all : rooms how.shrink (left_after old.reverse 0 xs) ≡ rooms how.shrink xs = ap (rooms how.shrink) (left_all old.reverse xs) in
     let one : left_after old.reverse (0 + 1) xs ≡ left_after old.reverse 1 xs = refl in
@@ -127,7 +138,8 @@ parts_first how old mid s e x xs ready some is m d g w =
       groups = left_groups how.which (length old.starts) old.reverse xs 0 x old.groups mid.groups
           (with_groups_of how.which (length old.starts) (concat xs) old.groups) ready.forward some is g
           (ap (λ ys. with_groups_of how.which (length old.starts) (concat ys) old.groups) (left_all old.reverse xs));
-      bytes = omega arith;
+      bytes_least = omega (arith, w.least, parted at_least how.which old.reverse xs x some is);
+      bytes_most = omega (arith, w.most, parted (at_most how.shrink) how.which old.reverse xs x some is);
     }
 
 starts_kept : {how : How} {old mid : Assembly} {start end i : ℕ} {xs : List Tree} → Parts how old mid start end i xs →
@@ -137,10 +149,10 @@ starts_kept ps = ap (λ (b : Assembly). length b.starts) ps.made.fragment.grows.
 pub parts_then : (how : How) (old b c d : Assembly) (start end s e i : ℕ) (x : Tree) (xs : List Tree) → IsReady how.which old →
     i < length xs → x ≡ get_or xs (turned_place old.reverse i (length xs)) x →
     Parts how old b start end i xs → Makes b c s e (room how.shrink x) → Does b c s e x →
-    c.groups ≡ with_groups_of how.which (length b.starts) x b.groups → Led c d end s → Weighs b c (byte_room how.shrink x) →
-    Parts how old d start e (i + 1) xs
+    c.groups ≡ with_groups_of how.which (length b.starts) x b.groups → Led c d end s →
+    Takes b c e (tree_least how.which x) (tree_most how.which how.shrink x) → Parts how old d start e (i + 1) xs
 parts_then how old b c d start end s e i x xs ready inside is ps m does g led w =
-    let sized = left_bytes 4 how.shrink old.reverse xs i x inside is in
+    let kept = way_kept m.fragment.grows end ps.made.fragment.end_there in
     let counted = left_room how.shrink old.reverse xs i x inside is in
     let fits = ps.fits in
     let groups : d.groups ≡ with_groups_of how.which (length old.starts) x b.groups =
@@ -154,7 +166,24 @@ parts_then how old b c d start end s e i x xs ready inside is ps m does g led w 
           (concat_joins old.reverse xs i x inside is) ps.does (does_same b c s e x (concat (x ∷ [])) (same_concat_one x) does);
       groups = left_groups how.which (length old.starts) old.reverse xs i x b.groups d.groups
           (with_groups_of how.which (length old.starts) (concat xs) old.groups) ready.forward inside is groups ps.groups;
-      bytes = omega (arith, sized, ps.bytes, w, led.bytes);
+      bytes_least = omega (
+        arith,
+        left_bytes at_least how.which 0 old.reverse xs i x inside is,
+        ps.bytes_least,
+        w.least,
+        kept,
+        led.takes,
+        led.ways e,
+      );
+      bytes_most = omega (
+        arith,
+        left_bytes (at_most how.shrink) how.which 0 old.reverse xs i x inside is,
+        ps.bytes_most,
+        w.most,
+        kept,
+        led.takes,
+        led.ways e,
+      );
     }
 
 module _ (how : How) (old mid : Assembly) (start end i : ℕ) (xs : List Tree) (ps : Parts how old mid start end i xs) where
@@ -165,18 +194,35 @@ module _ (how : How) (old mid : Assembly) (start end i : ℕ) (xs : List Tree) (
   parts_does over = does_all old mid start end (concat (left_after old.reverse i xs)) (concat xs)
       (concat_ended old.reverse i xs over) ps.does
 
-  pub parts_weigh : Weighs old mid (byte_room how.shrink (concat xs))
-  parts_weigh = omega (arith, ps.bytes, bytes_of_concat how.shrink xs)
+  pub parts_weigh : length xs ≤ i → 0 < length xs →
+      Takes old mid end (tree_least how.which (concat xs)) (tree_most how.which how.shrink (concat xs))
+  parts_weigh over some = record {
+    least = omega (
+      arith,
+      ps.bytes_least,
+      bytes_of_concat at_least how.which xs some,
+      ap (part_bytes at_least how.which 0) (left_none old.reverse i xs over),
+    );
+    most = omega (arith, ps.bytes_most, bytes_of_concat (at_most how.shrink) how.which xs some);
+  }
 
-  -- the next part, and the way to it
+  -- the next part
   pub parts_left : (x : Tree) → i < length xs → x ≡ get_or xs (turned_place old.reverse i (length xs)) x →
-      sum_of_bytes mid + byte_room how.shrink x + 4 ≤ sum_of_bytes old + byte_room how.shrink (concat xs)
+      sum_of_bytes mid + way_at mid end + tree_most how.which how.shrink x ≤ sum_of_bytes old + tree_most how.which how.shrink (concat xs)
   parts_left x inside is = omega (
     arith,
-    ps.bytes,
-    left_bytes 4 how.shrink old.reverse xs i x inside is,
-    bytes_of_concat how.shrink xs,
+    ps.bytes_most,
+    left_bytes (at_most how.shrink) how.which 0 old.reverse xs i x inside is,
+    bytes_of_concat (at_most how.shrink) how.which xs (omega arith),
   )
+
+  -- the way to it
+  pub parts_lead_passed : (c new : Assembly) (s e n : ℕ) (x : Tree) (err : BuildError) → i < length xs →
+      x ≡ get_or xs (turned_place old.reverse i (length xs)) x → Makes mid c s e n →
+      Takes mid c e (tree_least how.which x) (tree_most how.which how.shrink x) → StaysAt c new end err →
+      Passes old (tree_most how.which how.shrink (concat xs)) err
+  parts_lead_passed c new s e n x err inside is made w r =
+      omega (arith, parts_left x inside is, w.most, way_kept made.fragment.grows end ps.made.fragment.end_there, r.passed)
 
   -- the next part is refused, or that it is led to
   pub parts_refused : (new : Assembly) (x : Tree) (e : BuildError) → i < length xs →
@@ -203,15 +249,9 @@ module _ (how : How) (old mid : Assembly) (start end i : ℕ) (xs : List Tree) (
       refuses how.which (room how.shrink (concat xs)) (concat xs) (then_quits (rooms how.shrink xs)
       (then_made 8 (first_made ps.made) m (omega arith)) r (omega arith) (omega arith)) (omega arith)
 
-pub first_part_bytes : (shrink back : Bool) (x : Tree) (xs : List Tree) → 0 < length xs →
-    x ≡ get_or xs (turned_place back 0 (length xs)) x →
-    byte_room shrink x ≤ byte_room shrink (concat xs)
-first_part_bytes shrink back x xs some is = omega (
-  arith,
-  left_bytes 4 shrink back xs 0 x some is,
-  ap (part_bytes 4 shrink) (left_all back xs),
-  bytes_of_concat shrink xs,
-)
+pub first_part_bytes : (b : Bound) (which : WhichCaptures) (back : Bool) (x : Tree) (xs : List Tree) → 0 < length xs →
+    x ≡ get_or xs (turned_place back 0 (length xs)) x → tree_bytes b which false x ≤ tree_bytes b which false (concat xs)
+first_part_bytes b which back x xs some is = omega (arith, parted b which back xs x some is, bytes_of_concat b which xs some)
 
 -- the first part is refused
 pub first_part_refused : (how : How) (old new : Assembly) (x : Tree) (xs : List Tree) (e : BuildError) → 0 < length xs →

@@ -3,19 +3,21 @@ use Rattle.std.proofs.Common.{◌≡◌, ℕ, zero, suc, ◌+◌, ◌-◌, ◌*�
 use Rattle.std.proofs.Common.{arith, ◌||◌}
 use Rattle.search_types.specs.Groups.{Groups}
 use Rattle.hir_core.specs.Tree.{Tree, empty, repetition}
-use Rattle.nfa_core.specs.BuilderStates.{Assembly, empty_draft}
+use Rattle.nfa_core.specs.BuilderStates.{Assembly, empty_draft, way_bytes}
 use Rattle.nfa_core.specs.declared.build_error.BuildError.{BuildError}
-use Rattle.thompson_nfa.specs.Compiled.{Makes, Weighs, Does, DoesFirst, DoesCopies, DoesOption, raised, looks_in, uses, sum_of_bytes}
+use Rattle.thompson_nfa.specs.Compiled.{Makes, Takes, Does, DoesFirst, DoesCopies, DoesOption, raised, looks_in, uses, sum_of_bytes}
+use Rattle.thompson_nfa.specs.Compiled.{way_at}
 use Rattle.thompson_nfa.specs.Added.{AddsDraft, Led}
 use Rattle.thompson_nfa.specs.NotedGroups.{with_groups_of}
-use Rattle.thompson_nfa.specs.Refusals.{RefusesFragment, Stays}
+use Rattle.thompson_nfa.specs.Refusals.{RefusesFragment, Passes, Stays, StaysAt}
 use Rattle.thompson_nfa.specs.Room.{room}
-use Rattle.thompson_nfa.specs.ByteRoom.{byte_room, repeated_bytes}
+use Rattle.thompson_nfa.specs.ByteRoom.{tree_least, tree_most, rounds_bytes}
 use Rattle.thompson_nfa.specs.declared.compiling.How.{How}
 use Rattle.thompson_nfa.specs.declared.which_captures.WhichCaptures.{WhichCaptures}
 use Rattle.thompson_nfa.proofs.Steps.LookLemmas.{quiet_led}
 use Rattle.thompson_nfa.proofs.Fragments.RoundLemmas.{one_more, joins_copy, same_stopped}
-use Rattle.thompson_nfa.proofs.Fragments.PartBytes.{copy_bytes, copies_before, round_bytes}
+use Rattle.thompson_nfa.proofs.Fragments.PartBytes.{copies_before, round_bytes, none_left}
+use Rattle.thompson_nfa.proofs.Fragments.TakeLemmas.{way_kept, takes_wider, join_takes}
 use Rattle.thompson_nfa.proofs.Fragments.JoinLemmas.{join_made, join_first, join_second, join_does, does_first, does_all, does_same}
 use Rattle.thompson_nfa.proofs.Steps.NotedLemmas.{noted_twice}
 use Rattle.thompson_nfa.proofs.Steps.ProgressLemmas.{first_made, then_made, made_capped, then_quits, refuses, then_refuses}
@@ -63,16 +65,17 @@ pub record Copies (how : How) (old mid : Assembly) (start end i : ℕ) (x : Tree
   pub made : Makes old mid start end (i * room how.shrink x)
   pub does : DoesCopies old mid start end i x
   pub groups : mid.groups ≡ with_groups_of how.which (length old.starts) x old.groups
-  pub weighs : Weighs old mid (i * (byte_room how.shrink x + 4))
+  pub weighs : Takes old mid end (i * tree_least how.which x) (i * tree_most how.which how.shrink x)
 
 pub copies_first : (how : How) (old mid : Assembly) (s e : ℕ) (x : Tree) → Makes old mid s e (room how.shrink x) → Does old mid s e x →
     mid.groups ≡ with_groups_of how.which (length old.starts) x old.groups →
-    Weighs old mid (byte_room how.shrink x) → Copies how old mid s e 1 x
+    Takes old mid e (tree_least how.which x) (tree_most how.which how.shrink x) → Copies how old mid s e 1 x
 copies_first how old mid s e x m d g w = record {
   made = made_capped (1 * room how.shrink x) m (omega arith);
   does = copies_one old mid s e x d;
   groups = g;
-  weighs = omega (arith, w);
+  weighs = takes_wider old mid e (tree_least how.which x) (tree_most how.which how.shrink x) (1 * tree_least how.which x)
+      (1 * tree_most how.which how.shrink x) w (omega arith) (omega arith);
 }
 
 -- the groups of one more copy
@@ -83,8 +86,8 @@ groups_again kept p q x old was now same before is = is ∙ ap (λ k. with_group
 
 pub copies_then : (how : How) (old b c d : Assembly) (start end s e i : ℕ) (x : Tree) → Copies how old b start end i x →
     Makes b c s e (room how.shrink x) → Does b c s e x →
-    c.groups ≡ with_groups_of how.which (length b.starts) x b.groups → Led c d end s → Weighs b c (byte_room how.shrink x) →
-    Copies how old d start e (i + 1) x
+    c.groups ≡ with_groups_of how.which (length b.starts) x b.groups → Led c d end s →
+    Takes b c e (tree_least how.which x) (tree_most how.which how.shrink x) → Copies how old d start e (i + 1) x
 copies_then how old b c d start end s e i x cs m does g led w = record {
   made = made_capped ((i + 1) * room how.shrink x) (join_made old b c d start end (i * room how.shrink x) s e
       (room how.shrink x) cs.made m led) (omega arith);
@@ -92,13 +95,31 @@ copies_then how old b c d start end s e i x cs m does g led w = record {
   groups = ap (λ (z : Assembly). z.groups) led.settings
       ∙ groups_again how.which (length old.starts) (length b.starts) x old.groups b.groups c.groups
       (ap (λ (z : Assembly). length z.starts) cs.made.fragment.grows.settings) cs.groups g;
-  weighs = omega (arith, cs.weighs, w, led.bytes);
+  weighs = takes_wider old d e (i * tree_least how.which x + tree_least how.which x)
+      (i * tree_most how.which how.shrink x + tree_most how.which how.shrink x) ((i + 1) * tree_least how.which x)
+      ((i + 1) * tree_most how.which how.shrink x)
+      (join_takes old b c end s e (room how.shrink x) (i * tree_least how.which x) (i * tree_most how.which how.shrink x)
+      (tree_least how.which x) (tree_most how.which how.shrink x) cs.weighs cs.made.fragment.end_there m w d led) (omega arith)
+      (omega arith);
 }
 
--- one more copy, and the way to it
+-- one more copy
 pub copies_left : (how : How) (old b : Assembly) (start end i n : ℕ) (x : Tree) → Copies how old b start end i x → i < n →
-    sum_of_bytes b + byte_room how.shrink x + 4 ≤ sum_of_bytes old + n * (byte_room how.shrink x + 4)
-copies_left how old b start end i n x cs l = omega (arith, cs.weighs, copy_bytes i n (byte_room how.shrink x) l)
+    sum_of_bytes b + way_at b end + tree_most how.which how.shrink x ≤ sum_of_bytes old + n * tree_most how.which how.shrink x
+copies_left how old b start end i n x cs l = omega (arith, cs.weighs.most, one_fits i n (tree_most how.which how.shrink x) l)
+
+-- the way to it
+pub copies_lead_passed : (how : How) (old b c new : Assembly) (start end i n s e : ℕ) (x : Tree) (err : BuildError) →
+    Copies how old b start end i x → i < n → Makes b c s e (room how.shrink x) →
+    Takes b c e (tree_least how.which x) (tree_most how.which how.shrink x) → StaysAt c new end err →
+    Passes old (n * tree_most how.which how.shrink x) err
+copies_lead_passed how old b c new start end i n s e x err cs l made w r = omega (
+  arith,
+  copies_left how old b start end i n x cs l,
+  w.most,
+  way_kept made.fragment.grows end cs.made.fragment.end_there,
+  r.passed,
+)
 
 pub copies_refused : (how : How) (old b new : Assembly) (start end i n : ℕ) (x : Tree) (e : BuildError) → Copies how old b start end i x →
     i < n → RefusesFragment how.which b new (room how.shrink x) x e →
@@ -149,26 +170,30 @@ pub record Rounds (how : How) (old mid : Assembly) (start end z i low most total
   pub options : Options old mid start end z n (most - i) low most greedy x
   pub fits : n + (most - i) * (room how.shrink x + 1) ≤ total
   pub groups : mid.groups ≡ with_groups_of how.which (length old.starts) x old.groups
-  pub bytes : sum_of_bytes mid + (most - i) * (byte_room how.shrink x + 36) + 4 ≤ sum_of_bytes old + repeated_bytes low (Some most)
-      (byte_room how.shrink x)
+  pub bytes_least : sum_of_bytes old + rounds_bytes low most (tree_least how.which x)
+      ≤ sum_of_bytes mid + way_at mid end + (most - i) * (tree_least how.which x + 32)
+  pub bytes_most : sum_of_bytes mid + way_at mid end + (most - i) * (tree_most how.which how.shrink x + 32)
+      ≤ sum_of_bytes old + rounds_bytes low most (tree_most how.which how.shrink x)
 
 pub rounds_owed : (how : How) (t0 t1 t2 : Assembly) (s e z low most : ℕ) (greedy : Bool) (x : Tree) → low ≤ most →
     Makes t0 t1 s e (low * room how.shrink x) → DoesCopies t0 t1 s e low x →
     t1.groups ≡ with_groups_of how.which (length t0.starts) x t0.groups → AddsDraft t1 t2 z (empty_draft 0) t1.groups →
-    Weighs t0 t1 (low * (byte_room how.shrink x + 4)) →
+    Takes t0 t1 e (low * tree_least how.which x) (low * tree_most how.which how.shrink x) →
     Rounds how t0 t2 s e z low low most (low * room how.shrink x + (most - low) * (room how.shrink x + 1) + 1) greedy x
 rounds_owed how t0 t1 t2 s e z low most greedy x le m copies g added w = record {
   n = low * room how.shrink x + 1;
   options = options_owed t0 t1 t2 s e (low * room how.shrink x) z (most - low) low most greedy x m copies added (omega arith);
   fits = omega arith;
   groups = added.groups_are ∙ g;
-  bytes = omega (arith, w, added.bytes);
+  bytes_least = omega (arith, w.least, added.bytes, way_kept added.grows e m.fragment.end_there);
+  bytes_most = omega (arith, w.most, added.bytes, way_kept added.grows e m.fragment.end_there);
 }
 
 pub rounds_first : (how : How) (t0 t1 t2 : Assembly) (u e z most : ℕ) (greedy : Bool) (x : Tree) → 0 < most →
     AddsDraft t0 t1 z (empty_draft 0) t0.groups → Makes t1 t2 u e (room how.shrink x + 1) →
     DoesOption t1 t2 u e z greedy x → t2.groups ≡ with_groups_of how.which (length t1.starts) x t1.groups →
-    Weighs t1 t2 (byte_room how.shrink x + 32) → Rounds how t0 t2 u e z 1 0 most (most * (room how.shrink x + 1) + 1) greedy x
+    Takes t1 t2 e (tree_least how.which x + 32) (tree_most how.which how.shrink x + 32) →
+    Rounds how t0 t2 u e z 1 0 most (most * (room how.shrink x + 1) + 1) greedy x
 rounds_first how t0 t1 t2 u e z zero greedy x some added m does g w = absurd (omega arith)
 rounds_first how t0 t1 t2 u e z (suc left) greedy x some added m does g w = record {
   n = 1 + (room how.shrink x + 1);
@@ -176,17 +201,20 @@ rounds_first how t0 t1 t2 u e z (suc left) greedy x some added m does g w = reco
   fits = let e : suc left - 1 ≡ left = omega arith in let f = ap (λ k. k * (room how.shrink x + 1)) e in omega arith;
   groups = g ∙ ap (λ p. with_groups_of how.which p x t1.groups) (ap (λ (b : Assembly). length b.starts) added.grows.settings)
       ∙ ap (with_groups_of how.which (length t0.starts) x) added.groups_are;
-  bytes = omega (arith, w, added.bytes, round_bytes 0 (suc left) (byte_room how.shrink x + 36) some);
+  bytes_least = omega (arith, w.least, added.bytes, round_bytes 0 (suc left) (tree_least how.which x + 32) some);
+  bytes_most = omega (arith, w.most, added.bytes, round_bytes 0 (suc left) (tree_most how.which how.shrink x + 32) some);
 }
 
 module _ (how : How) (old b : Assembly) (start end z i low most total : ℕ) (greedy : Bool) (x : Tree)
     (rs : Rounds how old b start end z i low most total greedy x) where
   pub rounds_then : (c d : Assembly) (u e : ℕ) → i < most → Makes b c u e (room how.shrink x + 1) → DoesOption b c u e z greedy x →
-      c.groups ≡ with_groups_of how.which (length b.starts) x b.groups → Led c d end u → Weighs b c (byte_room how.shrink x + 32) →
+      c.groups ≡ with_groups_of how.which (length b.starts) x b.groups → Led c d end u →
+      Takes b c e (tree_least how.which x + 32) (tree_most how.which how.shrink x + 32) →
       Rounds how old d start e z (i + 1) low most total greedy x
   rounds_then c d u e l m does g led w =
       let step = round_bytes i most (room how.shrink x + 1) l in
       let fits = rs.fits in
+      let kept = way_kept m.fragment.grows end rs.options.end_there in
       record {
         n = rs.n + (room how.shrink x + 1);
         options = options_then old b c d start end z rs.n (most - i) (most - (i + 1)) low most u e
@@ -195,17 +223,51 @@ module _ (how : How) (old b : Assembly) (start end z i low most total : ℕ) (gr
         groups = ap (λ (w : Assembly). w.groups) led.settings
             ∙ groups_again how.which (length old.starts) (length b.starts) x old.groups b.groups c.groups
             (ap (λ (w : Assembly). length w.starts) rs.options.progress.partly.grows.settings) rs.groups g;
-        bytes = omega (arith, w, rs.bytes, led.bytes, round_bytes i most (byte_room how.shrink x + 36) l);
+        bytes_least = omega (
+          arith,
+          w.least,
+          rs.bytes_least,
+          kept,
+          led.takes,
+          led.ways e,
+          round_bytes i most (tree_least how.which x + 32) l,
+        );
+        bytes_most = omega (
+          arith,
+          w.most,
+          rs.bytes_most,
+          kept,
+          led.takes,
+          led.ways e,
+          round_bytes i most (tree_most how.which how.shrink x + 32) l,
+        );
       }
 
-  -- one more round, and the way to it
-  pub rounds_left : i < most →
-      sum_of_bytes b + byte_room how.shrink x + 36 ≤ sum_of_bytes old + repeated_bytes low (Some most) (byte_room how.shrink x)
-  rounds_left l = omega (arith, rs.bytes, round_bytes i most (byte_room how.shrink x + 36) l)
+  -- one more round
+  pub rounds_left : i < most → sum_of_bytes b + way_at b end + (tree_most how.which how.shrink x + 32)
+      ≤ sum_of_bytes old + rounds_bytes low most (tree_most how.which how.shrink x)
+  rounds_left l = omega (arith, rs.bytes_most, round_bytes i most (tree_most how.which how.shrink x + 32) l)
+
+  -- the way to it
+  pub rounds_lead_passed : (c new : Assembly) (u e : ℕ) (err : BuildError) → i < most → Makes b c u e (room how.shrink x + 1) →
+      Takes b c e (tree_least how.which x + 32) (tree_most how.which how.shrink x + 32) → StaysAt c new end err →
+      Passes old (rounds_bytes low most (tree_most how.which how.shrink x)) err
+  rounds_lead_passed c new u e err l made w r =
+      omega (arith, rounds_left l, w.most, way_kept made.fragment.grows end rs.options.end_there, r.passed)
 
   -- the way to the exit
-  pub rounds_last : sum_of_bytes b + 4 ≤ sum_of_bytes old + repeated_bytes low (Some most) (byte_room how.shrink x)
-  rounds_last = omega (arith, rs.bytes)
+  pub rounds_last_passed : (new : Assembly) (err : BuildError) → StaysAt b new end err →
+      Passes old (rounds_bytes low most (tree_most how.which how.shrink x)) err
+  rounds_last_passed new err r = omega (arith, rs.bytes_most, r.passed)
+
+  pub rounds_take : (new : Assembly) → Led b new end z → most ≤ i →
+      Takes old new z (rounds_bytes low most (tree_least how.which x)) (rounds_bytes low most (tree_most how.which how.shrink x))
+  rounds_take new led over =
+      let exit : way_at new z ≡ 0 = led.ways z ∙ ap way_bytes rs.options.exit_is in
+      record {
+        least = omega (arith, rs.bytes_least, led.takes, exit, none_left i most (tree_least how.which x + 32) over);
+        most = omega (arith, rs.bytes_most, led.takes, exit);
+      }
 
   pub rounds_refused : (new : Assembly) (e : BuildError) → i < most → RefusesFragment how.which b new (room how.shrink x + 1) x e →
       RefusesFragment how.which old new total x e

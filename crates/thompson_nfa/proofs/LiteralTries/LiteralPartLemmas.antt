@@ -110,8 +110,8 @@ fits : (back : Bool) (xs : List Tree) → list_all is_literal xs ≡ true →
     min (1 + 2 * bytes_in (read_strings back xs)) 18446744073709551615 ≤ count (alternation xs)
 fits back xs e = omega (arith, alternation_count xs, room back xs e)
 
--- and the bytes of its states
-trie_bytes : (back : Bool) (xs : List Tree) → 24 + 32 * bytes_in (read_strings back xs) + 36 * length (read_strings back xs)
+-- and the bytes of its states, with the way from its end
+trie_bytes : (back : Bool) (xs : List Tree) → 28 + 32 * bytes_in (read_strings back xs) + 36 * length (read_strings back xs)
     ≡ choice_bytes (alternation xs)
 trie_bytes back [] = refl
 trie_bytes back (x ∷ xs) = omega (arith, trie_bytes back xs, length_spelt back (bytes_of_literal x))
@@ -136,10 +136,10 @@ read_next trie next back xs k x bytes e got less is n =
 pub strings_bytes : (trie : Strings) (xs : List Tree) (k : ℕ) (back : Bool) → trie ≡ record {
   reverse = back;
   strings = read_strings back (take k xs);
-} → length xs ≤ k → 24 + 32 * bytes_in trie.strings + 36 * length trie.strings ≡ choice_bytes (alternation xs)
+} → length xs ≤ k → 28 + 32 * bytes_in trie.strings + 36 * length trie.strings ≡ choice_bytes (alternation xs)
 strings_bytes trie xs k back is past =
     let all : trie.strings ≡ read_strings back xs = ap (λ (t : Strings). t.strings) is ∙ ap (read_strings back) (take_all k xs past) in
-    ap (λ (ws : List (List ℕ)). 24 + 32 * bytes_in ws + 36 * length ws) all ∙ trie_bytes back xs
+    ap (λ (ws : List (List ℕ)). 28 + 32 * bytes_in ws + 36 * length ws) all ∙ trie_bytes back xs
 
 module _ (trie : Strings) (xs : List Tree) (k : ℕ) (old new : Assembly) (is : trie ≡ record {
   reverse = old.reverse;

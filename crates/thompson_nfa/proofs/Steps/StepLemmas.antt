@@ -1,15 +1,15 @@
 -- What the single steps of a compile do to a builder, and why they are refused.
 use Rattle.std.proofs.Common.{◌≡◌, ℕ, zero, suc, ◌+◌, ◌*◌, ◌<◌, ◌≤◌, min, Bool, true, false, List, [], ◌∷◌, ◌++◌, length, Option, Some}
-use Rattle.std.proofs.Common.{None, nat_lt, if◌then◌else◌, refl, sym, ap, ◌∙◌, subst, arith, length-append}
+use Rattle.std.proofs.Common.{None, nat_lt, if◌then◌else◌, ◌≢◌, ⊎_elim, refl, sym, ap, ◌∙◌, subst, arith, length-append}
 use Rattle.std.specs.List.{sum_by}
 use Rattle.std.specs.Option.{option_or}
-use Rattle.std.proofs.lemmas.Bool.{ltb-true}
+use Rattle.std.proofs.lemmas.Bool.{ltb-true, cases_eq}
 use Rattle.std.proofs.lemmas.List.{length-set, get_or-set_same, get_or-set_other}
 use Rattle.std.proofs.lemmas.List.Sums.{sum_by_push, sum_by-set}
 use Rattle.search_core.specs.Index.{greatest_index}
 use Rattle.search_types.specs.Groups.{Groups}
 use Rattle.nfa_core.specs.CanBuild.{is_known}
-use Rattle.nfa_core.specs.BuilderStates.{DraftNode, Assembly, draft_at, patched, patched_at, draft_bytes}
+use Rattle.nfa_core.specs.BuilderStates.{DraftNode, Assembly, draft_at, patched, patched_at, draft_bytes, way_bytes}
 use Rattle.nfa_core.specs.BuilderStates.{bytes_of_drafts, with_draft, fail_draft}
 use Rattle.nfa_core.specs.BuilderStates.{union_draft, union_reverse_draft, empty_draft, range_draft, sparse_draft, look_draft}
 use Rattle.nfa_core.specs.BuilderStates.{capture_start_draft, capture_end_draft, match_draft}
@@ -17,30 +17,58 @@ use Rattle.nfa_core.specs.BuilderFaults.{Tells, add_fault, patch_fault, limit_fa
 use Rattle.nfa_core.specs.BuilderFaults.{unsupported_captures, too_many_patterns, captures_refused}
 use Rattle.nfa_core.specs.declared.build_error.BuildError.{BuildError}
 use Rattle.nfa_core.specs.declared.build_error.BuildError.TheVariants as error
-use Rattle.thompson_nfa.specs.Compiled.{sum_of_bytes}
+use Rattle.thompson_nfa.specs.Compiled.{sum_of_bytes, way_at}
 use Rattle.thompson_nfa.specs.Added.{AddsDraft, Led}
-use Rattle.thompson_nfa.specs.Refusals.{RefusesStep, Stays}
+use Rattle.thompson_nfa.specs.Refusals.{RefusesStep, Stays, StaysAt}
 use Rattle.thompson_nfa.proofs.Steps.ByteLemmas.{step_bytes}
 use Rattle.thompson_nfa.proofs.Steps.RoomLemmas.{numbered as room_for}
 
-longer : (names : List ℕ) (to : ℕ) → 24 + 4 * length (names ++ to ∷ []) ≤ 24 + 4 * length names + 4
+longer : (names : List ℕ) (to : ℕ) → 24 + 4 * length (names ++ to ∷ []) ≡ 24 + 4 * length names + 4
 longer names to = omega (arith, length-append names (to ∷ []))
 
--- one more way takes four bytes at most
-bytes_patched : (to : ℕ) (draft : DraftNode) → draft_bytes (patched to draft) ≤ draft_bytes draft + 4
-bytes_patched to (empty_draft next) = omega arith
-bytes_patched to (range_draft low high next) = omega arith
+-- one more way takes what it is said to
+bytes_patched : (to : ℕ) (draft : DraftNode) → draft_bytes (patched to draft) ≡ draft_bytes draft + way_bytes draft
+bytes_patched to (empty_draft next) = refl
+bytes_patched to (range_draft low high next) = refl
 bytes_patched to (sparse_draft ranges) = omega arith
-bytes_patched to (look_draft look next) = omega arith
-bytes_patched to (capture_start_draft pattern group next) = omega arith
-bytes_patched to (capture_end_draft pattern group next) = omega arith
+bytes_patched to (look_draft look next) = refl
+bytes_patched to (capture_start_draft pattern group next) = refl
+bytes_patched to (capture_end_draft pattern group next) = refl
 bytes_patched to (union_draft names) = longer names to
 bytes_patched to (union_reverse_draft names) = longer names to
-bytes_patched to fail_draft = omega arith
-bytes_patched to (match_draft pattern) = omega arith
+bytes_patched to fail_draft = refl
+bytes_patched to (match_draft pattern) = refl
+
+-- and the next one as much
+ways_patched : (to : ℕ) (draft : DraftNode) → way_bytes (patched to draft) ≡ way_bytes draft
+ways_patched to (empty_draft next) = refl
+ways_patched to (range_draft low high next) = refl
+ways_patched to (sparse_draft ranges) = refl
+ways_patched to (look_draft look next) = refl
+ways_patched to (capture_start_draft pattern group next) = refl
+ways_patched to (capture_end_draft pattern group next) = refl
+ways_patched to (union_draft names) = refl
+ways_patched to (union_reverse_draft names) = refl
+ways_patched to fail_draft = refl
+ways_patched to (match_draft pattern) = refl
+
+few_bytes : (draft : DraftNode) → way_bytes draft ≤ 4
+few_bytes (empty_draft next) = omega arith
+few_bytes (range_draft low high next) = omega arith
+few_bytes (sparse_draft ranges) = omega arith
+few_bytes (look_draft look next) = omega arith
+few_bytes (capture_start_draft pattern group next) = omega arith
+few_bytes (capture_end_draft pattern group next) = omega arith
+few_bytes (union_draft names) = omega arith
+few_bytes (union_reverse_draft names) = omega arith
+few_bytes fail_draft = omega arith
+few_bytes (match_draft pattern) = omega arith
+
+pub way_small : (b : Assembly) (q : ℕ) → way_at b q ≤ 4
+way_small b q = few_bytes (draft_at b.drafts q)
 
 sum_patched : (drafts : List DraftNode) (from to : ℕ) → from < length drafts →
-    sum_by draft_bytes (patched_at drafts from to) ≤ sum_by draft_bytes drafts + 4
+    sum_by draft_bytes (patched_at drafts from to) ≡ sum_by draft_bytes drafts + way_bytes (draft_at drafts from)
 sum_patched drafts from to inside =
     let draft = draft_at drafts from in
     let sums = sum_by-set draft_bytes drafts from (patched to draft) fail_draft inside in
@@ -49,14 +77,27 @@ sum_patched drafts from to inside =
 pub led_of : (old new : Assembly) (from to : ℕ) → from < length old.drafts → new ≡ record old { drafts = patched_at old.drafts from to } →
     Led old new from to
 led_of old new from to inside e =
+    let small = way_small old from in
     let drafts_are : new.drafts ≡ patched_at old.drafts from to = ap (λ (b : Assembly). b.drafts) e in
     let to_draft = patched to (draft_at old.drafts from) in
+    let takes : sum_of_bytes new ≡ sum_of_bytes old + way_at old from =
+    ap (sum_by draft_bytes) drafts_are ∙ sum_patched old.drafts from to inside in
+    let here : draft_at new.drafts from ≡ to_draft =
+    ap (λ (ps : List DraftNode). draft_at ps from) drafts_are ∙ get_or-set_same old.drafts from to_draft fail_draft inside in
+    let same : (q : ℕ) → q ≢ from → draft_at new.drafts q ≡ draft_at old.drafts q =
+    λ q ne. ap (λ (ps : List DraftNode). draft_at ps q) drafts_are ∙ get_or-set_other old.drafts from q to_draft fail_draft ne in
     record {
       settings = e ∙ ap (λ (ps : List DraftNode). record old { drafts = ps }) (sym drafts_are);
       size = ap length drafts_are ∙ length-set old.drafts from to_draft;
-      here = ap (λ (ps : List DraftNode). draft_at ps from) drafts_are ∙ get_or-set_same old.drafts from to_draft fail_draft inside;
-      same = λ q ne. ap (λ (ps : List DraftNode). draft_at ps q) drafts_are ∙ get_or-set_other old.drafts from q to_draft fail_draft ne;
-      bytes = omega (arith, sum_patched old.drafts from to inside, ap (sum_by draft_bytes) drafts_are);
+      here = here;
+      same = same;
+      bytes = omega (arith, takes, small);
+      takes = takes;
+      ways = λ q. ⊎_elim
+          (λ (is : q ≡ from). ap (way_at new) is ∙ ap way_bytes here ∙ ways_patched to (draft_at old.drafts from) ∙ ap (way_at old) (sym
+          is))
+          (λ (ne : q ≢ from). ap way_bytes (same q ne))
+          (cases_eq q from);
     }
 
 passed : (b : Bool) (given limit sum most : ℕ) → b ≡ nat_lt given (min sum 18446744073709551615) →
@@ -89,24 +130,36 @@ never_other : (size : Option ℕ) (bytes : ℕ) (fault : BuildFault) → limit_f
 never_other None bytes fault e other = cc
 never_other (Some given) bytes fault e other = never (nat_lt given bytes) given fault e other
 
+-- the limit is passed by one more way
+way_passed : (old : Assembly) (from to limit : ℕ) → from < length old.drafts →
+    patch_fault old from to ≡ Some (exceeded_size_limit limit) →
+    (old.size_limit ≡ Some limit) × (limit < sum_of_bytes old + way_at old from) × (limit < 18446744073709551615)
+way_passed old from to limit inside told =
+    let sums = sum_patched old.drafts from to inside in
+    limit_passed old.size_limit limit (sum_by draft_bytes (patched_at old.drafts from to)) (sum_of_bytes old + way_at old from) told
+    (omega (arith, sums))
+
 pub lead_refused : (old new : Assembly) (from to : ℕ) (e : BuildError) → from < length old.drafts → new ≡ old →
-    Tells e (patch_fault old from to) → Stays old new 0 4 e
+    Tells e (patch_fault old from to) → StaysAt old new from e
 lead_refused old new from to error.TooManyPatterns inside same told = absurd
     (never_other old.size_limit (bytes_of_drafts (patched_at old.drafts from to)) too_many_patterns told tt)
 lead_refused old new from to error.TooManyStates inside same told = absurd
     (never_other old.size_limit (bytes_of_drafts (patched_at old.drafts from to)) too_many_states told tt)
-lead_refused old new from to (error.ExceededSizeLimit limit) inside same told = record {
-  same = same;
-  cause = limit_passed old.size_limit limit (sum_by draft_bytes (patched_at old.drafts from to)) (sum_of_bytes old + 4) told
-      (sum_patched old.drafts from to inside);
-  passed = let most = limit_passed old.size_limit limit (sum_by draft_bytes (patched_at old.drafts from to)) (sum_of_bytes old + 4) told
-      (sum_patched old.drafts from to inside) in omega (arith, most.1);
-}
+lead_refused old new from to (error.ExceededSizeLimit limit) inside same told =
+    let most = way_passed old from to limit inside told in
+    let small = way_small old from in
+    record {
+      stays = record { same = same; cause = (most.0, omega (arith, most.1, small), most.2); passed = omega (arith, most.1, small) };
+      passed = omega (arith, most.1);
+    }
 lead_refused old new from to error.UnsupportedCaptures inside same told =
     absurd (never_other old.size_limit (bytes_of_drafts (patched_at old.drafts from to)) unsupported_captures told tt)
 lead_refused old new from to (error.Captures err) inside same told = absurd
     (never_other old.size_limit (bytes_of_drafts (patched_at old.drafts from to)) (captures_refused told.0) told.1 tt)
-lead_refused old new from to error.NoMemory inside same told = record { same = same; cause = tt; passed = omega arith }
+lead_refused old new from to error.NoMemory inside same told = record {
+  stays = record { same = same; cause = tt; passed = omega arith };
+  passed = omega arith;
+}
 
 draft_below : (xs : List DraftNode) (draft : DraftNode) (q : ℕ) → q < length xs → draft_at (xs ++ draft ∷ []) q ≡ draft_at xs q
 draft_below [] draft q l = absurd (omega arith)

@@ -6,6 +6,7 @@ use Rattle.std.specs.List.{list_all}
 use Rattle.std.proofs.lemmas.Bool.{cases_lt, cases_eq}
 use Rattle.std.proofs.lemmas.List.{get_or_default}
 use Rattle.std.proofs.lemmas.List.Elements.{All-weaker}
+use Rattle.search_core.specs.Index.{greatest_index}
 use Rattle.hir_core.specs.Tree.{Tree}
 use Rattle.nfa_core.specs.BuilderStates.{DraftNode, Assembly, union_draft, fail_draft, match_draft, draft_at, patched}
 use Rattle.nfa_core.specs.CanBuild.{names_of, is_known, CanBuild}
@@ -206,6 +207,9 @@ module _ (o : Options) (xs : List Tree) (b0 b1 b2 b3 : Assembly) (u c : ℕ) (be
   small : sum_of_bytes b3 ≤ 4096 * list_room (is_shrunk o) xs
   small = let a = few in omega (arith, a, size, led.bytes, has.bytes, before.bytes)
 
+  counted : sum_of_bytes b3 ≤ 4096 * (greatest_index + 1)
+  counted = let a = has.last (let b = before.few in omega arith) in omega (arith, size, led.bytes, has.bytes, before.bytes, a)
+
   -- what stands before the patterns has no looks
   no_look_before : (l : Look) (q : ℕ) → q < length b1.drafts → is_look l (draft_at b1.drafts q) ≡ false
   no_look_before l q low = ⊎_elim
@@ -246,6 +250,7 @@ module _ (o : Options) (xs : List Tree) (b0 b1 b2 b3 : Assembly) (u c : ℕ) (be
         looks = looks_all;
         states = few;
         bytes = small;
+        counted = counted;
       }
 
   -- past the anchored start one is among the patterns' states
@@ -259,7 +264,7 @@ module _ (o : Options) (xs : List Tree) (b0 b1 b2 b3 : Assembly) (u c : ℕ) (be
       let high = s.2 in let low = below in
       absurd (omega arith)
 
-start_below : (anchored : Bool) (b0 b1 : Assembly) (u : ℕ) → HasStart anchored b0 b1 u → u < length b1.drafts
+pub start_below : (anchored : Bool) (b0 b1 : Assembly) (u : ℕ) → HasStart anchored b0 b1 u → u < length b1.drafts
 start_below true b0 b1 u x = let is = x.is in let size = x.size in omega arith
 start_below false b0 b1 u x = let is = x.is in let size = x.size in omega arith
 

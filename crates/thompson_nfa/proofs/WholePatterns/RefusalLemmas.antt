@@ -15,7 +15,8 @@ use Rattle.thompson_nfa.specs.Configs.{Options, reverse_of, limit_of, captures_o
 use Rattle.thompson_nfa.specs.NotedGroups.{noted_from, HasGroup}
 use Rattle.thompson_nfa.specs.Patterns.{RefusesPatterns, begun_with, room_for, told_under}
 use Rattle.thompson_nfa.specs.Room.{list_room}
-use Rattle.thompson_nfa.specs.ListBytes.{patterns_bytes}
+use Rattle.thompson_nfa.specs.ByteRoom.{at_most}
+use Rattle.thompson_nfa.specs.Compilations.{bytes_needed}
 use Rattle.thompson_nfa.specs.Refusals.{RefusesIndex, Passes}
 use Rattle.thompson_nfa.specs.RefusedTrees.{RefusesTrees, FitsStates}
 use Rattle.thompson_nfa.specs.declared.which_captures.WhichCaptures.{WhichCaptures}
@@ -45,7 +46,7 @@ forward_fault o xs fault captures e = ⊎_elim (λ (up : reverse_of o ≡ false)
 -- ---- patterns are refused
 
 too_many : (b : Bool) (o : Options) (xs : List Tree) (limit : ℕ) → b ≡ nat_lt limit (24 * (greatest_index + 1)) → limit_of o ≡ Some limit →
-    greatest_index + 1 < list_room (is_shrunk o) xs → 24 * (greatest_index + 1) ≤ patterns_bytes (is_shrunk o) xs →
+    greatest_index + 1 < list_room (is_shrunk o) xs → 24 * (greatest_index + 1) ≤ bytes_needed (at_most (is_shrunk o)) o xs →
     RefusesTrees o xs (if b then error.ExceededSizeLimit limit else error.TooManyStates)
 too_many true o xs limit test is many bytes = let less = ltb-true limit (24 * (greatest_index + 1)) (sym test) in
     (is, omega arith, omega arith)
@@ -55,7 +56,7 @@ too_many false o xs limit test is many bytes =
     (many, subst P (sym is) fits, bytes)
 
 too_many_told : (o : Options) (xs : List Tree) (limit : Option ℕ) → limit_of o ≡ limit → greatest_index + 1 < list_room (is_shrunk o) xs →
-    24 * (greatest_index + 1) ≤ patterns_bytes (is_shrunk o) xs → RefusesTrees o xs (told_under limit error.TooManyStates)
+    24 * (greatest_index + 1) ≤ bytes_needed (at_most (is_shrunk o)) o xs → RefusesTrees o xs (told_under limit error.TooManyStates)
 too_many_told o xs None is many bytes = let P : Option ℕ → Type 0 = FitsStates in (many, subst P (sym is) tt, bytes)
 too_many_told o xs (Some limit) is many bytes = too_many (nat_lt limit (24 * (greatest_index + 1))) o xs limit refl is many bytes
 
@@ -75,7 +76,7 @@ as_it_is o xs e other r = let P : BuildError → Type 0 = λ one. RefusesTrees o
 
 pub trees_refused : (o : Options) (xs : List Tree) (b : Assembly) (e : BuildError) → b ≡ begun_with o →
     (reverse_of o && is_any (captures_of o)) ≡ false →
-    RefusesPatterns (captures_of o) b (room_for (is_shrunk o) xs + 4) xs e → Passes b (patterns_bytes (is_shrunk o) xs) e →
+    RefusesPatterns (captures_of o) b (room_for (is_shrunk o) xs + 4) xs e → Passes b (bytes_needed (at_most (is_shrunk o)) o xs) e →
     RefusesTrees o xs (told_under (limit_of o) e)
 trees_refused o xs b error.TooManyPatterns begun captures r p = absurd r
 trees_refused o xs b error.TooManyStates begun captures r p =
@@ -138,7 +139,7 @@ build_refused o xs b e groups captures told = ⊎_elim
 pub told_refused : (o : Options) (xs : List Tree) (b : Assembly) (limit : Option ℕ) (e told : BuildError) → b ≡ begun_with o →
     (reverse_of o && is_any (captures_of o)) ≡ false → limit ≡ limit_of o →
     told ≡ told_under limit e → RefusesPatterns (captures_of o) b (room_for (is_shrunk o) xs + 4) xs e →
-    Passes b (patterns_bytes (is_shrunk o) xs) e → RefusesTrees o xs told
+    Passes b (bytes_needed (at_most (is_shrunk o)) o xs) e → RefusesTrees o xs told
 told_refused o xs b limit e told begun captures same is r p =
     let P : BuildError → Type 0 = λ one. RefusesTrees o xs one in
     subst P (sym (is ∙ ap (λ (most : Option ℕ). told_under most e) same)) (trees_refused o xs b e begun captures r p)

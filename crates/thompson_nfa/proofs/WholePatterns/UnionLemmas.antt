@@ -6,16 +6,16 @@ use Rattle.std.proofs.lemmas.Option.{slice_get-get_or}
 use Rattle.hir_core.specs.Tree.{Tree}
 use Rattle.nfa_core.specs.BuilderStates.{Assembly}
 use Rattle.nfa_core.specs.BuilderStates.{union_draft, draft_at, patched}
-use Rattle.nfa_core.specs.BuilderStates.{is_sparse}
+use Rattle.nfa_core.specs.BuilderStates.{is_sparse, way_bytes}
 use Rattle.nfa_core.specs.declared.build_error.BuildError.{BuildError}
 use Rattle.nfa_core.specs.declared.build_error.BuildError.TheVariants as error
 use Rattle.thompson_nfa.specs.Added.{Led}
-use Rattle.thompson_nfa.specs.Compiled.{sum_of_bytes, Weighs}
+use Rattle.thompson_nfa.specs.Compiled.{sum_of_bytes, TakesInAll, way_at}
 use Rattle.thompson_nfa.specs.Patterns.{HasPatterns, HasAll, RefusesPatterns, room_for}
 use Rattle.thompson_nfa.specs.Refusals.{RefusesStep, RefusesIndex, Passes, Stays}
 use Rattle.thompson_nfa.specs.Room.{room}
-use Rattle.thompson_nfa.specs.ByteRoom.{byte_room}
-use Rattle.thompson_nfa.specs.ListBytes.{bytes_for}
+use Rattle.thompson_nfa.specs.ByteRoom.{Bound, at_least, at_most}
+use Rattle.thompson_nfa.specs.ListBytes.{pattern_bytes, bytes_for}
 use Rattle.thompson_nfa.specs.declared.compiling.How.{How}
 use Rattle.thompson_nfa.specs.declared.which_captures.WhichCaptures.{WhichCaptures}
 use Rattle.thompson_nfa.proofs.WholePatterns.FurtherLemmas.{patterns_none, hole_moved, patterns_led, patterns_joined, room_joined}
@@ -95,27 +95,34 @@ pub record IsFurther (how : How) (union : ℕ) (a b : Assembly) (xs : List Tree)
   pub has : HasPatterns how.which union a b ways xs (room_for how.shrink xs) 0
   pub leads : (first : List ℕ) → draft_at a.drafts union ≡ union_draft first → draft_at b.drafts union ≡ union_draft (first ++ ways)
   pub kind : is_sparse (draft_at b.drafts union) ≡ false
-  pub weighs : Weighs a b (bytes_for how.shrink xs)
+  pub weighs : TakesInAll a b (bytes_for at_least how.which xs) (bytes_for (at_most how.shrink) how.which xs)
+  pub way : way_at b union ≡ 4
 
-pub further_none : (how : How) (union : ℕ) (a : Assembly) → is_sparse (draft_at a.drafts union) ≡ false → IsFurther how union a a []
-further_none how union a kind = record {
+pub further_none : (how : How) (union : ℕ) (a : Assembly) → is_sparse (draft_at a.drafts union) ≡ false → way_at a union ≡ 4 →
+    IsFurther how union a a []
+further_none how union a kind way = record {
   ways = [];
   has = patterns_none how.which union a;
   leads = λ first e. e ∙ ap union_draft (sym (append-nil first));
   kind = kind;
-  weighs = omega arith;
+  weighs = record { least = omega arith; most = omega arith };
+  way = way;
 }
 
-bytes_joined : (shrink : Bool) (xs : List Tree) (x : Tree) →
-    bytes_for shrink (xs ++ x ∷ []) ≡ bytes_for shrink xs + (byte_room shrink x + 88)
-bytes_joined shrink [] x = omega arith
-bytes_joined shrink (y ∷ xs) x = omega (arith, bytes_joined shrink xs x)
+bytes_joined : (b : Bound) (which : WhichCaptures) (xs : List Tree) (x : Tree) →
+    bytes_for b which (xs ++ x ∷ []) ≡ bytes_for b which xs + (pattern_bytes b which x + 4)
+bytes_joined b which [] x = omega arith
+bytes_joined b which (y ∷ xs) x = omega (arith, bytes_joined b which xs x)
 
 module _ (how : How) (union : ℕ) (a b c : Assembly) (xs : List Tree) (x : Tree) (s : ℕ) (there : union < length a.drafts)
     (so_far : IsFurther how union a b xs)
-    (next : HasAll how.which b c (s ∷ []) (x ∷ []) (room how.shrink x + 3) 4) (weighs : Weighs b c (byte_room how.shrink x + 84)) where
+    (next : HasAll how.which b c (s ∷ []) (x ∷ []) (room how.shrink x + 3) 4)
+    (weighs : TakesInAll b c (pattern_bytes at_least how.which x) (pattern_bytes (at_most how.shrink) how.which x)) where
   kept_union : draft_at c.drafts union ≡ draft_at b.drafts union
   kept_union = let l = so_far.has.longer in let m = next.longer in next.same union (omega arith) (λ e. omega arith)
+
+  way_there : way_at c union ≡ 4
+  way_there = ap way_bytes kept_union ∙ so_far.way
 
   pub union_kind : is_sparse (draft_at c.drafts union) ≡ false
   union_kind = ap is_sparse kept_union ∙ so_far.kind
@@ -137,7 +144,11 @@ module _ (how : How) (union : ℕ) (a b c : Assembly) (xs : List Tree) (x : Tree
         leads = λ first e. led.here ∙ ap (patched s) (kept_union ∙ so_far.leads first e)
             ∙ ap union_draft (append_assoc first so_far.ways (s ∷ []));
         kind = ap is_sparse led.here ∙ kind_patched s (draft_at c.drafts union) ∙ union_kind;
-        weighs = omega (arith, so_far.weighs, weighs, led.bytes, bytes_joined how.shrink xs x);
+        weighs = record {
+          least = omega (arith, so_far.weighs.least, weighs.least, led.takes, way_there, bytes_joined at_least how.which xs x);
+          most = omega (arith, so_far.weighs.most, weighs.most, led.takes, way_there, bytes_joined (at_most how.shrink) how.which xs x);
+        };
+        way = led.ways union ∙ way_there;
       }
 
   -- the way to it is refused
@@ -167,11 +178,11 @@ room_at shrink [] i d l = absurd (omega arith)
 room_at shrink (z ∷ zs) zero d l = omega arith
 room_at shrink (z ∷ zs) (suc i) d l = omega (arith, room_at shrink zs i d (omega arith))
 
-bytes_at : (shrink : Bool) (zs : List Tree) (i : ℕ) (d : Tree) → i < length zs →
-    bytes_for shrink (take i zs) + (byte_room shrink (get_or zs i d) + 88) ≤ bytes_for shrink zs
-bytes_at shrink [] i d l = absurd (omega arith)
-bytes_at shrink (z ∷ zs) zero d l = omega arith
-bytes_at shrink (z ∷ zs) (suc i) d l = omega (arith, bytes_at shrink zs i d (omega arith))
+bytes_at : (b : Bound) (which : WhichCaptures) (zs : List Tree) (i : ℕ) (d : Tree) → i < length zs →
+    bytes_for b which (take i zs) + (pattern_bytes b which (get_or zs i d) + 4) ≤ bytes_for b which zs
+bytes_at b which [] i d l = absurd (omega arith)
+bytes_at b which (z ∷ zs) zero d l = omega arith
+bytes_at b which (z ∷ zs) (suc i) d l = omega (arith, bytes_at b which zs i d (omega arith))
 
 module _ (how : How) (union : ℕ) (a b c : Assembly) (zs : List Tree) (i : ℕ) (x : Tree) (inside : i < length zs) (is : x ≡ get_or zs i x)
     (there : union < length a.drafts)
@@ -182,14 +193,22 @@ module _ (how : How) (union : ℕ) (a b c : Assembly) (zs : List Tree) (i : ℕ)
   fits : room_for how.shrink (take i zs) + (room how.shrink x + 3) ≤ room_for how.shrink zs
   fits = omega (arith, room_at how.shrink zs i x inside, ap (room how.shrink) is)
 
-  fits_bytes : bytes_for how.shrink (take i zs) + (byte_room how.shrink x + 88) ≤ bytes_for how.shrink zs
-  fits_bytes = omega (arith, bytes_at how.shrink zs i x inside, ap (byte_room how.shrink) is)
+  fits_bytes : bytes_for (at_most how.shrink) how.which (take i zs) + (pattern_bytes (at_most how.shrink) how.which x + 4)
+      ≤ bytes_for (at_most how.shrink) how.which zs
+  fits_bytes = omega (
+    arith,
+    bytes_at (at_most how.shrink) how.which zs i x inside,
+    ap (pattern_bytes (at_most how.shrink) how.which) is,
+  )
 
-  pub pattern_passed : (e : BuildError) → Passes b (byte_room how.shrink x + 84) e → Passes a (bytes_for how.shrink zs) e
-  pattern_passed e p = omega (arith, p, so_far.weighs, fits_bytes)
+  pub pattern_passed : (e : BuildError) → Passes b (pattern_bytes (at_most how.shrink) how.which x) e →
+      Passes a (bytes_for (at_most how.shrink) how.which zs) e
+  pattern_passed e p = omega (arith, p, so_far.weighs.most, fits_bytes)
 
-  pub union_passed : (e : BuildError) → Weighs b c (byte_room how.shrink x + 84) → Passes c 4 e → Passes a (bytes_for how.shrink zs) e
-  union_passed e w p = omega (arith, w, p, so_far.weighs, fits_bytes)
+  pub union_passed : (e : BuildError) →
+      TakesInAll b c (pattern_bytes at_least how.which x) (pattern_bytes (at_most how.shrink) how.which x) → Passes c 4 e →
+      Passes a (bytes_for (at_most how.shrink) how.which zs) e
+  union_passed e w p = omega (arith, w.most, p, so_far.weighs.most, fits_bytes)
 
   pub pattern_refused : (e : BuildError) → RefusesPatterns how.which b (room how.shrink x + 3) (x ∷ []) e →
       RefusesPatterns how.which a (room_for how.shrink zs) zs e
@@ -198,11 +217,12 @@ module _ (how : How) (union : ℕ) (a b c : Assembly) (zs : List Tree) (i : ℕ)
       ∙ ap Some (sym is)) fits r
 
   pub union_refused : (d : Assembly) (s : ℕ) (e : BuildError) → HasAll how.which b c (s ∷ []) (x ∷ []) (room how.shrink x + 3) 4 →
-      Weighs b c (byte_room how.shrink x + 84) → Stays c d 0 4 e → RefusesPatterns how.which a (room_for how.shrink zs) zs e
+      TakesInAll b c (pattern_bytes at_least how.which x) (pattern_bytes (at_most how.shrink) how.which x) → Stays c d 0 4 e →
+      RefusesPatterns how.which a (room_for how.shrink zs) zs e
   union_refused d s e next w r = way_refused how union a b c (take i zs) x s there so_far next w d (room_for how.shrink zs) zs e fits r
 
   pub further_next : (d : Assembly) (s : ℕ) → HasAll how.which b c (s ∷ []) (x ∷ []) (room how.shrink x + 3) 4 →
-      Weighs b c (byte_room how.shrink x + 84) → Led c d union s →
+      TakesInAll b c (pattern_bytes at_least how.which x) (pattern_bytes (at_most how.shrink) how.which x) → Led c d union s →
       IsFurther how union a d (take (i + 1) zs)
   further_next d s next w led =
       let P : List Tree → Type 0 = λ xs. IsFurther how union a d xs in
@@ -210,6 +230,9 @@ module _ (how : How) (union : ℕ) (a b c : Assembly) (zs : List Tree) (i : ℕ)
       subst P (sym more) (further_one how union a b c (take i zs) x s there so_far next w d led)
 
 pub further_weighs : (how : How) (union : ℕ) (a b : Assembly) (zs : List Tree) (i : ℕ) → length zs ≤ i →
-    IsFurther how union a b (take i zs) → Weighs a b (bytes_for how.shrink zs)
+    IsFurther how union a b (take i zs) →
+    TakesInAll a b (bytes_for at_least how.which zs) (bytes_for (at_most how.shrink) how.which zs)
 further_weighs how union a b zs i over f =
-    let P : List Tree → Type 0 = λ xs. Weighs a b (bytes_for how.shrink xs) in subst P (take_all i zs over) f.weighs
+    let P : List Tree → Type 0 =
+    λ xs. TakesInAll a b (bytes_for at_least how.which xs) (bytes_for (at_most how.shrink) how.which xs) in
+    subst P (take_all i zs over) f.weighs

@@ -1,5 +1,6 @@
 use Rattle.lazy_dfa.specs.WalkAnswers.{IsMadeOnWalk}
 use Rattle.lazy_dfa.proofs.CacheChanges.ChangeLawLemmas.{clears_few, kept_if_room, kept_if_spent, kept_if_same, first_of_clears}
+use Rattle.lazy_dfa.proofs.CacheChanges.ChangeLawLemmas.{last_of_clears}
 use Rattle.lazy_dfa.proofs.change_laws.walks_clear_for_states_alone.Goals as goal
 
 pub returns-clause-count : goal.returns-clause-count
@@ -16,3 +17,6 @@ returns-clause-kept c = λ d q old new n made own same less changes. kept_if_sam
 
 pub returns-clause-cleared : goal.returns-clause-cleared
 returns-clause-cleared c = λ d q old new n made own differ changes. first_of_clears d (IsMadeOnWalk d q) made old own new n differ changes
+
+pub returns-clause-left : goal.returns-clause-left
+returns-clause-left c = λ d q old new n differ changes. last_of_clears d (IsMadeOnWalk d q) old new n differ changes

@@ -1,7 +1,9 @@
 use Rattle.std.proofs.Common.{◌∙◌, ◌+◌, ap, sym, refl, length, get_or, arith}
 use Rattle.hir_core.specs.Weight.{weight}
+use Rattle.hir_core.specs.Facts.{minimum_len}
 use Rattle.nfa_core.specs.BuilderStates.{Assembly}
-use Rattle.thompson_nfa.specs.ByteRoom.{byte_room}
+use Rattle.thompson_nfa.specs.Compiled.{is_above_zero}
+use Rattle.thompson_nfa.specs.ByteRoom.{at_least, at_most, tree_least, tree_most, group_bytes, loop_bytes, rounds_bytes}
 use Rattle.thompson_nfa.specs.Turned.{turned_place}
 use Rattle.thompson_nfa.proofs.Steps.ErrorLemmas.{handed, err_only}
 use Rattle.thompson_nfa.proofs.Steps.GrowLemmas.{ready_later}
@@ -10,20 +12,23 @@ use Rattle.thompson_nfa.proofs.Fragments.RepeatLemmas.{star_made, star_does, plu
 use Rattle.thompson_nfa.proofs.Fragments.OptionLemmas.{option_made, option_does}
 use Rattle.thompson_nfa.proofs.Fragments.CopyLemmas.{copies_first, copies_then, copies_exact, copies_loop, rounds_owed, rounds_first}
 use Rattle.thompson_nfa.proofs.Fragments.CopyLemmas.{rounds_then, rounds_made, rounds_does, copies_done, at_least_made, stopped_does}
-use Rattle.thompson_nfa.proofs.Fragments.CopyLemmas.{bounds_does, groups_again, copies_left}
-use Rattle.thompson_nfa.proofs.Fragments.CopyLemmas.{rounds_left}
-use Rattle.thompson_nfa.proofs.Fragments.PartBytes.{bytes_of_alternation, literals_bytes, part_in_alternation}
-use Rattle.thompson_nfa.proofs.Fragments.PartBytes.{two_bytes, copy_bytes, round_bytes}
+use Rattle.thompson_nfa.proofs.Fragments.CopyLemmas.{bounds_does, groups_again, copies_left, copies_lead_passed}
+use Rattle.thompson_nfa.proofs.Fragments.CopyLemmas.{rounds_left, rounds_lead_passed, rounds_last_passed, rounds_take}
+use Rattle.thompson_nfa.proofs.Fragments.PartBytes.{bytes_of_alternation, bytes_of_literals}
+use Rattle.thompson_nfa.proofs.Fragments.PartBytes.{two_bytes, round_bytes, copies_before, loop_is, some_owed, group_kept}
+use Rattle.thompson_nfa.proofs.Fragments.TakeLemmas.{takes_wider, star_takes, plus_takes, option_takes, loop_takes, loop_passed, capture_takes}
+use Rattle.thompson_nfa.proofs.Fragments.TakeLemmas.{capture_passed, join_takes, join_passed, second_lead_passed, third_lead_passed}
+use Rattle.thompson_nfa.proofs.Fragments.TakeLemmas.{fourth_lead_passed}
 use Rattle.thompson_nfa.proofs.Fragments.CaptureLemmas.{capture_made, capture_does, plain_does}
 use Rattle.thompson_nfa.proofs.Fragments.ConcatLemmas.{weight_in_alternation, parts_first, parts_then, parts_made, parts_does}
 use Rattle.thompson_nfa.proofs.Fragments.ConcatLemmas.{parts_refused, parts_lead_refused, first_part_refused}
-use Rattle.thompson_nfa.proofs.Fragments.ConcatLemmas.{parts_weigh, parts_left, first_part_bytes}
+use Rattle.thompson_nfa.proofs.Fragments.ConcatLemmas.{parts_weigh, parts_left, parts_lead_passed, first_part_bytes}
 use Rattle.thompson_nfa.proofs.Fragments.TurnLemmas.{none_is_concat}
 use Rattle.thompson_nfa.proofs.Fragments.JoinLemmas.{does_same}
 use Rattle.thompson_nfa.proofs.Fragments.AlternativeLemmas.{cases_open, union_refused, end_refused, first_lead_refused, second_lead_refused}
 use Rattle.thompson_nfa.proofs.Fragments.AlternativeLemmas.{third_lead_refused, fourth_lead_refused, cases_then, cases_refused}
 use Rattle.thompson_nfa.proofs.Fragments.AlternativeLemmas.{cases_lead_refused, cases_end_refused, cases_made, cases_does, single_does}
-use Rattle.thompson_nfa.proofs.Fragments.AlternativeLemmas.{cases_weigh, cases_left}
+use Rattle.thompson_nfa.proofs.Fragments.AlternativeLemmas.{cases_weigh, cases_left, cases_lead_passed, first_alternative, single_bytes}
 use Rattle.thompson_nfa.proofs.LiteralTries.LiteralLemmas.{literals_made, literals_noted, literals_refused}
 use Rattle.thompson_nfa.specs.Room.{room}
 use Rattle.thompson_nfa.proofs.Fragments.CopyLemmas.{one_fits, copies_refused, copies_lead_refused}
@@ -235,7 +240,7 @@ concatenation-returns-in_err-first t c =
           c.in_err-first.ensures.refused);
       passed = handed _ _ c.in_err-first.field-0.0 is (omega (
         arith,
-        first_part_bytes c.args.how.shrink _ c.index-subs-begin.result c.args.subs.now (omega arith)
+        first_part_bytes (at_most c.args.how.shrink) c.args.how.which _ c.index-subs-begin.result c.args.subs.now (omega arith)
             (c.index-subs-begin.is ∙ ap (λ k. get_or c.args.subs.now k c.index-subs-begin.result)
             (c.turned_place-begin.ensures.value ∙ ap (λ back. turned_place back 0 (length c.args.subs.now)) c.get_reverse-reverse.ensures)),
         c.in_err-first.ensures.passed,
@@ -280,16 +285,13 @@ concatenation-returns-in_err-lead t c =
           (c.index-subs-place.is ∙ ap (λ k. get_or c.args.subs.now k c.index-subs-place.result)
           (c.turned_place-place.ensures.value ∙ ap (λ back. turned_place back c.loop-i.i (length c.args.subs.now))
           c.get_reverse-reverse.ensures))
-          c.in_ok-next.ensures.made c.in_err-lead.ensures);
-      passed = handed _ _ c.in_err-lead.field-0.0 is (omega (
-        arith,
-        parts_left c.args.how _ _ _ _ c.loop-i.i c.args.subs.now c.loop-i.invariant c.index-subs-place.result c.loop-i-test.true
-            (c.index-subs-place.is ∙ ap (λ k. get_or c.args.subs.now k c.index-subs-place.result)
-            (c.turned_place-place.ensures.value ∙ ap (λ back. turned_place back c.loop-i.i (length c.args.subs.now))
-            c.get_reverse-reverse.ensures)),
-        c.in_ok-next.ensures.weighs,
-        c.in_err-lead.ensures.passed,
-      ));
+          c.in_ok-next.ensures.made c.in_err-lead.ensures.stays);
+      passed = handed _ _ c.in_err-lead.field-0.0 is (parts_lead_passed c.args.how _ _ _ _ c.loop-i.i c.args.subs.now
+          c.loop-i.invariant _ _ _ _ _ c.index-subs-place.result _ c.loop-i-test.true
+          (c.index-subs-place.is ∙ ap (λ k. get_or c.args.subs.now k c.index-subs-place.result)
+          (c.turned_place-place.ensures.value ∙ ap (λ back. turned_place back c.loop-i.i (length c.args.subs.now))
+          c.get_reverse-reverse.ensures))
+          c.in_ok-next.ensures.made c.in_ok-next.ensures.weighs c.in_err-lead.ensures);
     }
 
 pub concatenation-returns-clause-made : goal.concatenation-returns-clause-made
@@ -324,7 +326,8 @@ alternatives-returns-in_err-literals t c =
           ∙ c.if-all_literals.true) c.in_err-literals.ensures.refused);
       passed = handed _ _ c.in_err-literals.field-0.0 is (omega (
         arith,
-        literals_bytes c.args.how.shrink c.args.subs.now (sym c.all_literals.ensures ∙ c.if-all_literals.true),
+        bytes_of_literals (at_most c.args.how.shrink) c.args.how.which c.args.subs.now (sym c.all_literals.ensures ∙
+            c.if-all_literals.true),
         c.in_err-literals.ensures.passed,
       ));
     }
@@ -355,11 +358,13 @@ alternatives-returns-in_err-union t c =
           c.in_ok-first.ensures.made c.in_ok-second.ensures.made _ _ c.in_err-union.ensures);
       passed = handed _ _ c.in_err-union.field-0.0 is (omega (
         arith,
-        two_bytes c.args.how.shrink c.args.subs.now c.index-subs-0-2.result c.index-subs-1.result (omega arith) c.index-subs-0-2.is
+        two_bytes (at_most c.args.how.shrink) c.args.how.which c.args.subs.now c.index-subs-0-2.result c.index-subs-1.result (omega
+            arith) c.index-subs-0-2.is
             c.index-subs-1.is,
-        bytes_of_alternation c.args.how.shrink c.args.subs.now (sym c.all_literals.ensures ∙ c.if-all_literals.false),
-        c.in_ok-first.ensures.weighs,
-        c.in_ok-second.ensures.weighs,
+        bytes_of_alternation (at_most c.args.how.shrink) c.args.how.which c.args.subs.now (omega arith) (sym c.all_literals.ensures ∙
+            c.if-all_literals.false),
+        c.in_ok-first.ensures.weighs.most,
+        c.in_ok-second.ensures.weighs.most,
         c.in_err-union.ensures.passed,
       ));
     }
@@ -378,11 +383,13 @@ alternatives-returns-in_err-end t c =
           c.in_ok-first.ensures.made c.in_ok-second.ensures.made _ _ _ _ c.in_ok-union.ensures c.in_err-end.ensures);
       passed = handed _ _ c.in_err-end.field-0.0 is (omega (
         arith,
-        two_bytes c.args.how.shrink c.args.subs.now c.index-subs-0-2.result c.index-subs-1.result (omega arith) c.index-subs-0-2.is
+        two_bytes (at_most c.args.how.shrink) c.args.how.which c.args.subs.now c.index-subs-0-2.result c.index-subs-1.result (omega
+            arith) c.index-subs-0-2.is
             c.index-subs-1.is,
-        bytes_of_alternation c.args.how.shrink c.args.subs.now (sym c.all_literals.ensures ∙ c.if-all_literals.false),
-        c.in_ok-first.ensures.weighs,
-        c.in_ok-second.ensures.weighs,
+        bytes_of_alternation (at_most c.args.how.shrink) c.args.how.which c.args.subs.now (omega arith) (sym c.all_literals.ensures ∙
+            c.if-all_literals.false),
+        c.in_ok-first.ensures.weighs.most,
+        c.in_ok-second.ensures.weighs.most,
         c.in_ok-union.ensures.bytes,
         c.in_err-end.ensures.passed,
       ));
@@ -400,17 +407,19 @@ alternatives-returns-in_err-lead t c =
           c.index-subs-1.result c.args.subs.now
           (omega arith) c.index-subs-0-2.is c.index-subs-1.is
           c.in_ok-first.ensures.made c.in_ok-second.ensures.made _ _ _ _ c.in_ok-union.ensures c.in_ok-end.ensures _ _
-          c.in_err-lead.ensures);
+          c.in_err-lead.ensures.stays);
       passed = handed _ _ c.in_err-lead.field-0.0 is (omega (
         arith,
-        two_bytes c.args.how.shrink c.args.subs.now c.index-subs-0-2.result c.index-subs-1.result (omega arith) c.index-subs-0-2.is
+        two_bytes (at_most c.args.how.shrink) c.args.how.which c.args.subs.now c.index-subs-0-2.result c.index-subs-1.result (omega
+            arith) c.index-subs-0-2.is
             c.index-subs-1.is,
-        bytes_of_alternation c.args.how.shrink c.args.subs.now (sym c.all_literals.ensures ∙ c.if-all_literals.false),
-        c.in_ok-first.ensures.weighs,
-        c.in_ok-second.ensures.weighs,
+        bytes_of_alternation (at_most c.args.how.shrink) c.args.how.which c.args.subs.now (omega arith) (sym c.all_literals.ensures ∙
+            c.if-all_literals.false),
+        c.in_ok-first.ensures.weighs.most,
+        c.in_ok-second.ensures.weighs.most,
         c.in_ok-union.ensures.bytes,
         c.in_ok-end.ensures.bytes,
-        c.in_err-lead.ensures.passed,
+        c.in_err-lead.ensures.stays.passed,
       ));
     }
 
@@ -427,18 +436,18 @@ alternatives-returns-in_err-lead-2 t c =
           (omega arith) c.index-subs-0-2.is c.index-subs-1.is
           c.in_ok-first.ensures.made c.in_ok-second.ensures.made _ _ _ _ c.in_ok-union.ensures c.in_ok-end.ensures _ _ _
           c.in_ok-lead.ensures
-          c.in_err-lead-2.ensures);
+          c.in_err-lead-2.ensures.stays);
       passed = handed _ _ c.in_err-lead-2.field-0.0 is (omega (
         arith,
-        two_bytes c.args.how.shrink c.args.subs.now c.index-subs-0-2.result c.index-subs-1.result (omega arith) c.index-subs-0-2.is
+        two_bytes (at_most c.args.how.shrink) c.args.how.which c.args.subs.now c.index-subs-0-2.result c.index-subs-1.result (omega
+            arith) c.index-subs-0-2.is
             c.index-subs-1.is,
-        bytes_of_alternation c.args.how.shrink c.args.subs.now (sym c.all_literals.ensures ∙ c.if-all_literals.false),
-        c.in_ok-first.ensures.weighs,
-        c.in_ok-second.ensures.weighs,
-        c.in_ok-union.ensures.bytes,
-        c.in_ok-end.ensures.bytes,
-        c.in_ok-lead.ensures.bytes,
-        c.in_err-lead-2.ensures.passed,
+        bytes_of_alternation (at_most c.args.how.shrink) c.args.how.which c.args.subs.now (omega arith) (sym c.all_literals.ensures ∙
+            c.if-all_literals.false),
+        second_lead_passed _ _ _ _ _ _ _ _ _ _ _ _ _ _ _ _ _ _ c.in_ok-first.ensures.made c.in_ok-first.ensures.weighs
+            c.in_ok-second.ensures.made
+            c.in_ok-second.ensures.weighs c.in_ok-union.ensures c.in_ok-end.ensures c.in_ok-lead.ensures _ _
+            c.in_err-lead-2.ensures,
       ));
     }
 
@@ -455,19 +464,18 @@ alternatives-returns-in_err-lead-3 t c =
           (omega arith) c.index-subs-0-2.is c.index-subs-1.is
           c.in_ok-first.ensures.made c.in_ok-second.ensures.made _ _ _ _ c.in_ok-union.ensures c.in_ok-end.ensures _ _ _ _
           c.in_ok-lead.ensures
-          c.in_ok-lead-2.ensures c.in_err-lead-3.ensures);
+          c.in_ok-lead-2.ensures c.in_err-lead-3.ensures.stays);
       passed = handed _ _ c.in_err-lead-3.field-0.0 is (omega (
         arith,
-        two_bytes c.args.how.shrink c.args.subs.now c.index-subs-0-2.result c.index-subs-1.result (omega arith) c.index-subs-0-2.is
+        two_bytes (at_most c.args.how.shrink) c.args.how.which c.args.subs.now c.index-subs-0-2.result c.index-subs-1.result (omega
+            arith) c.index-subs-0-2.is
             c.index-subs-1.is,
-        bytes_of_alternation c.args.how.shrink c.args.subs.now (sym c.all_literals.ensures ∙ c.if-all_literals.false),
-        c.in_ok-first.ensures.weighs,
-        c.in_ok-second.ensures.weighs,
-        c.in_ok-union.ensures.bytes,
-        c.in_ok-end.ensures.bytes,
-        c.in_ok-lead.ensures.bytes,
-        c.in_ok-lead-2.ensures.bytes,
-        c.in_err-lead-3.ensures.passed,
+        bytes_of_alternation (at_most c.args.how.shrink) c.args.how.which c.args.subs.now (omega arith) (sym c.all_literals.ensures ∙
+            c.if-all_literals.false),
+        third_lead_passed _ _ _ _ _ _ _ _ _ _ _ _ _ _ _ _ _ _ c.in_ok-first.ensures.made c.in_ok-first.ensures.weighs
+            c.in_ok-second.ensures.made
+            c.in_ok-second.ensures.weighs c.in_ok-union.ensures c.in_ok-end.ensures c.in_ok-lead.ensures _
+            c.in_ok-lead-2.ensures _ _ c.in_err-lead-3.ensures,
       ));
     }
 
@@ -484,20 +492,18 @@ alternatives-returns-in_err-lead-4 t c =
           (omega arith) c.index-subs-0-2.is c.index-subs-1.is
           c.in_ok-first.ensures.made c.in_ok-second.ensures.made _ _ _ _ c.in_ok-union.ensures c.in_ok-end.ensures _ _ _ _ _
           c.in_ok-lead.ensures
-          c.in_ok-lead-2.ensures c.in_ok-lead-3.ensures c.in_err-lead-4.ensures);
+          c.in_ok-lead-2.ensures c.in_ok-lead-3.ensures c.in_err-lead-4.ensures.stays);
       passed = handed _ _ c.in_err-lead-4.field-0.0 is (omega (
         arith,
-        two_bytes c.args.how.shrink c.args.subs.now c.index-subs-0-2.result c.index-subs-1.result (omega arith) c.index-subs-0-2.is
+        two_bytes (at_most c.args.how.shrink) c.args.how.which c.args.subs.now c.index-subs-0-2.result c.index-subs-1.result (omega
+            arith) c.index-subs-0-2.is
             c.index-subs-1.is,
-        bytes_of_alternation c.args.how.shrink c.args.subs.now (sym c.all_literals.ensures ∙ c.if-all_literals.false),
-        c.in_ok-first.ensures.weighs,
-        c.in_ok-second.ensures.weighs,
-        c.in_ok-union.ensures.bytes,
-        c.in_ok-end.ensures.bytes,
-        c.in_ok-lead.ensures.bytes,
-        c.in_ok-lead-2.ensures.bytes,
-        c.in_ok-lead-3.ensures.bytes,
-        c.in_err-lead-4.ensures.passed,
+        bytes_of_alternation (at_most c.args.how.shrink) c.args.how.which c.args.subs.now (omega arith) (sym c.all_literals.ensures ∙
+            c.if-all_literals.false),
+        fourth_lead_passed _ _ _ _ _ _ _ _ _ _ _ _ _ _ _ _ _ _ c.in_ok-first.ensures.made c.in_ok-first.ensures.weighs
+            c.in_ok-second.ensures.made
+            c.in_ok-second.ensures.weighs c.in_ok-union.ensures c.in_ok-end.ensures c.in_ok-lead.ensures _
+            c.in_ok-lead-2.ensures _ c.in_ok-lead-3.ensures _ _ c.in_err-lead-4.ensures,
       ));
     }
 
@@ -542,7 +548,7 @@ alternatives-returns-in_err-next t c =
       passed = handed _ _ c.in_err-next.field-0.0 is (omega (
         arith,
         cases_left c.args.how _ _ _ _ c.loop-i.i c.args.subs.now
-            c.loop-i.invariant (sym c.all_literals.ensures ∙ c.if-all_literals.false) c.index-subs-i.result c.loop-i-test.true
+            c.loop-i.invariant (sym c.all_literals.ensures ∙ c.if-all_literals.false) c.index-subs-i.result c.loop-i-test.true (omega arith)
             c.index-subs-i.is,
         c.in_err-next.ensures.passed,
       ));
@@ -558,14 +564,14 @@ alternatives-returns-in_err-lead-5 t c =
       groups = err_only _ _ c.in_err-lead-5.field-0.0 is;
       refused = handed _ _ c.in_err-lead-5.field-0.0 is (cases_lead_refused c.args.how _ _ _ _ c.loop-i.i c.args.subs.now
           c.loop-i.invariant _ _ _ _ c.index-subs-i.result _ c.loop-i-test.true
-          c.index-subs-i.is c.in_ok-next.ensures.made c.in_err-lead-5.ensures);
+          c.index-subs-i.is c.in_ok-next.ensures.made c.in_err-lead-5.ensures.stays);
       passed = handed _ _ c.in_err-lead-5.field-0.0 is (omega (
         arith,
         cases_left c.args.how _ _ _ _ c.loop-i.i c.args.subs.now
-            c.loop-i.invariant (sym c.all_literals.ensures ∙ c.if-all_literals.false) c.index-subs-i.result c.loop-i-test.true
+            c.loop-i.invariant (sym c.all_literals.ensures ∙ c.if-all_literals.false) c.index-subs-i.result c.loop-i-test.true (omega arith)
             c.index-subs-i.is,
-        c.in_ok-next.ensures.weighs,
-        c.in_err-lead-5.ensures.passed,
+        c.in_ok-next.ensures.weighs.most,
+        c.in_err-lead-5.ensures.stays.passed,
       ));
     }
 
@@ -579,20 +585,16 @@ alternatives-returns-in_err-lead-6 t c =
       groups = err_only _ _ c.in_err-lead-6.field-0.0 is;
       refused = handed _ _ c.in_err-lead-6.field-0.0 is (cases_end_refused c.args.how _ _ _ _ c.loop-i.i c.args.subs.now
           c.loop-i.invariant _ _ _ _ _ c.index-subs-i.result _ c.loop-i-test.true
-          c.index-subs-i.is c.in_ok-next.ensures.made c.in_ok-lead-5.ensures c.in_err-lead-6.ensures);
-      passed = handed _ _ c.in_err-lead-6.field-0.0 is (omega (
-        arith,
-        cases_left c.args.how _ _ _ _ c.loop-i.i c.args.subs.now
-            c.loop-i.invariant (sym c.all_literals.ensures ∙ c.if-all_literals.false) c.index-subs-i.result c.loop-i-test.true
-            c.index-subs-i.is,
-        c.in_ok-next.ensures.weighs,
-        c.in_ok-lead-5.ensures.bytes,
-        c.in_err-lead-6.ensures.passed,
-      ));
+          c.index-subs-i.is c.in_ok-next.ensures.made c.in_ok-lead-5.ensures c.in_err-lead-6.ensures.stays);
+      passed = handed _ _ c.in_err-lead-6.field-0.0 is (cases_lead_passed c.args.how _ _ _ _ c.loop-i.i c.args.subs.now
+          c.loop-i.invariant (sym c.all_literals.ensures ∙ c.if-all_literals.false) c.index-subs-i.result c.loop-i-test.true (omega arith)
+          c.index-subs-i.is _ _ _ _ _ _ _ c.in_ok-next.ensures.made c.in_ok-next.ensures.weighs c.in_ok-lead-5.ensures
+          c.in_err-lead-6.ensures);
     }
 
 pub concatenation-returns-clause-weighs : goal.concatenation-returns-clause-weighs
 concatenation-returns-clause-weighs t c = parts_weigh c.args.how _ _ _ _ c.loop-i.i c.args.subs.now c.loop-i.invariant
+    c.loop-i-test.false (omega arith)
 
 pub copies-returns-in_err-first : goal.copies-returns-in_err-first
 copies-returns-in_err-first t c =
@@ -609,7 +611,7 @@ copies-returns-in_err-first t c =
       )));
       passed = handed _ _ c.in_err-first.field-0.0 is (omega (
         arith,
-        copy_bytes 0 c.args.n (byte_room c.args.how.shrink c.args.x.now)
+        one_fits 0 c.args.n (tree_most c.args.how.which c.args.how.shrink c.args.x.now)
             c.requires.some,
         c.in_err-first.ensures.passed,
       ));
@@ -641,13 +643,9 @@ copies-returns-in_err-lead t c =
       weighs = err_only _ _ c.in_err-lead.field-0.0 is;
       groups = err_only _ _ c.in_err-lead.field-0.0 is;
       refused = handed _ _ c.in_err-lead.field-0.0 is (copies_lead_refused c.args.how _ _ _ _ _ _ _ _ c.loop.counter c.args.n c.args.x.now
-          _ c.loop.invariant.0 c.loop-test.true c.in_ok-next.ensures.made c.in_err-lead.ensures);
-      passed = handed _ _ c.in_err-lead.field-0.0 is (omega (
-        arith,
-        copies_left c.args.how _ _ _ _ c.loop.counter c.args.n c.args.x.now c.loop.invariant.0 c.loop-test.true,
-        c.in_ok-next.ensures.weighs,
-        c.in_err-lead.ensures.passed,
-      ));
+          _ c.loop.invariant.0 c.loop-test.true c.in_ok-next.ensures.made c.in_err-lead.ensures.stays);
+      passed = handed _ _ c.in_err-lead.field-0.0 is (copies_lead_passed c.args.how _ _ _ _ _ _ c.loop.counter c.args.n _ _
+          c.args.x.now _ c.loop.invariant.0 c.loop-test.true c.in_ok-next.ensures.made c.in_ok-next.ensures.weighs c.in_err-lead.ensures);
     }
 
 pub up_to-returns-in_err-first : goal.up_to-returns-in_err-first
@@ -662,7 +660,7 @@ up_to-returns-in_err-first t c =
           c.in_ok-exit.ensures c.in_err-first.ensures.refused);
       passed = handed _ _ c.in_err-first.field-0.0 is (omega (
         arith,
-        round_bytes 0 c.args.most (byte_room c.args.how.shrink c.args.x.now + 36) c.requires.some,
+        round_bytes 0 c.args.most (tree_most c.args.how.which c.args.how.shrink c.args.x.now + 32) c.requires.some,
         c.in_ok-exit.ensures.bytes,
         c.in_err-first.ensures.passed,
       ));
@@ -695,22 +693,30 @@ up_to-returns-in_err-lead t c =
       weighs = err_only _ _ c.in_err-lead.field-0.0 is;
       groups = err_only _ _ c.in_err-lead.field-0.0 is;
       refused = handed _ _ c.in_err-lead.field-0.0 is (rounds_lead_refused c.args.how _ _ _ _ _ c.loop.counter 0 c.args.most _
-          c.args.greedy c.args.x.now c.loop.invariant _ _ _ _ _ c.loop-test.true c.in_ok-next.ensures.made c.in_err-lead.ensures);
-      passed = handed _ _ c.in_err-lead.field-0.0 is (omega (
-        arith,
-        rounds_left c.args.how _ _ _ _ _ c.loop.counter 0 c.args.most _
-            c.args.greedy c.args.x.now c.loop.invariant c.loop-test.true,
-        c.in_ok-next.ensures.weighs,
-        c.in_err-lead.ensures.passed,
-      ));
+          c.args.greedy c.args.x.now c.loop.invariant _ _ _ _ _ c.loop-test.true c.in_ok-next.ensures.made c.in_err-lead.ensures.stays);
+      passed = handed _ _ c.in_err-lead.field-0.0 is (rounds_lead_passed c.args.how _ _ _ _ _ c.loop.counter 0 c.args.most _
+          c.args.greedy c.args.x.now c.loop.invariant _ _ _ _ _ c.loop-test.true c.in_ok-next.ensures.made c.in_ok-next.ensures.weighs
+          c.in_err-lead.ensures);
     }
 
 pub alternatives-returns-then-all_literals-clause-weighs : goal.alternatives-returns-then-all_literals-clause-weighs
-alternatives-returns-then-all_literals-clause-weighs t c = omega (
-  arith,
-  literals_bytes c.args.how.shrink c.args.subs.now (sym c.all_literals.ensures ∙ c.if-all_literals.true),
-  c.in_ok-literals.ensures.weighs,
-)
+alternatives-returns-then-all_literals-clause-weighs t c = takes_wider _ _ _ _ _ _ _ c.in_ok-literals.ensures.weighs
+    (omega (
+      arith,
+      bytes_of_literals at_least c.args.how.which c.args.subs.now (sym c.all_literals.ensures ∙ c.if-all_literals.true),
+    ))
+    (omega (
+      arith,
+      bytes_of_literals (at_most c.args.how.shrink) c.args.how.which c.args.subs.now (sym c.all_literals.ensures ∙ c.if-all_literals.true),
+    ))
+
+pub alternatives-returns-then-subs-eq1-clause-weighs : goal.alternatives-returns-then-subs-eq1-clause-weighs
+alternatives-returns-then-subs-eq1-clause-weighs t c = takes_wider _ _ _ _ _ _ _ c.in_ok-one.ensures.weighs
+    (omega (arith, single_bytes at_least c.args.how.which c.index-subs-0.result c.args.subs.now (omega arith) c.index-subs-0.is))
+    (omega (
+      arith,
+      single_bytes (at_most c.args.how.shrink) c.args.how.which c.index-subs-0.result c.args.subs.now (omega arith) c.index-subs-0.is,
+    ))
 
 pub alternatives-returns-in_err-first : goal.alternatives-returns-in_err-first
 alternatives-returns-in_err-first t c =
@@ -724,8 +730,8 @@ alternatives-returns-in_err-first t c =
           arith) c.index-subs-0-2.is c.in_err-first.ensures.refused);
       passed = handed _ _ c.in_err-first.field-0.0 is (omega (
         arith,
-        part_in_alternation c.args.how.shrink c.args.subs.now 0 c.index-subs-0-2.result (sym c.all_literals.ensures ∙
-            c.if-all_literals.false) (omega arith) c.index-subs-0-2.is,
+        first_alternative c.args.how c.index-subs-0-2.result c.args.subs.now (omega arith) (sym c.all_literals.ensures ∙
+            c.if-all_literals.false) c.index-subs-0-2.is,
         c.in_err-first.ensures.passed,
       ));
     }
@@ -743,14 +749,80 @@ alternatives-returns-in_err-second t c =
           c.in_err-second.ensures.refused);
       passed = handed _ _ c.in_err-second.field-0.0 is (omega (
         arith,
-        two_bytes c.args.how.shrink c.args.subs.now c.index-subs-0-2.result c.index-subs-1.result (omega arith) c.index-subs-0-2.is
+        two_bytes (at_most c.args.how.shrink) c.args.how.which c.args.subs.now c.index-subs-0-2.result c.index-subs-1.result (omega
+            arith) c.index-subs-0-2.is
             c.index-subs-1.is,
-        bytes_of_alternation c.args.how.shrink c.args.subs.now (sym c.all_literals.ensures ∙ c.if-all_literals.false),
-        c.in_ok-first.ensures.weighs,
+        bytes_of_alternation (at_most c.args.how.shrink) c.args.how.which c.args.subs.now (omega arith) (sym c.all_literals.ensures ∙
+            c.if-all_literals.false),
+        c.in_ok-first.ensures.weighs.most,
         c.in_err-second.ensures.passed,
       ));
     }
 
 pub alternatives-returns-clause-weighs : goal.alternatives-returns-clause-weighs
 alternatives-returns-clause-weighs t c = cases_weigh c.args.how _ _ _ _ c.loop-i.i c.args.subs.now c.loop-i.invariant
-    (sym c.all_literals.ensures ∙ c.if-all_literals.false)
+    c.loop-i-test.false (omega arith) (sym c.all_literals.ensures ∙ c.if-all_literals.false)
+
+pub zero_or_more-returns-clause-weighs : goal.zero_or_more-returns-clause-weighs
+zero_or_more-returns-clause-weighs t c = takes_wider _ _ _ _ _ _ _
+    (star_takes _ _ _ _ _ _ _ _ _ _ _ c.args.greedy c.in_ok-union.ensures c.in_ok-body.ensures.made c.in_ok-body.ensures.weighs
+    c.in_ok-lead.ensures c.in_ok-lead-2.ensures)
+    (omega (
+      arith,
+      loop_is _ (tree_least c.args.how.which c.args.x.now) (sym c.reads-some.ensures ∙ c.if-not-some.false),
+    ))
+    (omega (
+      arith,
+      loop_is _ (tree_most c.args.how.which c.args.how.shrink c.args.x.now) (sym c.reads-some.ensures ∙ c.if-not-some.false),
+    ))
+
+pub zero_or_more_of_empty-returns-clause-weighs : goal.zero_or_more_of_empty-returns-clause-weighs
+zero_or_more_of_empty-returns-clause-weighs t c =
+    loop_takes _ _ _ _ _ _ _ _ _ _ _ _ _ _ _ _ _ c.args.greedy c.in_ok-body.ensures.made c.in_ok-body.ensures.weighs c.in_ok-plus.ensures
+    c.in_ok-lead.ensures c.in_ok-lead-2.ensures c.in_ok-question.ensures c.in_ok-empty.ensures c.in_ok-lead-3.ensures
+    c.in_ok-lead-4.ensures _ c.in_ok-lead-5.ensures
+
+pub one_or_more-returns-clause-weighs : goal.one_or_more-returns-clause-weighs
+one_or_more-returns-clause-weighs t c = plus_takes _ _ _ _ _ _ _ _ _ _ _ c.args.greedy c.in_ok-body.ensures.made
+    c.in_ok-body.ensures.weighs c.in_ok-union.ensures c.in_ok-lead.ensures c.in_ok-lead-2.ensures
+
+pub option-returns-clause-weighs : goal.option-returns-clause-weighs
+option-returns-clause-weighs t c = option_takes _ _ _ _ _ _ _ _ _ _ _ c.args.greedy _ c.in_ok-union.ensures c.in_ok-body.ensures.made
+    c.in_ok-body.ensures.weighs c.in_ok-lead.ensures c.in_ok-lead-2.ensures
+
+pub captured-returns-clause-weighs : goal.captured-returns-clause-weighs
+captured-returns-clause-weighs t c = takes_wider _ _ _ _ _ _ _
+    (capture_takes _ _ _ _ _ _ _ _ _ _ _ _ _ _ _ _ _ _ _ c.in_ok-start.ensures.added c.in_ok-body-2.ensures.made
+    c.in_ok-body-2.ensures.weighs c.in_ok-end.ensures.added c.in_ok-lead.ensures _ c.in_ok-lead-2.ensures)
+    (omega (arith, group_kept c.args.how.which c.args.index (sym c.keeps.ensures ∙ c.if-not-keeps.false)))
+    (omega (arith, group_kept c.args.how.which c.args.index (sym c.keeps.ensures ∙ c.if-not-keeps.false)))
+
+pub at_least-returns-clause-weighs : goal.at_least-returns-clause-weighs
+at_least-returns-clause-weighs t c = takes_wider _ _ _ _ _ _ _
+    (join_takes _ _ _ _ _ _ _ _ _ _ _ c.in_ok-prefix.ensures.weighs c.in_ok-prefix.ensures.made.fragment.end_there
+    c.in_ok-last.ensures.made c.in_ok-last.ensures.weighs _ c.in_ok-lead.ensures)
+    (omega (
+      arith,
+      some_owed c.args.min (is_above_zero (minimum_len c.args.x.now)) (tree_least c.args.how.which c.args.x.now) (omega arith),
+      copies_before c.args.min (tree_least c.args.how.which c.args.x.now) (omega arith),
+    ))
+    (omega (
+      arith,
+      some_owed c.args.min (is_above_zero (minimum_len c.args.x.now)) (tree_most c.args.how.which c.args.how.shrink c.args.x.now) (omega
+          arith),
+      copies_before c.args.min (tree_most c.args.how.which c.args.how.shrink c.args.x.now) (omega arith),
+    ))
+
+pub up_to-returns-clause-weighs : goal.up_to-returns-clause-weighs
+up_to-returns-clause-weighs t c = rounds_take c.args.how _ _ _ _ _ c.loop.counter 0 c.args.most _ c.args.greedy c.args.x.now
+    c.loop.invariant _ c.in_ok-lead-2.ensures c.loop-test.false
+
+pub owed_and_more-returns-clause-weighs : goal.owed_and_more-returns-clause-weighs
+owed_and_more-returns-clause-weighs t c = rounds_take c.args.how _ _ _ _ _ c.loop.counter c.args.min c.args.most _ c.args.greedy
+    c.args.x.now c.loop.invariant _ c.in_ok-lead-2.ensures c.loop-test.false
+
+pub owed_and_more-returns-in_err-lead-clause-passed : goal.owed_and_more-returns-in_err-lead-clause-passed
+owed_and_more-returns-in_err-lead-clause-passed t c =
+    handed _ _ c.in_err-lead.field-0.0 c.from_residual-in_err-lead.ensures.1 (rounds_lead_passed c.args.how _ _ _ _ _ c.loop.counter
+    c.args.min c.args.most _ c.args.greedy c.args.x.now c.loop.invariant _ _ _ _ _ c.loop-test.true c.in_ok-next.ensures.made
+    c.in_ok-next.ensures.weighs c.in_err-lead.ensures)

@@ -1,5 +1,6 @@
 use Rattle.std.proofs.Common.{arith}
 use Rattle.thompson_nfa.proofs.Steps.ErrorLemmas.{handed}
+use Rattle.thompson_nfa.proofs.Classes.ScalarBytes.{shared_takes}
 use Rattle.thompson_nfa.proofs.LiteralTries.LiteralPartLemmas.{read_next, literals_made, strings_bytes, literals_do, literals_quit}
 use Rattle.thompson_nfa.proofs.literals.compile_literals.Goals as goal
 
@@ -23,11 +24,8 @@ returns-clause-denotes c = literals_do c.loop-sub.trie c.args.subs.now c.loop-su
     c.requires _ _ c.in_ok-all.ensures.denotes
 
 pub returns-clause-weighs : goal.returns-clause-weighs
-returns-clause-weighs c = omega (
-  arith,
-  strings_bytes c.loop-sub.trie c.args.subs.now c.loop-sub.sub-index _ c.loop-sub.invariant c.loop-sub-test.false,
-  c.in_ok-all.ensures.weighs,
-)
+returns-clause-weighs c = shared_takes _ _ _ _ _ _ _ c.in_ok-all.ensures.made c.in_ok-all.ensures.weighs
+    (omega (arith, strings_bytes c.loop-sub.trie c.args.subs.now c.loop-sub.sub-index _ c.loop-sub.invariant c.loop-sub-test.false))
 
 pub returns-in_err-all-clause-passed : goal.returns-in_err-all-clause-passed
 returns-in_err-all-clause-passed c = handed _ _ c.in_err-all.field-0.0 c.from_residual-in_err-all.ensures.1

@@ -2,6 +2,7 @@ use Rattle.std.proofs.Common.{ap, arith}
 use Rattle.nfa_core.specs.BuilderStates.{Assembly}
 use Rattle.thompson_nfa.specs.Compiled.{sum_of_bytes}
 use Rattle.thompson_nfa.proofs.Steps.ErrorLemmas.{handed}
+use Rattle.thompson_nfa.proofs.Fragments.TakeLemmas.{way_kept, pattern_takes}
 use Rattle.thompson_nfa.proofs.WholePatterns.PatternLemmas.{pattern_compiled}
 use Rattle.thompson_nfa.proofs.patterns.compile_pattern.Goals as goal
 
@@ -19,7 +20,7 @@ returns-in_err-end-clause-passed c = handed _ _ c.in_err-end.field-0.0 c.from_re
     (omega (
       arith,
       ap (λ (b : Assembly). sum_of_bytes b) c.in_ok-start_pattern.ensures.1,
-      c.in_ok-body.ensures.weighs,
+      c.in_ok-body.ensures.weighs.most,
       c.in_err-end.ensures.passed,
     ))
 
@@ -28,17 +29,13 @@ returns-in_err-lead-clause-passed c = handed _ _ c.in_err-lead.field-0.0 c.from_
     (omega (
       arith,
       ap (λ (b : Assembly). sum_of_bytes b) c.in_ok-start_pattern.ensures.1,
-      c.in_ok-body.ensures.weighs,
+      c.in_ok-body.ensures.weighs.most,
       c.in_ok-end.ensures.bytes,
+      way_kept c.in_ok-end.ensures.grows _ c.in_ok-body.ensures.made.fragment.end_there,
       c.in_err-lead.ensures.passed,
     ))
 
 pub returns-clause-weighs : goal.returns-clause-weighs
-returns-clause-weighs c = omega (
-  arith,
-  ap (λ (b : Assembly). sum_of_bytes b) c.in_ok-start_pattern.ensures.1,
-  c.in_ok-body.ensures.weighs,
-  c.in_ok-end.ensures.bytes,
-  c.in_ok-lead.ensures.bytes,
-  ap (λ (b : Assembly). sum_of_bytes b) c.in_ok-finish_pattern.ensures.1,
-)
+returns-clause-weighs c = pattern_takes _ _ _ _ _ _ _ _ _ _ _ _ _
+    (ap (λ (b : Assembly). sum_of_bytes b) c.in_ok-start_pattern.ensures.1) c.in_ok-body.ensures.made c.in_ok-body.ensures.weighs
+    c.in_ok-end.ensures c.in_ok-lead.ensures (ap (λ (b : Assembly). sum_of_bytes b) c.in_ok-finish_pattern.ensures.1)

@@ -1,7 +1,9 @@
 use Rattle.std.proofs.Common.{arith, ap}
-use Rattle.thompson_nfa.specs.ListBytes.{bytes_for}
+use Rattle.thompson_nfa.specs.ByteRoom.{at_most}
+use Rattle.thompson_nfa.specs.ListBytes.{patterns_bytes}
 use Rattle.thompson_nfa.proofs.Steps.ErrorLemmas.{handed}
 use Rattle.thompson_nfa.proofs.WholePatterns.UnitedLemmas.{none_compiled, one_compiled, second_refused, further_refused, several_compiled}
+use Rattle.thompson_nfa.proofs.WholePatterns.ListLemmas.{first_pattern, two_patterns, no_patterns, union_way, none_take, one_takes, several_take}
 use Rattle.thompson_nfa.proofs.patterns.compile_patterns.Goals as goal
 
 pub returns-in_default-clause-has : goal.returns-in_default-clause-has
@@ -41,15 +43,18 @@ returns-clause-has c = several_compiled _ _ _ _ _ _ _ _ _ _ _ _ c.in_ok-first.en
 
 pub returns-in_err-first-clause-passed : goal.returns-in_err-first-clause-passed
 returns-in_err-first-clause-passed c = handed _ _ c.in_err-first.field-0.0 c.from_residual-in_err-first.ensures.1
-    (omega (arith, ap (bytes_for c.args.how.shrink) c.in-Some.ensures.cases.0, c.in_err-first.ensures.passed))
+    (omega (
+      arith,
+      first_pattern (at_most c.args.how.shrink) c.args.how.which _ _ _ c.in-Some.ensures.cases.0,
+      c.in_err-first.ensures.passed,
+    ))
 
 pub returns-in_err-second-clause-passed : goal.returns-in_err-second-clause-passed
 returns-in_err-second-clause-passed c = handed _ _ c.in_err-second.field-0.0 c.from_residual-in_err-second.ensures.1
     (omega (
       arith,
-      ap (bytes_for c.args.how.shrink) c.in-Some.ensures.cases.0,
-      ap (bytes_for c.args.how.shrink) c.in-Some-split_first.ensures.cases.0,
-      c.in_ok-first.ensures.weighs,
+      two_patterns (at_most c.args.how.shrink) c.args.how.which _ _ _ _ _ c.in-Some.ensures.cases.0 c.in-Some-split_first.ensures.cases.0,
+      c.in_ok-first.ensures.weighs.most,
       c.in_err-second.ensures.passed,
     ))
 
@@ -57,10 +62,9 @@ pub returns-in_err-union-clause-passed : goal.returns-in_err-union-clause-passed
 returns-in_err-union-clause-passed c = handed _ _ c.in_err-union.field-0.0 c.from_residual-in_err-union.ensures.1
     (omega (
       arith,
-      ap (bytes_for c.args.how.shrink) c.in-Some.ensures.cases.0,
-      ap (bytes_for c.args.how.shrink) c.in-Some-split_first.ensures.cases.0,
-      c.in_ok-first.ensures.weighs,
-      c.in_ok-second.ensures.weighs,
+      two_patterns (at_most c.args.how.shrink) c.args.how.which _ _ _ _ _ c.in-Some.ensures.cases.0 c.in-Some-split_first.ensures.cases.0,
+      c.in_ok-first.ensures.weighs.most,
+      c.in_ok-second.ensures.weighs.most,
       c.in_err-union.ensures.passed,
     ))
 
@@ -68,25 +72,23 @@ pub returns-in_err-lead-clause-passed : goal.returns-in_err-lead-clause-passed
 returns-in_err-lead-clause-passed c = handed _ _ c.in_err-lead.field-0.0 c.from_residual-in_err-lead.ensures.1
     (omega (
       arith,
-      ap (bytes_for c.args.how.shrink) c.in-Some.ensures.cases.0,
-      ap (bytes_for c.args.how.shrink) c.in-Some-split_first.ensures.cases.0,
-      c.in_ok-first.ensures.weighs,
-      c.in_ok-second.ensures.weighs,
+      two_patterns (at_most c.args.how.shrink) c.args.how.which _ _ _ _ _ c.in-Some.ensures.cases.0 c.in-Some-split_first.ensures.cases.0,
+      c.in_ok-first.ensures.weighs.most,
+      c.in_ok-second.ensures.weighs.most,
       c.in_ok-union.ensures.bytes,
-      c.in_err-lead.ensures.passed,
+      c.in_err-lead.ensures.stays.passed,
     ))
 
 pub returns-in_err-lead-2-clause-passed : goal.returns-in_err-lead-2-clause-passed
 returns-in_err-lead-2-clause-passed c = handed _ _ c.in_err-lead-2.field-0.0 c.from_residual-in_err-lead-2.ensures.1
     (omega (
       arith,
-      ap (bytes_for c.args.how.shrink) c.in-Some.ensures.cases.0,
-      ap (bytes_for c.args.how.shrink) c.in-Some-split_first.ensures.cases.0,
-      c.in_ok-first.ensures.weighs,
-      c.in_ok-second.ensures.weighs,
+      two_patterns (at_most c.args.how.shrink) c.args.how.which _ _ _ _ _ c.in-Some.ensures.cases.0 c.in-Some-split_first.ensures.cases.0,
+      c.in_ok-first.ensures.weighs.most,
+      c.in_ok-second.ensures.weighs.most,
       c.in_ok-union.ensures.bytes,
       c.in_ok-lead.ensures.bytes,
-      c.in_err-lead-2.ensures.passed,
+      c.in_err-lead-2.ensures.stays.passed,
     ))
 
 pub returns-in_err-compile_further-clause-passed : goal.returns-in_err-compile_further-clause-passed
@@ -94,32 +96,35 @@ returns-in_err-compile_further-clause-passed c =
     handed _ _ c.in_err-compile_further.field-0.0 c.from_residual-in_err-compile_further.ensures.1
     (omega (
       arith,
-      ap (bytes_for c.args.how.shrink) c.in-Some.ensures.cases.0,
-      ap (bytes_for c.args.how.shrink) c.in-Some-split_first.ensures.cases.0,
-      c.in_ok-first.ensures.weighs,
-      c.in_ok-second.ensures.weighs,
+      two_patterns (at_most c.args.how.shrink) c.args.how.which _ _ _ _ _ c.in-Some.ensures.cases.0 c.in-Some-split_first.ensures.cases.0,
+      c.in_ok-first.ensures.weighs.most,
+      c.in_ok-second.ensures.weighs.most,
       c.in_ok-union.ensures.bytes,
       c.in_ok-lead.ensures.bytes,
       c.in_ok-lead-2.ensures.bytes,
       c.in_err-compile_further.ensures.passed,
     ))
 
+pub compile_further-requires-clause-way : goal.compile_further-requires-clause-way
+compile_further-requires-clause-way c =
+    union_way _ _ _ _ _ _ _ c.in_ok-union.ensures c.in_ok-lead.ensures c.in_ok-lead-2.ensures
+
 pub returns-clause-weighs : goal.returns-clause-weighs
-returns-clause-weighs c = omega (
-  arith,
-  ap (bytes_for c.args.how.shrink) c.in-Some.ensures.cases.0,
-  ap (bytes_for c.args.how.shrink) c.in-Some-split_first.ensures.cases.0,
-  c.in_ok-first.ensures.weighs,
-  c.in_ok-second.ensures.weighs,
-  c.in_ok-union.ensures.bytes,
-  c.in_ok-lead.ensures.bytes,
-  c.in_ok-lead-2.ensures.bytes,
-  c.in_ok-compile_further.ensures.weighs,
-)
+returns-clause-weighs c = several_take c.args.how _ _ _ _ _ _ _ _ _ _ _ _ _ _ _ c.in-Some.ensures.cases.0
+    c.in-Some-split_first.ensures.cases.0 c.in_ok-first.ensures.weighs c.in_ok-second.ensures.weighs c.in_ok-union.ensures
+    c.in_ok-lead.ensures c.in_ok-lead-2.ensures c.in_ok-compile_further.ensures.weighs
+
+pub returns-in_default-clause-weighs : goal.returns-in_default-clause-weighs
+returns-in_default-clause-weighs c = none_take c.args.how _ _ _ _ c.in_default.ensures.cases c.in_ok-none.ensures
 
 pub returns-in_default-split_first-clause-weighs : goal.returns-in_default-split_first-clause-weighs
-returns-in_default-split_first-clause-weighs c = omega (
-  arith,
-  ap (bytes_for c.args.how.shrink) c.in-Some.ensures.cases.0,
-  c.in_ok-first.ensures.weighs,
-)
+returns-in_default-split_first-clause-weighs c = one_takes c.args.how _ _ _ _ _ c.in-Some.ensures.cases.0
+    c.in_default-split_first.ensures.cases c.in_ok-first.ensures.weighs
+
+pub returns-in_err-none-clause-passed : goal.returns-in_err-none-clause-passed
+returns-in_err-none-clause-passed c = handed _ _ c.in_err-none.field-0.0 c.from_residual.ensures.1
+    (omega (
+      arith,
+      no_patterns (at_most c.args.how.shrink) c.args.how.which c.args.exprs.now c.in_default.ensures.cases,
+      c.in_err-none.ensures.passed,
+    ))

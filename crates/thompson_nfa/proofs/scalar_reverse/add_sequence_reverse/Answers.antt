@@ -27,7 +27,7 @@ lead-requires-clause-kind c = still_kind _ _ _ _ _ _ _ _ _ _ _ c.in_ok-next.ensu
 pub returns-in_err-lead-clause-refused : goal.returns-in_err-lead-clause-refused
 returns-in_err-lead-clause-refused c = handed _ _ c.in_err-lead.field-0.0 c.from_residual-in_err-lead.ensures.1
     (way_refused _ _ _ _ _ _ _ _ _ _ _ c.in_ok-next.ensures.shared c.in_ok-first.ensures.added _ _
-    (others_few _ _ c.as_slice-ranges.ensures c.requires.few) c.in_err-lead.ensures)
+    (others_few _ _ c.as_slice-ranges.ensures c.requires.few) c.in_err-lead.ensures.stays)
 
 pub returns-in_err-first-clause-passed : goal.returns-in_err-first-clause-passed
 returns-in_err-first-clause-passed c = handed _ _ c.in_err-first.field-0.0 c.from_residual-in_err-first.ensures.1
@@ -45,5 +45,5 @@ returns-in_err-lead-clause-passed c = handed _ _ c.in_err-lead.field-0.0 c.from_
       others_long _ _ c.as_slice-ranges.ensures c.requires.some,
       ranges_weigh c.in_ok-next.ensures.shared,
       c.in_ok-first.ensures.added.added.bytes,
-      c.in_err-lead.ensures.passed,
+      c.in_err-lead.ensures.stays.passed,
     ))

@@ -1,6 +1,7 @@
 use Rattle.std.proofs.Common.{◌≡◌, ◌+◌, ◌∙◌, subst, sym, true}
-use Rattle.capi.specs.Compiled.{Regexed, HasFoundSpan, HasPattern, config_by}
+use Rattle.capi.specs.Compiled.{Regexed, HasFoundSpan, HasFoundStart, HasPattern, config_by}
 use Rattle.capi.proofs.NextLemmas.{next_beyond, next_later, next_none, next_there}
+use Rattle.capi.proofs.OrderLemmas.{listed_beyond, listed_later, listed_none, listed_there}
 use Rattle.capi.proofs.compiled.Compiled.find_next.Goals as goal
 
 pub returns-then-haystack-end-clause-next : goal.returns-then-haystack-end-clause-next
@@ -29,3 +30,24 @@ pub returns-clause-pattern : goal.returns-clause-pattern
 returns-clause-pattern c =
     subst (λ (v : Regexed). HasPattern (config_by v) v.texts c.args.haystack.now c.in-Ok-search.later) c.search.ensures.same
     c.in-Ok-search.ensures.found.pattern
+
+pub returns-then-haystack-end-clause-listed : goal.returns-then-haystack-end-clause-listed
+returns-then-haystack-end-clause-listed c =
+    listed_beyond (config_by c.args.self.now) c.args.self.now.texts c.args.haystack.now c.args.end c.if-haystack-end.true
+
+pub returns-then-not-ends_at-clause-listed : goal.returns-then-not-ends_at-clause-listed
+returns-then-not-ends_at-clause-listed c =
+    listed_there (config_by c.args.self.now) c.args.self.now.texts c.args.haystack.now c.args.end c.in-Ok.next c.in-Ok.ensures.found
+    (sym c.ends_at.ensures ∙ c.if-not-ends_at.true)
+
+pub returns-then-haystack-end-2-clause-listed : goal.returns-then-haystack-end-2-clause-listed
+returns-then-haystack-end-2-clause-listed c =
+    listed_none (config_by c.args.self.now) c.args.self.now.texts c.args.haystack.now c.args.end c.in-Ok.next c.in-Ok.ensures.found
+    (sym c.ends_at.ensures ∙ c.if-not-ends_at.false) c.if-haystack-end-2.true
+
+pub returns-clause-listed : goal.returns-clause-listed
+returns-clause-listed c =
+    listed_later (config_by c.args.self.now) c.args.self.now.texts c.args.haystack.now c.args.end c.in-Ok.next c.in-Ok-search.later
+    c.in-Ok.ensures.found (sym c.ends_at.ensures ∙ c.if-not-ends_at.false)
+    (subst (λ (v : Regexed). HasFoundStart (config_by v) v.texts c.args.haystack.now (c.args.end + 1) c.in-Ok-search.later)
+    c.search.ensures.same c.in-Ok-search.ensures.found)

@@ -1,0 +1,203 @@
+/* Memory: what the library holds is counted, block by block, and each allocation of each call fails in turn. Built with
+   -Wl,--wrap=malloc,--wrap=realloc,--wrap=free. Prints nothing where all is well. */
+#include <stdio.h>
+#include <stdlib.h>
+#include <string.h>
+
+#include "hanneddois.h"
+
+void *__real_malloc(size_t size);
+void *__real_realloc(void *block, size_t size);
+void __real_free(void *block);
+
+/* The blocks that are held, the allocations since the last start, and which of these fails; 0 for none. */
+static size_t held, asked, fails_at, failed;
+
+static int fails(void)
+{
+    asked++;
+    if (asked != fails_at)
+        return 0;
+    failed++;
+    return 1;
+}
+
+void *__wrap_malloc(size_t size)
+{
+    if (fails())
+        return NULL;
+    void *block = __real_malloc(size);
+    held += block != NULL;
+    return block;
+}
+
+void *__wrap_realloc(void *block, size_t size)
+{
+    if (fails())
+        return NULL;
+    void *grown = __real_realloc(block, size);
+    held += block == NULL && grown != NULL;
+    return grown;
+}
+
+void __wrap_free(void *block)
+{
+    held -= block != NULL;
+    __real_free(block);
+}
+
+static void start(size_t number)
+{
+    asked = failed = 0;
+    fails_at = number;
+}
+
+static int wrong = 0;
+
+#define CHECK(what)                                                                     \
+    do {                                                                                \
+        if (!(what)) {                                                                  \
+            printf("memory: line %d: %s, allocation %zu\n", __LINE__, #what, fails_at); \
+            wrong = 1;                                                                  \
+        }                                                                               \
+    } while (0)
+
+static hanneddois_error error;
+
+/* Patterns with a word boundary, and a haystack in which the automata give up at a byte above 0x7F: other regexes answer. The first
+   pattern matches at 3, 9 and 14, and the second nowhere; so says Python's re. */
+static const uint8_t patterns[] = "\\bk\\bz";
+static const size_t lengths[2] = {5, 1};
+static const uint8_t haystack[] = "\xC3\xA9 k \xC3\xA9k k\xE2\x80\x94 k";
+static const size_t length = sizeof haystack - 1;
+static const size_t starts[3] = {3, 9, 14};
+
+static hanneddois_status make(hanneddois_regex *regex)
+{
+    hanneddois_options options = {0};
+    return hanneddois_new(regex, patterns, 6, lengths, 2, &options, &error);
+}
+
+static hanneddois_status is_match(hanneddois_regex *regex)
+{
+    return hanneddois_is_match(regex, haystack, length, &error);
+}
+
+static hanneddois_status find_at(hanneddois_regex *regex)
+{
+    hanneddois_match match = {7, 7, 7};
+    hanneddois_status status = hanneddois_find_at(regex, haystack, length, 4, &match, &error);
+    if (status == HANNEDDOIS_OK)
+        CHECK(match.pattern == 0 && match.start == 9 && match.end == 10);
+    else
+        CHECK(match.pattern == 0 && match.start == 0 && match.end == 0);
+    return status;
+}
+
+/* After an error the matches before it are counted and written. */
+static hanneddois_status find_all(hanneddois_regex *regex)
+{
+    hanneddois_match rows[3];
+    size_t count = 7;
+    memset(rows, 0x55, sizeof rows);
+    hanneddois_status status = hanneddois_find_all(regex, haystack, length, rows, 3, &count, &error);
+    CHECK(status == HANNEDDOIS_OK ? count == 3 : count <= 3);
+    for (size_t i = 0; i < 3; i++)
+        if (i < count)
+            CHECK(rows[i].pattern == 0 && rows[i].start == starts[i] && rows[i].end == starts[i] + 1);
+        else
+            CHECK(rows[i].start == (size_t)0x5555555555555555);
+    return status;
+}
+
+static hanneddois_status which(hanneddois_regex *regex)
+{
+    uint8_t matched[2] = {7, 7};
+    size_t count = 7;
+    hanneddois_status status = hanneddois_which(regex, haystack, length, matched, 2, &count, &error);
+    if (status == HANNEDDOIS_OK)
+        CHECK(count == 1 && matched[0] == 1 && matched[1] == 0);
+    else
+        CHECK(count == 0 && matched[0] == 0 && matched[1] == 0);
+    return status;
+}
+
+typedef hanneddois_status call(hanneddois_regex *regex);
+
+/* With ample memory a call answers, and is never out of memory. It may be only where an allocation failed, and then the same call
+   answers when it is tried again. An allocation that fails may also be made up for, and the answer is the right one. */
+static void each_fails(call *call, int is_new)
+{
+    size_t told = 0;
+    for (size_t number = 1;; number++) {
+        hanneddois_regex regex = HANNEDDOIS_EMPTY;
+        start(0);
+        if (!is_new)
+            CHECK(make(&regex) == HANNEDDOIS_OK);
+        start(number);
+        hanneddois_status status = call(&regex);
+        size_t refused = failed;
+        CHECK(status == HANNEDDOIS_OK || (status == HANNEDDOIS_NO_MEMORY && refused == 1));
+        CHECK(error.status == status);
+        told += status == HANNEDDOIS_NO_MEMORY;
+        start(0);
+        CHECK(call(&regex) == HANNEDDOIS_OK);
+        CHECK(is_match(&regex) == HANNEDDOIS_OK);
+        hanneddois_free(&regex);
+        CHECK(held == 0);
+        if (refused == 0)
+            break;
+    }
+    CHECK(told > 0);
+}
+
+/* A regex with each of its parts made: caches, the automaton of hanneddois_which, and the regexes that answer where automata give up. */
+static void make_whole(hanneddois_regex *regex)
+{
+    CHECK(make(regex) == HANNEDDOIS_OK);
+    CHECK(find_all(regex) == HANNEDDOIS_OK);
+    CHECK(which(regex) == HANNEDDOIS_OK);
+}
+
+/* hanneddois_new frees what stood in the regex before, whether it succeeds or not, and hanneddois_free does. */
+static void replaced(void)
+{
+    hanneddois_options options = {0};
+    hanneddois_regex regex = HANNEDDOIS_EMPTY, other = HANNEDDOIS_EMPTY;
+    size_t one = 1, two = 2;
+    start(0);
+    make_whole(&regex);
+    size_t whole = held;
+    CHECK(whole > 0);
+    hanneddois_free(&regex);
+    CHECK(held == 0);
+
+    make_whole(&regex);
+    make_whole(&regex);
+    CHECK(held == whole);
+    CHECK(hanneddois_new(&regex, (const uint8_t *)"a", 1, &one, 1, &options, &error) == HANNEDDOIS_OK);
+    size_t small = held;
+    hanneddois_free(&regex);
+    CHECK(hanneddois_new(&other, (const uint8_t *)"a", 1, &one, 1, &options, &error) == HANNEDDOIS_OK);
+    CHECK(held == small);
+    hanneddois_free(&other);
+    CHECK(held == 0);
+
+    make_whole(&regex);
+    CHECK(hanneddois_new(&regex, (const uint8_t *)"a(", 2, &two, 1, &options, &error) == HANNEDDOIS_NO_PATTERN);
+    CHECK(regex.inside == NULL && held == 0);
+    make_whole(&regex);
+    CHECK(hanneddois_new(&regex, (const uint8_t *)"a", 1, &two, 1, &options, &error) == HANNEDDOIS_BAD_ARGUMENT);
+    CHECK(regex.inside == NULL && held == 0);
+}
+
+int main(void)
+{
+    replaced();
+    each_fails(make, 1);
+    each_fails(is_match, 0);
+    each_fails(find_at, 0);
+    each_fails(find_all, 0);
+    each_fails(which, 0);
+    return wrong;
+}

@@ -1,0 +1,61 @@
+-- Options that are added in turn.
+use Rattle.std.proofs.Common.{◌≡◌, ◌∙◌, ℕ, Bool, true, false, List, ◌++◌, ◌∷◌, [], ◌||◌, map, ap, sym, refl, append_assoc, slice_get, unwrap_or}
+use Rattle.std.proofs.lemmas.List.{append-nil, append_cancel_left, map-append}
+use Rattle.std.specs.List.{list_any}
+use Rattle.clap.specs.Words.{AddsArg, AddsInTurn, App, Rule, args_of, rule_of}
+use Rattle.clap.specs.declared.builder.arg.Arg.{Arg}
+use Rattle.clap.specs.declared.builder.command.Command.{Command}
+use Rattle.grep_options.specs.CommandLine.{AddsOptions, OptionRow, letter_of, options, option_row, option_rows}
+
+ap₃ : {A B C D : Type 0} (f : A → B → C → D) {a b : A} {x y : B} {u v : C} → a ≡ b → x ≡ y → u ≡ v → f a x u ≡ f b y v
+ap₃ f {a = a} {b = b} {x = x} {y = y} {u = u} {v = v} p q r = ap (λ e. f e x u) p ∙ (ap (λ e. f b e u) q ∙ ap (λ e. f b y e) r)
+
+either_false : (a b : Bool) → (a || b) ≡ false → (a ≡ false) × (b ≡ false)
+either_false false b e = (refl, e)
+either_false true b e = cc
+
+pub joined : {a b c : List Arg} {xs ys : List OptionRow} → AddsOptions a b xs → AddsOptions b c ys → AddsOptions a c (xs ++ ys)
+joined {a = a} {xs = xs} {ys = ys} p q = record { added = q.added ∙ (ap (λ m. m ++ ys) p.added ∙ append_assoc (option_rows a) xs ys) }
+
+-- one option, by an equation of its row
+pub adds_as : {a b : List Arg} {x y : OptionRow} → AddsOptions a b (x ∷ []) → x ≡ y → AddsOptions a b (y ∷ [])
+adds_as {a = a} p e = record { added = p.added ∙ ap (λ r. option_rows a ++ r ∷ []) e }
+
+-- ---- the options of a command
+
+-- what a row shows of an argument's rule, and of what the rule leaves out
+abbrev row_by : Rule → List (List ℕ) → Bool → OptionRow
+row_by r turned_off is_global = record {
+  name = r.id;
+  letter = letter_of r.short;
+  long = r.long;
+  aliases = r.aliases;
+  action = r.action;
+  missing = r.missing;
+  turns_off = turned_off;
+  is_global = is_global;
+}
+
+one_added : (old : Command) (a : Arg) (new : Command) → AddsArg old a new → a.global ≡ false
+    → option_rows (args_of new) ≡ option_rows (args_of old) ++ option_row a ∷ []
+one_added old a new h is_local =
+    let rules : map rule_of (args_of new) ≡ map rule_of (args_of old) ++ rule_of a ∷ [] = ap (λ (x : App). x.top.rules) (h.shape is_local) in
+    let same = append_cancel_left (map rule_of (args_of old)) _ _ (sym (map-append rule_of (args_of old) (h.arg ∷ [])) ∙ (sym (ap (map rule_of) h.args) ∙ rules)) in
+    let rule : rule_of h.arg ≡ rule_of a = ap (λ rs. unwrap_or (slice_get rs 0) (rule_of a)) same in
+    let row : option_row h.arg ≡ option_row a = ap₃ row_by rule (ap (map (λ s. s.now)) h.rules.overrides) h.rules.global in
+    ap option_rows h.args ∙ (map-append option_row (args_of old) (h.arg ∷ []) ∙ ap (λ r. option_rows (args_of old) ++ r ∷ []) row)
+
+all_added : (old new : Command) (xs : List Arg) → AddsInTurn AddsArg old xs new → list_any (λ r. r.is_global) (option_rows xs) ≡ false
+    → option_rows (args_of new) ≡ option_rows (args_of old) ++ option_rows xs
+all_added old new [] h is_local = ap (λ c. option_rows (args_of c)) (sym h) ∙ sym (append-nil (option_rows (args_of old)))
+all_added old new (x ∷ xs) (mid, here, rest) is_local =
+    let first = one_added old x mid here (either_false x.global _ is_local).0 in
+    let others = all_added mid new xs rest (either_false x.global _ is_local).1 in
+    others ∙ (ap (λ m. m ++ option_rows xs) first ∙ append_assoc (option_rows (args_of old)) (option_row x ∷ []) (option_rows xs))
+
+pub command_rows : (old new : Command) (none args : List Arg) → none ≡ [] → AddsOptions none args options → args_of old ≡ []
+    → AddsInTurn AddsArg old args new → option_rows (args_of new) ≡ options
+command_rows old new none args empty added bare h =
+    let rows : option_rows args ≡ options = added.added ∙ ap (λ xs. option_rows xs ++ options) empty in
+    let is_local : list_any (λ r. r.is_global) (option_rows args) ≡ false = ap (list_any (λ r. r.is_global)) rows in
+    all_added old new args h is_local ∙ (ap (λ xs. option_rows xs ++ option_rows args) bare ∙ rows)

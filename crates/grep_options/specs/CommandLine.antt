@@ -1,0 +1,134 @@
+-- The command line: the name under which its matches hold what was given for an option, its letter, its long name and what a use does.
+use Rattle.std.specs.Prelude.{◌≡◌, ℕ, Bool, false, List, [], ◌∷◌, ◌++◌, map, codes, Option, Some, None, option_map}
+use Rattle.clap.specs.Words.{items_of}
+use Rattle.clap.specs.declared.builder.action.ArgAction.{ArgAction}
+use Rattle.clap.specs.declared.builder.action.ArgAction.TheVariants.{Append, Help, Set, SetTrue, Version}
+use Rattle.clap.specs.declared.builder.arg.Arg.{Arg}
+
+pub record OptionRow : Type 0 where
+  -- the name under which the matches hold what was given
+  pub name : List ℕ
+  -- `-c` has the letter "c"; no text where an option has no letter
+  pub letter : List ℕ
+  pub long : Option (List ℕ)
+  pub aliases : List (List ℕ)
+  -- what a use does: set a value, add one, set a flag, or print something
+  pub action : Option ArgAction
+  -- the value of a use without one
+  pub missing : List (List ℕ)
+  -- the names of options that a use turns off
+  pub turns_off : List (List ℕ)
+  pub is_global : Bool
+
+abbrev pub letter_of : Option ℕ → List ℕ
+letter_of None = []
+letter_of (Some c) = c ∷ []
+
+abbrev pub option_row : Arg → OptionRow
+option_row a = record {
+  name = a.id.now;
+  letter = letter_of a.short;
+  long = option_map (λ s. s.now) a.long;
+  aliases = map (λ alias. alias.0.now) a.aliases.items;
+  action = a.action;
+  missing = map (λ s. s.now) (items_of a.default_missing_vals);
+  turns_off = map (λ s. s.now) a.overrides.items;
+  is_global = a.global;
+}
+
+abbrev pub option_rows : List Arg → List OptionRow
+option_rows = map option_row
+
+-- these options were added at the end
+pub record AddsOptions (old new : List Arg) (rows : List OptionRow) : Type 0 where
+  pub added : option_rows new ≡ option_rows old ++ rows
+
+-- an option whose long name is the one under which its value is held
+abbrev pub option : List ℕ → List ℕ → ArgAction → OptionRow
+option name letter action = record {
+  name = name;
+  letter = letter;
+  long = Some name;
+  aliases = [];
+  action = Some action;
+  missing = [];
+  turns_off = [];
+  is_global = false;
+}
+
+-- an option that takes no value
+abbrev pub flag : List ℕ → List ℕ → OptionRow
+flag name letter = option name letter SetTrue
+
+-- an option that turns off another one
+abbrev pub flag_over : List ℕ → List ℕ → List ℕ → OptionRow
+flag_over name letter other = record (flag name letter) { turns_off = other ∷ [] }
+
+abbrev pub list_options : List OptionRow
+list_options =
+    option (codes "regexp") (codes "e") Append
+    ∷ option (codes "file") (codes "f") Append
+    ∷ option (codes "directory") [] Append
+    ∷ []
+
+abbrev pub selecting_options : List OptionRow
+selecting_options =
+    flag (codes "ignore-case") (codes "i")
+    ∷ flag (codes "fixed-strings") (codes "F")
+    ∷ flag (codes "word-regexp") (codes "w")
+    ∷ flag (codes "line-regexp") (codes "x")
+    ∷ flag (codes "invert-match") (codes "v")
+    ∷ []
+
+abbrev pub quiet_option : OptionRow
+quiet_option = record (flag (codes "quiet") (codes "q")) { aliases = codes "silent" ∷ [] }
+
+abbrev pub printing_options : List OptionRow
+printing_options =
+    flag (codes "count") (codes "c")
+    ∷ flag (codes "only-matching") (codes "o")
+    ∷ flag (codes "no-messages") (codes "s")
+    ∷ flag (codes "line-number") (codes "n")
+    ∷ flag (codes "byte-offset") (codes "b")
+    ∷ flag (codes "recursive") (codes "r")
+    ∷ quiet_option
+    ∷ []
+
+abbrev pub paired_options : List OptionRow
+paired_options =
+    flag_over (codes "with-filename") (codes "H") (codes "no-filename")
+    ∷ flag_over (codes "no-filename") (codes "h") (codes "with-filename")
+    ∷ flag_over (codes "files-with-matches") (codes "l") (codes "files-without-match")
+    ∷ flag_over (codes "files-without-match") (codes "L") (codes "files-with-matches")
+    ∷ []
+
+abbrev pub number_options : List OptionRow
+number_options =
+    option (codes "max-count") (codes "m") Set
+    ∷ option (codes "after-context") (codes "A") Set
+    ∷ option (codes "before-context") (codes "B") Set
+    ∷ option (codes "context") (codes "C") Set
+    ∷ []
+
+-- a use without a value is one of `auto`
+abbrev pub color_option : OptionRow
+color_option = record (option (codes "color") [] Set) { aliases = codes "colour" ∷ []; missing = codes "auto" ∷ [] }
+
+-- the words that are no option's
+abbrev pub words_option : OptionRow
+words_option = record (option (codes "words") [] Append) { long = None }
+
+abbrev pub other_options : List OptionRow
+other_options =
+    color_option
+    ∷ flag (codes "crlf") []
+    ∷ flag (codes "stats") []
+    ∷ option (codes "help") [] Help
+    ∷ option (codes "version") (codes "V") Version
+    ∷ flag (codes "tell-input") []
+    ∷ words_option
+    ∷ []
+
+-- all options, in the order in which they are listed
+abbrev pub options : List OptionRow
+options = list_options ++ (selecting_options ++ (printing_options ++ (paired_options ++ (number_options ++ other_options))))

@@ -1,0 +1,11 @@
+//! The options of `hirgrep`, with the names and letters that GNU grep gives them.
+//!
+//! [`command`] is the command line for the toolchain's parser. [`is_set`], [`number`] and [`limit`] read what its matches hold, and
+//! `specs/Options.antt` defines what they return.
+#![tactic(auto)]
+
+mod options;
+mod values;
+
+pub use options::command;
+pub use values::{is_set, limit, number};

@@ -1,0 +1,291 @@
+//! The options, with the names and letters that GNU grep gives them.
+ghost use Rattle.std.specs.Prelude.{◌≡◌, ◌∷◌, [], OnOk, IfOk, codes};
+ghost use Rattle.clap.specs.Words.{args_of};
+ghost use Rattle.clap.specs.declared.builder.action.ArgAction.TheVariants.{Append, Help, Set, Version};
+ghost use Rattle.grep_options.specs.CommandLine.{AddsOptions, color_option, flag, flag_over, list_options, number_options, option, options, other_options, paired_options, printing_options, quiet_option};
+ghost use Rattle.grep_options.specs.CommandLine.{option_row, option_rows, selecting_options, words_option};
+
+use clap::{Arg, ArgAction, Command, value_parser};
+use std::alloc::{AllocError, Global};
+
+/// An option whose long name is the one under which its value is held.
+fn option<'a>(alloc: Global, id: &'a str, action: ArgAction, help: &'a str) -> Arg<'a>
+    ensures { option_row result ≡ option id.entry.now [] action }
+{
+    Arg::new(alloc, id).long(id).help(help).action(action)
+}
+
+/// Appends an option. It is the one function that drops one for which there is no room.
+fn push<'a>(args: &mut Vec<Arg<'a>>, arg: Arg<'a>) -> Result<(), AllocError>
+    ensures { OnOk result (AddsOptions args.old.items args.new.items (option_row arg.entry ∷ [])) }
+{
+    args.push(arg)?;
+    Ok(())
+}
+
+/// Appends an option that takes no value and has a letter.
+fn push_flag<'a>(
+    alloc: Global,
+    args: &mut Vec<Arg<'a>>,
+    id: &'a str,
+    short: char,
+    help: &'a str,
+) -> Result<(), AllocError>
+    ensures { OnOk result (AddsOptions args.old.items args.new.items (flag id.entry.now (short ∷ []) ∷ [])) }
+{
+    let arg = option(alloc, id, ArgAction::SetTrue, help);
+    push(args, arg.short(short))
+}
+
+/// Appends such an option that turns off another one.
+fn push_pair<'a>(
+    alloc: Global,
+    args: &mut Vec<Arg<'a>>,
+    id: &'a str,
+    short: char,
+    other: &'a str,
+    help: &'a str,
+) -> Result<(), AllocError>
+    ensures { OnOk result (AddsOptions args.old.items args.new.items (flag_over id.entry.now (short ∷ []) other.entry.now ∷ [])) }
+{
+    let arg = option(alloc, id, ArgAction::SetTrue, help);
+    let arg = arg.short(short).overrides_with(other)?;
+    push(args, arg)
+}
+
+/// Appends an option that takes no value and has no letter.
+fn push_long<'a>(
+    alloc: Global,
+    args: &mut Vec<Arg<'a>>,
+    id: &'a str,
+    help: &'a str,
+) -> Result<(), AllocError>
+    ensures { OnOk result (AddsOptions args.old.items args.new.items (flag id.entry.now [] ∷ [])) }
+{
+    push(args, option(alloc, id, ArgAction::SetTrue, help))
+}
+
+fn push_selecting<'a>(alloc: Global, args: &mut Vec<Arg<'a>>) -> Result<(), AllocError>
+    ensures { OnOk result (AddsOptions args.old.items args.new.items selecting_options) }
+{
+    push_flag(
+        alloc,
+        args,
+        "ignore-case",
+        'i',
+        "letters match in either case",
+    )?;
+    push_flag(alloc, args, "fixed-strings", 'F', "patterns are plain text")?;
+    let words = "a match neither starts nor ends inside a word";
+    push_flag(alloc, args, "word-regexp", 'w', words)?;
+    push_flag(alloc, args, "line-regexp", 'x', "a match is a whole line")?;
+    let invert = "select the lines without a match";
+    push_flag(alloc, args, "invert-match", 'v', invert)
+}
+
+fn push_printing<'a>(alloc: Global, args: &mut Vec<Arg<'a>>) -> Result<(), AllocError>
+    ensures { OnOk result (AddsOptions args.old.items args.new.items printing_options) }
+{
+    push_flag(
+        alloc,
+        args,
+        "count",
+        'c',
+        "print how many lines are selected",
+    )?;
+    let matching = "print the matches that aren't empty, each as a line";
+    push_flag(alloc, args, "only-matching", 'o', matching)?;
+    let silent = "don't tell of files that can't be read";
+    push_flag(alloc, args, "no-messages", 's', silent)?;
+    let numbers = "print each line's number before it, counted from 1";
+    push_flag(alloc, args, "line-number", 'n', numbers)?;
+    let offsets = "print the place of its first byte before it, counted from 0";
+    push_flag(alloc, args, "byte-offset", 'b', offsets)?;
+    let recursive = "search the files of folders, and of the folders in them";
+    push_flag(alloc, args, "recursive", 'r', recursive)?;
+    push_quiet(alloc, args)
+}
+
+fn push_quiet<'a>(alloc: Global, args: &mut Vec<Arg<'a>>) -> Result<(), AllocError>
+    ensures { OnOk result (AddsOptions args.old.items args.new.items (quiet_option ∷ [])) }
+{
+    let help = "print nothing, and end at the first line that is selected";
+    let arg = option(alloc, "quiet", ArgAction::SetTrue, help);
+    let arg = arg.short('q').alias("silent")?;
+    push(args, arg)
+}
+
+fn push_pairs<'a>(alloc: Global, args: &mut Vec<Arg<'a>>) -> Result<(), AllocError>
+    ensures { OnOk result (AddsOptions args.old.items args.new.items paired_options) }
+{
+    let (with, without) = ("with-filename", "no-filename");
+    let help = "print the file's name before each line";
+    push_pair(alloc, args, with, 'H', without, help)?;
+    let help = "print no names of files before lines";
+    push_pair(alloc, args, without, 'h', with, help)?;
+    let (any, none) = ("files-with-matches", "files-without-match");
+    let help = "print the names of files in which a line is selected";
+    push_pair(alloc, args, any, 'l', none, help)?;
+    let help = "print the names of files in which none is";
+    push_pair(alloc, args, none, 'L', any, help)
+}
+
+/// An option that takes a number of lines.
+fn number<'a>(alloc: Global, id: &'a str, short: char, help: &'a str) -> Arg<'a>
+    ensures { option_row result ≡ option id.entry.now (short ∷ []) Set }
+{
+    option(alloc, id, ArgAction::Set, help)
+        .short(short)
+        .value_name("N")
+}
+
+fn push_number<'a>(
+    alloc: Global,
+    args: &mut Vec<Arg<'a>>,
+    id: &'a str,
+    short: char,
+    help: &'a str,
+) -> Result<(), AllocError>
+    ensures { OnOk result (AddsOptions args.old.items args.new.items (option id.entry.now (short ∷ []) Set ∷ [])) }
+{
+    let arg = number(alloc, id, short, help);
+    push(args, arg.value_parser(value_parser!(u64)))
+}
+
+fn push_most<'a>(alloc: Global, args: &mut Vec<Arg<'a>>) -> Result<(), AllocError>
+    ensures { OnOk result (AddsOptions args.old.items args.new.items (option (codes "max-count") (codes "m") Set ∷ [])) }
+{
+    let help = "select no more lines of a file than so many; a negative number is no limit";
+    let arg = number(alloc, "max-count", 'm', help);
+    let arg = arg.allow_negative_numbers(true);
+    push(args, arg.value_parser(value_parser!(i64)))
+}
+
+fn push_numbers<'a>(alloc: Global, args: &mut Vec<Arg<'a>>) -> Result<(), AllocError>
+    ensures { OnOk result (AddsOptions args.old.items args.new.items number_options) }
+{
+    push_most(alloc, args)?;
+    let help = "print so many lines behind each selected one";
+    push_number(alloc, args, "after-context", 'A', help)?;
+    let help = "print so many lines before each selected one";
+    push_number(alloc, args, "before-context", 'B', help)?;
+    let help = "print so many lines before and behind each selected one";
+    push_number(alloc, args, "context", 'C', help)
+}
+
+/// An option that may be given several times, whose values may look like options.
+fn list<'a>(alloc: Global, id: &'a str, value: &'a str, help: &'a str) -> Arg<'a>
+    ensures { option_row result ≡ option id.entry.now [] Append }
+{
+    option(alloc, id, ArgAction::Append, help)
+        .allow_hyphen_values(true)
+        .value_name(value)
+}
+
+fn push_lists<'a>(alloc: Global, args: &mut Vec<Arg<'a>>) -> Result<(), AllocError>
+    ensures { OnOk result (AddsOptions args.old.items args.new.items list_options) }
+{
+    let help = "a pattern, or several, one a line; may be given several times";
+    push(args, list(alloc, "regexp", "PATTERN", help).short('e'))?;
+    let help = "a file of patterns, one a line; may be given several times";
+    push(args, list(alloc, "file", "FILE", help).short('f'))?;
+    let help = "search as if run in this folder; of several each is found from the one before";
+    push(args, list(alloc, "directory", "FOLDER", help))
+}
+
+fn push_color<'a>(alloc: Global, args: &mut Vec<Arg<'a>>) -> Result<(), AllocError>
+    ensures { OnOk result (AddsOptions args.old.items args.new.items (color_option ∷ [])) }
+{
+    let help = "mark names, numbers and matches for a terminal; auto: where the reply goes to one";
+    let arg = option(alloc, "color", ArgAction::Set, help)
+        .num_args(0..=1)
+        .require_equals(true)
+        .default_missing_value("auto")
+        .value_parser(["auto", "always", "never"].as_slice())
+        .value_name("WHEN");
+    let arg = arg.alias("colour")?;
+    push(args, arg)
+}
+
+fn push_help<'a>(alloc: Global, args: &mut Vec<Arg<'a>>) -> Result<(), AllocError>
+    ensures { OnOk result (AddsOptions args.old.items args.new.items (option (codes "help") [] Help ∷ option (codes "version") (codes "V") Version ∷ [])) }
+{
+    push(args, option(alloc, "help", ArgAction::Help, "print this"))?;
+    let arg = option(alloc, "version", ArgAction::Version, "print the version");
+    push(args, arg.short('V'))
+}
+
+/// What the script gives that runs the program unproved: such a run has no terminal, so the script has to know whether one was wanted.
+fn push_hidden<'a>(alloc: Global, args: &mut Vec<Arg<'a>>) -> Result<(), AllocError>
+    ensures { OnOk result (AddsOptions args.old.items args.new.items (flag (codes "tell-input") [] ∷ [])) }
+{
+    let help = "tell where standard input is read";
+    let arg = option(alloc, "tell-input", ArgAction::SetTrue, help);
+    push(args, arg.hide(true))
+}
+
+fn push_words<'a>(alloc: Global, args: &mut Vec<Arg<'a>>) -> Result<(), AllocError>
+    ensures { OnOk result (AddsOptions args.old.items args.new.items (words_option ∷ [])) }
+{
+    let help =
+        "the pattern, where none is given by -e or -f, and the files; - or none is standard input";
+    let arg = Arg::new(alloc, "words")
+        .help(help)
+        .action(ArgAction::Append)
+        .num_args(0..)
+        .value_name("PATTERN and FILES");
+    push(args, arg)
+}
+
+fn push_others<'a>(alloc: Global, args: &mut Vec<Arg<'a>>) -> Result<(), AllocError>
+    ensures { OnOk result (AddsOptions args.old.items args.new.items other_options) }
+{
+    push_color(alloc, args)?;
+    let help = "a carriage return before the line feed belongs to the end of a line";
+    push_long(alloc, args, "crlf", help)?;
+    let help =
+        "tell on standard error, at the end, how many lines were selected and what the search took";
+    push_long(alloc, args, "stats", help)?;
+    push_help(alloc, args)?;
+    push_hidden(alloc, args)?;
+    push_words(alloc, args)
+}
+
+/// All options, in the order in which they are listed.
+fn push_all<'a>(alloc: Global, args: &mut Vec<Arg<'a>>) -> Result<(), AllocError>
+    ensures { OnOk result (AddsOptions args.old.items args.new.items options) }
+{
+    push_lists(alloc, args)?;
+    push_selecting(alloc, args)?;
+    push_printing(alloc, args)?;
+    push_pairs(alloc, args)?;
+    push_numbers(alloc, args)?;
+    push_others(alloc, args)
+}
+
+fn without_options<'a>(alloc: Global) -> Result<Command<'a>, AllocError>
+    ensures { IfOk result (λ c. args_of c ≡ []) }
+{
+    Command::new(alloc, "hirgrep")
+        .version("1.0")
+        .about(
+            "Prints the lines of files in which a pattern matches, a pattern in the syntax of the crate regex",
+        )
+        .override_usage(
+            "hirgrep [OPTIONS] PATTERN [FILE]..\n       hirgrep [OPTIONS] -e PATTERN.. -f FILE.. [FILE]..",
+        )
+        .disable_help_flag(true)
+        .disable_version_flag(true)
+        .args_override_self(true)
+        .bin_name("hirgrep")
+}
+
+/// The command line: these options, and no others.
+pub fn command<'a>(alloc: Global) -> Result<Command<'a>, AllocError>
+    ensures { IfOk result (λ c. option_rows (args_of c) ≡ options) }
+{
+    let mut args = Vec::new(alloc);
+    push_all(alloc, &mut args)?;
+    let command = without_options(alloc)?;
+    command.args(args)
+}

@@ -1,0 +1,44 @@
+-- What came of files stays, whatever comes of the next ones.
+use Rattle.std.proofs.Common.{◌≡◌, ℕ, Bool, true, ◌||◌, ◌&&◌, nat_lt, cond, ap, sym, subst, refl}
+use Rattle.std.specs.Prelude.{Result, Ok, Err}
+use Rattle.grep_core.specs.declared.fault.Fault.{Fault}
+use Rattle.grep_core.specs.declared.what.Print.{Print}
+use Rattle.hirgrep_main.specs.declared.outcome.Outcome.{Outcome}
+use Rattle.hirgrep_main.specs.Decisions.{prints_nothing}
+use Rattle.hirgrep_main.specs.Outcomes.{Continues, after_search, is_of_output, with_failure}
+
+or_stays : (a b : Bool) → a ≡ true → (a || b) ≡ true
+or_stays a b e = ap (λ x. x || b) e
+
+pub continues_same : (o : Outcome) → Continues o o
+continues_same o = record { selected = λ e. e; printed = λ e. e; failed = λ e. e; ended = λ e. e }
+
+pub continues_on : {a b c : Outcome} → Continues a b → Continues b c → Continues a c
+continues_on p q = record {
+  selected = λ e. q.selected (p.selected e);
+  printed = λ e. q.printed (p.printed e);
+  failed = λ e. q.failed (p.failed e);
+  ended = λ e. q.ended (p.ended e);
+}
+
+pub continues_failed : (o : Outcome) → Continues o (with_failure o)
+continues_failed o = record { selected = λ e. e; printed = λ e. e; failed = λ e. refl; ended = λ e. e }
+
+pub continues_searched : (print : Print) (o : Outcome) (bytes : ℕ) (wrote : Bool) (told : Result ℕ Fault)
+    → Continues o (after_search print o bytes wrote told)
+continues_searched print o bytes wrote (Ok n) = record {
+  selected = or_stays o.selected (nat_lt 0 n);
+  printed = or_stays o.printed wrote;
+  failed = λ e. e;
+  ended = or_stays o.ended (nat_lt 0 n && prints_nothing print);
+}
+continues_searched print o bytes wrote (Err fault) = record {
+  selected = λ e. e;
+  printed = or_stays o.printed wrote;
+  failed = λ e. refl;
+  ended = or_stays o.ended (is_of_output fault);
+}
+
+-- by an equation of what came
+pub continues_as : {a b c : Outcome} → Continues a b → c ≡ b → Continues a c
+continues_as {a = a} p e = subst (λ (x : Outcome). Continues a x) (sym e) p

@@ -1,0 +1,7 @@
+use Rattle.hirgrep_main.proofs.OutcomeLemmas.{continues_as, continues_searched}
+use Rattle.hirgrep_main.proofs.searching.search_reader.Goals as goal
+
+pub returns-clause-continues : goal.returns-clause-continues
+returns-clause-continues g c =
+    continues_as (continues_searched c.args.task.asked.now.what.print c.args.outcome.now c.count.result c.wrote.result c.tell_reader-told.result)
+    c.keep_search.ensures

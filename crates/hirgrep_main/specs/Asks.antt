@@ -1,0 +1,83 @@
+-- What each option asks for. The options go by their long names, under which the matches of the command line hold what was given.
+use Rattle.std.specs.Prelude.{ℕ, Bool, true, false, List, codes, Option, Some, None, unwrap_or, if◌then◌else◌}
+use Rattle.std.specs.Option.{option_or}
+use Rattle.clap.specs.Words.{first_value}
+use Rattle.clap.specs.declared.parser.matches.Found.{Found}
+use Rattle.grep_options.specs.Options.{is_set, is_text, limit_given, number_given}
+use Rattle.grep_core.specs.declared.patterns.How.{How}
+use Rattle.grep_core.specs.declared.what.Context.{Context}
+use Rattle.grep_core.specs.declared.what.Print.{Print}
+use Rattle.grep_core.specs.declared.what.Print.TheVariants.{Lines, Matches, Count, NameIfAny, NameIfNone, Nothing}
+use Rattle.grep_core.specs.declared.what.What.{What}
+use Rattle.hirgrep_main.specs.declared.asked.Asked.{Asked}
+use Rattle.hirgrep_main.specs.declared.asked.Names.{Names}
+use Rattle.hirgrep_main.specs.declared.asked.Names.TheVariants.{Always, Never, IfSeveral}
+
+-- -F, -i, -x, -w, --crlf: how patterns are meant
+abbrev pub how_of : Found → How
+how_of f = record {
+  fixed = is_set f (codes "fixed-strings");
+  ignore_case = is_set f (codes "ignore-case");
+  lines = is_set f (codes "line-regexp");
+  words = is_set f (codes "word-regexp");
+  crlf = is_set f (codes "crlf");
+}
+
+-- -q, -L, -l, -c, -o: of several options, the one counts that prints least
+abbrev pub print_of : Found → Print
+print_of f =
+    if is_set f (codes "quiet") then Nothing
+    else if is_set f (codes "files-without-match") then NameIfNone
+    else if is_set f (codes "files-with-matches") then NameIfAny
+    else if is_set f (codes "count") then Count
+    else if is_set f (codes "only-matching") then Matches
+    else Lines
+
+-- lines before and after each selected line, where either is asked for
+abbrev pub context_by : Option ℕ → Option ℕ → Option Context
+context_by None None = None
+context_by (Some before) after = Some (record { before = before; after = unwrap_or after 0 })
+context_by None (Some after) = Some (record { before = 0; after = after })
+
+-- -B, -A, -C: the first two count over the third
+abbrev pub context_of : Found → Option Context
+context_of f = context_by (option_or (number_given f (codes "before-context")) (number_given f (codes "context")))
+    (option_or (number_given f (codes "after-context")) (number_given f (codes "context")))
+
+-- --color: `auto` marks what goes to a terminal with colours
+abbrev pub color_by : Option (List ℕ) → Bool → Bool
+color_by word is_colorful =
+    if is_text (codes "always") word then true
+    else if is_text (codes "auto") word then is_colorful
+    else false
+
+-- -h, -H
+abbrev pub asked_names : Found → Names
+asked_names f =
+    if is_set f (codes "no-filename") then Never
+    else if is_set f (codes "with-filename") then Always
+    else IfSeveral
+
+-- -v, -n, -b, -m, and what is above
+abbrev pub what_of : Found → Bool → What
+what_of f is_colorful = record {
+  invert = is_set f (codes "invert-match");
+  print = print_of f;
+  numbers = is_set f (codes "line-number");
+  offsets = is_set f (codes "byte-offset");
+  context = context_of f;
+  most = limit_given f (codes "max-count");
+  color = color_by (first_value f (codes "color")) is_colorful;
+}
+
+-- -r, -s, --stats, and what is above
+abbrev pub asked_of : Found → Bool → Asked
+asked_of f is_colorful = record {
+  how = how_of f;
+  what = what_of f is_colorful;
+  names = asked_names f;
+  recursive = is_set f (codes "recursive");
+  silent = is_set f (codes "no-messages");
+  stats = is_set f (codes "stats");
+  tells_input = is_set f (codes "tell-input");
+}

@@ -1,0 +1,147 @@
+"""Runs hirgrep with every option and every pair of options over the small files: compared with GNU grep, and with --crlf, which GNU grep
+doesn't have, with the definition (report.py). The definition is compared with GNU grep too, and with ripgrep where that has the same
+--crlf."""
+
+import itertools
+import os
+import random
+
+from . import crlf_rows
+from .files import FILES, LARGE, PATTERN_FILES
+from .known import GREP, RIPGREP, Case
+from .options import CRLF, CRLF_FILES, OPTIONS, PATTERNS, pairs
+from .report import report
+
+SEED = 20261130
+RIPGREP_WORDS = ("rg", "--no-config", "--text", "--threads=1", "--no-heading", "--encoding=none")
+SMALL = tuple(it for it in FILES if it not in LARGE)
+
+
+def words_of(case, words_of_option=lambda it: it.words):
+    """The pattern comes first: of several ones the order counts."""
+    words = ["-e", case.pattern.text, *itertools.chain.from_iterable(map(words_of_option, case.options))]
+    return [*words, "--", *case.files] if case.files else words
+
+
+def grep_words(case):
+    return ["grep", "-a", "-F" if case.has("-F") else case.pattern.syntax, *words_of(case)]
+
+
+def is_usable(case):
+    """GNU grep takes one pattern with -P, and no -F."""
+    return case.pattern.syntax == "-E" or not (case.has("-F", "-f patterns_none") or len(case.asked().patterns) > 1)
+
+
+def without(case, names):
+    return Case(case.options, case.pattern, tuple(it for it in case.files if it not in names))
+
+
+def without_known(table, case):
+    """The case over the files of which it isn't known that they differ."""
+    each = [Case(case.options, case.pattern, (it,)) for it in case.files]
+    return without(case, {it.files[0] for it in each if any(differs(it) for differs in table)})
+
+
+def cases(options, added, names, most):
+    """Each pair of options with each pattern, or with so many of them."""
+    pick = random.Random(SEED)
+    for chosen in pairs(options):
+        for pattern in PATTERNS if most is None else pick.sample(PATTERNS, most):
+            yield Case((*chosen, *added), pattern, names)
+
+
+def one_ending(result):
+    """Whether a line ends by a carriage return and a line feed, or by a line feed alone, isn't told."""
+    return result[0], result[1].replace(b"\r\n", b"\n")
+
+
+class Comparison:
+    """run gives the status and what is printed for some words and an input; tell says what is wrong with words."""
+
+    def __init__(self, program, run, tell):
+        self.program, self.run, self.tell = program, run, tell
+
+    def check(self, words, first, second):
+        """Both are by whom, and what came: the status and what was printed."""
+        if first[1] == second[1]:
+            return
+        rows = itertools.zip_longest(*(it[1][1].split(b"\n") for it in (first, second)))
+        row = next((it for it in rows if it[0] != it[1]), "no line")
+        self.tell(words, f"status {first[1][0]} by {first[0]}, {second[1][0]} by {second[0]}; the lines that differ: {row}")
+
+    def check_grep(self, case, given=b""):
+        words = words_of(case)
+        self.check(words, ("hirgrep", self.run([self.program, *words], given)), ("GNU grep", self.run(grep_words(case), given)))
+
+    def beside_grep(self, most):
+        for case in filter(is_usable, cases(OPTIONS, (), tuple(FILES), most)):
+            self.check_grep(without_known(GREP, case))
+
+    def inputs_beside_grep(self, most):
+        """Each option over standard input, and with a file that isn't there."""
+        pick = random.Random(SEED)
+        alone = [it for it in cases(OPTIONS, (), (), most) if len(it.options) < 2 and is_usable(it)]
+        for case in alone:
+            self.check_grep(Case(case.options, case.pattern, ("words", "missing", "gaps")))
+            name = pick.choice(SMALL)
+            known = without_known(GREP, Case(case.options, case.pattern, (name,)))
+            if known.files and not case.has("-r"):
+                self.check_grep(case, FILES[name])
+
+    def definition_beside_grep(self, most):
+        for case in filter(is_usable, cases(OPTIONS, (), SMALL, most)):
+            case = without_known(GREP, case)
+            if not case.files:
+                continue
+            self.check(words_of(case), ("the definition", report(case.asked(), case.data())), ("GNU grep", self.run(grep_words(case), b"")))
+
+    def with_crlf(self, most):
+        for case in cases(OPTIONS + CRLF_FILES, (CRLF,), SMALL, most):
+            words = words_of(case)
+            self.check(words, ("hirgrep", self.run([self.program, *words], b"")), ("the definition", report(case.asked(), case.data())))
+
+    def definition_beside_ripgrep(self, most):
+        options = [it for it in OPTIONS + CRLF_FILES if it.ripgrep]
+        for case in cases(options, (CRLF,), SMALL, most):
+            case = without_known(RIPGREP, case)
+            if case.files:
+                words = [*RIPGREP_WORDS, *words_of(case, lambda it: it.ripgrep)]
+                ours = one_ending(report(case.asked(), case.data()))
+                self.check(words, ("the definition", ours), ("ripgrep", one_ending(self.run(words, b""))))
+
+    def rows(self):
+        for words, status, printed, _ in crlf_rows.ROWS:
+            words = ["--crlf", *words]
+            self.check(words, ("hirgrep", self.run([self.program, *words], b"")), ("hand", (status, printed)))
+
+    def rows_beside_ripgrep(self):
+        for words, status, printed, note in crlf_rows.ROWS:
+            words = [*RIPGREP_WORDS, "--crlf", "--include-zero", *words]
+            wanted, got = one_ending((status, printed)), one_ending(self.run(words, b""))
+            if (wanted == got) != (note == crlf_rows.ALIKE):
+                self.tell(words, f"ripgrep has {got}, by hand {wanted}, and the row says: {note}")
+
+
+def write_all(folder, files):
+    os.mkdir(folder)
+    for name, data in files.items():
+        with open(os.path.join(folder, name), "wb") as file:
+            file.write(data)
+
+
+def compare_options(program, room, run, tell, tools, is_all):
+    """tools are those of grep and rg that there are; run also takes the folder to run in."""
+    options, returns = os.path.join(room, "options"), os.path.join(room, "returns")
+    write_all(options, {**FILES, **PATTERN_FILES})
+    write_all(returns, crlf_rows.FILES)
+    in_options = Comparison(program, lambda words, given: run(words, options, given)[:2], tell)
+    in_returns = Comparison(program, lambda words, given: run(words, returns, given)[:2], tell)
+    in_returns.rows()
+    in_options.with_crlf(None if is_all else 1)
+    if "grep" in tools:
+        in_options.beside_grep(None if is_all else 2)
+        in_options.inputs_beside_grep(3)
+        in_options.definition_beside_grep(None if is_all else 1)
+    if "rg" in tools:
+        in_returns.rows_beside_ripgrep()
+        in_options.definition_beside_ripgrep(None if is_all else 1)

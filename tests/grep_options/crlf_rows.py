@@ -1,0 +1,142 @@
+"""Rows of --crlf with what is printed, written by hand from the definition: patterns are matched against the line without its line feed
+and without one carriage return right before that; the line is printed as it stands in the file. Each row says whether ripgrep 13 does
+the same (ALIKE; it ends its own lines by a carriage return and a line feed), or what it does otherwise."""
+
+FILES = {
+    "lines": b"one\r\n\r\ntwo\r\nlast",
+    "notes": b"# c\r\nx\r\n\r\n",
+    "foo": b"a foo\r\nfoo\r\nbar\n",
+    "lone": b"a\rb\nab\r\r\n\r\r\n",
+    "open_end": b"ab\r\nab\r",
+    "return": b"\r",
+    "gaps": b"x\r\nab\r\ny\r\nz\r\nab\r\nw\r\n",
+    "wanted": b"one\r\ntw\r\n",
+    "wanted_empty": b"one\r\n\r\n",
+    "wanted_twice": b"one\r\r\n",
+    "wanted_open": b"one\r",
+}
+
+ALIKE = "alike"
+IN_PATTERN = "ripgrep rejects a carriage return in a pattern"
+LONE = "ripgrep lets no class, dot or `$` of a pattern stand apart from a lone carriage return"
+LAST = "ripgrep takes the carriage return of a last line without a line feed for its end"
+EMPTY = "ripgrep prints empty matches"
+OTHER = "ripgrep has another option, or other habits, whatever ends lines"
+
+MARKED = b"\33[01;31m\33[K%s\33[m\33[K"
+NUMBER = b"\33[32m\33[K%d\33[m\33[K\33[36m\33[K:\33[m\33[K"
+
+ROWS = [
+    # which lines are selected
+    (("one", "lines"), 0, b"one\r\n", ALIKE),
+    (("-n", "^$", "lines"), 0, b"2:\r\n", ALIKE),
+    (("-n", "e$", "lines"), 0, b"1:one\r\n", ALIKE),
+    (("-n", "t$", "lines"), 0, b"4:last\n", ALIKE),
+    (("-n", "^two$", "lines"), 0, b"3:two\r\n", ALIKE),
+    (("-n", "\\Atwo\\z", "lines"), 0, b"3:two\r\n", ALIKE),
+    (("-n", "(?m)^two$", "lines"), 0, b"3:two\r\n", ALIKE),
+    (("-n", "^.{3}$", "lines"), 0, b"1:one\r\n3:two\r\n", ALIKE),
+    (("-n", "o\\b", "lines"), 0, b"3:two\r\n", ALIKE),
+    (("foo$", "foo"), 0, b"a foo\r\nfoo\r\n", ALIKE),
+    (("r$", "foo"), 0, b"bar\n", ALIKE),
+    (("one\\r", "lines"), 1, b"", IN_PATTERN),
+    (("\\s", "lines"), 1, b"", ALIKE),
+    (("[^a-z]", "lines"), 1, b"", ALIKE),
+    (("-e", "one", "-e", "last", "lines"), 0, b"one\r\nlast\n", ALIKE),
+    (("one\nlast", "lines"), 0, b"one\r\nlast\n", "ripgrep takes no line feed in a pattern"),
+    # the options that say what matches
+    (("-c", "-x", "", "lines"), 0, b"1\n", ALIKE),
+    (("-x", "one", "lines"), 0, b"one\r\n", ALIKE),
+    (("-x", "last", "lines"), 0, b"last\n", ALIKE),
+    (("-x", "a foo\\r", "foo"), 1, b"", IN_PATTERN),
+    (("-x", "a foo", "foo"), 0, b"a foo\r\n", ALIKE),
+    (("-F", "-x", "one", "lines"), 0, b"one\r\n", ALIKE),
+    (("-F", "-n", "", "lines"), 0, b"1:one\r\n2:\r\n3:two\r\n4:last\n", ALIKE),
+    (("-F", "-x", "-n", "", "lines"), 0, b"2:\r\n", ALIKE),
+    (("-w", "foo", "foo"), 0, b"a foo\r\nfoo\r\n", ALIKE),
+    (("-w", "fo", "foo"), 1, b"", ALIKE),
+    (("-n", "-w", "", "lines"), 0, b"2:\r\n", "ripgrep's -w looks for other bytes next to a match"),
+    (("-i", "ONE$", "lines"), 0, b"one\r\n", ALIKE),
+    (("-v", "o", "lines"), 0, b"\r\nlast\n", ALIKE),
+    (("-n", "-v", "^$", "lines"), 0, b"1:one\r\n3:two\r\n4:last\n", ALIKE),
+    (("-v", "-e", "^#", "-e", "^$", "notes"), 0, b"x\r\n", ALIKE),
+    (("-v", "-x", "one|", "lines"), 0, b"two\r\nlast\n", ALIKE),
+    (("-c", "-v", "", "lines"), 1, b"0\n", ALIKE),
+    # the options that say what is printed
+    (("-c", "", "lines"), 0, b"4\n", ALIKE),
+    (("-c", "$", "lines"), 0, b"4\n", ALIKE),
+    (("-c", "zz", "lines"), 1, b"0\n", ALIKE),
+    (("-c", "o", "lines", "foo"), 0, b"lines:2\nfoo:2\n", ALIKE),
+    (("-l", "o", "lines", "return"), 0, b"lines\n", ALIKE),
+    (("-L", "o", "lines", "return"), 0, b"return\n", OTHER),
+    (("-q", "e$", "lines"), 0, b"", ALIKE),
+    (("-q", "e\\r$", "lines"), 1, b"", IN_PATTERN),
+    (("-H", "one", "lines"), 0, b"lines:one\r\n", ALIKE),
+    (("-h", "one", "lines", "lines"), 0, b"one\r\none\r\n", OTHER),
+    (("-n", "o", "lines"), 0, b"1:one\r\n3:two\r\n", ALIKE),
+    (("-b", "o", "lines"), 0, b"0:one\r\n7:two\r\n", ALIKE),
+    (("-o", "f.*", "foo"), 0, b"foo\nfoo\n", ALIKE),
+    (("-o", "[^x]+", "lines"), 0, b"one\ntwo\nlast\n", ALIKE),
+    (("-o", ".*", "lines"), 0, b"one\ntwo\nlast\n", EMPTY),
+    (("-o", "-n", "o+$", "foo"), 0, b"1:oo\n2:oo\n", ALIKE),
+    (("-o", "-b", "o", "lines"), 0, b"0:o\n9:o\n", ALIKE),
+    (("-o", "-b", "$", "lines"), 0, b"", EMPTY),
+    (("-o", "-x", "[a-z]*", "lines"), 0, b"one\ntwo\nlast\n", EMPTY),
+    (("-o", "-v", "o", "lines"), 0, b"", OTHER),
+    (("-m1", "o", "lines"), 0, b"one\r\n", ALIKE),
+    (("-m", "2", "-c", "", "lines"), 0, b"2\n", ALIKE),
+    (("-m0", "o", "lines"), 1, b"", ALIKE),
+    (("--color=always", "one", "lines"), 0, MARKED % b"one" + b"\r\n", OTHER),
+    (("--color=always", "[a-z]+$", "foo"), 0, b"a " + MARKED % b"foo" + b"\r\n" + MARKED % b"foo" + b"\r\n" + MARKED % b"bar" + b"\n", OTHER),
+    (("--color=always", "-n", "^$", "lines"), 0, NUMBER % 2 + b"\r\n", OTHER),
+    (("--color=always", "-o", "one", "lines"), 0, MARKED % b"one" + b"\n", OTHER),
+    (("--color=always", "-v", "o", "lines"), 0, b"\r\nlast\n", ALIKE),
+    (("--color=never", "one", "lines"), 0, b"one\r\n", ALIKE),
+    (("--color", "one", "lines"), 0, b"one\r\n", OTHER),
+    # context
+    (("-A1", "one", "lines"), 0, b"one\r\n\r\n", ALIKE),
+    (("-B1", "two", "lines"), 0, b"\r\ntwo\r\n", ALIKE),
+    (("-C1", "-n", "two", "lines"), 0, b"2-\r\n3:two\r\n4-last\n", ALIKE),
+    (("-A1", "ab", "gaps"), 0, b"ab\r\ny\r\n--\nab\r\nw\r\n", ALIKE),
+    (("-A0", "ab", "gaps"), 0, b"ab\r\n--\nab\r\n", OTHER),
+    (("-B1", "-b", "ab", "gaps"), 0, b"0-x\r\n3:ab\r\n--\n10-z\r\n13:ab\r\n", ALIKE),
+    (("-o", "-A1", "ab", "gaps"), 0, b"ab\n--\nab\n", OTHER),
+    (("-A1", "-v", "[a-y]$", "gaps"), 0, b"z\r\nab\r\n", ALIKE),
+    # files of patterns
+    (("-f", "wanted", "lines"), 0, b"one\r\ntwo\r\n", ALIKE),
+    (("-x", "-f", "wanted", "lines"), 0, b"one\r\n", ALIKE),
+    (("-F", "-f", "wanted", "lines"), 0, b"one\r\ntwo\r\n", ALIKE),
+    (("-w", "-f", "wanted", "lines"), 0, b"one\r\n", ALIKE),
+    (("-c", "-f", "wanted_empty", "lines"), 0, b"4\n", ALIKE),
+    (("-x", "-n", "-f", "wanted_empty", "lines"), 0, b"1:one\r\n2:\r\n", ALIKE),
+    (("-f", "wanted_twice", "lines"), 1, b"", IN_PATTERN),
+    (("-f", "wanted_open", "lines"), 1, b"", IN_PATTERN),
+    (("-f", "wanted", "-e", "last", "lines"), 0, b"one\r\ntwo\r\nlast\n", ALIKE),
+    # carriage returns elsewhere
+    (("-x", "a", "lone"), 1, b"", ALIKE),
+    (("-F", "-x", "a", "lone"), 1, b"", ALIKE),
+    (("-n", "^b", "lone"), 1, b"", ALIKE),
+    (("-n", "a$", "lone"), 1, b"", ALIKE),
+    (("-n", "b$", "lone"), 0, b"1:a\rb\n", LONE),
+    (("-n", "(?mR)^b", "lone"), 0, b"1:a\rb\n", "ripgrep 13 doesn't know the flag R"),
+    (("-n", "-x", "ab\\r", "lone"), 0, b"2:ab\r\r\n", IN_PATTERN),
+    (("-n", "^\\r$", "lone"), 0, b"3:\r\r\n", IN_PATTERN),
+    (("-n", "^$", "lone"), 1, b"", ALIKE),
+    (("-o", "-n", "\\r", "lone"), 0, b"1:\r\n2:\r\n3:\r\n", IN_PATTERN),
+    (("-o", "a[^x]*", "lone"), 0, b"a\rb\nab\r\n", LONE),
+    (("-c", ".", "lone"), 0, b"3\n", LONE),
+    (("-o", "-b", "b.*", "lone"), 0, b"2:b\n5:b\r\n", ALIKE),
+    (("-w", "-n", "a", "lone"), 0, b"1:a\rb\n", ALIKE),
+    # a last line without a line feed keeps its carriage return
+    (("-n", "ab$", "open_end"), 0, b"1:ab\r\n", LAST),
+    (("-n", "-x", "ab\\r", "open_end"), 0, b"2:ab\r\n", IN_PATTERN),
+    (("-n", "-v", "b$", "open_end"), 0, b"2:ab\r\n", LAST),
+    (("-n", "-o", "b.*", "open_end"), 0, b"1:b\n2:b\r\n", ALIKE),
+    (("-c", "^..$", "open_end"), 0, b"1\n", LAST),
+    (("-c", "^$", "return"), 1, b"0\n", LAST),
+    (("-c", "-x", "\\r", "return"), 0, b"1\n", IN_PATTERN),
+    # what is the same without it
+    (("-s", "e$", "missing", "lines"), 2, b"lines:one\r\n", ALIKE),
+    (("-r", "e$", "lines"), 0, b"one\r\n", OTHER),
+    (("--stats", "e$", "lines"), 0, b"one\r\n", OTHER),
+]

@@ -1,0 +1,111 @@
+"""The options of hirgrep, what each asks for, and the patterns that tests/grep runs them with."""
+
+import itertools
+from dataclasses import dataclass, field, replace
+
+from .report import Asked
+
+
+@dataclass(frozen=True)
+class Option:
+    words: tuple
+    effect: dict = field(default_factory=dict, hash=False, compare=False)
+    ripgrep: tuple | None = None  # the same for ripgrep, where it has it
+
+    @property
+    def name(self):
+        return " ".join(self.words)
+
+    @property
+    def is_context(self):
+        return self.name[:2] in ("-A", "-B", "-C")
+
+
+def same(word, **effect):
+    """An option that ripgrep has too."""
+    return Option((word,), effect, (word,))
+
+
+def own(*words, **effect):
+    return Option(words, effect)
+
+
+OPTIONS = [
+    same("-i", ignore=True),
+    same("-w", words=True),
+    same("-x", whole=True),
+    same("-F", fixed=True),
+    same("-v", invert=True),
+    same("-m1", most=1),
+    same("-m2", most=2),
+    own("-m0", most=0),
+    own("-m-1", most=None),
+    same("-n", numbers=True),
+    same("-b", offsets=True),
+    same("-H", names=True),
+    Option(("-h",), {"names": False}, ("-I",)),
+    Option(("-c",), {"count": True}, ("-c", "--include-zero")),
+    same("-o", matches=True),
+    same("-l", with_match=True, without=False),
+    own("-L", without=True, with_match=False),
+    same("-q", quiet=True),
+    own("-A0", after=0),
+    same("-A1", after=1),
+    own("-A3", after=3),
+    own("-B0", before=0),
+    same("-B1", before=1),
+    own("-B4", before=4),
+    own("-C0", both=0),
+    same("-C1", both=1),
+    own("-C2", both=2),
+    own("--color=always", color=True),
+    own("--color=never", color=False),
+    own("--color", color=False),
+    own("-s"),
+    own("-r"),
+    same("-ex", patterns=("x",)),
+    own("-f", "patterns", patterns=("ab", "x")),
+    own("-f", "patterns_open", patterns=("ab", "x")),
+    own("-f", "patterns_empty", patterns=("",)),
+    own("-f", "patterns_none"),
+]
+CRLF = same("--crlf", crlf=True)
+CRLF_FILES = [
+    own("-f", "patterns_crlf", patterns=("ab", "x")),
+    own("-f", "patterns_cr", patterns=("ab\r", "x\r")),
+]
+
+
+@dataclass(frozen=True)
+class Pattern:
+    """In the syntax of hirgrep, which GNU grep reads alike with -E or with -P, and Python too unless it is said otherwise."""
+
+    text: str
+    syntax: str = "-E"
+    begins_and_ends_words: bool = False  # each match begins and ends with a character of words
+    may_be_empty: bool = False
+
+
+WORDS = [Pattern(it, begins_and_ends_words=True) for it in ("ab", "a", "x", "^a", "b$", "a|x", "ab$|^x", "^(ab|x)$", "(ab)+", "a{1,2}b", "(a|b)b", "[ab]+", "x?ab", "ä", "É", "щ_1|μ", "\\w+", "[0-9]+", "\\bab\\b", "ab\\b")]
+SIGNS = [Pattern(it) for it in ("-", "a.", ".b", ".", "[^a]", "[^ab]+", "b[^a]", "\\W", "\\.", "\\s", "\\Ba", "-|a", "€.", "a.*", "\\$|\\^", " ab?")]
+EMPTY = [Pattern(it, begins_and_ends_words=True, may_be_empty=True) for it in ("", "^", "$", "^$", "x*", "(ab)*", "a?", "ab|")]
+ANY = [Pattern(it, may_be_empty=True) for it in (".*", "^.*$", "-?", "\\W*")]
+PERL = [Pattern(it, "-P") for it in ("\\d+", "(?i:AB)", "a.+?b", "(?:ab|x)$", "a\\x62", "\\Aab", "\\S+\\s\\S", "a{2,}?|b")]
+PATTERNS = WORDS + SIGNS + EMPTY + ANY + PERL
+
+
+def asked_of(pattern, options):
+    """What the options ask for, in their order."""
+    asked = Asked(patterns=(pattern.text,))
+    for option in options:
+        effect = dict(option.effect)
+        effect["patterns"] = asked.patterns + effect.get("patterns", ())
+        asked = replace(asked, **effect)
+    return asked
+
+
+def pairs(options):
+    """No option, each one, and each two of them; in both orders where the later one may count."""
+    each_two = list(itertools.combinations(options, 2))
+    turned = [(b, a) for a, b in each_two if a.effect.keys() & b.effect.keys()]
+    return [(), *((it,) for it in options), *each_two, *turned]

@@ -1,0 +1,203 @@
+"""What hirgrep prints, by its definition, once more in Python: lines, matches, selected lines, context, and bytes. tests/grep compares it
+with GNU grep, so that it may be believed where there is no GNU grep to ask: with --crlf."""
+
+import re
+from dataclasses import dataclass
+
+BROKEN = "\udc80-\udcff"  # the bytes that aren't part of a character, as Python decodes them
+TOKEN = re.compile(r"\\[WSD]|\\.|\[\^|\[|\.", re.S)
+NEGATED = {"\\W": f"[^\\w{BROKEN}]", "\\S": f"[^\\s{BROKEN}]", "\\D": f"[^\\d{BROKEN}]", ".": f"[^\n{BROKEN}]", "[^": f"[^{BROKEN}"}
+WORD_START = f"(?:(?<!\\w)(?=\\w)|(?<![\\w{BROKEN}]))"
+WORD_END = f"(?:(?<=\\w)(?!\\w)|(?![\\w{BROKEN}]))"
+
+
+@dataclass(frozen=True)
+class Asked:
+    """What options ask for."""
+
+    patterns: tuple = ()
+    fixed: bool = False
+    ignore: bool = False
+    words: bool = False
+    whole: bool = False
+    crlf: bool = False
+    invert: bool = False
+    quiet: bool = False
+    without: bool = False
+    with_match: bool = False
+    count: bool = False
+    matches: bool = False
+    numbers: bool = False
+    offsets: bool = False
+    names: bool | None = None
+    before: int | None = None
+    after: int | None = None
+    both: int | None = None
+    most: int | None = None
+    color: bool = False
+
+
+@dataclass(frozen=True)
+class Line:
+    number: int
+    offset: int
+    printed: bytes
+    matched: bytes
+
+
+def python_of(pattern):
+    """A pattern in Python's syntax: nothing but a byte itself matches a byte that isn't part of a character."""
+    return TOKEN.sub(lambda it: NEGATED.get(it[0], it[0]), pattern)
+
+
+def regex_of(asked):
+    texts = [re.escape(it) if asked.fixed else python_of(it) for it in asked.patterns]
+    if asked.whole:
+        texts = [f"\\A(?:{it})\\Z" for it in texts]
+    elif asked.words:
+        texts = [f"{WORD_START}(?:{it}){WORD_END}" for it in texts]
+    return re.compile("|".join(f"(?:{it})" for it in texts) if texts else "(?!)", re.I if asked.ignore else 0)
+
+
+def lines_of(asked, data):
+    """Under --crlf one carriage return right before a line feed isn't matched, but printed."""
+    lines, offset = [], 0
+    for number, line in enumerate(data.split(b"\n")[: -1 if data.endswith(b"\n") or not data else None], 1):
+        is_ended = offset + len(line) < len(data)
+        matched = line[:-1] if asked.crlf and is_ended and line.endswith(b"\r") else line
+        lines.append(Line(number, offset, line, matched))
+        offset += len(line) + 1
+    return lines
+
+
+def all_matches(regex, text):
+    """All matches from left to right: none that is empty where the one before it ends."""
+    at, last = 0, None
+    while at <= len(text) and (found := regex.search(text, at)):
+        if found.start() == found.end() == last:
+            at, last = at + 1, None
+            continue
+        yield found.span()
+        at = last = found.end()
+
+
+def text_of(line):
+    return line.matched.decode("utf-8", "surrogateescape")
+
+
+def length_of(text):
+    return len(text.encode("utf-8", "surrogateescape"))
+
+
+def spans_of(regex, line):
+    """The offsets of the matches in bytes, but of empty ones."""
+    text, spans = text_of(line), []
+    for start, end in all_matches(regex, text):
+        if start < end:
+            before = length_of(text[:start])
+            spans.append((before, before + length_of(text[start:end])))
+    return spans
+
+
+def has_match(regex, line):
+    return regex.search(text_of(line)) is not None
+
+
+def selected_of(asked, regex, lines):
+    selected, left = [], asked.most
+    for line in lines:
+        is_selected = has_match(regex, line) != asked.invert and left != 0
+        selected.append(is_selected)
+        left = left - 1 if is_selected and left else left
+    return selected
+
+
+def context_of(asked):
+    before = asked.both if asked.before is None else asked.before
+    after = asked.both if asked.after is None else asked.after
+    return before, after
+
+
+def is_near(selected, index, before, after):
+    """Whether a line is printed, itself selected or not."""
+    return any(selected[max(0, index - (after or 0)) : index + (before or 0) + 1])
+
+
+def coloured(asked, code, text):
+    return b"\33[%sm\33[K%s\33[m\33[K" % (code, text) if asked.color else text
+
+
+def field(asked, code, text, sign):
+    return coloured(asked, code, text) + coloured(asked, b"36", sign)
+
+
+def fields(asked, name, line, offset, sign):
+    shown = [(b"35", name)] if name is not None else []
+    shown += [(b"32", b"%d" % line.number)] if asked.numbers else []
+    shown += [(b"32", b"%d" % offset)] if asked.offsets else []
+    return b"".join(field(asked, code, text, sign) for code, text in shown)
+
+
+def marked(asked, line, spans):
+    parts, at = [], 0
+    for start, end in spans:
+        parts += [line.printed[at:start], coloured(asked, b"01;31", line.printed[start:end])]
+        at = end
+    return b"".join(parts) + line.printed[at:]
+
+
+def printed_line(asked, regex, name, line, is_selected):
+    sign = b":" if is_selected else b"-"
+    spans = spans_of(regex, line) if is_selected != asked.invert else []
+    if asked.matches:
+        rows = [(line.offset + start, coloured(asked, b"01;31", line.printed[start:end])) for start, end in spans]
+    else:
+        rows = [(line.offset, marked(asked, line, spans))]
+    return b"".join(fields(asked, name, line, offset, sign) + row + b"\n" for offset, row in rows)
+
+
+def printed_lines(asked, regex, name, lines, selected, known):
+    """known is what was printed: nothing, the line before, or an earlier one."""
+    before, after = context_of(asked)
+    has_groups = before is not None or after is not None
+    out = b""
+    for index, line in enumerate(lines):
+        if not is_near(selected, index, before, after):
+            known = known and "earlier"
+            continue
+        if known == "earlier" and has_groups:
+            out += coloured(asked, b"36", b"--") + b"\n"
+        out += printed_line(asked, regex, name, line, selected[index])
+        known = "last"
+    return out, known
+
+
+def report_of_file(asked, regex, name, has_name, data, known):
+    """What is printed of a file, whether a line is selected, and what is known for the next file."""
+    lines = lines_of(asked, data)
+    selected = selected_of(asked, regex, lines)
+    is_any, shown = any(selected), name if has_name else None
+    if asked.quiet:
+        return b"", is_any, known
+    if asked.without or asked.with_match:
+        return (coloured(asked, b"35", name) + b"\n" if is_any != asked.without else b""), is_any, known
+    if asked.count:
+        prefix = field(asked, b"35", shown, b":") if has_name else b""
+        return prefix + b"%d\n" % sum(selected), is_any, known
+    out, known = printed_lines(asked, regex, shown, lines, selected, known)
+    return out, is_any, known
+
+
+def report(asked, files):
+    """Status and output for these files, by name."""
+    regex, known, out, status = regex_of(asked), None, b"", 1
+    has_name = len(files) > 1 if asked.names is None else asked.names
+    if asked.most == 0 and not asked.without:
+        return 1, b""
+    for name, data in files.items():
+        printed, is_any, known = report_of_file(asked, regex, name.encode(), has_name, data, known and "earlier")
+        out += printed
+        status = 0 if is_any else status
+        if asked.quiet and is_any:
+            break
+    return status, out
