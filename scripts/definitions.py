@@ -1,0 +1,180 @@
+#!/usr/bin/env python3
+"""Lists the definitions on which the contract of a function rests: each one that it cites, and each one that these cite in turn.
+
+    scripts/definitions.py grep_core reading tell_text [CLAUSE..]
+
+names the crate, the module and the function, and the clauses of it that are meant, if not all. Definitions of this repository and of
+the toolchain's libraries count. Words of the standard library `std` and of the logic, and names that code declares (types and their
+variants), end the search. Prints a line for each definition: the library, the file, the name, and the comment above it."""
+import functools
+import os
+import re
+import shutil
+import sys
+
+TOP = os.path.dirname(os.path.dirname(os.path.realpath(__file__)))
+NAME = re.compile(r"[^\W\d][\w']*")
+
+
+def kit():
+    """Returns the folder of the toolchain's libraries, or None where the toolchain isn't installed."""
+    rt = shutil.which("rt")
+    path = rt and os.path.join(os.path.dirname(os.path.dirname(os.path.realpath(rt))), "rattle")
+    return path if path and os.path.isdir(path) else None
+
+
+def library(name):
+    """Returns the folder of a library: a crate of this repository, or one of the toolchain."""
+    own = f"{TOP}/crates/{name}"
+    return own if os.path.isdir(own) else f"{kit()}/{name}"
+
+
+def without_comments(text):
+    return re.sub(r"(?m)--.*$|//.*$", "", text)
+
+
+@functools.lru_cache(None)
+def imports_of(text):
+    """Returns what each name of a file stands for, as (module path, name there)."""
+    found = {}
+    for path, names in re.findall(r"\buse ([\w.]+)\.\{([^}]*)\}", text):
+        for item in names.split(","):
+            words = item.split(" as ")
+            if words[0].strip():
+                found[words[-1].strip()] = (path, words[0].strip())
+    return found
+
+
+HEAD = re.compile(r"^(?:abbrev |unfoldable )?(?:pub )?(?:abbrev |unfoldable )?(?:(record|data|syntax|ruleset|axiom) )?(\S+)(?=[^\n]*:)")
+
+
+def flat_lines(path):
+    """Returns the lines of a file; what is within a module of parameters or a mutual block stands as if it were alone."""
+    opened = []  # the indents of the blocks that are open
+    with open(path, encoding="utf-8") as file:
+        for line in file.read().split("\n"):
+            indent = len(line) - len(line.lstrip())
+            while line.strip() and opened and indent <= opened[-1]:
+                opened.pop()
+            if re.match(r"\s*(module _ .*where|(abbrev |unfoldable )?mutual)$", line) and indent == 2 * len(opened):
+                opened.append(indent)
+                yield ""
+            else:
+                yield line[2 * len(opened) :] if line.startswith("  " * len(opened)) else line
+
+
+@functools.lru_cache(None)
+def definitions_in(path):
+    """Returns the definitions of a file by their names, each with its text and the line of comment above it. What a data type's
+    constructors are called leads to the type."""
+    found, name, comment = {}, None, ""
+    for line in flat_lines(path):
+        if line.startswith("--"):
+            comment = (comment + " " + line.lstrip("- ")).strip() if comment and name is None else line.lstrip("- ")
+            name = None
+            continue
+        if not line.strip():
+            name, comment = None, ""
+            continue
+        if not line[0].isspace() and not line.startswith(("use ", "pub mod ", "mod ", "pub use ", "module ")):
+            head = HEAD.match(line)
+            if line.split()[0] in found:
+                name = line.split()[0]
+            elif head:
+                name = head[2]
+                found.setdefault(name, [head[1] or "value", "", comment])
+            comment = ""
+        if name:
+            found[name][1] += without_comments(line) + "\n"
+    for name, (kind, text, comment) in list(found.items()):
+        if kind == "data":
+            for each in re.findall(r"(?m)^  (\S+) :", text):
+                found.setdefault(each, ["constructor", name, comment])
+    return found
+
+
+def file_of(path):
+    """Returns the file of a module path as Rattle.grep_core.specs.Report, or None where that is the logic's own."""
+    parts = path.split(".")
+    if parts[0] != "Rattle" or len(parts) < 4 or parts[2] != "specs" or parts[3] == "declared":
+        return None
+    name = f"{library(parts[1])}/specs/{'/'.join(parts[3:])}.antt"
+    return name if os.path.isfile(name) else None
+
+
+def contract_of(crate, module, function, clauses=()):
+    """Returns the text of a function's contract, or of these clauses of it, and the text of its file."""
+    with open(f"{TOP}/crates/{crate}/src/{module}.rt", encoding="utf-8") as file:
+        text = file.read()
+    tried = [re.search(rf"(?m)^( *)pub fn {name}\b(.*?)^\1\{{$", text, re.S) for name in function.split("|")]
+    found = next((it for it in tried if it), None)
+    if not found:
+        raise LookupError(f"crates/{crate}/src/{module}.rt has no public function {function}")
+    parts = re.split(r"(?m)^\s*(?:ensures|requires)\b\s*", found[2])[1:]
+    if clauses:
+        parts = [it for it in parts if it.split()[0] in clauses]
+        if len(parts) != len(clauses):
+            raise LookupError(f"{function} in crates/{crate}/src/{module}.rt hasn't each of the clauses {', '.join(clauses)}")
+    return "\n".join(parts), text
+
+
+def fold(functions):
+    """Returns the definitions on which the contracts of these functions rest, and the words of `std` and of code that end the search.
+    Each function is a crate, a module, a name, and the names of its clauses, if only these are meant."""
+    reached, ends, queue = {}, set(), []
+    for each in functions:
+        text, whole = contract_of(*each)
+        queue.append((text, imports_of(without_comments(whole)), None))
+    while queue:
+        text, names, path = queue.pop(0)
+        own = definitions_in(path) if path else {}
+        operators = [it for it in [*names, *own] if "◌" in it and it.replace("◌", "") in text]
+        for word in dict.fromkeys([*NAME.findall(text), *operators]):
+            if word in names:
+                module_path, name = names[word]
+                file = file_of(module_path)
+                if module_path.startswith("Rattle.std.") or file is None:
+                    ends.add((module_path, name))
+                    continue
+            elif word in own:
+                file, name = path, word
+            else:
+                continue
+            found = definitions_in(file).get(name)
+            if found and found[0] == "constructor":
+                name = found[1]
+                found = definitions_in(file)[name]
+            if found is None:
+                ends.add((module_path if word in names else path, name))
+                continue
+            key = (file, name)
+            if key in reached:
+                continue
+            reached[key] = found
+            with open(file, encoding="utf-8") as source:
+                queue.append((found[1], imports_of(without_comments(source.read())), file))
+    return reached, ends
+
+
+def where(file):
+    """Returns the library and the file below its folder."""
+    base = TOP + "/crates/" if file.startswith(TOP + "/crates/") else kit() + "/"
+    name, _, rest = file[len(base) :].partition("/specs/")
+    return name, rest
+
+
+def main():
+    if len(sys.argv) < 4:
+        sys.exit(__doc__)
+    try:
+        reached, ends = fold([(*sys.argv[1:4], tuple(sys.argv[4:]))])
+    except LookupError as error:
+        sys.exit(f"definitions: {error}")
+    for file, name in reached:
+        library_name, inside = where(file)
+        print(f"{library_name} {inside} {name}: {reached[file, name][2]}")
+    print(f"{len(reached)} definitions; {len(ends)} words of std and of code", file=sys.stderr)
+
+
+if __name__ == "__main__":
+    sys.exit(main())
