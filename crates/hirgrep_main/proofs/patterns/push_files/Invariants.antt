@@ -5,4 +5,4 @@ use Rattle.hirgrep_main.proofs.patterns.push_files.Given as goal
 
 abbrev pub invariant-loop-name : goal.invariant-loop-name
 invariant-loop-name l = (texts : List (List ℕ)) × (length texts ≡ l.name-index)
-    × (map string_bytes l.patterns.items ≡ map string_bytes l.initial.patterns.items ++ flat_map (patterns_of_file l.asked.now.how.crlf) texts)
+    × (map string_bytes l.patterns.items ≡ map string_bytes l.initial.patterns.items ++ flat_map (patterns_of_file l.asked.how.crlf) texts)
