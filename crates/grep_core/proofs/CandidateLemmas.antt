@@ -42,7 +42,7 @@ use Rattle.grep_core.specs.Candidates.{BlockRegex, IsCandidatesOf, IsLineStart, 
 use Rattle.grep_core.specs.Candidates.{StopsInLine}
 use Rattle.grep_core.specs.Candidates.IsStop.{least_end, quit_byte}
 use Rattle.grep_core.specs.Lines.{ended, searched, split_lines}
-use Rattle.grep_core.specs.Patterns.{matches_in}
+use Rattle.grep_core.specs.Patterns.{has_match_in}
 use Rattle.grep_core.specs.Searchers.{line_settings}
 use Rattle.grep_core.proofs.BoundedTreeLemmas.{starts_of}
 use Rattle.grep_core.proofs.BlockLemmas.{is_feed, first_at, first_within, one_more, some_at}
@@ -61,7 +61,7 @@ HasNone xs line = (p : ℕ) (x : Tree) (i j : ℕ) → slice_get xs p ≡ Some x
 
 -- then the line has no match
 no_match : (how : How) (texts : List (List ℕ)) (xs : List Tree) (res : List Re) (line : List ℕ) → AreTreesOf how texts xs →
-    AreReadAs (line_config how) texts res → All (λ b. b < 256) line → HasNone xs line → matches_in how res line ≡ false
+    AreReadAs (line_config how) texts res → All (λ b. b < 256) line → HasNone xs line → has_match_in how res line ≡ false
 no_match how texts xs res line mean read bytes none =
     let nothing : option_map (λ m. m.start) (find (line_pattern how res) line 0) ≡ option_map (λ (f : Found). f.start) None =
     (starts_of how texts xs mean res read).loose line 0 (is_search xs line bytes) None (λ i p j starts it.
@@ -195,7 +195,7 @@ no_answer xs line (Some f) loose none = cc
 has_of : (how : How) (texts : List (List ℕ)) (xs : List Tree) (res : List Re) (line : List ℕ) → AreTreesOf how texts xs →
     AreReadAs (line_config how) texts res → All (λ b. b < 256) line → (p : ℕ) (x : Tree) (i j : ℕ) → slice_get xs p ≡ Some x →
     i ≤ length line → j ≤ length line →
-    Means (line_looks is_word_char line) line x i j → (has : Bool) → matches_in how res line ≡ has → true ≡ matches_in how res line
+    Means (line_looks is_word_char line) line x i j → (has : Bool) → has_match_in how res line ≡ has → true ≡ has_match_in how res line
 has_of how texts xs res line mean read bytes p x i j listed low high means true is = sym is
 has_of how texts xs res line mean read bytes p x i j listed low high means false is =
     let none : is_some (answer_from (whole_query false xs line) 0) ≡ false =
@@ -299,8 +299,8 @@ match_here how texts p block at start place it lone bytes starts inside end from
     (All-left (λ b. b < 256) (take len text) (drop len text)
     (All-right (λ b. b < 256) (take start block) _ (subst (All (λ b. b < 256)) whole bytes)))
     end.0 y.0 (end.1.start - start) (place - start) y.1 (omega (arith, forward, short)) short means
-    (matches_in how res (take len text)) refl
-    ∙ sym (ap (λ v. matches_in how res (searched v (ended (take len text)))) lone)
+    (has_match_in how res (take len text)) refl
+    ∙ sym (ap (λ v. has_match_in how res (searched v (ended (take len text)))) lone)
 
 -- a span without line feeds that ends in a line starts there
 starts_here : (xs : List Tree) (block : List ℕ) (at start place : ℕ) → All (λ x. reads_feed x ≡ false) xs →

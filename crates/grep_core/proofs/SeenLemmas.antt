@@ -13,7 +13,7 @@ use Rattle.grep_core.specs.Meant.{line_config}
 use Rattle.grep_core.specs.declared.patterns.How.{How}
 use Rattle.grep_core.specs.declared.what.What.{What}
 use Rattle.grep_core.specs.Lines.{SplitLine, searched, split_lines}
-use Rattle.grep_core.specs.Patterns.{finds_of, matches_in, spans_in}
+use Rattle.grep_core.specs.Patterns.{finds_of, has_match_in, spans_in}
 use Rattle.grep_core.specs.Report.{is_some_text}
 use Rattle.grep_core.specs.Candidates.{HaveNoMatch}
 use Rattle.grep_core.specs.Searchers.{AreTold, IsMatchTold, Sought, IsSearcherOf, SearchesFor, found_by}
@@ -68,7 +68,7 @@ moved_by {p} {q} {spans} same by = record {
 
 -- what is told of some bytes, for what is sought
 pub told_by : (s : Sought) (spans : Bool) (by : SearchesFor s spans) (line : List ℕ) (told : Bool) → IsMatchTold s.how s.texts line told →
-    told ≡ matches_in by.how by.patterns line
+    told ≡ has_match_in by.how by.patterns line
 told_by s spans by line told match =
     subst (λ (h : How). IsMatchTold h s.texts line told) (sym by.same) match by.patterns by.are_read
 

@@ -10,8 +10,8 @@ use Rattle.grep_core.specs.Report.{LineMatcher}
 use Rattle.grep_core.specs.declared.patterns.How.{How}
 
 -- whether some bytes have a match
-abbrev pub matches_in : How → List Re → List ℕ → Bool
-matches_in how res bytes = is_some (find (line_pattern how res) bytes 0)
+abbrev pub has_match_in : How → List Re → List ℕ → Bool
+has_match_in how res bytes = is_some (find (line_pattern how res) bytes 0)
 
 -- the spans of all their matches, from left to right
 abbrev pub spans_in : How → List Re → List ℕ → List (ℕ × ℕ)
@@ -20,6 +20,6 @@ spans_in how res bytes = map span_of_match (find_all (line_pattern how res) byte
 -- A line is searched as `searched` has it, so with `crlf` without the carriage return right before its line feed.
 abbrev pub finds_of : How → List Re → LineMatcher
 finds_of how res = record {
-  has_match = λ line. matches_in how res (searched how.crlf line);
+  has_match = λ line. has_match_in how res (searched how.crlf line);
   spans = λ line. spans_in how res (searched how.crlf line);
 }

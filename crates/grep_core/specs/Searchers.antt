@@ -19,7 +19,7 @@ use Rattle.grep_core.specs.declared.patterns.How.{How}
 use Rattle.grep_core.specs.declared.searcher.SearcherError.{SearcherError}
 use Rattle.grep_core.specs.declared.searcher.SearcherError.TheVariants.{Text, EmptyLoop, Build}
 use Rattle.grep_core.specs.Report.{LineMatcher, is_some_text}
-use Rattle.grep_core.specs.Patterns.{finds_of, matches_in, spans_in}
+use Rattle.grep_core.specs.Patterns.{finds_of, has_match_in, spans_in}
 
 -- lines are any bytes
 abbrev pub line_settings : Settings
@@ -38,7 +38,7 @@ pub record IsSearcherOf (how : How) (texts : List (List ℕ)) (p : Pair) : Type 
 
 -- whether the line has a match is told as what the texts are read as has it
 abbrev pub IsMatchTold : How → List (List ℕ) → List ℕ → Bool → Type 0
-IsMatchTold how texts line told = (res : List Re) → AreReadAs (line_config how) texts res → told ≡ matches_in how res line
+IsMatchTold how texts line told = (res : List Re) → AreReadAs (line_config how) texts res → told ≡ has_match_in how res line
 
 -- the matches of the line that aren't empty are told as what the texts are read as has them
 abbrev pub AreTold : How → List (List ℕ) → List ℕ → List (ℕ × ℕ) → Type 0

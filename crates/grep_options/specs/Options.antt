@@ -1,11 +1,11 @@
 -- What the matches of a command line hold for an option, by its name.
-use Rattle.std.specs.Prelude.{ℕ, ◌^◌, ℤ, pos, negsuc, Bool, true, false, ◌&&◌, nat_lt, List, [], length, codes}
+use Rattle.std.specs.Prelude.{ℕ, ◌^◌, ℤ, pos, negsuc, Bool, false, ◌&&◌, nat_lt, List, [], length, codes}
 use Rattle.std.specs.Prelude.{Option, Some, None, option_map, option_and_then, unwrap_or, if◌then◌else◌}
 use Rattle.std.specs.List.{list_all}
 use Rattle.std.specs.Str.{bytes_eq}
 use Rattle.std.specs.Str.Parse.{digits_value, signed_digits_value, without_leading_plus, without_leading_sign}
 use Rattle.std.specs.Char.{digit_value}
-use Rattle.clap.specs.Words.{first_value, matched_of, one_text, raw_values}
+use Rattle.clap.specs.Words.{matched_of, one_text, raw_values}
 use Rattle.clap.specs.declared.parser.matches.Found.{Found}
 
 -- ---- values

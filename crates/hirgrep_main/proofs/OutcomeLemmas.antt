@@ -1,5 +1,5 @@
 -- What came of files stays, whatever comes of the next ones.
-use Rattle.std.proofs.Common.{◌≡◌, ℕ, Bool, true, ◌||◌, ◌&&◌, nat_lt, cond, ap, sym, subst, refl}
+use Rattle.std.proofs.Common.{◌≡◌, ℕ, Bool, true, ◌||◌, ◌&&◌, nat_lt, ap, sym, subst, refl}
 use Rattle.std.specs.Prelude.{Result, Ok, Err}
 use Rattle.grep_core.specs.declared.fault.Fault.{Fault}
 use Rattle.grep_core.specs.declared.what.Print.{Print}

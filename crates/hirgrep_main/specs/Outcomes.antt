@@ -1,5 +1,5 @@
 -- What is kept of the files that were searched, and which status that gives.
-use Rattle.std.specs.Prelude.{◌≡◌, ℕ, ◌+◌, ◌-◌, ◌^◌, min, Bool, true, false, ◌&&◌, ◌||◌, nat_lt, Result, Ok, Err, if◌then◌else◌}
+use Rattle.std.specs.Prelude.{◌≡◌, ℕ, Bool, true, false, ◌&&◌, ◌||◌, nat_lt, Result, Ok, Err, if◌then◌else◌}
 use Rattle.grep_core.specs.declared.fault.Fault.{Fault}
 use Rattle.grep_core.specs.declared.fault.Fault.TheVariants.{Read, Write, NoMemory, TooLong, TooLarge}
 use Rattle.grep_core.specs.declared.known.Known.{Known}

@@ -11,7 +11,7 @@ use Rattle.thompson_nfa.proofs.ForCallers.{limit_alone_refuses}
 use Rattle.lazy_dfa.specs.Quits.{has_high_bytes}
 use Rattle.lazy_dfa.specs.ConfigValue.{by_hand}
 use Rattle.lazy_dfa.specs.declared.build_error.BuildError.{BuildError}
-use Rattle.lazy_dfa.specs.declared.build_error.BuildError.TheVariants.{NFA, NoMemory}
+use Rattle.lazy_dfa.specs.declared.build_error.BuildError.TheVariants.{NFA, NoMemory, Unsupported}
 use Rattle.hirscan.specs.declared.line.Setup.{Setup}
 use Rattle.hirscan.specs.declared.settings.Settings.{Settings}
 use Rattle.hirscan.specs.Built.{RefusesBuild, not_compiled, unsupported, too_small, no_memory, are_unsupported, compile_options}
@@ -51,5 +51,17 @@ module _ (setup : Setup) (xs : List Tree) (few : length xs ≤ greatest_index + 
       RefusesBuild ys s e → AreTooLarge setup xs
   too_large ys s e x patterns settings is refused =
       by_cause x (refused_for (NFA x)
+      (subst (λ (v : BuildError). RefusesBuild xs (program_settings setup.settings) v) is
+      (subst (λ (t : Settings). RefusesBuild xs t e) settings (subst (λ (zs : List Tree). RefusesBuild zs s e) patterns refused))))
+
+  not_unsupported : IsRefusedFor setup xs Unsupported → ⊥
+  not_unsupported (inl is) = cc
+  not_unsupported (inr both) = cc
+
+  -- and for no other cause
+  pub never_refused_so : (ys : List Tree) (s : Settings) (e : BuildError) → ys ≡ xs → s ≡ program_settings setup.settings →
+      e ≡ Unsupported → RefusesBuild ys s e → ⊥
+  never_refused_so ys s e patterns settings is refused =
+      not_unsupported (refused_for Unsupported
       (subst (λ (v : BuildError). RefusesBuild xs (program_settings setup.settings) v) is
       (subst (λ (t : Settings). RefusesBuild xs t e) settings (subst (λ (zs : List Tree). RefusesBuild zs s e) patterns refused))))

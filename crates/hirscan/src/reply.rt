@@ -136,11 +136,10 @@ fn regex_of(alloc: Global, head: &Head) -> Result<Option<Regex>, AllocError>
         Ok(regex) => Ok(Some(regex)),
         Err(BuildError::NFA { .. }) => Ok(None),
         Err(BuildError::NoMemory) => Err(AllocError),
-        Err(
-            BuildError::InsufficientCacheCapacity { .. }
-            | BuildError::InsufficientStateIDCapacity
-            | BuildError::Unsupported,
-        ) => unreachable!(), // the program's settings rule them out
+        // no build has this error, and the program's settings rule out the others
+        Err(BuildError::InsufficientStateIDCapacity) => unreachable!(),
+        Err(BuildError::InsufficientCacheCapacity { .. }) => unreachable!(),
+        Err(BuildError::Unsupported) => unreachable!(),
     }
 }
 

@@ -1,4 +1,4 @@
-ghost use Rattle.std.specs.Prelude.{◌≡◌, ◌+◌, ◌≤◌, ◌++◌, ◌∷◌, [], ℕ, suc, Bool, List, Option, None, length, false};
+ghost use Rattle.std.specs.Prelude.{◌≡◌, ◌+◌, ◌≤◌, ◌++◌, ◌∷◌, [], ℕ, suc, Bool, List, Option, None, length, false, true};
 ghost use Rattle.determinize_core.specs.StateBytes.{encoded};
 ghost use Rattle.determinize_core.specs.States.{StateValue};
 ghost use Rattle.search_types.specs.Inputs.{Search};
@@ -8,9 +8,10 @@ ghost use Rattle.nfa_core.specs.Nfa.{Automaton};
 ghost use Rattle.nfa_core.specs.Places.{same_pair};
 ghost use Rattle.nfa_core.specs.Walks.{HasNoneTwice};
 ghost use Rattle.lazy_dfa.specs.Accounting.{Measures, fresh_usage, state_cost, measured_usage};
-ghost use Rattle.lazy_dfa.specs.Caches.{CacheValue, HeldAt, IsCacheOf, greatest};
+ghost use Rattle.lazy_dfa.specs.Caches.{CacheValue, HeldAt, IsCacheOf, greatest, lacks_room};
 ghost use Rattle.lazy_dfa.specs.Changes.{Changes, IsMadeBy};
 ghost use Rattle.lazy_dfa.specs.Dfas.{Dfa};
+ghost use Rattle.lazy_dfa.specs.LeftTold.{HasRowOf};
 ghost use Rattle.lazy_dfa.specs.PassLaws.{pass_len};
 ghost use Rattle.lazy_dfa.specs.Passes.{pass, start_name};
 ghost use Rattle.lazy_dfa.specs.Quits.{has_unicode_word, quit_bytes};
@@ -28,6 +29,7 @@ use lazy_dfa::dfa::{Cache, Config};
 use lazy_dfa::pass_laws::passes_read_one_unit_more_at_most;
 use lazy_dfa::quit_laws::quit_bytes_are_set_by_hand_or_high;
 use lazy_dfa::reach_laws::passes_depend_on_their_reach;
+use lazy_dfa::room_laws::held_states_have_room;
 use lazy_dfa::scan_laws::scans_for_no_pattern_find_nothing;
 use lazy_dfa::walk_laws::walks_for_all_tell_each_end_once;
 use nfa_core::NFA;
@@ -59,6 +61,12 @@ pub fn few_clears()
 
 pub fn least_capacity(nfa: &NFA) -> Result<usize, BuildError> {
     Config::new().get_minimum_cache_capacity(nfa)
+}
+
+pub fn a_state_that_is_held_has_room()
+    ensures { (d : Dfa) (v : CacheValue) (s : StateValue) → HasRowOf v s → lacks_room d v s ≡ true → ⊥ }
+{
+    held_states_have_room();
 }
 
 pub fn passes_come_to_an_end()

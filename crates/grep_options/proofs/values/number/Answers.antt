@@ -1,4 +1,3 @@
-use Rattle.std.proofs.Common.{List, ℕ}
 use Rattle.std.specs.Str.Parse.{ParsesUnsigned, ExplainsUnsignedError, HasUnsignedDigitsIfOk}
 use Rattle.grep_options.proofs.ReadValues.{number_reads}
 use Rattle.grep_options.proofs.values.number.Goals as goal
