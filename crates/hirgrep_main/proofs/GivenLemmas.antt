@@ -1,13 +1,12 @@
 -- Patterns that are appended text after text.
-use Rattle.std.proofs.Common.{◌≡◌, ◌≢◌, ◌∙◌, ◌==◌, ℕ, ◌+◌, Bool, true, false, List, [], ◌∷◌, ◌++◌, length, map, ap, cond, sym, refl, append_assoc, arith}
+use Rattle.std.proofs.Common.{◌≡◌, ◌≢◌, ◌∙◌, ◌==◌, ℕ, ◌+◌, Bool, true, false, List, [], ◌∷◌, ◌++◌, length, ap, cond, sym, refl, append_assoc, arith}
 use Rattle.std.proofs.lemmas.Bool.Decides.{nat_tests}
 use Rattle.std.specs.Prelude.{MatchOption, Option, Some, None, unwrap_or}
 use Rattle.std.specs.Borrow.{Bor}
 use Rattle.std.specs.List.{flat_map}
 use Rattle.std.proofs.lemmas.List.{append-nil, length_push}
 use Rattle.std.proofs.lemmas.Grind.{flat_map-append}
-use Rattle.grep_core.specs.Lines.{without_return}
-use Rattle.hirgrep_main.specs.Given.{patterns_of_file, lines_as_patterns, pattern_in, without_last_feed}
+use Rattle.hirgrep_main.specs.Given.{patterns_of_file, file_lines, lines_as_patterns, without_last_feed}
 
 -- ---- the last line feed
 
@@ -34,39 +33,15 @@ stripped : (bs : List ℕ) (r : Option (Bor (List ℕ))) (whole : Bor (List ℕ)
 stripped bs (Some x) whole is_whole h = sym (ap without_last_feed h ∙ feed_stripped x.now)
 stripped bs None whole is_whole h = is_whole ∙ sym (no_feed bs h)
 
-some_lines : (crlf : Bool) (bs : List ℕ) → (length bs == 0) ≡ false →
-    patterns_of_file crlf bs ≡ map (pattern_in crlf) (lines_as_patterns (without_last_feed bs))
-some_lines crlf [] e = cc
-some_lines crlf (b ∷ more) e = refl
+some_lines : (bs : List ℕ) → (length bs == 0) ≡ false → file_lines bs ≡ lines_as_patterns (without_last_feed bs)
+some_lines [] e = cc
+some_lines (b ∷ more) e = refl
 
-pub text_lines : (crlf : Bool) (bs : List ℕ) (r : Option (Bor (List ℕ))) (whole got : Bor (List ℕ)) → got ≡ unwrap_or r whole → whole.now ≡ bs
+pub text_lines : (bs : List ℕ) (r : Option (Bor (List ℕ))) (whole got : Bor (List ℕ)) → got ≡ unwrap_or r whole → whole.now ≡ bs
     → MatchOption r ((front : List ℕ) → bs ≢ front ++ 10 ∷ []) (λ x. bs ≡ x.now ++ 10 ∷ [])
-    → (length bs == 0) ≡ false → map (pattern_in crlf) (lines_as_patterns got.now) ≡ patterns_of_file crlf bs
-text_lines crlf bs r whole got is_got is_whole h some =
-    ap (λ ls. map (pattern_in crlf) (lines_as_patterns ls)) (ap (λ (x : Bor (List ℕ)). x.now) is_got ∙ stripped bs r whole is_whole h)
-    ∙ sym (some_lines crlf bs some)
-
--- ---- a carriage return at the end of a line
-return_stripped : (front : List ℕ) → without_return (front ++ 13 ∷ []) ≡ front
-return_stripped [] = refl
-return_stripped (a ∷ []) = refl
-return_stripped (a ∷ b ∷ more) = ap (λ xs. a ∷ xs) (return_stripped (b ∷ more))
-
-no_return : (bs : List ℕ) → ((front : List ℕ) → bs ≢ front ++ 13 ∷ []) → without_return bs ≡ bs
-no_return [] h = refl
-no_return (b ∷ []) h = go (b == 13) refl
-  where
-    go : (t : Bool) → (b == 13) ≡ t → cond (b == 13) [] (b ∷ []) ≡ b ∷ []
-    go true e = absurd (h [] (ap (λ x. x ∷ []) (same_byte b 13 e)))
-    go false e = ap (λ t. cond t [] (b ∷ [])) e
-no_return (b ∷ c ∷ more) h = ap (λ xs. b ∷ xs) (no_return (c ∷ more) (λ front e. h (b ∷ front) (ap (λ xs. b ∷ xs) e)))
-
-pub return_cut : (bs : List ℕ) (r : Option (Bor (List ℕ))) (whole got : Bor (List ℕ)) → got ≡ unwrap_or r whole → whole.now ≡ bs
-    → MatchOption r ((front : List ℕ) → bs ≢ front ++ 13 ∷ []) (λ x. bs ≡ x.now ++ 13 ∷ []) → got.now ≡ without_return bs
-return_cut bs (Some x) whole got is_got is_whole h =
-    ap (λ (y : Bor (List ℕ)). y.now) is_got ∙ sym (ap without_return h ∙ return_stripped x.now)
-return_cut bs None whole got is_got is_whole h =
-    ap (λ (y : Bor (List ℕ)). y.now) is_got ∙ is_whole ∙ sym (no_return bs h)
+    → (length bs == 0) ≡ false → lines_as_patterns got.now ≡ file_lines bs
+text_lines bs r whole got is_got is_whole h some =
+    ap lines_as_patterns (ap (λ (x : Bor (List ℕ)). x.now) is_got ∙ stripped bs r whole is_whole h) ∙ sym (some_lines bs some)
 
 -- ---- file after file
 
@@ -76,7 +51,8 @@ AreOfFiles crlf old new k = (texts : List (List ℕ)) × (length texts ≡ k) ×
 one_text : (crlf : Bool) (text : List ℕ) → flat_map (patterns_of_file crlf) (text ∷ []) ≡ patterns_of_file crlf text
 one_text crlf text = append-nil (patterns_of_file crlf text)
 
-pub files_on : (crlf : Bool) (old now new : List (List ℕ)) (k : ℕ) (text : List ℕ) → AreOfFiles crlf old now k → new ≡ now ++ patterns_of_file crlf text
+pub files_on : (crlf : Bool) (old now new : List (List ℕ)) (k : ℕ) (text : List ℕ) → AreOfFiles crlf old now k
+    → new ≡ now ++ patterns_of_file crlf text
     → AreOfFiles crlf old new (k + 1)
 files_on crlf old now new k text (texts, count, e) f =
     let all : flat_map (patterns_of_file crlf) texts ++ patterns_of_file crlf text ≡ flat_map (patterns_of_file crlf) (texts ++ text ∷ []) =

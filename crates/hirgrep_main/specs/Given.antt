@@ -1,9 +1,9 @@
 -- The patterns and the files that a command line gives.
-use Rattle.std.specs.Prelude.{◌≡◌, ℕ, ◌==◌, Bool, ◌||◌, List, [], ◌∷◌, ◌++◌, length, map, codes, is_some, if◌then◌else◌}
+use Rattle.std.specs.Prelude.{◌≡◌, ℕ, ◌==◌, Bool, ◌||◌, List, [], ◌∷◌, ◌++◌, length, codes, is_some, if◌then◌else◌}
 use Rattle.std.specs.List.{flat_map, slice_split}
+use Rattle.std.specs.Str.Lines.{lines}
 use Rattle.clap.specs.Words.{matched_of}
 use Rattle.clap.specs.declared.parser.matches.Found.{Found}
-use Rattle.grep_core.specs.Lines.{without_return}
 use Rattle.grep_options.specs.Options.{texts_given}
 
 -- the patterns in a text, one a line
@@ -15,14 +15,14 @@ without_last_feed [] = []
 without_last_feed (b ∷ []) = if b == 10 then [] else b ∷ []
 without_last_feed (b ∷ c ∷ more) = b ∷ without_last_feed (c ∷ more)
 
--- a line of a file of patterns: with `crlf` without the carriage return at its end
-abbrev pub pattern_in : Bool → List ℕ → List ℕ
-pattern_in crlf line = if crlf then without_return line else line
+-- the lines of a file: its last line feed begins none, and an empty file has none
+abbrev pub file_lines : List ℕ → List (List ℕ)
+file_lines [] = []
+file_lines (b ∷ more) = lines_as_patterns (without_last_feed (b ∷ more))
 
--- the patterns in a file: its last line feed begins no pattern, and an empty file gives none
+-- the patterns in a file: with `crlf` a line feed takes one carriage return right before it along
 abbrev pub patterns_of_file : Bool → List ℕ → List (List ℕ)
-patterns_of_file crlf [] = []
-patterns_of_file crlf (b ∷ more) = map (pattern_in crlf) (lines_as_patterns (without_last_feed (b ∷ more)))
+patterns_of_file crlf text = if crlf then lines text else file_lines text
 
 -- -e or -f was given, so that all words are files
 abbrev pub gives_patterns : Found → Bool

@@ -1,8 +1,9 @@
 //! The patterns that options give.
 ghost use Rattle.std.specs.Prelude.{◌≡◌, ◌++◌, ◌∷◌, [], ℕ, List, IfOk, IfSome, IsTrue, OnOk, length, map, string_bytes};
 ghost use Rattle.std.specs.List.{flat_map};
+ghost use Rattle.std.specs.Str.Lines.{lines};
 ghost use Rattle.clap.specs.Words.{found_of};
-ghost use Rattle.hirgrep_main.specs.Given.{ArePatterns, patterns_of_file, gives_patterns, lines_as_patterns, pattern_in};
+ghost use Rattle.hirgrep_main.specs.Given.{ArePatterns, patterns_of_file, gives_patterns, lines_as_patterns};
 
 use crate::asked::Asked;
 use crate::input::input;
@@ -38,28 +39,13 @@ pub fn lines_of(alloc: Global, text: &str) -> Result<Vec<String>, AllocError>
     Ok(patterns)
 }
 
-/// A line of a file of patterns. With `crlf` it loses the carriage return at its end.
-fn pattern_in(crlf: bool, line: &str) -> &str
-    ensures { result.now ≡ pattern_in crlf line.now }
+/// Appends the patterns in a file of this text whose lines end as Windows has them: each without its line feed and one carriage return
+/// right before that.
+fn push_file_lines(alloc: Global, patterns: &mut Vec<String>, text: &str) -> Result<(), AllocError>
+    ensures { OnOk result (map string_bytes patterns.new.items ≡ map string_bytes patterns.old.items ++ lines text.now) }
 {
-    if !crlf {
-        return line;
-    }
-    line.strip_suffix('\r').unwrap_or(line)
-}
-
-/// Appends the patterns in the lines of a file.
-fn push_file_lines(
-    alloc: Global,
-    patterns: &mut Vec<String>,
-    crlf: bool,
-    lines: &str,
-) -> Result<(), AllocError>
-    ensures { OnOk result (map string_bytes patterns.new.items
-        ≡ map string_bytes patterns.old.items ++ map (pattern_in crlf) (lines_as_patterns lines.now)) }
-{
-    for line in lines.split('\n') {
-        push_line(alloc, patterns, pattern_in(crlf, line))?;
+    for line in text.lines() {
+        push_line(alloc, patterns, line)?;
     }
     Ok(())
 }
@@ -73,11 +59,14 @@ fn push_text(
 ) -> Result<(), AllocError>
     ensures { OnOk result (map string_bytes patterns.new.items ≡ map string_bytes patterns.old.items ++ patterns_of_file crlf text.now) }
 {
+    if crlf {
+        return push_file_lines(alloc, patterns, text);
+    }
     if text.is_empty() {
         return Ok(());
     }
     let lines = text.strip_suffix('\n').unwrap_or(text);
-    push_file_lines(alloc, patterns, crlf, lines)
+    push_lines(alloc, patterns, lines)
 }
 
 /// Appends the patterns that arguments give.

@@ -1,7 +1,6 @@
 use Rattle.std.proofs.Common.{◌≡◌, ◌++◌, map, string_bytes}
-use Rattle.hirgrep_main.specs.Given.{pattern_in}
 use Rattle.hirgrep_main.proofs.patterns.push_file_lines.Given as goal
 
 abbrev pub invariant-loop-line : goal.invariant-loop-line
 invariant-loop-line l =
-    map string_bytes l.patterns.items ≡ map string_bytes l.initial.patterns.items ++ map (pattern_in l.crlf) (map (λ x. x.now) l.yielded)
+    map string_bytes l.patterns.items ≡ map string_bytes l.initial.patterns.items ++ map (λ x. x.now) l.yielded
