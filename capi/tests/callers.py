@@ -44,11 +44,11 @@ def may_follow(pattern, haystack, row, last):
     """Whether a list may go on with this row, or end where it is None, after a match that ended at `last`; by Python's spans alone."""
     size, whole = len(haystack), re.compile(pattern.encode())
 
-    def starts_from(place):
-        return [i for i in range(place, size + 1) if any(whole.fullmatch(haystack, i, j) for j in range(i, size + 1))]
+    def starts_from(offset):
+        return [i for i in range(offset, size + 1) if any(whole.fullmatch(haystack, i, j) for j in range(i, size + 1))]
 
-    def is_first_from(place):
-        starts = starts_from(place)
+    def is_first_from(offset):
+        starts = starts_from(offset)
         if row is None:
             return not starts
         return bool(starts) and row[0] == starts[0] and bool(whole.fullmatch(haystack, *row))

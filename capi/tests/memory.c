@@ -125,10 +125,10 @@ static hanneddois_status which(hanneddois_regex *regex)
 typedef hanneddois_status call(hanneddois_regex *regex);
 
 /* With ample memory a call answers, and is never out of memory. It may be only where an allocation failed, and then the same call
-   answers when it is tried again. An allocation that fails may also be made up for, and the answer is the right one. */
+   succeeds when it is tried again. An allocation that fails may also be made up for, and the result is the right one. */
 static void each_fails(call *call, int is_new)
 {
-    size_t told = 0;
+    size_t reported = 0;
     for (size_t number = 1;; number++) {
         hanneddois_regex regex = HANNEDDOIS_EMPTY;
         start(0);
@@ -136,19 +136,19 @@ static void each_fails(call *call, int is_new)
             CHECK(make(&regex) == HANNEDDOIS_OK);
         start(number);
         hanneddois_status status = call(&regex);
-        size_t refused = failed;
-        CHECK(status == HANNEDDOIS_OK || (status == HANNEDDOIS_NO_MEMORY && refused == 1));
+        size_t failures = failed;
+        CHECK(status == HANNEDDOIS_OK || (status == HANNEDDOIS_NO_MEMORY && failures == 1));
         CHECK(error.status == status);
-        told += status == HANNEDDOIS_NO_MEMORY;
+        reported += status == HANNEDDOIS_NO_MEMORY;
         start(0);
         CHECK(call(&regex) == HANNEDDOIS_OK);
         CHECK(is_match(&regex) == HANNEDDOIS_OK);
         hanneddois_free(&regex);
         CHECK(held == 0);
-        if (refused == 0)
+        if (failures == 0)
             break;
     }
-    CHECK(told > 0);
+    CHECK(reported > 0);
 }
 
 /* A regex with each of its parts made: caches, the automaton of hanneddois_which, and the regexes that answer where automata give up. */
