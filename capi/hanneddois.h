@@ -15,8 +15,8 @@
  *         printf("%zu..%zu\n", match.start, match.end);
  *     hanneddois_free(&regex);
  *
- * Patterns are written in the syntax of the Rust crate regex. All offsets count bytes from 0; a place "end" is
- * the one behind the last byte.
+ * Patterns are written in the syntax of the Rust crate regex. All offsets count bytes from 0; an offset "end" is
+ * the one after the last byte.
  *
  * What a caller has to keep, in every call:
  *
@@ -69,9 +69,9 @@ enum {
     HANNEDDOIS_BAD_ARGUMENT = 2,
     /* An allocation failed. A search may be tried again. */
     HANNEDDOIS_NO_MEMORY = 3,
-    /* A pattern is no UTF-8: error.pattern is its number, error.start the place of the first faulty byte. */
+    /* A pattern is no UTF-8: error.pattern is its number, error.start the offset of the first faulty byte. */
     HANNEDDOIS_NOT_UTF8 = 4,
-    /* A text is no pattern: error.pattern is its number, error.start and error.end the place in it. */
+    /* A text is no pattern: error.pattern is its number, error.start and error.end the offsets in it. */
     HANNEDDOIS_NO_PATTERN = 5,
     /* A pattern nests deeper than it may: as HANNEDDOIS_NO_PATTERN. */
     HANNEDDOIS_NESTS_TOO_DEEP = 6,
@@ -82,7 +82,7 @@ enum {
     HANNEDDOIS_TOO_LARGE = 8,
     /* A cache may take fewer bytes than it needs: error.limit is how many it needs. */
     HANNEDDOIS_CAPACITY_TOO_SMALL = 9,
-    /* The haystack of a regex that is made with HANNEDDOIS_UTF8 is no UTF-8: error.start is the place of the first
+    /* The haystack of a regex that is made with HANNEDDOIS_UTF8 is no UTF-8: error.start is the offset of the first
        faulty byte. */
     HANNEDDOIS_HAYSTACK_NOT_UTF8 = 12
 };
@@ -155,12 +155,12 @@ typedef struct hanneddois_options {
 } hanneddois_options;
 
 /*
- * Makes a regex of `count` patterns, which stand one behind the other in `texts`: the first has lengths[0] bytes, and
- * so on. The lengths have to sum up to texts_length; else, and where count is 0, the call is refused as
- * HANNEDDOIS_BAD_ARGUMENT. Of matches that start at the same place the one of the earlier pattern is preferred.
+ * Makes a regex of `count` patterns, which follow one another in `texts`: the first has lengths[0] bytes, and so on.
+ * If count is 0, or the lengths don't sum up to texts_length, the call returns HANNEDDOIS_BAD_ARGUMENT. Of matches that
+ * start at the same offset the one of the earlier pattern is preferred.
  *
- * Returns HANNEDDOIS_OK, and *regex is the new one; or a refusal, which *error tells too, and *regex is empty. What
- * stood in *regex before is freed in both cases; this is tested.
+ * Returns HANNEDDOIS_OK, and *regex is the new one; or an error, which *error describes, and *regex is empty. What
+ * *regex held before is freed in both cases; this is tested.
  */
 hanneddois_status hanneddois_new(
     hanneddois_regex *regex,
@@ -175,16 +175,16 @@ void hanneddois_free(hanneddois_regex *regex);
 /* How many patterns the regex has; 0 where it is empty. */
 size_t hanneddois_pattern_count(hanneddois_regex *regex);
 
-/* Whether there is a match in the haystack: HANNEDDOIS_OK, HANNEDDOIS_NONE, or a refusal. */
+/* Whether there is a match in the haystack: HANNEDDOIS_OK, HANNEDDOIS_NONE, or an error. */
 hanneddois_status hanneddois_is_match(
     hanneddois_regex *regex,
     const uint8_t *haystack, size_t haystack_length,
     hanneddois_error *error);
 
 /*
- * The leftmost match that starts at `from` or behind it, and of these the preferred one: HANNEDDOIS_OK and *match is
- * it, HANNEDDOIS_NONE, or a refusal. Looks, as ^ and \b, see what stands before `from`. A `from` above
- * haystack_length is refused as HANNEDDOIS_BAD_ARGUMENT. Where it isn't HANNEDDOIS_OK, *match is all 0.
+ * The leftmost match that starts at `from` or after it, and of these the preferred one: HANNEDDOIS_OK and *match is
+ * it, HANNEDDOIS_NONE, or an error. Looks, as ^ and \b, see the bytes before `from`. If `from` is above
+ * haystack_length, the call returns HANNEDDOIS_BAD_ARGUMENT. If it doesn't return HANNEDDOIS_OK, *match is all 0.
  */
 hanneddois_status hanneddois_find_at(
     hanneddois_regex *regex,
@@ -210,10 +210,10 @@ hanneddois_status hanneddois_find_all(
     hanneddois_error *error);
 
 /*
- * Which patterns match anywhere in the haystack, also where their matches overlap: writes 1 to matched[i] where
- * pattern i does, and 0 elsewhere, and to *count how many do: HANNEDDOIS_OK where some pattern matches,
- * HANNEDDOIS_NONE and a count of 0, or a refusal, where all is 0. matched_length has to be the number of patterns; else
- * it is HANNEDDOIS_BAD_ARGUMENT. The first call makes an automaton of its own for this.
+ * Which patterns match anywhere in the haystack, also if their matches overlap. Writes to matched[i] 1 if pattern i
+ * does, and else 0, and to *count how many do. Returns HANNEDDOIS_OK if a pattern matches, HANNEDDOIS_NONE and a count
+ * of 0, or an error, after which count and marks are 0. If matched_length isn't the number of patterns, the call returns
+ * HANNEDDOIS_BAD_ARGUMENT, and the count is 0. The first call makes an automaton of its own for this.
  */
 hanneddois_status hanneddois_which(
     hanneddois_regex *regex,
@@ -222,8 +222,8 @@ hanneddois_status hanneddois_which(
     size_t *count,
     hanneddois_error *error);
 
-/* Words for an error: writes as many of their bytes as fit into `text`, without a 0 behind them, and returns how many
-   there are. They are ASCII, and name no place or number. */
+/* Words for an error: writes as many of their bytes as fit into `text`, without a 0 after them, and returns how many
+   there are. They are ASCII, and name no offset or number. */
 size_t hanneddois_error_text(const hanneddois_error *error, uint8_t *text, size_t text_length);
 
 /* How many bytes the caches of the regex are taken to need now; 0 where it is empty. */
