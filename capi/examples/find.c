@@ -12,7 +12,7 @@ static int tell(const char *pattern, const hanneddois_error *error)
     if (length > sizeof words)
         length = sizeof words;
     fprintf(stderr, "find: %.*s\n", (int)length, (const char *)words);
-    if (error->status == HANNEDDOIS_NO_PATTERN)
+    if (error->status == HANNEDDOIS_SYNTAX_ERROR)
         fprintf(stderr, "    %s\n    %*s^\n", pattern, (int)error->start, "");
     return 2;
 }

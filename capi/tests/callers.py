@@ -1,4 +1,4 @@
-"""Runs the callers of the library in C, Rust and Python on the same inputs, and compares them with Python's re."""
+"""Runs the callers of the library in C, C++, Rust and Python on the same inputs, and compares them with Python's re."""
 
 import os
 import pathlib
@@ -85,7 +85,7 @@ def main():
             failed += 1
             print(f"callers: {what}: {found} rather than {wanted}")
 
-    programs = [name for name in ("find_c", "find_rs") if (out / name).exists()]
+    programs = [name for name in ("find_c", "find_cpp", "find_rs") if (out / name).exists()]
     for pattern in PATTERNS:
         for haystack in HAYSTACKS:
             wanted = step_by_step(by_re(pattern, haystack))
@@ -107,29 +107,32 @@ def main():
             check(f"python, {pattern} in {haystack}: {rows}", is_list(pattern, haystack, rows), True)
 
     regex = hanneddois.compile("é+", hanneddois.UTF8)
-    check("python, str", [tuple(match) for match in regex.find_iter("aééb")], [(0, 1, 5)])
+    check("python, str", [tuple(match) for match in regex.find_iter("aééb")], [(0, 1, 3)])
+    check("python, bytes", [tuple(match) for match in regex.find_iter("aééb".encode())], [(0, 1, 5)])
     check("python, several", [tuple(match) for match in hanneddois.Regex(["b+", "a"]).find_iter(b"abba")], [(1, 0, 1), (0, 1, 3), (1, 3, 4)])
     check("python, many", len(hanneddois.compile("a").find_all(b"ab" * 1000)), 1000)
-    check("python, which", hanneddois.Regex(["b+", "x", "ab", "^b", "$"]).which(b"abba"), [0, 2, 4])
-    check("python, which of none", hanneddois.Regex(["b", "c"]).which(b"aaa"), [])
+    check("python, matching patterns", hanneddois.Regex(["b+", "x", "ab", "^b", "$"]).matching_patterns(b"abba"), [0, 2, 4])
+    check("python, matching patterns of none", hanneddois.Regex(["b", "c"]).matching_patterns(b"aaa"), [])
     for haystack in HAYSTACKS:
         wanted = [number for number, pattern in enumerate(PATTERNS) if by_re(pattern, haystack)]
-        check(f"python, which in {haystack}", hanneddois.Regex(PATTERNS, hanneddois.NO_UNICODE).which(haystack), wanted)
-    # Python's words over str are Unicode's too; places are those of the characters there, and of bytes here.
+        check(f"python, matching patterns in {haystack}", hanneddois.Regex(PATTERNS, hanneddois.NO_UNICODE).matching_patterns(haystack), wanted)
+    # Python's words over str are Unicode's too; offsets are those of characters in a str, and of bytes in its UTF-8.
     for pattern in (r"\b\w+\b", r"\bk", r"k\b", r"\Bk"):
         for haystack in ("ék k", "k—k", "kék", "日k本 k", "k"):
-            places = [len(haystack[:place].encode()) for place in range(len(haystack) + 1)]
-            wanted = [(places[match.start()], places[match.end()]) for match in re.compile(pattern).finditer(haystack)]
+            wanted = [match.span() for match in re.compile(pattern).finditer(haystack)]
+            in_bytes = [tuple(len(haystack[:offset].encode()) for offset in span) for span in wanted]
             for flags in (0, hanneddois.UTF8):
-                found = [(match.start, match.end) for match in hanneddois.compile(pattern, flags).find_iter(haystack)]
-                check(f"python, {pattern} in {haystack}", found, wanted)
-                check(f"python, which of {pattern} in {haystack}", hanneddois.Regex([pattern, "z"], flags).which(haystack), [0] if wanted else [])
+                for searched, spans in ((haystack, wanted), (haystack.encode(), in_bytes)):
+                    found = [(match.start, match.end) for match in hanneddois.compile(pattern, flags).find_iter(searched)]
+                    check(f"python, {pattern} in {searched}", found, spans)
+                    marked = hanneddois.Regex([pattern, "z"], flags).matching_patterns(searched)
+                    check(f"python, matching patterns of {pattern} in {searched}", marked, [0] if spans else [])
     check("python, from a place", tuple(hanneddois.compile("^a|b").find(b"aab", 1)), (0, 2, 3))
     try:
         hanneddois.compile("[z-a]")
         check("python, a refusal", "none", "one")
     except hanneddois.Error as error:
-        check("python, a refusal", (error.status, error.start, error.end), (hanneddois.NO_PATTERN, 1, 4))
+        check("python, a refusal", (error.status, error.start, error.end), (hanneddois.SYNTAX_ERROR, 1, 4))
     print(f"callers: {compared} compared, {failed} failed, by {', '.join(['python', *programs])}")
     return 1 if failed else 0
 

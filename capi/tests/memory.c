@@ -114,7 +114,7 @@ static hanneddois_status which(hanneddois_regex *regex)
 {
     uint8_t matched[2] = {7, 7};
     size_t count = 7;
-    hanneddois_status status = hanneddois_which(regex, haystack, length, matched, 2, &count, &error);
+    hanneddois_status status = hanneddois_matching_patterns(regex, haystack, length, matched, 2, &count, &error);
     if (status == HANNEDDOIS_OK)
         CHECK(count == 1 && matched[0] == 1 && matched[1] == 0);
     else
@@ -151,7 +151,7 @@ static void each_fails(call *call, int is_new)
     CHECK(reported > 0);
 }
 
-/* A regex with each of its parts made: caches, the automaton of hanneddois_which, and the regexes that answer where automata give up. */
+/* A regex with each of its parts made: caches, the automaton of hanneddois_matching_patterns, and the regexes that answer where automata give up. */
 static void make_whole(hanneddois_regex *regex)
 {
     CHECK(make(regex) == HANNEDDOIS_OK);
@@ -184,7 +184,7 @@ static void replaced(void)
     CHECK(held == 0);
 
     make_whole(&regex);
-    CHECK(hanneddois_new(&regex, (const uint8_t *)"a(", 2, &two, 1, &options, &error) == HANNEDDOIS_NO_PATTERN);
+    CHECK(hanneddois_new(&regex, (const uint8_t *)"a(", 2, &two, 1, &options, &error) == HANNEDDOIS_SYNTAX_ERROR);
     CHECK(regex.inside == NULL && held == 0);
     make_whole(&regex);
     CHECK(hanneddois_new(&regex, (const uint8_t *)"a", 1, &two, 1, &options, &error) == HANNEDDOIS_BAD_ARGUMENT);

@@ -38,7 +38,7 @@ static void empty_handles(void)
     CHECK(hanneddois_find_at(&none, bytes("a"), 1, 0, &match, &error) == HANNEDDOIS_BAD_ARGUMENT);
     CHECK(match.pattern == 0 && match.start == 0 && match.end == 0);
     CHECK(hanneddois_find_all(&none, bytes("a"), 1, &match, 1, &count, &error) == HANNEDDOIS_BAD_ARGUMENT && count == 0);
-    CHECK(hanneddois_which(&none, bytes("a"), 1, matched, 1, &count, &error) == HANNEDDOIS_BAD_ARGUMENT && matched[0] == 0 && count == 0);
+    CHECK(hanneddois_matching_patterns(&none, bytes("a"), 1, matched, 1, &count, &error) == HANNEDDOIS_BAD_ARGUMENT && matched[0] == 0 && count == 0);
     CHECK(hanneddois_pattern_count(&none) == 0 && hanneddois_memory_usage(&none) == 0 && hanneddois_clear_count(&none) == 0);
     hanneddois_free(&none);
     hanneddois_free(&none);
@@ -49,7 +49,7 @@ static void refusals(void)
 {
     hanneddois_regex regex = HANNEDDOIS_EMPTY;
     hanneddois_options options = {0};
-    CHECK(make(&regex, "a(b", &options) == HANNEDDOIS_NO_PATTERN);
+    CHECK(make(&regex, "a(b", &options) == HANNEDDOIS_SYNTAX_ERROR);
     CHECK(regex.inside == NULL && error.pattern == 0 && error.start == 1 && error.end == 2);
     uint8_t words[100];
     size_t length = hanneddois_error_text(&error, words, sizeof words);
@@ -59,7 +59,7 @@ static void refusals(void)
     CHECK(hanneddois_error_text(&error, words, 0) == 14);
 
     size_t lengths[3] = {1, 2, 1};
-    CHECK(hanneddois_new(&regex, bytes("aa**"), 4, lengths, 3, &options, &error) == HANNEDDOIS_NO_PATTERN && error.pattern == 2);
+    CHECK(hanneddois_new(&regex, bytes("aa**"), 4, lengths, 3, &options, &error) == HANNEDDOIS_SYNTAX_ERROR && error.pattern == 2);
     CHECK(hanneddois_new(&regex, bytes("aa+b"), 4, lengths, 3, &options, &error) == HANNEDDOIS_OK);
     CHECK(hanneddois_pattern_count(&regex) == 3);
     CHECK(hanneddois_new(&regex, bytes("aa+b"), 4, lengths, 2, &options, &error) == HANNEDDOIS_BAD_ARGUMENT && regex.inside == NULL);
@@ -93,7 +93,7 @@ static void refusals(void)
     options.capacity = 1;
     CHECK(make(&regex, "[a-z]+", &options) == HANNEDDOIS_CAPACITY_TOO_SMALL && error.limit > 1);
     options.capacity = error.limit;
-    CHECK(make(&regex, "[a-z]+", &options) != HANNEDDOIS_NO_PATTERN);
+    CHECK(make(&regex, "[a-z]+", &options) != HANNEDDOIS_SYNTAX_ERROR);
     options.capacity = 1;
     options.flags = HANNEDDOIS_RAISE_CAPACITY;
     CHECK(make(&regex, "[a-z]{3,9}x", &options) == HANNEDDOIS_OK);
@@ -134,7 +134,7 @@ static void searches(void)
     CHECK(make(&regex, "^a|(?-u:\\xff)", &options) == HANNEDDOIS_OK);
     CHECK(hanneddois_find_at(&regex, bytes("ba\xff"), 3, 1, &match, &error) == HANNEDDOIS_OK && match.start == 2);
     options.flags = HANNEDDOIS_UTF8;
-    CHECK(make(&regex, "(?-u:\\xff)", &options) == HANNEDDOIS_NO_PATTERN);
+    CHECK(make(&regex, "(?-u:\\xff)", &options) == HANNEDDOIS_SYNTAX_ERROR);
     CHECK(make(&regex, ".", &options) == HANNEDDOIS_OK);
     CHECK(hanneddois_is_match(&regex, bytes("ab\xff"), 3, &error) == HANNEDDOIS_HAYSTACK_NOT_UTF8 && error.start == 2);
     CHECK(hanneddois_find_at(&regex, bytes("\xc3\xa9"), 2, 0, &match, &error) == HANNEDDOIS_OK && match.end == 2);
@@ -154,23 +154,23 @@ static void patterns(void)
 
     /* In "xab" both "ab" and "a" match, though the one overlaps with the other. */
     memset(matched, 7, sizeof matched);
-    CHECK(hanneddois_which(&regex, bytes("xab"), 3, matched, 3, &count, &error) == HANNEDDOIS_OK && count == 2);
+    CHECK(hanneddois_matching_patterns(&regex, bytes("xab"), 3, matched, 3, &count, &error) == HANNEDDOIS_OK && count == 2);
     CHECK(matched[0] == 1 && matched[1] == 1 && matched[2] == 0 && matched[3] == 7);
-    CHECK(hanneddois_which(&regex, bytes("cd"), 2, matched, 3, &count, &error) == HANNEDDOIS_OK && count == 1 && matched[2] == 1);
-    CHECK(hanneddois_which(&regex, bytes("xyz"), 3, matched, 3, &count, &error) == HANNEDDOIS_NONE && count == 0 && matched[2] == 0);
-    CHECK(hanneddois_which(&regex, bytes("cd"), 2, matched, 2, &count, &error) == HANNEDDOIS_BAD_ARGUMENT && count == 0 && matched[0] == 0);
-    CHECK(hanneddois_which(&regex, bytes("cd"), 2, matched, 4, &count, &error) == HANNEDDOIS_BAD_ARGUMENT && matched[3] == 0);
+    CHECK(hanneddois_matching_patterns(&regex, bytes("cd"), 2, matched, 3, &count, &error) == HANNEDDOIS_OK && count == 1 && matched[2] == 1);
+    CHECK(hanneddois_matching_patterns(&regex, bytes("xyz"), 3, matched, 3, &count, &error) == HANNEDDOIS_NONE && count == 0 && matched[2] == 0);
+    CHECK(hanneddois_matching_patterns(&regex, bytes("cd"), 2, matched, 2, &count, &error) == HANNEDDOIS_BAD_ARGUMENT && count == 0 && matched[0] == 0);
+    CHECK(hanneddois_matching_patterns(&regex, bytes("cd"), 2, matched, 4, &count, &error) == HANNEDDOIS_BAD_ARGUMENT && matched[3] == 0);
 
     /* Looks beside what isn't ASCII, an empty match at the end, and a pattern that never matches. */
-    options.flags = HANNEDDOIS_WHICH;
+    options.flags = HANNEDDOIS_MATCHING_PATTERNS;
     CHECK(hanneddois_new(&regex, bytes("\\bk$kkzzzzz"), 11, (size_t[]){3, 1, 2, 5}, 4, &options, &error) == HANNEDDOIS_OK);
-    CHECK(hanneddois_which(&regex, bytes("\xc3\xa9k"), 3, matched, 4, &count, &error) == HANNEDDOIS_OK && count == 1);
+    CHECK(hanneddois_matching_patterns(&regex, bytes("\xc3\xa9k"), 3, matched, 4, &count, &error) == HANNEDDOIS_OK && count == 1);
     CHECK(matched[0] == 0 && matched[1] == 1 && matched[2] == 0 && matched[3] == 0);
-    CHECK(hanneddois_which(&regex, bytes("\xe2\x80\x94kk"), 5, matched, 4, &count, &error) == HANNEDDOIS_OK && count == 3 && matched[0] == 1 && matched[2] == 1);
+    CHECK(hanneddois_matching_patterns(&regex, bytes("\xe2\x80\x94kk"), 5, matched, 4, &count, &error) == HANNEDDOIS_OK && count == 3 && matched[0] == 1 && matched[2] == 1);
     options.flags = HANNEDDOIS_UTF8;
     CHECK(hanneddois_new(&regex, bytes("a.b"), 3, (size_t[]){1, 1, 1}, 3, &options, &error) == HANNEDDOIS_OK);
-    CHECK(hanneddois_which(&regex, bytes("\xc3\xa9" "b"), 3, matched, 3, &count, &error) == HANNEDDOIS_OK && count == 2 && matched[0] == 0);
-    CHECK(hanneddois_which(&regex, bytes("a\xff"), 2, matched, 3, &count, &error) == HANNEDDOIS_HAYSTACK_NOT_UTF8 && error.start == 1 && matched[0] == 0);
+    CHECK(hanneddois_matching_patterns(&regex, bytes("\xc3\xa9" "b"), 3, matched, 3, &count, &error) == HANNEDDOIS_OK && count == 2 && matched[0] == 0);
+    CHECK(hanneddois_matching_patterns(&regex, bytes("a\xff"), 2, matched, 3, &count, &error) == HANNEDDOIS_HAYSTACK_NOT_UTF8 && error.start == 1 && matched[0] == 0);
     hanneddois_free(&regex);
 }
 

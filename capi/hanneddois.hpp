@@ -1,0 +1,596 @@
+/*
+ * hanneddois: regular expressions by a lazy DFA, for C++17. This header needs only hanneddois.h and the library.
+ *
+ *     hanneddois::regex regex("[0-9]+");
+ *     for (const hanneddois::match &found : regex.matches("7 and 42"))
+ *         std::cout << found.start() << ".." << found.end() << '\n';
+ *
+ * Patterns are written in the syntax of the Rust crate regex. A haystack is a std::string_view, and may have any bytes.
+ * All offsets count bytes from 0; an offset "end" is the one after the last byte.
+ *
+ * A regex is moved, and never copied. A search changes its caches, so only a regex that isn't const can be searched.
+ * One thread at a time may use a regex, and the iterators over its matches. Different regexes may be used by different
+ * threads.
+ *
+ * A match and a range of matches refer to the haystack, and a range refers to the regex. Both must outlive them. For a
+ * temporary std::string, calls that return a match don't compile.
+ *
+ * Each call has two forms. One throws hanneddois::error. The other is noexcept, and has a last parameter to which it
+ * writes why it failed, or that it didn't. If it failed, it returns what it returns without a match.
+ */
+#ifndef HANNEDDOIS_HPP
+#define HANNEDDOIS_HPP
+
+#include <algorithm>
+#include <cstddef>
+#include <cstdint>
+#include <exception>
+#include <initializer_list>
+#include <iterator>
+#include <memory>
+#include <new>
+#include <optional>
+#include <string>
+#include <string_view>
+#include <type_traits>
+#include <utility>
+#include <vector>
+
+#include "hanneddois.h"
+
+namespace hanneddois {
+
+/* Flags of options, to be joined by |. The constants of hanneddois.h explain them. */
+enum class flag : std::uint32_t {
+    none = 0,
+    case_insensitive = HANNEDDOIS_CASE_INSENSITIVE,
+    multi_line = HANNEDDOIS_MULTI_LINE,
+    dot_matches_new_line = HANNEDDOIS_DOT_MATCHES_NEW_LINE,
+    swap_greed = HANNEDDOIS_SWAP_GREED,
+    ignore_whitespace = HANNEDDOIS_IGNORE_WHITESPACE,
+    crlf = HANNEDDOIS_CRLF,
+    octal = HANNEDDOIS_OCTAL,
+    no_unicode = HANNEDDOIS_NO_UNICODE,
+    utf8 = HANNEDDOIS_UTF8,
+    empty_loops = HANNEDDOIS_EMPTY_LOOPS,
+    matching_patterns = HANNEDDOIS_MATCHING_PATTERNS,
+    raise_capacity = HANNEDDOIS_RAISE_CAPACITY,
+    no_byte_classes = HANNEDDOIS_NO_BYTE_CLASSES,
+    shrink = HANNEDDOIS_SHRINK
+};
+
+constexpr flag operator|(flag a, flag b) noexcept
+{
+    return static_cast<flag>(static_cast<std::uint32_t>(a) | static_cast<std::uint32_t>(b));
+}
+
+constexpr flag operator&(flag a, flag b) noexcept
+{
+    return static_cast<flag>(static_cast<std::uint32_t>(a) & static_cast<std::uint32_t>(b));
+}
+
+/* How patterns are compiled. Where options are expected, flags alone will do. */
+struct options {
+    constexpr options() noexcept = default;
+    constexpr options(flag joined) noexcept : flags(joined) {}
+
+    flag flags = flag::none;
+    /* How deep groups, classes and repetitions of a pattern may nest; 0 for 250. Deeper ones need a larger stack. */
+    std::uint32_t nest_limit = 0;
+    /* How many bytes each of both caches may take; 0 for 2 MiB. */
+    std::size_t capacity = 0;
+    /* How many bytes each of both automata may take; 0 for 64 MiB. */
+    std::size_t size_limit = 0;
+};
+
+/* How a call ended. The constants of hanneddois.h explain it. */
+enum class status : hanneddois_status {
+    ok = HANNEDDOIS_OK,
+    none = HANNEDDOIS_NONE,
+    bad_argument = HANNEDDOIS_BAD_ARGUMENT,
+    no_memory = HANNEDDOIS_NO_MEMORY,
+    not_utf8 = HANNEDDOIS_NOT_UTF8,
+    syntax_error = HANNEDDOIS_SYNTAX_ERROR,
+    nests_too_deep = HANNEDDOIS_NESTS_TOO_DEEP,
+    empty_loop = HANNEDDOIS_EMPTY_LOOP,
+    too_large = HANNEDDOIS_TOO_LARGE,
+    capacity_too_small = HANNEDDOIS_CAPACITY_TOO_SMALL,
+    haystack_not_utf8 = HANNEDDOIS_HAYSTACK_NOT_UTF8
+};
+
+/* Why a call failed, or that it didn't. What the numbers mean depends on the status: hanneddois.h
+   has this with each. */
+class failure {
+public:
+    failure() noexcept = default;
+    explicit failure(const hanneddois_error &fields) noexcept : fields_(fields) {}
+
+    /* Whether the call failed. That there is no match is no failure. */
+    explicit operator bool() const noexcept { return fields_.status > HANNEDDOIS_NONE; }
+
+    hanneddois::status status() const noexcept { return static_cast<hanneddois::status>(fields_.status); }
+    std::uint32_t cause() const noexcept { return fields_.cause; }
+    std::size_t pattern() const noexcept { return fields_.pattern; }
+    std::size_t start() const noexcept { return fields_.start; }
+    std::size_t end() const noexcept { return fields_.end; }
+    std::size_t limit() const noexcept { return fields_.limit; }
+
+    /* The message, as "unclosed group". It is ASCII, and names no offset or number. */
+    std::string message() const
+    {
+        char none;
+        std::string text(write_message(&none, 0), '\0');
+        write_message(text.data(), text.size());
+        return text;
+    }
+
+    /* Writes as many bytes of the message as fit, without a 0 after them, and returns how many it has. */
+    std::size_t write_message(char *text, std::size_t length) const noexcept
+    {
+        return hanneddois_error_text(&fields_, reinterpret_cast<std::uint8_t *>(text), length);
+    }
+
+private:
+    hanneddois_error fields_{};
+};
+
+/* What a call throws. To make one needs no memory, so that it can report that there is none. */
+class error : public std::exception {
+public:
+    explicit error(const failure &why) noexcept : why_(why)
+    {
+        text_[std::min(why.write_message(text_, sizeof text_ - 1), sizeof text_ - 1)] = '\0';
+    }
+
+    const failure &why() const noexcept { return why_; }
+    hanneddois::status status() const noexcept { return why_.status(); }
+    std::uint32_t cause() const noexcept { return why_.cause(); }
+    std::size_t pattern() const noexcept { return why_.pattern(); }
+    std::size_t start() const noexcept { return why_.start(); }
+    std::size_t end() const noexcept { return why_.end(); }
+    std::size_t limit() const noexcept { return why_.limit(); }
+
+    /* The message. */
+    const char *what() const noexcept override { return text_; }
+
+private:
+    failure why_;
+    char text_[128];
+};
+
+/* One match: which pattern it is of, counted from 0, and which bytes of the haystack it has. */
+class match {
+public:
+    match() noexcept = default;
+    match(std::string_view haystack, const hanneddois_match &row) noexcept
+        : bytes_(haystack.data() + row.start, row.end - row.start), start_(row.start), pattern_(row.pattern)
+    {
+    }
+
+    std::size_t pattern() const noexcept { return pattern_; }
+    std::size_t start() const noexcept { return start_; }
+    std::size_t end() const noexcept { return start_ + bytes_.size(); }
+    std::size_t size() const noexcept { return bytes_.size(); }
+    bool empty() const noexcept { return bytes_.empty(); }
+    std::string_view view() const noexcept { return bytes_; }
+
+private:
+    std::string_view bytes_;
+    std::size_t start_ = 0;
+    std::size_t pattern_ = 0;
+};
+
+class match_iterator;
+class match_range;
+
+namespace detail {
+
+/* A call of the library needs a pointer that isn't null, also with a length of 0. */
+inline const std::uint8_t *bytes_of(std::string_view haystack) noexcept
+{
+    return reinterpret_cast<const std::uint8_t *>(haystack.data() ? haystack.data() : "");
+}
+
+inline failure failure_of(status what) noexcept
+{
+    hanneddois_error fields{};
+    fields.status = static_cast<hanneddois_status>(what);
+    return failure(fields);
+}
+
+/* Either writes why a call failed, if there is a parameter for it, or throws. */
+inline void report(const failure &why, failure *to)
+{
+    if (to)
+        *to = why;
+    else if (why)
+        throw error(why);
+}
+
+/* Rows of a list of matches, and why the list ends before its end, if it does. */
+struct rows {
+    std::unique_ptr<hanneddois_match[]> first;
+    std::size_t count = 0;
+    failure why;
+};
+
+/* A temporary string, of which a match would outlive the bytes. */
+template <class T>
+using if_temporary_string = std::enable_if_t<std::is_same_v<std::remove_const_t<T>, std::string>, int>;
+
+template <class Iterator>
+using if_patterns = std::enable_if_t<
+    std::is_convertible_v<typename std::iterator_traits<Iterator>::reference, std::string_view>, int>;
+
+}  // namespace detail
+
+/* A compiled regex with the caches of its searches. If it is empty, calls fail with status::bad_argument. */
+class regex {
+public:
+    /* Makes an empty one. */
+    regex() noexcept = default;
+
+    /* Compiles a pattern. */
+    explicit regex(std::string_view pattern, const options &options = {})
+    {
+        compile(&pattern, &pattern + 1, options, nullptr);
+    }
+    regex(std::string_view pattern, const options &options, failure &why) noexcept
+    {
+        compile(&pattern, &pattern + 1, options, &why);
+    }
+
+    /* Compiles several patterns. If matches of several start at the same offset, the one of the earlier pattern is
+       preferred. */
+    explicit regex(std::initializer_list<std::string_view> patterns, const options &options = {})
+    {
+        compile(patterns.begin(), patterns.end(), options, nullptr);
+    }
+    regex(std::initializer_list<std::string_view> patterns, const options &options, failure &why) noexcept
+    {
+        compile(patterns.begin(), patterns.end(), options, &why);
+    }
+    template <class Iterator, detail::if_patterns<Iterator> = 0>
+    regex(Iterator first, Iterator last, const options &options = {})
+    {
+        compile(first, last, options, nullptr);
+    }
+    template <class Iterator, detail::if_patterns<Iterator> = 0>
+    regex(Iterator first, Iterator last, const options &options, failure &why) noexcept
+    {
+        compile(first, last, options, &why);
+    }
+
+    regex(const regex &) = delete;
+    regex &operator=(const regex &) = delete;
+
+    /* Moving leaves the other one empty. */
+    regex(regex &&other) noexcept : handle_(std::exchange(other.handle_, {nullptr})), is_utf8_(other.is_utf8_) {}
+    regex &operator=(regex &&other) noexcept
+    {
+        regex moved(std::move(other));
+        std::swap(handle_, moved.handle_);
+        std::swap(is_utf8_, moved.is_utf8_);
+        return *this;
+    }
+
+    ~regex() { hanneddois_free(&handle_); }
+
+    /* Whether it is empty. */
+    bool empty() const noexcept { return handle_.inside == nullptr; }
+
+    /* Whether there is a match. */
+    bool is_match(std::string_view haystack) { return is_match_or(haystack, nullptr); }
+    bool is_match(std::string_view haystack, failure &why) noexcept { return is_match_or(haystack, &why); }
+
+    /* The leftmost match that starts at `from` or after it, and of these the preferred one. Looks, as ^ and \b, see the
+       bytes before `from`. If `from` is after the end of the haystack, the call fails with status::bad_argument. */
+    std::optional<match> find(std::string_view haystack, std::size_t from = 0)
+    {
+        return find_or(haystack, from, nullptr);
+    }
+    std::optional<match> find(std::string_view haystack, std::size_t from, failure &why) noexcept
+    {
+        return find_or(haystack, from, &why);
+    }
+    template <class String, class... Rest, detail::if_temporary_string<String> = 0>
+    std::optional<match> find(String &&haystack, Rest &&...) = delete;
+
+    /*
+     * All matches from left to right, each searched for when it is reached: each is the leftmost one from the end of
+     * the one before it. An empty match right at the end of the one before it is skipped. A search that fails throws
+     * from begin() or ++. In the second form it ends the range, and `why`, which has to outlive the range, has the
+     * reason.
+     */
+    match_range matches(std::string_view haystack) &;
+    match_range matches(std::string_view haystack, failure &why) & noexcept;
+    template <class String, class... Rest, detail::if_temporary_string<String> = 0>
+    match_range matches(String &&haystack, Rest &&...) = delete;
+
+    /* All matches in a list, as those of matches(). If the second form fails, the list has those before the search that
+       failed. */
+    std::vector<match> find_all(std::string_view haystack) { return find_all_or(haystack, nullptr); }
+    std::vector<match> find_all(std::string_view haystack, failure &why) noexcept
+    {
+        return find_all_or(haystack, &why);
+    }
+    template <class String, class... Rest, detail::if_temporary_string<String> = 0>
+    std::vector<match> find_all(String &&haystack, Rest &&...) = delete;
+
+    /* The numbers of the patterns that match anywhere in the haystack, also if their matches overlap. They ascend. */
+    std::vector<std::size_t> matching_patterns(std::string_view haystack) { return matching_or(haystack, nullptr); }
+    std::vector<std::size_t> matching_patterns(std::string_view haystack, failure &why) noexcept
+    {
+        return matching_or(haystack, &why);
+    }
+
+    /* How many patterns it has. */
+    std::size_t pattern_count() noexcept { return hanneddois_pattern_count(&handle_); }
+    /* An estimate of how many bytes its caches need now. */
+    std::size_t memory_usage() noexcept { return hanneddois_memory_usage(&handle_); }
+    /* How often its caches were cleared since it was made. */
+    std::size_t clear_count() noexcept { return hanneddois_clear_count(&handle_); }
+
+    /* The handle for the calls of hanneddois.h. It stays owned by this regex. */
+    hanneddois_regex *handle() noexcept { return &handle_; }
+
+private:
+    friend class match_iterator;
+
+    template <class Iterator>
+    void compile(Iterator first, Iterator last, const options &options, failure *why)
+    {
+        std::string bytes;
+        std::vector<std::size_t> lengths;
+        try {
+            for (; first != last; ++first) {
+                const std::string_view pattern = *first;
+                bytes += pattern;
+                lengths.push_back(pattern.size());
+            }
+        } catch (const std::bad_alloc &) {
+            return detail::report(detail::failure_of(status::no_memory), why);
+        }
+        detail::report(make(bytes, lengths, options), why);
+    }
+
+    failure make(const std::string &bytes, const std::vector<std::size_t> &lengths, const options &options) noexcept
+    {
+        const std::size_t none = 0;
+        const hanneddois_options fields = {
+            static_cast<std::uint32_t>(options.flags), options.nest_limit, options.capacity, options.size_limit};
+        hanneddois_error error;
+        hanneddois_new(&handle_, detail::bytes_of(bytes), bytes.size(), lengths.empty() ? &none : lengths.data(),
+                       lengths.size(), &fields, &error);
+        is_utf8_ = (options.flags & flag::utf8) != flag::none;
+        return failure(error);
+    }
+
+    bool is_match_or(std::string_view haystack, failure *why)
+    {
+        hanneddois_error error;
+        const hanneddois_status ended =
+            hanneddois_is_match(&handle_, detail::bytes_of(haystack), haystack.size(), &error);
+        detail::report(failure(error), why);
+        return ended == HANNEDDOIS_OK;
+    }
+
+    bool find_row(std::string_view haystack, std::size_t from, hanneddois_match &row, failure *why)
+    {
+        hanneddois_error error;
+        const hanneddois_status ended =
+            hanneddois_find_at(&handle_, detail::bytes_of(haystack), haystack.size(), from, &row, &error);
+        detail::report(failure(error), why);
+        return ended == HANNEDDOIS_OK;
+    }
+
+    std::optional<match> find_or(std::string_view haystack, std::size_t from, failure *why)
+    {
+        hanneddois_match row;
+        if (!find_row(haystack, from, row, why))
+            return std::nullopt;
+        return match(haystack, row);
+    }
+
+    /* The first list of matches has room for one match in so many bytes of the haystack, for at least the second number
+       of matches, and for at most the third, which takes 100 MB of addresses. The system gives memory only for rows
+       that are written. */
+    static constexpr std::size_t bytes_per_row = 8, least_rows = 64, most_rows = std::size_t{1} << 22;
+
+    /* All matches. If there are more than the first list has room for, the haystack is searched once more. */
+    detail::rows list(std::string_view haystack) noexcept
+    {
+        detail::rows listed;
+        std::size_t room = std::clamp(haystack.size() / bytes_per_row, least_rows, most_rows);
+        for (;;) {
+            listed.first.reset(new (std::nothrow) hanneddois_match[room]);
+            if (!listed.first) {
+                listed.count = 0;
+                listed.why = detail::failure_of(status::no_memory);
+                return listed;
+            }
+            hanneddois_error error;
+            hanneddois_find_all(&handle_, detail::bytes_of(haystack), haystack.size(), listed.first.get(), room,
+                                &listed.count, &error);
+            listed.why = failure(error);
+            if (listed.count <= room)
+                return listed;
+            room = listed.count;
+        }
+    }
+
+    std::vector<match> find_all_or(std::string_view haystack, failure *why)
+    {
+        const detail::rows listed = list(haystack);
+        detail::report(listed.why, why);
+        std::vector<match> matches;
+        try {
+            matches.reserve(listed.count);
+        } catch (const std::bad_alloc &) {
+            detail::report(detail::failure_of(status::no_memory), why);
+            return matches;
+        }
+        for (std::size_t i = 0; i < listed.count; i++)
+            matches.emplace_back(haystack, listed.first[i]);
+        return matches;
+    }
+
+    std::vector<std::size_t> matching_or(std::string_view haystack, failure *why)
+    {
+        std::vector<std::size_t> numbers;
+        try {
+            std::vector<std::uint8_t> marks(std::max(pattern_count(), std::size_t{1}));
+            std::size_t count = 0;
+            hanneddois_error error;
+            hanneddois_matching_patterns(&handle_, detail::bytes_of(haystack), haystack.size(), marks.data(),
+                                         pattern_count(), &count, &error);
+            detail::report(failure(error), why);
+            numbers.reserve(count);
+            for (std::size_t i = 0; i < marks.size(); i++)
+                if (marks[i])
+                    numbers.push_back(i);
+        } catch (const std::bad_alloc &) {
+            detail::report(detail::failure_of(status::no_memory), why);
+        }
+        return numbers;
+    }
+
+    hanneddois_regex handle_ = HANNEDDOIS_EMPTY;
+    bool is_utf8_ = false;
+};
+
+/* An input iterator over the matches of a haystack. A default-constructed one is the end. */
+class match_iterator {
+public:
+    using iterator_category = std::input_iterator_tag;
+    using value_type = match;
+    using difference_type = std::ptrdiff_t;
+    using pointer = const match *;
+    using reference = const match &;
+
+    match_iterator() noexcept = default;
+
+    reference operator*() const noexcept { return found_; }
+    pointer operator->() const noexcept { return &found_; }
+
+    match_iterator &operator++()
+    {
+        hanneddois_match row;
+        has_match_ = listed_ ? next_listed(row) : next_searched(row);
+        if (has_match_)
+            found_ = match(haystack_, row);
+        return *this;
+    }
+
+    match_iterator operator++(int)
+    {
+        match_iterator before = *this;
+        ++*this;
+        return before;
+    }
+
+    /* Whether both are the end, or are at the same match. */
+    friend bool operator==(const match_iterator &a, const match_iterator &b) noexcept
+    {
+        if (!a.has_match_ || !b.has_match_)
+            return a.has_match_ == b.has_match_;
+        return a.regex_ == b.regex_ && a.found_.start() == b.found_.start() && a.found_.end() == b.found_.end();
+    }
+    friend bool operator!=(const match_iterator &a, const match_iterator &b) noexcept { return !(a == b); }
+
+private:
+    friend class match_range;
+
+    /* In UTF-8 mode each search checks the whole haystack, so one search lists all matches there. */
+    match_iterator(regex &regex, std::string_view haystack, failure *why)
+        : regex_(&regex), haystack_(haystack), why_(why)
+    {
+        hanneddois_match row;
+        has_match_ = regex.is_utf8_ ? list() && next_listed(row) : search(0, row);
+        if (has_match_)
+            found_ = match(haystack_, row);
+    }
+
+    bool search(std::size_t from, hanneddois_match &row) { return regex_->find_row(haystack_, from, row, why_); }
+
+    /* An empty match right at the end of the one before it is skipped. */
+    bool next_searched(hanneddois_match &row)
+    {
+        const std::size_t end = found_.end();
+        if (!search(end, row))
+            return false;
+        return row.end != end || (end < haystack_.size() && search(end + 1, row));
+    }
+
+    bool list()
+    {
+        try {
+            listed_ = std::make_shared<const detail::rows>(regex_->list(haystack_));
+        } catch (const std::bad_alloc &) {
+            detail::report(detail::failure_of(status::no_memory), why_);
+        }
+        return listed_ != nullptr;
+    }
+
+    bool next_listed(hanneddois_match &row)
+    {
+        if (index_ == listed_->count) {
+            detail::report(listed_->why, why_);
+            return false;
+        }
+        row = listed_->first[index_++];
+        return true;
+    }
+
+    regex *regex_ = nullptr;
+    std::string_view haystack_;
+    failure *why_ = nullptr;
+    std::shared_ptr<const detail::rows> listed_;
+    std::size_t index_ = 0;
+    match found_;
+    bool has_match_ = false;
+};
+
+/* The matches of a haystack. Each begin() searches from the start. */
+class match_range {
+public:
+    using iterator = match_iterator;
+    using const_iterator = match_iterator;
+
+    match_iterator begin() const { return match_iterator(*regex_, haystack_, why_); }
+    match_iterator end() const noexcept { return match_iterator(); }
+
+private:
+    friend class regex;
+
+    match_range(regex &regex, std::string_view haystack, failure *why) noexcept
+        : regex_(&regex), haystack_(haystack), why_(why)
+    {
+        if (why)
+            *why = failure();
+    }
+
+    regex *regex_;
+    std::string_view haystack_;
+    failure *why_;
+};
+
+inline match_range regex::matches(std::string_view haystack) &
+{
+    return match_range(*this, haystack, nullptr);
+}
+
+inline match_range regex::matches(std::string_view haystack, failure &why) & noexcept
+{
+    return match_range(*this, haystack, &why);
+}
+
+/* The version of the library, as HANNEDDOIS_VERSION of hanneddois.h. */
+inline std::uint32_t version() noexcept
+{
+    return hanneddois_version();
+}
+
+}  // namespace hanneddois
+
+#endif

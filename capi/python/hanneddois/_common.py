@@ -1,0 +1,35 @@
+"""What the extension and the module for ctypes share: flags, statuses and the error."""
+
+(CASE_INSENSITIVE, MULTI_LINE, DOT_MATCHES_NEW_LINE, SWAP_GREED, IGNORE_WHITESPACE, CRLF, OCTAL, NO_UNICODE, UTF8, EMPTY_LOOPS,
+ MATCHING_PATTERNS, RAISE_CAPACITY, NO_BYTE_CLASSES, SHRINK) = (1 << i for i in range(14))
+
+(OK, NONE, BAD_ARGUMENT, NO_MEMORY, NOT_UTF8, SYNTAX_ERROR, NESTS_TOO_DEEP, EMPTY_LOOP, TOO_LARGE, CAPACITY_TOO_SMALL) = range(10)
+HAYSTACK_NOT_UTF8 = 12
+
+# Names of version 0.2, which version 0.4 won't have.
+NO_PATTERN, WHICH = SYNTAX_ERROR, MATCHING_PATTERNS
+
+
+class Error(Exception):
+    """Why a regex can't be made, or why a search failed.
+
+    The fields are those of hanneddois_error, and the C header describes them:
+
+    status   one of the constants from BAD_ARGUMENT to HAYSTACK_NOT_UTF8
+    cause    what is wrong with a pattern, as a number
+    pattern  the number of the pattern
+    start    the offset of what is wrong: in a pattern that is a str by characters, and otherwise by bytes
+    end      the offset after it
+    limit    how many bytes something may take, or needs
+    """
+
+    def __init__(self, message, status=BAD_ARGUMENT, cause=0, pattern=0, start=0, end=0, limit=0):
+        super().__init__(message)
+        self.status, self.cause, self.pattern, self.start, self.end, self.limit = status, cause, pattern, start, end, limit
+
+
+def count_characters(error, patterns):
+    """Changes the offsets of an error in a pattern that is a str from bytes to characters."""
+    if error.status in (SYNTAX_ERROR, NESTS_TOO_DEEP) and isinstance(patterns[error.pattern], str):
+        encoded = patterns[error.pattern].encode()
+        error.start, error.end = (len(encoded[:offset].decode(errors="replace")) for offset in (error.start, error.end))

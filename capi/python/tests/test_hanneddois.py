@@ -1,0 +1,600 @@
+"""Tests of the package hanneddois, for the extension and for ctypes alike.
+
+    PYTHONPATH=FOLDER python3 -m unittest test_hanneddois
+
+Which of both is tested is what `import hanneddois` takes. ../test runs this file over both.
+"""
+
+import array
+import copy
+import doctest
+import gc
+import mmap
+import os
+import pathlib
+import pickle
+import re
+import sys
+import tempfile
+import threading
+import unittest
+
+import hanneddois
+
+# Patterns that re and the library read alike, over bytes and over str.
+PATTERNS = [r"[0-9]+", r"a|ab", r"ab|a", r"(?:ab)+?", r"x*", r"", r"^", r"$", r"(?m)^b", r"(?m)a$", r"\b\w+\b", r"\Bb", r"(?i)AB", r"(?s)a.b",
+            r"a.b", r"[^a]", r"a{2,3}", r"a{2,3}?", r"(?:a|b)*c", r"\d\d-\d\d", r"\w", r"\W+", r"\s"]
+HAYSTACKS = ["", "a", "ab", "abab", "xxabcxx", "12-34 5", "a\nb", "b\nab\na", "aaaaa", "AbaB", "caacbc", "word words, a word"]
+# Characters of one byte up to four.
+WIDE = ["é", "aéb", "日本 12-34", "x€xx", "ünï ab\nbé", "𝒳a𝒳b", "ab😀12", "€a€"]
+
+
+def spans_of_re(pattern, haystack):
+    """Returns the spans of re without an empty match where the last one ended, which Python lists and others don't."""
+    kept = []
+    for match in re.compile(pattern).finditer(haystack):
+        start, end = match.span()
+        if not (start == end and kept and kept[-1][1] == start):
+            kept.append((start, end))
+    return kept
+
+
+def spans(matches):
+    return [match.span() for match in matches]
+
+
+class Searches(unittest.TestCase):
+    def test_bytes_as_re(self):
+        for pattern in PATTERNS:
+            regex = hanneddois.compile(pattern, hanneddois.NO_UNICODE)
+            for haystack in map(str.encode, HAYSTACKS + WIDE):
+                with self.subTest(pattern=pattern, haystack=haystack):
+                    wanted = spans_of_re(pattern.encode(), haystack)
+                    self.assertEqual(spans(regex.find_iter(haystack)), wanted)
+                    self.assertEqual(spans(regex.find_all(haystack)), wanted)
+                    self.assertEqual(regex.is_match(haystack), bool(wanted))
+                    found = regex.find(haystack)
+                    self.assertEqual(found and found.span(), wanted[0] if wanted else None)
+
+    def test_str_as_re(self):
+        for pattern in PATTERNS:
+            regex = hanneddois.compile(pattern)
+            for haystack in HAYSTACKS + WIDE:
+                with self.subTest(pattern=pattern, haystack=haystack):
+                    wanted = spans_of_re(pattern, haystack)
+                    matches = regex.find_all(haystack)
+                    self.assertEqual(spans(matches), wanted)
+                    self.assertEqual([match.group() for match in matches], [haystack[start:end] for start, end in wanted])
+                    self.assertEqual(regex.is_match(haystack), bool(wanted))
+                    self.assertEqual(regex.matching_patterns(haystack), [0] if wanted else [])
+                    found = regex.find(haystack)
+                    self.assertEqual(found and found.span(), wanted[0] if wanted else None)
+
+    def test_str_from_each_offset(self):
+        for pattern in (r"\w", r"", r"\b", r"[0-9]+", r"$", r"^"):
+            regex, theirs = hanneddois.compile(pattern), re.compile(pattern)
+            for haystack in HAYSTACKS + WIDE:
+                for start in range(len(haystack) + 1):
+                    # re takes the offset for the start of the haystack where it looks for ^.
+                    wanted = None if pattern == "^" and start else theirs.search(haystack, start)
+                    found = regex.find(haystack, start)
+                    self.assertEqual(found and found.span(), wanted and wanted.span(), (pattern, haystack, start))
+
+    def test_str_as_utf8_mode(self):
+        # In a str the package itself skips empty matches inside characters. The library's own mode for UTF-8 is what it must agree with.
+        patterns = ["", "x*", r"\B", r"(?-u:\B)", r"(?-u:\b)", "é?", "(?:|é)", "(?:é|)", r"[^a]??", r"$|\b", "a|"]
+        for pattern in patterns:
+            by_bytes, by_str = hanneddois.compile(pattern, hanneddois.UTF8), hanneddois.compile(pattern)
+            for haystack in HAYSTACKS + WIDE:
+                encoded = haystack.encode()
+                wanted = [tuple(len(encoded[:it].decode()) for it in match.span()) for match in by_bytes.find_iter(encoded)]
+                with self.subTest(pattern=pattern, haystack=haystack):
+                    self.assertEqual(spans(by_str.find_iter(haystack)), wanted)
+                    self.assertEqual(spans(by_bytes.find_iter(haystack)), wanted)
+                    self.assertEqual(by_str.is_match(haystack), bool(wanted))
+                    self.assertEqual(by_str.matching_patterns(haystack), by_bytes.matching_patterns(encoded))
+
+    def test_long_haystacks(self):
+        for haystack in ("ab1é" * 5000, "ab1e" * 5000, "x" * 20000 + "7"):
+            wanted = spans_of_re("[0-9]+", haystack)
+            self.assertEqual(spans(hanneddois.compile("[0-9]+").find_iter(haystack)), wanted)
+            self.assertEqual(spans(hanneddois.compile("[0-9]+", hanneddois.UTF8).find_iter(haystack)), wanted)
+            self.assertEqual(spans(hanneddois.compile("[0-9]+").find_iter(haystack.encode())), spans_of_re(b"[0-9]+", haystack.encode()))
+
+    def test_find_start(self):
+        regex = hanneddois.compile("a|^b")
+        self.assertEqual(regex.find(b"aba", 1), (0, 2, 3))
+        self.assertEqual(regex.find(b"aba", start=1), (0, 2, 3))
+        self.assertEqual(regex.find(haystack="aba", start=True), (0, 2, 3))
+        self.assertIsNone(regex.find(b"aba", 3))
+        for haystack in (b"aba", "aba", "äba", bytearray(b"aba")):
+            for start in (-1, 4, 10**30, -(10**30)):
+                with self.assertRaises(hanneddois.Error) as caught:
+                    regex.find(haystack, start)
+                self.assertEqual(caught.exception.status, hanneddois.BAD_ARGUMENT)
+
+    def test_names_of_re(self):
+        regex = hanneddois.compile("b")
+        self.assertEqual(regex.search("abab"), (0, 1, 2))
+        self.assertEqual(regex.search("abab", 2), (0, 3, 4))
+        self.assertEqual(list(regex.finditer("abab")), [(0, 1, 2), (0, 3, 4)])
+
+    def test_several_patterns(self):
+        regex = hanneddois.Regex(["b+", b"a", "é"])
+        self.assertEqual(regex.pattern_count, 3)
+        self.assertEqual([tuple(match) for match in regex.find_iter("abbé")], [(1, 0, 1), (0, 1, 3), (2, 3, 4)])
+        self.assertEqual(regex.matching_patterns("xé"), [2])
+        self.assertEqual(regex.which(b"ab"), [0, 1])
+        self.assertEqual(hanneddois.Regex(["b+", "x", "ab", "^b", "$"]).matching_patterns(b"abba"), [0, 2, 4])
+        self.assertEqual(hanneddois.Regex(["b", "c"]).matching_patterns(b"aaa"), [])
+
+    def test_iterators(self):
+        iterator = hanneddois.compile("a").find_iter(b"aba")
+        self.assertIs(iter(iterator), iterator)
+        self.assertEqual(next(iterator), (0, 0, 1))
+        self.assertEqual(next(iterator), (0, 2, 3))
+        for _ in range(3):
+            self.assertRaises(StopIteration, next, iterator)
+
+    def test_flags(self):
+        self.assertTrue(hanneddois.compile("A", hanneddois.CASE_INSENSITIVE).is_match("a"))
+        self.assertEqual(hanneddois.compile("^b", hanneddois.MULTI_LINE).find("a\nb"), (0, 2, 3))
+        self.assertTrue(hanneddois.compile("a.b", hanneddois.DOT_MATCHES_NEW_LINE).is_match("a\nb"))
+        self.assertEqual(hanneddois.compile("a+", hanneddois.SWAP_GREED).find("aa"), (0, 0, 1))
+        self.assertTrue(hanneddois.compile("a b # c", hanneddois.IGNORE_WHITESPACE).is_match("ab"))
+        self.assertEqual(hanneddois.compile("(?m)a$", hanneddois.CRLF).find("a\r\n"), (0, 0, 1))
+        self.assertTrue(hanneddois.compile(r"\141", hanneddois.OCTAL).is_match("a"))
+        self.assertTrue(hanneddois.compile("(?:a*)*b", hanneddois.EMPTY_LOOPS).is_match("aab"))
+        flags = hanneddois.MATCHING_PATTERNS | hanneddois.RAISE_CAPACITY | hanneddois.NO_BYTE_CLASSES | hanneddois.SHRINK
+        self.assertEqual(hanneddois.compile("[a-z]+", flags, capacity=1).find("Ab"), (0, 1, 2))
+        self.assertEqual((hanneddois.NO_PATTERN, hanneddois.WHICH), (hanneddois.SYNTAX_ERROR, hanneddois.MATCHING_PATTERNS))
+
+    def test_figures(self):
+        regex = hanneddois.Regex(["[a-z]+x"])
+        regex.find_all("abx " * 100)
+        self.assertGreater(regex.memory_usage, 0)
+        self.assertEqual(regex.clear_count, 0)
+        self.assertGreaterEqual(hanneddois.version(), 300)
+        self.assertIn(hanneddois.backend, ("extension", "ctypes"))
+
+
+class Matches(unittest.TestCase):
+    def setUp(self):
+        self.match = hanneddois.compile("[0-9]+").find("ab 12é")
+
+    def test_fields(self):
+        match = self.match
+        self.assertEqual((match.pattern, match.start, match.end, match.haystack), (0, 3, 5, "ab 12é"))
+        self.assertEqual((match.group(), match.group(0), match.span(), match.span(0)), ("12", "12", (3, 5), (3, 5)))
+        self.assertEqual(repr(match), "Match(pattern=0, start=3, end=5)")
+        self.assertTrue(match)
+        for name in ("pattern", "start", "end", "haystack"):
+            with self.assertRaises(AttributeError):
+                setattr(match, name, 1)
+
+    def test_groups_are_not_there_yet(self):
+        for group in (1, -1, 2**70):
+            self.assertRaises(IndexError, self.match.group, group)
+            self.assertRaises(IndexError, self.match.span, group)
+        self.assertRaises(TypeError, self.match.group, "name")
+        self.assertRaises(TypeError, self.match.group, 0, 0)
+
+    def test_as_tuple(self):
+        pattern, start, end = self.match
+        self.assertEqual((pattern, start, end), (0, 3, 5))
+        self.assertEqual((len(self.match), self.match[1], self.match[-1], self.match[1:]), (3, 3, 5, (3, 5)))
+        self.assertRaises(IndexError, lambda: self.match[3])
+        self.assertIn(5, self.match)
+        self.assertEqual(self.match, (0, 3, 5))
+        self.assertEqual((0, 3, 5), self.match)
+        self.assertNotEqual(self.match, (0, 3, 6))
+        self.assertNotEqual(self.match, [0, 3, 5])
+        self.assertEqual(self.match, hanneddois.Match(0, 3, 5))
+        self.assertLess(self.match, hanneddois.Match(0, 4, 5))
+        self.assertLessEqual(self.match, (0, 3, 5))
+        self.assertGreater(self.match, (0, 3))
+        self.assertGreaterEqual(self.match, self.match)
+        self.assertRaises(TypeError, lambda: self.match < 1)
+        self.assertEqual(hash(self.match), hash((0, 3, 5)))
+        self.assertEqual(hanneddois.Match.__match_args__, ("pattern", "start", "end"))
+
+    def test_made_by_hand(self):
+        match = hanneddois.Match(pattern=1, start=2, end=4, haystack=b"abcdef")
+        self.assertEqual((tuple(match), match.group()), ((1, 2, 4), b"cd"))
+        self.assertRaises(ValueError, hanneddois.Match(0, 0, 0).group)
+        for fields in ((-1, 0, 0), (0, -1, 0), (0, 2, 1)):
+            self.assertRaises(ValueError, hanneddois.Match, *fields)
+        for fields in ((), (0, 0), ("a", 0, 0), (0, 0, 0, b"", 0)):
+            self.assertRaises(TypeError, hanneddois.Match, *fields)
+
+    def test_copies(self):
+        for protocol in range(pickle.HIGHEST_PROTOCOL + 1):
+            other = pickle.loads(pickle.dumps(self.match, protocol))
+            self.assertEqual((other, other.group()), (self.match, "12"))
+        self.assertEqual(copy.copy(self.match).group(), "12")
+        self.assertEqual(copy.deepcopy(self.match).group(), "12")
+
+    def test_type_hints(self):
+        self.assertEqual(hanneddois.Match[str].__origin__, hanneddois.Match)
+
+    def test_collected(self):
+        class Kept(bytearray):
+            pass
+
+        before = len([it for it in gc.get_objects() if type(it) is Kept])
+        for _ in range(10):
+            haystack = Kept(b"a1")
+            haystack.match = hanneddois.compile("[0-9]").find(haystack)
+            haystack.matches = hanneddois.compile("[0-9]").find_iter(haystack)
+            del haystack
+        gc.collect()
+        self.assertEqual(len([it for it in gc.get_objects() if type(it) is Kept]), before)
+
+
+class Buffers(unittest.TestCase):
+    regex = hanneddois.compile("[0-9]+")
+
+    def test_kinds(self):
+        content = b"ab 12 " + b"x" * 5000 + b" 345"
+        wanted = [(3, 5), (5007, 5010)]
+        with tempfile.TemporaryFile() as file:
+            file.write(content)
+            file.flush()
+            with mmap.mmap(file.fileno(), 0) as written, mmap.mmap(file.fileno(), 0, access=mmap.ACCESS_READ) as read:
+                haystacks = [bytearray(content), memoryview(content), memoryview(bytearray(content)), array.array("B", content), written, read]
+                for haystack in haystacks:
+                    self.assertEqual(spans(self.regex.find_iter(haystack)), wanted)
+                    self.assertEqual([match.group() for match in self.regex.find_all(haystack)], [b"12", b"345"])
+                    self.assertEqual(self.regex.find(haystack, 4).span(), (4, 5))
+                    self.assertTrue(self.regex.is_match(haystack))
+                    self.assertEqual(self.regex.matching_patterns(haystack), [0])
+                    self.assertIs(self.regex.find(haystack).haystack, haystack)
+                del haystacks, haystack
+
+    def test_bytes_of_larger_items(self):
+        numbers = array.array("I", [0x31313131, 0, 0x32323232])
+        self.assertEqual([match.group() for match in self.regex.find_iter(numbers)], [b"1111", b"2222"])
+
+    def test_empty(self):
+        for haystack in (b"", "", bytearray(), memoryview(b""), array.array("I")):
+            self.assertIsNone(self.regex.find(haystack))
+            self.assertEqual(hanneddois.compile("").find(haystack), (0, 0, 0))
+            self.assertEqual(hanneddois.compile("").find(haystack).group(), "" if isinstance(haystack, str) else b"")
+
+    def test_not_in_one_row(self):
+        self.assertRaises(BufferError, self.regex.find, memoryview(b"abcdef")[::2])
+        self.assertRaises(BufferError, self.regex.find_iter, memoryview(b"abcdef")[::-1])
+
+    def test_released(self):
+        view = memoryview(b"a1")
+        view.release()
+        self.assertRaises(ValueError, self.regex.find, view)
+
+    def test_held_while_searched(self):
+        haystack = bytearray(b"1 2 3")
+        iterator = self.regex.find_iter(haystack)
+        next(iterator)
+        self.assertRaises(BufferError, haystack.extend, b"more")
+        self.assertEqual(len(list(iterator)), 2)
+        haystack.extend(b" 4")
+        self.assertEqual(len(self.regex.find_all(haystack)), 4)
+        iterator = self.regex.find_iter(haystack)
+        next(iterator)
+        del iterator
+        haystack.clear()
+
+    def test_not_copied(self):
+        haystack = bytearray(b"x" * 5000 + b"1")
+        iterator = self.regex.find_iter(haystack)
+        haystack[7] = ord("5")
+        self.assertEqual(spans(iterator), [(7, 8), (5000, 5001)])
+
+    def test_shorter_than_its_match(self):
+        haystack = bytearray(b"ab 1234")
+        match = self.regex.find(haystack)
+        del haystack[5:]
+        self.assertEqual(match.group(), b"12")
+        haystack.clear()
+        self.assertEqual(match.group(), b"")
+
+
+class Errors(unittest.TestCase):
+    def error_of(self, call, *args, **options):
+        with self.assertRaises(hanneddois.Error) as caught:
+            call(*args, **options)
+        return caught.exception
+
+    def test_fields(self):
+        error = self.error_of(hanneddois.Regex, ["a", "b[z-a]"])
+        self.assertEqual((error.status, error.pattern, error.start, error.end, error.limit), (hanneddois.SYNTAX_ERROR, 1, 2, 5, 0))
+        self.assertIn("range", str(error))
+        other = pickle.loads(pickle.dumps(error))
+        self.assertEqual((str(other), vars(other)), (str(error), vars(error)))
+
+    def test_offsets_in_patterns(self):
+        error = self.error_of(hanneddois.compile, "日é(b")
+        self.assertEqual((error.status, error.start, error.end), (hanneddois.SYNTAX_ERROR, 2, 3))
+        error = self.error_of(hanneddois.compile, "日é(b".encode())
+        self.assertEqual((error.status, error.start, error.end), (hanneddois.SYNTAX_ERROR, 5, 6))
+
+    def test_statuses(self):
+        self.assertEqual(self.error_of(hanneddois.Regex, []).status, hanneddois.BAD_ARGUMENT)
+        self.assertEqual(self.error_of(hanneddois.compile, "a", 1 << 30).status, hanneddois.BAD_ARGUMENT)
+        error = self.error_of(hanneddois.compile, b"a\xff")
+        self.assertEqual((error.status, error.start), (hanneddois.NOT_UTF8, 1))
+        self.assertEqual(self.error_of(hanneddois.compile, "(((a)))", nest_limit=2).status, hanneddois.NESTS_TOO_DEEP)
+        self.assertEqual(self.error_of(hanneddois.compile, "(a*)*").status, hanneddois.EMPTY_LOOP)
+        error = self.error_of(hanneddois.compile, r"\w{1000}", size_limit=1000)
+        self.assertEqual((error.status, error.limit), (hanneddois.TOO_LARGE, 1000))
+        error = self.error_of(hanneddois.compile, "a", capacity=1)
+        self.assertEqual(error.status, hanneddois.CAPACITY_TOO_SMALL)
+        self.assertTrue(hanneddois.compile("a", capacity=error.limit).is_match("a"))
+
+    def test_haystack_that_is_not_utf8(self):
+        regex = hanneddois.compile("a", hanneddois.UTF8)
+        for call in (regex.find, regex.is_match, regex.find_all, regex.matching_patterns):
+            error = self.error_of(call, b"ab\xffa")
+            self.assertEqual((error.status, error.start), (hanneddois.HAYSTACK_NOT_UTF8, 2))
+        self.assertEqual(self.error_of(next, regex.find_iter(b"\xff")).status, hanneddois.HAYSTACK_NOT_UTF8)
+
+    def test_pattern_that_splits_characters(self):
+        for pattern, flags in ((r"(?-u)\xff", 0), (".", hanneddois.NO_UNICODE), (r"(?s-u:.)", 0)):
+            regex = hanneddois.Regex([pattern], flags)
+            self.assertTrue(regex.is_match(b"\xff"))
+            for call in (regex.find, regex.find_iter, regex.find_all, regex.is_match, regex.matching_patterns):
+                for haystack in ("ascii", "é"):
+                    self.assertEqual(self.error_of(call, haystack).status, hanneddois.SYNTAX_ERROR)
+        self.assertTrue(hanneddois.compile("[^,]+", hanneddois.NO_UNICODE).is_match(b"a"))
+        self.assertEqual(spans(hanneddois.compile("[a-c]+", hanneddois.NO_UNICODE).find_iter("éabé")), [(1, 3)])
+
+    def test_surrogates(self):
+        self.assertRaises(UnicodeEncodeError, hanneddois.compile, "\ud800")
+        self.assertRaises(UnicodeEncodeError, hanneddois.compile("a").find, "a\ud800")
+
+    def test_wrong_types(self):
+        regex = hanneddois.compile("a")
+        for haystack in (None, 5, ["a"], object()):
+            for call in (regex.find, regex.find_iter, regex.find_all, regex.is_match, regex.matching_patterns):
+                self.assertRaises(TypeError, call, haystack)
+        for start in ("0", 1.0, None, []):
+            self.assertRaises(TypeError, regex.find, b"a", start)
+        for patterns in ("abc", b"abc", bytearray(b"abc"), 5, None, [5], [None]):
+            self.assertRaises(TypeError, hanneddois.Regex, patterns)
+        for pattern in (5, None, ["a"]):
+            self.assertRaises(TypeError, hanneddois.compile, pattern)
+        for name in ("flags", "capacity", "size_limit", "nest_limit"):
+            self.assertRaises(TypeError, hanneddois.Regex, ["a"], **{name: "1"})
+            self.assertRaises(ValueError, hanneddois.Regex, ["a"], **{name: -1})
+            self.assertRaises(ValueError, hanneddois.Regex, ["a"], **{name: 1 << 64})
+
+    def test_wrong_arguments(self):
+        regex = hanneddois.compile("a")
+        for call in (regex.find, regex.find_iter, regex.find_all, regex.is_match, regex.matching_patterns):
+            self.assertRaises(TypeError, call)
+            self.assertRaises(TypeError, call, b"a", 0, 0)
+            self.assertRaises(TypeError, call, b"a", text=b"a")
+            self.assertRaises(TypeError, call, b"a", haystack=b"a")
+            self.assertRaises(TypeError, call, start=1)
+        self.assertTrue(regex.is_match(haystack=b"a"))
+
+
+class Regexes(unittest.TestCase):
+    def test_identity(self):
+        regex = hanneddois.Regex(["a", b"b"], hanneddois.CASE_INSENSITIVE, capacity=1 << 20, size_limit=1 << 21, nest_limit=9)
+        equal = hanneddois.Regex(("a", b"b"), 1, 1 << 20, 1 << 21, 9)
+        self.assertEqual((regex, hash(regex)), (equal, hash(equal)))
+        self.assertEqual((regex.patterns, regex.flags, regex.capacity, regex.size_limit, regex.nest_limit), (("a", b"b"), 1, 1 << 20, 1 << 21, 9))
+        self.assertEqual(repr(regex), "hanneddois.Regex(['a', b'b'], flags=1, capacity=1048576, size_limit=2097152, nest_limit=9)")
+        for other in (hanneddois.Regex(["a", b"b"]), hanneddois.Regex(["a", "b"], 1, 1 << 20, 1 << 21, 9), "a", None):
+            self.assertNotEqual(regex, other)
+        self.assertEqual(hanneddois.Regex([bytearray(b"a"), memoryview(b"b")]), hanneddois.Regex([b"a", b"b"]))
+        for name in ("patterns", "flags", "pattern_count", "new_name"):
+            with self.assertRaises(AttributeError):
+                setattr(regex, name, 1)
+
+    def test_pickled(self):
+        regex = hanneddois.Regex(["a+", b"b"], hanneddois.CASE_INSENSITIVE, nest_limit=9)
+        for protocol in range(pickle.HIGHEST_PROTOCOL + 1):
+            other = pickle.loads(pickle.dumps(regex, protocol))
+            self.assertEqual(other, regex)
+            self.assertEqual(other.find("xAa"), (0, 1, 3))
+        self.assertIs(copy.copy(regex), regex)
+        self.assertIs(copy.deepcopy(regex), regex)
+
+    def test_kept(self):
+        hanneddois.purge()
+        regex = hanneddois.compile("a", hanneddois.CASE_INSENSITIVE)
+        self.assertIs(hanneddois.compile("a", flags=hanneddois.CASE_INSENSITIVE), regex)
+        self.assertIs(hanneddois.compile(regex), regex)
+        self.assertRaises(ValueError, hanneddois.compile, regex, hanneddois.CASE_INSENSITIVE)
+        self.assertIsNot(hanneddois.compile("a"), regex)
+        self.assertIsNot(hanneddois.compile(b"a", hanneddois.CASE_INSENSITIVE), regex)
+        self.assertEqual(hanneddois.compile(bytearray(b"a")), hanneddois.compile(b"a"))
+        hanneddois.purge()
+        self.assertIsNot(hanneddois.compile("a", hanneddois.CASE_INSENSITIVE), regex)
+        self.assertEqual(hanneddois.compile("a", hanneddois.CASE_INSENSITIVE), regex)
+
+    def test_subclass(self):
+        class Named(hanneddois.Regex):
+            name = "words"
+
+        regex = Named(["[a-z]+"])
+        regex.more = 1
+        self.assertEqual((regex.find("A b"), regex.name), ((0, 2, 3), "words"))
+        self.assertIs(type(pickle.loads(pickle.dumps(hanneddois.Regex(["a"])))), hanneddois.Regex)
+
+    def test_names(self):
+        for name in hanneddois.__all__:
+            self.assertTrue(hasattr(hanneddois, name), name)
+        public = {"capacity", "clear_count", "find", "find_all", "find_iter", "finditer", "flags", "is_match", "matching_patterns",
+                  "memory_usage", "nest_limit", "pattern_count", "patterns", "search", "size_limit", "which"}
+        self.assertEqual({name for name in dir(hanneddois.Regex) if not name.startswith("_")}, public)
+        public = {"end", "group", "haystack", "pattern", "span", "start"}
+        self.assertEqual({name for name in dir(hanneddois.Match) if not name.startswith("_")}, public)
+        for each in (hanneddois.Regex, hanneddois.Match, hanneddois.Error):
+            for name in (it for it in vars(each) if not it.startswith("_")):
+                self.assertTrue(getattr(each, name).__doc__, name)
+
+
+def run_in_threads(count, job):
+    """Runs a job in threads that begin together, and raises what the first of them raised."""
+    barrier, failed = threading.Barrier(count), []
+
+    def run(number):
+        try:
+            barrier.wait()
+            job(number)
+        except BaseException as error:
+            failed.append(error)
+
+    threads = [threading.Thread(target=run, args=(number,)) for number in range(count)]
+    for thread in threads:
+        thread.start()
+    for thread in threads:
+        thread.join()
+    if failed:
+        raise failed[0]
+
+
+class Threads(unittest.TestCase):
+    def test_one_regex(self):
+        regex = hanneddois.compile(r"[a-z]+[0-9]+|é", hanneddois.NO_BYTE_CLASSES)
+        haystacks = ["ab12 " * 1000 + str(number) + " é c3" for number in range(4)] + ["a1 é", b"x9 " * 1500, bytearray(b"y8 " * 1500)]
+        wanted = [[tuple(match) for match in hanneddois.Regex(regex.patterns).find_iter(haystack)] for haystack in haystacks]
+
+        def job(number):
+            for turn in range(10):
+                at = (number + turn) % len(haystacks)
+                self.assertEqual([tuple(match) for match in regex.find_iter(haystacks[at])], wanted[at])
+                self.assertEqual(regex.find(haystacks[at]), wanted[at][0])
+                self.assertTrue(regex.is_match(haystacks[at]))
+                self.assertEqual(regex.matching_patterns(haystacks[at]), [0])
+
+        run_in_threads(8, job)
+
+    def test_compile(self):
+        hanneddois.purge()
+
+        def job(number):
+            for turn in range(20):
+                self.assertEqual(hanneddois.compile(f"a{turn}+").find(f"xa{turn}"), (0, 1, len(f"xa{turn}")))
+
+        run_in_threads(8, job)
+
+    def returns_before_search_ends(self, haystack):
+        """Whether this thread goes on while another searches. No thread has to give up the lock by itself within the interval."""
+        regex, begun, ended = hanneddois.compile(r"(?:[a-z]+ )+1"), threading.Event(), []
+        regex.find(b"a 1")
+
+        def search():
+            begun.set()
+            regex.find(haystack)
+            ended.append(True)
+
+        interval = sys.getswitchinterval()
+        sys.setswitchinterval(100)
+        try:
+            thread = threading.Thread(target=search)
+            thread.start()
+            begun.wait()
+            result = not ended
+        finally:
+            sys.setswitchinterval(interval)
+        thread.join()
+        return result
+
+    def test_lock_is_given_up(self):
+        # On a busy machine a search may end before this thread gets a processor, so there are several attempts.
+        content = b"ab " * 10_000_000
+        for haystack in (content, memoryview(content), content.decode()):
+            self.assertTrue(any(self.returns_before_search_ends(haystack) for _ in range(50)))
+
+    def test_lock_is_kept_for_what_can_be_written(self):
+        self.assertFalse(self.returns_before_search_ends(bytearray(b"ab " * 3_000_000)))
+
+    def test_one_iterator(self):
+        # Whoever comes while the other one searches gets an error. On a busy machine both may miss each other, so they try several times.
+        regex, content, failed = hanneddois.compile(r"(?:[a-z]+ )+1"), b"ab " * 10_000_000, []
+        for _ in range(50):
+            iterator = regex.find_iter(content)
+
+            def job(number):
+                try:
+                    self.assertEqual(list(iterator), [])
+                except ValueError as error:
+                    failed.append(error)
+
+            run_in_threads(2, job)
+            if failed:
+                break
+        self.assertEqual(len(failed), 1)
+
+
+class Leaks(unittest.TestCase):
+    def blocks_after(self, job, turns):
+        for _ in range(turns):
+            job()
+        gc.collect()
+        return sys.getallocatedblocks()
+
+    def memory(self):
+        with open("/proc/self/statm") as file:
+            return int(file.read().split()[1]) * os.sysconf("SC_PAGESIZE")
+
+    def check(self, job, turns):
+        """Checks that a job leaves neither Python's objects nor memory of the library."""
+        first = self.blocks_after(job, turns)
+        held = self.memory() if os.path.exists("/proc/self/statm") else None
+        self.assertLess(self.blocks_after(job, 2 * turns) - first, 50)
+        if held is not None:
+            self.assertLess(self.memory() - held, 4_000_000)
+
+    def test_searches(self):
+        regex, buffer = hanneddois.compile("[0-9]+"), bytearray(b"a12 3")
+
+        def job():
+            for haystack in ("a12 3", "é12 3", b"a12 3", buffer, memoryview(buffer), "none"):
+                match = regex.find(haystack)
+                if match:
+                    match.group(), match.span(), match == (0, 1, 3), hash(match), repr(match), list(match), match[1:], pickle.dumps(regex)
+                list(regex.find_iter(haystack))
+                next(regex.find_iter(haystack), None)
+                regex.find_all(haystack), regex.is_match(haystack), regex.matching_patterns(haystack)
+
+        self.check(job, 300)
+
+    def test_failures(self):
+        regex, strict = hanneddois.compile("[0-9]+"), hanneddois.Regex(["(?-u).", "a"])
+
+        def job():
+            for call, error in ((lambda: regex.find(5), TypeError), (lambda: regex.find("a", 9), hanneddois.Error),
+                                (lambda: regex.find_iter(memoryview(b"abc")[::2]), BufferError), (lambda: strict.find("a"), hanneddois.Error),
+                                (lambda: hanneddois.compile("a("), hanneddois.Error), (lambda: regex.find(text=1), TypeError),
+                                (lambda: hanneddois.Match(0, 0, 0).group(), ValueError), (lambda: regex.find("\ud800"), UnicodeEncodeError)):
+                self.assertRaises(error, call)
+
+        self.check(job, 100)
+
+    def test_regexes(self):
+        def job():
+            regex = hanneddois.Regex([r"[a-z]+\d"])
+            regex.find_all("abc1 def2 é3")
+            regex.matching_patterns("é1")
+
+        self.check(job, 40)
+
+    def test_long_lists(self):
+        regex, content = hanneddois.compile("[0-9]+"), b"12 " * 10000
+        self.check(lambda: (regex.find_all(content), regex.find_all(content.decode()), next(regex.find_iter(content))), 10)
+
+
+class Page(unittest.TestCase):
+    def test_examples(self):
+        page = pathlib.Path(__file__).resolve().parent.parent / "README.md"
+        failed, tried = doctest.testfile(str(page), module_relative=False)
+        self.assertEqual(failed, 0)
+        self.assertGreaterEqual(tried, 5)
+
+
+if __name__ == "__main__":
+    unittest.main()

@@ -1,0 +1,184 @@
+//! A `hanneddois_regex`, used by the rules of the header: it begins empty, one caller at a time uses it, and it is
+//! freed once.
+
+use crate::error::Error;
+use crate::sys;
+use std::ffi::c_void;
+
+/// The first list of matches has room for one match in so many bytes of the haystack.
+const BYTES_PER_ROW: usize = 8;
+/// It has at least the first number of rows, and at most the second one, which take 100 MB of addresses. The system
+/// gives memory only for rows that are written. If there are more matches, the haystack is searched a second time.
+const ROWS: (usize, usize) = (64, 1 << 22);
+
+/// A compiled regex with its caches, or nothing.
+#[derive(Debug)]
+pub(crate) struct Handle(sys::Regex);
+
+// SAFETY: any thread may use a regex, if no two do at the same time. Each call takes `&mut self`, so no two do.
+unsafe impl Send for Handle {}
+
+/// Whether the call found something, by its status.
+#[inline]
+fn outcome(status: u32, error: sys::Error) -> Result<bool, Error> {
+    match status {
+        sys::OK => Ok(true),
+        sys::NONE => Ok(false),
+        _ => Err(Error(error)),
+    }
+}
+
+/// An empty vector with room for so many elements.
+pub(crate) fn with_room<T>(count: usize) -> Result<Vec<T>, Error> {
+    let mut vec = Vec::new();
+    vec.try_reserve_exact(count).map_err(|_| Error::of(sys::NO_MEMORY))?;
+    Ok(vec)
+}
+
+impl Handle {
+    /// A handle that holds nothing. Each search of it fails.
+    pub(crate) fn empty() -> Handle {
+        Handle(sys::Regex { inside: std::ptr::null_mut() })
+    }
+
+    /// Compiles patterns.
+    pub(crate) fn new(patterns: &[String], options: &sys::Options) -> Result<Handle, Error> {
+        let mut bytes: Vec<u8> = with_room(patterns.iter().map(String::len).sum())?;
+        let mut lengths: Vec<usize> = with_room(patterns.len())?;
+        for pattern in patterns {
+            bytes.extend_from_slice(pattern.as_bytes());
+            lengths.push(pattern.len());
+        }
+        let mut handle = Handle::empty();
+        let mut error = sys::Error::default();
+        // SAFETY: the handle is empty, and each slice has the length that is passed with it. So it is in the calls
+        // below.
+        let status = unsafe {
+            sys::hanneddois_new(
+                &mut handle.0,
+                bytes.as_ptr(),
+                bytes.len(),
+                lengths.as_ptr(),
+                lengths.len(),
+                options,
+                &mut error,
+            )
+        };
+        outcome(status, error).map(|_| handle)
+    }
+
+    /// What the handle holds, as the pointer that owns it. It is null for an empty handle.
+    pub(crate) fn into_raw(self) -> *mut c_void {
+        let inside = self.0.inside;
+        std::mem::forget(self);
+        inside
+    }
+
+    /// Makes a handle of a pointer.
+    ///
+    /// # Safety
+    ///
+    /// The pointer has to come from `into_raw`, and no other handle may be made of it.
+    pub(crate) unsafe fn from_raw(inside: *mut c_void) -> Handle {
+        Handle(sys::Regex { inside })
+    }
+
+    #[inline]
+    pub(crate) fn is_match(&mut self, haystack: &[u8]) -> Result<bool, Error> {
+        let mut error = sys::Error::default();
+        // SAFETY: as in `new`.
+        let status = unsafe { sys::hanneddois_is_match(&mut self.0, haystack.as_ptr(), haystack.len(), &mut error) };
+        outcome(status, error)
+    }
+
+    #[inline]
+    pub(crate) fn find_at(&mut self, haystack: &[u8], from: usize) -> Result<Option<sys::Match>, Error> {
+        let mut found = sys::Match::default();
+        let mut error = sys::Error::default();
+        // SAFETY: as in `new`.
+        let status = unsafe {
+            sys::hanneddois_find_at(&mut self.0, haystack.as_ptr(), haystack.len(), from, &mut found, &mut error)
+        };
+        Ok(outcome(status, error)?.then_some(found))
+    }
+
+    /// The match that follows one that ended at this offset: an empty one at that offset is skipped.
+    #[inline]
+    pub(crate) fn find_after(&mut self, haystack: &[u8], end: usize) -> Result<Option<sys::Match>, Error> {
+        match self.find_at(haystack, end)? {
+            Some(found) if found.end == end && end == haystack.len() => Ok(None),
+            Some(found) if found.end == end => self.find_at(haystack, end + 1),
+            found => Ok(found),
+        }
+    }
+
+    /// All matches. After an error, the list has those before the search that failed.
+    pub(crate) fn find_all(&mut self, haystack: &[u8]) -> (Vec<sys::Match>, Result<(), Error>) {
+        let mut room = (haystack.len() / BYTES_PER_ROW).clamp(ROWS.0, ROWS.1);
+        loop {
+            let mut rows = match with_room(room) {
+                Ok(rows) => rows,
+                Err(error) => return (Vec::new(), Err(error)),
+            };
+            let mut count = 0;
+            let mut error = sys::Error::default();
+            // SAFETY: as in `new`. The call writes rows, and reads none.
+            let status = unsafe {
+                sys::hanneddois_find_all(
+                    &mut self.0,
+                    haystack.as_ptr(),
+                    haystack.len(),
+                    rows.as_mut_ptr(),
+                    rows.capacity(),
+                    &mut count,
+                    &mut error,
+                )
+            };
+            if count <= rows.capacity() {
+                // SAFETY: the call wrote this many rows.
+                unsafe { rows.set_len(count) };
+                return (rows, outcome(status, error).map(|_| ()));
+            }
+            room = count;
+        }
+    }
+
+    /// Marks the patterns that match anywhere by 1, and the others by 0. Returns how many match.
+    pub(crate) fn mark_matching(&mut self, haystack: &[u8], marks: &mut [u8]) -> Result<usize, Error> {
+        let mut count = 0;
+        let mut error = sys::Error::default();
+        // SAFETY: as in `new`.
+        let status = unsafe {
+            sys::hanneddois_matching_patterns(
+                &mut self.0,
+                haystack.as_ptr(),
+                haystack.len(),
+                marks.as_mut_ptr(),
+                marks.len(),
+                &mut count,
+                &mut error,
+            )
+        };
+        outcome(status, error).map(|_| count)
+    }
+
+    pub(crate) fn memory_usage(&mut self) -> usize {
+        // SAFETY: as in `new`.
+        unsafe { sys::hanneddois_memory_usage(&mut self.0) }
+    }
+
+    pub(crate) fn clear_count(&mut self) -> usize {
+        // SAFETY: as in `new`.
+        unsafe { sys::hanneddois_clear_count(&mut self.0) }
+    }
+}
+
+impl Drop for Handle {
+    fn drop(&mut self) {
+        // Searchers leave empty handles, which need no call.
+        if !self.0.inside.is_null() {
+            // SAFETY: the handle owns what it holds, and isn't used any more.
+            unsafe { sys::hanneddois_free(&mut self.0) }
+        }
+    }
+}

@@ -1,0 +1,167 @@
+//! The handles of a regex. A handle serves one search at a time, so a regex that threads share has several.
+
+use crate::error::Error;
+use crate::handle::{with_room, Handle};
+use crate::matches::Match;
+use crate::set::SetMatches;
+use crate::sys;
+use std::ffi::c_void;
+use std::sync::atomic::{AtomicPtr, Ordering};
+use std::sync::{Mutex, MutexGuard, PoisonError};
+
+/// The patterns and options of a regex, and those of its handles that no search uses at the moment.
+#[derive(Debug)]
+pub(crate) struct Pool {
+    patterns: Vec<String>,
+    options: sys::Options,
+    /// What the first handle owns, or null while a search uses it. One thread alone needs only this one, and takes it
+    /// without a lock.
+    first: AtomicPtr<c_void>,
+    others: Mutex<Vec<Handle>>,
+}
+
+impl Pool {
+    pub(crate) fn new(patterns: Vec<String>, options: sys::Options) -> Result<Pool, Error> {
+        let handle = Handle::new(&patterns, &options)?;
+        let first = AtomicPtr::new(handle.into_raw());
+        Ok(Pool { patterns, options, first, others: Mutex::new(Vec::new()) })
+    }
+
+    pub(crate) fn patterns(&self) -> &[String] {
+        &self.patterns
+    }
+
+    pub(crate) fn is_utf8(&self) -> bool {
+        self.options.flags & sys::UTF8 != 0
+    }
+
+    /// Takes the first handle, if no search uses it.
+    #[inline]
+    fn take_first(&self) -> Option<Handle> {
+        let first = self.first.swap(std::ptr::null_mut(), Ordering::Acquire);
+        // SAFETY: the pointer was stored by `new` or `put_first`, and was taken out by this call alone.
+        (!first.is_null()).then(|| unsafe { Handle::from_raw(first) })
+    }
+
+    /// Puts the first handle back. Only who took it does this, so the pointer is null before.
+    #[inline]
+    fn put_first(&self, handle: Handle) {
+        self.first.store(handle.into_raw(), Ordering::Release);
+    }
+
+    /// Takes another handle, or compiles one if all are in use.
+    fn take_other(&self) -> Result<Handle, Error> {
+        let other = self.others().pop();
+        other.map_or_else(|| Handle::new(&self.patterns, &self.options), Ok)
+    }
+
+    fn put_other(&self, handle: Handle) {
+        let mut others = self.others();
+        // Without memory for it in the list, the handle is freed.
+        if others.try_reserve(1).is_ok() {
+            others.push(handle);
+        }
+    }
+
+    /// No call panics while it has the lock, so the list is whole also if the lock is poisoned.
+    fn others(&self) -> MutexGuard<'_, Vec<Handle>> {
+        self.others.lock().unwrap_or_else(PoisonError::into_inner)
+    }
+}
+
+impl Drop for Pool {
+    fn drop(&mut self) {
+        // SAFETY: as in `take_first`.
+        drop(unsafe { Handle::from_raw(*self.first.get_mut()) });
+    }
+}
+
+/// A regex with caches of its own, for one thread and many short haystacks.
+///
+/// Each search of a [`Regex`](crate::Regex) takes caches from a pool and puts them back. A searcher does so once, when
+/// it is made and dropped. It can be sent to another thread, but not be shared.
+///
+/// ```
+/// # fn main() -> Result<(), hanneddois::Error> {
+/// let regex = hanneddois::Regex::new("ERROR|WARN")?;
+/// let mut searcher = regex.searcher()?;
+/// let mut count = 0;
+/// for line in ["one ERROR", "two", "three WARN"] {
+///     count += usize::from(searcher.is_match(line.as_bytes())?);
+/// }
+/// assert_eq!(count, 2);
+/// # Ok(())
+/// # }
+/// ```
+#[derive(Debug)]
+pub struct Searcher<'r> {
+    pool: &'r Pool,
+    /// Whether the handle is the first one of the pool.
+    has_first: bool,
+    pub(crate) handle: Handle,
+}
+
+impl<'r> Searcher<'r> {
+    #[inline]
+    pub(crate) fn new(pool: &'r Pool) -> Result<Searcher<'r>, Error> {
+        let first = pool.take_first();
+        let has_first = first.is_some();
+        let handle = first.map_or_else(|| pool.take_other(), Ok)?;
+        Ok(Searcher { pool, has_first, handle })
+    }
+
+    /// Whether there is a match, as [`Regex::is_match`](crate::Regex::is_match).
+    pub fn is_match(&mut self, haystack: &[u8]) -> Result<bool, Error> {
+        self.handle.is_match(haystack)
+    }
+
+    /// The leftmost match, as [`Regex::find`](crate::Regex::find).
+    pub fn find<'h>(&mut self, haystack: &'h [u8]) -> Result<Option<Match<'h>>, Error> {
+        self.find_at(haystack, 0)
+    }
+
+    /// The leftmost match from an offset on, as [`Regex::find_at`](crate::Regex::find_at).
+    pub fn find_at<'h>(&mut self, haystack: &'h [u8], start: usize) -> Result<Option<Match<'h>>, Error> {
+        let found = self.handle.find_at(haystack, start)?;
+        Ok(found.map(|it| Match::new(haystack, it)))
+    }
+
+    /// All matches in a list, as [`Regex::find_all`](crate::Regex::find_all).
+    pub fn find_all<'h>(&mut self, haystack: &'h [u8]) -> Result<Vec<Match<'h>>, Error> {
+        let (rows, outcome) = self.handle.find_all(haystack);
+        outcome?;
+        let mut matches = with_room(rows.len())?;
+        matches.extend(rows.into_iter().map(|it| Match::new(haystack, it)));
+        Ok(matches)
+    }
+
+    /// Which patterns match, as [`Regex::matching_patterns`](crate::Regex::matching_patterns).
+    pub fn matching_patterns(&mut self, haystack: &[u8]) -> Result<SetMatches, Error> {
+        let count = self.pool.patterns.len();
+        let mut marks = with_room(count)?;
+        marks.resize(count, 0);
+        let matched = self.handle.mark_matching(haystack, &mut marks)?;
+        Ok(SetMatches::new(marks, matched))
+    }
+
+    /// An estimate of how many bytes the caches need now.
+    pub fn memory_usage(&mut self) -> usize {
+        self.handle.memory_usage()
+    }
+
+    /// How often the caches were cleared since they were made.
+    pub fn clear_count(&mut self) -> usize {
+        self.handle.clear_count()
+    }
+}
+
+impl Drop for Searcher<'_> {
+    fn drop(&mut self) {
+        let handle = std::mem::replace(&mut self.handle, Handle::empty());
+        if self.has_first {
+            self.pool.put_first(handle);
+        } else {
+            self.pool.put_other(handle);
+        }
+    }
+}
