@@ -7,7 +7,7 @@ use crate::settings::Settings;
 use std::io::Write;
 use std::process::{Command, Stdio};
 
-const NO_PATTERN: u32 = 5;
+const SYNTAX_ERROR: u32 = 5;
 
 /// How many matches there are, and the sums of their patterns, starts and ends.
 #[repr(C)]
@@ -52,7 +52,7 @@ fn number_behind(line: &str, words: &str) -> Option<usize> {
 }
 
 /// The head of the patterns, up to its `find` line.
-fn head_of(patterns: &[String], settings: &Settings) -> Result<Vec<u8>, Refusal> {
+fn query_for(patterns: &[String], settings: &Settings) -> Result<Vec<u8>, Refusal> {
     let utf8 = if settings.utf8 { "on" } else { "off" };
     // An argument has no byte 0.
     let spelled = patterns.iter().map(|it| settings.spelled(it).replace('\0', "\\x00"));
@@ -60,7 +60,7 @@ fn head_of(patterns: &[String], settings: &Settings) -> Result<Vec<u8>, Refusal>
     if !made.status.success() {
         let said = String::from_utf8_lossy(&made.stderr).into_owned();
         let pattern = number_behind(&said, "pattern ").unwrap_or_default();
-        return Err(Refusal { status: NO_PATTERN, pattern, ..Refusal::default() });
+        return Err(Refusal { status: SYNTAX_ERROR, pattern, ..Refusal::default() });
     }
     let mut head = Vec::new();
     let lines = [(settings.least, "capacity 1\n"), (settings.apart, "classes off\n"), (settings.shrink, "shrink on\n")];
@@ -97,7 +97,7 @@ fn refusal_of(line: &str) -> Option<Refusal> {
     } else if let Some(start) = number_behind(cause, "haystack not UTF-8 at ") {
         Refusal { start, ..status(HAYSTACK_NOT_UTF8) }
     } else {
-        status(NO_PATTERN)
+        status(SYNTAX_ERROR)
     })
 }
 
@@ -131,7 +131,7 @@ fn unsupported() -> Refusal {
 
 impl Ours {
     pub fn new(patterns: &[String], settings: &Settings) -> Result<Ours, Refusal> {
-        let head = head_of(patterns, settings)?;
+        let head = query_for(patterns, settings)?;
         match listed(&scanned(&head, b"")).refusal {
             Some(it) if !(it.status == EMPTY_LOOP && settings.empty_loops) => Err(it),
             _ => Ok(Ours { head, utf8: settings.utf8, has_asked: false }),

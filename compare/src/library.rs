@@ -1,39 +1,50 @@
-//! The stack by the library's calls for C, which the Rust example of the library declares.
+//! The stack by the library for C, through its crate for Rust.
 
-use crate::ours::hanneddois::{Error, Options, Regex};
 use crate::ours::{Listed, Match, Refusal};
 use crate::settings::Settings;
-
-const UTF8: u32 = 1 << 8;
-const EMPTY_LOOPS: u32 = 1 << 9;
-const WHICH: u32 = 1 << 10;
-const RAISE_CAPACITY: u32 = 1 << 11;
-const NO_BYTE_CLASSES: u32 = 1 << 12;
-const SHRINK: u32 = 1 << 13;
+use hanneddois::{Error, Regex, RegexBuilder};
 
 /// A compiled regex with its caches.
 pub struct Ours(Regex);
 
 fn refused(error: Error) -> Refusal {
-    Refusal { status: error.status, cause: error.cause, pattern: error.pattern, start: error.start, byte: 0 }
+    let start = error.span().map_or(error.offset(), |it| Some(it.start));
+    Refusal {
+        status: error.status(),
+        cause: error.cause(),
+        pattern: error.pattern().unwrap_or_default(),
+        start: start.unwrap_or_default(),
+        byte: 0,
+    }
 }
 
-fn flags_of(settings: &Settings) -> u32 {
-    let on = |yes: bool, flag: u32| if yes { flag } else { 0 };
-    settings.meaning
-        | on(settings.utf8, UTF8)
-        | on(settings.empty_loops, EMPTY_LOOPS)
-        | on(settings.which, WHICH)
-        | on(settings.least, RAISE_CAPACITY)
-        | on(settings.apart, NO_BYTE_CLASSES)
-        | on(settings.shrink, SHRINK)
+fn match_of(found: hanneddois::Match) -> Match {
+    Match { pattern: found.pattern(), start: found.start(), end: found.end() }
+}
+
+fn builder_of(patterns: &[String], settings: &Settings) -> RegexBuilder {
+    let mut builder = RegexBuilder::new_many(patterns);
+    builder
+        .case_insensitive(settings.means('i'))
+        .multi_line(settings.means('m'))
+        .dot_matches_new_line(settings.means('s'))
+        .swap_greed(settings.means('U'))
+        .ignore_whitespace(settings.means('x'))
+        .unicode(settings.is_unicode())
+        .utf8(settings.utf8)
+        .empty_loops(settings.empty_loops)
+        .matching_patterns(settings.which)
+        .byte_classes(!settings.apart)
+        .shrink(settings.shrink);
+    if settings.least {
+        builder.dfa_size_limit(1).skip_cache_capacity_check(true);
+    }
+    builder
 }
 
 impl Ours {
     pub fn new(patterns: &[String], settings: &Settings) -> Result<Ours, Refusal> {
-        let texts: Vec<&str> = patterns.iter().map(String::as_str).collect();
-        let options = Options { flags: flags_of(settings), capacity: settings.least.into(), ..Options::default() };
-        Regex::with(&texts, &options).map(Ours).map_err(refused)
+        builder_of(patterns, settings).build().map(Ours).map_err(refused)
     }
 
     pub fn is_match(&mut self, haystack: &[u8]) -> Result<bool, Refusal> {
@@ -41,7 +52,7 @@ impl Ours {
     }
 
     pub fn find_at(&mut self, haystack: &[u8], from: usize) -> Result<Option<Match>, Refusal> {
-        self.0.find_at(haystack, from).map_err(refused)
+        self.0.find_at(haystack, from).map(|it| it.map(match_of)).map_err(refused)
     }
 
     /// The first match.
@@ -49,21 +60,25 @@ impl Ours {
         self.find_at(haystack, 0)
     }
 
-    /// All matches. The list that is expected isn't needed.
+    /// All matches. The list that is expected isn't needed. The crate's iterator has to find what the library lists.
     pub fn find_all(&mut self, haystack: &[u8], _expected: &[Match]) -> Listed {
-        match self.0.find_all(haystack) {
-            Ok(matches) => Listed { matches, refusal: None },
+        let listed = self.0.find_all(haystack);
+        let iterated: Result<Vec<_>, Error> = self.0.find_iter(haystack).collect();
+        assert!(listed == iterated, "the iterator finds {iterated:?} rather than {listed:?}");
+        match listed {
+            Ok(matches) => Listed { matches: matches.into_iter().map(match_of).collect(), refusal: None },
             Err(error) => Listed { matches: Vec::new(), refusal: Some(refused(error)) },
         }
     }
 
     /// Which patterns match anywhere.
     pub fn which(&mut self, haystack: &[u8]) -> Result<Vec<bool>, Refusal> {
-        self.0.which(haystack).map_err(refused)
+        let matches = self.0.matching_patterns(haystack).map_err(refused)?;
+        Ok((0..matches.len()).map(|it| matches.matched(it)).collect())
     }
 
     /// How often its caches were cleared.
     pub fn clear_count(&mut self) -> usize {
-        self.0.clear_count()
+        self.0.searcher().map_or(0, |mut it| it.clear_count())
     }
 }

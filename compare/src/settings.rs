@@ -53,6 +53,12 @@ impl Settings {
         self.meaning & NO_UNICODE == 0
     }
 
+    /// Whether the option with this letter is on.
+    #[cfg(not(feature = "heads"))]
+    pub fn means(&self, letter: char) -> bool {
+        MEANINGS.iter().any(|it| it.1 == letter && self.meaning & it.0 != 0)
+    }
+
     /// The same options as a group of flags before a pattern: the crate's engines can't be chosen with options.
     pub fn spelled(&self, pattern: &str) -> String {
         let on: String = MEANINGS.iter().filter(|it| self.meaning & it.0 != 0).map(|it| it.1).collect();

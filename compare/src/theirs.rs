@@ -61,7 +61,7 @@ impl Engine {
     }
 
     /// The next place where a search may begin.
-    fn place_behind(&self, haystack: &[u8], at: usize) -> usize {
+    fn offset_after(&self, haystack: &[u8], at: usize) -> usize {
         match self {
             Engine::Text(_) => {
                 let text = text_of(haystack);
@@ -105,7 +105,7 @@ impl Theirs {
                 matches.push(found);
             }
             at = if found.start == found.end {
-                self.engines[0].place_behind(haystack, found.end)
+                self.engines[0].offset_after(haystack, found.end)
             } else {
                 found.end
             };

@@ -21,11 +21,11 @@ use Rattle.capi.specs.Compiled.{span_of_row, as_found}
 use Rattle.capi.specs.Fallbacks.{row_of_span, better_match, best_of}
 use Rattle.capi.proofs.ListLemmas.{mapped_get, get_mapped}
 
--- the span of the match from a place on
+-- the span of the match from an offset on
 abbrev pub span_at : Bool → List ℕ → ℕ → Re → Option (ℕ × ℕ)
 span_at utf8 h at a = option_map span_of_match (found_from utf8 a h at)
 
--- ---- spans, and the one with the lesser start
+-- ---- spans, and the one with the smaller start
 abbrev sooner : Option (ℕ × ℕ) → Option (ℕ × ℕ) → Option (ℕ × ℕ)
 sooner None b = b
 sooner (Some a) None = Some a
@@ -35,7 +35,7 @@ abbrev soonest : List (Option (ℕ × ℕ)) → Option (ℕ × ℕ)
 soonest [] = None
 soonest (s ∷ ss) = sooner s (soonest ss)
 
--- the first of two that start at a place, before what starts later
+-- the first of two that start at an offset, before what starts later
 first_here : (i j : ℕ) (o : Option (ℕ × ℕ)) → NoEarlier i o → sooner (Some (i, j)) o ≡ Some (i, j)
 first_here i j None later = refl
 first_here i j (Some s) later = ap (λ b. if b then Some s else Some (i, j))
@@ -195,7 +195,7 @@ module _ (utf8 : Bool) (a : Re) (h : List ℕ) (at : ℕ) where
           same_Some (m.start, m.trace.end) (i, j) (sym (ap (option_map span_of_match) one) ∙ some) in
           subst (λ (s : ℕ × ℕ). IsBegun s.0 s.1) same (begun m.start m.trace first.from first.to (may_begin utf8 h m.start) refl first.here)
 
-  -- where it has one, it finds one that starts there or before
+  -- if it has one, it finds one that starts there or before
   begun_found : (i j : ℕ) → IsBegun i j → (s : ℕ × ℕ) × (span_at utf8 h at a ≡ Some s) × (s.0 ≤ i)
   begun_found i j m = by (first_between (tried utf8 h a) at (length h)) refl
     where

@@ -1,4 +1,4 @@
--- What the toolchain's regexes find is what the patterns of the texts have.
+-- What the toolchain's regexes find is what the parsed patterns have.
 use Rattle.std.proofs.Common.{◌≡◌, ℕ, zero, suc, ◌+◌, ◌<◌, ◌≤◌, Bool, true, false, List, [], ◌∷◌, ◌++◌, All, length, map, take}
 use Rattle.std.proofs.Common.{slice_index_or, Option, Some, None}
 use Rattle.std.proofs.Common.{option_map, refl, sym, ap, ap₂, ◌∙◌, subst, arith, IsSomeAnd, chars, get_or, is_some, String, string_bytes}
@@ -30,7 +30,7 @@ use Rattle.capi.specs.Compiled.{HasFoundStart, HasFoundSpan, AreWhich, span_of_r
 use Rattle.capi.specs.Fallbacks.{IsFallbackOf, AreFallbacksOf, span_by, finds_any, best_of}
 use Rattle.capi.proofs.BestLemmas.{span_at, best_is_found, best_of_first}
 
--- the text is read as this pattern
+-- the pattern is parsed as this
 abbrev IsReadOne : Config → List ℕ → Re → Type 0
 IsReadOne config t a = IsSomeAnd (read config (chars t)) (λ (re, names). (re.depth ≤ config.nest_limit) × (re.value ≡ a))
 
@@ -94,10 +94,10 @@ module _ (h : List ℕ) (bytes : All (λ b. b < 256) h) (config : Config) where
   each_which [] = refl
   each_which (a ∷ res) = ap₂ (λ (b : Bool) (bs : List Bool). b ∷ bs) (sym (some_span (found_from config.utf8 a h 0))) (each_which res)
 
-  pub which_slowly : (ts : List (List ℕ)) (rs : List Fallback) (told : List Bool) → AreFallbacksOf config ts rs →
-      told ≡ map (finds_any h) rs →
-      AreWhich config ts h told
-  which_slowly ts rs told of is res read = is ∙ each_any rs ∙ ap (map is_some) (all_spans ts rs res 0 of read) ∙ each_which res
+  pub which_slowly : (ts : List (List ℕ)) (rs : List Fallback) (reported : List Bool) → AreFallbacksOf config ts rs →
+      reported ≡ map (finds_any h) rs →
+      AreWhich config ts h reported
+  which_slowly ts rs reported of is res read = is ∙ each_any rs ∙ ap (map is_some) (all_spans ts rs res 0 of read) ∙ each_which res
 
   module _ (ts : List (List ℕ)) (rs : List Fallback) (at : ℕ) (of : AreFallbacksOf config ts rs) (o : Option FoundMatch)
       (is : o ≡ best_of 0 (map (span_by h at) rs)) where
@@ -125,7 +125,7 @@ module _ (h : List ℕ) (bytes : All (λ b. b < 256) h) (config : Config) where
       pattern = λ res read. first_by res o (λ f e. best_of_first config.utf8 h at res f (sym (best res read) ∙ e));
     }
 
--- ---- texts whose regexes are made one by one
+-- ---- patterns whose regexes are made one by one
 next_fallback : (config : Config) (ts : List (String Global)) (d : String Global) (n : ℕ) (rs : List Fallback) (r : Fallback) →
     n < length ts →
     AreFallbacksOf config (take n (map string_bytes ts)) rs → IsFallbackOf config (string_bytes (slice_index_or ts n d)) r →

@@ -1,4 +1,4 @@
--- What is told of a haystack, by what searches promise.
+-- What is reported of a haystack, by what searches promise.
 use Rattle.std.proofs.Common.{◌≡◌, ◌<◌, ℕ, suc, Bool, true, false, List, [], ◌∷◌, All, length, map, replicate, Option, Some, None, Ok}
 use Rattle.std.proofs.Common.{ap, sym, subst, ◌∙◌, refl, arith}
 use Rattle.std.specs.Prelude.{is_some, option_map, IfSome}
@@ -16,7 +16,7 @@ use Rattle.search_types.specs.declared.match_kind.MatchKind.TheVariants.{Leftmos
 use Rattle.search_types.specs.Found.{Found}
 use Rattle.lazy_dfa.specs.Caches.{CacheValue}
 use Rattle.lazy_dfa.specs.ConfigValue.{kind_of}
-use Rattle.lazy_dfa.specs.WalkAnswers.{AnswersWhich}
+use Rattle.lazy_dfa.specs.OverlappingAnswers.{AnswersWhich}
 use Rattle.regex_pair.specs.Pairs.{Pair, PairCache}
 use Rattle.regex_pair.specs.PairAnswers.{AnswersPair}
 use Rattle.hirscan.specs.declared.settings.Settings.{Settings}
@@ -27,7 +27,7 @@ use Rattle.pattern_search.specs.Texts.{AreReadAs, AllMean}
 use Rattle.pattern_search.specs.Written.{AnswersWhatIsWritten}
 use Rattle.pattern_search.proofs.ForCallers.{alike_some, same_patterns}
 use Rattle.capi.specs.declared.failure.FoundMatch.{FoundMatch}
-use Rattle.capi.specs.Compiled.{AreBuiltOf, AreMarked, AreWhich, HasFoundStart, HasFoundSpan, IsTold, as_found, hits, mark, overlaid}
+use Rattle.capi.specs.Compiled.{AreBuiltOf, AreMarked, AreWhich, HasFoundStart, HasFoundSpan, IsReported, as_found, hits, mark, overlaid}
 use Rattle.capi.specs.Compiled.{span_of_row}
 use Rattle.capi.specs.Failures.{row_of}
 use Rattle.capi.proofs.ListLemmas.{whole_laid}
@@ -46,7 +46,7 @@ row_pattern : (res : List Re) (h : List ℕ) (o : Option Found) → ((f : Found)
 row_pattern res h None each = tt
 row_pattern res h (Some f) each = each f refl
 
--- what the laws of searches say of regexes of texts
+-- what the laws of searches say of regexes of patterns
 abbrev pub Law : Config → List (List ℕ) → Pair → Type 0
 Law config texts p =
     (xs : List Tree) → AllMean config texts xs → (s : Settings) → IsBuilt xs s p → FindsFirst s → s.line_terminator ≡ one_of 10 →
@@ -101,9 +101,9 @@ module _ (config : Config) (texts : List (List ℕ)) (p : Pair) (law : Law confi
       ∙ row_span o
 
 -- whether there is a match
-pub told_of : (config : Config) (texts : List (List ℕ)) (h : List ℕ) (o : Option FoundMatch) → HasFoundStart config texts h 0 o →
-    IsTold config texts h (is_some o)
-told_of config texts h o found res read = sym (alike_some _ _ _ _ (found.start res read))
+pub progress_of : (config : Config) (texts : List (List ℕ)) (h : List ℕ) (o : Option FoundMatch) → HasFoundStart config texts h 0 o →
+    IsReported config texts h (is_some o)
+progress_of config texts h o found res read = sym (alike_some _ _ _ _ (found.start res read))
 
 -- ---- which patterns match
 texts_as_many : (config : Config) (texts : List (List ℕ)) (xs : List Tree) → AllMean config texts xs → length xs ≡ length texts
@@ -118,7 +118,7 @@ read_as_many config [] (a ∷ res) m = absurd m
 read_as_many config (t ∷ ts) [] m = absurd m
 read_as_many config (t ∷ ts) (a ∷ res) m = ap suc (read_as_many config ts res m.1)
 
--- what the laws of walks say of regexes of texts
+-- what the laws of overlapping searches say of regexes of patterns
 abbrev pub WalkLaw : Config → List (List ℕ) → Pair → Type 0
 WalkLaw config texts p = (xs : List Tree) → AllMean config texts xs → (s : Settings) → IsBuilt xs s p → kind_of s.dfa ≡ AllMatches →
     s.line_terminator ≡ one_of 10 →
@@ -126,30 +126,30 @@ WalkLaw config texts p = (xs : List Tree) → AllMean config texts xs → (s : S
     AnswersWhich p.forward v (whole_search h 0) (replicate (length xs) false) set (Ok tt) →
     (res : List Re) × AreReadAs config texts res × (set ≡ which_match s.utf8 res h)
 
-pub walk_told : (config : Config) (texts : List (List ℕ)) (p : Pair) → WalkLaw config texts p →
+pub overlapping_progress : (config : Config) (texts : List (List ℕ)) (p : Pair) → WalkLaw config texts p →
     (it : AreBuiltOf config texts AllMatches p) →
     (h : List ℕ) → All (λ b. b < 256) h → (config.utf8 ≡ true → IsValidText h) → (v : CacheValue) (old set : List Bool) →
     old ≡ replicate (length texts) false → AnswersWhich p.forward v (whole_search h 0) old set (Ok tt) → AreWhich config texts h set
-walk_told config texts p law it h bytes valid v old set empty answer res read =
+overlapping_progress config texts p law it h bytes valid v old set empty answer res read =
     let begins : old ≡ replicate (length it.trees) false =
     empty ∙ ap (λ n. replicate n false) (sym (texts_as_many config texts it.trees it.mean)) in
-    let told =
+    let reported =
     law it.trees it.mean it.settings it.built it.kind_is it.lines h (is_search config texts AllMatches p it h bytes valid 0) v set
     (subst (λ (s : List Bool). AnswersWhich p.forward v (whole_search h 0) s set (Ok tt)) begins answer) in
-    told.2
-    ∙ ap (λ (u : Bool). which_match u told.0 h) it.mode
-    ∙ ap (λ (rs : List Re). which_match config.utf8 rs h) (same_patterns config texts told.0 res told.1 read)
+    reported.2
+    ∙ ap (λ (u : Bool). which_match u reported.0 h) it.mode
+    ∙ ap (λ (rs : List Re). which_match config.utf8 rs h) (same_patterns config texts reported.0 res reported.1 read)
 
--- the marks of what is told lie in the places of the patterns
-pub marked_of : (config : Config) (texts : List (List ℕ)) (h : List ℕ) (told : List Bool) (n : ℕ) (old new : List ℕ) →
-    AreWhich config texts h told →
-    length old ≡ length texts → new ≡ overlaid (map mark told) old → n ≡ hits told → AreMarked config texts h n new
-marked_of config texts h told n old new which places is counted = record {
-  marked = λ res read. is ∙ whole_laid (map mark told) old (as_many res read) ∙ ap (map mark) (which res read);
+-- the marks of what is reported lie at the indices of the patterns
+pub marked_of : (config : Config) (texts : List (List ℕ)) (h : List ℕ) (reported : List Bool) (n : ℕ) (old new : List ℕ) →
+    AreWhich config texts h reported →
+    length old ≡ length texts → new ≡ overlaid (map mark reported) old → n ≡ hits reported → AreMarked config texts h n new
+marked_of config texts h reported n old new which places is counted = record {
+  marked = λ res read. is ∙ whole_laid (map mark reported) old (as_many res read) ∙ ap (map mark) (which res read);
   count = λ res read. counted ∙ ap hits (which res read);
 }
   where
-    as_many : (res : List Re) → AreReadAs config texts res → length (map mark told) ≡ length old
+    as_many : (res : List Re) → AreReadAs config texts res → length (map mark reported) ≡ length old
     as_many res read =
-        length-map told mark ∙ ap length (which res read) ∙ length-map res (λ re. is_some (found_from config.utf8 re h 0))
+        length-map reported mark ∙ ap length (which res read) ∙ length-map res (λ re. is_some (found_from config.utf8 re h 0))
         ∙ read_as_many config texts res read ∙ sym places

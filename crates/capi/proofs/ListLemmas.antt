@@ -23,7 +23,7 @@ map_laid f [] ys = refl
 map_laid f (x ∷ xs) [] = refl
 map_laid f (x ∷ xs) (y ∷ ys) = ap (λ (zs : List _). f x ∷ zs) (map_laid f xs ys)
 
--- as many as there are places cover all of them
+-- as many as there are elements cover all of them
 pub whole_laid : {A : Type 0} (xs ys : List A) → length xs ≡ length ys → overlaid xs ys ≡ xs
 unfolding overlaid
 whole_laid [] [] e = refl
@@ -41,7 +41,7 @@ mapped_at f [] n d e below = absurd (omega arith)
 mapped_at f (x ∷ xs) zero d e below = refl
 mapped_at f (x ∷ xs) (suc n) d e below = mapped_at f xs n d e (omega (arith, below))
 
--- what stands at a place of a list that is made of another
+-- what is at an index of a list that is made of another
 pub mapped_get : {A B : Type 0} (f : A → B) (xs : List A) (n : ℕ) (y : B) → slice_get (map f xs) n ≡ Some y →
     (x : A) × (slice_get xs n ≡ Some x) × (f x ≡ y)
 mapped_get f [] n y is = absurd (none-some y is)
@@ -66,7 +66,7 @@ one_more_row fs f n old rows now count is put =
 pub one_more_counted : (fs : List FoundMatch) (f : FoundMatch) (n : ℕ) → n ≡ length fs → n + 1 ≡ length (fs ++ f ∷ [])
 one_more_counted fs f n count = ap (λ (k : ℕ). k + 1) count ∙ sym (length-append fs (f ∷ []))
 
--- one more byte lies in its place
+-- one more byte lies at its index
 pub one_more_byte : (bytes : List ℕ) (at d : ℕ) (old room now : List ℕ) → at < length bytes → room ≡ overlaid (take at bytes) old →
     now ≡ slice_set room at (slice_index_or bytes at d) → now ≡ overlaid (take (at + 1) bytes) old
 one_more_byte bytes at d old room now below is put =
@@ -82,7 +82,7 @@ pub all_bytes : (bytes : List ℕ) (at : ℕ) (old room : List ℕ) → length b
     room ≡ overlaid bytes old
 all_bytes bytes at old room above is = is ∙ ap (λ (bs : List ℕ). overlaid bs old) (take_all at bytes above)
 
--- what holds of each in the first list holds of as many places of what it is laid over
+-- what holds of each in the first list holds of as many elements of what it is laid over
 pub all_laid : {A : Type 0} (P : A → Type 0) (xs ys : List A) → All P xs → All P (take (length xs) (overlaid xs ys))
 unfolding overlaid
 all_laid P [] ys each = All-nil P

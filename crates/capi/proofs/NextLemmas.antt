@@ -23,7 +23,7 @@ use Rattle.capi.specs.Compiled.{AreAll, AreFirstOfAll, HasFoundSpan, HasPattern,
 use Rattle.capi.proofs.ListLemmas.{all_laid, map_laid, map_more, one_more_row, one_more_counted}
 
 -- ---- the next one
--- behind the haystack nothing is found
+-- after the haystack nothing is found
 beyond : (utf8 : Bool) (a : Re) (h : List ℕ) (at : ℕ) → length h < at → found_from utf8 a h at ≡ None
 beyond utf8 a h at above = found_is utf8 a h at ∙ first_between_past (tried utf8 h a) at (length h) above
 
@@ -38,13 +38,13 @@ module _ (config : Config) (texts : List (List ℕ)) (h : List ℕ) (end : ℕ) 
   abbrev from : List Re → ℕ → Option Match
   from res = found_from config.utf8 (alt_all res) h
 
-  -- behind the haystack
+  -- after the haystack
   pub next_beyond : length h < end → IsNext config texts h end None
   next_beyond above res read =
       ap (λ (o : Option Match). option_map span_of_match (if is_some_and o (λ m. m.trace.end == end) then from res (end + 1) else o))
       (beyond config.utf8 (alt_all res) h end above)
 
-  -- the one from there on, where it doesn't end there
+  -- the one from there on, if it doesn't end there
   pub next_there : (o : Option FoundMatch) → HasFoundSpan config texts h end o → is_some_and o (λ r. FoundMatch.end r == end) ≡ false →
       IsNext config texts h end o
   next_there o found goes_on res read =
@@ -52,20 +52,20 @@ module _ (config : Config) (texts : List (List ℕ)) (h : List ℕ) (end : ℕ) 
       (same_end (from res end) o end (found res read) ∙ goes_on)
       ∙ found res read
 
-  -- and else the one from the next place on
-  next_behind : (o : Option FoundMatch) → HasFoundSpan config texts h end o → is_some_and o (λ r. FoundMatch.end r == end) ≡ true →
+  -- and else the one from the next offset on
+  next_after : (o : Option FoundMatch) → HasFoundSpan config texts h end o → is_some_and o (λ r. FoundMatch.end r == end) ≡ true →
       (res : List Re) → AreReadAs config texts res → find_after (from res) end ≡ from res (end + 1)
-  next_behind o found ends res read =
+  next_after o found ends res read =
       ap (λ (b : Bool). if b then from res (end + 1) else from res end) (same_end (from res end) o end (found res read) ∙ ends)
 
   pub next_later : (o next : Option FoundMatch) → HasFoundSpan config texts h end o → is_some_and o (λ r. FoundMatch.end r == end) ≡ true →
       HasFoundSpan config texts h (end + 1) next → IsNext config texts h end next
-  next_later o next found ends later res read = ap (option_map span_of_match) (next_behind o found ends res read) ∙ later res read
+  next_later o next found ends later res read = ap (option_map span_of_match) (next_after o found ends res read) ∙ later res read
 
   pub next_none : (o : Option FoundMatch) → HasFoundSpan config texts h end o → is_some_and o (λ r. FoundMatch.end r == end) ≡ true →
       length h ≡ end → IsNext config texts h end None
   next_none o found ends last res read =
-      ap (option_map span_of_match) (next_behind o found ends res read ∙ beyond config.utf8 (alt_all res) h (end + 1) (omega (arith, last)))
+      ap (option_map span_of_match) (next_after o found ends res read ∙ beyond config.utf8 (alt_all res) h (end + 1) (omega (arith, last)))
 
 -- ---- all of them
 -- so many matches were taken and lie in the rows, and what is left begins with the next one
@@ -191,7 +191,7 @@ module _ (config : Config) (texts : List (List ℕ)) (h : List ℕ) (old : List 
       ∙ ap (λ (xs : List Match). map span_of_row it.taken ++ map span_of_match xs) (ap (λ (n : ℕ). matches_from s n r.0) out ∙ over s r.0)
       ∙ append-nil (map span_of_row it.taken))
 
-  -- ---- the first of them, where a search fails
+  -- ---- the first of them, if a search fails
   -- a list begins with its first part
   first_part : {A : Type 0} (xs ys : List A) → take (length xs) (xs ++ ys) ≡ xs
   first_part xs ys = grind (arith, common_steps)

@@ -1,4 +1,4 @@
--- Matches one after the other, whatever the loops of the patterns consume.
+-- Matches one after the other, whatever the repetitions of the patterns consume.
 use Rattle.std.proofs.Common.{◌≡◌, ◌≢◌, ℕ, suc, ◌+◌, ◌<◌, ◌≤◌, ◌==◌, Bool, true, false, List, [], ◌∷◌, ◌++◌, length, max, slice_set}
 use Rattle.std.proofs.Common.{Option, Some, None, option_map, subst, refl, sym, ap, ◌∙◌, arith, eq-eqb, eqb-true, true≢false, length-append}
 use Rattle.std.specs.Prelude.{IfSome}
@@ -77,7 +77,8 @@ module _ (config : Config) (texts : List (List ℕ)) (h : List ℕ) (end : ℕ) 
   listed_there o start other res read = follows_there config.utf8 res h end o (of_start config texts h end o start res read) other
 
   pub listed_later : (o next : Option FoundMatch) → HasFoundStart config texts h end o →
-      is_some_and o (λ f. FoundMatch.end f == end) ≡ true → HasFoundStart config texts h (end + 1) next → IsNextListed config texts h end next
+      is_some_and o (λ f. FoundMatch.end f == end) ≡ true → HasFoundStart config texts h (end + 1) next →
+      IsNextListed config texts h end next
   listed_later o next start ends later res read =
       follows_later config.utf8 res h end o next (of_start config texts h end o start res read) ends
       (of_start config texts h (end + 1) next later res read)
@@ -105,12 +106,13 @@ module _ (utf8 : Bool) (res : List Re) (h : List ℕ) where
       let span = span_found utf8 res h (end + 1) f later in
       (omega (arith, span.0, span.1), span.2)
 
-  reaches : (last : Option ℕ) (fs : List FoundMatch) → AreInOrder utf8 res h last fs → reached last + length fs ≤ reached (end_of_last last fs)
+  reaches : (last : Option ℕ) (fs : List FoundMatch) → AreInOrder utf8 res h last fs →
+      reached last + length fs ≤ reached (end_of_last last fs)
   unfolding reached
   reaches last [] it = omega arith
   reaches last (f ∷ fs) it = omega (arith, (rises last f it.0).0, reaches (Some f.end) fs it.1)
 
-  -- where there are more of them than bytes, none follows
+  -- if there are more of them than bytes, none follows
   none_more : (fs : List FoundMatch) → AreInOrder utf8 res h None fs → length h < length fs → (o : Option FoundMatch) →
       ComesNext utf8 res h (end_of_last None fs) o → ComesNext utf8 res h (end_of_last None fs) None
   unfolding reached

@@ -1,10 +1,10 @@
--- Why searches are refused.
+-- Why searches return errors.
 use Rattle.std.proofs.Common.{◌<◌, ℕ, zero, suc, List, [], ◌∷◌, length, slice_index_or, arith}
 use Rattle.regex_syntax.specs.declared.Config.{Config}
 use Rattle.capi.specs.declared.fallback.Fallback.{Fallback}
 use Rattle.capi.specs.Fallbacks.{IsFallbackOf, AreFallbacksOf}
 
--- each of several regexes is of a text
+-- each of several regexes is of a pattern
 pub each_of : (config : Config) (ts : List (List ℕ)) (rs : List Fallback) (k : ℕ) (d : Fallback) → AreFallbacksOf config ts rs →
     k < length rs → (t : List ℕ) × IsFallbackOf config t (slice_index_or rs k d)
 each_of config [] [] k d of few = absurd (omega (arith, few))

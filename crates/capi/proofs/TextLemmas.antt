@@ -1,4 +1,4 @@
--- Texts that are cut off one by one.
+-- Patterns that are cut off one by one.
 use Rattle.std.proofs.Common.{◌≡◌, ◌≢◌, ℕ, suc, ◌+◌, ◌-◌, ◌<◌, ◌≤◌, List, [], ◌∷◌, ◌++◌, length, take, drop, slice_index_or, slice_get}
 use Rattle.std.proofs.Common.{Option, Some, refl, subst, sym, ap, ap₂, ◌∙◌, append_assoc, append-nil, arith, drop-cons, drop_of_length-le}
 use Rattle.std.proofs.Common.{length-append, length-drop, zero, ◌==◌, false, true≢false}
@@ -6,11 +6,11 @@ use Rattle.std.specs.List.{sum_by}
 use Rattle.std.proofs.lemmas.List.Sums.{sum_by-drop_more, sum_by-take-drop}
 use Rattle.capi.specs.declared.failure.NewError.{NewError}
 use Rattle.capi.specs.declared.failure.NewError.TheVariants.{NotUtf8}
-use Rattle.capi.specs.Compiled.{IsCutRefused}
+use Rattle.capi.specs.Compiled.{IsSplitError}
 use Rattle.capi.specs.Texts.{IsNoText, cut}
 
--- So many texts are cut off so far: with those that the rest is cut into they are those of the whole, and the lengths that are left sum up
--- to the rest as all do to the whole.
+-- So many patterns are cut off so far. With those that the rest is cut into they are those of the whole, and the lengths that are left sum
+-- up to the rest as all do to the whole.
 abbrev pub IsCutSoFar : List ℕ → List ℕ → ℕ → List (List ℕ) → List ℕ → Type 0
 IsCutSoFar lengths bytes n texts rest =
     (texts ++ cut (drop n lengths) rest ≡ cut lengths bytes) × (length texts ≡ n) ×
@@ -22,7 +22,7 @@ total ns = sum_by (λ n. n) ns
 total_none : total [] ≡ 0
 total_none = let twice : total [] + total [] ≡ total [] = sum_by-take-drop (λ n. n) [] 0 in omega (arith, twice)
 
--- the lengths that are left sum up to the next one and those behind it
+-- the lengths that are left sum up to the next one and those after it
 left_sum : (lengths : List ℕ) (n d : ℕ) → n < length lengths →
     total (drop n lengths) ≡ slice_index_or lengths n d + total (drop (n + 1) lengths)
 left_sum lengths n d below = sum_by-drop_more (λ n. n) lengths n d below
@@ -52,7 +52,7 @@ unfolding cut
 all_cut lengths bytes n texts rest above so_far =
     sym (append-nil texts) ∙ ap (λ (ns : List ℕ). texts ++ cut ns rest) (sym (drop_of_length-le lengths above)) ∙ so_far.0
 
--- where the next length is above what is left, or something is left behind all of them, they don't sum up to the whole
+-- if the next length is above what is left, or something is left after all of them, they don't sum up to the whole
 pub too_few : (lengths bytes : List ℕ) (n d : ℕ) (texts : List (List ℕ)) (rest : List ℕ) → n < length lengths →
     length rest < slice_index_or lengths n d → IsCutSoFar lengths bytes n texts rest → total lengths ≢ length bytes
 too_few lengths bytes n d texts rest below more so_far same =
@@ -73,7 +73,7 @@ got_behind : (ts us : List (List ℕ)) (t : List ℕ) → slice_get (ts ++ t ∷
 got_behind [] us t = refl
 got_behind (x ∷ ts) us t = got_behind ts us t
 
--- the text of a number is the one that is cut off next
+-- the pattern of a number is the one that is cut off next
 pub next_text : (lengths bytes : List ℕ) (n d : ℕ) (texts : List (List ℕ)) (rest text : List ℕ) → n < length lengths →
     text ≡ take (slice_index_or lengths n d) rest → IsCutSoFar lengths bytes n texts rest → Some text ≡ slice_get (cut lengths bytes) n
 unfolding cut
@@ -85,10 +85,10 @@ next_text lengths bytes n d texts rest text below here so_far =
     ∙ ap (λ (ts : List (List ℕ)). slice_get ts (length texts)) so_far.0
     ∙ ap (slice_get (cut lengths bytes)) so_far.1
 
--- and where that one is refused, its number is told
+-- and if that one is rejected, its number is reported
 pub refused_text : (lengths bytes : List ℕ) (n d : ℕ) (texts : List (List ℕ)) (rest text : List ℕ) → n < length lengths →
     text ≡ take (slice_index_or lengths n d) rest → IsCutSoFar lengths bytes n texts rest → (e : NewError) →
-    (at : ℕ) × (e ≡ NotUtf8 n at) × IsNoText (Some text) at → IsCutRefused lengths bytes e
+    (at : ℕ) × (e ≡ NotUtf8 n at) × IsNoText (Some text) at → IsSplitError lengths bytes e
 refused_text lengths bytes n d texts rest text below here so_far e it =
-    subst (IsCutRefused lengths bytes) (sym it.1)
+    subst (IsSplitError lengths bytes) (sym it.1)
     (subst (λ (o : Option (List ℕ)). IsNoText o it.0) (next_text lengths bytes n d texts rest text below here so_far) it.2)

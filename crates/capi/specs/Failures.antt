@@ -1,4 +1,4 @@
--- Refusals, and matches, by numbers.
+-- Errors and matches in numbers.
 use Rattle.std.specs.Prelude.{ℕ, Option, Some, None}
 use Rattle.regex_syntax.specs.declared.error.ErrorKind.{ErrorKind}
 use Rattle.regex_syntax.specs.declared.error.ErrorKind.TheVariants.{NestLimitExceeded}
@@ -9,7 +9,7 @@ use Rattle.lazy_dfa.specs.declared.build_error.BuildError.TheVariants.{NFA, Insu
 use Rattle.lazy_dfa.specs.declared.build_error.BuildError.TheVariants.{Unsupported, NoMemory as NoRoom}
 use Rattle.pattern_text.specs.declared.parse_error.ParseError.{ParseError}
 use Rattle.pattern_text.specs.declared.parse_error.ParseError.TheVariants.{NoMemory as NoneLeft, Refused}
-use Rattle.pattern_search.specs.declared.parsing.TextError.{TextError}
+use Rattle.pattern_search.specs.declared.parsing.PatternError.{PatternError}
 use Rattle.capi.specs.declared.failure.Failure.{Failure}
 use Rattle.capi.specs.declared.failure.FoundMatch.{FoundMatch}
 use Rattle.capi.specs.declared.failure.NewError.{NewError}
@@ -24,7 +24,7 @@ row_of f = record { pattern = f.pattern; start = f.start; end = f.end }
 abbrev pub plain : ℕ → Failure
 plain status = record { status = status; cause = 0; pattern = 0; start = 0; end = 0; limit = 0 }
 
--- which cause a text is refused for is told by words alone
+-- The error without the cause for which a pattern is rejected. Only messages depend on the cause.
 abbrev pub without_cause : Failure → Failure
 without_cause f = record f { cause = 0 }
 
@@ -37,7 +37,7 @@ failure_of_parse number NoneLeft = plain 3
 failure_of_parse number (Refused kind place) =
     record (plain (status_of_kind kind)) { pattern = number; start = place.start; end = place.end }
 
-abbrev pub failure_of_text : TextError → Failure
+abbrev pub failure_of_text : PatternError → Failure
 failure_of_text e = failure_of_parse e.number e.error
 
 abbrev pub failure_of_limit : Option ℕ → Failure

@@ -21,7 +21,7 @@ pub data IsNextMatch (utf8 : Bool) (res : List Re) (h : List ℕ) (end : ℕ) (o
   found_later : (skipped : FoundMatch) → skipped.end ≡ end → IsFoundFrom utf8 res h end (Some skipped) →
       IsFoundFrom utf8 res h (end + 1) o → IsNextMatch utf8 res h end o
 
--- the same for the patterns of texts
+-- The match that follows one with this end, or none, for what the patterns are parsed as.
 abbrev pub IsNextListed : Config → List (List ℕ) → List ℕ → ℕ → Option FoundMatch → Type 0
 IsNextListed config texts h end o = (res : List Re) → AreReadAs config texts res → IsNextMatch config.utf8 res h end o
 
@@ -40,14 +40,14 @@ abbrev pub end_of_last : Option ℕ → List FoundMatch → Option ℕ
 end_of_last last [] = last
 end_of_last last (f ∷ fs) = end_of_last (Some f.end) fs
 
--- So many matches are in order from the first one on. They lie in the rows as far as these have room, and rows after them are unchanged.
+-- `n` matches are in order from the first one on. They are in the rows as far as these have room, and the rows after them are unchanged.
 pub record AreFirstListed (config : Config) (texts : List (List ℕ)) (h : List ℕ) (n : ℕ) (old new : List FoundMatch) : Type 0 where
   pub matches : List FoundMatch
   pub count : n ≡ length matches
   pub rows : new ≡ overlaid matches old
   pub in_order : (res : List Re) → AreReadAs config texts res → AreInOrder config.utf8 res h None matches
 
--- and no match follows the last of them
+-- In addition, no match follows the last of them.
 pub record AreListed (config : Config) (texts : List (List ℕ)) (h : List ℕ) (n : ℕ) (old new : List FoundMatch) : Type 0 where
   pub first : AreFirstListed config texts h n old new
   pub none_left : (res : List Re) → AreReadAs config texts res → ComesNext config.utf8 res h (end_of_last None first.matches) None

@@ -7,11 +7,11 @@ use Rattle.lazy_dfa.specs.ConfigValue.{DfaOptions, no_dfa_options}
 use Rattle.hirscan.specs.declared.settings.Settings.{Settings}
 use Rattle.capi.specs.declared.options.Options.{Options}
 
--- a flag is a power of two
+-- Whether a flag is set. A flag is a power of two.
 abbrev pub is_flag_set : ℕ → ℕ → Bool
 is_flag_set flags flag = nat_eq (flags / flag % 2) 1
 
--- there are fourteen flags
+-- There are fourteen flags.
 abbrev pub has_known_flags : Options → Bool
 has_known_flags o = nat_lt o.flags 16384
 
@@ -21,7 +21,7 @@ allows_empty_loops o = is_flag_set o.flags 512
 abbrev pub nest_limit_of : Options → ℕ
 nest_limit_of o = if nat_eq o.nest_limit 0 then 250 else o.nest_limit
 
--- how the grammar reads texts
+-- How the grammar parses patterns.
 abbrev pub config_of_options : Options → Config
 config_of_options o = record {
   flags = record {
@@ -38,7 +38,7 @@ config_of_options o = record {
   nest_limit = nest_limit_of o;
 }
 
--- the automata of a regex that finds matches of this kind
+-- The options of the automata of a regex that finds matches of this kind.
 abbrev pub dfa_options_of : Options → MatchKind → DfaOptions
 dfa_options_of o kind = record no_dfa_options {
   match_kind = Some kind;
@@ -48,7 +48,7 @@ dfa_options_of o kind = record no_dfa_options {
   cache_capacity = if nat_eq o.capacity 0 then None else Some o.capacity;
 }
 
--- how that regex is built
+-- How that regex is built.
 abbrev pub settings_of : Options → MatchKind → Settings
 settings_of o kind = record {
   utf8 = is_flag_set o.flags 256;

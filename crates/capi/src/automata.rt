@@ -7,7 +7,7 @@ ghost use Rattle.hir_core.specs.Facts.{LoopsRead};
 ghost use Rattle.search_types.specs.declared.match_kind.MatchKind.TheVariants.{LeftmostFirst};
 ghost use Rattle.hirscan.specs.Loops.{first_empty_loop};
 ghost use Rattle.pattern_search.specs.Searches.{whole_search};
-ghost use Rattle.capi.specs.Compiled.{AreBuiltOf, AreToldOf, HasFoundStart, HasFoundSpan, IsKindRefused};
+ghost use Rattle.capi.specs.Compiled.{AreBuiltOf, AreReportedOf, HasFoundStart, HasFoundSpan, IsKindError};
 ghost use Rattle.capi.specs.Failures.{row_of};
 ghost use Rattle.capi.specs.Options.{config_of_options, allows_empty_loops};
 
@@ -22,7 +22,7 @@ use search_types::{Input, Match, MatchError, MatchKind};
 use std::alloc::Global;
 use std::marker::Model;
 
-/// Two automata that search as one, and their caches.
+/// A forward and a reverse automaton that search together, and their caches.
 #[derive(Drop)]
 pub(crate) struct Automata {
     regex: Regex,
@@ -39,19 +39,20 @@ impl Model for Automata {
     ghost invariant = { λ a. AreCachesOf a.regex a.cache };
 }
 
-/// A regex of texts, and whether each repetition without a bound reads.
+/// A regex made from patterns, and whether the body of every unbounded repetition in them consumes at least one byte.
 #[derive(Drop)]
 pub(crate) struct Made {
     pub(crate) regex: Regex,
     pub(crate) loops: bool,
 }
 
-/// What a haystack has are bytes.
+/// The elements of a haystack are bytes, below 256.
 pub(crate) fn see_bytes(bytes: &[u8])
     ensures { All (λ byte. byte < 256) bytes.now }
 {}
 
-/// The number of the first pattern that is refused for an unbounded repetition of what may match the empty text.
+/// If empty loops aren't allowed, the number of the first pattern that has one: an unbounded repetition whose body can match the empty
+/// string.
 fn refused_loop(trees: &[Hir], options: &Options) -> Option<usize>
     ensures none { IfNone result (allows_empty_loops options.now ≡ false → All LoopsRead trees.now) }
     ensures some { IfSome result (λ number. (allows_empty_loops options.now ≡ false) × (first_empty_loop trees.now ≡ Some number)) }
@@ -63,16 +64,17 @@ fn refused_loop(trees: &[Hir], options: &Options) -> Option<usize>
     }
 }
 
-/// A regex of texts, which finds matches of this kind.
+/// Builds a regex from patterns, which finds matches of this kind.
 pub(crate) fn regex_of(
     alloc: Global,
     texts: &[&str],
     options: &Options,
     kind: MatchKind,
 ) -> Result<Made, NewError>
-    ensures made { IfOk result (λ m. (it : AreToldOf (config_of_options options.now) (map (λ t. t.now) texts.now) kind m.loops m.regex) ×
+    ensures made { IfOk result (λ m. (it : AreReportedOf (config_of_options options.now) (map (λ t. t.now) texts.now) kind m.loops m.regex)
+        ×
         (allows_empty_loops options.now ≡ false → m.loops ≡ true)) }
-    ensures refused { IfErr result (IsKindRefused kind options.now (map (λ t. t.now) texts.now)) }
+    ensures refused { IfErr result (IsKindError kind options.now (map (λ t. t.now) texts.now)) }
 {
     let config = options.config();
     let trees = match parse_all(alloc, texts, &config) {
@@ -91,7 +93,7 @@ pub(crate) fn regex_of(
     Ok(Made { regex, loops })
 }
 
-/// A search of the haystack from a place on.
+/// A search of the haystack from an offset on.
 pub(crate) fn search_from(haystack: &[u8], from: usize) -> Input<'_>
     requires { from ≤ length haystack.now }
     ensures { result ≡ whole_search haystack.now from }
@@ -99,7 +101,7 @@ pub(crate) fn search_from(haystack: &[u8], from: usize) -> Input<'_>
     Input::new(haystack).range(from..haystack.len())
 }
 
-/// The match as a row.
+/// Converts a match to a row.
 fn row(found: Option<Match>) -> Option<FoundMatch>
     ensures { result ≡ option_map row_of found }
 {
@@ -110,7 +112,7 @@ fn row(found: Option<Match>) -> Option<FoundMatch>
 }
 
 impl Automata {
-    /// Those of the regex.
+    /// The automata of a regex, with new caches.
     pub(crate) fn of(alloc: Global, regex: Regex) -> Result<Automata, NewError>
         ensures { IfOk result (λ a. a ≡ regex) }
     {
@@ -120,19 +122,19 @@ impl Automata {
         }
     }
 
-    /// How often their caches were cleared; the greatest number stands for any above it.
+    /// How often the caches were cleared. The greatest number stands for any number above it.
     pub(crate) fn clear_count(&self) -> usize {
         let forward = self.cache.forward().clear_count();
         let reverse = self.cache.reverse().clear_count();
         forward.saturating_add(reverse)
     }
 
-    /// The bytes that both caches are taken to need.
+    /// The bytes that both caches are estimated to need.
     pub(crate) fn memory_usage(&self) -> usize {
         self.cache.memory_usage()
     }
 
-    /// The leftmost match from a place on, and of these the preferred one.
+    /// The leftmost match from an offset on, and of several that start there the preferred one.
     pub(crate) fn find(
         &mut self,
         haystack: &[u8],

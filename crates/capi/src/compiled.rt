@@ -2,7 +2,7 @@
 ghost use Rattle.std.specs.Prelude.{◌≡◌, false, Some, IfErr, IfOk, IfSome, ℕ, List, length, map, string_bytes};
 ghost use Rattle.regex_syntax.specs.declared.Config.{Config as TextConfig};
 ghost use Rattle.search_types.specs.declared.match_kind.MatchKind.TheVariants.{All as AllMatches};
-ghost use Rattle.capi.specs.Compiled.{AreBuiltOf, IsMadeOf, IsNewRefused, IsSearchRefused, config_by};
+ghost use Rattle.capi.specs.Compiled.{AreBuiltOf, IsMadeOf, IsNewError, IsSearchError, config_by};
 ghost use Rattle.capi.specs.Fallbacks.{AreFallbacksOf};
 ghost use Rattle.capi.specs.Options.{config_of_options};
 
@@ -16,11 +16,11 @@ use search_types::MatchKind;
 use std::alloc::Global;
 use std::marker::Model;
 
-/// A regex of texts, and the caches of its searches.
+/// A regex made from patterns, and the caches of its searches.
 ///
-/// Automata search but in haystacks in which these give up at a byte, as where `\b` stands beside what isn't ASCII: there the toolchain's
-/// regexes of the same texts do, which are made when the first such haystack comes. The automaton that tells which patterns match is made
-/// when this is first asked.
+/// Automata search the haystacks. In some haystacks they give up at a byte, for example if `\b` is tried next to a byte that isn't ASCII.
+/// Such haystacks are searched by the toolchain's regexes of the same patterns, which are made when the first one comes. The automaton that
+/// reports which patterns match is made when this is first asked.
 #[derive(Drop)]
 pub struct Compiled {
     pub(crate) automata: Automata,
@@ -34,7 +34,7 @@ pub struct Compiled {
 impl Model for Compiled {
     ghost use Rattle.std.specs.Prelude.{IfSome, map, string_bytes};
     ghost use Rattle.search_types.specs.declared.match_kind.MatchKind.TheVariants.{LeftmostFirst, All};
-    ghost use Rattle.capi.specs.Compiled.{Regexed, AreBuiltOf, AreToldOf};
+    ghost use Rattle.capi.specs.Compiled.{Regexed, AreBuiltOf, AreReportedOf};
     ghost use Rattle.capi.specs.Fallbacks.{AreFallbacksOf};
     ghost use Rattle.capi.specs.Options.{config_of_options};
 
@@ -42,12 +42,12 @@ impl Model for Compiled {
 
     ghost view = { λ c. record { options = c.options; texts = map string_bytes c.texts.items; loops = c.loops } };
 
-    ghost invariant = { λ c. AreToldOf (config_of_options c.options) (map string_bytes c.texts.items) LeftmostFirst c.loops c.automata
+    ghost invariant = { λ c. AreReportedOf (config_of_options c.options) (map string_bytes c.texts.items) LeftmostFirst c.loops c.automata
         × IfSome c.walker (AreBuiltOf (config_of_options c.options) (map string_bytes c.texts.items) All)
         × IfSome c.regexes (λ rs. AreFallbacksOf (config_of_options c.options) (map string_bytes c.texts.items) rs.items) };
 }
 
-/// The automaton that tells which patterns match, where it can be made.
+/// The automaton that reports which patterns match, if it can be made.
 fn walker_of(alloc: Global, texts: &[&str], options: &Options) -> Option<Walker>
     ensures { IfSome result (AreBuiltOf (config_of_options options.now) (map (λ t. t.now) texts.now) AllMatches) }
 {
@@ -60,7 +60,7 @@ fn walker_of(alloc: Global, texts: &[&str], options: &Options) -> Option<Walker>
     }
 }
 
-/// The same, where it is asked for at once.
+/// The automaton that reports which patterns match, if the options ask for it at once and it can be made.
 fn first_walker(alloc: Global, texts: &[&str], options: &Options) -> Option<Walker>
     ensures { IfSome result (AreBuiltOf (config_of_options options.now) (map (λ t. t.now) texts.now) AllMatches) }
 {
@@ -72,10 +72,10 @@ fn first_walker(alloc: Global, texts: &[&str], options: &Options) -> Option<Walk
 }
 
 impl Compiled {
-    /// A regex of texts. Of matches that start at the same place the one of the earlier text is preferred.
+    /// Makes a regex from patterns. Of matches that start at the same offset, the one of the earlier pattern is preferred.
     pub fn new(alloc: Global, texts: &[&str], options: &Options) -> Result<Compiled, NewError>
         ensures made { IfOk result (IsMadeOf options.now (map (λ t. t.now) texts.now)) }
-        ensures refused { IfErr result (IsNewRefused options.now (map (λ t. t.now) texts.now)) }
+        ensures refused { IfErr result (IsNewError options.now (map (λ t. t.now) texts.now)) }
     {
         if !options.is_known() {
             return Err(NewError::BadArgument);
@@ -103,14 +103,14 @@ impl Compiled {
         })
     }
 
-    /// How many patterns it has.
+    /// The number of its patterns.
     pub fn pattern_count(&self) -> usize
         ensures { result ≡ length self.now.texts }
     {
         self.texts.as_slice().len()
     }
 
-    /// How often the caches of its automata were cleared; the greatest number stands for any above it.
+    /// How often the caches of its automata were cleared. The greatest number stands for any number above it.
     pub fn clear_count(&self) -> usize {
         let clears = self.automata.clear_count();
         match &self.walker {
@@ -119,7 +119,7 @@ impl Compiled {
         }
     }
 
-    /// The bytes that these caches are taken to need.
+    /// The bytes that the caches of its automata are estimated to need.
     pub fn memory_usage(&self) -> usize {
         let usage = self.automata.memory_usage();
         match &self.walker {
@@ -128,7 +128,7 @@ impl Compiled {
         }
     }
 
-    /// The automaton that tells which patterns match, made anew.
+    /// Makes the automaton that reports which patterns match.
     fn make_walker(&self, alloc: Global) -> Option<Walker>
         ensures { IfSome result (AreBuiltOf (config_by self.now) self.now.texts AllMatches) }
     {
@@ -138,7 +138,7 @@ impl Compiled {
         }
     }
 
-    /// Makes that automaton where it isn't yet, if it can be made.
+    /// Makes that automaton if there is none yet and it can be made.
     pub(crate) fn ready_walker(&mut self, alloc: Global)
         ensures { self.new ≡ self.old }
     {
@@ -149,10 +149,10 @@ impl Compiled {
         self.walker = walker;
     }
 
-    /// The toolchain's regexes, made anew.
+    /// Makes the toolchain's regexes.
     fn make_regexes(&self, alloc: Global) -> Result<Vec<Fallback>, SearchError>
         ensures made { IfOk result (λ rs. AreFallbacksOf (config_by self.now) self.now.texts rs.items) }
-        ensures refused { IfErr result (λ e. (config : TextConfig) → (h : List ℕ) → IsSearchRefused config h e) }
+        ensures refused { IfErr result (λ e. (config : TextConfig) → (h : List ℕ) → IsSearchError config h e) }
     {
         match fallbacks_of(alloc, &self.texts, &self.options.config()) {
             Ok(regexes) => Ok(regexes),
@@ -160,11 +160,11 @@ impl Compiled {
         }
     }
 
-    /// Takes these out, and makes them where they aren't yet.
+    /// Takes the toolchain's regexes out. They are made if there are none yet.
     pub(crate) fn take_regexes(&mut self, alloc: Global) -> Result<Vec<Fallback>, SearchError>
         ensures same { self.new ≡ self.old }
         ensures regexes { IfOk result (λ rs. AreFallbacksOf (config_by self.old) self.old.texts rs.items) }
-        ensures refused { IfErr result (λ e. (config : TextConfig) → (h : List ℕ) → IsSearchRefused config h e) }
+        ensures refused { IfErr result (λ e. (config : TextConfig) → (h : List ℕ) → IsSearchError config h e) }
     {
         if let Some(regexes) = self.regexes.take() {
             return Ok(regexes);
@@ -175,7 +175,7 @@ impl Compiled {
         }
     }
 
-    /// Puts them back.
+    /// Puts the toolchain's regexes back.
     pub(crate) fn keep_regexes(&mut self, regexes: Vec<Fallback>)
         requires { AreFallbacksOf (config_by self.old) self.old.texts regexes.items }
         ensures { self.new ≡ self.old }

@@ -1,45 +1,45 @@
-//! Refusals by numbers, as callers of C read them. A status of 0 says that a call did what it is for, and one of 1 that there is no
-//! match; 11 is none.
+//! Errors in numbers, as callers from C read them. A status of 0 says that a call succeeded, and 1 that there is no match. No error has the
+//! status 11.
 ghost use Rattle.std.specs.Prelude.{◌≡◌};
 ghost use Rattle.capi.specs.Failures.{plain, failure_of_text, failure_of_build, failure_of_new, failure_of_search, without_cause, row_of};
 
 use lazy_dfa::BuildError;
-use pattern_search::TextError;
+use pattern_search::PatternError;
 use pattern_text::ParseError;
 use regex_syntax::ErrorKind;
 use search_types::Match;
 
-/// An argument isn't one that the call takes.
+/// An argument isn't one that the call accepts.
 pub(crate) const BAD_ARGUMENT: u32 = 2;
 
-/// There is no memory left.
+/// Memory ran out.
 pub(crate) const NO_MEMORY: u32 = 3;
 
-/// A pattern is no UTF-8.
+/// A pattern isn't UTF-8.
 pub(crate) const NOT_UTF8: u32 = 4;
 
-/// A text is no pattern.
-pub(crate) const NO_PATTERN: u32 = 5;
+/// A pattern has a syntax error.
+pub(crate) const SYNTAX_ERROR: u32 = 5;
 
-/// A pattern nests deeper than it may.
+/// A pattern nests deeper than allowed.
 pub(crate) const NESTS_TOO_DEEP: u32 = 6;
 
-/// A pattern repeats without a bound what may match the empty text.
+/// A pattern has an unbounded repetition whose body can match the empty string.
 pub(crate) const EMPTY_LOOP: u32 = 7;
 
-/// The automata are larger than they may be, or the toolchain's regexes that a search needs are.
+/// The automata are larger than allowed, or the toolchain's regexes that a search needs are.
 pub(crate) const TOO_LARGE: u32 = 8;
 
-/// A cache may take fewer bytes than it needs.
+/// The capacity of a cache is less than it needs.
 pub(crate) const CAPACITY_TOO_SMALL: u32 = 9;
 
-/// Words by characters need automata that give up at bytes above 7F.
+/// Unicode word boundaries need automata that give up at bytes above 0x7F.
 pub(crate) const UNSUPPORTED: u32 = 10;
 
-/// The haystack is no UTF-8, and the regex is made for UTF-8.
+/// The haystack isn't UTF-8, and the regex is made for UTF-8.
 pub(crate) const HAYSTACK_NOT_UTF8: u32 = 12;
 
-/// One match: which pattern it is of, counted from 0, and where it starts and ends.
+/// One match: the number of its pattern, counted from 0, and the offsets of its start and end.
 #[repr(C)]
 #[derive(Clone, Copy, Drop)]
 pub struct FoundMatch {
@@ -71,7 +71,7 @@ impl FoundMatch {
     }
 }
 
-/// A refusal by numbers. What its status doesn't name is 0.
+/// An error in numbers. Fields that don't apply to its status are 0.
 #[repr(C)]
 #[derive(Clone, Copy, Drop)]
 pub struct Failure {
@@ -84,7 +84,7 @@ pub struct Failure {
 }
 
 impl Failure {
-    /// One that names nothing but its status.
+    /// An error with a status alone.
     pub fn plain(status: u32) -> Failure
         ensures { result ≡ plain status }
     {
@@ -99,37 +99,37 @@ impl Failure {
     }
 }
 
-/// Why there is no regex.
+/// Why no regex is made.
 #[derive(Debug, Drop)]
 pub enum NewError {
-    /// An option isn't one that there is, or lengths don't fit.
+    /// The options have an unknown flag, or the lengths don't fit the bytes.
     BadArgument,
-    /// Memory lacked.
+    /// Memory ran out.
     NoMemory,
-    /// The text of this number is no UTF-8 from this place on.
+    /// The pattern with this number isn't UTF-8 from this offset on.
     NotUtf8 { pattern: usize, at: usize },
-    /// A text is no pattern.
-    Text(TextError),
-    /// The pattern of this number has an unbounded repetition of what may match the empty text.
+    /// A pattern can't be parsed.
+    Text(PatternError),
+    /// The pattern with this number has an unbounded repetition whose body can match the empty string.
     EmptyLoop(usize),
-    /// No regex is built of the trees.
+    /// No regex can be built from the trees.
     Build(BuildError),
 }
 
-/// Why a search told nothing.
+/// Why a search failed.
 #[derive(Clone, Copy, Debug)]
 pub enum SearchError {
-    /// An argument isn't one that the call takes.
+    /// An argument isn't one that the call accepts.
     BadArgument,
-    /// Memory lacked.
+    /// Memory ran out.
     NoMemory,
-    /// The haystack is no UTF-8 from this place on, and the regex asks for that.
+    /// The haystack isn't UTF-8 from this offset on, and the regex requires that.
     NotUtf8(usize),
-    /// A regex of the toolchain, which is asked where the automata give up, is larger than it may be.
+    /// A regex of the toolchain, which is needed because the automata give up, is larger than allowed.
     TooLarge,
 }
 
-/// What may be wrong with a text. The number of each is its place, counted from 1.
+/// What may be wrong with a pattern. The number of each cause is its position here, counted from 1.
 const KINDS: [ErrorKind; 38] = [
     ErrorKind::CaptureLimitExceeded,
     ErrorKind::ClassEscapeInvalid,
@@ -183,7 +183,7 @@ fn cause_of(kind: ErrorKind) -> u32 {
     0
 }
 
-/// The cause of a number.
+/// The cause with a number.
 pub(crate) fn kind_of(cause: u32) -> Option<ErrorKind> {
     let mut number = 1;
     for known in KINDS {
@@ -195,7 +195,7 @@ pub(crate) fn kind_of(cause: u32) -> Option<ErrorKind> {
     None
 }
 
-fn failure_of_text(error: &TextError) -> Failure
+fn failure_of_text(error: &PatternError) -> Failure
     ensures { without_cause result ≡ failure_of_text error.now }
 {
     match error.error {
@@ -207,7 +207,7 @@ fn failure_of_text(error: &TextError) -> Failure
             end: span.end,
             ..Failure::plain(match kind {
                 ErrorKind::NestLimitExceeded => NESTS_TOO_DEEP,
-                _ => NO_PATTERN,
+                _ => SYNTAX_ERROR,
             })
         },
     }
@@ -235,7 +235,7 @@ fn failure_of_build(error: &BuildError) -> Failure
 }
 
 impl NewError {
-    /// The refusal by numbers.
+    /// The error in numbers.
     pub fn failure(&self) -> Failure
         ensures { without_cause result ≡ failure_of_new self.now }
     {
@@ -258,7 +258,7 @@ impl NewError {
 }
 
 impl SearchError {
-    /// The refusal by numbers.
+    /// The error in numbers.
     pub fn failure(&self) -> Failure
         ensures { result ≡ failure_of_search self.now }
     {

@@ -1,9 +1,9 @@
-//! Haystacks in which automata give up, searched by the toolchain's regexes of the same texts.
+//! Searches haystacks in which the automata give up by the toolchain's regexes of the same patterns.
 ghost use Rattle.std.specs.Prelude.{◌≡◌, ◌≤◌, ◌++◌, ◌∷◌, [], ℕ, List, IfErr, IfOk, OnOk, false, true, length, map, option_map};
 ghost use Rattle.std.specs.Prelude.{string_bytes};
 ghost use Rattle.regex.specs.Views.{builder_source, builder_config};
 ghost use Rattle.regex_syntax.specs.declared.Config.{Config as TextConfig};
-ghost use Rattle.capi.specs.Compiled.{IsSearchRefused};
+ghost use Rattle.capi.specs.Compiled.{IsSearchError};
 ghost use Rattle.capi.specs.Fallbacks.{AreFallbacksOf, IsFallbackOf, best_of, better_match, finds_any, row_of_span, span_by};
 
 use crate::failure::{FoundMatch, SearchError};
@@ -11,14 +11,14 @@ use pattern_text::Config;
 use regex::{Error, RegexBuilder};
 use std::alloc::{AllocError, Global};
 
-/// A regex of the toolchain, of text where haystacks have to be text.
+/// A regex of the toolchain: one for text if haystacks have to be UTF-8, and otherwise one for bytes.
 #[derive(Drop)]
 pub(crate) enum Fallback {
     Bytes(regex::bytes::Regex),
     Text(regex::Regex),
 }
 
-/// A builder that reads the text under these options.
+/// A builder for a pattern under these options.
 fn builder_of<'s>(text: &'s str, config: &Config) -> RegexBuilder<'s>
     ensures source { builder_source result ≡ text.now }
     ensures config { (record (builder_config result) { utf8 = false }) ≡ (record (config.now) { utf8 = false }) }
@@ -38,9 +38,9 @@ fn builder_of<'s>(text: &'s str, config: &Config) -> RegexBuilder<'s>
         .size_limit(1 << 34)
 }
 
-/// The cause of a refusal. The text is a pattern, since it has a regex of ours.
+/// The cause of an error. It isn't a syntax error, since our regex of the same pattern exists.
 fn cause_of(error: Error) -> SearchError
-    ensures { (config : TextConfig) → (h : List ℕ) → IsSearchRefused config h result }
+    ensures { (config : TextConfig) → (h : List ℕ) → IsSearchError config h result }
 {
     match error {
         Error::OutOfMemory => SearchError::NoMemory,
@@ -48,10 +48,10 @@ fn cause_of(error: Error) -> SearchError
     }
 }
 
-/// The regex of a text.
+/// Compiles the regex of a pattern.
 fn fallback_of(alloc: Global, text: &str, config: &Config) -> Result<Fallback, SearchError>
     ensures made { IfOk result (IsFallbackOf config.now text.now) }
-    ensures refused { IfErr result (λ e. (config : TextConfig) → (h : List ℕ) → IsSearchRefused config h e) }
+    ensures refused { IfErr result (λ e. (config : TextConfig) → (h : List ℕ) → IsSearchError config h e) }
 {
     let builder = builder_of(text, config);
     if config.options().utf8 {
@@ -67,14 +67,14 @@ fn fallback_of(alloc: Global, text: &str, config: &Config) -> Result<Fallback, S
     }
 }
 
-/// The regexes of texts, one for each and in their order.
+/// Compiles the regexes of patterns, one for each, in order.
 pub(crate) fn fallbacks_of(
     alloc: Global,
     texts: &[String],
     config: &Config,
 ) -> Result<Vec<Fallback>, SearchError>
     ensures made { IfOk result (λ rs. AreFallbacksOf config.now (map string_bytes texts.now) rs.items) }
-    ensures refused { IfErr result (λ e. (config : TextConfig) → (h : List ℕ) → IsSearchRefused config h e) }
+    ensures refused { IfErr result (λ e. (config : TextConfig) → (h : List ℕ) → IsSearchError config h e) }
 {
     let mut regexes = Vec::new(alloc);
     for text in texts {
@@ -90,10 +90,10 @@ pub(crate) fn fallbacks_of(
     Ok(regexes)
 }
 
-/// The haystack as text.
+/// The haystack as a string slice.
 fn as_text(haystack: &[u8]) -> Result<&str, SearchError>
     ensures same { IfOk result (λ t. t.now ≡ haystack.now) }
-    ensures refused { (config : TextConfig) → config.utf8 ≡ true → IfErr result (IsSearchRefused config haystack.now) }
+    ensures refused { (config : TextConfig) → config.utf8 ≡ true → IfErr result (IsSearchError config haystack.now) }
 {
     match str::from_utf8(haystack) {
         Ok(text) => Ok(text),
@@ -112,7 +112,7 @@ impl From<AllocError> for SearchError {
     }
 }
 
-/// The match from a place on, of the pattern of this number.
+/// The match of one regex from an offset on, as a match of the pattern with this number.
 fn find_one(
     alloc: Global,
     regex: &Fallback,
@@ -122,7 +122,7 @@ fn find_one(
 ) -> Result<Option<FoundMatch>, SearchError>
     ensures found { IfOk result (λ o. o ≡ option_map (row_of_span number) (span_by haystack.now from regex.now)) }
     ensures refused { (config : TextConfig) → (t : List ℕ) → IsFallbackOf config t regex.now →
-        IfErr result (IsSearchRefused config haystack.now) }
+        IfErr result (IsSearchError config haystack.now) }
 {
     match regex {
         Fallback::Bytes(regex) => {
@@ -154,7 +154,7 @@ fn find_one(
     }
 }
 
-/// Of two matches the one with the lesser start, and else the first.
+/// Of two matches, the one with the lesser start. If they start at the same offset, it is the first one.
 fn better(first: Option<FoundMatch>, second: Option<FoundMatch>) -> Option<FoundMatch>
     ensures { result ≡ better_match first second }
 {
@@ -165,7 +165,7 @@ fn better(first: Option<FoundMatch>, second: Option<FoundMatch>) -> Option<Found
     }
 }
 
-/// The best match from a place on.
+/// The best match from an offset on.
 pub(crate) fn find_best(
     alloc: Global,
     regexes: &[Fallback],
@@ -174,7 +174,7 @@ pub(crate) fn find_best(
 ) -> Result<Option<FoundMatch>, SearchError>
     ensures best { IfOk result (λ o. o ≡ best_of 0 (map (span_by haystack.now from) regexes.now)) }
     ensures refused { (config : TextConfig) → (texts : List (List ℕ)) → AreFallbacksOf config texts regexes.now →
-        IfErr result (IsSearchRefused config haystack.now) }
+        IfErr result (IsSearchError config haystack.now) }
 {
     let mut best = None;
     for number in (0..regexes.len()).rev() {
@@ -189,9 +189,9 @@ pub(crate) fn find_best(
 
 /// Whether there is a match.
 fn has_one(alloc: Global, regex: &Fallback, haystack: &[u8]) -> Result<bool, SearchError>
-    ensures told { IfOk result (λ told. told ≡ finds_any haystack.now regex.now) }
+    ensures reported { IfOk result (λ reported. reported ≡ finds_any haystack.now regex.now) }
     ensures refused { (config : TextConfig) → (t : List ℕ) → IsFallbackOf config t regex.now →
-        IfErr result (IsSearchRefused config haystack.now) }
+        IfErr result (IsSearchError config haystack.now) }
 {
     match regex {
         Fallback::Bytes(regex) => {
@@ -211,7 +211,7 @@ fn has_one(alloc: Global, regex: &Fallback, haystack: &[u8]) -> Result<bool, Sea
 
 fn push(tests: &mut Vec<bool>, test: bool) -> Result<(), SearchError>
     ensures pushed { OnOk result (tests.new.items ≡ tests.old.items ++ test ∷ []) }
-    ensures refused { IfErr result (λ e. (config : TextConfig) → (h : List ℕ) → IsSearchRefused config h e) }
+    ensures refused { IfErr result (λ e. (config : TextConfig) → (h : List ℕ) → IsSearchError config h e) }
 {
     match tests.push(test) {
         Ok(()) => Ok(()),
@@ -219,26 +219,26 @@ fn push(tests: &mut Vec<bool>, test: bool) -> Result<(), SearchError>
     }
 }
 
-/// Of each regex whether there is a match.
+/// For each regex, whether it has a match.
 pub(crate) fn have_each(
     alloc: Global,
     regexes: &[Fallback],
     haystack: &[u8],
 ) -> Result<Vec<bool>, SearchError>
-    ensures told { IfOk result (λ told. told.items ≡ map (finds_any haystack.now) regexes.now) }
+    ensures reported { IfOk result (λ reported. reported.items ≡ map (finds_any haystack.now) regexes.now) }
     ensures refused { (config : TextConfig) → (texts : List (List ℕ)) → AreFallbacksOf config texts regexes.now →
-        IfErr result (IsSearchRefused config haystack.now) }
+        IfErr result (IsSearchError config haystack.now) }
 {
-    let mut told = Vec::new(alloc);
+    let mut reported = Vec::new(alloc);
     for regex in regexes {
         let has = match has_one(alloc, regex, haystack) {
             Ok(has) => has,
             Err(e) => return Err(e),
         };
-        match push(&mut told, has) {
+        match push(&mut reported, has) {
             Ok(()) => {}
             Err(e) => return Err(e),
         }
     }
-    Ok(told)
+    Ok(reported)
 }

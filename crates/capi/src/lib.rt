@@ -1,9 +1,10 @@
-//! Compiled regexes for callers from outside: what the library for C does, over safe types.
+//! Compiled regexes for callers from outside: the safe part of the library for C.
 //!
-//! [`Compiled`] is made once of texts and [`Options`], and searched many times. What it answers is what patterns that are written in
-//! the texts match, by the toolchain's grammar and matcher, as `specs/Compiled.antt` has it. No search gives up: where automata do, the
-//! toolchain's regexes of the same texts answer. [`texts_of`] cuts a caller's bytes into texts, [`Failure`] is a refusal by numbers, and
-//! [`error_text`] has words for it.
+//! A [`Compiled`] regex is made once from patterns and [`Options`], and searched many times. It reports what the patterns match by the
+//! toolchain's grammar and matcher, as `specs/Compiled.antt` defines it. No search gives up: where the automata do, the toolchain's regexes
+//! of the same patterns answer.
+//!
+//! [`patterns_of`] splits a caller's bytes into patterns. [`Failure`] is an error in numbers, and [`error_text`] writes a message for it.
 #![tactic(auto)]
 
 mod automata;
@@ -21,5 +22,5 @@ mod words;
 pub use compiled::Compiled;
 pub use failure::{Failure, FoundMatch, NewError, SearchError};
 pub use options::Options;
-pub use texts::texts_of;
+pub use texts::patterns_of;
 pub use words::error_text;

@@ -1,15 +1,15 @@
-//! All matches.
+//! All matches of a haystack.
 ghost use Rattle.std.specs.Prelude.{◌≡◌, ◌≤◌, ◌==◌, IfErr, IfOk, length, slice_set, true};
 ghost use Rattle.regex_hir.specs.Text.{is_some_and};
 ghost use Rattle.search_core.specs.Utf8.{IsValidText};
-ghost use Rattle.capi.specs.Compiled.{AreAll, AreFirstOfAll, HasPattern, IsNext, IsSearchRefused, config_by};
+ghost use Rattle.capi.specs.Compiled.{AreAll, AreFirstOfAll, HasPattern, IsNext, IsSearchError, config_by};
 ghost use Rattle.capi.specs.Lists.{AreFirstListed, AreListed, IsNextListed};
 
 use crate::compiled::Compiled;
 use crate::failure::{FoundMatch, SearchError};
 use std::alloc::Global;
 
-/// Writes a match into its row, where there is one.
+/// Writes a match into the row with this number, if there is one.
 fn put(rows: &mut [FoundMatch], number: usize, found: FoundMatch)
     ensures { rows.new ≡ slice_set rows.old number found }
 {
@@ -18,7 +18,7 @@ fn put(rows: &mut [FoundMatch], number: usize, found: FoundMatch)
     }
 }
 
-/// Whether there is one, and it ends at this place.
+/// Whether there is a match, and it ends at this offset.
 fn ends_at(next: Option<FoundMatch>, end: usize) -> bool
     ensures { result ≡ is_some_and next (λ f. f.end == end) }
 {
@@ -29,7 +29,7 @@ fn ends_at(next: Option<FoundMatch>, end: usize) -> bool
 }
 
 impl Compiled {
-    /// The match behind one that ended at this place.
+    /// The match that follows one that ended at this offset.
     fn find_next(
         &mut self,
         alloc: Global,
@@ -41,7 +41,7 @@ impl Compiled {
         ensures next { self.old.loops ≡ true → IfOk result (IsNext (config_by self.old) self.old.texts haystack.now end) }
         ensures pattern { IfOk result (HasPattern (config_by self.old) self.old.texts haystack.now) }
         ensures listed { IfOk result (IsNextListed (config_by self.old) self.old.texts haystack.now end) }
-        ensures refused { IfErr result (IsSearchRefused (config_by self.old) haystack.now) }
+        ensures refused { IfErr result (IsSearchError (config_by self.old) haystack.now) }
     {
         if haystack.len() < end {
             return Ok(None);
@@ -78,7 +78,7 @@ impl Compiled {
             IfErr result.1 (λ _. AreFirstOfAll (config_by self.old) self.old.texts haystack.now result.0 rows.old rows.new) }
         ensures listed { IfOk result.1 (λ _. AreListed (config_by self.old) self.old.texts haystack.now result.0 rows.old rows.new) }
         ensures begun { IfErr result.1 (λ _. AreFirstListed (config_by self.old) self.old.texts haystack.now result.0 rows.old rows.new) }
-        ensures refused { IfErr result.1 (IsSearchRefused (config_by self.old) haystack.now) }
+        ensures refused { IfErr result.1 (IsSearchError (config_by self.old) haystack.now) }
     {
         let mut next = match self.search(alloc, haystack, 0) {
             Ok(next) => next,
@@ -98,8 +98,9 @@ impl Compiled {
         (most, Ok(()))
     }
 
-    /// Writes the first of all matches, from left to right, into the rows, as many as these have room for, and tells how many there are
-    /// in all. Where it is refused, that many were found before the refusal, and are written.
+    /// Writes the first of all matches, from left to right, into the rows, as many as these have room for. Returns how many matches there
+    /// are in all. On an error, the number counts the matches that were found before the search that failed, and these are written as far
+    /// as there is room.
     pub fn find_all(
         &mut self,
         alloc: Global,
@@ -113,7 +114,7 @@ impl Compiled {
             IfErr result.1 (λ _. AreFirstOfAll (config_by self.old) self.old.texts haystack.now result.0 rows.old rows.new) }
         ensures listed { IfOk result.1 (λ _. AreListed (config_by self.old) self.old.texts haystack.now result.0 rows.old rows.new) }
         ensures begun { IfErr result.1 (λ _. AreFirstListed (config_by self.old) self.old.texts haystack.now result.0 rows.old rows.new) }
-        ensures refused { IfErr result.1 (IsSearchRefused (config_by self.old) haystack.now) }
+        ensures refused { IfErr result.1 (IsSearchError (config_by self.old) haystack.now) }
     {
         match self.check(haystack) {
             Ok(()) => self.list(alloc, haystack, rows),

@@ -28,7 +28,7 @@ const UTF8: u32 = 256;
 
 const EMPTY_LOOPS: u32 = 512;
 
-const WHICH: u32 = 1024;
+const MATCHING_PATTERNS: u32 = 1024;
 
 const RAISE_CAPACITY: u32 = 2048;
 
@@ -42,17 +42,17 @@ const NEST_LIMIT: u32 = 250;
 
 const SIZE_LIMIT: usize = 1 << 26;
 
-/// How patterns are read and searched for. All zero are the defaults.
+/// How patterns are parsed and searched for. Zero in every field gives the defaults.
 #[repr(C)]
 #[derive(Clone, Copy, Drop)]
 pub struct Options {
-    /// One bit for each flag, by the numbers of the header for C.
+    /// One bit for each flag, with the numbers of the header for C.
     pub flags: u32,
-    /// How deep groups, classes and repetitions may nest; 0 for 250.
+    /// How deep groups, classes and repetitions may nest; 0 means 250.
     pub nest_limit: u32,
-    /// How many bytes each of both caches may take; 0 for 2 MiB.
+    /// How many bytes each of both caches may take; 0 means 2 MiB.
     pub capacity: usize,
-    /// How many bytes each of both automata may take; 0 for 64 MiB.
+    /// How many bytes each of both automata may take; 0 means 64 MiB.
     pub size_limit: usize,
 }
 
@@ -64,23 +64,23 @@ impl Options {
         self.flags / flag % 2 == 1
     }
 
-    /// Whether each flag is one that there is.
+    /// Whether every flag that is set exists.
     pub fn is_known(&self) -> bool
         ensures { result ≡ has_known_flags self.now }
     {
         self.flags < FLAGS_END
     }
 
-    /// Whether patterns may repeat without a bound what may match the empty text.
+    /// Whether patterns may have unbounded repetitions whose bodies can match the empty string.
     pub fn allows_empty_loops(&self) -> bool
         ensures { result ≡ allows_empty_loops self.now }
     {
         self.has(EMPTY_LOOPS)
     }
 
-    /// Whether the automaton that tells which patterns match is made at once.
+    /// Whether the automaton that reports which patterns match is made at once.
     pub fn asks_which(&self) -> bool {
-        self.has(WHICH)
+        self.has(MATCHING_PATTERNS)
     }
 
     fn nest_limit(&self) -> u32
@@ -93,7 +93,7 @@ impl Options {
         }
     }
 
-    /// How texts are read.
+    /// How patterns are parsed.
     pub fn config(&self) -> Config
         ensures { result ≡ config_of_options self.now }
     {

@@ -2,7 +2,7 @@
 ghost use Rattle.std.specs.Prelude.{◌≡◌, ◌≤◌, IfErr, IfOk, length, true};
 ghost use Rattle.regex_syntax.specs.declared.Config.{Config as TextConfig};
 ghost use Rattle.search_core.specs.Utf8.{IsValidText};
-ghost use Rattle.capi.specs.Compiled.{HasFoundStart, HasFoundSpan, IsSearchRefused, IsTold, config_by};
+ghost use Rattle.capi.specs.Compiled.{HasFoundStart, HasFoundSpan, IsSearchError, IsReported, config_by};
 
 use crate::automata::see_bytes;
 use crate::compiled::Compiled;
@@ -11,10 +11,10 @@ use crate::fallback::find_best;
 use search_types::{MatchError, MatchErrorKind};
 use std::alloc::Global;
 
-/// Searches may have to read text alone.
+/// Returns an error if the haystack has to be UTF-8 and isn't.
 pub(crate) fn check_text(haystack: &[u8], utf8: bool) -> Result<(), SearchError>
     ensures text { IfOk result (λ _. utf8 ≡ true → IsValidText haystack.now) }
-    ensures refused { (config : TextConfig) → utf8 ≡ config.utf8 → IfErr result (IsSearchRefused config haystack.now) }
+    ensures refused { (config : TextConfig) → utf8 ≡ config.utf8 → IfErr result (IsSearchError config haystack.now) }
 {
     if !utf8 {
         return Ok(());
@@ -25,7 +25,7 @@ pub(crate) fn check_text(haystack: &[u8], utf8: bool) -> Result<(), SearchError>
     }
 }
 
-/// Whether a search was refused for want of memory.
+/// Whether a search failed because it ran out of memory.
 pub(crate) fn lacks_memory(error: &MatchError) -> bool {
     match error.kind() {
         MatchErrorKind::NoMemory => true,
@@ -34,10 +34,10 @@ pub(crate) fn lacks_memory(error: &MatchError) -> bool {
 }
 
 impl Compiled {
-    /// Refuses a haystack that isn't text where it has to be.
+    /// Returns an error if the haystack isn't UTF-8 and the options require it.
     pub(crate) fn check(&self, haystack: &[u8]) -> Result<(), SearchError>
         ensures text { IfOk result (λ _. (config_by self.now).utf8 ≡ true → IsValidText haystack.now) }
-        ensures refused { IfErr result (IsSearchRefused (config_by self.now) haystack.now) }
+        ensures refused { IfErr result (IsSearchError (config_by self.now) haystack.now) }
     {
         match check_text(haystack, self.options.config().options().utf8) {
             Ok(()) => Ok(()),
@@ -74,23 +74,23 @@ impl Compiled {
         ensures same { self.new ≡ self.old }
         ensures found { IfOk result (HasFoundStart (config_by self.old) self.old.texts haystack.now from) }
         ensures preferred { IfOk result (HasFoundSpan (config_by self.old) self.old.texts haystack.now from) }
-        ensures refused { IfErr result (IsSearchRefused (config_by self.old) haystack.now) }
+        ensures refused { IfErr result (IsSearchError (config_by self.old) haystack.now) }
     {
         see_bytes(haystack);
         let regexes = match self.take_regexes(alloc) {
             Ok(regexes) => regexes,
             Err(e) => return Err(e),
         };
-        let told = find_best(alloc, &regexes, haystack, from);
+        let reported = find_best(alloc, &regexes, haystack, from);
         self.keep_regexes(regexes);
-        let found = match told {
+        let found = match reported {
             Ok(found) => found,
             Err(e) => return Err(e),
         };
         Ok(found)
     }
 
-    /// A search of a haystack that is text where it has to be.
+    /// A search of a haystack that is UTF-8 if the options require it.
     pub(crate) fn search(
         &mut self,
         alloc: Global,
@@ -102,7 +102,7 @@ impl Compiled {
         ensures same { self.new ≡ self.old }
         ensures found { IfOk result (HasFoundStart (config_by self.old) self.old.texts haystack.now from) }
         ensures preferred { self.old.loops ≡ true → IfOk result (HasFoundSpan (config_by self.old) self.old.texts haystack.now from) }
-        ensures refused { IfErr result (IsSearchRefused (config_by self.old) haystack.now) }
+        ensures refused { IfErr result (IsSearchError (config_by self.old) haystack.now) }
     {
         let error = match self.search_quickly(haystack, from) {
             Ok(found) => return Ok(found),
@@ -117,7 +117,8 @@ impl Compiled {
         }
     }
 
-    /// The leftmost match from a place on, and of these the preferred one. Looks see what stands before the place.
+    /// The leftmost match from an offset on, and of several that start there the preferred one. Look-around assertions see what precedes
+    /// the offset.
     pub fn find_at(
         &mut self,
         alloc: Global,
@@ -128,7 +129,7 @@ impl Compiled {
         ensures same { self.new ≡ self.old }
         ensures found { IfOk result (HasFoundStart (config_by self.old) self.old.texts haystack.now from) }
         ensures preferred { self.old.loops ≡ true → IfOk result (HasFoundSpan (config_by self.old) self.old.texts haystack.now from) }
-        ensures refused { IfErr result (IsSearchRefused (config_by self.old) haystack.now) }
+        ensures refused { IfErr result (IsSearchError (config_by self.old) haystack.now) }
     {
         match self.check(haystack) {
             Ok(()) => {}
@@ -144,8 +145,8 @@ impl Compiled {
     /// Whether there is a match.
     pub fn is_match(&mut self, alloc: Global, haystack: &[u8]) -> Result<bool, SearchError>
         ensures same { self.new ≡ self.old }
-        ensures told { IfOk result (IsTold (config_by self.old) self.old.texts haystack.now) }
-        ensures refused { IfErr result (IsSearchRefused (config_by self.old) haystack.now) }
+        ensures reported { IfOk result (IsReported (config_by self.old) self.old.texts haystack.now) }
+        ensures refused { IfErr result (IsSearchError (config_by self.old) haystack.now) }
     {
         let found = match self.find_at(alloc, haystack, 0) {
             Ok(found) => found,

@@ -1,7 +1,7 @@
 //! Which patterns match.
 ghost use Rattle.std.specs.Prelude.{◌≡◌, IfErr, IfOk, IfSome, length, map, replicate, false, true};
 ghost use Rattle.search_core.specs.Utf8.{IsValidText};
-ghost use Rattle.capi.specs.Compiled.{AreMarked, AreWhich, IsSearchRefused, IsWhichRefused, config_by, hits, mark, overlaid};
+ghost use Rattle.capi.specs.Compiled.{AreMarked, AreWhich, IsSearchError, IsMatchingPatternsError, config_by, hits, mark, overlaid};
 
 use crate::automata::see_bytes;
 use crate::compiled::Compiled;
@@ -19,7 +19,7 @@ fn mark(test: bool) -> u8
     if test { 1 } else { 0 }
 }
 
-/// Writes a mark for each test into its place.
+/// Writes the mark of each test at its index.
 fn write_marks(tests: &[bool], marks: &mut [u8])
     ensures { marks.new ≡ overlaid (map mark tests.now) marks.old }
 {
@@ -28,7 +28,7 @@ fn write_marks(tests: &[bool], marks: &mut [u8])
     }
 }
 
-/// How many of the tests pass.
+/// The number of tests that are true.
 fn hits(tests: &[bool]) -> usize
     ensures { result ≡ hits tests.now }
 {
@@ -41,7 +41,7 @@ fn hits(tests: &[bool]) -> usize
     count
 }
 
-/// An empty set with room for so many patterns, if there can be so many and memory suffices.
+/// An empty set with room for this many patterns, if there can be so many and memory suffices.
 fn empty_set(alloc: Global, count: usize) -> Option<PatternSet>
     ensures { IfSome result (λ set. set ≡ replicate count false) }
 {
@@ -55,11 +55,11 @@ fn empty_set(alloc: Global, count: usize) -> Option<PatternSet>
 }
 
 impl Compiled {
-    /// Of each pattern whether it matches, by the automaton, if this can tell.
-    fn tell_quickly(&mut self, alloc: Global, haystack: &[u8]) -> Option<Vec<bool>>
+    /// For each pattern, whether it matches, by the automaton if it can answer.
+    fn report_quickly(&mut self, alloc: Global, haystack: &[u8]) -> Option<Vec<bool>>
         requires valid { (config_by self.old).utf8 ≡ true → IsValidText haystack.now }
         ensures same { self.new ≡ self.old }
-        ensures told { IfSome result (λ told. AreWhich (config_by self.old) self.old.texts haystack.now told.items) }
+        ensures reported { IfSome result (λ reported. AreWhich (config_by self.old) self.old.texts haystack.now reported.items) }
     {
         let Some(mut set) = empty_set(alloc, self.pattern_count()) else {
             return None;
@@ -67,7 +67,7 @@ impl Compiled {
         let Some(walker) = &mut self.walker else {
             return None;
         };
-        match walker.which(haystack, &mut set) {
+        match walker.matching_patterns(haystack, &mut set) {
             Ok(()) => {}
             Err(_) => return None,
         }
@@ -78,47 +78,47 @@ impl Compiled {
         Some(tests)
     }
 
-    /// Of each pattern whether it matches, by the toolchain's regexes.
-    fn tell_slowly(&mut self, alloc: Global, haystack: &[u8]) -> Result<Vec<bool>, SearchError>
+    /// For each pattern, whether it matches, by the toolchain's regexes.
+    fn report_slowly(&mut self, alloc: Global, haystack: &[u8]) -> Result<Vec<bool>, SearchError>
         ensures same { self.new ≡ self.old }
-        ensures told { IfOk result (λ told. AreWhich (config_by self.old) self.old.texts haystack.now told.items) }
-        ensures refused { IfErr result (IsSearchRefused (config_by self.old) haystack.now) }
+        ensures reported { IfOk result (λ reported. AreWhich (config_by self.old) self.old.texts haystack.now reported.items) }
+        ensures refused { IfErr result (IsSearchError (config_by self.old) haystack.now) }
     {
         see_bytes(haystack);
         let regexes = match self.take_regexes(alloc) {
             Ok(regexes) => regexes,
             Err(e) => return Err(e),
         };
-        let told = have_each(alloc, &regexes, haystack);
+        let reported = have_each(alloc, &regexes, haystack);
         self.keep_regexes(regexes);
-        let tests = match told {
+        let tests = match reported {
             Ok(tests) => tests,
             Err(e) => return Err(e),
         };
         Ok(tests)
     }
 
-    /// Of each pattern whether it matches.
+    /// For each pattern, whether it matches.
     fn tell(&mut self, alloc: Global, haystack: &[u8]) -> Result<Vec<bool>, SearchError>
         requires valid { (config_by self.old).utf8 ≡ true → IsValidText haystack.now }
         ensures same { self.new ≡ self.old }
-        ensures told { IfOk result (λ told. AreWhich (config_by self.old) self.old.texts haystack.now told.items) }
-        ensures refused { IfErr result (IsSearchRefused (config_by self.old) haystack.now) }
+        ensures reported { IfOk result (λ reported. AreWhich (config_by self.old) self.old.texts haystack.now reported.items) }
+        ensures refused { IfErr result (IsSearchError (config_by self.old) haystack.now) }
     {
         self.ready_walker(alloc);
-        if let Some(tests) = self.tell_quickly(alloc, haystack) {
+        if let Some(tests) = self.report_quickly(alloc, haystack) {
             return Ok(tests);
         }
-        let told = match self.tell_slowly(alloc, haystack) {
-            Ok(told) => told,
+        let reported = match self.report_slowly(alloc, haystack) {
+            Ok(reported) => reported,
             Err(e) => return Err(e),
         };
-        Ok(told)
+        Ok(reported)
     }
 
-    /// Writes 1 into the place of each pattern that matches anywhere and 0 into the others, and tells how many match. There has to be a
-    /// place for each pattern; where it is refused all are 0.
-    pub fn which(
+    /// For each pattern, writes 1 at its index if it matches anywhere, and 0 if it doesn't. Returns how many patterns match. There has to
+    /// be one mark for each pattern. On an error all marks are 0.
+    pub fn matching_patterns(
         &mut self,
         alloc: Global,
         haystack: &[u8],
@@ -127,7 +127,7 @@ impl Compiled {
         ensures same { self.new ≡ self.old }
         ensures marked { IfOk result (λ n. AreMarked (config_by self.old) self.old.texts haystack.now n marks.new) }
         ensures refused { IfErr result (λ _. marks.new ≡ replicate (length marks.old) 0) }
-        ensures cause { IfErr result (IsWhichRefused (config_by self.old) self.old.texts haystack.now marks.old) }
+        ensures cause { IfErr result (IsMatchingPatternsError (config_by self.old) self.old.texts haystack.now marks.old) }
     {
         marks.fill(0);
         if marks.len() != self.pattern_count() {

@@ -1,6 +1,6 @@
-//! Texts that stand one behind the other.
+//! Patterns that are stored one after the other.
 ghost use Rattle.std.specs.Prelude.{◌≡◌, ◌≢◌, ◌<◌, ◌++◌, ◌∷◌, [], ℕ, Some, map, length, IfOk, IfErr, OnOk, take, drop, string_bytes};
-ghost use Rattle.capi.specs.Compiled.{IsCutRefused};
+ghost use Rattle.capi.specs.Compiled.{IsSplitError};
 ghost use Rattle.capi.specs.declared.failure.NewError.TheVariants.{NoMemory, NotUtf8};
 ghost use Rattle.capi.specs.Texts.{IsNoText, cut};
 
@@ -17,7 +17,7 @@ fn push<'t>(texts: &mut Vec<&'t str>, text: &'t str) -> Result<(), NewError>
     }
 }
 
-/// The bytes as the text of this number.
+/// The bytes as a string, for the pattern with this number.
 fn text_of(bytes: &[u8], number: usize) -> Result<&str, NewError>
     ensures same { IfOk result (λ t. t.now ≡ bytes.now) }
     ensures refused { IfErr result (λ e. (at : ℕ) × (e ≡ NotUtf8 number at) × IsNoText (Some bytes.now) at) }
@@ -31,16 +31,17 @@ fn text_of(bytes: &[u8], number: usize) -> Result<&str, NewError>
     }
 }
 
-/// The texts of these lengths that stand one behind the other in the bytes.
+/// Splits bytes into patterns of these lengths, which are stored one after the other.
 ///
-/// It is refused where there is none, where the lengths don't sum up to the bytes, where a text is no UTF-8, and where memory lacks.
-pub fn texts_of<'t>(
+/// It returns an error if there is no length, if the lengths don't sum to the number of bytes, if a pattern isn't UTF-8, or if memory runs
+/// out.
+pub fn patterns_of<'t>(
     alloc: Global,
     bytes: &'t [u8],
     lengths: &[usize],
 ) -> Result<Vec<&'t str>, NewError>
     ensures texts { IfOk result (λ ts. map (λ t. t.now) ts.items ≡ cut lengths.now bytes.now) }
-    ensures refused { IfErr result (IsCutRefused lengths.now bytes.now) }
+    ensures refused { IfErr result (IsSplitError lengths.now bytes.now) }
 {
     if lengths.is_empty() {
         return Err(NewError::BadArgument);
@@ -71,7 +72,7 @@ fn push_owned(texts: &mut Vec<String>, text: String) -> Result<(), AllocError>
     Ok(())
 }
 
-/// Copies of texts.
+/// Copies patterns.
 pub(crate) fn owned(alloc: Global, texts: &[&str]) -> Result<Vec<String>, AllocError>
     ensures { IfOk result (λ ts. map string_bytes ts.items ≡ map (λ t. t.now) texts.now) }
 {
@@ -89,7 +90,7 @@ fn push_lent<'t>(texts: &mut Vec<&'t str>, text: &'t str) -> Result<(), AllocErr
     Ok(())
 }
 
-/// Texts as they are read.
+/// Borrows owned patterns as string slices.
 pub(crate) fn lent<'t>(alloc: Global, texts: &'t [String]) -> Result<Vec<&'t str>, AllocError>
     ensures { IfOk result (λ ts. map (λ t. t.now) ts.items ≡ map string_bytes texts.now) }
 {

@@ -1,18 +1,18 @@
-//! The automaton that tells which patterns match, and the cache of its walks.
+//! The automaton that reports which patterns match, and the cache of its overlapping searches.
 ghost use Rattle.std.specs.Prelude.{◌≡◌, ◌++◌, ◌<◌, ◌∷◌, [], ℕ, Bool, List, Ok, false, true, IfOk, OnOk, drop, length, map, replicate};
 ghost use Rattle.regex_syntax.specs.declared.Config.{Config as TextConfig};
 ghost use Rattle.search_core.specs.ByteSets.{has};
 ghost use Rattle.search_core.specs.Utf8.{IsValidText};
 ghost use Rattle.search_types.specs.declared.match_kind.MatchKind.TheVariants.{All as AllMatches};
 ghost use Rattle.lazy_dfa.specs.Caches.{CacheValue, IsCacheOf};
-ghost use Rattle.lazy_dfa.specs.WalkAnswers.{AnswersWhich};
+ghost use Rattle.lazy_dfa.specs.OverlappingAnswers.{AnswersWhich};
 ghost use Rattle.pattern_search.specs.Searches.{whole_search};
 ghost use Rattle.capi.specs.Compiled.{AreBuiltOf, AreWhich};
 
 use crate::automata::{search_from, see_bytes};
 use lazy_dfa::Work;
 use lazy_dfa::dfa::{Cache, DFA};
-use pattern_search::regex_laws::walks_tell_which_texts_match;
+use pattern_search::regex_laws::overlapping_searches_find_which_texts_match;
 use regex_pair::regex::Regex;
 use search_core::PatternID;
 use search_types::{Input, MatchError, PatternSet};
@@ -20,7 +20,7 @@ use std::alloc::{AllocError, Global};
 use std::marker::{Brand, Model};
 use std::sync::ledger::{Blank, Ledger};
 
-/// A regex that finds all matches, and the cache of its automaton that reads forward.
+/// A regex that finds all matches, and the cache of its forward automaton.
 #[derive(Drop)]
 pub(crate) struct Walker {
     regex: Regex,
@@ -38,7 +38,7 @@ impl Model for Walker {
     ghost invariant = { λ w. IsCacheOf w.regex.forward w.cache };
 }
 
-/// A walk, with a count of its work that is made for it.
+/// An overlapping search, with a count of its work that is made for it.
 fn walk_counted<L: Ledger, M: Ledger>(
     dfa: &DFA,
     cache: &mut Cache,
@@ -62,7 +62,7 @@ fn walk_counted<L: Ledger, M: Ledger>(
     dfa.try_which_overlapping_matches(cache, input, set, &mut work)
 }
 
-/// Adds to the set the patterns of all ends.
+/// Adds the patterns of all match ends to the set.
 fn walk(
     dfa: &DFA,
     cache: &mut Cache,
@@ -101,7 +101,7 @@ pub(crate) fn tests_of(alloc: Global, set: &PatternSet) -> Result<Vec<bool>, All
 }
 
 impl Walker {
-    /// That of the regex.
+    /// The automaton of a regex, with a new cache.
     pub(crate) fn of(alloc: Global, regex: Regex) -> Result<Walker, AllocError>
         ensures { IfOk result (λ w. w ≡ regex) }
     {
@@ -114,20 +114,24 @@ impl Walker {
         self.cache.clear_count()
     }
 
-    /// The bytes that its cache is taken to need.
+    /// The bytes that its cache is estimated to need.
     pub(crate) fn memory_usage(&self) -> usize {
         self.cache.memory_usage()
     }
 
-    /// Adds to an empty set with room for all patterns those that match.
-    pub(crate) fn which(&mut self, haystack: &[u8], set: &mut PatternSet) -> Result<(), MatchError>
+    /// Adds the patterns that match to an empty set with room for all patterns.
+    pub(crate) fn matching_patterns(
+        &mut self,
+        haystack: &[u8],
+        set: &mut PatternSet,
+    ) -> Result<(), MatchError>
         ensures same { self.new ≡ self.old }
-        ensures told { (config : TextConfig) (texts : List (List ℕ)) → AreBuiltOf config texts AllMatches self.old →
+        ensures reported { (config : TextConfig) (texts : List (List ℕ)) → AreBuiltOf config texts AllMatches self.old →
             (config.utf8 ≡ true → IsValidText haystack.now) → set.old ≡ replicate (length texts) false →
             IfOk result (λ _. AreWhich config texts haystack.now set.new) }
     {
         see_bytes(haystack);
-        walks_tell_which_texts_match();
+        overlapping_searches_find_which_texts_match();
         let input = search_from(haystack, 0);
         match walk(self.regex.forward(), &mut self.cache, &input, set) {
             Ok(()) => {}

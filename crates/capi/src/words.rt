@@ -1,13 +1,13 @@
-//! Words for refusals.
+//! Messages for errors.
 ghost use Rattle.std.specs.Prelude.{◌≡◌, slice_set};
 ghost use Rattle.capi.specs.Compiled.{overlaid};
 
 use crate::failure::{
     BAD_ARGUMENT, CAPACITY_TOO_SMALL, EMPTY_LOOP, Failure, HAYSTACK_NOT_UTF8, NESTS_TOO_DEEP,
-    NO_MEMORY, NO_PATTERN, NOT_UTF8, TOO_LARGE, UNSUPPORTED, kind_of,
+    NO_MEMORY, NOT_UTF8, SYNTAX_ERROR, TOO_LARGE, UNSUPPORTED, kind_of,
 };
 
-/// Words for what is wrong with a text.
+/// The message for what is wrong with a pattern.
 fn words_of_cause(cause: u32) -> &'static str {
     match kind_of(cause) {
         Some(kind) => kind.message(),
@@ -15,15 +15,16 @@ fn words_of_cause(cause: u32) -> &'static str {
     }
 }
 
-/// Words for a refusal.
+/// The message for an error.
 fn words_of(failure: &Failure) -> &'static str {
     match failure.status {
         0 | 1 => "",
         BAD_ARGUMENT => "an argument isn't one that the call takes",
         NO_MEMORY => "out of memory",
         NOT_UTF8 => "the pattern is no UTF-8",
-        NO_PATTERN | NESTS_TOO_DEEP => words_of_cause(failure.cause),
-        EMPTY_LOOP => "the pattern repeats without a bound what may match the empty text",
+        SYNTAX_ERROR | NESTS_TOO_DEEP => words_of_cause(failure.cause),
+        EMPTY_LOOP =>
+            "the pattern has an unbounded repetition whose body can match the empty string",
         TOO_LARGE => "the automata are larger than they may be",
         CAPACITY_TOO_SMALL => "a cache may take fewer bytes than it needs",
         UNSUPPORTED => "words by characters need their automata to give up at bytes above 0x7F",
@@ -32,7 +33,7 @@ fn words_of(failure: &Failure) -> &'static str {
     }
 }
 
-/// Writes a byte into its place, where there is one.
+/// Writes a byte at this index, if the room is long enough.
 pub(crate) fn put(room: &mut [u8], at: usize, byte: u8)
     ensures { room.new ≡ slice_set room.old at byte }
 {
@@ -50,7 +51,7 @@ fn write_into(bytes: &[u8], room: &mut [u8])
     }
 }
 
-/// Writes words for a refusal into the room, as far as they fit, and tells how many bytes they have.
+/// Writes the message for an error into the room, as far as it fits. Returns the length of the message in bytes.
 pub fn error_text(failure: &Failure, room: &mut [u8]) -> usize {
     let words = words_of(failure).as_bytes();
     write_into(words, room);

@@ -1,4 +1,4 @@
--- A pattern that is added to the bytes of a state that is being built, and whether it is there already.
+-- A pattern that is added to the bytes of a state that is being built, and whether the bytes have it already.
 use Rattle.std.proofs.Common.{◌≡◌, ℕ, zero, suc, ◌+◌, ◌-◌, ◌*◌, ◌/◌, ◌<◌, ◌≤◌, ◌==◌, Bool, true, false, List, [], ◌∷◌, ◌++◌, length}
 use Rattle.std.proofs.Common.{drop, get_or, refl, sym, ap, ◌∙◌, arith, append_assoc, append-nil, subst}
 use Rattle.std.specs.Prelude.{All, slice_index, slice_set, nat_eq}
@@ -50,7 +50,7 @@ more_state v p state within absent = record {
 
 -- ---- the bytes with one more
 
--- whether they are listed, as a flag of unfinished bytes tells
+-- whether they are listed, as a flag of unfinished bytes shows
 pub unfinished_listed : (bytes : List ℕ) (l : Bool) → IsUnfinished bytes → has_flag (slice_index bytes 0) 2 ≡ l →
     is_listed (decoded_unfinished bytes).matches ≡ l
 unfinished_listed bytes l of flag = sym (listed_back _ _ _ _) ∙ (sym (ap (λ (xs : List ℕ). has_flag (slice_index xs 0) 2) of.same) ∙ flag)
@@ -59,7 +59,7 @@ pub unfinished_match : (bytes : List ℕ) (m : Bool) → IsUnfinished bytes → 
     is_match (decoded_unfinished bytes).matches ≡ m
 unfinished_match bytes m of flag = sym (match_back _ _ _ _) ∙ (sym (ap (λ (xs : List ℕ). has_flag (slice_index xs 0) 1) of.same) ∙ flag)
 
--- where no pattern matches, neither flag is set
+-- if no pattern matches, neither flag is set
 pub not_listed : (bytes : List ℕ) → IsUnfinished bytes → (decoded_unfinished bytes).matches ≡ [] →
     has_flag (slice_index bytes 0) 2 ≡ false
 not_listed bytes of none = sym (unfinished_listed bytes _ of refl) ∙ ap is_listed none
@@ -68,14 +68,14 @@ pub not_matching : (bytes : List ℕ) → IsUnfinished bytes → (decoded_unfini
     has_flag (slice_index bytes 0) 1 ≡ false
 not_matching bytes of none = sym (unfinished_match bytes _ of refl) ∙ ap is_match none
 
--- the bytes as the patterns have them
+-- the parts of the bytes that depend on the patterns
 abbrev flags_with : StateValue → Bool → Bool → ℕ
 flags_with v m l = flag_byte m l v.is_from_word v.is_half_crlf
 
 abbrev nine_with : StateValue → Bool → Bool → List ℕ
 nine_with v m l = nine (flags_with v m l) v.look_have v.look_need
 
--- behind others that are listed
+-- after others that are listed
 behind_listed : (v : StateValue) (ps : List ℕ) (p : ℕ) → is_listed ps ≡ true →
     (nine_with v (is_match ps) (is_listed ps) ++ pattern_bytes (is_listed ps) 0 ps)
     ++ in_four_bytes p ≡ nine_with v (is_match (ps ++ p ∷ [])) (is_listed (ps ++ p ∷ []))
@@ -87,7 +87,7 @@ behind_listed v (q ∷ []) p listed =
 behind_listed v (q ∷ r ∷ ps) p listed =
     ap (λ (xs : List ℕ). nine_with v true true ++ (in_four_bytes 0 ++ (in_four_bytes q ++ (in_four_bytes r ++ xs)))) (sym (each_more ps p))
 
--- behind pattern 0 alone
+-- after pattern 0 alone
 behind_alone : (v : StateValue) (ps : List ℕ) (p : ℕ) → is_listed ps ≡ false → is_match ps ≡ true →
     slice_set ((nine_with v (is_match ps) (is_listed ps) ++ pattern_bytes (is_listed ps) 0 ps)
     ++ (in_four_bytes 0 ++ (in_four_bytes 0 ++ in_four_bytes p))) 0
@@ -102,7 +102,7 @@ behind_alone v (suc q ∷ []) p unlisted matching = let never : (suc q == 0) ≡
     (rw never at unlisted) in cc
 behind_alone v (q ∷ r ∷ ps) p unlisted matching = cc
 
--- where none was
+-- after no pattern
 first_listed : (v : StateValue) (ps : List ℕ) (p : ℕ) → is_match ps ≡ false → (p == 0) ≡ false →
     slice_set ((nine_with v (is_match ps) (is_listed ps) ++ pattern_bytes (is_listed ps) 0 ps) ++ (in_four_bytes 0 ++ in_four_bytes p)) 0
     (bit_or (flags_with v (is_match ps) (is_listed ps)) 3)
@@ -124,7 +124,7 @@ first_told v [] p none zero_is =
     ∙ ap (λ (b : Bool). nine_with v true b ++ pattern_bytes b 0 (p ∷ [])) (sym l)
 first_told v (q ∷ ps) p none zero_is = cc
 
--- ---- what is built keeps to its form
+-- ---- the bytes that are built keep their form
 
 module _ (old new : List ℕ) (p : ℕ) (of : IsUnfinished old) (within : p ≤ greatest_index)
     (absent : list_any (nat_eq p) (decoded_unfinished old).matches ≡ false) where
@@ -162,9 +162,9 @@ module _ (old new : List ℕ) (p : ℕ) (of : IsUnfinished old) (within : p ≤ 
       keeps (e ∙ (ap (λ (xs : List ℕ). slice_set xs 0 (bit_or (slice_index xs 0) 1)) of.same
       ∙ first_told value value.matches p (unfinished_match old false of match_flag) zero_is))
 
--- ---- whether it is there already
+-- ---- whether the pattern is there already
 
--- the bytes where the patterns are listed
+-- the bytes if the patterns are listed
 listed_form : (v : StateValue) → is_listed v.matches ≡ true → unfinished v ≡ nine_with v (is_match v.matches) (is_listed v.matches)
     ++ (in_four_bytes 0 ++ four_bytes_each v.matches)
 listed_form v listed = ap (λ (l : Bool). nine_with v (is_match v.matches) (is_listed v.matches) ++ pattern_bytes l 0 v.matches) listed

@@ -31,7 +31,7 @@ next_left qs k q within e =
     let next : suc k ≡ k + 1 = omega arith in
     from_member qs k within ∙ (ap (λ (p : ℕ). p ∷ drop (suc k) qs) (sym e) ∙ ap (λ (i : ℕ). q ∷ drop i qs) next)
 
--- what is kept of a list is kept of its first and then of the others
+-- what is kept of a list is kept of its first member and then of the others
 kept_by : (b : Bool) (q : ℕ) (xs ys zs : List ℕ) → zs ≡ (cond b (q ∷ []) []) → xs ++ (cond b (q ∷ ys) ys) ≡ (xs ++ zs) ++ ys
 kept_by true q xs ys zs e = ap (λ l. l) (sym (append_assoc xs (q ∷ []) ys)) ∙ ap (λ (l : List ℕ). (xs ++ l) ++ ys) (sym e)
 kept_by false q xs ys zs e = ap (λ (l : List ℕ). l ++ ys) (sym (append-nil xs)) ∙ ap (λ (l : List ℕ). (xs ++ l) ++ ys) (sym e)
@@ -44,7 +44,7 @@ abbrev with_ids : StateValue → List ℕ → StateValue
 with_ids v ids = record v { ids = v.ids ++ ids }
 
 module _ (qs : List ℕ) (k : ℕ) (v w : StateValue) (a : Automaton) where
-  -- a state more was added, if it is kept
+  -- one more state was added, if it is kept
   pub kept_left : (q : ℕ) (x : StateValue) → drop k qs ≡ q ∷ drop (k + 1) qs → x ≡ with_ids v (kept_among a (q ∷ [])) →
       with_ids v (kept_among a (drop k qs)) ≡ w →
       with_ids x (kept_among a (drop (k + 1) qs)) ≡ w
@@ -53,7 +53,7 @@ module _ (qs : List ℕ) (k : ℕ) (v w : StateValue) (a : Automaton) where
       ∙ (ap (λ (l : List ℕ). record v { ids = l }) (sym (kept_first a q (drop (k + 1) qs) v.ids))
       ∙ (ap (λ (l : List ℕ). with_ids v (kept_among a l)) (sym left) ∙ all))
 
-  -- all were
+  -- all states were added
   pub kept_done : drop k qs ≡ [] → with_ids v (kept_among a (drop k qs)) ≡ w → v ≡ w
   kept_done none all = ap (λ (l : List ℕ). record v { ids = l }) (sym (append-nil v.ids))
       ∙ (ap (λ (l : List ℕ). with_ids v (kept_among a l)) (sym none) ∙ all)

@@ -1,5 +1,4 @@
--- Bytes that an automaton does not tell apart lead from a state to the same state, and a search starts in the same state behind
--- them.
+-- Bytes that an automaton does not distinguish lead from a state to the same state, and a search starts in the same state after them.
 use Rattle.std.proofs.Common.{◌≡◌, ℕ, ◌==◌, ◌&&◌, ◌||◌, true, false, Bool, not, List, [], ◌∷◌, length, Option, Some, None, refl, sym}
 use Rattle.std.proofs.Common.{ap, ◌∙◌, subst, arith}
 use Rattle.std.proofs.lemmas.Nat.{and_le_r}
@@ -25,12 +24,12 @@ use Rattle.nfa_core.specs.Nfa.{Automaton, node_at}
 use Rattle.nfa_core.specs.NfaValue.{looks_of}
 use Rattle.nfa_core.proofs.ForCallers.{looks_any, nothing_same}
 use Rattle.determinize_core.specs.Alike.{AreUnitsAlike}
-use Rattle.determinize_core.specs.LookBehind.{starts_of, families_of, behind_start, behind_line, with_look_behind}
+use Rattle.determinize_core.specs.LookBehind.{starts_of, families_of, behind_start, after_line_end, with_look_behind}
 use Rattle.determinize_core.specs.Starts.{start_of}
 use Rattle.determinize_core.specs.States.{StateValue, dead}
 use Rattle.determinize_core.specs.Stepped.{IsStepped}
-use Rattle.determinize_core.specs.Steps.{first_half, second_half, known_before, known_behind, known_steps, closed, unit_steps, patterns_in}
-use Rattle.determinize_core.specs.Steps.{reading, gains, ids_before, families, states_behind, is_some_kept, with_states, step_value}
+use Rattle.determinize_core.specs.Steps.{first_half, second_half, known_before, known_after, known_steps, closed, unit_steps, patterns_in}
+use Rattle.determinize_core.specs.Steps.{reading, gains, ids_before, families, states_after, is_some_kept, with_states, step_value}
 use Rattle.determinize_core.specs.Steps.{start_value}
 use Rattle.determinize_core.specs.declared.lookbehind.Families.{Families}
 use Rattle.determinize_core.specs.declared.lookbehind.LookBehind.{LookBehind}
@@ -54,7 +53,7 @@ with_right false x y same = none x ∙ sym (none y)
     none true = refl
     none false = refl
 
--- a set of which a member passes a test has such a member
+-- if some member of a set passes a test, there is such a member
 passing : (s : ℕ) (test : Look → Bool) (ls : List Look) → list_any (λ l. has_look s l && test l) ls ≡ true → (l : Look) ×
     (has_look s l ≡ true) × (test l ≡ true)
 passing s test [] h = let f : false ≡ true = h in cc
@@ -67,7 +66,7 @@ passing s test (l ∷ ls) h = by_tests (has_look s l) (test l) refl refl (passin
     by_tests true false e f rest g = rest g
     by_tests false y e f rest g = rest g
 
--- what the looks of a set ask of two bytes has the same answer, by families
+-- the tests that looks of a set make have the same results for two bytes, by families
 record AskedAlike (looks : ℕ) (t : Terminator) (b c : ℕ) : Type 0 where
   pub line : has_any is_anchor_lf looks ≡ true → ends_line t b ≡ ends_line t c
   pub feed : has_any is_anchor_crlf looks ≡ true → (0x0A == b) ≡ (0x0A == c)
@@ -182,7 +181,7 @@ module _ (looks : ℕ) (r : Bool) (t : Terminator) (b c : ℕ) (asked : AskedAli
   behind_word_alike : asks.words ≡ true → is_word_byte b ≡ is_word_byte c
   behind_word_alike e = asked.word (sym (words_is looks) ∙ e)
 
-  behind_alike : known_behind asks r t (Some b) ≡ known_behind asks r t (Some c)
+  behind_alike : known_after asks r t (Some b) ≡ known_after asks r t (Some c)
   behind_alike =
       let p = with_left asks.lines (ends_line t b) (ends_line t c) behind_line_alike in
       let q = with_left asks.crlf (second_half r == b) (second_half r == c) behind_second_alike in
@@ -219,23 +218,23 @@ module _ (a : Automaton) (t : Terminator) (kind : MatchKind) (v : StateValue) (b
       let again = closed_alike a (known_before a.reverse t v (Some b)) (known_before a.reverse t v (Some c)) known_alike v.ids in
       λ i. if test i then again i else v.ids
 
-  led_alike : known_behind (families a) a.reverse t (Some b) ≡ known_behind (families a) a.reverse t (Some c)
+  led_alike : known_after (families a) a.reverse t (Some b) ≡ known_after (families a) a.reverse t (Some c)
   led_alike = behind_alike (looks_of a.states) a.reverse t b c asked
 
   units_alike : (q : ℕ) → unit_steps a (Some b) q ≡ unit_steps a (Some c) q
   units_alike q = alike.led q
 
-  states_alike : states_behind a t kind v (Some b) ≡ states_behind a t kind v (Some c)
+  states_alike : states_after a t kind v (Some b) ≡ states_after a t kind v (Some c)
   states_alike = λ i. closed a (led_alike i) (flat_map (λ q. units_alike q i) (reading kind a (ids_alike i)))
 
-  from_word_alike : ((families a).words && (is_word (byte_side (Some b)) && is_some_kept a (states_behind a t kind v (Some b))))
-      ≡ ((families a).words && (is_word (byte_side (Some c)) && is_some_kept a (states_behind a t kind v (Some c))))
+  from_word_alike : ((families a).words && (is_word (byte_side (Some b)) && is_some_kept a (states_after a t kind v (Some b))))
+      ≡ ((families a).words && (is_word (byte_side (Some c)) && is_some_kept a (states_after a t kind v (Some c))))
   from_word_alike = with_left (families a).words _ _
       (λ e. let p = behind_word_alike (looks_of a.states) a.reverse t b c asked e in
       λ i. is_word (word_if (p i)) && is_some_kept a (states_alike i))
 
-  half_alike : ((families a).crlf && (is_byte (first_half a.reverse) (Some b) && is_some_kept a (states_behind a t kind v (Some b))))
-      ≡ ((families a).crlf && (is_byte (first_half a.reverse) (Some c) && is_some_kept a (states_behind a t kind v (Some c))))
+  half_alike : ((families a).crlf && (is_byte (first_half a.reverse) (Some b) && is_some_kept a (states_after a t kind v (Some b))))
+      ≡ ((families a).crlf && (is_byte (first_half a.reverse) (Some c) && is_some_kept a (states_after a t kind v (Some c))))
   half_alike = with_left (families a).crlf _ _
       (λ e. let p = behind_first_alike (looks_of a.states) a.reverse t b c asked e in λ i. p i && is_some_kept a (states_alike i))
 
@@ -252,7 +251,7 @@ units_step_alike a t kind v (Some b) None stepped alike = absurd alike
 
 -- ---- starts
 
--- what is known behind a byte: whether it ends a line, is a word byte, and is the first or the second half of a CRLF
+-- what is known after a byte: whether it ends a line, is a word byte, and is the first or the second half of a CRLF
 abbrev by_answers : Families → Bool → Bool → Bool → Bool → LookBehind
 by_answers f line word first second = record {
   is_from_word = word && f.words;
@@ -263,10 +262,10 @@ by_answers f line word first second = record {
 start_is : (f : Families) (r : Bool) (t : Terminator) (b : ℕ) →
     behind_start f r t (start_of t (Some b)) ≡ by_answers f (ends_line t b) (is_word_byte b) (first_half r == b) (second_half r == b)
 start_is f r t b = start_cases f r t b (λ x. x ≡ by_answers f (ends_line t b) (is_word_byte b) (first_half r == b) (second_half r == b))
-    (λ is. subst (λ (d : ℕ). behind_line f r (ends_line t 0x0A) ≡ by_answers f (ends_line t d) (is_word_byte d) (first_half r == d)
+    (λ is. subst (λ (d : ℕ). after_line_end f r (ends_line t 0x0A) ≡ by_answers f (ends_line t d) (is_word_byte d) (first_half r == d)
     (second_half r == d)) (sym is)
     (λ i. by_answers f (ends_line t 0x0A) false (first_is_line_feed r i) (second_is_line_feed r i)))
-    (λ is. subst (λ (d : ℕ). behind_line f (not r) (ends_line t 0x0D) ≡ by_answers f (ends_line t d) (is_word_byte d) (first_half r == d)
+    (λ is. subst (λ (d : ℕ). after_line_end f (not r) (ends_line t 0x0D) ≡ by_answers f (ends_line t d) (is_word_byte d) (first_half r == d)
     (second_half r == d)) (sym is)
     (λ i. by_answers f (ends_line t 0x0D) false (first_is_carriage_return r i) (second_is_carriage_return r i)))
     (λ n m i. by_answers f (ends_line t b) (is_word_byte b) (sym (no_first r b n m) i) (sym (no_second r b n m) i))

@@ -1,4 +1,4 @@
--- Captures are passed through: each leads to the state that stands for it, or goes round.
+-- Captures are passed through: each leads to the state that stands for it, or into a cycle.
 use Rattle.std.proofs.Common.{◌≡◌, ℕ, zero, suc, ◌<◌, ◌≤◌, true, false, Bool, not, List, [], ◌∷◌, length, refl, sym, ap, ◌∙◌, arith, ◌⊎◌}
 use Rattle.std.proofs.Common.{inl, inr, ⊎_elim, subst, if◌then◌else◌}
 use Rattle.std.proofs.lemmas.Bool.{cases_Bool}
@@ -7,7 +7,7 @@ use Rattle.std.specs.List.{flat_map}
 use Rattle.std.specs.Bool.{nat_eq}
 use Rattle.look_core.specs.declared.look.Look.{Look}
 use Rattle.nfa_core.specs.Walks.{Has, HasNoneTwice}
-use Rattle.nfa_core.specs.Late.{IsHead, IsPassedThrough}
+use Rattle.nfa_core.specs.Late.{IsHead, IsGoneThrough}
 use Rattle.nfa_core.specs.Nfa.{Node, byte_range, sparse_node, dense_node, look_node, union_node, binary_union, capture_node, fail_node}
 use Rattle.nfa_core.specs.Nfa.{match_node, Automaton, node_at, leads_to, IsWellFormed}
 use Rattle.nfa_core.specs.NfaValue.{is_capture}
@@ -46,7 +46,7 @@ module _ (a : Automaton) where
   abbrev next : ℕ → ℕ
   next x = next_of (node_at a x)
 
-  -- behind m captures stands a state that is none
+  -- after m captures comes a state that is none
   abbrev EndsIn : ℕ → ℕ → Type 0
   EndsIn zero x = is_kept a x ≡ true
   EndsIn (suc m) x = (is_kept a x ≡ false) × EndsIn m (next x)
@@ -82,7 +82,7 @@ module _ (a : Automaton) where
   trail_length zero x = refl
   trail_length (suc m) x = ap suc (trail_length m (next x))
 
-  -- what stands for a state behind fewer captures than that, and how many there are
+  -- the state that follows fewer captures than that, and how many there are
   abbrev to_within : ℕ → ℕ → List ℕ
   to_within zero x = []
   to_within (suc f) x = if is_kept a x then x ∷ [] else to_within f (next x)
@@ -142,7 +142,7 @@ module _ (a : Automaton) where
         (trail m x) (trail_below m x low d) (trail_once m x d) in
         let e = trail_length m x in omega (arith, l, e)
 
-    -- what stands for a state, and how many captures stand before it
+    -- the state that stands for a state, and how many captures come before it
     abbrev pub to : ℕ → List ℕ
     to x = to_within (suc (length a.states)) x
 
@@ -180,7 +180,7 @@ module _ (a : Automaton) where
         (search_end (length a.states) (next x))
 
     pub passed_through : (passed : Look → Bool) (x : ℕ) → is_kept a x ≡ false →
-        IsPassedThrough (λ q. on_nothing (node_at a q) passed) to rank x
+        IsGoneThrough (λ q. on_nothing (node_at a q) passed) to rank x
     passed_through passed x k =
         let leads : on_nothing (node_at a x) passed ≡ next x ∷ [] = capture_leads (node_at a x) passed k in
         let f = follows x k in

@@ -1,4 +1,4 @@
--- Walks from several states, one after another, into a set that was empty.
+-- Depth-first searches from several states, one after another, into a set that was empty.
 use Rattle.std.proofs.Common.{◌≡◌, ℕ, zero, suc, ◌+◌, ◌<◌, ◌≤◌, true, false, Bool, not, List, [], ◌∷◌, ◌++◌, length, drop, refl, sym, ap}
 use Rattle.std.proofs.Common.{◌∙◌, arith, ⊎_elim, subst, cond, append_assoc, append-nil, All}
 use Rattle.std.proofs.lemmas.Bool.{cases_Bool}
@@ -22,7 +22,7 @@ use Rattle.determinize_core.proofs.ClosureLemmas.{known_below}
 
 -- ---- lists without repeats
 
--- a list without a number
+-- the list without a number
 abbrev pub but : ℕ → List ℕ → List ℕ
 but n [] = []
 but n (x ∷ xs) = cond (nat_eq x n) (but n xs) (x ∷ but n xs)
@@ -82,13 +82,13 @@ module _ (f : ℕ → ℕ) where
       (λ (e : nat_eq x n ≡ false). rw e (omega (arith, sum_by-cons f x xs, sum_by-cons f x (but n xs), sum_but n xs once.1)))
       (cases_Bool (nat_eq x n))
 
-  -- the sum over numbers below one, none twice, is at most that over all of them
+  -- if numbers are below a bound, none twice, the sum over them is at most that over all numbers below the bound
   pub sum_once : (n : ℕ) (xs : List ℕ) → HasNoneTwice nat_eq xs → AreBelow n xs → sum_by f xs ≤ sum_below f n
   sum_once zero [] once below = omega arith
   sum_once zero (x ∷ xs) once below = let never : x < 0 = below x (has_first nat_eq names_equal x xs) in absurd (omega (arith, never))
   sum_once (suc n) xs once below = omega (arith, sum_but n xs once, sum_once n (but n xs) (but_once n xs once) (but_below n xs below))
 
--- none twice, and below a bound, as conditions of contracts say it
+-- a list without repeats, and below a bound, in the form of the contracts' conditions
 apart : (x : ℕ) (xs : List ℕ) → has nat_eq x xs ≡ false → AllByRecursion (λ y. nat_eq x y ≡ false) xs
 apart x [] absent = tt
 apart x (y ∷ ys) absent = ⊎_elim (λ (e : nat_eq x y ≡ true). let f : true ≡ false = (rw e at absent) in cc)
@@ -116,7 +116,7 @@ all_from_below n (x ∷ xs) below (suc k) d p = all_from_below n xs (λ q h. bel
 pub few_once : (n : ℕ) (xs : List ℕ) → IsDistinct nat_eq xs → AreBelow n xs → length xs ≤ n
 few_once n xs once below = length-le_from_distinct_below xs n once below
 
--- a list with none twice has no repeats to drop
+-- a list without repeats has no repeats to drop
 lacks_all : (x : ℕ) (seen : List ℕ) (xs : List ℕ) → HasNoneTwice nat_eq (seen ++ x ∷ xs) → has nat_eq x seen ≡ false
 lacks_all x [] xs once = refl
 lacks_all x (y ∷ seen) xs once = ⊎_elim
@@ -140,7 +140,7 @@ distinct_already xs once = join_of_once [] xs (once_from_distinct xs once)
 
 -- ---- closures
 
--- what a walk comes to begins with what was met
+-- the list with which a search ends begins with what was visited before
 pub grows : (ways : ℕ → List ℕ) (stack seen after : List ℕ) → Visits nat_eq ways stack seen after → (more : List ℕ) × (after ≡ seen ++ more)
 grows ways stack seen after v = by_walk ways v
   where
@@ -157,7 +157,7 @@ grows ways stack seen after v = by_walk ways v
         )
 
 module _ (a : Automaton) (looks : ℕ) where
-  -- a closure by its function
+  -- a closure as the function `closed` gives it
   pub closed_is : IsWellFormed a → (qs after : List ℕ) → AreBelow (length a.states) qs → Visits nat_eq (known_steps a looks) qs [] after →
       after ≡ closed a looks qs
   closed_is formed qs after below v = chains_met (known_steps a looks) (length a.states) qs [] after (known_below a looks formed) below
@@ -214,8 +214,8 @@ module _ (a : Automaton) (looks : ℕ) where
         (of_flat_map nat_eq names_equal nat_eq (chain_ends nat_eq (known_steps a looks) (length a.states) []) (λ q. q < length a.states) qs
         (λ x there p g. chain_below (length a.states) [] x (below x there) p g))
 
--- Some were closed, one after another, and others are left: going on with these goes on with all. Each closing costs one step
--- beside the ways of what it met.
+-- Some states were closed, one after another, and others are left. To go on with these is to go on with all. Each closing costs one step,
+-- in addition to the edges of what it met.
 pub record HasClosed (a : Automaton) (looks : ℕ) (all left met : List ℕ) (before count now : ℕ) : Type 0 where
   pub walk : (after : List ℕ) → Visits nat_eq (known_steps a looks) left met after → Visits nat_eq (known_steps a looks) all [] after
   pub cost : now ≤ before + count + known_ways a looks met
@@ -242,7 +242,7 @@ module _ (a : Automaton) (looks : ℕ) (all : List ℕ) (before : ℕ) where
           cost = omega (arith, of.cost, cost, sum, ways);
         }
 
-    -- wherever the walk is cut off, it has cost no more
+    -- wherever the search is cut off, it has cost no more
     pub here_cost : IsDistinct nat_eq met → All (λ q. q < length a.states) met → (most : ℕ) → count ≤ most →
         now ≤ before + most + free_ways a
     here_cost once below most few = omega (
@@ -272,7 +272,7 @@ module _ (a : Automaton) (looks : ℕ) (all : List ℕ) (before : ℕ) where
               (has_from_all (length a.states) new below),
         )
 
-    -- where none is left, the closure is whole
+    -- if none is left, the closure is complete
     module _ (formed : IsWellFormed a) (below : AreBelow (length a.states) all) (none : left ≡ []) where
       pub closes_all : met ≡ closed a looks all
       closes_all = closed_is a looks formed all met below (of.walk met
@@ -294,13 +294,13 @@ module _ (a : Automaton) (looks : ℕ) (all : List ℕ) (before : ℕ) where
 pub joins_one : (x : ℕ) (rest old new whole : List ℕ) (b : Bool) → join nat_eq old (x ∷ rest) ≡ whole → b ≡ not (has nat_eq x old) →
     new ≡ cond b (old ++ x ∷ []) old →
     join nat_eq new rest ≡ whole
-joins_one x rest old new whole b all tells e = ⊎_elim
+joins_one x rest old new whole b all reports e = ⊎_elim
     (λ (h : has nat_eq x old ≡ true).
-    let none : b ≡ false = tells ∙ ap not h in
+    let none : b ≡ false = reports ∙ ap not h in
     let same : new ≡ old = e ∙ ap (λ (t : Bool). cond t (old ++ x ∷ []) old) none in
     let left : join nat_eq old rest ≡ whole = (rw h at all) in ap (λ (l : List ℕ). join nat_eq l rest) same ∙ left)
     (λ (h : has nat_eq x old ≡ false).
-    let some : b ≡ true = tells ∙ ap not h in
+    let some : b ≡ true = reports ∙ ap not h in
     let more : new ≡ old ++ x ∷ [] = e ∙ ap (λ (t : Bool). cond t (old ++ x ∷ []) old) some in
     let left : join nat_eq (old ++ x ∷ []) rest ≡ whole = (rw h at all) in
     ap (λ (l : List ℕ). join nat_eq l rest) more ∙ left) (cases_Bool (has nat_eq x old))

@@ -1,4 +1,4 @@
--- The walk with a stack over the states of an automaton, where some looks are known to hold.
+-- The depth-first search with a stack over the states of an automaton, where some looks are known to hold.
 use Rattle.std.proofs.Common.{◌≡◌, ℕ, zero, suc, ◌+◌, ◌<◌, ◌≤◌, true, false, Bool, List, [], ◌∷◌, ◌++◌}
 use Rattle.std.proofs.Common.{length, drop, refl, sym, ap, ◌∙◌, arith, subst}
 use Rattle.std.proofs.Common.{cond, Some, None, append_assoc, append-nil, length-append, not, get_or, length-drop, ◌-◌, ⊎_elim, take}
@@ -15,7 +15,7 @@ use Rattle.nfa_core.specs.States.{is_epsilon}
 use Rattle.nfa_core.specs.Ways.{on_nothing}
 use Rattle.nfa_core.specs.Reached.{AreBelow, Meets}
 use Rattle.nfa_core.proofs.ForCallers.{none_in, of_cons, of_append, names_equal, nothing_led, has_first, has_later}
-use Rattle.determinize_core.specs.Closing.{AddsLeaves, PassesLeaves, GoesBehind}
+use Rattle.determinize_core.specs.Closing.{AddsLeaves, VisitsLeaves, GoesPast}
 use Rattle.determinize_core.specs.Steps.{known_steps}
 use Rattle.determinize_core.specs.Costs.{known_ways}
 use Rattle.determinize_core.proofs.AddedLemmas.{next_left}
@@ -23,7 +23,7 @@ use Rattle.determinize_core.proofs.AddedLemmas.{next_left}
 pub known_below : (a : Automaton) (looks : ℕ) → IsWellFormed a → StaysBelow (length a.states) (known_steps a looks)
 known_below a looks formed = λ q low r way. formed q r (nothing_led (node_at a q) (has_look looks) r way)
 
--- what is left of a list has what the list has
+-- each member of what is left of a list is a member of the list
 part_below : (n k : ℕ) (qs : List ℕ) → AreBelow n qs → AreBelow n (drop k qs)
 part_below n zero qs below = below
 part_below n (suc k) [] below = below
@@ -50,24 +50,24 @@ no_ways fail_node looks e = refl
 no_ways (match_node pattern) looks e = refl
 
 module _ (a : Automaton) (looks : ℕ) (qs seen : List ℕ) where
-  pub passes_none : PassesLeaves a looks qs 0 seen seen
+  pub passes_none : VisitsLeaves a looks qs 0 seen seen
   passes_none = record { walk = λ later after v. v; grown = ([], sym (append-nil seen), omega arith) }
 
-  -- one more was put into the set, or was in it
-  pub passes_one : (k q : ℕ) (met new : List ℕ) (b : Bool) → PassesLeaves a looks qs k seen met → k < length qs → q ≡ get_or qs k 0 →
+  -- one more was put into the set, or was in it already
+  pub passes_one : (k q : ℕ) (met new : List ℕ) (b : Bool) → VisitsLeaves a looks qs k seen met → k < length qs → q ≡ get_or qs k 0 →
       is_epsilon (node_at a q) ≡ false → b ≡ not (has nat_eq q met) → new ≡ cond b (met ++ q ∷ []) met →
-      PassesLeaves a looks qs (k + 1) seen new
-  passes_one k q met new b of within is leaf told e = ⊎_elim
+      VisitsLeaves a looks qs (k + 1) seen new
+  passes_one k q met new b of within is leaf reported e = ⊎_elim
       (λ (h : has nat_eq q met ≡ true).
-      let same : new ≡ met = e ∙ ap (λ (c : Bool). cond c (met ++ q ∷ []) met) (told ∙ ap not h) in
-      subst (λ (l : List ℕ). PassesLeaves a looks qs (k + 1) seen l) (sym same) (record {
+      let same : new ≡ met = e ∙ ap (λ (c : Bool). cond c (met ++ q ∷ []) met) (reported ∙ ap not h) in
+      subst (λ (l : List ℕ). VisitsLeaves a looks qs (k + 1) seen l) (sym same) (record {
         walk = λ later after v. of.walk later after (subst (λ (l : List ℕ). Visits nat_eq (known_steps a looks) (l ++ later) met after)
             (sym left) (held q (drop (k + 1) qs ++ later) met after h v));
         grown = of.grown;
       }))
       (λ (h : has nat_eq q met ≡ false).
-      let more : new ≡ met ++ q ∷ [] = e ∙ ap (λ (c : Bool). cond c (met ++ q ∷ []) met) (told ∙ ap not h) in
-      subst (λ (l : List ℕ). PassesLeaves a looks qs (k + 1) seen l) (sym more) (record {
+      let more : new ≡ met ++ q ∷ [] = e ∙ ap (λ (c : Bool). cond c (met ++ q ∷ []) met) (reported ∙ ap not h) in
+      subst (λ (l : List ℕ). VisitsLeaves a looks qs (k + 1) seen l) (sym more) (record {
         walk = λ later after v. of.walk later after (subst (λ (l : List ℕ). Visits nat_eq (known_steps a looks) (l ++ later) met after)
             (sym left) (fresh q (drop (k + 1) qs ++ later) met (met ++ q ∷ []) after h
             (subst (λ (l : List ℕ). Visits nat_eq (known_steps a looks) l (met ++ q ∷ []) (met ++ q ∷ [])) (sym none)
@@ -89,7 +89,7 @@ module _ (a : Automaton) (looks : ℕ) (qs seen : List ℕ) where
       left : drop k qs ≡ q ∷ drop (k + 1) qs
       left = next_left qs k q within is
 
--- an item of a list, and that it is below what all are below
+-- a member of a list, and that it is below a bound if all members are
 pub item_at : (xs : List ℕ) (k x : ℕ) → k < length xs → x ≡ get_or xs k x → x ≡ get_or xs k 0
 item_at [] k x within e = absurd (omega (arith, within))
 item_at (y ∷ ys) zero x within e = e
@@ -101,11 +101,11 @@ item_below n (y ∷ ys) zero x below within e = below x (subst (λ (z : ℕ). Ha
 item_below n (y ∷ ys) (suc k) x below within e =
     item_below n ys k x (λ p h. below p (has_later nat_eq p y ys h)) (omega (arith, within)) e
 
-pub passes_all : (a : Automaton) (qs seen met : List ℕ) (k n : ℕ) → ((looks : ℕ) → PassesLeaves a looks qs k seen met) → k ≡ n →
-    (looks : ℕ) → PassesLeaves a looks qs n seen met
-passes_all a qs seen met k n of e looks = subst (λ (i : ℕ). PassesLeaves a looks qs i seen met) e (of looks)
+pub passes_all : (a : Automaton) (qs seen met : List ℕ) (k n : ℕ) → ((looks : ℕ) → VisitsLeaves a looks qs k seen met) → k ≡ n →
+    (looks : ℕ) → VisitsLeaves a looks qs n seen met
+passes_all a qs seen met k n of e looks = subst (λ (i : ℕ). VisitsLeaves a looks qs i seen met) e (of looks)
 
--- the names of a union are states, and its ways
+-- the names of a union are states, and are where it leads
 pub union_below : (a : Automaton) → IsWellFormed a → (q : ℕ) (node : Node) (names slice : List ℕ) → node ≡ node_at a q →
     node ≡ union_node names → slice ≡ names → AreBelow (length a.states) slice
 union_below a formed q node names slice is union same r h =
@@ -118,12 +118,12 @@ union_ways a looks q node names slice is union same = ap (λ w. on_nothing w (ha
 pub adds_none : (a : Automaton) (looks : ℕ) (seen : List ℕ) → AddsLeaves a looks seen seen
 adds_none a looks seen = ([], sym (append-nil seen), omega arith)
 
--- ---- behind a state
+-- ---- after a state
 
 module _ (a : Automaton) (looks q : ℕ) (stack seen : List ℕ) (before : ℕ) where
-  -- its ways were put on the stack
+  -- the states to which it leads were put on the stack
   pub goes_by_stack : (node : Node) (later : List ℕ) → node ≡ node_at a q → later ≡ on_nothing node (has_look looks) ++ stack →
-      GoesBehind a looks q stack seen before later seen before
+      GoesPast a looks q stack seen before later seen before
   goes_by_stack node later is e =
       let all : later ≡ known_steps a looks q ++ stack = e ∙ ap (λ w. on_nothing w (has_look looks) ++ stack) is in
       let len : length later ≡ length (known_steps a looks q) + length stack =
@@ -135,10 +135,10 @@ module _ (a : Automaton) (looks q : ℕ) (stack seen : List ℕ) (before : ℕ) 
         count = omega (arith, len);
       }
 
-  -- those of a union were met up to one, and the others were put on the stack
+  -- the states to which a union leads were met up to one, and the others were put on the stack
   pub goes_by_leaves : (names : List ℕ) (k : ℕ) (met rest later : List ℕ) (now : ℕ) → known_steps a looks q ≡ names → k ≤ length names →
-      PassesLeaves a looks names k seen met → rest ≡ take (length names - k) (drop k names) → later ≡ rest ++ stack → now ≡ before + k →
-      GoesBehind a looks q stack seen before later met now
+      VisitsLeaves a looks names k seen met → rest ≡ take (length names - k) (drop k names) → later ≡ rest ++ stack → now ≡ before + k →
+      GoesPast a looks q stack seen before later met now
   goes_by_leaves names k met rest later now ways within passes slice e cost =
       let cut : length (drop k names) ≡ length names - k = length-drop k names in
       let left : rest ≡ drop k names = slice ∙ (ap (λ (n : ℕ). take n (drop k names)) (sym cut) ∙ take-length (drop k names)) in
@@ -153,8 +153,7 @@ module _ (a : Automaton) (looks q : ℕ) (stack seen : List ℕ) (before : ℕ) 
         count = omega (arith, len, cut, whole, within, cost);
       }
 
--- The walk stands at a stack and what was met: going on from there goes on from its start, and what is on the stack was
--- counted.
+-- The search is at a stack and at what was met. To go on from there is to go on from its start, and what is on the stack was counted.
 pub record StandsAt (a : Automaton) (looks start : ℕ) (seen : List ℕ) (before : ℕ) (stack met : List ℕ) (now : ℕ) : Type 0 where
   pub below : AreBelow (length a.states) stack
   pub walk : (after : List ℕ) → Visits nat_eq (known_steps a looks) stack met after →
@@ -171,7 +170,7 @@ module _ (a : Automaton) (looks start : ℕ) (seen : List ℕ) (before : ℕ) wh
 
   module _ (stack met later new : List ℕ) (now then : ℕ) (stands : StandsAt a looks start seen before stack met now) where
     pub goes_on : (q : ℕ) → IsWellFormed a → q < length a.states → AreBelow (length a.states) later → Meets stack met later new (Some q) →
-        then + length later ≡ now + length stack → (next last : List ℕ) (end : ℕ) → GoesBehind a looks q later new then next last end →
+        then + length later ≡ now + length stack → (next last : List ℕ) (end : ℕ) → GoesPast a looks q later new then next last end →
         StandsAt a looks start seen before next last end
     goes_on q formed low below m cost next last end goes =
         let sum : known_ways a looks (stands.grown.0 ++ q ∷ []) ≡ known_ways a looks stands.grown.0 + length (known_steps a looks q) =
@@ -210,7 +209,8 @@ module _ (a : Automaton) (looks start : ℕ) (seen : List ℕ) (before : ℕ) wh
     pub has_grown : Meets stack met later new None → (more : List ℕ) × (new ≡ seen ++ more)
     has_grown m = (stands.grown.0, m.1 ∙ stands.grown.1)
 
-    -- the same where the walk is cut off behind a state that was met, and leaves behind it
+    -- also if the search is cut off after a state that was met and leaves after it: what was met begins with what the set held, and the
+    -- cost stays within its bound
     module _ (q : ℕ) (m : Meets stack met later new (Some q)) (last : List ℕ) (leaves : AddsLeaves a looks new last) where
       abbrev cut_more : List ℕ
       cut_more = (stands.grown.0 ++ q ∷ []) ++ leaves.0

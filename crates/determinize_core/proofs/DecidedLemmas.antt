@@ -1,4 +1,4 @@
--- What is decided by the byte beside a place is known there, of the looks that an automaton has.
+-- What is decided by the byte next to an offset is known there, of the looks that an automaton has.
 use Rattle.std.proofs.Common.{◌≡◌, ℕ, ◌≤◌, ◌==◌, ◌&&◌, ◌||◌, Bool, true, false, List, length, Option, is_none, refl, ap, ◌∙◌}
 use Rattle.std.proofs.lemmas.List.Folds.{list_any_at}
 use Rattle.search_core.specs.Text.{byte_at, byte_before}
@@ -56,7 +56,7 @@ module _ (looks : ℕ) (reverse : Bool) (t : Terminator) (o : Option ℕ) where
   abbrev known : LookBehind
   known = look_behind looks reverse t (start_of t o)
 
-  -- what is known of the looks that are decided, where `edge` says whether the place is the haystack's edge
+  -- what is known of the looks that are decided; `edge` is whether the offset is the haystack's edge
   abbrev decided : Bool → Look → Bool
   decided edge AtStart = edge
   decided edge StartLF = edge || is_line_end t o

@@ -14,15 +14,15 @@ use Rattle.determinize_core.specs.StateBytes.{
   ids_read,
   ids_start,
   has_flag,
-  patterns_told,
+  patterns_encoded,
   is_match,
   is_listed,
   decoded,
 }
 use Rattle.determinize_core.proofs.StateLemmas.{number_back, numbers_back, ids_back}
 
--- the patterns are told apart by what is listed
-pub told_back : (ps : List ℕ) → patterns_told (is_listed ps) (is_match ps) ps ≡ ps
+-- what is listed shows which patterns there are
+pub told_back : (ps : List ℕ) → patterns_encoded (is_listed ps) (is_match ps) ps ≡ ps
 told_back [] = refl
 told_back (zero ∷ []) = refl
 told_back (suc p ∷ []) =
@@ -30,7 +30,7 @@ told_back (suc p ∷ []) =
     rw e refl
 told_back (p ∷ q ∷ ps) = refl
 
-pub told_unlisted : (m : Bool) (xs ys : List ℕ) → patterns_told false m xs ≡ patterns_told false m ys
+pub told_unlisted : (m : Bool) (xs ys : List ℕ) → patterns_encoded false m xs ≡ patterns_encoded false m ys
 told_unlisted true xs ys = refl
 told_unlisted false xs ys = refl
 
@@ -39,7 +39,7 @@ pub length-four_bytes_each : (ns : List ℕ) → length (four_bytes_each ns) ≡
 length-four_bytes_each [] = refl
 length-four_bytes_each (n ∷ ns) = omega (arith, length-four_bytes_each ns)
 
--- past thirteen bytes
+-- after thirteen bytes
 pub past_13 : (n a b c d e f g h i j k l m : ℕ) (rest : List ℕ) → drop (13 + n)
     (a ∷ b ∷ c ∷ d ∷ e ∷ f ∷ g ∷ h ∷ i ∷ j ∷ k ∷ l ∷ m ∷ rest) ≡ drop n rest
 past_13 n a b c d e f g h i j k l m rest = drop-append-add (a ∷ b ∷ c ∷ d ∷ e ∷ f ∷ g ∷ h ∷ i ∷ j ∷ k ∷ l ∷ m ∷ []) rest n
@@ -92,7 +92,7 @@ decoded_listed flags have need ps ids have_small need_small few small listed =
     number_back need (pattern_bytes true (length ps) ps ++ id_bytes 0 ids) need_small in
     let patterns : numbers (take (4 * number_at 9 (nine flags have need ++ (pattern_bytes true (length ps) ps ++ id_bytes 0 ids)))
     (four_bytes_each ps ++ id_bytes 0 ids)) ≡ ps = listed_numbers _ ps (id_bytes 0 ids) count small in
-    let told : patterns_told (has_flag flags 2) (has_flag flags 1) (numbers
+    let reported : patterns_encoded (has_flag flags 2) (has_flag flags 1) (numbers
     (take (4 * number_at 9 (nine flags have need ++ (pattern_bytes true (length ps) ps ++ id_bytes 0 ids))) (four_bytes_each ps
     ++ id_bytes 0 ids))) ≡ ps = rw listed patterns in
     let place : ids_start (has_flag flags 2) (number_at 9 (nine flags have need
@@ -104,20 +104,20 @@ decoded_listed flags have need ps ids have_small need_small few small listed =
     ++ (pattern_bytes true (length ps) ps ++ id_bytes 0 ids)))) (nine flags have need
     ++ (pattern_bytes true (length ps) ps ++ id_bytes 0 ids))) ≡ ids =
     rw place (rw rest (ids_back 0 ids)) in
-    same_made refl refl first second told states
+    same_made refl refl first second reported states
 
 pub decoded_unlisted : (m : Bool) (flags have need : ℕ) (ps ids : List ℕ) → have < 2 ^ 32 → need < 2 ^ 32 → has_flag flags 2 ≡ false →
     has_flag flags 1 ≡ m →
     decoded (nine flags have need ++ (pattern_bytes false (length ps) ps ++ id_bytes 0 ids)) ≡ made (has_flag flags 4)
-    (has_flag flags 8) have need (patterns_told false m ps) ids
+    (has_flag flags 8) have need (patterns_encoded false m ps) ids
 decoded_unlisted m flags have need ps ids have_small need_small unlisted matching =
     let first : number_at 1 (nine flags have need ++ id_bytes 0 ids) ≡ have =
     number_back have (in_four_bytes need ++ id_bytes 0 ids) have_small in
     let second : number_at 5 (nine flags have need ++ id_bytes 0 ids) ≡ need = number_back need (id_bytes 0 ids) need_small in
-    let told : (xs : List ℕ) → patterns_told (has_flag flags 2) (has_flag flags 1) xs ≡ patterns_told false m ps =
+    let reported : (xs : List ℕ) → patterns_encoded (has_flag flags 2) (has_flag flags 1) xs ≡ patterns_encoded false m ps =
     λ xs. rw unlisted (rw matching (told_unlisted m xs ps)) in
     let place : ids_start (has_flag flags 2) (number_at 9 (nine flags have need ++ id_bytes 0 ids)) ≡ 9 = rw unlisted refl in
     let states : ids_read 0 0 1 (drop (ids_start (has_flag flags 2) (number_at 9 (nine flags have need ++ id_bytes 0 ids)))
     (nine flags have need ++ id_bytes 0 ids)) ≡ ids =
     rw place (ids_back 0 ids) in
-    same_made refl refl first second (told _) states
+    same_made refl refl first second (reported _) states

@@ -1,4 +1,4 @@
--- The walk over the states at a place that lists their patterns and closes where they lead by the unit.
+-- The loop over the states at an offset, which lists their patterns and closes where they lead by the unit.
 use Rattle.std.proofs.Common.{◌≡◌, ℕ, ◌+◌, ◌<◌, ◌≤◌, Bool, true, false, List, [], ◌∷◌, ◌++◌, length, drop, All, Option, refl, sym}
 use Rattle.std.proofs.Common.{ap, ◌∙◌, arith, subst}
 use Rattle.std.specs.Bool.{nat_eq}
@@ -19,7 +19,7 @@ use Rattle.determinize_core.proofs.TargetLemmas.{units_below}
 abbrev pub entries : MatchKind → Automaton → Option ℕ → List ℕ → List ℕ
 entries kind a u qs = flat_map (unit_steps a u) (reading kind a qs)
 
--- The walk stands in front of those of the list that are left, behind k others: from v it has come to w and to what it met.
+-- The loop has taken the first k states of the list, and those of `left` are still to come. From v it has come to w and to what it met.
 pub record StepsAt (kind : MatchKind) (a : Automaton) (u : Option ℕ) (looks : ℕ) (qs : List ℕ) (v : StateValue) (before : ℕ)
     (left : List ℕ) (k : ℕ) (w : StateValue) (met : List ℕ) (now : ℕ) : Type 0 where
   pub closes : HasClosed a looks (entries kind a u qs) (entries kind a u left) met before k now
@@ -38,12 +38,12 @@ module _ (kind : MatchKind) (a : Automaton) (u : Option ℕ) (looks : ℕ) (qs :
 
   module _ (left rest : List ℕ) (k q : ℕ) (w x : StateValue) (met : List ℕ) (now : ℕ)
       (at : StepsAt kind a u looks qs v before left k w met now) (is : left ≡ q ∷ rest)
-      (told : x ≡ record w { matches = listed_with (pattern_at a q) w.matches }) where
+      (reported : x ≡ record w { matches = listed_with (pattern_at a q) w.matches }) where
     listed_now : x.matches ≡ listed_with (pattern_at a q) w.matches
-    listed_now = ap (λ (y : StateValue). y.matches) told
+    listed_now = ap (λ (y : StateValue). y.matches) reported
 
     others_now : x ≡ record v { matches = x.matches }
-    others_now = told ∙ (ap (λ (y : StateValue). record y { matches = listed_with (pattern_at a q) w.matches }) at.others
+    others_now = reported ∙ (ap (λ (y : StateValue). record y { matches = listed_with (pattern_at a q) w.matches }) at.others
         ∙ ap (λ (ps : List ℕ). record v { matches = ps }) (sym listed_now))
 
     one_less : length left ≡ 1 + length rest
@@ -52,7 +52,7 @@ module _ (kind : MatchKind) (a : Automaton) (u : Option ℕ) (looks : ℕ) (qs :
     pub step_goes_on : (new : List ℕ) (then : ℕ) (b : Bool) → b ≡ stops kind (pattern_at a q) → b ≡ false →
         Visits nat_eq (known_steps a looks) (unit_steps a u q) met new →
         then ≤ now + 1 + known_ways a looks (drop (length met) new) → StepsAt kind a u looks qs v before rest (k + 1) x new then
-    step_goes_on new then b tells none visits cost = let on : stops kind (pattern_at a q) ≡ false = sym tells ∙ none in record {
+    step_goes_on new then b reports none visits cost = let on : stops kind (pattern_at a q) ≡ false = sym reports ∙ none in record {
       closes = closes_more a looks (entries kind a u qs) before (entries kind a u left) met k now at.closes (unit_steps a u q)
           (entries kind a u rest) new then (goes_on_reading kind a left rest q is u on) visits cost;
       listed = goes_on_listed kind a left rest q is w.matches x.matches on listed_now ∙ at.listed;
@@ -60,9 +60,9 @@ module _ (kind : MatchKind) (a : Automaton) (u : Option ℕ) (looks : ℕ) (qs :
       passed = omega (arith, at.passed, one_less);
     }
 
-    module _ (none : v.matches ≡ []) (b : Bool) (tells : b ≡ stops kind (pattern_at a q)) (some : b ≡ true) where
+    module _ (none : v.matches ≡ []) (b : Bool) (reports : b ≡ stops kind (pattern_at a q)) (some : b ≡ true) where
       last : stops kind (pattern_at a q) ≡ true
-      last = sym tells ∙ some
+      last = sym reports ∙ some
 
       pub stop_matches : x ≡ record v { matches = patterns_in kind a qs }
       stop_matches =
@@ -102,7 +102,7 @@ module _ (kind : MatchKind) (a : Automaton) (u : Option ℕ) (looks : ℕ) (qs :
         closes_cost a looks (entries kind a u qs) before (entries kind a u left) met k now at.closes formed
         (units_below a formed u (reading kind a qs)) end_left (length qs) (omega (arith, at.passed))
 
-  -- what the walk has cost where memory is refused, or while states are closed to which the next one leads
+  -- what the loop has cost if an allocation fails, or while the states are closed to which the next one leads
   module _ (left : List ℕ) (k : ℕ) (w : StateValue) (met : List ℕ) (now : ℕ)
       (at : StepsAt kind a u looks qs v before left k w met now) where
     pub match_refused : IsDistinct nat_eq met → All (λ q. q < length a.states) met → now ≤ before + length qs + free_ways a

@@ -1,4 +1,4 @@
--- No byte stands before a place, or behind it, exactly at the edge of the haystack.
+-- No byte stands before an offset, or at it, exactly at the edge of the haystack.
 use Rattle.std.proofs.Common.{◌≡◌, ℕ, zero, suc, ◌≤◌, ◌==◌, List, length, is_none, refl, sym, ap, ◌∙◌, ⊎_elim, arith}
 use Rattle.std.proofs.lemmas.Option.{slice_get-get_or, slice_get_past}
 use Rattle.std.proofs.lemmas.Bool.{eq-eqb, ne_eqb, cases_lt}

@@ -1,4 +1,4 @@
--- What is written into the bytes of a state that is being built changes that part alone.
+-- Writing into the bytes of a state that is being built changes the written part alone.
 use Rattle.std.proofs.Common.{◌≡◌, ℕ, zero, suc, ◌+◌, ◌-◌, ◌*◌, ◌/◌, ◌<◌, ◌≤◌, Bool, true, false, List, [], ◌∷◌, ◌++◌, length, take, drop}
 use Rattle.std.proofs.Common.{refl, sym, ap, ◌∙◌, arith, append_assoc, append-nil, subst}
 use Rattle.std.specs.Prelude.{All, slice_index, slice_set}
@@ -14,12 +14,12 @@ use Rattle.determinize_core.proofs.FlagLemmas.{set_word, set_half, listed_back}
 use Rattle.determinize_core.proofs.DecodeLemmas.{length-four_bytes_each}
 use Rattle.determinize_core.proofs.ValueLemmas.{decoded_unfinished_back, is_encoded, value_back, few}
 
--- the bytes with the number of the patterns, where they are listed
+-- the bytes with the number of the patterns, if they are listed
 abbrev pub with_count : Bool → List ℕ → List ℕ
 with_count true bytes = take 9 bytes ++ (in_four_bytes ((length bytes - 13) / 4) ++ drop 13 bytes)
 with_count false bytes = bytes
 
--- what bytes are, is what they stand for
+-- bytes that are those of a value stand for that value
 pub told_unfinished : (v : StateValue) (bytes : List ℕ) → IsState v → v.ids ≡ [] → bytes ≡ unfinished v → IsUnfinished bytes ×
     (decoded_unfinished bytes ≡ v)
 told_unfinished v bytes state none e =
@@ -88,7 +88,7 @@ keeps_need old new looks of within e = told_encoded (record (decoded old) { look
 })
     (e ∙ ap (λ (xs : List ℕ). take 5 xs ++ (in_four_bytes looks ++ drop 9 xs)) of.same)
 
--- a state comes last
+-- a state is added as the last one
 ids_more : (before : ℕ) (ids : List ℕ) (q : ℕ) → id_bytes before (ids ++ q ∷ []) ≡ id_bytes before ids
     ++ groups 4 (zigzag (last_id before ids) q)
 ids_more before [] q = append-nil (groups 4 (zigzag before q))
@@ -119,7 +119,7 @@ pub keeps_id : (old new : List ℕ) (q : ℕ) → IsEncoded old → q ≤ greate
 keeps_id old new q of within e =
     let written : new ≡ encoded (record (decoded old) { ids = (decoded old).ids ++ q ∷ [] }) =
     e ∙ (ap (λ (xs : List ℕ). xs ++ groups 4 (zigzag (last_id 0 (decoded old).ids) q)) of.same ∙ id_written (decoded old) q) in
-    let told = told_encoded (record (decoded old) { ids = (decoded old).ids ++ q ∷ [] }) new (record {
+    let reported = told_encoded (record (decoded old) { ids = (decoded old).ids ++ q ∷ [] }) new (record {
       have = of.state.have;
       need = of.state.need;
       patterns = of.state.patterns;
@@ -127,9 +127,9 @@ keeps_id old new q of within e =
       states =
           all_more greatest_index (decoded old).ids q of.state.states within;
     }) written in
-    (told.0, told.1, sym (ap (λ (v : StateValue). last_id 0 v.ids) told.1 ∙ last_more 0 (decoded old).ids q))
+    (reported.0, reported.1, sym (ap (λ (v : StateValue). last_id 0 v.ids) reported.1 ∙ last_more 0 (decoded old).ids q))
 
--- the number of patterns is written where they are listed
+-- the number of patterns is written if they are listed
 written_count : (l : Bool) (v : StateValue) (bytes : List ℕ) → v.ids ≡ [] → is_listed v.matches ≡ l →
     bytes ≡ first_bytes v ++ pattern_bytes l 0 v.matches →
     first_bytes v ++ (pattern_bytes l (length v.matches) v.matches ++ id_bytes 0 v.ids) ≡ with_count l bytes

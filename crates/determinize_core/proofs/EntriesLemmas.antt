@@ -1,5 +1,5 @@
--- A powerset state's states, closed anew by what the unit ahead decides, are those that closing its entries under all looks
--- would have given, but for captures.
+-- A powerset state's states, closed again by what the next unit decides, are those that closing its entries under all looks would have
+-- given, except for captures.
 use Rattle.std.proofs.Common.{◌≡◌, ℕ, ◌==◌, ◌&&◌, true, false, Bool, not, List, [], ◌∷◌, length, Option, refl, sym, ap, ◌∙◌, ⊎_elim}
 use Rattle.std.proofs.Common.{subst, if◌then◌else◌}
 use Rattle.std.proofs.lemmas.Bool.{cases_Bool, eqb-true, eq-eqb, or_left, or_right, not-false}
@@ -25,7 +25,7 @@ use Rattle.determinize_core.proofs.MadeLemmas.{AreBelow, walk_made}
 use Rattle.determinize_core.proofs.CaptureLemmas.{to, rank, to_self, to_kept, passed_through}
 use Rattle.determinize_core.proofs.PassedLemmas.{passed_by, told_holds, IsTold, IsFlagged, known_passed}
 
--- ---- ways by the looks that hold
+-- ---- transitions by the looks that hold
 
 way_grows : (p r : Bool) (next z : ℕ) → (p ≡ true → r ≡ true) → Has nat_eq z (if p then next ∷ [] else []) →
     Has nat_eq z (if r then next ∷ [] else [])
@@ -54,7 +54,7 @@ look_has : (l : Look) (next : ℕ) (node : Node) → node ≡ look_node l next �
 look_has l next node e = ap (λ m. has_look (look_of m) l) e ∙ has_look-repr l l ∙ eq-eqb _ _ refl
 
 module _ (a : Automaton) (l : Look) where
-  -- looks stay
+  -- the looks of a set stay in it
   has_old : (qs : List ℕ) (s : ℕ) → has_look s l ≡ true → has_look (looks_with a s qs) l ≡ true
   has_old [] s h = h
   has_old (q ∷ qs) s h = has_old qs (union_of s (look_of (node_at a q))) (has_look-union s (look_of (node_at a q)) l ∙ or_left _ _ h)
@@ -78,7 +78,7 @@ capture_looks (binary_union first second) k = cc
 capture_looks fail_node k = cc
 capture_looks (match_node pattern) k = cc
 
--- captures alone have no looks
+-- states that are all captures add no looks
 captures_alone : (a : Automaton) (qs : List ℕ) (s : ℕ) → is_some_kept a qs ≡ false → looks_with a s qs ≡ s
 captures_alone a [] s none = refl
 captures_alone a (q ∷ qs) s none = ⊎_elim
@@ -102,7 +102,7 @@ not_gained true true n e m f = f
 not_gained true false n e m f = sym m ∙ e
 not_gained false q n e m f = refl
 
--- where nothing is gained, a needed look that becomes known was known
+-- if nothing is gained, a needed look that becomes known was known already
 nothing_gained : (known have need : ℕ) (l : Look) → IsLookSet have → not (shared_by (without known have) need == 0) ≡ false →
     has_look need l ≡ true →
     has_look have l ≡ false → has_look known l ≡ false
@@ -115,13 +115,13 @@ nothing_gained known have need l small none m f =
 
 -- ---- a state and what it was made of
 
--- the state was made of entries that were closed under these looks, at a place with o behind it
+-- the state was made of entries that were closed under these looks, at an offset with o just before it
 pub record IsStateOf (a : Automaton) (t : Terminator) (o : Option ℕ) (have : ℕ) (entries : List ℕ) (v : StateValue) : Type 0 where
   pub ids : v.ids ≡ kept_among a (closed a have entries)
   pub need : v.look_need ≡ looks_with a 0 (closed a have entries)
   pub has : v.look_have ≡ have_if v.look_need have
   pub small : IsLookSet have
-  pub told : IsTold (looks_of a.states) a.reverse t o have
+  pub reported : IsTold (looks_of a.states) a.reverse t o have
   pub flagged : is_some_kept a (closed a have entries) ≡ true → IsFlagged (looks_of a.states) a.reverse o v.is_from_word v.is_half_crlf
   pub low : AreBelow (length a.states) entries
 
@@ -182,10 +182,10 @@ module _ (a : Automaton) (formed : IsWellFormed a) (t : Terminator) (o u : Optio
   knows : (v.look_need == 0) ≡ false → (l : Look) → has_look asked l ≡ true → has_look known l ≡ passed l
   knows some l m =
       let T : ℕ → Type 0 = λ n. IsTold asked a.reverse t o n in
-      known_passed asked a.reverse t o u v (s.flagged (some_kept some)) (subst T (sym (has_is some)) s.told) l m
+      known_passed asked a.reverse t o u v (s.flagged (some_kept some)) (subst T (sym (has_is some)) s.reported) l m
 
   told_passed : (l : Look) → has_look asked l ≡ true → has_look have l ≡ true → passed l ≡ true
-  told_passed l m h = told_holds a.reverse t o u l (sym (s.told.told l m) ∙ h)
+  told_passed l m h = told_holds a.reverse t o u l (sym (s.reported.reported l m) ∙ h)
 
   grows : (x z : ℕ) → Has nat_eq z (known_steps a have x) → Has nat_eq z (full x)
   grows x z h = ways_grow (node_at a x) (has_look have) passed (λ l next e. told_passed l (is_asked x l next e)) z h
@@ -193,7 +193,7 @@ module _ (a : Automaton) (formed : IsWellFormed a) (t : Terminator) (o u : Optio
   first_visits : Visits nat_eq (known_steps a have) entries [] states
   first_visits = walk_made (known_steps a have) (length a.states) (stays_below a formed (has_look have)) entries s.low
 
-  -- where nothing is gained, what was closed is closed under all looks
+  -- if nothing is gained, what was closed is closed under all looks
   alike_there : gains v known ≡ false → (x : ℕ) → Has nat_eq x states → known_steps a have x ≡ full x
   alike_there none x there = nothing_same (node_at a x) (has_look have) passed
       (λ l next e.

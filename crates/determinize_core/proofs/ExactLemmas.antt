@@ -1,4 +1,4 @@
--- A start tells of each family that is asked for all that holds by what stands before the place.
+-- A start has, of each family that is asked for, all looks that hold by what stands before the offset.
 use Rattle.std.proofs.Common.{◌≡◌, ◌≢◌, ℕ, ◌==◌, ◌&&◌, ◌||◌, Bool, true, false, not, Option, Some, None, is_none, refl, sym, ap, ◌∙◌}
 use Rattle.std.proofs.lemmas.Bool.{ne_eqb}
 use Rattle.search_core.specs.Utf8.{is_word_byte}
@@ -55,7 +55,7 @@ crlf_of f =
     ∙ itself f.crlf StartCRLF _ refl (other f.lines StartLF StartCRLF _ refl ∙ other f.haystack AtStart StartCRLF 0 refl
     ∙ has_look-none StartCRLF)
 
--- neither look of words is in the set of the three others
+-- neither of the looks at words is in the set of the three others
 no_word_look : (f : Families) (l : Look) → same_look l StartCRLF ≡ false → same_look l StartLF ≡ false → same_look l AtStart ≡ false →
     has_look (with_if f.crlf StartCRLF (with_if f.lines StartLF (with_if f.haystack AtStart 0))) l ≡ false
 no_word_look f l p q r = other f.crlf StartCRLF l _ p ∙ other f.lines StartLF l _ q ∙ other f.haystack AtStart l 0 r ∙ has_look-none l
@@ -70,7 +70,7 @@ unicode_of f =
     itself f.words WordStartHalfUnicode _ refl
     (other f.words WordStartHalfAscii WordStartHalfUnicode _ refl ∙ no_word_look f WordStartHalfUnicode refl refl refl)
 
--- ---- what a start tells, by the byte that stands before the place
+-- ---- what a start knows, by the byte that stands before the offset
 
 pub first_is_line_feed : (r : Bool) → r ≡ (first_half r == 0x0A)
 first_is_line_feed true = refl

@@ -1,14 +1,14 @@
--- What setting one of a state's flags does, and reading one. Each is tried over all values of the four bits.
+-- What setting and reading one of a state's flags does. Each is tried over all values of the four bits.
 use Rattle.std.proofs.Common.{◌≡◌, Bool, true, false, ◌&&◌, ◌==◌, not, refl, sym, if◌then◌else◌}
 use Rattle.std.specs.Int.Bits.{bit_or}
 use Rattle.std.proofs.lemmas.Bool.{and_parts, eqb-true, not-true}
 use Rattle.determinize_core.specs.StateBytes.{has_flag, flag_byte}
 
--- whether a test holds of both bits
+-- whether a test holds for both values of a bit
 abbrev of_both : (Bool → Bool) → Bool
 of_both f = f true && f false
 
--- what holds of both bits holds of each
+-- what holds for both values holds for each
 of_each : (f : Bool → Bool) → of_both f ≡ true → (b : Bool) → f b ≡ true
 of_each f e true = (and_parts (f true) (f false) e).0
 of_each f e false = (and_parts (f true) (f false) e).1
@@ -24,7 +24,7 @@ of_four f e m l w h =
     (of_each (λ l. of_both (λ w. of_both (λ h. f m l w h)))
     (of_each (λ m. of_both (λ l. of_both (λ w. of_both (λ h. f m l w h)))) e m) l) w) h
 
--- whether two bits are the same
+-- whether two bits are equal
 abbrev is_same : Bool → Bool → Bool
 is_same b c = if b then c else not c
 

@@ -1,4 +1,4 @@
--- A walk over bytes is a walk over a haystack that has them.
+-- A sequence of states over bytes is a sequence over a haystack that has them.
 use Rattle.std.proofs.Common.{◌≡◌, ℕ, zero, suc, ◌+◌, ◌-◌, ◌<◌, ◌≤◌, Bool, true, false, List, [], ◌∷◌, ◌++◌, map, reverse, length, Option}
 use Rattle.std.proofs.Common.{Some, None, refl, sym, ap, ◌∙◌, arith, append_assoc, append-nil}
 use Rattle.std.specs.Bool.{nat_eq}
@@ -12,12 +12,12 @@ use Rattle.search_types.specs.declared.match_kind.MatchKind.{MatchKind}
 use Rattle.search_types.specs.declared.match_kind.MatchKind.TheVariants.{All as AllMatches, LeftmostFirst}
 use Rattle.nfa_core.specs.Places.{first}
 use Rattle.nfa_core.specs.Nfa.{Automaton, IsWellFormed}
-use Rattle.nfa_core.specs.Ways.{Text, bytes_left, place_of, ends_from}
+use Rattle.nfa_core.specs.Ways.{Text, bytes_left, offset_of, ends_from}
 use Rattle.nfa_core.proofs.ForCallers.{one_value, no_value}
 use Rattle.determinize_core.specs.States.{StateValue}
 use Rattle.determinize_core.specs.Starts.{start_of}
-use Rattle.determinize_core.specs.Steps.{start_value, step_value, unit_at, unit_behind, walk_value}
-use Rattle.determinize_core.specs.WalkLists.{walked, units_of, haystack_of, walk_start, low_edge, high_edge, text_of}
+use Rattle.determinize_core.specs.Steps.{start_value, step_value, unit_at, unit_before, value_after}
+use Rattle.determinize_core.specs.WalkLists.{walked, units_of, haystack_of, starting_index, low_edge, high_edge, text_of}
 use Rattle.determinize_core.proofs.ListedLemmas.{all_listed, one_listed, some_listed, never_listed}
 
 -- ---- units
@@ -47,7 +47,7 @@ before_same h g m n p r = λ i. byte_before (p i) (r i)
 turned : (b : ℕ) (bytes more : List ℕ) → reverse (b ∷ bytes) ++ more ≡ reverse bytes ++ b ∷ more
 turned b bytes more = ap (λ (l : List ℕ). l ++ more) (reverse-append (b ∷ []) bytes) ∙ append_assoc (reverse bytes) (b ∷ []) more
 
--- in reverse from its end, a list that is turned round reads as the list
+-- the bytes of a reversed list, taken in reverse from its end, are those of the list
 reads_reverse : (bytes more : List ℕ) (k : ℕ) → byte_before (reverse bytes ++ more) (length bytes - k) ≡ slice_get bytes k
 reads_reverse [] more k = let none : 0 - k ≡ 0 = omega arith in ap (byte_before more) none
 reads_reverse (b ∷ bytes) more zero =
@@ -63,12 +63,12 @@ reads_forward None bytes k = let is : 0 + k ≡ k = omega arith in ap (byte_at b
 reads_forward (Some b) bytes k = let is : 1 + k ≡ suc k = omega arith in ap (byte_at (b ∷ bytes)) is
 
 reads_bytes : (r : Bool) (behind : Option ℕ) (bytes : List ℕ) (k : ℕ) →
-    unit_at r (haystack_of r behind bytes) (place_of r (walk_start r behind bytes) k) ≡ slice_get bytes k
+    unit_at r (haystack_of r behind bytes) (offset_of r (starting_index r behind bytes) k) ≡ slice_get bytes k
 reads_bytes false behind bytes k = reads_forward behind bytes k
 reads_bytes true behind bytes k = reads_reverse bytes (option_to_list behind) k
 
-stands_behind : (r : Bool) (behind : Option ℕ) (bytes : List ℕ) → unit_behind r (haystack_of r behind bytes)
-    (walk_start r behind bytes) ≡ behind
+stands_behind : (r : Bool) (behind : Option ℕ) (bytes : List ℕ) → unit_before r (haystack_of r behind bytes)
+    (starting_index r behind bytes) ≡ behind
 stands_behind false None bytes = refl
 stands_behind false (Some b) bytes = refl
 stands_behind true None bytes =
@@ -78,7 +78,7 @@ stands_behind true (Some b) bytes = next_to_turned bytes b []
 
 -- ---- the bytes as a span of the haystack
 
-first_is_inside : (r : Bool) (behind : Option ℕ) (bytes : List ℕ) → walk_start r behind bytes ≤ high_edge r behind bytes
+first_is_inside : (r : Bool) (behind : Option ℕ) (bytes : List ℕ) → starting_index r behind bytes ≤ high_edge r behind bytes
 first_is_inside false behind bytes = let e = length-append (option_to_list behind) bytes in omega (arith, e)
 first_is_inside true behind bytes = omega arith
 
@@ -89,7 +89,7 @@ edge_is_inside true behind bytes =
     let f = length-reverse bytes in omega (arith, e, f)
 
 all_are_left : (r : Bool) (t : Terminator) (behind : Option ℕ) (bytes : List ℕ) →
-    bytes_left r (text_of r t behind bytes) (walk_start r behind bytes) ≡ length bytes
+    bytes_left r (text_of r t behind bytes) (starting_index r behind bytes) ≡ length bytes
 all_are_left false t behind bytes = let e = length-append (option_to_list behind) bytes in omega (arith, e)
 all_are_left true t behind bytes = omega arith
 
@@ -112,7 +112,7 @@ module _ (a : Automaton) (t : Terminator) (kind : MatchKind) where
 
   module _ (q : ℕ) (behind : Option ℕ) (bytes : List ℕ) where
     abbrev state : ℕ → StateValue
-    state k = walk_value a t kind (haystack_of a.reverse behind bytes) (walk_start a.reverse behind bytes) q k
+    state k = value_after a t kind (haystack_of a.reverse behind bytes) (starting_index a.reverse behind bytes) q k
 
     pub state_there : (k : ℕ) → k ≤ length bytes + 1 → slice_get (walked a t kind (start_value a t (start_of t behind) q) (units_of bytes))
         k ≡ Some (state k)
@@ -141,7 +141,7 @@ module _ (a : Automaton) (t : Terminator) (kind : MatchKind) where
       is_state k v there = one_value (slice_get states k) v (state k) there (found k (is_within k v there))
 
       pub is_left : (k : ℕ) (v : StateValue) → slice_get states (suc k) ≡ Some v →
-          k ≤ bytes_left a.reverse (text_of a.reverse t behind bytes) (walk_start a.reverse behind bytes)
+          k ≤ bytes_left a.reverse (text_of a.reverse t behind bytes) (starting_index a.reverse behind bytes)
       is_left k v there =
           let within = is_within (suc k) v there in
           let left = all_are_left a.reverse t behind bytes in omega (arith, within, left)
@@ -153,7 +153,7 @@ module _ (a : Automaton) (t : Terminator) (q : ℕ) (behind : Option ℕ) (bytes
   h = haystack_of a.reverse behind bytes
 
   abbrev i : ℕ
-  i = walk_start a.reverse behind bytes
+  i = starting_index a.reverse behind bytes
 
   abbrev s : ℕ
   s = low_edge a.reverse behind bytes
@@ -173,14 +173,14 @@ module _ (a : Automaton) (t : Terminator) (q : ℕ) (behind : Option ℕ) (bytes
   pub all_are_listed : IsWellFormed a → q < length a.states → states ≡ walked a t AllMatches (start_value a t (start_of t behind) q)
       (units_of bytes) →
       (k : ℕ) (v : StateValue) → slice_get states (suc k) ≡ Some v →
-      v.matches ≡ map (λ (x : ℕ × ℕ). x.1) (filter (λ x. nat_eq x.0 (place_of a.reverse i k)) (ends_from a text (i, q)))
+      v.matches ≡ map (λ (x : ℕ × ℕ). x.1) (filter (λ x. nat_eq x.0 (offset_of a.reverse i k)) (ends_from a text (i, q)))
   all_are_listed formed low are k v there =
       ap (λ (w : StateValue). w.matches) (is_state a t AllMatches q behind bytes states are (suc k) v there)
       ∙ all_listed a t h s e i q formed inside within low k (is_left a t AllMatches q behind bytes states are k v there)
 
   module _ (are : states ≡ walked a t LeftmostFirst (start_value a t (start_of t behind) q) (units_of bytes)) where
     abbrev state_at : ℕ → StateValue
-    state_at k = walk_value a t LeftmostFirst h i q k
+    state_at k = value_after a t LeftmostFirst h i q k
 
     same_state : (k : ℕ) (v : StateValue) → slice_get states k ≡ Some v → v ≡ state_at k
     same_state k v there = is_state a t LeftmostFirst q behind bytes states are k v there
@@ -191,14 +191,14 @@ module _ (a : Automaton) (t : Terminator) (q : ℕ) (behind : Option ℕ) (bytes
         let one : length (state_at k).matches ≤ 1 = one_listed a t h i q k in omega (arith, same, one)
 
     module _ (formed : IsWellFormed a) (low : q < length a.states) where
-      -- a list of no matches is read off the state with the number
+      -- the state with the number shows that it lists no match
       silent : (k : ℕ) (v : StateValue) → slice_get states (suc k) ≡ Some v →
           (k ≤ bytes_left a.reverse text i → (state_at (suc k)).matches ≡ []) → v.matches ≡ []
       silent k v there none = ap (λ (w : StateValue). w.matches) (same_state (suc k) v there)
           ∙ none (is_left a t LeftmostFirst q behind bytes states are k v there)
 
       pub end_is_told : (j p : ℕ) → first (ends_from a text (i, q)) ≡ Some (j, p) →
-          (k : ℕ) × (v : StateValue) × (j ≡ place_of a.reverse i k) × (slice_get states (suc k) ≡ Some v) × (v.matches ≡ p ∷ []) ×
+          (k : ℕ) × (v : StateValue) × (j ≡ offset_of a.reverse i k) × (slice_get states (suc k) ≡ Some v) × (v.matches ≡ p ∷ []) ×
           ((m : ℕ) (w : StateValue) → k < m → slice_get states (suc m) ≡ Some w → w.matches ≡ [])
       end_is_told j p is =
           let r = some_listed a t h s e i q formed inside within low j p is in

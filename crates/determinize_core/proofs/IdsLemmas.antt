@@ -1,4 +1,4 @@
--- Tests of a list of numbers: that each is below a bound, and none comes twice.
+-- Tests of a list of numbers: that each is below a bound, and that none occurs twice.
 use Rattle.std.proofs.Common.{◌≡◌, ℕ, zero, suc, ◌<◌, true, false, Bool, not, List, [], ◌∷◌, refl, sym, ap, ◌∙◌, arith, All, nat_lt}
 use Rattle.std.specs.Bool.{nat_eq}
 use Rattle.std.specs.List.{list_all, IsDistinct}

@@ -1,4 +1,4 @@
--- What is known by a start is a set of looks, and a state with it is a state.
+-- What is known by a start is a set of looks, and a state with this set is a state.
 use Rattle.std.proofs.Common.{◌≡◌, ℕ, Bool, true, false, not, [], arith}
 use Rattle.std.specs.Int.Bits.{or_zero_l}
 use Rattle.look_core.specs.Codes.{repr}

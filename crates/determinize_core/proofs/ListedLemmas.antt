@@ -1,4 +1,4 @@
--- What the states of a walk list: the ends of runs at each place, and under leftmost-first the end of the most preferred one.
+-- What a sequence of states lists: the ends of runs at each offset, and under leftmost-first the end of the most preferred one.
 use Rattle.std.proofs.Common.{◌≡◌, ℕ, zero, suc, ◌+◌, ◌<◌, ◌≤◌, true, false, List, [], ◌∷◌, ◌++◌, map, length, Option, Some, None, refl}
 use Rattle.std.proofs.Common.{sym, ap, ◌∙◌, ◌⊎◌, inl, inr, ⊎_elim, subst, arith}
 use Rattle.std.proofs.lemmas.Bool.{cases_lt}
@@ -12,15 +12,15 @@ use Rattle.nfa_core.specs.Runs.{answers, IsMostPreferred}
 use Rattle.nfa_core.specs.Places.{same_pair, answers_at, first, latest}
 use Rattle.nfa_core.specs.Nfa.{Node, byte_range, sparse_node, dense_node, look_node, union_node, binary_union, capture_node, fail_node}
 use Rattle.nfa_core.specs.Nfa.{match_node, Automaton, node_at, IsWellFormed}
-use Rattle.nfa_core.specs.Ways.{Text, span, match_of, ways, matched, matched_behind, place_of, bytes_left, ends_from}
+use Rattle.nfa_core.specs.Ways.{Text, span, match_of, ways, matched, matched_after, offset_of, bytes_left, ends_from}
 use Rattle.nfa_core.proofs.ForCallers.{has_or_not, same_here, option_cases, one_value, no_value, most_preferred, list_matches}
 use Rattle.nfa_core.proofs.ForCallers.{latest_is_preferred, first_of_option, map_appended}
 use Rattle.determinize_core.specs.States.{StateValue}
-use Rattle.determinize_core.specs.Steps.{pattern_of, pattern_at, walk_value}
-use Rattle.determinize_core.specs.Walked.{walked_lists, end_at, latest_listed}
+use Rattle.determinize_core.specs.Steps.{pattern_of, pattern_at, value_after}
+use Rattle.determinize_core.specs.Walked.{lists_along, end_at, latest_listed}
 use Rattle.determinize_core.proofs.WalkedLemmas.{lists_are_lists, matches_are}
 
--- ---- patterns with their place
+-- ---- patterns with their offset
 
 abbrev at : ℕ → ℕ → ℕ × ℕ
 at j p = (j, p)
@@ -39,12 +39,12 @@ one_end (capture_node next pattern group slot) j = refl
 one_end fail_node j = refl
 one_end (match_node pattern) j = refl
 
-ends_there : (a : Automaton) (i k : ℕ) (xs : List ℕ) → answers_at (matched_behind a i) k xs ≡ map (at (place_of a.reverse i k))
+ends_there : (a : Automaton) (i k : ℕ) (xs : List ℕ) → answers_at (matched_after a i) k xs ≡ map (at (offset_of a.reverse i k))
     (answers (pattern_at a) xs)
 ends_there a i k [] = refl
 ends_there a i k (x ∷ xs) =
-    let j : ℕ = place_of a.reverse i k in
-    ap (λ l. l ++ answers_at (matched_behind a i) k xs) (one_end (node_at a x) j)
+    let j : ℕ = offset_of a.reverse i k in
+    ap (λ l. l ++ answers_at (matched_after a i) k xs) (one_end (node_at a x) j)
     ∙ ap (λ l. map (at j) (option_to_list (pattern_at a x)) ++ l) (ends_there a i k xs)
     ∙ sym (map_appended (at j) (option_to_list (pattern_at a x)) (answers (pattern_at a) xs))
 
@@ -80,8 +80,8 @@ none_first [] j e = refl
 none_first (p ∷ ps) j e = no_value (Some (j, p)) (j, p) _ e refl
 
 module _ (states : ℕ → StateValue) (place : ℕ → ℕ) where
-  abbrev told : ℕ → Option (ℕ × ℕ)
-  told k = end_at (place k) (first (states (suc k)).matches)
+  abbrev reported : ℕ → Option (ℕ × ℕ)
+  reported k = end_at (place k) (first (states (suc k)).matches)
 
   abbrev Silent : ℕ → ℕ → Type 0
   Silent from to = (m : ℕ) → from < m → m ≤ to → (states (suc m)).matches ≡ []
@@ -97,7 +97,7 @@ module _ (states : ℕ → StateValue) (place : ℕ → ℕ) where
   none_listed zero k e m from to =
       let is : m ≡ k = omega (arith, from, to) in ap (λ n. (states (suc n)).matches) is ∙ none_first (states (suc k)).matches (place k) e
   none_listed (suc d) k e m from to =
-      let parts = none_or (latest_listed states place d (suc k)) (told k) e in
+      let parts = none_or (latest_listed states place d (suc k)) (reported k) e in
       ⊎_elim (λ (is : m ≡ k). ap (λ n. (states (suc n)).matches) is ∙ none_first (states (suc k)).matches (place k) parts.1)
       (λ (past : suc k ≤ m). none_listed d (suc k) parts.0 m past (omega (arith, to))) (at_or_past k m from)
 
@@ -116,11 +116,11 @@ module _ (states : ℕ → StateValue) (place : ℕ → ℕ) where
       (k, omega arith, omega arith, is.0, is.1, (λ m past to. absurd (omega (arith, past, to))))
   last_listed (suc d) k j p e = ⊎_elim
       (λ (none : latest_listed states place d (suc k) ≡ None).
-      let now : told k ≡ Some (j, p) = (rw none at e) in
+      let now : reported k ≡ Some (j, p) = (rw none at e) in
       let is = told_there k (first (states (suc k)).matches) j p now in
       (k, omega arith, omega arith, is.0, is.1, (λ m past to. none_listed d (suc k) none m past (omega (arith, to)))))
       (λ (some : (x : ℕ × ℕ) × (latest_listed states place d (suc k) ≡ Some x)).
-      let later : latest_listed states place d (suc k) ≡ Some (j, p) = some.1 ∙ sym (ap (λ o. option_or o (told k)) some.1) ∙ e in
+      let later : latest_listed states place d (suc k) ≡ Some (j, p) = some.1 ∙ sym (ap (λ o. option_or o (reported k)) some.1) ∙ e in
       let r = last_listed d (suc k) j p later in
       let from = r.1 in
       let to = r.2 in
@@ -132,7 +132,7 @@ module _ (states : ℕ → StateValue) (place : ℕ → ℕ) where
   only_first (r ∷ []) p l e = ap (λ x. x ∷ []) (one_value (Some r) r p refl e)
   only_first (r ∷ s ∷ ps) p l e = absurd (omega (arith, l))
 
--- ---- walks
+-- ---- sequences of states
 
 module _ (a : Automaton) (t : Terminator) (h : List ℕ) (s e i q : ℕ) (formed : IsWellFormed a) (below : i ≤ e) (within : e ≤ length h)
     (low : q < length a.states) where
@@ -143,38 +143,39 @@ module _ (a : Automaton) (t : Terminator) (h : List ℕ) (s e i q : ℕ) (formed
   len = bytes_left a.reverse text i
 
   pub all_listed : (k : ℕ) → k ≤ len →
-      (walk_value a t AllMatches h i q (suc k)).matches ≡ map pattern (filter (λ x. nat_eq x.0 (place_of a.reverse i k))
+      (value_after a t AllMatches h i q (suc k)).matches ≡ map pattern (filter (λ x. nat_eq x.0 (offset_of a.reverse i k))
       (ends_from a text (i, q)))
   all_listed k l =
-      let j : ℕ = place_of a.reverse i k in
-      let ps : List ℕ = answers (pattern_at a) (walked_lists AllMatches a text i q k) in
+      let j : ℕ = offset_of a.reverse i k in
+      let ps : List ℕ = answers (pattern_at a) (lists_along AllMatches a text i q k) in
       matches_are AllMatches a t h s e i q formed below within low k l
       ∙ sym (patterns_of j (distinct nat_eq ps))
-      ∙ ap (map pattern) (join_at j [] ps ∙ ap (distinct same_pair) (sym (ends_there a i k (walked_lists AllMatches a text i q k)))
-      ∙ list_matches a text i formed below q low (walked_lists AllMatches a text i q)
+      ∙ ap (map pattern) (join_at j [] ps ∙ ap (distinct same_pair) (sym (ends_there a i k (lists_along AllMatches a text i q k)))
+      ∙ list_matches a text i formed below q low (lists_along AllMatches a text i q)
       (lists_are_lists AllMatches a text i q formed low) k l)
 
   abbrev state : ℕ → StateValue
-  state k = walk_value a t LeftmostFirst h i q k
+  state k = value_after a t LeftmostFirst h i q k
 
   abbrev lists : ℕ → List ℕ
-  lists k = walked_lists LeftmostFirst a text i q k
+  lists k = lists_along LeftmostFirst a text i q k
 
   abbrev place : ℕ → ℕ
-  place k = place_of a.reverse i k
+  place k = offset_of a.reverse i k
 
-  told_at : (k : ℕ) → k ≤ len → end_at (place k) (first (state (suc k)).matches) ≡ first (answers_at (matched_behind a i) k (lists k))
-  told_at k l =
+  progress_reached : (k : ℕ) → k ≤ len → end_at (place k) (first (state (suc k)).matches) ≡
+      first (answers_at (matched_after a i) k (lists k))
+  progress_reached k l =
       ap (λ ms. end_at (place k) (first ms)) (matches_are LeftmostFirst a t h s e i q formed below within low k l)
       ∙ ap (end_at (place k)) (first_of_option (first (answers (pattern_at a) (lists k))))
       ∙ first_at (place k) (answers (pattern_at a) (lists k))
       ∙ ap first (sym (ends_there a i k (lists k)))
 
-  latest_is : (d k : ℕ) → k + d ≤ len → latest_listed state place d k ≡ latest (matched_behind a i) lists d k
-  latest_is zero k l = told_at k (omega (arith, l))
+  latest_is : (d k : ℕ) → k + d ≤ len → latest_listed state place d k ≡ latest (matched_after a i) lists d k
+  latest_is zero k l = progress_reached k (omega (arith, l))
   latest_is (suc d) k l =
       ap (λ o. option_or o (end_at (place k) (first (state (suc k)).matches))) (latest_is d (suc k) (omega (arith, l)))
-      ∙ ap (option_or (latest (matched_behind a i) lists d (suc k))) (told_at k (omega (arith, l)))
+      ∙ ap (option_or (latest (matched_after a i) lists d (suc k))) (progress_reached k (omega (arith, l)))
 
   pub latest_is_first : latest_listed state place len 0 ≡ first (ends_from a text (i, q))
   latest_is_first = latest_is len 0 (omega arith) ∙ latest_is_preferred a text i formed below q low lists
@@ -185,31 +186,31 @@ module _ (a : Automaton) (t : Terminator) (h : List ℕ) (s e i q : ℕ) (formed
       let P : Option (ℕ × ℕ) → Type 0 = λ o. IsMostPreferred same_pair (ways a text) (matched a) (i, q) o in
       subst P (sym latest_is_first) (most_preferred a text (i, q) formed (below, low))
 
-pub one_listed : (a : Automaton) (t : Terminator) (h : List ℕ) (i q k : ℕ) → length (walk_value a t LeftmostFirst h i q k).matches ≤ 1
+pub one_listed : (a : Automaton) (t : Terminator) (h : List ℕ) (i q k : ℕ) → length (value_after a t LeftmostFirst h i q k).matches ≤ 1
 one_listed a t h i q zero = omega arith
 one_listed a t h i q (suc k) = at_most_one _
 
 module _ (a : Automaton) (t : Terminator) (h : List ℕ) (s e i q : ℕ) (formed : IsWellFormed a) (below : i ≤ e) (within : e ≤ length h)
     (low : q < length a.states) where
   abbrev listed : ℕ → List ℕ
-  listed k = (walk_value a t LeftmostFirst h i q (suc k)).matches
+  listed k = (value_after a t LeftmostFirst h i q (suc k)).matches
 
   abbrev left : ℕ
   left = bytes_left a.reverse (span t h s e) i
 
   pub some_listed : (j p : ℕ) → first (ends_from a (span t h s e) (i, q)) ≡ Some (j, p) →
-      (k : ℕ) × (k ≤ left) × (j ≡ place_of a.reverse i k) × (listed k ≡ p ∷ []) × ((m : ℕ) → k < m → m ≤ left → listed m ≡ [])
+      (k : ℕ) × (k ≤ left) × (j ≡ offset_of a.reverse i k) × (listed k ≡ p ∷ []) × ((m : ℕ) → k < m → m ≤ left → listed m ≡ [])
   some_listed j p is =
-      let r = last_listed (walk_value a t LeftmostFirst h i q) (place_of a.reverse i) left 0 j p
+      let r = last_listed (value_after a t LeftmostFirst h i q) (offset_of a.reverse i) left 0 j p
       (latest_is_first a t h s e i q formed below within low ∙ is) in
       let to = r.2 in (
         r.0,
         omega (arith, to),
         r.3,
-        only_first (walk_value a t LeftmostFirst h i q) (place_of a.reverse i) (listed r.0) p (one_listed a t h i q (suc r.0)) r.4,
+        only_first (value_after a t LeftmostFirst h i q) (offset_of a.reverse i) (listed r.0) p (one_listed a t h i q (suc r.0)) r.4,
         (λ m past up. r.5 m past (omega (arith, up))),
       )
 
   pub never_listed : first (ends_from a (span t h s e) (i, q)) ≡ None → (k : ℕ) → k ≤ left → listed k ≡ []
-  never_listed none k l = none_listed (walk_value a t LeftmostFirst h i q) (place_of a.reverse i) left 0
+  never_listed none k l = none_listed (value_after a t LeftmostFirst h i q) (offset_of a.reverse i) left 0
       (latest_is_first a t h s e i q formed below within low ∙ none) k (omega arith) (omega (arith, l))

@@ -1,4 +1,4 @@
--- What is known by a start is true of what stands there.
+-- What is known by a start is true of the bytes that are there.
 use Rattle.std.proofs.Common.{◌≡◌, ◌≢◌, ℕ, ◌==◌, ◌&&◌, ◌||◌, Bool, true, false, not, Option, Some, None, refl, sym, ap, ◌∙◌, subst, cond}
 use Rattle.std.proofs.lemmas.Bool.{eqb-true, eqb-false, not-false}
 use Rattle.search_core.specs.Utf8.{is_word_byte}
@@ -10,17 +10,17 @@ use Rattle.look_core.specs.declared.look.Look.{Look}
 use Rattle.look_core.specs.declared.look.Look.TheVariants.{Start as AtStart, StartLF, StartCRLF, WordStartHalfAscii, WordStartHalfUnicode}
 use Rattle.look_core.proofs.ForCallers.{has_look-none, has_look-with, same_from_bit}
 use Rattle.determinize_core.specs.Starts.{start_by, start_of}
-use Rattle.determinize_core.specs.LookBehind.{with_if, starts_of, behind_nothing, behind_line, behind_byte, behind_start}
+use Rattle.determinize_core.specs.LookBehind.{with_if, starts_of, after_nothing, after_line_end, after_byte, behind_start}
 use Rattle.determinize_core.specs.declared.start.Start.TheVariants.{LineLF, LineCR}
 use Rattle.determinize_core.specs.declared.lookbehind.Families.{Families}
 use Rattle.determinize_core.specs.declared.lookbehind.LookBehind.{LookBehind}
 use Rattle.search_types.proofs.ForCallers.{both_left}
 
--- What holds of the look-behind of each kind of byte holds of that of the byte b.
+-- What holds of the look-behind of each kind of byte holds of the look-behind of the byte b.
 module _ (f : Families) (reverse : Bool) (t : Terminator) (b : ℕ) (G : LookBehind → Type 0) where
   by_tests : (p q e w : Bool) → p ≡ (b == 0x0A) → q ≡ (b == 0x0D) →
-      (b ≡ 0x0A → G (behind_line f reverse (ends_line t 0x0A))) → (b ≡ 0x0D → G (behind_line f (not reverse) (ends_line t 0x0D))) →
-      (b ≢ 0x0A → b ≢ 0x0D → G (behind_byte f e w)) → G (behind_start f reverse t (cond p LineLF (cond q LineCR (start_by e w))))
+      (b ≡ 0x0A → G (after_line_end f reverse (ends_line t 0x0A))) → (b ≡ 0x0D → G (after_line_end f (not reverse) (ends_line t 0x0D))) →
+      (b ≢ 0x0A → b ≢ 0x0D → G (after_byte f e w)) → G (behind_start f reverse t (cond p LineLF (cond q LineCR (start_by e w))))
   by_tests true q e w p' q' line_feed carriage_return byte = line_feed (eqb-true b 0x0A (sym p'))
   by_tests false true e w p' q' line_feed carriage_return byte = carriage_return (eqb-true b 0x0D (sym q'))
   by_tests false false true true p' q' line_feed carriage_return byte = byte (eqb-false b 0x0A (sym p')) (eqb-false b 0x0D (sym q'))
@@ -28,9 +28,9 @@ module _ (f : Families) (reverse : Bool) (t : Terminator) (b : ℕ) (G : LookBeh
   by_tests false false false true p' q' line_feed carriage_return byte = byte (eqb-false b 0x0A (sym p')) (eqb-false b 0x0D (sym q'))
   by_tests false false false false p' q' line_feed carriage_return byte = byte (eqb-false b 0x0A (sym p')) (eqb-false b 0x0D (sym q'))
 
-  pub start_cases : (b ≡ 0x0A → G (behind_line f reverse (ends_line t 0x0A))) →
-      (b ≡ 0x0D → G (behind_line f (not reverse) (ends_line t 0x0D))) →
-      (b ≢ 0x0A → b ≢ 0x0D → G (behind_byte f (ends_line t b) (is_word_byte b))) → G (behind_start f reverse t (start_of t (Some b)))
+  pub start_cases : (b ≡ 0x0A → G (after_line_end f reverse (ends_line t 0x0A))) →
+      (b ≡ 0x0D → G (after_line_end f (not reverse) (ends_line t 0x0D))) →
+      (b ≢ 0x0A → b ≢ 0x0D → G (after_byte f (ends_line t b) (is_word_byte b))) → G (behind_start f reverse t (start_of t (Some b)))
   start_cases = by_tests _ _ _ _ refl refl
 
 -- P holds of each member of the set
@@ -63,7 +63,7 @@ both_not false b e = refl
 never : (A : Type 0) → false ≡ true → A
 never A e = let none : ⊥ = cc in absurd none
 
--- What P holds of, for the byte o that stands before the place, if there is one: what a start tells of looks.
+-- What P holds of, for the byte o that stands before the offset, if there is one: what a start knows of looks.
 pub record Allows (reverse : Bool) (t : Terminator) (o : Option ℕ) (P : Look → Type 0) : Type 0 where
   pub edge : o ≡ None → P AtStart
   pub edge_of_line : o ≡ None → P StartLF
@@ -83,20 +83,20 @@ module _ (P : Look → Type 0) where
       (if_hold P f.crlf StartCRLF _ crlf (if_hold P f.lines StartLF _ line (if_hold P f.haystack AtStart 0 edge (none_hold P)))))
 
 module _ (f : Families) (reverse : Bool) (t : Terminator) (P : Look → Type 0) where
-  nothing_holds : Allows reverse t None P → Each P (behind_nothing f).look_have
+  nothing_holds : Allows reverse t None P → Each P (after_nothing f).look_have
   nothing_holds a = starts_hold P f (λ _. a.edge refl) (λ _. a.edge_of_line refl) (λ _. a.edge_of_crlf refl) (λ _. a.ascii refl)
       (λ _. a.unicode refl)
 
   line_holds : (b : ℕ) (first ends : Bool) → Allows reverse t (Some b) P → is_word_byte b ≡ false → (ends ≡ true → ends_line t b ≡ true) →
       (first ≡ false → P StartCRLF) →
-      Each P (behind_line f first ends).look_have
+      Each P (after_line_end f first ends).look_have
   line_holds b first ends a w e p =
       let none : is_no_word (byte_side (Some b)) ≡ true = rw w refl in
       starts_hold P _ (never (P AtStart)) (λ u. a.line (e (both_left ends f.lines u))) (λ u. p (both_not first f.crlf u))
       (λ _. a.ascii none) (λ _. a.unicode none)
 
   byte_holds : (b : ℕ) (ends word : Bool) → Allows reverse t (Some b) P → ends ≡ ends_line t b → word ≡ is_word_byte b →
-      Each P (behind_byte f ends word).look_have
+      Each P (after_byte f ends word).look_have
   byte_holds b ends word a e w =
       let none : word ≡ false → is_no_word (byte_side (Some b)) ≡ true = λ n. rw (sym w ∙ n) refl in
       starts_hold P _ (never (P AtStart)) (λ u. a.line (sym e ∙ both_left ends f.lines u)) (never (P StartCRLF))

@@ -1,4 +1,4 @@
--- A walk with one set for all that was met can be made over names below a bound, and comes to the ends of chains.
+-- A depth-first search with one set of visited vertices can be made over names below a bound, and visits the ends of chains.
 use Rattle.std.proofs.Common.{◌≡◌, ℕ, zero, suc, ◌+◌, ◌<◌, ◌≤◌, true, false, List, [], ◌∷◌, ◌++◌, length, refl, ap, arith, ⊎_elim, subst}
 use Rattle.std.specs.List.{flat_map}
 use Rattle.std.specs.Bool.{nat_eq}
@@ -13,7 +13,7 @@ length-pushed : (xs : List ℕ) (x : ℕ) → length (xs ++ x ∷ []) ≡ suc (l
 length-pushed [] x = refl
 length-pushed (y ∷ ys) x = ap suc (length-pushed ys x)
 
--- without repeats, with one more that is not there
+-- a list without repeats, with one more member that it did not have
 once_more : (seen : List ℕ) (x : ℕ) → has nat_eq x seen ≡ false → HasNoneTwice nat_eq seen → HasNoneTwice nat_eq (seen ++ x ∷ [])
 once_more seen x absent once = let O : List ℕ → Type 0 = λ l. HasNoneTwice nat_eq l in
     subst O (pushed seen x absent) (join_once nat_eq names_equal seen (x ∷ []) once)
@@ -22,7 +22,7 @@ once_more seen x absent once = let O : List ℕ → Type 0 = λ l. HasNoneTwice 
     pushed seen x e = rw e refl
 
 module _ (steps : ℕ → List ℕ) (n : ℕ) (below : StaysBelow n steps) where
-  -- a walk that was made, to names below the bound and at least as many as before
+  -- a search that was made, to names below the bound and at least as many as before
   record Made (stack seen : List ℕ) : Type 0 where
     after : List ℕ
     visits : Visits nat_eq steps stack seen after

@@ -12,12 +12,12 @@ use Rattle.nfa_core.specs.Nfa.{Automaton}
 use Rattle.determinize_core.specs.Added.{listed_with, stops}
 use Rattle.determinize_core.specs.Steps.{pattern_at, patterns_in, reading, unit_steps}
 
--- those answers that a kind of match lists
+-- the answers that a kind of match lists
 abbrev pub listed_of : MatchKind → List ℕ → List ℕ
 listed_of AllMatches ps = ps
 listed_of LeftmostFirst ps = option_to_list (first ps)
 
--- what is listed behind these patterns in the end
+-- what is listed in the end after these patterns
 abbrev pub listed_from : MatchKind → Automaton → List ℕ → List ℕ → List ℕ
 listed_from kind a ps qs = join nat_eq ps (listed_of kind (answers (pattern_at a) qs))
 
@@ -42,7 +42,7 @@ joined_by : (p : ℕ) (ps rest : List ℕ) → join nat_eq ps (p ∷ rest) ≡ j
 joined_by p ps rest = ⊎_elim (λ (e : has nat_eq p ps ≡ true). rw e refl) (λ (e : has nat_eq p ps ≡ false). rw e refl)
     (cases_Bool (has nat_eq p ps))
 
--- the walk goes on behind a state
+-- the loop goes on after a state
 going_with : (kind : MatchKind) (o : Option ℕ) (ps rest : List ℕ) → stops kind o ≡ false →
     join nat_eq ps (listed_of kind (option_to_list o ++ rest)) ≡ join nat_eq (listed_with o ps) (listed_of kind rest)
 going_with AllMatches None ps rest on = refl
@@ -56,7 +56,7 @@ reading_with AllMatches a q qs o on is = refl
 reading_with LeftmostFirst a q qs None on is = ap (λ (p : Option ℕ). unless_answered p (q ∷ before_answer (pattern_at a) qs)) is
 reading_with LeftmostFirst a q qs (Some p) on is = let never : true ≡ false = on in cc
 
--- or ends there
+-- or the loop ends there
 ending_with : (kind : MatchKind) (o : Option ℕ) (ps rest : List ℕ) → stops kind o ≡ true →
     join nat_eq ps (listed_of kind (option_to_list o ++ rest)) ≡ listed_with o ps
 ending_with AllMatches o ps rest on = let never : false ≡ true = on in cc

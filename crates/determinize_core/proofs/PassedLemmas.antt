@@ -1,5 +1,5 @@
--- Where looks hold, by the byte behind a place and the unit ahead of it, in the order of reading; and what a powerset state
--- knows of them before its unit.
+-- Where looks hold, by the byte before an offset and the unit after it, in the order of reading. What a powerset state knows of them before
+-- its unit.
 use Rattle.std.proofs.Common.{◌≡◌, ℕ, ◌≤◌, ◌&&◌, ◌||◌, Bool, true, false, not, List, [], ◌∷◌, length, Option, Some, None, is_none, refl}
 use Rattle.std.proofs.Common.{sym, ap, ◌∙◌}
 use Rattle.std.proofs.Math.Bool.{or-false}
@@ -16,12 +16,12 @@ use Rattle.look_core.specs.declared.look.Look.TheVariants.{WordAsciiNegate, Word
 use Rattle.look_core.specs.declared.look.Look.TheVariants.{WordStartUnicode, WordEndUnicode, WordStartHalfAscii, WordEndHalfAscii}
 use Rattle.look_core.specs.declared.look.Look.TheVariants.{WordStartHalfUnicode, WordEndHalfUnicode}
 use Rattle.look_core.proofs.ForCallers.{has_look-none, has_look-with, edge_turns, no_edge_turns}
-use Rattle.nfa_core.specs.Ways.{span, is_passed}
+use Rattle.nfa_core.specs.Ways.{span, is_satisfied}
 use Rattle.determinize_core.specs.States.{StateValue}
 use Rattle.determinize_core.specs.Starts.{start_of}
 use Rattle.determinize_core.specs.LookBehind.{with_if, starts_of, families_of, known_at_line, known_at_byte, behind_start, look_behind}
 use Rattle.determinize_core.specs.KnownBefore.{known_words, known_lines}
-use Rattle.determinize_core.specs.Steps.{first_half, second_half, is_end, known_before, known_behind, unit_at, unit_behind}
+use Rattle.determinize_core.specs.Steps.{first_half, second_half, is_end, known_before, known_after, unit_at, unit_before}
 use Rattle.determinize_core.specs.declared.lookbehind.Families.{Families}
 use Rattle.determinize_core.proofs.EdgeLemmas.{none_before, none_at}
 use Rattle.determinize_core.proofs.DecidedLemmas.{has_family, with_family, haystack_is, lines_is, crlf_is, words_is}
@@ -31,7 +31,7 @@ use Rattle.determinize_core.proofs.ExactLemmas.{half_exact, ascii_exact, unicode
 
 -- ---- where looks hold, in the order of reading
 
--- whether the look holds at a place with o behind it and u ahead of it
+-- whether the look holds at an offset with o just before it and u just after it
 abbrev pub passed_by : Bool → Terminator → Option ℕ → Option ℕ → Look → Bool
 passed_by r t o u AtStart = is_none o
 passed_by r t o u End = is_none u
@@ -104,11 +104,11 @@ reverse_passed t h i within WordStartHalfUnicode = refl
 reverse_passed t h i within WordEndHalfUnicode = refl
 
 pub looks_passed : (r : Bool) (t : Terminator) (h : List ℕ) (s e i : ℕ) → i ≤ length h → (l : Look) →
-    is_passed r (span t h s e) l i ≡ passed_by r t (unit_behind r h i) (unit_at r h i) l
+    is_satisfied r (span t h s e) l i ≡ passed_by r t (unit_before r h i) (unit_at r h i) l
 looks_passed false t h s e i within l = forward_passed t h i within l
 looks_passed true t h s e i within l = reverse_passed t h i within l
 
--- ---- the members of a set to which looks are added where they are wanted
+-- ---- the members of a set to which wanted looks are added
 
 abbrev pub Wanted : Type 0
 Wanted = Bool × Look
@@ -180,28 +180,28 @@ starts_told f WordEndHalfAscii = starts_wanted f WordEndHalfAscii
 starts_told f WordStartHalfUnicode = starts_wanted f WordStartHalfUnicode ∙ or-false f.words
 starts_told f WordEndHalfUnicode = starts_wanted f WordEndHalfUnicode
 
--- ---- what is known at a place before the unit ahead of it
+-- ---- what is known at an offset before the unit after it is read
 
--- whether a look is known by the byte behind alone
-abbrev pub told_by : Bool → Terminator → Option ℕ → Look → Bool
-told_by r t o AtStart = is_none o
-told_by r t o StartLF = is_none o || is_line_end t o
-told_by r t o StartCRLF = is_none o || is_byte (second_half r) o
-told_by r t o WordStartHalfAscii = is_no_word (byte_side o)
-told_by r t o WordStartHalfUnicode = is_no_word (byte_side o)
-told_by r t o _ = false
+-- whether a look is known by the byte before alone
+abbrev pub progress_by : Bool → Terminator → Option ℕ → Look → Bool
+progress_by r t o AtStart = is_none o
+progress_by r t o StartLF = is_none o || is_line_end t o
+progress_by r t o StartCRLF = is_none o || is_byte (second_half r) o
+progress_by r t o WordStartHalfAscii = is_no_word (byte_side o)
+progress_by r t o WordStartHalfUnicode = is_no_word (byte_side o)
+progress_by r t o _ = false
 
--- what is known of a place with o behind it, of the looks in a set, is what the byte behind tells
+-- of the looks in a set, exactly those are known at an offset with o just before it that o alone shows to hold
 pub record IsTold (looks : ℕ) (r : Bool) (t : Terminator) (o : Option ℕ) (have : ℕ) : Type 0 where
-  pub told : (l : Look) → has_look looks l ≡ true → has_look have l ≡ told_by r t o l
+  pub reported : (l : Look) → has_look looks l ≡ true → has_look have l ≡ progress_by r t o l
 
 -- and so are the flags
 pub record IsFlagged (looks : ℕ) (r : Bool) (o : Option ℕ) (from_word half_crlf : Bool) : Type 0 where
   pub word : has_any is_word_look looks ≡ true → from_word ≡ is_word (byte_side o)
   pub half : has_any is_anchor_crlf looks ≡ true → half_crlf ≡ is_byte (first_half r) o
 
--- what the byte behind tells holds
-pub told_holds : (r : Bool) (t : Terminator) (o u : Option ℕ) (l : Look) → told_by r t o l ≡ true → passed_by r t o u l ≡ true
+-- what the byte before shows to hold does hold
+pub told_holds : (r : Bool) (t : Terminator) (o u : Option ℕ) (l : Look) → progress_by r t o l ≡ true → passed_by r t o u l ≡ true
 told_holds r t o u AtStart e = e
 told_holds r t o u StartLF e = e
 told_holds r t o u StartCRLF e = told_or (is_none o) (is_byte (second_half r) o) (is_byte (first_half r) o
@@ -262,8 +262,8 @@ module _ (looks : ℕ) (r : Bool) (t : Terminator) (o u : Option ℕ) (w c : Boo
       (test (word_if w) (byte_side u) || false) ≡ test (byte_side o) (byte_side u)
   by_word test l k m = or-false (test (word_if w) (byte_side u)) ∙ ap (λ x. test x (byte_side u)) (side_is l k m)
 
-  -- what the unit decides, with what the byte behind told, is all that holds
-  decided_passed : (l : Look) → has_look looks l ≡ true → any_wanted (known_list r t w c u) l (told_by r t o l) ≡ passed_by r t o u l
+  -- what the unit decides, with what the byte before shows, is all that holds
+  decided_passed : (l : Look) → has_look looks l ≡ true → any_wanted (known_list r t w c u) l (progress_by r t o l) ≡ passed_by r t o u l
   decided_passed AtStart m = refl
   decided_passed End m = or-false (is_end u) ∙ end_is u
   decided_passed StartLF m = refl
@@ -302,16 +302,16 @@ module _ (looks : ℕ) (r : Bool) (t : Terminator) (o u : Option ℕ) (w c : Boo
   decided_passed WordStartHalfUnicode m = refl
   decided_passed WordEndHalfUnicode m = or-false (is_no_word (byte_side u))
 
--- all that holds at a place of an automaton's looks is known before its unit
+-- all of an automaton's looks that hold at an offset are known before its unit
 pub known_passed : (looks : ℕ) (r : Bool) (t : Terminator) (o u : Option ℕ) (v : StateValue) →
     IsFlagged looks r o v.is_from_word v.is_half_crlf →
     IsTold looks r t o v.look_have → (l : Look) → has_look looks l ≡ true → has_look (known_before r t v u) l ≡ passed_by r t o u l
 known_passed looks r t o u v flagged is l m =
     known_wanted r t v u l
-    ∙ ap (any_wanted (known_list r t v.is_from_word v.is_half_crlf u) l) (is.told l m)
+    ∙ ap (any_wanted (known_list r t v.is_from_word v.is_half_crlf u) l) (is.reported l m)
     ∙ decided_passed looks r t o u v.is_from_word v.is_half_crlf flagged l m
 
--- ---- what is known at a start, and behind a unit
+-- ---- what is known at a start, and after a unit
 
 true_with : (a b : Bool) → a ≡ true → (a && b) ≡ b
 true_with true b e = refl
@@ -333,7 +333,7 @@ module _ (looks : ℕ) (r : Bool) (t : Terminator) where
   words_asked : (l : Look) → is_word_look l ≡ true → has_look looks l ≡ true → asked.words ≡ true
   words_asked l k m = words_is looks ∙ has_family is_word_look looks l m k
 
-  -- no other look than the five of a start
+  -- a look that is none of the five of a start is not known
   not_known : (l : Look) → ((f : Families) → has_look (starts_of f) l ≡ false) → (o : Option ℕ) →
       has_look (behind_start asked r t (start_of t o)).look_have l ≡ false
   not_known l none None = none asked
@@ -342,7 +342,7 @@ module _ (looks : ℕ) (r : Bool) (t : Terminator) where
       (λ n m. none (known_at_byte asked (ends_line t b) (is_word_byte b)))
 
   start_has : (o : Option ℕ) (l : Look) → has_look looks l ≡ true → has_look
-      (behind_start asked r t (start_of t o)).look_have l ≡ told_by r t o l
+      (behind_start asked r t (start_of t o)).look_have l ≡ progress_by r t o l
   start_has o AtStart m = edge_exact asked r t o ∙ with_family _ _ (haystack_asked AtStart refl m)
   start_has o StartLF m = lines_exact asked r t o ∙ with_family _ _ (lines_asked StartLF refl m)
   start_has o StartCRLF m = crlf_exact asked r t o ∙ with_family _ _ (crlf_asked StartCRLF refl m)
@@ -363,7 +363,7 @@ module _ (looks : ℕ) (r : Bool) (t : Terminator) where
   start_has o WordEndHalfUnicode m = not_known WordEndHalfUnicode (λ f. starts_told f WordEndHalfUnicode) o
 
   pub start_is_told : (o : Option ℕ) → IsTold looks r t o (look_behind looks r t (start_of t o)).look_have
-  start_is_told o = record { told = start_has o }
+  start_is_told o = record { reported = start_has o }
 
   pub start_is_flagged : (o : Option ℕ) →
       IsFlagged looks r o (look_behind looks r t (start_of t o)).is_from_word (look_behind looks r t (start_of t o)).is_half_crlf
@@ -380,7 +380,7 @@ module _ (looks : ℕ) (r : Bool) (t : Terminator) where
     words = asked.words && is_no_word (byte_side u);
   }
 
-  behind_has : (b : ℕ) (l : Look) → has_look looks l ≡ true → has_look (known_behind asked r t (Some b)) l ≡ told_by r t (Some b) l
+  behind_has : (b : ℕ) (l : Look) → has_look looks l ≡ true → has_look (known_after asked r t (Some b)) l ≡ progress_by r t (Some b) l
   behind_has b AtStart m = starts_told (seen_behind (Some b)) AtStart
   behind_has b StartLF m = starts_told (seen_behind (Some b)) StartLF ∙ true_with _ _ (lines_asked StartLF refl m)
   behind_has b StartCRLF m = starts_told (seen_behind (Some b)) StartCRLF ∙ true_with _ _ (crlf_asked StartCRLF refl m)
@@ -402,10 +402,10 @@ module _ (looks : ℕ) (r : Bool) (t : Terminator) where
   behind_has b WordEndHalfAscii m = starts_told (seen_behind (Some b)) WordEndHalfAscii
   behind_has b WordEndHalfUnicode m = starts_told (seen_behind (Some b)) WordEndHalfUnicode
 
-  pub behind_is_told : (b : ℕ) → IsTold looks r t (Some b) (known_behind asked r t (Some b))
-  behind_is_told b = record { told = behind_has b }
+  pub behind_is_told : (b : ℕ) → IsTold looks r t (Some b) (known_after asked r t (Some b))
+  behind_is_told b = record { reported = behind_has b }
 
-  -- the flags of a step, where its states are not all captures
+  -- the flags of a step, if its states are not all captures
   pub behind_is_flagged : (u : Option ℕ) (some : Bool) → some ≡ true →
       IsFlagged looks r u (asked.words && (is_word (byte_side u) && some)) (asked.crlf && (is_byte (first_half r) u && some))
   behind_is_flagged u some e = record {

@@ -1,4 +1,4 @@
--- Where the patterns and the states of a powerset state stand among its bytes.
+-- Where the bytes of a powerset state have its patterns and its states.
 use Rattle.std.proofs.Common.{◌≡◌, ℕ, zero, suc, ◌+◌, ◌-◌, ◌*◌, ◌^◌, ◌<◌, ◌≤◌, Bool, true, false, List, [], ◌∷◌, ◌++◌, length, take, drop}
 use Rattle.std.proofs.Common.{get_or, refl, sym, ap, ◌∙◌, arith, length-append, length-drop, nat_lt, nat_le, ◌||◌, subst}
 use Rattle.std.specs.Prelude.{All, slice_index}
@@ -26,7 +26,7 @@ number_of (suc i) (n ∷ ns) rest within all =
     ap (λ (k : ℕ). from_le_bytes w32 (drop k (four_bytes_each (n ∷ ns) ++ rest))) place ∙ (ap (from_le_bytes w32) skip ∙ there)
 number_of i [] rest within all = grind arith
 
--- the bytes where the patterns are listed
+-- the bytes if the patterns are listed
 listed_form : (v : StateValue) → is_listed v.matches ≡ true →
     encoded v ≡ nine (flag_byte (is_match v.matches) (is_listed v.matches) v.is_from_word v.is_half_crlf) v.look_have v.look_need
     ++ ((in_four_bytes (length v.matches) ++ four_bytes_each v.matches) ++ id_bytes 0 v.ids)
@@ -54,7 +54,7 @@ length-listed v bytes e listed =
     ap length (e ∙ listed_form v listed) ∙ omega arith in
     omega (arith, whole, length-append (four_bytes_each v.matches) (id_bytes 0 v.ids), length-four_bytes_each v.matches)
 
--- whether they are listed, as the flags tell
+-- whether they are listed, as the flags show
 pub told_listed : (v : StateValue) (bytes : List ℕ) → bytes ≡ encoded v → has_flag (slice_index bytes 0) 2 ≡ is_listed v.matches
 told_listed v bytes e = ap (λ (xs : List ℕ). has_flag (slice_index xs 0) 2) e ∙ listed_back _ _ _ _
 
@@ -63,12 +63,12 @@ alone [] i unlisted within = refl
 alone (p ∷ []) i unlisted within = grind arith
 alone (p ∷ q ∷ ps) i unlisted within = cc
 
--- the states that are read from their place on
+-- the states that are read from their offset on
 pub ids_there : (v : StateValue) (bytes : List ℕ) → IsState v → bytes ≡ encoded v →
     ids_read 0 0 1 (drop (ids_start (has_flag (slice_index bytes 0) 2) (number_at 9 bytes)) bytes) ≡ v.ids
 ids_there v bytes state e = ap (λ (w : StateValue). w.ids) (ap decoded e ∙ decoded_encoded v state)
 
--- the same, as the flag of listed patterns tells
+-- if the flag of listed patterns is set, they are listed
 pub listed_told : (v : StateValue) (bytes : List ℕ) → bytes ≡ encoded v → has_flag (slice_index bytes 0) 2 ≡ true →
     is_listed v.matches ≡ true
 listed_told v bytes e flag = sym (told_listed v bytes e) ∙ flag
@@ -111,7 +111,7 @@ ids_slice v bytes start state e at =
 pub ids_all : (v : StateValue) (xs : List ℕ) → IsState v → xs ≡ v.ids → All (λ q. q ≤ greatest_index) xs
 ids_all v xs state e = subst (λ (ys : List ℕ). All (λ q. q ≤ greatest_index) ys) (sym e) state.states
 
--- where a state was read, the others are left
+-- after a state was read, the others are left
 pub next_all : (xs bytes rest : List ℕ) (before part w b q : ℕ) → All (λ p. p ≤ greatest_index) xs → ids_read before part w bytes ≡ xs →
     bytes ≡ b ∷ rest →
     (nat_lt b 128 || nat_le last_weight w) ≡ true → q ≡ moved before (part + b * w) → All (λ p. p ≤ greatest_index) (ids_read q 0 1 rest)

@@ -1,5 +1,5 @@
--- Captures read no unit and match nothing, so lists without them read and match the same; and the unit at a place is what a
--- walk over the text reads there.
+-- Captures read no unit and match nothing, so lists without them read and match alike. The unit at an offset is what a search over the
+-- haystack reads there.
 use Rattle.std.proofs.Common.{◌≡◌, ℕ, suc, ◌+◌, ◌-◌, ◌<◌, ◌≤◌, true, false, Bool, not, List, [], ◌∷◌, ◌++◌, length, get_or, Option, Some}
 use Rattle.std.proofs.Common.{None, refl, sym, ap, ◌∙◌, ⊎_elim, subst, arith, if◌then◌else◌}
 use Rattle.std.proofs.lemmas.Bool.{cases_Bool}
@@ -18,10 +18,11 @@ use Rattle.nfa_core.specs.Places.{before_answer, unless_answered, first}
 use Rattle.nfa_core.specs.Nfa.{Node, byte_range, sparse_node, dense_node, look_node, union_node, binary_union, capture_node, fail_node}
 use Rattle.nfa_core.specs.Nfa.{match_node, Automaton, node_at, IsWellFormed}
 use Rattle.nfa_core.specs.NfaValue.{is_capture}
-use Rattle.nfa_core.specs.Ways.{Text, span, reads, with_place, on_byte, on_read, byte_steps, match_of, matched_behind, place_of, bytes_left}
+use Rattle.nfa_core.specs.Ways.{Text, span, reads, with_offset, on_byte, on_read, byte_steps, match_of, matched_after, offset_of}
+use Rattle.nfa_core.specs.Ways.{bytes_left}
 use Rattle.nfa_core.proofs.ForCallers.{of_flat_map, names_equal, read_led, option_cases}
 use Rattle.determinize_core.specs.Steps.{unit_steps, pattern_of, pattern_at, reading, patterns_in, is_kept}
-use Rattle.determinize_core.specs.Steps.{kept_among, unit_at, unit_behind}
+use Rattle.determinize_core.specs.Steps.{kept_among, unit_at, unit_before}
 use Rattle.determinize_core.specs.Walked.{cut_of}
 use Rattle.determinize_core.proofs.MadeLemmas.{AreBelow}
 
@@ -87,7 +88,7 @@ module _ (a : Automaton) where
   kept_match AllMatches xs = ap (distinct nat_eq) (kept_answers xs)
   kept_match LeftmostFirst xs = ap (λ l. option_to_list (first l)) (kept_answers xs)
 
--- ---- what is read at a place
+-- ---- what is read at an offset
 
 match_alike : (node : Node) (j : ℕ) (xs : List ℕ) → unless_answered (match_of node j) xs ≡ unless_answered (pattern_of node) xs
 match_alike (byte_range low high next) j xs = refl
@@ -105,14 +106,14 @@ flat_map_alike f g all [] = refl
 flat_map_alike f g all (x ∷ xs) = rw (all x) (ap (λ l. g x ++ l) (flat_map_alike f g all xs))
 
 read_unit : (node : Node) (j : ℕ) (u : Option ℕ) (a : Automaton) (x : ℕ) → node ≡ node_at a x →
-    on_read node (with_place j u) ≡ unit_steps a u x
+    on_read node (with_offset j u) ≡ unit_steps a u x
 read_unit node j None a x e = refl
 read_unit node j (Some b) a x e = ap (λ m. on_byte m b) e
 
 module _ (a : Automaton) (i k : ℕ) where
-  cut_is : (xs : List ℕ) → before_answer (λ x. matched_behind a i (k, x)) xs ≡ before_answer (pattern_at a) xs
+  cut_is : (xs : List ℕ) → before_answer (λ x. matched_after a i (k, x)) xs ≡ before_answer (pattern_at a) xs
   cut_is [] = refl
-  cut_is (x ∷ xs) = match_alike (node_at a x) (place_of a.reverse i k) (x ∷ before_answer (λ y. matched_behind a i (k, y)) xs)
+  cut_is (x ∷ xs) = match_alike (node_at a x) (offset_of a.reverse i k) (x ∷ before_answer (λ y. matched_after a i (k, y)) xs)
       ∙ ap (λ l. unless_answered (pattern_at a x) (x ∷ l)) (cut_is xs)
 
   pub cut_reads : (kind : MatchKind) (xs : List ℕ) → cut_of kind a i k xs ≡ reading kind a xs
@@ -123,57 +124,58 @@ module _ (t : Terminator) (h : List ℕ) (s e i k : ℕ) (low : i ≤ e) (within
   abbrev Left : Bool → Type 0
   Left r = k < bytes_left r (span t h s e) i
 
-  -- what is read there is the unit at the place
-  pub reads_unit : (r : Bool) → Left r → (j : ℕ) × (reads r (span t h s e) (place_of r i k) ≡ with_place j (unit_at r h (place_of r i k)))
+  -- what is read there is the unit at the offset
+  pub reads_unit : (r : Bool) → Left r → (j : ℕ) × (reads r (span t h s e) (offset_of r i k) ≡
+      with_offset j (unit_at r h (offset_of r i k)))
   reads_unit false l =
       let b : nat_lt (i + k) e ≡ true = (Decides-ltb (i + k) e).1 (omega (arith, l)) in (suc (i + k), rw b refl)
   reads_unit true l =
       let p : ℕ = i - suc k in
       let f : i - k ≡ suc p = omega (arith, l) in
       let above : s ≤ p = omega (arith, l) in
-      let G : ℕ → Type 0 = λ n. reads true (span t h s e) n ≡ with_place p (unit_at true h n) in
+      let G : ℕ → Type 0 = λ n. reads true (span t h s e) n ≡ with_offset p (unit_at true h n) in
       let at : G (suc p) = is_reverse s p (byte_at h p) above in
       (p, subst G (sym f) at)
     where
-      is_reverse : (s p : ℕ) (o : Option ℕ) → s ≤ p → (if nat_le s p then with_place p o else None) ≡ with_place p o
-      is_reverse s p o above = ⊎_elim (λ told. rw told.0 refl) (λ told. let less = told.1 in
+      is_reverse : (s p : ℕ) (o : Option ℕ) → s ≤ p → (if nat_le s p then with_offset p o else None) ≡ with_offset p o
+      is_reverse s p o above = ⊎_elim (λ reported. rw reported.0 refl) (λ reported. let less = reported.1 in
           absurd (omega (arith, above, less))) (leb_tells s p)
 
-  -- the unit behind the next place is the one ahead of this one
-  pub unit_passes : (r : Bool) → Left r → unit_behind r h (place_of r i (suc k)) ≡ unit_at r h (place_of r i k)
+  -- the unit before the next offset is the unit at this one
+  pub unit_passes : (r : Bool) → Left r → unit_before r h (offset_of r i (suc k)) ≡ unit_at r h (offset_of r i k)
   unit_passes false l = let f : i + suc k ≡ suc (i + k) = omega arith in ap (byte_before h) f
   unit_passes true l = let f : i - k ≡ suc (i - suc k) = omega (arith, l) in sym (ap (byte_before h) f)
 
-  pub unit_is : (r : Bool) → Left r → (b : ℕ) × (unit_at r h (place_of r i k) ≡ Some b)
+  pub unit_is : (r : Bool) → Left r → (b : ℕ) × (unit_at r h (offset_of r i k) ≡ Some b)
   unit_is false l = (get_or h (i + k) 0, slice_get-get_or h (i + k) 0 (omega (arith, l)))
   unit_is true l =
       let f : i - k ≡ suc (i - suc k) = omega (arith, l) in
       (get_or h (i - suc k) 0, ap (byte_before h) f ∙ slice_get-get_or h (i - suc k) 0 (omega (arith, l)))
 
 module _ (t : Terminator) (h : List ℕ) (s e i k : ℕ) (low : i ≤ e) (within : e ≤ length h) where
-  pub place_inside : (r : Bool) → k ≤ bytes_left r (span t h s e) i → place_of r i k ≤ length h
+  pub place_inside : (r : Bool) → k ≤ bytes_left r (span t h s e) i → offset_of r i k ≤ length h
   place_inside false l = omega (arith, l)
   place_inside true l = omega (arith, l)
 
 module _ (a : Automaton) (kind : MatchKind) (t : Terminator) (h : List ℕ) (s e i k : ℕ) (low : i ≤ e) (within : e ≤ length h)
     (left : k < bytes_left a.reverse (span t h s e) i) where
   abbrev unit : Option ℕ
-  unit = unit_at a.reverse h (place_of a.reverse i k)
+  unit = unit_at a.reverse h (offset_of a.reverse i k)
 
-  byte_steps_are : (x : ℕ) → byte_steps a (span t h s e) (place_of a.reverse i k) x ≡ unit_steps a unit x
+  byte_steps_are : (x : ℕ) → byte_steps a (span t h s e) (offset_of a.reverse i k) x ≡ unit_steps a unit x
   byte_steps_are x = let r = reads_unit t h s e i k low within a.reverse left in
       ap (on_read (node_at a x)) r.1 ∙ read_unit (node_at a x) r.0 unit a x refl
 
-  -- where two lists are the same but for captures, the next entries are
+  -- if two lists are equal except for captures, so are the next entries
   pub entries_alike : (ids list : List ℕ) → kept_among a ids ≡ kept_among a list →
-      flat_map (unit_steps a unit) (reading kind a ids) ≡ flat_map (byte_steps a (span t h s e) (place_of a.reverse i k))
+      flat_map (unit_steps a unit) (reading kind a ids) ≡ flat_map (byte_steps a (span t h s e) (offset_of a.reverse i k))
       (cut_of kind a i k list)
   entries_alike ids list alike =
       sym (kept_read a kind unit ids)
       ∙ ap (λ l. flat_map (unit_steps a unit) (reading kind a l)) alike
       ∙ kept_read a kind unit list
       ∙ ap (flat_map (unit_steps a unit)) (sym (cut_reads a i k kind list))
-      ∙ sym (flat_map_alike (byte_steps a (span t h s e) (place_of a.reverse i k)) (unit_steps a unit) byte_steps_are
+      ∙ sym (flat_map_alike (byte_steps a (span t h s e) (offset_of a.reverse i k)) (unit_steps a unit) byte_steps_are
       (cut_of kind a i k list))
 
 pub bytes_low : (a : Automaton) → IsWellFormed a → (text : Text) (j : ℕ) (xs : List ℕ) →

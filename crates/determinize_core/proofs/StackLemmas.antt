@@ -1,4 +1,4 @@
--- A stack that is empty read from its top is empty.
+-- If reading a stack from its top gives the empty list, the stack is empty.
 use Rattle.std.proofs.Common.{◌≡◌, List, [], reverse, sym, ap, ◌∙◌}
 use Rattle.std.proofs.lemmas.List.{reverse-reverse}
 

@@ -1,4 +1,4 @@
--- A table of starts that is filled from its first byte on.
+-- A table of starts that is filled from the first byte on.
 use Rattle.std.proofs.Common.{◌≡◌, ℕ, ◌+◌, ◌<◌, ◌≢◌, List, length, slice_set, arith, get_or-set_same, get_or-set_other, below_more}
 use Rattle.determinize_core.specs.Starts.{start_by_table}
 use Rattle.determinize_core.specs.declared.start.Start.{Start}

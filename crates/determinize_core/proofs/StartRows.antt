@@ -1,4 +1,4 @@
--- The definitions of starts and of what is known by them: values by hand from their tables.
+-- The definitions of starts and of what is known by them: values worked out by hand from their tables.
 use Rattle.std.proofs.Common.{◌≡◌, ℕ, Bool, true, false, List, [], ◌∷◌, map, Some, None, refl}
 use Rattle.look_core.specs.LookSets.{full_set}
 use Rattle.look_core.specs.Terminators.{Terminator, one_of, two_of}
@@ -9,7 +9,7 @@ use Rattle.determinize_core.specs.declared.start.Start.{Start}
 use Rattle.determinize_core.specs.declared.start.Start.TheVariants.{NonWordByte, WordByte, Text, LineLF, LineCR, CustomLineTerminator}
 use Rattle.determinize_core.specs.declared.start.Start.TheVariants.{CustomWordLineTerminator}
 
--- no byte, and those of the line feed, the carriage return, `;`, `a` and the blank
+-- no byte, and those of the line feed, the carriage return, `;`, `a` and the space
 abbrev starts : Terminator → List Start
 starts t = map (start_of t) (None ∷ Some 0x0A ∷ Some 0x0D ∷ Some 0x3B ∷ Some 0x61 ∷ Some 0x20 ∷ [])
 
@@ -32,7 +32,7 @@ known looks reverse t =
     map (look_behind looks reverse t) (NonWordByte ∷ WordByte ∷ Text ∷ LineLF ∷ LineCR ∷ CustomLineTerminator ∷ CustomWordLineTerminator ∷
     [])
 
--- looks alone, those beside a word byte, and those beside the first half of a carriage return and a line feed
+-- looks alone, those next to a word byte, and those next to the first half of a carriage return and a line feed
 abbrev have : ℕ → LookBehind
 have looks = record { is_from_word = false; is_half_crlf = false; look_have = looks }
 

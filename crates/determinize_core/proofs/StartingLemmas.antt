@@ -1,4 +1,4 @@
--- What a start state is put together of.
+-- The parts of which a start state is made.
 use Rattle.std.proofs.Common.{◌≡◌, ℕ, ◌+◌, ◌<◌, ◌≤◌, List, [], ◌∷◌, length, drop, All, ap, arith, subst}
 use Rattle.std.specs.Bool.{nat_eq}
 use Rattle.std.specs.List.{IsDistinct}
@@ -19,7 +19,7 @@ module _ (a : Automaton) (formed : IsWellFormed a) (q : ℕ) (low : q < length a
   one_closed = closed_is a looks formed (q ∷ []) set (one_inside (length a.states) q low)
       (subst (λ (l : List ℕ). Visits nat_eq (known_steps a looks) (q ∷ []) l set) none v)
 
--- what the walk from a start has cost, wherever it was cut off
+-- what the search from a start has cost, wherever it was cut off
 pub start_costs : (a : Automaton) (looks : ℕ) (old set : List ℕ) → old ≡ [] → IsDistinct nat_eq set → All (λ q. q < length a.states) set →
     (before now : ℕ) →
     now ≤ before + 1 + known_ways a looks (drop (length old) set) → now ≤ before + 1 + free_ways a

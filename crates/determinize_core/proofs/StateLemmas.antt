@@ -1,4 +1,4 @@
--- What bytes of a state say is what was written.
+-- Reading the bytes of a state gives what was written.
 use Rattle.std.proofs.Common.{◌≡◌, ℕ, zero, suc, ◌+◌, ◌-◌, ◌*◌, ◌/◌, ◌%◌, ◌^◌, ◌<◌, ◌≤◌, ◌||◌, Bool, true, false, nat_lt, nat_le, List, []}
 use Rattle.std.proofs.Common.{◌∷◌, ◌++◌, refl, sym, ap, ◌∙◌, arith}
 use Rattle.std.specs.Prelude.{All}
@@ -20,15 +20,15 @@ numbers_back (n ∷ ns) small =
     let rest : numbers (four_bytes_each ns) ≡ ns = numbers_back ns (λ k d p. small (suc k) d (omega arith)) in
     cc
 
--- a step leads where it was taken to
+-- the difference from one number to another leads to the other
 pub moved_zigzag : (from to : ℕ) → moved from (zigzag from to) ≡ to
 moved_zigzag from to = grind arith
 
--- what groups are worth
+-- the value of a group and of those after it
 draft_of : (q r w part : ℕ) → (part + r * w) + q * (w * 128) ≡ part + (q * 128 + r) * w
 draft_of q r w part = omega arith
 
--- the last group of a number, and a group that others follow
+-- the last group of a number, and a group that is followed by others
 pub read_last : (before part w b : ℕ) (rest : List ℕ) → (nat_lt b 128 || nat_le last_weight w) ≡ true →
     ids_read before part w (b ∷ rest) ≡ moved before (part + b * w) ∷ ids_read (moved before (part + b * w)) 0 1 rest
 read_last before part w b rest ends = rw ends refl
@@ -66,7 +66,7 @@ room_next w more e =
     let whole : w * (128 ^ more * 128) ≡ (w * 128) * 128 ^ more = omega arith in
     sym whole ∙ (ap (λ (n : ℕ). w * n) (sym power) ∙ e)
 
--- the sum that further groups come to
+-- the sum to which further groups lead
 sum_back : (part w z : ℕ) → (part + (z % 128 + 128 - 128) * w) + z / 128 * (w * 128) ≡ part + z * w
 sum_back part w z =
     let e : z ≡ z / 128 * 128 + z % 128 = omega arith in
@@ -76,7 +76,7 @@ sum_back part w z =
     let i : (z % 128 + 128 - 128) * w ≡ (z % 128) * w = ap (λ (n : ℕ). n * w) g in
     omega (arith, f, h, i)
 
--- where the groups of what is left are read back, so are these
+-- if the groups of what is left are read back, so are these
 groups_step : (t : Bool) (more before part w z : ℕ) (rest : List ℕ) → nat_lt z 128 ≡ t → nat_le last_weight w ≡ false →
     ids_read before (part + (z % 128 + 128 - 128) * w) (w * 128) (groups more (z / 128) ++ rest)
     ≡ moved before ((part + (z % 128 + 128 - 128) * w) + z / 128 * (w * 128)) ∷ ids_read

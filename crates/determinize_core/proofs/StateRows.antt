@@ -1,4 +1,4 @@
--- Bytes of states, by hand.
+-- Bytes of states, worked out by hand.
 use Rattle.std.proofs.Common.{◌≡◌, List, [], ◌∷◌, true, ℕ, refl}
 use Rattle.determinize_core.specs.States.{dead}
 use Rattle.determinize_core.specs.StateBytes.{encoded, decoded}
@@ -10,7 +10,7 @@ zeros = 0 ∷ 0 ∷ 0 ∷ 0 ∷ 0 ∷ 0 ∷ 0 ∷ 0 ∷ 0 ∷ []
 dead_bytes : encoded dead ≡ 0 ∷ 0 ∷ 0 ∷ 0 ∷ 0 ∷ 0 ∷ 0 ∷ 0 ∷ 0 ∷ []
 dead_bytes = refl
 
--- the start state of the automaton of `a`, and the states behind `a` and behind `b`
+-- the start state of the automaton of `a`, and the states after `a` and after `b`
 start_bytes : encoded (record dead { ids = 0 ∷ 2 ∷ 1 ∷ [] }) ≡ 0 ∷ 0 ∷ 0 ∷ 0 ∷ 0 ∷ 0 ∷ 0 ∷ 0 ∷ 0 ∷ 0 ∷ 4 ∷ 1 ∷ []
 start_bytes = refl
 
@@ -20,7 +20,7 @@ behind_a = refl
 behind_b : encoded (record dead { matches = 0 ∷ [] }) ≡ 1 ∷ 0 ∷ 0 ∷ 0 ∷ 0 ∷ 0 ∷ 0 ∷ 0 ∷ 0 ∷ []
 behind_b = refl
 
--- patterns 0 and 258, looks, and a state far away
+-- patterns 0 and 258, looks, and a state with a large number
 all_parts : encoded (record {
   is_from_word = true;
   is_half_crlf = true;

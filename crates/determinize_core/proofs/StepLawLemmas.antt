@@ -18,9 +18,9 @@ use Rattle.nfa_core.specs.NfaValue.{look_of}
 use Rattle.nfa_core.specs.Reached.{AreBelow}
 use Rattle.nfa_core.proofs.ForCallers.{not_both, has_first, has_later, of_cons, names_equal}
 use Rattle.determinize_core.specs.States.{StateValue, dead}
-use Rattle.determinize_core.specs.Steps.{is_kept, kept_among, looks_with, have_if, is_some_kept, closed, known_before, known_behind, gains}
-use Rattle.determinize_core.specs.Steps.{ids_before, families, first_half, pattern_at, patterns_in, reading, unit_steps, states_behind}
-use Rattle.determinize_core.specs.Steps.{step_value, behind_of_start, start_value}
+use Rattle.determinize_core.specs.Steps.{is_kept, kept_among, looks_with, have_if, is_some_kept, closed, known_before, known_after, gains}
+use Rattle.determinize_core.specs.Steps.{ids_before, families, first_half, pattern_at, patterns_in, reading, unit_steps, states_after}
+use Rattle.determinize_core.specs.Steps.{step_value, look_behind_of, start_value}
 use Rattle.determinize_core.specs.declared.start.Start.{Start}
 use Rattle.determinize_core.proofs.CloseAllLemmas.{closed_once, closed_below, distinct_from_once, all_from_below}
 use Rattle.determinize_core.proofs.DecodeLemmas.{same_made}
@@ -63,19 +63,19 @@ kept_below a looks qs formed below =
 
 module _ (a : Automaton) (t : Terminator) (kind : MatchKind) (v : StateValue) (u : Option ℕ) where
   pub step_below : IsWellFormed a → All (λ q. q < length a.states) (step_value a t kind v u).ids
-  step_below formed = kept_below a (known_behind (families a) a.reverse t u)
+  step_below formed = kept_below a (known_after (families a) a.reverse t u)
       (flat_map (unit_steps a u) (reading kind a (ids_before a t v u))) formed
       (units_below a formed u (reading kind a (ids_before a t v u)))
 
   pub step_once : IsDistinct nat_eq (step_value a t kind v u).ids
-  step_once = kept_distinct a (known_behind (families a) a.reverse t u) (flat_map (unit_steps a u) (reading kind a (ids_before a t v u)))
+  step_once = kept_distinct a (known_after (families a) a.reverse t u) (flat_map (unit_steps a u) (reading kind a (ids_before a t v u)))
 
 pub start_below : (a : Automaton) (t : Terminator) (s : Start) (q : ℕ) → IsWellFormed a → q < length a.states →
     All (λ r. r < length a.states) (start_value a t s q).ids
-start_below a t s q formed low = kept_below a (behind_of_start a t s).look_have (q ∷ []) formed (one_inside (length a.states) q low)
+start_below a t s q formed low = kept_below a (look_behind_of a t s).look_have (q ∷ []) formed (one_inside (length a.states) q low)
 
 pub start_once : (a : Automaton) (t : Terminator) (s : Start) (q : ℕ) → IsDistinct nat_eq (start_value a t s q).ids
-start_once a t s q = kept_distinct a (behind_of_start a t s).look_have (q ∷ [])
+start_once a t s q = kept_distinct a (look_behind_of a t s).look_have (q ∷ [])
 
 one_at_most : (o : Option ℕ) → length (option_to_list o) ≤ 1
 one_at_most None = omega arith
@@ -115,13 +115,13 @@ module _ (a : Automaton) where
   module _ (t : Terminator) (kind : MatchKind) (v : StateValue) (u : Option ℕ) where
     pub comes_to_none : (step_value a t kind v u).matches ≡ [] → (step_value a t kind v u).ids ≡ [] → step_value a t kind v u ≡ dead
     comes_to_none no_match no_state =
-        let some : is_some_kept a (states_behind a t kind v u) ≡ false = none_is_kept (states_behind a t kind v u) no_state in
-        let looks : looks_with a 0 (states_behind a t kind v u) ≡ 0 = none_looks 0 (states_behind a t kind v u) no_state in
+        let some : is_some_kept a (states_after a t kind v u) ≡ false = none_is_kept (states_after a t kind v u) no_state in
+        let looks : looks_with a 0 (states_after a t kind v u) ≡ 0 = none_looks 0 (states_after a t kind v u) no_state in
         same_made
         (ap (λ (b : Bool). (families a).words && (is_word (byte_side u) && b)) some ∙ never_both (families a).words (is_word (byte_side u)))
         (ap (λ (b : Bool). (families a).crlf && (is_byte (first_half a.reverse) u && b)) some
         ∙ never_both (families a).crlf (is_byte (first_half a.reverse) u))
-        (ap (λ (n : ℕ). have_if n (known_behind (families a) a.reverse t u)) looks) looks no_match no_state
+        (ap (λ (n : ℕ). have_if n (known_after (families a) a.reverse t u)) looks) looks no_match no_state
 
   dead_before_by : (t : Terminator) (u : Option ℕ) (b : Bool) → gains dead (known_before a.reverse t dead u) ≡ b →
       ids_before a t dead u ≡ []
@@ -133,6 +133,6 @@ module _ (a : Automaton) where
       let before : ids_before a t dead u ≡ [] = dead_before_by t u (gains dead (known_before a.reverse t dead u)) refl in
       let no_match : patterns_in kind a (ids_before a t dead u) ≡ [] = ap (patterns_in kind a) before ∙ none_matches kind a in
       let reads : reading kind a (ids_before a t dead u) ≡ [] = ap (reading kind a) before ∙ reading_none kind a in
-      let no_state : kept_among a (states_behind a t kind dead u) ≡ [] =
-      ap (λ (qs : List ℕ). kept_among a (closed a (known_behind (families a) a.reverse t u) (flat_map (unit_steps a u) qs))) reads in
+      let no_state : kept_among a (states_after a t kind dead u) ≡ [] =
+      ap (λ (qs : List ℕ). kept_among a (closed a (known_after (families a) a.reverse t u) (flat_map (unit_steps a u) qs))) reads in
       comes_to_none t kind dead u no_match no_state

@@ -1,4 +1,4 @@
--- What steps come to keeps to what every state keeps to.
+-- What steps lead to satisfies what holds of every state.
 use Rattle.std.proofs.Common.{ℕ, ◌<◌, ◌≤◌, ◌+◌, ◌==◌, ◌&&◌, true, false, Bool, List, [], ◌∷◌, length, Option, Some, None}
 use Rattle.std.proofs.Common.{refl, arith, cond, All, option_to_list}
 use Rattle.std.specs.Bool.{nat_eq}
@@ -19,8 +19,8 @@ use Rattle.nfa_core.specs.Reached.{AreBelow}
 use Rattle.nfa_core.proofs.ForCallers.{none_in, has_first, of_flat_map, join_once, of_join, names_equal, sound_at}
 use Rattle.determinize_core.specs.States.{StateValue, IsState, dead}
 use Rattle.determinize_core.specs.LookBehind.{with_look_behind}
-use Rattle.determinize_core.specs.Steps.{looks_with, have_if, closed, known_behind, ids_before, families, second_half, pattern_of}
-use Rattle.determinize_core.specs.Steps.{pattern_at, patterns_in, states_behind, step_value, behind_of_start, start_value}
+use Rattle.determinize_core.specs.Steps.{looks_with, have_if, closed, known_after, ids_before, families, second_half, pattern_of}
+use Rattle.determinize_core.specs.Steps.{pattern_at, patterns_in, states_after, step_value, look_behind_of, start_value}
 use Rattle.determinize_core.specs.declared.start.Start.{Start}
 use Rattle.determinize_core.specs.declared.lookbehind.Families.{Families}
 use Rattle.determinize_core.proofs.CloseAllLemmas.{distinct_from_once, all_from_below}
@@ -47,7 +47,7 @@ looks_with-lt a looks [] within = within
 looks_with-lt a looks (q ∷ qs) within = looks_with-lt a (union_of looks (look_of (node_at a q))) qs
     (union-lt looks (look_of (node_at a q)) within (look_of-lt (node_at a q)))
 
--- the families whose starts are known behind a unit
+-- the families whose starts are known after a unit
 abbrev known_at : Families → Bool → Terminator → Option ℕ → Families
 known_at f reverse t u = record {
   haystack = false;
@@ -107,9 +107,9 @@ at_most n xs few all k d p = let less = all k d p in omega (arith, few, less)
 pub step_state : (a : Automaton) (t : Terminator) (kind : MatchKind) (v : StateValue) (u : Option ℕ) → IsSound a →
     IsState (step_value a t kind v u)
 step_state a t kind v u sound = record {
-  have = have_if-lt (looks_with a 0 (states_behind a t kind v u)) (known_behind (families a) a.reverse t u)
+  have = have_if-lt (looks_with a 0 (states_after a t kind v u)) (known_after (families a) a.reverse t u)
       (starts_of-lt (known_at (families a) a.reverse t u));
-  need = looks_with-lt a 0 (states_behind a t kind v u) (omega arith);
+  need = looks_with-lt a 0 (states_after a t kind v u) (omega arith);
   patterns = at_most (length a.start_pattern) (patterns_in kind a (ids_before a t v u)) sound.patterns_numbered
       (all_from_below (length a.start_pattern) (patterns_in kind a (ids_before a t v u))
       (patterns_below a sound kind (ids_before a t v u)));
@@ -119,12 +119,12 @@ step_state a t kind v u sound = record {
 
 pub start_state : (a : Automaton) (t : Terminator) (s : Start) (q : ℕ) → IsSound a → q < length a.states → IsState (start_value a t s q)
 start_state a t s q sound low =
-    let begun : IsState (with_look_behind (behind_of_start a t s) dead) = state_with_known (behind_of_start a t s) dead
+    let begun : IsState (with_look_behind (look_behind_of a t s) dead) = state_with_known (look_behind_of a t s) dead
     (known-lt (families a) a.reverse t s) dead_state in
     record {
-      have = have_if-lt (looks_with a 0 (closed a (behind_of_start a t s).look_have (q ∷ [])))
-          (with_look_behind (behind_of_start a t s) dead).look_have begun.have;
-      need = looks_with-lt a 0 (closed a (behind_of_start a t s).look_have (q ∷ [])) (omega arith);
+      have = have_if-lt (looks_with a 0 (closed a (look_behind_of a t s).look_have (q ∷ [])))
+          (with_look_behind (look_behind_of a t s) dead).look_have begun.have;
+      need = looks_with-lt a 0 (closed a (look_behind_of a t s).look_have (q ∷ [])) (omega arith);
       patterns = begun.patterns;
       once = begun.once;
       states = at_most (length a.states) (start_value a t s q).ids sound.states_numbered (start_below a t s q sound.named low);

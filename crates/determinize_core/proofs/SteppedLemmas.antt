@@ -1,4 +1,4 @@
--- What starts and steps of an automaton come to is made of its states, looks and patterns, and has few bytes.
+-- What starts and steps of an automaton lead to is made of its states, looks and patterns, and has few bytes.
 use Rattle.std.proofs.Common.{◌≡◌, ℕ, ◌<◌, ◌≤◌, ◌||◌, true, false, Bool, List, [], ◌∷◌, length, Option, refl, sym, ap, ◌∙◌, arith, All}
 use Rattle.std.proofs.lemmas.Bool.{eqb-true}
 use Rattle.std.specs.Bool.{nat_eq}
@@ -16,8 +16,8 @@ use Rattle.nfa_core.proofs.ForCallers.{looks_any, not_both, has_from_all}
 use Rattle.determinize_core.specs.States.{StateValue, dead}
 use Rattle.determinize_core.specs.StateBytes.{encoded}
 use Rattle.determinize_core.specs.Stepped.{IsStepped, widest}
-use Rattle.determinize_core.specs.Steps.{looks_with, closed, ids_before, patterns_in, states_behind}
-use Rattle.determinize_core.specs.Steps.{step_value, behind_of_start, start_value}
+use Rattle.determinize_core.specs.Steps.{looks_with, closed, ids_before, patterns_in, states_after}
+use Rattle.determinize_core.specs.Steps.{step_value, look_behind_of, start_value}
 use Rattle.determinize_core.specs.declared.start.Start.{Start}
 use Rattle.determinize_core.proofs.CloseAllLemmas.{all_from_below, few_once}
 use Rattle.determinize_core.proofs.LengthLemmas.{length-encoded}
@@ -30,7 +30,7 @@ use Rattle.determinize_core.proofs.ValueLemmas.{dead_state, nothing_twice}
 no_look : (l : Look) (node : Node) → has_look 0 l ≡ true → (next : ℕ) × (node ≡ look_node l next)
 no_look l node h = not_both (has_look 0 l) _ h (has_look-none l)
 
--- the look of a state is that of a state for looks
+-- a state that has a look is a look state
 has_its_state : (l : Look) (node : Node) → has_look (look_of node) l ≡ true → (next : ℕ) × (node ≡ look_node l next)
 has_its_state l (byte_range low high next) h = no_look l _ h
 has_its_state l (sparse_node ranges) h = no_look l _ h
@@ -73,7 +73,7 @@ step_stepped a t kind v u sound = record {
   state = step_state a t kind v u sound;
   below = step_below a t kind v u sound.named;
   once = step_once a t kind v u;
-  looks = looks_from_none a (states_behind a t kind v u);
+  looks = looks_from_none a (states_after a t kind v u);
   patterns = all_from_below (length a.start_pattern) (patterns_in kind a (ids_before a t v u))
       (patterns_below a sound kind (ids_before a t v u));
 }
@@ -84,7 +84,7 @@ start_stepped a t s q sound low = record {
   state = start_state a t s q sound low;
   below = start_below a t s q sound.named low;
   once = start_once a t s q;
-  looks = looks_from_none a (closed a (behind_of_start a t s).look_have (q ∷ []));
+  looks = looks_from_none a (closed a (look_behind_of a t s).look_have (q ∷ []));
   patterns = λ k d p. absurd (omega (arith, p));
 }
 

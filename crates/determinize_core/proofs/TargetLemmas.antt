@@ -1,4 +1,4 @@
--- Where a state leads by a unit is a state.
+-- What a state leads to by a unit is a state.
 use Rattle.std.proofs.Common.{◌≡◌, ℕ, ◌<◌, List, [], length, Option, Some, None, IfSome, option_to_list, subst}
 use Rattle.std.specs.Bool.{nat_eq}
 use Rattle.std.specs.List.{flat_map}

@@ -1,4 +1,4 @@
--- The bytes of a state stand for that state, and states are told apart by their bytes.
+-- The bytes of a state stand for that state, and different states have different bytes.
 use Rattle.std.proofs.Common.{◌≡◌, ℕ, suc, ◌+◌, ◌^◌, ◌<◌, ◌≤◌, ◌||◌, Bool, true, false, List, [], ◌∷◌, ◌++◌, length, refl, sym, ap, subst}
 use Rattle.std.proofs.Common.{◌∙◌, ◌↔◌, arith}
 use Rattle.std.specs.Prelude.{All, nat_eq}
@@ -8,7 +8,7 @@ use Rattle.std.proofs.lemmas.Map.Steps.{length-le_from_distinct_below}
 use Rattle.search_core.specs.Index.{greatest_index}
 use Rattle.determinize_core.specs.States.{StateValue, IsState, dead}
 use Rattle.determinize_core.specs.StateBytes.{has_same_bytes, in_four_bytes, four_bytes_each, numbers, pattern_bytes, id_bytes, has_flag}
-use Rattle.determinize_core.specs.StateBytes.{flag_byte, patterns_told, is_match, is_listed, encoded, decoded, unfinished}
+use Rattle.determinize_core.specs.StateBytes.{flag_byte, patterns_encoded, is_match, is_listed, encoded, decoded, unfinished}
 use Rattle.determinize_core.specs.StateBytes.{decoded_unfinished, IsEncoded}
 use Rattle.determinize_core.proofs.StateLemmas.{number_back, numbers_back}
 use Rattle.determinize_core.proofs.FlagLemmas.{match_back, listed_back, word_back, half_back}
@@ -43,16 +43,16 @@ by_listed true v state listed =
     omega (arith, h)) (few v state) (small greatest_index v.matches state.patterns (omega arith)) (listed_back _ _ _ _ ∙ listed)
     ∙ same_made (word_back _ _ _ _) (half_back _ _ _ _) refl refl refl refl
 by_listed false v state listed =
-    let told : patterns_told (is_listed v.matches) (is_match v.matches) v.matches ≡ v.matches = told_back v.matches in
+    let reported : patterns_encoded (is_listed v.matches) (is_match v.matches) v.matches ≡ v.matches = told_back v.matches in
     decoded_unlisted (is_match v.matches) _ v.look_have v.look_need v.matches v.ids (let h = state.have in
     omega (arith, h)) (let h = state.need in omega (arith, h)) (listed_back _ _ _ _ ∙ listed) (match_back _ _ _ _)
-    ∙ same_made (word_back _ _ _ _) (half_back _ _ _ _) refl refl (rw listed at told) refl
+    ∙ same_made (word_back _ _ _ _) (half_back _ _ _ _) refl refl (rw listed at reported) refl
 
 -- the bytes of a state stand for it
 pub decoded_encoded : (v : StateValue) → IsState v → decoded (encoded v) ≡ v
 decoded_encoded v state = by_listed (is_listed v.matches) v state refl
 
--- so states with the same bytes are the same
+-- so states with the same bytes are equal
 pub same_from_bytes : (v w : StateValue) → IsState v → IsState w → encoded v ≡ encoded w → v ≡ w
 same_from_bytes v w of_v of_w e = sym (decoded_encoded v of_v) ∙ (ap decoded e ∙ decoded_encoded w of_w)
 
@@ -62,7 +62,7 @@ unfinished_by : (l : Bool) (v : StateValue) → IsState v → v.ids ≡ [] → i
 unfinished_by true v state none listed =
     let read : numbers (four_bytes_each v.matches) ≡ v.matches = numbers_back v.matches
     (small greatest_index v.matches state.patterns (omega arith)) in
-    let told : patterns_told (has_flag (flag_byte (is_match v.matches) (is_listed v.matches) v.is_from_word v.is_half_crlf) 2)
+    let reported : patterns_encoded (has_flag (flag_byte (is_match v.matches) (is_listed v.matches) v.is_from_word v.is_half_crlf) 2)
     (has_flag (flag_byte (is_match v.matches) (is_listed v.matches) v.is_from_word v.is_half_crlf) 1)
     (numbers (four_bytes_each v.matches)) ≡ v.matches =
     (let e : has_flag (flag_byte (is_match v.matches) (is_listed v.matches) v.is_from_word v.is_half_crlf) 2 ≡ true =
@@ -70,12 +70,12 @@ unfinished_by true v state none listed =
     cc) in
     same_made (word_back _ _ _ _) (half_back _ _ _ _) (number_back v.look_have (in_four_bytes v.look_need
     ++ pattern_bytes true 0 v.matches) (let h = state.have in omega (arith, h)))
-    (number_back v.look_need (pattern_bytes true 0 v.matches) (let h = state.need in omega (arith, h))) told (sym none)
+    (number_back v.look_need (pattern_bytes true 0 v.matches) (let h = state.need in omega (arith, h))) reported (sym none)
 unfinished_by false v state none listed =
-    let whole : patterns_told (is_listed v.matches) (is_match v.matches) v.matches ≡ v.matches = told_back v.matches in
-    let part : patterns_told false (is_match v.matches) [] ≡ v.matches =
+    let whole : patterns_encoded (is_listed v.matches) (is_match v.matches) v.matches ≡ v.matches = told_back v.matches in
+    let part : patterns_encoded false (is_match v.matches) [] ≡ v.matches =
     told_unlisted (is_match v.matches) [] v.matches ∙ (rw listed at whole) in
-    let told : patterns_told (has_flag (flag_byte (is_match v.matches) (is_listed v.matches) v.is_from_word v.is_half_crlf) 2)
+    let reported : patterns_encoded (has_flag (flag_byte (is_match v.matches) (is_listed v.matches) v.is_from_word v.is_half_crlf) 2)
     (has_flag (flag_byte (is_match v.matches) (is_listed v.matches) v.is_from_word v.is_half_crlf) 1) [] ≡ v.matches =
     (let e : has_flag (flag_byte (is_match v.matches) (is_listed v.matches) v.is_from_word v.is_half_crlf) 2 ≡ false =
     listed_back (is_match v.matches) (is_listed v.matches) v.is_from_word v.is_half_crlf ∙ listed in
@@ -83,13 +83,13 @@ unfinished_by false v state none listed =
     match_back (is_match v.matches) (is_listed v.matches) v.is_from_word v.is_half_crlf in
     cc) in
     same_made (word_back _ _ _ _) (half_back _ _ _ _) (number_back v.look_have (in_four_bytes v.look_need) (let h = state.have in
-    omega (arith, h))) (number_back v.look_need [] (let h = state.need in omega (arith, h))) told (sym none)
+    omega (arith, h))) (number_back v.look_need [] (let h = state.need in omega (arith, h))) reported (sym none)
 
--- the same while patterns are added
+-- the bytes of a state to which patterns are still added stand for it, too
 pub decoded_unfinished_back : (v : StateValue) → IsState v → v.ids ≡ [] → decoded_unfinished (unfinished v) ≡ v
 decoded_unfinished_back v state none = unfinished_by (is_listed v.matches) v state none refl
 
--- the bytes of a state keep to what bytes of states do, and stand for it
+-- the bytes of a state stand for it, and satisfy what holds of such bytes
 pub value_back : (v : StateValue) (bytes : List ℕ) → IsState v → bytes ≡ encoded v → decoded bytes ≡ v
 value_back v bytes state e = ap decoded e ∙ decoded_encoded v state
 
@@ -111,7 +111,7 @@ dead_state = record {
   states = λ k d p. absurd (omega arith);
 }
 
--- states are the same where their bytes are
+-- states are equal exactly if their bytes are
 pub told_by_bytes : (v w : StateValue) → IsState v → IsState w → (encoded v ≡ encoded w) ↔ (v ≡ w)
 told_by_bytes v w state other = (same_from_bytes v w state other, λ e. ap encoded e)
 

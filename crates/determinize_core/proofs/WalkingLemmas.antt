@@ -1,4 +1,4 @@
--- A walk from state to state, one unit after another, and what it costs.
+-- A sequence of states, one unit after another, and what it costs.
 use Rattle.std.proofs.Common.{◌≡◌, ℕ, ◌+◌, ◌<◌, ◌≤◌, List, [], ◌∷◌, ◌++◌, length, drop, get_or, Option, Some, None, sym, ap, ◌∙◌}
 use Rattle.std.proofs.Common.{append_assoc, All, subst, ◌*◌, arith, map}
 use Rattle.std.proofs.lemmas.List.{length-map}
@@ -16,7 +16,7 @@ use Rattle.determinize_core.specs.WalkLists.{walked, units_of}
 use Rattle.determinize_core.proofs.AddedLemmas.{next_left, past_all}
 use Rattle.determinize_core.proofs.StepLawLemmas.{step_below, step_once, start_below, start_once}
 
--- what one step more has cost, where there are no more than so many
+-- what one more step has cost, if there are no more than so many
 one_more : (old now new step k m : ℕ) → now ≤ old + k * step → new ≤ now + step → k ≤ m → new ≤ old + (m + 1) * step
 one_more old now new step k m so_far more within = let fits = row_fits k step (m + 1) step (omega arith) (omega arith) in
     omega (arith, so_far, more, fits)
@@ -45,7 +45,7 @@ module _ (a : Automaton) (t : Terminator) (kind : MatchKind) (bytes : List ℕ) 
       ∙ (ap (λ (w : StateValue). items ++ v ∷ w ∷ []) e
       ∙ (ap (λ (l : List ℕ). items ++ walked a t kind v (units_of l)) (sym (past_all bytes k past)) ∙ so_far))))
 
--- what a step comes to may be stepped from
+-- a step may be made from what a step leads to
 module _ (a : Automaton) (t : Terminator) (kind : MatchKind) (v : StateValue) (u : Option ℕ) (w : StateValue)
     (is : w ≡ step_value a t kind v u) where
   pub behind_below : IsWellFormed a → All (λ q. q < length a.states) w.ids
@@ -54,7 +54,7 @@ module _ (a : Automaton) (t : Terminator) (kind : MatchKind) (v : StateValue) (u
   pub behind_once : IsDistinct nat_eq w.ids
   behind_once = subst (λ (x : StateValue). IsDistinct nat_eq x.ids) (sym is) (step_once a t kind v u)
 
--- and what a start comes to
+-- and from what a start leads to
 module _ (a : Automaton) (t : Terminator) (s : Start) (q : ℕ) (v w : StateValue) (built : v ≡ start_value a t s q) (is : w ≡ v) where
   pub first_below : IsWellFormed a → q < length a.states → All (λ r. r < length a.states) w.ids
   first_below formed low = subst (λ (x : StateValue). All (λ r. r < length a.states) x.ids) (sym (is ∙ built))
@@ -63,13 +63,13 @@ module _ (a : Automaton) (t : Terminator) (s : Start) (q : ℕ) (v w : StateValu
   pub first_once : IsDistinct nat_eq w.ids
   first_once = subst (λ (x : StateValue). IsDistinct nat_eq x.ids) (sym (is ∙ built)) (start_once a t s q)
 
--- what a start has cost, and a walk behind it
+-- what a start has cost, and a sequence of states after it
 pub start_within : (old new free rest : ℕ) → new ≤ old + 1 + free → new ≤ old + (1 + free) + rest
 start_within old new free rest start = omega arith
 
 pub walk_within : (old mid new free rest : ℕ) → mid ≤ old + 1 + free → new ≤ mid + rest → new ≤ old + (1 + free) + rest
 walk_within old mid new free rest start walk = omega arith
 
--- where each of these is read as one of those, they are as many
+-- if each member of one list is read as the member of another, both lists have one length
 pub as_many : {X Y : Type 0} (f : X → Y) (xs : List X) (ys : List Y) → map f xs ≡ ys → length xs ≡ length ys
 as_many f xs ys e = sym (length-map xs f) ∙ ap length e

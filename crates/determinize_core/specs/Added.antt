@@ -1,4 +1,4 @@
--- What a state that is built gets one after another.
+-- What is added to a state while it is built, one after another.
 use Rattle.std.specs.Prelude.{ℕ, ◌++◌, ◌∷◌, [], List, Bool, false, Option, Some, None, is_some, if◌then◌else◌}
 use Rattle.std.specs.Bool.{nat_eq}
 use Rattle.search_types.specs.declared.match_kind.MatchKind.{MatchKind}
@@ -15,7 +15,7 @@ abbrev pub listed_with : Option ℕ → List ℕ → List ℕ
 listed_with None ps = ps
 listed_with (Some p) ps = if has nat_eq p ps then ps else (ps ++ p ∷ [])
 
--- whether no state behind a state reads the unit, by the pattern that matches in it
+-- whether no state after a given one reads the unit, by the pattern that matches in that one
 abbrev pub stops : MatchKind → Option ℕ → Bool
 stops AllMatches o = false
 stops LeftmostFirst o = is_some o

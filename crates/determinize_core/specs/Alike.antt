@@ -1,10 +1,10 @@
--- Units of the input that an automaton does not tell apart.
+-- Units of the input that an automaton does not distinguish.
 use Rattle.std.specs.Prelude.{ℕ, Option, Some, None}
 use Rattle.look_core.specs.Terminators.{Terminator}
 use Rattle.nfa_core.specs.Alike.{AreAlike}
 use Rattle.nfa_core.specs.Nfa.{Automaton}
 
--- two bytes that it does not tell apart; the end of the input is alike with itself alone
+-- two bytes that it does not distinguish; the end of the input is alike only with itself
 abbrev pub AreUnitsAlike : Automaton → Terminator → Option ℕ → Option ℕ → Type 0
 AreUnitsAlike a t None None = Unit {0}
 AreUnitsAlike a t (Some b) (Some c) = AreAlike t a b c

@@ -1,4 +1,4 @@
--- The looks that a unit decides at the place in front of it, in two parts.
+-- The looks that a unit decides at the offset before it, in two parts.
 use Rattle.std.specs.Prelude.{ℕ, Bool, true, false, not, ◌&&◌, ◌||◌, Option, Some, None}
 use Rattle.look_core.specs.Looks.{Side, is_no_word, is_edge_of_word, is_no_edge_of_word, is_start_of_word, is_end_of_word, is_byte}
 use Rattle.look_core.specs.Looks.{is_line_end}
@@ -8,7 +8,7 @@ use Rattle.look_core.specs.declared.look.Look.TheVariants.{WordUnicodeNegate, Wo
 use Rattle.look_core.specs.declared.look.Look.TheVariants.{WordEndUnicode, WordEndHalfAscii, WordEndHalfUnicode}
 use Rattle.determinize_core.specs.LookBehind.{with_if}
 
--- the half of a CRLF that is read first, and the other
+-- the half of a CRLF that is read first, and the other half
 abbrev pub first_half : Bool → ℕ
 first_half false = 0x0D
 first_half true = 0x0A
@@ -21,7 +21,7 @@ abbrev pub is_end : Option ℕ → Bool
 is_end None = true
 is_end (Some b) = false
 
--- with those of words, by the two sides of the place
+-- the looks, with those of words added, by the two sides of the offset
 unfoldable pub known_words : Side → Side → ℕ → ℕ
 known_words before after looks =
     with_if (is_edge_of_word before after) WordAscii
@@ -35,7 +35,8 @@ known_words before after looks =
     (with_if (is_no_word after) WordEndHalfAscii
     (with_if (is_no_word after) WordEndHalfUnicode looks)))))))))
 
--- with those of lines and of the haystack's edge, by whether the half of a CRLF stands behind the place
+-- The looks, with those of lines and of the haystack's edge added. They depend on whether the first half of a CRLF was read just before the
+-- offset.
 unfoldable pub known_lines : Bool → Terminator → Bool → Option ℕ → ℕ → ℕ
 known_lines reverse t half u looks =
     with_if (is_end u) End

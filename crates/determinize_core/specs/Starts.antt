@@ -1,5 +1,5 @@
--- Starts of searches: what stands before the place where a search starts, as far as looks ask for it, and what a search is
--- told of its start.
+-- Starts of searches: what comes before the offset where a search starts, as far as looks depend on it, and what a search gets as its
+-- start.
 use Rattle.std.specs.Prelude.{◌≡◌, ◌<◌, ◌==◌, ℕ, Bool, true, false, Option, Some, None, List, slice_index_or, if◌then◌else◌}
 use Rattle.search_core.specs.Utf8.{is_word_byte}
 use Rattle.look_core.specs.Terminators.{Terminator, ends_line}
@@ -25,12 +25,12 @@ start_by true false = CustomLineTerminator
 start_by false true = WordByte
 start_by false false = NonWordByte
 
--- the start where this byte stands before the place, if one does; lines end at the terminator t
+-- the start if this byte, or none, comes before the offset; lines end at the terminator t
 abbrev pub start_of : Terminator → Option ℕ → Start
 start_of t None = Text
 start_of t (Some b) = if b == 0x0A then LineLF else if b == 0x0D then LineCR else start_by (ends_line t b) (is_word_byte b)
 
--- the start of each byte by a table of all bytes; a byte outside of it has none, and reads as `Text`
+-- the start of each byte by a table of all bytes; a byte outside the table has none, and reads as `Text`
 abbrev pub start_by_table : List Start → ℕ → Start
 start_by_table table b = slice_index_or table b Text
 
@@ -38,7 +38,7 @@ start_by_table table b = slice_index_or table b Text
 abbrev pub IsStartTable : Terminator → List Start → Type 0
 IsStartTable t table = (b : ℕ) → b < 256 → start_by_table table b ≡ start_of t (Some b)
 
--- what a search is told of its start: the byte before its first place, if there is one, and the mode
+-- what a search gets as its start: the byte before its first offset, if there is one, and the mode
 pub record StartValue : Type 0 where
   pub look_behind : Option ℕ
   pub anchored : Anchored

@@ -1,5 +1,5 @@
--- How the bytes of a powerset state are laid out, and what bytes stand for. A byte of flags, the looks that are known
--- to hold and those of its states in four bytes each, the patterns that match, and the states of the NFA, each as its
+-- How the bytes of a powerset state are laid out, and what bytes stand for. First comes a byte of flags. Then come the looks that are known
+-- to hold and the looks of its states, in four bytes each. The patterns that match follow, and then the states of the NFA, each as its
 -- difference from the one before.
 use Rattle.std.specs.Prelude.{◌≡◌, ℕ, zero, suc, ◌+◌, ◌-◌, ◌*◌, ◌/◌, ◌%◌, ◌==◌, ◌||◌, Bool, true, false, not, nat_lt, nat_le, List, [], ◌∷◌}
 use Rattle.std.specs.Prelude.{◌++◌, length, take, drop, slice_index, if◌then◌else◌}
@@ -12,7 +12,7 @@ use Rattle.determinize_core.specs.States.{StateValue, IsState}
 abbrev pub in_four_bytes : ℕ → List ℕ
 in_four_bytes n = to_le_bytes w32 n
 
--- the number in four bytes from a place on
+-- the number in four bytes from an offset on
 abbrev pub number_at : ℕ → List ℕ → ℕ
 number_at at bytes = from_le_bytes w32 (drop at bytes)
 
@@ -28,7 +28,7 @@ numbers (a ∷ b ∷ []) = []
 numbers (a ∷ b ∷ c ∷ []) = []
 numbers (a ∷ b ∷ c ∷ d ∷ rest) = from_le_bytes w32 (a ∷ b ∷ c ∷ d ∷ []) ∷ numbers rest
 
--- whether a pattern matches, and whether the patterns are listed: they are, but where there is none or pattern 0 alone
+-- whether a pattern matches, and whether the patterns are listed: they are unless there is none or pattern 0 alone
 abbrev pub is_match : List ℕ → Bool
 is_match [] = false
 is_match (p ∷ ps) = true
@@ -55,7 +55,7 @@ first_bytes v =
     flag_byte (is_match v.matches) (is_listed v.matches) v.is_from_word v.is_half_crlf
     ∷ (in_four_bytes v.look_have ++ in_four_bytes v.look_need)
 
--- the patterns, where they are listed: how many there are and then each
+-- the patterns, if they are listed: how many there are and then each
 abbrev pub pattern_bytes : Bool → ℕ → List ℕ → List ℕ
 pattern_bytes false count ps = []
 pattern_bytes true count ps = in_four_bytes count ++ four_bytes_each ps
@@ -81,7 +81,8 @@ id_bytes before (q ∷ qs) = groups 4 (zigzag before q) ++ id_bytes q qs
 abbrev pub last_weight : ℕ
 last_weight = 268435456
 
--- the states that bytes name, where groups of the next one's difference were read: their sum, and what the next is worth
+-- The states that bytes name, after some groups of the next one's difference were read. The arguments are the sum of these groups, and what
+-- the next group is worth.
 abbrev pub ids_read : ℕ → ℕ → ℕ → List ℕ → List ℕ
 ids_read before part weight [] = []
 ids_read before part weight (b ∷ bs) =
@@ -101,11 +102,11 @@ has_same_bytes v w = bytes_eq (encoded v) (encoded w)
 abbrev pub unfinished : StateValue → List ℕ
 unfinished v = first_bytes v ++ pattern_bytes (is_listed v.matches) 0 v.matches
 
--- the patterns, where listed or else only said to match
-abbrev pub patterns_told : Bool → Bool → List ℕ → List ℕ
-patterns_told true matching listed = listed
-patterns_told false true listed = 0 ∷ []
-patterns_told false false listed = []
+-- the patterns: the listed ones; or, if none are listed, pattern 0 if the flag says that a pattern matches
+abbrev pub patterns_encoded : Bool → Bool → List ℕ → List ℕ
+patterns_encoded true matching listed = listed
+patterns_encoded false true listed = 0 ∷ []
+patterns_encoded false false listed = []
 
 -- where the states begin
 abbrev pub ids_start : Bool → ℕ → ℕ
@@ -119,7 +120,7 @@ value_of bytes listed ids = record {
   is_half_crlf = has_flag (slice_index bytes 0) 8;
   look_have = number_at 1 bytes;
   look_need = number_at 5 bytes;
-  matches = patterns_told (has_flag (slice_index bytes 0) 2) (has_flag (slice_index bytes 0) 1) listed;
+  matches = patterns_encoded (has_flag (slice_index bytes 0) 2) (has_flag (slice_index bytes 0) 1) listed;
   ids = ids;
 }
 
@@ -133,12 +134,12 @@ decoded bytes =
 abbrev pub decoded_unfinished : List ℕ → StateValue
 decoded_unfinished bytes = value_of bytes (numbers (drop 13 bytes)) []
 
--- what the bytes of a state keep to: they are those of the state that they stand for
+-- what holds of the bytes of a state: they are those of the state that they stand for
 pub record IsEncoded (bytes : List ℕ) : Type 0 where
   pub same : bytes ≡ encoded (decoded bytes)
   pub state : IsState (decoded bytes)
 
--- what they keep to while patterns are added
+-- what holds of them while patterns are added
 pub record IsUnfinished (bytes : List ℕ) : Type 0 where
   pub same : bytes ≡ unfinished (decoded_unfinished bytes)
   pub state : IsState (decoded_unfinished bytes)

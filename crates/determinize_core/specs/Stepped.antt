@@ -1,4 +1,4 @@
--- What the states keep to that starts and steps of an automaton come to.
+-- What holds of the states that starts and steps of an automaton lead to.
 use Rattle.std.specs.Prelude.{◌≡◌, ◌<◌, ◌+◌, ◌*◌, ℕ, true, All, length}
 use Rattle.std.specs.Bool.{nat_eq}
 use Rattle.std.specs.List.{IsDistinct}

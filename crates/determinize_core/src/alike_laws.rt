@@ -1,4 +1,4 @@
-//! A law of units that an automaton does not tell apart. The function's contract is the law; it has no code.
+//! A law of units that an automaton does not distinguish. The function's contract is the law; it has no code.
 //! ```rust
 //! pub fn steps_are_alike()
 //!     ensures { (a : Automaton) (t : Terminator) (k : MatchKind) (v : StateValue) (u w : Option ℕ) → IsStepped a v →
@@ -17,8 +17,7 @@ ghost use Rattle.determinize_core.specs.Starts.{start_of};
 ghost use Rattle.determinize_core.specs.Stepped.{IsStepped};
 ghost use Rattle.determinize_core.specs.Steps.{step_value, start_value};
 
-/// Units that an automaton does not tell apart lead from each state to the same state, and a search starts behind them in
-/// the same state.
+/// Units that an automaton does not distinguish lead from each state to the same state, and a search starts after them in the same state.
 pub fn alike_units_step_alike()
     ensures step { (a : Automaton) (t : Terminator) (kind : MatchKind) (v : StateValue) (u w : Option ℕ) →
         IsStepped a v → AreUnitsAlike a t u w →

@@ -6,7 +6,7 @@ ghost use Rattle.nfa_core.specs.Reached.{AreBelow, Meets};
 ghost use Rattle.nfa_core.specs.States.{node_of};
 ghost use Rattle.nfa_core.specs.Walks.{Visits};
 ghost use Rattle.nfa_core.specs.Ways.{on_nothing};
-ghost use Rattle.determinize_core.specs.Closing.{AddsLeaves, PassesLeaves, GoesBehind};
+ghost use Rattle.determinize_core.specs.Closing.{AddsLeaves, VisitsLeaves, GoesPast};
 ghost use Rattle.determinize_core.specs.Costs.{known_ways};
 ghost use Rattle.determinize_core.specs.Steps.{known_steps};
 
@@ -17,9 +17,9 @@ use search_core::StateID;
 use std::alloc::AllocError;
 use std::sync::ledger::Ledger;
 
-/// Puts the states into a set to which a state leads with no byte where these looks are known to hold, itself
-/// first, in the order of a depth-first walk, as `regex_automata::util::determinize::epsilon_closure`. What the set
-/// held already isn't followed. It is refused where memory for the stack lacks; the steps up to there were counted.
+/// Puts a state, and all states that it reaches without a byte under the looks that are known to hold, into a set. The state itself comes
+/// first, and the order is that of a depth-first search, as in `regex_automata::util::determinize::epsilon_closure`. States that the set
+/// held already aren't followed. If an allocation for the stack fails, the call returns an error, and the steps up to there were counted.
 pub fn epsilon_closure<S: NameSet, L: Ledger>(
     nfa: &NFA,
     start: StateID,
@@ -40,7 +40,7 @@ pub fn epsilon_closure<S: NameSet, L: Ledger>(
     ensures below { All (λ q. q < length nfa.now.automaton.states) (S.names set.new) }
     ensures cost { steps.new ≤ steps.old + 1 + known_ways nfa.now.automaton look_have (drop (length (S.names set.old)) (S.names set.new)) }
 {
-    // What a set has fits its bound, which bounds the walk.
+    // The numbers of a set fit its bound, which bounds the search.
     let _ = set.len();
     nfa.is_sound();
     push(stack, start)?;
@@ -50,8 +50,8 @@ pub fn epsilon_closure<S: NameSet, L: Ledger>(
     Ok(())
 }
 
-/// Goes on behind a state that was met, to those to which it leads with no byte where these looks are known to hold: puts
-/// them on a stack, the preferred one on top. The first of a union are put into the set at once, up to one that leads on.
+/// Continues after a state that was met, with the states to which it leads without a byte under the looks that are known to hold. Puts them
+/// on a stack, the preferred one on top. The first states of a union are put into the set at once, up to one that leads on.
 fn follow<S: NameSet, L: Ledger>(
     nfa: &NFA,
     id: StateID,
@@ -62,7 +62,7 @@ fn follow<S: NameSet, L: Ledger>(
 ) -> Result<(), AllocError>
     requires inside { id < length nfa.now.automaton.states }
     requires bound { S.bound set.old ≡ length nfa.now.automaton.states }
-    ensures goes { OnOk result (GoesBehind nfa.now.automaton look_have id (reverse stack.old.items) (S.names set.old) steps.old
+    ensures goes { OnOk result (GoesPast nfa.now.automaton look_have id (reverse stack.old.items) (S.names set.old) steps.old
         (reverse stack.new.items) (S.names set.new) steps.new) }
     ensures bound { S.bound set.new ≡ S.bound set.old }
     ensures fits { length (S.names set.new) ≤ S.bound set.new }
@@ -84,7 +84,7 @@ fn follow<S: NameSet, L: Ledger>(
     Ok(())
 }
 
-/// Puts the states of a list into a set, up to the first that leads on with no byte. Tells how many these were.
+/// Puts the states of a list into a set, up to the first that leads on without a byte. Returns how many these were.
 fn meet_leaves<S: NameSet, L: Ledger>(
     nfa: &NFA,
     ids: &[StateID],
@@ -94,7 +94,7 @@ fn meet_leaves<S: NameSet, L: Ledger>(
     requires below { AreBelow (length nfa.now.automaton.states) ids.now }
     requires bound { S.bound set.old ≡ length nfa.now.automaton.states }
     ensures within { result ≤ length ids.now }
-    ensures passes { (looks : ℕ) → PassesLeaves nfa.now.automaton looks ids.now result (S.names set.old) (S.names set.new) }
+    ensures passes { (looks : ℕ) → VisitsLeaves nfa.now.automaton looks ids.now result (S.names set.old) (S.names set.new) }
     ensures bound { S.bound set.new ≡ S.bound set.old }
     ensures fits { length (S.names set.new) ≤ S.bound set.new }
     ensures once { IsDistinct nat_eq (S.names set.new) }
@@ -113,8 +113,7 @@ fn meet_leaves<S: NameSet, L: Ledger>(
     ids.len()
 }
 
-/// Puts the states on a stack to which a state leads with no byte where these looks are known to hold, the
-/// preferred one on top.
+/// Puts the states to which a state leads without a byte, under the looks that are known to hold, on a stack, the preferred one on top.
 fn push_ways(state: &State, look_have: LookSet, stack: &mut Vec<StateID>) -> Result<(), AllocError>
     ensures { OnOk result (reverse stack.new.items ≡ on_nothing (node_of state.now) (has_look look_have) ++ reverse stack.old.items) }
 {

@@ -9,8 +9,7 @@ use crate::state_ids::StateIds;
 use nfa_core::NFA;
 use search_core::StateID;
 
-/// Whether a step of the automaton may be made from a state: whether its states are some of the automaton's, none of
-/// them twice.
+/// Whether a step of the automaton may be made from a state: whether the state's states are states of the automaton, none of them twice.
 pub fn of_nfa(nfa: &NFA, state: &State) -> bool
     ensures { (result ≡ true) ↔ (All (λ q. q < length nfa.now.automaton.states) state.now.ids × IsDistinct nat_eq state.now.ids) }
 {
@@ -31,7 +30,7 @@ fn are_below(ids: StateIds<'_>, bound: usize) -> bool
     true
 }
 
-/// Whether none of them comes twice.
+/// Whether none of them occurs twice.
 fn are_once(ids: StateIds<'_>) -> bool
     ensures { result ≡ is_once ids.entry }
 {

@@ -1,9 +1,9 @@
-//! The looks that are known to hold at a place.
+//! The looks that are known to hold at an offset.
 ghost use Rattle.std.specs.Prelude.{◌≡◌};
 ghost use Rattle.search_core.specs.Units.{unit_byte};
 ghost use Rattle.look_core.specs.Looks.{word_if, is_edge_of_word, is_no_edge_of_word, is_byte, is_line_end};
 ghost use Rattle.determinize_core.specs.KnownBefore.{known_words, known_lines};
-ghost use Rattle.determinize_core.specs.Steps.{is_end, first_half, second_half, known_before, known_behind, families, gains};
+ghost use Rattle.determinize_core.specs.Steps.{is_end, first_half, second_half, known_before, known_after, families, gains};
 
 use crate::lookbehind::{Families, with_if};
 use crate::state::State;
@@ -11,7 +11,7 @@ use look_core::{Look, LookSet};
 use nfa_core::NFA;
 use search_core::Unit;
 
-/// The looks that are known to hold at the place of a state, with those that the unit after it decides.
+/// The looks that are known to hold at the offset of a state, with those that the unit after it decides.
 pub(crate) fn known_before(nfa: &NFA, state: &State, unit: Unit) -> LookSet
     ensures { result ≡ known_before nfa.now.automaton.reverse nfa.now.terminator state.now (unit_byte unit) }
 {
@@ -19,7 +19,7 @@ pub(crate) fn known_before(nfa: &NFA, state: &State, unit: Unit) -> LookSet
     known_lines(nfa, looks, state.is_half_crlf(), unit)
 }
 
-/// Whether a look that a state needs is among these and wasn't known to hold.
+/// Whether these looks include one that a state needs and that wasn't known to hold.
 pub(crate) fn gains(state: &State, looks: LookSet) -> bool
     ensures { result ≡ gains state.now looks }
 {
@@ -27,9 +27,9 @@ pub(crate) fn gains(state: &State, looks: LookSet) -> bool
     !new.intersect(state.look_need()).is_empty()
 }
 
-/// The looks that hold behind a unit whatever follows it, of the families that the automaton has.
-pub(crate) fn known_behind(nfa: &NFA, unit: Unit) -> LookSet
-    ensures { result ≡ known_behind (families nfa.now.automaton) nfa.now.automaton.reverse nfa.now.terminator (unit_byte unit) }
+/// The looks that hold after a unit whatever follows it, of the families that the automaton has.
+pub(crate) fn known_after(nfa: &NFA, unit: Unit) -> LookSet
+    ensures { result ≡ known_after (families nfa.now.automaton) nfa.now.automaton.reverse nfa.now.terminator (unit_byte unit) }
 {
     let families = Families::of(nfa.look_set_any());
     let known = Families {
@@ -41,7 +41,7 @@ pub(crate) fn known_behind(nfa: &NFA, unit: Unit) -> LookSet
     known.starts()
 }
 
-/// The looks of words, by whether a word byte stands on each side of the place.
+/// The looks of words, by whether there is a word byte on each side of the offset.
 #[tactic(auto, unfolding(crate::specs::KnownBefore::known_words))]
 fn known_words(looks: LookSet, before: bool, after: bool) -> LookSet
     ensures { result ≡ known_words (word_if before) (word_if after) looks }
@@ -58,21 +58,21 @@ fn known_words(looks: LookSet, before: bool, after: bool) -> LookSet
     with_if(looks, is_edge(before, after), Look::WordAscii)
 }
 
-/// Whether a word byte stands on one side alone.
+/// Whether there is a word byte on exactly one side.
 fn is_edge(before: bool, after: bool) -> bool
     ensures { result ≡ is_edge_of_word (word_if before) (word_if after) }
 {
     before != after
 }
 
-/// Whether word bytes stand on both sides or on none.
+/// Whether there are word bytes on both sides or on neither.
 fn is_no_edge(before: bool, after: bool) -> bool
     ensures { result ≡ is_no_edge_of_word (word_if before) (word_if after) }
 {
     before == after
 }
 
-/// The looks of lines and of the haystack's edge, by the unit and whether the half of a CRLF stands behind the place.
+/// The looks of lines and of the haystack's edge, by the unit and by whether the first half of a CRLF was read just before the offset.
 #[tactic(auto, unfolding(crate::specs::KnownBefore::known_lines))]
 fn known_lines(nfa: &NFA, looks: LookSet, half: bool, unit: Unit) -> LookSet
     ensures { result ≡ known_lines nfa.now.automaton.reverse nfa.now.terminator half (unit_byte unit) looks }

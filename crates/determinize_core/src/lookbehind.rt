@@ -1,27 +1,26 @@
 ghost use Rattle.std.specs.Prelude.{◌≡◌, ◌||◌};
 ghost use Rattle.nfa_core.specs.NfaValue.{looks_of};
-ghost use Rattle.determinize_core.specs.LookBehind.{families_of, with_if, starts_of, behind_nothing, behind_line};
-ghost use Rattle.determinize_core.specs.LookBehind.{behind_byte, look_behind, with_look_behind};
+ghost use Rattle.determinize_core.specs.LookBehind.{families_of, with_if, starts_of, after_nothing, after_line_end};
+ghost use Rattle.determinize_core.specs.LookBehind.{after_byte, look_behind, with_look_behind};
 
 use crate::start::Start;
 use crate::state_builder_matches::StateBuilderMatches;
 use look_core::{Look, LookSet};
 use nfa_core::NFA;
 
-/// What is known of the place where a search starts before a byte is read.
+/// What is known of the offset where a search starts before a byte is read.
 #[derive(Clone, Copy, Debug, PartialEq, Eq)]
 pub struct LookBehind {
-    /// Whether a word byte stands before the place, where the automaton has a look of words.
+    /// Whether a word byte comes before the offset, if the automaton has a look of words.
     pub is_from_word: bool,
-    /// Whether the first half of a carriage return and a line feed stands before the place, where the
-    /// automaton has a look of such lines. In reverse the line feed is the first half.
+    /// Whether the first half of a carriage return and a line feed comes before the offset, if the automaton has a look of such lines. In
+    /// reverse the line feed is the first half.
     pub is_half_crlf: bool,
-    /// The looks that hold at the place whatever stands on its other side, of the families that the
-    /// automaton has.
+    /// The looks that hold at the offset whatever comes on its other side, of the families that the automaton has.
     pub look_have: LookSet,
 }
 
-/// Of which families an automaton has looks.
+/// The families of which an automaton has looks.
 #[derive(Clone, Copy)]
 pub(crate) struct Families {
     pub(crate) haystack: bool,
@@ -30,8 +29,8 @@ pub(crate) struct Families {
     pub(crate) words: bool,
 }
 
-/// What is known of the place where a search of the automaton starts, by what stands before the place. An
-/// automaton in reverse is asked about what stands behind the place, and its looks stand for their reverse.
+/// What is known of the offset where a search of the automaton starts, by what comes before the offset. For an automaton in reverse that is
+/// what comes after the offset, and its looks stand for their reverse.
 pub fn look_behind_of_start(nfa: &NFA, start: Start) -> LookBehind
     ensures { result ≡ look_behind (looks_of nfa.now.automaton.states) nfa.now.automaton.reverse nfa.now.terminator start }
 {
@@ -39,17 +38,17 @@ pub fn look_behind_of_start(nfa: &NFA, start: Start) -> LookBehind
     let terminator = nfa.look_matcher().get_line_terminator();
     let reverse = nfa.is_reverse();
     match start {
-        Start::Text => families.behind_nothing(),
-        Start::LineLF => families.behind_line(reverse, terminator.contains(b'\n')),
-        Start::LineCR => families.behind_line(!reverse, terminator.contains(b'\r')),
-        Start::NonWordByte => families.behind_byte(false, false),
-        Start::WordByte => families.behind_byte(false, true),
-        Start::CustomLineTerminator => families.behind_byte(true, false),
-        Start::CustomWordLineTerminator => families.behind_byte(true, true),
+        Start::Text => families.after_nothing(),
+        Start::LineLF => families.after_line_end(reverse, terminator.contains(b'\n')),
+        Start::LineCR => families.after_line_end(!reverse, terminator.contains(b'\r')),
+        Start::NonWordByte => families.after_byte(false, false),
+        Start::WordByte => families.after_byte(false, true),
+        Start::CustomLineTerminator => families.after_byte(true, false),
+        Start::CustomWordLineTerminator => families.after_byte(true, true),
     }
 }
 
-/// Tells a state that is begun what is known of the place where a search of the automaton starts, as
+/// Records in a state under construction what is known of the offset where a search of the automaton starts, as
 /// `regex_automata::util::determinize::set_lookbehind_from_start`.
 pub fn set_lookbehind_from_start(nfa: &NFA, start: &Start, builder: &mut StateBuilderMatches)
     ensures { builder.new ≡ with_look_behind
@@ -60,7 +59,7 @@ pub fn set_lookbehind_from_start(nfa: &NFA, start: &Start, builder: &mut StateBu
     builder.write_have(builder.look_have().union(behind.look_have));
 }
 
-/// Sets the flags of a state that is begun that are wanted, and leaves the others.
+/// Sets those flags of a state under construction that are wanted, and leaves the others.
 pub(crate) fn set_flags(is_from_word: bool, is_half_crlf: bool, builder: &mut StateBuilderMatches)
     ensures { builder.new ≡ record builder.old {
       is_from_word = builder.old.is_from_word || is_from_word;
@@ -88,7 +87,7 @@ impl Families {
         }
     }
 
-    /// The looks of these families that ask for nothing but what stands before a place.
+    /// The looks of these families that depend only on what comes before an offset.
     pub(crate) fn starts(self) -> LookSet
         ensures { result ≡ starts_of self }
     {
@@ -99,9 +98,9 @@ impl Families {
         with_if(looks, self.words, Look::WordStartHalfUnicode)
     }
 
-    /// No byte stands before the place.
-    fn behind_nothing(self) -> LookBehind
-        ensures { result ≡ behind_nothing self }
+    /// No byte comes before the offset.
+    fn after_nothing(self) -> LookBehind
+        ensures { result ≡ after_nothing self }
     {
         LookBehind {
             is_from_word: false,
@@ -110,9 +109,9 @@ impl Families {
         }
     }
 
-    /// A line feed or a carriage return stands before the place.
-    fn behind_line(self, is_first_half: bool, ends_line: bool) -> LookBehind
-        ensures { result ≡ behind_line self is_first_half ends_line }
+    /// A line feed or a carriage return comes before the offset.
+    fn after_line_end(self, is_first_half: bool, ends_line: bool) -> LookBehind
+        ensures { result ≡ after_line_end self is_first_half ends_line }
     {
         let known = Families {
             haystack: false,
@@ -127,9 +126,9 @@ impl Families {
         }
     }
 
-    /// Another byte stands before the place.
-    fn behind_byte(self, ends_line: bool, is_word: bool) -> LookBehind
-        ensures { result ≡ behind_byte self ends_line is_word }
+    /// Another byte comes before the offset.
+    fn after_byte(self, ends_line: bool, is_word: bool) -> LookBehind
+        ensures { result ≡ after_byte self ends_line is_word }
     {
         let known = Families {
             haystack: false,
@@ -145,7 +144,7 @@ impl Families {
     }
 }
 
-/// The set with the look, where it is wanted.
+/// The set, with the look added if it is wanted.
 pub(crate) fn with_if(looks: LookSet, wanted: bool, look: Look) -> LookSet
     ensures { result ≡ with_if wanted look looks }
 {

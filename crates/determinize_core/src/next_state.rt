@@ -6,7 +6,7 @@ ghost use Rattle.std.specs.List.{IsDistinct, flat_map};
 ghost use Rattle.search_core.specs.Units.{unit_byte};
 ghost use Rattle.look_core.specs.Looks.{byte_side, is_word, is_byte};
 ghost use Rattle.determinize_core.specs.Costs.{free_ways, known_ways};
-ghost use Rattle.determinize_core.specs.Steps.{families, first_half, gains, ids_before, known_before, states_behind, begun, step_value};
+ghost use Rattle.determinize_core.specs.Steps.{families, first_half, gains, ids_before, known_before, states_after, begun, step_value};
 ghost use Rattle.determinize_core.specs.Steps.{closed, is_some_kept, known_steps, pattern_at, patterns_in, reading, unit_steps};
 ghost use Rattle.nfa_core.specs.Walks.{distinct, Visits};
 ghost use Rattle.determinize_core.specs.Added.{listed_with, stops};
@@ -14,7 +14,7 @@ ghost use Rattle.nfa_core.specs.States.{node_of};
 ghost use Rattle.nfa_core.specs.Ways.{on_byte};
 
 use crate::closure::epsilon_closure;
-use crate::known::{first_half, gains, is_byte, known_before, known_behind};
+use crate::known::{first_half, gains, is_byte, known_after, known_before};
 use crate::lookbehind::{Families, set_flags};
 use crate::nfa_states::{add_nfa_states, is_capture};
 use crate::state::State;
@@ -28,8 +28,8 @@ use search_types::MatchKind;
 use std::alloc::AllocError;
 use std::sync::ledger::Ledger;
 
-/// The state behind a unit, as `regex_automata::util::determinize::next`. It lists what matched before the unit. It is
-/// refused where memory lacks, and then costs no more steps than where it is not.
+/// The state after a unit, as `regex_automata::util::determinize::next`. It lists what matched before the unit. If an allocation fails, the
+/// call returns an error, and the bound on its steps holds then too.
 pub fn next<S: NameSet, L: Ledger>(
     nfa: &NFA,
     kind: MatchKind,
@@ -52,7 +52,7 @@ pub fn next<S: NameSet, L: Ledger>(
     ensures cost { steps.new ≤ steps.old + 3 * length nfa.now.automaton.states + 2 * free_ways nfa.now.automaton }
 {
     let mut builder = builder.into_matches()?;
-    let looks = known_behind(nfa, unit);
+    let looks = known_after(nfa, unit);
     builder.write_have(looks);
     step_all(
         nfa,
@@ -65,15 +65,15 @@ pub fn next<S: NameSet, L: Ledger>(
         &mut builder,
         steps,
     )?;
-    tell_unit(nfa, unit, some_kept(nfa, &sets.set2), &mut builder);
+    report_unit(nfa, unit, some_kept(nfa, &sets.set2), &mut builder);
     let mut built = builder.into_nfa();
     add_nfa_states(nfa, &sets.set2, &mut built)?;
     Ok(built)
 }
 
-/// Lists the patterns that match in the states at the place of a state before the unit, and puts the states into the second
-/// set to which these lead by the unit, closed where these looks are known to hold. States that aren't closed anew are read
-/// from the state, and put into no set.
+/// Lists the patterns that match in the states at the offset of a state before the unit. Puts the states to which these lead by the unit
+/// into the second set, closed under the looks that are known to hold. States that aren't closed again are read from the state, and put
+/// into no set.
 fn step_all<S: NameSet, L: Ledger>(
     nfa: &NFA,
     kind: MatchKind,
@@ -132,7 +132,7 @@ fn step_all<S: NameSet, L: Ledger>(
     Ok(())
 }
 
-/// Whether the unit decides a look that some of the states at the place of a state before it ask for.
+/// Whether the unit decides a look that some of the states at the offset before it depend on.
 fn asks_anew(nfa: &NFA, state: &State, unit: Unit) -> bool
     ensures { result ≡ gains state.now (known_before nfa.now.automaton.reverse nfa.now.terminator state.now (unit_byte unit)) }
 {
@@ -142,8 +142,8 @@ fn asks_anew(nfa: &NFA, state: &State, unit: Unit) -> bool
     gains(state, known_before(nfa, state, unit))
 }
 
-/// Puts the states at the place of a state before the unit into the first set, closed anew where the unit decides a look
-/// that some of them ask for, and takes all out of the second.
+/// Puts the states at the offset of a state before the unit into the first set, and empties the second set. If the unit decides a look that
+/// some of the states depend on, they are closed again.
 fn states_before<S: NameSet, L: Ledger>(
     nfa: &NFA,
     sets: &mut Sets<S>,
@@ -179,8 +179,8 @@ fn states_before<S: NameSet, L: Ledger>(
     Ok(())
 }
 
-/// Tells a state that is begun the kind of the unit before its place. Of a place without states it isn't told.
-fn tell_unit(nfa: &NFA, unit: Unit, is_some: bool, builder: &mut StateBuilderMatches)
+/// Records in a state under construction the kind of the unit before its offset. If the offset has no states, nothing is recorded.
+fn report_unit(nfa: &NFA, unit: Unit, is_some: bool, builder: &mut StateBuilderMatches)
     ensures { builder.new ≡ record builder.old {
       is_from_word = builder.old.is_from_word || ((families nfa.now.automaton).words && (is_word (byte_side (unit_byte unit)) && is_some));
       is_half_crlf = builder.old.is_half_crlf
@@ -206,8 +206,7 @@ pub(crate) fn put_ids<S: NameSet, L: Ledger>(state: &State, set: &mut S, steps: 
     }
 }
 
-/// Puts the states into an empty set to which those of another lead with no byte where these looks are known to
-/// hold.
+/// Puts the states of a set, and all states that they reach without a byte under the looks that are known to hold, into an empty set.
 pub(crate) fn close_all<S: NameSet, L: Ledger>(
     nfa: &NFA,
     from: &S,
@@ -232,7 +231,7 @@ pub(crate) fn close_all<S: NameSet, L: Ledger>(
     Ok(())
 }
 
-/// Whether a state of the set is one that a powerset state keeps.
+/// Whether the set has a state that a powerset state keeps.
 pub(crate) fn some_kept<S: NameSet>(nfa: &NFA, set: &S) -> bool
     requires { S.bound set.now ≡ length nfa.now.automaton.states }
     ensures { result ≡ is_some_kept nfa.now.automaton (S.names set.now) }
@@ -245,9 +244,8 @@ pub(crate) fn some_kept<S: NameSet>(nfa: &NFA, set: &S) -> bool
     false
 }
 
-/// Lists the patterns that match in the states of a set, and puts the states into an empty set to which its states lead
-/// by the unit, closed where these looks are known to hold. Under leftmost-first the first match is the last
-/// state that is looked at.
+/// Lists the patterns that match in the states of a set. Puts the states to which these lead by the unit into an empty set, closed under
+/// the looks that are known to hold. Under leftmost-first, the search stops at the first match.
 pub(crate) fn step_each<S: NameSet, L: Ledger>(
     nfa: &NFA,
     kind: MatchKind,
@@ -275,7 +273,7 @@ pub(crate) fn step_each<S: NameSet, L: Ledger>(
     nfa.is_sound();
     for k in 0..from.len() {
         let id = from.name(k);
-        // What a set has is there once, and below its bound.
+        // A set has each of its numbers once, and below its bound.
         let _ = set.len();
         let last = list_match(nfa, kind, id, builder)?;
         if last {
@@ -286,7 +284,8 @@ pub(crate) fn step_each<S: NameSet, L: Ledger>(
     Ok(())
 }
 
-/// The same for the states of a powerset state, which are below the automaton's, none of them twice.
+/// Lists the patterns that match in the states of a powerset state, and puts the states to which these lead by the unit into an empty set,
+/// as [`step_each`] does for a set. The states are below the automaton's, none of them twice.
 fn step_ids<S: NameSet, L: Ledger>(
     nfa: &NFA,
     kind: MatchKind,
@@ -314,7 +313,7 @@ fn step_ids<S: NameSet, L: Ledger>(
 {
     nfa.is_sound();
     for id in state.iter_nfa_state_ids() {
-        // What a set has is there once, and below its bound.
+        // A set has each of its numbers once, and below its bound.
         let _ = set.len();
         let last = list_match(nfa, kind, id, builder)?;
         if last {
@@ -325,8 +324,7 @@ fn step_ids<S: NameSet, L: Ledger>(
     Ok(())
 }
 
-/// Lists the pattern that matches in a state, if there is one and it isn't listed yet, and tells whether no state
-/// behind it reads the unit.
+/// Lists the pattern that matches in a state, if there is one and it isn't listed yet. Returns whether no state after it reads the unit.
 #[inline(always)]
 fn list_match(
     nfa: &NFA,
@@ -346,7 +344,7 @@ fn list_match(
     Ok(kind == MatchKind::LeftmostFirst)
 }
 
-/// Lists a pattern, unless it is listed.
+/// Lists a pattern, unless it is listed already.
 #[inline(never)]
 fn list_pattern(pattern: PatternID, builder: &mut StateBuilderMatches) -> Result<(), AllocError>
     ensures { OnOk result (builder.new ≡ record builder.old { matches = listed_with (Some pattern) builder.old.matches }) }
@@ -357,7 +355,7 @@ fn list_pattern(pattern: PatternID, builder: &mut StateBuilderMatches) -> Result
     Ok(())
 }
 
-/// Puts the states into a set to which a state leads by the unit, closed where these looks are known to hold.
+/// Puts the state to which a state leads by the unit into a set, closed under the looks that are known to hold.
 #[inline(always)]
 fn close_target<S: NameSet, L: Ledger>(
     nfa: &NFA,
@@ -389,7 +387,7 @@ fn close_target<S: NameSet, L: Ledger>(
 
 // ---- Where a state of an automaton leads by a unit, and the pattern that matches in it.
 
-/// The state to which one leads by the unit. The end of the input leads nowhere.
+/// The state to which a state leads by the unit. The end of the input leads nowhere.
 pub(crate) fn target(nfa: &NFA, id: StateID, unit: Unit) -> Option<StateID>
     requires { id < length nfa.now.automaton.states }
     ensures ways { option_to_list result ≡ unit_steps nfa.now.automaton (unit_byte unit) id }
@@ -402,7 +400,7 @@ pub(crate) fn target(nfa: &NFA, id: StateID, unit: Unit) -> Option<StateID>
     }
 }
 
-/// The state to which one leads by the byte.
+/// The state to which a state leads by the byte.
 fn target_by(state: &NfaState, byte: u8) -> Option<StateID>
     ensures { option_to_list result ≡ on_byte (node_of state.now) byte }
 {
@@ -421,8 +419,8 @@ fn target_by(state: &NfaState, byte: u8) -> Option<StateID>
     }
 }
 
-/// Whether a byte lies in a range. Both ends are tested at once: of many ranges each end alone is often met and often not,
-/// which a processor can't foresee, and both together seldom.
+/// Whether a byte lies in a range. Both ends are tested at once. Over many ranges, each end alone is often met and often not, which a
+/// processor can't predict; both together are seldom met.
 #[inline(always)]
 fn is_within(start: u8, end: u8, byte: u8) -> bool
     ensures { result ≡ is_in_range start end byte }

@@ -9,9 +9,9 @@ use nfa_core::{NFA, NameSet, State};
 use search_core::StateID;
 use std::alloc::AllocError;
 
-/// Adds the states of a set to a state that is built, but for captures, and their looks, as
-/// `regex_automata::util::determinize::add_nfa_states`. Looks that hold are told only where some are asked for. It is
-/// refused where memory lacks.
+/// Adds the states of a set, except captures, and their looks to a state under construction, as
+/// `regex_automata::util::determinize::add_nfa_states`. Looks that hold are kept only if the states depend on some. Returns an error if an
+/// allocation fails.
 pub fn add_nfa_states<S: NameSet>(
     nfa: &NFA,
     set: &S,
@@ -28,7 +28,7 @@ pub fn add_nfa_states<S: NameSet>(
     Ok(())
 }
 
-/// Adds the looks of the states of a set. Where the automaton has no looks, no state is asked.
+/// Adds the looks of the states of a set. If the automaton has no looks, no state is read.
 fn add_looks<S: NameSet>(nfa: &NFA, set: &S, builder: &mut StateBuilderNFA)
     requires { S.bound set.now ≡ length nfa.now.automaton.states }
     ensures { builder.new ≡ record builder.old { look_need = looks_with nfa.now.automaton builder.old.look_need (S.names set.now) } }
@@ -52,7 +52,7 @@ fn looks_with<S: NameSet>(nfa: &NFA, set: &S, looks: LookSet) -> LookSet
     all
 }
 
-/// Adds the states of a set, but for captures. Where the automaton has no captures, no state is asked.
+/// Adds the states of a set, except captures. If the automaton has no captures, no state is read.
 fn add_kept<S: NameSet>(nfa: &NFA, set: &S, builder: &mut StateBuilderNFA) -> Result<(), AllocError>
     requires { S.bound set.now ≡ length nfa.now.automaton.states }
     ensures { OnOk result (builder.new ≡ record builder.old { ids = builder.old.ids ++ kept_among nfa.now.automaton (S.names set.now) }) }
@@ -98,7 +98,7 @@ fn look_of(state: &State) -> LookSet
     }
 }
 
-/// Whether the state puts the place into a slot.
+/// Whether the state stores the offset in a slot.
 pub(crate) fn is_capture(state: &State) -> bool
     ensures { result ≡ is_capture (node_of state.now) }
 {

@@ -1,18 +1,17 @@
 ghost use Rattle.std.specs.Prelude.{◌≡◌, ◌<◌, ◌↔◌, Some};
 ghost use Rattle.determinize_core.specs.Starts.{number_of};
 
-/// What stands before the place where a search starts, as far as looks ask for it, as
-/// `regex_automata::util::start::Start`. A search in reverse asks for what stands behind the place.
+/// What comes before the offset where a search starts, as far as looks depend on it, as `regex_automata::util::start::Start`. For a search
+/// in reverse it is what comes after the offset.
 ///
-/// The set of bytes that end lines may have two members, and the kind of a byte of it that is a word
-/// byte too is one of its own.
+/// The set of bytes that end lines may have two members. A byte of it that is a word byte too has a kind of its own.
 #[derive(Clone, Copy, Debug, PartialEq, Eq)]
 pub enum Start {
     /// A byte that no other kind has.
     NonWordByte,
     /// A word byte that ends no line.
     WordByte,
-    /// No byte: the place is the haystack's edge.
+    /// No byte: the offset is the haystack's edge.
     Text,
     /// The line feed, whether or not it ends lines.
     LineLF,
@@ -25,7 +24,7 @@ pub enum Start {
 }
 
 impl Start {
-    /// The start with this number, as `Start::from_usize`, and `None` where no start has it.
+    /// The start with this number, as `Start::from_usize`; `None` if no start has it.
     pub fn from_usize(number: usize) -> Option<Start>
         ensures { (s : Start) → (number ≡ number_of s) ↔ (result ≡ Some s) }
     {

@@ -5,8 +5,8 @@ ghost use Rattle.search_types.specs.declared.anchored.Anchored.TheVariants.{No};
 use search_types::{Anchored, Input};
 use std::marker::Model;
 
-/// What a search is told of its start, as `regex_automata::util::start::Config`: the byte that stands
-/// before the place where it starts, if there is one, and the mode.
+/// What a search gets as its start, as `regex_automata::util::start::Config`: the byte before the offset where it starts, if there is one,
+/// and the mode.
 #[derive(Clone, Copy, Debug)]
 pub struct Config {
     look_behind: Option<u8>,
@@ -34,8 +34,8 @@ impl Config {
         }
     }
 
-    /// The start of a search forward, as `Config::from_input_forward`: the byte is the one in front of the
-    /// span, whether or not a search may see it, and there is none where the span starts at 0.
+    /// The start of a forward search, as `Config::from_input_forward`. The byte is the one before the span, whether or not a search may see
+    /// it. There is none if the span starts at 0.
     pub fn from_input_forward(input: &Input<'_>) -> Config
         ensures { result ≡ record { look_behind = byte_before input.now.haystack input.now.start; anchored = input.now.anchored } }
     {
@@ -45,8 +45,8 @@ impl Config {
         }
     }
 
-    /// The start of a search in reverse, as `Config::from_input_reverse`: the byte is the one behind the
-    /// span, and there is none where the span ends with the haystack.
+    /// The start of a search in reverse, as `Config::from_input_reverse`. The byte is the one after the span. There is none if the span
+    /// ends with the haystack.
     pub fn from_input_reverse(input: &Input<'_>) -> Config
         ensures { result ≡ record { look_behind = byte_at input.now.haystack input.now.end; anchored = input.now.anchored } }
     {
@@ -56,7 +56,7 @@ impl Config {
         }
     }
 
-    /// The same start behind this byte, or at the haystack's edge, as `Config::look_behind`.
+    /// This start with the given byte before it, or at the haystack's edge if that is `None`, as `Config::look_behind`.
     pub fn look_behind(self, byte: Option<u8>) -> Config
         ensures { result ≡ record self { look_behind = byte } }
     {
@@ -66,7 +66,7 @@ impl Config {
         }
     }
 
-    /// The same start in this mode, as `Config::anchored`.
+    /// This start in the given mode, as `Config::anchored`.
     pub fn anchored(self, mode: Anchored) -> Config
         ensures { result ≡ record self { anchored = mode } }
     {
@@ -76,7 +76,7 @@ impl Config {
         }
     }
 
-    /// The byte before the place, as `Config::get_look_behind`; `None` at the haystack's edge.
+    /// The byte before the offset, as `Config::get_look_behind`; `None` at the haystack's edge.
     pub fn get_look_behind(self) -> Option<u8>
         ensures { result ≡ self.look_behind }
     {
@@ -100,7 +100,7 @@ impl Default for Config {
     }
 }
 
-/// The byte in front of a place; `None` at place 0, and above the place behind the last byte.
+/// The byte before an offset; `None` at offset 0, and above the offset after the last byte.
 fn byte_in_front(haystack: &[u8], at: usize) -> Option<u8>
     ensures { result ≡ byte_before haystack.now at }
 {

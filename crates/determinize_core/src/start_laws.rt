@@ -1,5 +1,4 @@
-//! Laws of what is known of the place where a search starts. Each function has no code: its contract is
-//! the law.
+//! Laws of what is known of the offset where a search starts. Each function has no code: its contract is the law.
 //! ```rust
 //! pub fn halves_stand_behind_returns()
 //!     ensures { (looks : ℕ) (t : Terminator) (h : List ℕ) (i : ℕ) →
@@ -23,8 +22,8 @@ ghost use Rattle.determinize_core.specs.declared.start.Start.{Start};
 ghost use Rattle.determinize_core.specs.declared.lookbehind.LookBehind.{LookBehind};
 ghost use Rattle.determinize_core.specs.LookBehind.{look_behind, is_decided, with_look_behind};
 
-/// Forward, what is known by the byte in front of a place is true there: each look holds, the word byte
-/// stands there, and so does the carriage return.
+/// Forward, what is known from the byte before an offset is true there. Each known look holds. If a word byte is known, the byte is one. If
+/// the first half of a CRLF is known, the byte is a carriage return.
 pub fn what_is_known_forward_is_true()
     ensures looks { (looks : ℕ) (t : Terminator) (h : List ℕ) (l : Look) (i : ℕ) → i ≤ length h →
         has_look (look_behind looks false t (start_of t (byte_before h i))).look_have l ≡ true → holds_ascii t h l i ≡ true }
@@ -35,8 +34,8 @@ pub fn what_is_known_forward_is_true()
         (look_behind looks false t (start_of t (byte_before h i))).is_half_crlf ≡ true → byte_before h i ≡ Some 0x0D }
 {}
 
-/// In reverse, what is known by the byte behind a place is true there: the reverse of each look holds, the
-/// word byte stands there, and so does the line feed.
+/// In reverse, what is known from the byte after an offset is true there. The reverse of each known look holds. If a word byte is known,
+/// the byte is one. If the first half of a CRLF is known, the byte is a line feed.
 pub fn what_is_known_in_reverse_is_true()
     ensures looks { (looks : ℕ) (t : Terminator) (h : List ℕ) (l : Look) (i : ℕ) → i ≤ length h →
         has_look (look_behind looks true t (start_of t (byte_at h i))).look_have l ≡ true → holds_ascii t h (reversed l) i ≡ true }
@@ -46,9 +45,11 @@ pub fn what_is_known_in_reverse_is_true()
         (look_behind looks true t (start_of t (byte_at h i))).is_half_crlf ≡ true → byte_at h i ≡ Some 0x0A }
 {}
 
-/// Forward, all that is decided by the byte in front of a place is known of the looks that the automaton
-/// has: whether the place is a start of the haystack, of a line, or behind no word; whether a line starts
-/// there by a line feed alone; and which half of a pair and whether a word byte stands there.
+/// Forward, all that the byte before an offset decides is known, for the looks that the automaton has:
+///
+/// - whether the offset is a start of the haystack or of a line, or isn't preceded by a word byte;
+/// - whether a line starts there by a line feed alone;
+/// - which half of a CRLF the byte is, and whether it is a word byte.
 pub fn what_is_decided_forward_is_known()
     ensures looks { (looks : ℕ) (t : Terminator) (h : List ℕ) (l : Look) (i : ℕ) → i ≤ length h →
         is_decided l ≡ true → has_look looks l ≡ true →
@@ -62,8 +63,8 @@ pub fn what_is_decided_forward_is_known()
         (look_behind looks false t (start_of t (byte_before h i))).is_from_word ≡ is_word (byte_side (byte_before h i)) }
 {}
 
-/// In reverse, all that is decided by the byte behind a place is known of the looks that the automaton has,
-/// each of which stands for its reverse.
+/// In reverse, all that the byte after an offset decides is known, for the looks that the automaton has. Each of them stands for its
+/// reverse.
 pub fn what_is_decided_in_reverse_is_known()
     ensures looks { (looks : ℕ) (t : Terminator) (h : List ℕ) (l : Look) (i : ℕ) → i ≤ length h →
         is_decided l ≡ true → has_look looks l ≡ true →
@@ -77,8 +78,7 @@ pub fn what_is_decided_in_reverse_is_known()
         (look_behind looks true t (start_of t (byte_at h i))).is_from_word ≡ is_word (byte_side (byte_at h i)) }
 {}
 
-/// What is known of a place is a set of looks, and a state with it is a state; a state with no flags and
-/// looks gets just these.
+/// What is known of an offset is a set of looks, and a state with it added is a state. A state without flags and looks gets just these.
 pub fn states_with_what_is_known_are_states()
     ensures set { (looks : ℕ) (reverse : Bool) (t : Terminator) (s : Start) → IsLookSet (look_behind looks reverse t s).look_have }
     ensures state { (b : LookBehind) (v : StateValue) → IsLookSet b.look_have → IsState v → IsState (with_look_behind b v) }

@@ -26,7 +26,7 @@ impl Model for StartByteMap {
 }
 
 impl StartByteMap {
-    /// The start of each byte where lines end as the matcher has it, as `StartByteMap::new`.
+    /// The start of each byte if lines end as the matcher says, as `StartByteMap::new`.
     pub fn new<W: WordClass>(matcher: &LookMatcher<W>) -> StartByteMap
         ensures len { length result ≡ 256 }
         ensures table { IsStartTable matcher.now.terminator result }
@@ -39,7 +39,7 @@ impl StartByteMap {
         StartByteMap { map }
     }
 
-    /// The start where this byte stands before the place, as `StartByteMap::get`.
+    /// The start if this byte comes before the offset, as `StartByteMap::get`.
     #[inline]
     pub fn get(&self, byte: u8) -> Start
         ensures value { result ≡ start_by_table self.now byte }
@@ -49,7 +49,7 @@ impl StartByteMap {
     }
 }
 
-/// The start where this byte stands before the place, and lines end at the terminator.
+/// The start if this byte comes before the offset, and lines end at the terminator.
 pub(crate) fn start_of_byte(terminator: LineTerm, byte: u8) -> Start
     ensures { result ≡ start_of terminator (Some byte) }
 {

@@ -1,7 +1,7 @@
 ghost use Rattle.std.specs.Prelude.{◌≡◌, ◌+◌, ◌<◌, ◌≤◌, [], ◌∷◌, length, OnOk, IfOk};
 ghost use Rattle.determinize_core.specs.Costs.{free_ways};
 ghost use Rattle.determinize_core.specs.LookBehind.{with_look_behind};
-ghost use Rattle.determinize_core.specs.Steps.{behind_of_start, closed, start_value};
+ghost use Rattle.determinize_core.specs.Steps.{look_behind_of, closed, start_value};
 
 use crate::closure::epsilon_closure;
 use crate::lookbehind::set_lookbehind_from_start;
@@ -15,8 +15,8 @@ use search_core::StateID;
 use std::alloc::AllocError;
 use std::sync::ledger::Ledger;
 
-/// The state in which a search starts from a state of the automaton, by what stands before the place. It is refused
-/// where memory lacks.
+/// The state in which a search starts from a state of the automaton, by what comes before the offset. Returns an error if an allocation
+/// fails.
 pub fn start_state<S: NameSet, L: Ledger>(
     nfa: &NFA,
     start: Start,
@@ -42,8 +42,8 @@ pub fn start_state<S: NameSet, L: Ledger>(
     Ok(built)
 }
 
-/// Tells a state that is begun what is known of the place where a search starts, and puts the states into an empty set that
-/// the search is in there.
+/// Records in a state under construction what is known of the offset where a search starts. Puts the states that the search is in there
+/// into an empty set.
 fn close_start<S: NameSet, L: Ledger>(
     nfa: &NFA,
     start: Start,
@@ -57,7 +57,7 @@ fn close_start<S: NameSet, L: Ledger>(
     requires bound { S.bound set.old ≡ length nfa.now.automaton.states }
     requires none { S.names set.old ≡ [] }
     requires empty { stack.old.items ≡ [] }
-    ensures told { builder.new ≡ with_look_behind (behind_of_start nfa.now.automaton nfa.now.terminator start) builder.old }
+    ensures reported { builder.new ≡ with_look_behind (look_behind_of nfa.now.automaton nfa.now.terminator start) builder.old }
     ensures closed { OnOk result (S.names set.new ≡ closed nfa.now.automaton builder.new.look_have (id ∷ [])) }
     ensures stack { OnOk result (stack.new.items ≡ []) }
     ensures bound { S.bound set.new ≡ S.bound set.old }

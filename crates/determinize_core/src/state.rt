@@ -19,9 +19,8 @@ use std::hash::{Hash, Hasher};
 use std::marker::Model;
 use std::rc::RcSlice;
 
-/// A powerset state, as `regex_automata::util::determinize::State`: the states of the NFA that a search is in, in order
-/// of preference, with what is known of the place. It is kept as bytes, which its clones share. A contract sees it as
-/// these parts.
+/// A powerset state, as `regex_automata::util::determinize::State`: the states of the NFA that a search is in, in order of preference, with
+/// what is known of the offset. It is kept as bytes, which its clones share. A contract sees it as these parts.
 #[derive(Drop)]
 pub struct State {
     bytes: RcSlice<u8>,
@@ -40,7 +39,7 @@ impl Model for State {
 }
 
 impl State {
-    /// The state of no states, from which no search goes on.
+    /// The state of no states, from which no search continues.
     pub fn dead(alloc: Global) -> Result<State, AllocError>
         ensures { IfOk result (λ state. state ≡ dead) }
     {
@@ -57,7 +56,7 @@ impl State {
         })
     }
 
-    /// The bytes, which tell states apart.
+    /// The bytes, by which states are distinguished.
     pub fn as_bytes(&self) -> &[u8]
         ensures value { result.now ≡ encoded self.now }
         ensures state { IsState self.now }
@@ -65,7 +64,7 @@ impl State {
         self.bytes.as_slice()
     }
 
-    /// How many bytes the state takes in memory beside its own size.
+    /// How many bytes the state takes in memory in addition to its own size.
     pub fn memory_usage(&self) -> usize
         ensures { result ≡ length (encoded self.now) }
     {
@@ -79,21 +78,21 @@ impl State {
         has_flag(self.as_bytes(), MATCHES)
     }
 
-    /// Whether the byte before the place is a word byte.
+    /// Whether the byte before the offset is a word byte.
     pub fn is_from_word(&self) -> bool
         ensures { result ≡ self.now.is_from_word }
     {
         has_flag(self.as_bytes(), FROM_WORD)
     }
 
-    /// Whether the place is inside what may be a CRLF.
+    /// Whether the offset is inside what may be a CRLF.
     pub fn is_half_crlf(&self) -> bool
         ensures { result ≡ self.now.is_half_crlf }
     {
         has_flag(self.as_bytes(), HALF_CRLF)
     }
 
-    /// The looks that are known to hold at the place.
+    /// The looks that are known to hold at the offset.
     pub fn look_have(&self) -> LookSet
         ensures { result ≡ self.now.look_have }
     {
@@ -131,7 +130,7 @@ impl State {
         if has_flag(bytes, MATCHES) { 1 } else { 0 }
     }
 
-    /// The pattern at a place among those that match, in order of preference.
+    /// The pattern at an index among those that match, in order of preference.
     pub fn match_pattern(&self, index: usize) -> PatternID
         requires { index < length self.now.matches }
         ensures { result ≡ slice_index self.now.matches index }
@@ -143,7 +142,7 @@ impl State {
         PatternID::ZERO
     }
 
-    /// The patterns that match, in order of preference, and `None` where none does, which takes no memory.
+    /// The patterns that match, in order of preference; `None` if there is none, which takes no memory.
     pub fn match_pattern_ids(&self, alloc: Global) -> Result<Option<Vec<PatternID>>, AllocError>
         ensures value { IfOk result (λ ids. MatchOption ids (self.now.matches ≡ [])
             (λ ps. (ps.items ≡ self.now.matches) × (is_match self.now.matches ≡ true))) }
@@ -222,7 +221,8 @@ impl Hash for State {
     ghost respects_eq = { λ x y h. ap (λ (bytes : List ℕ). fed.usize (length bytes) ++ bytes ∷ [])
         ((bytes_eq-Decides (encoded x) (encoded y)).0 h) };
 
-    // All in one write, as the Rust crate's: a hasher takes sixteen bytes at once of it, and a byte of single ones.
+    // All bytes in one write, as the Rust crate does it. A hasher takes sixteen bytes of one write at once, but only one byte of single
+    // writes.
     fn hash<H: Hasher>(&self, state: &mut H) {
         let bytes = self.as_bytes();
         state.write_usize(bytes.len());

@@ -36,7 +36,7 @@ impl StateBuilderEmpty {
         StateBuilderEmpty { bytes, positions }
     }
 
-    /// Begins a state, which is dead so far.
+    /// Begins a state, which is the dead state so far.
     pub fn into_matches(self) -> Result<StateBuilderMatches, AllocError>
         ensures { IfOk result (λ builder. builder ≡ dead) }
     {

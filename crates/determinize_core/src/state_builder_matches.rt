@@ -22,7 +22,7 @@ use std::marker::Model;
 #[derive(Drop)]
 pub struct StateBuilderMatches {
     bytes: Vec<u8>,
-    // Where each listed pattern stands, but for the first one.
+    // The position of each listed pattern except the first one.
     positions: Positions,
 }
 
@@ -48,7 +48,7 @@ impl StateBuilderMatches {
         StateBuilderMatches { bytes, positions }
     }
 
-    /// Goes on to the states of the NFA.
+    /// Continues with the states of the NFA.
     pub fn into_nfa(self) -> StateBuilderNFA
         ensures { result ≡ self }
     {
@@ -61,21 +61,21 @@ impl StateBuilderMatches {
         StateBuilderNFA::from_bytes(bytes, self.positions)
     }
 
-    /// Notes that the byte before the place is a word byte.
+    /// Records that the byte before the offset is a word byte.
     pub fn set_is_from_word(&mut self)
         ensures { self.new ≡ record self.old { is_from_word = true } }
     {
         set_flag(&mut self.bytes, FROM_WORD);
     }
 
-    /// Notes that the place is inside what may be a CRLF.
+    /// Records that the offset is inside what may be a CRLF.
     pub fn set_is_half_crlf(&mut self)
         ensures { self.new ≡ record self.old { is_half_crlf = true } }
     {
         set_flag(&mut self.bytes, HALF_CRLF);
     }
 
-    /// The looks that are known to hold at the place.
+    /// The looks that are known to hold at the offset.
     pub fn look_have(&self) -> LookSet
         ensures { result ≡ self.now.look_have }
     {
@@ -111,7 +111,7 @@ impl StateBuilderMatches {
         has_flag(&self.bytes, MATCHES) && pid == PatternID::ZERO
     }
 
-    /// Whether the pattern is one of those that are listed: it is the first one, or stands where it was noted.
+    /// Whether the pattern is one of those that are listed: it is the first one, or is at the position that was recorded.
     fn lists(&self, pid: PatternID) -> bool
         requires { is_listed self.now.matches ≡ true }
         ensures { result ≡ list_any (nat_eq pid) self.now.matches }
@@ -140,9 +140,10 @@ impl StateBuilderMatches {
         if has_flag(&self.bytes, MATCHES) { 1 } else { 0 }
     }
 
-    /// Adds a pattern that matches, behind the others, or leaves all as it is where there is no memory. A second pattern
-    /// and each later one takes four bytes for each number up to its own, once for all states that are built one by one;
-    /// pattern 0 as the first one takes none.
+    /// Adds a pattern that matches, after the others. If an allocation fails, everything stays as it was.
+    ///
+    /// A second pattern and each later one take four bytes for each number up to their own. They take these once for all states that are
+    /// built one by one. Pattern 0 as the first pattern takes none.
     pub fn add_match_pattern_id(&mut self, pid: PatternID) -> Result<(), AllocError>
         requires { list_any (nat_eq pid) self.old.matches ≡ false }
         ensures ok { OnOk result (self.new ≡ record self.old { matches = self.old.matches ++ pid ∷ [] }) }
@@ -156,7 +157,7 @@ impl StateBuilderMatches {
     }
 }
 
-/// Adds a pattern to the bytes of a state, behind the others, or leaves them as they are where there is no memory.
+/// Adds a pattern to the bytes of a state, after the others. If an allocation fails, the bytes stay as they were.
 #[tactic(auto, using(crate::proofs::AddLemmas::not_listed, crate::proofs::AddLemmas::not_matching))]
 fn add_pattern(bytes: &mut Vec<u8>, pid: PatternID) -> Result<(), AllocError>
     requires form { IsUnfinished bytes.old.items }

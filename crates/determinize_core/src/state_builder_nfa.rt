@@ -65,15 +65,15 @@ impl StateBuilderNFA {
         Ok(state)
     }
 
-    /// Drops what was built, and keeps the memory: the next state has room for at least as many bytes as this one took. As every
-    /// empty builder, it begins with the dead state.
+    /// Drops what was built, and keeps the memory: the next state has room for at least as many bytes as this one took. Like every empty
+    /// builder, it begins with the dead state.
     pub fn clear(self) -> StateBuilderEmpty
         ensures { length (encoded self) ≤ result }
     {
         StateBuilderEmpty::from_bytes(self.bytes, self.positions)
     }
 
-    /// The looks that are known to hold at the place.
+    /// The looks that are known to hold at the offset.
     pub fn look_have(&self) -> LookSet
         ensures { result ≡ self.now.look_have }
     {
@@ -119,7 +119,7 @@ impl StateBuilderNFA {
         write_number(&mut self.bytes, 5, looks.bits());
     }
 
-    /// Adds a state of the NFA behind the others, or leaves all as it is where there is no memory.
+    /// Adds a state of the NFA after the others. If an allocation fails, everything stays as it was.
     #[inline(always)]
     pub fn add_nfa_state_id(&mut self, id: StateID) -> Result<(), AllocError>
         ensures ok { OnOk result (self.new ≡ record self.old { ids = self.old.ids ++ id ∷ [] }) }

@@ -1,4 +1,4 @@
-//! What the bytes of a state say at a place.
+//! What the bytes of a state say at an offset.
 
 ghost use Rattle.std.specs.Prelude.{◌≡◌, ◌<◌, ◌≤◌, ◌+◌, length, slice_index, ◌++◌, ◌%◌, take, drop, slice_set, OnOk, OnErr};
 ghost use Rattle.determinize_core.specs.StateBytes.{has_flag, number_at, ids_start, IsEncoded, in_four_bytes, groups};
@@ -6,11 +6,11 @@ ghost use Rattle.std.specs.Int.Bits.{bit_or};
 
 use std::alloc::AllocError;
 
-/// Set where a pattern matches.
+/// Set if a pattern matches.
 pub(crate) const MATCHES: u8 = 1;
-/// Set where the patterns are listed.
+/// Set if the patterns are listed.
 pub(crate) const LISTED: u8 = 2;
-/// Set where the byte before is a word byte.
+/// Set if the byte before is a word byte.
 pub(crate) const FROM_WORD: u8 = 4;
 /// Set at the half of a CRLF.
 pub(crate) const HALF_CRLF: u8 = 8;
@@ -23,7 +23,7 @@ pub(crate) fn has_flag(bytes: &[u8], flag: u8) -> bool
     bytes[0] & flag != 0
 }
 
-/// The number in four bytes from a place on.
+/// The number in four bytes from an offset on.
 pub(crate) fn number_at(bytes: &[u8], at: usize) -> u32
     requires { at + 4 ≤ length bytes.now }
     ensures { result ≡ number_at at bytes.now }
@@ -62,7 +62,7 @@ pub(crate) fn write_number(bytes: &mut Vec<u8>, at: usize, number: u32)
     bytes[at..at + 4].copy_from_slice(&number.to_le_bytes());
 }
 
-/// Adds a number in four bytes, or leaves the bytes as they are where there is no memory.
+/// Adds a number in four bytes. If an allocation fails, the bytes stay as they were.
 pub(crate) fn push_number(bytes: &mut Vec<u8>, number: u32) -> Result<(), AllocError>
     ensures ok { OnOk result (bytes.new.items ≡ bytes.old.items ++ in_four_bytes number) }
     ensures err { OnErr result (bytes.new.items ≡ bytes.old.items) }
@@ -70,7 +70,7 @@ pub(crate) fn push_number(bytes: &mut Vec<u8>, number: u32) -> Result<(), AllocE
     bytes.extend_from_slice(&number.to_le_bytes())
 }
 
-/// The same with a 0 in four bytes in front of it.
+/// Adds a 0 in four bytes and then a number in four bytes. If an allocation fails, the bytes stay as they were.
 pub(crate) fn push_behind_four(bytes: &mut Vec<u8>, number: u32) -> Result<(), AllocError>
     ensures ok { OnOk result (bytes.new.items ≡ bytes.old.items ++ (in_four_bytes 0 ++ in_four_bytes number)) }
     ensures err { OnErr result (bytes.new.items ≡ bytes.old.items) }
@@ -79,7 +79,7 @@ pub(crate) fn push_behind_four(bytes: &mut Vec<u8>, number: u32) -> Result<(), A
     bytes.extend_from_slice(&[0, 0, 0, 0, a, b, c, d])
 }
 
-/// The same with two of them.
+/// Adds two 0s in four bytes each and then a number in four bytes. If an allocation fails, the bytes stay as they were.
 pub(crate) fn push_behind_eight(bytes: &mut Vec<u8>, number: u32) -> Result<(), AllocError>
     ensures ok { OnOk result (bytes.new.items ≡ bytes.old.items ++ (in_four_bytes 0 ++ (in_four_bytes 0 ++ in_four_bytes number))) }
     ensures err { OnErr result (bytes.new.items ≡ bytes.old.items) }
@@ -88,7 +88,7 @@ pub(crate) fn push_behind_eight(bytes: &mut Vec<u8>, number: u32) -> Result<(), 
     bytes.extend_from_slice(&[0, 0, 0, 0, 0, 0, 0, 0, a, b, c, d])
 }
 
-/// Adds a number in groups of seven bits, or leaves the bytes as they are where there is no memory. Most numbers have one.
+/// Adds a number in groups of seven bits. If an allocation fails, the bytes stay as they were. Most numbers have one group.
 #[inline(always)]
 pub(crate) fn push_groups(bytes: &mut Vec<u8>, number: u32) -> Result<(), AllocError>
     ensures ok { OnOk result (bytes.new.items ≡ bytes.old.items ++ groups 4 number) }
@@ -102,7 +102,7 @@ pub(crate) fn push_groups(bytes: &mut Vec<u8>, number: u32) -> Result<(), AllocE
     Ok(())
 }
 
-/// The same of a number that has more than one group.
+/// Adds a number that has more than one group, in groups of seven bits. If an allocation fails, the bytes stay as they were.
 #[inline(never)]
 fn push_more_groups(bytes: &mut Vec<u8>, number: u32) -> Result<(), AllocError>
     requires { 128 ≤ number }

@@ -13,7 +13,7 @@ const LAST_WEIGHT: u64 = 268_435_456;
 #[derive(Drop)]
 pub struct StateIds<'a> {
     bytes: &'a [u8],
-    // The state before, from which the next one is told by its difference.
+    // The state before. The next one is stored as its difference from this one.
     previous: StateID,
 }
 
@@ -40,7 +40,7 @@ impl<'a> StateIds<'a> {
         }
     }
 
-    /// Those that are left, once more.
+    /// The states that are left, once more.
     pub(crate) fn rest(&self) -> StateIds<'a>
         ensures { result ≡ self.now }
     {
@@ -50,7 +50,7 @@ impl<'a> StateIds<'a> {
         }
     }
 
-    /// The next one, of which the difference may have several groups.
+    /// The next state, whose difference may have several groups.
     fn next_of_groups(&mut self) -> Option<StateID>
         ensures { YieldsFirst (λ rest. rest) self.old result self.new }
     {

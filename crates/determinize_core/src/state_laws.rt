@@ -16,15 +16,14 @@ pub fn bytes_stand_for_states()
     ensures apart { (v w : StateValue) → IsState v → IsState w → encoded v ≡ encoded w → v ≡ w }
 {}
 
-/// Two states are the same exactly where their bytes are, and where the test of a map that keeps states by their bytes
-/// says so.
+/// Two states are equal exactly if their bytes are equal, and exactly if the test of a map that keeps states by their bytes says so.
 pub fn states_are_told_by_their_bytes()
     ensures bytes { (v w : StateValue) → IsState v → IsState w → (encoded v ≡ encoded w) ↔ (v ≡ w) }
     ensures test { (v w : StateValue) → IsState v → IsState w → (has_same_bytes v w ≡ true) ↔ (v ≡ w) }
     ensures itself { (v : StateValue) → has_same_bytes v v ≡ true }
 {}
 
-/// A state has at most thirteen bytes, four for each pattern that matches, and five for each state of the NFA.
+/// A state has at most thirteen bytes, and in addition four for each pattern that matches and five for each state of the NFA.
 pub fn states_are_short()
     ensures { (v : StateValue) → length (encoded v) ≤ 13 + 4 * length v.matches + 5 * length v.ids }
 {}

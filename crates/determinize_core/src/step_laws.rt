@@ -18,22 +18,21 @@ ghost use Rattle.determinize_core.specs.States.{StateValue, IsState, dead};
 ghost use Rattle.determinize_core.specs.Steps.{step_value, start_value};
 ghost use Rattle.determinize_core.specs.declared.start.Start.{Start};
 
-/// From the dead state each step leads to the dead state, and a step that comes to no match and no state of the automaton
-/// leads to it as well.
+/// From the dead state, each step leads to the dead state. A step that reaches no match and no state of the automaton leads to it as well.
 pub fn dead_states_stay_dead()
     ensures dead { (a : Automaton) (t : Terminator) (kind : MatchKind) (u : Option ℕ) → step_value a t kind dead u ≡ dead }
     ensures none { (a : Automaton) (t : Terminator) (kind : MatchKind) (v : StateValue) (u : Option ℕ) →
         (step_value a t kind v u).matches ≡ [] → (step_value a t kind v u).ids ≡ [] → step_value a t kind v u ≡ dead }
 {}
 
-/// A state in which a search starts lists no match, and under leftmost-first a step lists one at most.
+/// A state in which a search starts lists no match. Under leftmost-first, a step lists at most one.
 pub fn steps_list_few_matches()
     ensures start { (a : Automaton) (t : Terminator) (s : Start) (q : ℕ) → (start_value a t s q).matches ≡ [] }
     ensures leftmost { (a : Automaton) (t : Terminator) (v : StateValue) (u : Option ℕ) →
         length (step_value a t LeftmostFirst v u).matches ≤ 1 }
 {}
 
-/// A step may be made from what starts and steps come to: their states are those of the automaton, none twice.
+/// A step may be made from what starts and steps lead to: their states are those of the automaton, none twice.
 pub fn steps_come_to_states_of_the_automaton()
     ensures below { (a : Automaton) (t : Terminator) (kind : MatchKind) (v : StateValue) (u : Option ℕ) → IsWellFormed a →
         All (λ q. q < length a.states) (step_value a t kind v u).ids }
@@ -44,7 +43,7 @@ pub fn steps_come_to_states_of_the_automaton()
     ensures start_once { (a : Automaton) (t : Terminator) (s : Start) (q : ℕ) → IsDistinct nat_eq (start_value a t s q).ids }
 {}
 
-/// What starts and steps come to is a state.
+/// What starts and steps lead to is a state.
 pub fn steps_come_to_states()
     ensures step { (a : Automaton) (t : Terminator) (kind : MatchKind) (v : StateValue) (u : Option ℕ) → IsSound a →
         IsState (step_value a t kind v u) }

@@ -1,4 +1,4 @@
-//! Laws of the states that starts and steps come to. The contract of each function is the law; they have no code.
+//! Laws of the states that starts and steps lead to. The contract of each function is the law; they have no code.
 //! ```rust
 //! pub fn states_are_narrow()
 //!     ensures { (a : Automaton) (v : StateValue) → IsStepped a v → length (encoded v) ≤ widest a }
@@ -17,8 +17,8 @@ ghost use Rattle.determinize_core.specs.Stepped.{IsStepped, widest};
 ghost use Rattle.determinize_core.specs.Steps.{step_value, start_value};
 ghost use Rattle.determinize_core.specs.declared.start.Start.{Start};
 
-/// What starts and steps come to is made of the automaton's states, patterns and looks, none twice, and so is the dead
-/// state. So a step may be made from it.
+/// What starts and steps lead to is made of the automaton's states, patterns and looks, none twice, and so is the dead state. So a step may
+/// be made from it.
 pub fn starts_and_steps_are_stepped()
     ensures step { (a : Automaton) (t : Terminator) (kind : MatchKind) (v : StateValue) (u : Option ℕ) → IsSound a →
         IsStepped a (step_value a t kind v u) }
@@ -27,7 +27,8 @@ pub fn starts_and_steps_are_stepped()
     ensures dead { (a : Automaton) → IsStepped a dead }
 {}
 
-/// Such a state has at most thirteen bytes, four for each pattern of the automaton and five for each of its states.
+/// A state that starts and steps lead to has at most thirteen bytes, and in addition four for each pattern of the automaton and five for
+/// each of its states.
 pub fn stepped_states_are_short()
     ensures { (a : Automaton) (v : StateValue) → IsStepped a v → length (encoded v) ≤ widest a }
 {}

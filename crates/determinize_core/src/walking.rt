@@ -21,10 +21,12 @@ use std::alloc::{AllocError, Global};
 use std::marker::Brand;
 use std::sync::ledger::{Blank, Ledger};
 
-/// The states of a walk over bytes in the order in which they are read: the one in which it starts from a state of the
-/// automaton, by the byte behind its first place, the one behind each byte, and the one behind the end of the
-/// input. It is refused where memory lacks. [`walks_list_what_runs_find`](crate::walk_theorem::walks_list_what_runs_find)
-/// says what these states tell.
+/// The sequence of states over bytes, which come in the order in which they are read. The first state is the one in which a search starts
+/// from a state of the automaton, with the given byte just before. Then come the state after each byte, and the state after the end of the
+/// input.
+///
+/// Returns an error if an allocation fails. [`walks_list_what_runs_find`](crate::walk_theorem::walks_list_what_runs_find) says what these
+/// states list.
 pub fn walk(
     alloc: Global,
     nfa: &NFA,
@@ -40,7 +42,7 @@ pub fn walk(
     walk_counted::<Brand>(alloc, nfa, kind, start, look_behind, bytes, Blank::new(1))
 }
 
-/// The same, and counts the steps.
+/// Returns what [`walk`] returns, and counts the steps.
 fn walk_counted<L: Ledger>(
     alloc: Global,
     nfa: &NFA,
@@ -74,8 +76,8 @@ fn walk_counted<L: Ledger>(
     states
 }
 
-/// The same with sets for the states of the automaton, which keep their bounds. It counts the steps: those of the start
-/// and of one step for each byte and the end, at most, also where it is refused.
+/// Returns what [`walk`] returns, with the given sets for the states of the automaton, which keep their bounds. It counts the steps, also
+/// if it fails: at most those of the start and of one step for each byte and the end.
 pub fn walk_with<S: NameSet, L: Ledger>(
     alloc: Global,
     nfa: &NFA,
@@ -111,7 +113,7 @@ pub fn walk_with<S: NameSet, L: Ledger>(
     Ok(states)
 }
 
-/// The state in which a walk starts.
+/// The state with which a sequence starts.
 fn first_state<S: NameSet, L: Ledger>(
     alloc: Global,
     nfa: &NFA,
@@ -137,7 +139,7 @@ fn first_state<S: NameSet, L: Ledger>(
     Ok(first)
 }
 
-/// The states of a walk over bytes from a state.
+/// The sequence of states over bytes from a state.
 fn walk_from<S: NameSet, L: Ledger>(
     alloc: Global,
     nfa: &NFA,
@@ -174,7 +176,7 @@ fn walk_from<S: NameSet, L: Ledger>(
     Ok(states)
 }
 
-/// Puts the states of a walk over bytes from a state behind others.
+/// Appends the sequence of states over bytes from a state to others.
 fn walk_on<S: NameSet, L: Ledger>(
     alloc: Global,
     nfa: &NFA,
@@ -211,7 +213,7 @@ fn walk_on<S: NameSet, L: Ledger>(
     Ok(())
 }
 
-/// Puts a state behind others, and answers the one behind a unit.
+/// Appends a state to others, and returns the state that follows it by a unit.
 fn step_on<S: NameSet, L: Ledger>(
     alloc: Global,
     nfa: &NFA,
@@ -235,13 +237,13 @@ fn step_on<S: NameSet, L: Ledger>(
     ensures bound2 { S.bound sets.new.set2 ≡ length nfa.now.automaton.states }
     ensures cost { steps.new ≤ steps.old + 3 * length nfa.now.automaton.states + 2 * free_ways nfa.now.automaton }
 {
-    let behind = state_behind(alloc, nfa, kind, sets, stack, &last, unit, steps)?;
+    let behind = state_after(alloc, nfa, kind, sets, stack, &last, unit, steps)?;
     states.push(last)?;
     Ok(behind)
 }
 
-/// The state behind a unit.
-fn state_behind<S: NameSet, L: Ledger>(
+/// The state after a unit.
+fn state_after<S: NameSet, L: Ledger>(
     alloc: Global,
     nfa: &NFA,
     kind: MatchKind,
@@ -268,7 +270,7 @@ fn state_behind<S: NameSet, L: Ledger>(
     Ok(behind)
 }
 
-/// The start where this byte stands before the place, if one does.
+/// The start if this byte, or none, comes before the offset.
 fn start_behind(nfa: &NFA, look_behind: Option<u8>) -> Start
     ensures { result ≡ start_of nfa.now.terminator look_behind }
 {

@@ -19,9 +19,8 @@ use std::marker::Model;
 use std::mem;
 use std::sync::ledger::Ledger;
 
-/// What steps need beside an automaton, for one step after the other: the two sets, the stack and the memory of
-/// the builder. The Rust crate has these in the cache of its lazy automaton. A contract sees for how many states
-/// of an automaton it has room.
+/// What steps need in addition to an automaton, for one step after the other: the two sets, the stack and the memory of the builder. The
+/// Rust crate has these in the cache of its lazy automaton. A contract sees for how many states of an automaton it has room.
 #[derive(Drop)]
 pub struct Workspace {
     alloc: Global,
@@ -41,7 +40,7 @@ impl Model for Workspace {
 }
 
 impl Workspace {
-    /// Room for automata of so many states. It is refused where memory lacks.
+    /// Room for automata of so many states. Returns an error if an allocation fails.
     pub fn new(alloc: Global, states: usize) -> Result<Workspace, AllocError>
         requires { states ≤ greatest_index + 1 }
         ensures { IfOk result (λ work. work ≡ states) }
@@ -62,8 +61,8 @@ impl Workspace {
     }
 }
 
-/// The state behind a unit, as [`next`](crate::next) makes it, in a workspace that has room for the automaton's
-/// states. It is refused where memory lacks; the workspace may be used on.
+/// The state after a unit, as [`next`](crate::next) makes it, in a workspace that has room for the automaton's states. If an allocation
+/// fails, the call returns an error, and the workspace remains usable.
 pub fn next_in<L: Ledger>(
     nfa: &NFA,
     kind: MatchKind,
@@ -98,8 +97,8 @@ pub fn next_in<L: Ledger>(
     Ok(behind)
 }
 
-/// The state in which a search starts from a state of the automaton, as [`start_state`](crate::start_state) makes it, in
-/// a workspace that has room for the automaton's states. It is refused where memory lacks; the workspace may be used on.
+/// The state in which a search starts from a state of the automaton, as [`start_state`](crate::start_state) makes it, in a workspace that
+/// has room for the automaton's states. If an allocation fails, the call returns an error, and the workspace remains usable.
 pub fn start_in<L: Ledger>(
     nfa: &NFA,
     start: Start,

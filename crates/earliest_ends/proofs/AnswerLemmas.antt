@@ -15,17 +15,17 @@ use Rattle.lazy_dfa.specs.Building.{built}
 use Rattle.lazy_dfa.specs.Caches.{CacheValue}
 use Rattle.lazy_dfa.specs.ConfigValue.{changed_dfa_options, clears_of}
 use Rattle.lazy_dfa.specs.Dfas.{Dfa, reader}
-use Rattle.lazy_dfa.specs.Linked.{passes_of}
+use Rattle.lazy_dfa.specs.Linked.{scans_of}
 use Rattle.lazy_dfa.specs.Readers.{HalfAnswer, found, quit, unsupported}
-use Rattle.lazy_dfa.specs.Scans.{scan}
-use Rattle.lazy_dfa.specs.SearchAnswers.{Answers, half_of, told}
+use Rattle.lazy_dfa.specs.HalfSearches.{half_search}
+use Rattle.lazy_dfa.specs.SearchAnswers.{Answers, half_of, reported}
 use Rattle.lazy_dfa.proofs.ForCallers.{never_among, scan_quits_near}
 use Rattle.regex_pair.specs.Pairs.{Pair, back_options}
 use Rattle.hirscan.specs.declared.settings.Settings.{Settings}
 use Rattle.hirscan.specs.Built.{IsBuilt, quit_bytes_for}
 use Rattle.hirscan.specs.Regexes.{IsRegexOf}
 use Rattle.hirscan.proofs.ForCallers.{both_built, dfa_is}
-use Rattle.earliest_ends.specs.Earliest.{IsEarliest, IsEarliestEnd, IsRefusal, earliest_search, looks_by}
+use Rattle.earliest_ends.specs.Earliest.{IsEarliest, IsEarliestEnd, IsEarliestError, earliest_search, looks_by}
 use Rattle.earliest_ends.proofs.SpanLemmas.{found_is_earliest, quit_is_before, never_unsupported}
 
 -- ---- answers, by their kinds
@@ -48,19 +48,20 @@ same_error : (e v : MatchErrorKind) → err_half e ≡ err_half v → e ≡ v
 same_error e v is = cc
 
 -- the search over values found it
-found_of : (a : HalfAnswer) (o : Option HalfFound) → ok_half o ≡ told a → (u : Option (ℕ × ℕ)) × (a ≡ found u) × (o ≡ half_of u)
+found_of : (a : HalfAnswer) (o : Option HalfFound) → ok_half o ≡ reported a → (u : Option (ℕ × ℕ)) × (a ≡ found u) × (o ≡ half_of u)
 found_of (found u) o is = (u, refl, same_half o (half_of u) is)
 found_of (quit b x) o is = absurd (ok_is_no_refusal o (Quit b x) is)
 found_of (unsupported mode) o is = absurd (ok_is_no_refusal o (UnsupportedAnchored mode) is)
 
 -- or it met a quit byte, or can't search in the mode
-refused_of : (a : HalfAnswer) (e : MatchErrorKind) → err_half e ≡ told a →
+refused_of : (a : HalfAnswer) (e : MatchErrorKind) → err_half e ≡ reported a →
     ((b : ℕ) × (x : ℕ) × (a ≡ quit b x) × (e ≡ Quit b x)) ⊎ ((mode : Anchored) × (a ≡ unsupported mode))
 refused_of (found u) e is = absurd (ok_is_no_refusal (half_of u) e (sym is))
 refused_of (quit b x) e is = inl (b, x, refl, same_error e (Quit b x) is)
 refused_of (unsupported mode) e is = inr (mode, refl)
 
-told_by_scan : (d : Dfa) (v : CacheValue) (q : Search) (o : Option HalfFound) → Answers d v q (Ok o) → ok_half o ≡ told (scan (reader d) q)
+told_by_scan : (d : Dfa) (v : CacheValue) (q : Search) (o : Option HalfFound) → Answers d v q (Ok o) →
+    ok_half o ≡ reported (half_search (reader d) q)
 told_by_scan d v q o (inl there) = there
 told_by_scan d v q o (inr (inl lacks)) = absurd (ok_is_no_refusal o NoMemory lacks)
 told_by_scan d v q o (inr (inr gave)) = absurd (ok_is_no_refusal o (GaveUp gave.0) gave.1)
@@ -80,16 +81,16 @@ module _ (xs : List Tree) (s : Settings) (p : Pair) (made : IsBuilt xs s p) (reg
 
   pub found_by_call : (o : Option HalfFound) → Answers p.forward v q (Ok o) → IsEarliest xs (looks_by words s h) h at (length h) o
   found_by_call o answers =
-      let there = found_of (scan (reader p.forward) q) o (told_by_scan p.forward v q o answers) in
+      let there = found_of (half_search (reader p.forward) q) o (told_by_scan p.forward v q o answers) in
       let P : Option HalfFound → Type 0 = λ u. IsEarliest xs (looks_by words s h) h at (length h) u in
       subst P (sym there.2) (found_is_earliest xs s.line_terminator p regex h bytes words set at (length h) (omega arith) there.0 there.1)
 
-  -- what the search over values refuses
-  refused_by_scan : (e : MatchErrorKind) → err_half e ≡ told (scan (reader p.forward) q) → IsRefusal words xs s h at e
-  refused_by_scan e is = elim (refused_of (scan (reader p.forward) q) e is) [
+  -- the errors of the search over values
+  refused_by_scan : (e : MatchErrorKind) → err_half e ≡ reported (half_search (reader p.forward) q) → IsEarliestError words xs s h at e
+  refused_by_scan e is = elim (refused_of (half_search (reader p.forward) q) e is) [
     | inl met ↦
         let near = scan_quits_near (reader p.forward) q met.0 met.1 met.2 in
-        let P : MatchErrorKind → Type 0 = λ k. IsRefusal words xs s h at k in
+        let P : MatchErrorKind → Type 0 = λ k. IsEarliestError words xs s h at k in
         subst P (sym met.3) (
           record {
             stands = near.0;
@@ -102,14 +103,14 @@ module _ (xs : List Tree) (s : Settings) (p : Pair) (made : IsBuilt xs s p) (reg
     | inr never ↦ absurd (never_unsupported (reader p.forward) h at (length h) never.0 never.1)
   ]
 
-  pub refused_by_call : (e : MatchErrorKind) → Answers p.forward v q (Err e) → IsRefusal words xs s h at e
+  pub refused_by_call : (e : MatchErrorKind) → Answers p.forward v q (Err e) → IsEarliestError words xs s h at e
   refused_by_call e (inl there) = refused_by_scan e there
   refused_by_call e (inr (inl lacks)) =
-      let P : MatchErrorKind → Type 0 = λ k. IsRefusal words xs s h at k in subst P (sym (same_error e NoMemory lacks)) tt
+      let P : MatchErrorKind → Type 0 = λ k. IsEarliestError words xs s h at k in subst P (sym (same_error e NoMemory lacks)) tt
   refused_by_call e (inr (inr gave)) =
-      let P : MatchErrorKind → Type 0 = λ k. IsRefusal words xs s h at k in
+      let P : MatchErrorKind → Type 0 = λ k. IsEarliestError words xs s h at k in
       subst P (sym (same_error e (GaveUp gave.0) gave.1))
-      (λ none. never_among p.forward v (forward_clears xs s p made none) q gave.0 (passes_of (reader p.forward) q) gave.2)
+      (λ none. never_among p.forward v (forward_clears xs s p made none) q gave.0 (scans_of (reader p.forward) q) gave.2)
 
 -- ---- the end alone
 module _ (xs : List Tree) (s : Settings) (words : ℕ → Bool) (h : List ℕ) (at : ℕ) (o : Option HalfFound)

@@ -27,8 +27,8 @@ use Rattle.lazy_dfa.specs.ConfigValue.{by_hand, word_boundary_of}
 use Rattle.lazy_dfa.specs.Dfas.{reader}
 use Rattle.lazy_dfa.specs.Quits.{has_unicode_word}
 use Rattle.lazy_dfa.specs.Readers.{is_quit}
-use Rattle.lazy_dfa.specs.Scans.{first_place}
-use Rattle.lazy_dfa.specs.ScanLaws.{ReadsAlike}
+use Rattle.lazy_dfa.specs.HalfSearches.{first_offset}
+use Rattle.lazy_dfa.specs.HalfSearchLaws.{ReadsAlike}
 use Rattle.lazy_dfa.proofs.ForCallers.{supported_quits}
 use Rattle.regex_pair.specs.Pairs.{Pair}
 use Rattle.hirscan.specs.Regexes.{IsRegexOf}
@@ -55,7 +55,7 @@ module _ (xs : List Tree) (t : Terminator) (p : Pair) (regex : IsRegexOf xs fals
       let same : turned (reverse_of regex.forward_options) l ≡ l = ap (λ (b : Bool). turned b l) regex.reads_forward in
       (looks_are_used regex.forward_options xs p.forward.nfa regex.is_forward l).1 (k, x, listed, ap (has_look (looks_used x)) same ∙ used)
 
-  -- where the automaton has a look of words of characters, a byte above 7F is a quit byte
+  -- if the automaton has a look of words of characters, a byte above 7F is a quit byte
   high_quits : (l : Look) → has_look (looks_of a.states) l ≡ true → is_word_unicode l ≡ true → (b : ℕ) → 128 ≤ b → b < 256 →
       has p.forward.quits b ≡ true
   high_quits l there unicode b low high =
@@ -97,15 +97,15 @@ module _ (xs : List Tree) (t : Terminator) (p : Pair) (regex : IsRegexOf xs fals
           holds_ascii p.forward.nfa.terminator h l i ≡ holds words t h l i
       read_alike l there i low high = ap (λ (ends : Terminator). holds_ascii ends h l i) ends_lines ∙ words_alike l there i low high
 
-      -- the looks of states are, at the places at which the search was
-      pub reads_alike : (e : ℕ) → ReadsAlike (reader p.forward) (holds words t h) h s e (first_place a.reverse s e)
-          (end - first_place a.reverse s e)
+      -- the looks of states are, at the offsets that the search reached
+      pub reads_alike : (e : ℕ) → ReadsAlike (reader p.forward) (holds words t h) h s e (first_offset a.reverse s e)
+          (end - first_offset a.reverse s e)
       reads_alike e l k there below =
           let at = begins a.reverse s e goes_forward in
           passed_alike a.reverse p.forward.nfa.terminator (holds words t h) h s e l k goes_forward
           (read_alike l there (s + k) (omega arith) (omega (arith, at, below)))
 
-      -- and the trees' looks are, up to a place before there
+      -- and the trees' looks are, up to an offset before there
       pub trees_alike : (j : ℕ) → j < end → (k : ℕ) (x : Tree) → slice_get xs k ≡ Some x →
           AgreeFrom (holds_ascii p.forward.nfa.terminator h) (holds words t h) s j x
       trees_alike j inside k x listed l used i low high = read_alike l (used_is_there k x l listed used) i low (omega (arith, inside, high))

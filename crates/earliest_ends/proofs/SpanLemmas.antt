@@ -19,14 +19,14 @@ use Rattle.nfa_core.specs.Nfa.{Automaton}
 use Rattle.nfa_core.specs.Places.{first, same_pair}
 use Rattle.nfa_core.specs.Reaches.{read_by}
 use Rattle.nfa_core.specs.Walks.{Has}
-use Rattle.nfa_core.specs.Ways.{place_of, ends_from}
+use Rattle.nfa_core.specs.Ways.{offset_of, ends_from}
 use Rattle.nfa_core.proofs.ForCallers.{none_in, has_same, has_filter, pairs_equal}
 use Rattle.thompson_nfa.specs.Compilations.{IsPlainText, FindsSpans}
 use Rattle.lazy_dfa.specs.Dfas.{reader}
-use Rattle.lazy_dfa.specs.PassLaws.{best_at, is_past, IsNearestEnd}
+use Rattle.lazy_dfa.specs.ScanLaws.{best_at, is_past, IsNearestEnd}
 use Rattle.lazy_dfa.specs.Readers.{Reader, found, quit, unsupported}
-use Rattle.lazy_dfa.specs.Scans.{first_place, scan}
-use Rattle.lazy_dfa.specs.ScanLaws.{IsFound, IsFirstFound, IsSplitBy, IsWanted, ends_by, ends_of}
+use Rattle.lazy_dfa.specs.HalfSearches.{first_offset, half_search}
+use Rattle.lazy_dfa.specs.HalfSearchLaws.{IsFound, IsFirstFound, IsSplitBy, IsWanted, ends_by, ends_of}
 use Rattle.lazy_dfa.specs.SearchAnswers.{HasReach, half_of}
 use Rattle.lazy_dfa.proofs.ForCallers.{scan_done, scan_finds, scan_has_reach, scan_mode_told, scan_quits_near}
 use Rattle.regex_pair.specs.Pairs.{Pair}
@@ -51,8 +51,8 @@ best_has l c is =
     sym (has_filter same_pair pairs_equal (λ (x : ℕ × ℕ). nat_eq x.0 c.0) c l (eq-eqb c.0 c.0 refl))
     ∙ first_has (filter (λ (x : ℕ × ℕ). nat_eq x.0 c.0) l) c is
 
--- ---- places of one who reads forward
-at_first : (reverse : Bool) (s e : ℕ) → reverse ≡ false → place_of reverse (first_place reverse s e) 0 ≡ s
+-- ---- offsets of one who reads forward
+at_first : (reverse : Bool) (s e : ℕ) → reverse ≡ false → offset_of reverse (first_offset reverse s e) 0 ≡ s
 at_first false s e up = omega arith
 at_first true s e up = cc
 
@@ -65,7 +65,7 @@ wanted_is_nearest : (kind : MatchKind) (reverse : Bool) (ends : List (ℕ × ℕ
 wanted_is_nearest LeftmostFirst reverse ends o is = is
 wanted_is_nearest AllMatches reverse ends o is = is
 
--- where each end counts, none is one that doesn't
+-- if each end counts, none is one that doesn't
 never_split : (wanted : ℕ → Option (ℕ × ℕ) → Type 0) (r : Reader) (q : Search) (k : ℕ) → r.between_characters ≡ false →
     IsSplitBy wanted r q k → ⊥
 never_split wanted r q k off split =
@@ -77,10 +77,10 @@ module _ (wanted : ℕ → Option (ℕ × ℕ) → Type 0) (r : Reader) (q : Sea
   at_once (suc k) o below there = absurd (never_split wanted r q 0 off (below 0 (omega arith)))
 
 -- an unanchored search is one that each automaton supports
-pub never_unsupported : (r : Reader) (h : List ℕ) (s e : ℕ) (mode : Anchored) → scan r (earliest_search h s e) ≡ unsupported mode → ⊥
+pub never_unsupported : (r : Reader) (h : List ℕ) (s e : ℕ) (mode : Anchored) → half_search r (earliest_search h s e) ≡ unsupported mode → ⊥
 never_unsupported r h s e mode is =
-    let told = scan_mode_told r (earliest_search h s e) mode is in
-    let differ : true ≡ false = told.2 in grind (arith, differ)
+    let reported = scan_mode_told r (earliest_search h s e) mode is in
+    let differ : true ≡ false = reported.2 in grind (arith, differ)
 
 -- ---- spans and runs
 module _ (xs : List Tree) (t : Terminator) (p : Pair) (regex : IsRegexOf xs false t p) (h : List ℕ)
@@ -97,14 +97,14 @@ module _ (xs : List Tree) (t : Terminator) (p : Pair) (regex : IsRegexOf xs fals
   abbrev ends_in : Looks → ℕ → ℕ → List (ℕ × ℕ)
   ends_in looks s e = ends_from a (read_by looks h s e) (s, a.start_unanchored)
 
-  -- a span from the place s on starts and ends there
+  -- a span from offset s on starts and ends there
   span_inside : (looks : Looks) (s e k i j : ℕ) → IsSpanFrom xs looks h s e k i j → (i ≤ j) × (s ≤ e)
   span_inside looks s e k i j span =
       let forward = span_forward looks h span.tree i j span.means in
       let from = span.from in let within = span.within in (forward, omega (arith, forward, from, within))
 
   module _ (looks : Looks) (s e : ℕ) (read : IsPlainText (read_by looks h s e)) (l : s ≤ e) where
-    -- runs find the end of each span, and no other places
+    -- runs find the end of each span, and no other offsets
     span_is_found : (k i j : ℕ) → IsSpanFrom xs looks h s e k i j → Has same_pair (j, k) (ends_in looks s e)
     span_is_found k i j span =
         let forward = (span_inside looks s e k i j span).0 in let within = span.within in
@@ -119,7 +119,7 @@ module _ (xs : List Tree) (t : Terminator) (p : Pair) (regex : IsRegexOf xs fals
           record { tree = span.2.0; listed = span.2.1; means = whole.0; from = span.1.0; within = whole.1 },
         )
 
-  -- the same span, where looks are read alike up to its end
+  -- the same span, if looks are read alike up to its end
   span_alike : (f g : Looks) (s e k i j : ℕ) → e ≤ length h →
       ((y : ℕ) (x : Tree) → slice_get xs y ≡ Some x → AgreeFrom f g s j x) → IsSpanFrom xs f h s e k i j → IsSpanFrom xs g h s e k i j
   span_alike f g s e k i j inside agree span =
@@ -147,11 +147,11 @@ module _ (xs : List Tree) (t : Terminator) (p : Pair) (regex : IsRegexOf xs fals
     read_bytes s e inside = record { within = inside; bytes = bytes; at_start = λ i. refl; at_end = λ i. refl }
 
     -- ---- nothing is found
-    module _ (s e : ℕ) (inside : e ≤ length h) (is : scan r (earliest_search h s e) ≡ found None) where
+    module _ (s e : ℕ) (inside : e ≤ length h) (is : half_search r (earliest_search h s e) ≡ found None) where
       abbrev late : Search
       late = with_earliest false (earliest_search h s e)
 
-      late_is : scan r late ≡ found None
+      late_is : half_search r late ≡ found None
       late_is = none_scan r h (all_count xs t p regex) s e is
 
       late_first : s ≤ e → IsFirstFound r late by_words a.start_unanchored None
@@ -177,7 +177,7 @@ module _ (xs : List Tree) (t : Terminator) (p : Pair) (regex : IsRegexOf xs fals
           (span_is_found by_words s e (read_words s e inside) l k i j span)
 
     -- ---- a quit byte
-    pub quit_is_before : (s e : ℕ) → e ≤ length h → (b x : ℕ) → scan r (earliest_search h s e) ≡ quit b x →
+    pub quit_is_before : (s e : ℕ) → e ≤ length h → (b x : ℕ) → half_search r (earliest_search h s e) ≡ quit b x →
         NoneEndsBefore xs by_words h s e x
     quit_is_before s e inside b x is k i j span = elim (cases_lt j x) [
       | inr after ↦ after
@@ -198,7 +198,7 @@ module _ (xs : List Tree) (t : Terminator) (p : Pair) (regex : IsRegexOf xs fals
     ]
 
     -- ---- an end is found
-    module _ (s e : ℕ) (inside : e ≤ length h) (c : ℕ × ℕ) (is : scan r (earliest_search h s e) ≡ found (Some c)) where
+    module _ (s e : ℕ) (inside : e ≤ length h) (c : ℕ × ℕ) (is : half_search r (earliest_search h s e) ≡ found (Some c)) where
       abbrev q : Search
       q = earliest_search h s e
 
@@ -255,7 +255,7 @@ module _ (xs : List Tree) (t : Terminator) (p : Pair) (regex : IsRegexOf xs fals
           }
 
     -- ---- what is found
-    pub found_is_earliest : (s e : ℕ) → e ≤ length h → (o : Option (ℕ × ℕ)) → scan r (earliest_search h s e) ≡ found o →
+    pub found_is_earliest : (s e : ℕ) → e ≤ length h → (o : Option (ℕ × ℕ)) → half_search r (earliest_search h s e) ≡ found o →
         IsEarliest xs by_words h s e (half_of o)
     found_is_earliest s e inside None is = none_is_meant s e inside is
     found_is_earliest s e inside (Some c) is = end_is_least s e inside c is

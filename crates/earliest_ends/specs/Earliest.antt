@@ -1,4 +1,5 @@
--- The least end of the spans that trees mean from a place on, and what a search forward for the earliest end tells of them.
+-- The least end of the spans that trees match from an offset on, and what the result of a search forward for the earliest end says
+-- about them.
 use Rattle.std.specs.Prelude.{◌≡◌, ℕ, ◌≤◌, Bool, true, List, length, slice_get, Option, Some, None, ⊤}
 use Rattle.look_core.specs.Looks.{holds}
 use Rattle.hir_core.specs.Means.{Looks, Means}
@@ -12,10 +13,10 @@ use Rattle.search_types.specs.Inputs.{Search}
 use Rattle.lazy_dfa.specs.ConfigValue.{clears_of}
 use Rattle.hirscan.specs.declared.settings.Settings.{Settings}
 use Rattle.hirscan.specs.Built.{quit_bytes_for}
-use Rattle.hirscan.specs.Headline.{IsQuitBeside}
+use Rattle.hirscan.specs.Headline.{IsQuitNextTo}
 
--- The tree with the number p means the span from i to j of the haystack, where looks are read so. It starts at the place s or further
--- on, and ends at e or before that.
+-- The tree with the number p matches the span from i to j of the haystack, with looks read so. The span starts at the offset s or
+-- later, and ends at e or before.
 pub record IsSpanFrom (xs : List Tree) (looks : Looks) (h : List ℕ) (s e p i j : ℕ) : Type 0 where
   pub tree : Tree
   pub listed : slice_get xs p ≡ Some tree
@@ -23,11 +24,11 @@ pub record IsSpanFrom (xs : List Tree) (looks : Looks) (h : List ℕ) (s e p i j
   pub from : s ≤ i
   pub within : j ≤ e
 
--- no tree means such a span
+-- no tree matches such a span
 abbrev pub HasNoSpan : List Tree → Looks → List ℕ → ℕ → ℕ → Type 0
 HasNoSpan xs looks h s e = (p i j : ℕ) → IsSpanFrom xs looks h s e p i j → ⊥
 
--- none of them ends before the place x
+-- none of them ends before the offset x
 abbrev pub NoneEndsBefore : List Tree → Looks → List ℕ → ℕ → ℕ → ℕ → Type 0
 NoneEndsBefore xs looks h s e x = (p i j : ℕ) → IsSpanFrom xs looks h s e p i j → x ≤ j
 
@@ -42,12 +43,12 @@ abbrev pub IsEarliest : List Tree → Looks → List ℕ → ℕ → ℕ → Opt
 IsEarliest xs looks h s e None = HasNoSpan xs looks h s e
 IsEarliest xs looks h s e (Some f) = IsLeastEnd xs looks h s e f.pattern f.offset
 
--- the same of the end alone
+-- the least end alone, or there is none
 abbrev pub IsEarliestEnd : List Tree → Looks → List ℕ → ℕ → ℕ → Option ℕ → Type 0
 IsEarliestEnd xs looks h s e None = HasNoSpan xs looks h s e
 IsEarliestEnd xs looks h s e (Some x) = (p : ℕ) × IsLeastEnd xs looks h s e p x
 
--- a search of the haystack from the place s to e that may start anywhere, and for which the first end that is met is enough
+-- a search of the haystack from the offset s to e that may start anywhere, and that may stop at the first end that it finds
 abbrev pub earliest_search : List ℕ → ℕ → ℕ → Search
 earliest_search h s e = record { haystack = h; start = s; end = e; anchored = No; earliest = true }
 
@@ -56,13 +57,14 @@ earliest_search h s e = record { haystack = h; start = s; end = e; anchored = No
 abbrev pub looks_by : (ℕ → Bool) → Settings → List ℕ → Looks
 looks_by words s h = holds words s.line_terminator h
 
--- What a refusal tells of a search from the place `at` to the haystack's end. At a quit byte, which stands there, no span that
--- starts at `at` or further on has ended before. Else memory lacked; or it gave up, which is never where no number of clears is set.
-abbrev pub IsRefusal : (ℕ → Bool) → List Tree → Settings → List ℕ → ℕ → MatchErrorKind → Type 0
-IsRefusal words xs s h at (Quit b x) =
-    IsQuitBeside (quit_bytes_for xs s.dfa) (earliest_search h at (length h)) b x × NoneEndsBefore xs (looks_by words s h) h at (length h) x
-IsRefusal words xs s h at (GaveUp x) = clears_of s.dfa ≡ None → ⊥
-IsRefusal words xs s h at NoMemory = ⊤
-IsRefusal words xs s h at (HaystackTooLong n) = ⊥
-IsRefusal words xs s h at (UnsupportedAnchored mode) = ⊥
-IsRefusal words xs s h at NotAPair = ⊥
+-- What an error says about a search from the offset `at` to the haystack's end. If the error is a quit byte, that byte is in or next
+-- to the span, and no span that starts at `at` or later has ended before it. Otherwise the search is out of memory, or it gave up. It
+-- never gives up if no minimum number of clears is set.
+abbrev pub IsEarliestError : (ℕ → Bool) → List Tree → Settings → List ℕ → ℕ → MatchErrorKind → Type 0
+IsEarliestError words xs s h at (Quit b x) =
+    IsQuitNextTo (quit_bytes_for xs s.dfa) (earliest_search h at (length h)) b x × NoneEndsBefore xs (looks_by words s h) h at (length h) x
+IsEarliestError words xs s h at (GaveUp x) = clears_of s.dfa ≡ None → ⊥
+IsEarliestError words xs s h at NoMemory = ⊤
+IsEarliestError words xs s h at (HaystackTooLong n) = ⊥
+IsEarliestError words xs s h at (UnsupportedAnchored mode) = ⊥
+IsEarliestError words xs s h at NotAPair = ⊥

@@ -6,21 +6,21 @@ ghost use Rattle.lazy_dfa.specs.SearchAnswers.{Answers};
 ghost use Rattle.regex_pair.specs.Pairs.{AreCachesOf};
 ghost use Rattle.hirscan.specs.declared.settings.Settings.{Settings};
 ghost use Rattle.hirscan.specs.Built.{IsBuilt, FindsFirst};
-ghost use Rattle.earliest_ends.specs.Earliest.{IsEarliestEnd, IsRefusal, earliest_search, looks_by};
+ghost use Rattle.earliest_ends.specs.Earliest.{IsEarliestEnd, IsEarliestError, earliest_search, looks_by};
 
-use crate::laws::calls_tell_the_least_end;
+use crate::laws::calls_report_the_least_end;
 use lazy_dfa::Work;
 use regex_pair::regex::{Cache, Regex};
 use search_types::{HalfMatch, Input, MatchError};
 use std::marker::Brand;
 use std::sync::ledger::{Blank, Ledger};
 
-/// What a block has are bytes.
+/// A block consists of bytes.
 fn see_bytes(bytes: &[u8])
     ensures { All (λ byte. byte < 256) bytes.now }
 {}
 
-/// The search of a block from a place on.
+/// The search of a block from an offset on.
 fn search_from<'h>(block: &'h [u8], at: usize) -> Input<'h>
     requires { at ≤ length block.now }
     ensures { result ≡ earliest_search block.now at (length block.now) }
@@ -31,7 +31,7 @@ fn search_from<'h>(block: &'h [u8], at: usize) -> Input<'h>
     input
 }
 
-/// A half search forward, with a count of its work that is made for it.
+/// A half search forward, with a count of its work that is made for this call.
 fn search_counted<L: Ledger, M: Ledger>(
     re: &Regex,
     cache: &mut Cache,
@@ -55,7 +55,7 @@ fn search_counted<L: Ledger, M: Ledger>(
         .try_search_fwd(cache.forward_mut(), input, &mut work)
 }
 
-/// A half search forward whose work nobody counts.
+/// A half search forward whose work isn't counted.
 fn search_once(
     re: &Regex,
     cache: &mut Cache,
@@ -71,10 +71,12 @@ fn search_once(
     search_counted::<Brand, Brand>(re, cache, input, first, second)
 }
 
-/// The least end of the matches of a block that start at a place or further on, or none. Where the regex is built of trees, finds the
-/// leftmost-first match and isn't in UTF-8 mode, it is the least end of all spans that any of the trees means, whatever their loops read,
-/// for every set of words at once. A search that meets a quit byte is refused; then no such span ends before that byte. So is one for
-/// which memory lacks, or which gives up, which is never where no number of clears is set.
+/// The least end of the matches of a block that start at an offset or later, or none.
+///
+/// If the regex is built of trees, finds the leftmost-first match and isn't in UTF-8 mode, this is the least end of all spans that any of
+/// the trees matches. It holds for every set of word characters at once, and for trees with empty loops, too. A search that reads a quit
+/// byte fails; then no such span ends before that byte. A search also fails if it is out of memory or gives up. It never gives up if no
+/// minimum number of clears is set.
 pub fn find_earliest_end(
     re: &Regex,
     cache: &mut Cache,
@@ -90,10 +92,10 @@ pub fn find_earliest_end(
         IfOk result (λ o. IsEarliestEnd xs (looks_by words s block.now) block.now at (length block.now) o) }
     ensures refused { (xs : List Tree) (s : Settings) → IsBuilt xs s re.now → FindsFirst s → s.utf8 ≡ false →
         (words : ℕ → Bool) → IsWordSet words →
-        IfErr result (λ e. IsRefusal words xs s block.now at e) }
+        IfErr result (λ e. IsEarliestError words xs s block.now at e) }
 {
     see_bytes(block);
-    calls_tell_the_least_end();
+    calls_report_the_least_end();
     match search_once(re, cache, &search_from(block, at)) {
         Ok(Some(half)) => Ok(Some(half.offset())),
         Ok(None) => Ok(None),

@@ -1,4 +1,4 @@
--- A text's first line, and its last one.
+-- The first line of a haystack, and its last one.
 use Rattle.std.proofs.Common.{◌≡◌, ◌≤◌, ◌<◌, ℕ, zero, suc, ◌+◌, ◌==◌, Bool, true, false, not, cond, List, [], ◌∷◌, ◌++◌, length, take, drop}
 use Rattle.std.proofs.Common.{drop-drop, append-nil, nat_eq, Some, None, nat_lt, if◌then◌else◌, refl, sym, ap, ap₂, ◌∙◌, subst, arith}
 use Rattle.std.proofs.lemmas.Option.{none-some, same_Some}
@@ -23,7 +23,7 @@ one_more n = omega arith
 two_more : (n : ℕ) → (1 + n) + 1 ≡ suc (n + 1)
 two_more n = omega arith
 
--- a text's first line ends at its first line feed
+-- the first line of a haystack ends at its first line feed
 abbrev IsCut : List ℕ → List ℕ → Type 0
 IsCut more text =
     split_lines (text ++ more) ≡ ended (take (position_or_len is_feed text) text) ∷ split_lines
@@ -64,7 +64,8 @@ none_at : (b : Bool) (k : ℕ) → cond b (Some k) None ≡ None → b ≡ false
 none_at true k e = absurd (none-some k (sym e))
 none_at false k e = refl
 
-alone_by : (x : ℕ) (xs : List ℕ) → (0 < length xs → length xs ≤ position_or_len is_feed xs → split_lines xs ≡ unended xs ∷ []) → (v : Bool) →
+alone_by : (x : ℕ) (xs : List ℕ) → (0 < length xs → length xs ≤ position_or_len is_feed xs → split_lines xs ≡ unended xs ∷ []) →
+    (v : Bool) →
     is_feed x ≡ v →
     length (x ∷ xs) ≤ position_or_len is_feed (x ∷ xs) → split_lines (x ∷ xs) ≡ unended (x ∷ xs) ∷ []
 alone_by x xs rest true e many = absurd (omega (arith, many, first_at x xs true e))
@@ -83,20 +84,20 @@ last_line (x ∷ xs) e some =
     alone (x ∷ xs) some (ltb-false (position_or_len is_feed (x ∷ xs)) (length (x ∷ xs))
     (none_at (nat_lt (position_or_len is_feed (x ∷ xs)) (length (x ∷ xs))) (position_or_len is_feed (x ∷ xs)) e))
 
--- one turn of the loop over a block's lines
-pub turn : {P : Type 0} (tells : P → List SplitLine → List ℕ) (p q : P) (block more text piece all out new : List ℕ) (done len : ℕ) →
+-- one round of the loop over a block's lines
+pub turn : {P : Type 0} (reports : P → List SplitLine → List ℕ) (p q : P) (block more text piece all out new : List ℕ) (done len : ℕ) →
     text ≡ drop done block → position is_feed text ≡ Some len → piece ≡ take len text →
-    all ≡ out ++ tells p (split_lines (drop done block ++ more)) →
-    ((lines : List SplitLine) → out ++ tells p (ended piece ∷ lines) ≡ new ++ tells q lines) →
-    all ≡ new ++ tells q (split_lines (drop (done + (len + 1)) block ++ more))
-turn tells p q block more text piece all out new done len rest found cut so_far goes_on =
+    all ≡ out ++ reports p (split_lines (drop done block ++ more)) →
+    ((lines : List SplitLine) → out ++ reports p (ended piece ∷ lines) ≡ new ++ reports q lines) →
+    all ≡ new ++ reports q (split_lines (drop (done + (len + 1)) block ++ more))
+turn reports p q block more text piece all out new done len rest found cut so_far goes_on =
     so_far
-    ∙ ap (λ t. out ++ tells p (split_lines (t ++ more))) (sym rest)
-    ∙ ap (λ lines. out ++ tells p lines) (first_line text more len found)
-    ∙ ap (λ line. out ++ tells p (ended line ∷ split_lines (drop (len + 1) text ++ more))) (sym cut)
+    ∙ ap (λ t. out ++ reports p (split_lines (t ++ more))) (sym rest)
+    ∙ ap (λ lines. out ++ reports p lines) (first_line text more len found)
+    ∙ ap (λ line. out ++ reports p (ended line ∷ split_lines (drop (len + 1) text ++ more))) (sym cut)
     ∙ goes_on (split_lines (drop (len + 1) text ++ more))
-    ∙ ap (λ t. new ++ tells q (split_lines (drop (len + 1) t ++ more))) rest
-    ∙ ap (λ t. new ++ tells q (split_lines (t ++ more))) (drop-drop (len + 1) done block)
+    ∙ ap (λ t. new ++ reports q (split_lines (drop (len + 1) t ++ more))) rest
+    ∙ ap (λ t. new ++ reports q (split_lines (t ++ more))) (drop-drop (len + 1) done block)
 
 pub turn_counted : {P : Type 0} (counts : P → List SplitLine → ℕ) (p q : P) (block more text piece : List ℕ) (all done len : ℕ) →
     text ≡ drop done block → position is_feed text ≡ Some len → piece ≡ take len text →
@@ -113,30 +114,30 @@ turn_counted counts p q block more text piece all done len rest found cut so_far
     ∙ so_far
 
 -- a last line that no line feed ends
-pub open_told : {P : Type 0} (tells : P → List SplitLine → List ℕ) (p q : P) (rest out new : List ℕ) → position is_feed rest ≡ None →
+pub open_told : {P : Type 0} (reports : P → List SplitLine → List ℕ) (p q : P) (rest out new : List ℕ) → position is_feed rest ≡ None →
     0 < length rest →
-    out ++ tells p (unended rest ∷ []) ≡ new ++ tells q [] → out ++ tells p (split_lines rest) ≡ new ++ tells q []
-open_told tells p q rest out new unended some told = ap (λ lines. out ++ tells p lines) (last_line rest unended some) ∙ told
+    out ++ reports p (unended rest ∷ []) ≡ new ++ reports q [] → out ++ reports p (split_lines rest) ≡ new ++ reports q []
+open_told reports p q rest out new unended some reported = ap (λ lines. out ++ reports p lines) (last_line rest unended some) ∙ reported
 
 pub open_counted : {P : Type 0} (counts : P → List SplitLine → ℕ) (p q : P) (rest : List ℕ) → position is_feed rest ≡ None →
     0 < length rest →
     counts q [] ≡ counts p (unended rest ∷ []) → counts q [] ≡ counts p (split_lines rest)
-open_counted counts p q rest unended some told = told ∙ sym (ap (counts p) (last_line rest unended some))
+open_counted counts p q rest unended some reported = reported ∙ sym (ap (counts p) (last_line rest unended some))
 
 pub none_open : (rest : List ℕ) → length rest ≡ 0 → split_lines rest ≡ []
 none_open [] none = refl
 none_open (x ∷ xs) none = absurd (omega (arith, none))
 
--- what is left of a text that has ended
-pub tail_told : {P : Type 0} (tells : P → List SplitLine → List ℕ) (p q r : P) (read rest out one two three : List ℕ) (done : ℕ) →
+-- what is left of a haystack that has ended
+pub tail_told : {P : Type 0} (reports : P → List SplitLine → List ℕ) (p q r : P) (read rest out one two three : List ℕ) (done : ℕ) →
     rest ≡ drop done read →
-    out ++ tells p (split_lines (read ++ [])) ≡ one ++ tells q (split_lines (drop done read ++ [])) →
-    one ++ tells q (split_lines rest) ≡ two ++ tells r [] →
-    three ≡ two ++ tells r [] → out ++ tells p (split_lines read) ≡ three
-tail_told tells p q r read rest out one two three done is whole unended end =
-    ap (λ l. out ++ tells p (split_lines l)) (sym (append-nil read))
+    out ++ reports p (split_lines (read ++ [])) ≡ one ++ reports q (split_lines (drop done read ++ [])) →
+    one ++ reports q (split_lines rest) ≡ two ++ reports r [] →
+    three ≡ two ++ reports r [] → out ++ reports p (split_lines read) ≡ three
+tail_told reports p q r read rest out one two three done is whole unended end =
+    ap (λ l. out ++ reports p (split_lines l)) (sym (append-nil read))
     ∙ whole
-    ∙ ap (λ l. one ++ tells q (split_lines l)) (append-nil (drop done read) ∙ sym is)
+    ∙ ap (λ l. one ++ reports q (split_lines l)) (append-nil (drop done read) ∙ sym is)
     ∙ unended
     ∙ sym end
 

@@ -14,7 +14,7 @@ use Rattle.regex_hir.specs.declared.look.Look.TheVariants.{Start, End}
 use Rattle.regex_hir.proofs.FindLemmas.{find_complete, find_sound, IsFirst-of_first_between}
 use Rattle.regex_hir.proofs.MatchesLemmas.{Matches-IsSpan}
 use Rattle.grep_core.specs.Bounded.{bounded, span_counts, may_end_word, may_start_word, line_pattern, word_end, word_start, HasKeptSpan}
-use Rattle.grep_core.specs.declared.patterns.How.{How}
+use Rattle.grep_core.specs.declared.patterns.PatternOptions.{PatternOptions}
 
 both : (a b : Bool) → a ≡ true → b ≡ true → (a && b) ≡ true
 both a b p q = ap₂ (λ x y. x && y) p q
@@ -119,10 +119,10 @@ spans_end line i may = elim (end_here (is_word (side_after line i)) (is_word (si
 
 -- ---- a pattern between both
 module _ (re : Re) (line : List ℕ) (i j : ℕ) (low : i ≤ length line) where
-  abbrev Kept : How → Type 0
+  abbrev Kept : PatternOptions → Type 0
   Kept how = (span_counts how line i j ≡ true) × Matches line re i j
 
-  line_there : (how : How) → Matches line (bounded (record how { lines = true }) re) i j → Kept (record how { lines = true })
+  line_there : (how : PatternOptions) → Matches line (bounded (record how { lines = true }) re) i j → Kept (record how { lines = true })
   line_there how (l, first, (m, body, (n, last, e))) =
       let ends : m ≡ j = sym last.1 ∙ sym e in
       let spans : Matches line re i j = subst (λ k. Matches line re i k) ends (subst (λ k. Matches line re k m) first.1 body) in
@@ -133,7 +133,7 @@ module _ (re : Re) (line : List ℕ) (i j : ℕ) (low : i ≤ length line) where
         spans,
       )
 
-  line_here : (how : How) → Kept (record how { lines = true }) → Matches line (bounded (record how { lines = true }) re) i j
+  line_here : (how : PatternOptions) → Kept (record how { lines = true }) → Matches line (bounded (record how { lines = true }) re) i j
   line_here how (kept, spans) =
       let ends = and_parts (i == 0) (j == length line) kept in (
         i,
@@ -141,7 +141,7 @@ module _ (re : Re) (line : List ℕ) (i j : ℕ) (low : i ≤ length line) where
         (j, spans, (j, (subst (λ k. holds End line k ≡ true) (sym (eqb-true j (length line) ends.1)) (holds_end line), refl), refl)),
       )
 
-  words_there : (how : How) → Matches line (bounded (record how { lines = false; words = true }) re) i j →
+  words_there : (how : PatternOptions) → Matches line (bounded (record how { lines = false; words = true }) re) i j →
       Kept (record how { lines = false; words = true })
   words_there how (l, first, (m, body, (n, last, e))) =
       let starts = start_spans line i l first in
@@ -151,24 +151,24 @@ module _ (re : Re) (line : List ℕ) (i j : ℕ) (low : i ≤ length line) where
         subst (λ k. Matches line re i k) ends (subst (λ k. Matches line re k m) starts.0 body),
       )
 
-  words_here : (how : How) → Kept (record how { lines = false; words = true }) →
+  words_here : (how : PatternOptions) → Kept (record how { lines = false; words = true }) →
       Matches line (bounded (record how { lines = false; words = true }) re) i j
   words_here how (kept, spans) =
       let ends = and_parts (may_start_word line i) (may_end_word line j) kept in
       (i, spans_start line i ends.0, (j, spans, (j, spans_end line j ends.1, refl)))
 
-  by : (how : How) (lines words : Bool) → Matches line (bounded (record how { lines = lines; words = words }) re) i j
+  by : (how : PatternOptions) (lines words : Bool) → Matches line (bounded (record how { lines = lines; words = words }) re) i j
       ↔ Kept (record how { lines = lines; words = words })
   by how true words = (line_there (record how { words = words }), line_here (record how { words = words }))
   by how false true = (words_there how, words_here how)
   by how false false = (λ spans. (refl, spans), λ kept. kept.1)
 
-pub kept_spans : (how : How) (re : Re) (line : List ℕ) (i j : ℕ) → i ≤ length line →
+pub kept_spans : (how : PatternOptions) (re : Re) (line : List ℕ) (i j : ℕ) → i ≤ length line →
     Matches line (bounded how re) i j ↔ ((span_counts how line i j ≡ true) × Matches line re i j)
 kept_spans how re line i j low = by re line i j low how how.lines how.words
 
 -- ---- several patterns
-listed_there : (how : How) (res : List Re) (line : List ℕ) (i j : ℕ) → Matches line (line_pattern how res) i j →
+listed_there : (how : PatternOptions) (res : List Re) (line : List ℕ) (i j : ℕ) → Matches line (line_pattern how res) i j →
     (n : ℕ) × (re : Re) × (slice_get res n ≡ Some re) × Matches line (bounded how re) i j
 unfolding in_ranges
 listed_there how [] line i j m = absurd (true≢false (sym m.2))
@@ -177,7 +177,7 @@ listed_there how (a ∷ res) line i j (inr m) =
     let rest = listed_there how res line i j m in
     (suc rest.0, rest.1, rest.2, rest.3)
 
-listed_here : (how : How) (res : List Re) (line : List ℕ) (i j n : ℕ) (re : Re) → slice_get res n ≡ Some re →
+listed_here : (how : PatternOptions) (res : List Re) (line : List ℕ) (i j n : ℕ) (re : Re) → slice_get res n ≡ Some re →
     Matches line (bounded how re) i j → Matches line (line_pattern how res) i j
 listed_here how [] line i j n re listed m = absurd (none-some re listed)
 listed_here how (a ∷ res) line i j zero re listed m = inl (subst (λ r. Matches line (bounded how r) i j) (sym (same_Some a re listed)) m)
@@ -187,7 +187,8 @@ start_within : (re : Re) (line : List ℕ) (m : Match) → find re line 0 ≡ So
 unfolding find
 start_within re line m is = (IsFirst-of_first_between _ 0 (length line) m is).to
 
-match_of : (how : How) (res : List Re) (line : List ℕ) (o : Option Match) → find (line_pattern how res) line 0 ≡ o → is_some o ≡ true →
+match_of : (how : PatternOptions) (res : List Re) (line : List ℕ) (o : Option Match) → find (line_pattern how res) line 0 ≡ o →
+    is_some o ≡ true →
     HasKeptSpan how res line
 match_of how res line None is some = absurd (true≢false (sym some))
 match_of how res line (Some m) is some =
@@ -206,7 +207,7 @@ match_of how res line (Some m) is some =
       matches = spans.1;
     }
 
-pub has_kept_span : (how : How) (res : List Re) (line : List ℕ) →
+pub has_kept_span : (how : PatternOptions) (res : List Re) (line : List ℕ) →
     (is_some (find (line_pattern how res) line 0) ≡ true) ↔ HasKeptSpan how res line
 has_kept_span how res line = (
   match_of how res line (find (line_pattern how res) line 0) refl,

@@ -1,17 +1,17 @@
--- The trees of patterns that count only as a whole line or as whole words match as these patterns do.
-use Rattle.std.proofs.Common.{◌≡◌, ℕ, Bool, true, false, List, [], ◌∷◌, map, refl, sym, ap, ◌∙◌, subst}
-use Rattle.regex_hir.specs.Meaning.{meaning}
+-- The one tree of patterns, which may count only as a whole line or as whole words, matches as these patterns do.
+use Rattle.std.proofs.Common.{◌≡◌, ℕ, Bool, true, false, List, [], ◌∷◌, All, sym, subst}
+use Rattle.regex_hir.specs.Meaning.{meaning, alt_all}
 use Rattle.regex_hir.specs.Re.{Re}
 use Rattle.regex_hir.specs.Re as re
 use Rattle.regex_hir.specs.declared.hir.Hir.TheVariants as pattern
 use Rattle.regex_hir.specs.declared.look.Look.{Look as Assertion}
 use Rattle.regex_hir.specs.declared.look.Look.TheVariants as assertion
 use Rattle.regex_hir.proofs.MeaningLemmas.{meaning-Look}
-use Rattle.look_core.specs.declared.look.Look.{Look}
+use Rattle.hir_core.specs.Facts.{LoopsRead}
 use Rattle.hir_core.specs.Tree.{Tree}
 use Rattle.hir_core.specs.Tree as tree
 use Rattle.pattern_text.specs.SameEnds.{AreSameEnds, AreSameSpans, SameEnds, SameSpans}
-use Rattle.pattern_text.specs.Translated.{translated, translated_look}
+use Rattle.pattern_text.specs.Translated.{translated_look}
 use Rattle.pattern_text.proofs.ForCallers.{same_alternation, same_concat, same_ends, same_spans, spans_alternation, spans_concat}
 use Rattle.pattern_text.proofs.ForCallers.{translated-Look}
 use Rattle.pattern_search.specs.Searches.{StartsAsRead}
@@ -19,9 +19,12 @@ use Rattle.pattern_search.specs.Texts.{AreReadAs}
 use Rattle.pattern_search.specs.Written.{FindsWhatIsWritten}
 use Rattle.pattern_search.proofs.ForCallers.{finds_what_is_written, same_patterns, starts_as_read}
 use Rattle.grep_core.specs.Bounded.{bounded, word_end, word_start}
-use Rattle.grep_core.specs.BoundedTrees.{AreTreesOf, bounded_tree, word_end_tree, word_start_tree}
+use Rattle.grep_core.specs.BoundedTrees.{IsTreeOf, bounded_tree, word_end_tree, word_start_tree}
+use Rattle.grep_core.specs.Joined.{joined}
 use Rattle.grep_core.specs.Meant.{line_config}
-use Rattle.grep_core.specs.declared.patterns.How.{How}
+use Rattle.grep_core.specs.declared.patterns.PatternOptions.{PatternOptions}
+use Rattle.grep_core.proofs.JoinedLemmas.{loops_joined, same_joined, spans_joined}
+use Rattle.grep_core.proofs.WholePatternLemmas.{whole_pattern}
 
 -- ---- one look
 look_ends : (l : Assertion) → SameEnds (re.look l) (tree.look (translated_look l))
@@ -56,7 +59,7 @@ end_spans = spans_alternation (re.look assertion.WordEndUnicode ∷ re.look asse
     (look_spans assertion.WordEndUnicode, (look_spans assertion.WordEndHalfUnicode, tt))
 
 -- ---- a pattern and its tree between both
-bounded_ends : (how : How) (a : Re) (x : Tree) → SameEnds a x → SameEnds (bounded how a) (bounded_tree how x)
+bounded_ends : (how : PatternOptions) (a : Re) (x : Tree) → SameEnds a x → SameEnds (bounded how a) (bounded_tree how x)
 bounded_ends how a x same = by how.lines how.words
   where
     by : (lines words : Bool) → SameEnds (bounded (record how { lines = lines; words = words }) a)
@@ -68,7 +71,7 @@ bounded_ends how a x same = by how.lines how.words
         (start_ends, (same, (end_ends, tt)))
     by false false = same
 
-bounded_spans : (how : How) (a : Re) (x : Tree) → SameSpans a x → SameSpans (bounded how a) (bounded_tree how x)
+bounded_spans : (how : PatternOptions) (a : Re) (x : Tree) → SameSpans a x → SameSpans (bounded how a) (bounded_tree how x)
 bounded_spans how a x same = by how.lines how.words
   where
     by : (lines words : Bool) → SameSpans (bounded (record how { lines = lines; words = words }) a)
@@ -80,25 +83,12 @@ bounded_spans how a x same = by how.lines how.words
         (start_spans, (same, (end_spans, tt)))
     by false false = same
 
-all_ends : (how : How) (res : List Re) (xs : List Tree) → AreSameEnds res xs → AreSameEnds (map (bounded how) res) (map (bounded_tree how) xs)
-all_ends how [] [] same = tt
-all_ends how [] (x ∷ xs) same = absurd same
-all_ends how (a ∷ res) [] same = absurd same
-all_ends how (a ∷ res) (x ∷ xs) same = (bounded_ends how a x same.0, all_ends how res xs same.1)
-
-all_spans : (how : How) (res : List Re) (xs : List Tree) → AreSameSpans res xs →
-    AreSameSpans (map (bounded how) res) (map (bounded_tree how) xs)
-all_spans how [] [] same = tt
-all_spans how [] (x ∷ xs) same = absurd same
-all_spans how (a ∷ res) [] same = absurd same
-all_spans how (a ∷ res) (x ∷ xs) same = (bounded_spans how a x same.0, all_spans how res xs same.1)
-
--- ---- trees of texts
-module _ (how : How) (texts : List (List ℕ)) (xs : List Tree) (it : AreTreesOf how texts xs) where
+-- ---- the tree of patterns
+module _ (how : PatternOptions) (texts : List (List ℕ)) (x : Tree) (it : IsTreeOf how texts x) where
   written : FindsWhatIsWritten (line_config how) texts it.parsed
   written = finds_what_is_written (line_config how) texts it.parsed it.mean
 
-  -- the texts are patterns
+  -- the patterns can be parsed
   pub read_as : (res : List Re) × AreReadAs (line_config how) texts res
   read_as = (written.patterns, written.are_read)
 
@@ -106,16 +96,40 @@ module _ (how : How) (texts : List (List ℕ)) (xs : List Tree) (it : AreTreesOf
     same : written.patterns ≡ res
     same = same_patterns (line_config how) texts written.patterns res written.are_read read
 
-    pub ends_of : AreSameEnds (map (bounded how) res) xs
-    ends_of =
-        subst (AreSameEnds (map (bounded how) res)) (sym it.are_bounded)
-        (all_ends how res it.parsed (subst (λ (rs : List Re). AreSameEnds rs it.parsed) same written.same_ends))
+    whole_ends : SameEnds (whole_pattern how res) x
+    whole_ends =
+        subst (SameEnds (whole_pattern how res)) (sym it.is_bounded)
+        (bounded_ends how (alt_all res) (joined it.parsed)
+        (same_joined (alt_all res) it.parsed
+        (same_alternation res it.parsed (subst (λ (rs : List Re). AreSameEnds rs it.parsed) same written.same_ends))))
 
-    pub spans_of : AreSameSpans (map (bounded how) res) xs
-    spans_of =
-        subst (AreSameSpans (map (bounded how) res)) (sym it.are_bounded)
-        (all_spans how res it.parsed (subst (λ (rs : List Re). AreSameSpans rs it.parsed) same written.same_spans))
+    whole_spans : SameSpans (whole_pattern how res) x
+    whole_spans =
+        subst (SameSpans (whole_pattern how res)) (sym it.is_bounded)
+        (bounded_spans how (alt_all res) (joined it.parsed)
+        (spans_joined (alt_all res) it.parsed
+        (spans_alternation res it.parsed (subst (λ (rs : List Re). AreSameSpans rs it.parsed) same written.same_spans))))
 
-    -- and each search for the trees finds where these match
-    pub starts_of : StartsAsRead false (map (bounded how) res) xs
-    starts_of = starts_as_read (map (bounded how) res) xs spans_of false
+    pub ends_of : AreSameEnds (whole_pattern how res ∷ []) (x ∷ [])
+    ends_of = (whole_ends, tt)
+
+    pub spans_of : AreSameSpans (whole_pattern how res ∷ []) (x ∷ [])
+    spans_of = (whole_spans, tt)
+
+    -- and each search for the tree finds where these match
+    pub starts_of : StartsAsRead false (whole_pattern how res ∷ []) (x ∷ [])
+    starts_of = starts_as_read (whole_pattern how res ∷ []) (x ∷ []) spans_of false
+
+-- ---- the bodies of repetitions
+-- if those in the trees of the patterns consume a byte, so do those in the one tree
+pub loops_bounded : (how : PatternOptions) (x : Tree) → LoopsRead x → LoopsRead (bounded_tree how x)
+loops_bounded how x loops = by how.lines how.words
+  where
+    by : (lines words : Bool) → LoopsRead (bounded_tree (record how { lines = lines; words = words }) x)
+    by true words = (tt, (loops, (tt, tt)))
+    by false true = ((tt, (tt, tt)), (loops, ((tt, (tt, tt)), tt)))
+    by false false = loops
+
+pub loops_of : (how : PatternOptions) (parsed : List Tree) (x : Tree) → x ≡ bounded_tree how (joined parsed) → All LoopsRead parsed →
+    LoopsRead x
+loops_of how parsed x is all = subst LoopsRead (sym is) (loops_bounded how (joined parsed) (loops_joined parsed all))

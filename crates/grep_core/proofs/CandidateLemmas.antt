@@ -1,18 +1,17 @@
 -- Lines that end before the least end of a match in the block have no match.
 use Rattle.std.proofs.Common.{◌≡◌, ◌≢◌, ◌≤◌, ◌<◌, ◌==◌, inl, inr, ℕ, zero, suc, ◌+◌, ◌-◌, Bool, false, List, [], ◌∷◌, ◌++◌, All, map}
 use Rattle.std.proofs.Common.{length, slice_get, slice_range}
-use Rattle.std.proofs.Common.{true, get_or, take, drop, nat_lt, ◌&&◌, ◌||◌, ◌⊎◌, not, Option, Some, None, refl, sym, ap, ◌∙◌, subst, arith}
+use Rattle.std.proofs.Common.{true, take, drop, nat_lt, ◌&&◌, ◌||◌, ◌⊎◌, not, Option, Some, None, refl, sym, ap, ◌∙◌, subst, arith}
 use Rattle.std.proofs.Common.{length-append}
 use Rattle.std.proofs.Common.{length-drop, take-append-drop, true≢false, lt-ltb}
-use Rattle.std.specs.List.{list_any}
 use Rattle.std.proofs.lemmas.Bool.{cases_lt, eq-eqb, eqb-true, and_parts, or_cases}
-use Rattle.std.proofs.lemmas.List.Folds.{list_any_at}
 use Rattle.std.specs.Prelude.{is_some, option_map, IfSome}
 use Rattle.std.specs.List.{position, position_or_len}
 use Rattle.std.proofs.lemmas.List.{length-take-le}
 use Rattle.std.proofs.lemmas.List.Elements.{All-nil, All-cons}
 use Rattle.std.proofs.lemmas.Option.{none-some, same_Some, slice_get_within, get_or_from_slice_get, slice_get-map}
 use Rattle.ucd_perl.specs.Perl.{is_word_char}
+use Rattle.regex_hir.specs.Meaning.{alt_all}
 use Rattle.regex_hir.specs.Re.{Re}
 use Rattle.regex_hir.specs.Find.{find}
 use Rattle.look_core.proofs.ForCallers.{All-left, All-right}
@@ -26,7 +25,7 @@ use Rattle.line_trees.specs.LineTrees.{line_tree, has_crlf, reads_feed, block_of
 use Rattle.hirscan.specs.Choices.{answer_from}
 use Rattle.hirscan.specs.LooseAnswers.{IsLooseAnswer}
 use Rattle.line_trees.proofs.ForCallers.{means_in_block, means_in_line, reads_none, feeds_kept, get_dropped}
-use Rattle.earliest_ends.specs.Earliest.{IsSpanFrom, NoneEndsBefore, IsEarliestEnd, IsRefusal, looks_by}
+use Rattle.earliest_ends.specs.Earliest.{IsSpanFrom, NoneEndsBefore, IsEarliestEnd, IsEarliestError, looks_by}
 use Rattle.search_types.specs.declared.match_error.MatchErrorKind.{MatchErrorKind}
 use Rattle.search_types.specs.declared.match_error.MatchErrorKind.TheVariants.{Quit}
 use Rattle.pattern_text.specs.Words.{word_set}
@@ -34,10 +33,10 @@ use Rattle.pattern_search.specs.Texts.{AreReadAs}
 use Rattle.pattern_search.specs.Searches.{whole_query}
 use Rattle.pattern_search.proofs.ForCallers.{alike_some, answer_is_loose}
 use Rattle.grep_core.specs.Bounded.{line_pattern}
-use Rattle.grep_core.specs.BoundedTrees.{AreTreesOf}
+use Rattle.grep_core.specs.BoundedTrees.{IsTreeOf}
 use Rattle.grep_core.specs.Meant.{line_config}
 use Rattle.grep_core.specs.declared.candidates.Stop.{Stop}
-use Rattle.grep_core.specs.declared.patterns.How.{How}
+use Rattle.grep_core.specs.declared.patterns.PatternOptions.{PatternOptions}
 use Rattle.grep_core.specs.Candidates.{BlockRegex, IsCandidatesOf, IsLineStart, HaveNoMatch, HasMatchAt, IsStop, IsStopIfAny, IsEnd}
 use Rattle.grep_core.specs.Candidates.{StopsInLine}
 use Rattle.grep_core.specs.Candidates.IsStop.{least_end, quit_byte}
@@ -49,8 +48,9 @@ use Rattle.grep_core.proofs.BlockLemmas.{is_feed, first_at, first_within, one_mo
 use Rattle.grep_core.proofs.JoinLemmas.{feed_there}
 use Rattle.grep_core.proofs.LineCutLemmas.{IsSearchedIn, StandsIn, before_start, lines_between, searched_in}
 use Rattle.grep_core.proofs.ToldLemmas.{is_search}
+use Rattle.grep_core.proofs.WholePatternLemmas.{find_same, whole_is_each, whole_pattern}
 
--- of the spans that these trees mean in the block from a place on, none ends before this place
+-- of the spans that these trees mean in the block from the first offset on, none ends before the second one
 abbrev EndNotBefore : List Tree → List ℕ → ℕ → ℕ → Type 0
 EndNotBefore xs block at place = NoneEndsBefore xs (looks_by is_word_char line_settings block) block at (length block) place
 
@@ -59,23 +59,34 @@ abbrev HasNone : List Tree → List ℕ → Type 0
 HasNone xs line = (p : ℕ) (x : Tree) (i j : ℕ) → slice_get xs p ≡ Some x → i ≤ length line → j ≤ length line →
     Means (line_looks is_word_char line) line x i j → ⊥
 
+-- the pattern with one bound around all has a match where the patterns have one
+has_whole : (how : PatternOptions) (res : List Re) (line : List ℕ) → All (λ b. b < 256) line →
+    is_some (find (alt_all (whole_pattern how res ∷ [])) line 0) ≡ has_match_in how res line
+has_whole how res line bytes =
+    ap is_some (find_same (alt_all (whole_pattern how res ∷ [])) (line_pattern how res) (whole_is_each how res) line bytes 0)
+
 -- then the line has no match
-no_match : (how : How) (texts : List (List ℕ)) (xs : List Tree) (res : List Re) (line : List ℕ) → AreTreesOf how texts xs →
-    AreReadAs (line_config how) texts res → All (λ b. b < 256) line → HasNone xs line → has_match_in how res line ≡ false
-no_match how texts xs res line mean read bytes none =
-    let nothing : option_map (λ m. m.start) (find (line_pattern how res) line 0) ≡ option_map (λ (f : Found). f.start) None =
-    (starts_of how texts xs mean res read).loose line 0 (is_search xs line bytes) None (λ i p j starts it.
+no_match : (how : PatternOptions) (texts : List (List ℕ)) (t : Tree) (res : List Re) (line : List ℕ) → IsTreeOf how texts t →
+    AreReadAs (line_config how) texts res → All (λ b. b < 256) line → HasNone (t ∷ []) line → has_match_in how res line ≡ false
+no_match how texts t res line mean read bytes none =
+    let nothing : option_map (λ m. m.start) (find (alt_all (whole_pattern how res ∷ [])) line 0)
+    ≡ option_map (λ (f : Found). f.start) None =
+    (starts_of how texts t mean res read).loose line 0 (is_search (t ∷ []) line bytes) None (λ i p j starts it.
     none p it.findable.span.tree i j it.findable.span.listed
     (starts_at No 0 (length line) i starts).to_last it.findable.within it.findable.span.means) in
-    alike_some (λ m. m.start) (λ (f : Found). f.start) (find (line_pattern how res) line 0) None nothing
+    sym (has_whole how res line bytes)
+    ∙ alike_some (λ m. m.start) (λ (f : Found). f.start) (find (alt_all (whole_pattern how res ∷ [])) line 0) None nothing
 
 of_listed : (P : Tree → Type 0) (xs : List Tree) (p : ℕ) (x : Tree) → slice_get xs p ≡ Some x → All P xs → P x
 of_listed P xs p x listed all = subst P (get_or_from_slice_get xs p x x listed) (all p x (slice_get_within xs p x listed))
 
+all_one : (P : Tree → Type 0) (x : Tree) → P x → All P (x ∷ [])
+all_one P x one = All-cons P x [] one (All-nil P)
+
 plain_at : (xs : List Tree) (p : ℕ) (x : Tree) → slice_get xs p ≡ Some x → All (λ y. has_crlf y ≡ false) xs → has_crlf x ≡ false
 plain_at xs p x listed all = of_listed (λ y. has_crlf y ≡ false) xs p x listed all
 
--- a span in a line that stands in the block is one of its line tree in the block, which ends in that line
+-- a span in a line of the block is one of its line tree in the block, which ends in that line
 none_in : (crlf : Bool) (xs : List Tree) (block : List ℕ) (at x : ℕ) (line : List ℕ) → All (λ y. has_crlf y ≡ false) xs →
     EndNotBefore (map (line_tree crlf) xs) block at x → IsSearchedIn crlf block at x line → HasNone xs line
 none_in crlf xs block at x line plain least s p tree i j listed low high means =
@@ -87,7 +98,8 @@ none_in crlf xs block at x line plain least s p tree i j listed low high means =
     (sym s.whole) there in
     let long : length block ≡ length s.before + (length line + length s.after) =
     ap length s.whole ∙ length-append s.before (line ++ s.after) ∙ ap (λ n. length s.before + n) (length-append line s.after) in
-    let span : IsSpanFrom (map (line_tree crlf) xs) (looks_by is_word_char line_settings block) block at (length block) p (length s.before + i)
+    let span : IsSpanFrom (map (line_tree crlf) xs) (looks_by is_word_char line_settings block) block at (length block) p (length s.before
+    + i)
     (length s.before + j) =
     record {
       tree = line_tree crlf tree;
@@ -98,18 +110,18 @@ none_in crlf xs block at x line plain least s p tree i j listed low high means =
     } in
     absurd (omega (arith, least p (length s.before + i) (length s.before + j) span, s.ends, high))
 
--- no line that ends before the place has a match
-pub have_none : (how : How) (texts : List (List ℕ)) (p : BlockRegex) (block text : List ℕ) (at x : ℕ) →
+-- no line that ends before the offset has a match
+pub have_none : (how : PatternOptions) (texts : List (List ℕ)) (p : BlockRegex) (block text : List ℕ) (at x : ℕ) →
     (it : IsCandidatesOf how texts p) →
-    All (λ b. b < 256) block → EndNotBefore (map (line_tree how.crlf) it.trees) block at x → All (StandsIn block at x) (split_lines text) →
+    All (λ b. b < 256) block → EndNotBefore (line_tree how.crlf it.tree ∷ []) block at x → All (StandsIn block at x) (split_lines text) →
     HaveNoMatch how texts text
 have_none how texts p block text at x it bytes least all res read k line below =
     let s = searched_in block at x how.crlf _ (all k line below) in
-    no_match how texts it.trees res _ it.mean read
+    no_match how texts it.tree res _ it.mean read
     (All-left (λ b. b < 256) _ s.after (All-right (λ b. b < 256) s.before _ (subst (All (λ b. b < 256)) s.whole bytes)))
-    (none_in how.crlf it.trees block at x _ it.plain least s)
+    (none_in how.crlf (it.tree ∷ []) block at x _ (all_one (λ y. has_crlf y ≡ false) it.tree it.plain) least s)
 
--- ---- what a search tells
+-- ---- what a search returns
 pub end_told : (xs : List Tree) (block : List ℕ) (at : ℕ) (o : Option ℕ) →
     IsEarliestEnd xs (looks_by is_word_char line_settings block) block at (length block) o → IsStopIfAny xs block at o
 end_told xs block at None none = none
@@ -129,16 +141,16 @@ ends_told xs block at o end same found =
     (sym same ∙ ap (option_map (λ (t : Stop). t.place)) is) found)
 
 pub quit_told : (xs : List Tree) (block : List ℕ) (at : ℕ) (e : MatchErrorKind) (b x : ℕ) → e ≡ Quit b x →
-    IsRefusal is_word_char xs line_settings block at e → IsStop xs block at x
+    IsEarliestError is_word_char xs line_settings block at e → IsStop xs block at x
 quit_told xs block at e b x is refused =
-    let quit = subst (IsRefusal is_word_char xs line_settings block at) is refused in
+    let quit = subst (IsEarliestError is_word_char xs line_settings block at) is refused in
     quit_byte b quit.0 quit.1
 
 none_before : (xs : List Tree) (block : List ℕ) (at x : ℕ) → IsStop xs block at x → EndNotBefore xs block at x
 none_before xs block at x (least_end p is) = is.least
 none_before xs block at x (quit_byte b is none) = none
 
--- it stops at the place from which it goes or further on, or at the byte before it
+-- it stops at the offset from which it goes or further on, or at the byte before it
 not_before : (xs : List Tree) (block : List ℕ) (at x : ℕ) → IsStop xs block at x → at ≤ x + 1
 not_before xs block at x (least_end p is) =
     let forward = span_forward (looks_by is_word_char line_settings block) block is.span.tree is.start x is.span.means in
@@ -155,17 +167,18 @@ stops_in_line xs block at start x stop fits none = record {
   within_line = none;
 }
 
--- ---- what is passed over
-nothing_between : (how : How) (texts : List (List ℕ)) (block : List ℕ) (at next : ℕ) → next ≤ at →
+-- ---- what is skipped
+nothing_between : (how : PatternOptions) (texts : List (List ℕ)) (block : List ℕ) (at next : ℕ) → next ≤ at →
     HaveNoMatch how texts (slice_range block at next)
 nothing_between how texts block at next low =
     let none : next - at ≡ 0 = omega (arith, low) in
     subst (λ n. HaveNoMatch how texts (take n (drop at block))) (sym none) (λ res read k line below. absurd (omega (arith, below)))
 
-module _ (how : How) (texts : List (List ℕ)) (p : BlockRegex) (block : List ℕ) (at : ℕ) (it : IsCandidatesOf how texts p)
+module _ (how : PatternOptions) (texts : List (List ℕ)) (p : BlockRegex) (block : List ℕ) (at : ℕ) (it : IsCandidatesOf how texts p)
     (bytes : All (λ b. b < 256) block)
     (start : IsLineStart block at) where
-  pub all_passed : IsStopIfAny (map (line_tree how.crlf) it.trees) block at None → HaveNoMatch how texts (slice_range block at (length block))
+  pub all_passed : IsStopIfAny (line_tree how.crlf it.tree ∷ []) block at None →
+      HaveNoMatch how texts (slice_range block at (length block))
   all_passed none = elim (cases_lt at (length block)) [
     | inl less ↦
         have_none how texts p block (slice_range block at (length block)) at (suc (length block)) it bytes
@@ -174,40 +187,41 @@ module _ (how : How) (texts : List (List ℕ)) (p : BlockRegex) (block : List �
     | inr over ↦ nothing_between how texts block at (length block) over
   ]
 
-  pub lines_passed : (place next : ℕ) → IsStop (map (line_tree how.crlf) it.trees) block at place → next ≤ length block →
+  pub lines_passed : (place next : ℕ) → IsStop (line_tree how.crlf it.tree ∷ []) block at place → next ≤ length block →
       (at < next → next ≤ place) → (at < next → slice_get block (next - 1) ≡ Some 10) → HaveNoMatch how texts (slice_range block at next)
   lines_passed place next stop within fits feed = elim (cases_lt at next) [
     | inl less ↦
         have_none how texts p block (slice_range block at next) at place it bytes
-        (none_before (map (line_tree how.crlf) it.trees) block at place stop)
+        (none_before (line_tree how.crlf it.tree ∷ []) block at place stop)
         (lines_between block at next place start less within (fits less) (inl (feed less)))
     | inr over ↦ nothing_between how texts block at next over
   ]
 
 -- ---- a line that is known to have a match
--- an answer that is none tells that there is no span
+-- an answer that is none says that there is no span
 no_answer : (xs : List Tree) (line : List ℕ) (o : Option Found) → IsLooseAnswer (whole_query false xs line) 0 o → is_some o ≡ false →
     IsLooseAnswer (whole_query false xs line) 0 None
 no_answer xs line None loose none = loose
 no_answer xs line (Some f) loose none = cc
 
--- where a tree means a span of the line, the line has a match
-has_of : (how : How) (texts : List (List ℕ)) (xs : List Tree) (res : List Re) (line : List ℕ) → AreTreesOf how texts xs →
-    AreReadAs (line_config how) texts res → All (λ b. b < 256) line → (p : ℕ) (x : Tree) (i j : ℕ) → slice_get xs p ≡ Some x →
+-- if a tree means a span of the line, the line has a match
+has_of : (how : PatternOptions) (texts : List (List ℕ)) (t : Tree) (res : List Re) (line : List ℕ) → IsTreeOf how texts t →
+    AreReadAs (line_config how) texts res → All (λ b. b < 256) line → (p : ℕ) (x : Tree) (i j : ℕ) → slice_get (t ∷ []) p ≡ Some x →
     i ≤ length line → j ≤ length line →
     Means (line_looks is_word_char line) line x i j → (has : Bool) → has_match_in how res line ≡ has → true ≡ has_match_in how res line
-has_of how texts xs res line mean read bytes p x i j listed low high means true is = sym is
-has_of how texts xs res line mean read bytes p x i j listed low high means false is =
-    let none : is_some (answer_from (whole_query false xs line) 0) ≡ false =
-    sym (alike_some (λ m. m.start) (λ (f : Found). f.start) (find (line_pattern how res) line 0)
-    (answer_from (whole_query false xs line) 0)
-    ((starts_of how texts xs mean res read).preferred line 0 (is_search xs line bytes)))
-    ∙ is in
-    absurd (no_answer xs line (answer_from (whole_query false xs line) 0) (answer_is_loose (whole_query false xs line) 0) none i p j
+has_of how texts t res line mean read bytes p x i j listed low high means true is = sym is
+has_of how texts t res line mean read bytes p x i j listed low high means false is =
+    let none : is_some (answer_from (whole_query false (t ∷ []) line) 0) ≡ false =
+    sym (alike_some (λ m. m.start) (λ (f : Found). f.start) (find (alt_all (whole_pattern how res ∷ [])) line 0)
+    (answer_from (whole_query false (t ∷ []) line) 0)
+    ((starts_of how texts t mean res read).preferred line 0 (is_search (t ∷ []) line bytes)))
+    ∙ has_whole how res line bytes ∙ is in
+    absurd (no_answer (t ∷ []) line (answer_from (whole_query false (t ∷ []) line) 0)
+    (answer_is_loose (whole_query false (t ∷ []) line) 0) none i p j
     (may_start_at No 0 (length line) i (omega arith) (omega arith) low)
     (record {
       findable = record {
-        may = lt-ltb p (length xs) (slice_get_within xs p x listed);
+        may = lt-ltb p (length (t ∷ [])) (slice_get_within (t ∷ []) p x listed);
         span = record { tree = x; listed = listed; means = means };
         within = high;
       };
@@ -238,7 +252,7 @@ no_feed_first : (text : List ℕ) → All (λ b. b ≢ 10) (take (position_or_le
 no_feed_first [] = All-nil (λ b. b ≢ 10)
 no_feed_first (x ∷ xs) = no_feed_by x xs (no_feed_first xs) (is_feed x) refl
 
--- no line feed stands in a text's first line
+-- no line feed is in the first line of a haystack
 without_feed : (text : List ℕ) (n : ℕ) → position is_feed text ≡ Some n → All (λ b. b ≢ 10) (take n text)
 without_feed text n e =
     let at = some_at (nat_lt (position_or_len is_feed text) (length text)) (position_or_len is_feed text) n e in
@@ -260,9 +274,9 @@ line_tree_of xs block at place end =
     tree_of_line xs end.0 end.1.span.tree (slice_get xs end.0) refl (sym (slice_get-map (line_tree false) xs end.0) ∙ end.1.span.listed)
 
 -- a span that starts in a line and ends before the end of that line is one of the line
-match_here : (how : How) (texts : List (List ℕ)) (p : BlockRegex) (block : List ℕ) (at start place : ℕ) →
+match_here : (how : PatternOptions) (texts : List (List ℕ)) (p : BlockRegex) (block : List ℕ) (at start place : ℕ) →
     (it : IsCandidatesOf how texts p) → how.crlf ≡ false →
-    All (λ b. b < 256) block → IsLineStart block start → start ≤ length block → (end : LineSpan it.trees block at place) →
+    All (λ b. b < 256) block → IsLineStart block start → start ≤ length block → (end : LineSpan (it.tree ∷ []) block at place) →
     start ≤ end.1.start → HasNoFeedFrom block start place → HasMatchAt how texts block start
 match_here how texts p block at start place it lone bytes starts inside end from none len found res read =
     let text : List ℕ = drop start block in
@@ -275,13 +289,14 @@ match_here how texts p block at start place it lone bytes starts inside end from
     let whole : block ≡ block_of (take start block) (take len text) (drop len text) =
     sym (take-append-drop start block) ∙ ap (λ (t : List ℕ). take start block ++ t) (sym (take-append-drop len text)) in
     let span = end.1.span in
-    let y = line_tree_of it.trees block at place end in
+    let y = line_tree_of (it.tree ∷ []) block at place end in
     let forward = span_forward (looks_by is_word_char line_settings block) block span.tree end.1.start place span.means in
     let early : place ≤ start + len = not_past block start len place none feed in
     let low : end.1.start ≡ length (take start block) + (end.1.start - start) = omega (arith, front, from) in
     let high : place ≡ length (take start block) + (place - start) = omega (arith, front, from, forward) in
     let short : place - start ≤ length (take len text) = omega (arith, early, size) in
-    let there : Means (looks_by is_word_char line_settings block) block (line_tree false y.0) (length (take start block) + (end.1.start - start))
+    let there : Means (looks_by is_word_char line_settings block) block (line_tree false y.0) (length (take start block) + (end.1.start -
+    start))
     (length (take start block) + (place - start)) =
     subst (λ t. Means (looks_by is_word_char line_settings block) block t (length (take start block) + (end.1.start - start))
     (length (take start block) + (place - start))) (sym y.2)
@@ -294,8 +309,9 @@ match_here how texts p block at start place it lone bytes starts inside end from
       starts = before_start block start starts;
       ends = inr (drop (suc len) text, cut);
       without_feed = without_feed text len found;
-    }) (plain_at it.trees end.0 y.0 y.1 it.plain) (end.1.start - start) (place - start) short here in
-    has_of how texts it.trees res (take len text) it.mean read
+    }) (plain_at (it.tree ∷ []) end.0 y.0 y.1 (all_one (λ z. has_crlf z ≡ false) it.tree it.plain))
+    (end.1.start - start) (place - start) short here in
+    has_of how texts it.tree res (take len text) it.mean read
     (All-left (λ b. b < 256) (take len text) (drop len text)
     (All-right (λ b. b < 256) (take start block) _ (subst (All (λ b. b < 256)) whole bytes)))
     end.0 y.0 (end.1.start - start) (place - start) y.1 (omega (arith, forward, short)) short means
@@ -331,37 +347,28 @@ known_by false e f s known =
     let both = and_parts e (f || s) known in
     (refl, (both.0, or_cases f s both.1))
 
--- where a match ends in a line that can't have begun before it, the line has one
-pub match_known : (how : How) (texts : List (List ℕ)) (p : BlockRegex) (block : List ℕ) (at start place : ℕ) (ends : Bool) →
+-- if a match ends in a line and can't have begun before it, the line has a match
+pub match_known : (how : PatternOptions) (texts : List (List ℕ)) (p : BlockRegex) (block : List ℕ) (at start place : ℕ) (ends : Bool) →
     (it : IsCandidatesOf how texts p) → All (λ b. b < 256) block → IsLineStart block at → start ≤ length block → at ≤ start →
     (at < start → start ≤ place) → (at < start → slice_get block (start - 1) ≡ Some 10) →
-    (ends ≡ true → IsEnd (map (line_tree how.crlf) it.trees) block at place) → HasNoFeedFrom block start place →
+    (ends ≡ true → IsEnd (line_tree how.crlf it.tree ∷ []) block at place) → HasNoFeedFrom block start place →
     (not p.crlf && (ends && (p.feedless || start == at))) ≡ true →
     HasMatchAt how texts block start
 match_known how texts p block at start place ends it bytes starts inside from before feed end none known =
     let all = known_by p.crlf ends p.feedless (start == at) known in
     let by = all.1 in
     let lone : how.crlf ≡ false = sym it.same ∙ all.0 in
-    let span : LineSpan it.trees block at place =
-    subst (λ (v : Bool). IsEnd (map (line_tree v) it.trees) block at place) lone (end by.0) in
+    let span : LineSpan (it.tree ∷ []) block at place =
+    subst (λ (v : Bool). IsEnd (line_tree v it.tree ∷ []) block at place) lone (end by.0) in
     match_here how texts p block at start place it lone bytes (line_starts_at block at start starts from feed) inside span
     (elim by.1 [
-      | inl feedless ↦ starts_here it.trees block at start place (it.feedless feedless) span before feed
+      | inl feedless ↦
+          starts_here (it.tree ∷ []) block at start place
+          (all_one (λ y. reads_feed y ≡ false) it.tree (it.feedless feedless)) span before feed
       | inr same ↦ let is : start ≡ at = eqb-true start at same in omega (arith, is, span.1.span.from)
     ]) none
 
--- ---- of which trees
-without_by : (test : Tree → Bool) (xs : List Tree) (k : ℕ) (d : Tree) (v : Bool) → list_any test xs ≡ false → k < length xs →
-    test (get_or xs k d) ≡ v → test (get_or xs k d) ≡ false
-without_by test xs k d true none below is = absurd (true≢false (sym (list_any_at test xs k d below is) ∙ none))
-without_by test xs k d false none below is = is
-
-all_without : (test : Tree → Bool) (xs : List Tree) → list_any test xs ≡ false → All (λ x. test x ≡ false) xs
-all_without test xs none k d below = without_by test xs k d (test (get_or xs k d)) none below refl
-
-pub all_plain : (xs : List Tree) → list_any has_crlf xs ≡ false → All (λ x. has_crlf x ≡ false) xs
-all_plain xs none = all_without has_crlf xs none
-
-pub all_feedless : (xs : List Tree) (told : Bool) → told ≡ list_any reads_feed xs → not told ≡ true → All (λ x. reads_feed x ≡ false) xs
-all_feedless xs true is feedless = absurd (true≢false (sym feedless))
-all_feedless xs false is feedless = all_without reads_feed xs (sym is)
+-- ---- of which tree
+pub feedless_by : (x : Tree) (reported : Bool) → reported ≡ reads_feed x → not reported ≡ true → reads_feed x ≡ false
+feedless_by x true is feedless = absurd (true≢false (sym feedless))
+feedless_by x false is feedless = sym is

@@ -2,17 +2,17 @@
 use Rattle.std.proofs.Common.{◌≡◌, ◌≤◌, ◌⊎◌, inl, inr, ℕ, suc, ◌-◌, ◌<◌, Bool, true, false, List, [], ◌∷◌, ◌++◌, map, length, drop, refl}
 use Rattle.std.proofs.Common.{sym, ap, ap₂, ◌∙◌, subst, rules, arith}
 use Rattle.std.proofs.lemmas.Grind.{common_steps}
-use Rattle.grep_core.specs.declared.course.Waiting.{Waiting}
-use Rattle.grep_core.specs.declared.known.Known.{Known}
-use Rattle.grep_core.specs.declared.known.Known.TheVariants.{LastPrinted}
+use Rattle.grep_core.specs.declared.context_printer.Waiting.{Waiting}
+use Rattle.grep_core.specs.declared.separator_state.SeparatorState.{SeparatorState}
+use Rattle.grep_core.specs.declared.separator_state.SeparatorState.TheVariants.{LastPrinted}
 use Rattle.grep_core.specs.declared.role.Role.{Role}
 use Rattle.grep_core.specs.declared.role.Role.TheVariants.{Selected, Beside}
-use Rattle.grep_core.specs.declared.what.What.{What}
-use Rattle.grep_core.specs.Courses.{Item, queued, behind_queue, waiting_item}
-use Rattle.grep_core.specs.Report.{before_of, after_of, parting, behind_hidden}
+use Rattle.grep_core.specs.declared.output_options.OutputOptions.{OutputOptions}
+use Rattle.grep_core.specs.ContextPrinting.{Item, queued, after_queue, waiting_item}
+use Rattle.grep_core.specs.Report.{before_of, after_of, parting, after_hidden}
 use Rattle.grep_core.proofs.StepLemmas.{rest, selects_any, stands_beside, waits, forgets, ends, ends_soon}
 
-behind_items : (b : Known) (waiting : List Waiting) → behind_queue b (map waiting_item waiting) ≡ behind_queue b waiting
+behind_items : (b : SeparatorState) (waiting : List Waiting) → after_queue b (map waiting_item waiting) ≡ after_queue b waiting
 behind_items b [] = refl
 behind_items b (x ∷ xs) = refl
 
@@ -28,17 +28,18 @@ joined : (a b c d e : List ℕ) → a ++ (b ++ (c ++ (d ++ e))) ≡ (((a ++ b) +
 joined a b c d e = Prim.search (rules, common_steps)
 
 -- each thing that is printed is known by an equation
-pub selected : (w : What) (print : Role → Item → List ℕ) (known behind : Known) (left owed : ℕ) (waiting none : List Waiting)
+pub selected : (w : OutputOptions) (print : Role → Item → List ℕ) (known behind : SeparatorState) (left owed : ℕ) (waiting none : List
+    Waiting)
     (out one two new : List ℕ) (it : Item)
     (flags : List Bool) (items : List Item) → length waiting ≤ before_of w.context → (left ≡ 0) ⊎ (waiting ≡ []) →
-    one ≡ out ++ queued w print known (map waiting_item waiting) → behind ≡ behind_queue known waiting → none ≡ [] →
+    one ≡ out ++ queued w print known (map waiting_item waiting) → behind ≡ after_queue known waiting → none ≡ [] →
     two ≡ one ++ parting w behind → new ≡ two ++ print Selected it → owed ≡ after_of w.context →
     out ++ rest w print (before_of w.context) (after_of w.context) known left (map waiting_item waiting) (true ∷ flags) (it ∷ items)
     ≡ new ++ rest w print (before_of w.context) (after_of w.context) LastPrinted owed (map waiting_item none) flags items
 selected w print known behind left owed waiting none out one two new it flags items few how printed is empty parted selects after =
     let queue : List Item = map waiting_item waiting in
     let tail : List ℕ = rest w print (before_of w.context) (after_of w.context) LastPrinted (after_of w.context) [] flags items in
-    let last : behind_queue known queue ≡ behind = behind_items known waiting ∙ sym is in
+    let last : after_queue known queue ≡ behind = behind_items known waiting ∙ sym is in
     let whole : new ≡ ((out ++ queued w print known queue) ++ parting w behind) ++ print Selected it =
     selects ∙ ap (λ t. t ++ print Selected it) (parted ∙ ap (λ t. t ++ parting w behind) printed) in
     ap (λ t. out ++ t) (selects_any w print (before_of w.context) (after_of w.context) known left queue flags it items
@@ -56,7 +57,8 @@ no_waiting left waiting owed (inr e) = e
 joined_two : (a b c d : List ℕ) → a ++ (b ++ (c ++ d)) ≡ ((a ++ b) ++ c) ++ d
 joined_two a b c d = Prim.search (rules, common_steps)
 
-pub beside : (w : What) (print : Role → Item → List ℕ) (known : Known) (left : ℕ) (waiting : List Waiting) (out one new : List ℕ)
+pub beside : (w : OutputOptions) (print : Role → Item → List ℕ) (known : SeparatorState) (left : ℕ) (waiting : List Waiting) (out one new :
+    List ℕ)
     (it : Item)
     (flags : List Bool) (items : List Item) → 0 < left → (left ≡ 0) ⊎ (waiting ≡ []) → one ≡ out ++ parting w known →
     new ≡ one ++ print Beside it →
@@ -79,9 +81,10 @@ items_more : (waiting : List Waiting) (it : Waiting) →
 items_more [] it = refl
 items_more (x ∷ xs) it = ap (λ ws. waiting_item x ∷ ws) (items_more xs it)
 
--- one more line waits, and the first one waits no more
-forgot : (w : What) (print : Role → Item → List ℕ) (known behind : Known) (mid now : List Waiting) (flags : List Bool) (items : List Item) →
-    before_of w.context < length mid → now ≡ drop 1 mid → behind ≡ behind_hidden known →
+-- one more line waits, and the first one doesn't wait any more
+forgot : (w : OutputOptions) (print : Role → Item → List ℕ) (known behind : SeparatorState) (mid now : List Waiting) (flags : List Bool)
+    (items : List Item) →
+    before_of w.context < length mid → now ≡ drop 1 mid → behind ≡ after_hidden known →
     rest w print (before_of w.context) (after_of w.context) known 0 (map waiting_item mid) flags items
     ≡ rest w print (before_of w.context) (after_of w.context) behind 0 (map waiting_item now) flags items
 forgot w print known behind [] now flags items many is hidden = absurd (omega (arith, many))
@@ -91,11 +94,12 @@ forgot w print known behind (q ∷ queue) now flags items many is hidden =
     forgets w print (before_of w.context) (after_of w.context) known (waiting_item q) (map waiting_item queue) flags items enough
     ∙ sym (ap₂ (λ b ws. rest w print (before_of w.context) (after_of w.context) b 0 (map waiting_item ws) flags items) hidden is)
 
-pub waited : (w : What) (print : Role → Item → List ℕ) (known behind : Known) (left owed : ℕ) (waiting mid now : List Waiting)
+pub waited : (w : OutputOptions) (print : Role → Item → List ℕ) (known behind : SeparatorState) (left owed : ℕ) (waiting mid now : List
+    Waiting)
     (one : Waiting) (it : Item)
     (flags : List Bool) (items : List Item) → left ≡ 0 → owed ≡ left → waiting_item one ≡ it → mid ≡ waiting ++ one ∷ [] →
     before_of w.context < length mid →
-    now ≡ drop 1 mid → behind ≡ behind_hidden known →
+    now ≡ drop 1 mid → behind ≡ after_hidden known →
     rest w print (before_of w.context) (after_of w.context) known left (map waiting_item waiting) (false ∷ flags) (it ∷ items)
     ≡ rest w print (before_of w.context) (after_of w.context) behind owed (map waiting_item now) flags items
 waited w print known behind left owed waiting mid now one it flags items none same is pushed many dropped hidden =
@@ -106,7 +110,8 @@ waited w print known behind left owed waiting mid now one it flags items none sa
     ∙ forgot w print known behind mid now flags items many dropped hidden
     ∙ ap (λ n. rest w print (before_of w.context) (after_of w.context) behind n (map waiting_item now) flags items) (sym (same ∙ none))
 
-pub ended : (w : What) (print : Role → Item → List ℕ) (known : Known) (left : ℕ) (waiting : List Waiting) → (left ≡ 0) ⊎ (waiting ≡ []) →
+pub ended : (w : OutputOptions) (print : Role → Item → List ℕ) (known : SeparatorState) (left : ℕ) (waiting : List Waiting) →
+    (left ≡ 0) ⊎ (waiting ≡ []) →
     rest w print (before_of w.context) (after_of w.context) known left (map waiting_item waiting) [] [] ≡ []
 ended w print known left waiting (inl none) =
     ap (λ n. rest w print (before_of w.context) (after_of w.context) known n (map waiting_item waiting) [] []) none

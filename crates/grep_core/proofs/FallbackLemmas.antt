@@ -1,6 +1,6 @@
--- What the toolchain's program finds is what the texts' patterns have.
-use Rattle.std.proofs.Common.{◌≡◌, ℕ, zero, suc, ◌+◌, ◌<◌, ◌≤◌, Bool, true, false, List, [], ◌∷◌, ◌++◌, All, Bor, Option, Some, None}
-use Rattle.std.proofs.Common.{IsSomeAnd, length, map, take, slice_index_or, chars, refl, sym, ap, ◌∙◌, subst, arith}
+-- What the toolchain's program finds is what the parsed patterns have.
+use Rattle.std.proofs.Common.{◌≡◌, ℕ, zero, suc, ◌+◌, ◌<◌, Bool, true, false, List, [], ◌∷◌, ◌++◌, All, Bor}
+use Rattle.std.proofs.Common.{length, map, take, slice_index_or, chars, sym, ap, ◌∙◌, subst, arith}
 use Rattle.std.specs.List.{filter}
 use Rattle.std.specs.Prelude.{is_some}
 use Rattle.regex_hir.specs.Find.{find}
@@ -14,17 +14,17 @@ use Rattle.regex_syntax.specs.Grammar.{Names, read}
 use Rattle.regex_syntax.specs.Verdict.{Reads}
 use Rattle.regex_syntax.proofs.CapturesLemmas.{alike_refl, alike_of_eq, alike_alt, alike_cat, ◌also◌}
 use Rattle.grep_core.specs.Bounded.{bounded, line_pattern}
-use Rattle.grep_core.specs.Fallbacks.{IsTreeOfText, AreTreesOfTexts, IsProgramOf, found_at, spans_behind}
+use Rattle.grep_core.specs.Fallbacks.{IsTreeOfText, AreTreesOfPatterns, IsProgramOf, found_at, spans_following}
 use Rattle.grep_core.specs.Meant.{line_config}
 use Rattle.pattern_search.specs.Texts.{AreReadAs}
 use Rattle.pattern_search.proofs.ForCallers.{one_same, read_texts}
 use Rattle.grep_core.specs.Report.{is_some_text}
-use Rattle.grep_core.specs.Searchers.{AreTold, IsMatchTold}
-use Rattle.grep_core.specs.declared.patterns.How.{How}
+use Rattle.grep_core.specs.Searchers.{AreReported, IsMatchReported}
+use Rattle.grep_core.specs.declared.patterns.PatternOptions.{PatternOptions}
 use Rattle.grep_core.proofs.SpanLemmas.{same_found, same_has, same_spans, spans_of_matches}
 
--- what stands around patterns that give the same gives the same
-pub same_bounded : (how : How) (a b : Re) → SameCaptures a b → SameCaptures (bounded how a) (bounded how b)
+-- two patterns with the same captures also have the same captures with the same bounds around them
+pub same_bounded : (how : PatternOptions) (a b : Re) → SameCaptures a b → SameCaptures (bounded how a) (bounded how b)
 same_bounded how a b same = by how.lines how.words
   where
     by : (lines words : Bool) → SameCaptures (bounded (record how { lines = lines; words = words }) a)
@@ -33,8 +33,8 @@ same_bounded how a b same = by how.lines how.words
     by false true = alike_cat (alike_refl _) (alike_cat same (alike_refl _))
     by false false = same
 
--- ---- trees of texts
-pub tree_of_text : (how : How) (text : List ℕ) (plain hir : Hir) (names : Names) → Reads (line_config how) text plain names →
+-- ---- trees of patterns
+pub tree_of_text : (how : PatternOptions) (text : List ℕ) (plain hir : Hir) (names : Names) → Reads (line_config how) text plain names →
     meaning hir ≡ bounded how (meaning plain) → IsTreeOfText how text hir
 unfolding Reads
 tree_of_text how text plain hir names reads is re found =
@@ -42,26 +42,27 @@ tree_of_text how text plain hir names reads is re found =
     also same_bounded how (meaning plain) re
     (one_same (line_config how) plain names re (read (line_config how) (chars text)) reads found)
 
-next_tree : (how : How) (ts : List (Bor (List ℕ))) (d : Bor (List ℕ)) (n : ℕ) (hirs : List Hir) (hir : Hir) → n < length ts →
-    AreTreesOfTexts how (take n (read_texts ts)) hirs → IsTreeOfText how (slice_index_or ts n d).now hir →
-    AreTreesOfTexts how (take (suc n) (read_texts ts)) (hirs ++ hir ∷ [])
+next_tree : (how : PatternOptions) (ts : List (Bor (List ℕ))) (d : Bor (List ℕ)) (n : ℕ) (hirs : List Hir) (hir : Hir) → n < length ts →
+    AreTreesOfPatterns how (take n (read_texts ts)) hirs → IsTreeOfText how (slice_index_or ts n d).now hir →
+    AreTreesOfPatterns how (take (suc n) (read_texts ts)) (hirs ++ hir ∷ [])
 next_tree how [] d n hirs hir below p q = absurd (omega (arith, below))
 next_tree how (t ∷ ts) d zero [] hir below p q = (q, tt)
 next_tree how (t ∷ ts) d zero (x ∷ hirs) hir below p q = absurd p
 next_tree how (t ∷ ts) d (suc n) [] hir below p q = absurd p
 next_tree how (t ∷ ts) d (suc n) (x ∷ hirs) hir below p q = (p.0, next_tree how ts d n hirs hir (omega (arith, below)) p.1 q)
 
--- one more text has its tree
-pub one_more_tree : (how : How) (ts : List (Bor (List ℕ))) (d : Bor (List ℕ)) (n : ℕ) (old new : List Hir) (hir : Hir) → n < length ts →
-    new ≡ old ++ hir ∷ [] → AreTreesOfTexts how (take n (read_texts ts)) old → IsTreeOfText how (slice_index_or ts n d).now hir →
-    AreTreesOfTexts how (take (n + 1) (read_texts ts)) new
+-- one more pattern has its tree
+pub one_more_tree : (how : PatternOptions) (ts : List (Bor (List ℕ))) (d : Bor (List ℕ)) (n : ℕ) (old new : List Hir) (hir : Hir) →
+    n < length ts →
+    new ≡ old ++ hir ∷ [] → AreTreesOfPatterns how (take n (read_texts ts)) old → IsTreeOfText how (slice_index_or ts n d).now hir →
+    AreTreesOfPatterns how (take (n + 1) (read_texts ts)) new
 one_more_tree how ts d n old new hir below is p q =
     let step : suc n ≡ n + 1 = omega arith in
-    subst (λ k. AreTreesOfTexts how (take k (read_texts ts)) new) step
-    (subst (AreTreesOfTexts how (take (suc n) (read_texts ts))) (sym is) (next_tree how ts d n old hir below p q))
+    subst (λ k. AreTreesOfPatterns how (take k (read_texts ts)) new) step
+    (subst (AreTreesOfPatterns how (take (suc n) (read_texts ts))) (sym is) (next_tree how ts d n old hir below p q))
 
 -- ---- the program of all of them
-all_same : (how : How) (texts : List (List ℕ)) (hirs : List Hir) (res : List Re) → AreTreesOfTexts how texts hirs →
+all_same : (how : PatternOptions) (texts : List (List ℕ)) (hirs : List Hir) (res : List Re) → AreTreesOfPatterns how texts hirs →
     AreReadAs (line_config how) texts res → SameCaptures (alt_all (map meaning hirs)) (line_pattern how res)
 all_same how [] [] [] p q = alike_refl _
 all_same how [] [] (a ∷ res) p q = absurd q
@@ -70,27 +71,29 @@ all_same how (t ∷ ts) [] res p q = absurd p
 all_same how (t ∷ ts) (x ∷ hirs) [] p q = absurd q
 all_same how (t ∷ ts) (x ∷ hirs) (a ∷ res) p q = alike_alt (p.0 a q.0) (all_same how ts hirs res p.1 q.1)
 
-pub program_is : (how : How) (texts : List (List ℕ)) (hirs : List Hir) (p : Program) → pattern_of p ≡ alt_all (map meaning hirs) →
-    AreTreesOfTexts how texts hirs → IsProgramOf how texts p
+pub program_is : (how : PatternOptions) (texts : List (List ℕ)) (hirs : List Hir) (p : Program) →
+    pattern_of p ≡ alt_all (map meaning hirs) →
+    AreTreesOfPatterns how texts hirs → IsProgramOf how texts p
 program_is how texts hirs p is trees res found = alike_of_eq is also all_same how texts hirs res trees found
 
 -- ---- what it finds in a line
-pub told_any : (how : How) (texts : List (List ℕ)) (p : Program) (line : List ℕ) (told : Bool) → All (λ x. x < 256) line →
-    told ≡ is_some (find (pattern_of p) line 0) → IsProgramOf how texts p → IsMatchTold how texts line told
-told_any how texts p line told bytes is it res found =
+pub told_any : (how : PatternOptions) (texts : List (List ℕ)) (p : Program) (line : List ℕ) (reported : Bool) → All (λ x. x < 256) line →
+    reported ≡ is_some (find (pattern_of p) line 0) → IsProgramOf how texts p → IsMatchReported how texts line reported
+told_any how texts p line reported bytes is it res found =
     is ∙ same_has (pattern_of p) (line_pattern how res) line 0 (it res found) bytes
 
 -- the spans of its matches, one after the other
 abbrev pub all_of : Program → List ℕ → List (ℕ × ℕ)
-all_of p line = spans_behind (found_at (pattern_of p) line) (length line + 1) (found_at (pattern_of p) line 0)
+all_of p line = spans_following (found_at (pattern_of p) line) (length line + 1) (found_at (pattern_of p) line 0)
 
-pub told_all : (how : How) (texts : List (List ℕ)) (p : Program) (line : List ℕ) (told : List (ℕ × ℕ)) → All (λ x. x < 256) line →
-    told ≡ filter is_some_text (all_of p line) → IsProgramOf how texts p → AreTold how texts line told
-told_all how texts p line told bytes is it res found =
+pub told_all : (how : PatternOptions) (texts : List (List ℕ)) (p : Program) (line : List ℕ) (reported : List (ℕ × ℕ)) →
+    All (λ x. x < 256) line →
+    reported ≡ filter is_some_text (all_of p line) → IsProgramOf how texts p → AreReported how texts line reported
+told_all how texts p line reported bytes is it res found =
     let same : (i : ℕ) → found_at (pattern_of p) line i ≡ found_at (line_pattern how res) line i =
     λ i. same_found (pattern_of p) (line_pattern how res) line i (it res found) bytes in
     is ∙ ap (filter is_some_text)
     (same_spans (found_at (pattern_of p) line) (found_at (line_pattern how res) line) same (length line + 1)
     (found_at (pattern_of p) line 0)
-    ∙ ap (spans_behind (found_at (line_pattern how res) line) (length line + 1)) (same 0)
+    ∙ ap (spans_following (found_at (line_pattern how res) line) (length line + 1)) (same 0)
     ∙ sym (spans_of_matches (find (line_pattern how res) line) (length line + 1) (find (line_pattern how res) line 0)))

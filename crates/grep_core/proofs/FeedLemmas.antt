@@ -1,4 +1,4 @@
--- The first line feed of a text, behind bytes that are none.
+-- The first line feed of a haystack, after bytes that are none.
 use Rattle.std.proofs.Common.{◌≡◌, ◌≤◌, ◌<◌, ◌*◌, ◌^◌, inl, inr, ℕ, zero, suc, ◌+◌, ◌-◌, Bool, true, false, not, cond, List, [], ◌∷◌}
 use Rattle.std.proofs.Common.{length, drop, get_or}
 use Rattle.std.proofs.Common.{slice_get, map, nat_lt}
@@ -21,7 +21,7 @@ use Rattle.grep_core.proofs.BlockLemmas.{is_feed, first_at, some_at}
 abbrev pub NoneBefore : List ℕ → ℕ → Type 0
 NoneBefore text n = (k : ℕ) → k < n → is_feed (get_or text k 0) ≡ false
 
--- behind them the first one is looked for
+-- after them the first one is looked for
 passed : (text : List ℕ) (n : ℕ) → n ≤ length text → NoneBefore text n →
     position_or_len is_feed text ≡ n + position_or_len is_feed (drop n text)
 passed text zero room none = omega arith
@@ -43,7 +43,7 @@ found_behind text n k room none e =
     let within = ltb-true (position_or_len is_feed rest) (length rest) at.0 in
     at_place text (n + k) (passed text n room none ∙ ap (λ j. n + j) at.1) (omega (arith, at.1, within, length-drop n text))
 
--- where none is left there is none at all
+-- if none is left there is none at all
 none_by : (text rest : List ℕ) (n : ℕ) → position_or_len is_feed text ≡ n + position_or_len is_feed rest → length text ≡ n + length rest →
     (v : Bool) → nat_lt (position_or_len is_feed rest) (length rest) ≡ v →
     cond v (Some (position_or_len is_feed rest)) None ≡ None → position is_feed text ≡ None
@@ -75,23 +75,23 @@ some_within (x ∷ xs) some = by (is_feed x) some (some_within xs)
     by true some rest = omega arith
     by false some rest = let less = rest (omega (arith, some)) in omega (arith, less)
 
--- what the bits of 32 bytes from a place on tell
-module _ (text : List ℕ) (at : ℕ) (room : at + 32 ≤ length text) (bits : ℕ) (told : bits ≡ mask_l (map is_feed (chunk at 32 text)))
+-- what the bits of 32 bytes from an offset on say
+module _ (text : List ℕ) (at : ℕ) (room : at + 32 ≤ length text) (bits : ℕ) (reported : bits ≡ mask_l (map is_feed (chunk at 32 text)))
     (before : NoneBefore text at) where
   joined : (n : ℕ) → ((k : ℕ) → at ≤ k → k < n → is_feed (get_or text k 0) ≡ false) → NoneBefore text n
   joined n behind k less = ⊎_elim (λ low. before k low) (λ high. behind k high less) (cases_lt k at)
 
   pub passed_over : bits ≡ 0 → NoneBefore text (at + 32)
-  passed_over none = joined (at + 32) (none_from_empty_mask is_feed text at 32 0 room (sym told ∙ none))
+  passed_over none = joined (at + 32) (none_from_empty_mask is_feed text at 32 0 room (sym reported ∙ none))
 
   pub found_within : 0 < bits → position is_feed text ≡ Some (at + count_trailing_zeros 64 bits)
   found_within some =
       let bytes = chunk at 32 text in
       let long = length-chunk at 32 text room in
       let first = prefix_len (λ x. not (is_feed x)) bytes in
-      let has : 0 < mask_l (map is_feed bytes) = subst (λ n. 0 < n) told some in
+      let has : 0 < mask_l (map is_feed bytes) = subst (λ n. 0 < n) reported some in
       let counted : count_trailing_zeros 64 bits ≡ first =
-      ap (count_trailing_zeros 64) told ∙ trailing_mask_l is_feed 64 bytes (omega (arith, long)) has in
+      ap (count_trailing_zeros 64) reported ∙ trailing_mask_l is_feed 64 bytes (omega (arith, long)) has in
       let within = some_within bytes has in
       let none = joined (at + first) (run_in_chunk_fails is_feed text at 32 first 0 room refl) in
       let is = run_in_chunk_stops is_feed text at 32 first 0 room refl (omega (arith, within, long)) in
@@ -116,7 +116,7 @@ few_marks (x ∷ xs) = by (is_feed x) (few_marks xs)
     by true few = omega (arith, few, pow-suc 2 (length xs))
     by false few = omega (arith, few, pow-suc 2 (length xs))
 
--- where they are below a power of two, none is a line feed from its exponent on
+-- if they are below a power of two, none is a line feed from its exponent on
 high_marks : (bytes : List ℕ) (m : ℕ) → mask_l (map is_feed bytes) < 2 ^ m → (k : ℕ) → m ≤ k → k < length bytes →
     is_feed (get_or bytes k 0) ≡ false
 high_marks [] m low k from within = absurd (omega (arith, within))
@@ -131,13 +131,13 @@ high_marks (x ∷ xs) (suc m) low (suc k) from within =
     let less : cond (is_feed x) 1 0 + 2 * mask_l (map is_feed xs) < 2 ^ suc m = low in
     high_marks xs m (omega (arith, less, pow-suc 2 m)) k (omega (arith, from)) (omega (arith, within))
 
--- behind the highest bit of 32 bytes from a place on stands no line feed
-module _ (text : List ℕ) (at bits : ℕ) (room : at + 32 ≤ length text) (told : bits ≡ mask_l (map is_feed (chunk at 32 text))) where
+-- after the highest bit of 32 bytes from an offset on there is no line feed
+module _ (text : List ℕ) (at bits : ℕ) (room : at + 32 ≤ length text) (reported : bits ≡ mask_l (map is_feed (chunk at 32 text))) where
   long : length (chunk at 32 text) ≡ 32
   long = length-chunk at 32 text room
 
   small : bits < 2 ^ 32
-  small = subst (λ n. n < 2 ^ 32) (sym told)
+  small = subst (λ n. n < 2 ^ 32) (sym reported)
       (subst (λ n. mask_l (map is_feed (chunk at 32 text)) < 2 ^ n) long (few_marks (chunk at 32 text)))
 
   top : (m : ℕ) × (count_leading_zeros 64 bits + m ≡ 64) × (bits < 2 ^ m) × (2 ^ m ≤ 2 * bits + 1)
@@ -153,7 +153,7 @@ module _ (text : List ℕ) (at bits : ℕ) (room : at + 32 ≤ length text) (tol
   none_behind i low high is =
       let m : 64 - count_leading_zeros 64 bits ≡ top.0 = omega (arith, top.1) in
       let off : at + (i - at) ≡ i = omega (arith, low) in
-      let none = high_marks (chunk at 32 text) top.0 (subst (λ n. n < 2 ^ top.0) told top.2) (i - at) (omega (arith, m, low))
+      let none = high_marks (chunk at 32 text) top.0 (subst (λ n. n < 2 ^ top.0) reported top.2) (i - at) (omega (arith, m, low))
       (omega (arith, long, low, high)) in
       absurd (true≢false (sym (eq-eqb (get_or text i 0) 10 (got text i 10 is))
       ∙ sym (ap (λ k. is_feed (get_or text k 0)) off) ∙ sym (ap is_feed (get_or-chunk at 32 text (i - at) 0 (omega (arith, low, high))))

@@ -1,4 +1,4 @@
--- The first bytes of a buffer, behind a read.
+-- The first bytes of a buffer, after a read.
 use Rattle.std.proofs.Common.{◌≡◌, ℕ, ◌+◌, List, ◌++◌, take, drop, ap, ◌∙◌, take-add}
 
 pub read_behind : (len n : ℕ) (xs old : List ℕ) → take len xs ≡ old → take (len + n) xs ≡ old ++ take n (drop len xs)

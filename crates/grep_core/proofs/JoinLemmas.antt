@@ -1,4 +1,4 @@
--- Lines of a block that are passed over, or one that is looked at.
+-- Lines of a block that are skipped, or one that is looked at.
 use Rattle.std.proofs.Common.{◌≡◌, ◌≢◌, ◌≤◌, ◌<◌, inl, inr, ℕ, zero, suc, ◌+◌, ◌-◌, Bool, true, false, cond, List, [], ◌∷◌, ◌++◌, length}
 use Rattle.std.proofs.Common.{take, drop, slice_get, slice_range, Some, None, nat_lt}
 use Rattle.std.proofs.Common.{refl, sym, ap, ◌∙◌, subst, arith, append_assoc, take-append-drop, length-append, length-drop}
@@ -11,12 +11,12 @@ use Rattle.line_trees.specs.LineTrees.{HasNoFeedFrom}
 use Rattle.line_trees.proofs.ForCallers.{get_dropped}
 use Rattle.grep_core.specs.Candidates.{IsLineStart}
 use Rattle.grep_core.specs.Lines.{SplitLine, ended, split_lines}
-use Rattle.grep_core.specs.Passing.{AreWhole}
+use Rattle.grep_core.specs.Skipping.{AreWhole}
 use Rattle.grep_core.proofs.BlockLemmas.{is_feed, first_at, one_more, some_at, turn, turn_counted}
 use Rattle.grep_core.proofs.LineCutLemmas.{before_start}
 use Rattle.grep_core.proofs.WholeLemmas.{whole_behind, whole_none}
 
--- ---- where the first line feed stands
+-- ---- where the first line feed is
 abbrev IsAtFeed : List ℕ → Type 0
 IsAtFeed text = position_or_len is_feed text < length text → slice_get text (position_or_len is_feed text) ≡ Some 10
 
@@ -45,7 +45,7 @@ none_by text none false e = ap (λ b. cond b (Some (position_or_len is_feed text
 pub no_feed : (text : List ℕ) → ((i : ℕ) → slice_get text i ≡ Some 10 → ⊥) → position is_feed text ≡ None
 no_feed text none = none_by text none (nat_lt (position_or_len is_feed text) (length text)) refl
 
--- a place that holds a byte is below the end
+-- an offset that holds a byte is below the end
 pub got_within : (xs : List ℕ) (i b : ℕ) → slice_get xs i ≡ Some b → i < length xs
 got_within [] i b e = absurd (none-some b e)
 got_within (x ∷ xs) zero b e = omega arith
@@ -56,7 +56,7 @@ got_within (x ∷ xs) (suc i) b e = let less = got_within xs i b e in omega (ari
 pub whole_start : (block : List ℕ) (r : ℕ) → IsLineStart block r → AreWhole (take r block)
 whole_start block r starts = before_start block r starts
 
--- behind the last one
+-- after the last one
 pub rest_without : (block : List ℕ) (r : ℕ) → HasNoFeedFrom block r (length block) → position is_feed (drop r block) ≡ None
 rest_without block r last =
     no_feed (drop r block) (λ i e.
@@ -99,13 +99,14 @@ starts_behind block text at len next rest found is some =
     let place : next - 1 ≡ at + len = omega (arith, is) in
     ap (slice_get block) place ∙ sym (get_dropped at block len) ∙ sym (ap (λ t. slice_get t len) rest) ∙ feed_there text len found
 
-pub here_told : {P : Type 0} (tells : P → List SplitLine → List ℕ) (p q : P) (block more text piece out new : List ℕ) (at len next : ℕ) →
+pub here_told : {P : Type 0} (reports : P → List SplitLine → List ℕ) (p q : P) (block more text piece out new : List ℕ) (at len next : ℕ) →
     text ≡ drop at block → position is_feed text ≡ Some len → piece ≡ take len text → next ≡ at + (len + 1) →
-    ((lines : List SplitLine) → out ++ tells p (ended piece ∷ lines) ≡ new ++ tells q lines) →
-    out ++ tells p (split_lines (drop at block ++ more)) ≡ new ++ tells q (split_lines (drop next block ++ more))
-here_told tells p q block more text piece out new at len next rest found cut is goes_on =
-    turn tells p q block more text piece (out ++ tells p (split_lines (drop at block ++ more))) out new at len rest found cut refl goes_on
-    ∙ sym (ap (λ n. new ++ tells q (split_lines (drop n block ++ more))) is)
+    ((lines : List SplitLine) → out ++ reports p (ended piece ∷ lines) ≡ new ++ reports q lines) →
+    out ++ reports p (split_lines (drop at block ++ more)) ≡ new ++ reports q (split_lines (drop next block ++ more))
+here_told reports p q block more text piece out new at len next rest found cut is goes_on =
+    turn reports p q block more text piece (out ++ reports p (split_lines (drop at block ++ more))) out new at len rest found cut refl
+    goes_on
+    ∙ sym (ap (λ n. new ++ reports q (split_lines (drop n block ++ more))) is)
 
 pub here_counted : {P : Type 0} (counts : P → List SplitLine → ℕ) (p q : P) (block more text piece : List ℕ) (at len next : ℕ) →
     text ≡ drop at block → position is_feed text ≡ Some len → piece ≡ take len text → next ≡ at + (len + 1) →
@@ -115,16 +116,16 @@ here_counted counts p q block more text piece at len next rest found cut is goes
     ap (λ n. counts q (split_lines (drop n block ++ more))) is
     ∙ turn_counted counts p q block more text piece (counts p (split_lines (drop at block ++ more))) at len rest found cut refl goes_on
 
--- ---- lines that are passed over
+-- ---- lines that are skipped
 parted : (block more : List ℕ) (at next : ℕ) → at ≤ next → drop at block ++ more ≡ slice_range block at next ++ (drop next block ++ more)
 parted block more at next low =
     ap (λ (t : List ℕ). t ++ more) (drop_split block at next low) ∙ append_assoc (slice_range block at next) (drop next block) more
 
-pub passed_told : {P : Type 0} (tells : P → List SplitLine → List ℕ) (p q : P) (block more out new : List ℕ) (at next : ℕ) → at ≤ next →
-    ((m : List ℕ) → out ++ tells p (split_lines (slice_range block at next ++ m)) ≡ new ++ tells q (split_lines m)) →
-    out ++ tells p (split_lines (drop at block ++ more)) ≡ new ++ tells q (split_lines (drop next block ++ more))
-passed_told tells p q block more out new at next low passed =
-    ap (λ t. out ++ tells p (split_lines t)) (parted block more at next low) ∙ passed (drop next block ++ more)
+pub passed_told : {P : Type 0} (reports : P → List SplitLine → List ℕ) (p q : P) (block more out new : List ℕ) (at next : ℕ) → at ≤ next →
+    ((m : List ℕ) → out ++ reports p (split_lines (slice_range block at next ++ m)) ≡ new ++ reports q (split_lines m)) →
+    out ++ reports p (split_lines (drop at block ++ more)) ≡ new ++ reports q (split_lines (drop next block ++ more))
+passed_told reports p q block more out new at next low passed =
+    ap (λ t. out ++ reports p (split_lines t)) (parted block more at next low) ∙ passed (drop next block ++ more)
 
 pub passed_counted : {P : Type 0} (counts : P → List SplitLine → ℕ) (p q : P) (block more : List ℕ) (at next : ℕ) → at ≤ next →
     ((m : List ℕ) → counts q (split_lines m) ≡ counts p (split_lines (slice_range block at next ++ m))) →
@@ -140,7 +141,7 @@ moves_on block at behind whole below on =
     on (λ none. let over = whole_none (drop at block) (whole_behind block at whole) none in
     absurd (omega (arith, over, below, length-drop at block)))
 
--- behind lines that were passed, or none, and perhaps one more
+-- after lines that were skipped, or none, and perhaps one more
 pub moves_past : (block : List ℕ) (at start behind : ℕ) → AreWhole block → at < length block → at ≤ start → start ≤ behind →
     (position is_feed (drop start block) ≢ None → start < behind) → at < behind
 moves_past block at start behind whole below from past on = elim (cases_lt at start) [
@@ -158,7 +159,7 @@ starts_past block start behind here past there = elim (cases_lt start behind) [
   | inr over ↦ let same : start ≡ behind = omega (arith, past, over) in subst (λ (n : ℕ). IsLineStart block n) same here
 ]
 
--- ---- the whole lines of a block, and what stands behind them
+-- ---- the whole lines of a block, and what comes after them
 rejoin : (block more : List ℕ) (whole done : ℕ) → done ≤ whole →
     drop done (take whole block) ++ (drop whole block ++ more) ≡ drop done block ++ more
 rejoin block more whole zero less =
@@ -167,17 +168,17 @@ rejoin block more zero (suc d) less = absurd (omega (arith, less))
 rejoin [] more (suc w) (suc d) less = refl
 rejoin (x ∷ xs) more (suc w) (suc d) less = rejoin xs more w d (omega (arith, less))
 
-pub block_told : {P : Type 0} (tells : P → List SplitLine → List ℕ) (p q : P) (block more all out new : List ℕ) (whole done next : ℕ) →
+pub block_told : {P : Type 0} (reports : P → List SplitLine → List ℕ) (p q : P) (block more all out new : List ℕ) (whole done next : ℕ) →
     done ≤ whole → next ≤ whole →
-    all ≡ out ++ tells p (split_lines (drop done block ++ more)) →
-    ((m : List ℕ) → out ++ tells p (split_lines (drop done (take whole block) ++ m)) ≡
-    new ++ tells q (split_lines (drop next (take whole block) ++ m))) →
-    all ≡ new ++ tells q (split_lines (drop next block ++ more))
-block_told tells p q block more all out new whole done next low high so_far goes_on =
+    all ≡ out ++ reports p (split_lines (drop done block ++ more)) →
+    ((m : List ℕ) → out ++ reports p (split_lines (drop done (take whole block) ++ m)) ≡
+    new ++ reports q (split_lines (drop next (take whole block) ++ m))) →
+    all ≡ new ++ reports q (split_lines (drop next block ++ more))
+block_told reports p q block more all out new whole done next low high so_far goes_on =
     so_far
-    ∙ sym (ap (λ t. out ++ tells p (split_lines t)) (rejoin block more whole done low))
+    ∙ sym (ap (λ t. out ++ reports p (split_lines t)) (rejoin block more whole done low))
     ∙ goes_on (drop whole block ++ more)
-    ∙ ap (λ t. new ++ tells q (split_lines t)) (rejoin block more whole next high)
+    ∙ ap (λ t. new ++ reports q (split_lines t)) (rejoin block more whole next high)
 
 pub block_counted : {P : Type 0} (counts : P → List SplitLine → ℕ) (p q : P) (block more : List ℕ) (all whole done next : ℕ) →
     done ≤ whole → next ≤ whole →

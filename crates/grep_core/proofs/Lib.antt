@@ -6,6 +6,7 @@ mod FallbackLemmas
 mod FeedLemmas
 mod HeldLemmas
 mod JoinLemmas
+mod JoinedLemmas
 mod LoopLemmas
 mod MarkLemmas
 mod NeededLemmas
@@ -21,6 +22,7 @@ mod TellingLemmas
 mod TextLemmas
 mod ToldLemmas
 mod WholeLemmas
+mod WholePatternLemmas
 mod WriteLemmas
 pub mod LineCutLemmas
 pub mod CandidateLemmas

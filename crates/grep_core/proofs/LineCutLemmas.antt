@@ -1,4 +1,4 @@
--- The lines of a part of a text: what stands before each in the text, and behind it.
+-- The lines of a part of a haystack: what comes before each in the haystack, and after it.
 use Rattle.std.proofs.Common.{◌≡◌, ◌≢◌, ◌≤◌, ◌<◌, ◌⊎◌, inl, inr, ℕ, zero, suc, ◌+◌, ◌-◌, ◌==◌, Bool, true, false, List, [], ◌∷◌, ◌++◌, All}
 use Rattle.std.proofs.Common.{length, take, drop}
 use Rattle.std.proofs.Common.{slice_get, slice_range, Some, if◌then◌else◌, refl, sym, ap, ◌∙◌, subst, arith, length-append, append_assoc}
@@ -18,7 +18,7 @@ use Rattle.grep_core.specs.Lines.{SplitLine, ended, put_first, searched, split_l
 abbrev pub HasNoFeed : List ℕ → Type 0
 HasNoFeed line = All (λ b. b ≢ 10) line
 
--- before a line stands nothing, or what a line feed ends
+-- before a line there is nothing, or what a line feed ends
 abbrev pub IsBefore : List ℕ → Type 0
 IsBefore before = (before ≡ []) ⊎ ((front : List ℕ) × (before ≡ front ++ (10 ∷ [])))
 
@@ -27,7 +27,7 @@ abbrev pub Ending : Bool → List ℕ → Type 0
 Ending true after = (rest : List ℕ) × (after ≡ 10 ∷ rest)
 Ending false after = after ≡ []
 
--- the line stands in the block, at this offset or after it, and ends before x
+-- the line is in the block, at this offset or after it, and ends before x
 pub record StandsIn (block : List ℕ) (at x : ℕ) (line : SplitLine) : Type 0 where
   pub before : List ℕ
   pub after : List ℕ
@@ -38,7 +38,7 @@ pub record StandsIn (block : List ℕ) (at x : ℕ) (line : SplitLine) : Type 0 
   pub from : at ≤ length before
   pub ends : length before + length line.bytes < x
 
--- the bytes for which it is searched stand there too
+-- the bytes for which it is searched are there too
 pub record IsSearchedIn (crlf : Bool) (block : List ℕ) (at x : ℕ) (bytes : List ℕ) : Type 0 where
   pub before : List ℕ
   pub after : List ℕ
@@ -67,14 +67,14 @@ split_last b (c ∷ cs) none =
     put b (c ∷ cs) (All-head (λ d. d ≢ 10) b (c ∷ cs) none)
     ∙ ap (put_first b) (split_last c cs (All-tail (λ d. d ≢ 10) b (c ∷ cs) none))
 
--- ---- where a text ends, of which the line has been read: at the end of a line, or it is the block's end, which lies before x
+-- ---- where the bytes after the part of a line that was read end: at the end of a line, or at the block's end, which lies before x
 abbrev IsWhole : List ℕ → List ℕ → Type 0
 IsWhole line text = (text ≡ [] → line ≡ []) × ((k : ℕ) → length text ≡ suc k → slice_get text k ≡ Some 10)
 
 abbrev Ends : ℕ → List ℕ → List ℕ → List ℕ → List ℕ → Type 0
 Ends x before line text after = IsWhole line text ⊎ ((after ≡ []) × (length before + (length line + length text) < x))
 
--- what is to be shown of the lines of the text, of whose first one some bytes were read
+-- what is to be shown of the lines of these bytes, if the start of the first line was read before them
 abbrev Cuts : List ℕ → ℕ → ℕ → List ℕ → List ℕ → Type 0
 Cuts block at x after text = (before line : List ℕ) → IsBefore before → HasNoFeed line → block ≡ block_of before line (text ++ after) →
     at ≤ length before → length before + (length line + length text) ≤ x → Ends x before line text after →
@@ -103,13 +103,13 @@ module _ (block : List ℕ) (at x : ℕ) (after : List ℕ) where
       subst (λ (t : List ℕ). All (StandsIn block at x) (split_lines t)) (sym (append-nil (b ∷ bs)))
       (last_line before b bs starts none whole from ends)
 
-  -- behind a line feed
+  -- after a line feed
   ended_on : (b : ℕ) (bs before line : List ℕ) → Ends x before line (b ∷ bs) after → Ends x (before ++ (line ++ (10 ∷ []))) [] bs after
   ended_on b bs before line (inl e) = inl ((λ _. refl), (λ k is. e.1 (suc k) (ap suc is)))
   ended_on b bs before line (inr e) =
       inr (e.0, omega (arith, e.1, length-append before (line ++ (10 ∷ [])), length-append line (10 ∷ [])))
 
-  -- behind another byte
+  -- after another byte
   read_on : (b : ℕ) (bs before line : List ℕ) → b ≢ 10 → Ends x before line (b ∷ bs) after → Ends x before (line ++ (b ∷ [])) bs after
   read_on b bs before line none (inl e) = inl (
     (λ over. absurd (none (same_Some b 10 (e.1 0 (ap (λ (t : List ℕ). suc (length t)) over))))),
@@ -167,7 +167,7 @@ before_start block (suc k) start =
 length_range : (block : List ℕ) (at next : ℕ) → at ≤ next → next ≤ length block → length (slice_range block at next) ≡ next - at
 length_range block at next low high = length-take-le (next - at) (drop at block) (omega (arith, length-drop at block, low, high))
 
--- the lines between two places: from the start of a line to the start of another one, or to the end of the block
+-- the lines between two offsets: from the start of a line to the start of another one, or to the end of the block
 pub lines_between : (block : List ℕ) (at next x : ℕ) → IsLineStart block at → at < next → next ≤ length block → next ≤ x →
     ((slice_get block (next - 1) ≡ Some 10) ⊎ ((next ≡ length block) × (next < x))) →
     All (StandsIn block at x) (split_lines (slice_range block at next))

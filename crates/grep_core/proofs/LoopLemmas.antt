@@ -1,4 +1,4 @@
--- Where no pattern has an empty loop the loops of all read.
+-- If no pattern has an empty loop, the body of every unbounded repetition consumes at least one byte.
 use Rattle.std.proofs.Common.{◌≡◌, ℕ, Bool, true, List, All, Option, Some, None, IfNone, sym}
 use Rattle.hir_core.specs.Facts.{LoopsRead}
 use Rattle.hir_core.specs.Tree.{Tree}

@@ -1,25 +1,25 @@
 -- A report asks for no more matches than are needed.
 use Rattle.std.proofs.Common.{◌≡◌, ℕ, Bool, true, false, ◌&&◌, List, [], ◌∷◌, ◌++◌, Option, Some, None, if◌then◌else◌, refl, sym, ap, ◌∙◌}
 use Rattle.std.specs.List.{filter}
-use Rattle.grep_core.specs.declared.known.Known.{Known}
-use Rattle.grep_core.specs.declared.known.Known.TheVariants.{LastPrinted}
+use Rattle.grep_core.specs.declared.separator_state.SeparatorState.{SeparatorState}
+use Rattle.grep_core.specs.declared.separator_state.SeparatorState.TheVariants.{LastPrinted}
 use Rattle.grep_core.specs.declared.role.Role.{Role}
 use Rattle.grep_core.specs.declared.role.Role.TheVariants.{Selected, Beside, Hidden}
-use Rattle.grep_core.specs.declared.what.Print.{Print}
-use Rattle.grep_core.specs.declared.what.Print.TheVariants.{Lines, Matches, Count, NameIfAny, NameIfNone, Nothing}
-use Rattle.grep_core.specs.declared.what.What.{What}
+use Rattle.grep_core.specs.declared.output_options.Print.{Print}
+use Rattle.grep_core.specs.declared.output_options.Print.TheVariants.{Lines, Matches, Count, NameIfAny, NameIfNone, Nothing}
+use Rattle.grep_core.specs.declared.output_options.OutputOptions.{OutputOptions}
 use Rattle.grep_core.specs.Lines.{TextLine, text_lines}
 use Rattle.grep_core.specs.Printing.{fields, has_marks, marked_from, printed_line, printed_matches}
-use Rattle.grep_core.specs.Report.{LineMatcher, behind_hidden, is_some_text, parting, print_lines, report, report_as, roles_of, selected}
-use Rattle.grep_core.specs.Report.{told_spans}
-use Rattle.grep_core.specs.Telling.{with_needed_spans, needs_of, needs_spans}
+use Rattle.grep_core.specs.Report.{LineMatcher, after_hidden, is_some_text, parting, print_lines, report, report_as, roles_of, selected}
+use Rattle.grep_core.specs.Report.{reported_spans}
+use Rattle.grep_core.specs.Reporting.{with_needed_spans, needs_of, needs_spans}
 
-print_alike : {X : Type 0} (w : What) (one two : Role → X → List ℕ) → ((r : Role) (x : X) → one r x ≡ two r x) →
-    (b : Known) (rs : List Role) (xs : List X) →
+print_alike : {X : Type 0} (w : OutputOptions) (one two : Role → X → List ℕ) → ((r : Role) (x : X) → one r x ≡ two r x) →
+    (b : SeparatorState) (rs : List Role) (xs : List X) →
     print_lines w one b rs xs ≡ print_lines w two b rs xs
 print_alike w one two same b [] xs = refl
 print_alike w one two same b (r ∷ rs) [] = refl
-print_alike w one two same b (Hidden ∷ rs) (x ∷ xs) = print_alike w one two same (behind_hidden b) rs xs
+print_alike w one two same b (Hidden ∷ rs) (x ∷ xs) = print_alike w one two same (after_hidden b) rs xs
 print_alike w one two same b (Selected ∷ rs) (x ∷ xs) =
     ap (λ t. parting w b ++ (t ++ print_lines w one LastPrinted rs xs)) (same Selected x)
     ∙ ap (λ t. parting w b ++ (two Selected x ++ t)) (print_alike w one two same LastPrinted rs xs)
@@ -27,8 +27,8 @@ print_alike w one two same b (Beside ∷ rs) (x ∷ xs) =
     ap (λ t. parting w b ++ (t ++ print_lines w one LastPrinted rs xs)) (same Beside x)
     ∙ ap (λ t. parting w b ++ (two Beside x ++ t)) (print_alike w one two same LastPrinted rs xs)
 
-module _ (w : What) (f : LineMatcher) (name : Option (List ℕ)) where
-  same_spans : needs_spans w ≡ true → (line : TextLine) → told_spans (with_needed_spans w f) line ≡ told_spans f line
+module _ (w : OutputOptions) (f : LineMatcher) (name : Option (List ℕ)) where
+  same_spans : needs_spans w ≡ true → (line : TextLine) → reported_spans (with_needed_spans w f) line ≡ reported_spans f line
   same_spans needs line = ap (λ b. filter is_some_text (if b then f.spans line.content else [])) needs
 
   unmarked : w.color ≡ false → (role : Role) (line : TextLine) (found : List (ℕ × ℕ)) →
@@ -38,28 +38,31 @@ module _ (w : What) (f : LineMatcher) (name : Option (List ℕ)) where
       ++ ((if b && has_marks w role then marked_from line.content.bytes 0 found else line.content.bytes) ++ 10 ∷ [])) plain
 
   same_line : (color : Bool) → w.color ≡ color → needs_spans w ≡ w.color → (role : Role) (line : TextLine) →
-      printed_line w name role line (told_spans (with_needed_spans w f) line) ≡ printed_line w name role line (told_spans f line)
+      printed_line w name role line (reported_spans (with_needed_spans w f) line) ≡ printed_line w name role line (reported_spans f line)
   same_line true is needs role line = ap (printed_line w name role line) (same_spans (needs ∙ is) line)
-  same_line false is needs role line = unmarked is role line (told_spans (with_needed_spans w f) line)
-      ∙ sym (unmarked is role line (told_spans f line))
+  same_line false is needs role line = unmarked is role line (reported_spans (with_needed_spans w f) line)
+      ∙ sym (unmarked is role line (reported_spans f line))
 
   same_matches : needs_spans w ≡ true → (role : Role) (line : TextLine) →
-      printed_matches w name role line (told_spans (with_needed_spans w f) line) ≡ printed_matches w name role line (told_spans f line)
+      printed_matches w name role line (reported_spans (with_needed_spans w f) line) ≡
+      printed_matches w name role line (reported_spans f line)
   same_matches needs role line = ap (printed_matches w name role line) (same_spans needs line)
 
-same_report : (p : Print) (w : What) (f : LineMatcher) (name : List ℕ) (with_name : Bool) (known : Known) (lines : List TextLine) →
+same_report : (p : Print) (w : OutputOptions) (f : LineMatcher) (name : List ℕ) (with_name : Bool) (known : SeparatorState) (lines : List
+    TextLine) →
     w.print ≡ p →
     report_as p w (with_needed_spans w f) name with_name known lines (selected w f lines)
     ≡ report_as p w f name with_name known lines (selected w f lines)
 same_report Lines w f name with_name known lines is =
-    print_alike w (λ role line. printed_line w (if with_name then Some name else None) role line (told_spans (with_needed_spans w f) line))
-    (λ role line. printed_line w (if with_name then Some name else None) role line (told_spans f line))
+    print_alike w (λ role line. printed_line w (if with_name then Some name else None) role line (reported_spans (with_needed_spans w f)
+    line))
+    (λ role line. printed_line w (if with_name then Some name else None) role line (reported_spans f line))
     (same_line w f (if with_name then Some name else None) w.color refl (ap (λ p. needs_of p w.color) is)) known
     (roles_of w (selected w f lines)) lines
 same_report Matches w f name with_name known lines is =
     print_alike w (λ role line. printed_matches w (if with_name then Some name else None) role line
-    (told_spans (with_needed_spans w f) line))
-    (λ role line. printed_matches w (if with_name then Some name else None) role line (told_spans f line))
+    (reported_spans (with_needed_spans w f) line))
+    (λ role line. printed_matches w (if with_name then Some name else None) role line (reported_spans f line))
     (same_matches w f (if with_name then Some name else None) (ap (λ p. needs_of p w.color) is)) known
     (roles_of w (selected w f lines)) lines
 same_report Count w f name with_name known lines is = refl
@@ -67,7 +70,7 @@ same_report NameIfAny w f name with_name known lines is = refl
 same_report NameIfNone w f name with_name known lines is = refl
 same_report Nothing w f name with_name known lines is = refl
 
-pub needed_report : (w : What) (f : LineMatcher) (name : List ℕ) (with_name : Bool) (known : Known) (text : List ℕ) →
+pub needed_report : (w : OutputOptions) (f : LineMatcher) (name : List ℕ) (with_name : Bool) (known : SeparatorState) (text : List ℕ) →
     report_as w.print w (with_needed_spans w f) name with_name known (text_lines text)
     (selected w (with_needed_spans w f) (text_lines text))
     ≡ report w f name with_name known text

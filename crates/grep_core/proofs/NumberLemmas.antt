@@ -1,40 +1,41 @@
--- Where no lines are printed, nothing that is told hangs on their numbers and places.
+-- If no lines are printed, nothing that is reported depends on their numbers and offsets.
 use Rattle.std.proofs.Common.{◌≡◌, ◌≤◌, ◌<◌, ℕ, ◌+◌, ◌++◌, Bool, true, false, List, [], ◌∷◌, length, take, drop, map, count_by, refl, sym}
 use Rattle.std.proofs.Common.{ap, subst, ◌∙◌}
 use Rattle.std.proofs.lemmas.Bool.{true≢false}
 use Rattle.std.proofs.lemmas.List.{length-take-le}
 use Rattle.grep_core.specs.declared.progress.Progress.{Progress}
 use Rattle.grep_core.specs.declared.progress.Task.{Task}
-use Rattle.grep_core.specs.declared.course.Course.{Course}
-use Rattle.grep_core.specs.declared.telling.Telling.{Telling}
-use Rattle.grep_core.specs.declared.what.Print.{Print}
-use Rattle.grep_core.specs.declared.what.Print.TheVariants.{Lines, Matches, Count, NameIfAny, NameIfNone, Nothing}
-use Rattle.grep_core.specs.declared.what.What.{What}
-use Rattle.grep_core.specs.Blocks.{tells_lines, counts_lines}
+use Rattle.grep_core.specs.declared.context_printer.ContextPrinter.{ContextPrinter}
+use Rattle.grep_core.specs.declared.reporter.Reporter.{Reporter}
+use Rattle.grep_core.specs.declared.output_options.Print.{Print}
+use Rattle.grep_core.specs.declared.output_options.Print.TheVariants.{Lines, Matches, Count, NameIfAny, NameIfNone, Nothing}
+use Rattle.grep_core.specs.declared.output_options.OutputOptions.{OutputOptions}
+use Rattle.grep_core.specs.Blocks.{reported_bytes, counts_lines}
 use Rattle.grep_core.specs.Candidates.{IsLineStart}
-use Rattle.grep_core.specs.Courses.{Item}
+use Rattle.grep_core.specs.ContextPrinting.{Item}
 use Rattle.grep_core.specs.Lines.{SplitLine, numbered, split_lines}
-use Rattle.grep_core.specs.Passing.{AreWhole, MayPass, PassesTo, held_of}
-use Rattle.grep_core.specs.Report.{LineMatcher, behind_hidden, is_wanted}
+use Rattle.grep_core.specs.Skipping.{AreWhole, MaySkip, SkipsTo, held_of}
+use Rattle.grep_core.specs.Report.{LineMatcher, after_hidden, is_wanted}
 use Rattle.grep_core.specs.Selecting.{count_selected, limited}
-use Rattle.grep_core.specs.Telling.{flags_behind, left_of, prints_lines, tells_as, told_item}
+use Rattle.grep_core.specs.Reporting.{flags_after, left_of, prints_lines, reported_lines, reported_item}
 use Rattle.grep_core.proofs.BlockLemmas.{is_feed}
 use Rattle.grep_core.proofs.PassLemmas.{passed_over}
 
-wanted_same : (w : What) (f : LineMatcher) (i k j l : ℕ) (lines : List SplitLine) →
+wanted_same : (w : OutputOptions) (f : LineMatcher) (i k j l : ℕ) (lines : List SplitLine) →
     map (is_wanted w f) (numbered i k lines) ≡ map (is_wanted w f) (numbered j l lines)
 wanted_same w f i k j l [] = refl
 wanted_same w f i k j l (line ∷ lines) =
     ap (λ rest. is_wanted w f (record { number = i; place = k; content = line }) ∷ rest)
     (wanted_same w f (i + 1) (k + length line.bytes + 1) (j + 1) (l + length line.bytes + 1) lines)
 
-flags_same : (w : What) (f : LineMatcher) (n i k j l : ℕ) (lines : List SplitLine) →
-    flags_behind w f n (numbered i k lines) ≡ flags_behind w f n (numbered j l lines)
+flags_same : (w : OutputOptions) (f : LineMatcher) (n i k j l : ℕ) (lines : List SplitLine) →
+    flags_after w f n (numbered i k lines) ≡ flags_after w f n (numbered j l lines)
 flags_same w f n i k j l lines = ap (limited (left_of w.most n)) (wanted_same w f i k j l lines)
 
-unprinted : (print : Print) (w : What) (name : List ℕ) (with_name : Bool) (c : Course) (n : ℕ) (flags : List Bool)
+unprinted : (print : Print) (w : OutputOptions) (name : List ℕ) (with_name : Bool) (c : ContextPrinter) (n : ℕ) (flags : List Bool)
     (items also : List Item) →
-    prints_lines print ≡ false → tells_as print w name with_name c n flags items ≡ tells_as print w name with_name c n flags also
+    prints_lines print ≡ false → reported_lines print w name with_name c n flags items ≡
+    reported_lines print w name with_name c n flags also
 unprinted Lines w name with_name c n flags items also none = absurd (true≢false none)
 unprinted Matches w name with_name c n flags items also none = absurd (true≢false none)
 unprinted Count w name with_name c n flags items also none = refl
@@ -42,43 +43,44 @@ unprinted NameIfAny w name with_name c n flags items also none = refl
 unprinted NameIfNone w name with_name c n flags items also none = refl
 unprinted Nothing w name with_name c n flags items also none = refl
 
-module _ (t : Task) (f : LineMatcher) (number place : ℕ) (c : Telling) where
+module _ (t : Task) (f : LineMatcher) (number place : ℕ) (c : Reporter) where
   abbrev at : ℕ → ℕ → Progress
   at i k = record { number = i; place = k; telling = c }
 
   told_same : (i k j l : ℕ) (lines : List SplitLine) → prints_lines t.what.now.print ≡ false →
-      tells_lines t f (at i k) lines ≡ tells_lines t f (at j l) lines
+      reported_bytes t f (at i k) lines ≡ reported_bytes t f (at j l) lines
   told_same i k j l lines none =
-      ap (λ flags. tells_as t.what.now.print t.what.now t.name.now t.with_name c.course c.count flags
-      (map (told_item f) (numbered i k lines)))
+      ap (λ flags. reported_lines t.what.now.print t.what.now t.name.now t.with_name c.course c.count flags
+      (map (reported_item f) (numbered i k lines)))
       (flags_same t.what.now f c.count i k j l lines)
       ∙ unprinted t.what.now.print t.what.now t.name.now t.with_name c.course c.count
-      (flags_behind t.what.now f c.count (numbered j l lines))
-      (map (told_item f) (numbered i k lines)) (map (told_item f) (numbered j l lines)) none
+      (flags_after t.what.now f c.count (numbered j l lines))
+      (map (reported_item f) (numbered i k lines)) (map (reported_item f) (numbered j l lines)) none
 
   counted_same : (i k j l : ℕ) (lines : List SplitLine) → counts_lines t f (at i k) lines ≡ counts_lines t f (at j l) lines
   counted_same i k j l lines = ap (λ flags. c.count + count_selected flags) (flags_same t.what.now f c.count i k j l lines)
 
-  -- lines that were passed over need not be counted
+  -- lines that were skipped need not be counted
   pub passes_uncounted : (p : Progress) (lines rest out now : List ℕ) (j l : ℕ) → prints_lines t.what.now.print ≡ false →
-      PassesTo t f p (at number place) lines rest out now → PassesTo t f p (at j l) lines rest out now
+      SkipsTo t f p (at number place) lines rest out now → SkipsTo t f p (at j l) lines rest out now
   passes_uncounted p lines rest out now j l none passes = record {
     lack = passes.lack;
     printed =
-        λ lack more. passes.printed lack more ∙ ap (λ told. now ++ told) (told_same number place j l (split_lines (rest ++ more)) none);
+        λ lack more. passes.printed lack more ∙ ap (λ reported. now ++ reported) (told_same number place j l (split_lines (rest ++ more))
+        none);
     counted = λ lack more. counted_same j l number place (split_lines (rest ++ more)) ∙ passes.counted lack more;
   }
 
-pub passed_if_counted : (t : Task) (f : LineMatcher) (p : Progress) (now : Telling) (c : Course) (number place held start : ℕ)
-    (text part out : List ℕ) → now ≡ p.telling → MayPass t.what.now p.telling.course → AreWhole text → start ≤ length text → 0 < start →
+pub passed_if_counted : (t : Task) (f : LineMatcher) (p : Progress) (now : Reporter) (c : ContextPrinter) (number place held start : ℕ)
+    (text part out : List ℕ) → now ≡ p.telling → MaySkip t.what.now p.telling.course → AreWhole text → start ≤ length text → 0 < start →
     IsLineStart text start → held ≡ held_of t.what.now → held ≤ count_by is_feed (drop start text) → part ≡ take start text →
     (prints_lines t.what.now.print ≡ true → number ≡ p.number + count_by is_feed part) →
     (prints_lines t.what.now.print ≡ true → place ≡ p.place + length part) →
-    c.left ≡ now.course.left → c.waiting.items ≡ [] → c.known ≡ behind_hidden now.course.known →
-    PassesTo t f p (record p { number = number; place = place; telling = record now { course = c } }) text (drop start text) out out
+    c.left ≡ now.course.left → c.waiting.items ≡ [] → c.known ≡ after_hidden now.course.known →
+    SkipsTo t f p (record p { number = number; place = place; telling = record now { course = c } }) text (drop start text) out out
 passed_if_counted t f p now c number place held start text part out is_now may whole within some starts held_is enough cut numbers places
     same empty known =
-    subst (λ (u : Telling). PassesTo t f p (record p { number = number; place = place; telling = record u { course = c } }) text
+    subst (λ (u : Reporter). SkipsTo t f p (record p { number = number; place = place; telling = record u { course = c } }) text
     (drop start text) out out) (sym is_now) (by (prints_lines t.what.now.print) refl)
   where
     feeds : ℕ
@@ -88,13 +90,13 @@ passed_if_counted t f p now c number place held start text part out is_now may w
     long = ap length cut ∙ length-take-le start text within
 
     left : c.left ≡ p.telling.course.left
-    left = same ∙ ap (λ (u : Telling). u.course.left) is_now
+    left = same ∙ ap (λ (u : Reporter). u.course.left) is_now
 
-    hidden : c.known ≡ behind_hidden p.telling.course.known
-    hidden = known ∙ ap (λ (u : Telling). behind_hidden u.course.known) is_now
+    hidden : c.known ≡ after_hidden p.telling.course.known
+    hidden = known ∙ ap (λ (u : Reporter). after_hidden u.course.known) is_now
 
     by : (v : Bool) → prints_lines t.what.now.print ≡ v →
-        PassesTo t f p (record p { number = number; place = place; telling = record (p.telling) { course = c } }) text
+        SkipsTo t f p (record p { number = number; place = place; telling = record (p.telling) { course = c } }) text
         (drop start text) out out
     by true is =
         passed_over t f p c number place held feeds start text part out may whole within some starts held_is enough cut refl (numbers is)

@@ -1,4 +1,4 @@
--- Lines without a match of which none is told: what is told goes on behind all of them at once, but for the last ones.
+-- Lines without a match of which none is reported: the report goes on after all of them at once, except for the last ones.
 use Rattle.std.proofs.Common.{◌≡◌, ◌≤◌, ◌<◌, ℕ, zero, suc, ◌+◌, Bool, true, false, not, ◌&&◌, List, [], ◌∷◌, ◌++◌, All, length, map}
 use Rattle.std.proofs.Common.{◌-◌, cond, count_by, take, drop, slice_range, Some, None, if◌then◌else◌, refl, sym, ap, ap₂, ◌∙◌, subst}
 use Rattle.std.proofs.Common.{arith, append_assoc, take-append-drop, length-drop}
@@ -11,26 +11,26 @@ use Rattle.std.specs.Prelude.{nat_lt}
 use Rattle.look_core.proofs.ForCallers.{All-left, All-right}
 use Rattle.grep_core.specs.declared.progress.Progress.{Progress}
 use Rattle.grep_core.specs.declared.progress.Task.{Task}
-use Rattle.grep_core.specs.declared.course.Course.{Course}
-use Rattle.grep_core.specs.declared.what.Print.{Print}
-use Rattle.grep_core.specs.declared.what.Print.TheVariants.{Lines, Matches, Count, NameIfAny, NameIfNone, Nothing}
-use Rattle.grep_core.specs.declared.what.What.{What}
-use Rattle.grep_core.specs.Blocks.{tells_lines, counts_lines}
+use Rattle.grep_core.specs.declared.context_printer.ContextPrinter.{ContextPrinter}
+use Rattle.grep_core.specs.declared.output_options.Print.{Print}
+use Rattle.grep_core.specs.declared.output_options.Print.TheVariants.{Lines, Matches, Count, NameIfAny, NameIfNone, Nothing}
+use Rattle.grep_core.specs.declared.output_options.OutputOptions.{OutputOptions}
+use Rattle.grep_core.specs.Blocks.{reported_bytes, counts_lines}
 use Rattle.grep_core.specs.Candidates.{IsLineStart}
-use Rattle.grep_core.specs.Courses.{Item, print_item, still, waiting_item}
+use Rattle.grep_core.specs.ContextPrinting.{Item, print_item, still, waiting_item}
 use Rattle.grep_core.specs.Lines.{SplitLine, ended, numbered, split_lines}
-use Rattle.grep_core.specs.Passing.{AreWhole, Lacks, MayPass, PassesTo, held_of}
-use Rattle.grep_core.specs.Report.{LineMatcher, before_of, after_of, behind_hidden, count_line, name_line}
+use Rattle.grep_core.specs.Skipping.{AreWhole, HasNoMatch, MaySkip, SkipsTo, held_of}
+use Rattle.grep_core.specs.Report.{LineMatcher, before_of, after_of, after_hidden, count_line, name_line}
 use Rattle.grep_core.specs.Selecting.{count_selected}
-use Rattle.grep_core.specs.Telling.{shown, told_item, prints_lines, tells_as, may_select, flags_behind}
+use Rattle.grep_core.specs.Reporting.{shown, reported_item, prints_lines, reported_lines, may_select, flags_after}
 use Rattle.grep_core.proofs.BlockLemmas.{is_feed, turn, turn_counted}
 use Rattle.grep_core.proofs.JoinLemmas.{whole_start, whole_range}
 use Rattle.grep_core.proofs.RunLemmas.{one_lacks, others_lack}
-use Rattle.grep_core.proofs.StepLemmas.{rest, passes, known_behind, known_some}
+use Rattle.grep_core.proofs.StepLemmas.{rest, passes, known_after, known_some}
 use Rattle.grep_core.proofs.TellingLemmas.{flags_step, selects}
 use Rattle.grep_core.proofs.WholeLemmas.{all_bytes, whole_joins, whole_counts, whole_bytes, whole_behind, whole_none, some_whole}
 
-unselected : (w : What) (n : ℕ) → w.invert ≡ false → false ≡ selects w n false
+unselected : (w : OutputOptions) (n : ℕ) → w.invert ≡ false → false ≡ selects w n false
 unselected w n kept = sym (ap (λ v. (if v then not false else false) && may_select w.most n) kept)
 
 no_more : (n : ℕ) → n ≡ n + 0
@@ -49,14 +49,15 @@ none_counted : (items : List Item) (flags : List Bool) → count_selected (none_
 none_counted [] flags = refl
 none_counted (x ∷ xs) flags = none_counted xs flags
 
--- ---- what is told of lines of which the first ones aren't selected
-module _ (w : What) (name : List ℕ) (with_name : Bool) (c d : Course) (n : ℕ) (front last items : List Item) (flags : List Bool) where
+-- ---- what is reported of lines of which the first ones aren't selected
+module _ (w : OutputOptions) (name : List ℕ) (with_name : Bool) (c d : ContextPrinter) (n : ℕ) (front last items : List Item) (flags : List
+    Bool) where
   abbrev IsPassed : Print → Type 0
-  IsPassed p = tells_as p w name with_name c n (none_of front ++ (none_of last ++ flags)) (front ++ (last ++ items))
-      ≡ tells_as p w name with_name d n (none_of last ++ flags) (last ++ items)
+  IsPassed p = reported_lines p w name with_name c n (none_of front ++ (none_of last ++ flags)) (front ++ (last ++ items))
+      ≡ reported_lines p w name with_name d n (none_of last ++ flags) (last ++ items)
 
   passed_lines : before_of w.context ≤ length last → c.left ≡ 0 → d.left ≡ c.left → d.waiting.items ≡ [] →
-      d.known ≡ known_behind c.known (length (map waiting_item c.waiting.items) + length front) →
+      d.known ≡ known_after c.known (length (map waiting_item c.waiting.items) + length front) →
       still w (shown with_name name) c (none_of front ++ (none_of last ++ flags)) (front ++ (last ++ items))
       ≡ still w (shown with_name name) d (none_of last ++ flags) (last ++ items)
   passed_lines many none same empty known =
@@ -74,7 +75,7 @@ module _ (w : What) (name : List ℕ) (with_name : Bool) (c d : Course) (n : ℕ
 
   passed_as : (p : Print) → (prints_lines p ≡ true → before_of w.context ≤ length last) → (prints_lines p ≡ true → c.left ≡ 0) →
       d.left ≡ c.left → d.waiting.items ≡ [] →
-      d.known ≡ known_behind c.known (length (map waiting_item c.waiting.items) + length front) → IsPassed p
+      d.known ≡ known_after c.known (length (map waiting_item c.waiting.items) + length front) → IsPassed p
   passed_as Lines many none same empty known = passed_lines (many refl) (none refl) same empty known
   passed_as Matches many none same empty known = passed_lines (many refl) (none refl) same empty known
   passed_as Count many none same empty known = ap (count_line w (shown with_name name)) fewer
@@ -83,18 +84,18 @@ module _ (w : What) (name : List ℕ) (with_name : Bool) (c d : Course) (n : ℕ
   passed_as Nothing many none same empty known = refl
 
 -- ---- lines without a match aren't selected
-module _ (w : What) (f : LineMatcher) (n : ℕ) (kept : w.invert ≡ false) where
+module _ (w : OutputOptions) (f : LineMatcher) (n : ℕ) (kept : w.invert ≡ false) where
   abbrev items : ℕ → ℕ → List SplitLine → List Item
-  items number place lines = map (told_item f) (numbered number place lines)
+  items number place lines = map (reported_item f) (numbered number place lines)
 
   abbrev flags : ℕ → ℕ → List SplitLine → List Bool
-  flags number place lines = flags_behind w f n (numbered number place lines)
+  flags number place lines = flags_after w f n (numbered number place lines)
 
   items_on : (number place : ℕ) (lines more : List SplitLine) →
       items number place (lines ++ more) ≡ items number place lines ++ items (number + length lines) (place + all_bytes lines) more
   items_on number place [] more = ap₂ (λ i k. items i k more) (no_more number) (no_more place)
   items_on number place (line ∷ lines) more =
-      ap (λ rest. told_item f (record { number = number; place = place; content = line }) ∷ rest)
+      ap (λ rest. reported_item f (record { number = number; place = place; content = line }) ∷ rest)
       (items_on (number + 1) (place + length line.bytes + 1) lines more
       ∙ ap₂ (λ i k. items (number + 1) (place + length line.bytes + 1) lines ++ items i k more)
       (more_first number (length lines)) (more_bytes place (length line.bytes) (all_bytes lines)))
@@ -103,60 +104,61 @@ module _ (w : What) (f : LineMatcher) (n : ℕ) (kept : w.invert ≡ false) wher
   as_many number place [] = refl
   as_many number place (line ∷ lines) = ap suc (as_many (number + 1) (place + length line.bytes + 1) lines)
 
-  flags_on : (number place : ℕ) (lines more : List SplitLine) → All (Lacks f) lines →
+  flags_on : (number place : ℕ) (lines more : List SplitLine) → All (HasNoMatch f) lines →
       flags number place (lines ++ more)
       ≡ none_of (items number place lines) ++ flags (number + length lines) (place + all_bytes lines) more
   flags_on number place [] more lack = ap₂ (λ i k. flags i k more) (no_more number) (no_more place)
   flags_on number place (line ∷ lines) more lack =
       flags_step w f n n false false (record { number = number; place = place; content = line })
       (numbered (number + 1) (place + length line.bytes + 1) (lines ++ more)) (unselected w n kept)
-      (sym ((All-head (Lacks f) line lines lack).no_match)) (no_more n)
+      (sym ((All-head (HasNoMatch f) line lines lack).no_match)) (no_more n)
       ∙ ap (λ rest. false ∷ rest)
-      (flags_on (number + 1) (place + length line.bytes + 1) lines more (All-tail (Lacks f) line lines lack)
+      (flags_on (number + 1) (place + length line.bytes + 1) lines more (All-tail (HasNoMatch f) line lines lack)
       ∙ ap₂ (λ i k. none_of (items (number + 1) (place + length line.bytes + 1) lines) ++ flags i k more)
       (more_first number (length lines)) (more_bytes place (length line.bytes) (all_bytes lines)))
 
-  module _ (name : List ℕ) (with_name : Bool) (c d : Course) (front last more : List SplitLine) (number place next_number next_place : ℕ)
-      (lack : All (Lacks f) front) (also : All (Lacks f) last)
-      (numbers : next_number ≡ number + length front) (places : next_place ≡ place + all_bytes front) where
-    abbrev tells : Course → ℕ → ℕ → List SplitLine → List ℕ
-    tells e i k lines = tells_as w.print w name with_name e n (flags i k lines) (items i k lines)
+  module _ (name : List ℕ) (with_name : Bool) (c d : ContextPrinter) (front last more : List SplitLine) (number place next_number
+      next_offset : ℕ)
+      (lack : All (HasNoMatch f) front) (also : All (HasNoMatch f) last)
+      (numbers : next_number ≡ number + length front) (places : next_offset ≡ place + all_bytes front) where
+    abbrev reports : ContextPrinter → ℕ → ℕ → List SplitLine → List ℕ
+    reports e i k lines = reported_lines w.print w name with_name e n (flags i k lines) (items i k lines)
 
     flags_two : flags number place (front ++ (last ++ more))
-        ≡ none_of (items number place front) ++ flags next_number next_place (last ++ more)
+        ≡ none_of (items number place front) ++ flags next_number next_offset (last ++ more)
     flags_two = flags_on number place front (last ++ more) lack
         ∙ sym (ap₂ (λ i k. none_of (items number place front) ++ flags i k (last ++ more)) numbers places)
 
-    run_counted : n + count_selected (flags next_number next_place (last ++ more)) ≡ n + count_selected
+    run_counted : n + count_selected (flags next_number next_offset (last ++ more)) ≡ n + count_selected
         (flags number place (front ++ (last ++ more)))
     run_counted = ap (λ k. n + k)
-        (sym (ap count_selected flags_two ∙ none_counted (items number place front) (flags next_number next_place (last ++ more))))
+        (sym (ap count_selected flags_two ∙ none_counted (items number place front) (flags next_number next_offset (last ++ more))))
 
     run_told : (prints_lines w.print ≡ true → before_of w.context ≤ length last) → (prints_lines w.print ≡ true → c.left ≡ 0) →
         d.left ≡ c.left → d.waiting.items ≡ [] →
-        d.known ≡ known_behind c.known (length (map waiting_item c.waiting.items) + length (items number place front)) →
-        tells c number place (front ++ (last ++ more)) ≡ tells d next_number next_place (last ++ more)
+        d.known ≡ known_after c.known (length (map waiting_item c.waiting.items) + length (items number place front)) →
+        reports c number place (front ++ (last ++ more)) ≡ reports d next_number next_offset (last ++ more)
     run_told many none same empty known =
         let i : ℕ = next_number + length last in
-        let k : ℕ = next_place + all_bytes last in
-        let now : flags next_number next_place (last ++ more) ≡ none_of (items next_number next_place last) ++ flags i k more =
-        flags_on next_number next_place last more also in
-        let ones : items next_number next_place (last ++ more) ≡ items next_number next_place last ++ items i k more =
-        items_on next_number next_place last more in
+        let k : ℕ = next_offset + all_bytes last in
+        let now : flags next_number next_offset (last ++ more) ≡ none_of (items next_number next_offset last) ++ flags i k more =
+        flags_on next_number next_offset last more also in
+        let ones : items next_number next_offset (last ++ more) ≡ items next_number next_offset last ++ items i k more =
+        items_on next_number next_offset last more in
         let before : items number place (front ++ (last ++ more)) ≡
-        items number place front ++ items next_number next_place (last ++ more) =
+        items number place front ++ items next_number next_offset (last ++ more) =
         items_on number place front (last ++ more)
         ∙ sym (ap₂ (λ i k. items number place front ++ items i k (last ++ more)) numbers places) in
-        let enough : prints_lines w.print ≡ true → before_of w.context ≤ length (items next_number next_place last) =
-        λ is. subst (λ m. before_of w.context ≤ m) (sym (as_many next_number next_place last)) (many is) in
-        ap₂ (λ fs its. tells_as w.print w name with_name c n fs its)
+        let enough : prints_lines w.print ≡ true → before_of w.context ≤ length (items next_number next_offset last) =
+        λ is. subst (λ m. before_of w.context ≤ m) (sym (as_many next_number next_offset last)) (many is) in
+        ap₂ (λ fs its. reported_lines w.print w name with_name c n fs its)
         (flags_two ∙ ap (λ fs. none_of (items number place front) ++ fs) now)
         (before ∙ ap (λ its. items number place front ++ its) ones)
-        ∙ passed_as w name with_name c d n (items number place front) (items next_number next_place last) (items i k more) (flags i k more)
+        ∙ passed_as w name with_name c d n (items number place front) (items next_number next_offset last) (items i k more) (flags i k more)
         w.print enough none same empty known
-        ∙ sym (ap₂ (λ fs its. tells_as w.print w name with_name d n fs its) now ones)
+        ∙ sym (ap₂ (λ fs its. reported_lines w.print w name with_name d n fs its) now ones)
 
--- ---- texts of such lines
+-- ---- haystacks of such lines
 module _ (text : List ℕ) (start : ℕ) (whole : AreWhole text) (starts : IsLineStart text start) where
   front_whole : AreWhole (take start text)
   front_whole = whole_start text start starts
@@ -175,29 +177,29 @@ module _ (text : List ℕ) (start : ℕ) (whole : AreWhole text) (starts : IsLin
   last_more : (more : List ℕ) → split_lines (drop start text ++ more) ≡ split_lines (drop start text) ++ split_lines more
   last_more more = whole_joins (drop start text) more last_whole
 
-  module _ (f : LineMatcher) (lack : All (Lacks f) (split_lines text)) where
-    parted : All (Lacks f) (split_lines (take start text) ++ split_lines (drop start text))
-    parted = subst (λ (lines : List SplitLine). All (Lacks f) lines) both lack
+  module _ (f : LineMatcher) (lack : All (HasNoMatch f) (split_lines text)) where
+    parted : All (HasNoMatch f) (split_lines (take start text) ++ split_lines (drop start text))
+    parted = subst (λ (lines : List SplitLine). All (HasNoMatch f) lines) both lack
 
-    front_lack : All (Lacks f) (split_lines (take start text))
-    front_lack = All-left (Lacks f) (split_lines (take start text)) (split_lines (drop start text)) parted
+    front_lack : All (HasNoMatch f) (split_lines (take start text))
+    front_lack = All-left (HasNoMatch f) (split_lines (take start text)) (split_lines (drop start text)) parted
 
-    last_lack : All (Lacks f) (split_lines (drop start text))
-    last_lack = All-right (Lacks f) (split_lines (take start text)) (split_lines (drop start text)) parted
+    last_lack : All (HasNoMatch f) (split_lines (drop start text))
+    last_lack = All-right (HasNoMatch f) (split_lines (take start text)) (split_lines (drop start text)) parted
 
-held_lines : (w : What) (held n : ℕ) → held ≡ held_of w → held ≤ n → prints_lines w.print ≡ true → before_of w.context ≤ n
+held_lines : (w : OutputOptions) (held n : ℕ) → held ≡ held_of w → held ≤ n → prints_lines w.print ≡ true → before_of w.context ≤ n
 held_lines w held n is few lines =
     subst (λ m. m ≤ n) (is ∙ ap (λ b. if b then before_of w.context else 0) lines) few
 
-pub passed_over : (t : Task) (f : LineMatcher) (p : Progress) (c : Course) (number place held feeds start : ℕ) (text part : List ℕ)
-    (out : List ℕ) → MayPass t.what.now p.telling.course → AreWhole text → start ≤ length text → 0 < start → IsLineStart text start →
+pub passed_over : (t : Task) (f : LineMatcher) (p : Progress) (c : ContextPrinter) (number place held feeds start : ℕ) (text part : List ℕ)
+    (out : List ℕ) → MaySkip t.what.now p.telling.course → AreWhole text → start ≤ length text → 0 < start → IsLineStart text start →
     held ≡ held_of t.what.now → held ≤ count_by is_feed (drop start text) → part ≡ take start text → feeds ≡ count_by is_feed part →
     number ≡ p.number + feeds → place ≡ p.place + start → c.left ≡ p.telling.course.left → c.waiting.items ≡ [] →
-    c.known ≡ behind_hidden p.telling.course.known →
-    PassesTo t f p (record p { number = number; place = place; telling = record (p.telling) { course = c } }) text (drop start text) out out
+    c.known ≡ after_hidden p.telling.course.known →
+    SkipsTo t f p (record p { number = number; place = place; telling = record (p.telling) { course = c } }) text (drop start text) out out
 passed_over t f p c number place held feeds start text part out may whole within some starts held_is enough cut counted numbers places
     same empty known =
-    let w : What = t.what.now in
+    let w : OutputOptions = t.what.now in
     let front : List SplitLine = split_lines (take start text) in
     let last : List SplitLine = split_lines (drop start text) in
     let long = length-take-le start text within in
@@ -210,18 +212,18 @@ passed_over t f p c number place held feeds start text part out may whole within
     subst (λ m. held ≤ m) (sym (whole_counts (drop start text) (last_whole text start whole starts))) enough in
     let some_front : 0 < length front =
     some_whole (take start text) (front_whole text start whole starts) (omega (arith, some, long)) in
-    let known_so : c.known ≡ known_behind p.telling.course.known
+    let known_so : c.known ≡ known_after p.telling.course.known
     (length (map waiting_item p.telling.course.waiting.items) + length (items w f p.telling.count may.kept p.number p.place front)) =
     known ∙ sym (known_some p.telling.course.known _
     (let m = as_many w f p.telling.count may.kept p.number p.place front in omega (arith, some_front, m))) in
     record {
       lack = λ lack. last_lack text start whole starts f lack;
       printed = λ lack more. ap (λ l. out ++ l)
-          (ap (λ lines. tells_lines t f p lines) (both_more text start whole starts more)
+          (ap (λ lines. reported_bytes t f p lines) (both_more text start whole starts more)
           ∙ run_told w f p.telling.count may.kept t.name.now t.with_name p.telling.course c front last (split_lines more)
           p.number p.place number place (front_lack text start whole starts f lack) (last_lack text start whole starts f lack)
           as_many_lines as_far (held_lines w held (length last) held_is many) may.none_owed same empty known_so
-          ∙ sym (ap (λ lines. tells_lines t f
+          ∙ sym (ap (λ lines. reported_bytes t f
           (record p { number = number; place = place; telling = record (p.telling) { course = c } }) lines)
           (last_more text start whole starts more)));
       counted = λ lack more.
@@ -253,7 +255,7 @@ feeds_more text new start found less within starts few =
     omega (arith, all, few, some, whole_counts piece whole)
 
 -- ---- runs of such lines
--- where no line feed stands behind those that were told, all were
+-- if no line feed is after those that were reported, all were
 pub all_told : (block : List ℕ) (done : ℕ) → AreWhole block →
     position is_feed (take (length block - done) (drop done block)) ≡ None → length block ≤ done
 all_told block done whole none =
@@ -262,11 +264,11 @@ all_told block done whole none =
     whole_none (drop done block) (whole_behind block done whole) (ap (position is_feed) (sym rest) ∙ none) in
     omega (arith, empty, length-drop done block)
 
-pub passes_none : (t : Task) (f : LineMatcher) (p : Progress) (lines out : List ℕ) → PassesTo t f p p lines lines out out
+pub passes_none : (t : Task) (f : LineMatcher) (p : Progress) (lines out : List ℕ) → SkipsTo t f p p lines lines out out
 passes_none t f p lines out = record { lack = λ lack. lack; printed = λ lack more. refl; counted = λ lack more. refl }
 
 pub then_passes : (t : Task) (f : LineMatcher) (p q r : Progress) (lines rest last out mid now : List ℕ) →
-    PassesTo t f p q lines rest out mid → PassesTo t f q r rest last mid now → PassesTo t f p r lines last out now
+    SkipsTo t f p q lines rest out mid → SkipsTo t f q r rest last mid now → SkipsTo t f p r lines last out now
 then_passes t f p q r lines rest last out mid now a b = record {
   lack = λ lack. b.lack (a.lack lack);
   printed = λ lack more. a.printed lack more ∙ b.printed (a.lack lack) more;
@@ -275,21 +277,23 @@ then_passes t f p q r lines rest last out mid now a b = record {
 
 pub passes_line : (t : Task) (f : LineMatcher) (p q : Progress) (block text piece out now : List ℕ) (done len : ℕ) →
     text ≡ drop done block → position is_feed text ≡ Some len → piece ≡ take len text →
-    (Lacks f (ended piece) → (lines : List SplitLine) → out ++ tells_lines t f p (ended piece ∷ lines) ≡ now ++ tells_lines t f q lines) →
-    (Lacks f (ended piece) → (lines : List SplitLine) → counts_lines t f q lines ≡ counts_lines t f p (ended piece ∷ lines)) →
-    PassesTo t f p q (drop done block) (drop (done + (len + 1)) block) out now
-passes_line t f p q block text piece out now done len rest found cut told counts = record {
+    (HasNoMatch f (ended piece) → (lines : List SplitLine) → out ++ reported_bytes t f p (ended piece ∷ lines) ≡
+    now ++ reported_bytes t f q lines) →
+    (HasNoMatch f (ended piece) → (lines : List SplitLine) → counts_lines t f q lines ≡ counts_lines t f p (ended piece ∷ lines)) →
+    SkipsTo t f p q (drop done block) (drop (done + (len + 1)) block) out now
+passes_line t f p q block text piece out now done len rest found cut reported counts = record {
   lack = λ lack. others_lack f block text piece done len rest found cut lack;
   printed = λ lack more.
-      turn (tells_lines t f) p q block more text piece (out ++ tells_lines t f p (split_lines (drop done block ++ more))) out now done len
-      rest found cut refl (told (one_lacks f block text piece done len rest found cut lack));
+      turn (reported_bytes t f) p q block more text piece (out ++ reported_bytes t f p (split_lines (drop done block ++ more))) out now
+      done len
+      rest found cut refl (reported (one_lacks f block text piece done len rest found cut lack));
   counted = λ lack more.
       turn_counted (counts_lines t f) p q block more text piece (counts_lines t f p (split_lines (drop done block ++ more))) done len
       rest found cut refl (counts (one_lacks f block text piece done len rest found cut lack));
 }
 
--- of the same texts
+-- of the same haystacks
 pub passes_same : (t : Task) (f : LineMatcher) (p q : Progress) (lines same rest also out now : List ℕ) → lines ≡ same → rest ≡ also →
-    PassesTo t f p q lines rest out now → PassesTo t f p q same also out now
+    SkipsTo t f p q lines rest out now → SkipsTo t f p q same also out now
 passes_same t f p q lines same rest also out now one two a =
-    subst (λ (l : List ℕ). PassesTo t f p q l also out now) one (subst (λ (l : List ℕ). PassesTo t f p q lines l out now) two a)
+    subst (λ (l : List ℕ). SkipsTo t f p q l also out now) one (subst (λ (l : List ℕ). SkipsTo t f p q lines l out now) two a)

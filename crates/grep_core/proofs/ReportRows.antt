@@ -1,11 +1,11 @@
--- The definition of a report, run on a small text; what is expected is what GNU grep 3.8 prints for the pattern `a`.
+-- The definition of a report, run on a small haystack. What is expected is what GNU grep 3.8 prints for the pattern `a`.
 use Rattle.std.proofs.Common.{◌≡◌, ℕ, ◌+◌, ◌==◌, Bool, true, false, List, [], ◌∷◌, ◌++◌, codes, decimal, Option, Some, None, if◌then◌else◌}
 use Rattle.std.proofs.Common.{refl, rules}
 use Rattle.std.proofs.lemmas.Grind.{common_steps}
-use Rattle.grep_core.specs.declared.known.Known.TheVariants.{NonePrinted, EarlierPrinted}
-use Rattle.grep_core.specs.declared.what.Context.{Context}
-use Rattle.grep_core.specs.declared.what.Print.TheVariants.{Lines, Matches, Count, NameIfAny, NameIfNone}
-use Rattle.grep_core.specs.declared.what.What.{What}
+use Rattle.grep_core.specs.declared.separator_state.SeparatorState.TheVariants.{NonePrinted, EarlierPrinted}
+use Rattle.grep_core.specs.declared.output_options.Context.{Context}
+use Rattle.grep_core.specs.declared.output_options.Print.TheVariants.{Lines, Matches, Count, NameIfAny, NameIfNone}
+use Rattle.grep_core.specs.declared.output_options.OutputOptions.{OutputOptions}
 use Rattle.grep_core.specs.Lines.{ended, searched, unended}
 use Rattle.grep_core.specs.Report.{LineMatcher, report}
 
@@ -21,11 +21,11 @@ has_a (b ∷ bs) = if b == 97 then true else has_a bs
 abbrev letters : LineMatcher
 letters = record { has_match = λ line. has_a line.bytes; spans = λ line. spans_from 0 line.bytes }
 
--- a line, with text behind it
+-- a line, with text after it
 abbrev line : List ℕ → List ℕ → List ℕ
 line text rest = text ++ 10 ∷ rest
 
--- a number before what stands behind it
+-- a number before what comes after it
 abbrev numbered : ℕ → List ℕ → List ℕ
 numbered n text = decimal n ++ text
 
@@ -33,7 +33,7 @@ numbered n text = decimal n ++ text
 abbrev text : List ℕ
 text = line (codes "a1") (line (codes "b") (line (codes "c") (line (codes "d") (line (codes "a2 a3") (line [] (codes "b"))))))
 
-abbrev plain : What
+abbrev plain : OutputOptions
 plain = record { invert = false; print = Lines; numbers = false; offsets = false; context = None; most = None; color = false }
 
 abbrev beside : ℕ → ℕ → Option Context
@@ -66,18 +66,18 @@ matches_parted : report (record plain { print = Matches; numbers = true; context
     ≡ line (numbered 1 (codes ":a")) (line (codes "--") (line (numbered 5 (codes ":a")) (line (numbered 5 (codes ":a")) [])))
 matches_parted = Prim.search (rules, common_steps)
 
--- -o -n -C2: the lines beside them make one group of all
+-- -o -n -C2: their context lines make one group of all
 matches_joined : report (record plain { print = Matches; numbers = true; context = beside 2 2 }) letters (codes "t") false NonePrinted text
     ≡ line (numbered 1 (codes ":a")) (line (numbered 5 (codes ":a")) (line (numbered 5 (codes ":a")) []))
 matches_joined = Prim.search (rules, common_steps)
 
--- -o -n -v -C1: no selected line has a match, and those beside them have some
+-- -o -n -v -C1: no selected line has a match, and their context lines have some
 matches_beside : report (record plain { invert = true; print = Matches; numbers = true; context = beside 1 1 }) letters
     (codes "t") false NonePrinted text
     ≡ line (numbered 1 (codes "-a")) (line (numbered 5 (codes "-a")) (line (numbered 5 (codes "-a")) []))
 matches_beside = Prim.search (rules, common_steps)
 
--- -n -A0, behind another file of which a line was printed
+-- -n -A0, after another file of which a line was printed
 of_a_later_text : report (record plain { numbers = true; context = beside 0 0 }) letters (codes "t") false EarlierPrinted text
     ≡ line (codes "--") (line (numbered 1 (codes ":a1")) (line (codes "--") (line (numbered 5 (codes ":a2 a3")) [])))
 of_a_later_text = Prim.search (rules, common_steps)

@@ -1,6 +1,5 @@
 -- What is left of bytes without the carriage return at their end.
-use Rattle.std.proofs.Common.{◌≡◌, ◌≢◌, ℕ, ◌==◌, Bool, true, false, List, [], ◌∷◌, ◌++◌, length, if◌then◌else◌, refl, ap, sym, ◌∙◌, arith}
-use Rattle.std.proofs.lemmas.Bool.{eqb-true}
+use Rattle.std.proofs.Common.{◌≡◌, ℕ, ◌==◌, Bool, true, false, List, [], ◌∷◌, ◌++◌, length, if◌then◌else◌, refl, ap, sym, ◌∙◌, arith}
 use Rattle.grep_core.specs.Lines.{without_return}
 
 pub none_left_out : (bytes : List ℕ) → length bytes ≡ 0 → bytes ≡ without_return bytes
@@ -8,7 +7,8 @@ none_left_out [] none = refl
 none_left_out (b ∷ bs) none = absurd (grind (arith, none))
 
 -- bytes with a last one
-last_by : (front : List ℕ) (b : ℕ) (v : Bool) → (b == 13) ≡ v → without_return (front ++ (b ∷ [])) ≡ (if v then front else front ++ (b ∷ []))
+last_by : (front : List ℕ) (b : ℕ) (v : Bool) → (b == 13) ≡ v → without_return (front ++ (b ∷ [])) ≡
+    (if v then front else front ++ (b ∷ []))
 last_by [] b true e = ap (λ (v : Bool). if v then [] else b ∷ []) e
 last_by [] b false e = ap (λ (v : Bool). if v then [] else b ∷ []) e
 last_by (c ∷ []) b true e = ap (λ (t : List ℕ). c ∷ t) (last_by [] b true e)

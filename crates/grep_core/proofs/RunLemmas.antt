@@ -6,7 +6,7 @@ use Rattle.std.specs.List.{position}
 use Rattle.grep_core.specs.declared.progress.Task.{Task}
 use Rattle.grep_core.specs.Blocks.{SearchesBy, finds_by}
 use Rattle.grep_core.specs.Lines.{SplitLine, ended, split_lines}
-use Rattle.grep_core.specs.Passing.{Lacks}
+use Rattle.grep_core.specs.Skipping.{HasNoMatch}
 use Rattle.grep_core.specs.Report.{LineMatcher}
 use Rattle.grep_core.specs.Searchers.{Sought, found_by}
 use Rattle.grep_core.proofs.BlockLemmas.{is_feed, first_line}
@@ -15,9 +15,9 @@ use Rattle.grep_core.proofs.SeenLemmas.{none_found}
 -- lines in which nothing is found have no text of a match
 pub all_lack : (t : Task) (s : Sought) (by : SearchesBy t s) (lines : List SplitLine) →
     All (λ line. (found_by by).has_match line ≡ false) lines →
-    All (Lacks (finds_by t by)) lines
+    All (HasNoMatch (finds_by t by)) lines
 all_lack t s by lines none =
-    All-weaker (λ line. (found_by by).has_match line ≡ false) (Lacks (finds_by t by))
+    All-weaker (λ line. (found_by by).has_match line ≡ false) (HasNoMatch (finds_by t by))
     (λ line lacks. record { no_match = lacks; no_text = none_found t.what.now by.how by.patterns line false (sym lacks) refl }) lines none
 
 -- the first of the lines that are left, and the others
@@ -30,12 +30,13 @@ cut_lines block text piece done len rest found cut =
     (append-nil (drop (len + 1) text) ∙ ap (drop (len + 1)) rest ∙ drop-drop (len + 1) done block)
 
 module _ (f : LineMatcher) (block text piece : List ℕ) (done len : ℕ) (rest : text ≡ drop done block)
-    (found : position is_feed text ≡ Some len) (cut : piece ≡ take len text) (lack : All (Lacks f) (split_lines (drop done block))) where
-  both_lack : All (Lacks f) (ended piece ∷ split_lines (drop (done + (len + 1)) block))
-  both_lack = subst (λ (lines : List SplitLine). All (Lacks f) lines) (cut_lines block text piece done len rest found cut) lack
+    (found : position is_feed text ≡ Some len) (cut : piece ≡ take len text) (lack : All (HasNoMatch f) (split_lines (drop done block)))
+  where
+    both_lack : All (HasNoMatch f) (ended piece ∷ split_lines (drop (done + (len + 1)) block))
+    both_lack = subst (λ (lines : List SplitLine). All (HasNoMatch f) lines) (cut_lines block text piece done len rest found cut) lack
 
-  pub one_lacks : Lacks f (ended piece)
-  one_lacks = All-head (Lacks f) (ended piece) (split_lines (drop (done + (len + 1)) block)) both_lack
+    pub one_lacks : HasNoMatch f (ended piece)
+    one_lacks = All-head (HasNoMatch f) (ended piece) (split_lines (drop (done + (len + 1)) block)) both_lack
 
-  pub others_lack : All (Lacks f) (split_lines (drop (done + (len + 1)) block))
-  others_lack = All-tail (Lacks f) (ended piece) (split_lines (drop (done + (len + 1)) block)) both_lack
+    pub others_lack : All (HasNoMatch f) (split_lines (drop (done + (len + 1)) block))
+    others_lack = All-tail (HasNoMatch f) (ended piece) (split_lines (drop (done + (len + 1)) block)) both_lack

@@ -10,15 +10,15 @@ use Rattle.regex_pair.specs.Pairs.{Pair}
 use Rattle.pattern_search.specs.Searches.{span_of_match}
 use Rattle.grep_core.specs.Bounded.{line_pattern}
 use Rattle.grep_core.specs.Meant.{line_config}
-use Rattle.grep_core.specs.declared.patterns.How.{How}
-use Rattle.grep_core.specs.declared.what.What.{What}
+use Rattle.grep_core.specs.declared.patterns.PatternOptions.{PatternOptions}
+use Rattle.grep_core.specs.declared.output_options.OutputOptions.{OutputOptions}
 use Rattle.grep_core.specs.Lines.{SplitLine, searched, split_lines}
 use Rattle.grep_core.specs.Patterns.{finds_of, has_match_in, spans_in}
 use Rattle.grep_core.specs.Report.{is_some_text}
 use Rattle.grep_core.specs.Candidates.{HaveNoMatch}
-use Rattle.grep_core.specs.Searchers.{AreTold, IsMatchTold, Sought, IsSearcherOf, SearchesFor, found_by}
+use Rattle.grep_core.specs.Searchers.{AreReported, IsMatchReported, Sought, IsSearcherOf, SearchesFor, found_by}
 use Rattle.pattern_search.specs.Texts.{AreReadAs}
-use Rattle.grep_core.specs.Telling.{needs_spans, with_needed_spans}
+use Rattle.grep_core.specs.Reporting.{needs_spans, with_needed_spans}
 
 none_from : (search_from : ℕ → Option Match) (n : ℕ) (o : Option Match) → is_some o ≡ false → matches_from search_from n o ≡ []
 unfolding matches_from
@@ -31,30 +31,32 @@ no_spans true found e = ap (filter is_some_text) e
 no_spans false found e = refl
 
 -- a line without a match has no matches
-pub none_found : (w : What) (how : How) (res : List Re) (line : SplitLine) (has : Bool) → has ≡ (finds_of how res).has_match line →
+pub none_found : (w : OutputOptions) (how : PatternOptions) (res : List Re) (line : SplitLine) (has : Bool) →
+    has ≡ (finds_of how res).has_match line →
     has ≡ false →
     filter is_some_text ((with_needed_spans w (finds_of how res)).spans line) ≡ []
-none_found w how res line has told none =
+none_found w how res line has reported none =
     let bytes : List ℕ = searched how.crlf line in
     no_spans (needs_spans w) (spans_in how res bytes)
     (ap (map span_of_match)
-    (none_from (find (line_pattern how res) bytes) (length bytes + 1) (find (line_pattern how res) bytes 0) (sym told ∙ none)))
+    (none_from (find (line_pattern how res) bytes) (length bytes + 1) (find (line_pattern how res) bytes 0) (sym reported ∙ none)))
 
--- where matches don't count there are none
-pub none_needed : (w : What) (how : How) (res : List Re) (line : SplitLine) → needs_spans w ≡ false →
+-- if matches don't count there are none
+pub none_needed : (w : OutputOptions) (how : PatternOptions) (res : List Re) (line : SplitLine) → needs_spans w ≡ false →
     filter is_some_text ((with_needed_spans w (finds_of how res)).spans line) ≡ []
 none_needed w how res line none = ap (λ b. filter is_some_text (if b then (finds_of how res).spans line else [])) none
 
 -- what a finder knows of its searcher
-abbrev pub IsOwn : How → List (List ℕ) → Bool → Pair → Type 0
-IsOwn how texts spans p = (it : IsSearcherOf how texts p) × (spans ≡ true → All LoopsRead it.trees)
+abbrev pub IsOwn : PatternOptions → List (List ℕ) → Bool → Pair → Type 0
+IsOwn how texts spans p = (it : IsSearcherOf how texts p) × (spans ≡ true → LoopsRead it.tree)
 
--- and where they count these are all
-pub all_needed : (w : What) (how : How) (res : List Re) (line : SplitLine) (found : List (ℕ × ℕ)) → needs_spans w ≡ true →
+-- and if they count these are all
+pub all_needed : (w : OutputOptions) (how : PatternOptions) (res : List Re) (line : SplitLine) (found : List (ℕ × ℕ)) →
+    needs_spans w ≡ true →
     found ≡ filter is_some_text ((finds_of how res).spans line) →
     found ≡ filter is_some_text ((with_needed_spans w (finds_of how res)).spans line)
-all_needed w how res line found needs told =
-    told ∙ sym (ap (λ b. filter is_some_text (if b then (finds_of how res).spans line else [])) needs)
+all_needed w how res line found needs reported =
+    reported ∙ sym (ap (λ b. filter is_some_text (if b then (finds_of how res).spans line else [])) needs)
 
 -- a finder that seeks the same
 abbrev pub moved_by : {p q : Sought} {spans : Bool} → q ≡ p → SearchesFor p spans → SearchesFor q spans
@@ -66,18 +68,19 @@ moved_by {p} {q} {spans} same by = record {
   are_read = subst (λ (s : Sought). AreReadAs (line_config by.how) s.texts by.patterns) (sym same) by.are_read;
 }
 
--- what is told of some bytes, for what is sought
-pub told_by : (s : Sought) (spans : Bool) (by : SearchesFor s spans) (line : List ℕ) (told : Bool) → IsMatchTold s.how s.texts line told →
-    told ≡ has_match_in by.how by.patterns line
-told_by s spans by line told match =
-    subst (λ (h : How). IsMatchTold h s.texts line told) (sym by.same) match by.patterns by.are_read
+-- what is reported of some bytes, for what is sought
+pub progress_by : (s : Sought) (spans : Bool) (by : SearchesFor s spans) (line : List ℕ) (reported : Bool) →
+    IsMatchReported s.how s.texts line reported →
+    reported ≡ has_match_in by.how by.patterns line
+progress_by s spans by line reported match =
+    subst (λ (h : PatternOptions). IsMatchReported h s.texts line reported) (sym by.same) match by.patterns by.are_read
 
-pub spans_by : (s : Sought) (spans : Bool) (by : SearchesFor s spans) (line : List ℕ) (told : List (ℕ × ℕ)) →
-    AreTold s.how s.texts line told → told ≡ filter is_some_text (spans_in by.how by.patterns line)
-spans_by s spans by line told all =
-    subst (λ (h : How). AreTold h s.texts line told) (sym by.same) all by.patterns by.are_read
+pub spans_by : (s : Sought) (spans : Bool) (by : SearchesFor s spans) (line : List ℕ) (reported : List (ℕ × ℕ)) →
+    AreReported s.how s.texts line reported → reported ≡ filter is_some_text (spans_in by.how by.patterns line)
+spans_by s spans by line reported all =
+    subst (λ (h : PatternOptions). AreReported h s.texts line reported) (sym by.same) all by.patterns by.are_read
 
 pub none_by : (s : Sought) (spans : Bool) (by : SearchesFor s spans) (text : List ℕ) → HaveNoMatch s.how s.texts text →
     All (λ line. (found_by by).has_match line ≡ false) (split_lines text)
 none_by s spans by text none =
-    subst (λ (h : How). HaveNoMatch h s.texts text) (sym by.same) none by.patterns by.are_read
+    subst (λ (h : PatternOptions). HaveNoMatch h s.texts text) (sym by.same) none by.patterns by.are_read

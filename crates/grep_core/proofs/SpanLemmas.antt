@@ -9,7 +9,7 @@ use Rattle.regex_hir.specs.Find.{Match, first_from, find, find_after, matches_fr
 use Rattle.regex_hir.specs.Text.{is_some_and}
 use Rattle.regex_syntax.specs.Captures.{SameCaptures}
 use Rattle.regex_syntax.proofs.CapturesLemmas.{find_alike, spans}
-use Rattle.grep_core.specs.Fallbacks.{found_at, next_behind, spans_behind}
+use Rattle.grep_core.specs.Fallbacks.{found_at, next_after, spans_following}
 use Rattle.pattern_search.specs.Searches.{span_of_match}
 use Rattle.grep_core.specs.Report.{is_some_text}
 
@@ -42,17 +42,17 @@ found_beyond a line start above =
     ap (λ n. option_map span_of_match (first_from (attempt line a accept) n start)) none
 
 pub next_beyond : (at : ℕ → Option (ℕ × ℕ)) (end : ℕ) → is_some_and (at end) (λ s. s.1 == end) ≡ true → at (end + 1) ≡ None →
-    None ≡ next_behind at end
+    None ≡ next_after at end
 next_beyond at end is none = sym (ap (λ b. if b then at (end + 1) else at end) is ∙ none)
 
-pub none_beyond : (a : Re) (line : List ℕ) (end : ℕ) → length line < end → None ≡ next_behind (found_at a line) end
+pub none_beyond : (a : Re) (line : List ℕ) (end : ℕ) → length line < end → None ≡ next_after (found_at a line) end
 none_beyond a line end above =
     sym (ap₂ (λ x y. if is_some_and x (λ s. s.1 == end) then y else x) (found_beyond a line end above)
     (found_beyond a line (end + 1) (omega (arith, above))))
 
 -- ---- all matches
 map_after : (s : ℕ → Option Match) (end : ℕ) → option_map span_of_match (find_after s end)
-    ≡ next_behind (λ i. option_map span_of_match (s i)) end
+    ≡ next_after (λ i. option_map span_of_match (s i)) end
 map_after s end = by (s end) (s (end + 1))
   where
     test_is : (o : Option Match) → is_some_and o (λ m. m.trace.end == end) ≡ is_some_and (option_map span_of_match o) (λ p. p.1 == end)
@@ -70,21 +70,23 @@ map_after s end = by (s end) (s (end + 1))
         ∙ ap (λ b. if b then option_map span_of_match p else option_map span_of_match o) (test_is o)
 
 pub spans_of_matches : (s : ℕ → Option Match) (n : ℕ) (m : Option Match) →
-    map span_of_match (matches_from s n m) ≡ spans_behind (λ i. option_map span_of_match (s i)) n (option_map span_of_match m)
+    map span_of_match (matches_from s n m) ≡ spans_following (λ i. option_map span_of_match (s i)) n (option_map span_of_match m)
 unfolding matches_from
 spans_of_matches s zero m = refl
 spans_of_matches s (suc n) None = refl
 spans_of_matches s (suc n) (Some m) =
     ap (λ rest. span_of_match m ∷ rest)
-    (spans_of_matches s n (find_after s m.trace.end) ∙ ap (spans_behind (λ i. option_map span_of_match (s i)) n) (map_after s m.trace.end))
+    (spans_of_matches s n (find_after s m.trace.end) ∙ ap (spans_following (λ i. option_map span_of_match (s i)) n) (map_after s
+    m.trace.end))
 
-pub same_spans : (f g : ℕ → Option (ℕ × ℕ)) → ((i : ℕ) → f i ≡ g i) → (n : ℕ) (o : Option (ℕ × ℕ)) → spans_behind f n o ≡ spans_behind g n o
+pub same_spans : (f g : ℕ → Option (ℕ × ℕ)) → ((i : ℕ) → f i ≡ g i) → (n : ℕ) (o : Option (ℕ × ℕ)) →
+    spans_following f n o ≡ spans_following g n o
 same_spans f g same zero o = refl
 same_spans f g same (suc n) None = refl
 same_spans f g same (suc n) (Some s) =
     ap (λ rest. s ∷ rest)
-    (same_spans f g same n (next_behind f s.1)
-    ∙ ap₂ (λ x y. spans_behind g n (if is_some_and x (λ p. p.1 == s.1) then y else x)) (same s.1) (same (s.1 + 1)))
+    (same_spans f g same n (next_after f s.1)
+    ∙ ap₂ (λ x y. spans_following g n (if is_some_and x (λ p. p.1 == s.1) then y else x)) (same s.1) (same (s.1 + 1)))
 
 -- one more span of those that aren't empty
 one_of : (s : ℕ × ℕ) (xs : List (ℕ × ℕ)) → filter is_some_text (s ∷ xs) ≡ filter is_some_text (s ∷ []) ++ filter is_some_text xs
@@ -96,34 +98,36 @@ one_of s xs = by (is_some_text s)
     by false = refl
 
 one_span : (at : ℕ → Option (ℕ × ℕ)) (n m : ℕ) (s : ℕ × ℕ) → n ≡ suc m →
-    filter is_some_text (spans_behind at n (Some s)) ≡ filter is_some_text (s ∷ [])
-    ++ filter is_some_text (spans_behind at m (next_behind at s.1))
-one_span at n m s is = ap (λ k. filter is_some_text (spans_behind at k (Some s))) is ∙ one_of s (spans_behind at m (next_behind at s.1))
+    filter is_some_text (spans_following at n (Some s)) ≡ filter is_some_text (s ∷ [])
+    ++ filter is_some_text (spans_following at m (next_after at s.1))
+one_span at n m s is = ap (λ k. filter is_some_text (spans_following at k (Some s))) is ∙
+    one_of s (spans_following at m (next_after at s.1))
 
-no_span : (at : ℕ → Option (ℕ × ℕ)) (n : ℕ) → filter is_some_text (spans_behind at n None) ≡ []
+no_span : (at : ℕ → Option (ℕ × ℕ)) (n : ℕ) → filter is_some_text (spans_following at n None) ≡ []
 no_span at zero = refl
 no_span at (suc n) = refl
 
 pub one_more_span : (at : ℕ → Option (ℕ × ℕ)) (all before after : List (ℕ × ℕ)) (most step : ℕ) (o next : Option (ℕ × ℕ)) (s : ℕ × ℕ) →
     step < most → o ≡ Some s →
-    next ≡ next_behind at s.1 → after ≡ before ++ filter is_some_text (s ∷ []) →
-    all ≡ before ++ filter is_some_text (spans_behind at (most - step) o) →
-    all ≡ after ++ filter is_some_text (spans_behind at (most - (step + 1)) next)
+    next ≡ next_after at s.1 → after ≡ before ++ filter is_some_text (s ∷ []) →
+    all ≡ before ++ filter is_some_text (spans_following at (most - step) o) →
+    all ≡ after ++ filter is_some_text (spans_following at (most - (step + 1)) next)
 one_more_span at all before after most step o next s below some is pushed so_far =
     let one : most - step ≡ suc (most - (step + 1)) = omega (arith, below) in
-    let rest = filter is_some_text (spans_behind at (most - (step + 1)) (next_behind at s.1)) in
+    let rest = filter is_some_text (spans_following at (most - (step + 1)) (next_after at s.1)) in
     so_far
-    ∙ ap (λ p. before ++ filter is_some_text (spans_behind at (most - step) p)) some
+    ∙ ap (λ p. before ++ filter is_some_text (spans_following at (most - step) p)) some
     ∙ ap (λ l. before ++ l) (one_span at (most - step) (most - (step + 1)) s one)
     ∙ sym (append_assoc before (filter is_some_text (s ∷ [])) rest)
-    ∙ ap₂ (λ x y. x ++ filter is_some_text (spans_behind at (most - (step + 1)) y)) (sym pushed) (sym is)
+    ∙ ap₂ (λ x y. x ++ filter is_some_text (spans_following at (most - (step + 1)) y)) (sym pushed) (sym is)
 
-pub all_found : (at : ℕ → Option (ℕ × ℕ)) (all told : List (ℕ × ℕ)) (n : ℕ) (o : Option (ℕ × ℕ)) → o ≡ None →
-    all ≡ told ++ filter is_some_text (spans_behind at n o) → told ≡ all
-all_found at all told n o none so_far =
-    sym (so_far ∙ ap (λ p. told ++ filter is_some_text (spans_behind at n p)) none ∙ ap (λ l. told ++ l) (no_span at n) ∙ append-nil told)
+pub all_found : (at : ℕ → Option (ℕ × ℕ)) (all reported : List (ℕ × ℕ)) (n : ℕ) (o : Option (ℕ × ℕ)) → o ≡ None →
+    all ≡ reported ++ filter is_some_text (spans_following at n o) → reported ≡ all
+all_found at all reported n o none so_far =
+    sym (so_far ∙ ap (λ p. reported ++ filter is_some_text (spans_following at n p)) none ∙ ap (λ l. reported ++ l) (no_span at n) ∙
+    append-nil reported)
 
-pub all_counted : (at : ℕ → Option (ℕ × ℕ)) (all told : List (ℕ × ℕ)) (n : ℕ) (o : Option (ℕ × ℕ)) → n ≡ 0 →
-    all ≡ told ++ filter is_some_text (spans_behind at n o) → told ≡ all
-all_counted at all told n o none so_far =
-    sym (so_far ∙ ap (λ m. told ++ filter is_some_text (spans_behind at m o)) none ∙ append-nil told)
+pub all_counted : (at : ℕ → Option (ℕ × ℕ)) (all reported : List (ℕ × ℕ)) (n : ℕ) (o : Option (ℕ × ℕ)) → n ≡ 0 →
+    all ≡ reported ++ filter is_some_text (spans_following at n o) → reported ≡ all
+all_counted at all reported n o none so_far =
+    sym (so_far ∙ ap (λ m. reported ++ filter is_some_text (spans_following at m o)) none ∙ append-nil reported)

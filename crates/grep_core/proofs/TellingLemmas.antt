@@ -1,27 +1,27 @@
--- What is still told of lines goes on by one line.
+-- What is still to be reported of lines goes on by one line.
 use Rattle.std.proofs.Common.{◌≡◌, Result, Ok, Err, OnOk, ◌⊎◌, inl, inr, IsTrue, nat_eq, take, ◌≤◌, ◌<◌, ℕ, zero, suc, ◌+◌, ◌-◌, Bool, true}
 use Rattle.std.proofs.Common.{false, not, ◌&&◌, nat_lt, List, [], ◌∷◌, ◌++◌, map, Option, Some, None, if◌then◌else◌, refl, sym, ap, ap₂}
 use Rattle.std.proofs.Common.{◌∙◌, arith, lt-ltb}
-use Rattle.grep_core.specs.declared.course.Course.{Course}
-use Rattle.grep_core.specs.declared.known.Known.{Known}
-use Rattle.grep_core.specs.declared.known.Known.TheVariants.{LastPrinted}
+use Rattle.grep_core.specs.declared.context_printer.ContextPrinter.{ContextPrinter}
+use Rattle.grep_core.specs.declared.separator_state.SeparatorState.{SeparatorState}
+use Rattle.grep_core.specs.declared.separator_state.SeparatorState.TheVariants.{LastPrinted}
 use Rattle.grep_core.specs.declared.role.Role.{Role}
 use Rattle.grep_core.specs.declared.role.Role.TheVariants.{Selected, Beside, Hidden}
-use Rattle.grep_core.specs.declared.what.Print.{Print}
-use Rattle.grep_core.specs.declared.what.Print.TheVariants.{Lines, Matches, Count, NameIfAny, NameIfNone, Nothing}
-use Rattle.grep_core.specs.declared.what.What.{What}
-use Rattle.grep_core.specs.Courses.{Item, item, still, print_as, print_item, waiting_item}
+use Rattle.grep_core.specs.declared.output_options.Print.{Print}
+use Rattle.grep_core.specs.declared.output_options.Print.TheVariants.{Lines, Matches, Count, NameIfAny, NameIfNone, Nothing}
+use Rattle.grep_core.specs.declared.output_options.OutputOptions.{OutputOptions}
+use Rattle.grep_core.specs.ContextPrinting.{Item, item, still, print_as, print_item, waiting_item}
 use Rattle.grep_core.specs.Lines.{TextLine}
-use Rattle.grep_core.specs.Report.{LineMatcher, before_of, after_of, roles_of, parting, behind_hidden, print_lines, count_line, name_line}
-use Rattle.grep_core.specs.Report.{report_as, selected, told_spans, is_wanted}
+use Rattle.grep_core.specs.Report.{LineMatcher, before_of, after_of, roles_of, parting, after_hidden, print_lines, count_line, name_line}
+use Rattle.grep_core.specs.Report.{report_as, selected, reported_spans, is_wanted}
 use Rattle.grep_core.specs.Selecting.{limited, count_selected, any, roles, roles_from}
-use Rattle.grep_core.specs.Telling.{shown, told_item, prints_lines, tells_as, left_of, may_select, flags_behind}
+use Rattle.grep_core.specs.Reporting.{shown, reported_item, prints_lines, reported_lines, left_of, may_select, flags_after}
 
-print_map : {X Y : Type 0} (w : What) (print : Role → Y → List ℕ) (g : X → Y) (b : Known) (rs : List Role) (xs : List X) →
+print_map : {X Y : Type 0} (w : OutputOptions) (print : Role → Y → List ℕ) (g : X → Y) (b : SeparatorState) (rs : List Role) (xs : List X) →
     print_lines w print b rs (map g xs) ≡ print_lines w (λ r x. print r (g x)) b rs xs
 print_map w print g b [] xs = refl
 print_map w print g b (r ∷ rs) [] = refl
-print_map w print g b (Hidden ∷ rs) (x ∷ xs) = print_map w print g (behind_hidden b) rs xs
+print_map w print g b (Hidden ∷ rs) (x ∷ xs) = print_map w print g (after_hidden b) rs xs
 print_map w print g b (Selected ∷ rs) (x ∷ xs) = ap (λ t. parting w b ++ (print Selected (g x) ++ t))
     (print_map w print g LastPrinted rs xs)
 print_map w print g b (Beside ∷ rs) (x ∷ xs) = ap (λ t. parting w b ++ (print Beside (g x) ++ t)) (print_map w print g LastPrinted rs xs)
@@ -30,42 +30,44 @@ left_none : (most : Option ℕ) → left_of most 0 ≡ most
 left_none None = refl
 left_none (Some m) = ap Some (let e : m - 0 ≡ m = omega arith in e)
 
-flags_none : (w : What) (f : LineMatcher) (lines : List TextLine) → flags_behind w f 0 lines ≡ selected w f lines
+flags_none : (w : OutputOptions) (f : LineMatcher) (lines : List TextLine) → flags_after w f 0 lines ≡ selected w f lines
 flags_none w f lines = ap (λ most. limited most (map (is_wanted w f) lines)) (left_none w.most)
 
 none_before : (n : ℕ) → 0 + n ≡ n
 none_before n = omega arith
 
--- nothing of a course but this
-abbrev Starts : What → Option (List ℕ) → Known → Course → Type 0
+-- nothing is printed of the lines but this
+abbrev Starts : OutputOptions → Option (List ℕ) → SeparatorState → ContextPrinter → Type 0
 Starts w name known c = (flags : List Bool) (items : List Item) →
     still w name c flags items ≡ print_lines w (print_item w name) known (roles (before_of w.context) (after_of w.context) flags) items
 
-starts_lines : (p : Print) (w : What) (f : LineMatcher) (name : Option (List ℕ)) (known : Known) (c : Course) → Starts w name known c →
+starts_lines : (p : Print) (w : OutputOptions) (f : LineMatcher) (name : Option (List ℕ)) (known : SeparatorState) (c : ContextPrinter) →
+    Starts w name known c →
     w.print ≡ p → (lines : List TextLine) →
-    still w name c (flags_behind w f 0 lines) (map (told_item f) lines)
-    ≡ print_lines w (λ role line. print_as p w name role (told_item f line)) known (roles_of w (selected w f lines)) lines
+    still w name c (flags_after w f 0 lines) (map (reported_item f) lines)
+    ≡ print_lines w (λ role line. print_as p w name role (reported_item f line)) known (roles_of w (selected w f lines)) lines
 starts_lines p w f name known c fresh is lines =
-    fresh (flags_behind w f 0 lines) (map (told_item f) lines)
-    ∙ print_map w (print_item w name) (told_item f) known (roles_of w (flags_behind w f 0 lines)) lines
-    ∙ ap (λ flags. print_lines w (λ role line. print_item w name role (told_item f line)) known (roles_of w flags) lines)
+    fresh (flags_after w f 0 lines) (map (reported_item f) lines)
+    ∙ print_map w (print_item w name) (reported_item f) known (roles_of w (flags_after w f 0 lines)) lines
+    ∙ ap (λ flags. print_lines w (λ role line. print_item w name role (reported_item f line)) known (roles_of w flags) lines)
     (flags_none w f lines)
-    ∙ ap (λ q. print_lines w (λ role line. print_as q w name role (told_item f line)) known (roles_of w (selected w f lines)) lines) is
+    ∙ ap (λ q. print_lines w (λ role line. print_as q w name role (reported_item f line)) known (roles_of w (selected w f lines)) lines) is
 
-pub starts_told : (p : Print) (w : What) (f : LineMatcher) (name : List ℕ) (with_name : Bool) (known : Known) (c : Course) →
+pub starts_told : (p : Print) (w : OutputOptions) (f : LineMatcher) (name : List ℕ) (with_name : Bool) (known : SeparatorState) (c :
+    ContextPrinter) →
     Starts w (shown with_name name) known c → w.print ≡ p → (lines : List TextLine) →
-    tells_as p w name with_name c 0 (flags_behind w f 0 lines) (map (told_item f) lines)
+    reported_lines p w name with_name c 0 (flags_after w f 0 lines) (map (reported_item f) lines)
     ≡ report_as p w f name with_name known lines (selected w f lines)
 starts_told Lines w f name with_name known c fresh is lines = starts_lines Lines w f (shown with_name name) known c fresh is lines
 starts_told Matches w f name with_name known c fresh is lines = starts_lines Matches w f (shown with_name name) known c fresh is lines
 starts_told Count w f name with_name known c fresh is lines =
-    ap (count_line w (shown with_name name)) (none_before (count_selected (flags_behind w f 0 lines))
+    ap (count_line w (shown with_name name)) (none_before (count_selected (flags_after w f 0 lines))
     ∙ ap count_selected (flags_none w f lines))
 starts_told NameIfAny w f name with_name known c fresh is lines =
-    ap (λ n. if nat_lt 0 n then name_line w name else []) (none_before (count_selected (flags_behind w f 0 lines))
+    ap (λ n. if nat_lt 0 n then name_line w name else []) (none_before (count_selected (flags_after w f 0 lines))
     ∙ ap count_selected (flags_none w f lines))
 starts_told NameIfNone w f name with_name known c fresh is lines =
-    ap (λ n. if nat_lt 0 n then [] else name_line w name) (none_before (count_selected (flags_behind w f 0 lines))
+    ap (λ n. if nat_lt 0 n then [] else name_line w name) (none_before (count_selected (flags_after w f 0 lines))
     ∙ ap count_selected (flags_none w f lines))
 starts_told Nothing w f name with_name known c fresh is lines = refl
 
@@ -106,52 +108,56 @@ limited_step None n false bs = refl
 limited_step (Some m) n b bs = limited_some m n (nat_lt n m) refl b bs
 
 -- a line is selected as it is seen
-abbrev pub selects : What → ℕ → Bool → Bool
+abbrev pub selects : OutputOptions → ℕ → Bool → Bool
 selects w n has = (if w.invert then not has else has) && may_select w.most n
 
-pub flags_step : (w : What) (f : LineMatcher) (n m : ℕ) (sel has : Bool) (line : TextLine) (lines : List TextLine) → sel ≡ selects w n has →
+pub flags_step : (w : OutputOptions) (f : LineMatcher) (n m : ℕ) (sel has : Bool) (line : TextLine) (lines : List TextLine) →
+    sel ≡ selects w n has →
     has ≡ f.has_match line.content →
-    m ≡ n + (if sel then 1 else 0) → flags_behind w f n (line ∷ lines) ≡ sel ∷ flags_behind w f m lines
+    m ≡ n + (if sel then 1 else 0) → flags_after w f n (line ∷ lines) ≡ sel ∷ flags_after w f m lines
 flags_step w f n m sel has line lines is seen more =
     let same : selects w n (f.has_match line.content) ≡ sel = sym (is ∙ ap (selects w n) seen) in
     limited_step w.most n (is_wanted w f line) (map (is_wanted w f) lines)
     ∙ ap (λ t. t ∷ limited (left_of w.most (n + (if t then 1 else 0))) (map (is_wanted w f) lines)) same
     ∙ ap (λ k. sel ∷ limited (left_of w.most k) (map (is_wanted w f) lines)) (sym more)
 
-pub line_told : (p : Print) (w : What) (f : LineMatcher) (name : List ℕ) (with_name : Bool) (c after : Course) (n m : ℕ) (sel has : Bool)
+pub line_told : (p : Print) (w : OutputOptions) (f : LineMatcher) (name : List ℕ) (with_name : Bool) (c after : ContextPrinter) (n m : ℕ)
+    (sel has : Bool)
     (line : TextLine)
     (found : List (ℕ × ℕ)) (out new : List ℕ) (lines : List TextLine) → sel ≡ selects w n has → has ≡ f.has_match line.content →
-    found ≡ told_spans f line →
+    found ≡ reported_spans f line →
     m ≡ n + (if sel then 1 else 0) →
     ((flags : List Bool) (items : List Item) →
-    out ++ tells_as p w name with_name c n (sel ∷ flags) (item line found ∷ items) ≡ new ++ tells_as p w name with_name after m flags items)
+    out ++ reported_lines p w name with_name c n (sel ∷ flags) (item line found ∷ items) ≡
+    new ++ reported_lines p w name with_name after m flags items)
     →
-    out ++ tells_as p w name with_name c n (flags_behind w f n (line ∷ lines)) (map (told_item f) (line ∷ lines))
-    ≡ new ++ tells_as p w name with_name after m (flags_behind w f m lines) (map (told_item f) lines)
+    out ++ reported_lines p w name with_name c n (flags_after w f n (line ∷ lines)) (map (reported_item f) (line ∷ lines))
+    ≡ new ++ reported_lines p w name with_name after m (flags_after w f m lines) (map (reported_item f) lines)
 line_told p w f name with_name c after n m sel has line found out new lines is seen spans more goes_on =
-    ap₂ (λ flags fs. out ++ tells_as p w name with_name c n flags (item line fs ∷ map (told_item f) lines))
+    ap₂ (λ flags fs. out ++ reported_lines p w name with_name c n flags (item line fs ∷ map (reported_item f) lines))
     (flags_step w f n m sel has line lines is seen more) (sym spans)
-    ∙ goes_on (flags_behind w f m lines) (map (told_item f) lines)
+    ∙ goes_on (flags_after w f m lines) (map (reported_item f) lines)
 
 one_counted : (sel : Bool) (n : ℕ) (flags : List Bool) →
     (n + (if sel then 1 else 0)) + count_selected flags ≡ n + count_selected (sel ∷ flags)
 one_counted true n flags = let e : (n + 1) + count_selected flags ≡ n + suc (count_selected flags) = omega arith in e
 one_counted false n flags = let e : (n + 0) + count_selected flags ≡ n + count_selected flags = omega arith in e
 
-pub line_counted : (w : What) (f : LineMatcher) (n m : ℕ) (sel has : Bool) (line : TextLine) (lines : List TextLine) →
+pub line_counted : (w : OutputOptions) (f : LineMatcher) (n m : ℕ) (sel has : Bool) (line : TextLine) (lines : List TextLine) →
     sel ≡ selects w n has →
     has ≡ f.has_match line.content →
-    m ≡ n + (if sel then 1 else 0) → m + count_selected (flags_behind w f m lines) ≡ n + count_selected (flags_behind w f n (line ∷ lines))
+    m ≡ n + (if sel then 1 else 0) → m + count_selected (flags_after w f m lines) ≡ n + count_selected (flags_after w f n (line ∷ lines))
 line_counted w f n m sel has line lines is seen more =
-    ap (λ k. k + count_selected (flags_behind w f m lines)) more
-    ∙ one_counted sel n (flags_behind w f m lines)
+    ap (λ k. k + count_selected (flags_after w f m lines)) more
+    ∙ one_counted sel n (flags_after w f m lines)
     ∙ ap (λ flags. n + count_selected flags) (sym (flags_step w f n m sel has line lines is seen more))
 
--- what is told besides lines and matches
-pub besides_told : (p : Print) (w : What) (name : List ℕ) (with_name : Bool) (c : Course) (n m : ℕ) (sel : Bool) (out : List ℕ)
+-- what is reported besides lines and matches
+pub besides_told : (p : Print) (w : OutputOptions) (name : List ℕ) (with_name : Bool) (c : ContextPrinter) (n m : ℕ) (sel : Bool) (out :
+    List ℕ)
     (flags : List Bool) (it : Item)
     (items : List Item) → prints_lines p ≡ false → m ≡ n + (if sel then 1 else 0) →
-    out ++ tells_as p w name with_name c n (sel ∷ flags) (it ∷ items) ≡ out ++ tells_as p w name with_name c m flags items
+    out ++ reported_lines p w name with_name c n (sel ∷ flags) (it ∷ items) ≡ out ++ reported_lines p w name with_name c m flags items
 besides_told Lines w name with_name c n m sel out flags it items other more = absurd (grind (arith, other))
 besides_told Matches w name with_name c n m sel out flags it items other more = absurd (grind (arith, other))
 besides_told Count w name with_name c n m sel out flags it items other more =
@@ -162,7 +168,7 @@ besides_told NameIfNone w name with_name c n m sel out flags it items other more
     ap (λ k. out ++ (if nat_lt 0 k then [] else name_line w name)) (sym (ap (λ k. k + count_selected flags) more ∙ one_counted sel n flags))
 besides_told Nothing w name with_name c n m sel out flags it items other more = refl
 
--- ---- behind the last line that may be selected
+-- ---- after the last line that may be selected
 spent_flags : (most : Option ℕ) (n : ℕ) → may_select most n ≡ false → (xs : List Bool) → limited (left_of most n) xs ≡ map (λ _. false) xs
 spent_flags None n spent xs = absurd (grind (arith, spent))
 spent_flags (Some m) n spent xs = ap (λ k. limited (Some k) xs)
@@ -178,7 +184,8 @@ any_taken (suc n) [] e = refl
 any_taken (suc n) (true ∷ flags) e = absurd (grind (arith, e))
 any_taken (suc n) (false ∷ flags) e = any_taken n flags e
 
-prints_none : {X : Type 0} (w : What) (print : Role → X → List ℕ) (before after : ℕ) (b : Known) (flags : List Bool) → any flags ≡ false →
+prints_none : {X : Type 0} (w : OutputOptions) (print : Role → X → List ℕ) (before after : ℕ) (b : SeparatorState) (flags : List Bool) →
+    any flags ≡ false →
     (xs : List X) →
     print_lines w print b (roles_from before after 0 flags) xs ≡ []
 prints_none w print before after b [] e xs = refl
@@ -187,7 +194,7 @@ prints_none w print before after b (false ∷ flags) e [] = refl
 prints_none w print before after b (false ∷ flags) e (x ∷ xs) =
     ap (λ soon. print_lines w print b ((if soon then Beside else Hidden) ∷ roles_from before after 0 flags) (x ∷ xs))
     (any_taken before flags e)
-    ∙ prints_none w print before after (behind_hidden b) flags e xs
+    ∙ prints_none w print before after (after_hidden b) flags e xs
 
 falses : {X : Type 0} (xs : List X) (ys : List Bool) → any (map (λ _. false) xs ++ map (λ _. false) ys) ≡ false
 falses [] [] = refl
@@ -195,7 +202,7 @@ falses {X} [] (y ∷ ys) = falses {X = X} [] ys
 falses (x ∷ xs) ys = falses xs ys
 
 -- lines that wait aren't printed either
-still_none : (w : What) (name : Option (List ℕ)) (c : Course) → c.left ≡ 0 → (ys : List Bool) (items : List Item) →
+still_none : (w : OutputOptions) (name : Option (List ℕ)) (c : ContextPrinter) → c.left ≡ 0 → (ys : List Bool) (items : List Item) →
     still w name c (map (λ _. false) ys) items ≡ []
 still_none w name c none ys items =
     ap (λ n. print_lines w (print_item w name) c.known
@@ -205,27 +212,28 @@ still_none w name c none ys items =
     (map (λ _. false) (map waiting_item c.waiting.items) ++ map (λ _. false) ys)
     (falses (map waiting_item c.waiting.items) ys) (map waiting_item c.waiting.items ++ items)
 
-module _ (w : What) (f : LineMatcher) (name : List ℕ) (with_name : Bool) (c : Course) (n : ℕ) (spent : may_select w.most n ≡ false) where
-  none : (lines : List TextLine) → flags_behind w f n lines ≡ map (λ _. false) (map (is_wanted w f) lines)
+module _ (w : OutputOptions) (f : LineMatcher) (name : List ℕ) (with_name : Bool) (c : ContextPrinter) (n : ℕ) (spent : may_select w.most n
+    ≡ false) where
+  none : (lines : List TextLine) → flags_after w f n lines ≡ map (λ _. false) (map (is_wanted w f) lines)
   none lines = spent_flags w.most n spent (map (is_wanted w f) lines)
 
-  none_more : (lines : List TextLine) → count_selected (flags_behind w f n lines) ≡ 0
+  none_more : (lines : List TextLine) → count_selected (flags_after w f n lines) ≡ 0
   none_more lines = ap count_selected (none lines) ∙ none_counted (map (is_wanted w f) lines)
 
-  pub over_counted : (lines : List TextLine) → n + count_selected (flags_behind w f n lines) ≡ n + count_selected (flags_behind w f n [])
+  pub over_counted : (lines : List TextLine) → n + count_selected (flags_after w f n lines) ≡ n + count_selected (flags_after w f n [])
   over_counted lines = ap (λ k. n + k) (none_more lines ∙ sym (none_more []))
 
   over_lines : c.left ≡ 0 → (lines : List TextLine) →
-      still w (shown with_name name) c (flags_behind w f n lines) (map (told_item f) lines)
-      ≡ still w (shown with_name name) c (flags_behind w f n []) []
+      still w (shown with_name name) c (flags_after w f n lines) (map (reported_item f) lines)
+      ≡ still w (shown with_name name) c (flags_after w f n []) []
   over_lines left lines =
-      ap (λ flags. still w (shown with_name name) c flags (map (told_item f) lines)) (none lines)
-      ∙ still_none w (shown with_name name) c left (map (is_wanted w f) lines) (map (told_item f) lines)
+      ap (λ flags. still w (shown with_name name) c flags (map (reported_item f) lines)) (none lines)
+      ∙ still_none w (shown with_name name) c left (map (is_wanted w f) lines) (map (reported_item f) lines)
       ∙ sym (ap (λ flags. still w (shown with_name name) c flags []) (none []) ∙ still_none w (shown with_name name) c left [] [])
 
   pub over_told : (p : Print) → (prints_lines p ≡ true → c.left ≡ 0) → (lines : List TextLine) →
-      tells_as p w name with_name c n (flags_behind w f n lines) (map (told_item f) lines)
-      ≡ tells_as p w name with_name c n (flags_behind w f n []) []
+      reported_lines p w name with_name c n (flags_after w f n lines) (map (reported_item f) lines)
+      ≡ reported_lines p w name with_name c n (flags_after w f n []) []
   over_told Lines left lines = over_lines (left refl) lines
   over_told Matches left lines = over_lines (left refl) lines
   over_told Count left lines = ap (count_line w (shown with_name name)) (over_counted lines)
@@ -237,13 +245,13 @@ module _ (w : What) (f : LineMatcher) (name : List ℕ) (with_name : Bool) (c : 
 abbrev pub IsOfNames : Print → Type 0
 IsOfNames p = (p ≡ NameIfAny) ⊎ ((p ≡ NameIfNone) ⊎ (p ≡ Nothing))
 
--- behind the last line none more is selected
+-- after the last line none more is selected
 none_limited : (most : Option ℕ) → count_selected (limited most []) ≡ 0
 none_limited None = refl
 none_limited (Some zero) = refl
 none_limited (Some (suc n)) = refl
 
-pub all_counted : (w : What) (f : LineMatcher) (n : ℕ) → n + count_selected (flags_behind w f n []) ≡ n
+pub all_counted : (w : OutputOptions) (f : LineMatcher) (n : ℕ) → n + count_selected (flags_after w f n []) ≡ n
 all_counted w f n = ap (λ k. n + k) (none_limited (left_of w.most n)) ∙ (let e : n + 0 ≡ n = omega arith in e)
 
 -- a count and names are no lines
@@ -263,10 +271,11 @@ pub is_zero : (n : ℕ) → IsTrue (nat_eq n 0) → n ≡ 0
 is_zero zero t = refl
 is_zero (suc n) t = absurd (grind (arith, t))
 
--- ---- lines or matches, in the words of the call that tells them
-as_still : (p : Print) (w : What) (name : List ℕ) (with_name : Bool) (c : Course) (n : ℕ) (flags : List Bool) (items : List Item) →
+-- ---- lines or matches, in the words of the call that reports them
+as_still : (p : Print) (w : OutputOptions) (name : List ℕ) (with_name : Bool) (c : ContextPrinter) (n : ℕ) (flags : List Bool) (items :
+    List Item) →
     prints_lines p ≡ true →
-    tells_as p w name with_name c n flags items ≡ still w (shown with_name name) c flags items
+    reported_lines p w name with_name c n flags items ≡ still w (shown with_name name) c flags items
 as_still Lines w name with_name c n flags items is = refl
 as_still Matches w name with_name c n flags items is = refl
 as_still Count w name with_name c n flags items is = absurd (grind (arith, is))
@@ -274,14 +283,14 @@ as_still NameIfAny w name with_name c n flags items is = absurd (grind (arith, i
 as_still NameIfNone w name with_name c n flags items is = absurd (grind (arith, is))
 as_still Nothing w name with_name c n flags items is = absurd (grind (arith, is))
 
-pub lines_told : {E : Type 0} (r : Result (Unit {0}) E) (p : Print) (w : What) (c after : Course) (sel : Bool) (it : Item)
+pub lines_told : {E : Type 0} (r : Result (Unit {0}) E) (p : Print) (w : OutputOptions) (c after : ContextPrinter) (sel : Bool) (it : Item)
     (out new : List ℕ)
     (name : Option (List ℕ)) → prints_lines p ≡ true →
     OnOk r ((flags : List Bool) (items : List Item) → out ++ still w name c (sel ∷ flags) (it ∷ items) ≡ new
     ++ still w name after flags items) →
     OnOk r ((text : List ℕ) (with_name : Bool) (n m : ℕ) (flags : List Bool) (items : List Item) → shown with_name text ≡ name →
     m ≡ n + (if sel then 1 else 0) →
-    out ++ tells_as p w text with_name c n (sel ∷ flags) (it ∷ items) ≡ new ++ tells_as p w text with_name after m flags items)
+    out ++ reported_lines p w text with_name c n (sel ∷ flags) (it ∷ items) ≡ new ++ reported_lines p w text with_name after m flags items)
 lines_told (Err e) p w c after sel it out new name is goes_on = tt
 lines_told (Ok u) p w c after sel it out new name is goes_on = λ text with_name n m flags items named more.
     ap (λ t. out ++ t) (as_still p w text with_name c n (sel ∷ flags) (it ∷ items) is)

@@ -1,14 +1,14 @@
--- What is told of a whole text.
+-- What is reported of a whole haystack.
 use Rattle.std.proofs.Common.{◌≡◌, ℕ, List, [], ◌++◌, take, Option, ap, ◌∙◌, subst}
 use Rattle.std.specs.Io.KnownBytes.{Appends}
 use Rattle.grep_core.specs.declared.progress.Progress.{Progress}
 use Rattle.grep_core.specs.declared.progress.Task.{Task}
-use Rattle.grep_core.specs.declared.known.Known.{Known}
-use Rattle.grep_core.specs.Blocks.{tells_lines, counts_lines, ReadsAndWrites, WritesPart}
+use Rattle.grep_core.specs.declared.separator_state.SeparatorState.{SeparatorState}
+use Rattle.grep_core.specs.Blocks.{reported_bytes, counts_lines, ReadsAndWrites, WritesPart}
 use Rattle.grep_core.specs.Lines.{text_lines, split_lines}
 use Rattle.grep_core.specs.Report.{LineMatcher, counted_as, report, report_as, selected, selected_count}
 use Rattle.grep_core.specs.Selecting.{count_selected}
-use Rattle.grep_core.specs.Telling.{with_needed_spans}
+use Rattle.grep_core.specs.Reporting.{with_needed_spans}
 use Rattle.grep_core.proofs.NeededLemmas.{needed_report}
 use Rattle.grep_core.proofs.WriteLemmas.{all_written, all_part}
 
@@ -17,34 +17,35 @@ module _ (t : Task) (f : LineMatcher) where
   wanted = with_needed_spans t.what.now f
 
   -- before its first line
-  abbrev pub Begins : Known → Progress → Type 0
-  Begins known p = (text : List ℕ) → tells_lines t (with_needed_spans t.what.now f) p (split_lines text)
+  abbrev pub Begins : SeparatorState → Progress → Type 0
+  Begins known p = (text : List ℕ) → reported_bytes t (with_needed_spans t.what.now f) p (split_lines text)
       ≡ report_as t.what.now.print t.what.now (with_needed_spans t.what.now f) t.name.now t.with_name known (text_lines text)
       (selected t.what.now (with_needed_spans t.what.now f) (text_lines text))
 
-  begins : (known : Known) (p : Progress) (read text : List ℕ) → read ≡ [] → Begins known p →
-      tells_lines t wanted p (split_lines (read ++ text)) ≡ report t.what.now f t.name.now t.with_name known text
+  begins : (known : SeparatorState) (p : Progress) (read text : List ℕ) → read ≡ [] → Begins known p →
+      reported_bytes t wanted p (split_lines (read ++ text)) ≡ report t.what.now f t.name.now t.with_name known text
   begins known p read text none starts =
-      ap (λ l. tells_lines t wanted p (split_lines (l ++ text))) none ∙ starts text
+      ap (λ l. reported_bytes t wanted p (split_lines (l ++ text))) none ∙ starts text
       ∙ needed_report t.what.now f t.name.now t.with_name known text
 
-  pub text_part : (known : Known) (p : Progress) (read text : List ℕ) (u v : Option (List ℕ)) → read ≡ [] → Begins known p →
+  pub text_part : (known : SeparatorState) (p : Progress) (read text : List ℕ) (u v : Option (List ℕ)) → read ≡ [] → Begins known p →
       WritesPart t (with_needed_spans t.what.now f) p (read ++ text) u v →
       (n : ℕ) × Appends u v (take n (report t.what.now f t.name.now t.with_name known text))
   text_part known p read text u v none starts part =
       (part.0, subst (λ l. Appends u v (take part.0 l)) (begins known p read text none starts) part.1)
 
-  pub text_written : (known : Known) (o p : Progress) (x y z text : List ℕ) (now u w v : Option (List ℕ)) → x ≡ [] → z ≡ y →
+  pub text_written : (known : SeparatorState) (o p : Progress) (x y z text : List ℕ) (now u w v : Option (List ℕ)) → x ≡ [] → z ≡ y →
       Begins known o →
       (a : ReadsAndWrites t (with_needed_spans t.what.now f) o p x y text now u w) →
-      Appends w v (tells_lines t (with_needed_spans t.what.now f) p (split_lines (z ++ a.rest))) →
+      Appends w v (reported_bytes t (with_needed_spans t.what.now f) p (split_lines (z ++ a.rest))) →
       Appends u v (report t.what.now f t.name.now t.with_name known text)
   text_written known o p x y z text now u w v none shown starts a written =
       subst (Appends u v) (begins known o x text none starts)
       (all_written t wanted o p x y text now u w v a (subst
-      (λ l. Appends w v (tells_lines t wanted p (split_lines (l ++ a.rest)))) shown written))
+      (λ l. Appends w v (reported_bytes t wanted p (split_lines (l ++ a.rest)))) shown written))
 
-  pub rest_part : (known : Known) (o p : Progress) (x y z text : List ℕ) (now u w v : Option (List ℕ)) → x ≡ [] → z ≡ y → Begins known o →
+  pub rest_part : (known : SeparatorState) (o p : Progress) (x y z text : List ℕ) (now u w v : Option (List ℕ)) → x ≡ [] → z ≡ y →
+      Begins known o →
       (a : ReadsAndWrites t (with_needed_spans t.what.now f) o p x y text now u w) →
       WritesPart t (with_needed_spans t.what.now f) p (z ++ a.rest) w v →
       (n : ℕ) × Appends u v (take n (report t.what.now f t.name.now t.with_name known text))

@@ -1,11 +1,11 @@
--- Texts of whole lines.
+-- Haystacks of whole lines.
 use Rattle.std.proofs.Common.{◌≡◌, ◌<◌, inl, inr, ℕ, zero, suc, ◌+◌, Bool, true, false, cond, List, [], ◌∷◌, ◌++◌, None, length, drop, take}
 use Rattle.std.proofs.Common.{count_by, if◌then◌else◌, refl, sym, ap, ◌∙◌, subst, take-add, arith}
 use Rattle.std.proofs.lemmas.List.{drop_all}
 use Rattle.std.proofs.lemmas.List.Sums.{sum_by-append, sum_by-cons}
 use Rattle.std.specs.List.{position}
 use Rattle.grep_core.specs.Lines.{SplitLine, ended, put_first, split_lines}
-use Rattle.grep_core.specs.Passing.{AreWhole}
+use Rattle.grep_core.specs.Skipping.{AreWhole}
 use Rattle.grep_core.proofs.BlockLemmas.{is_feed, last_line}
 
 lines_by : (x : ℕ) (xs : List ℕ) (v : Bool) → is_feed x ≡ v →
@@ -21,7 +21,7 @@ feeds_on text done len =
     ap (count_by is_feed) (take-add done len text)
     ∙ sum_by-append (λ b. cond (is_feed b) 1 0) (take done text) (take len (drop done text))
 
--- ---- a text has a line
+-- ---- a haystack has a line
 some_first : (b : ℕ) (lines : List SplitLine) → 0 < length (put_first b lines)
 some_first b [] = omega arith
 some_first b (line ∷ lines) = omega arith
@@ -38,7 +38,7 @@ pub some_whole : (text : List ℕ) → AreWhole text → 0 < length text → 0 <
 some_whole text (inl none) some = absurd (omega (arith, some, ap length none))
 some_whole text (inr it) some = subst (λ (t : List ℕ). 0 < length (split_lines t)) (sym it.1) (some_lines it.0)
 
--- ---- its lines stand before those of what follows
+-- ---- its lines come before those of what follows
 put_before : (b : ℕ) (lines more : List SplitLine) → 0 < length lines → put_first b (lines ++ more) ≡ put_first b lines ++ more
 put_before b [] more some = absurd (omega (arith, some))
 put_before b (line ∷ lines) more some = refl

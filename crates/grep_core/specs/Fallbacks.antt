@@ -14,34 +14,34 @@ use Rattle.regex_syntax.specs.Captures.{SameCaptures}
 use Rattle.regex_syntax.specs.Grammar.{read}
 use Rattle.grep_core.specs.Bounded.{bounded, line_pattern}
 use Rattle.grep_core.specs.Meant.{line_config}
-use Rattle.grep_core.specs.declared.patterns.How.{How}
+use Rattle.grep_core.specs.declared.patterns.PatternOptions.{PatternOptions}
 
--- the tree gives what the text is read as, bounded
-abbrev pub IsTreeOfText : How → List ℕ → Hir → Type 0
+-- The tree means what the pattern is parsed as, bounded.
+abbrev pub IsTreeOfText : PatternOptions → List ℕ → Hir → Type 0
 IsTreeOfText how text hir = (re : Re) →
     IsSomeAnd (read (line_config how) (chars text)) (λ (found, names). (found.depth ≤ (line_config how).nest_limit) × (found.value ≡ re)) →
     SameCaptures (meaning hir) (bounded how re)
 
--- each tree does that of the text in its place
-abbrev pub AreTreesOfTexts : How → List (List ℕ) → List Hir → Type 0
-AreTreesOfTexts how [] [] = ⊤
-AreTreesOfTexts how (t ∷ ts) (hir ∷ hirs) = IsTreeOfText how t hir × AreTreesOfTexts how ts hirs
-AreTreesOfTexts how _ _ = ⊥
+-- Each tree is a tree of the pattern with its number.
+abbrev pub AreTreesOfPatterns : PatternOptions → List (List ℕ) → List Hir → Type 0
+AreTreesOfPatterns how [] [] = ⊤
+AreTreesOfPatterns how (t ∷ ts) (hir ∷ hirs) = IsTreeOfText how t hir × AreTreesOfPatterns how ts hirs
+AreTreesOfPatterns how _ _ = ⊥
 
--- the program searches for what the texts are read as
-abbrev pub IsProgramOf : How → List (List ℕ) → Program → Type 0
+-- The program searches for what the patterns are parsed as.
+abbrev pub IsProgramOf : PatternOptions → List (List ℕ) → Program → Type 0
 IsProgramOf how texts p = (res : List Re) → AreReadAs (line_config how) texts res → SameCaptures (pattern_of p) (line_pattern how res)
 
--- the span of the match from an offset on
+-- The span of the match from an offset on.
 abbrev pub found_at : Re → List ℕ → ℕ → Option (ℕ × ℕ)
 found_at a line start = option_map span_of_match (find a line start)
 
--- the next one after one that ended at this offset: an empty one there is skipped
-abbrev pub next_behind : (ℕ → Option (ℕ × ℕ)) → ℕ → Option (ℕ × ℕ)
-next_behind at end = if is_some_and (at end) (λ s. s.1 == end) then at (end + 1) else at end
+-- The next span after one that ended at this offset. An empty span there is skipped.
+abbrev pub next_after : (ℕ → Option (ℕ × ℕ)) → ℕ → Option (ℕ × ℕ)
+next_after at end = if is_some_and (at end) (λ s. s.1 == end) then at (end + 1) else at end
 
--- at most so many spans, one after the other
-abbrev pub spans_behind : (ℕ → Option (ℕ × ℕ)) → ℕ → Option (ℕ × ℕ) → List (ℕ × ℕ)
-spans_behind at zero next = []
-spans_behind at (suc n) None = []
-spans_behind at (suc n) (Some s) = s ∷ spans_behind at n (next_behind at s.1)
+-- Up to this many spans, one after the other.
+abbrev pub spans_following : (ℕ → Option (ℕ × ℕ)) → ℕ → Option (ℕ × ℕ) → List (ℕ × ℕ)
+spans_following at zero next = []
+spans_following at (suc n) None = []
+spans_following at (suc n) (Some s) = s ∷ spans_following at n (next_after at s.1)

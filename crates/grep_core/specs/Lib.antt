@@ -4,12 +4,13 @@ pub mod Printing
 pub mod Report
 pub mod Patterns
 pub mod Searchers
-pub mod Courses
-pub mod Telling
+pub mod ContextPrinting
+pub mod Reporting
 pub mod Blocks
-pub mod Passing
+pub mod Skipping
 pub mod Fallbacks
 pub mod Meant
 pub mod Bounded
+pub mod Joined
 pub mod BoundedTrees
 pub mod Candidates

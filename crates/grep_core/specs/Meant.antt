@@ -1,15 +1,15 @@
--- How patterns are meant: as which texts of the syntax, and under which options these are read.
+-- How patterns are interpreted: in which form each is parsed, and under which options.
 use Rattle.std.specs.Prelude.{ℕ, Bool, false, List, chars, encode_utf8_all, if◌then◌else◌}
 use Rattle.regex_syntax.specs.declared.Config.{Config}
 use Rattle.regex_syntax.specs.Verdict.{default_config, escaped_text}
-use Rattle.grep_core.specs.declared.patterns.How.{How}
+use Rattle.grep_core.specs.declared.patterns.PatternOptions.{PatternOptions}
 
--- a pattern as a text of the syntax: a plain string is escaped, so that it matches itself
+-- A pattern in the syntax that is parsed. A fixed string is escaped, so that it matches itself.
 abbrev pub written : Bool → List ℕ → List ℕ
 written fixed pattern = if fixed then encode_utf8_all (escaped_text (chars pattern)) else pattern
 
--- the options under which each text is read, by itself: any bytes match, whether they are UTF-8 or not
-abbrev pub line_config : How → Config
+-- The options under which each pattern is parsed, by itself. Any bytes can match, whether they are UTF-8 or not.
+abbrev pub line_config : PatternOptions → Config
 line_config how = record default_config {
   utf8 = false;
   flags = record (default_config.flags) { case_insensitive = how.ignore_case };

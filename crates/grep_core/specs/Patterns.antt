@@ -1,5 +1,5 @@
--- How patterns tell lines apart: by what the toolchain's matcher finds in each line for the alternation of the parsed patterns, each of
--- them bounded as lines or words are asked for. The first is preferred.
+-- Which lines patterns match. A line is searched by the toolchain's matcher for the alternation of the parsed patterns, each of them
+-- bounded if lines or words are asked for. The first alternative is preferred.
 use Rattle.std.specs.Prelude.{ℕ, Bool, List, map, is_some}
 use Rattle.regex_hir.specs.Re.{Re}
 use Rattle.regex_hir.specs.Find.{find, find_all}
@@ -7,18 +7,19 @@ use Rattle.pattern_search.specs.Searches.{span_of_match}
 use Rattle.grep_core.specs.Bounded.{line_pattern}
 use Rattle.grep_core.specs.Lines.{searched}
 use Rattle.grep_core.specs.Report.{LineMatcher}
-use Rattle.grep_core.specs.declared.patterns.How.{How}
+use Rattle.grep_core.specs.declared.patterns.PatternOptions.{PatternOptions}
 
--- whether some bytes have a match
-abbrev pub has_match_in : How → List Re → List ℕ → Bool
+-- Whether some bytes have a match.
+abbrev pub has_match_in : PatternOptions → List Re → List ℕ → Bool
 has_match_in how res bytes = is_some (find (line_pattern how res) bytes 0)
 
--- the spans of all their matches, from left to right
-abbrev pub spans_in : How → List Re → List ℕ → List (ℕ × ℕ)
+-- The spans of all matches in some bytes, from left to right.
+abbrev pub spans_in : PatternOptions → List Re → List ℕ → List (ℕ × ℕ)
 spans_in how res bytes = map span_of_match (find_all (line_pattern how res) bytes)
 
--- A line is searched as `searched` has it, so with `crlf` without the carriage return right before its line feed.
-abbrev pub finds_of : How → List Re → LineMatcher
+-- The matcher of these patterns. It searches the bytes that `searched` gives for a line. So with `crlf` they don't include a carriage
+-- return right before the line feed.
+abbrev pub finds_of : PatternOptions → List Re → LineMatcher
 finds_of how res = record {
   has_match = λ line. has_match_in how res (searched how.crlf line);
   spans = λ line. spans_in how res (searched how.crlf line);

@@ -1,4 +1,4 @@
--- How lines are printed, as by GNU grep.
+-- How lines are printed, in the format of GNU grep.
 use Rattle.std.specs.Prelude.{ℕ, ◌+◌, Bool, true, false, not, ◌&&◌, List, [], ◌∷◌, ◌++◌, codes, decimal, slice_range, length, Option, Some}
 use Rattle.std.specs.Prelude.{None, if◌then◌else◌}
 use Rattle.std.specs.List.{flat_map}
@@ -6,73 +6,73 @@ use Rattle.grep_core.specs.declared.line.Line.{Line}
 use Rattle.grep_core.specs.declared.role.Role.{Role}
 use Rattle.grep_core.specs.declared.role.Role.TheVariants.{Selected}
 use Rattle.search_types.specs.declared.span.Span.{Span}
-use Rattle.grep_core.specs.declared.what.What.{What}
+use Rattle.grep_core.specs.declared.output_options.OutputOptions.{OutputOptions}
 use Rattle.grep_core.specs.Lines.{TextLine}
 
--- marked for a terminal: 27 begins a sequence that sets a colour, and one that ends it
+-- Bytes marked for a terminal: 27 begins the sequence that sets a colour, and the one that resets it.
 abbrev pub coloured : Bool → List ℕ → List ℕ → List ℕ
 coloured false code text = text
 coloured true code text = 27 ∷ (codes "[" ++ (code ++
     (codes "m" ++ (27 ∷ (codes "[K" ++ (text ++ (27 ∷ (codes "[m" ++ (27 ∷ codes "[K")))))))))
 
--- what parts the fields before a line: a colon for selected lines, or else a hyphen
+-- The separator after each field before a line: a colon for selected lines, a hyphen for others.
 abbrev pub separator : Role → List ℕ
 separator Selected = codes ":"
 separator _ = codes "-"
 
-abbrev pub field : What → Role → List ℕ → List ℕ → List ℕ
+abbrev pub field : OutputOptions → Role → List ℕ → List ℕ → List ℕ
 field w role code text = coloured w.color code text ++ coloured w.color (codes "36") (separator role)
 
 abbrev pub if_asked : Bool → List ℕ → List ℕ
 if_asked true text = text
 if_asked false text = []
 
-abbrev pub name_field : What → Role → Option (List ℕ) → List ℕ
+abbrev pub name_field : OutputOptions → Role → Option (List ℕ) → List ℕ
 name_field w role None = []
 name_field w role (Some name) = field w role (codes "35") name
 
--- what stands before a line, or a match in it whose first byte is at this place
-abbrev pub fields : What → Option (List ℕ) → Role → ℕ → ℕ → List ℕ
+-- What is printed before a line, or before a match in it whose first byte is at this offset.
+abbrev pub fields : OutputOptions → Option (List ℕ) → Role → ℕ → ℕ → List ℕ
 fields w name role number place =
     name_field w role name
     ++ (if_asked w.numbers (field w role (codes "32") (decimal number))
     ++ if_asked w.offsets (field w role (codes "32") (decimal place)))
 
--- a borrowed line
+-- A borrowed line.
 abbrev pub text_line : Line → TextLine
 text_line line = record { number = line.number; place = line.place; content = record { bytes = line.bytes.now; is_ended = line.is_ended } }
 
 abbrev pub span_pair : Span → ℕ × ℕ
 span_pair s = (s.start, s.end)
 
--- the bytes of a line from a place on, with the spans behind it marked
+-- The bytes of a line from an offset on, with the spans after that offset marked.
 abbrev pub marked_from : List ℕ → ℕ → List (ℕ × ℕ) → List ℕ
 marked_from line at [] = slice_range line at (length line)
 marked_from line at (s ∷ spans) = slice_range line at s.0
     ++ (coloured true (codes "01;31") (slice_range line s.0 s.1) ++ marked_from line s.1 spans)
 
--- matches are marked in lines that have some: selected ones, or with `invert` those beside them
-abbrev pub has_marks : What → Role → Bool
+-- Matches are marked in lines that can have some: in selected lines, or with `invert` in context lines.
+abbrev pub has_marks : OutputOptions → Role → Bool
 has_marks w Selected = not w.invert
 has_marks w _ = w.invert
 
--- the bytes of a line that has these matches, none of them empty
-abbrev pub line_bytes : What → List (ℕ × ℕ) → Role → List ℕ → List ℕ
+-- The bytes of a line that has these matches, none of which is empty.
+abbrev pub line_bytes : OutputOptions → List (ℕ × ℕ) → Role → List ℕ → List ℕ
 line_bytes w found role line = if w.color && has_marks w role then marked_from line 0 found else line
 
-abbrev pub printed_line : What → Option (List ℕ) → Role → TextLine → List (ℕ × ℕ) → List ℕ
+abbrev pub printed_line : OutputOptions → Option (List ℕ) → Role → TextLine → List (ℕ × ℕ) → List ℕ
 printed_line w name role line found = fields w name role line.number line.place ++ (line_bytes w found role line.content.bytes ++ 10 ∷ [])
 
--- a match in a line of this role, as a line of its own
-abbrev pub printed_match : What → Option (List ℕ) → Role → TextLine → ℕ × ℕ → List ℕ
+-- A match in a line of this role, printed as a line of its own.
+abbrev pub printed_match : OutputOptions → Option (List ℕ) → Role → TextLine → ℕ × ℕ → List ℕ
 printed_match w name role line s =
     fields w name role line.number (line.place + s.0)
     ++ (coloured w.color (codes "01;31") (slice_range line.content.bytes s.0 s.1) ++ 10 ∷ [])
 
--- the matches of a line, in lines in which they would be marked
-abbrev pub printed_matches : What → Option (List ℕ) → Role → TextLine → List (ℕ × ℕ) → List ℕ
+-- The matches of a line, printed if they would be marked in a line of this role.
+abbrev pub printed_matches : OutputOptions → Option (List ℕ) → Role → TextLine → List (ℕ × ℕ) → List ℕ
 printed_matches w name role line found = if has_marks w role then flat_map (printed_match w name role line) found else []
 
--- the line between two groups of lines that aren't neighbours
-abbrev pub group_line : What → List ℕ
+-- The separator line between two groups of lines that aren't adjacent.
+abbrev pub group_line : OutputOptions → List ℕ
 group_line w = coloured w.color (codes "36") (codes "--") ++ 10 ∷ []

@@ -1,10 +1,10 @@
--- Which lines are selected, and which are printed beside them.
+-- Which lines are selected, and which are printed as context lines.
 use Rattle.std.specs.Prelude.{ℕ, zero, suc, Bool, true, false, List, [], ◌∷◌, take, map, length, Option, Some, None, if◌then◌else◌}
 use Rattle.std.specs.List.{filter}
 use Rattle.grep_core.specs.declared.role.Role.{Role}
 use Rattle.grep_core.specs.declared.role.Role.TheVariants.{Selected, Beside, Hidden}
 
--- Lines are told by whether each is wanted, in their order. At most so many of them are selected, the first ones.
+-- Each line is given by whether it is wanted, in the order of the lines. At most this many wanted lines are selected: the first ones.
 abbrev pub limited : Option ℕ → List Bool → List Bool
 limited None wanted = wanted
 limited (Some zero) wanted = map (λ _. false) wanted
@@ -15,14 +15,14 @@ limited (Some (suc n)) (false ∷ wanted) = false ∷ limited (Some (suc n)) wan
 abbrev pub count_selected : List Bool → ℕ
 count_selected selected = length (filter (λ it. it) selected)
 
--- some line is selected
+-- Whether at least one line is selected.
 abbrev pub any : List Bool → Bool
 any [] = false
 any (true ∷ selected) = true
 any (false ∷ selected) = any selected
 
--- The roles of lines: those up to `before` lines before a selected one, or up to `after` lines behind it, stand beside it. So many
--- of the first ones do whatever comes.
+-- The roles of lines. The context lines of a selected line are up to `before` lines before it and up to `after` lines after it. Of the
+-- lines before the first selected one, the first `left` are context lines in any case.
 abbrev pub roles_from : ℕ → ℕ → ℕ → List Bool → List Role
 roles_from before after left [] = []
 roles_from before after left (true ∷ selected) = Selected ∷ roles_from before after after selected

@@ -1,12 +1,12 @@
-//! The lines of blocks of a text.
+//! Processes the lines of blocks of an input.
 ghost use Rattle.std.specs.Prelude.{◌≡◌, ◌++◌, ◌∷◌, [], ℕ, ◌+◌, ◌≤◌, ◌==◌, List, None, OnOk, IfOk, drop, length, ◌<◌, ◌≢◌, take, true};
 ghost use Rattle.std.specs.List.{position};
-ghost use Rattle.grep_core.specs.Blocks.{SearchesBy, finds_by, tells_lines, counts_lines};
+ghost use Rattle.grep_core.specs.Blocks.{SearchesBy, finds_by, reported_bytes, counts_lines};
 ghost use Rattle.grep_core.specs.Candidates.{HasMatchAt, IsLineStart};
-ghost use Rattle.grep_core.specs.Courses.{Waits};
+ghost use Rattle.grep_core.specs.ContextPrinting.{Waits};
 ghost use Rattle.grep_core.specs.Lines.{SplitLine, searched, split_lines};
-ghost use Rattle.grep_core.specs.Passing.{AreWhole};
-ghost use Rattle.grep_core.specs.Searchers.{IsMatchTold};
+ghost use Rattle.grep_core.specs.Skipping.{AreWhole};
+ghost use Rattle.grep_core.specs.Searchers.{IsMatchReported};
 
 use crate::candidates::{Reached, line_start};
 use crate::fault::Fault;
@@ -14,13 +14,13 @@ use crate::feeds::feed_at;
 use crate::finder::Finder;
 use crate::line::Line;
 use crate::looking::look_at;
-use crate::passing::pass_lines;
+use crate::passing::skip_lines;
 use crate::progress::{Progress, Task, pass};
-use crate::telling::tell_line;
+use crate::reporter::report_line;
 use std::alloc::Global;
 
-/// Goes on by one line, which is given without its line feed. It may be known that it has a match.
-pub(crate) fn tell_one(
+/// Processes one line. The line is given without its line feed. `is_known` says whether it is known to have a match.
+pub(crate) fn report_one(
     alloc: Global,
     out: &mut Vec<u8>,
     finder: &mut Finder<'_>,
@@ -31,13 +31,14 @@ pub(crate) fn tell_one(
     is_known: bool,
 ) -> Result<(), Fault>
     requires waits { Waits task.what.now progress.old.telling.course }
-    requires known { is_known ≡ true → IsMatchTold finder.old.how finder.old.texts
+    requires known { is_known ≡ true → IsMatchReported finder.old.how finder.old.texts
         (searched finder.old.how.crlf (record { bytes = bytes.now; is_ended = is_ended })) true }
     ensures same { finder.new ≡ finder.old }
     ensures waits { OnOk result (Waits task.entry.what.now progress.new.telling.course) }
     ensures goes_on { OnOk result ((by : SearchesBy task.entry finder.old) (lines : List SplitLine) →
-        out.old.items ++ tells_lines task.entry (finds_by task.entry by) progress.old (record { bytes = bytes.now; is_ended = is_ended } ∷ lines)
-        ≡ out.new.items ++ tells_lines task.entry (finds_by task.entry by) progress.new lines) }
+        out.old.items ++ reported_bytes task.entry (finds_by task.entry by) progress.old (record { bytes = bytes.now; is_ended = is_ended }
+        ∷ lines)
+        ≡ out.new.items ++ reported_bytes task.entry (finds_by task.entry by) progress.new lines) }
     ensures counts { OnOk result ((by : SearchesBy task.entry finder.old) (lines : List SplitLine) →
         counts_lines task.entry (finds_by task.entry by) progress.new lines ≡
         counts_lines task.entry (finds_by task.entry by) progress.old (record { bytes = bytes.now; is_ended = is_ended } ∷ lines)) }
@@ -49,7 +50,7 @@ pub(crate) fn tell_one(
         bytes,
         is_ended,
     };
-    tell_line(
+    report_line(
         alloc,
         out,
         task.what,
@@ -63,7 +64,7 @@ pub(crate) fn tell_one(
     pass(progress, bytes.len())
 }
 
-/// How many bytes the whole lines have that a block begins with.
+/// The length in bytes of the whole lines at the start of a block.
 fn whole_len(block: &[u8]) -> usize
     ensures within { result ≤ length block.now }
     ensures whole { AreWhole (take result block.now) }
@@ -72,9 +73,9 @@ fn whole_len(block: &[u8]) -> usize
     line_start(block, 0, block.len())
 }
 
-/// Tells the line that starts at a place, if a line feed ends one there. It may be known that it has a match. The answer is the place
-/// behind it.
-fn tell_here(
+/// Processes the line that starts at an offset, if a line feed ends it. `is_known` says whether it is known to have a match. Returns the
+/// offset after the line.
+fn report_here(
     alloc: Global,
     out: &mut Vec<u8>,
     finder: &mut Finder<'_>,
@@ -94,8 +95,8 @@ fn tell_here(
     ensures from { IfOk result (λ next. at ≤ next) }
     ensures starts { IfOk result (λ next. at < next → IsLineStart block.now next) }
     ensures goes_on { IfOk result (λ next. (by : SearchesBy task.entry finder.old) (more : List ℕ) →
-        out.old.items ++ tells_lines task.entry (finds_by task.entry by) progress.old (split_lines (drop at block.now ++ more))
-        ≡ out.new.items ++ tells_lines task.entry (finds_by task.entry by) progress.new (split_lines (drop next block.now ++ more))) }
+        out.old.items ++ reported_bytes task.entry (finds_by task.entry by) progress.old (split_lines (drop at block.now ++ more))
+        ≡ out.new.items ++ reported_bytes task.entry (finds_by task.entry by) progress.new (split_lines (drop next block.now ++ more))) }
     ensures counts { IfOk result (λ next. (by : SearchesBy task.entry finder.old) (more : List ℕ) →
         counts_lines task.entry (finds_by task.entry by) progress.new (split_lines (drop next block.now ++ more))
         ≡ counts_lines task.entry (finds_by task.entry by) progress.old (split_lines (drop at block.now ++ more))) }
@@ -103,7 +104,7 @@ fn tell_here(
     let Some(len) = feed_at(&block[at..]) else {
         return Ok(at);
     };
-    match tell_one(
+    match report_one(
         alloc,
         out,
         finder,
@@ -119,9 +120,9 @@ fn tell_here(
     Ok(at + len + 1)
 }
 
-/// Tells the lines from the start of one on that stand before the next one that may have a match, and answers where that one starts. The
-/// block has whole lines alone.
-fn tell_before(
+/// Processes the lines from the start of a line up to the next line that may have a match. Returns where that line starts. The block
+/// consists of whole lines.
+fn report_before(
     alloc: Global,
     out: &mut Vec<u8>,
     finder: &mut Finder<'_>,
@@ -141,8 +142,8 @@ fn tell_before(
     ensures starts { IfOk result (λ r. IsLineStart block.now r.start) }
     ensures has { IfOk result (λ r. r.has ≡ true → HasMatchAt finder.old.how finder.old.texts block.now r.start) }
     ensures goes_on { IfOk result (λ r. (by : SearchesBy task.entry finder.old) (more : List ℕ) →
-        out.old.items ++ tells_lines task.entry (finds_by task.entry by) progress.old (split_lines (drop at block.now ++ more))
-        ≡ out.new.items ++ tells_lines task.entry (finds_by task.entry by) progress.new (split_lines (drop r.start block.now ++ more))) }
+        out.old.items ++ reported_bytes task.entry (finds_by task.entry by) progress.old (split_lines (drop at block.now ++ more))
+        ≡ out.new.items ++ reported_bytes task.entry (finds_by task.entry by) progress.new (split_lines (drop r.start block.now ++ more))) }
     ensures counts { IfOk result (λ r. (by : SearchesBy task.entry finder.old) (more : List ℕ) →
         counts_lines task.entry (finds_by task.entry by) progress.new (split_lines (drop r.start block.now ++ more))
         ≡ counts_lines task.entry (finds_by task.entry by) progress.old (split_lines (drop at block.now ++ more))) }
@@ -152,7 +153,7 @@ fn tell_before(
         Err(e) => return Err(e),
     };
     if at < reached.start {
-        return match pass_lines(alloc, out, task, progress, &block[at..reached.start]) {
+        return match skip_lines(alloc, out, task, progress, &block[at..reached.start]) {
             Ok(()) => Ok(reached),
             Err(e) => Err(e),
         };
@@ -160,9 +161,9 @@ fn tell_before(
     Ok(reached)
 }
 
-/// Tells lines from the start of one on: those before the next one that may have a match, and that one, if it is known to have one or is
-/// the first. The answer is the place behind them. The block has whole lines alone.
-fn tell_next(
+/// Processes lines from the start of a line on: those before the next line that may have a match, and that line if it is known to have one
+/// or is the first. Returns the offset after them. The block consists of whole lines.
+fn report_next(
     alloc: Global,
     out: &mut Vec<u8>,
     finder: &mut Finder<'_>,
@@ -181,13 +182,13 @@ fn tell_next(
     ensures within { IfOk result (λ next. next ≤ length block.now) }
     ensures starts { IfOk result (λ next. IsLineStart block.now next) }
     ensures goes_on { IfOk result (λ next. (by : SearchesBy task.entry finder.old) (more : List ℕ) →
-        out.old.items ++ tells_lines task.entry (finds_by task.entry by) progress.old (split_lines (drop at block.now ++ more))
-        ≡ out.new.items ++ tells_lines task.entry (finds_by task.entry by) progress.new (split_lines (drop next block.now ++ more))) }
+        out.old.items ++ reported_bytes task.entry (finds_by task.entry by) progress.old (split_lines (drop at block.now ++ more))
+        ≡ out.new.items ++ reported_bytes task.entry (finds_by task.entry by) progress.new (split_lines (drop next block.now ++ more))) }
     ensures counts { IfOk result (λ next. (by : SearchesBy task.entry finder.old) (more : List ℕ) →
         counts_lines task.entry (finds_by task.entry by) progress.new (split_lines (drop next block.now ++ more))
         ≡ counts_lines task.entry (finds_by task.entry by) progress.old (split_lines (drop at block.now ++ more))) }
 {
-    let reached = match tell_before(alloc, out, finder, task, progress, block, at) {
+    let reached = match report_before(alloc, out, finder, task, progress, block, at) {
         Ok(reached) => reached,
         Err(e) => return Err(e),
     };
@@ -195,7 +196,7 @@ fn tell_next(
     if at < start && !reached.has {
         return Ok(start);
     }
-    let behind = match tell_here(
+    let behind = match report_here(
         alloc,
         out,
         finder,
@@ -211,8 +212,8 @@ fn tell_next(
     Ok(behind)
 }
 
-/// Tells the whole lines that a block begins with. The answer counts their bytes.
-pub(crate) fn tell_block(
+/// Processes the whole lines at the start of a block. Returns the number of their bytes.
+pub(crate) fn report_block(
     alloc: Global,
     out: &mut Vec<u8>,
     finder: &mut Finder<'_>,
@@ -226,8 +227,8 @@ pub(crate) fn tell_block(
     ensures within { IfOk result (λ done. done ≤ length block.now) }
     ensures all { IfOk result (λ done. position (λ b. b == 10) (drop done block.now) ≡ None) }
     ensures goes_on { IfOk result (λ done. (by : SearchesBy task.entry finder.old) (more : List ℕ) →
-        out.old.items ++ tells_lines task.entry (finds_by task.entry by) progress.old (split_lines (block.now ++ more))
-        ≡ out.new.items ++ tells_lines task.entry (finds_by task.entry by) progress.new (split_lines (drop done block.now ++ more))) }
+        out.old.items ++ reported_bytes task.entry (finds_by task.entry by) progress.old (split_lines (block.now ++ more))
+        ≡ out.new.items ++ reported_bytes task.entry (finds_by task.entry by) progress.new (split_lines (drop done block.now ++ more))) }
     ensures counts { IfOk result (λ done. (by : SearchesBy task.entry finder.old) (more : List ℕ) →
         counts_lines task.entry (finds_by task.entry by) progress.new (split_lines (drop done block.now ++ more))
         ≡ counts_lines task.entry (finds_by task.entry by) progress.old (split_lines (block.now ++ more))) }
@@ -235,7 +236,7 @@ pub(crate) fn tell_block(
     let whole = whole_len(block);
     let mut done = 0usize;
     while done < whole {
-        done = match tell_next(alloc, out, finder, task, progress, &block[..whole], done) {
+        done = match report_next(alloc, out, finder, task, progress, &block[..whole], done) {
             Ok(next) => next,
             Err(e) => return Err(e),
         };

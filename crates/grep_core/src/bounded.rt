@@ -1,19 +1,19 @@
-//! What stands around a parsed pattern where a match has to be a whole line or whole words: as a tree of the automata, and as one of the
-//! toolchain. Both are made of what was parsed, so no text of a pattern can reach into it.
-ghost use Rattle.std.specs.Prelude.{◌≡◌, ◌∷◌, [], IfOk, map};
+//! What is put around a parsed pattern if a match has to be a whole line or whole words: as a tree for the automata, and as one for the
+//! toolchain's engines. Both are built from the parsed pattern, so nothing in the text of a pattern can affect them.
+ghost use Rattle.std.specs.Prelude.{◌≡◌, ◌∷◌, [], IfOk};
 ghost use Rattle.regex_hir.specs.Meaning.{meaning, cat_all, alt_all};
 ghost use Rattle.regex_hir.specs.Re.{look as assertion};
 ghost use Rattle.hir_core.specs.Tree.{look, concat, alternation};
 ghost use Rattle.grep_core.specs.Bounded.{bounded};
 ghost use Rattle.grep_core.specs.BoundedTrees.{bounded_tree};
 
-use crate::patterns::How;
+use crate::patterns::PatternOptions;
 use hir_core::Hir;
 use look_core::Look;
 use regex_hir::{Hir as Pattern, Look as Assertion};
 use std::alloc::{AllocError, Global};
 
-/// The tree of one of two looks.
+/// The alternation of two look-around assertions, as a tree.
 fn either(alloc: Global, first: Look, second: Look) -> Result<Hir, AllocError>
     ensures { IfOk result (λ x. x ≡ alternation (look first ∷ look second ∷ [])) }
 {
@@ -23,7 +23,7 @@ fn either(alloc: Global, first: Look, second: Look) -> Result<Hir, AllocError>
     Ok(Hir::alternation(looks))
 }
 
-/// A tree between two others.
+/// The concatenation of a tree with one before it and one after it.
 fn between(alloc: Global, before: Hir, tree: Hir, after: Hir) -> Result<Hir, AllocError>
     ensures { IfOk result (λ x. x ≡ concat (before ∷ tree ∷ after ∷ [])) }
 {
@@ -34,8 +34,12 @@ fn between(alloc: Global, before: Hir, tree: Hir, after: Hir) -> Result<Hir, All
     Ok(Hir::concat(parts))
 }
 
-/// The tree of a parsed pattern, as lines are searched for it.
-fn bounded_tree(alloc: Global, how: &How, tree: Hir) -> Result<Hir, AllocError>
+/// The tree that lines are searched for, from the tree of parsed patterns.
+pub(crate) fn bounded_tree(
+    alloc: Global,
+    how: &PatternOptions,
+    tree: Hir,
+) -> Result<Hir, AllocError>
     ensures { IfOk result (λ x. x ≡ bounded_tree how.now tree) }
 {
     if how.lines {
@@ -51,19 +55,7 @@ fn bounded_tree(alloc: Global, how: &How, tree: Hir) -> Result<Hir, AllocError>
     Ok(tree)
 }
 
-/// The trees of parsed patterns, as lines are searched for them.
-pub(crate) fn bounded_trees(alloc: Global, how: &How, trees: &[Hir]) -> Result<Vec<Hir>, AllocError>
-    ensures { IfOk result (λ xs. xs.items ≡ map (bounded_tree how.now) trees.now) }
-{
-    let mut all = Vec::new(alloc);
-    for tree in trees {
-        let tree = tree.try_clone(alloc)?;
-        all.push(bounded_tree(alloc, how, tree)?)?;
-    }
-    Ok(all)
-}
-
-/// A pattern of the toolchain that is one of two looks.
+/// The alternation of two look-around assertions, as a pattern of the toolchain.
 fn either_assertion(
     alloc: Global,
     first: Assertion,
@@ -77,7 +69,7 @@ fn either_assertion(
     Ok(Pattern::Alternation(looks))
 }
 
-/// A pattern of the toolchain between two others.
+/// The concatenation of a pattern of the toolchain with one before it and one after it.
 fn between_patterns(
     alloc: Global,
     before: Pattern,
@@ -93,10 +85,10 @@ fn between_patterns(
     Ok(Pattern::Concat(parts))
 }
 
-/// A parsed pattern of the toolchain, as lines are searched for it.
+/// The pattern of the toolchain that lines are searched for, from a parsed one.
 pub(crate) fn bounded_pattern(
     alloc: Global,
-    how: &How,
+    how: &PatternOptions,
     pattern: Pattern,
 ) -> Result<Pattern, AllocError>
     ensures { IfOk result (λ p. meaning p ≡ bounded how.now (meaning pattern)) }

@@ -1,15 +1,14 @@
 //! The lines of a block that may have a match.
-ghost use Rattle.std.specs.Prelude.{◌≡◌, ◌==◌, ◌&&◌, ◌||◌, ◌≤◌, ◌<◌, ◌-◌, ℕ, List, length, map, option_map, slice_get, slice_range};
-ghost use Rattle.std.specs.Prelude.{is_some, not};
+ghost use Rattle.std.specs.Prelude.{◌≡◌, ◌==◌, ◌&&◌, ◌||◌, ◌≤◌, ◌<◌, ◌-◌, ◌∷◌, ℕ, List, [], length, map, option_map, slice_get};
+ghost use Rattle.std.specs.Prelude.{is_some, not, slice_range};
 ghost use Rattle.std.specs.Prelude.{true, Option, Some, IfErr, IfOk, IfSome};
-ghost use Rattle.std.specs.List.{list_any};
 ghost use Rattle.hir_core.specs.Tree.{Tree};
 ghost use Rattle.line_trees.specs.LineTrees.{line_tree, has_crlf, HasNoFeedFrom};
-ghost use Rattle.hirscan.specs.Built.{IsBuilt, RefusesBuild};
+ghost use Rattle.hirscan.specs.Built.{IsBuilt, FailsBuild};
 ghost use Rattle.ucd_perl.specs.Perl.{is_word_char};
-ghost use Rattle.earliest_ends.specs.Earliest.{IsRefusal};
-ghost use Rattle.grep_core.specs.BoundedTrees.{AreTreesOf};
-ghost use Rattle.grep_core.specs.declared.patterns.How.{How};
+ghost use Rattle.earliest_ends.specs.Earliest.{IsEarliestError};
+ghost use Rattle.grep_core.specs.BoundedTrees.{IsTreeOf};
+ghost use Rattle.grep_core.specs.declared.patterns.PatternOptions.{PatternOptions};
 ghost use Rattle.grep_core.specs.Candidates.{IsCandidatesOf, IsLineStart, HaveNoMatch, HasMatchAt, IsStop, IsStopIfAny};
 ghost use Rattle.grep_core.specs.Candidates.{IsEnd};
 ghost use Rattle.grep_core.specs.Candidates.{StopsInLine};
@@ -17,29 +16,31 @@ ghost use Rattle.grep_core.specs.Searchers.{line_settings, sized_settings};
 ghost use Rattle.grep_core.specs.declared.fault.Fault.TheVariants.{NoMemory};
 
 use crate::fault::Fault;
-use crate::feeds::pass_back;
-use crate::patterns::How;
-use crate::searcher::{see_bytes, settings, trees_of};
+use crate::feeds::skip_back;
+use crate::patterns::PatternOptions;
+use crate::searcher::{see_bytes, settings, tree_of};
 use earliest_ends::find_earliest_end;
 use hir_core::Hir;
 use hirscan::build;
 use lazy_dfa::BuildError;
-use line_trees::{all_line_trees, any_has_crlf, any_reads_feed};
+use line_trees::{has_crlf, line_tree, reads_feed};
 use regex_pair::regex::{Cache, Regex};
 use search_types::{MatchError, MatchErrorKind};
 use std::alloc::Global;
 use std::marker::Model;
+use std::slice;
 
-/// A regex of patterns that are read for blocks of lines, and the caches of its searches.
+/// A regex that searches blocks of lines for patterns, and the caches of its searches.
 ///
-/// A line that has a match has one in each block with that line, so the lines before the earliest end of a match in the block have none.
-/// A match in the block need not be one in a line, since it may reach over the ends of lines. If no tree reads a line feed it is one, unless
-/// a carriage return belongs to the end of a line: then a match of the block may read it, so each such line is searched by itself.
+/// If a line has a match, then each block that contains the line has one there. So the lines before the earliest end of a match in the
+/// block have none. A match in the block need not be a match in a line, since it may extend over the ends of lines. It is one if the
+/// tree consumes no line feed and no carriage return belongs to the end of a line. If a carriage return does belong to it, a match in the
+/// block may consume that byte, so each such line is searched by itself.
 #[derive(Drop)]
 pub(crate) struct Candidates {
     regex: Regex,
     cache: Cache,
-    /// Whether none of the trees reads a line feed.
+    /// Whether the tree consumes no line feed.
     feedless: bool,
     /// Whether a carriage return right before a line feed belongs to the end of a line.
     crlf: bool,
@@ -49,18 +50,18 @@ pub(crate) struct Candidates {
 #[derive(Clone, Copy)]
 struct Stop {
     place: usize,
-    /// Whether a match ends there; else the search gives up there.
+    /// Whether a match ends there. Otherwise the search gives up there.
     is_end: bool,
 }
 
-/// What the search of a block comes to.
+/// The result of searching a block.
 #[derive(Clone, Copy)]
 pub(crate) struct Reached {
-    /// Where the next line starts that may have a match, or the end of the block.
+    /// The start of the next line that may have a match, or the end of the block.
     pub start: usize,
-    /// Whether that line is known to have one.
+    /// Whether that line is known to have a match.
     pub has: bool,
-    /// How many bytes the search passed.
+    /// How many bytes the search consumed.
     pub passed: usize,
 }
 
@@ -75,7 +76,7 @@ impl Model for Candidates {
     ghost invariant = { λ s. AreCachesOf s.regex s.cache };
 }
 
-/// Behind the last line feed between both places, or where none stands there, the first place.
+/// The offset right after the last line feed between both offsets, or the first offset if there is none.
 pub(crate) fn line_start(block: &[u8], at: usize, place: usize) -> usize
     requires { at ≤ length block.now }
     ensures from { at ≤ result }
@@ -84,7 +85,7 @@ pub(crate) fn line_start(block: &[u8], at: usize, place: usize) -> usize
     ensures starts { at < result → slice_get block.now (result - 1) ≡ Some 10 }
     ensures last { HasNoFeedFrom block.now result place }
 {
-    let mut start = pass_back(block, at, place.min(block.len()));
+    let mut start = skip_back(block, at, place.min(block.len()));
     while at < start {
         if block[start - 1] == b'\n' {
             return start;
@@ -94,9 +95,9 @@ pub(crate) fn line_start(block: &[u8], at: usize, place: usize) -> usize
     at
 }
 
-/// The place at which a search that was refused stopped.
+/// The offset at which a failed search stopped.
 fn refused_at(at: usize, error: &MatchError) -> Result<usize, Fault>
-    ensures told { (xs : List Tree) (block : List ℕ) → IsRefusal is_word_char xs line_settings block at error.now →
+    ensures reported { (xs : List Tree) (block : List ℕ) → IsEarliestError is_word_char xs line_settings block at error.now →
         IfOk result (λ place. IsStop xs block at place) }
     ensures refused { IfErr result (λ e. e ≡ NoMemory) }
 {
@@ -107,7 +108,7 @@ fn refused_at(at: usize, error: &MatchError) -> Result<usize, Fault>
     }
 }
 
-/// A search that ends stops there.
+/// A search that found the end of a match stops there.
 fn stop_at(end: Option<usize>) -> Option<Stop>
     ensures { option_map (λ stop. stop.place) result ≡ end }
 {
@@ -120,46 +121,47 @@ fn stop_at(end: Option<usize>) -> Option<Stop>
     }
 }
 
-/// For blocks of lines, of patterns as text; none where there is no such regex, as where the patterns are refused, and then each line is
-/// searched by itself.
+/// Builds a search of blocks of lines for these patterns. If there is no such regex, for example because the patterns are rejected, it
+/// returns none, and each line is searched by itself.
 pub(crate) fn candidates_of(
     alloc: Global,
     texts: &[&str],
-    how: &How,
+    how: &PatternOptions,
     capacity: Option<usize>,
 ) -> Option<Candidates>
     ensures { IfSome result (λ c. IsCandidatesOf how.now (map (λ t. t.now) texts.now) c.0) }
 {
-    let Ok(trees) = trees_of(alloc, how, texts) else {
+    let Ok(tree) = tree_of(alloc, how, texts, false) else {
         return None;
     };
-    let Ok(candidates) = Candidates::new(alloc, &trees, how.crlf, capacity) else {
+    let Ok(candidates) = Candidates::new(alloc, &tree, how.crlf, capacity) else {
         return None;
     };
     candidates
 }
 
 impl Candidates {
-    /// Of trees that texts have; none if one of them has a look at carriage returns, since nothing is said of such trees in blocks.
+    /// Builds a search of blocks of lines from the tree of the patterns. It returns none if the tree has a look-around assertion about
+    /// carriage returns, since the laws about blocks don't cover such a tree.
     pub(crate) fn new(
         alloc: Global,
-        trees: &[Hir],
+        tree: &Hir,
         crlf: bool,
         capacity: Option<usize>,
     ) -> Result<Option<Candidates>, BuildError>
-        ensures some { IfOk result (λ o. is_some o ≡ not (list_any has_crlf trees.now)) }
-        ensures candidates { (how : How) (texts : List (List ℕ)) → how.crlf ≡ crlf → AreTreesOf how texts trees.now →
+        ensures some { IfOk result (λ o. is_some o ≡ not (has_crlf tree.now)) }
+        ensures candidates { (how : PatternOptions) (texts : List (List ℕ)) → how.crlf ≡ crlf → IsTreeOf how texts tree.now →
             IfOk result (λ o. IfSome o (λ c. IsCandidatesOf how texts c.0)) }
-        ensures refused { IfErr result (λ e. RefusesBuild (map (line_tree crlf) trees.now) (sized_settings capacity) e) }
+        ensures refused { IfErr result (λ e. FailsBuild (line_tree crlf tree.now ∷ []) (sized_settings capacity) e) }
     {
-        if any_has_crlf(trees) {
+        if has_crlf(tree) {
             return Ok(None);
         }
-        let feedless = !any_reads_feed(trees);
-        let Ok(trees) = all_line_trees(alloc, trees, crlf) else {
+        let feedless = !reads_feed(tree);
+        let Ok(tree) = line_tree(alloc, tree, crlf) else {
             return Err(BuildError::NoMemory);
         };
-        let regex = match build(alloc, &trees, &settings(capacity)) {
+        let regex = match build(alloc, slice::from_ref(&tree), &settings(capacity)) {
             Ok(regex) => regex,
             Err(e) => return Err(e),
         };
@@ -174,33 +176,34 @@ impl Candidates {
         }
     }
 
-    /// How often the caches were cleared; the greatest number stands for any above it.
+    /// How often the caches were cleared. The greatest number stands for any number above it.
     pub(crate) fn clear_count(&self) -> usize {
         let forward = self.cache.forward().clear_count();
         let reverse = self.cache.reverse().clear_count();
         forward.saturating_add(reverse)
     }
 
-    /// The bytes that both caches are taken to need.
+    /// The bytes that both caches are estimated to need.
     pub(crate) fn memory_usage(&self) -> usize {
         self.cache.memory_usage()
     }
 
-    /// Whether the line that starts at this offset is known to have a match, if the search went from the other: a match ends in it that
-    /// can't have begun before it, since the search didn't, or since it would have read the line feed between both. If a carriage return
-    /// belongs to the end of a line, no line is known to have one.
+    /// Whether the line that starts at `start` is known to have a match, if the search started at `at`. It has one if a match ends in it
+    /// that can't have begun before it. That is so if the search started there. It is also so if the tree consumes no line feed, since a
+    /// match that began earlier would have consumed the one before the line. If a carriage return belongs to the end of a line, no line is
+    /// known to have a match.
     fn is_known(&self, stop: Stop, start: usize, at: usize) -> bool
         ensures { result ≡ (not self.now.0.crlf && (stop.is_end && (self.now.0.feedless || start == at))) }
     {
         !self.crlf && stop.is_end && (self.feedless || start == at)
     }
 
-    /// Where a search from this place on stops: at the least end of the matches in the block that start at this place or further on, or at
-    /// a byte at which it gives up, before which none of them ends; or nowhere, where there is no such match.
+    /// Where a search stops that starts at this offset. It stops at the least end of the matches in the block that start at this offset or
+    /// later. Or it stops at a byte at which it gives up, before which no such match ends. If there is no such match, it stops nowhere.
     fn stop_from(&mut self, block: &[u8], at: usize) -> Result<Option<Stop>, Fault>
         requires { at ≤ length block.now }
         ensures same { self.new.0 ≡ self.old.0 }
-        ensures told { (xs : List Tree) (capacity : Option ℕ) → IsBuilt xs (sized_settings capacity) self.old.0.regex →
+        ensures reported { (xs : List Tree) (capacity : Option ℕ) → IsBuilt xs (sized_settings capacity) self.old.0.regex →
             IfOk result (λ o. IsStopIfAny xs block.now at (option_map (λ stop. stop.place) o)) }
         ensures ends { (xs : List Tree) (capacity : Option ℕ) → IsBuilt xs (sized_settings capacity) self.old.0.regex →
             IfOk result (λ o. IfSome o (λ stop. stop.is_end ≡ true → IsEnd xs block.now at stop.place)) }
@@ -220,11 +223,15 @@ impl Candidates {
         }))
     }
 
-    /// Where the next line starts that may have a match, or the end of the block where none may: the lines from the given one on that
-    /// stand before it have none. The given place is the start of a line. In the line that is answered ends a match in the block, the
-    /// first that ends there, or in it stands a byte at which the search gives up, as one that isn't ASCII where words are asked for.
+    /// Returns the start of the next line that may have a match, or the end of the block if none may. The offset `at` is the start of a
+    /// line. None of the lines from `at` up to the returned offset has a match.
     ///
-    /// Where that match ends in the line from whose start the search went, or where no tree reads a line feed, it is one of the line.
+    /// Unless the end of the block is returned, the search stopped in the line that starts at the returned offset, or at the line feed
+    /// before it. It stopped at the least end of the matches in the block from `at` on. Or it stopped at a byte at which it gives up, such
+    /// as a byte that isn't ASCII if words are asked for.
+    ///
+    /// If that match ends in the line that starts at `at`, or if the tree consumes no line feed, it is a match of the line. If a carriage
+    /// return belongs to the end of a line, it need not be one.
     pub(crate) fn next_line(&mut self, block: &[u8], at: usize) -> Result<Reached, Fault>
         requires within { at ≤ length block.now }
         requires starts { IsLineStart block.now at }
@@ -232,9 +239,9 @@ impl Candidates {
         ensures from { IfOk result (λ r. at ≤ r.start) }
         ensures within { IfOk result (λ r. r.start ≤ length block.now) }
         ensures starts { IfOk result (λ r. r.start < length block.now → IsLineStart block.now r.start) }
-        ensures passed { (how : How) (texts : List (List ℕ)) → IsCandidatesOf how texts self.old.0 →
+        ensures passed { (how : PatternOptions) (texts : List (List ℕ)) → IsCandidatesOf how texts self.old.0 →
             IfOk result (λ r. HaveNoMatch how texts (slice_range block.now at r.start)) }
-        ensures has { (how : How) (texts : List (List ℕ)) → IsCandidatesOf how texts self.old.0 →
+        ensures has { (how : PatternOptions) (texts : List (List ℕ)) → IsCandidatesOf how texts self.old.0 →
             IfOk result (λ r. r.has ≡ true → HasMatchAt how texts block.now r.start) }
         ensures stops { (xs : List Tree) (capacity : Option ℕ) → IsBuilt xs (sized_settings capacity) self.old.0.regex →
             IfOk result (λ r. r.start < length block.now → StopsInLine xs block.now at r.start) }

@@ -1,17 +1,17 @@
-//! Lines in which a search gives up, searched by the toolchain's own engines: by one program for all patterns.
+//! Searches lines in which the automata give up by the toolchain's own engines, with one program for all patterns.
 ghost use Rattle.std.specs.Prelude.{◌≡◌, ◌≤◌, ◌∷◌, ◌++◌, ◌==◌, ℕ, List, [], IfOk, OnOk, length, map, option_map};
 ghost use Rattle.std.specs.List.{filter};
 ghost use Rattle.regex_hir.specs.Text.{is_some_and};
 ghost use Rattle.regex_meta.specs.Programs.{pattern_of};
-ghost use Rattle.grep_core.specs.Fallbacks.{AreTreesOfTexts, IsProgramOf, IsTreeOfText, found_at, next_behind};
+ghost use Rattle.grep_core.specs.Fallbacks.{AreTreesOfPatterns, IsProgramOf, IsTreeOfText, found_at, next_after};
 ghost use Rattle.grep_core.specs.Printing.{span_pair};
 ghost use Rattle.grep_core.specs.Report.{is_some_text};
-ghost use Rattle.grep_core.specs.Searchers.{AreTold, IsMatchTold};
-ghost use Rattle.grep_core.specs.declared.patterns.How.{How};
+ghost use Rattle.grep_core.specs.Searchers.{AreReported, IsMatchReported};
+ghost use Rattle.grep_core.specs.declared.patterns.PatternOptions.{PatternOptions};
 
 use crate::bounded::bounded_pattern;
 use crate::fault::Fault;
-use crate::patterns::{How, config_of};
+use crate::patterns::{PatternOptions, config_of};
 use crate::searcher::see_bytes;
 use regex_compile::Error;
 use regex_hir::Hir;
@@ -20,18 +20,18 @@ use regex_syntax::ErrorKind;
 use search_types::Span;
 use std::alloc::{AllocError, Global};
 
-/// The bytes that a program may take.
+/// The greatest size of a program in bytes.
 const SIZE_LIMIT: usize = 1 << 34;
 
-/// A tree, and how many groups its pattern has, group 0 included.
+/// An expression tree, and the number of groups of its pattern, including group 0.
 #[derive(Drop)]
 struct Tree {
     hir: Hir,
     groups: usize,
 }
 
-/// The tree of a text.
-fn tree_of(alloc: Global, how: &How, text: &str) -> Result<Tree, Fault>
+/// The tree of a pattern.
+fn tree_of(alloc: Global, how: &PatternOptions, text: &str) -> Result<Tree, Fault>
     ensures { IfOk result (λ t. IsTreeOfText how.now text.now t.hir) }
 {
     let parsed = match regex_syntax::parse(alloc, text, &config_of(how).options()) {
@@ -53,16 +53,16 @@ fn fault_of(lacks_memory: bool) -> Fault {
     }
 }
 
-/// Trees of several patterns, and the greatest number of groups that one has.
+/// The trees of several patterns, and the greatest number of groups of one of them.
 #[derive(Drop)]
 struct Trees {
     hirs: Vec<Hir>,
     groups: usize,
 }
 
-/// The trees of texts, in their order.
-fn trees_of(alloc: Global, how: &How, texts: &[&str]) -> Result<Trees, Fault>
-    ensures { IfOk result (λ t. AreTreesOfTexts how.now (map (λ t. t.now) texts.now) t.hirs.items) }
+/// The trees of patterns, in order.
+fn trees_of(alloc: Global, how: &PatternOptions, texts: &[&str]) -> Result<Trees, Fault>
+    ensures { IfOk result (λ t. AreTreesOfPatterns how.now (map (λ t. t.now) texts.now) t.hirs.items) }
 {
     let mut hirs = Vec::new(alloc);
     let mut groups = 1;
@@ -89,8 +89,12 @@ fn boxed(alloc: Global, program: Program) -> Result<Box<Program>, Fault>
     }
 }
 
-/// A program for the texts of patterns.
-pub(crate) fn program_of(alloc: Global, how: &How, texts: &[&str]) -> Result<Box<Program>, Fault>
+/// Compiles patterns into one program.
+pub(crate) fn program_of(
+    alloc: Global,
+    how: &PatternOptions,
+    texts: &[&str],
+) -> Result<Box<Program>, Fault>
     ensures { IfOk result (λ p. IsProgramOf how.now (map (λ t. t.now) texts.now) p.value) }
 {
     let trees = match trees_of(alloc, how, texts) {
@@ -113,8 +117,8 @@ pub(crate) fn program_of(alloc: Global, how: &How, texts: &[&str]) -> Result<Box
 
 /// Whether the line has a match.
 pub(crate) fn has_one(alloc: Global, program: &Program, line: &[u8]) -> Result<bool, AllocError>
-    ensures { IfOk result (λ told. (how : How) (texts : List (List ℕ)) → IsProgramOf how texts program.now →
-        IsMatchTold how texts line.now told) }
+    ensures { IfOk result (λ reported. (how : PatternOptions) (texts : List (List ℕ)) → IsProgramOf how texts program.now →
+        IsMatchReported how texts line.now reported) }
 {
     see_bytes(line);
     let mut searcher = Searcher::new(alloc, program)?;
@@ -133,7 +137,7 @@ fn find_from(searcher: &mut Searcher<'_>, line: &[u8], start: usize) -> Option<S
     }
 }
 
-/// Whether there is one, and it ends at this offset.
+/// Whether there is a span, and it ends at this offset.
 fn ends_at(next: Option<Span>, end: usize) -> bool
     ensures { result ≡ is_some_and (option_map span_pair next) (λ s. s.1 == end) }
 {
@@ -143,9 +147,9 @@ fn ends_at(next: Option<Span>, end: usize) -> bool
     }
 }
 
-/// The next one after one that ended at this offset.
+/// The next span after one that ended at this offset.
 fn find_next(searcher: &mut Searcher<'_>, line: &[u8], end: usize) -> Option<Span>
-    ensures found { option_map span_pair result ≡ next_behind (found_at (pattern_of searcher.old.program.now) line.now) end }
+    ensures found { option_map span_pair result ≡ next_after (found_at (pattern_of searcher.old.program.now) line.now) end }
     ensures same { searcher.new.program.now ≡ searcher.old.program.now }
 {
     if end > line.len() {
@@ -176,8 +180,8 @@ pub(crate) fn all_matches(
     program: &Program,
     line: &[u8],
 ) -> Result<Vec<Span>, AllocError>
-    ensures { IfOk result (λ found. (how : How) (texts : List (List ℕ)) → IsProgramOf how texts program.now →
-        AreTold how texts line.now (map span_pair found.items)) }
+    ensures { IfOk result (λ found. (how : PatternOptions) (texts : List (List ℕ)) → IsProgramOf how texts program.now →
+        AreReported how texts line.now (map span_pair found.items)) }
 {
     see_bytes(line);
     let mut searcher = Searcher::new(alloc, program)?;

@@ -1,17 +1,17 @@
-//! Why a text isn't searched, or told, to its end.
+//! Why an input isn't searched, or the output isn't written, to the end.
 use std::alloc::AllocError;
 use std::io::ErrorKind;
 
-/// Why a text wasn't searched, or what it is told as wasn't written, to the end.
+/// Why an input wasn't searched, or the output for it wasn't written, to the end.
 #[derive(Clone, Copy, Debug, PartialEq, Eq)]
 pub enum Fault {
     /// A read failed, for this cause.
     Read(ErrorKind),
-    /// A write or a flush failed, for this cause; it is `WriteZero` where a write took no byte.
+    /// A write or a flush failed, for this cause. The cause is `WriteZero` if a write accepted no byte.
     Write(ErrorKind),
-    /// A growth was refused.
+    /// An allocation failed.
     NoMemory,
-    /// A line has more bytes than a line may have, or the text has 2^64 bytes or lines.
+    /// A line is longer than a line may be, or the input has 2^64 bytes or lines.
     TooLong,
     /// A search gave up at a quit byte, and a pattern is too large for the toolchain's regexes.
     TooLarge,

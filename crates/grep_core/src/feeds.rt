@@ -1,4 +1,4 @@
-//! Line feeds of a text: the first one, and how far back there is none. Many bytes are looked at at once.
+//! Finds line feeds: the first one, and how far back there is none. It examines many bytes at once.
 ghost use Rattle.std.specs.Prelude.{◌≡◌, ◌==◌, ◌+◌, ◌≤◌, length, map};
 ghost use Rattle.std.specs.List.{position};
 ghost use Rattle.std.specs.Simd.Lanes.{mask_l};
@@ -6,7 +6,7 @@ ghost use Rattle.line_trees.specs.LineTrees.{HasNoFeedFrom};
 
 use std::simd::prelude::*;
 
-/// How many bytes are looked at at once.
+/// How many bytes are examined at once.
 const LANES: usize = 32;
 
 /// A bit for each byte, set where it is a line feed.
@@ -17,14 +17,14 @@ fn marks_of(bytes: u8x32) -> u64
     bytes.simd_eq(u8x32::splat(b'\n')).to_bitmask()
 }
 
-/// The first place of a line feed among few bytes.
+/// The first offset of a line feed among few bytes.
 fn feed_of_few(text: &[u8]) -> Option<usize>
     ensures { result ≡ position (λ b. b == 10) text.now }
 {
     text.iter().position(|b| *b == b'\n')
 }
 
-/// The first place of a line feed.
+/// The first offset of a line feed.
 pub(crate) fn feed_at(text: &[u8]) -> Option<usize>
     ensures { result ≡ position (λ b. b == 10) text.now }
 {
@@ -42,9 +42,9 @@ pub(crate) fn feed_at(text: &[u8]) -> Option<usize>
     }
 }
 
-/// Behind the last line feed of the 32 bytes from a place on, or that place where they have none.
+/// The offset after the last line feed of the 32 bytes from an offset on, or that offset if they have none.
 #[inline(always)]
-fn behind_feeds(text: &[u8], at: usize) -> usize
+fn after_feeds(text: &[u8], at: usize) -> usize
     requires { at + 32 ≤ length text.now }
     ensures from { at ≤ result }
     ensures within { result ≤ at + 32 }
@@ -54,9 +54,9 @@ fn behind_feeds(text: &[u8], at: usize) -> usize
     at + (u64::BITS - marks.leading_zeros()) as usize
 }
 
-/// A place from which on, and before the given one, no line feed stands: behind the last line feed, or `at` where that stands further on.
-/// Among the first bytes of the text, which are too few to be looked at at once, none is passed over.
-pub(crate) fn pass_back(text: &[u8], at: usize, place: usize) -> usize
+/// Returns an offset such that no line feed lies between it and `place`: the one after the last line feed, or `at` if that is greater. The
+/// first bytes of the haystack, which are too few to be examined at once, are never skipped.
+pub(crate) fn skip_back(text: &[u8], at: usize, place: usize) -> usize
     requires { place ≤ length text.now }
     ensures from { at ≤ place → at ≤ result }
     ensures within { result ≤ place }
@@ -66,7 +66,7 @@ pub(crate) fn pass_back(text: &[u8], at: usize, place: usize) -> usize
     let mut start = place;
     'wide: while low < start && start >= LANES {
         let first = start - LANES;
-        start = behind_feeds(text, first);
+        start = after_feeds(text, first);
         if first < start {
             return start.max(low);
         }

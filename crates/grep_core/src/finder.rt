@@ -1,14 +1,14 @@
-//! Patterns are found by automata, and where these give up at a quit byte by a program of the toolchain for the same patterns.
+//! Finds patterns by automata. Where these give up at a quit byte, a program of the toolchain for the same patterns answers.
 ghost use Rattle.std.specs.Prelude.{◌≡◌, IfErr, IfOk, map, false, true, ◌≤◌, ◌<◌, length, slice_range};
 ghost use Rattle.grep_core.specs.Candidates.{HaveNoMatch, HasMatchAt, IsLineStart};
 ghost use Rattle.grep_core.specs.Fallbacks.{IsProgramOf};
 ghost use Rattle.grep_core.specs.Printing.{span_pair};
-ghost use Rattle.grep_core.specs.Searchers.{IsMatchTold, AreTold, IsSearcherRefused, SearchesFor};
+ghost use Rattle.grep_core.specs.Searchers.{IsMatchReported, AreReported, IsSearcherError, SearchesFor};
 
 use crate::candidates::{Candidates, Reached, candidates_of};
 use crate::fallback::{all_matches, has_one, program_of};
 use crate::fault::Fault;
-use crate::patterns::How;
+use crate::patterns::PatternOptions;
 use crate::searcher::{Searcher, SearcherError};
 use crate::sizes::Size;
 use regex_meta::Program;
@@ -18,29 +18,29 @@ use std::marker::Model;
 
 /// Finds patterns in lines.
 ///
-/// Automata find them, except in lines in which these give up at a quit byte, as where `\b` stands next to what isn't ASCII: there a
-/// program of the toolchain for the same patterns does, which is made when the first such line comes.
+/// Automata search the lines. In some lines they give up at a quit byte, for example if `\b` is tried next to a byte that isn't ASCII. Such
+/// lines are searched by a program of the toolchain for the same patterns. It is compiled when the first such line comes.
 ///
-/// Where the caches of the automata are cleared too soon, as where a thousand words are looked for in prose, they are made larger, up to
-/// 256 MiB for each.
+/// If the caches of the automata are cleared too soon, they are enlarged, up to 256 MiB each. This happens for example if prose is searched
+/// for a thousand patterns that aren't literals.
 #[derive(Drop)]
 pub struct Finder<'t> {
     searcher: Searcher,
     texts: &'t [&'t str],
-    how: How,
+    how: PatternOptions,
     with_matches: bool,
     program: Option<Box<Program>>,
     candidates: Option<Candidates>,
-    /// How large the caches of the search of lines are, and of the search of blocks.
+    /// The size of the caches of the search of lines, and of the search of blocks.
     line_size: Size,
     block_size: Size,
     slow: u64,
-    /// How often caches were cleared in whose place larger ones are now.
+    /// How often caches were cleared that have been replaced by larger ones.
     past_clears: usize,
 }
 
 impl<'t> Model for Finder<'t> {
-    ghost use Rattle.std.specs.Prelude.{◌≡◌, All, IfSome, false, true, map};
+    ghost use Rattle.std.specs.Prelude.{◌≡◌, IfSome, false, true, map};
     ghost use Rattle.hir_core.specs.Facts.{LoopsRead};
     ghost use Rattle.grep_core.specs.Candidates.{IsCandidatesOf};
     ghost use Rattle.grep_core.specs.Fallbacks.{IsProgramOf};
@@ -51,12 +51,12 @@ impl<'t> Model for Finder<'t> {
     ghost view = { λ f. record { how = f.how; texts = map (λ t. t.now) f.texts.now; spans = f.with_matches } };
 
     ghost invariant = { λ f.
-        ((it : IsSearcherOf f.how (map (λ t. t.now) f.texts.now) f.searcher.0) × (f.with_matches ≡ true → All LoopsRead it.trees))
+        ((it : IsSearcherOf f.how (map (λ t. t.now) f.texts.now) f.searcher.0) × (f.with_matches ≡ true → LoopsRead it.tree))
         × IfSome f.program (λ p. IsProgramOf f.how (map (λ t. t.now) f.texts.now) p.value)
         × IfSome f.candidates (λ c. IsCandidatesOf f.how (map (λ t. t.now) f.texts.now) c.0) };
 }
 
-/// Whether a search was refused for want of memory.
+/// Whether a search failed because it ran out of memory.
 fn lacks_memory(error: &MatchError) -> bool {
     match error.kind() {
         MatchErrorKind::NoMemory => true,
@@ -73,22 +73,22 @@ fn clears_of(candidates: &Option<Candidates>) -> usize {
 }
 
 impl<'t> Finder<'t> {
-    /// A finder for patterns as text, which may be asked for matches, or only for whether there is one. Any bytes are searched, whether
-    /// they are UTF-8 or not. Each text is parsed by itself, and what is parsed is then bounded as `how` asks, so no text reaches into
-    /// what stands around it.
+    /// Builds a finder for patterns. It may be asked for matches, or only for whether there is one. It searches any bytes, whether they are
+    /// UTF-8 or not. Each pattern is parsed by itself, and the result is then bounded as `how` asks. So nothing in a pattern can affect
+    /// what is put around it.
     ///
-    /// It is refused where a text is no pattern, with its number and the offset in the text, and, where matches are asked for, where a
-    /// pattern has an unbounded repetition of what matches the empty text.
+    /// It returns an error if a pattern can't be parsed, with the number of the pattern and the offset in it. It also returns an error if
+    /// matches are asked for and a pattern has an unbounded repetition whose body can match the empty string.
     pub fn new(
         alloc: Global,
         texts: &'t [&'t str],
-        how: &How,
+        how: &PatternOptions,
         with_matches: bool,
     ) -> Result<Finder<'t>, SearcherError>
         ensures sought { IfOk result (λ f. f ≡
             record { how = how.now; texts = map (λ t. t.now) texts.now; spans = with_matches }) }
         ensures searches { IfOk result (λ f. SearchesFor f with_matches) }
-        ensures refused { IfErr result (IsSearcherRefused how.now (map (λ t. t.now) texts.now) with_matches) }
+        ensures refused { IfErr result (IsSearcherError how.now (map (λ t. t.now) texts.now) with_matches) }
     {
         let searcher = match Searcher::new(alloc, texts, how, with_matches) {
             Ok(searcher) => searcher,
@@ -115,7 +115,7 @@ impl<'t> Finder<'t> {
         self.how.crlf
     }
 
-    /// Gives the search of blocks larger caches, where its own were cleared too soon and memory suffices.
+    /// Enlarges the caches of the search of blocks, if they were cleared too soon and memory suffices.
     fn grow_candidates(&mut self, alloc: Global)
         ensures { self.new ≡ self.old }
     {
@@ -124,7 +124,8 @@ impl<'t> Finder<'t> {
         }
     }
 
-    /// The same, where it is known which size they get. It is seldom called, and what it sets up would cost every line else.
+    /// Enlarges the caches of the search of blocks to this size, if memory suffices. It isn't inlined since it is called rarely, and its
+    /// setup would otherwise cost time for every line.
     #[inline(never)]
     fn enlarge_candidates(&mut self, alloc: Global, size: Size)
         ensures { self.new ≡ self.old }
@@ -137,7 +138,7 @@ impl<'t> Finder<'t> {
         }
     }
 
-    /// Gives the search of lines larger caches, where its own were cleared too soon and memory suffices.
+    /// Enlarges the caches of the search of lines, if they were cleared too soon and memory suffices.
     fn grow_searcher(&mut self, alloc: Global)
         ensures { self.new ≡ self.old }
     {
@@ -146,7 +147,7 @@ impl<'t> Finder<'t> {
         }
     }
 
-    /// The same, where it is known which size they get.
+    /// Enlarges the caches of the search of lines to this size, if memory suffices.
     #[inline(never)]
     fn enlarge_searcher(&mut self, alloc: Global, size: Size)
         ensures { self.new ≡ self.old }
@@ -166,7 +167,7 @@ impl<'t> Finder<'t> {
         }
     }
 
-    /// Keeps that so many bytes of lines were searched.
+    /// Records that this many bytes of lines were searched.
     fn note_lines(&mut self, bytes: usize)
         ensures { self.new ≡ self.old }
     {
@@ -174,7 +175,7 @@ impl<'t> Finder<'t> {
         self.line_size.note(bytes, clears);
     }
 
-    /// Keeps that so many bytes of blocks were searched.
+    /// Records that this many bytes of blocks were searched.
     fn note_blocks(&mut self, bytes: usize)
         ensures { self.new ≡ self.old }
     {
@@ -182,8 +183,9 @@ impl<'t> Finder<'t> {
         self.block_size.note(bytes, clears);
     }
 
-    /// Where the next line of a block starts that may have a match, or the end of the block where none may, and whether that line is known
-    /// to have one. The given place is the start of a line, and no line from there on that stands before the answer has a match.
+    /// Returns the start of the next line of a block that may have a match, or the end of the block if none may. It also returns whether
+    /// that line is known to have a match. The offset `at` is the start of a line. No line from there up to the returned offset has a
+    /// match.
     pub(crate) fn next_line(
         &mut self,
         alloc: Global,
@@ -208,7 +210,8 @@ impl<'t> Finder<'t> {
         Ok(reached)
     }
 
-    /// The same by the caches that there are.
+    /// Returns the start of the next line that may have a match, by the present caches. If blocks can't be searched, this is the line at
+    /// `at`.
     fn reach(&mut self, block: &[u8], at: usize) -> Result<Reached, Fault>
         requires within { at ≤ length block.now }
         requires starts { IsLineStart block.now at }
@@ -233,13 +236,13 @@ impl<'t> Finder<'t> {
         Ok(reached)
     }
 
-    /// How often the caches of the automata were cleared; the greatest number stands for any above it.
+    /// How often the caches of the automata were cleared. The greatest number stands for any number above it.
     pub fn clear_count(&self) -> usize {
         let clears = self.past_clears.saturating_add(self.searcher.clear_count());
         clears.saturating_add(clears_of(&self.candidates))
     }
 
-    /// The bytes that these caches are taken to need.
+    /// The bytes that the caches are estimated to need.
     pub fn memory_usage(&self) -> usize {
         let usage = self.searcher.memory_usage();
         match &self.candidates {
@@ -248,12 +251,12 @@ impl<'t> Finder<'t> {
         }
     }
 
-    /// In how many lines the automata gave up, so that the toolchain's program told whether there is a match.
+    /// The number of lines in which the automata gave up, so that the toolchain's program reported whether there is a match.
     pub fn slow_lines(&self) -> u64 {
         self.slow
     }
 
-    /// Takes the program out, which is made where it isn't yet.
+    /// Takes the program out of the finder. It is compiled if there is none yet.
     fn take_program(&mut self, alloc: Global) -> Result<Box<Program>, Fault>
         ensures same { self.new ≡ self.old }
         ensures program { IfOk result (λ p. IsProgramOf self.old.how self.old.texts p.value) }
@@ -271,16 +274,16 @@ impl<'t> Finder<'t> {
     /// Whether the line has a match, by the program.
     fn has_match_slowly(&mut self, alloc: Global, line: &[u8]) -> Result<bool, Fault>
         ensures same { self.new ≡ self.old }
-        ensures told { IfOk result (λ told. IsMatchTold self.old.how self.old.texts line.now told) }
+        ensures reported { IfOk result (λ reported. IsMatchReported self.old.how self.old.texts line.now reported) }
     {
         self.slow = self.slow.saturating_add(1);
         let program = match self.take_program(alloc) {
             Ok(program) => program,
             Err(e) => return Err(e),
         };
-        let told = has_one(alloc, &program, line);
+        let reported = has_one(alloc, &program, line);
         self.program = Some(program);
-        let has = match told {
+        let has = match reported {
             Ok(has) => has,
             Err(_) => return Err(Fault::NoMemory),
         };
@@ -290,15 +293,15 @@ impl<'t> Finder<'t> {
     /// The matches of the line that aren't empty, by the program.
     fn matches_slowly(&mut self, alloc: Global, line: &[u8]) -> Result<Vec<Span>, Fault>
         ensures same { self.new ≡ self.old }
-        ensures told { IfOk result (λ found. AreTold self.old.how self.old.texts line.now (map span_pair found.items)) }
+        ensures reported { IfOk result (λ found. AreReported self.old.how self.old.texts line.now (map span_pair found.items)) }
     {
         let program = match self.take_program(alloc) {
             Ok(program) => program,
             Err(e) => return Err(e),
         };
-        let told = all_matches(alloc, &program, line);
+        let reported = all_matches(alloc, &program, line);
         self.program = Some(program);
-        let found = match told {
+        let found = match reported {
             Ok(found) => found,
             Err(_) => return Err(Fault::NoMemory),
         };
@@ -308,21 +311,21 @@ impl<'t> Finder<'t> {
     /// Whether the line has a match, by the automata.
     fn has_match_quickly(&mut self, line: &[u8]) -> Result<bool, MatchError>
         ensures same { self.new ≡ self.old }
-        ensures told { IfOk result (λ told. IsMatchTold self.old.how self.old.texts line.now told) }
+        ensures reported { IfOk result (λ reported. IsMatchReported self.old.how self.old.texts line.now reported) }
     {
-        let told = match self.searcher.has_match(line) {
-            Ok(told) => told,
+        let reported = match self.searcher.has_match(line) {
+            Ok(reported) => reported,
             Err(e) => return Err(e),
         };
         self.note_lines(line.len());
-        Ok(told)
+        Ok(reported)
     }
 
     /// The matches of the line that aren't empty, by the automata.
     fn matches_quickly(&mut self, alloc: Global, line: &[u8]) -> Result<Vec<Span>, MatchError>
         ensures same { self.new ≡ self.old }
-        ensures told { self.old.spans ≡ true →
-            IfOk result (λ found. AreTold self.old.how self.old.texts line.now (map span_pair found.items)) }
+        ensures reported { self.old.spans ≡ true →
+            IfOk result (λ found. AreReported self.old.how self.old.texts line.now (map span_pair found.items)) }
     {
         let found = match self.searcher.matches(alloc, line) {
             Ok(found) => found,
@@ -335,7 +338,7 @@ impl<'t> Finder<'t> {
     /// Whether the line has a match of some pattern.
     pub(crate) fn has_match(&mut self, alloc: Global, line: &[u8]) -> Result<bool, Fault>
         ensures same { self.new ≡ self.old }
-        ensures told { IfOk result (λ told. IsMatchTold self.old.how self.old.texts line.now told) }
+        ensures reported { IfOk result (λ reported. IsMatchReported self.old.how self.old.texts line.now reported) }
     {
         self.grow_searcher(alloc);
         let error = match self.has_match_quickly(line) {
@@ -354,8 +357,8 @@ impl<'t> Finder<'t> {
     /// The matches of the line that aren't empty, from left to right.
     pub(crate) fn matches(&mut self, alloc: Global, line: &[u8]) -> Result<Vec<Span>, Fault>
         ensures same { self.new ≡ self.old }
-        ensures told { self.old.spans ≡ true →
-            IfOk result (λ found. AreTold self.old.how self.old.texts line.now (map span_pair found.items)) }
+        ensures reported { self.old.spans ≡ true →
+            IfOk result (λ found. AreReported self.old.how self.old.texts line.now (map span_pair found.items)) }
     {
         self.grow_searcher(alloc);
         let error = match self.matches_quickly(alloc, line) {

@@ -1,22 +1,22 @@
 //! What is printed of a line: the line itself, or the matches in it.
 ghost use Rattle.std.specs.Prelude.{◌≡◌, ◌++◌, ◌+◌, OnOk, map, option_map};
 ghost use Rattle.std.specs.List.{flat_map};
-ghost use Rattle.grep_core.specs.Courses.{item, print_item};
+ghost use Rattle.grep_core.specs.ContextPrinting.{item, print_item};
 ghost use Rattle.grep_core.specs.Printing.{printed_match, printed_matches, span_pair, text_line};
 
 use crate::fault::Fault;
 use crate::line::Line;
+use crate::output_options::{OutputOptions, Print};
 use crate::printing::{has_marks, piece, push_fields, push_line, push_marked};
 use crate::role::Role;
-use crate::what::{Print, What};
 use search_types::Span;
 use std::alloc::{AllocError, Global};
 
-/// Appends a match whose first byte is at this place, as a line of its own.
+/// Appends a match whose first byte is at this offset, as a line of its own.
 fn push_match_at(
     alloc: Global,
     out: &mut Vec<u8>,
-    what: &What,
+    what: &OutputOptions,
     name: Option<&[u8]>,
     role: Role,
     line: Line<'_>,
@@ -42,7 +42,7 @@ fn push_match_at(
 fn push_match(
     alloc: Global,
     out: &mut Vec<u8>,
-    what: &What,
+    what: &OutputOptions,
     name: Option<&[u8]>,
     role: Role,
     line: Line<'_>,
@@ -62,7 +62,7 @@ fn push_match(
 fn push_all(
     alloc: Global,
     out: &mut Vec<u8>,
-    what: &What,
+    what: &OutputOptions,
     name: Option<&[u8]>,
     role: Role,
     line: Line<'_>,
@@ -77,11 +77,11 @@ fn push_all(
     Ok(())
 }
 
-/// Appends the matches of a line of this role, where they are told.
+/// Appends the matches of a line of this role, if matches in such lines are printed.
 fn push_matches(
     alloc: Global,
     out: &mut Vec<u8>,
-    what: &What,
+    what: &OutputOptions,
     name: Option<&[u8]>,
     role: Role,
     line: Line<'_>,
@@ -96,11 +96,11 @@ fn push_matches(
     Ok(())
 }
 
-/// Appends a line, or the matches in it where these alone are printed.
+/// Appends a line, or the matches in it if matches alone are printed.
 pub(crate) fn push_item(
     alloc: Global,
     out: &mut Vec<u8>,
-    what: &What,
+    what: &OutputOptions,
     name: Option<&[u8]>,
     role: Role,
     line: Line<'_>,

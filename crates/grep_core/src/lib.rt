@@ -1,44 +1,46 @@
-//! Searching lines: which lines of a text patterns select, and what is printed of them.
+//! Searching lines: which lines of an input patterns select, and what is printed for them.
 //!
-//! [`What`] says what is asked for. What is printed then is defined in `specs/Report.antt`, over the lines of `Lines.antt`, which are
-//! selected as `Selecting.antt` has it and printed as `Printing.antt` does; which lines patterns select stands in `Patterns.antt`, over
-//! `Bounded.antt` for whole lines and whole words, with laws in [`laws`].
-//! A [`Searcher`] tells whether a line has a match.
+//! [`OutputOptions`] says what is asked for. `specs/Report.antt` defines what is printed, over the lines that `Lines.antt` defines. `Selecting.antt`
+//! defines which of them are selected, and `Printing.antt` how they are printed. `Patterns.antt` defines which lines patterns match, and
+//! `Bounded.antt` what whole lines and whole words are. [`laws`] has laws about these definitions.
+//!
+//! A [`Searcher`] reports whether a line has a match.
 #![tactic(auto)]
 
 mod blocks;
 mod bounded;
 mod candidates;
-mod course;
+mod context_printer;
 mod fallback;
 mod fault;
 mod feeds;
 mod finder;
-mod held;
 mod items;
-mod known;
+mod joining;
 pub mod laws;
 mod line;
+mod line_buffer;
 mod listing;
 mod looking;
+mod output_options;
 mod passing;
 mod patterns;
 mod printing;
 mod progress;
 mod reading;
+mod reporter;
 mod role;
 mod searcher;
+mod separator_state;
 mod sizes;
-mod telling;
-mod what;
 
 pub use fault::Fault;
 pub use finder::Finder;
-pub use known::Known;
 pub use line::Line;
 pub use looking::needs_spans;
-pub use patterns::{How, config_of, pattern_source};
-pub use reading::tell_text;
+pub use output_options::{Context, OutputOptions, Print};
+pub use patterns::{PatternOptions, config_of, pattern_source};
+pub use reading::report_input;
 pub use role::Role;
 pub use searcher::SearcherError;
-pub use what::{Context, Print, What};
+pub use separator_state::SeparatorState;

@@ -22,7 +22,7 @@ fn push(all: &mut Vec<Match>, found: Match) -> Result<(), AllocError>
     Ok(())
 }
 
-/// What the iterator gives.
+/// Collects the matches of the iterator.
 pub(crate) fn list(
     alloc: Global,
     re: &Regex,
@@ -47,7 +47,7 @@ pub(crate) fn list(
     Ok(all)
 }
 
-/// The spans of matches, but for empty ones.
+/// The spans of matches, without the empty ones.
 pub(crate) fn spans_of(alloc: Global, all: &[Match]) -> Result<Vec<Span>, AllocError>
     ensures { IfOk result (λ spans. map span_pair spans.items ≡ filter is_some_text (map span_of_found all.now)) }
 {

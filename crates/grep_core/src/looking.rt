@@ -1,29 +1,29 @@
-//! What is seen of a line.
+//! The result of searching a line.
 ghost use Rattle.std.specs.Prelude.{◌≡◌, IfOk, map, true};
 ghost use Rattle.grep_core.specs.Lines.{searched, unended, without_return};
 ghost use Rattle.grep_core.specs.Printing.{span_pair};
 ghost use Rattle.grep_core.specs.Report.{is_some_text};
-ghost use Rattle.grep_core.specs.Searchers.{IsMatchTold, SearchesFor, found_by};
-ghost use Rattle.grep_core.specs.Telling.{needs_spans, with_needed_spans};
+ghost use Rattle.grep_core.specs.Searchers.{IsMatchReported, SearchesFor, found_by};
+ghost use Rattle.grep_core.specs.Reporting.{needs_spans, with_needed_spans};
 ghost use Rattle.std.specs.List.{filter};
 
 use crate::fault::Fault;
 use crate::finder::Finder;
-use crate::what::{Print, What};
+use crate::output_options::{OutputOptions, Print};
 use search_types::Span;
 use std::alloc::Global;
 
-/// What is seen of a line.
+/// The result of searching a line.
 #[derive(Drop)]
 pub(crate) struct Seen {
-    /// Whether it has a match.
+    /// Whether the line has a match.
     pub has: bool,
-    /// The matches that aren't empty, where these count.
+    /// The matches that aren't empty, if the output depends on matches.
     pub found: Vec<Span>,
 }
 
-/// Whether matches count for what is printed.
-pub fn needs_spans(what: &What) -> bool
+/// Whether the output depends on the matches of lines.
+pub fn needs_spans(what: &OutputOptions) -> bool
     ensures { result ≡ needs_spans what.now }
 {
     match what.print {
@@ -33,16 +33,16 @@ pub fn needs_spans(what: &What) -> bool
     }
 }
 
-/// Whether a line has a match, where it isn't known that it has one.
+/// Whether a line has a match. It is searched unless it is known to have one.
 fn has_match(
     alloc: Global,
     finder: &mut Finder<'_>,
     line: &[u8],
     is_known: bool,
 ) -> Result<bool, Fault>
-    requires { is_known ≡ true → IsMatchTold finder.old.how finder.old.texts line.now true }
+    requires { is_known ≡ true → IsMatchReported finder.old.how finder.old.texts line.now true }
     ensures same { finder.new ≡ finder.old }
-    ensures told { IfOk result (λ told. IsMatchTold finder.old.how finder.old.texts line.now told) }
+    ensures reported { IfOk result (λ reported. IsMatchReported finder.old.how finder.old.texts line.now reported) }
 {
     if is_known {
         return Ok(true);
@@ -64,7 +64,7 @@ fn searched(crlf: bool, line: &[u8], is_ended: bool) -> &[u8]
     without_return(line)
 }
 
-/// The bytes without the carriage return with which they end, if they do.
+/// The bytes without the carriage return at their end, if there is one.
 #[tactic(auto, using(crate::proofs::ReturnLemmas::none_left_out, crate::proofs::ReturnLemmas::return_left_out, crate::proofs::ReturnLemmas::other_kept))]
 fn without_return(bytes: &[u8]) -> &[u8]
     ensures { result.now ≡ without_return bytes.now }
@@ -78,15 +78,16 @@ fn without_return(bytes: &[u8]) -> &[u8]
     bytes
 }
 
-/// Whether some bytes have a match, and which of their matches aren't empty, if these count. It may be known that they have one.
+/// Whether some bytes have a match, and which of their matches aren't empty, if the output depends on matches. `is_known` says whether they
+/// are known to have a match.
 fn look_in(
     alloc: Global,
     finder: &mut Finder<'_>,
-    what: &What,
+    what: &OutputOptions,
     line: &[u8],
     is_known: bool,
 ) -> Result<Seen, Fault>
-    requires { is_known ≡ true → IsMatchTold finder.old.how finder.old.texts line.now true }
+    requires { is_known ≡ true → IsMatchReported finder.old.how finder.old.texts line.now true }
     ensures same { finder.new ≡ finder.old }
     ensures has { IfOk result (λ seen. (by : SearchesFor finder.old (needs_spans what.now)) →
         seen.has ≡ (found_by by).has_match (unended line.now)) }
@@ -109,17 +110,17 @@ fn look_in(
     }
 }
 
-/// Whether a line has a match, and which of its matches aren't empty, if these count. The line is given without its line feed. It may be
-/// known that it has a match.
+/// Whether a line has a match, and which of its matches aren't empty, if the output depends on matches. The line is given without its line
+/// feed. `is_known` says whether it is known to have a match.
 pub(crate) fn look_at(
     alloc: Global,
     finder: &mut Finder<'_>,
-    what: &What,
+    what: &OutputOptions,
     bytes: &[u8],
     is_ended: bool,
     is_known: bool,
 ) -> Result<Seen, Fault>
-    requires { is_known ≡ true → IsMatchTold finder.old.how finder.old.texts
+    requires { is_known ≡ true → IsMatchReported finder.old.how finder.old.texts
         (searched finder.old.how.crlf (record { bytes = bytes.now; is_ended = is_ended })) true }
     ensures same { finder.new ≡ finder.old }
     ensures has { IfOk result (λ seen. (by : SearchesFor finder.old (needs_spans what.now)) →

@@ -1,29 +1,29 @@
-//! Lines of which it is known that none has a match are told without a search.
+//! Processes lines that are known to have no match, without searching them.
 ghost use Rattle.std.specs.Prelude.{◌≡◌, ◌==◌, ◌++◌, ◌∷◌, [], ◌+◌, ◌<◌, ◌≤◌, ℕ, All, List, IfOk, OnOk, IsTrue, count_by, drop, false, true};
 ghost use Rattle.std.specs.Prelude.{length};
-ghost use Rattle.grep_core.specs.Blocks.{SearchesBy, finds_by, tells_lines, counts_lines};
+ghost use Rattle.grep_core.specs.Blocks.{SearchesBy, finds_by, reported_bytes, counts_lines};
 ghost use Rattle.grep_core.specs.Candidates.{IsLineStart};
-ghost use Rattle.grep_core.specs.Courses.{Waits};
+ghost use Rattle.grep_core.specs.ContextPrinting.{Waits};
 ghost use Rattle.grep_core.specs.Lines.{SplitLine, ended, split_lines};
-ghost use Rattle.grep_core.specs.Passing.{AreWhole, Lacks, MayPass, PassesTo, held_of};
+ghost use Rattle.grep_core.specs.Skipping.{AreWhole, HasNoMatch, MaySkip, SkipsTo, held_of};
 ghost use Rattle.grep_core.specs.Report.{LineMatcher};
 ghost use Rattle.grep_core.specs.Searchers.{Sought, found_by};
-ghost use Rattle.grep_core.specs.Telling.{prints_lines};
+ghost use Rattle.grep_core.specs.Reporting.{prints_lines};
 
 use crate::candidates::line_start;
-use crate::course::{Course, before_of, behind_hidden, forget_waiting};
+use crate::context_printer::{ContextPrinter, after_hidden, before_of, forget_waiting};
 use crate::fault::Fault;
 use crate::feeds::feed_at;
 use crate::line::Line;
+use crate::output_options::{OutputOptions, Print};
 use crate::progress::{Progress, Task, pass, sum};
-use crate::telling::{prints_lines, tell_line};
-use crate::what::{Print, What};
+use crate::reporter::{prints_lines, report_line};
 use std::alloc::Global;
 
-/// As many bytes as a count in one byte holds.
+/// The greatest count that fits into one byte.
 const PART: usize = 255;
 
-/// How many line feeds a short part has. Counted in a byte, so that many bytes are compared and added at once.
+/// The number of line feeds in a short part. The count is kept in one byte, so that many bytes are compared and added at once.
 fn count_few(part: &[u8]) -> u8
     requires { length part.now ≤ 255 }
     ensures { result ≡ count_by (λ b. b == 10) part.now }
@@ -37,7 +37,7 @@ fn count_few(part: &[u8]) -> u8
     feeds
 }
 
-/// How many line feeds a text has.
+/// The number of line feeds in an input.
 fn count_feeds(text: &[u8]) -> usize
     ensures { result ≡ count_by (λ b. b == 10) text.now }
 {
@@ -51,8 +51,8 @@ fn count_feeds(text: &[u8]) -> usize
     feeds
 }
 
-/// How many lines before a selected one are told with it.
-fn held_of(what: &What) -> u64
+/// How many lines before a selected one are printed with it.
+fn held_of(what: &OutputOptions) -> u64
     ensures { result ≡ held_of what.now }
 {
     if prints_lines(what.print) {
@@ -62,7 +62,7 @@ fn held_of(what: &What) -> u64
     }
 }
 
-/// Where the last so many of whole lines start, or the first place where there are no more.
+/// The start of the last `count` lines of some whole lines, or 0 if there are no more than that.
 fn last_lines(lines: &[u8], count: u64) -> usize
     requires { AreWhole lines.now }
     ensures within { result ≤ length lines.now }
@@ -81,9 +81,9 @@ fn last_lines(lines: &[u8], count: u64) -> usize
     start
 }
 
-/// Whether a line without a match is neither selected at this place nor owed to a selected one.
-fn may_pass(what: &What, course: &Course) -> bool
-    ensures { IsTrue result → MayPass what.now course.now }
+/// Whether a line without a match is, at this point, neither selected nor owed to a selected one as context.
+fn may_pass(what: &OutputOptions, course: &ContextPrinter) -> bool
+    ensures { IsTrue result → MaySkip what.now course.now }
 {
     if what.invert {
         return false;
@@ -91,9 +91,9 @@ fn may_pass(what: &What, course: &Course) -> bool
     !prints_lines(what.print) || course.left == 0
 }
 
-/// Whether lines without a match are told one by one no more: where they can be passed over, unless all of them are told so.
-fn stops(what: &What, course: &Course, all: bool) -> bool
-    ensures may { IsTrue result → MayPass what.now course.now }
+/// Whether processing lines without a match one by one can stop. It can if such lines can be skipped, unless `all` asks for all of them.
+fn stops(what: &OutputOptions, course: &ContextPrinter, all: bool) -> bool
+    ensures may { IsTrue result → MaySkip what.now course.now }
     ensures some { IsTrue result → all ≡ false }
 {
     if all {
@@ -102,7 +102,7 @@ fn stops(what: &What, course: &Course, all: bool) -> bool
     may_pass(what, course)
 }
 
-/// Counts whole lines that are passed over, where lines are printed: else nothing that is told hangs on their numbers.
+/// Counts whole lines that are skipped, if lines are printed. Otherwise the output doesn't depend on their numbers.
 fn count_over(print: Print, progress: &mut Progress, lines: &[u8]) -> Result<(), Fault>
     ensures number { prints_lines print ≡ true →
         OnOk result (progress.new.number ≡ progress.old.number + count_by (λ b. b == 10) lines.now) }
@@ -118,16 +118,17 @@ fn count_over(print: Print, progress: &mut Progress, lines: &[u8]) -> Result<(),
     Ok(())
 }
 
-/// Passes over lines without a match, but for the last ones that would be told with a selected one behind them: no other line waits any
-/// more, and where lines are printed it is counted how many were passed over. The answer is where the first line starts that wasn't.
-fn pass_over(task: Task<'_>, progress: &mut Progress, lines: &[u8]) -> Result<usize, Fault>
+/// Skips lines without a match, except the last ones, which are printed if a selected line follows them. If any line is skipped, the
+/// buffered lines are dropped, and if lines are printed, the skipped ones are counted. Returns the start of the first line that isn't
+/// skipped.
+fn skip_over(task: Task<'_>, progress: &mut Progress, lines: &[u8]) -> Result<usize, Fault>
     requires waits { Waits task.what.now progress.old.telling.course }
     requires whole { AreWhole lines.now }
-    requires may { MayPass task.what.now progress.old.telling.course }
+    requires may { MaySkip task.what.now progress.old.telling.course }
     ensures waits { OnOk result (Waits task.entry.what.now progress.new.telling.course) }
     ensures within { IfOk result (λ start. start ≤ length lines.now) }
     ensures passes { IfOk result (λ start. (f : LineMatcher) (out : List ℕ) →
-        PassesTo task.entry f progress.old progress.new lines.now (drop start lines.now) out out) }
+        SkipsTo task.entry f progress.old progress.new lines.now (drop start lines.now) out out) }
 {
     let start = last_lines(lines, held_of(task.what));
     if start == 0 {
@@ -135,12 +136,12 @@ fn pass_over(task: Task<'_>, progress: &mut Progress, lines: &[u8]) -> Result<us
     }
     count_over(task.what.print, progress, &lines[..start])?;
     forget_waiting(&mut progress.telling.course);
-    progress.telling.course.known = behind_hidden(progress.telling.course.known);
+    progress.telling.course.known = after_hidden(progress.telling.course.known);
     Ok(start)
 }
 
-/// Tells a line without a match, which is given without its line feed.
-fn tell_without(
+/// Processes a line without a match. The line is given without its line feed.
+fn report_without(
     alloc: Global,
     out: &mut Vec<u8>,
     task: Task<'_>,
@@ -149,10 +150,10 @@ fn tell_without(
 ) -> Result<(), Fault>
     requires { Waits task.what.now progress.old.telling.course }
     ensures waits { OnOk result (Waits task.entry.what.now progress.new.telling.course) }
-    ensures goes_on { OnOk result ((f : LineMatcher) → Lacks f (ended bytes.now) → (lines : List SplitLine) →
-        out.old.items ++ tells_lines task.entry f progress.old (ended bytes.now ∷ lines)
-        ≡ out.new.items ++ tells_lines task.entry f progress.new lines) }
-    ensures counts { OnOk result ((f : LineMatcher) → Lacks f (ended bytes.now) → (lines : List SplitLine) →
+    ensures goes_on { OnOk result ((f : LineMatcher) → HasNoMatch f (ended bytes.now) → (lines : List SplitLine) →
+        out.old.items ++ reported_bytes task.entry f progress.old (ended bytes.now ∷ lines)
+        ≡ out.new.items ++ reported_bytes task.entry f progress.new lines) }
+    ensures counts { OnOk result ((f : LineMatcher) → HasNoMatch f (ended bytes.now) → (lines : List SplitLine) →
         counts_lines task.entry f progress.new lines ≡ counts_lines task.entry f progress.old (ended bytes.now ∷ lines)) }
 {
     let line = Line {
@@ -161,7 +162,7 @@ fn tell_without(
         bytes,
         is_ended: true,
     };
-    tell_line(
+    report_line(
         alloc,
         out,
         task.what,
@@ -175,9 +176,9 @@ fn tell_without(
     pass(progress, bytes.len())
 }
 
-/// Tells lines without a match one by one: all of them, or else those before the first one from which on they can be passed over. The
-/// answer is the place behind them.
-fn tell_each(
+/// Processes lines without a match one by one: all of them, or only those before the first one from which on they can be skipped. Returns
+/// the offset after them.
+fn report_each(
     alloc: Global,
     out: &mut Vec<u8>,
     task: Task<'_>,
@@ -190,23 +191,23 @@ fn tell_each(
     ensures waits { OnOk result (Waits task.entry.what.now progress.new.telling.course) }
     ensures within { IfOk result (λ done. done ≤ length lines.now) }
     ensures all { all ≡ true → IfOk result (λ done. length lines.now ≤ done) }
-    ensures may { IfOk result (λ done. done < length lines.now → MayPass task.entry.what.now progress.new.telling.course) }
+    ensures may { IfOk result (λ done. done < length lines.now → MaySkip task.entry.what.now progress.new.telling.course) }
     ensures passes { IfOk result (λ done. (f : LineMatcher) →
-        PassesTo task.entry f progress.old progress.new lines.now (drop done lines.now) out.old.items out.new.items) }
+        SkipsTo task.entry f progress.old progress.new lines.now (drop done lines.now) out.old.items out.new.items) }
 {
     let mut done = 0usize;
     while !stops(task.what, &progress.telling.course, all) {
         let Some(len) = feed_at(&lines[done..]) else {
             return Ok(done);
         };
-        tell_without(alloc, out, task, progress, &lines[done..done + len])?;
+        report_without(alloc, out, task, progress, &lines[done..done + len])?;
         done += len + 1;
     }
     Ok(done)
 }
 
-/// Tells lines without a match: one by one those that may be printed, whatever stands behind them, and all others at once.
-fn tell_lacking(
+/// Processes lines without a match. Those that may be printed, depending on what follows, are processed one by one, and all others at once.
+fn report_lacking(
     alloc: Global,
     out: &mut Vec<u8>,
     task: Task<'_>,
@@ -217,19 +218,19 @@ fn tell_lacking(
     requires whole { AreWhole lines.now }
     ensures waits { OnOk result (Waits task.entry.what.now progress.new.telling.course) }
     ensures passes { OnOk result ((f : LineMatcher) →
-        PassesTo task.entry f progress.old progress.new lines.now [] out.old.items out.new.items) }
+        SkipsTo task.entry f progress.old progress.new lines.now [] out.old.items out.new.items) }
 {
-    let done = tell_each(alloc, out, task, progress, lines, false)?;
+    let done = report_each(alloc, out, task, progress, lines, false)?;
     if done == lines.len() {
         return Ok(());
     }
-    let start = pass_over(task, progress, &lines[done..])?;
-    let _ = tell_each(alloc, out, task, progress, &lines[done + start..], true)?;
+    let start = skip_over(task, progress, &lines[done..])?;
+    let _ = report_each(alloc, out, task, progress, &lines[done + start..], true)?;
     Ok(())
 }
 
-/// Tells lines without a match: a text that is empty or ends with a line feed.
-pub(crate) fn pass_lines(
+/// Processes lines without a match. They are empty or end with a line feed.
+pub(crate) fn skip_lines(
     alloc: Global,
     out: &mut Vec<u8>,
     task: Task<'_>,
@@ -241,12 +242,12 @@ pub(crate) fn pass_lines(
     ensures waits { OnOk result (Waits task.entry.what.now progress.new.telling.course) }
     ensures goes_on { OnOk result ((s : Sought) (by : SearchesBy task.entry s) →
         All (λ line. (found_by by).has_match line ≡ false) (split_lines lines.now) → (more : List ℕ) →
-        out.old.items ++ tells_lines task.entry (finds_by task.entry by) progress.old (split_lines (lines.now ++ more))
-        ≡ out.new.items ++ tells_lines task.entry (finds_by task.entry by) progress.new (split_lines more)) }
+        out.old.items ++ reported_bytes task.entry (finds_by task.entry by) progress.old (split_lines (lines.now ++ more))
+        ≡ out.new.items ++ reported_bytes task.entry (finds_by task.entry by) progress.new (split_lines more)) }
     ensures counts { OnOk result ((s : Sought) (by : SearchesBy task.entry s) →
         All (λ line. (found_by by).has_match line ≡ false) (split_lines lines.now) → (more : List ℕ) →
         counts_lines task.entry (finds_by task.entry by) progress.new (split_lines more)
         ≡ counts_lines task.entry (finds_by task.entry by) progress.old (split_lines (lines.now ++ more))) }
 {
-    tell_lacking(alloc, out, task, progress, lines)
+    report_lacking(alloc, out, task, progress, lines)
 }

@@ -1,15 +1,15 @@
-//! How a line is printed, as by GNU grep.
+//! How a line is printed, in the format of GNU grep.
 ghost use Rattle.std.specs.Prelude.{◌≡◌, ◌≤◌, ◌++◌, ◌∷◌, ◌+◌, ℕ, [], codes, decimal, length, map, option_map, slice_range, OnOk};
 ghost use Rattle.grep_core.specs.Printing.{coloured, marked_from, span_pair, has_marks, line_bytes, printed_line, text_line, group_line};
 ghost use Rattle.grep_core.specs.Printing.{field, fields, if_asked, name_field, separator};
 
 use crate::line::Line;
+use crate::output_options::OutputOptions;
 use crate::role::Role;
-use crate::what::What;
 use search_types::Span;
 use std::alloc::{AllocError, Global};
 
-/// Appends a text, marked for a terminal where that is asked for.
+/// Appends bytes, marked for a terminal if asked for.
 pub(crate) fn push_marked(
     out: &mut Vec<u8>,
     color: bool,
@@ -30,7 +30,7 @@ pub(crate) fn push_marked(
     Ok(())
 }
 
-/// What parts the fields before a line.
+/// The separator after each field before a line.
 fn separator(role: Role) -> &'static [u8]
     ensures { result.now ≡ separator role }
 {
@@ -40,10 +40,10 @@ fn separator(role: Role) -> &'static [u8]
     }
 }
 
-/// Appends a field and what parts it from the next one.
+/// Appends a field and the separator after it.
 pub(crate) fn push_field(
     out: &mut Vec<u8>,
-    what: &What,
+    what: &OutputOptions,
     role: Role,
     code: &[u8],
     text: &[u8],
@@ -55,11 +55,11 @@ pub(crate) fn push_field(
     Ok(())
 }
 
-/// Appends a number as a field, where it is asked for.
+/// Appends a number as a field, if it is asked for.
 fn push_number(
     alloc: Global,
     out: &mut Vec<u8>,
-    what: &What,
+    what: &OutputOptions,
     role: Role,
     is_asked: bool,
     number: u64,
@@ -73,11 +73,11 @@ fn push_number(
     Ok(())
 }
 
-/// Appends what stands before a line, or before a match whose first byte is at this place.
+/// Appends what is printed before a line, or before a match whose first byte is at this offset.
 pub(crate) fn push_fields(
     alloc: Global,
     out: &mut Vec<u8>,
-    what: &What,
+    what: &OutputOptions,
     name: Option<&[u8]>,
     role: Role,
     number: u64,
@@ -93,7 +93,7 @@ pub(crate) fn push_fields(
     Ok(())
 }
 
-/// The part of a line from one place up to another; none where it ends before it starts, and no more than there is.
+/// The part of a line between two offsets. It is empty if the end is before the start, and it stops at the end of the line.
 pub(crate) fn piece(line: &[u8], start: usize, end: usize) -> &[u8]
     ensures { result.now ≡ slice_range line.now start end }
 {
@@ -118,8 +118,8 @@ fn push_matches(out: &mut Vec<u8>, line: &[u8], found: &[Span]) -> Result<(), Al
     Ok(())
 }
 
-/// Whether matches are told in lines of this role.
-pub(crate) fn has_marks(what: &What, role: Role) -> bool
+/// Whether matches are printed or marked in lines of this role.
+pub(crate) fn has_marks(what: &OutputOptions, role: Role) -> bool
     ensures { result ≡ has_marks what.now role }
 {
     match role {
@@ -128,10 +128,10 @@ pub(crate) fn has_marks(what: &What, role: Role) -> bool
     }
 }
 
-/// Appends the bytes of a line that has these matches, none of them empty.
+/// Appends the bytes of a line that has these matches, none of which is empty.
 fn push_bytes(
     out: &mut Vec<u8>,
-    what: &What,
+    what: &OutputOptions,
     role: Role,
     line: &[u8],
     found: &[Span],
@@ -146,11 +146,11 @@ fn push_bytes(
     Ok(())
 }
 
-/// Appends a line with what stands before it; the matches in it are marked where that is asked for.
+/// Appends a line with the fields before it. The matches in it are marked if asked for.
 pub(crate) fn push_line(
     alloc: Global,
     out: &mut Vec<u8>,
-    what: &What,
+    what: &OutputOptions,
     name: Option<&[u8]>,
     role: Role,
     line: Line<'_>,
@@ -165,8 +165,8 @@ pub(crate) fn push_line(
     Ok(())
 }
 
-/// Appends the line between two groups of lines.
-pub(crate) fn push_group(out: &mut Vec<u8>, what: &What) -> Result<(), AllocError>
+/// Appends the separator line between two groups of lines.
+pub(crate) fn push_group(out: &mut Vec<u8>, what: &OutputOptions) -> Result<(), AllocError>
     ensures { OnOk result (out.new.items ≡ out.old.items ++ group_line what.now) }
 {
     push_marked(out, what.color, b"36", b"--")?;

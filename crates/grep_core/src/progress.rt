@@ -1,51 +1,51 @@
-//! What is searched, and how far its lines were told.
+//! What is searched, and how far its lines are processed.
 ghost use Rattle.std.specs.Prelude.{◌≡◌, ℕ, ◌+◌, List, IfOk, OnOk};
-ghost use Rattle.grep_core.specs.Blocks.{tells_lines, counts_lines};
-ghost use Rattle.grep_core.specs.Courses.{Waits};
+ghost use Rattle.grep_core.specs.Blocks.{reported_bytes, counts_lines};
+ghost use Rattle.grep_core.specs.ContextPrinting.{Waits};
 ghost use Rattle.grep_core.specs.Lines.{text_lines, split_lines};
 ghost use Rattle.grep_core.specs.Report.{LineMatcher, report_as, selected};
 ghost use Rattle.grep_core.specs.Selecting.{count_selected};
 ghost use Rattle.grep_core.specs.declared.progress.Task.{Task as TheTask};
-ghost use Rattle.grep_core.specs.declared.what.What.{What as TheWhat};
+ghost use Rattle.grep_core.specs.declared.output_options.OutputOptions.{OutputOptions as TheOutputOptions};
 
 use crate::fault::Fault;
-use crate::known::Known;
-use crate::telling::Telling;
-use crate::what::What;
+use crate::output_options::OutputOptions;
+use crate::reporter::Reporter;
+use crate::separator_state::SeparatorState;
 use std::alloc::Global;
 
-/// A text of this name is searched for what is asked.
+/// A task: an input with this name is searched, and `what` says what to print.
 #[derive(Clone, Copy)]
 pub(crate) struct Task<'a> {
-    pub what: &'a What,
+    pub what: &'a OutputOptions,
     pub name: &'a [u8],
-    /// Whether the name stands before lines.
+    /// Whether the name is printed before lines.
     pub with_name: bool,
 }
 
-/// Where the next line stands, if lines are printed, and what was told of those before it.
+/// The number and offset of the next line, if lines are printed, and the state of the output after the lines before it.
 #[derive(Drop)]
 pub(crate) struct Progress {
     pub number: u64,
     pub place: u64,
-    pub telling: Telling,
+    pub telling: Reporter,
 }
 
 impl Progress {
-    /// Before the first line, where this is known of the lines of earlier texts.
-    pub(crate) fn new(alloc: Global, known: Known) -> Progress
+    /// The state before the first line, where `known` describes the lines of earlier inputs.
+    pub(crate) fn new(alloc: Global, known: SeparatorState) -> Progress
         ensures starts { (t : TheTask) → (f : LineMatcher) → (text : List ℕ) →
-            tells_lines t f result (split_lines text) ≡
+            reported_bytes t f result (split_lines text) ≡
             report_as t.what.now.print t.what.now f t.name.now t.with_name known (text_lines text)
             (selected t.what.now f (text_lines text)) }
         ensures counts { (t : TheTask) → (f : LineMatcher) → (text : List ℕ) →
             counts_lines t f result (split_lines text) ≡ count_selected (selected t.what.now f (text_lines text)) }
-        ensures waits { (w : TheWhat) → Waits w result.telling.course }
+        ensures waits { (w : TheOutputOptions) → Waits w result.telling.course }
     {
         Progress {
             number: 1,
             place: 0,
-            telling: Telling::new(alloc, known),
+            telling: Reporter::new(alloc, known),
         }
     }
 }
@@ -59,7 +59,7 @@ pub(crate) fn sum(a: u64, b: u64) -> Result<u64, Fault>
     }
 }
 
-/// Goes on behind a line of so many bytes.
+/// Advances past a line of this many bytes.
 pub(crate) fn pass(progress: &mut Progress, len: usize) -> Result<(), Fault>
     ensures number { OnOk result (progress.new.number ≡ progress.old.number + 1) }
     ensures place { OnOk result (progress.new.place ≡ progress.old.place + len + 1) }

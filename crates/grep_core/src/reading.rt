@@ -1,50 +1,51 @@
-//! A text is read in blocks, and its lines are told one after the other.
+//! Reads an input in blocks, and processes its lines one after the other.
 ghost use Rattle.std.specs.Prelude.{◌≡◌, ◌==◌, None, ◌++◌, ◌<◌, ◌≤◌, ℕ, [], List, Some, Ok, OnOk, IfOk, IfErr, IfSome, IsTrue, drop, take};
 ghost use Rattle.std.specs.Prelude.{true, false, length};
 ghost use Rattle.std.specs.Io.KnownBytes.{Appends, IsAtEnd, Keeps};
 ghost use Rattle.std.specs.List.{position};
-ghost use Rattle.grep_core.specs.Blocks.{SearchesBy, finds_by, tells_lines, counts_lines, Writes, ReadsAndWrites, WritesPart, IsOver};
-ghost use Rattle.grep_core.specs.Courses.{Waits};
+ghost use Rattle.grep_core.specs.Blocks.{SearchesBy, finds_by, reported_bytes, counts_lines, Writes, ReadsAndWrites, WritesPart, IsOver};
+ghost use Rattle.grep_core.specs.ContextPrinting.{Waits};
 ghost use Rattle.grep_core.specs.Lines.{split_lines};
 ghost use Rattle.grep_core.specs.Report.{LineMatcher, counted_as, report, selected_count};
 ghost use Rattle.grep_core.specs.Searchers.{SearchesFor, found_by};
-ghost use Rattle.grep_core.specs.Telling.{needs_spans};
+ghost use Rattle.grep_core.specs.Reporting.{needs_spans};
 ghost use Rattle.grep_core.specs.declared.progress.Task.{Task as TheTask};
 
-use crate::blocks::{tell_block, tell_one};
+use crate::blocks::{report_block, report_one};
 use crate::fault::Fault;
 use crate::feeds::feed_at;
 use crate::finder::Finder;
-use crate::held::Held;
-use crate::known::Known;
+use crate::line_buffer::LineBuffer;
+use crate::output_options::{OutputOptions, Print};
 use crate::progress::{Progress, Task};
-use crate::telling::{Telling, counted_as, is_over, tell_end};
-use crate::what::{Print, What};
+use crate::reporter::{Reporter, counted_as, is_over, report_end};
+use crate::separator_state::SeparatorState;
 use std::alloc::Global;
 use std::io::{ErrorKind, Read, Write};
 
-/// How many bytes are asked of the reader at once, at most.
+/// The greatest number of bytes that one read asks for.
 const BLOCK: usize = 65536;
 
-/// And at first, so that caches that are too small are made larger before much is searched.
+/// The greatest number of bytes that the first reads ask for. They ask for less so that caches that are too small are enlarged before much
+/// is searched.
 const FIRST_BLOCK: usize = 4096;
 
-/// How often so few are asked for.
+/// How many reads ask for the smaller number.
 const FIRST_BLOCKS: u64 = 16;
 
-/// A line may not have more bytes.
+/// The greatest number of bytes that a line may have.
 const LONGEST: usize = 1 << 30;
 
-/// What comes behind a block.
+/// What follows a block.
 #[derive(Clone, Copy)]
 enum Next {
     More,
     End,
-    /// Nothing of the next lines is told, whatever they are.
+    /// Nothing is printed for the next lines, whatever they are.
     Over,
 }
 
-/// Writes all bytes. Where it fails, those that were written begin them.
+/// Writes all bytes. On an error, the bytes that were written are a prefix of them.
 fn write_out<W: Write>(writer: &mut W, out: &[u8]) -> Result<(), Fault>
     ensures ok { OnOk result (Appends (W.contents writer.old) (W.contents writer.new) out.now) }
     ensures part { IfErr result (λ _. (n : ℕ) × Appends (W.contents writer.old) (W.contents writer.new) (take n out.now)) }
@@ -69,20 +70,21 @@ fn flush<W: Write>(writer: &mut W) -> Result<(), Fault>
     }
 }
 
-/// Whether nothing of the next lines is told.
+/// Whether nothing is printed for the next lines, whatever they are.
 fn is_task_over(task: Task<'_>, progress: &Progress) -> bool
     ensures { IsTrue result → IsOver task.entry progress.now }
 {
     is_over(task.what, &progress.telling)
 }
 
-/// Tells the whole lines of what was read, and keeps the bytes behind them. The answer says whether nothing more is told.
-fn tell_read<W: Write>(
+/// Processes the whole lines of the buffered input, writes their output, and keeps the bytes after them. Returns whether nothing more is
+/// printed.
+fn report_read<W: Write>(
     alloc: Global,
     writer: &mut W,
     finder: &mut Finder<'_>,
     task: Task<'_>,
-    read: &mut Held,
+    read: &mut LineBuffer,
     progress: &mut Progress,
 ) -> Result<bool, Fault>
     requires { Waits task.what.now progress.old.telling.course }
@@ -97,7 +99,7 @@ fn tell_read<W: Write>(
         (W.contents writer.new)) }
 {
     let mut out = Vec::new(alloc);
-    let done = match tell_block(alloc, &mut out, finder, task, progress, read.bytes()) {
+    let done = match report_block(alloc, &mut out, finder, task, progress, read.bytes()) {
         Ok(done) => done,
         Err(e) => return Err(e),
     };
@@ -109,7 +111,7 @@ fn tell_read<W: Write>(
     Ok(is_task_over(task, progress))
 }
 
-/// How many bytes are asked of the reader behind so many blocks.
+/// How many bytes the next read asks for, after this many blocks.
 fn block_len(blocks: u64) -> usize
     ensures some { 0 < result }
     ensures most { result ≤ 65536 }
@@ -120,14 +122,14 @@ fn block_len(blocks: u64) -> usize
     BLOCK
 }
 
-/// Reads one block more behind so many, and tells the lines that end in it.
+/// Reads the next block, after this many blocks, and processes the lines that end in it.
 fn next_block<R: Read, W: Write>(
     alloc: Global,
     reader: &mut R,
     writer: &mut W,
     finder: &mut Finder<'_>,
     task: Task<'_>,
-    read: &mut Held,
+    read: &mut LineBuffer,
     progress: &mut Progress,
     blocks: u64,
 ) -> Result<Next, Fault>
@@ -157,21 +159,21 @@ fn next_block<R: Read, W: Write>(
     if feed_at(&read.bytes()[before..]).is_none() {
         return Ok(Next::More);
     }
-    match tell_read(alloc, writer, finder, task, read, progress) {
+    match report_read(alloc, writer, finder, task, read, progress) {
         Ok(true) => Ok(Next::Over),
         Ok(false) => Ok(Next::More),
         Err(e) => Err(e),
     }
 }
 
-/// Reads blocks until the text ends, or nothing more is told of it. The answer says whether it ended.
-fn tell_blocks<R: Read, W: Write>(
+/// Reads blocks until the input ends, or nothing more is printed for it. Returns whether it ended.
+fn report_blocks<R: Read, W: Write>(
     alloc: Global,
     reader: &mut R,
     writer: &mut W,
     finder: &mut Finder<'_>,
     task: Task<'_>,
-    read: &mut Held,
+    read: &mut LineBuffer,
     progress: &mut Progress,
 ) -> Result<bool, Fault>
     requires waits { Waits task.what.now progress.old.telling.course }
@@ -197,8 +199,8 @@ fn tell_blocks<R: Read, W: Write>(
     Err(Fault::TooLong)
 }
 
-/// Tells a last line that no line feed ends, if there is one.
-fn tell_open_line(
+/// Processes the last line if no line feed ends it.
+fn report_open_line(
     alloc: Global,
     out: &mut Vec<u8>,
     finder: &mut Finder<'_>,
@@ -210,9 +212,9 @@ fn tell_open_line(
     requires unended { position (λ b. b == 10) rest.now ≡ None }
     ensures same { finder.new ≡ finder.old }
     ensures waits { OnOk result (Waits task.entry.what.now progress.new.telling.course) }
-    ensures told { OnOk result ((by : SearchesBy task.entry finder.old) →
-        out.old.items ++ tells_lines task.entry (finds_by task.entry by) progress.old (split_lines rest.now) ≡ out.new.items
-        ++ tells_lines task.entry (finds_by task.entry by) progress.new []) }
+    ensures reported { OnOk result ((by : SearchesBy task.entry finder.old) →
+        out.old.items ++ reported_bytes task.entry (finds_by task.entry by) progress.old (split_lines rest.now) ≡ out.new.items
+        ++ reported_bytes task.entry (finds_by task.entry by) progress.new []) }
     ensures counts { OnOk result ((by : SearchesBy task.entry finder.old) →
         counts_lines task.entry (finds_by task.entry by) progress.new []
         ≡ counts_lines task.entry (finds_by task.entry by) progress.old (split_lines rest.now)) }
@@ -220,14 +222,14 @@ fn tell_open_line(
     if rest.is_empty() {
         return Ok(());
     }
-    match tell_one(alloc, out, finder, task, progress, rest, false, false) {
+    match report_one(alloc, out, finder, task, progress, rest, false, false) {
         Ok(()) => Ok(()),
         Err(e) => Err(e),
     }
 }
 
-/// Tells all that is left of a text that has ended.
-fn tell_tail(
+/// Processes all that is left of an input that has ended.
+fn report_tail(
     alloc: Global,
     out: &mut Vec<u8>,
     finder: &mut Finder<'_>,
@@ -237,21 +239,21 @@ fn tell_tail(
 ) -> Result<(), Fault>
     requires { Waits task.what.now progress.old.telling.course }
     ensures same { finder.new ≡ finder.old }
-    ensures told { OnOk result ((by : SearchesBy task.entry finder.old) →
-        out.old.items ++ tells_lines task.entry (finds_by task.entry by) progress.old (split_lines read.now) ≡ out.new.items) }
+    ensures reported { OnOk result ((by : SearchesBy task.entry finder.old) →
+        out.old.items ++ reported_bytes task.entry (finds_by task.entry by) progress.old (split_lines read.now) ≡ out.new.items) }
     ensures counts { OnOk result ((by : SearchesBy task.entry finder.old) →
         counts_lines task.entry (finds_by task.entry by) progress.new []
         ≡ counts_lines task.entry (finds_by task.entry by) progress.old (split_lines read.now)) }
 {
-    let done = match tell_block(alloc, out, finder, task, progress, read) {
+    let done = match report_block(alloc, out, finder, task, progress, read) {
         Ok(done) => done,
         Err(e) => return Err(e),
     };
-    match tell_open_line(alloc, out, finder, task, &read[done..], progress) {
+    match report_open_line(alloc, out, finder, task, &read[done..], progress) {
         Ok(()) => {}
         Err(e) => return Err(e),
     }
-    match tell_end(
+    match report_end(
         alloc,
         out,
         task.what,
@@ -264,7 +266,7 @@ fn tell_tail(
     }
 }
 
-/// Tells all that is left of a text that has ended, and writes it.
+/// Processes all that is left of an input that has ended, and writes the output.
 fn write_tail<W: Write>(
     alloc: Global,
     writer: &mut W,
@@ -277,7 +279,7 @@ fn write_tail<W: Write>(
     ensures same { finder.new ≡ finder.old }
     ensures written { OnOk result ((by : SearchesBy task.entry finder.old) →
         Appends (W.contents writer.old) (W.contents writer.new)
-        (tells_lines task.entry (finds_by task.entry by) progress.old (split_lines read.now))) }
+        (reported_bytes task.entry (finds_by task.entry by) progress.old (split_lines read.now))) }
     ensures counts { OnOk result ((by : SearchesBy task.entry finder.old) →
         counts_lines task.entry (finds_by task.entry by) progress.new []
         ≡ counts_lines task.entry (finds_by task.entry by) progress.old (split_lines read.now)) }
@@ -285,7 +287,7 @@ fn write_tail<W: Write>(
         WritesPart task.entry (finds_by task.entry by) progress.old read.now (W.contents writer.old) (W.contents writer.new)) }
 {
     let mut out = Vec::new(alloc);
-    match tell_tail(alloc, &mut out, finder, task, read, progress) {
+    match report_tail(alloc, &mut out, finder, task, read, progress) {
         Ok(()) => {}
         Err(e) => return Err(e),
     }
@@ -295,7 +297,7 @@ fn write_tail<W: Write>(
     }
 }
 
-/// Writes what comes behind all lines.
+/// Writes what is printed after all lines.
 fn write_end<W: Write>(
     alloc: Global,
     writer: &mut W,
@@ -304,12 +306,12 @@ fn write_end<W: Write>(
 ) -> Result<(), Fault>
     requires { Waits task.what.now progress.now.telling.course }
     ensures written { OnOk result ((f : LineMatcher) → Appends (W.contents writer.old) (W.contents writer.new)
-        (tells_lines task.entry f progress.now [])) }
+        (reported_bytes task.entry f progress.now [])) }
     ensures fault { IfErr result (λ _. (f : LineMatcher) → (n : ℕ) × Appends (W.contents writer.old) (W.contents writer.new)
-        (take n (tells_lines task.entry f progress.now []))) }
+        (take n (reported_bytes task.entry f progress.now []))) }
 {
     let mut out = Vec::new(alloc);
-    match tell_end(
+    match report_end(
         alloc,
         &mut out,
         task.what,
@@ -326,7 +328,7 @@ fn write_end<W: Write>(
     }
 }
 
-/// Writes what is left of a text that has ended, or of which nothing more is told.
+/// Writes the rest of the output for an input that has ended, or for which nothing more is printed.
 fn write_rest<W: Write>(
     alloc: Global,
     writer: &mut W,
@@ -341,7 +343,7 @@ fn write_rest<W: Write>(
     ensures same { finder.new ≡ finder.old }
     ensures written { OnOk result ((by : SearchesBy task.entry finder.old) (more : List ℕ) → (ended ≡ true → more ≡ []) →
         Appends (W.contents writer.old) (W.contents writer.new)
-        (tells_lines task.entry (finds_by task.entry by) progress.old (split_lines (read.now ++ more)))) }
+        (reported_bytes task.entry (finds_by task.entry by) progress.old (split_lines (read.now ++ more)))) }
     ensures counts { OnOk result ((by : SearchesBy task.entry finder.old) (more : List ℕ) → (ended ≡ true → more ≡ []) →
         counted_as task.entry.what.now.print (counts_lines task.entry (finds_by task.entry by) progress.new [])
         ≡ counted_as task.entry.what.now.print (counts_lines task.entry (finds_by task.entry by) progress.old
@@ -361,7 +363,7 @@ fn write_rest<W: Write>(
     }
 }
 
-/// The same, and flushes.
+/// Writes the rest of the output, and flushes the writer.
 fn finish<W: Write>(
     alloc: Global,
     writer: &mut W,
@@ -376,7 +378,7 @@ fn finish<W: Write>(
     ensures same { finder.new ≡ finder.old }
     ensures written { OnOk result ((by : SearchesBy task.entry finder.old) (more : List ℕ) → (ended ≡ true → more ≡ []) →
         Appends (W.contents writer.old) (W.contents writer.new)
-        (tells_lines task.entry (finds_by task.entry by) progress.old (split_lines (read.now ++ more)))) }
+        (reported_bytes task.entry (finds_by task.entry by) progress.old (split_lines (read.now ++ more)))) }
     ensures counts { OnOk result ((by : SearchesBy task.entry finder.old) (more : List ℕ) → (ended ≡ true → more ≡ []) →
         counted_as task.entry.what.now.print (counts_lines task.entry (finds_by task.entry by) progress.new [])
         ≡ counted_as task.entry.what.now.print (counts_lines task.entry (finds_by task.entry by) progress.old
@@ -394,35 +396,37 @@ fn finish<W: Write>(
     }
 }
 
-/// How many selected lines are counted behind the last line.
+/// How many selected lines are counted after the last line.
 fn count_of(print: Print, progress: &Progress) -> u64
     ensures { (t : TheTask) → (f : LineMatcher) → result ≡ counted_as print (counts_lines t f progress.now []) }
 {
     counted_as(print, progress.telling.count)
 }
 
-/// Reads a text, line by line, and writes what is told of it. The answer is how many lines are selected; where names of texts are asked
-/// for, or nothing, one stands for all of them, since no more is read then than tells whether there is one.
+/// Reads an input line by line, and writes what is printed for it. Returns the number of selected lines. If names of inputs are asked for,
+/// or nothing, the number is at most 1. Then reading stops as soon as it is known whether a line is selected.
 ///
-/// It reads blocks of 64 KiB, and tells the lines that end in one before it reads the next; it reads no more where nothing more is told
-/// whatever comes. A line is held whole, and one above 1 GiB is refused. Where it fails, a beginning of what is told was written.
+/// It reads blocks of at most 64 KiB, and writes the output for the lines that end in a block before it reads the next one. It stops
+/// reading if nothing more will be printed, whatever follows. Each line is held in memory as a whole. A line longer than 1 GiB is rejected,
+/// and one that is up to a block shorter may be. On an error, a prefix of the output was written.
 ///
-/// What is known of the lines of earlier texts says whether a line parts the first group of lines from these.
+/// `known` says whether lines of earlier inputs were printed. It decides whether a separator line precedes the first group of lines of this
+/// input.
 ///
-/// The matches of lines are asked for where these are printed alone or marked; then no unbounded repetition of the patterns may be of what
-/// matches the empty text.
-pub fn tell_text<R: Read, W: Write>(
+/// Matches of lines are searched for if they are printed alone or marked. Precondition for that: the body of every unbounded repetition in
+/// the patterns consumes at least one byte.
+pub fn report_input<R: Read, W: Write>(
     alloc: Global,
     finder: &mut Finder<'_>,
-    what: &What,
+    what: &OutputOptions,
     name: &[u8],
     with_name: bool,
-    known: Known,
+    known: SeparatorState,
     reader: &mut R,
     writer: &mut W,
 ) -> Result<u64, Fault>
     ensures same { finder.new ≡ finder.old }
-    ensures told { OnOk result ((by : SearchesFor finder.old (needs_spans what.now)) → IfSome (R.remaining reader.old) (λ text.
+    ensures reported { OnOk result ((by : SearchesFor finder.old (needs_spans what.now)) → IfSome (R.remaining reader.old) (λ text.
         Appends (W.contents writer.old) (W.contents writer.new) (report what.now (found_by by) name.now with_name known text))) }
     ensures selected { IfOk result (λ n. (by : SearchesFor finder.old (needs_spans what.now)) → IfSome (R.remaining reader.old) (λ text.
         n ≡ counted_as what.now.print (selected_count what.now (found_by by) text))) }
@@ -436,8 +440,8 @@ pub fn tell_text<R: Read, W: Write>(
         with_name,
     };
     let mut progress = Progress::new(alloc, known);
-    let mut read = Held::new(alloc);
-    let ended = match tell_blocks(
+    let mut read = LineBuffer::new(alloc);
+    let ended = match report_blocks(
         alloc,
         reader,
         writer,

@@ -1,9 +1,9 @@
-/// What becomes of a line.
+/// The part that a line has in the output.
 #[derive(Clone, Copy, Debug, PartialEq, Eq)]
 pub enum Role {
     /// It is selected, and printed.
     Selected,
-    /// It is printed beside one that is selected.
+    /// It is printed as a context line of a selected line.
     Beside,
     /// It isn't printed.
     Hidden,

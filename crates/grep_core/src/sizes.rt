@@ -1,34 +1,34 @@
-//! How large the caches of searches are, and when they are made larger. No answer shows it.
+//! The size of the caches of searches, and when they are enlarged. It changes no answer.
 ghost use Rattle.std.specs.Prelude.{◌≡◌, ◌<◌, ◌≤◌, IfSome};
 
-/// The capacity in bytes with which caches begin.
+/// The initial capacity of a cache, in bytes.
 const FIRST: usize = 1 << 21;
 
-/// No cache is given a larger capacity.
+/// The greatest capacity of a cache, in bytes.
 const MOST: usize = 1 << 28;
 
-/// A larger capacity is so many times the last one.
+/// The factor from one capacity to the next larger one.
 const STEP: usize = 4;
 
-/// A cache is too small where it is cleared before its searches have read a byte for so many bytes that it may take. A state of an
-/// automaton takes some hundred bytes at least, so fewer than ten bytes are read for each state that is made, and making one costs far
-/// more time than reading a byte.
+/// A cache is too small if it is cleared before its searches have consumed one byte for every `SHARE` bytes of its capacity. A state of an
+/// automaton takes at least some hundred bytes. So for each state that is built, fewer than ten bytes are searched, and building a state
+/// costs far more time than searching a byte.
 const SHARE: usize = 16;
 
-/// How large the caches of a regex are, and how soon they were cleared.
+/// The size of the caches of a regex, and how soon they were cleared.
 #[derive(Clone, Copy, Debug)]
 pub(crate) struct Size {
-    /// In bytes, for each of both caches.
+    /// The capacity in bytes of each of both caches.
     pub capacity: usize,
-    /// How often they were cleared.
+    /// How often the caches were cleared.
     clears: usize,
-    /// How many bytes were searched since then.
+    /// How many bytes were searched since they were last cleared.
     searched: usize,
     too_small: bool,
 }
 
 impl Size {
-    /// Of caches that weren't searched with yet.
+    /// The size of caches that no search has used yet.
     fn of(capacity: usize) -> Size
         ensures { result.capacity ≡ capacity }
     {
@@ -40,12 +40,12 @@ impl Size {
         }
     }
 
-    /// The one with which caches begin.
+    /// The initial size of caches.
     pub(crate) fn first() -> Size {
         Size::of(FIRST)
     }
 
-    /// Keeps that so many bytes were searched, and that the caches have been cleared so often by now.
+    /// Records that this many more bytes were searched, and how often the caches have been cleared in all.
     pub(crate) fn note(&mut self, bytes: usize, clears: usize) {
         self.searched = self.searched.saturating_add(bytes);
         if clears == self.clears {
@@ -56,7 +56,7 @@ impl Size {
         self.searched = 0;
     }
 
-    /// A larger one, where this one was too small since the last call and isn't the largest.
+    /// Returns a larger size, if this one was too small since the last call and isn't the largest.
     pub(crate) fn take_larger(&mut self) -> Option<Size>
         ensures more { IfSome result (λ size. self.old.capacity < size.capacity) }
         ensures most { IfSome result (λ size. size.capacity ≤ 268435456) }

@@ -43,7 +43,7 @@ option_rows = map option_row
 pub record AddsOptions (old new : List Arg) (rows : List OptionRow) : Type 0 where
   pub added : option_rows new ≡ option_rows old ++ rows
 
--- an option whose long name is the one under which its value is held
+-- An option whose long name is the name under which its value is held.
 abbrev pub option : List ℕ → List ℕ → ArgAction → OptionRow
 option name letter action = record {
   name = name;
@@ -110,11 +110,11 @@ number_options =
     ∷ option (codes "context") (codes "C") Set
     ∷ []
 
--- a use without a value is one of `auto`
+-- A use of this option without a value counts as `auto`.
 abbrev pub color_option : OptionRow
 color_option = record (option (codes "color") [] Set) { aliases = codes "colour" ∷ []; missing = codes "auto" ∷ [] }
 
--- the words that are no option's
+-- The operands, which belong to no option.
 abbrev pub words_option : OptionRow
 words_option = record (option (codes "words") [] Append) { long = None }
 
@@ -125,7 +125,7 @@ other_options =
     ∷ flag (codes "stats") []
     ∷ option (codes "help") [] Help
     ∷ option (codes "version") (codes "V") Version
-    ∷ flag (codes "tell-input") []
+    ∷ flag (codes "report-input") []
     ∷ words_option
     ∷ []
 

@@ -10,7 +10,7 @@ use Rattle.clap.specs.declared.parser.matches.Found.{Found}
 
 -- ---- values
 
--- there is a value, and it is this text
+-- There is a value, and it is this text.
 abbrev pub is_text : List ℕ → Option (List ℕ) → Bool
 is_text text None = false
 is_text text (Some value) = bytes_eq value text
@@ -42,7 +42,7 @@ natural (negsuc n) = None
 
 -- ---- options by their names
 
--- the option was given, which takes no value: its first value reads as `true`
+-- Whether the option, which takes no value, was given: its first value is `true`.
 abbrev pub is_set : Found → List ℕ → Bool
 is_set f name = is_text (codes "true") (one_text f name)
 
@@ -56,6 +56,6 @@ integer_given f name = option_and_then integer_in (one_text f name)
 abbrev pub limit_given : Found → List ℕ → Option ℕ
 limit_given f name = option_and_then natural (integer_given f name)
 
--- all texts that were given for the option, or as no option's
-abbrev pub texts_given : Found → List ℕ → List (List ℕ)
-texts_given f name = unwrap_or (option_map raw_values (matched_of f name)) []
+-- All values that were given for the option, or all operands under the name of the operands.
+abbrev pub values_given : Found → List ℕ → List (List ℕ)
+values_given f name = unwrap_or (option_map raw_values (matched_of f name)) []

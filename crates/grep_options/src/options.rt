@@ -9,14 +9,14 @@ ghost use Rattle.grep_options.specs.CommandLine.{quiet_option, selecting_options
 use clap::{Arg, ArgAction, Command, value_parser};
 use std::alloc::{AllocError, Global};
 
-/// An option whose long name is the one under which its value is held.
+/// An option whose long name is the name under which its value is held.
 fn option<'a>(alloc: Global, id: &'a str, action: ArgAction, help: &'a str) -> Arg<'a>
     ensures { option_row result ≡ option id.entry.now [] action }
 {
     Arg::new(alloc, id).long(id).help(help).action(action)
 }
 
-/// Appends an option. It is the one function that drops one for which there is no room.
+/// Appends an option. Only this function drops an option for which there is no room.
 fn push<'a>(args: &mut Vec<Arg<'a>>, arg: Arg<'a>) -> Result<(), AllocError>
     ensures { OnOk result (AddsOptions args.old.items args.new.items (option_row arg.entry ∷ [])) }
 {
@@ -38,7 +38,7 @@ fn push_flag<'a>(
     push(args, arg.short(short))
 }
 
-/// Appends such an option that turns off another one.
+/// Appends a flag with a letter that turns off another option.
 fn push_pair<'a>(
     alloc: Global,
     args: &mut Vec<Arg<'a>>,
@@ -76,7 +76,13 @@ fn push_selecting<'a>(alloc: Global, args: &mut Vec<Arg<'a>>) -> Result<(), Allo
         'i',
         "letters match in either case",
     )?;
-    push_flag(alloc, args, "fixed-strings", 'F', "patterns are plain text")?;
+    push_flag(
+        alloc,
+        args,
+        "fixed-strings",
+        'F',
+        "patterns are strings, not regular expressions",
+    )?;
     let words = "a match neither starts nor ends inside a word";
     push_flag(alloc, args, "word-regexp", 'w', words)?;
     push_flag(alloc, args, "line-regexp", 'x', "a match is a whole line")?;
@@ -96,11 +102,11 @@ fn push_printing<'a>(alloc: Global, args: &mut Vec<Arg<'a>>) -> Result<(), Alloc
     )?;
     let matching = "print the matches that aren't empty, each as a line";
     push_flag(alloc, args, "only-matching", 'o', matching)?;
-    let silent = "don't tell of files that can't be read";
+    let silent = "suppress messages about files that can't be read";
     push_flag(alloc, args, "no-messages", 's', silent)?;
     let numbers = "print each line's number before it, counted from 1";
     push_flag(alloc, args, "line-number", 'n', numbers)?;
-    let offsets = "print the place of its first byte before it, counted from 0";
+    let offsets = "print the byte offset of its start before it, counted from 0";
     push_flag(alloc, args, "byte-offset", 'b', offsets)?;
     let recursive = "search the files of folders, and of the folders in them";
     push_flag(alloc, args, "recursive", 'r', recursive)?;
@@ -166,11 +172,11 @@ fn push_numbers<'a>(alloc: Global, args: &mut Vec<Arg<'a>>) -> Result<(), AllocE
     ensures { OnOk result (AddsOptions args.old.items args.new.items number_options) }
 {
     push_most(alloc, args)?;
-    let help = "print so many lines behind each selected one";
+    let help = "print so many lines after each selected one";
     push_number(alloc, args, "after-context", 'A', help)?;
     let help = "print so many lines before each selected one";
     push_number(alloc, args, "before-context", 'B', help)?;
-    let help = "print so many lines before and behind each selected one";
+    let help = "print so many lines before and after each selected one";
     push_number(alloc, args, "context", 'C', help)
 }
 
@@ -217,12 +223,13 @@ fn push_help<'a>(alloc: Global, args: &mut Vec<Arg<'a>>) -> Result<(), AllocErro
     push(args, arg.short('V'))
 }
 
-/// What the script gives that runs the program unproved: such a run has no terminal, so the script has to know whether one was wanted.
+/// Appends the option of the script that runs the program unproved. Such a run has no terminal, so the script has to know whether one was
+/// wanted.
 fn push_hidden<'a>(alloc: Global, args: &mut Vec<Arg<'a>>) -> Result<(), AllocError>
-    ensures { OnOk result (AddsOptions args.old.items args.new.items (flag (codes "tell-input") [] ∷ [])) }
+    ensures { OnOk result (AddsOptions args.old.items args.new.items (flag (codes "report-input") [] ∷ [])) }
 {
-    let help = "tell where standard input is read";
-    let arg = option(alloc, "tell-input", ArgAction::SetTrue, help);
+    let help = "report where standard input is read";
+    let arg = option(alloc, "report-input", ArgAction::SetTrue, help);
     push(args, arg.hide(true))
 }
 
@@ -246,7 +253,7 @@ fn push_others<'a>(alloc: Global, args: &mut Vec<Arg<'a>>) -> Result<(), AllocEr
     let help = "a carriage return before the line feed belongs to the end of a line";
     push_long(alloc, args, "crlf", help)?;
     let help =
-        "tell on standard error, at the end, how many lines were selected and what the search took";
+        "print to standard error, at the end, how many lines were selected and what the search took";
     push_long(alloc, args, "stats", help)?;
     push_help(alloc, args)?;
     push_hidden(alloc, args)?;

@@ -5,7 +5,7 @@ ghost use Rattle.grep_options.specs.Options.{integer_given, is_set, limit_given,
 
 use clap::ArgMatches;
 
-/// Whether the option was given, which takes no value.
+/// Whether the option, which takes no value, was given.
 pub fn is_set(matches: &ArgMatches<'_>, name: &str) -> bool
     ensures { result ≡ is_set (found_of matches.now) name.now }
 {

@@ -30,7 +30,7 @@ module _ (E : Bx) where
   closed d = record { ptr = d.at; alloc = d.alloc; value = d.value }
 
   module _ {M : Type 1} {𝓤 : Ura M} {𝓛 : Logic 𝓤} {K : Type 0} {Γ : List (Item 𝓤)} {G : Goal 𝓤 𝓛.H} where
-    -- what is owned of a box tells its machine value
+    -- what is owned of a box determines its machine value
     pub box_word : K → (d : D E) (vs : List Val)
         → ((b o : ℕ) (hv : Val) → vs ≡ word E hv b o ∷ [] → Fits E.al hv → Seq K 𝓛 (‵ ((B E).own_val d (word E hv b o ∷ [])) ∷ Γ) G)
         → Seq K 𝓛 (‵ ((B E).own_val d vs) ∷ Γ) G

@@ -1,7 +1,7 @@
--- What the calls answer, in terms of the texts and options of which a handle's regex is made.
+-- What the results of the calls mean, in terms of the patterns and options from which a handle's regex is made.
 use Rattle.std.specs.Prelude.{◌≡◌, ◌≢◌, ◌<◌, ℕ, List, true, false, Option, Some, None, length}
-use Rattle.capi.specs.Compiled.{Regexed, config_by, IsTold, HasFoundStart, HasFoundSpan, AreAll, AreFirstOfAll, AreMarked}
-use Rattle.capi.specs.Compiled.{IsCallRefused, IsSearchRefused, IsWhichRefused}
+use Rattle.capi.specs.Compiled.{Regexed, config_by, IsReported, HasFoundStart, HasFoundSpan, AreAll, AreFirstOfAll, AreMarked}
+use Rattle.capi.specs.Compiled.{IsCallError, IsSearchError, IsMatchingPatternsError}
 use Rattle.capi.specs.Lists.{AreListed, AreFirstListed}
 use Rattle.capi.specs.Failures.{failure_of_new, failure_of_search, without_cause}
 use Rattle.capi.specs.declared.failure.Failure.{Failure}
@@ -10,33 +10,36 @@ use Rattle.capi.specs.declared.failure.NewError.{NewError}
 use Rattle.capi.specs.declared.failure.SearchError.{SearchError}
 use Rattle.capi.specs.declared.options.Options.{Options}
 
--- a status that isn't 0 tells why there is no regex of these texts; which cause a text is refused for is told by words alone
-abbrev pub RefusesNew : Options → List ℕ → List ℕ → Failure → Type 0
-RefusesNew o lengths texts f =
-    f.status ≢ 0 → (e : NewError) × (without_cause f ≡ failure_of_new e) × IsCallRefused o lengths texts e
+-- A status that isn't 0 says why no regex is made from these patterns. The cause for which a pattern is rejected is left open, since only
+-- messages depend on it.
+abbrev pub RejectsNew : Options → List ℕ → List ℕ → Failure → Type 0
+RejectsNew o lengths texts f =
+    f.status ≢ 0 → (e : NewError) × (without_cause f ≡ failure_of_new e) × IsCallError o lengths texts e
 
--- a status above 1 tells why the search tells nothing of the haystack
-abbrev pub RefusesSearch : Regexed → List ℕ → Failure → Type 0
-RefusesSearch v h f = 1 < f.status → (e : SearchError) × (f ≡ failure_of_search e) × IsSearchRefused (config_by v) h e
+-- A status above 1 says why the search of the haystack failed.
+abbrev pub FailsSearch : Regexed → List ℕ → Failure → Type 0
+FailsSearch v h f = 1 < f.status → (e : SearchError) × (f ≡ failure_of_search e) × IsSearchError (config_by v) h e
 
--- the same where patterns are marked
-abbrev pub RefusesWhich : Regexed → List ℕ → List ℕ → Failure → Type 0
-RefusesWhich v h marks f =
-    1 < f.status → (e : SearchError) × (f ≡ failure_of_search e) × IsWhichRefused (config_by v) v.texts h marks e
+-- A status above 1 says why the search for the patterns that match failed.
+abbrev pub FailsMatchingPatterns : Regexed → List ℕ → List ℕ → Failure → Type 0
+FailsMatchingPatterns v h marks f =
+    1 < f.status → (e : SearchError) × (f ≡ failure_of_search e) × IsMatchingPatternsError (config_by v) v.texts h marks e
 
--- a status of 0 says that there is a match, and one of 1 that there is none
+-- A status of 0 says that there is a match, and one of 1 that there is none.
 pub record AnswersIsMatch (v : Regexed) (h : List ℕ) (status : ℕ) : Type 0 where
-  pub some : status ≡ 0 → IsTold (config_by v) v.texts h true
-  pub none : status ≡ 1 → IsTold (config_by v) v.texts h false
+  pub some : status ≡ 0 → IsReported (config_by v) v.texts h true
+  pub none : status ≡ 1 → IsReported (config_by v) v.texts h false
 
--- the leftmost match from a place on, of the first pattern that matches there; where repetitions read, the preferred one
+-- The result is the leftmost match from an offset on, of the first pattern that matches there. If the body of every unbounded repetition
+-- consumes at least one byte, it is the preferred one.
 pub record AnswersFind (v : Regexed) (h : List ℕ) (from : ℕ) (found : FoundMatch) (status : ℕ) : Type 0 where
   pub some : status ≡ 0 → HasFoundStart (config_by v) v.texts h from (Some found)
   pub preferred : status ≡ 0 → v.loops ≡ true → HasFoundSpan (config_by v) v.texts h from (Some found)
   pub none : status ≡ 1 → HasFoundStart (config_by v) v.texts h from None
 
--- So many matches were counted, and the first of them lie in the rows. Where the call succeeds these are all: all that the matcher finds
--- where repetitions read, and whatever they read one after the other until none follows. Where it fails they are the first ones.
+-- `n` matches were counted, and the first of them are in the rows. If the call succeeds, these are all matches. If the body of every
+-- unbounded repetition consumes at least one byte, they are those that the matcher finds. In any case each match comes next after the one
+-- before it, and none follows the last. If the call fails, they are the first matches.
 pub record AnswersAll (v : Regexed) (h : List ℕ) (n : ℕ) (old new : List FoundMatch) (status : ℕ) : Type 0 where
   pub any : status ≡ 0 → 0 < n
   pub all : status < 2 → v.loops ≡ true → AreAll (config_by v) v.texts h n old new
@@ -44,7 +47,7 @@ pub record AnswersAll (v : Regexed) (h : List ℕ) (n : ℕ) (old new : List Fou
   pub first : 1 < status → v.loops ≡ true → AreFirstOfAll (config_by v) v.texts h n old new
   pub begun : 1 < status → AreFirstListed (config_by v) v.texts h n old new
 
--- so many patterns that match, which are marked
+-- `n` patterns match, and these are marked.
 pub record AnswersWhichMatch (v : Regexed) (h : List ℕ) (n : ℕ) (marks : List ℕ) (status : ℕ) : Type 0 where
   pub any : status ≡ 0 → 0 < n
   pub marked : status < 2 → AreMarked (config_by v) v.texts h n marks

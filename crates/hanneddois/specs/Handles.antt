@@ -8,7 +8,7 @@ use Rattle.std.specs.declared.alloc.Global.{Global}
 use Rattle.std.specs.contracts.impls.GlobalAllocator.TheImpl.{ghosts}
 use Rattle.capi.specs.contracts.compiled.Compiled.{the_row}
 
--- null holds nothing, and else what a box of a compiled regex owns is held
+-- A null pointer holds nothing. Any other pointer holds what a box of a compiled regex owns.
 abbrev pub held : Ptr → Option the_row.Denot → Fml
 held p None = fex (p ≡ null_ptr) (λ _. ftrue)
 held p (Some v) = fex Global (λ a. box_owns (ghosts.dealloc_token a) the_row p v)

@@ -5,7 +5,7 @@ ghost use Rattle.std.specs.Box.Ownership.{box_owns};
 use std::alloc::Allocator;
 use std::marker::Model;
 
-/// What a box is made of. It owns what the box owned.
+/// The parts of a box. They own what the box owned.
 pub(crate) struct Apart<T, A: Allocator> {
     pub(crate) at: *mut T,
     pub(crate) alloc: A,

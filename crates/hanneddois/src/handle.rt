@@ -1,4 +1,4 @@
-//! What a caller of C holds: nothing, or the memory of a compiled regex.
+//! What a caller from C holds: nothing, or the memory of a compiled regex.
 ghost use Rattle.std.specs.Prelude.{◌≡◌, Some, None, Option};
 ghost use Rattle.std.specs.Option.{MatchOption};
 ghost use Rattle.capi.specs.Compiled.{Regexed};
@@ -25,14 +25,14 @@ impl Model for Handle {
 }
 
 impl Handle {
-    /// Nothing.
+    /// A handle that holds nothing.
     fn empty() -> Handle
         ensures { result.value ≡ None }
     {
         Handle { inside: null_mut() }
     }
 
-    /// What the parts of a box own.
+    /// A handle that owns what the parts of a box own.
     fn of_apart(apart: Apart<Compiled, Global>) -> Handle
         ensures { result.value ≡ Some apart.value }
     {
@@ -42,7 +42,7 @@ impl Handle {
         }
     }
 
-    /// The parts of the box that it holds.
+    /// The parts of the box that the handle holds, if any.
     fn into_apart(self, alloc: Global) -> Option<Apart<Compiled, Global>>
         ensures { MatchOption result (self.value ≡ None) (λ a. self.value ≡ Some a.value) }
     {
@@ -72,7 +72,7 @@ impl Handle {
         }
     }
 
-    /// Takes out what it holds.
+    /// Takes out what the handle holds, and leaves it empty.
     pub fn take(&mut self, alloc: Global) -> Option<Box<Compiled>>
         ensures taken { MatchOption result (self.old.value ≡ None) (λ b. self.old.value ≡ Some b.value) }
         ensures empty { self.new.value ≡ None }
@@ -80,7 +80,7 @@ impl Handle {
         mem::replace(self, Handle::empty()).into_box(alloc)
     }
 
-    /// Makes it hold this. What it held is freed.
+    /// Makes the handle hold this regex. What it held before is freed.
     pub fn put(&mut self, alloc: Global, inside: Box<Compiled>)
         ensures { self.new.value ≡ Some inside.value }
     {

@@ -1,4 +1,4 @@
--- A loop from a slice's last element to its first: what it has met is the end of the slice, turned round.
+-- A loop from a slice's last element to its first: what it has met is the end of the slice, reversed.
 use Rattle.std.proofs.Common.{◌≡◌, List, [], ◌∷◌, ◌++◌, map, Option, None, ap, ◌∙◌}
 use Rattle.std.specs.Prelude.{reverse}
 use Rattle.std.specs.Iterator.{Yields}
@@ -15,7 +15,7 @@ use Rattle.hir_core.specs.Backward.{met_backward}
 pub behind_more : {A : Type 0} (met : List (Bor A)) (x : Bor A) → met_backward (met ++ x ∷ []) ≡ x.now ∷ met_backward met
 behind_more met x = ap reverse (map-append (λ y. y.now) met (x ∷ [])) ∙ reverse-append (map (λ y. y.now) met) (x.now ∷ [])
 
--- at the end all was met
+-- at the end all were met
 pub behind_all : {A : Type 0} (subs : List A) (s t u : Rev (Iter A)) (met : List (Bor A)) (r : Option (Bor A)) →
     iter_rest (rev_source s) ≡ subs → Yields (rev_steps iter_steps_back) s met t → r ≡ None → rev_steps iter_steps_back t r u →
     met_backward met ≡ subs

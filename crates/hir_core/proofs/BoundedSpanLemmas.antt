@@ -1,4 +1,4 @@
--- In a valid text a span that isn't empty, of a tree that is seen to be UTF-8, starts and ends at boundaries.
+-- In valid UTF-8, a span that isn't empty, of a tree that is seen to be UTF-8, starts and ends at boundaries.
 use Rattle.std.proofs.Common.{◌≡◌, ℕ, ◌+◌, ◌-◌, ◌<◌, ◌≤◌, true, List, ◌++◌, length, take, drop, sym, ap, subst, ◌∙◌, arith, drop-drop}
 use Rattle.std.proofs.lemmas.List.{take-append-drop}
 use Rattle.search_core.specs.Utf8.{IsValidText, IsSplit, is_boundary}

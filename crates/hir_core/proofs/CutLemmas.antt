@@ -208,7 +208,7 @@ module _ (looks : Looks) (h : List ℕ) (e : ℕ) where
         then_cuts x cuts (between greedy (preferred_ends looks (take e h) x) low most) (between greedy (preferred_ends looks h x) low most)
         (between_cuts low most) (ends_forward looks h (repetition low (Some most) greedy x)) i p
 
-    -- the bytes that are left in the whole are rounds enough for what is cut
+    -- as many rounds as bytes are left in the whole are enough for what is cut
     at_least_cuts : IsAboveZero (minimum_len x) → (low i : ℕ) → i ≤ e →
         at_least (take e h) greedy (preferred_ends looks (take e h) x) low i ≡ kept e (at_least h greedy (preferred_ends looks h x) low i)
     at_least_cuts a zero i p =

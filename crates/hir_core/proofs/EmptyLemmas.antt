@@ -1,4 +1,4 @@
--- An empty span of a tree, wherever it is, is one that the tree means without bytes where each look holds.
+-- An empty span of a tree, wherever it is, is one that the tree means without bytes if each look holds.
 use Rattle.std.proofs.Common.{◌≡◌, ℕ, zero, suc, ◌-◌, ◌≤◌, List, [], ◌∷◌, take, drop, inl, inr, refl, arith}
 use Rattle.std.proofs.lemmas.List.{length-take}
 use Rattle.search_core.proofs.ForCallers.{spelling_some}

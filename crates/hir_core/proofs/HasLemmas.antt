@@ -1,4 +1,4 @@
--- Members of lists of ends: of a joined list, and of the lists of several places joined.
+-- Members of lists of ends: of a joined list, and of the lists of several offsets joined.
 use Rattle.std.proofs.Common.{◌≡◌, ℕ, Bool, true, false, cond, List, [], ◌∷◌, ◌++◌, ◌⊎◌, inl, inr, refl, sym, ap, ◌∙◌, subst}
 use Rattle.std.proofs.lemmas.List.Concat.{flat_map-append}
 use Rattle.std.specs.List.{flat_map}

@@ -1,4 +1,4 @@
--- Lists of ends of which those above a place are left out.
+-- Lists of ends of which those above an offset are left out.
 use Rattle.std.proofs.Common.{◌≡◌, ℕ, ◌<◌, ◌≤◌, leb, Bool, true, false, List, [], ◌∷◌, ◌++◌, length, inl, inr, refl, sym, ap, ap₂, ◌∙◌}
 use Rattle.std.proofs.Common.{subst, arith}
 use Rattle.std.specs.List.{flat_map, filter}
@@ -49,7 +49,7 @@ module _ (e : ℕ) where
   none_kept [] above = refl
   none_kept (x ∷ xs) above = drops_first x xs (above x (inl refl)) ∙ none_kept xs (λ j g. above j (inr g))
 
-  -- from a place above e no list leads back
+  -- from an offset above e no list leads back
   pub flat_map_kept : (f g : Ends) → ((k : ℕ) → k ≤ e → f k ≡ kept e (g k)) → ((k j : ℕ) → Has (g k) j → k ≤ j) →
       (xs : List ℕ) → flat_map f (kept e xs) ≡ kept e (flat_map g xs)
   flat_map_kept f g same forward [] = refl

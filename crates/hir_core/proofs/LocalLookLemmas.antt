@@ -1,4 +1,4 @@
--- What a tree means from a place on depends on how looks are read from there to the end of the bytes, and nowhere else.
+-- What a tree means from an offset on depends on how looks are read from there to the end of the bytes, and nowhere else.
 use Rattle.std.proofs.Common.{◌≡◌, ℕ, zero, suc, ◌-◌, ◌≤◌, Bool, cond, List, [], ◌∷◌, ◌++◌, length, take, Option, Some, None, refl, ap, ◌∙◌}
 use Rattle.std.proofs.Common.{subst, arith}
 use Rattle.std.proofs.lemmas.List.{length-take}
@@ -14,7 +14,7 @@ use Rattle.hir_core.proofs.SpanLemmas.{span_forward, span_within}
 use Rattle.hir_core.proofs.PreferredEndsLemmas.{preferred_ends_sound, preferred_ends_complete}
 use Rattle.hir_core.proofs.CutLemmas.{cut_to_whole, whole_to_cut}
 
--- two bodies with the same ends at each place of a set, from which no end leads out
+-- two bodies with the same ends at each offset of a set, from which no end leads out
 module _ (In : ℕ → Type 0) (greedy : Bool) (b c : Ends) (same : (i : ℕ) → In i → b i ≡ c i)
     (stays : (i j : ℕ) → In i → Has (b i) j → In j) where
   flat_same : (p q : Ends) → ((i : ℕ) → In i → p i ≡ q i) → (i : ℕ) → In i → flat_map p (b i) ≡ flat_map q (c i)
@@ -73,7 +73,7 @@ module _ (f g : Looks) (h : List ℕ) (s : ℕ) where
       ap (λ xs. xs ++ preferred_ends f h y i) (same_ends_from x (λ l e. a l (union_left (looks_used x) (looks_used y) l e)) i here)
       ∙ ap (λ xs. preferred_ends g h x i ++ xs) (same_ends_from y (λ l e. a l (union_right (looks_used x) (looks_used y) l e)) i here)
 
--- in a haystack of which the places from s to e are searched
+-- in a haystack of which the offsets from s to e are searched
 module _ (f g : Looks) (h : List ℕ) (s e : ℕ) (fits : e ≤ length h) where
   cut_length : length (take e h) ≡ e
   cut_length = omega (arith, length-take e h)

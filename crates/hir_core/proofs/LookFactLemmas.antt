@@ -1,4 +1,4 @@
--- The sets of looks of a tree: those that hold at the start and the end of each span, and all that stand in it.
+-- The sets of looks of a tree: those that hold at the start and the end of each span, and all that are in it.
 use Rattle.std.proofs.Common.{◌≡◌, ℕ, zero, suc, ◌≤◌, ◌⊎◌, ⊎_elim, true, List, Option, Some, None, refl, sym, ap, subst, ◌∙◌, inl, inr}
 use Rattle.std.proofs.Common.{arith}
 use Rattle.std.proofs.Math.Bool.{or-true}

@@ -55,7 +55,7 @@ module _ (f g : Looks) (h : List ℕ) where
   same_meaning (alt x y) a i j (inl m) = inl (same_meaning x (λ l e. a l (union_left (looks_used x) (looks_used y) l e)) i j m)
   same_meaning (alt x y) a i j (inr m) = inr (same_meaning y (λ l e. a l (union_right (looks_used x) (looks_used y) l e)) i j m)
 
--- two bodies with the same ends at each place
+-- two bodies with the same ends at each offset
 module _ (greedy : Bool) (b c : Ends) (same : (i : ℕ) → b i ≡ c i) where
   flat_same : (p q : Ends) → ((i : ℕ) → p i ≡ q i) → (i : ℕ) → flat_map p (b i) ≡ flat_map q (c i)
   flat_same p q each i = flat_map_same p q (b i) (λ k r. each k) ∙ ap (flat_map q) (same i)

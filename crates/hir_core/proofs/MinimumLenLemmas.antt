@@ -71,6 +71,6 @@ module _ (looks : Looks) (h : List ℕ) where
   above_zero None i j a l = elim a [ ]
   above_zero (Some n) i j a l = omega arith
 
-  -- a span of a tree whose minimum length is above 0 reads a byte
+  -- a span of a tree whose minimum length is above 0 consumes a byte
   pub reads_a_byte : (x : Tree) → IsAboveZero (minimum_len x) → (i j : ℕ) → Means looks h x i j → i < j
   reads_a_byte x a i j m = above_zero (minimum_len x) i j a (minimum_len_sound x i j m)

@@ -70,7 +70,7 @@ preferred_ends_sound looks h (alt x y) i j g = elim (Has-append (preferred_ends 
   | inr b ↦ inr (preferred_ends_sound looks h y i j b)
 ]
 
--- A round that reads nothing may be left out, so no more rounds are needed than bytes are left.
+-- A round that consumes nothing may be left out, so no more rounds are needed than bytes are left.
 rounds_within : (h : List ℕ) (R : ℕ → ℕ → Type 0) → ((i j : ℕ) → R i j → IsSpan h i j) →
     (n i j : ℕ) → Rounds R n i j → (m : ℕ) × (m ≤ length h - i) × Rounds R m i j
 rounds_within h R span zero i j r = (0, omega arith, r)

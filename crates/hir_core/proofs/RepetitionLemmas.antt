@@ -70,7 +70,7 @@ pub repetition_more_bounded : (looks : Looks) (h : List ℕ) (greedy : Bool) (x 
     ≡ in_order greedy (flat_map (preferred_ends looks h (repetition 0 (Some most) greedy x)) (preferred_ends looks h x i)) i
 repetition_more_bounded looks h greedy x most i = refl
 
--- each round of a body whose minimum length is above 0 reads
+-- each round of a body whose minimum length is above 0 consumes a byte
 pub rounds_read : (looks : Looks) (h : List ℕ) (x : Tree) → IsAboveZero (minimum_len x) → (i k : ℕ) → Has (preferred_ends looks h x i) k →
     (i < k) × (k ≤ length h)
 rounds_read looks h x a i k r =

@@ -8,14 +8,14 @@ use Rattle.hir_core.specs.PreferredEnds.{Ends, preferred_ends}
 use Rattle.hir_core.specs.Facts.{minimum_len, maximum_len, is_utf8_tree, look_set, look_set_prefix, look_set_suffix, looks_used, height}
 use Rattle.hir_core.specs.Facts.{count, list_count, is_ascending}
 
--- with words as bytes of ASCII, and lines that end at a line feed
+-- with words as ASCII bytes, and lines that end at a line feed
 abbrev ends : List ℕ → Tree → Ends
 ends h x = preferred_ends (holds_ascii (one_of 0x0A) h) h x
 
 abbrev a : Tree
 a = literal (codes "a")
 
--- `a*` takes as many as there are, and gives them back one by one; `a*?` the other way round
+-- `a*` takes as many as there are, and gives them back one by one; `a*?` vice versa
 greedy_rounds : ends (codes "aab") (repetition 0 None true a) 0 ≡ 2 ∷ 1 ∷ 0 ∷ []
 greedy_rounds = refl
 
@@ -40,11 +40,11 @@ later_part_second = refl
 empty_part_first : ends (codes "ab") (alternation (empty ∷ a ∷ [])) 0 ≡ 0 ∷ 1 ∷ []
 empty_part_first = refl
 
--- `(|a)*` on "a": a round that reads nothing finds an end again, and hides none
+-- `(|a)*` on "a": a round that consumes nothing finds an end again, and hides none
 empty_rounds : ends (codes "a") (repetition 0 None true (alternation (empty ∷ a ∷ []))) 0 ≡ 0 ∷ 1 ∷ 0 ∷ []
 empty_rounds = refl
 
--- a concatenation of no parts reads nothing, and an alternation of no parts has no end
+-- a concatenation of no parts consumes nothing, and an alternation of no parts has no end
 no_part_no_byte : ends (codes "a") (concat []) 1 ≡ 1 ∷ []
 no_part_no_byte = refl
 
@@ -86,7 +86,7 @@ ranges_meet = refl
 range_turned_round : is_ascending ((57, 48) ∷ []) ≡ false
 range_turned_round = refl
 
--- `\bsam\b`: no byte of a word beside the place behind `sam`
+-- `\bsam\b`: no byte of a word is next to the offset after `sam`
 abbrev whole_word : Tree
 whole_word = concat (look WordAscii ∷ literal (codes "sam") ∷ look WordAscii ∷ [])
 
@@ -96,7 +96,7 @@ word_alone = refl
 word_goes_on : ends (codes "samwise") whole_word 0 ≡ []
 word_goes_on = refl
 
--- a look reads nothing: `^` at the start and behind it
+-- a look consumes nothing: `^` at the start and after it
 start_at_start : ends (codes "ab") (look Start) 0 ≡ 0 ∷ []
 start_at_start = refl
 
@@ -148,7 +148,7 @@ part_without_bound = refl
 no_part_maximum_len : maximum_len (alternation []) ≡ None
 no_part_maximum_len = refl
 
--- a class of bytes is seen to be UTF-8 where it has ASCII alone
+-- a class of bytes is seen to be UTF-8 if it has ASCII alone
 class_of_ascii : is_utf8_tree (byte_class ((0, 0x7F) ∷ [])) ≡ true
 class_of_ascii = refl
 

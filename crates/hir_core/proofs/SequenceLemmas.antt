@@ -554,7 +554,7 @@ string_spells p rs s k e i =
     let o = in_spelled p.0 p.1 s k (ap (λ r. is_in_ranges r s) e ∙ i) in
     (o.0, o.1, o.2, encoded_spells o.0 s (IsScalar-of_range o.0 (piece_scalars p.0 p.1 o.0 k o.1 o.2)) (encoded o.0 ∙ o.3))
 
--- the string at a place is a spelling of a scalar of the place's piece
+-- the string at an index is a spelling of a scalar of the piece at that index
 module _ (lo hi i : ℕ) (rs : List (ℕ × ℕ)) (s : List ℕ) (e : slice_get (utf8_sequences lo hi) i ≡ Some rs)
     (m : is_in_ranges rs s ≡ true) where
   string_piece : (p : ℕ × ℕ) × (slice_get (pieces lo hi) i ≡ Some p) × IsPieceOf lo hi p × SpelledOf p s

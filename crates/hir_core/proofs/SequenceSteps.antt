@@ -31,7 +31,7 @@ module _ (rs : List Utf8Range) (bs : List ℕ) (i : ℕ) (all : Bool) (e : all �
         e ∙ ap (λ x. begins_in_ranges (map bytes_of x) (drop i bs)) (drop_more rs i d l)
         ∙ ap (begins_in_ranges (map bytes_of (get_or rs i d ∷ drop (i + 1) rs))) (drop_more bs i 0 p)
 
--- ---- ranges turned round
+-- ---- reversed ranges
 map_append : (xs ys : List Utf8Range) → map bytes_of (xs ++ ys) ≡ map bytes_of xs ++ map bytes_of ys
 map_append [] ys = refl
 map_append (x ∷ xs) ys = ap (λ l. bytes_of x ∷ l) (map_append xs ys)
@@ -127,7 +127,7 @@ pub pieces_none : (most lo hi : ℕ) → min hi 0x10FFFF < scalar_from lo → pi
 pieces_none zero lo hi l = refl
 pieces_none (suc most) lo hi l = by_fault _ _ (lt-leb (scalar_from lo) (min hi 0x10FFFF) l)
 
--- how many pieces are allowed makes no difference, where it is enough
+-- how many pieces are allowed makes no difference, if it is enough
 enough : (f g lo hi : ℕ) → hi + 1 - lo ≤ f → hi + 1 - lo ≤ g → pieces_of f lo hi ≡ pieces_of g lo hi
 enough zero g lo hi a b = sym (pieces_none g lo hi (omega (arith, scalar_above lo)))
 enough (suc f) zero lo hi a b = pieces_none (suc f) lo hi (omega (arith, scalar_above lo))

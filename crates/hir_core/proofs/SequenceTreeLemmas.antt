@@ -1,5 +1,5 @@
--- The ends of a class of scalars are those of its sequences. A sequence ends where its bytes begin the rest of the haystack;
--- a piece's sequence ends where the character there is of the piece; pieces, and ranges that ascend, share no character.
+-- The ends of a class of scalars are those of its sequences. A sequence ends where its bytes begin the rest of the haystack. A piece's
+-- sequence ends if the character there is of the piece. Pieces, and ranges that ascend, share no character.
 use Rattle.std.proofs.Common.{◌≡◌, ℕ, zero, suc, ◌+◌, ◌-◌, ◌≤◌, ◌⊎◌, inl, inr, Bool, true, false, cond, ◌&&◌, ◌||◌, leb, List, [], ◌∷◌}
 use Rattle.std.proofs.Common.{◌++◌, map, length, take, drop, slice_get, Option, Some, None, refl, sym, ap, ap₂, subst, ◌∙◌, ⊎_elim, arith}
 use Rattle.std.proofs.Common.{length-append}
@@ -107,7 +107,7 @@ one_member p c l m = ap (λ t. t || false) (and_from _ _ (le-leb p.0 c l) (le-le
 pub member_of_one : (p : ℕ × ℕ) (c : ℕ) → is_member (p ∷ []) c ≡ true → (p.0 ≤ c) × (c ≤ p.1)
 member_of_one p c e = elim (member_cases p [] c e) [ inl a ↦ a | inr b ↦ absurd (never b) ]
 
--- where the bytes are begun so, the character is of the piece
+-- if the bytes are begun so, the character is of the piece
 piece_begun : (h : List ℕ) (i : ℕ) (p : ℕ × ℕ) → IsPiece p.0 p.1 → begins_in_ranges (byte_ranges p) (drop i h) ≡ true →
     (c : ℕ) × (character_at h i ≡ Some c) × (is_member (p ∷ []) c ≡ true) × (spelling_len c ≡ length (byte_ranges p))
 piece_begun h i p k e =
@@ -122,7 +122,7 @@ piece_begun h i p k e =
     } in
     (c.0, begun_character h i c.0 first, one_member p c.0 c.1 c.2, sym (spelling_has_len c.0 _ c.3) ∙ in_length (byte_ranges p) _ inside)
 
--- and where the character is of the piece, they are
+-- and if the character is of the piece, they are
 piece_begins : (h : List ℕ) (i c : ℕ) (p : ℕ × ℕ) → IsPiece p.0 p.1 → character_at h i ≡ Some c → is_member (p ∷ []) c ≡ true →
     begins_in_ranges (byte_ranges p) (drop i h) ≡ true
 piece_begins h i c p k e m =

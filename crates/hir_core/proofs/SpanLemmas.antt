@@ -8,7 +8,7 @@ use Rattle.hir_core.specs.Tree.{Tree, empty, literal, byte_class, char_class, lo
 use Rattle.hir_core.specs.Means.{Looks, Means, Rounds, stands}
 use Rattle.hir_core.specs.Spans.{IsSpan}
 
--- bytes that stand at i begin the rest of the haystack
+-- bytes that are at i begin the rest of the haystack
 pub stands_begin : (h : List ℕ) (i : ℕ) (bytes : List ℕ) → stands h i bytes ≡ true → drop i h ≡ bytes ++ drop (i + length bytes) h
 stands_begin h i bytes t =
     (starts_is Decides-eqb (drop i h) bytes true (sym t)).0 refl ∙ ap (λ rest. bytes ++ rest) (drop-drop (length bytes) i h)

@@ -1,4 +1,4 @@
--- Spans that spell a character of a class: what the character at a place says, and the lengths of spellings.
+-- Spans that spell a character of a class: what the character at an offset says, and the lengths of spellings.
 use Rattle.std.proofs.Common.{◌≡◌, ℕ, ◌+◌, ◌-◌, ◌≤◌, ◌⊎◌, inl, inr, true, ◌&&◌, List, ◌∷◌, length, take, drop, slice_range, Option, Some}
 use Rattle.std.proofs.Common.{None, leb, refl, sym, ap, ◌∙◌, subst, arith, length-append, length-drop}
 use Rattle.std.proofs.lemmas.Bool.{leb-true, and_parts, or_cases}
@@ -10,7 +10,7 @@ use Rattle.hir_core.specs.Means.{SpellsMember, is_member}
 use Rattle.hir_core.specs.PreferredEnds.{character_end, Has}
 use Rattle.hir_core.proofs.HasLemmas.{Has-if, Has-then}
 
--- a spelling at a place is the span of so many bytes from there
+-- a spelling at an offset is the span of so many bytes from there
 span_of_spelling : (h : List ℕ) (i c j : ℕ) (f : SpellsFirst c (drop i h)) → i + spelling_len c ≡ j → (j ≤ length h) ×
     (slice_range h i j ≡ f.spelling)
 span_of_spelling h i c j f e =

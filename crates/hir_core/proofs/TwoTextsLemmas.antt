@@ -64,8 +64,8 @@ module _ (f g : Looks) (h k : List ℕ) (s e : ℕ) (len : length h ≡ length k
   carries (alt x y) a i j l t (inl m) = inl (carries x (λ o u. a o (union_left (looks_used x) (looks_used y) o u)) i j l t m)
   carries (alt x y) a i j l t (inr m) = inr (carries y (λ o u. a o (union_right (looks_used x) (looks_used y) o u)) i j l t m)
 
--- Two haystacks with the same bytes from s to e, and readings that agree at the places from s to e: the agreement behind e
--- doesn't count, as the bytes are cut there.
+-- Two haystacks with the same bytes from s to e, and readings that agree at the offsets from s to e. The agreement after e doesn't count,
+-- as the bytes are cut there.
 module _ (f g : Looks) (h k : List ℕ) (s e : ℕ) (fits : e ≤ length h) (fits_too : e ≤ length k)
     (same : drop s (take e h) ≡ drop s (take e k)) where
   cut_tails : (i : ℕ) → s ≤ i → drop i (take e h) ≡ drop i (take e k)

@@ -1,4 +1,4 @@
--- Where `is_utf8_tree` holds, each span is a joining of spellings.
+-- If `is_utf8_tree` holds, each span is a concatenation of spellings.
 use Rattle.std.proofs.Common.{◌≡◌, ℕ, zero, suc, ◌+◌, ◌-◌, ◌≤◌, ◌<◌, ⊎_elim, true, ltb, List, [], ◌∷◌, ◌++◌, length, take, drop, slice_get}
 use Rattle.std.proofs.Common.{slice_range, Some, refl, sym, ap, subst, ◌∙◌, arith, drop-drop}
 use Rattle.std.specs.List.{list_all}
@@ -17,7 +17,7 @@ use Rattle.hir_core.specs.Facts.{is_utf8_tree}
 use Rattle.hir_core.proofs.SpanLemmas.{stands_begin, span_forward}
 use Rattle.hir_core.proofs.SpellingLemmas.{member_cases}
 
--- ---- joined texts
+-- ---- concatenated bytes
 valid_append : (a b : List ℕ) → IsValidText a → IsValidText b → IsValidText (a ++ b)
 valid_append a b (no_spelling _ e) v = (let P : List ℕ → Type 0 = λ t. IsValidText (t ++ b) in subst P (sym e) v)
 valid_append a b (spelling_then c s rest _ sp r e) v =
@@ -28,7 +28,7 @@ valid_none h i j e =
     let none : j - i ≡ 0 = omega (arith, e) in
     no_spelling (slice_range h i j) (ap (λ n. take n (drop i h)) none)
 
--- a span is the parts on both sides of a place within
+-- a span is the parts on both sides of an offset within
 span_parts : (h : List ℕ) (i k j : ℕ) → i ≤ k → k ≤ j → slice_range h i j ≡ slice_range h i k ++ slice_range h k j
 span_parts h i k j p q =
     let sum : j - i ≡ (k - i) + (j - k) = omega arith in

@@ -31,7 +31,7 @@ greatest_of_both None b = None
 greatest_of_both (Some a) None = None
 greatest_of_both (Some a) (Some b) = Some (max a b)
 
--- the length of so many rounds of a body; zero rounds read nothing, whatever the body is
+-- the length of so many rounds of a body; zero rounds consume nothing, whatever the body is
 abbrev pub times : ℕ → Option ℕ → Option ℕ
 times zero b = Some 0
 times (suc n) None = None
@@ -56,7 +56,7 @@ abbrev pub longest_spelling : List (ℕ × ℕ) → Option ℕ
 longest_spelling [] = None
 longest_spelling (r ∷ rs) = Some (longest_of 0 (r ∷ rs))
 
--- a length that no span of the tree is below; None: the tree means no span
+-- a length that no span of the tree is below; None: the tree matches no span
 abbrev pub minimum_len : Tree → Option ℕ
 minimum_len empty = Some 0
 minimum_len (literal bytes) = Some (length bytes)
@@ -91,7 +91,7 @@ maximum_len (cat x y) = sum_of_both (maximum_len x) (maximum_len y)
 maximum_len never = None
 maximum_len (alt x y) = if is_never y then maximum_len x else greatest_of_both (maximum_len x) (maximum_len y)
 
--- whether each span of the tree that isn't empty is seen to be UTF-8
+-- whether the definition finds that each span of the tree that isn't empty is UTF-8
 abbrev pub is_utf8_tree : Tree → Bool
 is_utf8_tree empty = true
 is_utf8_tree (literal bytes) = is_utf8 bytes
@@ -105,7 +105,7 @@ is_utf8_tree (cat x y) = is_utf8_tree x && is_utf8_tree y
 is_utf8_tree never = true
 is_utf8_tree (alt x y) = is_utf8_tree x && is_utf8_tree y
 
--- all looks that stand in the tree
+-- all looks in the tree
 abbrev pub look_set : Tree → ℕ
 look_set empty = 0
 look_set (literal bytes) = 0
@@ -119,18 +119,18 @@ look_set (cat x y) = union_of (look_set x) (look_set y)
 look_set never = 0
 look_set (alt x y) = union_of (look_set x) (look_set y)
 
--- where no round is owed, none of the body's looks need hold
+-- none of the body's looks need hold if the minimum number of rounds is 0
 abbrev pub if_owed : ℕ → ℕ → ℕ
 if_owed zero s = 0
 if_owed (suc min) s = s
 
--- whether no span of the tree reads a byte
+-- whether no span of the tree consumes a byte
 abbrev pub reads_nothing : Option ℕ → Bool
 reads_nothing None = false
 reads_nothing (Some n) = n == 0
 
--- looks that hold at the start of each span: of a concatenation those of its parts up to the first that may read a byte,
--- this one included; of an alternation those that all its parts have
+-- Looks that hold at the start of each span. Those of a concatenation are those of its parts up to the first that may consume a
+-- byte, this one included. Those of an alternation are those that all its parts have.
 abbrev pub look_set_prefix : Tree → ℕ
 look_set_prefix empty = 0
 look_set_prefix (literal bytes) = 0
@@ -144,7 +144,7 @@ look_set_prefix (cat x y) = if reads_nothing (maximum_len x) then union_of (look
 look_set_prefix never = 0
 look_set_prefix (alt x y) = if is_never y then look_set_prefix x else shared_by (look_set_prefix x) (look_set_prefix y)
 
--- looks that hold at the end of each span: the mirror of these
+-- looks that hold at the end of each span: the mirror image
 abbrev pub look_set_suffix : Tree → ℕ
 look_set_suffix empty = 0
 look_set_suffix (literal bytes) = 0
@@ -158,7 +158,7 @@ look_set_suffix (cat x y) = if reads_nothing (maximum_len y) then union_of (look
 look_set_suffix never = 0
 look_set_suffix (alt x y) = if is_never y then look_set_suffix x else shared_by (look_set_suffix x) (look_set_suffix y)
 
--- the looks that decide which spans the tree means: those outside each repetition of no rounds
+-- the looks that decide which spans the tree matches: those outside each repetition of no rounds
 abbrev pub looks_used : Tree → ℕ
 looks_used empty = 0
 looks_used (literal bytes) = 0
@@ -203,8 +203,8 @@ abbrev pub IsAtMost : Option ℕ → ℕ → ℕ → Type 0
 IsAtMost None i j = Unit {0}
 IsAtMost (Some n) i j = j ≤ i + n
 
--- 1 for a leaf and where there are no parts, and else one more than the highest part: the concatenation or the
--- alternation of the other parts stands beside the first part, not above it
+-- 1 for a leaf and if there are no parts; otherwise one more than the highest part. The rest of a concatenation or an alternation,
+-- the y of `cat x y` and `alt x y`, adds no level of its own.
 abbrev pub height : Tree → ℕ
 height empty = 1
 height (literal bytes) = 1
@@ -248,7 +248,8 @@ abbrev pub list_count : List Tree → ℕ
 list_count [] = 4
 list_count (x ∷ xs) = capped (count x + 3 + list_count xs)
 
--- whether the ranges rise from this byte on: each starts at or above the last one's end plus one, and ends at or above its start
+-- whether the ranges rise from this byte on: each starts at or above the end of the one before it plus one, and ends at or above
+-- its start
 abbrev pub rises_from : ℕ → List (ℕ × ℕ) → Bool
 rises_from low [] = true
 rises_from low (r ∷ rs) = nat_le low r.0 && nat_le r.0 r.1 && rises_from (r.1 + 1) rs
@@ -257,7 +258,7 @@ rises_from low (r ∷ rs) = nat_le low r.0 && nat_le r.0 r.1 && rises_from (r.1 
 abbrev pub is_ascending : List (ℕ × ℕ) → Bool
 is_ascending ranges = rises_from 0 ranges
 
--- what the constructors ask of the node at the top of the tree
+-- what the constructors require of the node at the top of the tree
 abbrev pub IsWellFormed : Tree → Type 0
 IsWellFormed (byte_class ranges) = IsTrue (is_ascending ranges)
 IsWellFormed (char_class ranges) = IsTrue (is_ascending ranges)
@@ -269,7 +270,8 @@ abbrev pub IsAboveZero : Option ℕ → Type 0
 IsAboveZero None = ⊥
 IsAboveZero (Some n) = 0 < n
 
--- The premise on bodies: each body of a repetition without a bound has a minimum length above 0, so that each of its rounds reads.
+-- The precondition on bodies: the body of every repetition without a bound has a minimum length above 0, so that each of its
+-- rounds consumes at least one byte.
 abbrev pub LoopsRead : Tree → Type 0
 LoopsRead empty = Unit {0}
 LoopsRead (literal bytes) = Unit {0}
@@ -284,7 +286,7 @@ LoopsRead (cat x y) = LoopsRead x × LoopsRead y
 LoopsRead never = Unit {0}
 LoopsRead (alt x y) = LoopsRead x × LoopsRead y
 
--- what a `Hir` keeps beside its node
+-- what a `Hir` stores with its node
 pub record KeepsFacts (x : Tree) (known : Facts) (levels states : ℕ) : Type 0 where
   pub known_facts : known ≡ facts x
   pub height_is : levels ≡ height x

@@ -1,5 +1,5 @@
--- Which spans of a haystack a tree means. A place is a number from 0 to the haystack's length: the definitions do not
--- ask it of a start, and a span from a place leads to a place.
+-- Which spans of a haystack an expression tree matches. An offset is a number from 0 to the haystack's length. The
+-- definitions don't require that a span's start is one, but a span that starts at an offset ends at one.
 use Rattle.std.specs.Prelude.{◌≡◌, ℕ, zero, suc, ◌+◌, ◌≤◌, Bool, List, length, Option, Some, None, ◌⊎◌, IsTrue, ◌&&◌, nat_le, nat_eq}
 use Rattle.std.specs.Prelude.{slice_get, slice_range, drop}
 use Rattle.std.specs.List.{starts_with, list_any}
@@ -7,7 +7,7 @@ use Rattle.search_core.specs.Utf8.{Spells}
 use Rattle.look_core.specs.declared.look.Look.{Look}
 use Rattle.hir_core.specs.Tree.{Tree, empty, literal, byte_class, char_class, look, repetition, capture, nothing, cat, never, alt}
 
--- whether these bytes stand in the haystack at i
+-- whether the haystack has these bytes at i
 abbrev pub stands : List ℕ → ℕ → List ℕ → Bool
 stands h i bytes = starts_with nat_eq (drop i h) bytes
 
@@ -25,7 +25,7 @@ abbrev pub Rounds : (ℕ → ℕ → Type 0) → ℕ → ℕ → ℕ → Type 0
 Rounds R zero i j = i ≡ j
 Rounds R (suc n) i j = (k : ℕ) × R i k × Rounds R n k j
 
--- how looks are read: whether a look holds at a place of the haystack
+-- how looks are read: whether a look holds at an offset of the haystack
 abbrev pub Looks : Type 0
 Looks = Look → ℕ → Bool
 
@@ -37,7 +37,7 @@ pub record SpellsMember (h : List ℕ) (ranges : List (ℕ × ℕ)) (i j : ℕ) 
   pub spells : Spells scalar (slice_range h i j)
   pub member : IsTrue (is_member ranges scalar)
 
--- the tree means the span i..j of the haystack h, with looks read so
+-- the tree matches the span i..j of the haystack h, with looks read so
 abbrev pub Means : Looks → List ℕ → Tree → ℕ → ℕ → Type 0
 Means looks h empty i j = i ≡ j
 Means looks h (literal bytes) i j = (j ≡ i + length bytes) × IsTrue (stands h i bytes)

@@ -1,4 +1,4 @@
--- The tree of one node, whose children stand there as trees: how a caller reads what `kind` answers.
+-- The tree of one node, with its children as trees: how a caller reads what `kind` returns.
 use Rattle.std.specs.Prelude.{option_map, string_bytes}
 use Rattle.hir_core.specs.Tree.{Tree, empty, literal, byte_class, char_class, look, repetition, capture, concat, alternation}
 use Rattle.hir_core.specs.declared.hir.HirKind.{HirKind}

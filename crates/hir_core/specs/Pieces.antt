@@ -5,7 +5,7 @@ use Rattle.std.specs.Prelude.{◌≡◌, ℕ, ◌+◌, ◌-◌, ◌/◌, ◌%◌
 abbrev pub Aligned : ℕ → ℕ → ℕ → Type 0
 Aligned size f e = (f / size ≡ e / size) ⊎ ((f % size ≡ 0) × (e % size ≡ size - 1))
 
--- the same for the blocks of one byte behind the first, of two and of three
+-- aligned for the blocks of one byte after the first, of two bytes and of three
 abbrev pub Blocks : ℕ → ℕ → Type 0
 Blocks f e = Aligned 64 f e × Aligned 4096 f e × Aligned 262144 f e
 
@@ -22,7 +22,7 @@ IsPiece f e =
 abbrev pub IsPieceOf : ℕ → ℕ → ℕ × ℕ → Type 0
 IsPieceOf low hi p = (low ≤ p.0) × (p.1 ≤ hi) × IsPiece p.0 p.1
 
--- pieces between two numbers, each behind the one before it
+-- pieces between two numbers, each after the one before it
 abbrev pub Rises : ℕ → ℕ → List (ℕ × ℕ) → Type 0
 Rises low hi [] = Unit {0}
 Rises low hi (p ∷ ps) = (low ≤ p.0) × (p.1 ≤ hi) × IsPiece p.0 p.1 × Rises (p.1 + 1) hi ps

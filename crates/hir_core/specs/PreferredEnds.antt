@@ -1,5 +1,5 @@
--- The ends of a tree's spans from a place in order of preference: leftmost-first, as the crate `regex` documents it.
--- An earlier part of an alternation is preferred, a greedy repetition prefers more rounds, a lazy one fewer.
+-- The ends of a tree's spans from an offset in order of preference: leftmost-first, as the crate `regex` documents
+-- it. An earlier part of an alternation is preferred, a greedy repetition prefers more rounds, a lazy one fewer.
 use Rattle.std.specs.Prelude.{◌≡◌, ℕ, zero, suc, ◌+◌, ◌-◌, Bool, true, false, List, [], ◌∷◌, ◌++◌, length, Option, Some, None}
 use Rattle.std.specs.Prelude.{if◌then◌else◌, ◌⊎◌, slice_get}
 use Rattle.std.specs.List.{flat_map}
@@ -7,7 +7,7 @@ use Rattle.hir_core.specs.Tree.{Tree, empty, literal, byte_class, char_class, lo
 use Rattle.search_core.specs.Characters.{character_at, spelling_len}
 use Rattle.hir_core.specs.Means.{Looks, stands, is_member}
 
--- for each place the ends of the spans from there
+-- for each offset the ends of the spans from there
 abbrev pub Ends : Type 0
 Ends = ℕ → List ℕ
 
@@ -26,8 +26,8 @@ abbrev pub up_to : Bool → Ends → ℕ → Ends
 up_to greedy body zero i = i ∷ []
 up_to greedy body (suc n) i = in_order greedy (flat_map (up_to greedy body n) (body i)) i
 
--- Any number of rounds. Where each round reads a byte, the bytes from i on leave no room for more rounds than these;
--- where a round may read nothing, further rounds lead to no further ends.
+-- Any number of rounds. If each round consumes a byte, the bytes from i on leave no room for more rounds than these.
+-- If a round may be empty, further rounds lead to no further ends.
 abbrev pub unbounded : List ℕ → Bool → Ends → Ends
 unbounded h greedy body i = up_to greedy body (length h - i) i
 
@@ -36,7 +36,7 @@ abbrev pub at_least : List ℕ → Bool → Ends → ℕ → Ends
 at_least h greedy body zero i = unbounded h greedy body i
 at_least h greedy body (suc min) i = flat_map (at_least h greedy body min) (body i)
 
--- from min to most rounds: while a round is owed both bounds fall by one, then more or stop
+-- from min to most rounds: until min rounds are made, each round lowers both bounds by one; then more rounds or stop
 abbrev pub between : Bool → Ends → ℕ → ℕ → Ends
 between greedy body zero most i = up_to greedy body most i
 between greedy body (suc min) zero i = []
@@ -47,12 +47,12 @@ abbrev pub repeated : List ℕ → ℕ → Option ℕ → Bool → Ends → Ends
 repeated h min None greedy body i = at_least h greedy body min i
 repeated h min (Some most) greedy body i = between greedy body min most i
 
--- the end of one byte of a class, where the haystack has this byte or none at i
+-- the end of one byte of a class, if the haystack has this byte, or none, at i
 abbrev pub class_end : List (ℕ × ℕ) → Option ℕ → Ends
 class_end ranges None i = []
 class_end ranges (Some b) i = if is_member ranges b then (i + 1) ∷ [] else []
 
--- the end of a character of a class, where a spelling of this character or of none begins at i
+-- the end of a character of a class, if a spelling of this character, or of none, begins at i
 abbrev pub character_end : List (ℕ × ℕ) → Option ℕ → Ends
 character_end ranges None i = []
 character_end ranges (Some c) i = if is_member ranges c then (i + spelling_len c) ∷ [] else []

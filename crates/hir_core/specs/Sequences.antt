@@ -1,7 +1,7 @@
--- Ranges of scalars as sequences of byte ranges: a range is cut into pieces, and the spellings of a piece's scalars are the
--- strings whose bytes lie, one by one, between those of the spellings of its first and last scalar. This says how they are
--- cut; what they mean is said by the laws (`utf8_sequences_laws`): each spelling of a scalar of the range is a string of
--- exactly one sequence, each string spells one of its scalars, and the sequences ascend.
+-- Ranges of scalars as sequences of byte ranges. A range is cut into pieces. The spellings of a piece's scalars are the
+-- strings whose bytes lie, one by one, between those of the spellings of its first and last scalar. This file defines how
+-- ranges are cut. The laws (`utf8_sequences_laws`) say what the sequences mean: each spelling of a scalar of the range is a
+-- string of exactly one sequence, each string spells one of its scalars, and the sequences ascend.
 use Rattle.std.specs.Prelude.{ℕ, zero, suc, ◌+◌, ◌-◌, ◌/◌, ◌%◌, min, Bool, true, false, ◌&&◌, ◌==◌, nat_le, List, [], ◌∷◌, map}
 use Rattle.std.specs.Prelude.{if◌then◌else◌}
 use Rattle.std.specs.List.{zip}
@@ -13,14 +13,15 @@ use Rattle.hir_core.specs.declared.utf8_sequences.Utf8Sequence.TheVariants.{One,
 abbrev pub scalar_from : ℕ → ℕ
 scalar_from n = if nat_le 0xD800 n && nat_le n 0xDFFF then 0xE000 else n
 
--- the last scalar of the row that c is in: the scalars of one spelling's length, parted at the surrogates
+-- the last scalar of the row that c is in; a row has the scalars whose spellings have one length, and the surrogates
+-- separate two rows
 abbrev pub row_end : ℕ → ℕ
 row_end c =
     if nat_le c 0x7F then 0x7F else if nat_le c 0x7FF then 0x7FF else if nat_le c 0xD7FF then 0xD7FF else if nat_le c 0xFFFF then 0xFFFF
     else 0x10FFFF
 
--- where the first piece of the numbers from lo to hi ends by the blocks of so many numbers: where lo and hi lie in different
--- blocks, a first block that isn't whole is a piece of its own, and so is a last one
+-- Where the first piece of the numbers from lo to hi ends, by blocks of so many numbers. If lo and hi lie in different
+-- blocks, a first block that isn't whole is a piece of its own, and so is a last one.
 abbrev pub block_end : ℕ → ℕ → ℕ → ℕ
 block_end size lo hi =
     if lo / size == hi / size then hi
@@ -52,7 +53,7 @@ spelling_of c =
     else if nat_le c 0xFFFF then (224 + c / 4096) ∷ (128 + (c / 64) % 64) ∷ (128 + c % 64) ∷ []
     else (240 + c / 262144) ∷ (128 + (c / 4096) % 64) ∷ (128 + (c / 64) % 64) ∷ (128 + c % 64) ∷ []
 
--- the byte ranges of a piece: the bytes of the two spellings beside each other
+-- the byte ranges of a piece: the bytes of the two spellings, paired one by one
 abbrev pub byte_ranges : ℕ × ℕ → List (ℕ × ℕ)
 byte_ranges p = zip (spelling_of p.0) (spelling_of p.1)
 

@@ -1,9 +1,9 @@
--- Which looks stand in a tree.
+-- Which looks are in a tree.
 use Rattle.std.specs.Prelude.{◌≡◌, ◌⊎◌}
 use Rattle.look_core.specs.declared.look.Look.{Look}
 use Rattle.hir_core.specs.Tree.{Tree, empty, literal, byte_class, char_class, look, repetition, capture, nothing, cat, never, alt}
 
--- the look stands in the tree, also where no round of a repetition ever comes to it
+-- the look is in the tree, even if no round of a repetition ever reaches it
 abbrev pub StandsIn : Look → Tree → Type 0
 StandsIn l empty = ⊥
 StandsIn l (literal bytes) = ⊥

@@ -3,7 +3,7 @@ use Rattle.std.specs.Prelude.{ℕ, Bool, List, [], ◌∷◌, Option}
 use Rattle.look_core.specs.declared.look.Look.{Look}
 
 pub data Tree : Type 0 where
-  -- the empty text
+  -- the empty string
   empty : Tree
   -- these bytes, one after the other
   literal : List ℕ → Tree
@@ -11,11 +11,11 @@ pub data Tree : Type 0 where
   byte_class : List (ℕ × ℕ) → Tree
   -- the UTF-8 of one scalar, of one of these ranges, whose ends belong to them
   char_class : List (ℕ × ℕ) → Tree
-  -- no byte, at a place where the look holds
+  -- no byte, at an offset where the look holds
   look : Look → Tree
   -- rounds of a body: at least so many; at most so many, if there is a bound; whether more rounds are preferred
   repetition : ℕ → Option ℕ → Bool → Tree → Tree
-  -- a body whose span is kept as the group with this index and this name, if it has one
+  -- a body whose span is recorded as the group with this index and, if it has one, this name
   capture : ℕ → Option (List ℕ) → Tree → Tree
   -- a concatenation: of no parts, or of a first part and the concatenation of the others
   nothing : Tree

@@ -16,7 +16,7 @@ pub fn is_utf8(bytes: &[u8]) -> bool
     str::from_utf8(bytes).is_ok()
 }
 
-/// Whether the ranges have bytes of ASCII alone.
+/// Whether the ranges have only bytes of ASCII.
 pub fn are_ascii(ranges: &[(u8, u8)]) -> bool
     ensures { result ≡ list_all (λ r. nat_lt r.1 0x80) ranges.now }
 {

@@ -1,5 +1,5 @@
-//! Laws of trees on a haystack that is cut at a place: looks are read as of the whole. Each function has no
-//! code: its contract is the law.
+//! Laws of trees on a haystack that is cut at an offset, with looks read on the whole haystack. Each function has
+//! no code: its contract is the law.
 //! ```rust
 //! pub fn spans_end_within()
 //!     ensures { (f : Looks) (h : List ℕ) (e : ℕ) (x : Tree) (i j : ℕ) → i ≤ e → Means f (take e h) x i j → j ≤ e }
@@ -14,8 +14,8 @@ ghost use Rattle.hir_core.specs.Means.{Looks, Means};
 ghost use Rattle.hir_core.specs.PreferredEnds.{preferred_ends};
 ghost use Rattle.hir_core.specs.Facts.{LoopsRead};
 
-/// A tree means in what is left of the haystack up to e the spans that end at e at the latest, and no
-/// other from a place up to e.
+/// Cut the haystack at e. From an offset up to e, a tree matches in the part before e exactly those spans of the
+/// whole haystack that end at e or before.
 #[tactic(auto, using(crate::proofs::CutLemmas::cut_to_whole, crate::proofs::CutLemmas::whole_to_cut))]
 pub fn cut_haystacks_have_the_spans_within()
     ensures whole { (looks : Looks) (h : List ℕ) (e : ℕ) (x : Tree) (i j : ℕ) → i ≤ e →
@@ -24,8 +24,8 @@ pub fn cut_haystacks_have_the_spans_within()
         Means looks h x i j → Means looks (take e h) x i j }
 {}
 
-/// And it prefers the same ends, those above e left out, in the same order, where each round of an
-/// unbounded repetition reads.
+/// Cut the haystack at e. If each round of an unbounded repetition of the tree consumes at least one byte, the tree
+/// prefers the same ends in the part before e, without those above e, and in the same order.
 #[tactic(auto, using(crate::proofs::CutLemmas::cut_ends))]
 pub fn cut_haystacks_prefer_the_ends_within()
     ensures { (looks : Looks) (h : List ℕ) (e : ℕ) (x : Tree) (i : ℕ) → LoopsRead x → i ≤ e →

@@ -8,7 +8,7 @@ ghost use Rattle.hir_core.specs.Facts.{greatest_of_both, times, times_most};
 
 use crate::hir::Hir;
 
-/// Both lengths in sum, at most `usize::MAX`, where both are known.
+/// The sum of both lengths, at most `usize::MAX`, if both are known.
 pub fn sum_of_both(a: Option<usize>, b: Option<usize>) -> Option<usize>
     ensures { result ≡ sum_of_both a b }
 {
@@ -29,7 +29,7 @@ pub fn least_of_either(a: Option<usize>, b: Option<usize>) -> Option<usize>
     }
 }
 
-/// The greatest of both lengths, where both are known.
+/// The greater of both lengths, if both are known.
 pub fn greatest_of_both(a: Option<usize>, b: Option<usize>) -> Option<usize>
     ensures { result ≡ greatest_of_both a b }
 {
@@ -82,7 +82,7 @@ pub fn alternation_minimum_len(subs: &[Hir]) -> Option<usize>
     least
 }
 
-/// The greatest length of a concatenation, where there is one.
+/// The greatest length of a concatenation, if there is one.
 pub fn concat_maximum_len(subs: &[Hir]) -> Option<usize>
     ensures { result ≡ maximum_len (concat subs.now) }
 {
@@ -93,7 +93,7 @@ pub fn concat_maximum_len(subs: &[Hir]) -> Option<usize>
     total
 }
 
-/// The greatest length of an alternation, where there is one.
+/// The greatest length of an alternation, if there is one.
 pub fn alternation_maximum_len(subs: &[Hir]) -> Option<usize>
     ensures { result ≡ maximum_len (alternation subs.now) }
 {
@@ -107,7 +107,7 @@ pub fn alternation_maximum_len(subs: &[Hir]) -> Option<usize>
     longest
 }
 
-/// Whether the spans of all parts are seen to be UTF-8.
+/// Whether the facts of all parts say that their spans are UTF-8.
 pub fn are_utf8(subs: &[Hir]) -> bool
     ensures concat { result ≡ is_utf8_tree (concat subs.now) }
     ensures alternation { result ≡ is_utf8_tree (alternation subs.now) }
@@ -131,7 +131,7 @@ pub fn height_over(subs: &[Hir]) -> usize
     levels
 }
 
-/// A bound on the states of a concatenation, as `Hir::count` has it.
+/// A bound on the states of a concatenation, as `Hir::count` returns it.
 pub fn concat_count(subs: &[Hir]) -> usize
     ensures { result ≡ count (concat subs.now) }
 {
@@ -142,7 +142,7 @@ pub fn concat_count(subs: &[Hir]) -> usize
     states
 }
 
-/// A bound on the states of an alternation, as `Hir::count` has it.
+/// A bound on the states of an alternation, as `Hir::count` returns it.
 pub fn alternation_count(subs: &[Hir]) -> usize
     ensures { result ≡ count (alternation subs.now) }
 {
@@ -153,7 +153,7 @@ pub fn alternation_count(subs: &[Hir]) -> usize
     states
 }
 
-/// A bound on the states of a repetition, as `Hir::count` has it.
+/// A bound on the states of a repetition, as `Hir::count` returns it.
 pub fn repetition_count(min: usize, max: Option<u32>, body: usize) -> usize
     requires { IfSome max (λ most. min ≤ most) }
     ensures { result ≡ repeated_count min max body }

@@ -10,8 +10,8 @@ use look_core::Look;
 use std::alloc::{AllocError, Global};
 use std::marker::Model;
 
-/// A pattern as a tree, kept as given, after `regex_syntax::hir::Hir`. Its facts are computed once,
-/// when it is made, and answered at once.
+/// A pattern as an expression tree, kept as given, after `regex_syntax::hir::Hir`. Its facts are computed
+/// once, when it is made, so returning them takes constant time.
 #[cycle(hir)]
 #[derive(Debug, Drop)]
 pub struct Hir {
@@ -25,26 +25,27 @@ pub struct Hir {
 #[cycle(hir)]
 #[derive(Debug, Drop)]
 pub enum HirKind {
-    /// The empty text.
+    /// The empty string.
     Empty,
     /// These bytes, one after the other.
     Literal(Vec<u8>),
-    /// One byte of one of the ranges, whose ends belong to them; no byte where there is no range.
+    /// One byte of one of the ranges, whose ends belong to them. If there is no range, the class matches
+    /// nothing.
     Bytes(Vec<(u8, u8)>),
-    /// The UTF-8 of one scalar of one of the ranges, whose ends belong to them; nothing where there is
-    /// no range.
+    /// The UTF-8 of one scalar of one of the ranges, whose ends belong to them. If there is no range, the
+    /// class matches nothing.
     Chars(Vec<(char, char)>),
-    /// No byte, at a place where the look holds.
+    /// No byte, at an offset where the look holds.
     Look(Look),
-    /// At least `min` and at most `max` rounds of `sub`, without a bound where `max` is `None`. More
-    /// rounds are preferred where it is greedy, and fewer where it is lazy.
+    /// At least `min` and at most `max` rounds of `sub`. If `max` is `None`, there is no upper bound. More
+    /// rounds are preferred if `greedy` is true, and fewer if it is false.
     Repetition {
         min: u32,
         max: Option<u32>,
         greedy: bool,
         sub: Box<Hir>,
     },
-    /// What `sub` means, with its span kept as the group with this index and this name, if it has one.
+    /// What `sub` matches, with its span recorded as the group with this index and, if it has one, this name.
     Capture {
         index: u32,
         name: Option<String>,
@@ -80,7 +81,7 @@ impl Model for Hir {
 }
 
 impl Hir {
-    /// The empty text.
+    /// The tree of the empty string.
     pub fn empty() -> Hir
         ensures { result ≡ empty }
     {
@@ -92,7 +93,7 @@ impl Hir {
         }
     }
 
-    /// The tree that means no span: a byte class without a range.
+    /// The tree that matches no span: a byte class without a range.
     pub fn fail(alloc: Global) -> Hir
         ensures { result ≡ byte_class [] }
     {
@@ -113,8 +114,8 @@ impl Hir {
         }
     }
 
-    /// One byte of one of the ranges, each of them with both its ends. The ranges have to be
-    /// ascending and disjoint, which [`is_ascending`](crate::is_ascending) tells.
+    /// One byte of one of the ranges. Both ends of a range belong to it. The ranges have to be ascending and
+    /// disjoint, which [`is_ascending`](crate::is_ascending) checks.
     pub fn bytes(ranges: Vec<(u8, u8)>) -> Hir
         requires { IsTrue (is_ascending ranges.items) }
         ensures { result ≡ byte_class ranges.items }
@@ -128,8 +129,8 @@ impl Hir {
         }
     }
 
-    /// The UTF-8 of one scalar of one of the ranges, each of them with both its ends. The ranges have
-    /// to be ascending and disjoint, which [`is_ascending_chars`](crate::is_ascending_chars) tells.
+    /// The UTF-8 of one scalar of one of the ranges. Both ends of a range belong to it. The ranges have to be
+    /// ascending and disjoint, which [`is_ascending_chars`](crate::is_ascending_chars) checks.
     pub fn chars(ranges: Vec<(char, char)>) -> Hir
         requires { IsTrue (is_ascending ranges.items) }
         ensures { result ≡ char_class ranges.items }
@@ -144,7 +145,7 @@ impl Hir {
         }
     }
 
-    /// No byte, at a place where the look holds.
+    /// No byte, at an offset where the look holds.
     pub fn look(assertion: Look) -> Hir
         ensures { result ≡ look assertion }
     {
@@ -156,9 +157,9 @@ impl Hir {
         }
     }
 
-    /// At least `min` and at most `max` rounds of `sub`, without a bound where `max` is `None`, more
-    /// rounds preferred where it is greedy. `min` has to be at most `max`. Refused only for want of
-    /// memory, and then `sub` is given up.
+    /// At least `min` and at most `max` rounds of `sub`. If `max` is `None`, there is no upper bound. If
+    /// `greedy` is true, more rounds are preferred. `min` has to be at most `max`. The call fails only if it
+    /// is out of memory, and then `sub` is dropped.
     pub fn repetition(
         alloc: Global,
         min: u32,
@@ -185,8 +186,8 @@ impl Hir {
         })
     }
 
-    /// What `sub` means, with its span kept as the group with this index and this name, if it has one.
-    /// Refused only for want of memory, and then `sub` is given up.
+    /// What `sub` matches, with its span recorded as the group with this index and, if it has one, this name.
+    /// The call fails only if it is out of memory, and then `sub` is dropped.
     pub fn capture(
         alloc: Global,
         index: u32,
@@ -210,7 +211,7 @@ impl Hir {
         })
     }
 
-    /// The parts, one after the other; of no parts the empty text.
+    /// The parts, one after the other. Without parts, this is the empty string.
     pub fn concat(subs: Vec<Hir>) -> Hir
         ensures { result ≡ concat subs.items }
     {
@@ -225,7 +226,7 @@ impl Hir {
         }
     }
 
-    /// One of the parts, an earlier one preferred; of no parts no span.
+    /// One of the parts, an earlier one preferred. Without parts, this matches nothing.
     pub fn alternation(subs: Vec<Hir>) -> Hir
         ensures { result ≡ alternation subs.items }
     {
@@ -248,33 +249,41 @@ impl Hir {
         &self.kind
     }
 
-    /// What is known of the tree without a haystack.
+    /// The facts of the tree, which are known without a haystack.
     pub fn properties(&self) -> Properties
         ensures { result ≡ facts self.now }
     {
         self.properties
     }
 
-    /// How many nodes stand above each other: 1 for a leaf, one more than the highest part else.
+    /// The height of the tree: 1 for a leaf, otherwise one more than that of the highest part.
     pub fn height(&self) -> usize
         ensures { result ≡ height self.now }
     {
         self.height
     }
 
-    /// A bound on the states of an automaton for the tree: 1 for the empty text and for a look, 2k + 1
-    /// for a literal of k bytes, 2 for a byte class, 2 and four times the sequences of byte ranges for a
-    /// scalar class, 2 and its body's for a capture, 1 and the sum of its parts for a concatenation, 4
-    /// and the sum for an alternation. A repetition has `min` copies of its body, one more than a copy
-    /// for each further round up to `max`, and 1; without a bound at least one copy, and 3. Sums stop at
-    /// `usize::MAX`.
+    /// An upper bound on the number of states of an automaton for the tree:
+    ///
+    /// - for the empty pattern and for a look, 1;
+    /// - for a literal of k bytes, 2k + 1;
+    /// - for a byte class, 2;
+    /// - for a class of scalars, 2 and four times the number of its sequences of byte ranges;
+    /// - for a capture, 2 and the count of its body;
+    /// - for a concatenation, 1 and the sum of its parts;
+    /// - for an alternation, 4 and the sum of its parts;
+    /// - for a repetition up to `max`, `min` copies of its body, one more than a copy for each further round,
+    ///   and 1;
+    /// - for a repetition without a bound, `min` copies of its body, at least one, and 3.
+    ///
+    /// Sums stop at `usize::MAX`.
     pub fn count(&self) -> usize
         ensures { result ≡ count self.now }
     {
         self.count
     }
 
-    /// A copy of the tree. Refused only for want of memory.
+    /// A copy of the tree. The call fails only if it is out of memory.
     #[cycle(try_clone)]
     pub fn try_clone(&self, alloc: Global) -> Result<Hir, AllocError>
         ensures { IfOk result (λ x. x ≡ self.now) }

@@ -1,11 +1,15 @@
-//! Patterns as trees, with the facts that are known of a tree without a haystack.
+//! Patterns as expression trees, with the facts that are known of a tree without a haystack.
 //!
 //! A [`Hir`] is made by its constructors and read by [`Hir::kind`]. It is kept as given: nothing is
-//! simplified. What a tree means, and which of its spans are preferred, is defined in `specs/`:
-//! `Means.antt` and `PreferredEnds.antt`, with laws in [`laws`]; the laws of the facts are in
-//! [`fact_laws`], those of the byte sequences of scalars in [`utf8_sequences_laws`] and, as trees, in
-//! [`sequence_tree_laws`], those of haystacks that are cut at a place in [`cut_laws`], those of where spans
-//! stand and what they depend on in [`span_laws`].
+//! simplified. `Means.antt` in `specs/` defines which spans a tree matches, and `PreferredEnds.antt` which of
+//! them it prefers. The laws are in these modules:
+//!
+//! - [`laws`]: these two definitions;
+//! - [`fact_laws`]: the facts;
+//! - [`utf8_sequences_laws`]: the byte sequences of scalars;
+//! - [`sequence_tree_laws`]: these sequences as trees;
+//! - [`cut_laws`]: haystacks that are cut at an offset;
+//! - [`span_laws`]: where spans lie and what they depend on.
 //! ```rust
 //! pub fn start_of_line() -> Hir
 //!     ensures { result ≡ look StartLF }

@@ -9,7 +9,7 @@ use crate::facts::sum_of_both;
 use crate::hir::Hir;
 use look_core::LookSet;
 
-/// The looks of a body that hold at an end of so many rounds, at least: none where none is owed.
+/// The looks of a body that hold at an end of so many rounds, at least. If `rounds` is 0, there are none.
 pub fn if_owed(rounds: u32, looks: LookSet) -> LookSet
     ensures { result ≡ if_owed rounds looks }
 {
@@ -28,7 +28,7 @@ pub fn all_looks(subs: &[Hir]) -> LookSet
     looks
 }
 
-/// The looks of the parts up to the first that may read a byte.
+/// The looks of the parts up to the first that may consume a byte.
 pub fn concat_look_set_prefix(subs: &[Hir]) -> LookSet
     ensures { result ≡ look_set_prefix (concat subs.now) }
 {
@@ -44,7 +44,7 @@ pub fn concat_look_set_prefix(subs: &[Hir]) -> LookSet
     looks
 }
 
-/// The looks of the parts from the last that may read a byte.
+/// The looks of the parts from the last that may consume a byte.
 pub fn concat_look_set_suffix(subs: &[Hir]) -> LookSet
     ensures { result ≡ look_set_suffix (concat subs.now) }
 {

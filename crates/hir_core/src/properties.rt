@@ -15,8 +15,8 @@ use crate::look_facts::{
 use look_core::{Look, LookSet};
 use std::marker::Model;
 
-/// What is known of a tree without a haystack, after `regex_syntax::hir::Properties`. Each fact is
-/// sound, and none is complete.
+/// What is known of a tree without a haystack, after `regex_syntax::hir::Properties`. Each fact is sound, and
+/// none is complete.
 #[derive(Clone, Copy, Debug, PartialEq, Eq)]
 pub struct Properties {
     minimum_len: Option<usize>,
@@ -55,46 +55,47 @@ impl Model for Properties {
 }
 
 impl Properties {
-    /// A number of bytes that no span of the tree is shorter than. `None` where no span is stated:
-    /// then the tree means none. Sums and products stop at `usize::MAX`.
+    /// A number of bytes that no span of the tree is shorter than. If it is `None`, the tree matches no span.
+    /// Sums and products stop at `usize::MAX`.
     pub fn minimum_len(&self) -> Option<usize>
         ensures { result ≡ self.now.minimum_len }
     {
         self.minimum_len
     }
 
-    /// A number of bytes that no span of the tree is longer than. `None` where no bound is stated.
-    /// Sums and products stop at `usize::MAX`.
+    /// A number of bytes that no span of the tree is longer than. If it is `None`, no bound is stated. Sums
+    /// and products stop at `usize::MAX`.
     pub fn maximum_len(&self) -> Option<usize>
         ensures { result ≡ self.now.maximum_len }
     {
         self.maximum_len
     }
 
-    /// Whether each span of the tree that isn't empty is seen to be UTF-8.
+    /// Whether the facts say that each span of the tree that isn't empty is UTF-8.
     pub fn is_utf8(&self) -> bool
         ensures { result ≡ self.now.is_utf8 }
     {
         self.is_utf8
     }
 
-    /// All looks that stand in the tree.
+    /// All looks in the tree.
     pub fn look_set(&self) -> LookSet
         ensures { result ≡ self.now.look_set }
     {
         self.look_set
     }
 
-    /// Looks that hold at the start of each span: of a concatenation those of its parts up to the
-    /// first that may read a byte, this one included; of an alternation those that all its parts have.
+    /// Looks that hold at the start of each span. Those of a concatenation are those of its parts up to the
+    /// first that may consume a byte, this one included. Those of an alternation are those that all its parts
+    /// have.
     pub fn look_set_prefix(&self) -> LookSet
         ensures { result ≡ self.now.look_set_prefix }
     {
         self.look_set_prefix
     }
 
-    /// Looks that hold at the end of each span: of a concatenation those of its parts from the last
-    /// that may read a byte, this one included; of an alternation those that all its parts have.
+    /// Looks that hold at the end of each span. Those of a concatenation are those of its parts from the last
+    /// that may consume a byte, this one included. Those of an alternation are those that all its parts have.
     pub fn look_set_suffix(&self) -> LookSet
         ensures { result ≡ self.now.look_set_suffix }
     {

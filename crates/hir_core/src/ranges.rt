@@ -2,7 +2,7 @@ ghost use Rattle.std.specs.Prelude.{◌≡◌};
 ghost use Rattle.hir_core.specs.Facts.{is_ascending};
 
 /// Whether the ranges are ascending and disjoint, each with its start at most its end: what
-/// [`Hir::bytes`](crate::Hir::bytes) asks for.
+/// [`Hir::bytes`](crate::Hir::bytes) requires.
 pub fn is_ascending(ranges: &[(u8, u8)]) -> bool
     ensures { result ≡ is_ascending ranges.now }
 {
@@ -17,7 +17,8 @@ pub fn is_ascending(ranges: &[(u8, u8)]) -> bool
     true
 }
 
-/// The same of ranges of scalars: what [`Hir::chars`](crate::Hir::chars) asks for.
+/// Whether the ranges of scalars are ascending and disjoint, each with its start at most its end: what
+/// [`Hir::chars`](crate::Hir::chars) requires.
 pub fn is_ascending_chars(ranges: &[(char, char)]) -> bool
     ensures { result ≡ is_ascending ranges.now }
 {

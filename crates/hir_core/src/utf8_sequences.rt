@@ -25,8 +25,8 @@ impl Utf8Range {
     }
 }
 
-/// A range for each byte of a spelling: its strings are those with each byte in its range.
-/// As `regex_syntax::utf8::Utf8Sequence`.
+/// A range for each byte of a spelling. Its strings are those that have each byte in its range. As
+/// `regex_syntax::utf8::Utf8Sequence`.
 #[derive(Clone, Copy, Debug, PartialEq, Eq)]
 pub enum Utf8Sequence {
     One(Utf8Range),
@@ -70,7 +70,7 @@ impl Utf8Sequence {
         true
     }
 
-    /// Puts the last range first, and so on, for an automaton that reads in reverse.
+    /// Reverses the order of the ranges, for an automaton that reads in reverse.
     #[tactic(auto, using(crate::proofs::SequenceSteps::ranges_turned))]
     pub fn reverse(&mut self)
         ensures { ranges_of_sequence self.new ≡ reverse (ranges_of_sequence self.old) }
@@ -84,8 +84,8 @@ impl Utf8Sequence {
     }
 }
 
-/// The sequences of the characters from one to another, ascending. Each character's spelling is a
-/// string of exactly one of them. A contract sees what is left of them. As `regex_syntax::utf8::Utf8Sequences`.
+/// The sequences of the characters from one to another, ascending. Each character's spelling is a string of
+/// exactly one of them. A contract sees those that are left. As `regex_syntax::utf8::Utf8Sequences`.
 #[derive(Drop)]
 pub struct Utf8Sequences {
     next: u32,
@@ -104,8 +104,8 @@ impl Model for Utf8Sequences {
 }
 
 impl Utf8Sequences {
-    /// The sequences of the characters from `start` to `end`, both included; none where `start` is above
-    /// `end`.
+    /// The sequences of the characters from `start` to `end`, both included. If `start` is above `end`, there
+    /// are none.
     pub fn new(start: char, end: char) -> Utf8Sequences
         ensures { result ≡ utf8_sequences start end }
     {

@@ -1,6 +1,6 @@
 //! Laws of the sequences of byte ranges that spell a range of characters. Each function has no code: its
-//! contract is the law. The bounds of a range are any numbers; surrogates and what lies above 10FFFF are
-//! left out of it.
+//! contract is the law. The bounds of a range are any numbers; surrogates and what is above 10FFFF are left out
+//! of it.
 //! ```rust
 //! pub fn strings_have_scalars()
 //!     ensures { (lo hi i : ℕ) (rs : List (ℕ × ℕ)) (s : List ℕ) → slice_get (utf8_sequences lo hi) i ≡ Some rs →
@@ -14,8 +14,8 @@ ghost use Rattle.search_core.specs.Utf8.{Spells};
 ghost use Rattle.std.specs.Char.{encode_utf8};
 ghost use Rattle.hir_core.specs.Sequences.{spelling_of, utf8_sequences, is_in_ranges, begins_in_ranges};
 
-/// Every spelling of a scalar of the range is a string of one of the sequences, and no string is one of
-/// two of them.
+/// Every spelling of a scalar of the range is a string of one of the sequences, and no string is one of two of
+/// them.
 pub fn spellings_have_one_sequence()
     ensures some { (lo hi c : ℕ) (s : List ℕ) → lo ≤ c → c ≤ hi → Spells c s →
         (i : ℕ) × (ranges : List (ℕ × ℕ)) × (slice_get (utf8_sequences lo hi) i ≡ Some ranges) × (is_in_ranges ranges s ≡ true) }
@@ -43,13 +43,14 @@ pub fn sequences_are_short()
         (1 ≤ length ranges) × (length ranges ≤ 4) × ((k : ℕ) (r : ℕ × ℕ) → slice_get ranges k ≡ Some r → (r.0 ≤ r.1) × (r.1 < 256)) }
 {}
 
-/// To begin with a string of a sequence is to have so many bytes that are one.
+/// Bytes begin with a string of a sequence exactly if their first bytes, as many as the sequence has ranges, are
+/// such a string.
 #[tactic(auto, using(crate::proofs::SequenceLemmas::begins_with))]
 pub fn beginnings_are_strings()
     ensures { (ranges : List (ℕ × ℕ)) (bytes : List ℕ) → begins_in_ranges ranges bytes ≡ is_in_ranges ranges (take (length ranges) bytes) }
 {}
 
-/// All scalars have the rows of Table 3-7 of the Unicode Standard.
+/// The sequences of all scalars are the rows of Table 3-7 of the Unicode Standard.
 pub fn all_scalars_have_the_rows_of_the_table()
     ensures { utf8_sequences 0 0x10FFFF ≡
         ((0x00, 0x7F) ∷ [])
@@ -63,8 +64,7 @@ pub fn all_scalars_have_the_rows_of_the_table()
         ∷ ((0xF4, 0xF4) ∷ (0x80, 0x8F) ∷ (0x80, 0xBF) ∷ (0x80, 0xBF) ∷ []) ∷ [] }
 {}
 
-/// The bytes that sequences are made of are those of std's `encode_utf8`, and what the table of UTF-8 says
-/// that they are.
+/// The bytes from which sequences are made are those of std's `encode_utf8`, and those of the table of UTF-8.
 #[tactic(auto, using(crate::proofs::SequenceLemmas::spelled_encoded, crate::proofs::SequenceLemmas::spelled_by))]
 pub fn spellings_are_encoded()
     ensures encoded { (c : ℕ) → spelling_of c ≡ encode_utf8 c }

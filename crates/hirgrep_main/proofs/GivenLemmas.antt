@@ -1,5 +1,6 @@
 -- Patterns that are appended text after text.
-use Rattle.std.proofs.Common.{◌≡◌, ◌≢◌, ◌∙◌, ◌==◌, ℕ, ◌+◌, Bool, true, false, List, [], ◌∷◌, ◌++◌, length, ap, cond, sym, refl, append_assoc, arith}
+use Rattle.std.proofs.Common.{◌≡◌, ◌≢◌, ◌∙◌, ◌==◌, ℕ, ◌+◌, Bool, true, false, List, [], ◌∷◌, ◌++◌, length, ap, cond, sym, refl}
+use Rattle.std.proofs.Common.{append_assoc, arith}
 use Rattle.std.proofs.lemmas.Bool.Decides.{nat_tests}
 use Rattle.std.specs.Prelude.{MatchOption, Option, Some, None, unwrap_or}
 use Rattle.std.specs.Borrow.{Bor}
@@ -56,8 +57,10 @@ pub files_on : (crlf : Bool) (old now new : List (List ℕ)) (k : ℕ) (text : L
     → AreOfFiles crlf old new (k + 1)
 files_on crlf old now new k text (texts, count, e) f =
     let all : flat_map (patterns_of_file crlf) texts ++ patterns_of_file crlf text ≡ flat_map (patterns_of_file crlf) (texts ++ text ∷ []) =
-    ap (λ xs. flat_map (patterns_of_file crlf) texts ++ xs) (sym (one_text crlf text)) ∙ sym (flat_map-append (patterns_of_file crlf) texts (text ∷ [])) in (
+    ap (λ xs. flat_map (patterns_of_file crlf) texts ++ xs) (sym (one_text crlf text)) ∙
+    sym (flat_map-append (patterns_of_file crlf) texts (text ∷ [])) in (
       texts ++ text ∷ [],
       length_push texts text ∙ ap (λ m. m + 1) count,
-      f ∙ (ap (λ m. m ++ patterns_of_file crlf text) e ∙ (append_assoc old (flat_map (patterns_of_file crlf) texts) (patterns_of_file crlf text) ∙ ap (λ m. old ++ m) all)),
+      f ∙ (ap (λ m. m ++ patterns_of_file crlf text) e ∙ (append_assoc old (flat_map (patterns_of_file crlf) texts) (patterns_of_file crlf
+          text) ∙ ap (λ m. old ++ m) all)),
     )

@@ -2,7 +2,7 @@
 use Rattle.std.proofs.Common.{◌≡◌, ℕ, Bool, true, ◌||◌, ◌&&◌, nat_lt, ap, sym, subst, refl}
 use Rattle.std.specs.Prelude.{Result, Ok, Err}
 use Rattle.grep_core.specs.declared.fault.Fault.{Fault}
-use Rattle.grep_core.specs.declared.what.Print.{Print}
+use Rattle.grep_core.specs.declared.output_options.Print.{Print}
 use Rattle.hirgrep_main.specs.declared.outcome.Outcome.{Outcome}
 use Rattle.hirgrep_main.specs.Decisions.{prints_nothing}
 use Rattle.hirgrep_main.specs.Outcomes.{Continues, after_search, is_of_output, with_failure}
@@ -24,8 +24,8 @@ continues_on p q = record {
 pub continues_failed : (o : Outcome) → Continues o (with_failure o)
 continues_failed o = record { selected = λ e. e; printed = λ e. e; failed = λ e. refl; ended = λ e. e }
 
-pub continues_searched : (print : Print) (o : Outcome) (bytes : ℕ) (wrote : Bool) (told : Result ℕ Fault)
-    → Continues o (after_search print o bytes wrote told)
+pub continues_searched : (print : Print) (o : Outcome) (bytes : ℕ) (wrote : Bool) (reported : Result ℕ Fault)
+    → Continues o (after_search print o bytes wrote reported)
 continues_searched print o bytes wrote (Ok n) = record {
   selected = or_stays o.selected (nat_lt 0 n);
   printed = or_stays o.printed wrote;

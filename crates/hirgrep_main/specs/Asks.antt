@@ -1,20 +1,20 @@
--- What each option asks for. The options go by their long names, under which the matches of the command line hold what was given.
+-- What each option asks for. Options are identified by their long names, under which the matches of the command line hold what was given.
 use Rattle.std.specs.Prelude.{ℕ, Bool, true, false, List, codes, Option, Some, None, unwrap_or, if◌then◌else◌}
 use Rattle.std.specs.Option.{option_or}
 use Rattle.clap.specs.Words.{first_value}
 use Rattle.clap.specs.declared.parser.matches.Found.{Found}
 use Rattle.grep_options.specs.Options.{is_set, is_text, limit_given, number_given}
-use Rattle.grep_core.specs.declared.patterns.How.{How}
-use Rattle.grep_core.specs.declared.what.Context.{Context}
-use Rattle.grep_core.specs.declared.what.Print.{Print}
-use Rattle.grep_core.specs.declared.what.Print.TheVariants.{Lines, Matches, Count, NameIfAny, NameIfNone, Nothing}
-use Rattle.grep_core.specs.declared.what.What.{What}
+use Rattle.grep_core.specs.declared.patterns.PatternOptions.{PatternOptions}
+use Rattle.grep_core.specs.declared.output_options.Context.{Context}
+use Rattle.grep_core.specs.declared.output_options.Print.{Print}
+use Rattle.grep_core.specs.declared.output_options.Print.TheVariants.{Lines, Matches, Count, NameIfAny, NameIfNone, Nothing}
+use Rattle.grep_core.specs.declared.output_options.OutputOptions.{OutputOptions}
 use Rattle.hirgrep_main.specs.declared.asked.Asked.{Asked}
 use Rattle.hirgrep_main.specs.declared.asked.Names.{Names}
 use Rattle.hirgrep_main.specs.declared.asked.Names.TheVariants.{Always, Never, IfSeveral}
 
--- -F, -i, -x, -w, --crlf: how patterns are meant
-abbrev pub how_of : Found → How
+-- -F, -i, -x, -w, --crlf: how patterns are interpreted.
+abbrev pub how_of : Found → PatternOptions
 how_of f = record {
   fixed = is_set f (codes "fixed-strings");
   ignore_case = is_set f (codes "ignore-case");
@@ -23,7 +23,7 @@ how_of f = record {
   crlf = is_set f (codes "crlf");
 }
 
--- -q, -L, -l, -c, -o: of several options, the one counts that prints least
+-- -q, -L, -l, -c, -o: of several options, the one that prints least takes effect.
 abbrev pub print_of : Found → Print
 print_of f =
     if is_set f (codes "quiet") then Nothing
@@ -33,18 +33,18 @@ print_of f =
     else if is_set f (codes "only-matching") then Matches
     else Lines
 
--- lines before and after each selected line, where either is asked for
+-- The numbers of lines before and after each selected line, if either is asked for.
 abbrev pub context_by : Option ℕ → Option ℕ → Option Context
 context_by None None = None
 context_by (Some before) after = Some (record { before = before; after = unwrap_or after 0 })
 context_by None (Some after) = Some (record { before = 0; after = after })
 
--- -B, -A, -C: the first two count over the third
+-- -B, -A, -C: the first two take precedence over the third.
 abbrev pub context_of : Found → Option Context
 context_of f = context_by (option_or (number_given f (codes "before-context")) (number_given f (codes "context")))
     (option_or (number_given f (codes "after-context")) (number_given f (codes "context")))
 
--- --color: `auto` marks what goes to a terminal with colours
+-- --color: `auto` marks what goes to a terminal that supports colours.
 abbrev pub color_by : Option (List ℕ) → Bool → Bool
 color_by word is_colorful =
     if is_text (codes "always") word then true
@@ -59,7 +59,7 @@ asked_names f =
     else IfSeveral
 
 -- -v, -n, -b, -m, and what is above
-abbrev pub what_of : Found → Bool → What
+abbrev pub what_of : Found → Bool → OutputOptions
 what_of f is_colorful = record {
   invert = is_set f (codes "invert-match");
   print = print_of f;
@@ -79,5 +79,5 @@ asked_of f is_colorful = record {
   recursive = is_set f (codes "recursive");
   silent = is_set f (codes "no-messages");
   stats = is_set f (codes "stats");
-  tells_input = is_set f (codes "tell-input");
+  reports_input = is_set f (codes "report-input");
 }

@@ -1,15 +1,15 @@
--- What options, and what came of the files, decide.
+-- What follows from the options, and from the outcome of the files.
 use Rattle.std.specs.Prelude.{ℕ, ◌+◌, ◌-◌, ◌^◌, min, Bool, true, false, not, ◌&&◌, nat_eq, Option, Some, None, if◌then◌else◌}
-use Rattle.grep_core.specs.declared.what.Print.{Print}
-use Rattle.grep_core.specs.declared.what.Print.TheVariants.{Lines, Matches, Count, NameIfAny, NameIfNone, Nothing}
-use Rattle.grep_core.specs.declared.what.What.{What}
-use Rattle.grep_core.specs.Telling.{prints_lines}
+use Rattle.grep_core.specs.declared.output_options.Print.{Print}
+use Rattle.grep_core.specs.declared.output_options.Print.TheVariants.{Lines, Matches, Count, NameIfAny, NameIfNone, Nothing}
+use Rattle.grep_core.specs.declared.output_options.OutputOptions.{OutputOptions}
+use Rattle.grep_core.specs.Reporting.{prints_lines}
 use Rattle.hirgrep_main.specs.declared.asked.Names.{Names}
 use Rattle.hirgrep_main.specs.declared.asked.Names.TheVariants.{Always, Never, IfSeveral}
 
 -- ---- what is asked for
 
--- nothing is printed, so the first selected line answers
+-- Nothing is printed, so the first selected line decides.
 abbrev pub prints_nothing : Print → Bool
 prints_nothing Lines = false
 prints_nothing Matches = false
@@ -18,7 +18,7 @@ prints_nothing NameIfAny = false
 prints_nothing NameIfNone = false
 prints_nothing Nothing = true
 
--- names of files without a selected line are printed
+-- The names of files without a selected line are printed.
 abbrev pub prints_names_if_none : Print → Bool
 prints_names_if_none Lines = false
 prints_names_if_none Matches = false
@@ -27,30 +27,31 @@ prints_names_if_none NameIfAny = false
 prints_names_if_none NameIfNone = true
 prints_names_if_none Nothing = false
 
--- no more lines are selected than this number, and so many may be
+-- This number is the greatest number of lines that may be selected.
 abbrev pub is_most : ℕ → Option ℕ → Bool
 is_most n None = false
 is_most n (Some most) = nat_eq most n
 
 -- ---- what follows
 
--- a file that is written while it is read could be read for ever: lines are printed, and the first isn't the last one
-abbrev pub may_run_on : What → Bool
+-- Reading a file that is written at the same time could go on forever: lines are printed, and the first isn't the last one.
+abbrev pub may_run_on : OutputOptions → Bool
 may_run_on what = prints_lines what.print && not (is_most 1 what.most)
 
--- no line can be selected, and nothing is printed whatever the texts are
-abbrev pub selects_none : What → Bool
+-- No line can be selected, and nothing is printed whatever the inputs are.
+abbrev pub selects_none : OutputOptions → Bool
 selects_none what = is_most 0 what.most && not (prints_names_if_none what.print)
 
--- whether names stand before lines, where several files may be searched or only one
+-- Whether names are printed before lines, depending on whether several files may be searched.
 abbrev pub shows_names : Names → Bool → Bool
 shows_names Always several = true
 shows_names Never several = false
 shows_names IfSeveral several = several
 
--- ---- what came
+-- ---- the outcome
 
--- the status: 2 where something failed, but for a search that prints nothing and found a line, and else whether a line was selected
+-- The exit status. It is 0 if the search prints nothing and selected a line. Otherwise it is 2 after an error. Otherwise it is 0 if a line
+-- was selected, and 1 if none was.
 abbrev pub status : Print → Bool → Bool → ℕ
 status print selected failed =
     if prints_nothing print && selected then 0
@@ -58,6 +59,6 @@ status print selected failed =
     else if selected then 0
     else 1
 
--- a number of 64 bits that n was added to; the greatest stands for any above it
+-- A number of 64 bits to which n was added. The greatest number stands for any number above it.
 abbrev pub counted : ℕ → ℕ → ℕ
 counted old n = min (old + n) (2 ^ 64 - 1)

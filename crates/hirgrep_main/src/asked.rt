@@ -4,40 +4,40 @@ ghost use Rattle.clap.specs.Words.{first_value, found_of};
 ghost use Rattle.hirgrep_main.specs.Asks.{asked_of, color_by, context_by, context_of, how_of, asked_names, print_of, what_of};
 
 use clap::ArgMatches;
-use grep_core::{Context, How, Print, What};
+use grep_core::{Context, OutputOptions, PatternOptions, Print};
 use grep_options::{is_set, limit, number};
 use std::env;
 use std::io::IsTerminal;
 use std::rt::Runtime;
 
-/// Whether the names of files stand before lines.
+/// Whether file names are printed before lines.
 #[derive(Clone, Copy, PartialEq, Eq)]
 pub enum Names {
     Always,
     Never,
-    /// Where there are several files.
+    /// If there are several files.
     IfSeveral,
 }
 
 /// What is asked for.
 #[derive(Clone, Copy)]
 pub struct Asked {
-    pub how: How,
-    pub what: What,
+    pub how: PatternOptions,
+    pub what: OutputOptions,
     pub names: Names,
     pub recursive: bool,
-    /// Files that can't be read aren't told of.
+    /// Suppresses messages about files that can't be read.
     pub silent: bool,
     pub stats: bool,
-    /// Where standard input is read, standard error tells it.
-    pub tells_input: bool,
+    /// Reports on standard error when standard input is about to be read.
+    pub reports_input: bool,
 }
 
-/// How patterns are meant.
-fn how_of(matches: &ArgMatches<'_>) -> How
+/// How patterns are interpreted.
+fn how_of(matches: &ArgMatches<'_>) -> PatternOptions
     ensures { result ≡ how_of (found_of matches.now) }
 {
-    How {
+    PatternOptions {
         fixed: is_set(matches, "fixed-strings"),
         ignore_case: is_set(matches, "ignore-case"),
         lines: is_set(matches, "line-regexp"),
@@ -46,7 +46,7 @@ fn how_of(matches: &ArgMatches<'_>) -> How
     }
 }
 
-/// What is printed: of several options the one that prints least counts. Of `-l` and `-L` the later one has turned off the other.
+/// What is printed. Of several options, the one that prints least takes effect. Of `-l` and `-L`, the later one has turned off the other.
 fn print_of(matches: &ArgMatches<'_>) -> Print
     ensures { result ≡ print_of (found_of matches.now) }
 {
@@ -68,7 +68,7 @@ fn print_of(matches: &ArgMatches<'_>) -> Print
     Print::Lines
 }
 
-/// Lines before and after each selected line, where either is asked for.
+/// The numbers of lines before and after each selected line, if either is asked for.
 fn context_by(before: Option<u64>, after: Option<u64>) -> Option<Context>
     ensures { result ≡ context_by before after }
 {
@@ -81,7 +81,7 @@ fn context_by(before: Option<u64>, after: Option<u64>) -> Option<Context>
     }
 }
 
-/// Lines of context: `-B` and `-A` count over `-C`.
+/// The context lines: `-B` and `-A` take precedence over `-C`.
 fn context_of(matches: &ArgMatches<'_>) -> Option<Context>
     ensures { result ≡ context_of (found_of matches.now) }
 {
@@ -91,7 +91,7 @@ fn context_of(matches: &ArgMatches<'_>) -> Option<Context>
     context_by(before, after)
 }
 
-/// Whether standard output is a terminal with colours.
+/// Whether standard output is a terminal that supports colours.
 pub fn is_colorful(rt: &HostRuntime) -> bool {
     match env::var(rt, "TERM") {
         Ok(term) => rt.stdout().is_terminal() && term.as_str() != "dumb",
@@ -99,7 +99,7 @@ pub fn is_colorful(rt: &HostRuntime) -> bool {
     }
 }
 
-/// Whether matches and names are marked, where standard output is a terminal with colours or isn't.
+/// Whether matches and names are marked. `is_colorful` says whether standard output is a terminal that supports colours.
 fn color_of(matches: &ArgMatches<'_>, is_colorful: bool) -> bool
     ensures { result ≡ color_by (first_value (found_of matches.now) (codes "color")) is_colorful }
 {
@@ -110,7 +110,7 @@ fn color_of(matches: &ArgMatches<'_>, is_colorful: bool) -> bool
     }
 }
 
-/// Whether the names of files stand before lines. Of `-h` and `-H` the later one has turned off the other.
+/// Whether file names are printed before lines. Of `-h` and `-H`, the later one has turned off the other.
 fn names_of(matches: &ArgMatches<'_>) -> Names
     ensures { result ≡ asked_names (found_of matches.now) }
 {
@@ -123,11 +123,11 @@ fn names_of(matches: &ArgMatches<'_>) -> Names
     Names::IfSeveral
 }
 
-/// What is printed of each text.
-fn what_of(matches: &ArgMatches<'_>, is_colorful: bool) -> What
+/// What is printed for each input.
+fn what_of(matches: &ArgMatches<'_>, is_colorful: bool) -> OutputOptions
     ensures { result ≡ what_of (found_of matches.now) is_colorful }
 {
-    What {
+    OutputOptions {
         invert: is_set(matches, "invert-match"),
         print: print_of(matches),
         numbers: is_set(matches, "line-number"),
@@ -138,7 +138,7 @@ fn what_of(matches: &ArgMatches<'_>, is_colorful: bool) -> What
     }
 }
 
-/// What the options ask for, where standard output is a terminal with colours or isn't.
+/// What the options ask for. `is_colorful` says whether standard output is a terminal that supports colours.
 pub fn asked_of(matches: &ArgMatches<'_>, is_colorful: bool) -> Asked
     ensures { result ≡ asked_of (found_of matches.now) is_colorful }
 {
@@ -149,6 +149,6 @@ pub fn asked_of(matches: &ArgMatches<'_>, is_colorful: bool) -> Asked
         recursive: is_set(matches, "recursive"),
         silent: is_set(matches, "no-messages"),
         stats: is_set(matches, "stats"),
-        tells_input: is_set(matches, "tell-input"),
+        reports_input: is_set(matches, "report-input"),
     }
 }

@@ -1,10 +1,10 @@
-//! A reader that counts.
+//! A reader that counts bytes.
 ghost use Rattle.std.specs.Prelude.{◌≡◌};
 
 use std::io;
 use std::io::Read;
 
-/// A reader, and how many bytes it gave.
+/// A reader, and how many bytes it returned.
 #[derive(Drop)]
 pub struct Counting<R> {
     reader: R,
@@ -19,7 +19,7 @@ impl<R> Counting<R> {
         Counting { reader, count: 0 }
     }
 
-    /// How many bytes it gave; the greatest number stands for any above it.
+    /// How many bytes it returned. The greatest number stands for any number above it.
     pub fn count(&self) -> u64
         ensures { result ≡ self.now.count }
     {

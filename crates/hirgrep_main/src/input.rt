@@ -6,7 +6,7 @@ use std::rt::Runtime;
 
 /// Standard input, which is about to be read.
 pub fn input(rt: &HostRuntime, asked: &Asked) -> Stdin {
-    if asked.tells_input {
+    if asked.reports_input {
         let _ = eprintln!(rt; "input=read");
     }
     rt.stdin()

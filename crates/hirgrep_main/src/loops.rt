@@ -1,4 +1,4 @@
-//! Where a pattern repeats without a bound what may be empty.
+//! Finds where a pattern has an empty loop: an unbounded repetition whose body can match the empty string.
 
 use hirscan::first_empty_loop;
 use pattern_search::parse_all;
@@ -6,25 +6,25 @@ use pattern_text::{Config, ParseError};
 use regex_syntax::ErrorKind;
 use std::alloc::{AllocError, Global};
 
-/// The place isn't looked for in a pattern of more bytes.
+/// The length in bytes of the longest pattern in which the empty loop is located.
 const LONGEST: usize = 4096;
 
-/// What a beginning of a pattern is, with some groups closed behind it.
+/// What a prefix of a pattern is, with some closing parentheses after it.
 #[derive(Clone, Copy)]
 enum Begun {
-    /// A pattern without such a repetition.
+    /// A pattern without an empty loop.
     Plain,
-    /// A pattern with one.
+    /// A pattern with an empty loop.
     Looping,
     /// A group is still open.
     Open,
     /// More groups are closed than were opened.
     Closed,
-    /// No pattern, for another cause.
+    /// A text that can't be parsed for another reason.
     Unread,
 }
 
-/// The beginning, a line feed, which ends a comment, and so many groups closed behind that.
+/// The prefix, a line feed, which ends a comment, and after it this many closing parentheses.
 fn closed(alloc: Global, beginning: &str, open: usize) -> Result<String, AllocError> {
     let mut text = String::from_str(alloc, beginning)?;
     text.push('\n')?;
@@ -55,7 +55,7 @@ fn read_begun(alloc: Global, config: &Config, text: &str) -> Result<Begun, Alloc
     }
 }
 
-/// Whether the beginning has such a repetition. How many groups it leaves open is known of a shorter one, and is kept.
+/// Whether the prefix has an empty loop. `open` is the number of groups that a shorter prefix leaves open, and is updated for this one.
 fn has_loop(
     alloc: Global,
     config: &Config,
@@ -74,14 +74,14 @@ fn has_loop(
     Ok(false)
 }
 
-/// Whether such a repetition may end with this byte, but for a `?` that makes it prefer few rounds.
+/// Whether an unbounded repetition may end with this byte, apart from a `?` that makes it lazy.
 fn may_end_loop(byte: u8) -> bool {
     byte == b'*' || byte == b'+' || byte == b'}'
 }
 
-/// The place of the last byte of the first repetition without a bound of what may be empty: where the shortest beginning of the pattern
-/// ends that has one once its groups are closed. A pattern above 4096 bytes isn't searched for it.
-pub fn loop_place(
+/// The offset of the last byte of the first empty loop. That is where the shortest prefix of the pattern ends that has one once its groups
+/// are closed. A pattern of more than 4096 bytes isn't searched for it.
+pub fn loop_offset(
     alloc: Global,
     config: &Config,
     pattern: &str,

@@ -1,5 +1,5 @@
-//! The program `hirgrep`: prints the lines of files, or of standard input, in which a pattern matches.
-//! Its status is 0 where a line is selected, 1 where none is, and 2 where something fails, which standard error tells.
+//! The program `hirgrep` prints the lines of files, or of standard input, in which a pattern matches. Its exit status is 0 if a line is
+//! selected, 1 if none is, and 2 after an error, which is reported on standard error.
 #![tactic(auto)]
 
 ghost use Rattle.std.specs.Prelude.{◌≡◌, [], IfOk};
@@ -27,7 +27,7 @@ use std::env;
 use std::process::ExitCode;
 use std::rt::Runtime;
 
-/// Goes to the folders that are named, each from the one before. The answer is no where that fails, which is told.
+/// Changes to the folders that are named, each relative to the one before. Returns false if that fails, after reporting the error.
 fn enter(rt: &HostRuntime, folders: &[&str]) -> bool {
     for folder in folders {
         if let Err(e) = env::set_current_dir(rt, *folder) {
@@ -38,7 +38,7 @@ fn enter(rt: &HostRuntime, folders: &[&str]) -> bool {
     true
 }
 
-/// Searches for patterns that options give.
+/// Searches for the patterns that options give.
 fn run_given(
     rt: &HostRuntime,
     asked: &Asked,
@@ -51,7 +51,7 @@ fn run_given(
     }
 }
 
-/// Searches for the pattern that is the first of the words, which are no options.
+/// Searches for the patterns in the first operand, one on each line. The other operands are files.
 fn run_words(rt: &HostRuntime, asked: &Asked, words: &[&str]) -> Result<Outcome, AllocError>
     ensures { words.now ≡ [] → IfOk result (λ o. o ≡ with_failure no_outcome) }
 {
@@ -61,13 +61,13 @@ fn run_words(rt: &HostRuntime, asked: &Asked, words: &[&str]) -> Result<Outcome,
             search(rt, asked, patterns.as_slice(), files)
         }
         None => {
-            let _ = eprintln!(rt; "hirgrep: no pattern; hirgrep --help tells what there is");
+            let _ = eprintln!(rt; "hirgrep: no pattern; see hirgrep --help");
             Ok(Outcome::failure())
         }
     }
 }
 
-/// Searches as is asked for, in the folder that is named, if it is there.
+/// Runs the search that the options ask for, in the folder that is named, if there is one.
 fn run_asked(
     rt: &HostRuntime,
     asked: &Asked,

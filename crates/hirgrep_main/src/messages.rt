@@ -1,15 +1,15 @@
-//! What standard error tells of patterns that are refused, and of texts that aren't searched to their end.
+//! Messages on standard error for patterns that are rejected, and for inputs that aren't searched to their end.
 
-use crate::loops::loop_place;
+use crate::loops::loop_offset;
 use grep_core::{Fault, SearcherError};
 use hirhead::pointed;
-use pattern_search::TextError;
+use pattern_search::PatternError;
 use pattern_text::{Config, ParseError};
 use std::alloc::AllocError;
 use std::rt::Runtime;
 
-/// Tells why something can't be done with a pattern, and shows the place, where one is known.
-fn tell_pattern(
+/// Reports a message about a pattern, and shows the offset in the pattern if one is known.
+fn report_pattern(
     rt: &HostRuntime,
     number: usize,
     message: &str,
@@ -27,18 +27,23 @@ fn tell_pattern(
     Ok(())
 }
 
-/// Tells why a pattern is refused, and shows the place.
-fn tell_refused(rt: &HostRuntime, patterns: &[&str], error: TextError) -> Result<(), AllocError> {
+/// Reports why a pattern is rejected, and shows the offset of the error.
+fn report_refused(
+    rt: &HostRuntime,
+    patterns: &[&str],
+    error: PatternError,
+) -> Result<(), AllocError> {
     let number = error.number;
     let ParseError::Refused { kind, span } = error.error else {
         return Err(AllocError);
     };
     let pattern = patterns.get(number).copied().unwrap_or("");
-    tell_pattern(rt, number, kind.message(), pattern, Some(span.start))
+    report_pattern(rt, number, kind.message(), pattern, Some(span.start))
 }
 
-/// Tells that matches of a pattern are asked for that repeats without a bound what may be empty, and shows where it does.
-fn tell_loop(
+/// Reports that matches can't be printed or marked for a pattern with an unbounded repetition whose body can match the empty string. Shows
+/// where that repetition is.
+fn report_loop(
     rt: &HostRuntime,
     config: &Config,
     patterns: &[&str],
@@ -47,12 +52,12 @@ fn tell_loop(
     let message =
         "matches can't be printed or marked, since what is repeated without a bound may be empty";
     let pattern = patterns.get(number).copied().unwrap_or("");
-    let place = loop_place(rt.alloc(), config, pattern)?;
-    tell_pattern(rt, number, message, pattern, place)
+    let place = loop_offset(rt.alloc(), config, pattern)?;
+    report_pattern(rt, number, message, pattern, place)
 }
 
-/// Tells why there is no finder of these texts, which are the patterns in the syntax that is parsed, under these options.
-pub fn tell_no_finder(
+/// Reports why no finder can be built. `texts` are the patterns in the syntax that is parsed under these options.
+pub fn report_no_finder(
     rt: &HostRuntime,
     config: &Config,
     patterns: &[&str],
@@ -60,8 +65,8 @@ pub fn tell_no_finder(
     error: SearcherError,
 ) -> Result<(), AllocError> {
     match error {
-        SearcherError::Text(error) => tell_refused(rt, texts, error),
-        SearcherError::EmptyLoop(number) => tell_loop(rt, config, patterns, number),
+        SearcherError::Text(error) => report_refused(rt, texts, error),
+        SearcherError::EmptyLoop(number) => report_loop(rt, config, patterns, number),
         SearcherError::Build(error) => {
             let _ = eprintln!(rt; "hirgrep: the patterns are too large: {error}");
             Ok(())
@@ -69,8 +74,8 @@ pub fn tell_no_finder(
     }
 }
 
-/// Tells why the text of this name isn't searched to its end.
-pub fn tell_fault(rt: &HostRuntime, name: &str, fault: Fault) {
+/// Reports why the input with this name isn't searched to its end.
+pub fn report_fault(rt: &HostRuntime, name: &str, fault: Fault) {
     let said = match fault {
         Fault::Read(cause) => {
             let _ = eprintln!(rt; "hirgrep: {name}: {cause}");
@@ -83,7 +88,7 @@ pub fn tell_fault(rt: &HostRuntime, name: &str, fault: Fault) {
         Fault::NoMemory => "out of memory",
         Fault::TooLong => "a line above 1 GiB, or too many of them",
         Fault::TooLarge =>
-            "the patterns are too large for a line with what isn't ASCII beside a word boundary",
+            "the patterns are too large to search a line with non-ASCII text next to a word boundary",
     };
     let _ = eprintln!(rt; "hirgrep: {name}: {said}");
 }

@@ -1,17 +1,17 @@
-//! What comes of a search.
+//! The outcome of a search.
 ghost use Rattle.std.specs.Prelude.{◌≡◌, nat_lt};
 ghost use Rattle.hirgrep_main.specs.Decisions.{prints_nothing, status};
 ghost use Rattle.hirgrep_main.specs.Outcomes.{after_result, after_search, is_of_output, known_of, no_outcome};
 ghost use Rattle.hirgrep_main.specs.Outcomes.{with_failure, with_file, with_lines};
 
 use crate::asked::Asked;
-use crate::messages::tell_fault;
-use grep_core::{Fault, Finder, Known, Print};
+use crate::messages::report_fault;
+use grep_core::{Fault, Finder, Print, SeparatorState};
 use std::io;
 use std::io::ErrorKind;
 use std::rt::Runtime;
 
-/// What came of the files so far.
+/// The outcome of the files so far.
 #[derive(Clone, Copy)]
 pub struct Outcome {
     /// A line was selected.
@@ -20,17 +20,17 @@ pub struct Outcome {
     pub printed: bool,
     /// Something failed.
     pub failed: bool,
-    /// Nothing more is searched: what is printed can't be written, or all is known that is asked for.
+    /// Nothing more is searched: the output can't be written, or the answer is known.
     pub ended: bool,
-    /// How many files were read, standard input among them.
+    /// How many files were read, including standard input.
     pub files: u64,
-    /// How many bytes were read of them.
+    /// How many bytes were read from them.
     pub bytes: u64,
-    /// How many lines were selected; of a file of which no more is asked than whether it has one, one stands for all.
+    /// How many lines were selected. If all that is asked of a file is whether it has one, at most one is counted for it.
     pub lines: u64,
 }
 
-/// Whether what is printed can't be written.
+/// Whether the fault is that output can't be written.
 fn is_of_output(fault: Fault) -> bool
     ensures { result ≡ is_of_output fault }
 {
@@ -40,7 +40,7 @@ fn is_of_output(fault: Fault) -> bool
     }
 }
 
-/// Whether nothing is printed, so that the first selected line answers.
+/// Whether nothing is printed, so that the first selected line decides.
 fn prints_nothing(print: Print) -> bool
     ensures { result ≡ prints_nothing print }
 {
@@ -50,8 +50,8 @@ fn prints_nothing(print: Print) -> bool
     }
 }
 
-/// Whether standard error tells it: not that nobody reads a pipe any more, and of files that can't be read only where that is asked for.
-fn is_told(asked: &Asked, fault: Fault) -> bool {
+/// Whether the fault is reported on standard error. A broken pipe isn't, and with `-s` a file that can't be read isn't.
+fn is_reported(asked: &Asked, fault: Fault) -> bool {
     match fault {
         Fault::Write(cause) => cause != ErrorKind::BrokenPipe,
         Fault::Read(_) => !asked.silent,
@@ -60,7 +60,7 @@ fn is_told(asked: &Asked, fault: Fault) -> bool {
 }
 
 impl Outcome {
-    /// Before the first file.
+    /// The outcome before the first file.
     pub fn new() -> Outcome
         ensures { result ≡ no_outcome }
     {
@@ -75,7 +75,7 @@ impl Outcome {
         }
     }
 
-    /// After a failure before the first file.
+    /// The outcome after a failure before the first file.
     pub fn failure() -> Outcome
         ensures { result ≡ with_failure no_outcome }
     {
@@ -84,7 +84,7 @@ impl Outcome {
         outcome
     }
 
-    /// Counts a file of which so many bytes were read.
+    /// Counts a file from which this many bytes were read.
     fn count(&mut self, bytes: u64)
         ensures { self.new ≡ with_file self.old bytes }
     {
@@ -92,7 +92,7 @@ impl Outcome {
         self.bytes = self.bytes.saturating_add(bytes);
     }
 
-    /// Counts the lines that were selected of a file. Returns whether there are any.
+    /// Counts the selected lines of a file. Returns whether there are any.
     fn count_lines(&mut self, lines: u64) -> bool
         ensures any { result ≡ nat_lt 0 lines }
         ensures counted { self.new ≡ with_lines self.old lines }
@@ -103,11 +103,11 @@ impl Outcome {
         any
     }
 
-    /// Keeps what the search of a file returned: how many lines are selected, or why it failed, without a message.
-    fn keep_result(&mut self, print: Print, told: Result<u64, Fault>)
-        ensures { self.new ≡ after_result print self.old told }
+    /// Records what the search of a file returned: how many lines are selected, or why it failed. It reports no message.
+    fn keep_result(&mut self, print: Print, reported: Result<u64, Fault>)
+        ensures { self.new ≡ after_result print self.old reported }
     {
-        match told {
+        match reported {
             Ok(lines) => {
                 let any = self.count_lines(lines);
                 self.ended |= any && prints_nothing(print);
@@ -119,19 +119,20 @@ impl Outcome {
         }
     }
 
-    /// Keeps what the search of the file of this name returned.
-    fn keep(&mut self, rt: &HostRuntime, asked: &Asked, name: &str, told: Result<u64, Fault>)
-        ensures { self.new ≡ after_result asked.now.what.print self.old told }
+    /// Records what the search of the file with this name returned, and reports a fault.
+    fn keep(&mut self, rt: &HostRuntime, asked: &Asked, name: &str, reported: Result<u64, Fault>)
+        ensures { self.new ≡ after_result asked.now.what.print self.old reported }
     {
-        if let Err(fault) = told {
-            if is_told(asked, fault) {
-                tell_fault(rt, name, fault);
+        if let Err(fault) = reported {
+            if is_reported(asked, fault) {
+                report_fault(rt, name, fault);
             }
         }
-        self.keep_result(asked.what.print, told);
+        self.keep_result(asked.what.print, reported);
     }
 
-    /// Keeps what came of the file of this name: how many bytes were read, whether anything was printed, and what its search returned.
+    /// Records the outcome of the file with this name: how many bytes were read, whether anything was printed, and what its search
+    /// returned.
     pub fn keep_search(
         &mut self,
         rt: &HostRuntime,
@@ -139,16 +140,16 @@ impl Outcome {
         name: &str,
         bytes: u64,
         wrote: bool,
-        told: Result<u64, Fault>,
+        reported: Result<u64, Fault>,
     )
-        ensures { self.new ≡ after_search asked.now.what.print self.old bytes wrote told }
+        ensures { self.new ≡ after_search asked.now.what.print self.old bytes wrote reported }
     {
         self.printed |= wrote;
         self.count(bytes);
-        self.keep(rt, asked, name, told);
+        self.keep(rt, asked, name, reported);
     }
 
-    /// Keeps that something can't be read.
+    /// Records that something can't be read.
     pub fn fail(&mut self, rt: &HostRuntime, asked: &Asked, path: &str, error: io::Error)
         ensures { self.new ≡ with_failure self.old }
     {
@@ -158,8 +159,8 @@ impl Outcome {
         }
     }
 
-    /// Keeps that something isn't searched, for this reason.
-    pub fn refuse(&mut self, rt: &HostRuntime, asked: &Asked, path: &str, reason: &str)
+    /// Records that something isn't searched, for this reason.
+    pub fn fail_with(&mut self, rt: &HostRuntime, asked: &Asked, path: &str, reason: &str)
         ensures { self.new ≡ with_failure self.old }
     {
         self.failed = true;
@@ -168,18 +169,18 @@ impl Outcome {
         }
     }
 
-    /// What is known of the lines of earlier files: some were printed where anything was selected or printed.
-    pub fn known(&self) -> Known
+    /// What is known of the lines of earlier files: some were printed if anything was selected or printed.
+    pub fn known(&self) -> SeparatorState
         ensures { result ≡ known_of self.now }
     {
         if self.selected || self.printed {
-            Known::EarlierPrinted
+            SeparatorState::EarlierPrinted
         } else {
-            Known::NonePrinted
+            SeparatorState::NonePrinted
         }
     }
 
-    /// 2 where something failed, but for a search that ended at a selected line and prints nothing.
+    /// The exit status. It is 2 after an error, except for a search that prints nothing and found a selected line.
     pub fn status(&self, asked: &Asked) -> u8
         ensures { result ≡ status asked.now.what.print self.now.selected self.now.failed }
     {
@@ -192,8 +193,8 @@ impl Outcome {
         if self.selected { 0 } else { 1 }
     }
 
-    /// Tells what the searches took.
-    pub fn tell_stats(&self, rt: &HostRuntime, finder: &Finder<'_>) {
+    /// Prints the statistics of the searches to standard error.
+    pub fn report_stats(&self, rt: &HostRuntime, finder: &Finder<'_>) {
         let files = self.files;
         let bytes = self.bytes;
         let selected = self.lines;

@@ -1,10 +1,10 @@
-//! A writer that knows whether it was given bytes.
+//! A writer that records whether bytes were written to it.
 ghost use Rattle.std.specs.Prelude.{◌≡◌, false};
 
 use std::io;
 use std::io::Write;
 
-/// A writer, and whether it was given bytes.
+/// A writer, and whether bytes were written to it.
 #[derive(Drop)]
 pub struct Output<W> {
     writer: W,
@@ -22,7 +22,7 @@ impl<W> Output<W> {
         }
     }
 
-    /// Whether it was given bytes.
+    /// Whether bytes were written to it.
     pub fn wrote(&self) -> bool
         ensures { result ≡ self.now.wrote }
     {

@@ -20,7 +20,7 @@ fn push_line(alloc: Global, patterns: &mut Vec<String>, line: &str) -> Result<()
     Ok(())
 }
 
-/// Appends the patterns in a text, one a line.
+/// Appends the patterns in a text, one on each line.
 fn push_lines(alloc: Global, patterns: &mut Vec<String>, text: &str) -> Result<(), AllocError>
     ensures { OnOk result (map string_bytes patterns.new.items ≡ map string_bytes patterns.old.items ++ lines_as_patterns text.now) }
 {
@@ -30,7 +30,7 @@ fn push_lines(alloc: Global, patterns: &mut Vec<String>, text: &str) -> Result<(
     Ok(())
 }
 
-/// The patterns that an argument gives, one a line.
+/// The patterns in an argument, one on each line.
 pub fn lines_of(alloc: Global, text: &str) -> Result<Vec<String>, AllocError>
     ensures { IfOk result (λ v. map string_bytes v.items ≡ lines_as_patterns text.now) }
 {
@@ -39,8 +39,8 @@ pub fn lines_of(alloc: Global, text: &str) -> Result<Vec<String>, AllocError>
     Ok(patterns)
 }
 
-/// Appends the patterns in a file of this text whose lines end as Windows has them: each without its line feed and one carriage return
-/// right before that.
+/// Appends the patterns in a file with this content, whose lines have Windows line endings. Each pattern is a line without its line feed
+/// and without one carriage return right before that.
 fn push_file_lines(alloc: Global, patterns: &mut Vec<String>, text: &str) -> Result<(), AllocError>
     ensures { OnOk result (map string_bytes patterns.new.items ≡ map string_bytes patterns.old.items ++ lines text.now) }
 {
@@ -50,7 +50,7 @@ fn push_file_lines(alloc: Global, patterns: &mut Vec<String>, text: &str) -> Res
     Ok(())
 }
 
-/// Appends the patterns in a file of this text, one a line; an empty file gives none.
+/// Appends the patterns in a file with this content, one on each line. An empty file has none.
 fn push_text(
     alloc: Global,
     patterns: &mut Vec<String>,
@@ -69,7 +69,7 @@ fn push_text(
     push_lines(alloc, patterns, lines)
 }
 
-/// Appends the patterns that arguments give.
+/// Appends the patterns in arguments.
 fn push_given(alloc: Global, patterns: &mut Vec<String>, given: &[&str]) -> Result<(), AllocError>
     ensures { OnOk result (map string_bytes patterns.new.items
         ≡ map string_bytes patterns.old.items ++ flat_map lines_as_patterns (map (λ s. s.now) given.now)) }
@@ -87,7 +87,7 @@ fn read_file(rt: &HostRuntime, asked: &Asked, name: &str) -> io::Result<String> 
     fs::read_to_string(rt, name)
 }
 
-/// The text of a file of patterns. There is none where it can't be read, which is told.
+/// The content of a file of patterns. If it can't be read, reports the error and returns none.
 fn text_of(rt: &HostRuntime, asked: &Asked, name: &str) -> Option<String> {
     match read_file(rt, asked, name) {
         Ok(text) => Some(text),
@@ -98,7 +98,7 @@ fn text_of(rt: &HostRuntime, asked: &Asked, name: &str) -> Option<String> {
     }
 }
 
-/// Appends the patterns that files give. The answer is no where one can't be read, which is told.
+/// Appends the patterns in files. Returns false if a file can't be read, after reporting the error.
 fn push_files(
     rt: &HostRuntime,
     asked: &Asked,
@@ -106,7 +106,8 @@ fn push_files(
     names: &[&str],
 ) -> Result<bool, AllocError>
     ensures { IfOk result (λ is_read. IsTrue is_read → (texts : List (List ℕ)) × (length texts ≡ length names.now)
-        × (map string_bytes patterns.new.items ≡ map string_bytes patterns.old.items ++ flat_map (patterns_of_file asked.now.how.crlf) texts)) }
+        × (map string_bytes patterns.new.items ≡ map string_bytes patterns.old.items ++ flat_map (patterns_of_file asked.now.how.crlf)
+        texts)) }
 {
     for name in names {
         let Some(text) = text_of(rt, asked, name) else {
@@ -117,14 +118,14 @@ fn push_files(
     Ok(true)
 }
 
-/// Whether `-e` or `-f` gives patterns, so that all other words are files.
+/// Whether `-e` or `-f` gives patterns, so that all operands are files.
 pub fn gives_patterns(matches: &ArgMatches<'_>) -> bool
     ensures { result ≡ gives_patterns (found_of matches.now) }
 {
     matches.contains_id("regexp") || matches.contains_id("file")
 }
 
-/// The patterns that `-e` and `-f` give, or none where a file of them can't be read, which is told.
+/// The patterns that `-e` and `-f` give. If a file of them can't be read, reports the error and returns none.
 pub fn patterns_of(
     rt: &HostRuntime,
     asked: &Asked,

@@ -1,10 +1,10 @@
-//! Searching files, one after the other.
+//! Searches files, one after the other.
 ghost use Rattle.std.specs.Prelude.{◌≡◌, ℕ, Bool, true, false, Result, IfErr, IfOk, IfSome, OnOk, map, string_bytes, take, if◌then◌else◌};
 ghost use Rattle.std.specs.Io.KnownBytes.{Appends};
 ghost use Rattle.grep_core.specs.Meant.{written};
 ghost use Rattle.grep_core.specs.Report.{counted_as, report, selected_count};
 ghost use Rattle.grep_core.specs.Searchers.{SearchesFor, found_by};
-ghost use Rattle.grep_core.specs.Telling.{needs_spans, prints_lines};
+ghost use Rattle.grep_core.specs.Reporting.{needs_spans, prints_lines};
 ghost use Rattle.grep_core.specs.declared.fault.Fault.{Fault as TheFault};
 ghost use Rattle.hirgrep_main.specs.Decisions.{is_most, may_run_on, prints_names_if_none, selects_none, shows_names};
 ghost use Rattle.hirgrep_main.specs.declared.searching.Named.TheVariants.{Folder};
@@ -13,25 +13,26 @@ ghost use Rattle.hirgrep_main.specs.Outcomes.{Continues, after_search, no_outcom
 use crate::asked::{Asked, Names};
 use crate::counting::Counting;
 use crate::input::input;
-use crate::messages::tell_no_finder;
+use crate::messages::report_no_finder;
 use crate::outcome::Outcome;
 use crate::output::Output;
 use crate::walking::{Kind, is_folder, is_output, kind_of, push_folder};
 use grep_core::{
-    Fault, Finder, Known, Print, SearcherError, config_of, needs_spans, pattern_source, tell_text,
+    Fault, Finder, Print, SearcherError, SeparatorState, config_of, needs_spans, pattern_source,
+    report_input,
 };
 use std::alloc::{AllocError, Global};
 use std::io::{Read, Write};
 use std::rt::Runtime;
 use std::{fs, io};
 
-/// What files are searched for, and how they are told.
+/// What files are searched for, and how the results are printed.
 #[derive(Clone, Copy)]
 struct Task<'a> {
     asked: &'a Asked,
-    /// Whether names stand before lines.
+    /// Whether names are printed before lines.
     with_name: bool,
-    /// No file is named, so those of the folder where it runs are searched, and named from there.
+    /// No file is named, so the files of the current folder are searched, and their names are relative to it.
     bare: bool,
 }
 
@@ -57,18 +58,18 @@ fn texts_of(alloc: Global, asked: &Asked, patterns: &[&str]) -> Result<Vec<Strin
     Ok(texts)
 }
 
-/// Searches what a reader gives, and writes what is printed of it: the report of what was asked, under this name.
-fn tell_reader<R: Read, W: Write>(
+/// Searches the input of a reader, and writes the output for it: the report that was asked for, under this name.
+fn report_reader<R: Read, W: Write>(
     alloc: Global,
     finder: &mut Finder<'_>,
     task: Task<'_>,
-    known: Known,
+    known: SeparatorState,
     name: &str,
     reader: &mut R,
     writer: &mut W,
 ) -> Result<u64, Fault>
     ensures same { finder.new ≡ finder.old }
-    ensures told { OnOk result ((by : SearchesFor finder.old (needs_spans task.entry.asked.now.what)) →
+    ensures reported { OnOk result ((by : SearchesFor finder.old (needs_spans task.entry.asked.now.what)) →
         IfSome (R.remaining reader.old) (λ text. Appends (W.contents writer.old) (W.contents writer.new)
         (report task.entry.asked.now.what (found_by by) name.now task.entry.with_name known text))) }
     ensures selected { IfOk result (λ n. (by : SearchesFor finder.old (needs_spans task.entry.asked.now.what)) →
@@ -78,7 +79,7 @@ fn tell_reader<R: Read, W: Write>(
         IfSome (R.remaining reader.old) (λ text. (n : ℕ) × Appends (W.contents writer.old) (W.contents writer.new)
         (take n (report task.entry.asked.now.what (found_by by) name.now task.entry.with_name known text)))) }
 {
-    tell_text(
+    report_input(
         alloc,
         finder,
         &task.asked.what,
@@ -90,7 +91,7 @@ fn tell_reader<R: Read, W: Write>(
     )
 }
 
-/// Searches what a reader gives, which goes by this name, and keeps what came of it.
+/// Searches the input of a reader under this name, and records the outcome.
 fn search_reader<R: Read + Drop, W: Write + Drop>(
     rt: &HostRuntime,
     finder: &mut Finder<'_>,
@@ -101,16 +102,16 @@ fn search_reader<R: Read + Drop, W: Write + Drop>(
     writer: W,
 )
     ensures same { finder.new ≡ finder.old }
-    ensures came { (told : Result ℕ TheFault) × (bytes : ℕ) × (wrote : Bool)
-        × (outcome.new ≡ after_search task.entry.asked.now.what.print outcome.old bytes wrote told)
-        × IfOk told (λ n. (by : SearchesFor finder.old (needs_spans task.entry.asked.now.what)) →
+    ensures came { (reported : Result ℕ TheFault) × (bytes : ℕ) × (wrote : Bool)
+        × (outcome.new ≡ after_search task.entry.asked.now.what.print outcome.old bytes wrote reported)
+        × IfOk reported (λ n. (by : SearchesFor finder.old (needs_spans task.entry.asked.now.what)) →
         IfSome (R.remaining reader) (λ text.
         n ≡ counted_as task.entry.asked.now.what.print (selected_count task.entry.asked.now.what (found_by by) text))) }
     ensures continues { Continues outcome.old outcome.new }
 {
     let mut reader = Counting::new(reader);
     let mut writer = Output::new(writer);
-    let told = tell_reader(
+    let reported = report_reader(
         rt.alloc(),
         finder,
         task,
@@ -119,7 +120,14 @@ fn search_reader<R: Read + Drop, W: Write + Drop>(
         &mut reader,
         &mut writer,
     );
-    outcome.keep_search(rt, task.asked, name, reader.count(), writer.wrote(), told);
+    outcome.keep_search(
+        rt,
+        task.asked,
+        name,
+        reader.count(),
+        writer.wrote(),
+        reported,
+    );
 }
 
 fn prints_lines(print: Print) -> bool
@@ -140,7 +148,7 @@ fn prints_names_if_none(print: Print) -> bool
     }
 }
 
-/// Whether no more lines are selected than this number.
+/// Whether this number is the greatest number of lines that may be selected.
 fn is_most(number: u64, most: Option<u64>) -> bool
     ensures { result ≡ is_most number most }
 {
@@ -150,14 +158,15 @@ fn is_most(number: u64, most: Option<u64>) -> bool
     }
 }
 
-/// Whether a file that is written while it is read could be read for ever: lines are printed, and the first isn't the last one.
+/// Whether reading a file that is written at the same time could go on forever. It could if lines are printed and the first isn't the last
+/// one.
 fn may_run_on(asked: &Asked) -> bool
     ensures { result ≡ may_run_on asked.now.what }
 {
     prints_lines(asked.what.print) && !is_most(1, asked.what.most)
 }
 
-/// Whether what is printed would come into what is read, which is told and kept as a failure.
+/// Whether the output would become part of the input. This is reported and recorded as a failure.
 fn is_refused_output(
     rt: &HostRuntime,
     task: Task<'_>,
@@ -170,7 +179,7 @@ fn is_refused_output(
 {
     let is_refused = may_run_on(task.asked) && is_output(rt, path);
     if is_refused {
-        outcome.refuse(rt, task.asked, name, "input file is also the output");
+        outcome.fail_with(rt, task.asked, name, "input file is also the output");
     }
     is_refused
 }
@@ -194,7 +203,7 @@ fn shown_name<'a>(task: Task<'_>, path: &'a str) -> &'a str {
     path.strip_prefix("./").unwrap_or(path)
 }
 
-/// Searches what was opened, or keeps that it can't be.
+/// Searches what was opened, or records that it can't be opened.
 fn search_opened<R: Read + Drop>(
     rt: &HostRuntime,
     finder: &mut Finder<'_>,
@@ -229,7 +238,7 @@ fn search_file(
     search_opened(rt, finder, task, outcome, name, fs::open(rt, path));
 }
 
-/// Searches what was met in a folder, where that is known, and puts what a folder has before what is left.
+/// Searches something that was found in a folder, if its kind is known. The entries of a folder are put before the paths that are left.
 fn search_kind(
     rt: &HostRuntime,
     finder: &mut Finder<'_>,
@@ -299,7 +308,7 @@ fn named_at(rt: &HostRuntime, path: &str) -> Named {
     Named::File
 }
 
-/// Searches what an argument names, or keeps that a folder isn't searched.
+/// Searches what an argument names, or records that a folder isn't searched.
 fn search_as(
     rt: &HostRuntime,
     finder: &mut Finder<'_>,
@@ -318,7 +327,7 @@ fn search_as(
             if task.asked.recursive {
                 return search_folder(rt, finder, task, outcome, path);
             }
-            outcome.refuse(rt, task.asked, path, "Is a directory");
+            outcome.fail_with(rt, task.asked, path, "Is a directory");
         }
     }
     Ok(())
@@ -337,7 +346,7 @@ fn search_named(
     search_as(rt, finder, task, outcome, path, named_at(rt, path))
 }
 
-/// Whether names stand before lines, where several files may be searched or only one.
+/// Whether names are printed before lines, depending on whether several files may be searched.
 fn is_named(asked: &Asked, may_be_several: bool) -> bool
     ensures { result ≡ shows_names asked.now.names may_be_several }
 {
@@ -348,7 +357,7 @@ fn is_named(asked: &Asked, may_be_several: bool) -> bool
     }
 }
 
-/// Whether arguments may name several files: a folder does, where its files are searched.
+/// Whether arguments may name several files. A folder does if its files are searched.
 fn may_name_several(rt: &HostRuntime, asked: &Asked, files: &[&str]) -> bool {
     match files {
         [path] => asked.recursive && is_folder(rt, path),
@@ -375,7 +384,7 @@ fn search_all(
     Ok(())
 }
 
-/// Searches what arguments name, or where they name nothing the folder where it runs, or standard input.
+/// Searches what arguments name. If they name nothing, searches the current folder or standard input.
 fn search_files(
     rt: &HostRuntime,
     finder: &mut Finder<'_>,
@@ -407,14 +416,14 @@ fn search_files(
     )
 }
 
-/// Whether no line can be selected, and nothing is printed whatever the texts are.
+/// Whether no line can be selected, and nothing is printed whatever the inputs are.
 fn selects_none(asked: &Asked) -> bool
     ensures { result ≡ selects_none asked.now.what }
 {
     is_most(0, asked.what.most) && !prints_names_if_none(asked.what.print)
 }
 
-/// Searches files by a finder.
+/// Searches files with a finder.
 fn search_by(
     rt: &HostRuntime,
     finder: &mut Finder<'_>,
@@ -428,12 +437,12 @@ fn search_by(
         search_files(rt, finder, asked, &mut outcome, files)?;
     }
     if asked.stats {
-        outcome.tell_stats(rt, finder);
+        outcome.report_stats(rt, finder);
     }
     Ok(outcome)
 }
 
-/// Tells why the patterns can't be searched for, which is a failure.
+/// Reports why the patterns can't be searched for, and returns a failure.
 fn refuse_patterns(
     rt: &HostRuntime,
     asked: &Asked,
@@ -443,12 +452,12 @@ fn refuse_patterns(
 ) -> Result<Outcome, AllocError>
     ensures { IfOk result (λ o. o ≡ with_failure no_outcome) }
 {
-    tell_no_finder(rt, &config_of(&asked.how), patterns, texts, error)?;
+    report_no_finder(rt, &config_of(&asked.how), patterns, texts, error)?;
     Ok(Outcome::failure())
 }
 
-/// Searches files for the texts of patterns. The finder is the only value of its kind that it owns, since proofs of what a function drops
-/// grow faster than what it owns.
+/// Searches files for patterns. `texts` are the patterns in the syntax that is parsed. The finder is the only value of its kind that this
+/// function owns, since proofs of what a function drops get larger faster than what it owns.
 fn search_texts(
     rt: &HostRuntime,
     asked: &Asked,
@@ -466,7 +475,7 @@ fn search_texts(
     }
 }
 
-/// Makes the regexes of the patterns, and searches files by them.
+/// Compiles the patterns, and searches files for them.
 pub fn search(
     rt: &HostRuntime,
     asked: &Asked,

@@ -8,16 +8,16 @@ use std::os::unix::fs::MetadataExt;
 use std::rt::Runtime;
 use std::{fs, io};
 
-/// What stands at a path.
+/// What is at a path.
 #[derive(Clone, Copy, PartialEq, Eq)]
 pub enum Kind {
     File,
     Folder,
-    /// What isn't searched when it is met in a folder: links, devices, pipes.
+    /// What isn't searched if it is found in a folder: links, devices, pipes.
     Other,
 }
 
-/// What stands at a path that was met in a folder.
+/// What is at a path that was found in a folder.
 pub fn kind_of(rt: &HostRuntime, path: &str) -> io::Result<Kind> {
     let metadata = fs::symlink_metadata(rt, path)?;
     if metadata.is_dir() {
@@ -29,7 +29,7 @@ pub fn kind_of(rt: &HostRuntime, path: &str) -> io::Result<Kind> {
     Ok(Kind::Other)
 }
 
-/// Whether a path that was given is a folder.
+/// Whether a path that was given as an argument is a folder.
 pub fn is_folder(rt: &HostRuntime, path: &str) -> bool {
     match fs::metadata(rt, path) {
         Ok(metadata) => metadata.is_dir(),
@@ -37,7 +37,7 @@ pub fn is_folder(rt: &HostRuntime, path: &str) -> bool {
     }
 }
 
-/// Whether what stands at the path is the file that standard output goes to.
+/// Whether the file at the path is the one that standard output is redirected to.
 pub fn is_output(rt: &HostRuntime, path: &str) -> bool {
     match (fs::metadata(rt, path), fs::metadata(rt, "/dev/stdout")) {
         (Ok(read), Ok(written)) => written.is_file()
@@ -47,7 +47,8 @@ pub fn is_output(rt: &HostRuntime, path: &str) -> bool {
     }
 }
 
-/// The paths of what a folder has, in the order in which the system lists them. What can't be listed is told, and left out.
+/// The paths of the entries of a folder, in the order in which the system lists them. Entries that can't be listed are reported and left
+/// out.
 fn read_entries(
     rt: &HostRuntime,
     asked: &Asked,
@@ -69,7 +70,7 @@ fn read_entries(
     Ok(())
 }
 
-/// Puts the paths of what a folder has before those that are still to be searched.
+/// Puts the paths of the entries of a folder before those that are still to be searched.
 pub fn push_folder(
     rt: &HostRuntime,
     asked: &Asked,

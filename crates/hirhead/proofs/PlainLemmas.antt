@@ -1,5 +1,5 @@
--- Lines of words that have neither a space nor a line feed: their words are read back, and a head that begins with such a line reads
--- on behind it.
+-- Lines of words that have neither a space nor a line feed: their words are read back, and a query that begins with such a line reads on
+-- after it.
 use Rattle.std.proofs.Common.{◌≡◌, ◌≢◌, ℕ, ◌+◌, ◌==◌, Bool, true, false, not, ◌&&◌, List, [], ◌∷◌, ◌++◌, length, refl, sym, ◌∙◌, ap}
 use Rattle.std.proofs.Common.{subst, arith, codes, append_assoc, append-nil, length-append}
 use Rattle.std.specs.List.{list_all, onto_first}
@@ -7,9 +7,9 @@ use Rattle.std.proofs.lemmas.Bool.{and_parts, not-true, eq-eqb}
 use Rattle.std.proofs.lemmas.List.Elements.{All-nil, All-cons, All-append}
 use Rattle.std.proofs.lemmas.List.Splits.{slice_split-cons_yes, slice_split-cons_no}
 use Rattle.hirscan.specs.Words.{words}
-use Rattle.hirscan.specs.Takes.{HeadValue, Takes, EndsHead}
+use Rattle.hirscan.specs.Takes.{QueryValue, Takes, EndsQuery}
 use Rattle.hirscan.specs.Reads.{IsOneLine, Reads, reads_find, reads_line}
-use Rattle.hirhead.specs.Lines.{Line, behind_word, line_text}
+use Rattle.hirhead.specs.Lines.{Line, after_word, line_text}
 
 abbrev pub is_plain : ℕ → Bool
 is_plain b = not (b == 32) && not (b == 10)
@@ -50,15 +50,15 @@ body w ws = w ++ behind_body ws
 split_behind : (w : List ℕ) (ws : Line) → plain w ≡ true → words (behind_body ws) ≡ [] ∷ ws → words (body w ws) ≡ w ∷ ws
 split_behind w ws p e = split_word w (behind_body ws) [] ws p e ∙ ap (λ (v : List ℕ). v ∷ ws) (append-nil w)
 
-words_behind : (ws : Line) → list_all plain ws ≡ true → words (behind_body ws) ≡ [] ∷ ws
-words_behind [] p = refl
-words_behind (w ∷ ws) p =
+words_left_of : (ws : Line) → list_all plain ws ≡ true → words (behind_body ws) ≡ [] ∷ ws
+words_left_of [] p = refl
+words_left_of (w ∷ ws) p =
     let q = and_parts (plain w) (list_all plain ws) p in
     slice_split-cons_yes is_space 32 (w ++ behind_body ws) refl
-    ∙ ap (λ (vs : Line). [] ∷ vs) (split_behind w ws q.0 (words_behind ws q.1))
+    ∙ ap (λ (vs : Line). [] ∷ vs) (split_behind w ws q.0 (words_left_of ws q.1))
 
 pub words_of_line : (w : List ℕ) (ws : Line) → plain w ≡ true → list_all plain ws ≡ true → words (body w ws) ≡ w ∷ ws
-words_of_line w ws p q = split_behind w ws p (words_behind ws q)
+words_of_line w ws p q = split_behind w ws p (words_left_of ws q)
 
 word_one_line : (w : List ℕ) → plain w ≡ true → IsOneLine w
 word_one_line [] p = All-nil IsOther
@@ -76,15 +76,15 @@ behind_one_line (w ∷ ws) p =
 one_line : (w : List ℕ) (ws : Line) → plain w ≡ true → list_all plain ws ≡ true → IsOneLine (body w ws)
 one_line w ws p q = All-append IsOther w (behind_body ws) (word_one_line w p) (behind_one_line ws q)
 
-cut_behind : (ws : Line) (rest : List ℕ) → behind_word ws ++ rest ≡ behind_body ws ++ 10 ∷ rest
+cut_behind : (ws : Line) (rest : List ℕ) → after_word ws ++ rest ≡ behind_body ws ++ 10 ∷ rest
 cut_behind [] rest = refl
 cut_behind (w ∷ ws) rest =
-    ap (λ (t : List ℕ). 32 ∷ t) (append_assoc w (behind_word ws) rest ∙ ap (λ (t : List ℕ). w ++ t) (cut_behind ws rest)
+    ap (λ (t : List ℕ). 32 ∷ t) (append_assoc w (after_word ws) rest ∙ ap (λ (t : List ℕ). w ++ t) (cut_behind ws rest)
     ∙ sym (append_assoc w (behind_body ws) (10 ∷ rest)))
 
 cut_line : (w : List ℕ) (ws : Line) (rest : List ℕ) → line_text (w ∷ ws) ++ rest ≡ body w ws ++ 10 ∷ rest
 cut_line w ws rest =
-    append_assoc w (behind_word ws) rest ∙ ap (λ (t : List ℕ). w ++ t) (cut_behind ws rest)
+    append_assoc w (after_word ws) rest ∙ ap (λ (t : List ℕ). w ++ t) (cut_behind ws rest)
     ∙ sym (append_assoc w (behind_body ws) (10 ∷ rest))
 
 line_length : (w : List ℕ) (ws : Line) → length (line_text (w ∷ ws)) ≡ length (body w ws) + 1
@@ -94,8 +94,8 @@ line_length w ws =
     let g = length-append (body w ws) (10 ∷ []) in
     omega arith
 
--- a line that is taken, and what reads behind it
-pub reads_more : (w : List ℕ) (ws : Line) (rest : List ℕ) (at after found : HeadValue) (m : ℕ) → plain w ≡ true → list_all plain ws ≡ true
+-- a line that is taken, and what reads after it
+pub reads_more : (w : List ℕ) (ws : Line) (rest : List ℕ) (at after found : QueryValue) (m : ℕ) → plain w ≡ true → list_all plain ws ≡ true
     → Takes (w ∷ ws) at after → Reads rest after found m
     → Reads (line_text (w ∷ ws) ++ rest) at found (length (line_text (w ∷ ws)) + m)
 reads_more w ws rest at after found m p q taken more =
@@ -103,12 +103,12 @@ reads_more w ws rest at after found m p q taken more =
     (one_line w ws p q) (subst (λ (vs : Line). Takes vs at after) (sym (words_of_line w ws p q)) taken) more
     (ap (λ n. n + m) (line_length w ws))
 
--- the line `find` ends a head, whatever stands behind it
-pub reads_end : (rest : List ℕ) (at : HeadValue) → at.stack ≡ []
+-- the line `find` ends a query, whatever comes after it
+pub reads_end : (rest : List ℕ) (at : QueryValue) → at.stack ≡ []
     → Reads (line_text (codes "find" ∷ []) ++ rest) at at (length (line_text (codes "find" ∷ [])))
 reads_end rest at empty =
     reads_find (line_text (codes "find" ∷ []) ++ rest) (body (codes "find") []) rest at at (length (line_text (codes "find" ∷ [])))
     (cut_line (codes "find") [] rest) (one_line (codes "find") [] refl refl)
-    (subst (λ (vs : Line). EndsHead vs at) (sym (words_of_line (codes "find") [] refl refl))
+    (subst (λ (vs : Line). EndsQuery vs at) (sym (words_of_line (codes "find") [] refl refl))
     (record { says_find = refl; nothing_left = empty }))
     refl (line_length (codes "find") [])

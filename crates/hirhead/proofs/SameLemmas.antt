@@ -1,4 +1,4 @@
--- The tree that is told means what the tree means, and prefers the same ends.
+-- The tree that is printed means what the tree means, and prefers the same ends.
 use Rattle.std.proofs.Common.{◌≡◌, ℕ, zero, suc, ◌+◌, ◌<◌, ◌≤◌, Bool, true, cond, IsTrue, List, [], ◌∷◌, ◌++◌, map, slice_get}
 use Rattle.std.proofs.Common.{Option, Some, None, All, IsSomeAnd, chars, refl, sym, ◌∙◌, ap, ap₂, subst, arith, add-zero}
 use Rattle.std.specs.List.{flat_map}
@@ -18,9 +18,9 @@ use Rattle.hirscan.specs.Words.{class_ranges, scalar_ranges}
 use Rattle.pattern_text.specs.SameEnds.{pattern_looks, trace_end, first_that_goes_on, SameEnds, SameSpans, HasNames}
 use Rattle.pattern_text.specs.Patterns.{MeansText}
 use Rattle.pattern_search.specs.Texts.{AllMean}
-use Rattle.hirhead.specs.Told.{printed_tree}
+use Rattle.hirhead.specs.Written.{printed_tree}
 use Rattle.hirhead.specs.HasLines.{HasLines, AllFit}
-use Rattle.hirhead.specs.Heads.{MatchesText, AllMatch}
+use Rattle.hirhead.specs.Queries.{MatchesText, AllMatch}
 use Rattle.hirhead.proofs.ClassLemmas.{class_utf8, class_len, scalar_len}
 
 abbrev IsByte : ℕ → Type 0
@@ -180,7 +180,7 @@ module _ (byte_members : (items : List (ℕ × ℕ)) (b : ℕ) → b < 256 → i
         );
   }
 
-  -- ---- texts
+  -- ---- patterns
 
   matched : (config : Config) (x : Tree) (r : Option (Nested Re × Names)) → HasLines 0 x →
       IsSomeAnd r (λ (re, names). (re.depth ≤ config.nest_limit) × SameEnds re.value x × SameSpans re.value x × HasNames names x) →

@@ -1,4 +1,4 @@
--- What is printed of a tree's parts is what is printed of the tree, and where a part is refused the tree is.
+-- What is printed of a tree's parts is what is printed of the tree, and if a part is rejected the tree is.
 pub use Rattle.std.proofs.lemmas.Fmt.{hex_byte}
 use Rattle.std.proofs.Common.{◌≡◌, ◌≢◌, ℕ, zero, suc, ◌+◌, ◌-◌, ◌^◌, ◌<◌, ◌≤◌, min, true, ◌&&◌, nat_le, List, [], ◌∷◌, ◌++◌}
 use Rattle.std.proofs.Common.{map, length, drop, get_or, All, Some, slice_get, decimal, codes, refl, sym, ◌∙◌, ap, subst}
@@ -14,13 +14,13 @@ use Rattle.hir_core.specs.Tree.{alternation}
 use Rattle.hir_core.specs.Facts.{height, is_ascending, rises_from}
 use Rattle.hirhead.specs.declared.lines.Unfit.{Unfit}
 use Rattle.hirhead.specs.declared.lines.Unfit.TheVariants.{NoMemory, TooDeep, TooManyParts}
-use Rattle.hirhead.specs.Told.{printed_tree}
-use Rattle.hirhead.specs.Lines.{Line, byte_item, scalar_item, lines_behind, lines_of, behind_word, line_text}
+use Rattle.hirhead.specs.Written.{printed_tree}
+use Rattle.hirhead.specs.Lines.{Line, byte_item, scalar_item, lines_after, lines_of, after_word, line_text}
 use Rattle.hirhead.specs.Lines.{lines_text}
 use Rattle.hirhead.specs.HasLines.{AreScalars, IsByteRange, IsScalarRange, is_cat, is_alt, HasLines, FitsIn, AllFit, most_parts}
 use Rattle.hirhead.specs.HasLines.{IsUnfit, AreUnfit}
 
--- ---- texts
+-- ---- bytes
 
 lines_append : (a b : List Line) → lines_text (a ++ b) ≡ lines_text a ++ lines_text b
 lines_append a b = flat_map-append line_text a b
@@ -28,7 +28,7 @@ lines_append a b = flat_map-append line_text a b
 pub one_line : (old new : List ℕ) (ws : Line) → new ≡ old ++ line_text ws → new ≡ old ++ lines_text (ws ∷ [])
 one_line old new ws e = e ∙ ap (λ (t : List ℕ). old ++ t) (sym (append-nil (line_text ws)))
 
--- a line behind others
+-- a line after others
 pub more_lines : (old mid new : List ℕ) (lines : List Line) (ws : Line) → mid ≡ old ++ lines_text lines → new ≡ mid ++ line_text ws
     → new ≡ old ++ lines_text (lines ++ ws ∷ [])
 more_lines old mid new lines ws e f =
@@ -50,23 +50,23 @@ no_literal_text (b ∷ bytes) old new none e = absurd (omega (arith, none))
 
 -- items, one after the other
 pub next_item : (item : ℕ × ℕ → List ℕ) (ranges : List (ℕ × ℕ)) (i : ℕ) (d : ℕ × ℕ) (now new whole : List ℕ) → i < length ranges
-    → new ≡ now ++ 32 ∷ item (get_or ranges i d) → now ++ behind_word (map item (drop i ranges)) ≡ whole
-    → new ++ behind_word (map item (drop (i + 1) ranges)) ≡ whole
+    → new ≡ now ++ 32 ∷ item (get_or ranges i d) → now ++ after_word (map item (drop i ranges)) ≡ whole
+    → new ++ after_word (map item (drop (i + 1) ranges)) ≡ whole
 next_item item ranges i d now new whole below e so_far =
     let next : suc i ≡ i + 1 = omega arith in
     let cut : drop i ranges ≡ get_or ranges i d ∷ drop (i + 1) ranges =
     drop-cons ranges i d below ∙ ap (λ (k : ℕ). get_or ranges i d ∷ drop k ranges) next in
-    ap (λ (t : List ℕ). t ++ behind_word (map item (drop (i + 1) ranges))) e
-    ∙ append_assoc now (32 ∷ item (get_or ranges i d)) (behind_word (map item (drop (i + 1) ranges)))
-    ∙ ap (λ (rs : List (ℕ × ℕ)). now ++ behind_word (map item rs)) (sym cut) ∙ so_far
+    ap (λ (t : List ℕ). t ++ after_word (map item (drop (i + 1) ranges))) e
+    ∙ append_assoc now (32 ∷ item (get_or ranges i d)) (after_word (map item (drop (i + 1) ranges)))
+    ∙ ap (λ (rs : List (ℕ × ℕ)). now ++ after_word (map item rs)) (sym cut) ∙ so_far
 
 pub bytes_text : (ranges : List (ℕ × ℕ)) (old mid new : List ℕ) → length ranges ≢ 0 → mid ≡ old ++ codes "bytes"
-    → new ≡ mid ++ behind_word (map byte_item ranges) → new ≡ old ++ lines_text (lines_of (byte_class ranges))
+    → new ≡ mid ++ after_word (map byte_item ranges) → new ≡ old ++ lines_text (lines_of (byte_class ranges))
 bytes_text [] old mid new some e f = absurd (some refl)
 bytes_text (r ∷ ranges) old mid new some e f =
     one_line old new (codes "bytes" ∷ map byte_item (r ∷ ranges))
-    (f ∙ ap (λ (t : List ℕ). t ++ behind_word (map byte_item (r ∷ ranges))) e
-    ∙ append_assoc old (codes "bytes") (behind_word (map byte_item (r ∷ ranges))))
+    (f ∙ ap (λ (t : List ℕ). t ++ after_word (map byte_item (r ∷ ranges))) e
+    ∙ append_assoc old (codes "bytes") (after_word (map byte_item (r ∷ ranges))))
 
 pub no_bytes_text : (ranges : List (ℕ × ℕ)) (old new : List ℕ) → length ranges ≡ 0 → new ≡ old ++ line_text (codes "alt" ∷ decimal 0 ∷ [])
     → new ≡ old ++ lines_text (lines_of (byte_class ranges))
@@ -74,19 +74,19 @@ no_bytes_text [] old new none e = one_line old new (codes "alt" ∷ decimal 0 �
 no_bytes_text (r ∷ ranges) old new none e = absurd (omega (arith, none))
 
 pub chars_text : (ranges : List (ℕ × ℕ)) (old mid new : List ℕ) → length ranges ≢ 0 → mid ≡ old ++ codes "chars"
-    → new ≡ mid ++ behind_word (map scalar_item ranges) → new ≡ old ++ lines_text (lines_of (char_class ranges))
+    → new ≡ mid ++ after_word (map scalar_item ranges) → new ≡ old ++ lines_text (lines_of (char_class ranges))
 chars_text [] old mid new some e f = absurd (some refl)
 chars_text (r ∷ ranges) old mid new some e f =
     one_line old new (codes "chars" ∷ map scalar_item (r ∷ ranges))
-    (f ∙ ap (λ (t : List ℕ). t ++ behind_word (map scalar_item (r ∷ ranges))) e
-    ∙ append_assoc old (codes "chars") (behind_word (map scalar_item (r ∷ ranges))))
+    (f ∙ ap (λ (t : List ℕ). t ++ after_word (map scalar_item (r ∷ ranges))) e
+    ∙ append_assoc old (codes "chars") (after_word (map scalar_item (r ∷ ranges))))
 
 pub no_chars_text : (ranges : List (ℕ × ℕ)) (old new : List ℕ) → length ranges ≡ 0 → new ≡ old ++ line_text (codes "alt" ∷ decimal 0 ∷ [])
     → new ≡ old ++ lines_text (lines_of (char_class ranges))
 no_chars_text [] old new none e = one_line old new (codes "alt" ∷ decimal 0 ∷ []) e
 no_chars_text (r ∷ ranges) old new none e = absurd (omega (arith, none))
 
-lines_concat : (xs : List Tree) (k : ℕ) → lines_behind k (concat xs) ≡
+lines_concat : (xs : List Tree) (k : ℕ) → lines_after k (concat xs) ≡
     flat_map lines_of xs ++ (codes "cat" ∷ decimal (k + length xs) ∷ []) ∷ []
 lines_concat [] k = ap (λ (n : ℕ). (codes "cat" ∷ decimal n ∷ []) ∷ []) (omega arith)
 lines_concat (x ∷ xs) k =
@@ -96,7 +96,7 @@ lines_concat (x ∷ xs) k =
     ∙ ap (λ (n : ℕ). flat_map lines_of (x ∷ xs) ++ (codes "cat" ∷ decimal n ∷ []) ∷ []) same
 
 lines_alternation : (xs : List Tree) (k : ℕ) →
-    lines_behind k (alternation xs) ≡ flat_map lines_of xs ++ (codes "alt" ∷ decimal (k + length xs) ∷ []) ∷ []
+    lines_after k (alternation xs) ≡ flat_map lines_of xs ++ (codes "alt" ∷ decimal (k + length xs) ∷ []) ∷ []
 lines_alternation [] k = ap (λ (n : ℕ). (codes "alt" ∷ decimal n ∷ []) ∷ []) (omega arith)
 lines_alternation (x ∷ xs) k =
     let same : suc k + length xs ≡ k + suc (length xs) = omega arith in
@@ -125,7 +125,7 @@ alternation_text xs x count old mid new is e f g =
     ∙ ap (λ (lines : List Line). old ++ lines_text lines) (sym (lines_alternation xs 0))
     ∙ ap (λ (y : Tree). old ++ lines_text (lines_of y)) is
 
--- what holds of an error holds of it where it is handed on
+-- what holds of an error holds of it when it is passed on
 pub handed : {A E : Type 0} (r : Result A E) (P : E → Type 0) (e : E) → IsErrAnd r (λ x. x ≡ e) → P e → IfErr r P
 handed (Ok a) P e is h = tt
 handed (Err x) P e is h = subst P (sym is) h
@@ -225,7 +225,7 @@ alternation_fits xs x levels count is some e few h =
     let low = alternation_low (levels - 1) xs h in
     subst (FitsIn levels) is (alternation_has (levels - 1) 0 xs h (omega (arith, e, few)), omega (arith, low, above))
 
--- ---- trees that are refused
+-- ---- trees that are rejected
 
 height_some : (x : Tree) → 0 < height x
 height_some empty = omega arith
@@ -317,7 +317,7 @@ listed [] i x below is = absurd (omega arith)
 listed (y ∷ xs) zero x below is = ap Some (sym is)
 listed (y ∷ xs) (suc i) x below is = listed xs i x (omega arith) is
 
--- the tree at this place is refused
+-- the tree at this index is rejected
 pub one_unfit : (levels : ℕ) (xs : List Tree) (i : ℕ) (x : Tree) (e : Unfit) → i < length xs → x ≡ get_or xs i x → IsUnfit levels x e →
     AreUnfit levels xs i e
 one_unfit levels xs i x NoMemory below is h = tt

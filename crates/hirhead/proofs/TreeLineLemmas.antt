@@ -1,4 +1,4 @@
--- The lines of a tree put the tree that is told of it onto the stack.
+-- The lines of a tree put the tree that is printed for it onto the stack.
 use Rattle.std.proofs.Common.{◌≡◌, ℕ, suc, ◌+◌, ◌-◌, ◌^◌, ◌<◌, ◌≤◌, min, max, Bool, true, IsTrue, List, [], ◌∷◌, ◌++◌, map}
 use Rattle.std.proofs.Common.{length, Option, decimal, codes, refl, sym, ◌∙◌, ap, subst, arith, append_assoc, append-nil, length-append}
 use Rattle.std.specs.List.{list_all}
@@ -8,10 +8,10 @@ use Rattle.hir_core.specs.Tree.{alternation}
 use Rattle.hir_core.specs.Facts.{height, capped}
 use Rattle.hirscan.specs.Words.{IsHex, look_name, class_ranges, scalar_ranges}
 use Rattle.hirscan.specs.Readers.{IsReader, hex_bytes}
-use Rattle.hirscan.specs.Takes.{HeadValue, Replaces, Takes, empty_line, lit_line, bytes_line, chars_line, look_line, rep_line, cat_line}
+use Rattle.hirscan.specs.Takes.{QueryValue, Replaces, Takes, empty_line, lit_line, bytes_line, chars_line, look_line, rep_line, cat_line}
 use Rattle.hirscan.specs.Takes.{alt_line}
-use Rattle.hirhead.specs.Told.{printed_tree}
-use Rattle.hirhead.specs.Lines.{Line, bound_word, order_word, byte_item, scalar_item, rounds_line, lines_behind, lines_of}
+use Rattle.hirhead.specs.Written.{printed_tree}
+use Rattle.hirhead.specs.Lines.{Line, bound_word, order_word, byte_item, scalar_item, rounds_line, lines_after, lines_of}
 use Rattle.hirhead.specs.HasLines.{is_cat, is_alt, HasLines, FitsIn}
 use Rattle.hirhead.proofs.PlainLemmas.{plain}
 use Rattle.hirhead.proofs.DigitLemmas.{decimal_plain, bound_plain, bound_is, order_plain, order_is, name_plain, hex_plain, hex_is}
@@ -20,16 +20,16 @@ use Rattle.hirhead.proofs.DigitLemmas.{byte_items_are, scalar_items_plain, scala
 use Rattle.hirhead.proofs.TakenLemmas.{AreTaken, taken_line, taken_append}
 
 -- with the setup of s
-abbrev pub state : HeadValue → List Tree → List Tree → HeadValue
+abbrev pub state : QueryValue → List Tree → List Tree → QueryValue
 state s done stack = record { setup = s.setup; stack = stack; patterns = done }
 
--- ---- parts that stand before the rest of a concatenation or alternation
+-- ---- parts that come before the rest of a concatenation or alternation
 
 abbrev joined : (Tree → Tree → Tree) → List Tree → Tree → Tree
 joined glue [] t = t
 joined glue (p ∷ ps) t = glue p (joined glue ps t)
 
--- the whole of these parts and the rest, which is told as t
+-- the whole of these parts and the rest, which is printed as t
 abbrev join : Tree → List Tree → Tree → Tree
 join nothing parts t = joined cat parts t
 join (cat x y) parts t = joined cat parts t
@@ -89,13 +89,13 @@ no_parts : (P : List Tree → Type 0) (parts : List Tree) (n : ℕ) → length p
 no_parts P [] n e z h = h
 no_parts P (p ∷ parts) n e z h = absurd (omega (arith, e, z))
 
-module _ (reads : IsReader hex_bytes IsHex) (s : HeadValue) (done : List Tree) where
-  abbrev at_stack : List Tree → HeadValue
+module _ (reads : IsReader hex_bytes IsHex) (s : QueryValue) (done : List Tree) where
+  abbrev at_stack : List Tree → QueryValue
   at_stack stack = state s done stack
 
   -- a line that pushes a tree
   pushed : (w : List ℕ) (ws : Line) (below : List Tree) (new : Tree) → plain w ≡ true → list_all plain ws ≡ true → height new ≤ 250
-      → ((before after : HeadValue) → Replaces before after [] new → Takes (w ∷ ws) before after)
+      → ((before after : QueryValue) → Replaces before after [] new → Takes (w ∷ ws) before after)
       → AreTaken ((w ∷ ws) ∷ []) (at_stack (below ++ [])) (at_stack (below ++ new ∷ []))
   pushed w ws below new p q low takes =
       taken_line w ws (at_stack (below ++ [])) (at_stack (below ++ new ∷ [])) p q
@@ -105,7 +105,7 @@ module _ (reads : IsReader hex_bytes IsHex) (s : HeadValue) (done : List Tree) w
   -- a tree that isn't the rest of another
   leaf : (w : List ℕ) (ws : Line) (n : ℕ) (parts below : List Tree) (new : Tree) → length parts ≡ n → n ≡ 0
       → plain w ≡ true → list_all plain ws ≡ true → height new ≤ 250
-      → ((before after : HeadValue) → Replaces before after [] new → Takes (w ∷ ws) before after)
+      → ((before after : QueryValue) → Replaces before after [] new → Takes (w ∷ ws) before after)
       → AreTaken ((w ∷ ws) ∷ []) (at_stack (below ++ parts)) (at_stack (below ++ new ∷ []))
   leaf w ws n parts below new len zero_is p q low takes =
       no_parts (λ ps. AreTaken ((w ∷ ws) ∷ []) (at_stack (below ++ ps)) (at_stack (below ++ new ∷ []))) parts n len zero_is
@@ -123,12 +123,12 @@ module _ (reads : IsReader hex_bytes IsHex) (s : HeadValue) (done : List Tree) w
       (λ b a r. alt_line (decimal 0) 0 [] refl (omega arith, refl) refl r)
 
   -- the lines of a whole tree
-  alone : (x : Tree) (from : HeadValue) (below : List Tree)
-      → (height (join x [] (printed_tree x)) ≤ 250 → AreTaken (lines_behind 0 x) from (at_stack (below ++ join x [] (printed_tree x) ∷ [])))
-      → height (printed_tree x) ≤ 250 → AreTaken (lines_behind 0 x) from (at_stack (below ++ printed_tree x ∷ []))
+  alone : (x : Tree) (from : QueryValue) (below : List Tree)
+      → (height (join x [] (printed_tree x)) ≤ 250 → AreTaken (lines_after 0 x) from (at_stack (below ++ join x [] (printed_tree x) ∷ [])))
+      → height (printed_tree x) ≤ 250 → AreTaken (lines_after 0 x) from (at_stack (below ++ printed_tree x ∷ []))
   alone x from below go low =
       let e = join_none x (printed_tree x) in
-      subst (λ (t : Tree). AreTaken (lines_behind 0 x) from (at_stack (below ++ t ∷ []))) e
+      subst (λ (t : Tree). AreTaken (lines_after 0 x) from (at_stack (below ++ t ∷ []))) e
       (go (subst (λ (t : Tree). height t ≤ 250) (sym e) low))
 
   -- a part, and the rest
@@ -145,7 +145,7 @@ module _ (reads : IsReader hex_bytes IsHex) (s : HeadValue) (done : List Tree) w
 
   -- the line that joins parts
   joins : (w : List ℕ) (n : ℕ) (parts below : List Tree) (is whole : Tree) → is ≡ whole → plain w ≡ true → n < 2 ^ 32 → height is ≤ 250
-      → ((before after : HeadValue) → Replaces before after parts whole → Takes (w ∷ decimal n ∷ []) before after)
+      → ((before after : QueryValue) → Replaces before after parts whole → Takes (w ∷ decimal n ∷ []) before after)
       → AreTaken ((w ∷ decimal n ∷ []) ∷ []) (at_stack (below ++ parts)) (at_stack (below ++ is ∷ []))
   joins w n parts below is whole e p small low takes =
       taken_line w (decimal n ∷ []) (at_stack (below ++ parts)) (at_stack (below ++ is ∷ [])) p
@@ -174,7 +174,7 @@ module _ (reads : IsReader hex_bytes IsHex) (s : HeadValue) (done : List Tree) w
 
   taken_behind : (x : Tree) (n : ℕ) (parts below : List Tree) → length parts ≡ n → HasLines n x →
       height (join x parts (printed_tree x)) ≤ 250
-      → AreTaken (lines_behind n x) (at_stack (below ++ parts)) (at_stack (below ++ join x parts (printed_tree x) ∷ []))
+      → AreTaken (lines_after n x) (at_stack (below ++ parts)) (at_stack (below ++ join x parts (printed_tree x) ∷ []))
   taken_behind empty n parts below len h low =
       leaf (codes "empty") [] n parts below empty len h refl refl low (λ b a r. empty_line refl r)
   taken_behind (literal []) n parts below len h low =
@@ -199,14 +199,14 @@ module _ (reads : IsReader hex_bytes IsHex) (s : HeadValue) (done : List Tree) w
       leaf (codes "look") (look_name l ∷ []) n parts below (look l) len h refl (one_word (look_name l) (name_plain l)) low
       (λ b a r. look_line (look_name l) l refl refl r)
   taken_behind (repetition min most greedy x) n parts below len h low =
-      no_parts (λ ps. AreTaken (lines_behind n (repetition min most greedy x)) (at_stack (below ++ ps))
+      no_parts (λ ps. AreTaken (lines_after n (repetition min most greedy x)) (at_stack (below ++ ps))
       (at_stack (below ++ repetition min most greedy (printed_tree x) ∷ []))) parts n len h.0
-      (taken_append (lines_behind 0 x) (rounds_line min most greedy ∷ []) (at_stack (below ++ [])) (at_stack (below ++ printed_tree x ∷ []))
+      (taken_append (lines_after 0 x) (rounds_line min most greedy ∷ []) (at_stack (below ++ [])) (at_stack (below ++ printed_tree x ∷ []))
       (at_stack (below ++ repetition min most greedy (printed_tree x) ∷ []))
       (alone x (at_stack (below ++ [])) below (taken_behind x 0 [] below refl h.4) (body_low (height (printed_tree x)) low))
       (rounds min most greedy x below (refl, h.1, h.2, h.3, h.4) low))
   taken_behind (capture index name x) n parts below len h low =
-      no_parts (λ ps. AreTaken (lines_behind 0 x) (at_stack (below ++ ps)) (at_stack (below ++ printed_tree x ∷ []))) parts n len h.0
+      no_parts (λ ps. AreTaken (lines_after 0 x) (at_stack (below ++ ps)) (at_stack (below ++ printed_tree x ∷ []))) parts n len h.0
       (alone x (at_stack (below ++ [])) below (taken_behind x 0 [] below refl h.1) low)
   taken_behind nothing n parts below len h low =
       joins (codes "cat") n parts below (joined cat parts nothing) (concat parts) (joined_concat parts) refl h low
@@ -216,7 +216,7 @@ module _ (reads : IsReader hex_bytes IsHex) (s : HeadValue) (done : List Tree) w
       let inner = rest_below cat cat_above parts (cat (printed_tree x) (printed_tree y)) in
       let part = part_low (printed_tree x) (printed_tree y) (omega (arith, inner, low)) in
       let more = length-append parts (printed_tree x ∷ []) in
-      then_rest (lines_behind 0 x) (lines_behind (suc n) y) below parts (printed_tree x)
+      then_rest (lines_after 0 x) (lines_after (suc n) y) below parts (printed_tree x)
       (join y (parts ++ printed_tree x ∷ []) (printed_tree y))
       (joined cat parts (cat (printed_tree x) (printed_tree y))) e
       (alone x (at_stack ((below ++ parts) ++ [])) (below ++ parts) (taken_behind x 0 [] (below ++ parts) refl h.0) part)
@@ -230,14 +230,14 @@ module _ (reads : IsReader hex_bytes IsHex) (s : HeadValue) (done : List Tree) w
       let inner = rest_below alt alt_above parts (alt (printed_tree x) (printed_tree y)) in
       let part = part_low (printed_tree x) (printed_tree y) (omega (arith, inner, low)) in
       let more = length-append parts (printed_tree x ∷ []) in
-      then_rest (lines_behind 0 x) (lines_behind (suc n) y) below parts (printed_tree x)
+      then_rest (lines_after 0 x) (lines_after (suc n) y) below parts (printed_tree x)
       (join y (parts ++ printed_tree x ∷ []) (printed_tree y))
       (joined alt parts (alt (printed_tree x) (printed_tree y))) e
       (alone x (at_stack ((below ++ parts) ++ [])) (below ++ parts) (taken_behind x 0 [] (below ++ parts) refl h.0) part)
       (taken_behind y (suc n) (parts ++ printed_tree x ∷ []) below (omega (arith, more, len)) h.2
       (subst (λ (t : Tree). height t ≤ 250) (sym e) low))
 
-  -- the tree that is told of x stands on the stack behind the lines of x
+  -- the tree that is printed for x is on the stack after the lines of x
   pub tree_taken : (x : Tree) (below : List Tree) → FitsIn 250 x
       → AreTaken (lines_of x) (at_stack below) (at_stack (below ++ printed_tree x ∷ []))
   tree_taken x below fits =

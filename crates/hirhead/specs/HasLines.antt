@@ -7,7 +7,7 @@ use Rattle.hir_core.specs.Means.{AtMost}
 use Rattle.hirscan.specs.Words.{is_scalar}
 use Rattle.hirhead.specs.declared.lines.Unfit.{Unfit}
 use Rattle.hirhead.specs.declared.lines.Unfit.TheVariants.{NoMemory, TooDeep, TooManyParts}
-use Rattle.hirhead.specs.Told.{printed_tree}
+use Rattle.hirhead.specs.Written.{printed_tree}
 
 -- a range of bytes, and one of scalars, with the low end first
 abbrev pub IsByteRange : ℕ × ℕ → Type 0
@@ -24,7 +24,7 @@ abbrev pub IsShort : Option ℕ → Type 0
 IsShort None = ⊤
 IsShort (Some n) = n < 2 ^ 32
 
--- what stands behind the first part of a concatenation, or of an alternation
+-- what comes after the first part of a concatenation, or of an alternation
 abbrev pub is_cat : Tree → Bool
 is_cat nothing = true
 is_cat (cat x y) = true
@@ -35,8 +35,8 @@ is_alt never = true
 is_alt (alt x y) = true
 is_alt _ = false
 
--- Each literal is of bytes, each range is one, each number fits into 32 bits, and no concatenation or alternation has 2^32 parts or
--- more, n of which were told before. All of it but the last holds of whatever `Hir` is made.
+-- Each literal is of bytes, each range is one, each number fits into 32 bits, and no concatenation or alternation has 2^32 parts
+-- or more, n of which were printed before. All of it but the last holds of whatever `Hir` is made.
 abbrev pub HasLines : ℕ → Tree → Type 0
 HasLines n empty = n ≡ 0
 HasLines n (literal bytes) = (n ≡ 0) × All (λ b. b < 256) bytes
@@ -54,7 +54,7 @@ HasLines n (alt x y) = HasLines 0 x × IsTrue (is_alt y) × HasLines (suc n) y
 abbrev pub FitsIn : ℕ → Tree → Type 0
 FitsIn levels x = HasLines 0 x × (height (printed_tree x) ≤ levels)
 
--- the same of each tree
+-- each tree fits in so many levels
 abbrev pub AllFit : ℕ → List Tree → Type 0
 AllFit levels [] = ⊤
 AllFit levels (x ∷ xs) = FitsIn levels x × AllFit levels xs
@@ -69,19 +69,19 @@ most_parts n never = n
 most_parts n (alt x y) = max (most_parts 0 x) (most_parts (suc n) y)
 most_parts n _ = 0
 
--- why the tree is refused
+-- why the tree is rejected
 abbrev pub IsUnfit : ℕ → Tree → Unfit → Type 0
 IsUnfit levels x NoMemory = ⊤
 IsUnfit levels x TooDeep = levels < height (printed_tree x)
 IsUnfit levels x TooManyParts = 2 ^ 32 ≤ most_parts 0 x
 
--- the tree of this number is refused so
+-- the tree of this number is rejected for this cause
 pub record HasUnfit (levels : ℕ) (xs : List Tree) (number : ℕ) (unfit : Unfit) : Type 0 where
   pub tree : Tree
   pub listed : slice_get xs number ≡ Some tree
   pub is : IsUnfit levels tree unfit
 
--- want of memory says nothing of the trees
+-- running out of memory says nothing of the trees
 abbrev pub AreUnfit : ℕ → List Tree → ℕ → Unfit → Type 0
 AreUnfit levels xs number NoMemory = ⊤
 AreUnfit levels xs number TooDeep = HasUnfit levels xs number TooDeep

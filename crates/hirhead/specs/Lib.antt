@@ -1,6 +1,6 @@
-pub mod Told
+pub mod Written
 pub mod Lines
 pub mod HasLines
-pub mod Heads
-pub mod How
+pub mod Queries
+pub mod PatternOptions
 pub mod Pointed

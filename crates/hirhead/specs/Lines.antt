@@ -31,54 +31,54 @@ order_word false = codes "lazy"
 abbrev pub rounds_line : ℕ → Option ℕ → Bool → Line
 rounds_line min most greedy = codes "rep" ∷ decimal min ∷ bound_word most ∷ order_word greedy ∷ []
 
--- The lines of a tree. Those of the rest of a concatenation or alternation stand behind the lines of its first n parts, and end
--- with the line that joins all parts; n is 0 for a whole tree.
-abbrev pub lines_behind : ℕ → Tree → List Line
-lines_behind n empty = (codes "empty" ∷ []) ∷ []
-lines_behind n (literal []) = (codes "empty" ∷ []) ∷ []
-lines_behind n (literal (b ∷ bytes)) = (codes "lit" ∷ encode_lower (b ∷ bytes) ∷ []) ∷ []
-lines_behind n (byte_class []) = (codes "alt" ∷ decimal 0 ∷ []) ∷ []
-lines_behind n (byte_class (r ∷ ranges)) = (codes "bytes" ∷ map byte_item (r ∷ ranges)) ∷ []
-lines_behind n (char_class []) = (codes "alt" ∷ decimal 0 ∷ []) ∷ []
-lines_behind n (char_class (r ∷ ranges)) = (codes "chars" ∷ map scalar_item (r ∷ ranges)) ∷ []
-lines_behind n (look l) = (codes "look" ∷ look_name l ∷ []) ∷ []
-lines_behind n (repetition min most greedy x) =
-    lines_behind 0 x ++ rounds_line min most greedy ∷ []
-lines_behind n (capture index name x) = lines_behind 0 x
-lines_behind n nothing = (codes "cat" ∷ decimal n ∷ []) ∷ []
-lines_behind n (cat x y) = lines_behind 0 x ++ lines_behind (suc n) y
-lines_behind n never = (codes "alt" ∷ decimal n ∷ []) ∷ []
-lines_behind n (alt x y) = lines_behind 0 x ++ lines_behind (suc n) y
+-- The lines of a tree. Those of the rest of a concatenation or alternation come after the lines of its first n parts, and end
+-- with the line that joins all parts. n is 0 for a whole tree.
+abbrev pub lines_after : ℕ → Tree → List Line
+lines_after n empty = (codes "empty" ∷ []) ∷ []
+lines_after n (literal []) = (codes "empty" ∷ []) ∷ []
+lines_after n (literal (b ∷ bytes)) = (codes "lit" ∷ encode_lower (b ∷ bytes) ∷ []) ∷ []
+lines_after n (byte_class []) = (codes "alt" ∷ decimal 0 ∷ []) ∷ []
+lines_after n (byte_class (r ∷ ranges)) = (codes "bytes" ∷ map byte_item (r ∷ ranges)) ∷ []
+lines_after n (char_class []) = (codes "alt" ∷ decimal 0 ∷ []) ∷ []
+lines_after n (char_class (r ∷ ranges)) = (codes "chars" ∷ map scalar_item (r ∷ ranges)) ∷ []
+lines_after n (look l) = (codes "look" ∷ look_name l ∷ []) ∷ []
+lines_after n (repetition min most greedy x) =
+    lines_after 0 x ++ rounds_line min most greedy ∷ []
+lines_after n (capture index name x) = lines_after 0 x
+lines_after n nothing = (codes "cat" ∷ decimal n ∷ []) ∷ []
+lines_after n (cat x y) = lines_after 0 x ++ lines_after (suc n) y
+lines_after n never = (codes "alt" ∷ decimal n ∷ []) ∷ []
+lines_after n (alt x y) = lines_after 0 x ++ lines_after (suc n) y
 
 abbrev pub lines_of : Tree → List Line
-lines_of x = lines_behind 0 x
+lines_of x = lines_after 0 x
 
--- the lines of each pattern, and behind them the line that takes it
+-- the lines of each pattern, and after them the line that takes it
 abbrev pub pattern_lines : List Tree → List Line
 pattern_lines [] = []
 pattern_lines (x ∷ xs) = lines_of x ++ (codes "pattern" ∷ []) ∷ pattern_lines xs
 
--- UTF-8 mode is on where no line says otherwise
+-- UTF-8 mode is on if no line says otherwise
 abbrev pub setting_lines : Bool → List Line
 setting_lines true = []
 setting_lines false = (codes "utf8" ∷ codes "off" ∷ []) ∷ []
 
--- the lines of a head of these patterns
-abbrev pub head_lines : Bool → List Tree → List Line
-head_lines utf8 xs = setting_lines utf8 ++ (pattern_lines xs ++ (codes "find" ∷ []) ∷ [])
+-- the lines of a query of these patterns
+abbrev pub query_lines : Bool → List Tree → List Line
+query_lines utf8 xs = setting_lines utf8 ++ (pattern_lines xs ++ (codes "find" ∷ []) ∷ [])
 
 -- the words with a space, 32, between each two, and a line feed, 10, at the end
-abbrev pub behind_word : Line → List ℕ
-behind_word [] = 10 ∷ []
-behind_word (w ∷ ws) = 32 ∷ (w ++ behind_word ws)
+abbrev pub after_word : Line → List ℕ
+after_word [] = 10 ∷ []
+after_word (w ∷ ws) = 32 ∷ (w ++ after_word ws)
 
 abbrev pub line_text : Line → List ℕ
 line_text [] = 10 ∷ []
-line_text (w ∷ ws) = w ++ behind_word ws
+line_text (w ∷ ws) = w ++ after_word ws
 
 abbrev pub lines_text : List Line → List ℕ
 lines_text lines = flat_map line_text lines
 
--- the head of these patterns
-abbrev pub head_text : Bool → List Tree → List ℕ
-head_text utf8 xs = lines_text (head_lines utf8 xs)
+-- the text of the query of these patterns
+abbrev pub query_text : Bool → List Tree → List ℕ
+query_text utf8 xs = lines_text (query_lines utf8 xs)

@@ -1,20 +1,20 @@
 ghost use Rattle.std.specs.Prelude.{◌≡◌, ◌++◌, ◌∷◌, [], codes, IfErr, IfOk, OnOk, map, string_bytes};
-ghost use Rattle.hirhead.specs.Heads.{IsHeadOf, IsHeadRefused};
+ghost use Rattle.hirhead.specs.Queries.{IsQueryOf, IsQueryRejected};
 ghost use Rattle.hirhead.specs.HasLines.{AllFit, AreUnfit};
-ghost use Rattle.hirhead.specs.How.{config_of};
-ghost use Rattle.hirhead.specs.Lines.{head_text, lines_text, line_text, setting_lines};
+ghost use Rattle.hirhead.specs.PatternOptions.{config_of};
+ghost use Rattle.hirhead.specs.Lines.{query_text, lines_text, line_text, setting_lines};
 
-use crate::how::How;
-use crate::laws::{heads_are_read, heads_match_as_their_texts};
-use crate::lines::{Unfit, UnfitTree, tell_patterns, tell_word, tell_words};
+use crate::laws::{queries_are_read, queries_match_as_their_patterns};
+use crate::lines::{Unfit, UnfitTree, report_patterns, report_word, report_words};
+use crate::pattern_options::PatternOptions;
 use hir_core::Hir;
 use pattern_search::parse_all;
 use pattern_text::ParseError;
 use std::alloc::{AllocError, Global};
 
-/// Why texts have no head.
+/// Why patterns have no query.
 #[derive(Clone, Copy, Debug, PartialEq, Eq)]
-pub struct HeadError {
+pub struct QueryError {
     /// The number of the text, counted from 0.
     pub number: usize,
     /// What is wrong with it.
@@ -24,7 +24,7 @@ pub struct HeadError {
 /// What is wrong with a text.
 #[derive(Clone, Copy, Debug, PartialEq, Eq)]
 pub enum Cause {
-    /// It is no pattern, at a place, or memory ran out.
+    /// It is no pattern, at the offsets that the error has, or memory ran out.
     Text(ParseError),
     /// Its tree has no lines, or memory ran out.
     Lines(Unfit),
@@ -44,56 +44,56 @@ impl From<AllocError> for UnfitTree {
     }
 }
 
-fn tell_settings(text: &mut String, utf8: bool) -> Result<(), AllocError>
+fn report_settings(text: &mut String, utf8: bool) -> Result<(), AllocError>
     ensures { OnOk result (string_bytes text.new ≡ string_bytes text.old ++ lines_text (setting_lines utf8)) }
 {
     if !utf8 {
-        tell_words(text, "utf8", "off")?;
+        report_words(text, "utf8", "off")?;
     }
     Ok(())
 }
 
-fn tell_find(text: &mut String) -> Result<(), AllocError>
+fn report_find(text: &mut String) -> Result<(), AllocError>
     ensures { OnOk result (string_bytes text.new ≡ string_bytes text.old ++ line_text (codes "find" ∷ [])) }
 {
-    tell_word(text, "find")?;
+    report_word(text, "find")?;
     Ok(())
 }
 
-/// The head of these trees, one pattern for each and in their order, with UTF-8 mode on or off.
-pub fn write_head(alloc: Global, trees: &[Hir], utf8: bool) -> Result<String, UnfitTree>
-    ensures head { IfOk result (λ text. string_bytes text ≡ head_text utf8 trees.now) }
+/// The query of these trees, one pattern for each and in their order, with UTF-8 mode on or off.
+pub fn write_query(alloc: Global, trees: &[Hir], utf8: bool) -> Result<String, UnfitTree>
+    ensures head { IfOk result (λ text. string_bytes text ≡ query_text utf8 trees.now) }
     ensures fits { IfOk result (λ _. AllFit 250 trees.now) }
     ensures refused { IfErr result (λ e. AreUnfit 250 trees.now e.number e.unfit) }
 {
     let mut text = String::new(alloc);
-    tell_settings(&mut text, utf8)?;
-    tell_patterns(alloc, &mut text, trees)?;
-    tell_find(&mut text)?;
+    report_settings(&mut text, utf8)?;
+    report_patterns(alloc, &mut text, trees)?;
+    report_find(&mut text)?;
     Ok(text)
 }
 
-/// The head of texts, one pattern for each and in their order. It is refused where a text is no pattern or the tree of one has no lines
-/// in the notation, with the number of the text.
-pub fn head_of(alloc: Global, texts: &[&str], how: &How) -> Result<String, HeadError>
-    ensures head { IfOk result (λ text. IsHeadOf (config_of how.now) (map (λ t. t.now) texts.now) (string_bytes text)) }
-    ensures refused { IfErr result (λ e. IsHeadRefused (config_of how.now) (map (λ t. t.now) texts.now) e.number e.cause) }
+/// The query of patterns in the syntax of the crate `regex`, one pattern for each and in their order. The call returns an error
+/// if a text is no pattern, or if the tree of one has no lines in the notation. The error has the number of the text.
+pub fn query_for(alloc: Global, texts: &[&str], how: &PatternOptions) -> Result<String, QueryError>
+    ensures head { IfOk result (λ text. IsQueryOf (config_of how.now) (map (λ t. t.now) texts.now) (string_bytes text)) }
+    ensures refused { IfErr result (λ e. IsQueryRejected (config_of how.now) (map (λ t. t.now) texts.now) e.number e.cause) }
 {
-    heads_are_read();
-    heads_match_as_their_texts();
+    queries_are_read();
+    queries_match_as_their_patterns();
     let config = how.config();
     let trees = match parse_all(alloc, texts, &config) {
         Ok(trees) => trees,
         Err(error) => {
-            return Err(HeadError {
+            return Err(QueryError {
                 number: error.number,
                 cause: Cause::Text(error.error),
             });
         }
     };
-    match write_head(alloc, &trees, how.utf8) {
+    match write_query(alloc, &trees, how.utf8) {
         Ok(text) => Ok(text),
-        Err(error) => Err(HeadError {
+        Err(error) => Err(QueryError {
             number: error.number,
             cause: Cause::Lines(error.unfit),
         }),

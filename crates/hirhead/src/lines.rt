@@ -4,7 +4,7 @@ ghost use Rattle.std.specs.List.{flat_map};
 ghost use Rattle.hir_core.specs.Facts.{is_ascending};
 ghost use Rattle.hir_core.specs.Tree.{empty, literal, byte_class, char_class, look};
 ghost use Rattle.hirhead.specs.HasLines.{AreScalars, IsShort, FitsIn, AllFit, IsUnfit, AreUnfit};
-ghost use Rattle.hirhead.specs.Lines.{byte_item, scalar_item, order_word, rounds_line, lines_of, pattern_lines, behind_word, line_text};
+ghost use Rattle.hirhead.specs.Lines.{byte_item, scalar_item, order_word, rounds_line, lines_of, pattern_lines, after_word, line_text};
 ghost use Rattle.hirhead.specs.Lines.{lines_text};
 
 use crate::look_names::look_name;
@@ -42,7 +42,7 @@ impl From<AllocError> for Unfit {
 }
 
 /// A line of one word.
-pub(crate) fn tell_word(text: &mut String, word: &str) -> Result<(), AllocError>
+pub(crate) fn report_word(text: &mut String, word: &str) -> Result<(), AllocError>
     ensures { OnOk result (string_bytes text.new ≡ string_bytes text.old ++ line_text (word.now ∷ [])) }
 {
     writeln!(text, "{word}")?;
@@ -50,7 +50,7 @@ pub(crate) fn tell_word(text: &mut String, word: &str) -> Result<(), AllocError>
 }
 
 /// A line of two words.
-pub(crate) fn tell_words(text: &mut String, word: &str, next: &str) -> Result<(), AllocError>
+pub(crate) fn report_words(text: &mut String, word: &str, next: &str) -> Result<(), AllocError>
     ensures { OnOk result (string_bytes text.new ≡ string_bytes text.old ++ line_text (word.now ∷ next.now ∷ [])) }
 {
     writeln!(text, "{word} {next}")?;
@@ -58,7 +58,7 @@ pub(crate) fn tell_words(text: &mut String, word: &str, next: &str) -> Result<()
 }
 
 /// A line of a word and a number.
-fn tell_number(text: &mut String, word: &str, number: u32) -> Result<(), AllocError>
+fn report_number(text: &mut String, word: &str, number: u32) -> Result<(), AllocError>
     ensures { OnOk result (string_bytes text.new ≡ string_bytes text.old ++ line_text (word.now ∷ decimal number ∷ [])) }
 {
     writeln!(text, "{word} {number}")?;
@@ -66,10 +66,10 @@ fn tell_number(text: &mut String, word: &str, number: u32) -> Result<(), AllocEr
 }
 
 #[tactic(auto, using(crate::proofs::TellLemmas::one_line))]
-fn tell_empty(text: &mut String) -> Result<(), AllocError>
+fn report_empty(text: &mut String) -> Result<(), AllocError>
     ensures { OnOk result (string_bytes text.new ≡ string_bytes text.old ++ lines_text (lines_of empty)) }
 {
-    tell_word(text, "empty")?;
+    report_word(text, "empty")?;
     Ok(())
 }
 
@@ -79,17 +79,17 @@ fn see_bytes(bytes: &[u8])
 {}
 
 #[tactic(auto, using(crate::proofs::TellLemmas::no_literal_text, crate::proofs::TellLemmas::literal_text, crate::proofs::TellLemmas::literal_fits))]
-fn tell_literal(alloc: Global, text: &mut String, bytes: &[u8]) -> Result<(), AllocError>
+fn report_literal(alloc: Global, text: &mut String, bytes: &[u8]) -> Result<(), AllocError>
     ensures lines { OnOk result (string_bytes text.new ≡ string_bytes text.old ++ lines_text (lines_of (literal bytes.now))) }
     ensures fits { FitsIn 1 (literal bytes.now) }
 {
     see_bytes(bytes);
     if bytes.is_empty() {
-        tell_word(text, "empty")?;
+        report_word(text, "empty")?;
         return Ok(());
     }
     let hex = hex::encode(alloc, bytes)?;
-    tell_words(text, "lit", hex.as_str())?;
+    report_words(text, "lit", hex.as_str())?;
     Ok(())
 }
 
@@ -104,7 +104,7 @@ fn push_byte_item(text: &mut String, start: u8, end: u8) -> Result<(), AllocErro
 
 /// The items, and the end of the line.
 fn push_byte_items(text: &mut String, ranges: &[(u8, u8)]) -> Result<(), AllocError>
-    ensures items { OnOk result (string_bytes text.new ≡ string_bytes text.old ++ behind_word (map byte_item ranges.now)) }
+    ensures items { OnOk result (string_bytes text.new ≡ string_bytes text.old ++ after_word (map byte_item ranges.now)) }
     ensures small { IfOk result (λ _. All (λ r. r.1 < 256) ranges.now) }
 {
     for range in ranges {
@@ -116,13 +116,13 @@ fn push_byte_items(text: &mut String, ranges: &[(u8, u8)]) -> Result<(), AllocEr
 }
 
 #[tactic(auto, using(crate::proofs::TellLemmas::no_bytes_text, crate::proofs::TellLemmas::bytes_text, crate::proofs::TellLemmas::bytes_fit))]
-fn tell_bytes(text: &mut String, ranges: &[(u8, u8)]) -> Result<(), AllocError>
+fn report_bytes(text: &mut String, ranges: &[(u8, u8)]) -> Result<(), AllocError>
     requires { IsTrue (is_ascending ranges.now) }
     ensures lines { OnOk result (string_bytes text.new ≡ string_bytes text.old ++ lines_text (lines_of (byte_class ranges.now))) }
     ensures fits { IfOk result (λ _. FitsIn 1 (byte_class ranges.now)) }
 {
     if ranges.is_empty() {
-        tell_number(text, "alt", 0)?;
+        report_number(text, "alt", 0)?;
         return Ok(());
     }
     text.push_str("bytes")?;
@@ -142,7 +142,7 @@ fn push_scalar_item(text: &mut String, start: char, end: char) -> Result<(), All
 
 /// The items, and the end of the line.
 fn push_scalar_items(text: &mut String, ranges: &[(char, char)]) -> Result<(), AllocError>
-    ensures items { OnOk result (string_bytes text.new ≡ string_bytes text.old ++ behind_word (map scalar_item ranges.now)) }
+    ensures items { OnOk result (string_bytes text.new ≡ string_bytes text.old ++ after_word (map scalar_item ranges.now)) }
     ensures scalars { IfOk result (λ _. All AreScalars ranges.now) }
 {
     for range in ranges {
@@ -154,13 +154,13 @@ fn push_scalar_items(text: &mut String, ranges: &[(char, char)]) -> Result<(), A
 }
 
 #[tactic(auto, using(crate::proofs::TellLemmas::no_chars_text, crate::proofs::TellLemmas::chars_text, crate::proofs::TellLemmas::chars_fit))]
-fn tell_chars(text: &mut String, ranges: &[(char, char)]) -> Result<(), AllocError>
+fn report_chars(text: &mut String, ranges: &[(char, char)]) -> Result<(), AllocError>
     requires { IsTrue (is_ascending ranges.now) }
     ensures lines { OnOk result (string_bytes text.new ≡ string_bytes text.old ++ lines_text (lines_of (char_class ranges.now))) }
     ensures fits { IfOk result (λ _. FitsIn 1 (char_class ranges.now)) }
 {
     if ranges.is_empty() {
-        tell_number(text, "alt", 0)?;
+        report_number(text, "alt", 0)?;
         return Ok(());
     }
     text.push_str("chars")?;
@@ -169,10 +169,10 @@ fn tell_chars(text: &mut String, ranges: &[(char, char)]) -> Result<(), AllocErr
 }
 
 #[tactic(auto, using(crate::proofs::TellLemmas::one_line))]
-fn tell_look(text: &mut String, assertion: Look) -> Result<(), AllocError>
+fn report_look(text: &mut String, assertion: Look) -> Result<(), AllocError>
     ensures { OnOk result (string_bytes text.new ≡ string_bytes text.old ++ lines_text (lines_of (look assertion))) }
 {
-    tell_words(text, "look", look_name(assertion))?;
+    report_words(text, "look", look_name(assertion))?;
     Ok(())
 }
 
@@ -182,7 +182,7 @@ fn order_word(greedy: bool) -> &'static str
     if greedy { "greedy" } else { "lazy" }
 }
 
-fn tell_rounds(
+fn report_rounds(
     text: &mut String,
     min: u32,
     max: Option<u32>,
@@ -228,23 +228,23 @@ fn tell(alloc: Global, text: &mut String, x: &Hir, levels: u8) -> Result<(), Unf
     }
     match x.kind() {
         HirKind::Empty => {
-            tell_empty(text)?;
+            report_empty(text)?;
             Ok(())
         }
         HirKind::Literal(bytes) => {
-            tell_literal(alloc, text, bytes)?;
+            report_literal(alloc, text, bytes)?;
             Ok(())
         }
         HirKind::Bytes(ranges) => {
-            tell_bytes(text, ranges)?;
+            report_bytes(text, ranges)?;
             Ok(())
         }
         HirKind::Chars(ranges) => {
-            tell_chars(text, ranges)?;
+            report_chars(text, ranges)?;
             Ok(())
         }
         HirKind::Look(look) => {
-            tell_look(text, *look)?;
+            report_look(text, *look)?;
             Ok(())
         }
         HirKind::Repetition {
@@ -254,7 +254,7 @@ fn tell(alloc: Global, text: &mut String, x: &Hir, levels: u8) -> Result<(), Unf
             sub,
         } => {
             tell(alloc, text, sub, levels - 1)?;
-            tell_rounds(text, *min, *max, *greedy)?;
+            report_rounds(text, *min, *max, *greedy)?;
             Ok(())
         }
         HirKind::Capture { sub: body, .. } => {
@@ -263,14 +263,14 @@ fn tell(alloc: Global, text: &mut String, x: &Hir, levels: u8) -> Result<(), Unf
         }
         HirKind::Concat(subs) => {
             let count = count_of(subs)?;
-            tell_parts(alloc, text, subs, levels - 1)?;
-            tell_number(text, "cat", count)?;
+            report_parts(alloc, text, subs, levels - 1)?;
+            report_number(text, "cat", count)?;
             Ok(())
         }
         HirKind::Alternation(subs) => {
             let count = count_of(subs)?;
-            tell_parts(alloc, text, subs, levels - 1)?;
-            tell_number(text, "alt", count)?;
+            report_parts(alloc, text, subs, levels - 1)?;
+            report_number(text, "alt", count)?;
             Ok(())
         }
     }
@@ -278,7 +278,7 @@ fn tell(alloc: Global, text: &mut String, x: &Hir, levels: u8) -> Result<(), Unf
 
 /// Appends the lines of each tree, one after the other.
 #[cycle(tell)]
-fn tell_parts(alloc: Global, text: &mut String, subs: &[Hir], levels: u8) -> Result<(), Unfit>
+fn report_parts(alloc: Global, text: &mut String, subs: &[Hir], levels: u8) -> Result<(), Unfit>
     ensures lines { OnOk result (string_bytes text.new ≡ string_bytes text.old ++ lines_text (flat_map lines_of subs.now)) }
     ensures fits { IfOk result (λ _. AllFit levels subs.now) }
     ensures refused { IfErr result (λ e. (n : ℕ) × AreUnfit levels subs.now n e) }
@@ -293,18 +293,18 @@ fn tell_parts(alloc: Global, text: &mut String, subs: &[Hir], levels: u8) -> Res
 const LEVELS: u8 = 250;
 
 /// The lines of one pattern, with the one that takes it.
-fn tell_pattern(alloc: Global, text: &mut String, x: &Hir) -> Result<(), Unfit>
+fn report_pattern(alloc: Global, text: &mut String, x: &Hir) -> Result<(), Unfit>
     ensures lines { OnOk result (string_bytes text.new ≡ string_bytes text.old ++ lines_text (pattern_lines (x.now ∷ []))) }
     ensures fits { IfOk result (λ _. FitsIn 250 x.now) }
     ensures refused { IfErr result (λ e. IsUnfit 250 x.now e) }
 {
     tell(alloc, text, x, LEVELS)?;
-    tell_word(text, "pattern")?;
+    report_word(text, "pattern")?;
     Ok(())
 }
 
 /// The lines of all patterns.
-pub(crate) fn tell_patterns(
+pub(crate) fn report_patterns(
     alloc: Global,
     text: &mut String,
     trees: &[Hir],
@@ -314,7 +314,7 @@ pub(crate) fn tell_patterns(
     ensures refused { IfErr result (λ e. AreUnfit 250 trees.now e.number e.unfit) }
 {
     for (number, tree) in trees.iter().enumerate() {
-        match tell_pattern(alloc, text, tree) {
+        match report_pattern(alloc, text, tree) {
             Ok(()) => {}
             Err(unfit) => return Err(UnfitTree { number, unfit }),
         }

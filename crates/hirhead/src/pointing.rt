@@ -32,7 +32,8 @@ fn spaces_for(alloc: Global, text: &str) -> Result<String, AllocError>
     Ok(spaces)
 }
 
-/// The line of the text that has the place, and a caret below the place. The place has to be where a character begins or the text ends.
+/// The line of the text that has the offset `at`, and a caret below that offset. A character has to begin there, or the text has
+/// to end there.
 pub fn pointed(alloc: Global, text: &str, at: usize) -> Result<String, AllocError>
     requires { IsCharBoundary text.now at }
     ensures { IfOk result (λ shown. IsShown text.now at (string_bytes shown)) }

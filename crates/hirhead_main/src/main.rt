@@ -1,17 +1,17 @@
-//! The program `hirhead`: patterns as arguments, on standard output the head that means them.
-//! It reads no input. Its status is 0 where the head is printed, and 2 where a pattern is refused, the arguments are wrong, a write
-//! fails or memory runs out, which standard error tells.
+//! The program `hirhead`: patterns as arguments, and on standard output the query that means them.
+//! It reads no input. Its status is 0 if the query is printed. It is 2 if a pattern is rejected, the arguments are wrong, a write
+//! fails or memory runs out, which standard error reports.
 #![tactic(auto)]
 
 use clap::{Arg, ArgAction, ArgMatches, Command, value_parser};
-use hirhead::{Cause, HeadError, How, Unfit, head_of, pointed};
+use hirhead::{Cause, PatternOptions, QueryError, Unfit, pointed, query_for};
 use pattern_text::ParseError;
 use std::alloc::{AllocError, Global};
 use std::env;
 use std::process::ExitCode;
 use std::rt::Runtime;
 
-/// One option more, which takes no value.
+/// Adds an option that takes no value.
 fn with_flag<'a>(
     alloc: Global,
     command: Command<'a>,
@@ -28,7 +28,7 @@ fn with_flag<'a>(
     Ok(command)
 }
 
-/// One option more, which takes the value `on` or `off`.
+/// Adds an option that takes the value `on` or `off`.
 fn with_switch<'a>(
     alloc: Global,
     command: Command<'a>,
@@ -77,13 +77,17 @@ fn with_patterns<'a>(alloc: Global, command: Command<'a>) -> Result<Command<'a>,
     Ok(command)
 }
 
-/// The options that take no value, by their names, their letters and what they say.
+/// The options that take no value: their names, their letters and their help.
 const FLAGS: [(&str, char, &str); 5] = [
     ("ignore-case", 'i', "letters match in either case"),
     ("multi-line", 'm', "^ and $ hold at the ends of lines"),
     ("dot-matches-new-line", 's', ". matches a line feed too"),
     ("swap-greed", 'U', "a* is lazy, and a*? greedy"),
-    ("fixed-strings", 'F', "patterns are plain text"),
+    (
+        "fixed-strings",
+        'F',
+        "patterns are strings, not regular expressions",
+    ),
 ];
 
 fn with_flags<'a>(alloc: Global, mut command: Command<'a>) -> Result<Command<'a>, AllocError> {
@@ -95,7 +99,7 @@ fn with_flags<'a>(alloc: Global, mut command: Command<'a>) -> Result<Command<'a>
 
 fn command<'a>(alloc: Global) -> Result<Command<'a>, AllocError> {
     let command = Command::new(alloc, "hirhead").version("1.0").about(
-        "Prints the head that means the patterns, in the notation of hirscan",
+        "Prints the query for the patterns, in the notation of hirscan",
     );
     let command = command.bin_name("hirhead")?;
     let command = with_flags(alloc, command)?;
@@ -121,8 +125,8 @@ fn is_on(matches: &ArgMatches<'_>, id: &str) -> bool {
     matches.get_str(id) != Some("off")
 }
 
-fn how_of(matches: &ArgMatches<'_>) -> How {
-    How {
+fn how_of(matches: &ArgMatches<'_>) -> PatternOptions {
+    PatternOptions {
         ignore_case: matches.get_flag("ignore-case"),
         multi_line: matches.get_flag("multi-line"),
         dot_matches_new_line: matches.get_flag("dot-matches-new-line"),
@@ -134,8 +138,8 @@ fn how_of(matches: &ArgMatches<'_>) -> How {
     }
 }
 
-/// Tells why there is no head. A pattern that is refused is shown with the place.
-fn tell_error(rt: &HostRuntime, texts: &[&str], error: HeadError) -> Result<u8, AllocError> {
+/// Reports why there is no query. A pattern that is rejected is shown with the offset of the error.
+fn report_error(rt: &HostRuntime, texts: &[&str], error: QueryError) -> Result<u8, AllocError> {
     let number = error.number;
     match error.cause {
         Cause::Text(ParseError::Refused { kind, span }) => {
@@ -160,8 +164,8 @@ fn tell_error(rt: &HostRuntime, texts: &[&str], error: HeadError) -> Result<u8, 
     Ok(2)
 }
 
-fn run_texts(rt: &HostRuntime, texts: &[&str], how: &How) -> Result<u8, AllocError> {
-    match head_of(rt.alloc(), texts, how) {
+fn run_texts(rt: &HostRuntime, texts: &[&str], how: &PatternOptions) -> Result<u8, AllocError> {
+    match query_for(rt.alloc(), texts, how) {
         Ok(head) => match print!(rt; "{head}") {
             Ok(()) => Ok(0),
             Err(_) => {
@@ -169,11 +173,11 @@ fn run_texts(rt: &HostRuntime, texts: &[&str], how: &How) -> Result<u8, AllocErr
                 Ok(2)
             }
         },
-        Err(error) => tell_error(rt, texts, error),
+        Err(error) => report_error(rt, texts, error),
     }
 }
 
-/// The texts as patterns that match them literally.
+/// The strings as patterns that match them literally.
 fn escaped(alloc: Global, texts: &[&str]) -> Result<Vec<String>, AllocError> {
     let mut patterns = Vec::new(alloc);
     for text in texts {
@@ -183,7 +187,7 @@ fn escaped(alloc: Global, texts: &[&str]) -> Result<Vec<String>, AllocError> {
     Ok(patterns)
 }
 
-fn run_fixed(rt: &HostRuntime, texts: &[&str], how: &How) -> Result<u8, AllocError> {
+fn run_fixed(rt: &HostRuntime, texts: &[&str], how: &PatternOptions) -> Result<u8, AllocError> {
     let alloc = rt.alloc();
     let patterns = escaped(alloc, texts)?;
     let mut words: Vec<&str> = Vec::new(alloc);

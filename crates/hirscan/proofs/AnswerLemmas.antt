@@ -1,4 +1,4 @@
--- What is known of an answer: its pattern means its span, and where it stands.
+-- What is known of an answer: its pattern means its span, and where it lies.
 use Rattle.std.proofs.Common.{◌≡◌, ℕ, zero, suc, if◌then◌else◌, ◌+◌, ◌-◌, ◌≤◌, Bool, true, false, cond, List, [], ◌∷◌, ◌++◌, map, length}
 use Rattle.std.proofs.Common.{Option, Some, None, slice_get, nat_le, refl, sym, ap, ◌∙◌, subst, inl, inr, arith, leb-true}
 use Rattle.std.specs.List.{All, filter}
@@ -25,7 +25,7 @@ found_is_leftmost q s (Some g) f is a =
 pub answer_found : (q : Query) (s : ℕ) (f : Found) → answer_from q s ≡ Some f → IsLeftmost (choices_at q) q.mode s q.end f
 answer_found q s f is = found_is_leftmost q s (answer_from q s) f is (computed_is_answer (choices_at q) q.mode s q.end)
 
--- a span that stands first among the choices: which pattern has it
+-- a span that is first among the choices: which pattern has it
 pub record IsChosen (kept : ℕ → Bool) (ends_of : Tree → List ℕ) (xs : List Tree) (p i : ℕ) (f : Found) : Type 0 where
   pub number : ℕ
   pub tree : Tree
@@ -128,7 +128,7 @@ module _ (q : Query) where
   start_counts i f true is e = is
   start_counts i f false is e = cc
 
-  -- in UTF-8 mode an answer starts and ends at places that count
+  -- in UTF-8 mode an answer starts and ends at offsets that count
   pub answer_counts : (s : ℕ) (f : Found) → answer_from q s ≡ Some f → (counts q.utf8 q.haystack f.start ≡ true) ×
       (counts q.utf8 q.haystack f.end ≡ true)
   answer_counts s f is = (
@@ -158,7 +158,7 @@ all_count q (suc n) last at =
     more_count q last at (next_answer (answer_from q) last at) (λ f. answers_from (answer_from q) n (Some f.end) f.end) refl
     (λ f. all_count q n (Some f.end) f.end)
 
--- in UTF-8 mode they start and end at places that count
+-- in UTF-8 mode they start and end at offsets that count
 pub answers_count : (q : Query) (s : ℕ) → All (Counts q) (answers_of q s)
 answers_count q s = all_count q (q.end + 2 - s) None s
 
@@ -181,6 +181,6 @@ few_within s end (f ∷ fs) rises spans =
     let rest = few_behind f.end end fs first.2 rises (λ k d less. (spans (suc k) d (omega (arith, less))).2) in
     omega (arith, first.0, first.1, first.2, rest)
 
--- so there is at most one for each place
+-- so there is at most one for each offset
 pub few_answers : (q : Query) (s : ℕ) → length (answers_of q s) ≤ q.end + 1 - s
 few_answers q s = few_within s q.end (answers_of q s) (answers_rise q s) (spans_within (answer_from q) q.end (answers_within q) s)

@@ -1,4 +1,4 @@
--- Items of scalars make the same ranges in any order: ranges that stay apart are told by their members.
+-- Items of scalars make the same ranges in any order: ranges that stay apart are determined by their members.
 use Rattle.std.proofs.Common.{◌≡◌, ℕ, ◌+◌, ◌<◌, ◌≤◌, true, false, ◌&&◌, ◌||◌, nat_le, List, [], ◌∷◌, map, None, refl, sym, ◌∙◌}
 use Rattle.std.proofs.Common.{ap, subst, inl, inr, arith}
 use Rattle.std.specs.List.{list_all}
@@ -29,7 +29,7 @@ members_above low (r ∷ rs) c h e =
 none_below : (low : ℕ) (rs : List (ℕ × ℕ)) (c : ℕ) → AreApart low rs → c < low → is_member rs c ≡ false
 none_below low rs c h l = false_from_ne_true (is_member rs c) (λ e. let m = members_above low rs c h e in omega arith)
 
--- behind the first range the members are those of the others
+-- after the first range the members are those of the others
 others_above : (r : ℕ × ℕ) (rs : List (ℕ × ℕ)) (c : ℕ) → r.1 < c → is_member (r ∷ rs) c ≡ is_member rs c
 others_above r rs c l =
     let out : (nat_le r.0 c && nat_le c r.1) ≡ false =
@@ -91,7 +91,7 @@ any_order items others p h =
     (λ c. scalar_members others c
     ∙ (sym (list_any-IsPermutation (λ r. nat_le r.0 c && nat_le c r.1) items others p) ∙ sym (scalar_members items c)))
 
--- ---- items that are read one after the other, and their ranges in their place
+-- ---- items that are read one after the other, and their ranges in their order
 
 ranges_in_order : (low : ℕ) (rs : List (ℕ × ℕ)) → AreApart low rs → list_all in_order rs ≡ true
 ranges_in_order low [] h = refl
@@ -100,7 +100,7 @@ ranges_in_order low (r ∷ rs) h = and_from (in_order r) (list_all in_order rs) 
 pub scalar_ranges_in_order : (items : List (ℕ × ℕ)) → list_all in_order items ≡ true → list_all in_order (scalar_ranges items) ≡ true
 scalar_ranges_in_order items h = ranges_in_order 0 (scalar_ranges items) (scalar_ranges_apart items h)
 
--- what was put has the ranges of all items, where no word has a fault
+-- what was put has the ranges of all items, if no word has a fault
 pub same_ranges : (ws : List (List ℕ)) (items : List (ℕ × ℕ)) → first_fault_of (map scalar_item_fault ws) ≡ None →
     list_all in_order items ≡ true
     → ((c : ℕ) → is_member (map the_hex_ends ws) c ≡ is_member items c || false)

@@ -7,7 +7,7 @@ use Rattle.search_core.proofs.ForCallers.{utf8_of_valid}
 use Rattle.search_types.specs.Inputs.{Search}
 use Rattle.hir_core.specs.Tree.{Tree}
 use Rattle.hir_core.specs.Facts.{is_utf8_tree}
-use Rattle.hirscan.specs.Refusals.{first_broken}
+use Rattle.hirscan.specs.Rejections.{first_broken}
 use Rattle.hirscan.specs.Regexes.{IsSearchOf}
 use Rattle.hirscan.proofs.CauseLemmas.{text_of_none, whole_text}
 

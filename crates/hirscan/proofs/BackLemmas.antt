@@ -21,14 +21,14 @@ use Rattle.nfa_core.specs.Walks.{Has}
 use Rattle.nfa_core.specs.Nfa.{Automaton}
 use Rattle.nfa_core.specs.NfaValue.{has_empty}
 use Rattle.nfa_core.specs.Places.{same_pair, first}
-use Rattle.nfa_core.specs.Ways.{span, place_of, ends_from}
+use Rattle.nfa_core.specs.Ways.{span, offset_of, ends_from}
 use Rattle.nfa_core.proofs.ForCallers.{has_same, has_later, pairs_equal}
 use Rattle.thompson_nfa.specs.Compilations.{IsChoice}
 use Rattle.lazy_dfa.specs.Dfas.{reader}
-use Rattle.lazy_dfa.specs.PassLaws.{is_past, best_at, IsLastEnd}
+use Rattle.lazy_dfa.specs.ScanLaws.{is_past, best_at, IsLastEnd}
 use Rattle.lazy_dfa.specs.Readers.{Reader, HalfAnswer, found, quit, unsupported, is_quit}
-use Rattle.lazy_dfa.specs.Scans.{first_place, scan}
-use Rattle.lazy_dfa.specs.ScanLaws.{IsWanted, IsSplitBy, IsFound, ends_of}
+use Rattle.lazy_dfa.specs.HalfSearches.{first_offset, half_search}
+use Rattle.lazy_dfa.specs.HalfSearchLaws.{IsWanted, IsSplitBy, IsFound, ends_of}
 use Rattle.lazy_dfa.proofs.ForCallers.{scan_finds, scan_quits_near, scan_mode_told}
 use Rattle.regex_pair.specs.Joined.{back_from}
 use Rattle.regex_pair.specs.Pairs.{Pair}
@@ -39,7 +39,7 @@ use Rattle.hirscan.proofs.LooseEndLemmas.{holds_none}
 use Rattle.hirscan.proofs.RegexLemmas.{goes_reverse, reverse_ends_lines, reverse_is_utf8, place_reverse, trees_alike}
 use Rattle.hirscan.proofs.ForwardLemmas.{reach}
 
--- i is the least place, from s on, from which a pattern has a span that ends where this end is, and it counts
+-- i is the least offset, from s on, from which a pattern has a span that ends where this end is, and it counts
 pub record IsLeastStart (q : Query) (s : ℕ) (c : ℕ × ℕ) (i : ℕ) : Type 0 where
   pub span : MeansSpan q c.1 i c.0
   pub from : s ≤ i
@@ -86,7 +86,7 @@ wanted_all kind is_reverse ends o is_all reads_back wanted =
 
 module _ (xs : List Tree) (utf8 : Bool) (t : Terminator) (p : Pair) (regex : IsRegexOf xs utf8 t p) (q : Search)
     (asked : IsSearchOf xs utf8 q)
-    (words : ℕ → Bool) (set : IsWordSet words) (c : ℕ × ℕ) (is : scan (reader p.forward) q ≡ found (Some c)) (i : ℕ)
+    (words : ℕ → Bool) (set : IsWordSet words) (c : ℕ × ℕ) (is : half_search (reader p.forward) q ≡ found (Some c)) (i : ℕ)
     (start : IsLeastStart (query_of xs utf8 (holds words t q.haystack) q) q.start c i) where
   abbrev r : Reader
   r = reader p.reverse
@@ -118,7 +118,7 @@ module _ (xs : List Tree) (utf8 : Bool) (t : Terminator) (p : Pair) (regex : IsR
   agrees_back : (k : ℕ) (x : Tree) → slice_get xs k ≡ Some x → AgreeFrom looks (holds_ascii t q.haystack) q.start c.0 x
   agrees_back k x listed l used at above below = sym (agrees k x listed l used at above below)
 
-  pub never_quits : (b x : ℕ) → scan r back ≡ quit b x → ⊥
+  pub never_quits : (b x : ℕ) → half_search r back ≡ quit b x → ⊥
   never_quits b x e =
       let far = reach xs utf8 t p regex q asked words set (Some c) is in
       let near = scan_quits_near r back b x e in
@@ -128,8 +128,8 @@ module _ (xs : List Tree) (utf8 : Bool) (t : Terminator) (p : Pair) (regex : IsR
       let here : has p.forward.quits b ≡ true = ap (λ quits. has quits b) (sym regex.same_quits) ∙ near.1 in
       let differ : true ≡ false = sym here ∙ ap (is_quit p.forward.quits) (sym near.0) ∙ quiet in cc
 
-  pub is_never_unsupported : (mode : Anchored) → scan r back ≡ unsupported mode → ⊥
-  is_never_unsupported mode e = let told = scan_mode_told r back mode e in let differ : true ≡ false = told.2 in cc
+  pub is_never_unsupported : (mode : Anchored) → half_search r back ≡ unsupported mode → ⊥
+  is_never_unsupported mode e = let reported = scan_mode_told r back mode e in let differ : true ≡ false = reported.2 in cc
 
   -- ---- spans that end there
   abbrev ends : List (ℕ × ℕ)
@@ -183,7 +183,7 @@ module _ (xs : List Tree) (utf8 : Bool) (t : Terminator) (p : Pair) (regex : IsR
   last_end : (k : ℕ) (o : Option (ℕ × ℕ)) → k ≡ 0 → IsWanted r.kind false m.reverse (ends_of r back m.start_anchored k) o →
       IsLastEnd true ends o
   last_end k o none wanted =
-      let at : place_of m.reverse (first_place m.reverse q.start c.0) 0 ≡ c.0 =
+      let at : offset_of m.reverse (first_offset m.reverse q.start c.0) 0 ≡ c.0 =
       place_reverse m.reverse q.start c.0 (goes_reverse xs utf8 t p regex) in
       let same : ends_of r back m.start_anchored k ≡ ends =
       ap (ends_of r back m.start_anchored) none
@@ -213,15 +213,15 @@ module _ (xs : List Tree) (utf8 : Bool) (t : Terminator) (p : Pair) (regex : IsR
   starts_by o (inl there) = starts_of o (last_end there.0 o (let few = there.1 in omega arith) there.3)
   starts_by o (inr all) = absurd (never_split (all.0 0 (omega arith)))
 
-  back_starts : (o : Option (ℕ × ℕ)) → scan r back ≡ found o → Starts o
+  back_starts : (o : Option (ℕ × ℕ)) → half_search r back ≡ found o → Starts o
   back_starts o e = starts_by o
       (scan_finds r back m.start_anchored regex.reverse.sound.named low inside refl regex.reverse.sound.anchored o e)
 
   -- the search back finds a start, and it is this one
-  by_answer : (x : HalfAnswer) → scan r back ≡ x → (d : ℕ × ℕ) × (scan r back ≡ found (Some d)) × (d.0 ≡ i)
+  by_answer : (x : HalfAnswer) → half_search r back ≡ x → (d : ℕ × ℕ) × (half_search r back ≡ found (Some d)) × (d.0 ≡ i)
   by_answer (found o) e = let s = back_starts o e in (s.0, e ∙ ap found s.1, s.2)
   by_answer (quit b x) e = absurd (never_quits b x e)
   by_answer (unsupported mode) e = absurd (is_never_unsupported mode e)
 
-  pub back_finds : (d : ℕ × ℕ) × (scan r back ≡ found (Some d)) × (d.0 ≡ i)
-  back_finds = by_answer (scan r back) refl
+  pub back_finds : (d : ℕ × ℕ) × (half_search r back ≡ found (Some d)) × (d.0 ≡ i)
+  back_finds = by_answer (half_search r back) refl

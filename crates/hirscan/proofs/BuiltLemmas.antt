@@ -1,4 +1,4 @@
--- What is built of trees with settings: a regex of these trees, whose quit bytes and room are told by the trees and the settings.
+-- What is built of trees with settings: a regex of these trees, whose quit bytes and room are determined by the trees and the settings.
 use Rattle.std.proofs.Common.{◌≡◌, ℕ, ◌≤◌, Bool, true, false, ◌&&◌, not, max, List, map, length, refl, sym, ap, ◌∙◌}
 use Rattle.std.proofs.Common.{subst, if◌then◌else◌}
 use Rattle.std.specs.Prelude.{Ok}

@@ -1,5 +1,5 @@
--- What is built of two automata that are compiled from the same trees, forward and in reverse, is two automata that search as one
--- for these trees.
+-- Two automata that are compiled from the same trees, forward and in reverse: what is built of them is two automata that search as one for
+-- these trees.
 use Rattle.std.proofs.Common.{◌≡◌, ℕ, Bool, true, false, ◌&&◌, ◌||◌, List, [], ◌∷◌, refl, sym, ap, ◌∙◌, subst, ⊎_elim, if◌then◌else◌}
 use Rattle.std.specs.Prelude.{Result, Ok, Err}
 use Rattle.std.specs.List.{list_any}

@@ -1,4 +1,4 @@
--- What reading a haystack as UTF-8 says of its longest valid beginning, and what is searched where nothing is refused.
+-- What reading a haystack as UTF-8 says of its longest valid beginning, and what is searched if nothing is rejected.
 use Rattle.std.proofs.Common.{◌≡◌, ℕ, zero, suc, ◌+◌, ◌<◌, ◌≤◌, Bool, true, false, not, if◌then◌else◌, List, [], ◌∷◌, All, length, take}
 use Rattle.std.proofs.Common.{Option, Some, None, option_map, nat_lt, nat_le, true≢false, refl, sym, subst, arith, codes, decimal}
 use Rattle.std.proofs.Common.{◌++◌, ◌∙◌, ap, leb-true}
@@ -14,8 +14,8 @@ use Rattle.hir_core.specs.Facts.{LoopsRead, is_utf8_tree}
 use Rattle.hirscan.specs.declared.line.Setup.{Setup}
 use Rattle.hirscan.specs.Asks.{asked_search}
 use Rattle.hirscan.specs.Loops.{first_empty_loop}
-use Rattle.hirscan.specs.Refusals.{first_cause, cause_if, of_pattern, where_utf8, first_not_utf8, first_broken, span_of, is_span}
-use Rattle.hirscan.specs.Refusals.{pattern_causes, haystack_causes, refusal}
+use Rattle.hirscan.specs.Rejections.{first_cause, cause_if, of_pattern, where_utf8, first_not_utf8, first_broken, span_of, is_span}
+use Rattle.hirscan.specs.Rejections.{pattern_causes, haystack_causes, rejection}
 use Rattle.hirscan.specs.Regexes.{IsSearchOf}
 use Rattle.hirscan.proofs.LoopLemmas.{none_if, none_at, all_of_none}
 
@@ -66,8 +66,9 @@ asked_utf8 : (on : Bool) (o : Option ℕ) → where_utf8 on o ≡ None → on �
 asked_utf8 true o none on = none
 asked_utf8 false o none on = absurd (true≢false (sym on))
 
--- what is refused for no cause: the loops of its patterns read, and it is a search of a haystack of bytes within it
-module _ (setup : Setup) (xs : List Tree) (h : List ℕ) (none : refusal setup xs h ≡ None) where
+-- If there is no cause to reject it, the body of every unbounded repetition of its patterns consumes at least one byte, and it is a search
+-- of a haystack of bytes within it.
+module _ (setup : Setup) (xs : List Tree) (h : List ℕ) (none : rejection setup xs h ≡ None) where
   patterns_pass : pattern_causes setup.settings.utf8 xs ≡ None
   patterns_pass = (first_none (pattern_causes setup.settings.utf8 xs) (haystack_causes setup.settings.utf8 setup.span h ∷ []) none).0
 
@@ -123,7 +124,7 @@ module _ (setup : Setup) (xs : List Tree) (h : List ℕ) (none : refusal setup x
   pub is_search : All (λ byte. byte < 256) h → IsSearchOf xs setup.settings.utf8 (asked_search setup h)
   is_search bytes = record { within = span_ends; whole = refl; bytes = bytes; valid = valid_haystack; utf8_trees = utf8_trees }
 
--- ---- causes that the code tells
+-- ---- causes that the code reports
 
 pub cause_of_loops : (utf8 : Bool) (xs : List Tree) (k : ℕ) (text : List ℕ) → Some k ≡ first_empty_loop xs
     → text ≡ of_pattern (codes ": unbounded body may be empty") k → Some text ≡ pattern_causes utf8 xs

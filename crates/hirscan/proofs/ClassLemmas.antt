@@ -39,7 +39,7 @@ use Rattle.thompson_nfa.proofs.ForCallers.{span_is_read}
 use Rattle.lazy_dfa.specs.Building.{classes_of}
 use Rattle.lazy_dfa.specs.ConfigValue.{DfaOptions}
 use Rattle.lazy_dfa.specs.Dfas.{class_of}
-use Rattle.lazy_dfa.specs.Passes.{start_name}
+use Rattle.lazy_dfa.specs.Scans.{start_name}
 use Rattle.lazy_dfa.proofs.ForCallers.{classes_by_marks}
 use Rattle.regex_pair.specs.Pairs.{Pair, pair_built}
 use Rattle.hirscan.specs.Choices.{Query, choices, pattern_ends, may_end, choices_at, answer_from}
@@ -53,7 +53,7 @@ use Rattle.hirscan.proofs.RegexLemmas.{forward_ends_lines}
 use Rattle.hirscan.proofs.SpanChoiceLemmas.{no_offer, first_offer}
 use Rattle.determinize_core.proofs.ForCallers.{has_family}
 
--- ---- answers by the first choice of each place
+-- ---- answers by the first choice of each offset
 
 same_leftmost : (f g : ℕ → List (ℕ × ℕ)) (n i : ℕ) →
     ((k : ℕ) → i ≤ k → k < i + n → first_choice k (f k) ≡ first_choice k (g k)) → leftmost f n i ≡ leftmost g n i
@@ -116,7 +116,7 @@ module _ (xs : List Tree) (t : Terminator) (q : Search) (inside : q.end ≤ leng
       (if counts false q.haystack i then choices (allowed q.anchored (length xs)) (may_end by_words) 0 ends else []))
       (same_ends i low)
 
--- ---- the first choice of a place by the first offer there
+-- ---- the first choice of an offset by the first offer there
 
 abbrev choice_of : ℕ → Option (ℕ × ℕ) → Option Found
 choice_of i None = None
@@ -136,7 +136,7 @@ module _ (q : Query) (fits : Fits q) (loops : All LoopsRead q.patterns) (off : q
   choice_by_offers : first_choice i (choices_at q i) ≡ choice_of i (first_of offers)
   choice_by_offers = by_offers offers refl
 
--- ---- the first offer of a place by the ends of runs
+-- ---- the first offer of an offset by the ends of runs
 
 module _ (o : Options) (xs : List Tree) (n : Nfa) (compiled : IsCompiled o xs n) (up : reverse_of o ≡ false)
     (loops : All LoopsRead xs) where

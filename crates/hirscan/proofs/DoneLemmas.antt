@@ -20,8 +20,8 @@ use Rattle.hirscan.specs.declared.line.Step.TheVariants.{Next}
 use Rattle.hirscan.specs.Words.{class_ranges, scalar_ranges}
 use Rattle.hirscan.specs.Readers.{spelling, number, the_number, bound, the_bound, order, the_order, switch, yes_or_no, hex_bytes, hex_byte}
 use Rattle.hirscan.specs.Readers.{the_byte, look_named}
-use Rattle.hirscan.specs.Takes.{HeadValue, HasNoNode, Sets, Replaces, Takes, with_utf8, with_terminator, with_capacity, with_quit}
-use Rattle.hirscan.specs.Takes.{with_classes, with_shrink, with_head_anchored, with_head_span}
+use Rattle.hirscan.specs.Takes.{QueryValue, HasNoNode, Sets, Replaces, Takes, with_utf8, with_terminator, with_capacity, with_quit}
+use Rattle.hirscan.specs.Takes.{with_classes, with_shrink, with_query_anchored, with_query_span}
 use Rattle.hirscan.specs.Takes.{utf8_line, line_line, two_bytes_line, capacity_line, quit_line, classes_line, shrink_line, anchored_line}
 use Rattle.hirscan.specs.Takes.{span_line}
 use Rattle.hirscan.specs.Takes.{empty_line, lit_line, bytes_line, chars_line, look_line, rep_line, cat_line, alt_line, pattern_line}
@@ -29,13 +29,13 @@ use Rattle.hirscan.specs.LineFault.{first_fault_of, unless_read, word_fault, is_
 use Rattle.hirscan.specs.LineFault.{below}
 use Rattle.hirscan.specs.LineFault.{new_tree, is_setting, is_setting_after_node, has_too_few_trees, is_too_deep, has_not_one_tree}
 use Rattle.hirscan.specs.LineFault.{has_tree_left_over, setup_after, after_setting, after_tree, after_line}
-use Rattle.hirscan.specs.Tells.{step_after}
+use Rattle.hirscan.specs.QueryReports.{step_after}
 use Rattle.hirscan.proofs.SaysLemmas.{number_said, bound_said, order_said, switch_said, yes_said, hex_bytes_said, hex_byte_said, items_said}
 use Rattle.hirscan.proofs.SaysLemmas.{scalar_items_said, look_said}
 use Rattle.hirscan.proofs.TakesLemmas.{NoFault}
 
 -- a line that was taken, by its first word
-pub record Done (ws : List (List ℕ)) (p q : HeadValue) : Type 0 where
+pub record Done (ws : List (List ℕ)) (p q : QueryValue) : Type 0 where
   pub word : LineWord
   pub args : List (List ℕ)
   pub says : ws ≡ spelling word ∷ args
@@ -43,17 +43,17 @@ pub record Done (ws : List (List ℕ)) (p q : HeadValue) : Type 0 where
   pub no_fault : NoFault word args p
   pub is : q ≡ after_line word args p
 
-abbrev stands : Setup → List Tree → List Tree → HeadValue
+abbrev stands : Setup → List Tree → List Tree → QueryValue
 stands setup stack patterns = record { setup = setup; stack = stack; patterns = patterns }
 
-same_standing : (p q : HeadValue) → p.setup ≡ q.setup → p.stack ≡ q.stack → p.patterns ≡ q.patterns → p ≡ q
+same_standing : (p q : QueryValue) → p.setup ≡ q.setup → p.stack ≡ q.stack → p.patterns ≡ q.patterns → p ≡ q
 same_standing p q d e f =
     ap (λ s. stands s p.stack p.patterns) d ∙ (ap (λ s. stands q.setup s p.patterns) e ∙ ap (λ s. stands q.setup q.stack s) f)
 
 -- ---- lines that set something
 
--- of a line that sets something only its place, the count of its words and its words may be wrong
-record SetsOnly (k : LineWord) (args : List (List ℕ)) (p : HeadValue) : Type 0 where
+-- of a line that sets something only its position, the count of its words and its words may be wrong
+record SetsOnly (k : LineWord) (args : List (List ℕ)) (p : QueryValue) : Type 0 where
   goes_on : step_after k ≡ Next
   in_order : is_min_above_max k args ≡ false
   enough : has_too_few_trees k args p ≡ false
@@ -62,7 +62,7 @@ record SetsOnly (k : LineWord) (args : List (List ℕ)) (p : HeadValue) : Type 0
   none_left : has_tree_left_over k p ≡ false
   is : after_line k args p ≡ after_setting k args p
 
-sets_only : (k : LineWord) (args : List (List ℕ)) (p : HeadValue) → is_setting k ≡ true → SetsOnly k args p
+sets_only : (k : LineWord) (args : List (List ℕ)) (p : QueryValue) → is_setting k ≡ true → SetsOnly k args p
 sets_only Empty args p s = absurd cc
 sets_only Lit args p s = absurd cc
 sets_only Bytes args p s = absurd cc
@@ -77,11 +77,11 @@ sets_only k args p s =
     let enough = le-ltb (length p.stack) 0 (omega arith) in
     record { goes_on = refl; in_order = refl; enough = enough; flat = refl; one_tree = refl; none_left = refl; is = refl }
 
--- such a line stands before each node
-before_nodes : (p : HeadValue) (k : LineWord) → HasNoNode p → is_setting_after_node k p ≡ false
+-- such a line comes before each node
+before_nodes : (p : QueryValue) (k : LineWord) → HasNoNode p → is_setting_after_node k p ≡ false
 before_nodes p k n = rw (n.stack_empty, n.no_pattern) (and-false (is_setting k))
 
-set_done : (ws args : List (List ℕ)) (k : LineWord) (p q : HeadValue) (new : Setup) → is_setting k ≡ true
+set_done : (ws args : List (List ℕ)) (k : LineWord) (p q : QueryValue) (new : Setup) → is_setting k ≡ true
     → ws ≡ spelling k ∷ args → is_word_count k (length args) ≡ true → word_fault k args ≡ None → Sets p q new
     → setup_after k args p.setup ≡ new → Done ws p q
 set_done ws args k p q new sets says counted fits s e =
@@ -107,13 +107,13 @@ set_done ws args k p q new sets says counted fits s e =
 -- ---- lines that make a tree
 
 -- n trees of the stack became one
-record Replaced (p q : HeadValue) (n : ℕ) (parts : List Tree) (new : Tree) : Type 0 where
+record Replaced (p q : QueryValue) (n : ℕ) (parts : List Tree) (new : Tree) : Type 0 where
   enough : nat_lt (length p.stack) n ≡ false
   top_is : top n p.stack ≡ parts
   flat : nat_lt 250 (height new) ≡ false
   is : q ≡ stands p.setup (below n p.stack ++ new ∷ []) p.patterns
 
-replaced : (p q : HeadValue) (n : ℕ) (parts : List Tree) (new : Tree) → Replaces p q parts new → length parts ≡ n
+replaced : (p q : QueryValue) (n : ℕ) (parts : List Tree) (new : Tree) → Replaces p q parts new → length parts ≡ n
     → Replaced p q n parts new
 replaced p q n parts new r l =
     let len : length p.stack ≡ length r.below + n = omega (arith, ap length r.stack_was, length-append r.below parts) in
@@ -128,12 +128,12 @@ replaced p q n parts new r l =
     }
 
 -- the new tree, spelled another way
-replaced_by : (p q : HeadValue) (n : ℕ) (parts : List Tree) (new other : Tree) → Replaced p q n parts new → other ≡ new
+replaced_by : (p q : QueryValue) (n : ℕ) (parts : List Tree) (new other : Tree) → Replaced p q n parts new → other ≡ new
     → (nat_lt 250 (height other) ≡ false) × (q ≡ stands p.setup (below n p.stack ++ other ∷ []) p.patterns)
 replaced_by p q n parts new other r e = rw e (r.flat, r.is)
 
--- a line that makes a tree may stand anywhere, takes no pattern and doesn't end the head
-record MakesTree (k : LineWord) (args : List (List ℕ)) (p : HeadValue) : Type 0 where
+-- a line that makes a tree may stand anywhere, takes no pattern and doesn't end the query
+record MakesTree (k : LineWord) (args : List (List ℕ)) (p : QueryValue) : Type 0 where
   goes_on : step_after k ≡ Next
   settable : is_setting_after_node k p ≡ false
   one_tree : has_not_one_tree k p ≡ false
@@ -146,7 +146,7 @@ makes_tree Pattern = false
 makes_tree Find = false
 makes_tree k = not (is_setting k)
 
-tree_only : (k : LineWord) (args : List (List ℕ)) (p : HeadValue) → makes_tree k ≡ true → MakesTree k args p
+tree_only : (k : LineWord) (args : List (List ℕ)) (p : QueryValue) → makes_tree k ≡ true → MakesTree k args p
 tree_only Utf8 args p m = absurd cc
 tree_only Line args p m = absurd cc
 tree_only Capacity args p m = absurd cc
@@ -159,7 +159,7 @@ tree_only Pattern args p m = absurd cc
 tree_only Find args p m = absurd cc
 tree_only k args p m = record { goes_on = refl; settable = refl; one_tree = refl; none_left = refl; is = refl }
 
-tree_done : (ws args : List (List ℕ)) (k : LineWord) (p q : HeadValue) (parts : List Tree) (new : Tree) → makes_tree k ≡ true
+tree_done : (ws args : List (List ℕ)) (k : LineWord) (p q : QueryValue) (parts : List Tree) (new : Tree) → makes_tree k ≡ true
     → ws ≡ spelling k ∷ args → is_word_count k (length args) ≡ true → word_fault k args ≡ None
     → is_min_above_max k args ≡ false → length parts ≡ needed k args → new_tree k args parts ≡ new → Replaces p q parts new → Done ws p q
 tree_done ws args k p q parts new made says counted fits ordered len e r =
@@ -215,7 +215,7 @@ one_read a e = rw e refl
 
 -- ---- each line
 
-pub takes_done : (ws : List (List ℕ)) (p q : HeadValue) → Takes ws p q → Done ws p q
+pub takes_done : (ws : List (List ℕ)) (p q : QueryValue) → Takes ws p q → Done ws p q
 takes_done ws p q (utf8_line w on e is s) =
     let a = switch_said w on is in
     set_done ws (w ∷ []) Utf8 p q _ refl e refl (read (switch w) on BadChoice a) s (ap (λ o. with_utf8 (unwrap_or o false) p.setup) a)
@@ -246,14 +246,14 @@ takes_done ws p q (shrink_line w on e is s) =
 takes_done ws p q (anchored_line w said e is s) =
     let a = yes_said w said is in
     set_done ws (w ∷ []) Anchored p q _ refl e refl (read (yes_or_no w) said BadChoice a) s
-    (ap (λ o. with_head_anchored (unwrap_or o false) p.setup) a)
+    (ap (λ o. with_query_anchored (unwrap_or o false) p.setup) a)
 takes_done ws p q (span_line low high start end e is_start is_end s) =
     let a = number_said low start is_start in
     let b = number_said high end is_end in
     let words = two_read _ _ (read (number low) start BadNumber a) (read (number high) end BadNumber b) in
     set_done ws (low ∷ high ∷ []) Span p q _ refl e refl words s
-    (ap (λ o. with_head_span (record { start = unwrap_or o 0; end = the_number high }) p.setup) a
-    ∙ ap (λ o. with_head_span (record { start = start; end = unwrap_or o 0 }) p.setup) b)
+    (ap (λ o. with_query_span (record { start = unwrap_or o 0; end = the_number high }) p.setup) a
+    ∙ ap (λ o. with_query_span (record { start = start; end = unwrap_or o 0 }) p.setup) b)
 takes_done ws p q (empty_line e r) = tree_done ws [] Empty p q [] empty refl e refl refl refl refl refl r
 takes_done ws p q (lit_line w bytes e hex r) =
     let a = hex_bytes_said w bytes hex in

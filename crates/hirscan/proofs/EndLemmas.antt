@@ -1,6 +1,6 @@
--- From the ends that a half search finds to an answer: what it finds is known by what each place offers. It is said for any two
--- relations that tell when a place has nothing and which span is the best there, so that it serves the answer of trees and the
--- one but for the preference of ends.
+-- From the ends that a half search finds to an answer: what it finds is known by what each offset offers. It is said for any two relations:
+-- one says when an offset has nothing, the other which span is the best there. So it serves the answer of trees, and also the one that
+-- leaves the preference of ends open.
 use Rattle.std.proofs.Common.{◌≡◌, ℕ, zero, suc, ◌+◌, ◌-◌, ◌<◌, ◌≤◌, ◌⊎◌, Bool, true, false, List, [], ◌∷◌, length, slice_get, Option}
 use Rattle.std.proofs.Common.{Some, None, All, refl, sym, ap, ◌∙◌, subst, inl, inr, arith}
 use Rattle.std.proofs.lemmas.Bool.{cases_lt, lt-ltb}
@@ -34,9 +34,9 @@ pub record IsMet (q : Query) (i p j : ℕ) : Type 0 where
   pub span : MeansSpan q p i j
   pub within : j ≤ q.end
 
--- What is known of the offers of each place up to the end: where there is none, the place has nothing; the first is a span, and
--- the best one where it counts. A place that doesn't count has nothing, and one that has nothing has no span that counts.
-pub record Tells (q : Query) (offers : ℕ → List (ℕ × ℕ)) (Nothing : ℕ → Type 0) (Best : ℕ → ℕ → ℕ → Type 0) : Type 0 where
+-- What is known of the offers of each offset up to the end. If there is none, the offset has nothing. The first is a span, and the best one
+-- if it counts. An offset that doesn't count has nothing, and one that has nothing has no span that counts.
+pub record ReportsFaultOf (q : Query) (offers : ℕ → List (ℕ × ℕ)) (Nothing : ℕ → Type 0) (Best : ℕ → ℕ → ℕ → Type 0) : Type 0 where
   pub none : (i : ℕ) → i ≤ q.end → offers i ≡ [] → Nothing i
   pub met : (i j p : ℕ) (others : List (ℕ × ℕ)) → i ≤ q.end → offers i ≡ (j, p) ∷ others → IsMet q i p j
   pub best : (i j p : ℕ) (others : List (ℕ × ℕ)) → i ≤ q.end → counts q.utf8 q.haystack i ≡ true → counts q.utf8 q.haystack j ≡ true →
@@ -44,7 +44,7 @@ pub record Tells (q : Query) (offers : ℕ → List (ℕ × ℕ)) (Nothing : ℕ
   pub uncounted : (i : ℕ) → counts q.utf8 q.haystack i ≡ false → Nothing i
   pub missed : (i p j : ℕ) → i ≤ q.end → IsCounted q i p j → Nothing i → ⊥
 
--- the best span of the least place that has one, with this end and pattern
+-- the best span of the least offset that has one, with this end and pattern
 pub record IsBestFrom (q : Query) (Nothing : ℕ → Type 0) (Best : ℕ → ℕ → ℕ → Type 0) (s : ℕ) (c : ℕ × ℕ) : Type 0 where
   pub place : ℕ
   pub starts : may_start q.mode s q.end place ≡ true
@@ -98,16 +98,16 @@ module _ (q : Query) (fits : Fits q) where
       (counts q.utf8 q.haystack i ≡ true) × (counts q.utf8 q.haystack j ≡ true)
   span_counts p i j m l within = utf8_counts q.utf8 refl p i j m l within
 
-  -- no tree has an empty span, or each place counts
+  -- no tree has an empty span, or each offset counts
   abbrev pub AllCount : Type 0
   AllCount = (q.utf8 ≡ false) ⊎ ((p i : ℕ) → MeansSpan q p i i → ⊥)
 
 module _ (q : Query) (fits : Fits q) (offers : ℕ → List (ℕ × ℕ)) (Nothing : ℕ → Type 0) (Best : ℕ → ℕ → ℕ → Type 0)
-    (tells : Tells q offers Nothing Best) where
+    (reports : ReportsFaultOf q offers Nothing Best) where
   abbrev counted : ℕ → Bool
   counted j = counts q.utf8 q.haystack j
 
-  -- with these offers of the places from s on
+  -- with these offers of the offsets from s on
   abbrev pub Firsts : ℕ → Option (ℕ × ℕ) → Type 0
   Firsts s o = IsFirstOffer offers s (suc (last_start q.mode s q.end) - s) o
 
@@ -119,7 +119,7 @@ module _ (q : Query) (fits : Fits q) (offers : ℕ → List (ℕ × ℕ)) (Nothi
       let at = starts_at q.mode s q.end i starts in
       let last = last_within q.mode s q.end l in
       let low = at.from_s in let high = at.to_last in
-      tells.none i (omega (arith, last.1)) (none i low (omega (arith, last.0)))
+      reports.none i (omega (arith, last.1)) (none i low (omega (arith, last.0)))
 
   module _ (s : ℕ) (l : s ≤ q.end) (c : ℕ × ℕ) (at : Firsts s (Some c)) where
     abbrev last : (s ≤ last_start q.mode s q.end) × (last_start q.mode s q.end ≤ q.end)
@@ -132,13 +132,13 @@ module _ (q : Query) (fits : Fits q) (offers : ℕ → List (ℕ × ℕ)) (Nothi
     within = omega (arith, inside, last.1)
 
     the_span : IsMet q at.place c.1 c.0
-    the_span = tells.met at.place c.0 c.1 at.others within at.here
+    the_span = reports.met at.place c.0 c.1 at.others within at.here
 
     forward : at.place ≤ c.0
     forward = let m = the_span in span_forward q.looks q.haystack m.span.tree at.place c.0 m.span.means
 
     none_before_it : (i : ℕ) → s ≤ i → i < at.place → Nothing i
-    none_before_it i low high = tells.none i (omega (arith, within)) (at.none_before i low high)
+    none_before_it i low high = reports.none i (omega (arith, within)) (at.none_before i low high)
 
     -- an end that counts
     start_counts : counted c.0 ≡ true → counted at.place ≡ true
@@ -155,11 +155,11 @@ module _ (q : Query) (fits : Fits q) (offers : ℕ → List (ℕ × ℕ)) (Nothi
       forward = forward;
       within = m.within;
       start_counts = start_counts t;
-      best = tells.best at.place c.0 c.1 at.others within (start_counts t) t at.here;
+      best = reports.best at.place c.0 c.1 at.others within (start_counts t) t at.here;
       none_before = λ i starts below. none_before_it i (starts_at q.mode s q.end i starts).from_s below;
     }
 
-    -- an end that is split is that of an empty span, and no place up to it has anything
+    -- an end that is split is that of an empty span, and no offset up to it has anything
     split_empty : counted c.0 ≡ false → at.place ≡ c.0
     split_empty f = let m = the_span in elim (cases_lt at.place c.0) [
       | inl lt ↦ let t = (span_counts q fits c.1 at.place c.0 m.span lt m.within).1 in let differ : true ≡ false = sym t ∙ f in cc
@@ -170,7 +170,7 @@ module _ (q : Query) (fits : Fits q) (offers : ℕ → List (ℕ × ℕ)) (Nothi
     split_none f = let from = at.from in elim (cases_lt s at.place) [
       | inl lt ↦ none_before_it s (omega arith) lt
       | inr ge ↦ let here : c.0 ≡ s = (let e = split_empty f in omega arith) in
-          tells.uncounted s (ap (counts q.utf8 q.haystack) (sym here) ∙ f)
+          reports.uncounted s (ap (counts q.utf8 q.haystack) (sym here) ∙ f)
     ]
 
     whole_counts : AllCount q fits → counted c.0 ≡ true
@@ -186,7 +186,7 @@ module _ (q : Query) (fits : Fits q) (offers : ℕ → List (ℕ × ℕ)) (Nothi
   pub no_place : (s : ℕ) → q.end < s → Ends s None
   no_place s past = λ i starts. let at = starts_at q.mode s q.end i starts in let f = at.forward in absurd (omega arith)
 
-  -- ---- a search from one place further
+  -- ---- a search from one offset further
   one_further : (mode : Anchored) (s i : ℕ) → mode ≡ No → s ≤ q.end → may_start mode s q.end i ≡ true →
       (s ≡ i) ⊎ (may_start mode (s + 1) q.end i ≡ true)
   one_further No s i m l starts =
@@ -225,11 +225,11 @@ module _ (q : Query) (fits : Fits q) (offers : ℕ → List (ℕ × ℕ)) (Nothi
     ];
   }
 
-  -- what is found first from the place has an end that doesn't count
+  -- what is found first from the offset has an end that doesn't count
   abbrev pub IsSplitAt : ℕ → Type 0
   IsSplitAt i = (c : ℕ × ℕ) × Firsts i (Some c) × (counts q.utf8 q.haystack c.0 ≡ false)
 
-  -- past places from which an end is found that doesn't count
+  -- past offsets from which an end is found that doesn't count
   past_splits : (n s at : ℕ) (o : Option (ℕ × ℕ)) → at ≡ s + n → at ≤ q.end + 1 → (0 < n → q.mode ≡ No) →
       ((i : ℕ) → s ≤ i → i < at → IsSplitAt i) →
       Ends at o → Ends s o
@@ -246,7 +246,7 @@ module _ (q : Query) (fits : Fits q) (offers : ℕ → List (ℕ × ℕ)) (Nothi
   counted_ends s l None at all = none_ends s l at
   counted_ends s l (Some c) at all = some_ends s l c at (all c refl)
 
-  -- the first end that counts of searches each from one place further
+  -- the first end that counts of searches each from one offset further
   pub ends_past : (n s at : ℕ) (o : Option (ℕ × ℕ)) → at ≡ s + n → at ≤ q.end → (0 < n → q.mode ≡ No) →
       ((i : ℕ) → s ≤ i → i < at → IsSplitAt i) →
       Firsts at o → ((c : ℕ × ℕ) → o ≡ Some c → counted c.0 ≡ true) → Ends s o
@@ -266,12 +266,12 @@ module _ (q : Query) (fits : Fits q) (offers : ℕ → List (ℕ × ℕ)) (Nothi
       let low = at.from_s in let high = at.to_last in
       nothing_there s i (split_none s l split.0 split.1 split.2) (omega (arith, one_start q.mode s q.end a))
 
-  -- where each end counts there is no need to begin anew
+  -- if each end counts, there is no need to restart
   pub whole_ends : AllCount q fits → (s : ℕ) → s ≤ q.end → (o : Option (ℕ × ℕ)) → Firsts s o → Ends s o
   whole_ends all s l None at = none_ends s l at
   whole_ends all s l (Some c) at = some_ends s l c at (whole_counts s l c at all)
 
-  -- a search that may start anywhere starts at the least place from which a pattern has a span that ends there
+  -- a search that may start anywhere starts at the least offset from which a pattern has a span that ends there
   pub start_is_least : (s : ℕ) (c : ℕ × ℕ) → q.mode ≡ No → (a : IsBestFrom q Nothing Best s c) → (k p : ℕ) → s ≤ k → MeansSpan q p k c.0 →
       a.place ≤ k
   start_is_least s c m a k p low span = elim (cases_lt k a.place) [
@@ -286,7 +286,7 @@ module _ (q : Query) (fits : Fits q) (offers : ℕ → List (ℕ × ℕ)) (Nothi
         } in
         let ends = span_counts q fits p k c.0 span (omega arith) within in
         let starts : may_start q.mode s q.end k ≡ true = may_start_at q.mode s q.end k at.forward low (omega arith) in
-        absurd (tells.missed k p c.0 (omega arith) (record { findable = findable; start_counts = ends.0; end_counts = ends.1 })
+        absurd (reports.missed k p c.0 (omega arith) (record { findable = findable; start_counts = ends.0; end_counts = ends.1 })
         (a.none_before k starts lt))
     | inr ge ↦ ge
   ]

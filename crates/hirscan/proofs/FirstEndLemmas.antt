@@ -1,5 +1,5 @@
--- The first end of the runs of an automaton that is compiled from trees for one who reads forward is the first that the trees offer,
--- at one place after the other, where their loops read.
+-- Precondition: the body of every unbounded repetition of the trees consumes at least one byte. Then the first end of the runs of an
+-- automaton that is compiled from them for one who reads forward is the first that they offer, at one offset after the other.
 use Rattle.std.proofs.Common.{◌≡◌, ℕ, zero, suc, ◌+◌, ◌-◌, ◌≤◌, false, List, [], ◌∷◌, ◌++◌, take, get_or, slice_get, Option, Some, None}
 use Rattle.std.proofs.Common.{All, refl, sym, ap, ap₂, ◌∙◌, arith, append-nil}
 use Rattle.std.specs.List.{flat_map}
@@ -11,7 +11,7 @@ use Rattle.hir_core.specs.Facts.{LoopsRead}
 use Rattle.search_types.specs.declared.anchored.Anchored.{Anchored}
 use Rattle.search_types.specs.declared.anchored.Anchored.TheVariants.{No, Yes, Pattern}
 use Rattle.search_types.specs.Modes.{last_start}
-use Rattle.search_types.specs.FirstFound.{first_of, places_from}
+use Rattle.search_types.specs.FirstFound.{first_of, offsets_from}
 use Rattle.nfa_core.specs.Walks.{distinct}
 use Rattle.nfa_core.specs.Nfa.{Automaton}
 use Rattle.nfa_core.specs.Places.{same_pair, first}
@@ -22,15 +22,15 @@ use Rattle.nfa_core.proofs.ForCallers.{first_distinct}
 use Rattle.thompson_nfa.specs.Configs.{Options, reverse_of}
 use Rattle.thompson_nfa.specs.Denotes.{seen}
 use Rattle.thompson_nfa.specs.Compilations.{IsCompiled, IsPlainText, FindsInOrder, choices_from, pattern_start}
-use Rattle.lazy_dfa.specs.Passes.{start_name}
+use Rattle.lazy_dfa.specs.Scans.{start_name}
 use Rattle.hirscan.proofs.EndLemmas.{listed_has}
 use Rattle.hirscan.proofs.OfferLemmas.{offered, pattern_offers, mode_offers, paired}
 
--- From each place of the text from s on, the first end is the first offer of the least place that has one; of a pattern that
--- doesn't exist nothing is offered.
+-- From each offset of the haystack from s on, the first end is the first offer of the least offset that has one. Of a pattern that doesn't
+-- exist nothing is offered.
 pub record FindsFirsts (a : Automaton) (t : Text) (mode : Anchored) (offers : ℕ → List (ℕ × ℕ)) : Type 0 where
   pub firsts : (i name : ℕ) → t.start ≤ i → i ≤ t.end → start_name a mode ≡ Some name →
-      first (ends_from a t (i, name)) ≡ first_of (flat_map offers (places_from i (suc (last_start mode i t.end) - i)))
+      first (ends_from a t (i, name)) ≡ first_of (flat_map offers (offsets_from i (suc (last_start mode i t.end) - i)))
   pub nothing : start_name a mode ≡ None → (i : ℕ) → offers i ≡ []
 
 pub first_is_of : (ends : List (ℕ × ℕ)) → first ends ≡ first_of ends
@@ -46,16 +46,16 @@ same_choices t (x ∷ xs) p k i e =
     ap₂ (λ (l m : List (ℕ × ℕ)). l ++ m) (ap (λ n. paired n (preferred_ends t.holds (seen t) x i)) e)
     (same_choices t xs (suc p) (k + 1) i (omega arith))
 
-pub same_over : (b c : ℕ → List (ℕ × ℕ)) (n i : ℕ) → ((k : ℕ) → b k ≡ c k) → flat_map b (places_from i n) ≡ flat_map c (places_from i n)
+pub same_over : (b c : ℕ → List (ℕ × ℕ)) (n i : ℕ) → ((k : ℕ) → b k ≡ c k) → flat_map b (offsets_from i n) ≡ flat_map c (offsets_from i n)
 same_over b c zero i same = refl
 same_over b c (suc n) i same = ap₂ (λ (l m : List (ℕ × ℕ)). l ++ m) (same i) (same_over b c n (suc i) same)
 
-pub one_place : (offers : ℕ → List (ℕ × ℕ)) (i : ℕ) → flat_map offers (places_from i (suc i - i)) ≡ offers i
+pub one_place : (offers : ℕ → List (ℕ × ℕ)) (i : ℕ) → flat_map offers (offsets_from i (suc i - i)) ≡ offers i
 one_place offers i =
     let one : suc i - i ≡ 1 = omega arith in
-    ap (λ k. flat_map offers (places_from i k)) one ∙ append-nil (offers i)
+    ap (λ k. flat_map offers (offsets_from i k)) one ∙ append-nil (offers i)
 
--- the start of a pattern is there where its tree is
+-- the start of a pattern exists if its tree does
 pub no_start_no_tree : (o : Options) (xs : List Tree) (n : Nfa) → IsCompiled o xs n → (p : ℕ) →
     slice_get n.automaton.start_pattern p ≡ None → (x : Tree) →
     slice_get xs p ≡ Some x → ⊥
@@ -80,17 +80,17 @@ module _ (o : Options) (xs : List Tree) (n : Nfa) (compiled : IsCompiled o xs n)
   order = compiled.order up
 
   unanchored : (i name : ℕ) → s ≤ i → i ≤ e → start_name n.automaton No ≡ Some name →
-      first (ends_from n.automaton t (i, name)) ≡ first_of (flat_map (mode_offers looks (take e h) xs No) (places_from i (suc e - i)))
+      first (ends_from n.automaton t (i, name)) ≡ first_of (flat_map (mode_offers looks (take e h) xs No) (offsets_from i (suc e - i)))
   unanchored i name low high is =
       let same : n.automaton.start_unanchored ≡ name = cc in
       ap (λ k. first (ends_from n.automaton t (i, k))) (sym same)
       ∙ first_of_ends (ends_from n.automaton t (i, n.automaton.start_unanchored))
-      (flat_map (choices_from 0 xs t) (places_from i (suc e - i)))
+      (flat_map (choices_from 0 xs t) (offsets_from i (suc e - i)))
       (order.unanchored loops t i read low high)
       ∙ ap first_of (same_over (choices_from 0 xs t) (mode_offers looks (take e h) xs No) (suc e - i) i (λ k. same_choices t xs 0 0 k refl))
 
   anchored : (i name : ℕ) → i ≤ e → start_name n.automaton Yes ≡ Some name →
-      first (ends_from n.automaton t (i, name)) ≡ first_of (flat_map (mode_offers looks (take e h) xs Yes) (places_from i (suc i - i)))
+      first (ends_from n.automaton t (i, name)) ≡ first_of (flat_map (mode_offers looks (take e h) xs Yes) (offsets_from i (suc i - i)))
   anchored i name high is =
       let same : n.automaton.start_anchored ≡ name = cc in
       ap (λ k. first (ends_from n.automaton t (i, k))) (sym same)
@@ -99,7 +99,7 @@ module _ (o : Options) (xs : List Tree) (n : Nfa) (compiled : IsCompiled o xs n)
 
   named : (p i name : ℕ) → i ≤ e → slice_get n.automaton.start_pattern p ≡ Some name →
       first (ends_from n.automaton t (i, name)) ≡ first_of
-      (flat_map (mode_offers looks (take e h) xs (Pattern p)) (places_from i (suc i - i)))
+      (flat_map (mode_offers looks (take e h) xs (Pattern p)) (offsets_from i (suc i - i)))
   named p i name high is =
       let here : pattern_start n.automaton p ≡ name = get_or_from_slice_get n.automaton.start_pattern p name 0 is in
       let listed = start_has_tree o xs n compiled p name is in
@@ -112,7 +112,7 @@ module _ (o : Options) (xs : List Tree) (n : Nfa) (compiled : IsCompiled o xs n)
 
   first_in : (mode : Anchored) (i name : ℕ) → s ≤ i → i ≤ e → start_name n.automaton mode ≡ Some name →
       first (ends_from n.automaton t (i, name)) ≡ first_of
-      (flat_map (mode_offers looks (take e h) xs mode) (places_from i (suc (last_start mode i e) - i)))
+      (flat_map (mode_offers looks (take e h) xs mode) (offsets_from i (suc (last_start mode i e) - i)))
   first_in No i name low high is = unanchored i name low high is
   first_in Yes i name low high is = anchored i name high is
   first_in (Pattern p) i name low high is = named p i name high is

@@ -1,5 +1,5 @@
--- The end that a search forward finds is that of an answer, for every set of words: the search read words as bytes, and as far as
--- it read no byte tells words of characters apart from these.
+-- The end that a search forward finds is that of an answer, for every set of words. The search read words as bytes, and for no byte that it
+-- read do words of characters differ from these.
 use Rattle.std.proofs.Common.{◌≡◌, ℕ, zero, suc, ◌+◌, ◌-◌, ◌<◌, ◌≤◌, Bool, true, false, not, ◌&&◌, List, Option, Some, None, refl, sym, ap}
 use Rattle.std.proofs.Common.{◌∙◌, subst, inl, inr, arith}
 use Rattle.std.specs.List.{flat_map}
@@ -14,30 +14,31 @@ use Rattle.search_types.specs.declared.anchored.Anchored.TheVariants.{No, Yes, P
 use Rattle.search_types.specs.Inputs.{Search}
 use Rattle.search_types.specs.Modes.{is_anchored, last_start}
 use Rattle.search_types.specs.Places.{counts}
-use Rattle.search_types.specs.FirstFound.{first_of, places_from, IsFirstOffer}
+use Rattle.search_types.specs.FirstFound.{first_of, offsets_from, IsFirstOffer}
 use Rattle.search_types.proofs.ForCallers.{first_found, starts_at}
 use Rattle.nfa_core.specs.NfaValue.{has_empty}
 use Rattle.nfa_core.specs.Nfa.{Automaton}
 use Rattle.nfa_core.specs.Places.{first}
 use Rattle.nfa_core.specs.Reaches.{read_by}
-use Rattle.nfa_core.specs.Ways.{Text, place_of, ends_from}
+use Rattle.nfa_core.specs.Ways.{Text, offset_of, ends_from}
 use Rattle.lazy_dfa.specs.Dfas.{reader}
-use Rattle.lazy_dfa.specs.Passes.{start_name}
-use Rattle.lazy_dfa.specs.PassLaws.{splits}
+use Rattle.lazy_dfa.specs.Scans.{start_name}
+use Rattle.lazy_dfa.specs.ScanLaws.{splits}
 use Rattle.lazy_dfa.specs.Readers.{Reader, found}
-use Rattle.lazy_dfa.specs.Scans.{first_place, scan}
-use Rattle.lazy_dfa.specs.ScanLaws.{restarts, IsSplitBy, IsFirstFound, ends_by}
+use Rattle.lazy_dfa.specs.HalfSearches.{first_offset, half_search}
+use Rattle.lazy_dfa.specs.HalfSearchLaws.{restarts, IsSplitBy, IsFirstFound, ends_by}
 use Rattle.lazy_dfa.specs.SearchAnswers.{HasReach}
 use Rattle.lazy_dfa.proofs.ForCallers.{scan_has_reach, scan_done, no_pattern, few_restarts, one_found}
 use Rattle.regex_pair.specs.Pairs.{Pair}
 use Rattle.hirscan.specs.Choices.{Query}
 use Rattle.hirscan.specs.Regexes.{IsRegexOf, IsSearchOf, query_of}
-use Rattle.hirscan.proofs.EndLemmas.{Fits, Tells, HasEnd, AllCount, Firsts, IsSplitAt, ends_past, none_past, anchored_split, whole_ends}
+use Rattle.hirscan.proofs.EndLemmas.{Fits, ReportsFaultOf, HasEnd, AllCount, Firsts, IsSplitAt, ends_past, none_past, anchored_split}
+use Rattle.hirscan.proofs.EndLemmas.{whole_ends}
 use Rattle.hirscan.proofs.EndLemmas.{no_place, unanchored_no, last_within}
 use Rattle.hirscan.proofs.FirstEndLemmas.{FindsFirsts}
 use Rattle.hirscan.proofs.RegexLemmas.{goes_forward, forward_is_utf8, place_forward, reads_alike}
 
--- ---- how often a search begins anew
+-- ---- how often a search restarts
 
 some_free : (mode : Anchored) (n k : ℕ) → k ≤ restarts mode n → 0 < k → mode ≡ No
 some_free No n k l some = refl
@@ -77,10 +78,10 @@ module _ (xs : List Tree) (utf8 : Bool) (t : Terminator) (p : Pair) (regex : IsR
   pub fits_query : Fits asks
   fits_query = record { within = asked.within; valid = asked.valid; utf8_trees = asked.utf8_trees }
 
-  pub reach : (o : Option (ℕ × ℕ)) → scan f q ≡ found o → HasReach f q o
+  pub reach : (o : Option (ℕ × ℕ)) → half_search f q ≡ found o → HasReach f q o
   reach o is = scan_has_reach f q o (goes_forward xs utf8 t p regex) regex.forward.sound asked.within is
 
-  first_by_words : (o : Option (ℕ × ℕ)) (name : ℕ) → q.start ≤ q.end → start_name a q.anchored ≡ Some name → scan f q ≡ found o →
+  first_by_words : (o : Option (ℕ × ℕ)) (name : ℕ) → q.start ≤ q.end → start_name a q.anchored ≡ Some name → half_search f q ≡ found o →
       IsFirstFound f q looks name o
   first_by_words o name l named is =
       let r = reach o is in
@@ -97,18 +98,19 @@ module _ (xs : List Tree) (utf8 : Bool) (t : Terminator) (p : Pair) (regex : IsR
     | inr plain ↦ inl plain
   ]
 
-  -- where ends may split, the automaton is in UTF-8 mode
+  -- if ends may split, the automaton is in UTF-8 mode
   split_mode : (u v m : Bool) → u && v ≡ true → u ≡ m → u && v ≡ m
   split_mode true v m on same = on ∙ same
   split_mode false v m on same = cc
 
-  module _ (offers : ℕ → List (ℕ × ℕ)) (Nothing : ℕ → Type 0) (Best : ℕ → ℕ → ℕ → Type 0) (tells : Tells asks offers Nothing Best)
+  module _ (offers : ℕ → List (ℕ × ℕ)) (Nothing : ℕ → Type 0) (Best : ℕ → ℕ → ℕ →
+      Type 0) (reports : ReportsFaultOf asks offers Nothing Best)
       (finds : FindsFirsts a text q.anchored offers) where
     abbrev FirstsFrom : ℕ → Option (ℕ × ℕ) → Type 0
-    FirstsFrom i o = Firsts asks fits_query offers Nothing Best tells i o
+    FirstsFrom i o = Firsts asks fits_query offers Nothing Best reports i o
 
     abbrev Splits : ℕ → Type 0
-    Splits i = IsSplitAt asks fits_query offers Nothing Best tells i
+    Splits i = IsSplitAt asks fits_query offers Nothing Best reports i
 
     module _ (name : ℕ) (named : start_name a q.anchored ≡ Some name) (l : q.start ≤ q.end) where
       abbrev wanted : ℕ → Option (ℕ × ℕ) → Type 0
@@ -116,10 +118,10 @@ module _ (xs : List Tree) (utf8 : Bool) (t : Terminator) (p : Pair) (regex : IsR
 
       firsts_at : (k : ℕ) (o : Option (ℕ × ℕ)) → q.start + k ≤ q.end → wanted k o → FirstsFrom (q.start + k) o
       firsts_at k o inside is =
-          let at : place_of a.reverse (first_place a.reverse q.start q.end) k ≡ q.start + k =
+          let at : offset_of a.reverse (first_offset a.reverse q.start q.end) k ≡ q.start + k =
           place_forward a.reverse q.start q.end k (goes_forward xs utf8 t p regex) in
           let n : ℕ = suc (last_start q.anchored (q.start + k) q.end) - (q.start + k) in
-          let same : o ≡ first_of (flat_map offers (places_from (q.start + k) n)) =
+          let same : o ≡ first_of (flat_map offers (offsets_from (q.start + k) n)) =
           is ∙ ap (λ i. first (ends_from a text (i, name))) at ∙ finds.firsts (q.start + k) name (omega arith) inside named in
           let P : Option (ℕ × ℕ) → Type 0 = λ r. IsFirstOffer offers (q.start + k) n r in
           subst P (sym same) (first_found offers n (q.start + k))
@@ -153,7 +155,7 @@ module _ (xs : List Tree) (utf8 : Bool) (t : Terminator) (p : Pair) (regex : IsR
             splits (counts f.between_characters q.haystack) (found o) ≡ false → HasEnd asks Nothing Best q.start o
         found_past k o few below there counted =
             let inside : k ≤ q.end - q.start = few_restarts q.anchored (q.end - q.start) k few in
-            ends_past asks fits_query offers Nothing Best tells k q.start (q.start + k) o refl (omega arith)
+            ends_past asks fits_query offers Nothing Best reports k q.start (q.start + k) o refl (omega arith)
             (some_free q.anchored (q.end - q.start) k few)
             (λ i low high. split_at i low (omega arith) (below (i - q.start) (omega arith)))
             (firsts_at k o (omega arith) there) (counted_if o counted)
@@ -163,12 +165,12 @@ module _ (xs : List Tree) (utf8 : Bool) (t : Terminator) (p : Pair) (regex : IsR
           | inl fixed ↦
               let none : q.start - q.start ≡ 0 = omega arith in
               let P : ℕ → Type 0 = λ k. IsSplitBy wanted f q k in
-              anchored_split asks fits_query offers Nothing Best tells q.start l fixed
+              anchored_split asks fits_query offers Nothing Best reports q.start l fixed
               (split_at q.start (omega arith) l (subst P (sym none) (all 0 (omega arith))))
           | inr free ↦
               let no_anchor : q.anchored ≡ No = unanchored_no q.anchored free in
               let many : restarts q.anchored (q.end - q.start) ≡ q.end - q.start = all_places q.anchored (q.end - q.start) no_anchor in
-              none_past asks fits_query offers Nothing Best tells q.start l no_anchor
+              none_past asks fits_query offers Nothing Best reports q.start l no_anchor
               (λ i low high. split_at i low high (all (i - q.start) (omega arith)))
         ]
 
@@ -178,7 +180,7 @@ module _ (xs : List Tree) (utf8 : Bool) (t : Terminator) (p : Pair) (regex : IsR
             let P : Option (ℕ × ℕ) → Type 0 = λ r. HasEnd asks Nothing Best q.start r in
             subst P (sym all.1) (none_found all.0)
 
-      -- where each end counts, no search begins anew
+      -- if each end counts, no search restarts
       module _ (off : f.between_characters ≡ false) where
         never_split : (m : ℕ) → IsSplitBy wanted f q m → ⊥
         never_split m split =
@@ -186,7 +188,7 @@ module _ (xs : List Tree) (utf8 : Bool) (t : Terminator) (p : Pair) (regex : IsR
 
         found_first : (k : ℕ) (o : Option (ℕ × ℕ)) → ((m : ℕ) → m < k → IsSplitBy wanted f q m) → wanted k o →
             HasEnd asks Nothing Best q.start o
-        found_first zero o below there = whole_ends asks fits_query offers Nothing Best tells (all_count off) q.start l o
+        found_first zero o below there = whole_ends asks fits_query offers Nothing Best reports (all_count off) q.start l o
             (firsts_here o there)
         found_first (suc k) o below there = absurd (never_split 0 (below 0 (omega arith)))
 
@@ -194,7 +196,7 @@ module _ (xs : List Tree) (utf8 : Bool) (t : Terminator) (p : Pair) (regex : IsR
         found_whole o (inl there) = found_first there.0 o there.2 there.3
         found_whole o (inr all) = absurd (never_split 0 (all.0 0 (omega arith)))
 
-      found_named : (o : Option (ℕ × ℕ)) → scan f q ≡ found o → HasEnd asks Nothing Best q.start o
+      found_named : (o : Option (ℕ × ℕ)) → half_search f q ≡ found o → HasEnd asks Nothing Best q.start o
       found_named o is =
           let first_there = first_by_words o name l named is in
           elim (cases_Bool f.between_characters) [
@@ -203,7 +205,7 @@ module _ (xs : List Tree) (utf8 : Bool) (t : Terminator) (p : Pair) (regex : IsR
           ]
 
     -- of a pattern that doesn't exist nothing is found
-    found_nothing : start_name a q.anchored ≡ None → q.start ≤ q.end → (o : Option (ℕ × ℕ)) → scan f q ≡ found o →
+    found_nothing : start_name a q.anchored ≡ None → q.start ≤ q.end → (o : Option (ℕ × ℕ)) → half_search f q ≡ found o →
         HasEnd asks Nothing Best q.start o
     found_nothing none l o is =
         let gone : o ≡ None = no_pattern f q o none is in
@@ -211,18 +213,18 @@ module _ (xs : List Tree) (utf8 : Bool) (t : Terminator) (p : Pair) (regex : IsR
         subst P (sym gone) (λ k starts.
         let at = starts_at q.anchored q.start q.end k starts in
         let low = at.from_s in let high = at.to_last in let last = (last_within q.anchored q.start q.end l).1 in
-        tells.none k (omega arith) (finds.nothing none k))
+        reports.none k (omega arith) (finds.nothing none k))
 
-    by_name : (n : Option ℕ) → start_name a q.anchored ≡ n → q.start ≤ q.end → (o : Option (ℕ × ℕ)) → scan f q ≡ found o →
+    by_name : (n : Option ℕ) → start_name a q.anchored ≡ n → q.start ≤ q.end → (o : Option (ℕ × ℕ)) → half_search f q ≡ found o →
         HasEnd asks Nothing Best q.start o
     by_name None none l o is = found_nothing none l o is
     by_name (Some name) named l o is = found_named name named l o is
 
-    pub scan_has_end : (o : Option (ℕ × ℕ)) → scan f q ≡ found o → HasEnd asks Nothing Best q.start o
+    pub scan_has_end : (o : Option (ℕ × ℕ)) → half_search f q ≡ found o → HasEnd asks Nothing Best q.start o
     scan_has_end o is = elim (cases_lt q.end q.start) [
       | inl past ↦
           let P : Option (ℕ × ℕ) → Type 0 = λ r. HasEnd asks Nothing Best q.start r in
           let gone : o ≡ None = one_found o None (sym is ∙ scan_done f q past) in
-          subst P (sym gone) (no_place asks fits_query offers Nothing Best tells q.start past)
+          subst P (sym gone) (no_place asks fits_query offers Nothing Best reports q.start past)
       | inr l ↦ by_name (start_name a q.anchored) refl l o is
     ]

@@ -1,4 +1,4 @@
--- A head, line by line: whatever reads, or is faulty, behind the lines so far gives that of the whole text.
+-- A query, line by line: whatever reads, or is faulty, after the lines so far gives that of the whole input.
 use Rattle.std.proofs.Common.{◌≡◌, ℕ, ◌+◌, List, [], ◌∷◌, length, None, false, refl, sym, ◌∙◌, ap, subst, arith}
 use Rattle.std.proofs.Common.{◌-◌, ◌<◌, ◌++◌, ◌≢◌, ◌==◌, Bool, true, Some, suc, take, drop, get_or, nat_lt, eqb, drop-cons}
 use Rattle.std.proofs.Common.{length-append, length-take}
@@ -18,14 +18,14 @@ use Rattle.hirscan.specs.declared.fault.LineFault.TheVariants as of_line
 use Rattle.hirscan.specs.declared.settings.Settings.{Settings}
 use Rattle.hirscan.specs.Built.{default_settings}
 use Rattle.hirscan.specs.Words.{words}
-use Rattle.hirscan.specs.Tells.{CutsLine, TellsFault, TellsLineFault, on_line}
-use Rattle.hirscan.specs.Takes.{HeadValue, at_first, Takes, EndsHead}
+use Rattle.hirscan.specs.QueryReports.{CutsLine, ReportsFault, ReportsLineFault, on_line}
+use Rattle.hirscan.specs.Takes.{QueryValue, at_first, Takes, EndsQuery}
 use Rattle.hirscan.specs.LineFault.{fault}
 use Rattle.hirscan.specs.Reads.{IsOneLine, Reads, reads_find, reads_line, IsFaultAt, no_line_feed, faulty_line, faulty_later}
 
--- this many bytes and lines of the text were read, and this rest and these trees are there
-pub record Behind (text rest : List ℕ) (here : HeadValue) (at lines : ℕ) : Type 0 where
-  pub reads : (found : HeadValue) (n : ℕ) → Reads rest here found n → Reads text at_first found (at + n)
+-- this many bytes and lines of the input were read, and this rest and these trees are there
+pub record Behind (text rest : List ℕ) (here : QueryValue) (at lines : ℕ) : Type 0 where
+  pub reads : (found : QueryValue) (n : ℕ) → Reads rest here found n → Reads text at_first found (at + n)
   pub faults : (k : ℕ) (kind : FaultKind) → IsFaultAt rest here k kind → IsFaultAt text at_first (lines + k) kind
 
 -- ---- the first line
@@ -49,7 +49,7 @@ cut_at text k e =
           eqb-false _ _ (ap (λ (b : ℕ). eqb b 10) (get_or-take k text j 0 less) ∙ p.2 j less));
     }
 
--- no place of it is found
+-- no offset of it is found
 unfound : (b : Bool) (k : ℕ) → cond b (Some k) None ≡ None → b ≡ false
 unfound true k e = absurd cc
 unfound false k e = refl
@@ -65,7 +65,7 @@ no_feed text e k d less =
 pub length-cut : (text line rest : List ℕ) → CutsLine text line rest → length text ≡ length line + (length rest + 1)
 length-cut text line rest cut = omega (arith, ap length cut.parts, length-append line (10 ∷ rest))
 
-pub behind_more : (text rest line next : List ℕ) (here there : HeadValue) (at lines : ℕ) → Behind text rest here at lines →
+pub behind_more : (text rest line next : List ℕ) (here there : QueryValue) (at lines : ℕ) → Behind text rest here at lines →
     CutsLine rest line next
     → Takes (words line) here there → Behind text next there (at + (length line + 1)) (lines + 1)
 behind_more text rest line next here there at lines b cut taken = record {
@@ -77,32 +77,32 @@ behind_more text rest line next here there at lines b cut taken = record {
       rw e (b.faults _ kind (faulty_later rest line next here there _ k kind cut.parts cut.one_line taken h refl));
 }
 
-pub reads_at_find : (text rest line next : List ℕ) (here found : HeadValue) (at lines : ℕ) → Behind text rest here at lines
-    → CutsLine rest line next → EndsHead (words line) here → found ≡ here → Reads text at_first found (at + (length line + 1))
+pub reads_at_find : (text rest line next : List ℕ) (here found : QueryValue) (at lines : ℕ) → Behind text rest here at lines
+    → CutsLine rest line next → EndsQuery (words line) here → found ≡ here → Reads text at_first found (at + (length line + 1))
 reads_at_find text rest line next here found at lines b cut ends p =
     b.reads found (length line + 1) (reads_find rest line next here found (length line + 1) cut.parts cut.one_line ends p refl)
 
-pub fault_in_line : (text rest line next : List ℕ) (here : HeadValue) (at lines : ℕ) (e : LineFault) → Behind text rest here at lines
-    → CutsLine rest line next → TellsLineFault (fault (words line) here) e → TellsFault text (on_line e (lines + 1))
+pub fault_in_line : (text rest line next : List ℕ) (here : QueryValue) (at lines : ℕ) (e : LineFault) → Behind text rest here at lines
+    → CutsLine rest line next → ReportsLineFault (fault (words line) here) e → ReportsFault text (on_line e (lines + 1))
 fault_in_line text rest line next here at lines (of_line.Is kind) b cut e =
     b.faults 1 kind (faulty_line rest line next here 1 kind cut.parts cut.one_line e refl)
 fault_in_line text rest line next here at lines of_line.NoMemory b cut e = tt
 
-pub fault_at_end : (text rest : List ℕ) (here : HeadValue) (at lines : ℕ) → Behind text rest here at lines → IsOneLine rest
+pub fault_at_end : (text rest : List ℕ) (here : QueryValue) (at lines : ℕ) → Behind text rest here at lines → IsOneLine rest
     → IsFaultAt text at_first (lines + 1) NoFindLine
 fault_at_end text rest here at lines b one = b.faults 1 NoFindLine (no_line_feed rest here 1 NoFindLine one refl refl)
 
--- what stands at the end of a head has no tree left over
-pub state_at_end : (now here : HeadValue) → now ≡ here → here.stack ≡ []
+-- what is there at the end of a query has no tree left over
+pub state_at_end : (now here : QueryValue) → now ≡ here → here.stack ≡ []
     → record { setup = now.setup; stack = []; patterns = now.patterns } ≡ here
 state_at_end now here e none =
-    let left : now.stack ≡ [] = ap (λ (s : HeadValue). s.stack) e ∙ none in
+    let left : now.stack ≡ [] = ap (λ (s : QueryValue). s.stack) e ∙ none in
     sym (ap (λ (s : List Tree). record { setup = now.setup; stack = s; patterns = now.patterns }) left) ∙ e
 
-abbrev begun : Settings → List Tree → List Tree → HeadValue
+abbrev begun : Settings → List Tree → List Tree → QueryValue
 begun s stack patterns = record { setup = record { settings = s; anchored = false; span = None }; stack = stack; patterns = patterns }
 
--- where nothing was read, what the head begins with is there
+-- if nothing was read, what the query begins with is there
 pub behind_none : (text : List ℕ) (s : Settings) (stack patterns : List Tree) → s ≡ default_settings → stack ≡ [] → patterns ≡ []
     → Behind text text (begun s stack patterns) 0 0
 behind_none text s stack patterns d e f =
@@ -110,8 +110,8 @@ behind_none text s stack patterns d e f =
     record {
       reads = λ found n h.
           let z : 0 + n ≡ n = omega arith in
-          rw z (subst (λ (at : HeadValue). Reads text at found n) first h);
+          rw z (subst (λ (at : QueryValue). Reads text at found n) first h);
       faults = λ k kind h.
           let z : 0 + k ≡ k = omega arith in
-          rw z (subst (λ (at : HeadValue). IsFaultAt text at k kind) first h);
+          rw z (subst (λ (at : QueryValue). IsFaultAt text at k kind) first h);
     }

@@ -137,7 +137,7 @@ pub hex_said : (w bytes : List ℕ) → IsHex w bytes → decode_of w ≡ Ok byt
 hex_said w bytes h =
     decode_of-even w (let l = h.two_each in omega arith) ∙ pairs_said 0 w bytes h.two_each h.spelled
 
--- two ends are read just where both are
+-- two ends are read if and only if both are
 pub ends_of : (a b : Option ℕ) → (r : ℕ × ℕ) → both a b ≡ Some r → (a ≡ Some r.0) × (b ≡ Some r.1)
 ends_of None b r e = absurd cc
 ends_of (Some x) None r e = absurd cc

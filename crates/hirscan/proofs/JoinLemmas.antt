@@ -26,12 +26,12 @@ use Rattle.nfa_core.specs.Ways.{Text}
 use Rattle.thompson_nfa.specs.Compilations.{is_anchored_tree}
 use Rattle.lazy_dfa.specs.Dfas.{reader}
 use Rattle.lazy_dfa.specs.Readers.{Reader, HalfAnswer, found, quit, unsupported}
-use Rattle.lazy_dfa.specs.Scans.{scan}
+use Rattle.lazy_dfa.specs.HalfSearches.{half_search}
 use Rattle.regex_pair.specs.Joined.{is_start_known, back_from, from_start, with_start, answer_by_end, joined}
 use Rattle.regex_pair.specs.Pairs.{Pair}
 use Rattle.hirscan.specs.Choices.{Query}
 use Rattle.hirscan.specs.Regexes.{IsRegexOf, IsSearchOf, query_of}
-use Rattle.hirscan.proofs.EndLemmas.{Tells, HasEnd, IsBestFrom, listed_has, unanchored_no, one_start, start_is_least}
+use Rattle.hirscan.proofs.EndLemmas.{ReportsFaultOf, HasEnd, IsBestFrom, listed_has, unanchored_no, one_start, start_is_least}
 use Rattle.hirscan.proofs.FirstEndLemmas.{FindsFirsts}
 use Rattle.hirscan.proofs.ForwardLemmas.{fits_query, scan_has_end}
 use Rattle.hirscan.proofs.BackLemmas.{IsLeastStart, back_finds}
@@ -74,12 +74,13 @@ module _ (xs : List Tree) (utf8 : Bool) (t : Terminator) (p : Pair) (regex : IsR
   abbrev text : Text
   text = read_by looks q.haystack q.start q.end
 
-  module _ (offers : ℕ → List (ℕ × ℕ)) (Nothing : ℕ → Type 0) (Best : ℕ → ℕ → ℕ → Type 0) (tells : Tells asks offers Nothing Best)
+  module _ (offers : ℕ → List (ℕ × ℕ)) (Nothing : ℕ → Type 0) (Best : ℕ → ℕ → ℕ →
+      Type 0) (reports : ReportsFaultOf asks offers Nothing Best)
       (finds : FindsFirsts a text q.anchored offers) where
     abbrev pub Ends : Option (ℕ × ℕ) → Type 0
     Ends o = HasEnd asks Nothing Best q.start o
 
-    module _ (c : ℕ × ℕ) (is : scan f q ≡ found (Some c)) (b : IsBestFrom asks Nothing Best q.start c) where
+    module _ (c : ℕ × ℕ) (is : half_search f q ≡ found (Some c)) (b : IsBestFrom asks Nothing Best q.start c) where
       from : q.start ≤ b.place
       from = (starts_at q.anchored q.start q.end b.place b.starts).from_s
 
@@ -120,43 +121,44 @@ module _ (xs : List Tree) (utf8 : Bool) (t : Terminator) (p : Pair) (regex : IsR
         within = b.within;
         counted = b.start_counts;
         least = λ k i low span. start_is_least asks (fits_query xs utf8 t p regex q asked words set)
-            offers Nothing Best tells q.start c no_anchor b k i low span;
+            offers Nothing Best reports q.start c no_anchor b k i low span;
       }
 
       abbrev answer : ℕ → Result (Option Found) MatchErrorKind
       answer i = Ok (Some (record { pattern = c.1; start = i; end = c.0 }))
 
-      back_joined : is_start_known f q c.0 ≡ false → with_start c (scan r (back_from q c.0)) ≡ answer b.place
+      back_joined : is_start_known f q c.0 ≡ false → with_start c (half_search r (back_from q c.0)) ≡ answer b.place
       back_joined e =
           let back = back_finds xs utf8 t p regex q asked words set c is b.place (least (free e)) in
           ap (with_start c) back.1 ∙ ap answer back.2
 
       choose : (k : Bool) → is_start_known f q c.0 ≡ k →
-          (if k then Ok (Some (from_start q c)) else with_start c (scan r (back_from q c.0))) ≡ answer b.place
+          (if k then Ok (Some (from_start q c)) else with_start c (half_search r (back_from q c.0))) ≡ answer b.place
       choose true e = ap answer (sym (known e))
       choose false e = back_joined e
 
       some_joined : answer_by_end f r q (found (Some c)) ≡ answer b.place
       some_joined = choose (is_start_known f q c.0) refl
 
-    by_end : (o : Option (ℕ × ℕ)) → scan f q ≡ found o → (e : Ends o) →
+    by_end : (o : Option (ℕ × ℕ)) → half_search f q ≡ found o → (e : Ends o) →
         answer_by_end f r q (found o) ≡ Ok (found_by asks Nothing Best q.start o e)
     by_end None is e = refl
     by_end (Some c) is e = some_joined c is e
 
-    pub joined_is : (o : Option (ℕ × ℕ)) → scan f q ≡ found o → (e : Ends o) → joined p q ≡ Ok (found_by asks Nothing Best q.start o e)
+    pub joined_is : (o : Option (ℕ × ℕ)) → half_search f q ≡ found o → (e : Ends o) →
+        joined p q ≡ Ok (found_by asks Nothing Best q.start o e)
     joined_is o is e = ap (answer_by_end f r q) is ∙ by_end o is e
 
     -- what is answered has an end that was found
     pub record IsFoundEnd (o : Option Found) : Type 0 where
       pub end : Option (ℕ × ℕ)
-      pub found_there : scan f q ≡ found end
+      pub found_there : half_search f q ≡ found end
       pub ends : Ends end
       pub is : o ≡ found_by asks Nothing Best q.start end ends
 
-    answered : (x : HalfAnswer) → scan f q ≡ x → (o : Option Found) → joined p q ≡ Ok o → IsFoundEnd o
+    answered : (x : HalfAnswer) → half_search f q ≡ x → (o : Option Found) → joined p q ≡ Ok o → IsFoundEnd o
     answered (found z) is o e =
-        let ends = scan_has_end xs utf8 t p regex q asked words set offers Nothing Best tells finds z is in
+        let ends = scan_has_end xs utf8 t p regex q asked words set offers Nothing Best reports finds z is in
         record {
           end = z;
           found_there = is;
@@ -168,36 +170,36 @@ module _ (xs : List Tree) (utf8 : Bool) (t : Terminator) (p : Pair) (regex : IsR
     answered (unsupported mode) is o e = let differ = sym (ap (answer_by_end f r q) is) ∙ e in cc
 
     pub joined_answers : (o : Option Found) → joined p q ≡ Ok o → IsFoundEnd o
-    joined_answers o e = answered (scan f q) refl o e
+    joined_answers o e = answered (half_search f q) refl o e
 
-    -- ---- refusals
-    pub joined_finds : (o : Option (ℕ × ℕ)) → scan f q ≡ found o → (v : Option Found) × (joined p q ≡ Ok v)
+    -- ---- errors
+    pub joined_finds : (o : Option (ℕ × ℕ)) → half_search f q ≡ found o → (v : Option Found) × (joined p q ≡ Ok v)
     joined_finds o is =
-        let ends = scan_has_end xs utf8 t p regex q asked words set offers Nothing Best tells finds o is in
+        let ends = scan_has_end xs utf8 t p regex q asked words set offers Nothing Best reports finds o is in
         (found_by asks Nothing Best q.start o ends, joined_is o is ends)
 
-    by_scan : (x : HalfAnswer) → scan f q ≡ x → joined p q ≡ Err NotAPair → ⊥
+    by_scan : (x : HalfAnswer) → half_search f q ≡ x → joined p q ≡ Err NotAPair → ⊥
     by_scan (found z) is e = let there = joined_finds z is in let differ = sym there.1 ∙ e in cc
     by_scan (quit b x) is e = let differ = sym (ap (answer_by_end f r q) is) ∙ e in cc
     by_scan (unsupported mode) is e = let differ = sym (ap (answer_by_end f r q) is) ∙ e in cc
 
     pub is_a_pair : joined p q ≡ Err NotAPair → ⊥
-    is_a_pair e = by_scan (scan f q) refl e
+    is_a_pair e = by_scan (half_search f q) refl e
 
-    quits_by_scan : (v : HalfAnswer) (b x : ℕ) → scan f q ≡ v → joined p q ≡ Err (Quit b x) → scan f q ≡ quit b x
+    quits_by_scan : (v : HalfAnswer) (b x : ℕ) → half_search f q ≡ v → joined p q ≡ Err (Quit b x) → half_search f q ≡ quit b x
     quits_by_scan (found z) b x is e = let there = joined_finds z is in let differ = sym there.1 ∙ e in cc
     quits_by_scan (quit c y) b x is e = let same : Err (Quit c y) ≡ Err (Quit b x) = sym (ap (answer_by_end f r q) is) ∙ e in cc
     quits_by_scan (unsupported mode) b x is e = let differ = sym (ap (answer_by_end f r q) is) ∙ e in cc
 
-    pub quits_forward : (b x : ℕ) → joined p q ≡ Err (Quit b x) → scan f q ≡ quit b x
-    quits_forward b x e = quits_by_scan (scan f q) b x refl e
+    pub quits_forward : (b x : ℕ) → joined p q ≡ Err (Quit b x) → half_search f q ≡ quit b x
+    quits_forward b x e = quits_by_scan (half_search f q) b x refl e
 
-    refused_by_scan : (v : HalfAnswer) (mode : Anchored) → scan f q ≡ v → joined p q ≡ Err (UnsupportedAnchored mode) →
-        scan f q ≡ unsupported mode
+    refused_by_scan : (v : HalfAnswer) (mode : Anchored) → half_search f q ≡ v → joined p q ≡ Err (UnsupportedAnchored mode) →
+        half_search f q ≡ unsupported mode
     refused_by_scan (found z) mode is e = let there = joined_finds z is in let differ = sym there.1 ∙ e in cc
     refused_by_scan (quit c y) mode is e = let differ = sym (ap (answer_by_end f r q) is) ∙ e in cc
     refused_by_scan (unsupported other) mode is e = let same : Err (UnsupportedAnchored other) ≡ Err (UnsupportedAnchored mode) =
         sym (ap (answer_by_end f r q) is) ∙ e in cc
 
-    pub refused_forward : (mode : Anchored) → joined p q ≡ Err (UnsupportedAnchored mode) → scan f q ≡ unsupported mode
-    refused_forward mode e = refused_by_scan (scan f q) mode refl e
+    pub refused_forward : (mode : Anchored) → joined p q ≡ Err (UnsupportedAnchored mode) → half_search f q ≡ unsupported mode
+    refused_forward mode e = refused_by_scan (half_search f q) mode refl e

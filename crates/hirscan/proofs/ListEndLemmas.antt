@@ -1,4 +1,4 @@
--- How a list of matches ends: with the last one, at a quit byte that is read forward, or for want of memory.
+-- How a list of matches ends: with the last one, at a quit byte that is read forward, or because it is out of memory.
 use Rattle.std.proofs.Common.{◌≡◌, inl, inr, ℕ, ◌≤◌, ◌<◌, Bool, true, false, List, All, Option, Some, None, Result, Ok, Err, string_bytes}
 use Rattle.std.proofs.Common.{◌++◌, true≢false, refl, sym, ap, ◌∙◌, subst, arith, if◌then◌else◌}
 use Rattle.std.specs.Prelude.{IfOk}
@@ -14,7 +14,7 @@ use Rattle.search_types.specs.Modes.{is_supported}
 use Rattle.lazy_dfa.specs.ConfigValue.{starts_each_of}
 use Rattle.lazy_dfa.specs.Dfas.{reader}
 use Rattle.lazy_dfa.specs.Readers.{Reader, HalfAnswer, found, quit, unsupported}
-use Rattle.lazy_dfa.specs.Scans.{scan}
+use Rattle.lazy_dfa.specs.HalfSearches.{half_search}
 use Rattle.lazy_dfa.proofs.ForCallers.{scan_mode_told}
 use Rattle.regex_pair.specs.declared.find_matches.FindMatches.{FindMatches}
 use Rattle.regex_pair.specs.Finding.{Finding, Finds, search_at}
@@ -28,9 +28,9 @@ use Rattle.hirscan.specs.declared.ending.Ending.TheVariants.{Listed}
 use Rattle.hirscan.specs.declared.reply.Reply.{Reply}
 use Rattle.hirscan.specs.Asks.{mode_for, asked_search}
 use Rattle.hirscan.specs.Built.{IsBuilt, program_settings}
-use Rattle.hirscan.specs.Listing.{IsSearched, ListsUpTo, MayEndList, TellsQuit}
+use Rattle.hirscan.specs.Listing.{IsSearched, ListsUpTo, MayEndList, ReportsQuit}
 use Rattle.hirscan.specs.Regexes.{IsSearchOf}
-use Rattle.hirscan.specs.Reply.{AreAnswers, BeginsAnswers, IsSearchReply, listed, quits, QuitsBehind, finding_behind, quit_line}
+use Rattle.hirscan.specs.Reply.{AreAnswers, BeginsAnswers, IsSearchReply, listed, quits, QuitsAfter, finding_after, quit_line}
 use Rattle.hirscan.proofs.BuiltLemmas.{built_regex}
 use Rattle.hirscan.proofs.CauseLemmas.{is_search, loops_all_read, span_starts}
 use Rattle.hirscan.proofs.HeadlineLemmas.{taken_are_all, taken_begin}
@@ -38,16 +38,16 @@ use Rattle.hirscan.proofs.SearchLemmas.{asked_at, refuses_by_first}
 use Rattle.hirscan.proofs.SureLemmas.{RefusesFrom, never_gives_up, never_no_pair, quits_forward, refusal_is_joined}
 use Rattle.hirscan.proofs.SureLemmas.{refused_from, supported_forward}
 
--- ---- what joined answers refuse
-abbrev is_told : MatchErrorKind → Bool
-is_told (Quit b x) = true
-is_told (UnsupportedAnchored mode) = true
-is_told NotAPair = true
-is_told e = false
+-- ---- the errors of joined answers
+abbrev is_reported : MatchErrorKind → Bool
+is_reported (Quit b x) = true
+is_reported (UnsupportedAnchored mode) = true
+is_reported NotAPair = true
+is_reported e = false
 
 abbrev is_fine : Result (Option Found) MatchErrorKind → Bool
 is_fine (Ok o) = true
-is_fine (Err e) = is_told e
+is_fine (Err e) = is_reported e
 
 start_is_fine : (e : ℕ × ℕ) (a : HalfAnswer) → is_fine (with_start e a) ≡ true
 start_is_fine e (found (Some s)) = refl
@@ -56,9 +56,9 @@ start_is_fine e (quit b x) = refl
 start_is_fine e (unsupported mode) = refl
 
 end_is_fine : (r : Reader) (q : Search) (e : ℕ × ℕ) (known : Bool) →
-    is_fine (if known then Ok (Some (from_start q e)) else with_start e (scan r (back_from q e.0))) ≡ true
+    is_fine (if known then Ok (Some (from_start q e)) else with_start e (half_search r (back_from q e.0))) ≡ true
 end_is_fine r q e true = refl
-end_is_fine r q e false = start_is_fine e (scan r (back_from q e.0))
+end_is_fine r q e false = start_is_fine e (half_search r (back_from q e.0))
 
 join_is_fine : (f r : Reader) (q : Search) (a : HalfAnswer) → is_fine (answer_by_end f r q a) ≡ true
 join_is_fine f r q (found (Some e)) = end_is_fine r q e (is_start_known f q e.0)
@@ -66,11 +66,11 @@ join_is_fine f r q (found None) = refl
 join_is_fine f r q (quit b x) = refl
 join_is_fine f r q (unsupported mode) = refl
 
-never_joined : (p : Pair) (q : Search) (e : MatchErrorKind) → joined p q ≡ Err e → is_told e ≡ false → ⊥
-never_joined p q e is told =
-    true≢false (sym (join_is_fine (reader p.forward) (reader p.reverse) q (scan (reader p.forward) q)) ∙ ap is_fine is ∙ told)
+never_joined : (p : Pair) (q : Search) (e : MatchErrorKind) → joined p q ≡ Err e → is_reported e ≡ false → ⊥
+never_joined p q e is reported =
+    true≢false (sym (join_is_fine (reader p.forward) (reader p.reverse) q (half_search (reader p.forward) q)) ∙ ap is_fine is ∙ reported)
 
--- each mode of a head is supported
+-- each mode of a query is supported
 mode_is_supported : (b each : Bool) → is_supported each (mode_for b) ≡ true
 mode_is_supported true each = refl
 mode_is_supported false each = refl
@@ -89,7 +89,7 @@ module _ (setup : Setup) (xs : List Tree) (h : List ℕ) (bytes : All (λ byte. 
       taken_are_all xs (program_settings setup.settings) p built refl q asked (loops_all_read setup xs h none) (span_starts setup xs h none)
       l.found old new l.same_regex l.taken step words set
 
-  -- behind the last match the reply is the list
+  -- after the last match the reply is the list
   pub reply_of_all : (lender : GName) (text : List ℕ) (old new : FindMatches) → ListsUpTo p q lender text old → FindsNext old None new →
       IsSearchReply setup xs h Listed text
   reply_of_all lender text old new l step = listed l.found (all_are_listed lender text old new l step) refl l.text_is
@@ -100,16 +100,16 @@ module _ (setup : Setup) (xs : List Tree) (h : List ℕ) (bytes : All (λ byte. 
       taken_begin xs (program_settings setup.settings) p built refl q asked (loops_all_read setup xs h none) (span_starts setup xs h none)
       l.found (finds_from it) l.taken words set
 
-  -- ---- refusals
+  -- ---- errors
   mode_is_unsupported : (k : ℕ) (m : _) → joined p (search_at q k) ≡ Err (UnsupportedAnchored m) → ⊥
   mode_is_unsupported k m is =
       let later = asked_at xs setup.settings.utf8 q asked k in
-      let told = scan_mode_told (reader p.forward) (search_at q k) m
+      let reported = scan_mode_told (reader p.forward) (search_at q k) m
       (refuses_by_first xs setup.settings.utf8 setup.settings.line_terminator p
       (built_regex xs (program_settings setup.settings) p built refl)
       (search_at q k) later m is) in
       true≢false (sym (supported_forward xs (program_settings setup.settings) p built (search_at q k)
-      (mode_is_supported setup.anchored (starts_each_of (program_settings setup.settings).dfa))) ∙ told.2)
+      (mode_is_supported setup.anchored (starts_each_of (program_settings setup.settings).dfa))) ∙ reported.2)
 
   may_end : (c : PairCache) (k : ℕ) (e : MatchErrorKind) → AnswersPair p c (search_at q k) (Err e) → MayEndList e
   may_end c k NoMemory is = inl refl
@@ -121,15 +121,15 @@ module _ (setup : Setup) (xs : List Tree) (h : List ℕ) (bytes : All (λ byte. 
       absurd (mode_is_unsupported k m (refusal_is_joined p c (search_at q k) (UnsupportedAnchored m) refl is))
   may_end c k (HaystackTooLong n) is =
       absurd (never_joined p (search_at q k) (HaystackTooLong n) (refusal_is_joined p c (search_at q k) (HaystackTooLong n) refl is) refl)
-  may_end c k (GaveUp x) (inl told) = absurd (never_joined p (search_at q k) (GaveUp x) (sym told) refl)
+  may_end c k (GaveUp x) (inl reported) = absurd (never_joined p (search_at q k) (GaveUp x) (sym reported) refl)
   may_end c k (GaveUp x) (inr (inl lacks)) = cc
   may_end c k (GaveUp x) (inr (inr gave)) =
       absurd (never_gives_up xs (program_settings setup.settings) p built refl c (search_at q k) gave.0 gave.2)
 
-  -- a step that is refused, over the automata of the list
+  -- a step that fails, over the automata of the list
   module _ (lender : GName) (text : List ℕ) (old new : FindMatches) (e : MatchErrorKind) (l : ListsUpTo p q lender text old)
       (step : FindsNext old (Some (Err e)) new) where
-    refused : RefusesFrom p (finding_behind q l.found) (caches_of new) e
+    refused : RefusesFrom p (finding_after q l.found) (caches_of new) e
     refused =
         let finds : Finds p (finds_from old) (finds_from new) (caches_of old) (caches_of new) (Some (Err e)) =
         subst (λ (r : Pair). Finds r (finds_from old) (finds_from new) (caches_of old) (caches_of new) (Some (Err e))) l.same_regex
@@ -142,11 +142,11 @@ module _ (setup : Setup) (xs : List Tree) (h : List ℕ) (bytes : All (λ byte. 
 
     from_is_later : q.start ≤ refused.0
     from_is_later =
-        let low : q.start ≤ (finding_behind q l.found).search.start = subst
+        let low : q.start ≤ (finding_after q l.found).search.start = subst
         (λ (at : Finding). q.start ≤ at.search.start) l.stands l.taken.from in
-        omega (arith, low, asked_behind p (finding_behind q l.found) refused.0 refused.1)
+        omega (arith, low, asked_behind p (finding_after q l.found) refused.0 refused.1)
 
-    quits_there : (b x : ℕ) → e ≡ Quit b x → QuitsBehind setup xs h l.found b x
+    quits_there : (b x : ℕ) → e ≡ Quit b x → QuitsAfter setup xs h l.found b x
     quits_there b x is =
         let k = refused.0 in
         let there = quits_forward xs (program_settings setup.settings) p built refl (search_at q k)
@@ -168,10 +168,10 @@ module _ (setup : Setup) (xs : List Tree) (h : List ℕ) (bytes : All (λ byte. 
         }
 
     -- the reply is the list so far and then the quit byte
-    pub reply_of_quit : (r : Result Reply AllocError) → IfOk r (λ x. TellsQuit e text x.ending (string_bytes x.text)) →
+    pub reply_of_quit : (r : Result Reply AllocError) → IfOk r (λ x. ReportsQuit e text x.ending (string_bytes x.text)) →
         IfOk r (λ x. IsSearchReply setup xs h x.ending (string_bytes x.text))
-    reply_of_quit (Ok x) told =
-        quits l.found told.byte told.offset (some_are_listed lender text old l)
-        (quits_there told.byte told.offset told.quits) told.ending_is
-        (told.text_is ∙ ap (λ t. t ++ quit_line told.byte told.offset) l.text_is)
-    reply_of_quit (Err v) told = tt
+    reply_of_quit (Ok x) reported =
+        quits l.found reported.byte reported.offset (some_are_listed lender text old l)
+        (quits_there reported.byte reported.offset reported.quits) reported.ending_is
+        (reported.text_is ∙ ap (λ t. t ++ quit_line reported.byte reported.offset) l.text_is)
+    reply_of_quit (Err v) reported = tt

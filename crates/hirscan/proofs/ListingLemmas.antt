@@ -7,7 +7,7 @@ use Rattle.search_types.specs.Found.{Found}
 use Rattle.search_types.specs.Inputs.{Search}
 use Rattle.regex_pair.specs.declared.find_matches.FindMatches.{FindMatches}
 use Rattle.regex_pair.specs.Finding.{Finding, Finds, finds_next, finds_none, fails, is_over, behind, finding_all}
-use Rattle.regex_pair.specs.FindSteps.{FindsNext, MayGoOn, caches_of, finds_from, lender_of, searches_by}
+use Rattle.regex_pair.specs.FindSteps.{FindsNext, MayGoOn, caches_of, finds_from, borrow_name_of, searches_by}
 use Rattle.regex_pair.specs.Pairs.{Pair, PairCache}
 use Rattle.regex_pair.specs.Taken.{AreTaken}
 use Rattle.regex_pair.proofs.ForCallers.{none_taken, one_more_by_step}
@@ -32,7 +32,7 @@ more_lines : (fs : List Found) (f : Found) → span_lines (fs ++ f ∷ []) ≡ s
 more_lines fs f = flat_map-append span_line fs (f ∷ []) ∙ ap (λ t. span_lines fs ++ t) (append-nil (span_line f))
 
 listed_none : (p : Pair) (q : Search) (it : FindMatches) → searches_by it ≡ p → finds_from it ≡ finding_all q → MayGoOn it →
-    ListsUpTo p q (lender_of it) [] it
+    ListsUpTo p q (borrow_name_of it) [] it
 listed_none p q it regex from goes_on = record {
   found = [];
   text_is = refl;
@@ -46,10 +46,10 @@ listed_none p q it regex from goes_on = record {
 -- before the first step nothing is listed
 pub begins_list : (p : Pair) (asked q : Search) (text : List ℕ) (made it : FindMatches) → text ≡ [] → it ≡ made → asked ≡ q →
     searches_by made ≡ p →
-    finds_from made ≡ finding_all asked → MayGoOn made → ListsUpTo p q (lender_of it) text it
+    finds_from made ≡ finding_all asked → MayGoOn made → ListsUpTo p q (borrow_name_of it) text it
 begins_list p asked q text made it none same is regex from goes_on =
-    subst (λ (t : List ℕ). ListsUpTo p q (lender_of it) t it) (sym none)
-    (subst (λ (x : FindMatches). ListsUpTo p q (lender_of x) [] x) (sym same)
+    subst (λ (t : List ℕ). ListsUpTo p q (borrow_name_of it) t it) (sym none)
+    (subst (λ (x : FindMatches). ListsUpTo p q (borrow_name_of x) [] x) (sym same)
     (listed_none p q made regex (from ∙ ap finding_all is) goes_on))
 
 module _ (p : Pair) (q : Search) (lender : GName) where

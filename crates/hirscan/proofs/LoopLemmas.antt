@@ -1,4 +1,4 @@
--- The test for loops that read tells whether they do.
+-- The test returns whether the body of every unbounded repetition consumes at least one byte.
 use Rattle.std.proofs.Common.{◌≡◌, ◌↔◌, ℕ, Bool, true, List, [], ◌∷◌, All, IsTrue, Option, Some, None, refl, sym, ◌∙◌, ltb-true, lt-ltb}
 use Rattle.std.proofs.lemmas.List.Elements.{All-nil, All-cons, All-head, All-tail}
 use Rattle.hir_core.specs.Tree.{Tree, concat, empty, literal, byte_class, char_class, look, repetition, capture, nothing, cat, never, alt}
@@ -62,10 +62,10 @@ all_complete (x ∷ xs) all =
     and_from (loops_read x) (loops_read (concat xs)) (loops_read_complete x (All-head LoopsRead x xs all))
     (all_complete xs (All-tail LoopsRead x xs all))
 
-pub all_told : (xs : List Tree) (told : Bool) → told ≡ loops_read (concat xs) → IsTrue told ↔ All LoopsRead xs
-all_told xs told is = (λ on. all_sound xs (sym is ∙ on), λ all. is ∙ all_complete xs all)
+pub all_told : (xs : List Tree) (reported : Bool) → reported ≡ loops_read (concat xs) → IsTrue reported ↔ All LoopsRead xs
+all_told xs reported is = (λ on. all_sound xs (sym is ∙ on), λ all. is ∙ all_complete xs all)
 
--- ---- where none of a list fails a test
+-- ---- if none of a list fails a test
 pub none_if : (b : Bool) (n : ℕ) → (if b then Some n else None) ≡ None → b ≡ false
 none_if true n e = absurd cc
 none_if false n e = refl

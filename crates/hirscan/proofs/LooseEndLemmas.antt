@@ -1,5 +1,5 @@
--- What the runs of an automaton that is compiled from trees offer at each place, whatever the loops of the trees: it tells the
--- answer but for the preference of ends.
+-- What the runs of an automaton that is compiled from trees offer at each offset, whatever the repetitions of the trees consume: it
+-- determines the answer except for the preference of ends.
 use Rattle.std.proofs.Common.{◌≡◌, ℕ, suc, ◌-◌, ◌<◌, ◌≤◌, Bool, true, false, List, [], ◌∷◌, length, take, get_or, slice_get, Option, Some}
 use Rattle.std.proofs.Common.{None, refl, sym, ap, ◌∙◌, subst, arith, nat_lt, ◌==◌, eq-eqb}
 use Rattle.std.specs.List.{flat_map}
@@ -12,7 +12,7 @@ use Rattle.hir_core.proofs.ForCallers.{cut_to_whole, whole_to_cut}
 use Rattle.search_types.specs.declared.anchored.Anchored.{Anchored}
 use Rattle.search_types.specs.declared.anchored.Anchored.TheVariants.{No, Yes, Pattern}
 use Rattle.search_types.specs.Modes.{allowed, last_start}
-use Rattle.search_types.specs.FirstFound.{first_of, places_from, IsFirstAt, IsFirstOffer}
+use Rattle.search_types.specs.FirstFound.{first_of, offsets_from, IsFirstAt, IsFirstOffer}
 use Rattle.search_types.proofs.ForCallers.{first_found}
 use Rattle.nfa_core.specs.Walks.{Has}
 use Rattle.nfa_core.specs.Places.{same_pair, first}
@@ -23,13 +23,13 @@ use Rattle.nfa_core.specs.Ways.{Text, ends_from}
 use Rattle.nfa_core.proofs.ForCallers.{none_in, has_first, pairs_equal}
 use Rattle.thompson_nfa.specs.Configs.{Options, reverse_of}
 use Rattle.thompson_nfa.specs.Compilations.{IsCompiled, IsPlainText, FindsSpans, HasStarts, pattern_start}
-use Rattle.lazy_dfa.specs.Passes.{start_name}
+use Rattle.lazy_dfa.specs.Scans.{start_name}
 use Rattle.hirscan.specs.Choices.{Query}
 use Rattle.hirscan.specs.LooseAnswers.{IsFindable, IsCounted}
-use Rattle.hirscan.proofs.EndLemmas.{Tells}
+use Rattle.hirscan.proofs.EndLemmas.{ReportsFaultOf}
 use Rattle.hirscan.proofs.FirstEndLemmas.{FindsFirsts, first_of_ends, first_is_of, same_over, one_place, no_start_no_tree, start_has_tree}
 
--- no span that counts starts at the place
+-- no span that counts starts at the offset
 abbrev pub HasNoneCounted : Query → ℕ → Type 0
 HasNoneCounted q i = (p j : ℕ) → IsCounted q i p j → ⊥
 
@@ -38,19 +38,19 @@ pub record IsOfFirstPattern (q : Query) (i p j : ℕ) : Type 0 where
   pub counted : IsCounted q i p j
   pub first_pattern : (k l : ℕ) → k < p → IsCounted q i k l → ⊥
 
--- at each place up to the end: nothing where no span is found, and else first one of the first pattern that has one
+-- at each offset up to the end: nothing if no span is found, and else first one of the first pattern that has one
 record Offers (q : Query) (offers : ℕ → List (ℕ × ℕ)) : Type 0 where
   none : (i : ℕ) → i ≤ q.end → offers i ≡ [] → (p j : ℕ) → IsFindable q i p j → ⊥
   found : (i j p : ℕ) (others : List (ℕ × ℕ)) → i ≤ q.end → offers i ≡ (j, p) ∷ others → IsFindable q i p j
   first : (i j p : ℕ) (others : List (ℕ × ℕ)) → i ≤ q.end → offers i ≡ (j, p) ∷ others → (k l : ℕ) → k < p → IsFindable q i k l → ⊥
 
-told_loosely : (q : Query) (offers : ℕ → List (ℕ × ℕ)) → Offers q offers → Tells q offers (HasNoneCounted q) (IsOfFirstPattern q)
-told_loosely q offers told = record {
-  none = λ i inside is p j c. told.none i inside is p j c.findable;
-  met = λ i j p others inside is. let f = told.found i j p others inside is in record { span = f.span; within = f.within };
+told_loosely : (q : Query) (offers : ℕ → List (ℕ × ℕ)) → Offers q offers → ReportsFaultOf q offers (HasNoneCounted q) (IsOfFirstPattern q)
+told_loosely q offers reported = record {
+  none = λ i inside is p j c. reported.none i inside is p j c.findable;
+  met = λ i j p others inside is. let f = reported.found i j p others inside is in record { span = f.span; within = f.within };
   best = λ i j p others inside start end is. record {
-    counted = record { findable = told.found i j p others inside is; start_counts = start; end_counts = end };
-    first_pattern = λ k l less c. told.first i j p others inside is k l less c.findable;
+    counted = record { findable = reported.found i j p others inside is; start_counts = start; end_counts = end };
+    first_pattern = λ k l less c. reported.first i j p others inside is k l less c.findable;
   };
   uncounted = λ i off p j c. let t = c.start_counts in let differ : true ≡ false = sym t ∙ off in cc;
   missed = λ i p j inside c nothing. nothing p j c;
@@ -68,7 +68,7 @@ anchored_in a (Pattern p) = slice_get a.start_pattern p
 pub allowed_named : (p n k : ℕ) → allowed (Pattern p) n k ≡ true → k ≡ p
 allowed_named p n k t = (Decides-eqb k p).0 (and_parts _ _ t).1
 
--- what a list of ends has, and what it hasn't
+-- what a list of ends has, and what it doesn't have
 heads : (l others : List (ℕ × ℕ)) (c : ℕ × ℕ) → l ≡ c ∷ others → Has same_pair c l
 heads l others c e = let P : List (ℕ × ℕ) → Type 0 = λ k. Has same_pair c k in subst P (sym e) (has_first same_pair pairs_equal c others)
 
@@ -136,10 +136,10 @@ module _ (o : Options) (xs : List Tree) (n : Nfa) (compiled : IsCompiled o xs n)
   first_all : (mode : Anchored) (i j p : ℕ) (others : List (ℕ × ℕ)) → i ≤ e → all_ends i ≡ (j, p) ∷ others →
       (k l : ℕ) → k < p → IsFindable (query_in mode) i k l → ⊥
   first_all mode i j p others low is =
-      let l : List (ℕ × ℕ) = flat_map (by_pattern i) (places_from 0 (length xs)) in
+      let l : List (ℕ × ℕ) = flat_map (by_pattern i) (offsets_from 0 (length xs)) in
       let same : first_of l ≡ Some (j, p) =
       first_some (all_ends i) others (j, p) (first_of l) is
-      (first_of_ends (all_ends i) (flat_map (by_pattern i) (places_from 0 (length xs))) (starts.anchored t i low)
+      (first_of_ends (all_ends i) (flat_map (by_pattern i) (offsets_from 0 (length xs))) (starts.anchored t i low)
       ∙ ap first_of (same_over (by_pattern i) (by_pattern i) (length xs) 0 (λ k. refl))) in
       let P : Option (ℕ × ℕ) → Type 0 = λ r. IsFirstOffer (by_pattern i) 0 (length xs) r in
       first_all_at mode i j p low (subst P same (first_found (by_pattern i) (length xs) 0))
@@ -191,28 +191,28 @@ module _ (o : Options) (xs : List Tree) (n : Nfa) (compiled : IsCompiled o xs n)
   offers_told Yes = told_all Yes (λ k less. lt-ltb k (length xs) less)
   offers_told (Pattern p) = told_named p (slice_get n.automaton.start_pattern p) refl
 
-  pub loosely_told : (mode : Anchored) → Tells (query_in mode) (loose_offers mode) (HasNoneCounted (query_in mode))
+  pub loosely_told : (mode : Anchored) → ReportsFaultOf (query_in mode) (loose_offers mode) (HasNoneCounted (query_in mode))
       (IsOfFirstPattern (query_in mode))
   loosely_told mode = told_loosely (query_in mode) (loose_offers mode) (offers_told mode)
 
   -- what is found first, from each start
   unanchored : (i name : ℕ) → s ≤ i → i ≤ e → start_name n.automaton No ≡ Some name →
-      first (ends_from n.automaton t (i, name)) ≡ first_of (flat_map (loose_offers No) (places_from i (suc e - i)))
+      first (ends_from n.automaton t (i, name)) ≡ first_of (flat_map (loose_offers No) (offsets_from i (suc e - i)))
   unanchored i name low high is =
       let same : n.automaton.start_unanchored ≡ name = cc in
       ap (λ k. first (ends_from n.automaton t (i, k))) (sym same)
-      ∙ first_of_ends (ends_from n.automaton t (i, n.automaton.start_unanchored)) (flat_map all_ends (places_from i (suc e - i)))
+      ∙ first_of_ends (ends_from n.automaton t (i, n.automaton.start_unanchored)) (flat_map all_ends (offsets_from i (suc e - i)))
       (starts.unanchored refl t i read low high)
       ∙ ap first_of (same_over all_ends (loose_offers No) (suc e - i) i (λ k. refl))
 
   from_here : (mode : Anchored) (i name : ℕ) → anchored_in n.automaton mode ≡ Some name →
-      first (ends_from n.automaton t (i, name)) ≡ first_of (flat_map (loose_offers mode) (places_from i (suc i - i)))
+      first (ends_from n.automaton t (i, name)) ≡ first_of (flat_map (loose_offers mode) (offsets_from i (suc i - i)))
   from_here mode i name is =
       first_is_of (ends_from n.automaton t (i, name))
       ∙ ap first_of (ap (ends_in n.automaton t i) (sym is) ∙ sym (one_place (loose_offers mode) i))
 
   first_in : (mode : Anchored) (i name : ℕ) → s ≤ i → i ≤ e → start_name n.automaton mode ≡ Some name →
-      first (ends_from n.automaton t (i, name)) ≡ first_of (flat_map (loose_offers mode) (places_from i (suc (last_start mode i e) - i)))
+      first (ends_from n.automaton t (i, name)) ≡ first_of (flat_map (loose_offers mode) (offsets_from i (suc (last_start mode i e) - i)))
   first_in No i name low high is = unanchored i name low high is
   first_in Yes i name low high is = from_here Yes i name is
   first_in (Pattern p) i name low high is = from_here (Pattern p) i name is

@@ -12,7 +12,7 @@ least_none none zero (suc b) e = sym e
 least_none none (suc n) zero e = let f = least_none none n 0 e in omega arith
 least_none none (suc n) (suc b) e = least_none none n b e
 
--- where no item ends anywhere, no byte is in one
+-- if no item ends anywhere, no byte is in one
 pub none_covered : (n b : ℕ) → b < 256 → is_covered (replicate n 256) b ≡ false
 none_covered n b l =
     let e = least_none 256 n b refl in

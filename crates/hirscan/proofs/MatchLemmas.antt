@@ -1,4 +1,4 @@
--- Whether there is a match is told as the trees define it.
+-- Whether there is a match is reported as the trees define it.
 use Rattle.std.proofs.Common.{◌≡◌, ℕ, zero, suc, ◌+◌, ◌<◌, ◌≤◌, Bool, true, false, not, List, [], length, take, slice_get, get_or, nat_lt}
 use Rattle.std.proofs.Common.{◌==◌, eq-eqb, Option, Some, None, All, refl, sym, ap, ◌∙◌, subst, inl, inr, arith}
 use Rattle.std.specs.Prelude.{Result, Ok, is_some}
@@ -22,16 +22,16 @@ use Rattle.search_types.proofs.ForCallers.{computed_is_answer, may_start_at}
 use Rattle.nfa_core.specs.Walks.{Has}
 use Rattle.nfa_core.specs.Nfa.{Automaton}
 use Rattle.nfa_core.specs.Places.{same_pair}
-use Rattle.nfa_core.specs.Ways.{Text, span, place_of, ends_from}
+use Rattle.nfa_core.specs.Ways.{Text, span, offset_of, ends_from}
 use Rattle.thompson_nfa.specs.Compilations.{FindsSpans, IsPlainText, pattern_start}
 use Rattle.lazy_dfa.specs.Dfas.{reader}
-use Rattle.lazy_dfa.specs.Passes.{start_name}
+use Rattle.lazy_dfa.specs.Scans.{start_name}
 use Rattle.lazy_dfa.specs.Readers.{Reader, HalfAnswer, found, quit, unsupported}
-use Rattle.lazy_dfa.specs.Scans.{first_place, scan}
-use Rattle.lazy_dfa.specs.ScanLaws.{IsWanted, IsSplitBy, IsFound, ends_of}
+use Rattle.lazy_dfa.specs.HalfSearches.{first_offset, half_search}
+use Rattle.lazy_dfa.specs.HalfSearchLaws.{IsWanted, IsSplitBy, IsFound, ends_of}
 use Rattle.lazy_dfa.specs.SearchAnswers.{HasReach}
 use Rattle.lazy_dfa.proofs.ForCallers.{scan_finds, scan_has_reach, scan_in_span, no_pattern, start_is_state}
-use Rattle.regex_pair.specs.Matching.{has_match, match_search, match_told, is_some_match}
+use Rattle.regex_pair.specs.Matching.{has_match, match_search, match_result, is_some_match}
 use Rattle.regex_pair.specs.Pairs.{Pair}
 use Rattle.hirscan.specs.Choices.{Query, choices_at, answer_from}
 use Rattle.hirscan.specs.LooseAnswers.{MeansSpan}
@@ -47,7 +47,7 @@ use Rattle.hirscan.proofs.SearchLemmas.{found_is_answer, trees_tell}
 pub all_allowed : (n p : ℕ) → p < n → (allowed No n p ≡ true) × (allowed Yes n p ≡ true)
 all_allowed n p l = (lt-ltb p n l, lt-ltb p n l)
 
--- a span that ends where this end is, of a pattern that the search may find, from a place where it may start
+-- a span that ends where this end is, of a pattern that the search may find, from an offset where it may start
 record IsSpanTo (q : Query) (s : ℕ) (c : ℕ × ℕ) : Type 0 where
   place : ℕ
   from : s ≤ place
@@ -121,7 +121,7 @@ module _ (xs : List Tree) (utf8 : Bool) (t : Terminator) (p : Pair) (regex : IsR
     never_split : (wanted : ℕ → Option (ℕ × ℕ) → Type 0) (m : ℕ) → IsSplitBy wanted f soonest m → ⊥
     never_split wanted m split = let differ : true ≡ false = sym (ap (λ b. counts b q.haystack split.0.0) off) ∙ split.2 in cc
 
-    module _ (c : ℕ × ℕ) (is : scan f soonest ≡ found (Some c)) where
+    module _ (c : ℕ × ℕ) (is : half_search f soonest ≡ found (Some c)) where
       place : (q.start ≤ c.0) × (c.0 ≤ q.end)
       place = scan_in_span f soonest c is
 
@@ -134,7 +134,7 @@ module _ (xs : List Tree) (utf8 : Bool) (t : Terminator) (p : Pair) (regex : IsR
       nearest_has : (k name : ℕ) → k ≡ 0 → IsWanted f.kind true a.reverse (ends_of f soonest name k) (Some c) →
           Has same_pair c (ends_from a text (q.start, name))
       nearest_has k name none wanted =
-          let at : place_of a.reverse (first_place a.reverse q.start q.end) 0 ≡ q.start + 0 =
+          let at : offset_of a.reverse (first_offset a.reverse q.start q.end) 0 ≡ q.start + 0 =
           place_forward a.reverse q.start q.end 0 (goes_forward xs utf8 t p regex) in
           let here : q.start + 0 ≡ q.start = omega arith in
           let same : ends_of f soonest name k ≡ ends_from a text (q.start, name) =
@@ -201,23 +201,23 @@ module _ (xs : List Tree) (utf8 : Bool) (t : Terminator) (p : Pair) (regex : IsR
           (record { findable = record { may = s.may; span = there; within = s.within }; start_counts = ends.0; end_counts = ends.1 })
           (all s.place (may_start_at q.anchored q.start q.end s.place begun low high))
 
-  -- ---- what is told
+  -- ---- what is reported
   some_of : (o : Option Found) → (o ≡ None → ⊥) → true ≡ is_some o
   some_of None no_way = absurd (no_way refl)
   some_of (Some v) no_way = refl
 
-  told_late : (o : Option (ℕ × ℕ)) → scan f (with_earliest false q) ≡ found o → is_some_match o ≡ is_some (answer_from asks q.start)
+  told_late : (o : Option (ℕ × ℕ)) → half_search f (with_earliest false q) ≡ found o → is_some_match o ≡ is_some (answer_from asks q.start)
   told_late o is = found_is_answer xs utf8 t p regex (with_earliest false q) asked words set loops o is
 
-  told_soon : (off : f.between_characters ≡ false) (o : Option (ℕ × ℕ)) → scan f soonest ≡ found o →
+  told_soon : (off : f.between_characters ≡ false) (o : Option (ℕ × ℕ)) → half_search f soonest ≡ found o →
       is_some_match o ≡ is_some (answer_from asks q.start)
   told_soon off None is = told_late None (scan_none f q off is)
   told_soon off (Some c) is = some_of (answer_from asks q.start) (no_answer off c is)
 
-  told_by : (b : Bool) → f.between_characters ≡ b → (o : Option (ℕ × ℕ)) → scan f (with_earliest (not b) q) ≡ found o →
+  progress_by : (b : Bool) → f.between_characters ≡ b → (o : Option (ℕ × ℕ)) → half_search f (with_earliest (not b) q) ≡ found o →
       is_some_match o ≡ is_some (answer_from asks q.start)
-  told_by true on o is = told_late o is
-  told_by false off o is = told_soon off o is
+  progress_by true on o is = told_late o is
+  progress_by false off o is = told_soon off o is
 
   abbrev ok_of : Bool → Result Bool MatchErrorKind
   ok_of b = Ok b
@@ -225,10 +225,11 @@ module _ (xs : List Tree) (utf8 : Bool) (t : Terminator) (p : Pair) (regex : IsR
   ok_same : (b c : Bool) → ok_of b ≡ ok_of c → b ≡ c
   ok_same b c e = cc
 
-  told : (x : HalfAnswer) → scan f (match_search f q) ≡ x → (b : Bool) → match_told x ≡ ok_of b → b ≡ is_some (answer_from asks q.start)
-  told (found o) is b e = sym (ok_same (is_some_match o) b e) ∙ told_by f.between_characters refl o is
-  told (quit c x) is b e = cc
-  told (unsupported mode) is b e = cc
+  reported : (x : HalfAnswer) → half_search f (match_search f q) ≡ x → (b : Bool) → match_result x ≡ ok_of b →
+      b ≡ is_some (answer_from asks q.start)
+  reported (found o) is b e = sym (ok_same (is_some_match o) b e) ∙ progress_by f.between_characters refl o is
+  reported (quit c x) is b e = cc
+  reported (unsupported mode) is b e = cc
 
   pub match_is_told : (b : Bool) → has_match p q ≡ Ok b → b ≡ is_some (answer_from asks q.start)
-  match_is_told b e = told (scan f (match_search f q)) refl b e
+  match_is_told b e = reported (half_search f (match_search f q)) refl b e

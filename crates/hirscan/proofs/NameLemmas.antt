@@ -15,12 +15,12 @@ use Rattle.hirscan.specs.Readers.{spelling, setting_word, tree_word, line_word, 
 use Rattle.hirscan.specs.Readers.{half_look_named, look_named, the_look_named}
 use Rattle.hirscan.specs.LineFault.{unless_read}
 
--- a word is the text, or it isn't
+-- a word is the name, or it isn't
 pub text_cases : (w t : List ℕ) → ((bytes_eq w t ≡ true) × (w ≡ t)) ⊎ (bytes_eq w t ≡ false)
 text_cases w t =
     elim (cases_Bool (bytes_eq w t)) [ inl e ↦ inl (e, (bytes_eq-Decides w t).0 e) | inr e ↦ inr e ]
 
--- where names are tested one after the other, the word is the name of what was found, if the later tests say so too
+-- if names are tested one after the other, the word is the name of what was found, if the later tests say so too
 named : {X : Type 0} (name : X → List ℕ) (w : List ℕ) (k : X) (rest : Option X) (x : X) → (rest ≡ Some x → w ≡ name x)
     → (if bytes_eq w (name k) then Some k else rest) ≡ Some x → w ≡ name x
 named name w k rest x more e =

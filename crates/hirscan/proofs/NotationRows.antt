@@ -15,7 +15,7 @@ use Rattle.hirscan.specs.declared.words.LineWord.{LineWord}
 use Rattle.hirscan.specs.declared.words.LineWord.TheVariants.{Line, Capacity, Quit, Classes, Shrink, Look}
 use Rattle.hirscan.specs.Words.{words, class_ranges, scalar_ranges}
 use Rattle.hirscan.specs.Readers.{number, bound, hex_bytes, item_ends, hex_ends}
-use Rattle.hirscan.specs.Takes.{HeadValue, at_first}
+use Rattle.hirscan.specs.Takes.{QueryValue, at_first}
 use Rattle.hirscan.specs.LineFault.{fault, setup_after, new_tree}
 
 -- numbers: no leading zero, no sign, no more than 32 bits
@@ -88,10 +88,10 @@ unfolding scalar_ranges
 beside_surrogates = refl
 
 -- where these trees are on the stack
-abbrev on_stack : List Tree → HeadValue
+abbrev on_stack : List Tree → QueryValue
 on_stack trees = record { setup = at_first.setup; stack = trees; patterns = [] }
 
-abbrev line : List ℕ → HeadValue → Option FaultKind
+abbrev line : List ℕ → QueryValue → Option FaultKind
 line text at = fault (words text) at
 
 unknown : line (codes "star") at_first ≡ Some UnknownWord
@@ -236,7 +236,7 @@ around_surrogates = refl
 surrogates : line (codes "chars D800-D900") at_first ≡ Some BadRange
 surrogates = refl
 
--- an end without digits is told before one that is no scalar
+-- an end without digits is reported before one that is no scalar
 surrogate_and_no_digits : line (codes "chars D800-zz") at_first ≡ Some BadHex
 surrogate_and_no_digits = refl
 

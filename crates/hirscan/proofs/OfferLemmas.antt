@@ -1,4 +1,4 @@
--- What patterns offer at a place in the bytes up to e, and the choices there of which those that count are kept.
+-- What patterns offer at an offset in the bytes up to e, and the choices there of which those that count are kept.
 use Rattle.std.proofs.Common.{◌≡◌, ◌≢◌, ℕ, zero, suc, ◌+◌, ◌<◌, ◌≤◌, Bool, true, false, cond, leb, ◌&&◌, List, [], ◌∷◌, ◌++◌, map, length}
 use Rattle.std.proofs.Common.{take, slice_get, Option, Some, None, refl, sym, ap, ap₂, ◌∙◌, subst, inl, inr, ⊎_elim, arith, append-nil}
 use Rattle.std.specs.List.{filter}
@@ -60,12 +60,12 @@ filter_both a b (x ∷ xs) = ⊎_elim
     ∙ filter_both a b xs
     ∙ sym (ap (filter b) (filter_step a x xs false f))) (cases_Bool (a x))
 
--- each tree's loops read
+-- in each tree the body of every unbounded repetition consumes at least one byte
 abbrev pub AllRead : List Tree → Type 0
 AllRead [] = Unit {0}
 AllRead (x ∷ xs) = LoopsRead x × AllRead xs
 
--- ---- the choices of one place
+-- ---- the choices of one offset
 module _ (may counted : ℕ → Bool) (looks : Looks) (h : List ℕ) (e i : ℕ) (inside : i ≤ e) where
   abbrev pub keeps : ℕ → Bool
   keeps j = leb j e && counted j
@@ -96,7 +96,7 @@ module _ (may counted : ℕ → Bool) (looks : Looks) (h : List ℕ) (e i : ℕ)
       let parts = none_of p (cut x) (offered looks (take e h) (p + 1) xs i) none in
       one_none (may p) p x (choices may keeps (p + 1) (map all_ends xs)) r.0 parts.0 ∙ none_offered xs (p + 1) r.1 parts.1
 
-  -- the first offer is the first choice, where it counts
+  -- the first offer is the first choice, if it counts
   abbrev pub Chosen : ℕ → ℕ → List (ℕ × ℕ) → Type 0
   Chosen n j cs = first_choice i cs ≡ Some (record { pattern = n; start = i; end = j })
 
@@ -128,7 +128,7 @@ module _ (may counted : ℕ → Bool) (looks : Looks) (h : List ℕ) (e i : ℕ)
       (m p (omega arith) (omega arith)) r.0 refl c
       (λ on. some_offered xs (p + 1) n j others r.1 (λ k low high. m k (omega arith) (omega arith)) c on) o
 
-  -- a span is a choice, where it counts
+  -- a span is a choice, if it counts
   Has-filter : (p : ℕ → Bool) (xs : List ℕ) (j : ℕ) → Has xs j → p j ≡ true → Has (filter p xs) j
   Has-filter p [] j g t = elim g [ ]
   Has-filter p (x ∷ xs) j (inl same) t =

@@ -1,4 +1,4 @@
--- What replies to one input agree on: it is refused for one cause and then asks for nothing, and all matches are one list.
+-- What replies to one input agree on: it is rejected for one cause and then asks for nothing, and all matches are one list.
 use Rattle.std.proofs.Common.{◌≡◌, ℕ, Bool, true, false, List, ◌++◌, drop, Option, Some, None, codes, decimal, true≢false, refl, sym, ap}
 use Rattle.std.proofs.Common.{◌∙◌, subst, arith}
 use Rattle.look_core.specs.Words.{ascii_words}
@@ -8,16 +8,17 @@ use Rattle.hirscan.specs.declared.line.Setup.{Setup}
 use Rattle.hirscan.specs.declared.ending.Ending.{Ending}
 use Rattle.hirscan.specs.declared.ending.Ending.TheVariants.{Listed, Quit, Refused}
 use Rattle.hirscan.specs.Reads.{Reads}
-use Rattle.hirscan.specs.Refusals.{refusal}
-use Rattle.hirscan.specs.Reply.{IsInputRefused, too_long, faulty, unfit, Asks, AreAnswers, IsSearchReply, too_large, listed, quits, IsReply}
-use Rattle.hirscan.specs.Reply.{refused, searched, refusal_line, span_lines}
-use Rattle.hirscan.specs.Takes.{HeadValue, at_first}
-use Rattle.hirscan.specs.Tells.{kind_text}
+use Rattle.hirscan.specs.Rejections.{rejection}
+use Rattle.hirscan.specs.Reply.{IsInputRejected, too_long, faulty, unfit, Asks, AreAnswers, IsSearchReply, too_large, listed, quits}
+use Rattle.hirscan.specs.Reply.{IsReply}
+use Rattle.hirscan.specs.Reply.{refused, searched, error_line, span_lines}
+use Rattle.hirscan.specs.Takes.{QueryValue, at_first}
+use Rattle.hirscan.specs.QueryReports.{kind_text}
 use Rattle.hirscan.proofs.ReadsLemmas.{reads_once, reads_no_fault, fault_once}
 
--- ---- refusals
-abbrev cause_at : List ℕ → HeadValue → ℕ → Option (List ℕ)
-cause_at input at n = refusal at.setup at.patterns (drop n input)
+-- ---- rejected inputs
+abbrev cause_at : List ℕ → QueryValue → ℕ → Option (List ℕ)
+cause_at input at n = rejection at.setup at.patterns (drop n input)
 
 same_cause : (o : Option (List ℕ)) (c d : List ℕ) → o ≡ Some c → o ≡ Some d → c ≡ d
 same_cause o c d e f = let both : Some c ≡ Some d = sym e ∙ f in cc
@@ -25,7 +26,7 @@ same_cause o c d e f = let both : Some c ≡ Some d = sym e ∙ f in cc
 no_cause : (o : Option (List ℕ)) (c : List ℕ) → o ≡ Some c → o ≡ None → ⊥
 no_cause o c e f = let never : true ≡ false = cc in grind (arith, never)
 
-cause_there : (input : List ℕ) (at there : HeadValue) (n m : ℕ) (o : Option (List ℕ)) → Reads input at_first at n →
+cause_there : (input : List ℕ) (at there : QueryValue) (n m : ℕ) (o : Option (List ℕ)) → Reads input at_first at n →
     Reads input at_first there m →
     cause_at input there m ≡ o → cause_at input at n ≡ o
 cause_there input at there n m o read again is =
@@ -33,7 +34,7 @@ cause_there input at there n m o read again is =
     ap (λ s. cause_at input s n) same.0 ∙ ap (cause_at input there) same.1 ∙ is
 
 module _ (input c d : List ℕ) where
-  one_cause : IsInputRefused input c → IsInputRefused input d → c ≡ d
+  one_cause : IsInputRejected input c → IsInputRejected input d → c ≡ d
   one_cause (too_long long is) (too_long more also) = is ∙ sym also
   one_cause (too_long long is) (faulty k kind short fault also) = absurd (omega arith)
   one_cause (too_long long is) (unfit at n short read found) = absurd (omega arith)
@@ -51,19 +52,19 @@ module _ (input c d : List ℕ) where
 module _ (input cause : List ℕ) (setup : Setup) (xs : List Tree) (h : List ℕ) (asks : Asks input setup xs h) where
   none_there : cause_at input asks.at asks.len ≡ None
   none_there =
-      ap (λ s. refusal s asks.at.patterns (drop asks.len input)) asks.setup_is
-      ∙ ap (λ ys. refusal setup ys (drop asks.len input)) asks.patterns_are ∙ ap (refusal setup xs) asks.haystack_is ∙ asks.fits
+      ap (λ s. rejection s asks.at.patterns (drop asks.len input)) asks.setup_is
+      ∙ ap (λ ys. rejection setup ys (drop asks.len input)) asks.patterns_are ∙ ap (rejection setup xs) asks.haystack_is ∙ asks.fits
 
-  never_refused : IsInputRefused input cause → ⊥
+  never_refused : IsInputRejected input cause → ⊥
   never_refused (too_long long is) = let short = asks.short in absurd (omega arith)
   never_refused (faulty k kind short fault is) = reads_no_fault input at_first asks.at asks.len k kind asks.reads fault
   never_refused (unfit at n short read found) =
       no_cause (cause_at input at n) cause found (cause_there input at asks.at n asks.len None read asks.reads none_there)
 
--- one that is refused has that reply alone
-pub refused_alone : (input cause : List ℕ) (e : Ending) (t : List ℕ) → IsInputRefused input cause → IsReply input e t → (e ≡ Refused) ×
-    (t ≡ refusal_line cause)
-refused_alone input cause e t is (refused other again ends text) = (ends, text ∙ ap refusal_line (one_cause input other cause again is))
+-- one that is rejected has that reply alone
+pub refused_alone : (input cause : List ℕ) (e : Ending) (t : List ℕ) → IsInputRejected input cause → IsReply input e t → (e ≡ Refused) ×
+    (t ≡ error_line cause)
+refused_alone input cause e t is (refused other again ends text) = (ends, text ∙ ap error_line (one_cause input other cause again is))
 refused_alone input cause e t is (searched setup xs h asks reply) = absurd (never_refused input cause setup xs h asks is)
 
 -- ---- lists

@@ -22,7 +22,7 @@ pub ranges_without_byte : (member : ℕ → Bool) (n : ℕ) (rs : List (ℕ × �
     → rs ≡ member_ranges member (256 - n) n → rs ≡ member_ranges member (256 - (n - 1)) (n - 1)
 ranges_without_byte member n rs h k m was = rw (ranges_from_below member n h k, m) was
 
--- the ranges are told by the members below the end
+-- the ranges are determined by the members below the end
 ranges_from_same : (f g : ℕ → Bool) (n b : ℕ) → ((k : ℕ) → b ≤ k → k < b + n → f k ≡ g k) → member_ranges f n b ≡ member_ranges g n b
 ranges_from_same f g zero b h = refl
 ranges_from_same f g (suc n) b h =

@@ -1,4 +1,4 @@
--- Each reader answers just what its relation says of the word, and nothing just where that says nothing.
+-- Each reader answers exactly what its relation says of the word, and nothing exactly if that says nothing.
 use Rattle.std.proofs.Common.{◌≡◌, ◌⊎◌, ℕ, ◌<◌, Bool, true, false, not, ◌||◌, List, [], Option, Some, None, nat_lt, refl, sym, ap, subst}
 use Rattle.std.proofs.Common.{◌∙◌, inl, inr}
 use Rattle.std.specs.Prelude.{◌↔◌}

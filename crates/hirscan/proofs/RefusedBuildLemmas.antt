@@ -1,4 +1,4 @@
--- Why nothing is built: the refusal of a compile, or of one of both automata, by the trees and the settings.
+-- Why nothing is built: the error of a compile, or of one of both automata, by the trees and the settings.
 use Rattle.std.proofs.Common.{◌≡◌, ℕ, ◌<◌, ◌≤◌, Bool, true, false, ◌&&◌, not, nat_lt, List, true≢false, refl, sym, ap, ◌∙◌, subst, arith}
 use Rattle.std.proofs.Common.{if◌then◌else◌}
 use Rattle.std.specs.Prelude.{Result, Ok, Err}
@@ -8,9 +8,9 @@ use Rattle.nfa_core.specs.NfaValue.{Nfa}
 use Rattle.nfa_core.specs.declared.build_error.BuildError.{BuildError as NfaBuildError}
 use Rattle.nfa_core.specs.declared.build_error.BuildError.TheVariants as nfa
 use Rattle.thompson_nfa.specs.Compilations.{IsCompiled}
-use Rattle.thompson_nfa.specs.RefusedTrees.{RefusesTrees}
+use Rattle.thompson_nfa.specs.RefusedTrees.{RejectsTrees}
 use Rattle.lazy_dfa.specs.Accounting.{least_capacity}
-use Rattle.lazy_dfa.specs.Building.{built, dfa_of, is_too_small, measures_with, refused_by}
+use Rattle.lazy_dfa.specs.Building.{built, dfa_of, is_too_small, measures_with, error_of_compile}
 use Rattle.lazy_dfa.specs.ConfigValue.{DfaOptions, changed_dfa_options, word_boundary_of, by_hand, capacity_of, skips_check}
 use Rattle.lazy_dfa.specs.declared.build_error.BuildError.{BuildError}
 use Rattle.lazy_dfa.specs.declared.build_error.BuildError.TheVariants.{NFA, InsufficientCacheCapacity, Unsupported}
@@ -18,7 +18,7 @@ use Rattle.lazy_dfa.specs.Dfas.{Dfa}
 use Rattle.lazy_dfa.specs.Quits.{is_unsupported}
 use Rattle.regex_pair.specs.Pairs.{Pair, back_options, both_of, pair_built}
 use Rattle.hirscan.specs.declared.settings.Settings.{Settings}
-use Rattle.hirscan.specs.Built.{RefusesBuild, HasRoom, not_compiled, unsupported, too_small, no_memory, compile_options, nfa_for}
+use Rattle.hirscan.specs.Built.{FailsBuild, HasRoom, not_compiled, unsupported, too_small, no_memory, compile_options, nfa_for}
 use Rattle.hirscan.specs.Built.{are_unsupported}
 use Rattle.hirscan.proofs.BuiltLemmas.{unsupported_are, same_measures}
 
@@ -68,14 +68,14 @@ lacks_memory nfa.NoMemory = true
 lacks_memory x = false
 
 module _ (xs : List Tree) (s : Settings) where
-  -- ---- the refusal of a compile
+  -- ---- the error of a compile
   by_cause : (reverse : Bool) (x : NfaBuildError) (e : BuildError) → lacks_memory x ≡ false →
-      RefusesTrees (compile_options reverse s) xs x →
-      e ≡ NFA x → RefusesBuild xs s e
+      RejectsTrees (compile_options reverse s) xs x →
+      e ≡ NFA x → FailsBuild xs s e
   by_cause reverse x e other why is = not_compiled reverse x (λ no. true≢false (sym (ap lacks_memory no) ∙ other)) why is
 
-  pub compile_refused : (reverse : Bool) (x : NfaBuildError) (e : BuildError) → RefusesTrees (compile_options reverse s) xs x →
-      e ≡ refused_by x → RefusesBuild xs s e
+  pub compile_refused : (reverse : Bool) (x : NfaBuildError) (e : BuildError) → RejectsTrees (compile_options reverse s) xs x →
+      e ≡ error_of_compile x → FailsBuild xs s e
   compile_refused reverse nfa.TooManyPatterns e why is = by_cause reverse nfa.TooManyPatterns e refl why is
   compile_refused reverse nfa.TooManyStates e why is = by_cause reverse nfa.TooManyStates e refl why is
   compile_refused reverse (nfa.ExceededSizeLimit limit) e why is = by_cause reverse (nfa.ExceededSizeLimit limit) e refl why is
@@ -83,14 +83,14 @@ module _ (xs : List Tree) (s : Settings) where
   compile_refused reverse (nfa.Captures err) e why is = by_cause reverse (nfa.Captures err) e refl why is
   compile_refused reverse nfa.NoMemory e why is = no_memory is
 
-  -- ---- the refusal of one of both automata
+  -- ---- the error of one of both automata
   module _ (n m : Nfa) (up : IsCompiled (compile_options false s) xs n) (is_reverse : IsCompiled (compile_options true s) xs m)
       (e : BuildError) where
     by_tests : (reverse : Bool) → (reverse ≡ true → HasRoom n s.dfa) → (words skips : Bool) (given least : ℕ) (d : Dfa) →
         words ≡ are_unsupported xs s.dfa → skips ≡ skips_check s.dfa → given ≡ capacity_of s.dfa →
         least ≡ least_capacity (measures_with (nfa_for reverse n m) s.dfa) → (small : Bool) → (not skips && nat_lt given least) ≡ small →
         (if words then Err Unsupported else if small then Err (InsufficientCacheCapacity least given) else ok_dfa d) ≡ err_dfa e →
-        RefusesBuild xs s e
+        FailsBuild xs s e
     by_tests reverse roomy true skips given least d w k g l small is_small is =
         unsupported n m up is_reverse (sym w) (sym (same_refusal Unsupported e is))
     by_tests reverse roomy false skips given least d w k g l true is_small is =
@@ -100,13 +100,13 @@ module _ (xs : List Tree) (s : Settings) where
         (sym (same_refusal (InsufficientCacheCapacity least given) e is) ∙ (λ i. InsufficientCacheCapacity (l i) (g i)))
     by_tests reverse roomy false skips given least d w k g l false is_small is = absurd (no_refusal d e is)
 
-    by_half : (x y : Result Dfa BuildError) → (x ≡ err_dfa e → RefusesBuild xs s e) →
-        ((f : Dfa) → x ≡ ok_dfa f → y ≡ err_dfa e → RefusesBuild xs s e) → both_of x y ≡ err_pair e → RefusesBuild xs s e
+    by_half : (x y : Result Dfa BuildError) → (x ≡ err_dfa e → FailsBuild xs s e) →
+        ((f : Dfa) → x ≡ ok_dfa f → y ≡ err_dfa e → FailsBuild xs s e) → both_of x y ≡ err_pair e → FailsBuild xs s e
     by_half (Ok f) (Ok r) first second is = absurd (no_pair_refusal (record { forward = f; reverse = r }) e is)
     by_half (Ok f) (Err v) first second is = second f refl (ap err_dfa (same_pair_refusal v e is))
     by_half (Err v) r first second is = first (ap err_dfa (same_pair_refusal v e is))
 
-    pair_refused : pair_built n m s.dfa ≡ err_pair e → RefusesBuild xs s e
+    pair_refused : pair_built n m s.dfa ≡ err_pair e → FailsBuild xs s e
     pair_refused is =
         by_half (built n s.dfa) (built m (changed_dfa_options s.dfa back_options))
         (λ first. by_tests false (λ back. absurd (true≢false (sym back)))
@@ -119,5 +119,5 @@ module _ (xs : List Tree) (s : Settings) where
         (unsupported_are xs s true m is_reverse s.dfa) refl refl (ap least_capacity (same_measures m s.dfa))
         (is_too_small m (changed_dfa_options s.dfa back_options)) refl second) is
 
-    pub build_refused : (o : DfaOptions) → err_pair e ≡ pair_built n m o → o ≡ s.dfa → RefusesBuild xs s e
+    pub build_refused : (o : DfaOptions) → err_pair e ≡ pair_built n m o → o ≡ s.dfa → FailsBuild xs s e
     build_refused o is same = pair_refused (ap (λ (c : DfaOptions). pair_built n m c) (sym same) ∙ sym is)

@@ -1,4 +1,4 @@
--- Why the program builds no regex of patterns: for their size, or for want of memory.
+-- Why the program builds no regex of patterns: because of their size, or because it is out of memory.
 use Rattle.std.proofs.Common.{◌≡◌, ◌⊎◌, inl, inr, ◌+◌, ◌^◌, ◌≤◌, ◌&&◌, Bool, false, not, List, length, true≢false, refl, sym, ap, ◌∙◌}
 use Rattle.std.proofs.Common.{subst, lit<}
 use Rattle.std.proofs.Math.Bool.{and-false}
@@ -6,7 +6,7 @@ use Rattle.search_core.specs.Index.{greatest_index}
 use Rattle.hir_core.specs.Tree.{Tree}
 use Rattle.nfa_core.specs.declared.build_error.BuildError.{BuildError as NfaBuildError}
 use Rattle.nfa_core.specs.declared.build_error.BuildError.TheVariants.{ExceededSizeLimit}
-use Rattle.thompson_nfa.specs.RefusedTrees.{RefusesTrees}
+use Rattle.thompson_nfa.specs.RefusedTrees.{RejectsTrees}
 use Rattle.thompson_nfa.proofs.ForCallers.{limit_alone_refuses}
 use Rattle.lazy_dfa.specs.Quits.{has_high_bytes}
 use Rattle.lazy_dfa.specs.ConfigValue.{by_hand}
@@ -14,7 +14,7 @@ use Rattle.lazy_dfa.specs.declared.build_error.BuildError.{BuildError}
 use Rattle.lazy_dfa.specs.declared.build_error.BuildError.TheVariants.{NFA, NoMemory, Unsupported}
 use Rattle.hirscan.specs.declared.line.Setup.{Setup}
 use Rattle.hirscan.specs.declared.settings.Settings.{Settings}
-use Rattle.hirscan.specs.Built.{RefusesBuild, not_compiled, unsupported, too_small, no_memory, are_unsupported, compile_options}
+use Rattle.hirscan.specs.Built.{FailsBuild, not_compiled, unsupported, too_small, no_memory, are_unsupported, compile_options}
 use Rattle.hirscan.specs.Built.{program_settings, use_unicode_words}
 use Rattle.hirscan.specs.Reply.{AreTooLarge}
 
@@ -28,11 +28,11 @@ IsRefusedFor setup xs e = (e ≡ NoMemory) ⊎ ((e ≡ NFA (ExceededSizeLimit (2
 
 module _ (setup : Setup) (xs : List Tree) (few : length xs ≤ greatest_index + 1) where
   for_size : (reverse : Bool) (x : NfaBuildError) → x ≡ ExceededSizeLimit (2 ^ 26) →
-      RefusesTrees (compile_options reverse (program_settings setup.settings)) xs x → AreTooLarge setup xs
+      RejectsTrees (compile_options reverse (program_settings setup.settings)) xs x → AreTooLarge setup xs
   for_size reverse x is refused =
-      (reverse, subst (λ (y : NfaBuildError). RefusesTrees (compile_options reverse (program_settings setup.settings)) xs y) is refused)
+      (reverse, subst (λ (y : NfaBuildError). RejectsTrees (compile_options reverse (program_settings setup.settings)) xs y) is refused)
 
-  refused_for : (e : BuildError) → RefusesBuild xs (program_settings setup.settings) e → IsRefusedFor setup xs e
+  refused_for : (e : BuildError) → FailsBuild xs (program_settings setup.settings) e → IsRefusedFor setup xs e
   refused_for e (not_compiled reverse x other refused is) =
       let limit = limit_alone_refuses (compile_options reverse (program_settings setup.settings)) xs x (2 ^ 26) refl refl
       (lit< tt) few refused other in
@@ -45,14 +45,14 @@ module _ (setup : Setup) (xs : List Tree) (few : length xs ≤ greatest_index + 
   by_cause x (inl lacks) = cc
   by_cause x (inr large) = large.1
 
-  -- where no automaton is compiled of these patterns, they are too large
+  -- if no automaton is compiled of these patterns, they are too large
   pub too_large : (ys : List Tree) (s : Settings) (e : BuildError) (x : NfaBuildError) → ys ≡ xs → s ≡ program_settings setup.settings →
       e ≡ NFA x →
-      RefusesBuild ys s e → AreTooLarge setup xs
+      FailsBuild ys s e → AreTooLarge setup xs
   too_large ys s e x patterns settings is refused =
       by_cause x (refused_for (NFA x)
-      (subst (λ (v : BuildError). RefusesBuild xs (program_settings setup.settings) v) is
-      (subst (λ (t : Settings). RefusesBuild xs t e) settings (subst (λ (zs : List Tree). RefusesBuild zs s e) patterns refused))))
+      (subst (λ (v : BuildError). FailsBuild xs (program_settings setup.settings) v) is
+      (subst (λ (t : Settings). FailsBuild xs t e) settings (subst (λ (zs : List Tree). FailsBuild zs s e) patterns refused))))
 
   not_unsupported : IsRefusedFor setup xs Unsupported → ⊥
   not_unsupported (inl is) = cc
@@ -60,8 +60,8 @@ module _ (setup : Setup) (xs : List Tree) (few : length xs ≤ greatest_index + 
 
   -- and for no other cause
   pub never_refused_so : (ys : List Tree) (s : Settings) (e : BuildError) → ys ≡ xs → s ≡ program_settings setup.settings →
-      e ≡ Unsupported → RefusesBuild ys s e → ⊥
+      e ≡ Unsupported → FailsBuild ys s e → ⊥
   never_refused_so ys s e patterns settings is refused =
       not_unsupported (refused_for Unsupported
-      (subst (λ (v : BuildError). RefusesBuild xs (program_settings setup.settings) v) is
-      (subst (λ (t : Settings). RefusesBuild xs t e) settings (subst (λ (zs : List Tree). RefusesBuild zs s e) patterns refused))))
+      (subst (λ (v : BuildError). FailsBuild xs (program_settings setup.settings) v) is
+      (subst (λ (t : Settings). FailsBuild xs t e) settings (subst (λ (zs : List Tree). FailsBuild zs s e) patterns refused))))

@@ -1,5 +1,5 @@
--- What the definition of two automata that search as one gives at once: their directions, and that where a search forward found
--- something, words of characters are read as those of bytes as far as it read.
+-- What the definition of two automata that search as one gives at once. It gives their directions. And if a search forward found something,
+-- words of characters are read as those of bytes as far as it read.
 use Rattle.std.proofs.Common.{◌≡◌, ℕ, zero, suc, ◌+◌, ◌-◌, ◌<◌, ◌≤◌, Bool, true, false, List, slice_get, Option, Some, None, All}
 use Rattle.std.proofs.Common.{refl, sym, ap, ◌∙◌, subst, inl, inr, ⊎_elim, arith}
 use Rattle.std.specs.Prelude.{IfSome}
@@ -20,7 +20,7 @@ use Rattle.hir_core.specs.Facts.{looks_used}
 use Rattle.hir_core.specs.Agree.{AgreeFrom}
 use Rattle.nfa_core.specs.NfaValue.{looks_of}
 use Rattle.nfa_core.specs.Reaches.{read_by}
-use Rattle.nfa_core.specs.Ways.{span, is_passed, place_of}
+use Rattle.nfa_core.specs.Ways.{span, is_satisfied, offset_of}
 use Rattle.thompson_nfa.specs.Configs.{reverse_of}
 use Rattle.thompson_nfa.specs.Compiled.{turned}
 use Rattle.thompson_nfa.proofs.ForCallers.{looks_are_used}
@@ -28,29 +28,30 @@ use Rattle.lazy_dfa.specs.ConfigValue.{by_hand, word_boundary_of}
 use Rattle.lazy_dfa.specs.Dfas.{reader}
 use Rattle.lazy_dfa.specs.Quits.{has_unicode_word}
 use Rattle.lazy_dfa.specs.Readers.{is_quit}
-use Rattle.lazy_dfa.specs.Scans.{first_place}
-use Rattle.lazy_dfa.specs.ScanLaws.{ReadsAlike}
+use Rattle.lazy_dfa.specs.HalfSearches.{first_offset}
+use Rattle.lazy_dfa.specs.HalfSearchLaws.{ReadsAlike}
 use Rattle.lazy_dfa.proofs.ForCallers.{supported_quits}
 use Rattle.regex_pair.specs.Pairs.{Pair}
 use Rattle.hirscan.specs.Regexes.{IsRegexOf}
 use Rattle.determinize_core.proofs.ForCallers.{has_family}
 
 -- ---- directions
-pub begins : (b : Bool) (s e : ℕ) → b ≡ false → first_place b s e ≡ s
+pub begins : (b : Bool) (s e : ℕ) → b ≡ false → first_offset b s e ≡ s
 begins false s e up = refl
 begins true s e up = cc
 
-pub place_forward : (b : Bool) (s e k : ℕ) → b ≡ false → place_of b (first_place b s e) k ≡ s + k
+pub place_forward : (b : Bool) (s e k : ℕ) → b ≡ false → offset_of b (first_offset b s e) k ≡ s + k
 place_forward false s e k up = refl
 place_forward true s e k up = cc
 
-pub place_reverse : (b : Bool) (s e : ℕ) → b ≡ true → place_of b (first_place b s e) 0 ≡ e
+pub place_reverse : (b : Bool) (s e : ℕ) → b ≡ true → offset_of b (first_offset b s e) 0 ≡ e
 place_reverse true s e is_reverse = omega arith
 place_reverse false s e is_reverse = cc
 
 pub passed_alike : (b : Bool) (t : Terminator) (looks : Looks) (h : List ℕ) (s e : ℕ) (l : Look) (k : ℕ) → b ≡ false →
     holds_ascii t h l (s + k) ≡ looks l (s + k) →
-    is_passed b (span t h s e) l (place_of b (first_place b s e) k) ≡ is_passed b (read_by looks h s e) l (place_of b (first_place b s e) k)
+    is_satisfied b (span t h s e) l (offset_of b (first_offset b s e) k) ≡
+    is_satisfied b (read_by looks h s e) l (offset_of b (first_offset b s e) k)
 passed_alike false t looks h s e l k up same = same
 passed_alike true t looks h s e l k up same = cc
 
@@ -80,7 +81,7 @@ module _ (xs : List Tree) (utf8 : Bool) (t : Terminator) (p : Pair) (regex : IsR
       let same : turned (reverse_of regex.forward_options) l ≡ l = ap (λ b. turned b l) regex.reads_forward in
       (looks_are_used regex.forward_options xs p.forward.nfa regex.is_forward l).1 (k, x, listed, ap (has_look (looks_used x)) same ∙ used)
 
-  -- where the automaton has a look of words of characters, a byte above 7F is a quit byte
+  -- if the automaton has a look of words of characters, a byte above 7F is a quit byte
   high_quits : (l : Look) → has_look (looks_of p.forward.nfa.automaton.states) l ≡ true → is_word_unicode l ≡ true → (b : ℕ) → 128 ≤ b →
       b < 256 →
       has p.forward.quits b ≡ true
@@ -123,14 +124,14 @@ module _ (xs : List Tree) (utf8 : Bool) (t : Terminator) (p : Pair) (regex : IsR
           (quiet_low l there u i (byte_at h i) refl (quiet i (omega arith) high))))
           (λ (b : is_word_unicode l ≡ false). sym (reads_bytes (by_characters words) t h l i b)) (cases_Bool (is_word_unicode l))
 
-      pub reads_alike : (e : ℕ) → ReadsAlike (reader p.forward) (holds words t h) h s e (first_place p.forward.nfa.automaton.reverse s e)
-          (end - first_place p.forward.nfa.automaton.reverse s e)
+      pub reads_alike : (e : ℕ) → ReadsAlike (reader p.forward) (holds words t h) h s e (first_offset p.forward.nfa.automaton.reverse s e)
+          (end - first_offset p.forward.nfa.automaton.reverse s e)
       reads_alike e l k there below =
           let at = begins p.forward.nfa.automaton.reverse s e goes_forward in
           passed_alike p.forward.nfa.automaton.reverse p.forward.nfa.terminator (holds words t h) h s e l k goes_forward
           (ap (λ ends. holds_ascii ends h l (s + k)) forward_ends_lines ∙ words_alike l there (s + k) (omega arith) (omega arith))
 
-      -- and the trees' looks are, up to a place before there
+      -- and the trees' looks are, up to an offset before there
       pub trees_alike : (j : ℕ) → j < end → (k : ℕ) (x : Tree) → slice_get xs k ≡ Some x →
           AgreeFrom (holds_ascii t h) (holds words t h) s j x
       trees_alike j inside k x listed l used i low high = words_alike l (used_is_there k x l listed used) i low (omega arith)

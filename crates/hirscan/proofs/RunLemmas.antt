@@ -14,7 +14,7 @@ use Rattle.hirscan.specs.declared.program.RunError.TheVariants.{Read, Write, NoM
 use Rattle.hirscan.specs.Reply.{IsReply}
 use Rattle.hirscan.specs.Runs.{ReadsSome, WritesReply, WritesAtFault}
 
--- what is written of the text, where n bytes of its rest were taken
+-- what is written of some bytes, if n bytes of their rest were taken
 pub more_in_text : (text : List ℕ) (done n : ℕ) → done ≤ length text → n ≤ length (take (length text - done) (drop done text)) →
     done + n ≤ length text
 more_in_text text done n p q = omega (arith, length-take (length text - done) (drop done text))
@@ -39,7 +39,7 @@ if_some_prefix (Some bytes) before after ending text n Write is reply written = 
 if_some_prefix input before after ending text n Read is reply written = cc
 if_some_prefix input before after ending text n NoMemory is reply written = cc
 
--- The bytes that were read, the reply to them and what was written of it, each as code hands it on, say what a run leaves.
+-- The bytes that were read, the reply to them and what was written of it, each as code passes it on, say what a run leaves.
 module _ (input left before after : Option (List ℕ)) (bytes items text written : List ℕ) (ending : Ending) (same : bytes ≡ items)
     (read : Consumes input left items) (whole : length items ≤ 2 ^ 30 →
     IsAtEnd left) (reply : IsReply bytes ending text) (all : written ≡ text) where

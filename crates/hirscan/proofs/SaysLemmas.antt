@@ -161,7 +161,7 @@ hex_byte_says w e = let b = byte_of w (hex_byte w) refl e in rw b.1 b.2
 pub hex_byte_said : (w : List ℕ) (b : ℕ) → IsHexByte w b → hex_byte w ≡ Some b
 hex_byte_said w b h = ap only_one (hex_said w (b ∷ []) h)
 
--- what stands before the sign, and behind it
+-- what is before the sign, and after it
 five : (w : List ℕ) → length w ≡ 5 → get_or w 2 0 ≡ 45 → w ≡ take 2 w ++ 45 ∷ drop 3 w
 five [] l e = absurd (omega arith)
 five (a ∷ []) l e = absurd (omega arith)

@@ -43,7 +43,7 @@ ends_at w (Some k) r e f =
 pub hex_ends_say : (w : List ℕ) (r : ℕ × ℕ) → hex_ends w ≡ Some r → HasHexEnds w r
 hex_ends_say w r e = ends_at w (position is_sign w) r refl e
 
--- the first sign stands behind the digits of the low end
+-- the first sign is after the digits of the low end
 sign_behind : (low high : List ℕ) (n : ℕ) → IsHexNumber low n → position is_sign (low ++ 45 ∷ high) ≡ Some (length low)
 sign_behind low high n h =
     let w : List ℕ = low ++ 45 ∷ high in

@@ -14,7 +14,7 @@ use Rattle.hirscan.specs.Readers.{hex_ends, the_hex_ends}
 use Rattle.hirscan.specs.LineFault.{first_fault_of, scalar_ends_fault, scalar_item_fault}
 use Rattle.hirscan.proofs.StageLemmas.{first_none, when_none}
 
--- the ranges begin at this number or above it, and some number stands between each two of them
+-- the ranges begin at this number or above it, and some number lies between each two of them
 abbrev pub AreApart : ℕ → List (ℕ × ℕ) → Type 0
 AreApart low [] = Unit {0}
 AreApart low (r ∷ rs) = (low ≤ r.0) × (r.0 ≤ r.1) × AreApart (r.1 + 2) rs
@@ -58,7 +58,7 @@ apart_rise low (r ∷ rs) h =
 pub scalar_ranges_ascend : (items : List (ℕ × ℕ)) → list_all in_order items ≡ true → is_ascending (scalar_ranges items) ≡ true
 scalar_ranges_ascend items h = apart_rise 0 (scalar_ranges items) (scalar_ranges_apart items h)
 
--- a number is in a range or in one that meets or touches it just where it is in the range that takes in both
+-- a number is in a range or in one that meets or touches it if and only if it is in the range that takes in both
 taken_in : (a b c d n : ℕ) (others : Bool) → nat_lt (b + 1) c ≡ false → nat_lt (d + 1) a ≡ false
     → (nat_le (min a c) n && nat_le n (max b d)) || others ≡ (nat_le a n && nat_le n b) || ((nat_le c n && nat_le n d) || others)
 taken_in a b c d n others h k = grind (arith, nat_tests)

@@ -19,8 +19,8 @@ use Rattle.nfa_core.specs.Reaches.{read_by}
 use Rattle.thompson_nfa.specs.Compilations.{IsPlainText}
 use Rattle.lazy_dfa.specs.Dfas.{reader}
 use Rattle.lazy_dfa.specs.Readers.{found, quit, unsupported}
-use Rattle.lazy_dfa.specs.Scans.{scan}
-use Rattle.lazy_dfa.specs.ScanLaws.{HasNoQuitNear}
+use Rattle.lazy_dfa.specs.HalfSearches.{half_search}
+use Rattle.lazy_dfa.specs.HalfSearchLaws.{HasNoQuitNear}
 use Rattle.lazy_dfa.proofs.ForCallers.{scan_finds_near}
 use Rattle.regex_pair.specs.Finding.{AnswersAt, search_at}
 use Rattle.regex_pair.specs.Joined.{joined}
@@ -30,14 +30,14 @@ use Rattle.hirscan.specs.Choices.{Query, choices_at, answer_from, answers_of}
 use Rattle.hirscan.specs.LooseAnswers.{IsLooseAnswer}
 use Rattle.hirscan.specs.Regexes.{IsRegexOf, IsSearchOf, query_of}
 use Rattle.hirscan.proofs.AnswerLemmas.{answers_within}
-use Rattle.hirscan.proofs.EndLemmas.{Tells, HasEnd}
+use Rattle.hirscan.proofs.EndLemmas.{ReportsFaultOf, HasEnd}
 use Rattle.hirscan.proofs.FirstEndLemmas.{FindsFirsts, trees_firsts}
 use Rattle.hirscan.proofs.ForwardLemmas.{fits_query, scan_has_end}
 use Rattle.hirscan.proofs.JoinLemmas.{found_by, joined_answers, joined_finds, is_a_pair, quits_forward, refused_forward}
 use Rattle.hirscan.proofs.LooseEndLemmas.{HasNoneCounted, IsOfFirstPattern, loose_offers, loosely_told, loose_firsts}
 use Rattle.hirscan.proofs.SpanChoiceLemmas.{HasNoChoice, IsFirstChoice, offers, choices_told}
 
--- the best span of the least place that has one is the answer
+-- the best span of the least offset that has one is the answer
 pub is_answer : (q : Query) (s : ℕ) (o : Option (ℕ × ℕ))
     (e : HasEnd q (HasNoChoice q) (IsFirstChoice q) s o) →
     IsAnswer (choices_at q) q.mode s q.end (found_by q (HasNoChoice q) (IsFirstChoice q) s o e)
@@ -71,12 +71,12 @@ module _ (xs : List Tree) (utf8 : Bool) (t : Terminator) (p : Pair) (regex : IsR
   is_read : IsPlainText (read_by looks q.haystack q.start q.end)
   is_read = record { within = asked.within; bytes = asked.bytes; at_start = λ i. refl; at_end = λ i. refl }
 
-  -- ---- whatever the loops read
+  -- ---- whatever the bodies of repetitions consume
   abbrev loosely : ℕ → List (ℕ × ℕ)
   loosely = loose_offers regex.forward_options xs p.forward.nfa regex.is_forward regex.reads_forward looks q.haystack q.start q.end is_read
       utf8 q.anchored
 
-  loose_tells : Tells asks loosely (HasNoneCounted asks) (IsOfFirstPattern asks)
+  loose_tells : ReportsFaultOf asks loosely (HasNoneCounted asks) (IsOfFirstPattern asks)
   loose_tells =
       loosely_told regex.forward_options xs p.forward.nfa regex.is_forward regex.reads_forward looks q.haystack q.start q.end is_read utf8
       q.anchored
@@ -97,11 +97,12 @@ module _ (xs : List Tree) (utf8 : Bool) (t : Terminator) (p : Pair) (regex : IsR
   never_no_pair e = is_a_pair xs utf8 t p regex q asked words set loosely (HasNoneCounted asks)
       (IsOfFirstPattern asks) loose_tells loose_finds e
 
-  pub quit_by_first : (b x : ℕ) → joined p q ≡ Err (Quit b x) → scan (reader p.forward) q ≡ quit b x
+  pub quit_by_first : (b x : ℕ) → joined p q ≡ Err (Quit b x) → half_search (reader p.forward) q ≡ quit b x
   quit_by_first b x e = quits_forward xs utf8 t p regex q asked words set loosely (HasNoneCounted asks)
       (IsOfFirstPattern asks) loose_tells loose_finds b x e
 
-  pub refused_by_first : (mode : Anchored) → joined p q ≡ Err (UnsupportedAnchored mode) → scan (reader p.forward) q ≡ unsupported mode
+  pub refused_by_first : (mode : Anchored) → joined p q ≡ Err (UnsupportedAnchored mode) →
+      half_search (reader p.forward) q ≡ unsupported mode
   refused_by_first mode e = refused_forward xs utf8 t p regex q asked words set loosely (HasNoneCounted asks)
       (IsOfFirstPattern asks) loose_tells loose_finds mode e
 
@@ -113,9 +114,9 @@ module _ (xs : List Tree) (utf8 : Bool) (t : Terminator) (p : Pair) (regex : IsR
       joined_finds xs utf8 t p regex q asked words set loosely (HasNoneCounted asks) (IsOfFirstPattern asks)
       loose_tells loose_finds there.0 there.1
 
-  -- ---- where they read
+  -- ---- if they consume at least one byte
   module _ (loops : All LoopsRead xs) where
-    pub trees_tell : Tells asks (offers asks (fits_query xs utf8 t p regex q asked words set) loops) (HasNoChoice asks)
+    pub trees_tell : ReportsFaultOf asks (offers asks (fits_query xs utf8 t p regex q asked words set) loops) (HasNoChoice asks)
         (IsFirstChoice asks)
     trees_tell = choices_told asks (fits_query xs utf8 t p regex q asked words set) loops
 
@@ -136,7 +137,8 @@ module _ (xs : List Tree) (utf8 : Bool) (t : Terminator) (p : Pair) (regex : IsR
         (answer_from asks q.start) (is_answer asks q.start j.end j.ends) (computed_is_answer (choices_at asks) q.anchored q.start q.end)
 
     -- it has an end exactly where there is an answer
-    pub found_is_answer : (o : Option (ℕ × ℕ)) → scan (reader p.forward) q ≡ found o → is_some_match o ≡ is_some (answer_from asks q.start)
+    pub found_is_answer : (o : Option (ℕ × ℕ)) → half_search (reader p.forward) q ≡ found o →
+        is_some_match o ≡ is_some (answer_from asks q.start)
     found_is_answer o is =
         let ends = scan_has_end xs utf8 t p regex q asked words set (offers asks (fits_query xs utf8 t p regex q asked words set) loops)
         (HasNoChoice asks)
@@ -181,10 +183,11 @@ module _ (xs : List Tree) (utf8 : Bool) (t : Terminator) (p : Pair) (regex : IsR
   pub is_pair : joined p q ≡ Err NotAPair → ⊥
   is_pair e = never_no_pair xs utf8 t p regex q asked is_word_byte byte_words e
 
-  pub quits_by_first : (b x : ℕ) → joined p q ≡ Err (Quit b x) → scan (reader p.forward) q ≡ quit b x
+  pub quits_by_first : (b x : ℕ) → joined p q ≡ Err (Quit b x) → half_search (reader p.forward) q ≡ quit b x
   quits_by_first b x e = quit_by_first xs utf8 t p regex q asked is_word_byte byte_words b x e
 
-  pub refuses_by_first : (mode : Anchored) → joined p q ≡ Err (UnsupportedAnchored mode) → scan (reader p.forward) q ≡ unsupported mode
+  pub refuses_by_first : (mode : Anchored) → joined p q ≡ Err (UnsupportedAnchored mode) →
+      half_search (reader p.forward) q ≡ unsupported mode
   refuses_by_first mode e = refused_by_first xs utf8 t p regex q asked is_word_byte byte_words mode e
 
   pub finds_near : is_supported (reader p.forward).starts_for_each_pattern q.anchored ≡ true →

@@ -1,5 +1,5 @@
--- From what the patterns offer in the bytes up to the end to the choices of which those that count are kept: where loops read,
--- these offers tell the answer of the trees.
+-- From what the patterns offer in the bytes up to the end to the choices of which those that count are kept. If the body of every unbounded
+-- repetition consumes at least one byte, these offers determine the answer of the trees.
 use Rattle.std.proofs.Common.{◌≡◌, ◌≢◌, ℕ, suc, ◌+◌, ◌<◌, ◌≤◌, Bool, true, false, cond, ◌==◌, List, [], ◌∷◌, map, length, take, get_or}
 use Rattle.std.proofs.Common.{slice_get, Option, Some, None, All, nat_le, nat_lt, refl, sym, ap, ◌∙◌, inl, inr, arith, le-leb, eq-eqb}
 use Rattle.std.specs.List.{filter}
@@ -17,7 +17,7 @@ use Rattle.search_types.specs.Places.{counts}
 use Rattle.search_types.specs.LeftmostAnswer.{first_choice}
 use Rattle.hirscan.specs.Choices.{Query, choices, pattern_ends, may_end, choices_at}
 use Rattle.hirscan.specs.LooseAnswers.{MeansSpan}
-use Rattle.hirscan.proofs.EndLemmas.{Fits, IsMet, Tells, listed_has}
+use Rattle.hirscan.proofs.EndLemmas.{Fits, IsMet, ReportsFaultOf, listed_has}
 use Rattle.hirscan.proofs.OfferLemmas.{offered, pattern_offers, mode_offers, AllRead, none_offered, some_offered, one_alone, alone_none}
 use Rattle.hirscan.proofs.OfferLemmas.{alone_some, span_is_choice, silent, offer_ends, paired, end_of, number_of}
 
@@ -43,7 +43,7 @@ true_or : (b : Bool) → (b ≡ true → ⊥) → b ≡ false
 true_or true no_way = absurd (no_way refl)
 true_or false no_way = refl
 
--- a place has no choice, and this is its first one
+-- an offset has no choice, and this is its first one
 abbrev pub HasNoChoice : Query → ℕ → Type 0
 HasNoChoice q i = choices_at q i ≡ []
 
@@ -63,7 +63,7 @@ module _ (q : Query) (fits : Fits q) (loops : All LoopsRead q.patterns) where
   abbrev pub at_place : ℕ → List (ℕ × ℕ)
   at_place i = choices (allowed q.mode (length q.patterns)) (may_end q) 0 (pattern_ends q i)
 
-  -- a place that doesn't count has no choice
+  -- an offset that doesn't count has no choice
   pub uncounted : (i : ℕ) → counted i ≡ false → choices_at q i ≡ []
   uncounted i e = ap (λ b. cond b (at_place i) []) e
 
@@ -120,7 +120,7 @@ module _ (q : Query) (fits : Fits q) (loops : All LoopsRead q.patterns) where
   pub no_offer : (i : ℕ) → i ≤ q.end → offers i ≡ [] → choices_at q i ≡ []
   no_offer i inside none = none_if i (mode_none q.mode i inside none) (counted i)
 
-  -- the first offer is the first choice, where it counts
+  -- the first offer is the first choice, if it counts
   abbrev pub FirstIs : ℕ → ℕ → ℕ → List (ℕ × ℕ) → Type 0
   FirstIs i n j cs = first_choice i cs ≡ Some (record { pattern = n; start = i; end = j })
 
@@ -192,8 +192,8 @@ module _ (q : Query) (fits : Fits q) (loops : All LoopsRead q.patterns) where
       (omega arith) may
       (preferred_ends_complete q.looks q.haystack m.tree i j m.means) (and_from (nat_le j q.end) (counted j) (le-leb j q.end within) c) all
 
-  -- so the offers tell the choices
-  pub choices_told : Tells q offers (HasNoChoice q) (IsFirstChoice q)
+  -- so the offers determine the choices
+  pub choices_told : ReportsFaultOf q offers (HasNoChoice q) (IsFirstChoice q)
   choices_told = record {
     none = no_offer;
     met = λ i j p others inside is. offer_met i p j others inside is;

@@ -1,4 +1,4 @@
--- Where searches over a regex that is built of trees answer: what refuses them, and where nothing but want of memory does.
+-- When searches over a regex that is built of trees answer: which errors they return, and when the only one is that they are out of memory.
 use Rattle.std.proofs.Common.{◌≡◌, ℕ, ◌≤◌, Bool, true, false, List, Option, Some, None, inl, inr, true≢false, refl, sym, ap, ◌∙◌, subst}
 use Rattle.std.proofs.Common.{arith}
 use Rattle.std.specs.Prelude.{Result, Ok, Err}
@@ -12,22 +12,22 @@ use Rattle.search_types.specs.Inputs.{Search}
 use Rattle.search_types.specs.Modes.{is_supported}
 use Rattle.lazy_dfa.specs.ConfigValue.{clears_of, starts_each_of}
 use Rattle.lazy_dfa.specs.Dfas.{Dfa, reader}
-use Rattle.lazy_dfa.specs.Linked.{passes_of}
+use Rattle.lazy_dfa.specs.Linked.{scans_of}
 use Rattle.lazy_dfa.specs.Readers.{is_quit, quit}
-use Rattle.lazy_dfa.specs.ScanLaws.{HasNoQuitNear}
-use Rattle.lazy_dfa.specs.Scans.{scan}
+use Rattle.lazy_dfa.specs.HalfSearchLaws.{HasNoQuitNear}
+use Rattle.lazy_dfa.specs.HalfSearches.{half_search}
 use Rattle.lazy_dfa.proofs.ForCallers.{scan_quits_near, scan_finds_near, never_among}
 use Rattle.regex_pair.specs.declared.find_matches.FindMatches.{FindMatches}
 use Rattle.regex_pair.specs.Finding.{Finding, IsAskedAt, Finds, finds_next, finds_none, fails, is_over, search_at}
 use Rattle.regex_pair.specs.FindSteps.{FindsNext, caches_of, finds_from, searches_by}
 use Rattle.regex_pair.specs.Joined.{back_from, joined}
-use Rattle.regex_pair.specs.Matching.{AnswersMatch, has_match, is_some_match, match_search, match_told}
+use Rattle.regex_pair.specs.Matching.{AnswersMatch, has_match, is_some_match, match_search, match_result}
 use Rattle.regex_pair.specs.PairAnswers.{AnswersPair, HalfGivesUp, PairGivesUp, gives_up_forward, gives_up_back}
 use Rattle.regex_pair.specs.Pairs.{Pair, PairCache}
 use Rattle.regex_pair.specs.Taken.{AreTaken}
 use Rattle.hirscan.specs.declared.settings.Settings.{Settings}
 use Rattle.hirscan.specs.Built.{IsBuilt, FindsFirst, quit_bytes_for}
-use Rattle.hirscan.specs.Headline.{IsQuiet, IsQuitBeside}
+use Rattle.hirscan.specs.Headline.{IsQuiet, IsQuitNextTo}
 use Rattle.hirscan.specs.Regexes.{IsSearchOf}
 use Rattle.regex_pair.proofs.ForCallers.{item_of, asked_behind}
 use Rattle.hirscan.proofs.BuiltLemmas.{forward_is, reverse_is, forward_quits, built_regex}
@@ -58,7 +58,7 @@ same_error e v is = cc
 same_bool_error : (e v : MatchErrorKind) → err_bool e ≡ err_bool v → e ≡ v
 same_bool_error e v is = cc
 
--- a refusal by the automata is told by the joined answer
+-- an error by the automata is that of the joined answer
 abbrev is_by_automata : MatchErrorKind → Bool
 is_by_automata NoMemory = false
 is_by_automata (GaveUp x) = false
@@ -66,12 +66,12 @@ is_by_automata e = true
 
 pub refusal_is_joined : (p : Pair) (c : PairCache) (q : Search) (e : MatchErrorKind) → is_by_automata e ≡ true → AnswersPair p c q (Err e) →
     joined p q ≡ Err e
-refusal_is_joined p c q e by (inl told) = sym told
+refusal_is_joined p c q e by (inl reported) = sym reported
 refusal_is_joined p c q e by (inr (inl lacks)) = absurd (true≢false (sym by ∙ ap is_by_automata (same_error e NoMemory lacks)))
 refusal_is_joined p c q e by (inr (inr gave)) = absurd (true≢false (sym by ∙ ap is_by_automata (same_error e (GaveUp gave.0) gave.1)))
 
 pub told_is_has_match : (p : Pair) (c : PairCache) (q : Search) (b : Bool) → AnswersMatch p c q (Ok b) → has_match p q ≡ Ok b
-told_is_has_match p c q b (inl told) = sym told
+told_is_has_match p c q b (inl reported) = sym reported
 told_is_has_match p c q b (inr (inl lacks)) = absurd (ok_is_no_refusal b NoMemory lacks)
 told_is_has_match p c q b (inr (inr gave)) = absurd (ok_is_no_refusal b (GaveUp gave.0) gave.1)
 
@@ -80,7 +80,7 @@ quiet_at : (quits : List Bool) (o : Option ℕ) → ((b : ℕ) → o ≡ Some b 
 quiet_at quits None none = refl
 quiet_at quits (Some b) none = none b refl
 
--- the search from a place further on reads no more
+-- the search from an offset further on reads no more
 quiet_on : (quits : List Bool) (q : Search) (k : ℕ) → q.start ≤ k → IsQuiet quits q → IsQuiet quits (search_at q k)
 quiet_on quits q k low quiet x b from to is = quiet x b (omega (arith, low, from)) to is
 
@@ -110,7 +110,7 @@ refused_from p at new before after e (fails k v begun asked refused item over) =
 refused_from p at new before after e (is_over over item there same) = absurd (no_end_item e item)
 
 module _ (xs : List Tree) (s : Settings) (p : Pair) (made : IsBuilt xs s p) where
-  -- ---- no clear is refused where no number of clears is set
+  -- ---- no clear fails if no number of clears is set
   forward_clears : clears_of s.dfa ≡ None → clears_of p.forward.options ≡ None
   forward_clears none = ap (λ (d : Dfa). clears_of d.options) (forward_is xs s p made) ∙ none
 
@@ -118,14 +118,14 @@ module _ (xs : List Tree) (s : Settings) (p : Pair) (made : IsBuilt xs s p) wher
   reverse_clears none = ap (λ (d : Dfa). clears_of d.options) (reverse_is xs s p made) ∙ none
 
   never_forward : clears_of s.dfa ≡ None → (c : PairCache) (q : Search) (x : ℕ) → HalfGivesUp p.forward c.forward q x → ⊥
-  never_forward none c q x gave = never_among p.forward c.forward (forward_clears none) q x (passes_of (reader p.forward) q) gave
+  never_forward none c q x gave = never_among p.forward c.forward (forward_clears none) q x (scans_of (reader p.forward) q) gave
 
   pub never_gives_up : clears_of s.dfa ≡ None → (c : PairCache) (q : Search) (x : ℕ) → PairGivesUp p c q x → ⊥
   never_gives_up none c q x (gives_up_forward gave) = never_forward none c q x gave
   never_gives_up none c q x (gives_up_back e goes gave) =
-      never_among p.reverse c.reverse (reverse_clears none) (back_from q e.0) x (passes_of (reader p.reverse) (back_from q e.0)) gave
+      never_among p.reverse c.reverse (reverse_clears none) (back_from q e.0) x (scans_of (reader p.reverse) (back_from q e.0)) gave
 
-  -- ---- where nothing quits
+  -- ---- if nothing quits
   pub quiet_forward : (q : Search) → IsQuiet (quit_bytes_for xs s.dfa) q → HasNoQuitNear (reader p.forward) q.haystack q.start q.end
   quiet_forward q quiet x from to =
       let quits : IsQuiet p.forward.quits q = subst (λ (set : List Bool). IsQuiet set q) (sym (forward_quits xs s p made)) quiet in
@@ -138,10 +138,10 @@ module _ (xs : List Tree) (s : Settings) (p : Pair) (made : IsBuilt xs s p) wher
 
   pub match_is_sure : clears_of s.dfa ≡ None → (q : Search) → is_supported (starts_each_of s.dfa) q.anchored ≡ true →
       IsQuiet (quit_bytes_for xs s.dfa) q → (c : PairCache) (e : MatchErrorKind) → AnswersMatch p c q (Err e) → e ≡ NoMemory
-  match_is_sure none q supported quiet c e (inl told) =
+  match_is_sure none q supported quiet c e (inl reported) =
       let there = scan_finds_near (reader p.forward) (match_search (reader p.forward) q) (supported_forward q supported)
       (quiet_forward q quiet) in
-      absurd (ok_is_no_refusal (is_some_match there.0) e (sym (told ∙ ap match_told there.1)))
+      absurd (ok_is_no_refusal (is_some_match there.0) e (sym (reported ∙ ap match_result there.1)))
   match_is_sure none q supported quiet c e (inr (inl lacks)) = same_bool_error e NoMemory lacks
   match_is_sure none q supported quiet c e (inr (inr gave)) =
       absurd (never_forward none c (match_search (reader p.forward) q) gave.0 gave.2)
@@ -150,10 +150,10 @@ module _ (xs : List Tree) (s : Settings) (p : Pair) (made : IsBuilt xs s p) wher
     pub search_is_sure : clears_of s.dfa ≡ None → (q : Search) → IsSearchOf xs s.utf8 q →
         is_supported (starts_each_of s.dfa) q.anchored ≡ true → IsQuiet (quit_bytes_for xs s.dfa) q →
         (c : PairCache) (e : MatchErrorKind) → AnswersPair p c q (Err e) → e ≡ NoMemory
-    search_is_sure none q asked supported quiet c e (inl told) =
+    search_is_sure none q asked supported quiet c e (inl reported) =
         let there = finds_near xs s.utf8 s.line_terminator p (built_regex xs s p made first) q asked (supported_forward q supported)
         (quiet_forward q quiet) in
-        absurd (found_is_no_refusal there.0 e (sym (told ∙ there.1)))
+        absurd (found_is_no_refusal there.0 e (sym (reported ∙ there.1)))
     search_is_sure none q asked supported quiet c e (inr (inl lacks)) = same_error e NoMemory lacks
     search_is_sure none q asked supported quiet c e (inr (inr gave)) = absurd (never_gives_up none c q gave.0 gave.2)
 
@@ -177,11 +177,11 @@ module _ (xs : List Tree) (s : Settings) (p : Pair) (made : IsBuilt xs s p) wher
         (refused_from p (finds_from old) (finds_from new) (caches_of old) (caches_of new) e
         (subst (λ (r : Pair). Finds r (finds_from old) (finds_from new) (caches_of old) (caches_of new) (Some (Err e))) same step.finds))
 
-    -- ---- refusals by the automata
+    -- ---- errors by the automata
     pub quits_forward : (q : Search) → IsSearchOf xs s.utf8 q → (c : PairCache) (b x : ℕ) → AnswersPair p c q (Err (Quit b x)) →
-        (scan (reader p.forward) q ≡ quit b x) × IsQuitBeside (quit_bytes_for xs s.dfa) q b x
+        (half_search (reader p.forward) q ≡ quit b x) × IsQuitNextTo (quit_bytes_for xs s.dfa) q b x
     quits_forward q asked c b x is =
-        let reads : scan (reader p.forward) q ≡ quit b x =
+        let reads : half_search (reader p.forward) q ≡ quit b x =
         quits_by_first xs s.utf8 s.line_terminator p (built_regex xs s p made first) q asked b x
         (refusal_is_joined p c q (Quit b x) refl is) in
         let near = scan_quits_near (reader p.forward) q b x reads in (

@@ -1,4 +1,4 @@
--- A line without a fault is taken or ends the head, and a line that is taken has no fault and one effect.
+-- A line without a fault is taken or ends the query, and a line that is taken has no fault and one effect.
 use Rattle.std.proofs.Common.{◌≡◌, ◌≢◌, ℕ, ◌-◌, ◌≤◌, Bool, true, false, not, ◌||◌, List, [], ◌∷◌, ◌++◌, length, get_or, map, Option, Some}
 use Rattle.std.proofs.Common.{None, Result, Ok, Err, IfOk, nat_lt, nat_le, refl, sym, ◌∙◌, ap, arith, codes, length-drop}
 use Rattle.std.proofs.lemmas.Bool.{and_parts, or_parts, eqb-true, ltb-false, leb-true, not-false}
@@ -17,7 +17,7 @@ use Rattle.hirscan.specs.declared.line.Setup.{Setup}
 use Rattle.hirscan.specs.Words.{class_ranges, scalar_ranges}
 use Rattle.hirscan.specs.Readers.{spelling, line_word, number, the_number, bound, the_bound, order, the_order, the_switch, the_yes_or_no}
 use Rattle.hirscan.specs.Readers.{the_bytes, the_byte, the_ends, the_hex_ends, the_look_named, word_at}
-use Rattle.hirscan.specs.Takes.{HeadValue, HasNoNode, Sets, Replaces, Takes, EndsHead}
+use Rattle.hirscan.specs.Takes.{QueryValue, HasNoNode, Sets, Replaces, Takes, EndsQuery}
 use Rattle.hirscan.specs.Takes.{utf8_line, line_line, two_bytes_line, capacity_line, quit_line, classes_line, shrink_line, anchored_line}
 use Rattle.hirscan.specs.Takes.{span_line}
 use Rattle.hirscan.specs.Takes.{empty_line, lit_line, bytes_line, chars_line, look_line, rep_line, cat_line, alt_line, pattern_line}
@@ -26,13 +26,13 @@ use Rattle.hirscan.specs.LineFault.{is_at_most}
 use Rattle.hirscan.specs.LineFault.{is_min_above_max, top, below, has_too_few_trees, is_too_deep, has_not_one_tree, has_tree_left_over}
 use Rattle.hirscan.specs.LineFault.{known_fault, setup_after, after_line}
 use Rattle.hirscan.specs.declared.line.Step.{Step}
-use Rattle.hirscan.specs.Tells.{step_after, TellsStep}
+use Rattle.hirscan.specs.QueryReports.{step_after, ReportsStep}
 use Rattle.hirscan.proofs.StageLemmas.{first_none, when_none}
 use Rattle.hirscan.proofs.SaysLemmas.{line_word_spelled, number_says, bound_says, order_says, switch_says, yes_says, hex_bytes_says}
 use Rattle.hirscan.proofs.SaysLemmas.{hex_byte_says, items_say, scalar_items_say, look_says}
 
--- what each kind of fault says where there is none
-pub record NoFault (k : LineWord) (args : List (List ℕ)) (at : HeadValue) : Type 0 where
+-- what each kind of fault says if there is none
+pub record NoFault (k : LineWord) (args : List (List ℕ)) (at : QueryValue) : Type 0 where
   pub settable : is_setting_after_node k at ≡ false
   pub counted : is_word_count k (length args) ≡ true
   pub words_fit : word_fault k args ≡ None
@@ -42,7 +42,7 @@ pub record NoFault (k : LineWord) (args : List (List ℕ)) (at : HeadValue) : Ty
   pub one_tree : has_not_one_tree k at ≡ false
   pub none_left : has_tree_left_over k at ≡ false
 
-pub no_fault_parts : (k : LineWord) (args : List (List ℕ)) (at : HeadValue) → known_fault k args at ≡ None → NoFault k args at
+pub no_fault_parts : (k : LineWord) (args : List (List ℕ)) (at : QueryValue) → known_fault k args at ≡ None → NoFault k args at
 no_fault_parts k args at h =
     let a = first_none (when (is_setting_after_node k at) SettingAfterNode) _ h in
     let b = first_none (when (not (is_word_count k (length args))) WrongWordCount) _ a.1 in
@@ -70,7 +70,7 @@ first_skips a rest e f = rw e f
 when_false : (b : Bool) (k : FaultKind) → b ≡ false → when b k ≡ None
 when_false b k e = rw e refl
 
-pub no_fault_from_parts : (k : LineWord) (args : List (List ℕ)) (at : HeadValue) → NoFault k args at → known_fault k args at ≡ None
+pub no_fault_from_parts : (k : LineWord) (args : List (List ℕ)) (at : QueryValue) → NoFault k args at → known_fault k args at ≡ None
 no_fault_from_parts k args at p =
     first_skips _ _ (when_false _ SettingAfterNode p.settable)
     (first_skips _ _ (when_false _ WrongWordCount (ap not p.counted))
@@ -81,7 +81,7 @@ no_fault_from_parts k args at p =
     (first_skips _ _ (when_false _ NotOneTree p.one_tree)
     (first_skips _ _ (when_false _ TreeLeftOver p.none_left) refl)))))))
 
--- so many words are those at their places
+-- so many words are those at their indices
 no_words : {X : Type 0} (xs : List X) → length xs ≡ 0 → xs ≡ []
 no_words [] h = refl
 no_words (x ∷ xs) h = absurd (omega arith)
@@ -108,7 +108,7 @@ some_words : (xs : List (List ℕ)) → nat_le 1 (length xs) ≡ true → xs ≢
 some_words xs h e = let l = leb-true 1 (length xs) h in let k = ap length e in omega arith
 
 -- the top trees of the stack become one
-replaced_top : (at : HeadValue) (n : ℕ) (parts : List Tree) (new : Tree) → top n at.stack ≡ parts → height new ≤ 250
+replaced_top : (at : QueryValue) (n : ℕ) (parts : List Tree) (new : Tree) → top n at.stack ≡ parts → height new ≤ 250
     → Replaces at (record { setup = at.setup; stack = below n at.stack ++ new ∷ []; patterns = at.patterns }) parts new
 replaced_top at n parts new e h = record {
   below = below n at.stack;
@@ -132,8 +132,8 @@ at_most n (Some m) h = leb-true n m (not-false _ h)
 height_in : (x : Tree) → nat_lt 250 (height x) ≡ false → height x ≤ 250
 height_in x h = ltb-false 250 (height x) h
 
--- a line that sets something and has no fault stands before each node
-no_node : (at : HeadValue) → (nat_lt 0 (length at.stack) || nat_lt 0 (length at.patterns)) ≡ false → HasNoNode at
+-- a line that sets something and has no fault comes before each node
+no_node : (at : QueryValue) → (nat_lt 0 (length at.stack) || nat_lt 0 (length at.patterns)) ≡ false → HasNoNode at
 no_node at h =
     let parts = or_parts _ _ h in
     record {
@@ -141,11 +141,11 @@ no_node at h =
       no_pattern = no_words at.patterns (let l = ltb-false 0 (length at.patterns) parts.1 in omega arith);
     }
 
-set : (at : HeadValue) (new : Setup) → HasNoNode at → Sets at (record { setup = new; stack = at.stack; patterns = at.patterns }) new
+set : (at : QueryValue) (new : Setup) → HasNoNode at → Sets at (record { setup = new; stack = at.stack; patterns = at.patterns }) new
 set at new h = record { no_node = h; setup_is = refl; stack_stays = refl; patterns_stay = refl }
 
 -- the terminator is one byte, or two
-line_after : (args : List (List ℕ)) (at : HeadValue) → NoFault Line args at → Takes (spelling Line ∷ args) at (after_line Line args at)
+line_after : (args : List (List ℕ)) (at : QueryValue) → NoFault Line args at → Takes (spelling Line ∷ args) at (after_line Line args at)
 line_after [] at p = absurd (let c = p.counted in cc)
 line_after (w ∷ []) at p =
     let a = first_none (byte_fault w) [] p.words_fit in
@@ -161,7 +161,7 @@ line_after (u ∷ v ∷ w ∷ ws) at p =
     absurd (omega arith)
 
 -- a line that isn't `find` and has no fault is taken, and does what its words say
-pub takes_after : (k : LineWord) (args : List (List ℕ)) (at : HeadValue) → step_after k ≡ Next → NoFault k args at
+pub takes_after : (k : LineWord) (args : List (List ℕ)) (at : QueryValue) → step_after k ≡ Next → NoFault k args at
     → Takes (spelling k ∷ args) at (after_line k args at)
 takes_after Utf8 args at n p =
     let e = one_alone args [] (eqb-true _ _ p.counted) in
@@ -254,23 +254,23 @@ takes_after Pattern args at n p =
     })
 takes_after Find args at n p = absurd cc
 
--- a line `find` that has no fault ends the head
-pub ends_head : (args : List (List ℕ)) (at : HeadValue) → NoFault Find args at → EndsHead (spelling Find ∷ args) at
+-- a line `find` that has no fault ends the query
+pub ends_head : (args : List (List ℕ)) (at : QueryValue) → NoFault Find args at → EndsQuery (spelling Find ∷ args) at
 ends_head args at p = record {
   says_find = ap (λ a. codes "find" ∷ a) (no_words args (eqb-true _ _ p.counted));
   nothing_left = no_words at.stack (let l = ltb-false 0 (length at.stack) p.none_left in omega arith);
 }
 
-step_told : (k : LineWord) (args : List (List ℕ)) (at : HeadValue) → NoFault k args at
-    → TellsStep (spelling k ∷ args) at (after_line k args at) (step_after k)
+step_told : (k : LineWord) (args : List (List ℕ)) (at : QueryValue) → NoFault k args at
+    → ReportsStep (spelling k ∷ args) at (after_line k args at) (step_after k)
 step_told Find args at p = (ends_head args at p, refl)
 step_told k args at p = takes_after k args at refl p
 
--- what a line that was followed tells
-pub line_done : {E : Type 0} (r : Result Step E) (ws args : List (List ℕ)) (w : List ℕ) (k : LineWord) (at now : HeadValue)
+-- what a line that was followed says
+pub line_done : {E : Type 0} (r : Result Step E) (ws args : List (List ℕ)) (w : List ℕ) (k : LineWord) (at now : QueryValue)
     → ws ≡ w ∷ args → line_word w ≡ Some k
     → IfOk r (λ step. (known_fault k args at ≡ None) × (now ≡ after_line k args at) × (step ≡ step_after k))
-    → IfOk r (λ step. TellsStep ws at now step)
+    → IfOk r (λ step. ReportsStep ws at now step)
 line_done (Ok step) ws args w k at now e f h =
     let spelled : ws ≡ spelling k ∷ args = e ∙ ap (λ v. v ∷ args) (line_word_spelled w k f) in
     rw (spelled, h.1, h.2) (step_told k args at (no_fault_parts k args at h.0))

@@ -1,4 +1,4 @@
--- What runs find is what a walk is to tell of the trees, both ways, however looks are read.
+-- What runs find is what an overlapping search is to report of the trees, both ways, however looks are read.
 use Rattle.std.proofs.Common.{◌≡◌, ℕ, ◌≤◌, Bool, true, false, ◌&&◌, List, length, slice_get, Some, refl, arith}
 use Rattle.search_core.specs.Utf8.{IsValidText}
 use Rattle.hir_core.specs.Tree.{Tree}
@@ -11,30 +11,30 @@ use Rattle.search_types.specs.Places.{counts}
 use Rattle.search_types.proofs.ForCallers.{starts_at}
 use Rattle.nfa_core.specs.Reaches.{read_by}
 use Rattle.nfa_core.specs.Ways.{Text}
-use Rattle.lazy_dfa.specs.Scans.{first_place}
+use Rattle.lazy_dfa.specs.HalfSearches.{first_offset}
 use Rattle.hirscan.specs.Choices.{Query}
 use Rattle.hirscan.specs.LooseAnswers.{IsFindable}
 use Rattle.hirscan.specs.Regexes.{query_of}
-use Rattle.hirscan.specs.TreeWalks.{IsToldOf}
+use Rattle.hirscan.specs.OverlappingTrees.{IsReportedOf}
 use Rattle.hirscan.proofs.TreeWalkLemmas.{IsMet, forward_starts, starts_forward, forward_high, reverse_ends, reverse_near, ends_reverse}
 use Rattle.hirscan.proofs.TreeWalkLemmas.{counted_alike}
 
--- the place that is told counts
-pub told_counts : (b : Bool) (asks : Query) (s : ℕ) (x : ℕ × ℕ) → IsToldOf b asks s x → counts asks.utf8 asks.haystack x.0 ≡ true
-told_counts false asks s x told = told.counted
-told_counts true asks s x told = told.counted
+-- the offset that is reported counts
+pub told_counts : (b : Bool) (asks : Query) (s : ℕ) (x : ℕ × ℕ) → IsReportedOf b asks s x → counts asks.utf8 asks.haystack x.0 ≡ true
+told_counts false asks s x reported = reported.counted
+told_counts true asks s x reported = reported.counted
 
--- a span that may be found is told, and the search isn't done
-pub told_findable : (b : Bool) (asks : Query) (s : ℕ) (x : ℕ × ℕ) → IsToldOf b asks s x → (i : ℕ) × ((j : ℕ) × IsFindable asks i x.1 j)
-told_findable false asks s x told = (told.start, (x.0, told.findable))
-told_findable true asks s x told = (x.0, (told.end, told.findable))
+-- a span that may be found is reported, and the search isn't done
+pub told_findable : (b : Bool) (asks : Query) (s : ℕ) (x : ℕ × ℕ) → IsReportedOf b asks s x → (i : ℕ) × ((j : ℕ) × IsFindable asks i x.1 j)
+told_findable false asks s x reported = (reported.start, (x.0, reported.findable))
+told_findable true asks s x reported = (x.0, (reported.end, reported.findable))
 
-pub told_begun : (b : Bool) (asks : Query) (s : ℕ) (x : ℕ × ℕ) → IsToldOf b asks s x → s ≤ asks.end
-told_begun false asks s x told = (starts_at asks.mode s asks.end told.start told.starts).forward
-told_begun true asks s x told =
-    let f = told.findable in
-    let up = span_forward asks.looks asks.haystack f.span.tree x.0 told.end f.span.means in
-    let above = told.above in let within = f.within in omega (arith, up, above, within)
+pub progress_begun : (b : Bool) (asks : Query) (s : ℕ) (x : ℕ × ℕ) → IsReportedOf b asks s x → s ≤ asks.end
+progress_begun false asks s x reported = (starts_at asks.mode s asks.end reported.start reported.starts).forward
+progress_begun true asks s x reported =
+    let f = reported.findable in
+    let up = span_forward asks.looks asks.haystack f.span.tree x.0 reported.end f.span.means in
+    let above = reported.above in let within = f.within in omega (arith, up, above, within)
 
 -- ---- what runs find
 
@@ -46,9 +46,9 @@ module _ (xs : List Tree) (utf8 : Bool) (looks : Looks) (q : Search) (l : q.star
   text = read_by looks q.haystack q.start q.end
 
   abbrev pub Meets : Bool → ℕ × ℕ → Type 0
-  Meets b x = IsMet xs b text q.anchored (first_place b q.start q.end) x
+  Meets b x = IsMet xs b text q.anchored (first_offset b q.start q.end) x
 
-  pub told_met : (b : Bool) (x : ℕ × ℕ) → counts utf8 q.haystack x.0 ≡ true → Meets b x → IsToldOf b asks q.start x
+  pub told_met : (b : Bool) (x : ℕ × ℕ) → counts utf8 q.haystack x.0 ≡ true → Meets b x → IsReportedOf b asks q.start x
   told_met false x counted m =
       let from = m.1.0 in
       let high : m.0 ≤ q.end = forward_high q.anchored text q.start q.end m.0 refl l from in
@@ -71,25 +71,35 @@ module _ (xs : List Tree) (utf8 : Bool) (looks : Looks) (q : Search) (l : q.star
         counted = counted;
       }
 
-  pub met_told : (b : Bool) (x : ℕ × ℕ) → IsToldOf b asks q.start x → Meets b x
-  met_told false x told =
-      let f = told.findable in
-      let cut = whole_to_cut looks q.haystack q.end f.span.tree told.start x.0 f.within f.span.means in
-      (told.start, (starts_forward q.anchored text q.start q.end told.start refl told.starts, f.may, (f.span.tree, f.span.listed, cut)))
-  met_told true x told =
-      let f = told.findable in
-      let above = told.above in
-      let up = span_forward looks q.haystack f.span.tree x.0 told.end f.span.means in
-      let low : q.start ≤ told.end = omega (arith, up, above) in (
-        told.end,
+  pub met_told : (b : Bool) (x : ℕ × ℕ) → IsReportedOf b asks q.start x → Meets b x
+  met_told false x reported =
+      let f = reported.findable in
+      let cut = whole_to_cut looks q.haystack q.end f.span.tree reported.start x.0 f.within f.span.means in (
+        reported.start,
         (
-          ends_reverse q.anchored text q.start q.end told.end refl low f.within told.ends,
+          starts_forward q.anchored text q.start q.end reported.start refl reported.starts,
+          f.may,
+          (
+            f.span.tree,
+            f.span.listed,
+            cut,
+          ),
+        ),
+      )
+  met_told true x reported =
+      let f = reported.findable in
+      let above = reported.above in
+      let up = span_forward looks q.haystack f.span.tree x.0 reported.end f.span.means in
+      let low : q.start ≤ reported.end = omega (arith, up, above) in (
+        reported.end,
+        (
+          ends_reverse q.anchored text q.start q.end reported.end refl low f.within reported.ends,
           f.may,
           (f.span.tree, f.span.listed, (f.span.means, omega (arith, above))),
         ),
       )
 
-  -- the automaton counts the place as the mode does, where it has an empty match if a tree has one
+  -- the automaton counts the offset as the mode does, if it has an empty match whenever a tree has one
   pub counted_met : (v : Bool) → (utf8 ≡ true → IsValidText q.haystack) →
       ((p : ℕ) (y : Tree) → slice_get xs p ≡ Some y → utf8 ≡ true → is_utf8_tree y ≡ true) →
       ((p i j : ℕ) (y : Tree) → slice_get xs p ≡ Some y → i ≡ j → Means looks q.haystack y i j → v ≡ true) →
@@ -109,7 +119,7 @@ module _ (xs : List Tree) (utf8 : Bool) (looks : Looks) (q : Search) (l : q.star
 
 -- ---- where looks are read alike
 
--- the part of a search's span that is read up to the place, for one who reads forward or in reverse
+-- the part of a search's span that is read up to the offset, for one who reads forward or in reverse
 abbrev pub read_low : Bool → ℕ → ℕ → ℕ
 read_low false s j = s
 read_low true s j = j
@@ -122,9 +132,9 @@ module _ (xs : List Tree) (utf8 : Bool) (q : Search) (within : q.end ≤ length 
   abbrev pub AgreeUpTo : Bool → ℕ → Type 0
   AgreeUpTo b j = (k : ℕ) (x : Tree) → slice_get xs k ≡ Some x → AgreeFrom f g (read_low b q.start j) (read_high b q.end j) x
 
-  -- what is told of a place depends on the looks up to there
-  pub told_alike : (b : Bool) (x : ℕ × ℕ) → AgreeUpTo b x.0 → IsToldOf b (query_of xs utf8 f q) q.start x →
-      IsToldOf b (query_of xs utf8 g q) q.start x
+  -- what is reported of an offset depends on the looks up to there
+  pub told_alike : (b : Bool) (x : ℕ × ℕ) → AgreeUpTo b x.0 → IsReportedOf b (query_of xs utf8 f q) q.start x →
+      IsReportedOf b (query_of xs utf8 g q) q.start x
   told_alike false x agree c =
       let s = c.findable.span in let last = c.findable.within in
       let up = span_forward f q.haystack s.tree c.start x.0 s.means in

@@ -1,5 +1,5 @@
--- The ends of the runs of an automaton that is compiled from trees are the spans that the trees mean, for one who reads forward or
--- down, in each mode.
+-- The ends of the runs of an automaton that is compiled from trees are the spans that the trees mean, for one who reads forward or in
+-- reverse, in each mode.
 use Rattle.std.proofs.Common.{◌≡◌, ◌↔◌, ℕ, ◌<◌, ◌≤◌, Bool, true, false, ◌&&◌, List, length, get_or, slice_get, Some, refl, sym, ap, ◌∙◌}
 use Rattle.std.proofs.Common.{subst, inl, inr, arith, nat_lt, ◌==◌, eq-eqb}
 use Rattle.std.proofs.lemmas.Bool.{cases_lt, lt-ltb, and_from}
@@ -19,13 +19,13 @@ use Rattle.nfa_core.specs.Nfa.{Automaton}
 use Rattle.nfa_core.specs.Places.{same_pair}
 use Rattle.nfa_core.specs.Walks.{Has}
 use Rattle.nfa_core.specs.Reaches.{read_by}
-use Rattle.nfa_core.specs.Ways.{Text, place_of, ends_from}
+use Rattle.nfa_core.specs.Ways.{Text, offset_of, ends_from}
 use Rattle.thompson_nfa.specs.Compilations.{IsChoice, IsPlainText, IsReadTo, FindsSpans, pattern_start}
 use Rattle.thompson_nfa.specs.Denotes.{IsMeant}
 use Rattle.lazy_dfa.specs.Dfas.{Dfa}
-use Rattle.lazy_dfa.specs.Passes.{start_name}
-use Rattle.lazy_dfa.specs.Scans.{first_place}
-use Rattle.hirscan.specs.TreeWalks.{IsWalkerOf}
+use Rattle.lazy_dfa.specs.Scans.{start_name}
+use Rattle.lazy_dfa.specs.HalfSearches.{first_offset}
+use Rattle.hirscan.specs.OverlappingTrees.{IsOverlappingDfa}
 use Rattle.hirscan.proofs.FirstEndLemmas.{start_has_tree}
 use Rattle.hirscan.proofs.LooseEndLemmas.{allowed_named}
 
@@ -34,13 +34,13 @@ use Rattle.hirscan.proofs.LooseEndLemmas.{allowed_named}
 named_allowed : (p n k : ℕ) → k < n → k ≡ p → allowed (Pattern p) n k ≡ true
 named_allowed p n k inside same = and_from (nat_lt k n) (k == p) (lt-ltb k n inside) (eq-eqb k p same)
 
--- in a search that reads from place i a span may begin to be read at place k
+-- in a search that reads from offset i a span may begin to be read at offset k
 abbrev IsFrom : Bool → Anchored → Text → ℕ → ℕ → Type 0
 IsFrom b No text i k = IsReadTo b text i k
 IsFrom b Yes text i k = k ≡ i
 IsFrom b (Pattern p) text i k = k ≡ i
 
--- the pattern is one that the mode allows, and its tree one that leads to the place from one where a span may begin
+-- the pattern is one that the mode allows, and its tree one that leads to the offset from one where a span may begin
 abbrev pub IsMet : List Tree → Bool → Text → Anchored → ℕ → ℕ × ℕ → Type 0
 IsMet xs b text mode i x = (k : ℕ) × (IsFrom b mode text i k × (allowed mode (length xs) x.1 ≡ true) × IsChoice b xs text k x)
 
@@ -83,12 +83,12 @@ ends_reverse (Pattern p) text s e k at low high tied = tied refl
 
 -- ---- where a search begins
 
-from_zero : (c : Bool) (s e : ℕ) → place_of c (first_place c s e) 0 ≡ first_place c s e
+from_zero : (c : Bool) (s e : ℕ) → offset_of c (first_offset c s e) 0 ≡ first_offset c s e
 from_zero false s e = omega arith
 from_zero true s e = omega arith
 
-pub begins_zero : (c b : Bool) (s e : ℕ) → c ≡ b → place_of c (first_place c s e) 0 ≡ first_place b s e
-begins_zero c b s e same = from_zero c s e ∙ ap (λ k. first_place k s e) same
+pub begins_zero : (c b : Bool) (s e : ℕ) → c ≡ b → offset_of c (first_offset c s e) 0 ≡ first_offset b s e
+begins_zero c b s e same = from_zero c s e ∙ ap (λ k. first_offset k s e) same
 
 -- ---- where spans count
 
@@ -111,7 +111,7 @@ counted_alike true false looks h x i j means within valid tree some = elim (case
 
 -- ---- what runs find
 
-module _ (xs : List Tree) (b utf8 : Bool) (t : Terminator) (d : Dfa) (w : IsWalkerOf xs b utf8 t d) where
+module _ (xs : List Tree) (b utf8 : Bool) (t : Terminator) (d : Dfa) (w : IsOverlappingDfa xs b utf8 t d) where
   abbrev a : Automaton
   a = d.nfa.automaton
 

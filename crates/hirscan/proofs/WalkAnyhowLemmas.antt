@@ -1,5 +1,5 @@
--- The ends of runs are the same where looks are read otherwise, if they are read alike wherever a walk over all of them has
--- states left: the lists of states that the walk comes to are those of both.
+-- The ends of runs are the same with other readings of looks, if the readings agree wherever an overlapping search over all of them has
+-- states left. The lists of states that this search comes to are those of both.
 use Rattle.std.proofs.Common.{◌≡◌, ◌⊎◌, ◌↔◌, ℕ, zero, suc, ◌<◌, ◌≤◌, Bool, true, false, not, List, [], ◌∷◌, length, refl, sym, ap}
 use Rattle.std.proofs.Common.{◌∙◌, ⊎_elim, subst, arith}
 use Rattle.std.proofs.lemmas.Bool.{cases_Bool}
@@ -18,13 +18,14 @@ use Rattle.nfa_core.specs.NfaValue.{is_capture, looks_of}
 use Rattle.nfa_core.specs.Places.{same_pair}
 use Rattle.nfa_core.specs.Reaches.{read_by}
 use Rattle.nfa_core.specs.Walks.{Has, Visits}
-use Rattle.nfa_core.specs.Ways.{Text, span, reads, is_passed, on_read, on_nothing, plain_steps, byte_steps, place_of, bytes_left, AreLists}
+use Rattle.nfa_core.specs.Ways.{Text, span, reads, is_satisfied, on_read, on_nothing, plain_steps, byte_steps, offset_of, bytes_left}
+use Rattle.nfa_core.specs.Ways.{AreLists}
 use Rattle.nfa_core.specs.Ways.{ends_from}
 use Rattle.nfa_core.proofs.ForCallers.{none_in, has_filter, names_equal, pairs_equal, stays_closed, list_matches, ends_inside, looks_any}
 use Rattle.nfa_core.proofs.ForCallers.{nothing_same}
 use Rattle.determinize_core.specs.States.{StateValue}
-use Rattle.determinize_core.specs.Steps.{is_kept, kept_among, walk_value, unit_at}
-use Rattle.determinize_core.specs.Walked.{walked_lists}
+use Rattle.determinize_core.specs.Steps.{is_kept, kept_among, value_after, unit_at}
+use Rattle.determinize_core.specs.Walked.{lists_along}
 use Rattle.determinize_core.proofs.ForCallers.{lists_are_lists, states_are}
 use Rattle.hirscan.proofs.WalkReadLemmas.{none_before}
 
@@ -68,17 +69,18 @@ module _ (a : Automaton) (t : Terminator) (h : List ℕ) (s e i q : ℕ) (formed
   other = read_by looks h s e
 
   abbrev place : ℕ → ℕ
-  place k = place_of a.reverse i k
+  place k = offset_of a.reverse i k
 
   abbrev list : ℕ → List ℕ
-  list k = walked_lists AllMatches a text i q k
+  list k = lists_along AllMatches a text i q k
 
   abbrev state : ℕ → StateValue
-  state k = walk_value a t AllMatches h i q k
+  state k = value_after a t AllMatches h i q k
 
-  -- at the place behind k bytes the looks of the automaton are read alike
+  -- at the offset after k bytes the looks of the automaton are read alike
   abbrev pub AreAlikeAt : ℕ → Type 0
-  AreAlikeAt k = (l : Look) → has_look (looks_of a.states) l ≡ true → is_passed a.reverse text l (place k) ≡ is_passed a.reverse other l
+  AreAlikeAt k = (l : Look) → has_look (looks_of a.states) l ≡ true → is_satisfied a.reverse text l (place k) ≡
+      is_satisfied a.reverse other l
       (place k)
 
   lists : AreLists a text (i, q) (λ k xs. xs) list
@@ -93,15 +95,15 @@ module _ (a : Automaton) (t : Terminator) (h : List ℕ) (s e i q : ℕ) (formed
   bytes_same k x = ap (on_read (node_at a x)) (reads_same a.reverse (holds_ascii t h) looks h s e (place k))
 
   module _ (alike : (k : ℕ) → k ≤ bytes_left a.reverse (span t h s e) i → AreAlikeAt k ⊎
-      ((walk_value a t AllMatches h i q k).ids ≡ [])) where
+      ((value_after a t AllMatches h i q k).ids ≡ [])) where
     steps_same : (k : ℕ) → k ≤ bytes_left a.reverse text i → (x : ℕ) → Has nat_eq x (list k) →
         plain_steps a text (place k) x ≡ plain_steps a other (place k) x
     steps_same k l x there = ⊎_elim
         (λ (agree : AreAlikeAt k).
-        nothing_same (node_at a x) (λ m. is_passed a.reverse text m (place k)) (λ m. is_passed a.reverse other m (place k))
+        nothing_same (node_at a x) (λ m. is_satisfied a.reverse text m (place k)) (λ m. is_satisfied a.reverse other m (place k))
         (λ m next is. agree m ((looks_any m a).1 (x, next, is))))
         (λ (none : (state k).ids ≡ []).
-        capture_same (node_at a x) (λ m. is_passed a.reverse text m (place k)) (λ m. is_passed a.reverse other m (place k))
+        capture_same (node_at a x) (λ m. is_satisfied a.reverse text m (place k)) (λ m. is_satisfied a.reverse other m (place k))
         (none_kept a x (list k) (none_there k l none) there))
         (alike k l)
 
@@ -135,7 +137,7 @@ module _ (a : Automaton) (t : Terminator) (h : List ℕ) (s e i q : ℕ) (formed
         sym (list_matches a text i formed below q low list lists k l)
         ∙ list_matches a other i formed below q low list other_lists k (omega (arith, l, same_left))
 
-    -- the same ends at one place
+    -- the same ends at one offset
     has_there : (x : ℕ × ℕ) (k : ℕ) → x.0 ≡ place k → (l m : List (ℕ × ℕ)) →
         filter (λ x. nat_eq x.0 (place k)) l ≡ filter (λ x. nat_eq x.0 (place k)) m → Has same_pair x l → Has same_pair x m
     has_there x k at l m same there =

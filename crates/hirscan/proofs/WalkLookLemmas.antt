@@ -1,5 +1,5 @@
--- The ends of the runs that a walk over trees finds are those with any set of words, where it comes to no refusal: wherever it has
--- states left the bytes beside the place are no quit bytes, so they are ASCII if a look asks for words by characters.
+-- The ends of the runs that an overlapping search over trees finds are those with any set of words, if it comes to no error. Wherever it
+-- has states left, the bytes next to the offset are no quit bytes. So they are ASCII if a look asks for words by characters.
 use Rattle.std.proofs.Common.{◌≡◌, ◌⊎◌, ◌↔◌, ℕ, zero, suc, ◌-◌, ◌<◌, ◌≤◌, Bool, true, false, List, [], Option, Some, None, All, refl, sym}
 use Rattle.std.proofs.Common.{ap, ◌∙◌, subst, inl, inr, ⊎_elim}
 use Rattle.std.specs.Prelude.{IfSome}
@@ -22,16 +22,16 @@ use Rattle.nfa_core.specs.NfaValue.{looks_of}
 use Rattle.nfa_core.specs.Places.{same_pair}
 use Rattle.nfa_core.specs.Reaches.{read_by}
 use Rattle.nfa_core.specs.Walks.{Has}
-use Rattle.nfa_core.specs.Ways.{span, is_passed, bytes_left, place_of, ends_from}
-use Rattle.determinize_core.specs.Steps.{walk_value, unit_at, unit_behind}
+use Rattle.nfa_core.specs.Ways.{span, is_satisfied, bytes_left, offset_of, ends_from}
+use Rattle.determinize_core.specs.Steps.{value_after, unit_at, unit_before}
 use Rattle.lazy_dfa.specs.ConfigValue.{by_hand, word_boundary_of}
 use Rattle.lazy_dfa.specs.Dfas.{Dfa, IsDfa, reader}
 use Rattle.lazy_dfa.specs.Quits.{has_unicode_word}
 use Rattle.lazy_dfa.specs.Readers.{is_quit}
-use Rattle.lazy_dfa.specs.Scans.{first_place}
-use Rattle.lazy_dfa.specs.ScanLaws.{begins_at}
-use Rattle.lazy_dfa.specs.Walks.{whole_rest}
-use Rattle.lazy_dfa.specs.WalkLaws.{IsBegun}
+use Rattle.lazy_dfa.specs.HalfSearches.{first_offset}
+use Rattle.lazy_dfa.specs.HalfSearchLaws.{begins_at}
+use Rattle.lazy_dfa.specs.Overlapping.{whole_rest}
+use Rattle.lazy_dfa.specs.OverlappingLaws.{IsBegun}
 use Rattle.lazy_dfa.proofs.ForCallers.{supported_quits, first_low}
 use Rattle.hirscan.proofs.BuiltPairLemmas.{turned_words}
 use Rattle.hirscan.proofs.WalkReadLemmas.{IsQuietBeside, walk_quiet_or_none}
@@ -40,13 +40,13 @@ use Rattle.determinize_core.proofs.ForCallers.{has_family}
 
 -- ---- looks and units, for one who reads forward or in reverse
 
--- the bytes before and behind a place
+-- the bytes before and after an offset
 pub beside : (b : Bool) (quits : List Bool) (h : List ℕ) (j : ℕ) → is_quit quits (unit_at b h j) ≡ false →
-    is_quit quits (unit_behind b h j) ≡ false → (is_quit quits (byte_before h j) ≡ false) × (is_quit quits (byte_at h j) ≡ false)
+    is_quit quits (unit_before b h j) ≡ false → (is_quit quits (byte_before h j) ≡ false) × (is_quit quits (byte_at h j) ≡ false)
 beside false quits h j at behind = (behind, at)
 beside true quits h j at behind = (at, behind)
 
-left_few : (b : Bool) (t : Terminator) (h : List ℕ) (s e k : ℕ) → k ≤ bytes_left b (span t h s e) (first_place b s e) → k ≤ e - s
+left_few : (b : Bool) (t : Terminator) (h : List ℕ) (s e k : ℕ) → k ≤ bytes_left b (span t h s e) (first_offset b s e) → k ≤ e - s
 left_few false t h s e k l = l
 left_few true t h s e k l = l
 
@@ -76,7 +76,7 @@ module _ (d : Dfa) (dfa : IsDfa d) (h : List ℕ) (bytes : All (λ byte. byte < 
   before_low some (suc j) quiet = quiet_low some j (byte_at h j) refl quiet
 
   module _ (t : Terminator) (words : ℕ → Bool) (set : IsWordSet words) where
-    -- beside bytes that are no quit bytes a look is read alike, where it is one that makes bytes above 7F quit bytes
+    -- next to bytes that are no quit bytes a look is read alike, if it is one that makes bytes above 7F quit bytes
     pub read_alike : (j : ℕ) → is_quit d.quits (byte_before h j) ≡ false → is_quit d.quits (byte_at h j) ≡ false → (l : Look) →
         (is_word_unicode l ≡ true → has_unicode_word d.nfa.automaton ≡ true) → holds_ascii t h l j ≡ holds words t h l j
     read_alike j before after l some = ⊎_elim
@@ -89,17 +89,17 @@ module _ (d : Dfa) (dfa : IsDfa d) (h : List ℕ) (bytes : All (λ byte. byte < 
         has_unicode_word d.nfa.automaton ≡ true
     asks_for_words l there unicode = has_family is_word_unicode (looks_of d.nfa.automaton.states) l there unicode
 
-    passed_alike : (b : Bool) (s e j : ℕ) → is_quit d.quits (unit_at b h j) ≡ false → is_quit d.quits (unit_behind b h j) ≡ false →
+    passed_alike : (b : Bool) (s e j : ℕ) → is_quit d.quits (unit_at b h j) ≡ false → is_quit d.quits (unit_before b h j) ≡ false →
         (l : Look) → has_look (looks_of d.nfa.automaton.states) l ≡ true →
-        is_passed b (span t h s e) l j ≡ is_passed b (read_by (holds words t h) h s e) l j
+        is_satisfied b (span t h s e) l j ≡ is_satisfied b (read_by (holds words t h) h s e) l j
     passed_alike false s e j at behind l there = read_alike j behind at l (asks_for_words l there)
     passed_alike true s e j at behind l there =
         read_alike j at behind (reversed l) (λ u. asks_for_words l there (sym (turned_words l) ∙ u))
 
--- ---- what a walk reads
+-- ---- what an overlapping search reads
 
 module _ (d : Dfa) (dfa : IsDfa d) (all : (reader d).kind ≡ AllMatches) (q : Search) (bytes : All (λ byte. byte < 256) q.haystack)
-    (name : ℕ) (begun : IsBegun (reader d) q name) (none : (whole_rest (reader d) q).refusal ≡ None)
+    (name : ℕ) (begun : IsBegun (reader d) q name) (none : (whole_rest (reader d) q).rejection ≡ None)
     (words : ℕ → Bool) (set : IsWordSet words) where
   abbrev a : Automaton
   a = d.nfa.automaton
@@ -118,14 +118,14 @@ module _ (d : Dfa) (dfa : IsDfa d) (all : (reader d).kind ≡ AllMatches) (q : S
 
   quiet_alike : (k : ℕ) → IsQuietBeside (reader d) q.haystack begin name k → Alike k
   quiet_alike k quiet l there =
-      passed_alike d dfa q.haystack bytes t words set a.reverse q.start q.end (place_of a.reverse begin k) quiet.0 quiet.1 l there
+      passed_alike d dfa q.haystack bytes t words set a.reverse q.start q.end (offset_of a.reverse begin k) quiet.0 quiet.1 l there
 
   alike_or_none : (k : ℕ) → k ≤ bytes_left a.reverse (span t q.haystack q.start q.end) begin →
-      Alike k ⊎ ((walk_value a t AllMatches q.haystack begin name k).ids ≡ [])
+      Alike k ⊎ ((value_after a t AllMatches q.haystack begin name k).ids ≡ [])
   alike_or_none k l = ⊎_elim
       (λ (quiet : IsQuietBeside (reader d) q.haystack begin name k). inl (quiet_alike k quiet))
-      (λ (over : (walk_value a t (reader d).kind q.haystack begin name k).ids ≡ []).
-      inr (subst (λ (kind : MatchKind). (walk_value a t kind q.haystack begin name k).ids ≡ []) all over))
+      (λ (over : (value_after a t (reader d).kind q.haystack begin name k).ids ≡ []).
+      inr (subst (λ (kind : MatchKind). (value_after a t kind q.haystack begin name k).ids ≡ []) all over))
       (walk_quiet_or_none (reader d) q name begun none k (left_few a.reverse t q.haystack q.start q.end k l))
 
   pub runs_with_words : (x : ℕ × ℕ) → Has same_pair x (ends_from a (span t q.haystack q.start q.end) (begin, name)) ↔

@@ -1,5 +1,5 @@
--- Each end that a walk tells lies at a place up to which it read no quit byte, refused behind that or not. So it is meant with
--- any set of words, where it is by the bytes of ASCII.
+-- Each end that an overlapping search reports lies at an offset up to which it read no quit byte, whether an error comes after it or not.
+-- So it is meant with any set of words, if it is meant by ASCII bytes.
 use Rattle.std.proofs.Common.{◌≡◌, ℕ, zero, suc, ◌+◌, ◌-◌, ◌<◌, ◌≤◌, Bool, true, false, List, [], map, length, slice_get, Option, Some}
 use Rattle.std.proofs.Common.{None, All, refl, sym, ap, ◌∙◌, inl, inr, ⊎_elim, subst, arith, if◌then◌else◌}
 use Rattle.std.proofs.lemmas.Bool.{cases_Bool, cases_lt}
@@ -19,22 +19,23 @@ use Rattle.search_types.specs.Modes.{is_supported}
 use Rattle.search_types.specs.Places.{counts}
 use Rattle.nfa_core.specs.Places.{same_pair}
 use Rattle.nfa_core.specs.Walks.{Has}
-use Rattle.nfa_core.specs.Ways.{place_of}
+use Rattle.nfa_core.specs.Ways.{offset_of}
 use Rattle.nfa_core.proofs.ForCallers.{none_in, of_append, pairs_equal}
 use Rattle.thompson_nfa.specs.Compiled.{turned}
 use Rattle.thompson_nfa.specs.Configs.{reverse_of}
 use Rattle.thompson_nfa.proofs.ForCallers.{looks_are_used}
 use Rattle.determinize_core.specs.States.{StateValue}
-use Rattle.determinize_core.specs.Steps.{walk_value, unit_at, unit_behind}
+use Rattle.determinize_core.specs.Steps.{value_after, unit_at, unit_before}
 use Rattle.lazy_dfa.specs.Dfas.{Dfa, reader}
-use Rattle.lazy_dfa.specs.Passes.{is_dead, index_at, index_behind, next_value, first_value}
+use Rattle.lazy_dfa.specs.Scans.{is_dead, index_at, index_before_offset, next_value, first_value}
 use Rattle.lazy_dfa.specs.Quits.{has_unicode_word}
 use Rattle.lazy_dfa.specs.Readers.{Reader, is_quit}
-use Rattle.lazy_dfa.specs.Scans.{first_place}
-use Rattle.lazy_dfa.specs.ScanLaws.{begins_at}
-use Rattle.lazy_dfa.specs.Walks.{Rest, nothing_left, refused, onto, unless_quit_at, where_supported, end_of, listed, rest_from, whole_rest}
-use Rattle.lazy_dfa.specs.WalkLaws.{IsBegun}
-use Rattle.hirscan.specs.TreeWalks.{IsWalkerOf}
+use Rattle.lazy_dfa.specs.HalfSearches.{first_offset}
+use Rattle.lazy_dfa.specs.HalfSearchLaws.{begins_at}
+use Rattle.lazy_dfa.specs.Overlapping.{Rest, nothing_left, refused, onto, unless_quit_at, where_supported, end_of, listed, rest_from}
+use Rattle.lazy_dfa.specs.Overlapping.{whole_rest}
+use Rattle.lazy_dfa.specs.OverlappingLaws.{IsBegun}
+use Rattle.hirscan.specs.OverlappingTrees.{IsOverlappingDfa}
 use Rattle.hirscan.proofs.TreeToldLemmas.{read_low, read_high, AgreeUpTo}
 use Rattle.hirscan.proofs.WalkLookLemmas.{beside, read_alike, asks_for_words}
 use Rattle.hirscan.proofs.WalkReadLemmas.{IsQuiet, more, turn_is, more_is, unit_behind_next, reverse_inside, IsQuietBeside, whole_is}
@@ -68,16 +69,16 @@ listed_at : (c : Bool) (i : ℕ) (ms : List ℕ) (x : ℕ × ℕ) → Has same_p
 listed_at true i ms x there = mapped_there i ms x there
 listed_at false i ms x there = none_in same_pair x _ there
 
--- ---- a walk from a place
+-- ---- an overlapping search from an offset
 
 module _ (r : Reader) (h : List ℕ) (i q : ℕ) where
   abbrev place : ℕ → ℕ
-  place k = place_of r.automaton.reverse i k
+  place k = offset_of r.automaton.reverse i k
 
   abbrev state : ℕ → StateValue
-  state k = walk_value r.automaton r.terminator r.kind h i q k
+  state k = value_after r.automaton r.terminator r.kind h i q k
 
-  -- an end lies behind so many units, of which none is a quit byte, nor is the one at its place
+  -- an end lies after so many units, of which none is a quit byte, nor is the one at its offset
   abbrev IsToldPast : ℕ → ℕ → ℕ × ℕ → Type 0
   IsToldPast n k x = (m : ℕ) × ((k ≤ m) × (m < k + n) × (x.0 ≡ place m) × ((j : ℕ) → k ≤ j → j ≤ m → IsQuiet r h i q j))
 
@@ -118,11 +119,11 @@ module _ (r : Reader) (h : List ℕ) (i q : ℕ) where
       ))
       x read.1
 
--- ---- whole walks
+-- ---- whole overlapping searches
 
--- the places up to one that is read are places behind bytes that are read before
-place_before : (b : Bool) (s e m i j : ℕ) → j ≡ place_of b (first_place b s e) m → read_low b s j ≤ i → i ≤ read_high b e j →
-    (k : ℕ) × ((k ≤ m) × (i ≡ place_of b (first_place b s e) k))
+-- the offsets up to one that is read are offsets after bytes that are read before
+place_before : (b : Bool) (s e m i j : ℕ) → j ≡ offset_of b (first_offset b s e) m → read_low b s j ≤ i → i ≤ read_high b e j →
+    (k : ℕ) × ((k ≤ m) × (i ≡ offset_of b (first_offset b s e) k))
 place_before false s e m i j at low high = (i - s, (omega (arith, at, low, high), omega (arith, low)))
 place_before true s e m i j at low high = (e - i, (omega (arith, at, low, high), omega (arith, high)))
 
@@ -130,13 +131,13 @@ module _ (r : Reader) (q : Search) (name : ℕ) (begun : IsBegun r q name) where
   abbrev begin : ℕ
   begin = begins_at r q
 
-  -- beside the places of the walk up to its place are no quit bytes
+  -- no quit bytes are next to the offsets of the overlapping search up to the offset of this end
   abbrev IsToldQuietly : ℕ × ℕ → Type 0
-  IsToldQuietly x = (m : ℕ) × ((x.0 ≡ place_of r.automaton.reverse begin m) × ((k : ℕ) → k ≤ m → IsQuietBeside r q.haystack begin name k))
+  IsToldQuietly x = (m : ℕ) × ((x.0 ≡ offset_of r.automaton.reverse begin m) × ((k : ℕ) → k ≤ m → IsQuietBeside r q.haystack begin name k))
 
-  module _ (m : ℕ) (few : m < suc (q.end - q.start)) (behind : is_quit r.quits (unit_behind r.automaton.reverse q.haystack begin) ≡ false)
+  module _ (m : ℕ) (few : m < suc (q.end - q.start)) (behind : is_quit r.quits (unit_before r.automaton.reverse q.haystack begin) ≡ false)
       (quiet : (j : ℕ) → 0 ≤ j → j ≤ m → IsQuiet r q.haystack begin name j) where
-    back_quiet : (k : ℕ) → k ≤ m → is_quit r.quits (unit_behind r.automaton.reverse q.haystack (place_of r.automaton.reverse begin k)) ≡
+    back_quiet : (k : ℕ) → k ≤ m → is_quit r.quits (unit_before r.automaton.reverse q.haystack (offset_of r.automaton.reverse begin k)) ≡
         false
     back_quiet zero l = behind_there r q name begun behind
     back_quiet (suc k) l =
@@ -151,7 +152,8 @@ module _ (r : Reader) (q : Search) (name : ℕ) (begun : IsBegun r q name) where
   told_quietly x there =
       let mode : Rest = where_supported (is_supported r.starts_for_each_pattern q.anchored) q.anchored
       (rest_from r q.haystack (suc (q.end - q.start)) begin (first_value r q.anchored q.haystack begin)) in
-      let read = unit_tells r.quits (unit_behind r.automaton.reverse q.haystack begin) (index_behind r.automaton.reverse begin) mode x
+      let read = unit_tells r.quits (unit_before r.automaton.reverse q.haystack begin) (index_before_offset r.automaton.reverse begin) mode
+      x
       (subst (λ (z : Rest). Has same_pair x z.ends) (whole_is r q name begun) there) in
       let t = told_past r q.haystack begin name (suc (q.end - q.start)) 0 x
       (subst (λ (z : Rest). Has same_pair x z.ends) (start_is r q name begun)
@@ -161,7 +163,7 @@ module _ (r : Reader) (q : Search) (name : ℕ) (begun : IsBegun r q name) where
 
 -- ---- looks of trees
 
-module _ (xs : List Tree) (b utf8 : Bool) (t : Terminator) (d : Dfa) (w : IsWalkerOf xs b utf8 t d) (q : Search)
+module _ (xs : List Tree) (b utf8 : Bool) (t : Terminator) (d : Dfa) (w : IsOverlappingDfa xs b utf8 t d) (q : Search)
     (bytes : All (λ byte. byte < 256) q.haystack) (within : q.end ≤ length q.haystack) (name : ℕ) (begun : IsBegun (reader d) q name)
     (words : ℕ → Bool) (set : IsWordSet words) where
   tree_asks : (k : ℕ) (y : Tree) (l : Look) → slice_get xs k ≡ Some y → has_look (looks_used y) l ≡ true → is_word_unicode l ≡ true →
@@ -172,13 +174,13 @@ module _ (xs : List Tree) (b utf8 : Bool) (t : Terminator) (d : Dfa) (w : IsWalk
       (k, y, listed, ap (has_look (looks_used y)) (turned_twice (reverse_of w.options) l) ∙ used))
       (words_either_way (reverse_of w.options) l ∙ unicode)
 
-  -- up to the place of an end that is told the looks of trees are read alike
+  -- up to the offset of an end that is reported the looks of trees are read alike
   agree_up_to : (x : ℕ × ℕ) → IsToldQuietly (reader d) q name begun x →
       AgreeUpTo xs utf8 q within (holds_ascii t q.haystack) (holds words t q.haystack) d.nfa.automaton.reverse x.0
-  agree_up_to x told k y listed l used i low high =
-      let at = place_before d.nfa.automaton.reverse q.start q.end told.0 i x.0 told.1.0 low high in
-      let quiet = told.1.1 at.0 at.1.0 in
-      let sides = beside d.nfa.automaton.reverse d.quits q.haystack (place_of d.nfa.automaton.reverse (begins_at (reader d) q) at.0)
+  agree_up_to x reported k y listed l used i low high =
+      let at = place_before d.nfa.automaton.reverse q.start q.end reported.0 i x.0 reported.1.0 low high in
+      let quiet = reported.1.1 at.0 at.1.0 in
+      let sides = beside d.nfa.automaton.reverse d.quits q.haystack (offset_of d.nfa.automaton.reverse (begins_at (reader d) q) at.0)
       quiet.0 quiet.1 in
       let same = sym at.1.1 in
       read_alike d w.dfa q.haystack bytes t words set i

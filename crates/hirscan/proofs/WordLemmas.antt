@@ -1,4 +1,4 @@
--- What the readers of words compute, against what std and `hex` say of the calls that the code makes.
+-- What the readers of words compute, compared with what std and `hex` say of the calls that the code makes.
 use Rattle.std.proofs.Common.{◌≡◌, ◌≢◌, ◌⊎◌, ℕ, ◌^◌, ◌<◌, true, ◌||◌, not, List, [], ◌∷◌, length, get_or, Some, None, Result, Ok, Err}
 use Rattle.std.proofs.Common.{nat_lt, eqb, refl, sym, ◌∙◌, ap, inl, inr, arith}
 use Rattle.std.specs.Str.{all_ascii_digits, IsUtf8}
@@ -17,7 +17,7 @@ use Rattle.hirscan.specs.Readers.{is_number, number, only_one, hex_byte}
 pub digits_model : IsNumeralModel (λ ds. all_ascii_digits ds ≡ true) (digits_value 10)
 digits_model = numerals_by_value _ tells_all_ascii_digits
 
--- what the test of a number tells, part by part
+-- what the test of a number says, part by part
 pub record NumberParts (w : List ℕ) : Type 0 where
   pub digits : all_ascii_digits w ≡ true
   pub some : 0 < length w

@@ -1,16 +1,16 @@
--- What a head asks of a haystack.
+-- What a query asks of a haystack.
 use Rattle.std.specs.Prelude.{ℕ, Bool, true, false, List}
 use Rattle.search_types.specs.declared.anchored.Anchored.{Anchored}
 use Rattle.search_types.specs.declared.anchored.Anchored.TheVariants.{No, Yes}
 use Rattle.search_types.specs.Inputs.{Search}
 use Rattle.hirscan.specs.declared.line.Setup.{Setup}
-use Rattle.hirscan.specs.Refusals.{span_of}
+use Rattle.hirscan.specs.Rejections.{span_of}
 
 abbrev pub mode_for : Bool → Anchored
 mode_for true = Yes
 mode_for false = No
 
--- the search, where the span fits the haystack
+-- the search, if the span fits the haystack
 abbrev pub asked_search : Setup → List ℕ → Search
 asked_search setup h = record {
   haystack = h;

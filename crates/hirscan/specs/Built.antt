@@ -1,4 +1,5 @@
--- The regex that is built of trees: with which options its automata are compiled and made, what it is, and why it is refused.
+-- The regex that is built of expression trees: the options with which its automata are compiled and made, what it is,
+-- and why a build fails.
 use Rattle.std.specs.Prelude.{◌≡◌, ◌≢◌, ◌^◌, ◌<◌, ◌≤◌, ◌&&◌, not, Bool, true, false, List, Some, None, Ok, if◌then◌else◌}
 use Rattle.std.specs.List.{list_any}
 use Rattle.look_core.specs.Codes.{is_word_unicode}
@@ -12,7 +13,7 @@ use Rattle.nfa_core.specs.declared.build_error.BuildError.{BuildError as NfaBuil
 use Rattle.nfa_core.specs.declared.build_error.BuildError.TheVariants.{NoMemory as NfaNoMemory}
 use Rattle.thompson_nfa.specs.Compilations.{IsCompiled}
 use Rattle.thompson_nfa.specs.Configs.{Options}
-use Rattle.thompson_nfa.specs.RefusedTrees.{RefusesTrees}
+use Rattle.thompson_nfa.specs.RefusedTrees.{RejectsTrees}
 use Rattle.thompson_nfa.specs.declared.which_captures.WhichCaptures.TheVariants as which
 use Rattle.lazy_dfa.specs.Accounting.{least_capacity}
 use Rattle.lazy_dfa.specs.Building.{measures_with}
@@ -30,7 +31,7 @@ use Rattle.hirscan.specs.declared.settings.Settings.{Settings}
 abbrev pub default_settings : Settings
 default_settings = record { utf8 = true; line_terminator = one_of 0x0A; shrink = false; size_limit = None; dfa = no_dfa_options }
 
--- what the program sets beside what a head does
+-- the settings of a query, with those that the program adds
 abbrev pub program_settings : Settings → Settings
 program_settings said = record said {
   size_limit = Some (2 ^ 26);
@@ -42,7 +43,7 @@ program_settings said = record said {
   };
 }
 
--- the options of one of both compiles, forward or in reverse: no captures are kept
+-- the options of one of the two compilations, forward or in reverse: no captures are kept
 abbrev pub compile_options : Bool → Settings → Options
 compile_options reverse s = record {
   utf8 = Some s.utf8;
@@ -53,29 +54,29 @@ compile_options reverse s = record {
   terminator = Some s.line_terminator;
 }
 
--- the search finds the match that the trees define, as far as options tell
+-- the search finds the match that the trees define, as far as this depends on the options
 abbrev pub FindsFirst : Settings → Type 0
 FindsFirst s = kind_of s.dfa ≡ LeftmostFirst
 
 -- ---- quit bytes
 
--- whether one of the trees looks for words by characters, outside repetitions of no round
+-- whether one of the trees has a Unicode word look, outside of repetitions of no rounds
 abbrev pub use_unicode_words : List Tree → Bool
 use_unicode_words xs = list_any (λ x. has_any is_word_unicode (looks_used x)) xs
 
--- The bytes at which searches for these trees give up: those that were set by hand, and where words by characters are asked
--- for and a search is to do what it can over ASCII, all bytes above 7F.
+-- The bytes at which searches for these trees give up are those that were set by hand. All bytes above 7F are added if
+-- a tree has a Unicode word look and the option asks that a search does what it can over ASCII.
 abbrev pub quit_bytes_for : List Tree → DfaOptions → List Bool
 quit_bytes_for xs o = if use_unicode_words xs && word_boundary_of o then with_high_bytes (by_hand o) else by_hand o
 
--- where words by characters are asked for, the bytes above 7F have to be quit bytes one way or the other
+-- trees with a Unicode word look are supported only if all bytes above 7F are quit bytes, by the option or by hand
 abbrev pub are_unsupported : List Tree → DfaOptions → Bool
 are_unsupported xs o = use_unicode_words xs && not (word_boundary_of o) && not (has_high_bytes (by_hand o))
 
 -- ---- the regex
 
--- Both automata are compiled from the trees, one forward and one in reverse, and made with the same options, but that the
--- second finds all matches and has no tagged starts.
+-- Both automata are compiled from the trees, one forward and one in reverse. They are made with the same options,
+-- except that the second finds all matches and has no tagged starts.
 pub record IsBuilt (xs : List Tree) (s : Settings) (p : Pair) : Type 0 where
   pub is_forward : IsCompiled (compile_options false s) xs p.forward.nfa
   pub is_reverse : IsCompiled (compile_options true s) xs p.reverse.nfa
@@ -83,23 +84,24 @@ pub record IsBuilt (xs : List Tree) (s : Settings) (p : Pair) : Type 0 where
   pub forward : IsDfa p.forward
   pub reverse : IsDfa p.reverse
 
--- the capacity is enough for the automaton, or isn't looked at
+-- the capacity is enough for the automaton, or isn't checked
 abbrev pub HasRoom : Nfa → DfaOptions → Type 0
 HasRoom n o = skips_check o ≡ false → least_capacity (measures_with n o) ≤ capacity_of o
 
--- one of both NFAs
+-- one of the two NFAs
 abbrev pub nfa_for : Bool → Nfa → Nfa → Nfa
 nfa_for reverse n m = if reverse then m else n
 
--- Why no regex is built: a compile is refused, which is told as it was; or both NFAs are made, and words by characters can't be
--- had, or else the capacity is below the least one of an automaton, the forward one first; or memory lacked.
-pub data RefusesBuild (xs : List Tree) (s : Settings) (e : BuildError) : Type 0 where
-  not_compiled : (reverse : Bool) (x : NfaBuildError) → x ≢ NfaNoMemory → RefusesTrees (compile_options reverse s) xs x →
-      e ≡ NFA x → RefusesBuild xs s e
+-- Why no regex is built. A compilation fails, and its error is reported as it is. Or both NFAs are made, and the trees
+-- have Unicode word looks that aren't supported. If that isn't so, the capacity may be below the least one of an
+-- automaton, where the forward one is checked first. Or an allocation failed.
+pub data FailsBuild (xs : List Tree) (s : Settings) (e : BuildError) : Type 0 where
+  not_compiled : (reverse : Bool) (x : NfaBuildError) → x ≢ NfaNoMemory → RejectsTrees (compile_options reverse s) xs x →
+      e ≡ NFA x → FailsBuild xs s e
   unsupported : (n m : Nfa) → IsCompiled (compile_options false s) xs n → IsCompiled (compile_options true s) xs m →
-      are_unsupported xs s.dfa ≡ true → e ≡ Unsupported → RefusesBuild xs s e
+      are_unsupported xs s.dfa ≡ true → e ≡ Unsupported → FailsBuild xs s e
   too_small : (n m : Nfa) → IsCompiled (compile_options false s) xs n → IsCompiled (compile_options true s) xs m →
       are_unsupported xs s.dfa ≡ false → skips_check s.dfa ≡ false → (reverse : Bool) → (reverse ≡ true → HasRoom n s.dfa) →
       capacity_of s.dfa < least_capacity (measures_with (nfa_for reverse n m) s.dfa) →
-      e ≡ InsufficientCacheCapacity (least_capacity (measures_with (nfa_for reverse n m) s.dfa)) (capacity_of s.dfa) → RefusesBuild xs s e
-  no_memory : e ≡ NoMemory → RefusesBuild xs s e
+      e ≡ InsufficientCacheCapacity (least_capacity (measures_with (nfa_for reverse n m) s.dfa)) (capacity_of s.dfa) → FailsBuild xs s e
+  no_memory : e ≡ NoMemory → FailsBuild xs s e

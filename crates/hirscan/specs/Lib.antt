@@ -6,13 +6,13 @@ pub mod Takes
 pub mod Readers
 pub mod LineFault
 pub mod Reads
-pub mod Tells
-pub mod Refusals
+pub mod QueryReports
+pub mod Rejections
 pub mod Asks
 pub mod Regexes
 pub mod Headline
 pub mod LooseAnswers
-pub mod TreeWalks
+pub mod OverlappingTrees
 pub mod Reply
 pub mod Listing
 pub mod Runs

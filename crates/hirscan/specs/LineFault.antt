@@ -13,9 +13,9 @@ use Rattle.hirscan.specs.declared.words.LineWord.{LineWord}
 use Rattle.hirscan.specs.declared.words.LineWord.TheVariants.{Utf8, Line, Capacity, Quit, Classes, Shrink, Anchored, Span, Empty, Lit}
 use Rattle.hirscan.specs.declared.words.LineWord.TheVariants.{Bytes, Chars, Look, Rep, Cat, Alt, Pattern, Find}
 use Rattle.hirscan.specs.Words.{is_scalar, class_ranges, scalar_ranges}
-use Rattle.hirscan.specs.Takes.{HeadValue, with_utf8, with_terminator, with_capacity, with_quit, with_classes, with_shrink}
-use Rattle.hirscan.specs.Takes.{with_head_anchored}
-use Rattle.hirscan.specs.Takes.{with_head_span}
+use Rattle.hirscan.specs.Takes.{QueryValue, with_utf8, with_terminator, with_capacity, with_quit, with_classes, with_shrink}
+use Rattle.hirscan.specs.Takes.{with_query_anchored}
+use Rattle.hirscan.specs.Takes.{with_query_span}
 use Rattle.hirscan.specs.Readers.{line_word, number, the_number, bound, the_bound, order, the_order, switch, the_switch, yes_or_no}
 use Rattle.hirscan.specs.Readers.{the_yes_or_no, hex_bytes, the_bytes, hex_byte, the_byte, item_ends, the_ends, hex_ends, the_hex_ends}
 use Rattle.hirscan.specs.Readers.{look_named, the_look_named, word_at}
@@ -26,12 +26,12 @@ first_fault_of [] = None
 first_fault_of (None ∷ faults) = first_fault_of faults
 first_fault_of (Some kind ∷ faults) = Some kind
 
--- this kind where the test says so
+-- this kind, if the test says so
 abbrev pub when : Bool → FaultKind → Option FaultKind
 when true kind = Some kind
 when false kind = None
 
--- this kind where nothing was read
+-- this kind, if nothing was read
 abbrev pub unless_read : {A : Type 0} → Option A → FaultKind → Option FaultKind
 unless_read None kind = Some kind
 unless_read (Some x) kind = None
@@ -54,11 +54,11 @@ is_class Bytes = true
 is_class Chars = true
 is_class _ = false
 
--- whether the line sets something where a tree has been pushed
-abbrev pub is_setting_after_node : LineWord → HeadValue → Bool
+-- whether the line sets something after a tree has been pushed
+abbrev pub is_setting_after_node : LineWord → QueryValue → Bool
 is_setting_after_node k at = is_setting k && (nat_lt 0 (length at.stack) || nat_lt 0 (length at.patterns))
 
--- whether so many words may follow the first
+-- whether this many words may follow the first
 abbrev pub is_word_count : LineWord → ℕ → Bool
 is_word_count Utf8 n = n == 1
 is_word_count Line n = nat_le 1 n && nat_le n 2
@@ -132,7 +132,7 @@ abbrev pub is_min_above_max : LineWord → List (List ℕ) → Bool
 is_min_above_max Rep args = not (is_at_most (the_number (word_at args 0)) (the_bound (word_at args 1)))
 is_min_above_max _ args = false
 
--- how many trees the line makes one
+-- how many trees the line combines into one
 abbrev pub needed : LineWord → List (List ℕ) → ℕ
 needed Rep args = 1
 needed Cat args = the_number (word_at args 0)
@@ -158,23 +158,24 @@ new_tree Cat args parts = concat parts
 new_tree Alt args parts = alternation parts
 new_tree _ args parts = empty
 
-abbrev pub has_too_few_trees : LineWord → List (List ℕ) → HeadValue → Bool
+abbrev pub has_too_few_trees : LineWord → List (List ℕ) → QueryValue → Bool
 has_too_few_trees k args at = nat_lt (length at.stack) (needed k args)
 
 -- whether the line's new tree would be higher than 250
-abbrev pub is_too_deep : LineWord → List (List ℕ) → HeadValue → Bool
+abbrev pub is_too_deep : LineWord → List (List ℕ) → QueryValue → Bool
 is_too_deep k args at = nat_lt 250 (height (new_tree k args (top (needed k args) at.stack)))
 
-abbrev pub has_not_one_tree : LineWord → HeadValue → Bool
+abbrev pub has_not_one_tree : LineWord → QueryValue → Bool
 has_not_one_tree Pattern at = not (length at.stack == 1)
 has_not_one_tree _ at = false
 
-abbrev pub has_tree_left_over : LineWord → HeadValue → Bool
+abbrev pub has_tree_left_over : LineWord → QueryValue → Bool
 has_tree_left_over Find at = nat_lt 0 (length at.stack)
 has_tree_left_over _ at = false
 
--- what may be wrong with a line of this first word that may stand there and has as many words as it may: the kinds in order
-abbrev pub later_faults : LineWord → List (List ℕ) → HeadValue → List (Option FaultKind)
+-- what may be wrong with a line of this first word that is allowed there and has as many words as it may: the kinds in
+-- order
+abbrev pub later_faults : LineWord → List (List ℕ) → QueryValue → List (Option FaultKind)
 later_faults k args at = word_fault k args
     ∷ when (is_min_above_max k args) MinAboveMax
     ∷ when (has_too_few_trees k args at) TooFewTrees
@@ -184,22 +185,22 @@ later_faults k args at = word_fault k args
     ∷ []
 
 -- the first of these that applies
-abbrev pub left_fault : LineWord → List (List ℕ) → HeadValue → Option FaultKind
+abbrev pub left_fault : LineWord → List (List ℕ) → QueryValue → Option FaultKind
 left_fault k args at = first_fault_of (later_faults k args at)
 
 -- what is wrong with a line of this first word and these words after it: the first kind that applies
-abbrev pub known_fault : LineWord → List (List ℕ) → HeadValue → Option FaultKind
+abbrev pub known_fault : LineWord → List (List ℕ) → QueryValue → Option FaultKind
 known_fault k args at = first_fault_of (when (is_setting_after_node k at) SettingAfterNode
     ∷ when (not (is_word_count k (length args))) WrongWordCount
     ∷ later_faults k args at)
 
--- the same, where the first word may begin no line
-abbrev pub fault_by_word : Option LineWord → List (List ℕ) → HeadValue → Option FaultKind
+-- what is wrong with a line of these words, if its first word may begin no line
+abbrev pub fault_by_word : Option LineWord → List (List ℕ) → QueryValue → Option FaultKind
 fault_by_word None args at = Some UnknownWord
 fault_by_word (Some k) args at = known_fault k args at
 
--- what is wrong with the line of these words: None where it is taken, or ends the head
-abbrev pub fault : List (List ℕ) → HeadValue → Option FaultKind
+-- what is wrong with the line of these words; None if it is accepted, or if it ends the query
+abbrev pub fault : List (List ℕ) → QueryValue → Option FaultKind
 fault [] at = Some UnknownWord
 fault (w ∷ args) at = fault_by_word (line_word w) args at
 
@@ -208,7 +209,7 @@ abbrev pub the_terminator : List (List ℕ) → Terminator
 the_terminator args = if length args == 1 then one_of (the_byte (word_at args 0))
     else two_of (the_byte (word_at args 0)) (the_byte (word_at args 1))
 
--- how is searched after a line of this first word that has no fault
+-- the setup of the search after a line of this first word that has no fault
 abbrev pub setup_after : LineWord → List (List ℕ) → Setup → Setup
 setup_after Utf8 args was = with_utf8 (the_switch (word_at args 0)) was
 setup_after Line args was = with_terminator (the_terminator args) was
@@ -216,24 +217,24 @@ setup_after Capacity args was = with_capacity (the_number (word_at args 0)) was
 setup_after Quit args was = with_quit (the_byte (word_at args 0)) was
 setup_after Classes args was = with_classes (the_switch (word_at args 0)) was
 setup_after Shrink args was = with_shrink (the_switch (word_at args 0)) was
-setup_after Anchored args was = with_head_anchored (the_yes_or_no (word_at args 0)) was
-setup_after Span args was = with_head_span (record { start = the_number (word_at args 0); end = the_number (word_at args 1) }) was
+setup_after Anchored args was = with_query_anchored (the_yes_or_no (word_at args 0)) was
+setup_after Span args was = with_query_span (record { start = the_number (word_at args 0); end = the_number (word_at args 1) }) was
 setup_after _ args was = was
 
--- what stands after a line that sets something
-abbrev pub after_setting : LineWord → List (List ℕ) → HeadValue → HeadValue
+-- the state after a line that sets something
+abbrev pub after_setting : LineWord → List (List ℕ) → QueryValue → QueryValue
 after_setting k args at = record { setup = setup_after k args at.setup; stack = at.stack; patterns = at.patterns }
 
--- what stands after a line that makes a tree of those on the top
-abbrev pub after_tree : LineWord → List (List ℕ) → HeadValue → HeadValue
+-- the state after a line that makes a tree of the top ones
+abbrev pub after_tree : LineWord → List (List ℕ) → QueryValue → QueryValue
 after_tree k args at = record {
   setup = at.setup;
   stack = below (needed k args) at.stack ++ new_tree k args (top (needed k args) at.stack) ∷ [];
   patterns = at.patterns;
 }
 
--- what stands after a line of this first word that has no fault
-abbrev pub after_line : LineWord → List (List ℕ) → HeadValue → HeadValue
+-- the state after a line of this first word that has no fault
+abbrev pub after_line : LineWord → List (List ℕ) → QueryValue → QueryValue
 after_line Utf8 args at = after_setting Utf8 args at
 after_line Line args at = after_setting Line args at
 after_line Capacity args at = after_setting Capacity args at

@@ -1,4 +1,4 @@
--- Whether each unbounded repetition of a tree has a body that reads: the test of `LoopsRead`.
+-- Whether the body of every unbounded repetition of a tree consumes at least one byte: the test of `LoopsRead`.
 use Rattle.std.specs.Prelude.{ℕ, Bool, true, ◌&&◌, List, Option, Some, None, not}
 use Rattle.std.specs.List.{position}
 use Rattle.hir_core.specs.Tree.{Tree, empty, literal, byte_class, char_class, look, repetition, capture, nothing, cat, never, alt}

@@ -1,6 +1,5 @@
--- Readers that compute what Words.antt says of a word: None where the word says no such thing. Each
--- has a reader beside it, `the_..`, that answers any value there. That each reads just what its relation says is a law
--- (`word_laws`).
+-- Readers that compute what Words.antt says of a word: None if the word says no such thing. Each has a counterpart,
+-- `the_..`, that returns any value in that case. By a law, each reads exactly what its relation says (`word_laws`).
 use Rattle.std.specs.Prelude.{◌≡◌, ◌↔◌, ℕ, ◌+◌, ◌^◌, ◌==◌, ◌&&◌, ◌||◌, not, Bool, true, false, List, [], ◌∷◌, length, take, drop}
 use Rattle.std.specs.Prelude.{slice_index, slice_index_or, Option, Some, None, Result, Ok, Err, nat_lt, codes, if◌then◌else◌, option_map}
 use Rattle.std.specs.Prelude.{unwrap_or}
@@ -16,7 +15,7 @@ use Rattle.hirscan.specs.declared.words.LineWord.{LineWord}
 use Rattle.hirscan.specs.declared.words.LineWord.TheVariants.{Utf8, Line, Capacity, Quit, Classes, Shrink, Anchored, Span, Empty, Lit}
 use Rattle.hirscan.specs.declared.words.LineWord.TheVariants.{Bytes, Chars, Look, Rep, Cat, Alt, Pattern, Find}
 
--- the reader answers x just where the relation holds of the text and x, and nothing just where it holds of no x
+-- the reader returns x exactly if the relation holds of the word and x, and None exactly if it holds of no x
 pub record IsReader {X : Type 0} (read : List ℕ → Option X) (says : List ℕ → X → Type 0) : Type 0 where
   pub some : (w : List ℕ) (x : X) → (read w ≡ Some x) ↔ says w x
   pub none : (w : List ℕ) → (read w ≡ None) ↔ ((x : X) → says w x → ⊥)
@@ -46,7 +45,7 @@ spelling Find = codes "find"
 abbrev pub IsSpelled : List ℕ → LineWord → Type 0
 IsSpelled w k = w ≡ spelling k
 
--- which line that sets something the word begins
+-- which line that sets something begins with the word
 abbrev pub setting_word : List ℕ → Option LineWord
 setting_word w =
     if bytes_eq w (codes "utf8") then Some Utf8
@@ -59,7 +58,7 @@ setting_word w =
     else if bytes_eq w (codes "span") then Some Span
     else None
 
--- which other line it begins
+-- which other line begins with it
 abbrev pub tree_word : List ℕ → Option LineWord
 tree_word w =
     if bytes_eq w (codes "empty") then Some Empty
@@ -74,7 +73,7 @@ tree_word w =
     else if bytes_eq w (codes "find") then Some Find
     else None
 
--- which line the word begins
+-- which line begins with the word
 abbrev pub line_word : List ℕ → Option LineWord
 line_word w = option_or (setting_word w) (tree_word w)
 
@@ -162,19 +161,19 @@ is_hex_number w = list_all is_hex_digit w && nat_lt 0 (length w) && nat_lt (leng
 abbrev pub hex_number : List ℕ → Option ℕ
 hex_number w = if is_hex_number w then Some (digits_value 16 w) else None
 
--- the numbers before and behind the sign at this place, if there is one
+-- the numbers before and after the sign at this position, if there is one
 abbrev pub hex_ends_at : List ℕ → Option ℕ → Option (ℕ × ℕ)
 hex_ends_at w None = None
 hex_ends_at w (Some k) = both (hex_number (take k w)) (hex_number (drop (k + 1) w))
 
--- the ends of an item of a class of scalars, in whichever order: two numbers, parted by a sign
+-- the ends of an item of a class of scalars, in whichever order: two numbers, separated by a sign
 abbrev pub hex_ends : List ℕ → Option (ℕ × ℕ)
 hex_ends w = hex_ends_at w (position (λ b. b == 45) w)
 
 abbrev pub the_hex_ends : List ℕ → ℕ × ℕ
 the_hex_ends w = unwrap_or (hex_ends w) (0, 0)
 
--- the look of an edge of the haystack or of a line with this name
+-- the look with this name that holds at an edge of the haystack or of a line
 abbrev pub anchor_named : List ℕ → Option TheLook
 anchor_named w =
     if bytes_eq w (codes "Start") then Some the_look.Start
@@ -185,7 +184,7 @@ anchor_named w =
     else if bytes_eq w (codes "EndCRLF") then Some the_look.EndCRLF
     else None
 
--- the look with this name of a place where a word begins or ends, or where none does
+-- the look with this name that holds at an offset where a word begins or ends, or where none does
 abbrev pub word_look_named : List ℕ → Option TheLook
 word_look_named w =
     if bytes_eq w (codes "WordAscii") then Some the_look.WordAscii
@@ -194,7 +193,7 @@ word_look_named w =
     else if bytes_eq w (codes "WordUnicodeNegate") then Some the_look.WordUnicodeNegate
     else None
 
--- that of a place where a word begins, or where one ends
+-- the look with this name that holds at an offset where a word begins, or where one ends
 abbrev pub word_side_named : List ℕ → Option TheLook
 word_side_named w =
     if bytes_eq w (codes "WordStartAscii") then Some the_look.WordStartAscii
@@ -203,7 +202,7 @@ word_side_named w =
     else if bytes_eq w (codes "WordEndUnicode") then Some the_look.WordEndUnicode
     else None
 
--- that of a place before which no word is, or behind which none is
+-- the look with this name that holds at an offset that no word character precedes, or that none follows
 abbrev pub half_look_named : List ℕ → Option TheLook
 half_look_named w =
     if bytes_eq w (codes "WordStartHalfAscii") then Some the_look.WordStartHalfAscii
@@ -218,6 +217,6 @@ look_named w = option_or (option_or (option_or (anchor_named w) (word_look_named
 abbrev pub the_look_named : List ℕ → TheLook
 the_look_named w = unwrap_or (look_named w) the_look.Start
 
--- the word at this place, counted from 0
+-- the word at this position, counted from 0
 abbrev pub word_at : List (List ℕ) → ℕ → List ℕ
 word_at ws i = slice_index_or ws i []

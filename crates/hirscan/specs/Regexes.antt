@@ -1,4 +1,4 @@
--- Two automata that search as one for the trees of a list, and what a search over them is asked.
+-- Two automata that search together for the trees of a list, and what is required of a search over them.
 use Rattle.std.specs.Prelude.{◌≡◌, ◌<◌, ◌≤◌, Bool, true, false, List, All, length}
 use Rattle.std.specs.List.{list_any}
 use Rattle.search_core.specs.Utf8.{IsValidText}
@@ -16,9 +16,9 @@ use Rattle.lazy_dfa.specs.Dfas.{IsDfa}
 use Rattle.regex_pair.specs.Pairs.{Pair}
 use Rattle.hirscan.specs.Choices.{Query}
 
--- The first is compiled from the trees for one who reads forward, and keeps no captures; the second is compiled from the same
--- trees for one who reads in reverse. Both are in the same mode and have the same terminator and quit bytes. The first finds the
--- most preferred end, and the second the last start.
+-- The first automaton is compiled from the trees for searches forward, and keeps no captures. The second is compiled
+-- from the same trees for searches in reverse. Both are in the same mode and have the same terminator and quit bytes.
+-- The first finds the most preferred end, and the second the last start.
 pub record IsRegexOf (xs : List Tree) (utf8 : Bool) (t : Terminator) (p : Pair) : Type 0 where
   pub forward_options : Options
   pub reverse_options : Options
@@ -37,8 +37,8 @@ pub record IsRegexOf (xs : List Tree) (utf8 : Bool) (t : Terminator) (p : Pair) 
   pub finds_all : kind_of p.reverse.options ≡ AllMatches
   pub same_quits : p.reverse.quits ≡ p.forward.quits
 
--- A search of a haystack of bytes within it, not for the earliest end; in UTF-8 mode the haystack is valid, and no tree has a
--- span that isn't.
+-- A search of a haystack of bytes, within the haystack, that doesn't ask for the earliest end. In UTF-8 mode the
+-- haystack is valid, and no tree has a span that isn't.
 pub record IsSearchOf (xs : List Tree) (utf8 : Bool) (q : Search) : Type 0 where
   pub within : q.end ≤ length q.haystack
   pub whole : q.earliest ≡ false
@@ -46,7 +46,7 @@ pub record IsSearchOf (xs : List Tree) (utf8 : Bool) (q : Search) : Type 0 where
   pub valid : utf8 ≡ true → IsValidText q.haystack
   pub utf8_trees : utf8 ≡ true → All (λ x. is_utf8_tree x ≡ true) xs
 
--- what it searches for, where looks are read so
+-- what it searches for, with looks decided so
 abbrev pub query_of : List Tree → Bool → Looks → Search → Query
 query_of xs utf8 looks q =
     record { patterns = xs; looks = looks; haystack = q.haystack; end = q.end; mode = q.anchored; utf8 = utf8 }

@@ -1,4 +1,4 @@
--- What each line of a head does: one rule for each line of the notation.
+-- What each line of a query does: one rule for each line of the notation.
 use Rattle.std.specs.Prelude.{◌≡◌, ◌≢◌, ℕ, ◌≤◌, Bool, true, false, List, [], ◌∷◌, ◌++◌, length, slice_set, Option, Some, None, codes}
 use Rattle.look_core.specs.declared.look.Look.{Look}
 use Rattle.look_core.specs.Terminators.{Terminator, one_of, two_of}
@@ -14,23 +14,24 @@ use Rattle.hirscan.specs.Built.{default_settings}
 use Rattle.hirscan.specs.Words.{IsNumber, IsBound, IsGreedy, IsSwitch, IsYes, IsHex, IsHexByte, IsLookName, AreItems, AreScalarItems}
 use Rattle.hirscan.specs.Words.{class_ranges, scalar_ranges}
 
--- what stands before a line: how is searched, the trees on the stack, the last pushed last, and the patterns that were taken
-pub record HeadValue : Type 0 where
+-- the state before a line: the setup of the search, the trees on the stack, the last pushed last, and the patterns that
+-- were taken
+pub record QueryValue : Type 0 where
   pub setup : Setup
   pub stack : List Tree
   pub patterns : List Tree
 
--- before the first line
-abbrev pub at_first : HeadValue
+-- the state before the first line
+abbrev pub at_first : QueryValue
 at_first = record { setup = record { settings = default_settings; anchored = false; span = None }; stack = []; patterns = [] }
 
 -- ---- what lines set
 
-abbrev pub with_head_anchored : Bool → Setup → Setup
-with_head_anchored anchored was = record was { anchored = anchored }
+abbrev pub with_query_anchored : Bool → Setup → Setup
+with_query_anchored anchored was = record was { anchored = anchored }
 
-abbrev pub with_head_span : Span → Setup → Setup
-with_head_span span was = record was { span = Some span }
+abbrev pub with_query_span : Span → Setup → Setup
+with_query_span span was = record was { span = Some span }
 
 abbrev pub with_settings : Settings → Setup → Setup
 with_settings settings was = record was { settings = settings }
@@ -59,21 +60,21 @@ with_quit b was = with_dfa (record was.settings.dfa { quit_set = Some (slice_set
 
 -- ---- what lines do
 
--- No tree was pushed by any line before. A tree that was pushed stands on the stack, itself or within another, or was
+-- No line before this one pushed a tree. A tree that was pushed is on the stack, itself or within another tree, or was
 -- taken as a pattern.
-pub record HasNoNode (at : HeadValue) : Type 0 where
+pub record HasNoNode (at : QueryValue) : Type 0 where
   pub stack_empty : at.stack ≡ []
   pub no_pattern : at.patterns ≡ []
 
--- from now on it is searched so
-pub record Sets (before after : HeadValue) (new : Setup) : Type 0 where
+-- from now on the search has this setup
+pub record Sets (before after : QueryValue) (new : Setup) : Type 0 where
   pub no_node : HasNoNode before
   pub setup_is : after.setup ≡ new
   pub stack_stays : after.stack ≡ before.stack
   pub patterns_stay : after.patterns ≡ before.patterns
 
 -- the top trees of the stack, lowest first, become one tree, whose height is at most 250
-pub record Replaces (before after : HeadValue) (top : List Tree) (new : Tree) : Type 0 where
+pub record Replaces (before after : QueryValue) (top : List Tree) (new : Tree) : Type 0 where
   pub below : List Tree
   pub stack_was : before.stack ≡ below ++ top
   pub stack_is : after.stack ≡ below ++ new ∷ []
@@ -82,15 +83,15 @@ pub record Replaces (before after : HeadValue) (top : List Tree) (new : Tree) : 
   pub not_too_deep : height new ≤ 250
 
 -- the one tree on the stack becomes the next pattern
-pub record TakesPattern (before after : HeadValue) : Type 0 where
+pub record TakesPattern (before after : QueryValue) : Type 0 where
   pub tree : Tree
   pub stack_was : before.stack ≡ tree ∷ []
   pub setup_stays : after.setup ≡ before.setup
   pub stack_is : after.stack ≡ []
   pub patterns_are : after.patterns ≡ before.patterns ++ tree ∷ []
 
--- a line of these words takes what stood before it to what stands after it
-pub data Takes (ws : List (List ℕ)) (before after : HeadValue) : Type 0 where
+-- a line of these words leads from the state before it to the state after it
+pub data Takes (ws : List (List ℕ)) (before after : QueryValue) : Type 0 where
   utf8_line : (w : List ℕ) (on : Bool) → ws ≡ codes "utf8" ∷ w ∷ [] → IsSwitch w on →
       Sets before after (with_utf8 on before.setup) → Takes ws before after
   line_line : (w : List ℕ) (b : ℕ) → ws ≡ codes "line" ∷ w ∷ [] → IsHexByte w b →
@@ -106,9 +107,9 @@ pub data Takes (ws : List (List ℕ)) (before after : HeadValue) : Type 0 where
   shrink_line : (w : List ℕ) (on : Bool) → ws ≡ codes "shrink" ∷ w ∷ [] → IsSwitch w on →
       Sets before after (with_shrink on before.setup) → Takes ws before after
   anchored_line : (w : List ℕ) (anchored : Bool) → ws ≡ codes "anchored" ∷ w ∷ [] → IsYes w anchored →
-      Sets before after (with_head_anchored anchored before.setup) → Takes ws before after
+      Sets before after (with_query_anchored anchored before.setup) → Takes ws before after
   span_line : (low high : List ℕ) (s e : ℕ) → ws ≡ codes "span" ∷ low ∷ high ∷ [] → IsNumber low s → IsNumber high e →
-      Sets before after (with_head_span (record { start = s; end = e }) before.setup) → Takes ws before after
+      Sets before after (with_query_span (record { start = s; end = e }) before.setup) → Takes ws before after
   empty_line : ws ≡ codes "empty" ∷ [] → Replaces before after [] empty → Takes ws before after
   lit_line : (w bytes : List ℕ) → ws ≡ codes "lit" ∷ w ∷ [] → IsHex w bytes → Replaces before after [] (literal bytes) →
       Takes ws before after
@@ -127,7 +128,7 @@ pub data Takes (ws : List (List ℕ)) (before after : HeadValue) : Type 0 where
       Replaces before after parts (alternation parts) → Takes ws before after
   pattern_line : ws ≡ codes "pattern" ∷ [] → TakesPattern before after → Takes ws before after
 
--- a line of these words ends the head
-pub record EndsHead (ws : List (List ℕ)) (before : HeadValue) : Type 0 where
+-- a line of these words ends the query
+pub record EndsQuery (ws : List (List ℕ)) (before : QueryValue) : Type 0 where
   pub says_find : ws ≡ codes "find" ∷ []
   pub nothing_left : before.stack ≡ []

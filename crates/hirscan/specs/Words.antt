@@ -10,7 +10,7 @@ use Rattle.look_core.specs.declared.look.Look.TheVariants.{WordEndUnicode, WordS
 use Rattle.look_core.specs.declared.look.Look.TheVariants.{WordEndHalfUnicode}
 use Rattle.hir_core.specs.Means.{is_member}
 
--- what stands between the spaces of the line: n spaces part n + 1 words, some of which may be empty
+-- what is between the spaces of the line: n spaces separate n + 1 words, some of which may be empty
 abbrev pub words : List ℕ → List (List ℕ)
 words line = slice_split (λ b. b == 32) line
 
@@ -58,7 +58,7 @@ pub record IsHex (w bytes : List ℕ) : Type 0 where
 abbrev pub IsHexByte : List ℕ → ℕ → Type 0
 IsHexByte w byte = IsHex w (byte ∷ [])
 
--- the word has two ends, as `30-39` has, in whichever order, 45 being the sign between them
+-- The word has two ends, as `30-39` has, in whichever order. The sign between them is 45.
 pub record HasEnds (w : List ℕ) (ends : ℕ × ℕ) : Type 0 where
   pub low : List ℕ
   pub high : List ℕ
@@ -66,7 +66,7 @@ pub record HasEnds (w : List ℕ) (ends : ℕ × ℕ) : Type 0 where
   pub low_is : IsHexByte low ends.0
   pub high_is : IsHexByte high ends.1
 
--- the word is an item of a class: its low end stands first and isn't above its high end
+-- the word is an item of a class: its low end comes first and isn't above its high end
 pub record IsItem (w : List ℕ) (range : ℕ × ℕ) : Type 0 where
   pub ends : HasEnds w range
   pub in_order : range.0 ≤ range.1
@@ -95,7 +95,7 @@ look_name WordEndHalfUnicode = codes "WordEndHalfUnicode"
 abbrev pub IsLookName : List ℕ → Look → Type 0
 IsLookName w l = w ≡ look_name l
 
--- the digits, behind others of the value `before`, have this value
+-- the digits, after others of the value `before`, have this value
 abbrev pub HasHexValue : ℕ → List ℕ → ℕ → Type 0
 HasHexValue before [] n = n ≡ before
 HasHexValue before (c ∷ cs) n = (digit : ℕ) × IsHexDigit c digit × HasHexValue (16 * before + digit) cs n
@@ -118,28 +118,29 @@ pub record HasHexEnds (w : List ℕ) (ends : ℕ × ℕ) : Type 0 where
 abbrev pub is_scalar : ℕ → Bool
 is_scalar c = nat_lt c 0xD800 || (nat_le 0xE000 c && nat_le c 0x10FFFF)
 
--- the word is an item of a class of scalars: both ends are scalars, and the low one stands first and isn't above the high one
+-- the word is an item of a class of scalars: both ends are scalars, and the low one comes first and isn't above the
+-- high one
 pub record IsScalarItem (w : List ℕ) (range : ℕ × ℕ) : Type 0 where
   pub ends : HasHexEnds w range
   pub low_scalar : is_scalar range.0 ≡ true
   pub high_scalar : is_scalar range.1 ≡ true
   pub in_order : range.0 ≤ range.1
 
--- each word is the item at its place in the list
+-- each word is the item at its position in the list
 abbrev pub AreScalarItems : List (List ℕ) → List (ℕ × ℕ) → Type 0
 AreScalarItems [] [] = Unit {0}
 AreScalarItems [] (r ∷ rs) = ⊥
 AreScalarItems (w ∷ ws) [] = ⊥
 AreScalarItems (w ∷ ws) (r ∷ rs) = IsScalarItem w r × AreScalarItems ws rs
 
--- each word is the item at its place in the list
+-- each word is the item at its position in the list
 abbrev pub AreItems : List (List ℕ) → List (ℕ × ℕ) → Type 0
 AreItems [] [] = Unit {0}
 AreItems [] (r ∷ rs) = ⊥
 AreItems (w ∷ ws) [] = ⊥
 AreItems (w ∷ ws) (r ∷ rs) = IsItem w r × AreItems ws rs
 
--- the ranges with the byte b before them, which is below each: the first one grows where it begins just above b
+-- the ranges with the byte b before them, which is below each: the first range is extended if it begins just above b
 abbrev pub with_byte : ℕ → List (ℕ × ℕ) → List (ℕ × ℕ)
 with_byte b [] = (b, b) ∷ []
 with_byte b (r ∷ rs) = if r.0 == b + 1 then (b, r.1) ∷ rs else (b, b) ∷ r ∷ rs
@@ -158,21 +159,21 @@ member_ranges member (suc n) b = with_member (member b) b (member_ranges member 
 unfoldable pub class_ranges : List (ℕ × ℕ) → List (ℕ × ℕ)
 class_ranges items = member_ranges (is_member items) 256 0
 
--- the least of these numbers, or 256 where none is below that
+-- the least of these numbers, or 256 if none is below that
 abbrev pub least : List ℕ → ℕ
 least [] = 256
 least (n ∷ ns) = min n (least ns)
 
--- whether the byte b is in an item, where for each byte the least low end of the items that end there is given
+-- whether the byte b is in an item, where `lows` has for each byte the least low end of the items that end there
 abbrev pub is_covered : List ℕ → ℕ → Bool
 is_covered lows b = nat_le (least (drop b lows)) b
 
--- the same bytes are in these items
+-- the bytes that `lows` covers are those in these items
 abbrev pub AreLowEnds : List (ℕ × ℕ) → List ℕ → Type 0
 AreLowEnds items lows = (b : ℕ) → b < 256 → is_covered lows b ≡ is_member items b
 
--- The ranges with one more. They are ascending, and some number stands between each two of them; so are those that it gives: the
--- new range takes in the ones that it meets or touches.
+-- The ranges with one more. They are ascending, and some number is between each two of them. The same holds of the
+-- result: the new range absorbs the ranges that it meets or touches.
 abbrev pub with_range : ℕ × ℕ → List (ℕ × ℕ) → List (ℕ × ℕ)
 with_range r [] = r ∷ []
 with_range r (s ∷ rest) =

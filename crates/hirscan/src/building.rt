@@ -1,7 +1,7 @@
 //! Regexes of trees.
 ghost use Rattle.std.specs.Prelude.{◌≡◌, IfOk, IfErr, false};
 ghost use Rattle.thompson_nfa.specs.Compilations.{IsCompiled};
-ghost use Rattle.hirscan.specs.Built.{IsBuilt, RefusesBuild, HasRoom, FindsFirst, compile_options, quit_bytes_for, are_unsupported};
+ghost use Rattle.hirscan.specs.Built.{IsBuilt, FailsBuild, HasRoom, FindsFirst, compile_options, quit_bytes_for, are_unsupported};
 ghost use Rattle.hirscan.specs.Regexes.{IsRegexOf};
 
 use crate::settings::Settings;
@@ -28,7 +28,7 @@ fn compile_config(settings: &Settings, reverse: bool) -> Config
         .look_matcher(looks)
 }
 
-/// One of both automata. A refusal for want of memory is told as that, another one as it is.
+/// Compiles one of both automata. An error for a failed allocation is reported as that, and any other error as it is.
 fn compile(
     alloc: Global,
     exprs: &[Hir],
@@ -36,7 +36,7 @@ fn compile(
     reverse: bool,
 ) -> Result<NFA, BuildError>
     ensures compiled { IfOk result (λ n. IsCompiled (compile_options reverse settings.now) exprs.now n) }
-    ensures refused { IfErr result (λ e. RefusesBuild exprs.now settings.now e) }
+    ensures refused { IfErr result (λ e. FailsBuild exprs.now settings.now e) }
 {
     let mut compiler = Compiler::new(alloc);
     compiler.configure(compile_config(settings, reverse));
@@ -61,7 +61,7 @@ fn builder_with(options: dfa::Config) -> Builder
 /// Both automata of the trees, as one regex.
 fn build_pair(alloc: Global, exprs: &[Hir], settings: &Settings) -> Result<Regex, BuildError>
     ensures built { IfOk result (λ p. IsBuilt exprs.now settings.now p) }
-    ensures refused { IfErr result (λ e. RefusesBuild exprs.now settings.now e) }
+    ensures refused { IfErr result (λ e. FailsBuild exprs.now settings.now e) }
 {
     let forward = match compile(alloc, exprs, settings, false) {
         Ok(nfa) => nfa,
@@ -83,20 +83,21 @@ fn build_pair(alloc: Global, exprs: &[Hir], settings: &Settings) -> Result<Regex
 
 /// The regex that searches for these trees, each as a pattern of its own, numbered from 0. A tree's captures are left out.
 ///
-/// Where its kind is leftmost-first, a search that answers Ok gives the match that the trees define, whatever the settings and
-/// the cache ([`headline`](crate::headline)).
+/// If its kind is leftmost-first, a search that returns `Ok` gives the match that the trees define, whatever the settings and the
+/// cache ([`headline`](crate::headline)).
 ///
-/// It is refused where a compile is: where there are more patterns or states than can be numbered, or more bytes of states than
-/// `size_limit`; where a tree looks for words by characters, `unicode_word_boundary` is off and bytes above 7F aren't all quit
-/// bytes; where the capacity is below the least one of an automaton and isn't to be raised; and where memory lacks. The first
-/// one that applies is told.
+/// The call returns the first of these errors that applies:
+/// - A compile fails: there are more patterns or states than can be numbered, or more bytes of states than `size_limit`.
+/// - A tree looks for words by characters, `unicode_word_boundary` is off, and bytes above 7F aren't all quit bytes.
+/// - The capacity is below the least one of an automaton and isn't to be raised.
+/// - An allocation fails.
 pub fn build(alloc: Global, exprs: &[Hir], settings: &Settings) -> Result<Regex, BuildError>
     ensures built { IfOk result (λ p. IsBuilt exprs.now settings.now p) }
     ensures regex { IfOk result (λ p. FindsFirst settings.now → IsRegexOf exprs.now settings.now.utf8 settings.now.line_terminator p) }
     ensures quits { IfOk result (λ p. p.forward.quits ≡ quit_bytes_for exprs.now settings.now.dfa) }
     ensures supported { IfOk result (λ _. are_unsupported exprs.now settings.now.dfa ≡ false) }
     ensures roomy { IfOk result (λ p. HasRoom p.forward.nfa settings.now.dfa × HasRoom p.reverse.nfa settings.now.dfa) }
-    ensures refused { IfErr result (λ e. RefusesBuild exprs.now settings.now e) }
+    ensures refused { IfErr result (λ e. FailsBuild exprs.now settings.now e) }
 {
     match build_pair(alloc, exprs, settings) {
         Ok(regex) => Ok(regex),

@@ -1,8 +1,8 @@
-// Why a head that was read is refused with the haystack behind it.
+// Why a query that was read is rejected with the haystack after it.
 ghost use Rattle.std.specs.Prelude.{◌≡◌, IfOk, option_map, string_bytes};
-ghost use Rattle.hirscan.specs.Tells.{value_of_head};
-ghost use Rattle.hirscan.specs.Refusals.{first_not_utf8, where_utf8, first_broken, span_of, is_span, pattern_causes, haystack_causes};
-ghost use Rattle.hirscan.specs.Refusals.{refusal};
+ghost use Rattle.hirscan.specs.QueryReports.{value_of_query};
+ghost use Rattle.hirscan.specs.Rejections.{first_not_utf8, where_utf8, first_broken, span_of, is_span, pattern_causes, haystack_causes};
+ghost use Rattle.hirscan.specs.Rejections.{rejection};
 
 use crate::head::Head;
 use crate::loops::first_empty_loop;
@@ -10,14 +10,14 @@ use hir_core::Hir;
 use search_types::Span;
 use std::alloc::{AllocError, Global};
 
-/// The number of the first pattern whose spans aren't seen to be UTF-8.
+/// The number of the first pattern whose spans aren't known to be UTF-8.
 fn first_not_utf8(patterns: &[Hir]) -> Option<usize>
     ensures { result ≡ first_not_utf8 patterns.now }
 {
     patterns.iter().position(|x| !x.properties().is_utf8())
 }
 
-/// How many bytes of the haystack are UTF-8 from its start on, where that isn't all of it.
+/// How many bytes of the haystack are UTF-8 from its start on, or `None` if all are.
 #[tactic(auto, using(crate::proofs::CauseLemmas::whole_text, crate::proofs::CauseLemmas::broken_text))]
 pub(crate) fn first_broken(h: &[u8]) -> Option<usize>
     ensures { result ≡ first_broken h.now }
@@ -28,7 +28,7 @@ pub(crate) fn first_broken(h: &[u8]) -> Option<usize>
     }
 }
 
-/// What is searched of the haystack fits.
+/// Whether the part of the haystack that is searched fits.
 fn span_fits(span: Option<Span>, h: &[u8]) -> bool
     ensures { result ≡ is_span (span_of span h.now) h.now }
 {
@@ -38,7 +38,7 @@ fn span_fits(span: Option<Span>, h: &[u8]) -> bool
     }
 }
 
-/// The cause that lies in the patterns.
+/// The cause that lies in the patterns, if there is one.
 fn pattern_cause(alloc: Global, head: &Head) -> Result<Option<String>, AllocError>
     ensures { IfOk result (λ cause. option_map string_bytes cause ≡ pattern_causes head.now.settings.utf8 head.now.patterns.items) }
 {
@@ -55,7 +55,7 @@ fn pattern_cause(alloc: Global, head: &Head) -> Result<Option<String>, AllocErro
     Ok(None)
 }
 
-/// The cause that lies in the haystack, or in what is searched of it.
+/// The cause that lies in the haystack, or in the part of it that is searched, if there is one.
 fn haystack_cause(alloc: Global, head: &Head, h: &[u8]) -> Result<Option<String>, AllocError>
     ensures { IfOk result (λ cause. option_map string_bytes cause ≡ haystack_causes head.now.settings.utf8 head.now.span h.now) }
 {
@@ -71,13 +71,15 @@ fn haystack_cause(alloc: Global, head: &Head, h: &[u8]) -> Result<Option<String>
     Ok(None)
 }
 
-/// The first cause that shows in the input to refuse what the head says with this haystack; `None` where it is searched for.
+/// Returns the first cause that shows in the input to reject this query with this haystack, or `None` if its patterns are
+/// searched for.
 pub(crate) fn refusal_cause(
     alloc: Global,
     head: &Head,
     h: &[u8],
 ) -> Result<Option<String>, AllocError>
-    ensures { IfOk result (λ cause. option_map string_bytes cause ≡ refusal (value_of_head head.now).setup head.now.patterns.items h.now) }
+    ensures { IfOk result (λ cause. option_map string_bytes cause ≡ rejection (value_of_query head.now).setup head.now.patterns.items
+        h.now) }
 {
     if let Some(cause) = pattern_cause(alloc, head)? {
         return Ok(Some(cause));

@@ -6,6 +6,6 @@ pub enum Ending {
     Listed,
     /// The spans up to where a search gave up at a quit byte, and then this byte.
     Quit,
-    /// The input is refused, by one line that says why.
+    /// The input is rejected, by one line that says why.
     Refused,
 }

@@ -1,18 +1,18 @@
 ghost use Rattle.std.specs.Prelude.{◌≡◌};
-ghost use Rattle.hirscan.specs.Tells.{kind_text, on_line};
+ghost use Rattle.hirscan.specs.QueryReports.{kind_text, on_line};
 
 use std::fmt::{self, Display, Formatter, Write};
 use thiserror::Error;
 
-/// What is wrong with a line of a head. Of several kinds that apply, a line has the first in this
-/// order, and of faulty words the first from the left.
+/// What is wrong with a line of a query. If several kinds apply, a line has the first one in this order. If
+/// several words are faulty, it has the fault of the first one from the left.
 #[derive(Clone, Copy, Debug, PartialEq, Eq)]
 pub enum FaultKind {
     /// The text ends before the line's line feed.
     NoFindLine,
     /// The first word begins no line of the notation.
     UnknownWord,
-    /// A line that sets something stands behind one that pushes a tree.
+    /// A line that sets something comes after one that pushes a tree.
     SettingAfterNode,
     /// There are too few or too many words.
     WrongWordCount,
@@ -32,14 +32,14 @@ pub enum FaultKind {
     TooFewTrees,
     /// The new tree would be higher than 250.
     TooDeep,
-    /// A pattern is taken where the stack has no tree or several.
+    /// A pattern is taken while the stack has no tree or several.
     NotOneTree,
-    /// The head ends where the stack has a tree.
+    /// The query ends while the stack has a tree.
     TreeLeftOver,
 }
 
 impl FaultKind {
-    /// How the kind is told: a few words in lower case.
+    /// The text of the kind: a few words in lower case.
     pub fn text(self) -> &'static str
         ensures { result.now ≡ kind_text self }
     {
@@ -64,7 +64,7 @@ impl FaultKind {
 
 impl Display for FaultKind {
     ghost use Rattle.std.specs.Prelude.{Some};
-    ghost use Rattle.hirscan.specs.Tells.{kind_text};
+    ghost use Rattle.hirscan.specs.QueryReports.{kind_text};
 
     ghost output = { λ kind. Some (kind_text kind) };
 
@@ -73,13 +73,13 @@ impl Display for FaultKind {
     }
 }
 
-/// Why a head can't be read.
+/// Why a query can't be read.
 #[derive(Debug, Drop, Error)]
 pub enum Fault {
     /// The first faulty line, counted from 1, and what is wrong with it.
     #[error("line {line}: {kind}")]
     Notation { line: usize, kind: FaultKind },
-    /// A growth was refused. It says nothing of the text.
+    /// An allocation failed. This says nothing of the text.
     #[error("out of memory")]
     NoMemory,
 }

@@ -1,49 +1,49 @@
-// A head: its lines, one after the other.
+// A query: its lines, one after the other.
 ghost use Rattle.std.specs.Prelude.{IfOk, IfErr, MatchOption};
 ghost use Rattle.hirscan.specs.Takes.{at_first};
 ghost use Rattle.hirscan.specs.Reads.{IsOneLine, Reads};
-ghost use Rattle.hirscan.specs.Tells.{TellsFault, CutsLine, value_of_head};
+ghost use Rattle.hirscan.specs.QueryReports.{ReportsFault, CutsLine, value_of_query};
 
 use crate::fault::{Fault, FaultKind};
 use crate::line::{HeadState, Setup, Step, read_line};
 use crate::settings::Settings;
-use crate::split::place_of;
+use crate::split::offset_of;
 use hir_core::Hir;
 use search_types::Span;
 use std::alloc::Global;
 
-/// What a text has before its haystack.
+/// A query: what a text has before its haystack.
 #[derive(Drop)]
 pub struct Head {
     /// How a regex is made of the patterns. An option that no line sets isn't set.
     pub settings: Settings,
     /// Whether each match has to start where its search does.
     pub anchored: bool,
-    /// The span that is searched; `None` for the whole haystack.
+    /// The span that is searched, or `None` for the whole haystack.
     pub span: Option<Span>,
     /// The patterns, in the order in which they were taken.
     pub patterns: Vec<Hir>,
-    /// How many bytes the head has, with the line feed of its line `find`.
+    /// How many bytes the query has, with the line feed of its line `find`.
     pub len: usize,
 }
 
-/// The first line, without its line feed, and what follows that; `None` where there is no line feed.
+/// The first line, without its line feed, and what follows that; `None` if there is no line feed.
 fn split_line(text: &[u8]) -> Option<(&[u8], &[u8])>
     ensures { MatchOption result (IsOneLine text.now) (λ p. CutsLine text.now p.0.now p.1.now) }
 {
-    let Some(len) = place_of(text, b'\n') else {
+    let Some(len) = offset_of(text, b'\n') else {
         return None;
     };
     Some((&text[..len], &text[len + 1..]))
 }
 
-/// Reads the head of a text. Nothing behind its line `find` is looked at.
+/// Reads the query at the start of a text. Nothing after its line `find` is looked at.
 ///
-/// The first line that can't be taken is refused; so is a text that ends before there is a line
-/// `find`, as of its last line, which has no line feed and may be empty.
+/// The call returns an error for the first line that can't be taken. If the text ends before there is a line
+/// `find`, the error is of its last line, which has no line feed and may be empty.
 pub fn read_head(alloc: Global, text: &[u8]) -> Result<Head, Fault>
-    ensures ok { IfOk result (λ head. Reads text.now at_first (value_of_head head) head.len) }
-    ensures notation { IfErr result (λ e. TellsFault text.now e) }
+    ensures ok { IfOk result (λ head. Reads text.now at_first (value_of_query head) head.len) }
+    ensures notation { IfErr result (λ e. ReportsFault text.now e) }
 {
     let mut state = HeadState {
         setup: Setup {

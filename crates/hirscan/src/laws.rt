@@ -18,7 +18,7 @@ ghost use Rattle.hirscan.specs.Choices.{Query, answer_from, answers_of};
 ghost use Rattle.hirscan.specs.Loops.{loops_read};
 ghost use Rattle.hirscan.specs.declared.line.Setup.{Setup};
 ghost use Rattle.hirscan.specs.declared.ending.Ending.TheVariants.{Listed, Refused};
-ghost use Rattle.hirscan.specs.Reply.{Asks, IsInputRefused, IsReply, refusal_line};
+ghost use Rattle.hirscan.specs.Reply.{Asks, IsInputRejected, IsReply, error_line};
 
 /// An answer over trees is a span that the tree of its number means.
 #[tactic(auto, using(crate::proofs::AnswerLemmas::answer_is_meant))]
@@ -27,30 +27,30 @@ pub fn an_answer_is_meant()
         (x : Tree) × (slice_get q.patterns f.pattern ≡ Some x) × Means q.looks q.haystack x f.start f.end }
 {}
 
-/// Answers start at or after the place asked, and end between their start and the end of what is searched.
+/// Answers start at or after the offset that is asked for, and end between their start and the end of what is searched.
 #[tactic(auto, using(crate::proofs::AnswerLemmas::answers_within))]
 pub fn answers_over_trees_stay_within()
     ensures { (q : Query) → AnswersWithin (answer_from q) q.end }
 {}
 
-/// The test for repetitions without a bound tells whether each of them has a body that reads.
+/// The test for repetitions returns whether the body of every unbounded one consumes at least one byte.
 #[tactic(auto, using(crate::proofs::LoopLemmas::loops_read_sound, crate::proofs::LoopLemmas::loops_read_complete))]
 pub fn loops_read_tells()
     ensures sound { (x : Tree) → loops_read x ≡ true → LoopsRead x }
     ensures complete { (x : Tree) → LoopsRead x → loops_read x ≡ true }
 {}
 
-/// An input is refused for what shows in it, or asks for a search. One that is refused has that reply alone, and one whose matches
+/// An input is rejected for what shows in it, or asks for a search. A rejected input has that reply alone. An input whose matches
 /// are all listed has no other list.
 pub fn replies_agree()
-    ensures some { (input : List ℕ) → ((cause : List ℕ) × IsInputRefused input cause)
+    ensures some { (input : List ℕ) → ((cause : List ℕ) × IsInputRejected input cause)
         ⊎ ((setup : Setup) × (xs : List Tree) × (h : List ℕ) × Asks input setup xs h) }
-    ensures refused { (input cause : List ℕ) (e : Ending) (t : List ℕ) → IsInputRefused input cause → IsReply input e t →
-        (e ≡ Refused) × (t ≡ refusal_line cause) }
+    ensures refused { (input cause : List ℕ) (e : Ending) (t : List ℕ) → IsInputRejected input cause → IsReply input e t →
+        (e ≡ Refused) × (t ≡ error_line cause) }
     ensures listed { (input s t : List ℕ) → IsReply input Listed s → IsReply input Listed t → s ≡ t }
 {}
 
-/// The ends of all answers rise, so there is at most one for each place.
+/// The ends of all answers rise, so there is at most one answer for each offset.
 #[tactic(auto, using(crate::proofs::AnswerLemmas::answers_rise, crate::proofs::AnswerLemmas::few_answers))]
 pub fn ends_of_answers_rise()
     ensures ends { (q : Query) (s : ℕ) → EndsRise None (answers_of q s) }

@@ -1,14 +1,14 @@
-//! Regexes of trees, and a program that reads trees in a postfix notation and then a haystack, and answers the spans.
+//! Regexes of trees, and a program that reads trees in a postfix notation and then a haystack, and prints the spans.
 //!
-//! [`build`] makes a regex of trees; what it is, and why it is refused, is in `specs/Built.antt`. What the trees define is in
-//! `Choices.antt` and `Headline.antt`, and that searches over the regex answer just that is in [`headline`]: the laws over values
-//! behind it are in [`search_laws`], those of overlapping walks in [`tree_walk_laws`], and on which bytes an answer depends is in
-//! [`reach_laws`].
+//! [`build`] makes a regex of trees. What the regex is, and why the call fails, is in `specs/Built.antt`. What the trees define
+//! is in `Choices.antt` and `Headline.antt`. That searches over the regex return just that is in [`headline`]. The laws over
+//! values on which this rests are in [`search_laws`], and those of overlapping searches in [`tree_walk_laws`]. On which bytes an
+//! answer depends is in [`reach_laws`].
 //!
-//! [`run`] goes from a reader to a writer, [`read_head`] reads the notation alone. What each line does, how a head reads and
-//! where a text has its first fault is defined in `Takes.antt`, `Reads.antt` and `LineFault.antt`; why a head is refused with its
-//! haystack in `Refusals.antt`; the reply in `Reply.antt`. Their laws are in [`laws`], those of the notation in [`reading_laws`],
-//! those of its words in [`word_laws`].
+//! [`run`] goes from a reader to a writer, and [`read_head`] reads the notation alone. `Takes.antt` defines what each line does,
+//! `Reads.antt` how a query reads, and `LineFault.antt` where a text has its first fault. Why a query is rejected with its
+//! haystack is in `Rejections.antt`, and the reply in `Reply.antt`. Their laws are in [`laws`], those of the notation in
+//! [`reading_laws`], and those of its words in [`word_laws`].
 //! ```rust
 //! pub fn regex_of(alloc: Global, trees: &[Hir]) -> Result<Regex, BuildError> {
 //!     build(alloc, trees, &Settings::new())

@@ -9,7 +9,7 @@ ghost use Rattle.hirscan.specs.Readers.{hex_byte, word_at};
 ghost use Rattle.hirscan.specs.LineFault.{fault, byte_fault, known_fault, after_line, top, below, when, is_at_most, is_word_count};
 ghost use Rattle.hirscan.specs.LineFault.{is_setting};
 ghost use Rattle.hirscan.specs.LineFault.{is_class, is_setting_after_node, left_fault};
-ghost use Rattle.hirscan.specs.Tells.{words_left, head_value, TellsLineFault, TellsStep, IsDone, step_after};
+ghost use Rattle.hirscan.specs.QueryReports.{words_left, query_value, ReportsLineFault, ReportsStep, IsDone, step_after};
 ghost use Rattle.hirscan.specs.declared.fault.FaultKind.TheVariants.{TooFewTrees, TooDeep};
 ghost use Rattle.hirscan.specs.declared.words.LineWord.TheVariants.{Utf8, Line, Capacity, Quit, Classes, Shrink, Anchored};
 ghost use Rattle.hirscan.specs.declared.words.LineWord.TheVariants.{Span as SpanWord, Empty, Lit, Bytes, Chars, Look, Rep, Cat, Alt};
@@ -27,7 +27,7 @@ use look_core::LineTerm;
 use search_types::Span;
 use std::alloc::{AllocError, Global};
 
-/// A tree may not be higher.
+/// No tree may be higher.
 const MAX_HEIGHT: usize = 250;
 
 /// More words than may follow the first of any line but a class.
@@ -41,7 +41,8 @@ pub(crate) struct Setup {
     pub span: Option<Span>,
 }
 
-/// How is searched, the trees on the stack, the last pushed last, and the patterns that were taken.
+/// How the patterns are searched, the trees on the stack, the last pushed last, and the patterns that were
+/// taken.
 #[derive(Drop)]
 pub(crate) struct HeadState {
     pub setup: Setup,
@@ -56,7 +57,7 @@ pub(crate) enum Step {
     End,
 }
 
-/// Puts a tree behind the others. Where memory lacks, it is dropped.
+/// Pushes a tree after the others. If an allocation fails, the tree is dropped.
 fn push_onto(trees: &mut Vec<Hir>, tree: Hir) -> Result<(), AllocError>
     ensures { OnOk result (trees.new.items ≡ trees.old.items ++ tree ∷ []) }
 {
@@ -68,7 +69,7 @@ fn push_onto(trees: &mut Vec<Hir>, tree: Hir) -> Result<(), AllocError>
 fn push(state: &mut HeadState, tree: Hir) -> Result<(), LineFault>
     ensures ok { OnOk result ((height tree ≤ 250) × (state.new.stack.items ≡ state.old.stack.items ++ tree ∷ [])
         × (state.new.patterns.items ≡ state.old.patterns.items) × (state.new.setup ≡ state.old.setup)) }
-    ensures err { IfErr result (λ e. TellsLineFault (when (nat_lt 250 (height tree)) TooDeep) e) }
+    ensures err { IfErr result (λ e. ReportsLineFault (when (nat_lt 250 (height tree)) TooDeep) e) }
 {
     if tree.height() > MAX_HEIGHT {
         return Err(LineFault::Is(FaultKind::TooDeep));
@@ -79,7 +80,7 @@ fn push(state: &mut HeadState, tree: Hir) -> Result<(), LineFault>
     Ok(())
 }
 
-/// Takes the top tree off the stack.
+/// Pops the top tree.
 #[tactic(auto, using(crate::proofs::StackLemmas::top_one, crate::proofs::StackLemmas::below_one))]
 fn pop(state: &mut HeadState) -> Option<Hir>
     ensures found { MatchOption result (length state.old.stack.items ≡ 0) (λ x. (0 < length state.old.stack.items)
@@ -91,12 +92,12 @@ fn pop(state: &mut HeadState) -> Option<Hir>
     state.stack.pop()
 }
 
-/// Takes so many trees off the stack, the lowest first.
+/// Pops `count` trees; the lowest comes first.
 fn pop_many(state: &mut HeadState, count: u32) -> Result<Vec<Hir>, LineFault>
     ensures ok { IfOk result (λ parts. (count ≤ length state.old.stack.items)
         × (parts.items ≡ top count state.old.stack.items)
         × (state.new.stack.items ≡ below count state.old.stack.items)) }
-    ensures err { IfErr result (λ e. TellsLineFault (when (nat_lt (length state.old.stack.items) count) TooFewTrees) e) }
+    ensures err { IfErr result (λ e. ReportsLineFault (when (nat_lt (length state.old.stack.items) count) TooFewTrees) e) }
     ensures patterns { state.new.patterns.items ≡ state.old.patterns.items }
     ensures setup { state.new.setup ≡ state.old.setup }
 {
@@ -112,8 +113,8 @@ fn pop_many(state: &mut HeadState, count: u32) -> Result<Vec<Hir>, LineFault>
 
 fn utf8_line(args: &[&[u8]], state: &mut HeadState) -> Result<(), LineFault>
     requires { length args.now ≡ 1 }
-    ensures ok { OnOk result (IsDone Utf8 (texts args.now) (head_value state.old) (head_value state.new)) }
-    ensures err { IfErr result (λ e. TellsLineFault (left_fault Utf8 (texts args.now) (head_value state.old)) e) }
+    ensures ok { OnOk result (IsDone Utf8 (texts args.now) (query_value state.old) (query_value state.new)) }
+    ensures err { IfErr result (λ e. ReportsLineFault (left_fault Utf8 (texts args.now) (query_value state.old)) e) }
 {
     let Some(on) = switch(word_at(args, 0)) else {
         return Err(LineFault::Is(FaultKind::BadChoice));
@@ -125,15 +126,15 @@ fn utf8_line(args: &[&[u8]], state: &mut HeadState) -> Result<(), LineFault>
 fn byte_at(args: &[&[u8]], i: usize) -> Result<u8, LineFault>
     requires { i < length args.now }
     ensures ok { IfOk result (λ b. hex_byte (word_at (texts args.now) i) ≡ Some b) }
-    ensures err { IfErr result (λ e. TellsLineFault (byte_fault (word_at (texts args.now) i)) e) }
+    ensures err { IfErr result (λ e. ReportsLineFault (byte_fault (word_at (texts args.now) i)) e) }
 {
     hex_byte(word_at(args, i)).ok_or(LineFault::Is(FaultKind::BadHex))
 }
 
 fn terminator_line(args: &[&[u8]], state: &mut HeadState) -> Result<(), LineFault>
     requires { (length args.now ≡ 1) ⊎ (length args.now ≡ 2) }
-    ensures ok { OnOk result (IsDone Line (texts args.now) (head_value state.old) (head_value state.new)) }
-    ensures err { IfErr result (λ e. TellsLineFault (left_fault Line (texts args.now) (head_value state.old)) e) }
+    ensures ok { OnOk result (IsDone Line (texts args.now) (query_value state.old) (query_value state.new)) }
+    ensures err { IfErr result (λ e. ReportsLineFault (left_fault Line (texts args.now) (query_value state.old)) e) }
 {
     let first = byte_at(args, 0)?;
     let mut terminator = LineTerm::one(first);
@@ -146,8 +147,8 @@ fn terminator_line(args: &[&[u8]], state: &mut HeadState) -> Result<(), LineFaul
 
 fn capacity_line(args: &[&[u8]], state: &mut HeadState) -> Result<(), LineFault>
     requires { length args.now ≡ 1 }
-    ensures ok { OnOk result (IsDone Capacity (texts args.now) (head_value state.old) (head_value state.new)) }
-    ensures err { IfErr result (λ e. TellsLineFault (left_fault Capacity (texts args.now) (head_value state.old)) e) }
+    ensures ok { OnOk result (IsDone Capacity (texts args.now) (query_value state.old) (query_value state.new)) }
+    ensures err { IfErr result (λ e. ReportsLineFault (left_fault Capacity (texts args.now) (query_value state.old)) e) }
 {
     let Some(bytes) = number(word_at(args, 0)) else {
         return Err(LineFault::Is(FaultKind::BadNumber));
@@ -159,8 +160,8 @@ fn capacity_line(args: &[&[u8]], state: &mut HeadState) -> Result<(), LineFault>
 
 fn quit_line(args: &[&[u8]], state: &mut HeadState) -> Result<(), LineFault>
     requires { length args.now ≡ 1 }
-    ensures ok { OnOk result (IsDone Quit (texts args.now) (head_value state.old) (head_value state.new)) }
-    ensures err { IfErr result (λ e. TellsLineFault (left_fault Quit (texts args.now) (head_value state.old)) e) }
+    ensures ok { OnOk result (IsDone Quit (texts args.now) (query_value state.old) (query_value state.new)) }
+    ensures err { IfErr result (λ e. ReportsLineFault (left_fault Quit (texts args.now) (query_value state.old)) e) }
 {
     let byte = byte_at(args, 0)?;
     let dfa = state.setup.settings.dfa;
@@ -170,8 +171,8 @@ fn quit_line(args: &[&[u8]], state: &mut HeadState) -> Result<(), LineFault>
 
 fn classes_line(args: &[&[u8]], state: &mut HeadState) -> Result<(), LineFault>
     requires { length args.now ≡ 1 }
-    ensures ok { OnOk result (IsDone Classes (texts args.now) (head_value state.old) (head_value state.new)) }
-    ensures err { IfErr result (λ e. TellsLineFault (left_fault Classes (texts args.now) (head_value state.old)) e) }
+    ensures ok { OnOk result (IsDone Classes (texts args.now) (query_value state.old) (query_value state.new)) }
+    ensures err { IfErr result (λ e. ReportsLineFault (left_fault Classes (texts args.now) (query_value state.old)) e) }
 {
     let Some(on) = switch(word_at(args, 0)) else {
         return Err(LineFault::Is(FaultKind::BadChoice));
@@ -183,8 +184,8 @@ fn classes_line(args: &[&[u8]], state: &mut HeadState) -> Result<(), LineFault>
 
 fn shrink_line(args: &[&[u8]], state: &mut HeadState) -> Result<(), LineFault>
     requires { length args.now ≡ 1 }
-    ensures ok { OnOk result (IsDone Shrink (texts args.now) (head_value state.old) (head_value state.new)) }
-    ensures err { IfErr result (λ e. TellsLineFault (left_fault Shrink (texts args.now) (head_value state.old)) e) }
+    ensures ok { OnOk result (IsDone Shrink (texts args.now) (query_value state.old) (query_value state.new)) }
+    ensures err { IfErr result (λ e. ReportsLineFault (left_fault Shrink (texts args.now) (query_value state.old)) e) }
 {
     let Some(on) = switch(word_at(args, 0)) else {
         return Err(LineFault::Is(FaultKind::BadChoice));
@@ -195,8 +196,8 @@ fn shrink_line(args: &[&[u8]], state: &mut HeadState) -> Result<(), LineFault>
 
 fn anchored_line(args: &[&[u8]], state: &mut HeadState) -> Result<(), LineFault>
     requires { length args.now ≡ 1 }
-    ensures ok { OnOk result (IsDone Anchored (texts args.now) (head_value state.old) (head_value state.new)) }
-    ensures err { IfErr result (λ e. TellsLineFault (left_fault Anchored (texts args.now) (head_value state.old)) e) }
+    ensures ok { OnOk result (IsDone Anchored (texts args.now) (query_value state.old) (query_value state.new)) }
+    ensures err { IfErr result (λ e. ReportsLineFault (left_fault Anchored (texts args.now) (query_value state.old)) e) }
 {
     let Some(yes) = yes_or_no(word_at(args, 0)) else {
         return Err(LineFault::Is(FaultKind::BadChoice));
@@ -207,8 +208,8 @@ fn anchored_line(args: &[&[u8]], state: &mut HeadState) -> Result<(), LineFault>
 
 fn span_line(args: &[&[u8]], state: &mut HeadState) -> Result<(), LineFault>
     requires { length args.now ≡ 2 }
-    ensures ok { OnOk result (IsDone SpanWord (texts args.now) (head_value state.old) (head_value state.new)) }
-    ensures err { IfErr result (λ e. TellsLineFault (left_fault SpanWord (texts args.now) (head_value state.old)) e) }
+    ensures ok { OnOk result (IsDone SpanWord (texts args.now) (query_value state.old) (query_value state.new)) }
+    ensures err { IfErr result (λ e. ReportsLineFault (left_fault SpanWord (texts args.now) (query_value state.old)) e) }
 {
     let Some(start) = number(word_at(args, 0)) else {
         return Err(LineFault::Is(FaultKind::BadNumber));
@@ -225,8 +226,8 @@ fn span_line(args: &[&[u8]], state: &mut HeadState) -> Result<(), LineFault>
 
 #[tactic(auto, using(crate::proofs::StackLemmas::below_none))]
 fn empty_line(args: &[&[u8]], state: &mut HeadState) -> Result<(), LineFault>
-    ensures ok { OnOk result (IsDone Empty (texts args.now) (head_value state.old) (head_value state.new)) }
-    ensures err { IfErr result (λ e. TellsLineFault (left_fault Empty (texts args.now) (head_value state.old)) e) }
+    ensures ok { OnOk result (IsDone Empty (texts args.now) (query_value state.old) (query_value state.new)) }
+    ensures err { IfErr result (λ e. ReportsLineFault (left_fault Empty (texts args.now) (query_value state.old)) e) }
 {
     push(state, Hir::empty())
 }
@@ -234,8 +235,8 @@ fn empty_line(args: &[&[u8]], state: &mut HeadState) -> Result<(), LineFault>
 #[tactic(auto, using(crate::proofs::StackLemmas::below_none))]
 fn lit_line(alloc: Global, args: &[&[u8]], state: &mut HeadState) -> Result<(), LineFault>
     requires { length args.now ≡ 1 }
-    ensures ok { OnOk result (IsDone Lit (texts args.now) (head_value state.old) (head_value state.new)) }
-    ensures err { IfErr result (λ e. TellsLineFault (left_fault Lit (texts args.now) (head_value state.old)) e) }
+    ensures ok { OnOk result (IsDone Lit (texts args.now) (query_value state.old) (query_value state.new)) }
+    ensures err { IfErr result (λ e. ReportsLineFault (left_fault Lit (texts args.now) (query_value state.old)) e) }
 {
     let bytes = hex_bytes(alloc, word_at(args, 0))?;
     push(state, Hir::literal(bytes))
@@ -243,8 +244,8 @@ fn lit_line(alloc: Global, args: &[&[u8]], state: &mut HeadState) -> Result<(), 
 
 #[tactic(auto, using(crate::proofs::StackLemmas::below_none))]
 fn bytes_line(alloc: Global, args: WordsLeft, state: &mut HeadState) -> Result<(), LineFault>
-    ensures ok { OnOk result (IsDone Bytes (words_left args.entry) (head_value state.old) (head_value state.new)) }
-    ensures err { IfErr result (λ e. TellsLineFault (left_fault Bytes (words_left args.entry) (head_value state.old)) e) }
+    ensures ok { OnOk result (IsDone Bytes (words_left args.entry) (query_value state.old) (query_value state.new)) }
+    ensures err { IfErr result (λ e. ReportsLineFault (left_fault Bytes (words_left args.entry) (query_value state.old)) e) }
 {
     let ends = low_ends(args)?;
     let Ok(ranges) = class_ranges(alloc, &ends) else {
@@ -255,8 +256,8 @@ fn bytes_line(alloc: Global, args: WordsLeft, state: &mut HeadState) -> Result<(
 
 #[tactic(auto, using(crate::proofs::StackLemmas::below_none, crate::proofs::ScalarRangeLemmas::faultless_items_ascend))]
 fn chars_line(alloc: Global, args: WordsLeft, state: &mut HeadState) -> Result<(), LineFault>
-    ensures ok { OnOk result (IsDone Chars (words_left args.entry) (head_value state.old) (head_value state.new)) }
-    ensures err { IfErr result (λ e. TellsLineFault (left_fault Chars (words_left args.entry) (head_value state.old)) e) }
+    ensures ok { OnOk result (IsDone Chars (words_left args.entry) (query_value state.old) (query_value state.new)) }
+    ensures err { IfErr result (λ e. ReportsLineFault (left_fault Chars (words_left args.entry) (query_value state.old)) e) }
 {
     let items = scalar_items(alloc, args)?;
     let Ok(ranges) = scalar_ranges(alloc, items) else {
@@ -268,8 +269,8 @@ fn chars_line(alloc: Global, args: WordsLeft, state: &mut HeadState) -> Result<(
 #[tactic(auto, using(crate::proofs::StackLemmas::below_none))]
 fn look_line(args: &[&[u8]], state: &mut HeadState) -> Result<(), LineFault>
     requires { length args.now ≡ 1 }
-    ensures ok { OnOk result (IsDone Look (texts args.now) (head_value state.old) (head_value state.new)) }
-    ensures err { IfErr result (λ e. TellsLineFault (left_fault Look (texts args.now) (head_value state.old)) e) }
+    ensures ok { OnOk result (IsDone Look (texts args.now) (query_value state.old) (query_value state.new)) }
+    ensures err { IfErr result (λ e. ReportsLineFault (left_fault Look (texts args.now) (query_value state.old)) e) }
 {
     let Some(assertion) = look_named(word_at(args, 0)) else {
         return Err(LineFault::Is(FaultKind::UnknownLook));
@@ -288,8 +289,8 @@ fn is_at_most(n: u32, most: Option<u32>) -> bool
 
 fn rep_line(alloc: Global, args: &[&[u8]], state: &mut HeadState) -> Result<(), LineFault>
     requires { length args.now ≡ 3 }
-    ensures ok { OnOk result (IsDone Rep (texts args.now) (head_value state.old) (head_value state.new)) }
-    ensures err { IfErr result (λ e. TellsLineFault (left_fault Rep (texts args.now) (head_value state.old)) e) }
+    ensures ok { OnOk result (IsDone Rep (texts args.now) (query_value state.old) (query_value state.new)) }
+    ensures err { IfErr result (λ e. ReportsLineFault (left_fault Rep (texts args.now) (query_value state.old)) e) }
 {
     let Some(min) = number(word_at(args, 0)) else {
         return Err(LineFault::Is(FaultKind::BadNumber));
@@ -314,8 +315,8 @@ fn rep_line(alloc: Global, args: &[&[u8]], state: &mut HeadState) -> Result<(), 
 
 fn cat_line(args: &[&[u8]], state: &mut HeadState) -> Result<(), LineFault>
     requires { length args.now ≡ 1 }
-    ensures ok { OnOk result (IsDone Cat (texts args.now) (head_value state.old) (head_value state.new)) }
-    ensures err { IfErr result (λ e. TellsLineFault (left_fault Cat (texts args.now) (head_value state.old)) e) }
+    ensures ok { OnOk result (IsDone Cat (texts args.now) (query_value state.old) (query_value state.new)) }
+    ensures err { IfErr result (λ e. ReportsLineFault (left_fault Cat (texts args.now) (query_value state.old)) e) }
 {
     let Some(count) = number(word_at(args, 0)) else {
         return Err(LineFault::Is(FaultKind::BadNumber));
@@ -326,8 +327,8 @@ fn cat_line(args: &[&[u8]], state: &mut HeadState) -> Result<(), LineFault>
 
 fn alt_line(args: &[&[u8]], state: &mut HeadState) -> Result<(), LineFault>
     requires { length args.now ≡ 1 }
-    ensures ok { OnOk result (IsDone Alt (texts args.now) (head_value state.old) (head_value state.new)) }
-    ensures err { IfErr result (λ e. TellsLineFault (left_fault Alt (texts args.now) (head_value state.old)) e) }
+    ensures ok { OnOk result (IsDone Alt (texts args.now) (query_value state.old) (query_value state.new)) }
+    ensures err { IfErr result (λ e. ReportsLineFault (left_fault Alt (texts args.now) (query_value state.old)) e) }
 {
     let Some(count) = number(word_at(args, 0)) else {
         return Err(LineFault::Is(FaultKind::BadNumber));
@@ -337,8 +338,8 @@ fn alt_line(args: &[&[u8]], state: &mut HeadState) -> Result<(), LineFault>
 }
 
 fn pattern_line(args: &[&[u8]], state: &mut HeadState) -> Result<(), LineFault>
-    ensures ok { OnOk result (IsDone Pattern (texts args.now) (head_value state.old) (head_value state.new)) }
-    ensures err { IfErr result (λ e. TellsLineFault (left_fault Pattern (texts args.now) (head_value state.old)) e) }
+    ensures ok { OnOk result (IsDone Pattern (texts args.now) (query_value state.old) (query_value state.new)) }
+    ensures err { IfErr result (λ e. ReportsLineFault (left_fault Pattern (texts args.now) (query_value state.old)) e) }
 {
     if state.stack.len() != 1 {
         return Err(LineFault::Is(FaultKind::NotOneTree));
@@ -353,8 +354,8 @@ fn pattern_line(args: &[&[u8]], state: &mut HeadState) -> Result<(), LineFault>
 }
 
 fn find_line(args: &[&[u8]], state: &mut HeadState) -> Result<(), LineFault>
-    ensures ok { OnOk result (IsDone Find (texts args.now) (head_value state.old) (head_value state.new)) }
-    ensures err { IfErr result (λ e. TellsLineFault (left_fault Find (texts args.now) (head_value state.old)) e) }
+    ensures ok { OnOk result (IsDone Find (texts args.now) (query_value state.old) (query_value state.new)) }
+    ensures err { IfErr result (λ e. ReportsLineFault (left_fault Find (texts args.now) (query_value state.old)) e) }
 {
     if state.stack.len() != 0 {
         return Err(LineFault::Is(FaultKind::TreeLeftOver));
@@ -362,7 +363,7 @@ fn find_line(args: &[&[u8]], state: &mut HeadState) -> Result<(), LineFault>
     Ok(())
 }
 
-/// Whether so many words may follow the line's first.
+/// Whether `count` words may follow the line's first.
 fn is_word_count(word: LineWord, count: usize) -> bool
     ensures { result ≡ is_word_count word count }
 {
@@ -394,17 +395,17 @@ fn is_setting(word: LineWord) -> bool
     )
 }
 
-/// Whether the line is a class, whose items may be any number.
+/// Whether the line is a class, which may have any number of items.
 fn is_class(word: LineWord) -> bool
     ensures { result ≡ is_class word }
 {
     matches!(word, LineWord::Bytes | LineWord::Chars)
 }
 
-/// Whether the line sets something where a tree has been pushed: such a tree stands on the stack,
-/// itself or within another, or was taken as a pattern.
+/// Whether the line sets something after a tree has been pushed. Such a tree is on the stack, itself or
+/// within another, or was taken as a pattern.
 fn is_setting_after_node(word: LineWord, state: &HeadState) -> bool
-    ensures { result ≡ is_setting_after_node word (head_value state.now) }
+    ensures { result ≡ is_setting_after_node word (query_value state.now) }
 {
     is_setting(word) && (state.stack.len() > 0 || state.patterns.len() > 0)
 }
@@ -413,8 +414,8 @@ fn is_setting_after_node(word: LineWord, state: &HeadState) -> bool
 fn follow_setting(word: LineWord, args: &[&[u8]], state: &mut HeadState) -> Result<(), LineFault>
     requires setting { IsTrue (is_setting word) }
     requires counted { IsTrue (is_word_count word (length args.now)) }
-    ensures ok { OnOk result (IsDone word (texts args.now) (head_value state.old) (head_value state.new)) }
-    ensures err { IfErr result (λ e. TellsLineFault (left_fault word (texts args.now) (head_value state.old)) e) }
+    ensures ok { OnOk result (IsDone word (texts args.now) (query_value state.old) (query_value state.new)) }
+    ensures err { IfErr result (λ e. ReportsLineFault (left_fault word (texts args.now) (query_value state.old)) e) }
 {
     match word {
         LineWord::Utf8 => utf8_line(args, state),
@@ -439,8 +440,8 @@ fn follow_other(
     requires other { is_setting word ≡ false }
     requires no_class { is_class word ≡ false }
     requires counted { IsTrue (is_word_count word (length args.now)) }
-    ensures ok { OnOk result (IsDone word (texts args.now) (head_value state.old) (head_value state.new)) }
-    ensures err { IfErr result (λ e. TellsLineFault (left_fault word (texts args.now) (head_value state.old)) e) }
+    ensures ok { OnOk result (IsDone word (texts args.now) (query_value state.old) (query_value state.new)) }
+    ensures err { IfErr result (λ e. ReportsLineFault (left_fault word (texts args.now) (query_value state.old)) e) }
 {
     match word {
         LineWord::Empty => empty_line(args, state),
@@ -473,9 +474,9 @@ fn follow_class(
     state: &mut HeadState,
 ) -> Result<Step, LineFault>
     requires { is_class word ≡ true }
-    ensures ok { IfOk result (λ step. IsDone word (words_left args.entry) (head_value state.old) (head_value state.new)
+    ensures ok { IfOk result (λ step. IsDone word (words_left args.entry) (query_value state.old) (query_value state.new)
         × (step ≡ step_after word)) }
-    ensures err { IfErr result (λ e. TellsLineFault (left_fault word (words_left args.entry) (head_value state.old)) e) }
+    ensures err { IfErr result (λ e. ReportsLineFault (left_fault word (words_left args.entry) (query_value state.old)) e) }
 {
     match word {
         LineWord::Bytes => bytes_line(alloc, args, state)?,
@@ -494,9 +495,9 @@ fn follow_counted(
 ) -> Result<Step, LineFault>
     requires no_class { is_class word ≡ false }
     requires counted { IsTrue (is_word_count word (length args.now)) }
-    ensures ok { IfOk result (λ step. IsDone word (texts args.now) (head_value state.old) (head_value state.new)
+    ensures ok { IfOk result (λ step. IsDone word (texts args.now) (query_value state.old) (query_value state.new)
         × (step ≡ step_after word)) }
-    ensures err { IfErr result (λ e. TellsLineFault (left_fault word (texts args.now) (head_value state.old)) e) }
+    ensures err { IfErr result (λ e. ReportsLineFault (left_fault word (texts args.now) (query_value state.old)) e) }
 {
     if is_setting(word) {
         follow_setting(word, args, state)?;
@@ -514,9 +515,9 @@ fn follow(
     args: WordsLeft,
     state: &mut HeadState,
 ) -> Result<Step, LineFault>
-    ensures ok { IfOk result (λ step. (known_fault word (words_left args.entry) (head_value state.old) ≡ None)
-        × (head_value state.new ≡ after_line word (words_left args.entry) (head_value state.old)) × (step ≡ step_after word)) }
-    ensures err { IfErr result (λ e. TellsLineFault (known_fault word (words_left args.entry) (head_value state.old)) e) }
+    ensures ok { IfOk result (λ step. (known_fault word (words_left args.entry) (query_value state.old) ≡ None)
+        × (query_value state.new ≡ after_line word (words_left args.entry) (query_value state.old)) × (step ≡ step_after word)) }
+    ensures err { IfErr result (λ e. ReportsLineFault (known_fault word (words_left args.entry) (query_value state.old)) e) }
 {
     if is_setting_after_node(word, state) {
         return Err(LineFault::Is(FaultKind::SettingAfterNode));
@@ -524,12 +525,12 @@ fn follow(
     let Ok(first) = args.at_most(alloc, MORE_THAN_MAY_FOLLOW) else {
         return Err(LineFault::NoMemory);
     };
-    let told = follow_words(alloc, word, &first, args, state);
+    let reported = follow_words(alloc, word, &first, args, state);
     drop(first);
-    told
+    reported
 }
 
-/// The same of a line that may stand there, of which the first words behind this one are at hand.
+/// Follows a line that may stand there. `first` has the first words after the line's own word.
 fn follow_words(
     alloc: Global,
     word: LineWord,
@@ -537,11 +538,11 @@ fn follow_words(
     args: WordsLeft,
     state: &mut HeadState,
 ) -> Result<Step, LineFault>
-    requires allowed { is_setting_after_node word (head_value state.old) ≡ false }
+    requires allowed { is_setting_after_node word (query_value state.old) ≡ false }
     requires first { texts first.now ≡ take 4 (words_left args) }
-    ensures ok { IfOk result (λ step. (known_fault word (words_left args.entry) (head_value state.old) ≡ None)
-        × (head_value state.new ≡ after_line word (words_left args.entry) (head_value state.old)) × (step ≡ step_after word)) }
-    ensures err { IfErr result (λ e. TellsLineFault (known_fault word (words_left args.entry) (head_value state.old)) e) }
+    ensures ok { IfOk result (λ step. (known_fault word (words_left args.entry) (query_value state.old) ≡ None)
+        × (query_value state.new ≡ after_line word (words_left args.entry) (query_value state.old)) × (step ≡ step_after word)) }
+    ensures err { IfErr result (λ e. ReportsLineFault (known_fault word (words_left args.entry) (query_value state.old)) e) }
 {
     if !is_word_count(word, first.len()) {
         return Err(LineFault::Is(FaultKind::WrongWordCount));
@@ -558,8 +559,8 @@ pub(crate) fn read_line(
     line: &[u8],
     state: &mut HeadState,
 ) -> Result<Step, LineFault>
-    ensures ok { IfOk result (λ step. TellsStep (words line.now) (head_value state.old) (head_value state.new) step) }
-    ensures err { IfErr result (λ e. TellsLineFault (fault (words line.now) (head_value state.old)) e) }
+    ensures ok { IfOk result (λ step. ReportsStep (words line.now) (query_value state.old) (query_value state.new) step) }
+    ensures err { IfErr result (λ e. ReportsLineFault (fault (words line.now) (query_value state.old)) e) }
 {
     let mut args = WordsLeft::of(line);
     let Some(first) = args.next() else {

@@ -1,4 +1,4 @@
-//! The test for repetitions without a bound whose body may be empty.
+//! The test for unbounded repetitions whose body may be empty.
 ghost use Rattle.std.specs.Prelude.{◌≡◌, ◌↔◌, All, IsTrue};
 ghost use Rattle.hir_core.specs.Facts.{LoopsRead};
 ghost use Rattle.hir_core.specs.Tree.{concat, alternation};
@@ -7,15 +7,15 @@ ghost use Rattle.hirscan.specs.Loops.{loops_read, first_empty_loop};
 
 use hir_core::{Hir, HirKind};
 
-/// The number of the first pattern with a repetition without a bound whose body may be empty.
+/// The number of the first pattern with an unbounded repetition whose body may be empty.
 pub fn first_empty_loop(patterns: &[Hir]) -> Option<usize>
     ensures { result ≡ first_empty_loop patterns.now }
 {
     patterns.iter().position(|x| !loops_read(x))
 }
 
-/// Whether each repetition without a bound in these trees has a body that reads, as the laws on preferred matches ask for
-/// ([`headline`](crate::headline)).
+/// Whether the body of every unbounded repetition in these trees consumes at least one byte, as the laws on preferred matches
+/// require ([`headline`](crate::headline)).
 pub fn all_loops_read(trees: &[Hir]) -> bool
     ensures { IsTrue result ↔ All LoopsRead trees.now }
 {
@@ -31,7 +31,7 @@ fn is_above_zero(len: Option<usize>) -> bool
     }
 }
 
-/// Whether each repetition without a bound in the tree has a body that reads.
+/// Whether the body of every unbounded repetition in the tree consumes at least one byte.
 #[cycle(loops_read)]
 fn loops_read(x: &Hir) -> bool
     ensures { result ≡ loops_read x.now }

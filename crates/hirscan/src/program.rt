@@ -17,12 +17,12 @@ pub enum RunError {
     /// A write failed or took no byte, or the flush failed. What was written begins the reply.
     #[error("write fault")]
     Write,
-    /// A growth was refused. Nothing was written.
+    /// An allocation failed. Nothing was written.
     #[error("out of memory")]
     NoMemory,
 }
 
-/// How many bytes are asked of the reader at once.
+/// How many bytes are requested from the reader at once.
 const CHUNK: usize = 65536;
 
 impl From<AllocError> for RunError {
@@ -43,7 +43,7 @@ fn make_buffer(alloc: Global, len: usize) -> Result<Vec<u8>, AllocError>
     vec![in alloc; 0u8; len]
 }
 
-/// Appends the bytes of one read to the input. The answer counts them; 0 is the reader's end.
+/// Appends the bytes of one read to the input, and returns their number. 0 means that the reader is at its end.
 fn read_some<R: Read>(
     reader: &mut R,
     buffer: &mut [u8],
@@ -63,7 +63,7 @@ fn read_some<R: Read>(
     }
 }
 
-/// What the reader gives up to its end, or one byte more than the limit of an input.
+/// What the reader has up to its end, or one byte more than the limit of an input.
 fn read_input<R: Read>(
     alloc: Global,
     reader: &mut R,
@@ -106,13 +106,13 @@ fn write_reply<W: Write>(writer: &mut W, text: &[u8]) -> Result<(), RunError>
     }
 }
 
-/// Reads a head and a haystack to the end, and writes the reply: a line `pattern start end` for each
-/// span of the list of all answers, which ends in a line that begins `quit: ` where a search gives up
-/// at a quit byte; or one line that begins `refused: `. The whole reply is made before the first write.
+/// Reads a query and a haystack to the end, and writes the reply. It has a line `pattern start end` for each span of the list of
+/// all answers. If a search gives up at a quit byte, the list ends in a line that begins with `quit: `. If the input is rejected,
+/// the reply is one line that begins with `refused: `. The whole reply is made before the first write.
 ///
-/// It ends with [`RunError::Read`] where a read fails, with [`RunError::NoMemory`] where a growth is refused, and with
-/// [`RunError::Write`] where a write fails or takes no byte or the flush fails; nothing is written before the reply is whole. Of the
-/// reader it takes all bytes, or one more than an input may have.
+/// The call returns [`RunError::Read`] if a read fails, and [`RunError::NoMemory`] if an allocation fails. It returns
+/// [`RunError::Write`] if a write fails or takes no byte, or the flush fails. Nothing is written before the reply is whole. Of
+/// the reader it takes all bytes, or one more than an input may have.
 pub fn run<R: Read, W: Write>(
     alloc: Global,
     reader: &mut R,

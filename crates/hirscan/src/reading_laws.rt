@@ -1,7 +1,7 @@
 //! Laws of the notation. Each function has no code: its contract is the law.
 //! ```rust
 //! pub fn heads_read_once()
-//!     ensures { (text : List ℕ) (p q r : HeadValue) (n m : ℕ) → Reads text p q n → Reads text p r m → q ≡ r }
+//!     ensures { (text : List ℕ) (p q r : QueryValue) (n m : ℕ) → Reads text p q n → Reads text p r m → q ≡ r }
 //! {
 //!     texts_read_in_one_way();
 //! }
@@ -11,42 +11,41 @@ ghost use Rattle.hir_core.specs.Means.{is_member};
 ghost use Rattle.hir_core.specs.Facts.{is_ascending};
 ghost use Rattle.hirscan.specs.declared.fault.FaultKind.{FaultKind};
 ghost use Rattle.hirscan.specs.Words.{class_ranges};
-ghost use Rattle.hirscan.specs.Takes.{HeadValue, Takes, EndsHead};
+ghost use Rattle.hirscan.specs.Takes.{QueryValue, Takes, EndsQuery};
 ghost use Rattle.hirscan.specs.LineFault.{fault};
 ghost use Rattle.hirscan.specs.Reads.{Reads, IsFaultAt};
 
-/// A line without a fault has a rule that takes it or ends the head; a line with such a rule
-/// has none.
+/// A line without a fault has a rule that takes it or ends the query. A line with such a rule has no fault.
 #[tactic(auto, using(crate::proofs::EffectLemmas::taken_or_ends, crate::proofs::EffectLemmas::ends_no_fault))]
 pub fn lines_without_a_fault_have_a_rule()
-    ensures ruled { (ws : List (List ℕ)) (p : HeadValue) → fault ws p ≡ None → ((q : HeadValue) × Takes ws p q) ⊎ EndsHead ws p }
-    ensures taken { (ws : List (List ℕ)) (p q : HeadValue) → Takes ws p q → fault ws p ≡ None }
-    ensures ended { (ws : List (List ℕ)) (p : HeadValue) → EndsHead ws p → fault ws p ≡ None }
+    ensures ruled { (ws : List (List ℕ)) (p : QueryValue) → fault ws p ≡ None → ((q : QueryValue) × Takes ws p q) ⊎ EndsQuery ws p }
+    ensures taken { (ws : List (List ℕ)) (p q : QueryValue) → Takes ws p q → fault ws p ≡ None }
+    ensures ended { (ws : List (List ℕ)) (p : QueryValue) → EndsQuery ws p → fault ws p ≡ None }
 {}
 
-/// A line has one effect: it leads to one head state, and doesn't end the head as well.
+/// A line has one effect: it leads to one state of the query, and doesn't end the query as well.
 #[tactic(auto, using(crate::proofs::EffectLemmas::taken_goes_on))]
 pub fn lines_have_one_effect()
-    ensures same { (ws : List (List ℕ)) (p q r : HeadValue) → Takes ws p q → Takes ws p r → q ≡ r }
-    ensures goes_on { (ws : List (List ℕ)) (p q : HeadValue) → Takes ws p q → EndsHead ws p → ⊥ }
+    ensures same { (ws : List (List ℕ)) (p q r : QueryValue) → Takes ws p q → Takes ws p r → q ≡ r }
+    ensures goes_on { (ws : List (List ℕ)) (p q : QueryValue) → Takes ws p q → EndsQuery ws p → ⊥ }
 {}
 
 /// A text reads in one way.
 #[tactic(auto, using(crate::proofs::ReadsLemmas::reads_once))]
 pub fn texts_read_in_one_way()
-    ensures { (text : List ℕ) (p q r : HeadValue) (n m : ℕ) → Reads text p q n → Reads text p r m → (q ≡ r) × (n ≡ m) }
+    ensures { (text : List ℕ) (p q r : QueryValue) (n m : ℕ) → Reads text p q n → Reads text p r m → (q ≡ r) × (n ≡ m) }
 {}
 
 /// A text that reads has no fault.
 #[tactic(auto, using(crate::proofs::ReadsLemmas::reads_no_fault))]
 pub fn texts_that_read_have_no_fault()
-    ensures { (text : List ℕ) (p q : HeadValue) (n k : ℕ) (kind : FaultKind) → Reads text p q n → IsFaultAt text p k kind → ⊥ }
+    ensures { (text : List ℕ) (p q : QueryValue) (n k : ℕ) (kind : FaultKind) → Reads text p q n → IsFaultAt text p k kind → ⊥ }
 {}
 
 /// A text has one first fault.
 #[tactic(auto, using(crate::proofs::ReadsLemmas::fault_once))]
 pub fn texts_have_one_first_fault()
-    ensures { (text : List ℕ) (p : HeadValue) (k l : ℕ) (kind other : FaultKind) → IsFaultAt text p k kind → IsFaultAt text p l other
+    ensures { (text : List ℕ) (p : QueryValue) (k l : ℕ) (kind other : FaultKind) → IsFaultAt text p k kind → IsFaultAt text p l other
         → (k ≡ l) × (kind ≡ other) }
 {}
 
@@ -59,6 +58,6 @@ pub fn classes_have_their_items_bytes()
 
 /// A text reads, or a line of it is the first faulty one.
 pub fn texts_read_or_have_a_fault()
-    ensures { (text : List ℕ) (p : HeadValue) →
-        ((q : HeadValue) × (n : ℕ) × Reads text p q n) ⊎ ((k : ℕ) × (kind : FaultKind) × IsFaultAt text p k kind) }
+    ensures { (text : List ℕ) (p : QueryValue) →
+        ((q : QueryValue) × (n : ℕ) × Reads text p q n) ⊎ ((k : ℕ) × (kind : FaultKind) × IsFaultAt text p k kind) }
 {}

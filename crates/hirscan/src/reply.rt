@@ -1,13 +1,13 @@
 // The whole reply to an input, made before anything is written.
 ghost use Rattle.std.specs.Prelude.{◌≡◌, ◌++◌, ◌+◌, ◌<◌, ◌^◌, ◌≤◌, All, length, IfOk, IsTrue, MatchOption, OnOk, string_bytes};
-ghost use Rattle.hirscan.specs.Refusals.{span_of, is_span};
+ghost use Rattle.hirscan.specs.Rejections.{span_of, is_span};
 ghost use Rattle.hirscan.specs.Asks.{asked_search};
-ghost use Rattle.hirscan.specs.Tells.{value_of_head};
+ghost use Rattle.hirscan.specs.QueryReports.{value_of_query};
 ghost use Rattle.search_core.specs.Index.{greatest_index};
 ghost use Rattle.hirscan.specs.Built.{IsBuilt, program_settings};
 ghost use Rattle.regex_pair.specs.Pairs.{AreCachesOf};
-ghost use Rattle.hirscan.specs.Listing.{IsSearched, MayEndList, TellsQuit};
-ghost use Rattle.hirscan.specs.Reply.{IsReply, IsSearchReply, AnswersHead, AreTooLarge, span_line, span_lines, quit_line, refusal_line};
+ghost use Rattle.hirscan.specs.Listing.{IsSearched, MayEndList, ReportsQuit};
+ghost use Rattle.hirscan.specs.Reply.{IsReply, IsSearchReply, AnswersQuery, AreTooLarge, span_line, span_lines, quit_line, error_line};
 
 use crate::building::build;
 use crate::causes::refusal_cause;
@@ -40,10 +40,10 @@ fn push_span(text: &mut String, found: Match) -> Result<(), AllocError>
     Ok(())
 }
 
-/// The reply of one line that refuses the input for this cause.
-fn refusal(alloc: Global, cause: &str) -> Result<Reply, AllocError>
+/// The reply of one line that rejects the input for this cause.
+fn rejection(alloc: Global, cause: &str) -> Result<Reply, AllocError>
     ensures ending { IfOk result (λ r. r.ending ≡ Ending.Refused) }
-    ensures text { IfOk result (λ r. string_bytes r.text ≡ refusal_line cause.now) }
+    ensures text { IfOk result (λ r. string_bytes r.text ≡ error_line cause.now) }
 {
     Ok(Reply {
         ending: Ending::Refused,
@@ -51,10 +51,10 @@ fn refusal(alloc: Global, cause: &str) -> Result<Reply, AllocError>
     })
 }
 
-/// The span that is searched, as an input.
+/// The input of the search, with the span that is searched.
 fn input_of<'h>(head: &Head, h: &'h [u8]) -> Input<'h>
     requires { IsTrue (is_span (span_of head.now.span h.now) h.now) }
-    ensures { result ≡ asked_search (value_of_head head.now).setup h.now }
+    ensures { result ≡ asked_search (value_of_query head.now).setup h.now }
 {
     let input = Input::new(h).anchored(if head.anchored {
         Anchored::Yes
@@ -67,7 +67,7 @@ fn input_of<'h>(head: &Head, h: &'h [u8]) -> Input<'h>
     }
 }
 
-/// The lines of what was found before a search gave up, with the line that says where.
+/// The lines of what was found before a search gave up, and a line that says where it did.
 fn quit_reply(alloc: Global, text: String, byte: u8, offset: usize) -> Result<Reply, AllocError>
     ensures ending { IfOk result (λ r. r.ending ≡ Ending.Quit) }
     ensures text { IfOk result (λ r. string_bytes r.text ≡ string_bytes text ++ quit_line byte offset) }
@@ -81,10 +81,10 @@ fn quit_reply(alloc: Global, text: String, byte: u8, offset: usize) -> Result<Re
     })
 }
 
-/// The reply of a search behind whose first matches, told in this text, this refusal came.
+/// The reply of a search that ended with this error, after the matches that the text lists.
 fn failed_reply(alloc: Global, text: String, e: MatchError) -> Result<Reply, AllocError>
-    requires told { MayEndList e }
-    ensures { IfOk result (λ r. TellsQuit e (string_bytes text) r.ending (string_bytes r.text)) }
+    requires reported { MayEndList e }
+    ensures { IfOk result (λ r. ReportsQuit e (string_bytes text) r.ending (string_bytes r.text)) }
 {
     match e.kind() {
         MatchErrorKind::Quit { byte, offset } => quit_reply(alloc, text, *byte, *offset),
@@ -93,12 +93,12 @@ fn failed_reply(alloc: Global, text: String, e: MatchError) -> Result<Reply, All
     }
 }
 
-/// What a haystack has are bytes.
+/// A haystack consists of bytes.
 pub(crate) fn see_bytes(bytes: &[u8])
     ensures { All (λ byte. byte < 256) bytes.now }
 {}
 
-/// The reply of a search over the regex of the head's patterns: a line for each match, up to where the search gives up.
+/// The reply of a search over the regex of the query's patterns: a line for each match, up to where the search gives up.
 fn list_matches(
     alloc: Global,
     regex: &Regex,
@@ -108,8 +108,8 @@ fn list_matches(
 ) -> Result<Reply, AllocError>
     requires own { AreCachesOf regex.now cache.old }
     requires built { IsBuilt head.now.patterns.items (program_settings head.now.settings) regex.now }
-    requires searched { IsSearched (value_of_head head.now).setup head.now.patterns.items h.now }
-    ensures { IfOk result (λ r. IsSearchReply (value_of_head head.now).setup head.now.patterns.items h.now r.ending (string_bytes r.text)) }
+    requires searched { IsSearched (value_of_query head.now).setup head.now.patterns.items h.now }
+    ensures { IfOk result (λ r. IsSearchReply (value_of_query head.now).setup head.now.patterns.items h.now r.ending (string_bytes r.text)) }
 {
     see_bytes(h);
     let mut text = String::new(alloc);
@@ -125,10 +125,10 @@ fn list_matches(
     })
 }
 
-/// The regex of the head's patterns; `None` where they are too large.
+/// The regex of the query's patterns, or `None` if they are too large.
 fn regex_of(alloc: Global, head: &Head) -> Result<Option<Regex>, AllocError>
     requires few { length head.now.patterns.items ≤ greatest_index + 1 }
-    ensures { IfOk result (λ r. MatchOption r (AreTooLarge (value_of_head head.now).setup head.now.patterns.items)
+    ensures { IfOk result (λ r. MatchOption r (AreTooLarge (value_of_query head.now).setup head.now.patterns.items)
         (λ p. IsBuilt head.now.patterns.items (program_settings head.now.settings) p)) }
 {
     let settings = program_settings(head.settings);
@@ -143,11 +143,11 @@ fn regex_of(alloc: Global, head: &Head) -> Result<Option<Regex>, AllocError>
     }
 }
 
-/// The reply of a search over this regex of the head's patterns.
+/// The reply of a search over this regex of the query's patterns.
 fn matches_reply(alloc: Global, regex: &Regex, head: &Head, h: &[u8]) -> Result<Reply, AllocError>
     requires built { IsBuilt head.now.patterns.items (program_settings head.now.settings) regex.now }
-    requires searched { IsSearched (value_of_head head.now).setup head.now.patterns.items h.now }
-    ensures { IfOk result (λ r. IsSearchReply (value_of_head head.now).setup head.now.patterns.items h.now r.ending (string_bytes r.text)) }
+    requires searched { IsSearched (value_of_query head.now).setup head.now.patterns.items h.now }
+    ensures { IfOk result (λ r. IsSearchReply (value_of_query head.now).setup head.now.patterns.items h.now r.ending (string_bytes r.text)) }
 {
     let mut cache = Cache::new(alloc, regex)?;
     let reply = list_matches(alloc, regex, &mut cache, head, h);
@@ -155,43 +155,43 @@ fn matches_reply(alloc: Global, regex: &Regex, head: &Head, h: &[u8]) -> Result<
     reply
 }
 
-/// The reply of a search for the head's patterns, which may be too large.
+/// The reply of a search for the query's patterns, which may be too large.
 fn found_reply(alloc: Global, head: &Head, h: &[u8]) -> Result<Reply, AllocError>
     requires few { length head.now.patterns.items ≤ greatest_index + 1 }
-    requires searched { IsSearched (value_of_head head.now).setup head.now.patterns.items h.now }
-    ensures { IfOk result (λ r. IsSearchReply (value_of_head head.now).setup head.now.patterns.items h.now r.ending (string_bytes r.text)) }
+    requires searched { IsSearched (value_of_query head.now).setup head.now.patterns.items h.now }
+    ensures { IfOk result (λ r. IsSearchReply (value_of_query head.now).setup head.now.patterns.items h.now r.ending (string_bytes r.text)) }
 {
     let Some(regex) = regex_of(alloc, head)? else {
-        return refusal(alloc, "size limit");
+        return rejection(alloc, "size limit");
     };
     let reply = matches_reply(alloc, &regex, head, h);
     drop(regex);
     reply
 }
 
-/// The reply where this head was read, with this haystack behind it.
+/// The reply to this query with this haystack after it.
 fn search_reply(alloc: Global, head: &Head, h: &[u8]) -> Result<Reply, AllocError>
     requires few { length head.now.patterns.items ≤ greatest_index + 1 }
-    ensures { IfOk result (λ r. AnswersHead (value_of_head head.now).setup head.now.patterns.items h.now r.ending (string_bytes r.text)) }
+    ensures { IfOk result (λ r. AnswersQuery (value_of_query head.now).setup head.now.patterns.items h.now r.ending (string_bytes r.text)) }
 {
     if let Some(cause) = refusal_cause(alloc, head, h)? {
-        return refusal(alloc, cause.as_str());
+        return rejection(alloc, cause.as_str());
     }
     found_reply(alloc, head, h)
 }
 
-/// The reply to an input, where `input` is the whole of it or begins it and is above the limit.
+/// The reply to an input. `input` is the whole of it, or is its beginning and above the limit.
 pub(crate) fn reply_to(alloc: Global, input: &[u8]) -> Result<Reply, AllocError>
     ensures { IfOk result (λ r. IsReply input.now r.ending (string_bytes r.text)) }
 {
     if input.len() > INPUT_LIMIT {
-        return refusal(alloc, "input above 1073741824 bytes");
+        return rejection(alloc, "input above 1073741824 bytes");
     }
     match read_head(alloc, input) {
         Ok(head) => search_reply(alloc, &head, &input[head.len..]),
         Err(Fault::Notation { line, kind }) => {
             let cause = format!(in alloc; "line {line}: {kind}")?;
-            refusal(alloc, cause.as_str())
+            rejection(alloc, cause.as_str())
         }
         Err(Fault::NoMemory) => Err(AllocError),
     }

@@ -1,5 +1,5 @@
-//! Laws of searches over two automata that are compiled from trees: they answer what the trees define. Each function has no
-//! code: its contract is the law.
+//! Laws of searches over two automata that are compiled from trees: they return what the trees define. Each function has no code:
+//! its contract is the law.
 //! ```rust
 //! pub fn joined_answers_are_defined()
 //!     ensures { (xs : List Tree) (u : Bool) (t : Terminator) (p : Pair) → IsRegexOf xs u t p → (q : Search) →
@@ -30,8 +30,8 @@ ghost use Rattle.lazy_dfa.specs.ConfigValue.{DfaOptions};
 ghost use Rattle.lazy_dfa.specs.ConfigValue.{kind_of};
 ghost use Rattle.lazy_dfa.specs.Dfas.{IsDfa, reader};
 ghost use Rattle.lazy_dfa.specs.Readers.{quit, unsupported};
-ghost use Rattle.lazy_dfa.specs.ScanLaws.{HasNoQuitNear};
-ghost use Rattle.lazy_dfa.specs.Scans.{scan};
+ghost use Rattle.lazy_dfa.specs.HalfSearchLaws.{HasNoQuitNear};
+ghost use Rattle.lazy_dfa.specs.HalfSearches.{half_search};
 ghost use Rattle.regex_pair.specs.Finding.{AnswersAt};
 ghost use Rattle.regex_pair.specs.Joined.{joined};
 ghost use Rattle.regex_pair.specs.Matching.{has_match};
@@ -40,8 +40,8 @@ ghost use Rattle.hirscan.specs.Choices.{answer_from, answers_of};
 ghost use Rattle.hirscan.specs.LooseAnswers.{IsLooseAnswer};
 ghost use Rattle.hirscan.specs.Regexes.{IsRegexOf, IsSearchOf, query_of};
 
-/// What is built of two automata that are compiled from the trees, one forward and without captures, the other in reverse, is
-/// two automata of these trees, where it finds the most preferred match.
+/// Two automata are compiled from the trees: one that reads forward, without captures, and one that reads in reverse. What is
+/// built of them is two automata of these trees if it finds the most preferred match.
 pub fn built_pairs_are_of_the_trees()
     ensures { (o r : Options) (xs : List Tree) (n m : Nfa) → IsCompiled o xs n → IsCompiled r xs m →
         reverse_of o ≡ false → reverse_of r ≡ true →
@@ -50,8 +50,9 @@ pub fn built_pairs_are_of_the_trees()
         pair_built n m c ≡ Ok p → IsDfa p.forward → IsDfa p.reverse → IsRegexOf xs utf8 t p }
 {}
 
-/// A search over two automata of the trees that answers Ok answers what the trees define, for every set of words: the leftmost
-/// match, the most preferred one there. The loops of all trees read.
+/// A search over two automata of the trees that returns `Ok` returns what the trees define, for every set of words. That is the
+/// leftmost match, and the most preferred one there. Precondition: the body of every unbounded repetition in the trees consumes
+/// at least one byte.
 pub fn answers_are_those_of_the_trees()
     ensures { (xs : List Tree) (utf8 : Bool) (t : Terminator) (p : Pair) → IsRegexOf xs utf8 t p →
         (q : Search) → IsSearchOf xs utf8 q →
@@ -59,21 +60,21 @@ pub fn answers_are_those_of_the_trees()
         o ≡ answer_from (query_of xs utf8 (holds words t q.haystack) q) q.start }
 {}
 
-/// From an end that the search forward found, the one in reverse finds a start: it meets no quit byte, and its mode is supported.
-/// So a search is refused where the search forward is, and there alone.
+/// From an end that the forward search found, the reverse search finds a start: it meets no quit byte, and its mode is supported.
+/// So a search fails where the forward search does, and only there.
 pub fn the_reverse_half_finds_a_start()
     ensures pair { (xs : List Tree) (utf8 : Bool) (t : Terminator) (p : Pair) → IsRegexOf xs utf8 t p →
         (q : Search) → IsSearchOf xs utf8 q →
         joined p q ≡ Err NotAPair → ⊥ }
     ensures quits { (xs : List Tree) (utf8 : Bool) (t : Terminator) (p : Pair) → IsRegexOf xs utf8 t p →
         (q : Search) → IsSearchOf xs utf8 q →
-        (b x : ℕ) → joined p q ≡ Err (Quit b x) → scan (reader p.forward) q ≡ quit b x }
+        (b x : ℕ) → joined p q ≡ Err (Quit b x) → half_search (reader p.forward) q ≡ quit b x }
     ensures unsupported { (xs : List Tree) (utf8 : Bool) (t : Terminator) (p : Pair) → IsRegexOf xs utf8 t p →
         (q : Search) → IsSearchOf xs utf8 q →
-        (mode : Anchored) → joined p q ≡ Err (UnsupportedAnchored mode) → scan (reader p.forward) q ≡ unsupported mode }
+        (mode : Anchored) → joined p q ≡ Err (UnsupportedAnchored mode) → half_search (reader p.forward) q ≡ unsupported mode }
 {}
 
-/// Where no quit byte stands in or beside the span and the mode is supported, a search answers Ok.
+/// If no quit byte is in the span or next to it, and the mode is supported, a search returns `Ok`.
 pub fn searches_answer()
     ensures { (xs : List Tree) (utf8 : Bool) (t : Terminator) (p : Pair) → IsRegexOf xs utf8 t p →
         (q : Search) → IsSearchOf xs utf8 q →
@@ -81,8 +82,8 @@ pub fn searches_answer()
         HasNoQuitNear (reader p.forward) q.haystack q.start q.end → (o : Option Found) × (joined p q ≡ Ok o) }
 {}
 
-/// Answers one after the other are the list of all answers that the trees define, or a beginning of it, and all of it where
-/// nothing more is answered.
+/// Answers one after the other are a beginning of the list of all answers that the trees define. They are all of it if there is
+/// no further answer.
 pub fn lists_are_those_of_the_trees()
     ensures whole { (xs : List Tree) (utf8 : Bool) (t : Terminator) (p : Pair) → IsRegexOf xs utf8 t p →
         (q : Search) → IsSearchOf xs utf8 q →
@@ -96,15 +97,15 @@ pub fn lists_are_those_of_the_trees()
         (rest : List Found) × (answers_of (query_of xs utf8 (holds words t q.haystack) q) q.start ≡ fs ++ rest) }
 {}
 
-/// What is told of whether there is a match is whether the trees define an answer, also where the earliest end is asked for.
+/// The test for a match returns whether the trees define an answer, also if the earliest end is asked for.
 pub fn matches_are_told()
     ensures { (xs : List Tree) (utf8 : Bool) (t : Terminator) (p : Pair) → IsRegexOf xs utf8 t p → (q : Search) →
         IsSearchOf xs utf8 (with_earliest false q) → (words : ℕ → Bool) → IsWordSet words → All LoopsRead xs → (b : Bool) →
         has_match p q ≡ Ok b → b ≡ is_some (answer_from (query_of xs utf8 (holds words t q.haystack) q) q.start) }
 {}
 
-/// Whatever the loops of the trees read, the answer has the least start of a match, the first pattern that matches there, and an
-/// end that it means.
+/// Whatever the bodies of repetitions consume, the answer has the least start of a match, the first pattern that matches there,
+/// and an end that this pattern means.
 pub fn answers_are_leftmost_whatever_the_loops()
     ensures { (xs : List Tree) (utf8 : Bool) (t : Terminator) (p : Pair) → IsRegexOf xs utf8 t p →
         (q : Search) → IsSearchOf xs utf8 q →

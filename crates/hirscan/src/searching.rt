@@ -1,4 +1,4 @@
-//! Searches over a regex that is built of trees, for a caller who counts no work.
+//! Searches over a regex that is built of trees, for callers that count no work.
 ghost use Rattle.std.specs.Prelude.{◌≡◌, ◌<◌, ◌↔◌, ℕ, Bool, List, All, None, Ok, IfOk, IsTrue};
 ghost use Rattle.std.specs.List.{list_all};
 ghost use Rattle.search_core.specs.Utf8.{IsValidText};
@@ -21,7 +21,7 @@ use search_types::{Input, Match, MatchError};
 use std::marker::Brand;
 use std::sync::ledger::{Blank, Ledger};
 
-/// Whether each tree is seen to mean UTF-8 alone.
+/// Whether each tree is known to mean UTF-8 alone.
 fn are_utf8(trees: &[Hir]) -> bool
     ensures { result ≡ list_all is_utf8_tree trees.now }
 {
@@ -81,9 +81,10 @@ fn search_counted<L: Ledger, M: Ledger>(
     re.try_search(cache, input, &mut work)
 }
 
-/// One search, refused as [`Regex::try_search`] is. Where the regex is built of trees, finds the leftmost-first match and the search
-/// is one of the laws' ([`is_search_of`], [`all_loops_read`](crate::all_loops_read)), an answer is the one that the trees define.
-/// Over a done span the search returns `Ok(None)` and leaves the caches as they were.
+/// One search, with the errors of [`Regex::try_search`]. Suppose that the regex is built of trees and finds the leftmost-first
+/// match, and that the search is one of the laws' ([`is_search_of`], [`all_loops_read`](crate::all_loops_read)). Then an answer
+/// is the one that the trees define. If the span's start is after its end, the search returns `Ok(None)` and leaves the caches as
+/// they were.
 pub fn find(re: &Regex, cache: &mut Cache, input: &Input<'_>) -> Result<Option<Match>, MatchError>
     requires own { AreCachesOf re.now cache.old }
     ensures own { AreCachesOf re.now cache.new }

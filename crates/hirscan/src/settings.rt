@@ -5,20 +5,20 @@ use lazy_dfa::dfa::Config;
 use look_core::LineTerm;
 use search_types::MatchKind;
 
-/// How trees are made a regex of, and how its caches behave.
+/// How a regex is made of trees, and how its caches behave.
 #[derive(Clone, Copy)]
 pub struct Settings {
-    /// Whether matches start and end only at places that split no character. The haystacks that are searched have to be UTF-8
-    /// then, and the trees as well.
+    /// Whether matches start and end only at offsets that split no character. If so, the haystacks that are searched have to be
+    /// UTF-8, and the trees as well.
     pub utf8: bool,
     /// What ends a line, for the looks [`StartLF`](look_core::Look::StartLF) and [`EndLF`](look_core::Look::EndLF).
     pub line_terminator: LineTerm,
     /// Whether the automaton that finds starts shares states of classes of scalars, which takes longer to compile.
     pub shrink: bool,
-    /// How many bytes, as they are counted, each of both NFAs may take; `None` for any.
+    /// How many bytes, as they are counted, each of both NFAs may take; `None` means any number.
     pub size_limit: Option<usize>,
-    /// The options of both lazy automata. A regex finds what trees define where its kind is
-    /// [`LeftmostFirst`](MatchKind::LeftmostFirst), as it is where none is set.
+    /// The options of both lazy automata. A regex finds what trees define if its kind is
+    /// [`LeftmostFirst`](MatchKind::LeftmostFirst), as it is if none is set.
     pub dfa: Config,
 }
 
@@ -51,9 +51,11 @@ impl Default for Settings {
 /// The greatest size of each NFA that the program makes, in bytes as they are counted.
 const SIZE_LIMIT: usize = 1 << 26;
 
-/// What the program sets beside what a head does: no NFA above 2^26 bytes, as they are counted, the leftmost-first match, a capacity
-/// that is raised where it is too small, words by characters as far as a search comes without bytes above 7F, and no limit on clears.
-/// Whoever builds a regex of a head's patterns with these settings has the one over which [`run`](crate::run) searches.
+/// What the program sets in addition to the lines of a query. No NFA takes more than 2^26 bytes, as they are counted. The match
+/// is the leftmost-first one. A capacity that is too small is raised. Words by characters are supported as far as a search comes
+/// without bytes above 7F. There is no limit on clears.
+///
+/// A regex of a query's patterns that is built with these settings is the one over which [`run`](crate::run) searches.
 pub fn program_settings(said: Settings) -> Settings
     ensures { result ≡ program_settings said }
 {

@@ -4,7 +4,7 @@ ghost use Rattle.std.specs.List.{position};
 ghost use Rattle.std.specs.Iterator.{YieldsFirstBy, item_count};
 ghost use Rattle.thompson_nfa.specs.LiteralGroups.{texts};
 ghost use Rattle.hirscan.specs.Words.{words};
-ghost use Rattle.hirscan.specs.Tells.{words_behind, words_left};
+ghost use Rattle.hirscan.specs.QueryReports.{words_left_of, words_left};
 
 use std::alloc::{AllocError, Global};
 
@@ -14,19 +14,19 @@ pub(crate) struct WordsLeft<'a> {
     left: Option<&'a [u8]>,
 }
 
-/// The first place of a byte.
-pub(crate) fn place_of(text: &[u8], byte: u8) -> Option<usize>
+/// The offset at which a byte first occurs.
+pub(crate) fn offset_of(text: &[u8], byte: u8) -> Option<usize>
     ensures { result ≡ position (λ b. b == byte) text.now }
 {
     text.iter().position(|b| *b == byte)
 }
 
-/// The first word of a text, and what follows the space behind it, if there is one.
+/// The first word of a text, and what follows the space after it, if there is one.
 #[tactic(auto, using(crate::proofs::SplitLemmas::first_of_more, crate::proofs::SplitLemmas::first_alone))]
 fn split_word(text: &[u8]) -> (&[u8], Option<&[u8]>)
-    ensures { words text.now ≡ result.0.now ∷ words_behind result.1 }
+    ensures { words text.now ≡ result.0.now ∷ words_left_of result.1 }
 {
-    match place_of(text, b' ') {
+    match offset_of(text, b' ') {
         Some(len) => (&text[..len], Some(&text[len + 1..])),
         None => (text, None),
     }
@@ -40,7 +40,7 @@ impl<'a> WordsLeft<'a> {
         WordsLeft { left: Some(line) }
     }
 
-    /// The first of these words, as many as there are up to this number. Each growth that is refused ends it.
+    /// The first of these words, as many as there are up to this number. Any failed allocation ends the call.
     pub(crate) fn at_most(self, alloc: Global, number: usize) -> Result<Vec<&'a [u8]>, AllocError>
         ensures { IfOk result (λ found. texts found.items ≡ take number (words_left self.entry)) }
     {

@@ -1,6 +1,6 @@
-//! Laws of words: each reader answers just what its relation says of a word, and nothing just where the relation
-//! says nothing, so that a line's faults are told by what its words spell. Each function has no code: its contract
-//! is the law.
+//! Laws of words. Each reader returns just what its relation says of a word, and nothing just if the relation
+//! says nothing. So the faults of a line follow from what its words spell. Each function has no code: its
+//! contract is the law.
 //! ```rust
 //! pub fn readers_read_numbers()
 //!     ensures { IsReader number IsNumber }
@@ -18,7 +18,7 @@ ghost use Rattle.hirscan.specs.Readers.{IsReader, IsSpelled, line_word, number, 
 ghost use Rattle.hirscan.specs.Readers.{item_ends, hex_ends, look_named};
 ghost use Rattle.hirscan.specs.LineFault.{item_fault, scalar_item_fault};
 
-/// A line's first word says which line it is by being spelled so.
+/// The spelling of a line's first word decides which line it is.
 pub fn first_words_are_read()
     ensures { IsReader line_word IsSpelled }
 {}
@@ -43,8 +43,8 @@ pub fn bytes_are_read()
     ensures byte { IsReader hex_byte IsHexByte }
 {}
 
-/// An item of a class is read by its ends. It has no fault just where it is an item, bad hex just where it has
-/// no ends, and a bad range just where its low end is above its high end.
+/// An item of a class is read by its ends. It has no fault exactly if it is an item, bad hex exactly if it
+/// has no ends, and a bad range exactly if its low end is above its high end.
 pub fn items_are_read()
     ensures ends { IsReader item_ends HasEnds }
     ensures taken { (w : List ℕ) → (item_fault w ≡ None) ↔ ((r : ℕ × ℕ) × IsItem w r) }
@@ -57,8 +57,9 @@ pub fn looks_are_read()
     ensures { IsReader look_named IsLookName }
 {}
 
-/// An item of a class of scalars is read by its ends. It has no fault just where it is an item, bad hex just
-/// where it has no ends, and a bad range just where an end is no scalar or its low end is above its high end.
+/// An item of a class of scalars is read by its ends. It has no fault exactly if it is an item, and bad hex
+/// exactly if it has no ends. It has a bad range exactly if an end is no scalar or its low end is above its
+/// high end.
 pub fn scalar_items_are_read()
     ensures ends { IsReader hex_ends HasHexEnds }
     ensures taken { (w : List ℕ) → (scalar_item_fault w ≡ None) ↔ ((r : ℕ × ℕ) × IsScalarItem w r) }

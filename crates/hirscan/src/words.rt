@@ -10,17 +10,17 @@ ghost use Rattle.hirscan.specs.Readers.{line_word, setting_word, tree_word, numb
 ghost use Rattle.hirscan.specs.Readers.{item_ends, the_ends, hex_number, hex_ends, the_hex_ends, anchor_named, word_look_named};
 ghost use Rattle.hirscan.specs.Readers.{word_side_named, half_look_named, look_named, word_at};
 ghost use Rattle.hirscan.specs.LineFault.{unless_read, item_fault, scalar_item_fault, byte_fault, first_fault_of};
-ghost use Rattle.hirscan.specs.Tells.{words_left, TellsLineFault};
+ghost use Rattle.hirscan.specs.QueryReports.{words_left, ReportsLineFault};
 ghost use Rattle.hirscan.specs.declared.fault.FaultKind.TheVariants.{BadHex};
 
 use crate::fault::{FaultKind, LineFault};
-use crate::split::{WordsLeft, place_of};
+use crate::split::{WordsLeft, offset_of};
 use hex::{FromHex, FromHexError};
 use look_core::Look;
 use std::alloc::{AllocError, Global};
 use std::marker::Model;
 
-/// As many items of a class of scalars are read before their ranges take their place.
+/// This many items of a class of scalars are read before their ranges replace them.
 const MANY_ITEMS: usize = 1 << 22;
 
 /// The lines of the notation, by their first word.
@@ -84,7 +84,7 @@ fn setting_word(word: &[u8]) -> Option<LineWord>
     None
 }
 
-/// The line that makes or takes trees, or ends the head, and begins with this word.
+/// The line that makes or takes trees, or ends the query, and begins with this word.
 fn tree_word(word: &[u8]) -> Option<LineWord>
     ensures { result ≡ tree_word word.now }
 {
@@ -203,7 +203,7 @@ pub(crate) fn yes_or_no(word: &[u8]) -> Option<bool>
 
 pub(crate) fn hex_bytes(alloc: Global, word: &[u8]) -> Result<Vec<u8>, LineFault>
     ensures ok { IfOk result (λ bytes. hex_bytes word.now ≡ Some bytes.items) }
-    ensures err { IfErr result (λ e. TellsLineFault (unless_read (hex_bytes word.now) BadHex) e) }
+    ensures err { IfErr result (λ e. ReportsLineFault (unless_read (hex_bytes word.now) BadHex) e) }
 {
     match hex::decode(alloc, word) {
         Ok(bytes) => {
@@ -258,8 +258,8 @@ fn item(word: &[u8]) -> Result<(u8, u8), FaultKind>
     }
 }
 
-/// For each byte the least low end of the items of a class that end there, and 256 where none does. A byte is in an item where one
-/// of these, its own or that of a greater byte, isn't above it.
+/// For each byte the least low end of the items of a class that end there, or 256 if none does. A byte is in an item if one of
+/// these, its own or that of a greater byte, isn't above it.
 #[derive(Clone, Copy)]
 pub(crate) struct LowEnds {
     lows: [u16; 256],
@@ -296,7 +296,7 @@ impl LowEnds {
 pub(crate) fn low_ends(words: WordsLeft) -> Result<LowEnds, LineFault>
     ensures ok { IfOk result (λ ends. (first_fault_of (map item_fault (words_left words.entry)) ≡ None)
         × AreLowEnds (map the_ends (words_left words.entry)) ends) }
-    ensures err { IfErr result (λ e. TellsLineFault (first_fault_of (map item_fault (words_left words.entry))) e) }
+    ensures err { IfErr result (λ e. ReportsLineFault (first_fault_of (map item_fault (words_left words.entry))) e) }
 {
     let mut ends = LowEnds::none();
     for word in words {
@@ -308,7 +308,7 @@ pub(crate) fn low_ends(words: WordsLeft) -> Result<LowEnds, LineFault>
     Ok(ends)
 }
 
-/// Puts a byte before the ranges, which are there from the last to the first.
+/// Puts a byte before the ranges, which are stored from the last to the first.
 fn put_byte(ranges: &mut Vec<(u8, u8)>, b: u8) -> Result<(), AllocError>
     ensures { OnOk result (reverse ranges.new.items ≡ with_byte b (reverse ranges.old.items)) }
 {
@@ -360,7 +360,7 @@ fn hex_number(word: &[u8]) -> Option<u32>
 fn hex_ends(word: &[u8]) -> Option<(u32, u32)>
     ensures { result ≡ hex_ends word.now }
 {
-    let Some(sign) = place_of(word, b'-') else {
+    let Some(sign) = offset_of(word, b'-') else {
         return None;
     };
     let Some(low) = hex_number(&word[..sign]) else {
@@ -386,15 +386,15 @@ fn scalar_item(word: &[u8]) -> Result<(char, char), FaultKind>
     }
 }
 
-/// Whether some number stands between the end of a range and the start of a later one.
+/// Whether some number lies between the end of a range and the start of a later one.
 fn is_apart(end: char, start: char) -> bool
     ensures { result ≡ nat_lt (end + 1) start }
 {
     u32::from(end) + 1 < u32::from(start)
 }
 
-/// Joins a range with those that it meets or touches, of others which are there from the last to the
-/// first, and takes those off that lie before it.
+/// Joins a range with those of the others that it meets or touches. The others are stored from the last to the first; those that
+/// lie before the range are moved to `before`.
 fn join_ranges(
     ranges: &mut Vec<(char, char)>,
     range: (char, char),
@@ -419,8 +419,7 @@ fn join_ranges(
     Ok((low, high))
 }
 
-/// Puts ranges, which are there from the first to the last, before others, which are there from the
-/// last to the first.
+/// Puts ranges, which are stored from the first to the last, before others, which are stored from the last to the first.
 fn put_back(ranges: &mut Vec<(char, char)>, mut before: Vec<(char, char)>) -> Result<(), AllocError>
     ensures { OnOk result (reverse ranges.new.items ≡ before.items ++ reverse ranges.old.items) }
 {
@@ -430,7 +429,7 @@ fn put_back(ranges: &mut Vec<(char, char)>, mut before: Vec<(char, char)>) -> Re
     Ok(())
 }
 
-/// Puts a range to the others, which are there from the last to the first.
+/// Adds a range to the others, which are stored from the last to the first.
 fn put_range(
     alloc: Global,
     ranges: &mut Vec<(char, char)>,
@@ -444,7 +443,7 @@ fn put_range(
     put_back(ranges, before)
 }
 
-/// The ranges of the items, which are put from the last to the first.
+/// The ranges of the items, which are added from the last to the first.
 fn put_ranges(alloc: Global, items: &[(char, char)]) -> Result<Vec<(char, char)>, AllocError>
     ensures { IfOk result (λ ranges. ranges.items ≡ scalar_ranges items.now) }
 {
@@ -462,8 +461,8 @@ fn are_in_order(items: &[(char, char)]) -> bool
     items.iter().all(|item| item.0 <= item.1)
 }
 
-/// The items in an order in which each is put before all others. The ranges are the same in any order,
-/// where the items have their low ends first.
+/// The items in an order in which each is put before all others. If the items have their low ends first, the ranges are the same
+/// in any order.
 #[tactic(auto, using(crate::proofs::AnyOrderLemmas::any_order))]
 fn sorted(mut items: Vec<(char, char)>) -> Vec<(char, char)>
     ensures { scalar_ranges result.items ≡ scalar_ranges items.items }
@@ -486,7 +485,7 @@ pub(crate) fn scalar_ranges(
     Ok(ranges)
 }
 
-/// The items, or their ranges where there are many. Scalars have at most half a million ranges, so that most of many go.
+/// The items, or their ranges if there are many items. Scalars have at most half a million ranges, so most of many items go.
 fn compact(alloc: Global, items: Vec<(char, char)>) -> Result<Vec<(char, char)>, AllocError>
     requires { list_all (λ r. nat_le r.0 r.1) items.items ≡ true }
     ensures in_order { IfOk result (λ found. list_all (λ r. nat_le r.0 r.1) found.items ≡ true) }
@@ -499,7 +498,7 @@ fn compact(alloc: Global, items: Vec<(char, char)>) -> Result<Vec<(char, char)>,
     Ok(ranges)
 }
 
-/// Adds an item, with others made less where they are many.
+/// Adds an item. If there are many others, their ranges replace them.
 fn put_item(
     alloc: Global,
     others: Vec<(char, char)>,
@@ -515,11 +514,11 @@ fn put_item(
     Ok(items)
 }
 
-/// Items with the ranges of those of the words.
+/// Items with the same ranges as those of the words.
 pub(crate) fn scalar_items(alloc: Global, words: WordsLeft) -> Result<Vec<(char, char)>, LineFault>
     ensures ok { IfOk result (λ items. (first_fault_of (map scalar_item_fault (words_left words.entry)) ≡ None)
         × (scalar_ranges items.items ≡ scalar_ranges (map the_hex_ends (words_left words.entry)))) }
-    ensures err { IfErr result (λ e. TellsLineFault (first_fault_of (map scalar_item_fault (words_left words.entry))) e) }
+    ensures err { IfErr result (λ e. ReportsLineFault (first_fault_of (map scalar_item_fault (words_left words.entry))) e) }
 {
     let mut items = Vec::new(alloc);
     for word in words {
@@ -535,7 +534,7 @@ pub(crate) fn scalar_items(alloc: Global, words: WordsLeft) -> Result<Vec<(char,
     Ok(items)
 }
 
-/// The look of an edge of the haystack or of a line with this name.
+/// The look with this name for an edge of the haystack or of a line.
 fn anchor_named(word: &[u8]) -> Option<Look>
     ensures { result ≡ anchor_named word.now }
 {
@@ -560,7 +559,7 @@ fn anchor_named(word: &[u8]) -> Option<Look>
     None
 }
 
-/// The look of an edge of a word with this name.
+/// The look with this name for an edge of a word.
 fn word_look_named(word: &[u8]) -> Option<Look>
     ensures { result ≡ word_look_named word.now }
 {
@@ -579,7 +578,7 @@ fn word_look_named(word: &[u8]) -> Option<Look>
     None
 }
 
-/// The look with this name of a place where a word begins, or where one ends.
+/// The look with this name for an offset where a word begins, or where one ends.
 fn word_side_named(word: &[u8]) -> Option<Look>
     ensures { result ≡ word_side_named word.now }
 {
@@ -598,7 +597,7 @@ fn word_side_named(word: &[u8]) -> Option<Look>
     None
 }
 
-/// The look with this name of a place before which no word is, or behind which none is.
+/// The look with this name for an offset before which there is no word, or after which there is none.
 fn half_look_named(word: &[u8]) -> Option<Look>
     ensures { result ≡ half_look_named word.now }
 {

@@ -1,6 +1,6 @@
-//! The program `hirscan`: a head and a haystack on standard input, the spans on standard output.
-//! Its status is 0 where the spans are listed, 1 where the input is refused or a search gave up at a quit byte, and 2 after
-//! a fault, which standard error tells in one line. Arguments are ignored.
+//! The program `hirscan`: a query and a haystack on standard input, the spans on standard output.
+//! Its status is 0 if the spans are listed, 1 if the input is rejected or a search gave up at a quit byte, and 2 after a fault,
+//! which standard error reports in one line. Arguments are ignored.
 #![tactic(auto)]
 
 ghost use Rattle.std.specs.Prelude.{◌≡◌, Ok, IsErr};

@@ -1,4 +1,4 @@
--- Automata, their quit bytes and what their caches are taken to need.
+-- Automata, their quit bytes, and how many bytes their caches are counted to need.
 
 pub mod QuitSetLemmas
 pub mod AccountingLemmas

@@ -1,4 +1,4 @@
--- What a cache keeps to, and what calls change of it.
+-- The invariants of a cache, and what calls change in it.
 
 pub mod ListLemmas
 pub mod CacheLemmas
@@ -8,7 +8,6 @@ pub mod MadeLemmas
 pub mod SearchStartLemmas
 pub mod StartCallLemmas
 pub mod StartChangeLemmas
-pub mod KeepLemmas
 pub mod LinkedLemmas
 pub mod StepLemmas
 pub mod AddsLemmas

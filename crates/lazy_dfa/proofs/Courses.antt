@@ -1,4 +1,4 @@
--- How passes and searches go over a cache, and what they answer and tell.
+-- How scans and searches go over a cache, and what they return and report.
 
 mod LeftToldRows
 mod AnewToldRows

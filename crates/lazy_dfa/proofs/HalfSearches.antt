@@ -1,4 +1,4 @@
--- Half searches as functions of values: what passes find, what they depend on, and restarts.
+-- Half searches as functions of values: what scans find, what they depend on, and restarts.
 
 pub mod TurnLemmas
 pub mod PassQuitLemmas

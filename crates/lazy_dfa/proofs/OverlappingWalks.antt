@@ -1,4 +1,4 @@
--- Overlapping walks, and the patterns that match somewhere.
+-- Overlapping searches, and the patterns that match somewhere.
 
 pub mod RestLemmas
 pub mod PlaceEndLemmas

@@ -1,4 +1,4 @@
--- Bytes over which searches pass.
+-- Bytes that searches skip.
 
 pub mod ByteTestLemmas
 pub mod HalfTableLemmas

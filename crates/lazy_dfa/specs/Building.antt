@@ -1,4 +1,4 @@
--- What is built of an NFA with options, and why it is refused: a function of both.
+-- What the builder makes of an NFA and options, and why it fails: a function of both.
 use Rattle.std.specs.Prelude.{ℕ, ◌&&◌, not, nat_lt, Bool, List, map, if◌then◌else◌, Result, Ok, Err}
 use Rattle.std.specs.List.{range_with_len}
 use Rattle.search_core.specs.ByteSets.{ranges_from}
@@ -18,7 +18,8 @@ use Rattle.nfa_core.specs.declared.build_error.BuildError.TheVariants.{NoMemory 
 abbrev pub quits_of : Nfa → DfaOptions → List Bool
 quits_of n o = quit_bytes n.automaton (word_boundary_of o) (by_hand o)
 
--- the class of a byte: by the marks of the NFA and of the quit bytes, or a class of its own
+-- the class of a byte, by the marks of the NFA and of the quit bytes; without byte classes, each byte has a class of
+-- its own
 abbrev pub class_in : Nfa → DfaOptions → ℕ → ℕ
 class_in n o b = if classes_on o then marks_below (recorded (marks_of n.terminator n.automaton.states) (ranges_from (quits_of n o) 0)) b
     else b
@@ -40,16 +41,16 @@ dfa_of n o = record {
   capacity = effective_capacity (measures_with n o) (skips_check o) (capacity_of o);
 }
 
--- whether the given capacity is too small, and that matters
+-- whether the given capacity is too small, and is checked
 abbrev pub is_too_small : Nfa → DfaOptions → Bool
 is_too_small n o = not (skips_check o) && nat_lt (capacity_of o) (least_capacity (measures_with n o))
 
--- the refusal of a compile: want of memory is told as that
-abbrev pub refused_by : NfaBuildError → BuildError
-refused_by NfaNoMemory = NoMemory
-refused_by e = NFA e
+-- the error of the builder when the NFA can't be compiled; out of memory is reported as that
+abbrev pub error_of_compile : NfaBuildError → BuildError
+error_of_compile NfaNoMemory = NoMemory
+error_of_compile e = NFA e
 
--- what the builder answers
+-- the result of the builder
 abbrev pub built : Nfa → DfaOptions → Result Dfa BuildError
 built n o =
     if is_unsupported n.automaton (word_boundary_of o) (by_hand o)
@@ -58,7 +59,7 @@ built n o =
     then Err (InsufficientCacheCapacity (least_capacity (measures_with n o)) (capacity_of o))
     else Ok (dfa_of n o)
 
--- the least capacity of caches, refused where an automaton can't be searched
+-- the least capacity of a cache, or an error if the automaton can't be searched
 abbrev pub least_for : Nfa → DfaOptions → Result ℕ BuildError
 least_for n o =
     if is_unsupported n.automaton (word_boundary_of o) (by_hand o) then Err Unsupported else Ok (least_capacity (measures_with n o))

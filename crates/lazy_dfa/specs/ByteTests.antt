@@ -1,21 +1,21 @@
--- Tests of bytes, by which many bytes are tested at once.
+-- Tests of single bytes that can test many bytes at once.
 use Rattle.std.specs.Prelude.{◌≡◌, ◌+◌, ◌-◌, ◌%◌, ◌/◌, ◌<◌, ◌≤◌, ◌==◌, ℕ, List, length, map, slice_index, slice_index_or}
 use Rattle.std.specs.Prelude.{◌&&◌, Bool, false, not, nat_le, if◌then◌else◌, bit_and}
 use Rattle.lazy_dfa.specs.declared.byte_tests.ByteRange.{ByteRange}
 
--- whether a lane has bits
+-- whether a bit of a lane is set
 abbrev pub has_bits : ℕ → Bool
 has_bits lane = not (lane == 0)
 
--- what eight bits keep of a number
+-- the low eight bits of a number
 abbrev pub wrapped : ℕ → ℕ
 wrapped x = x % 256
 
--- the byte is the first of the range or one of those behind it, where 0 follows 255
+-- The byte is the first one of the range, or one of the `behind` bytes after it. Here 0 follows 255.
 abbrev pub in_range : ByteRange → ℕ → Bool
 in_range r byte = nat_le (wrapped (byte + (256 - r.first))) r.behind
 
--- the marks of the byte's low half and of its high one have a bit in common
+-- the marks of the byte's low half and of its high half have a bit in common
 abbrev pub in_halves : List ℕ → List ℕ → ℕ → Bool
 in_halves low high byte = has_bits (bit_and (slice_index low (byte % 16)) (slice_index high (byte / 16)))
 
@@ -24,15 +24,16 @@ pub record IsTwice (items : List ℕ) (lanes : List ℕ) : Type 0 where
   pub long : length lanes ≡ 32
   pub each : (k : ℕ) → k < 32 → slice_index lanes k ≡ slice_index items (k % 16)
 
--- a lane for each byte: all bits where it passes the test, else none
+-- a lane for each byte: all bits are set if the byte passes the test, else none
 abbrev pub marked : (ℕ → Bool) → List ℕ → List ℕ
 marked test bytes = map (λ x. if test x then 255 else 0) bytes
 
--- no byte from a place on, and before another one, passes the test
-abbrev pub NonePasses : (ℕ → Bool) → List ℕ → ℕ → ℕ → Type 0
-NonePasses test haystack from to = (k : ℕ) → from ≤ k → k < to → test (slice_index_or haystack k 0) ≡ false
+-- no byte from one offset on and before another one passes the test
+abbrev pub NoneSatisfies : (ℕ → Bool) → List ℕ → ℕ → ℕ → Type 0
+NoneSatisfies test haystack from to = (k : ℕ) → from ≤ k → k < to → test (slice_index_or haystack k 0) ≡ false
 
--- no byte from a place on, and before another one, passes a test such that the byte behind it passes a second one
+-- From one offset on and before another one, no byte passes the first test while the byte after it passes the second
+-- one.
 abbrev pub NoPairs : (ℕ → Bool) → (ℕ → Bool) → List ℕ → ℕ → ℕ → Type 0
 NoPairs test second haystack from to = (k : ℕ) → from ≤ k → k < to →
     test (slice_index_or haystack k 0) && second (slice_index_or haystack (k + 1) 0) ≡ false

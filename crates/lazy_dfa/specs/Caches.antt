@@ -1,4 +1,4 @@
--- What contracts see of a cache, and how it belongs to an automaton.
+-- What contracts see of a cache, and when a cache belongs to an automaton.
 use Rattle.std.specs.Prelude.{◌≡◌, ◌≢◌, ◌<◌, ◌≤◌, ◌+◌, ◌-◌, ◌*◌, ℕ, Bool, true, false, List, [], ◌∷◌, ◌++◌, length, Option, Some, None}
 use Rattle.std.specs.Prelude.{slice_index_or, take, replicate, min, not, nat_le, ◌&&◌, is_none}
 use Rattle.std.specs.List.{position_from}
@@ -15,8 +15,8 @@ use Rattle.lazy_dfa.specs.Ids.{tag, unknown_id, dead_id, quit_id, tagged}
 use Rattle.lazy_dfa.specs.Readers.{is_quit}
 use Rattle.lazy_dfa.specs.declared.progress.Progress.{Progress}
 
--- The states of rows 0, 1 and 2 are those of the sentinels: unknown, dead and quit. They hold no state; the others do, in
--- order.
+-- Rows 0, 1 and 2 are those of the sentinels: unknown, dead and quit. They hold no state. The other rows hold the
+-- states, in order.
 pub record CacheValue : Type 0 where
   pub states : List StateValue  -- the states of the rows from 3 on
   pub ids : List ℕ  -- their IDs
@@ -30,7 +30,7 @@ pub record CacheValue : Type 0 where
   pub progress : Option Progress
   pub classes : List ℕ  -- the class of each byte, which is its column
 
--- the greatest number of 64 bits, at which counts stop
+-- the greatest 64-bit number, at which counts stop
 abbrev pub greatest : ℕ
 greatest = 0xFFFF_FFFF_FFFF_FFFF
 
@@ -56,12 +56,12 @@ pub data Names (v : CacheValue) (id : ℕ) (s : StateValue) : Type 0 where
   names_dead : id ≡ dead_id v.stride → s ≡ dead → Names v id s
   names_held : HeldAt v id s → Names v id s
 
--- ---- what holds of each cache
+-- ---- the invariant of each cache
 
 abbrev pub same : StateValue → StateValue → Bool
 same q s = bytes_eq (encoded q) (encoded s)
 
--- which row from 3 on holds the state
+-- which row holds the state, counted from row 3
 unfoldable pub row_holding : StateValue → List StateValue → Option ℕ
 row_holding q states = position_from (same q) 0 states
 
@@ -78,15 +78,15 @@ pub record IsShaped (v : CacheValue) : Type 0 where
   pub real : (k : ℕ) → k < length v.states → IsState (state_at v k)
   pub apart : (j k : ℕ) → j < k → k < length v.states → same (state_at v k) (state_at v j) ≡ false
 
--- the map finds each state where the list has it, and no other
+-- the map finds each state at its position in the list, and finds no other state
 unfoldable pub Agrees : {S : Type 0} → List StateValue → HashMap StateValue ℕ S → Type 0
 Agrees states m = (q : StateValue) → get_by (same q) m ≡ position_from (same q) 0 states
 
--- the bytes that it is taken to need
+-- the bytes that the cache is counted to need
 abbrev pub usage : CacheValue → ℕ
 usage v = v.fresh + states_cost v.stride v.states
 
--- The map and the count of bytes are what the rest says.
+-- The map and the byte count agree with the value.
 pub record IsKept {S : Type 0} (v : CacheValue) (rows : HashMap StateValue ℕ S) (used : ℕ) : Type 0 where
   pub shape : IsShaped v
   pub agree : Agrees v.states rows
@@ -94,7 +94,7 @@ pub record IsKept {S : Type 0} (v : CacheValue) (rows : HashMap StateValue ℕ S
 
 -- ---- progress
 
--- how far apart two places are
+-- the distance between two offsets
 abbrev pub distance : ℕ → ℕ → ℕ
 distance i j = (i - j) + (j - i)
 
@@ -102,16 +102,16 @@ abbrev pub progress_len : Option Progress → ℕ
 progress_len None = 0
 progress_len (Some p) = distance p.start p.at
 
--- the bytes that were searched since the last clear, those of the search that goes on too
+-- the bytes that were searched since the last clear, including those of the running search
 abbrev pub search_total_len : CacheValue → ℕ
 search_total_len v = min (v.searched + progress_len v.progress) greatest
 
--- the search that goes on begins anew where it is
+-- the running search restarts its count at its offset
 abbrev pub begun_anew : Option Progress → Option Progress
 begun_anew None = None
 begun_anew (Some p) = Some (record { start = p.at; at = p.at })
 
--- a search has come to this place
+-- the running search has come to this offset
 abbrev pub moved_to : ℕ → Option Progress → Option Progress
 moved_to at None = None
 moved_to at (Some p) = Some (record { start = p.start; at = at })
@@ -138,7 +138,7 @@ empty_cache stride fresh starts bound classes = record {
   classes = classes;
 }
 
--- a state more, with a row of which nothing is known
+-- one more state: its ID, and the cache with a row for it of which no step is known
 abbrev pub new_id : CacheValue → Bool → StateValue → ℕ
 new_id v start s = tagged start (is_match s.matches) (length v.cells)
 
@@ -149,7 +149,7 @@ with_state start s v = record v {
   cells = v.cells ++ replicate v.stride unknown_id;
 }
 
--- the states are forgotten
+-- a clear: the cache forgets its states
 abbrev pub cleared : CacheValue → CacheValue
 cleared v = record v {
   states = [];
@@ -168,28 +168,28 @@ fits capacity s v = nat_le (usage v + cost v.stride s) capacity && nat_le (lengt
 abbrev pub Fits : ℕ → StateValue → CacheValue → Type 0
 Fits capacity s v = (usage v + cost v.stride s ≤ capacity) × (length v.cells + v.stride ≤ tag)
 
--- whether so many bytes were searched since the last clear that another one is worth it
+-- whether so many bytes were searched since the last clear that another clear is worth it
 abbrev pub pays_off : Option ℕ → CacheValue → Bool
 pays_off None v = false
 pays_off (Some least) v = nat_le (min (least * (length v.states + 3)) greatest) (search_total_len v)
 
--- whether a clear is refused
-abbrev pub is_refused : Option ℕ → Option ℕ → CacheValue → Bool
-is_refused None bytes v = false
-is_refused (Some least) bytes v = nat_le least v.clears && not (pays_off bytes v)
+-- whether a clear isn't allowed
+abbrev pub is_clear_denied : Option ℕ → Option ℕ → CacheValue → Bool
+is_clear_denied None bytes v = false
+is_clear_denied (Some least) bytes v = nat_le least v.clears && not (pays_off bytes v)
 
--- whether a state isn't held and doesn't fit, so that it asks for a clear
+-- whether a state isn't held and doesn't fit, so that it needs a clear
 abbrev pub needs_clear : Dfa → CacheValue → StateValue → Bool
 needs_clear d v s = not (is_dead s) && (is_none (row_holding s v.states) && not (fits d.capacity s v))
 
--- whether a state isn't held, doesn't fit, and no room may be made for it
-abbrev pub lacks_room : Dfa → CacheValue → StateValue → Bool
-lacks_room d v s = not (is_dead s) && (is_none (row_holding s v.states) && (not (fits d.capacity s v)
-    && is_refused (clears_of d.options) (minimum_bytes_of d.options) v))
+-- whether a state isn't held and doesn't fit, and no clear is allowed that makes room for it
+abbrev pub has_no_room : Dfa → CacheValue → StateValue → Bool
+has_no_room d v s = not (is_dead s) && (is_none (row_holding s v.states) && (not (fits d.capacity s v)
+    && is_clear_denied (clears_of d.options) (minimum_bytes_of d.options) v))
 
 -- ---- the cache of an automaton
 
--- where a state leads by a unit: to the quit sentinel, or to the ID of the state behind it
+-- where a state leads by a unit: by a quit byte to the quit sentinel, else to an ID of the state after the unit
 pub record Leads (d : Dfa) (v : CacheValue) (s : StateValue) (u : Option ℕ) (id : ℕ) : Type 0 where
   pub quits : is_quit d.quits u ≡ true → id ≡ quit_id v.stride
   pub goes : is_quit d.quits u ≡ false → Names v id (after d s u)
@@ -202,7 +202,7 @@ slot_of_start m s = m * 7 + number_of s
 abbrev pub Begins : Dfa → CacheValue → ℕ → Start → ℕ → Type 0
 Begins d v m s id = (q : ℕ) → start_in d m ≡ Some q → Names v id (first_state d s q)
 
--- the cache was made for the automaton, or reset to it; each call keeps it so, whatever it answers
+-- The cache was made for the automaton, or reset to it. Each call preserves this, whatever its result is.
 pub record IsCacheOf (d : Dfa) (v : CacheValue) : Type 0 where
   pub shape : IsShaped v
   pub stride : v.stride ≡ d.measures.stride

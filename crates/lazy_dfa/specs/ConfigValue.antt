@@ -1,4 +1,4 @@
--- What contracts see of a configuration: the options that were set, and what holds where one isn't.
+-- What contracts see of a configuration: the options that were set, and the defaults of those that weren't.
 use Rattle.std.specs.Prelude.{ℕ, Bool, true, false, Option, None, List, replicate}
 use Rattle.std.specs.Option.{option_or, unwrap_or}
 use Rattle.search_types.specs.declared.match_kind.MatchKind.{MatchKind}
@@ -13,7 +13,7 @@ pub record DfaOptions : Type 0 where
   pub specialize_start_states : Option Bool
   pub cache_capacity : Option ℕ
   pub skip_cache_capacity_check : Option Bool
-  pub minimum_cache_clear_count : Option (Option ℕ)  -- None within: a clear is never refused
+  pub minimum_cache_clear_count : Option (Option ℕ)  -- None within: a clear is always allowed
   pub minimum_bytes_per_state : Option (Option ℕ)  -- None within: bytes that were searched don't matter
 
 -- no option is set
@@ -31,7 +31,7 @@ no_dfa_options = record {
   minimum_bytes_per_state = None;
 }
 
--- the options of the first where the second has not set them
+-- the options of the second, and of the first those that the second doesn't set
 abbrev pub changed_dfa_options : DfaOptions → DfaOptions → DfaOptions
 changed_dfa_options old new = record {
   match_kind = option_or new.match_kind old.match_kind;
@@ -46,7 +46,7 @@ changed_dfa_options old new = record {
   minimum_bytes_per_state = option_or new.minimum_bytes_per_state old.minimum_bytes_per_state;
 }
 
--- ---- what holds where an option is not set
+-- ---- the defaults of options that aren't set
 
 -- the set with no bytes
 unfoldable pub no_bytes : List Bool

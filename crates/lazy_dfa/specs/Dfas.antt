@@ -1,4 +1,4 @@
--- What contracts see of an automaton that is determinized as it is used, and what each such automaton keeps to.
+-- What contracts see of a lazy DFA, and the invariant of each lazy DFA.
 use Rattle.std.specs.Prelude.{◌≡◌, ◌<◌, ◌≤◌, ◌+◌, ℕ, Bool, true, false, List, length, Option, Some, None, slice_index, slice_get, zero, suc}
 use Rattle.std.specs.Prelude.{⊤, [], ◌∷◌, ◌&&◌, ◌==◌, not}
 use Rattle.nfa_core.specs.NfaValue.{Nfa, IsSound}
@@ -20,11 +20,11 @@ pub record Dfa : Type 0 where
   pub measures : Measures
   pub capacity : ℕ  -- how many bytes a cache may take
 
--- by what its searches go
+-- what its searches depend on
 abbrev pub reader : Dfa → Reader
 reader d = reader_of d.nfa (kind_of d.options) d.quits (starts_each_of d.options)
 
--- the state behind a unit
+-- the state after a unit
 unfoldable pub after : Dfa → StateValue → Option ℕ → StateValue
 after d s u = step_value d.nfa.automaton d.nfa.terminator (kind_of d.options) s u
 
@@ -32,7 +32,8 @@ after d s u = step_value d.nfa.automaton d.nfa.terminator (kind_of d.options) s 
 unfoldable pub first_state : Dfa → Start → ℕ → StateValue
 first_state d s q = start_value d.nfa.automaton d.nfa.terminator s q
 
--- the state of the NFA in which a search in a mode starts: 0 is unanchored, 1 is anchored, the others are those of patterns
+-- The NFA state in which a search in a mode starts. Mode 0 is unanchored, mode 1 is anchored, and the other modes are
+-- those of patterns.
 abbrev pub start_in : Dfa → ℕ → Option ℕ
 start_in d zero = Some d.nfa.automaton.start_unanchored
 start_in d (suc zero) = Some d.nfa.automaton.start_anchored
@@ -43,21 +44,21 @@ abbrev pub IsUnit : Option ℕ → Type 0
 IsUnit None = ⊤
 IsUnit (Some b) = b < 256
 
--- the class of a unit; the end of the input has one of its own
+-- the class of a unit; the end of the input has a class of its own
 abbrev pub class_of : List ℕ → Option ℕ → ℕ
 class_of classes None = slice_index classes 255 + 1
 class_of classes (Some b) = slice_index classes b
 
--- what a step may be made from: of the states that starts and steps come to
+-- a state from which a step may be made: one of those to which starts and steps lead
 pub record IsStateOf (d : Dfa) (s : StateValue) : Type 0 where
   pub stepped : IsStepped d.nfa.automaton s
   pub short : length (encoded s) ≤ longest_state d.measures
 
--- two units that no step tells apart
+-- two units that no step distinguishes
 unfoldable pub Alike : Dfa → Option ℕ → Option ℕ → Type 0
 Alike d u w = (is_quit d.quits u ≡ is_quit d.quits w) × ((s : StateValue) → IsStepped d.nfa.automaton s → after d s u ≡ after d s w)
 
--- what a state adds to the bytes of a cache
+-- what a state adds to the byte count of a cache
 abbrev pub cost : ℕ → StateValue → ℕ
 cost stride s = state_cost stride (length (encoded s))
 

@@ -1,4 +1,4 @@
--- By what a half search goes, and what it answers.
+-- What a half search depends on, and the results that it can have.
 use Rattle.std.specs.Prelude.{ℕ, Bool, false, ◌&&◌, List, Option, Some, None, slice_index_or}
 use Rattle.look_core.specs.Terminators.{Terminator}
 use Rattle.search_types.specs.declared.match_kind.MatchKind.{MatchKind}
@@ -14,7 +14,7 @@ pub record Reader : Type 0 where
   pub between_characters : Bool  -- whether an end inside a character doesn't count
   pub starts_for_each_pattern : Bool  -- whether a search may name the pattern that it asks for
 
--- of an NFA: where it is in UTF-8 mode and a match may be empty, an end inside a character doesn't count
+-- the reader of an NFA: in UTF-8 mode, if a match may be empty, an end inside a character doesn't count
 abbrev pub reader_of : Nfa → MatchKind → List Bool → Bool → Reader
 reader_of n kind quits starts = record {
   automaton = n.automaton;
@@ -25,13 +25,13 @@ reader_of n kind quits starts = record {
   starts_for_each_pattern = starts;
 }
 
--- whether a unit is a quit byte; the end of input is none
+-- whether a unit is a quit byte; the end of input isn't one
 abbrev pub is_quit : List Bool → Option ℕ → Bool
 is_quit quits None = false
 is_quit quits (Some b) = slice_index_or quits b false
 
--- what a half search answers
+-- the result of a half search
 pub data HalfAnswer : Type 0 where
-  found : Option (ℕ × ℕ) → HalfAnswer  -- the place and the pattern of the match that it found, if any
+  found : Option (ℕ × ℕ) → HalfAnswer  -- the offset and the pattern of the match that it found, if any
   quit : ℕ → ℕ → HalfAnswer  -- it read a quit byte: the byte and its index
   unsupported : Anchored → HalfAnswer  -- the automaton can't search in this mode

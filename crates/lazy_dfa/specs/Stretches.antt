@@ -6,7 +6,8 @@ use Rattle.lazy_dfa.specs.Ids.{tag}
 use Rattle.lazy_dfa.specs.Points.{GoesTo, point}
 use Rattle.lazy_dfa.specs.declared.runs.Moved.{Moved}
 
--- reading goes on from a place and a state over known steps to another place, at most the end, and a state without a tag
+-- Over known steps, reading goes from an offset and a state to another offset, which is at most `end`, and to a state
+-- without a tag.
 pub record MovesTo (d : Dfa) (v : CacheValue) (h : List ℕ) (from : Moved) (end : ℕ) (to : Moved) : Type 0 where
   pub row : IsRow v to.id
   pub untagged : to.id < tag

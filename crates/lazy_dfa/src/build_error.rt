@@ -6,33 +6,33 @@ pub enum BuildError {
     /// The NFA can't be built.
     #[error("error building NFA")]
     NFA {
-        /// The refusal.
+        /// The error of building it.
         err: nfa_core::BuildError,
     },
-    /// A cache may not take the bytes that it needs at least.
+    /// The capacity of a cache is below the minimum.
     #[error("given cache capacity ({given}) is smaller than minimum required ({minimum})")]
     InsufficientCacheCapacity {
-        /// The bytes that it needs.
+        /// The number of bytes that a cache needs at least.
         minimum: usize,
-        /// The bytes that it may take.
+        /// The number of bytes that a cache may take.
         given: usize,
     },
-    /// States can't be numbered. It doesn't occur.
+    /// States can't be numbered. This doesn't occur.
     #[error("states can't be numbered")]
     InsufficientStateIDCapacity,
-    /// The NFA asks for words by characters, and searches aren't set to give up at the bytes that these need.
+    /// The NFA has Unicode word boundaries, and searches aren't set to give up at the bytes above 0x7F.
     #[error("unsupported regex feature for DFAs: cannot build lazy DFAs for regexes with Unicode word boundaries; switch to ASCII word boundaries, or heuristically enable Unicode word boundaries or use a different regex engine")]
     Unsupported,
-    /// There is no memory left.
+    /// Out of memory.
     #[error("out of memory")]
     NoMemory,
 }
 
 impl From<nfa_core::BuildError> for BuildError {
     ghost use Rattle.std.specs.Prelude.{◌≡◌};
-    ghost use Rattle.lazy_dfa.specs.Building.{refused_by};
+    ghost use Rattle.lazy_dfa.specs.Building.{error_of_compile};
 
-    ghost from_gives = { λ e refusal. refusal ≡ refused_by e };
+    ghost from_gives = { λ e rejection. rejection ≡ error_of_compile e };
 
     fn from(err: nfa_core::BuildError) -> BuildError {
         match err {

@@ -14,7 +14,7 @@ use search_core::{ByteClasses, ByteSet};
 use std::alloc::Global;
 use std::marker::Model;
 
-/// Builds lazy DFAs, as `regex_automata::hybrid::dfa::Builder`. A contract sees the options that are set.
+/// Builds lazy DFAs, as `regex_automata::hybrid::dfa::Builder`. In contracts, a builder is the options that are set.
 #[derive(Clone, Copy)]
 pub struct Builder {
     config: Config,
@@ -31,7 +31,7 @@ impl Model for Builder {
 }
 
 impl Builder {
-    /// A builder with no option set.
+    /// Returns a builder with no option set.
     pub fn new() -> Builder
         ensures { result ≡ no_dfa_options }
     {
@@ -49,8 +49,9 @@ impl Builder {
         self
     }
 
-    /// The DFA of an NFA. It is refused where the NFA asks for words by characters and searches aren't set to give up at
-    /// the bytes above 7F, and else where the capacity of caches is below the least and that isn't to be raised.
+    /// Builds the DFA of an NFA. If the NFA has Unicode word boundaries and searches aren't set to give up at the bytes
+    /// above 0x7F, the call returns an error. Otherwise, if the capacity of caches is below the minimum and isn't to be
+    /// raised, it returns an error too.
     pub fn build_from_nfa(&self, nfa: NFA) -> Result<DFA, BuildError>
         ensures { result ≡ built nfa self.now }
     {
@@ -65,7 +66,7 @@ impl Builder {
         let minimum = measures.least_capacity();
         let given = config.get_cache_capacity();
         let skips = config.get_skip_cache_capacity_check();
-        if is_refused(skips, given, minimum) {
+        if is_clear_denied(skips, given, minimum) {
             return Err(BuildError::InsufficientCacheCapacity { minimum, given });
         }
         let capacity = capacity_for(skips, given, minimum);
@@ -83,8 +84,8 @@ impl Builder {
 }
 
 impl Config {
-    /// The least capacity that caches for the NFA may be given, as `Config::get_minimum_cache_capacity`. It is refused
-    /// where the NFA can't be searched with these options.
+    /// Returns the least capacity that caches for the NFA may have, as `Config::get_minimum_cache_capacity`. If the NFA
+    /// can't be searched with these options, the call returns an error.
     pub fn get_minimum_cache_capacity(&self, nfa: &NFA) -> Result<usize, BuildError>
         ensures { result ≡ least_for nfa.now self.now }
     {
@@ -99,24 +100,24 @@ impl Config {
     }
 }
 
-/// DFAs that are built without more.
+/// DFAs that are built with the default options.
 impl DFA {
-    /// A configuration with no option set, as `DFA::config`.
+    /// Returns a configuration with no option set, as `DFA::config`.
     pub fn config() -> Config
         ensures { result ≡ no_dfa_options }
     {
         Config::new()
     }
 
-    /// A builder with no option set, as `DFA::builder`.
+    /// Returns a builder with no option set, as `DFA::builder`.
     pub fn builder() -> Builder
         ensures { result ≡ no_dfa_options }
     {
         Builder::new()
     }
 
-    /// The DFA of one pattern that matches at each place without a byte, as `DFA::always_match`. It is refused where
-    /// memory lacks.
+    /// Builds the DFA of one pattern that matches the empty string at every offset, as `DFA::always_match`. If memory
+    /// runs out, the call returns an error.
     pub fn always_match(alloc: Global) -> Result<DFA, BuildError>
         ensures { MatchResult result (λ d. d ≡ dfa_of always_matching no_dfa_options) (λ e. e ≡ BuildError.NoMemory) }
     {
@@ -126,7 +127,7 @@ impl DFA {
         }
     }
 
-    /// The DFA of no pattern, as `DFA::never_match`. It is refused where memory lacks.
+    /// Builds the DFA of no pattern, as `DFA::never_match`. If memory runs out, the call returns an error.
     pub fn never_match(alloc: Global) -> Result<DFA, BuildError>
         ensures { MatchResult result (λ d. d ≡ dfa_of never_matching no_dfa_options) (λ e. e ≡ BuildError.NoMemory) }
     {
@@ -137,14 +138,14 @@ impl DFA {
     }
 }
 
-/// Whether a capacity is refused.
-fn is_refused(skips: bool, given: usize, minimum: usize) -> bool
+/// Whether a capacity is rejected.
+fn is_clear_denied(skips: bool, given: usize, minimum: usize) -> bool
     ensures { result ≡ not skips && nat_lt given minimum }
 {
     !skips && given < minimum
 }
 
-/// The capacity that counts, of one that isn't refused.
+/// The capacity in effect, for a capacity that isn't rejected.
 fn capacity_for(skips: bool, given: usize, minimum: usize) -> usize
     ensures { result ≡ if skips then max minimum given else given }
 {
@@ -164,7 +165,7 @@ fn classes_of(nfa: &NFA, config: &Config, quits: &ByteSet) -> ByteClasses
     marks.byte_classes()
 }
 
-/// How many transitions a state has.
+/// The number of transitions that a state has.
 fn stride_of(classes: &ByteClasses) -> usize
     ensures { result ≡ stride_of classes.now }
 {
@@ -176,7 +177,7 @@ fn stride_of(classes: &ByteClasses) -> usize
     stride
 }
 
-/// By what the bytes of a cache are told.
+/// The numbers from which the bytes of a cache are computed.
 fn measures_of(nfa: &NFA, classes: &ByteClasses, config: &Config) -> Measures
     requires { classes.now ≡ classes_of nfa.now config.now }
     ensures { result ≡ measures_with nfa.now config.now }

@@ -1,17 +1,17 @@
-//! Tests of bytes, of 32 at once too, and the search for the first byte that passes one.
+//! Tests of bytes, also of 32 at once, and the search for the first byte that passes one.
 ghost use Rattle.std.specs.Prelude.{◌≡◌, ◌+◌, ◌<◌, ◌≤◌, ◌==◌, ◌||◌, ℕ, Bool, true, length, map, slice_index_or};
 ghost use Rattle.std.specs.Simd.Lanes.{chunk, mask_l};
-ghost use Rattle.lazy_dfa.specs.ByteTests.{has_bits, in_range, marked, NonePasses};
+ghost use Rattle.lazy_dfa.specs.ByteTests.{has_bits, in_range, marked, NoneSatisfies};
 
 use std::simd::prelude::*;
 
-/// How many bytes are tested at once.
+/// The number of bytes that are tested at once.
 pub(crate) const LANES: usize = 32;
 
-/// How many bytes are looked at before it is taken that the byte that is looked for stands far off.
+/// The number of bytes that are tested before the byte that is searched for is taken to be far off.
 const NEAR: usize = 8 * LANES;
 
-/// How many bytes are passed over at once from there on.
+/// The number of bytes that are skipped at once from there on.
 const FAR: usize = 4 * LANES;
 
 /// A test of bytes.
@@ -21,7 +21,7 @@ pub(crate) trait ByteTest {
     fn passes(&self, byte: u8) -> bool
         ensures { result ≡ passes self.now byte };
 
-    /// The same of 32 bytes: a lane has all bits where its byte passes, and else none.
+    /// Tests 32 bytes at once. If a byte passes, all bits of its lane are set, and otherwise none.
     fn lanes(&self, bytes: u8x32) -> u8x32
         ensures { result ≡ marked (passes self.now) bytes };
 }
@@ -46,7 +46,7 @@ impl ByteTest for OneByte {
     }
 }
 
-/// The bytes of a range pass: its first one, and so many behind that, where 0 follows 255.
+/// The bytes of a range pass: its first one, and a number of bytes after it, where 0 follows 255.
 #[derive(Clone, Copy)]
 pub(crate) struct ByteRange {
     first: u8,
@@ -79,7 +79,7 @@ impl ByteTest for ByteRange {
     }
 }
 
-/// A byte passes that passes one of two tests.
+/// A byte passes if it passes one of two tests.
 #[derive(Drop)]
 pub(crate) struct Either<A: ByteTest, B: ByteTest>(pub(crate) A, pub(crate) B);
 
@@ -97,7 +97,7 @@ impl<A: ByteTest, B: ByteTest> ByteTest for Either<A, B> {
     }
 }
 
-/// A bit for each lane, set where the lane has bits.
+/// A bit for each lane, set if the lane has bits.
 #[inline(always)]
 pub(crate) fn bits_of(lanes: u8x32) -> u64
     ensures { result ≡ mask_l (map has_bits lanes) }
@@ -105,7 +105,7 @@ pub(crate) fn bits_of(lanes: u8x32) -> u64
     lanes.simd_ne(u8x32::splat(0)).to_bitmask()
 }
 
-/// The marks of the 32 bytes from a place on.
+/// The marks of the 32 bytes from an offset on.
 #[inline(always)]
 pub(crate) fn marks_at<T: ByteTest>(test: &T, haystack: &[u8], at: usize) -> u8x32
     requires { at + 32 ≤ length haystack.now }
@@ -114,11 +114,11 @@ pub(crate) fn marks_at<T: ByteTest>(test: &T, haystack: &[u8], at: usize) -> u8x
     test.lanes(u8x32::from_slice(&haystack[at..]))
 }
 
-/// Whether none of the 128 bytes from a place on passes.
+/// Whether none of the 128 bytes from an offset on passes.
 #[inline(always)]
 fn none_passes<T: ByteTest>(test: &T, haystack: &[u8], at: usize) -> bool
     requires { at + 128 ≤ length haystack.now }
-    ensures { result ≡ true → NonePasses (T.passes test.now) haystack.now at (at + 128) }
+    ensures { result ≡ true → NoneSatisfies (T.passes test.now) haystack.now at (at + 128) }
 {
     let first = marks_at(test, haystack, at) | marks_at(test, haystack, at + LANES);
     let second = marks_at(test, haystack, at + 2 * LANES)
@@ -126,14 +126,14 @@ fn none_passes<T: ByteTest>(test: &T, haystack: &[u8], at: usize) -> bool
     bits_of(first | second) == 0
 }
 
-/// A place from which on, and before `end`, looking goes on: 128 bytes at a time were passed over, none of which passes.
+/// Returns the offset, up to `end`, from which the search goes on. It skipped 128 bytes at a time, none of which passes.
 #[inline(always)]
 fn pass_far<T: ByteTest>(test: &T, haystack: &[u8], from: usize, end: usize) -> usize
     requires fits { from ≤ end }
     requires within { end ≤ length haystack.now }
     ensures low { from ≤ result }
     ensures high { result ≤ end }
-    ensures passed { NonePasses (T.passes test.now) haystack.now from result }
+    ensures passed { NoneSatisfies (T.passes test.now) haystack.now from result }
 {
     let mut at = from;
     'far: while end - at >= FAR && none_passes(test, haystack, at) {
@@ -142,14 +142,14 @@ fn pass_far<T: ByteTest>(test: &T, haystack: &[u8], from: usize, end: usize) -> 
     at
 }
 
-/// The first place from `from` on, before `end`, whose byte passes, or `end`; 32 bytes are looked at at once.
+/// Returns the first offset from `from` on, before `end`, whose byte passes, or otherwise `end`. It tests 32 bytes at once.
 #[inline(always)]
 fn find_wide<T: ByteTest>(test: &T, haystack: &[u8], from: usize, end: usize) -> usize
     requires fits { from ≤ end }
     requires within { end ≤ length haystack.now }
     ensures low { from ≤ result }
     ensures high { result ≤ end }
-    ensures passed { NonePasses (T.passes test.now) haystack.now from result }
+    ensures passed { NoneSatisfies (T.passes test.now) haystack.now from result }
     ensures found { result < end → T.passes test.now (slice_index_or haystack.now result 0) ≡ true }
 {
     let mut at = from;
@@ -166,15 +166,15 @@ fn find_wide<T: ByteTest>(test: &T, haystack: &[u8], from: usize, end: usize) ->
     at
 }
 
-/// The first place from `from` on, before `end`, whose byte passes, or `end`. The next few bytes are looked at first, since most
-/// searches end there.
+/// Returns the first offset from `from` on, before `end`, whose byte passes, or otherwise `end`. It tests the next few bytes
+/// first, since most searches end there.
 #[inline(always)]
 pub(crate) fn find_by<T: ByteTest>(test: &T, haystack: &[u8], from: usize, end: usize) -> usize
     requires fits { from ≤ end }
     requires within { end ≤ length haystack.now }
     ensures low { from ≤ result }
     ensures high { result ≤ end }
-    ensures passed { NonePasses (T.passes test.now) haystack.now from result }
+    ensures passed { NoneSatisfies (T.passes test.now) haystack.now from result }
     ensures found { result < end → T.passes test.now (slice_index_or haystack.now result 0) ≡ true }
 {
     let near_end = from + (end - from).min(NEAR);

@@ -1,8 +1,8 @@
-//! Walks that read bytes one by one over known steps, one alone or two at once.
+//! Byte loops over known steps: one loop alone, or two at once.
 //!
-//! A walk waits for one load a byte, and another one could be made meanwhile. So a second walk begins further on, in any state: a few
-//! bytes later it mostly is where the first one will be when it comes there, since few bytes decide to which state a search that isn't
-//! anchored comes. Where the first one does come to that state, both count, and else the first one alone.
+//! A byte loop waits for one load per byte, and another load could run meanwhile. So a second loop starts further on, in any
+//! state. After a few bytes it is usually in the state that the first loop will reach there, since few bytes decide which state
+//! an unanchored search reaches. If the first loop does reach that state, both loops count. Otherwise the first one alone counts.
 ghost use Rattle.std.specs.Prelude.{◌≡◌, ℕ, ◌+◌, ◌-◌, ◌<◌, ◌≤◌, false, true, length, Option};
 ghost use Rattle.lazy_dfa.specs.Caches.{IsCacheOf, IsRow};
 ghost use Rattle.lazy_dfa.specs.Ids.{tag};
@@ -11,7 +11,8 @@ ghost use Rattle.lazy_dfa.specs.Points.{GoesTo, point};
 use crate::dfa::{Cache, DFA};
 use crate::lazy_id::LazyStateID;
 
-/// How far a walk came, to which state, and whether it pauses there: at the state to stop at, or behind a stretch.
+/// How far a byte loop came, to which state, and whether it pauses there. It pauses at the state to stop at, and at the end of a
+/// stretch.
 #[derive(Clone, Copy)]
 pub(crate) struct Walked {
     pub(crate) at: usize,
@@ -19,7 +20,7 @@ pub(crate) struct Walked {
     pub(crate) pauses: bool,
 }
 
-/// Goes on forward byte by byte over known steps while no state has a tag, up to a limit or the state to stop at.
+/// Follows known steps forward byte by byte while no state has a tag, up to a limit or the state to stop at.
 #[inline(always)]
 pub(crate) fn walk_forward(
     dfa: &DFA,
@@ -73,7 +74,7 @@ pub(crate) fn walk_forward(
     }
 }
 
-/// To which states two walks came behind so many bytes each.
+/// The states that two byte loops reached, after `count` bytes each.
 #[derive(Clone, Copy)]
 pub(crate) struct Both {
     pub(crate) first: LazyStateID,
@@ -81,7 +82,7 @@ pub(crate) struct Both {
     pub(crate) count: usize,
 }
 
-/// Goes on forward in two walks, each over known steps, while neither is in a state with a tag.
+/// Follows known steps forward in two byte loops while neither is in a state with a tag.
 #[inline(always)]
 pub(crate) fn walk_both(
     dfa: &DFA,

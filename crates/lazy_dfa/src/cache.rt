@@ -1,6 +1,6 @@
 ghost use Rattle.std.specs.Prelude.{◌≡◌, ◌+◌, ◌%◌, ◌<◌, ◌↔◌, true, length, slice_index_or, IfSome};
 ghost use Rattle.determinize_core.specs.States.{IsState};
-ghost use Rattle.lazy_dfa.specs.Caches.{IsShaped, HeldAt, IsRow, is_refused, fits, state_at, id_at, row_holding, usage};
+ghost use Rattle.lazy_dfa.specs.Caches.{IsShaped, HeldAt, IsRow, is_clear_denied, fits, state_at, id_at, row_holding, usage};
 ghost use Rattle.lazy_dfa.specs.Ids.{tag};
 
 use crate::lazy_id::{LazyStateID, MATCH, SENTINELS};
@@ -12,36 +12,36 @@ use search_core::ByteClasses;
 use std::collections::HashMap;
 use std::marker::Model;
 
-/// The powerset states that searches have made so far, with what is known of their steps, as
-/// `regex_automata::hybrid::dfa::Cache`. It is of use with the automaton for which it was made, or to which it was
-/// [`reset`](Cache::reset), alone.
+/// The powerset states that searches have built so far, with what is known of their steps, as
+/// `regex_automata::hybrid::dfa::Cache`. It is usable only with the automaton for which it was created, or to which it was
+/// [`reset`](Cache::reset).
 #[derive(Drop)]
 pub struct Cache {
     /// The states of the rows from 3 on. Rows 0, 1 and 2 are those of the sentinels.
     pub(crate) states: Vec<State>,
     /// Their IDs.
     pub(crate) ids: Vec<LazyStateID>,
-    /// The place in the list of each state. It shares the states' bytes.
+    /// The index of each state in the list. It shares the states' bytes.
     pub(crate) rows: HashMap<State, usize>,
     /// The transitions, row after row.
     pub(crate) cells: Vec<LazyStateID>,
-    /// The IDs of starts, seven for each mode.
+    /// The IDs of start states, seven for each mode.
     pub(crate) starts: Vec<LazyStateID>,
-    /// What steps need beside the automaton.
+    /// What steps need in addition to the automaton.
     pub(crate) workspace: Workspace,
-    /// How long a row is.
+    /// The length of a row.
     pub(crate) stride: usize,
-    /// The bytes that the cache is taken to need with no states.
+    /// The number of bytes that the cache is counted to need with no states.
     pub(crate) fresh: usize,
-    /// The same with its states.
+    /// The number of bytes that the cache is counted to need with its states.
     pub(crate) used: usize,
     pub(crate) clears: usize,
-    /// The bytes that were searched since the last clear, up to the search that goes on.
+    /// The number of bytes that were searched since the last clear, up to the search in progress.
     pub(crate) searched: usize,
     pub(crate) progress: Option<Progress>,
     /// The classes of bytes, one for each column.
     pub(crate) classes: ByteClasses,
-    /// Where searches pass over bytes.
+    /// Where searches skip bytes.
     pub(crate) skip: Skip,
 }
 
@@ -81,22 +81,22 @@ impl Model for Cache {
 }
 
 impl Cache {
-    /// How many times the cache was cleared since it was made or reset, as `Cache::clear_count`.
+    /// Returns how many times the cache was cleared since it was created or reset, as `Cache::clear_count`.
     pub fn clear_count(&self) -> usize
         ensures { result ≡ self.now.clears }
     {
         self.clears
     }
 
-    /// The bytes that the cache is taken to need, as `Cache::memory_usage`. The count stands for what is kept, and not for
-    /// real memory.
+    /// Returns the number of bytes that the cache is counted to need, as `Cache::memory_usage`. The count stands for what the
+    /// cache keeps, and not for real memory.
     pub fn memory_usage(&self) -> usize
         ensures { result ≡ usage self.now }
     {
         self.used
     }
 
-    /// How long a row is.
+    /// The length of a row.
     pub(crate) fn stride(&self) -> usize
         ensures stride { result ≡ self.now.stride }
         ensures shape { IsShaped self.now }
@@ -105,7 +105,7 @@ impl Cache {
         self.stride
     }
 
-    /// Which row from 3 on holds the state.
+    /// The row from 3 on that holds the state.
     pub(crate) fn find(&self, state: &State) -> Option<usize>
         ensures place { result ≡ row_holding state.now self.now.states }
         ensures real { IsState state.now }
@@ -117,7 +117,7 @@ impl Cache {
         self.rows.get(state).copied()
     }
 
-    /// Which row from 3 on has the ID.
+    /// The row from 3 on that has the ID.
     pub(crate) fn row(&self, id: LazyStateID) -> usize
         requires { IsRow self.now id }
         ensures inside { result < length self.now.states }
@@ -187,10 +187,10 @@ impl Cache {
         self.cells[(id.bits() % MATCH) as usize + class]
     }
 
-    /// The same for an ID without tags.
+    /// What is known of the step from an ID without tags, by the units of a class.
     ///
-    /// It reads the column of the class, and not the table: so a search waits for one load a byte, and not for a sum before
-    /// it too.
+    /// It reads the column of the class instead of the table. So a search waits for one load per byte, and not for an addition
+    /// before it too.
     #[inline(always)]
     #[tactic(auto, using(crate::proofs::CacheChanges::ListLemmas::cell_of_column))]
     pub(crate) fn cell_of_untagged(&self, id: LazyStateID, class: usize) -> LazyStateID
@@ -201,7 +201,7 @@ impl Cache {
         column[id.bits() as usize]
     }
 
-    /// What is known of a start.
+    /// What is known of a start state.
     pub(crate) fn start(&self, i: usize) -> LazyStateID
         requires { i < length self.now.starts }
         ensures { result ≡ slice_index_or self.now.starts i 0 }
@@ -209,13 +209,13 @@ impl Cache {
         self.starts[i]
     }
 
-    /// Whether a clear is refused.
+    /// Whether no further clear is allowed.
     pub(crate) fn refuses_clear(
         &self,
         least_clears: Option<usize>,
         least_bytes: Option<usize>,
     ) -> bool
-        ensures { result ≡ is_refused least_clears least_bytes self.now }
+        ensures { result ≡ is_clear_denied least_clears least_bytes self.now }
     {
         let Some(least) = least_clears else {
             return false;

@@ -1,13 +1,13 @@
 use std::alloc::{AllocError, AllocFailed};
 use thiserror::Error;
 
-/// Why a step can't be made, as `regex_automata::hybrid::CacheError`.
+/// Why a step failed, as `regex_automata::hybrid::CacheError`.
 #[derive(Clone, Copy, Debug, PartialEq, Eq, Error)]
 pub enum CacheError {
-    /// A state has no room, and the configuration doesn't allow another clear.
+    /// There is no room for a state, and the configuration doesn't allow another clear.
     #[error("lazy DFA cache has been cleared too many times")]
     GaveUp,
-    /// There is no memory left.
+    /// Out of memory.
     #[error("out of memory")]
     NoMemory,
 }

@@ -1,5 +1,5 @@
-//! Laws of caches: what leaves one its automaton's own, and what its IDs tell apart. Each function has no code: its contract
-//! is the law.
+//! Laws of caches: which changes leave a cache to its automaton, and which states IDs distinguish. Each function has no code: its
+//! contract is the law.
 //! ```rust
 //! pub fn ids_tell_states_apart()
 //!     ensures { (d : Dfa) (c : CacheValue) (i j : ℕ) (v w : StateValue) → IsCacheOf d c → HeldAt c i v → HeldAt c j w → (i ≡ j → ⊥) →
@@ -14,7 +14,7 @@ ghost use Rattle.lazy_dfa.specs.Caches.{CacheValue, IsCacheOf, HeldAt};
 ghost use Rattle.lazy_dfa.specs.Dfas.{Dfa};
 ghost use Rattle.lazy_dfa.specs.declared.progress.Progress.{Progress};
 
-/// A cache that is told how far searches came stays that of its automaton.
+/// A cache remains one of its automaton when the progress of searches is recorded in it.
 pub fn told_caches_stay_their_automatons()
     ensures { (d : Dfa) (v : CacheValue) (searched : ℕ) (progress : Option Progress) → IsCacheOf d v →
         IsCacheOf d (record v { searched = searched; progress = progress }) }

@@ -1,4 +1,5 @@
-//! How far searches came. A cache is told it, so that it knows whether clears pay off. Sums stop at [`usize::MAX`].
+//! How far searches came. Searches report this to their cache, which decides by it whether clears pay off. Sums saturate at
+//! [`usize::MAX`].
 ghost use Rattle.std.specs.Prelude.{◌≡◌, ◌+◌, Some, None, IsSome, is_some, min};
 ghost use Rattle.lazy_dfa.specs.Caches.{greatest, progress_len, moved_to, search_total_len};
 
@@ -6,7 +7,7 @@ use crate::cache::Cache;
 use crate::progress::Progress;
 
 impl Cache {
-    /// Begins a search at this place, as `Cache::search_start`. One that goes on ends, and its length is added.
+    /// Begins a search at this offset, as `Cache::search_start`. A search in progress ends, and its length is added.
     #[inline(always)]
     pub fn search_start(&mut self, at: usize)
         ensures { self.new ≡ record self.old {
@@ -18,7 +19,7 @@ impl Cache {
         self.progress = Some(Progress { start: at, at });
     }
 
-    /// The search that goes on has come to this place, as `Cache::search_update`.
+    /// Records that the search in progress has come to this offset, as `Cache::search_update`.
     #[inline(always)]
     pub fn search_update(&mut self, at: usize)
         requires { IsSome self.old.progress }
@@ -32,7 +33,7 @@ impl Cache {
         }
     }
 
-    /// The search that goes on ends at this place, as `Cache::search_finish`. Its length is added.
+    /// Ends the search in progress at this offset, as `Cache::search_finish`. Its length is added.
     #[inline(always)]
     pub fn search_finish(&mut self, at: usize)
         requires { IsSome self.old.progress }
@@ -46,15 +47,15 @@ impl Cache {
         self.progress = None;
     }
 
-    /// Whether a search goes on.
+    /// Whether a search is in progress.
     pub fn in_progress(&self) -> bool
         ensures { result ≡ is_some self.now.progress }
     {
         self.progress.is_some()
     }
 
-    /// How many bytes were searched since the last clear, as `Cache::search_total_len`, those of the search that goes on
-    /// too.
+    /// Returns how many bytes were searched since the last clear, as `Cache::search_total_len`. The bytes of the search in
+    /// progress are included.
     #[inline(always)]
     pub fn search_total_len(&self) -> usize
         ensures { result ≡ search_total_len self.now }

@@ -1,23 +1,23 @@
-//! What a cache notes of the state to stop at, and when searches pass over bytes.
+//! What a cache notes of the state to stop at, and when searches skip bytes.
 ghost use Rattle.std.specs.Prelude.{◌≡◌, ℕ, ◌<◌, ◌≤◌, IfSome, true, false};
 ghost use Rattle.search_core.specs.ByteSets.{has};
 ghost use Rattle.lazy_dfa.specs.Ids.{tag};
 ghost use Rattle.lazy_dfa.specs.Skips.{cell_by, IsLeft, IsSkip};
 
+use crate::accel_bytes::Leaving;
 use crate::cache::Cache;
 use crate::lazy_id::LazyStateID;
-use crate::leaving::Leaving;
 use crate::skip::{Skip, is_used_up};
 use search_core::ByteSet;
 
-/// What it costs to look which bytes leave a state that turns out to be of no use.
+/// The cost of finding out which bytes leave a state that then turns out to be unusable.
 const LOOK_COST: usize = 128;
 
-/// How many bytes are read one by one before a state to stop at is looked for.
+/// The number of bytes that are read one by one before a search looks for a state to stop at.
 const STRETCH: usize = 64;
 
 impl Cache {
-    /// The ID at which a search stops that may pass over bytes, or the unknown one.
+    /// The ID at which a search stops that may skip bytes, or the unknown one.
     #[inline(always)]
     pub(crate) fn stop(&self) -> LazyStateID {
         self.skip.stop
@@ -29,7 +29,8 @@ impl Cache {
         self.skip.stop.is_tagged() && is_used_up(self.skip.credit)
     }
 
-    /// How far bytes are read one by one: to the end, or a stretch in which a state to stop at is looked for.
+    /// The offset up to which bytes are read one by one: the end, or the end of a stretch after which a state to stop at is
+    /// looked for.
     #[inline(always)]
     pub(crate) fn stretch_end(&self, from: usize, end: usize) -> usize
         requires { from ≤ end }
@@ -51,7 +52,7 @@ impl Cache {
         &self.skip
     }
 
-    /// Keeps the credit that is left behind skips. Where it is used up, the state is forgotten.
+    /// Keeps the credit that is left after skips. If it is used up, the state is forgotten.
     #[inline(always)]
     pub(crate) fn pay(&mut self, credit: usize)
         ensures { self.new ≡ self.old }
@@ -62,7 +63,7 @@ impl Cache {
         }
     }
 
-    /// Notes a state as the one to stop at, if the next byte leaves it as it is.
+    /// Notes a state as the one to stop at, if the next byte doesn't leave it.
     #[inline(never)]
     pub(crate) fn look(&mut self, id: LazyStateID, byte: u8)
         requires { id < tag }
@@ -85,7 +86,7 @@ impl Cache {
         };
     }
 
-    /// Where a byte leads from an ID without tags, as far as there is a cell for it.
+    /// The ID to which a byte leads from an ID without tags, if there is a cell for it.
     pub(crate) fn step_by(&self, id: LazyStateID, byte: u8) -> Option<LazyStateID>
         ensures { IfSome result (λ next. cell_by self.now.cells self.now.classes id byte ≡ next) }
     {

@@ -1,4 +1,5 @@
-//! What writes to a cache. Each call either writes all that it says or nothing: growths come before any write.
+//! Calls that write to a cache. A call makes all its writes or none, since its allocations come before any write. One exception
+//! is `clear_keeping`: if it fails, it may have cleared the cache.
 ghost use Rattle.std.specs.Prelude.{◌≡◌, ◌+◌, ◌*◌, ◌%◌, ◌<◌, ◌≤◌, ◌⊎◌, [], ◌∷◌, ◌++◌, length, replicate, slice_set, IfOk, OnOk, OnErr};
 ghost use Rattle.std.specs.Prelude.{None, vec_len, vec_capacity};
 ghost use Rattle.search_core.specs.Index.{greatest_index};
@@ -24,7 +25,8 @@ use std::collections::HashMap;
 use std::sync::ledger::Ledger;
 
 impl Cache {
-    /// A cache that holds no states, with room in its sets for these names. It is refused where memory lacks.
+    /// A cache that holds no states, whose sets have room for this many NFA states. If memory runs out, the call returns an
+    /// error.
     pub(crate) fn empty(
         alloc: Global,
         stride: usize,
@@ -59,7 +61,7 @@ impl Cache {
         })
     }
 
-    /// The state behind a unit, from the state of a row.
+    /// The state after a unit, from the state of a row.
     pub(crate) fn behind<L: Ledger, M: Ledger>(
         &mut self,
         nfa: &NFA,
@@ -109,7 +111,7 @@ impl Cache {
         Ok(first)
     }
 
-    /// Notes a start.
+    /// Records a start state.
     pub(crate) fn set_start(&mut self, i: usize, to: LazyStateID)
         requires { i < length self.old.starts }
         ensures { self.new ≡ record self.old { starts = slice_set self.old.starts i to } }
@@ -117,7 +119,7 @@ impl Cache {
         self.starts[i] = to;
     }
 
-    /// Notes the step from an ID by the units of a class.
+    /// Records the step from an ID by the units of a class.
     pub(crate) fn set_cell(&mut self, id: LazyStateID, class: usize, to: LazyStateID)
         requires { id % tag + class < length self.old.cells }
         ensures { self.new ≡ record self.old { cells = slice_set self.old.cells (id % tag + class) to } }
@@ -126,7 +128,7 @@ impl Cache {
         self.cells[(id.bits() % MATCH) as usize + class] = to;
     }
 
-    /// Forgets all states but one, which gets a new row and keeps the tag of starts.
+    /// Removes all states but one, which gets a new row and keeps the tag of start states.
     pub(crate) fn clear_keeping(&mut self, k: usize) -> Result<LazyStateID, AllocError>
         requires row { k < length self.old.states }
         requires room { 5 * self.old.stride ≤ tag }
@@ -143,7 +145,7 @@ impl Cache {
         Ok(id)
     }
 
-    /// Forgets all states, and begins the search that goes on anew.
+    /// Removes all states, and restarts the search in progress where it is.
     pub(crate) fn clear(&mut self)
         ensures { self.new ≡ cleared self.old }
     {
@@ -159,7 +161,7 @@ impl Cache {
         self.skip = Skip::new();
     }
 
-    /// Adds a state that is not there yet, with a row of which nothing is known.
+    /// Adds a state that isn't held yet, with a row of which nothing is known.
     pub(crate) fn add_state(
         &mut self,
         state: State,
@@ -192,7 +194,7 @@ impl Cache {
     }
 }
 
-/// Makes room for a state more in the lists of a cache: a row of cells, and one item in each of the others.
+/// Reserves room for one more state in the lists of a cache: a row of cells, and one item in each of the others.
 fn reserve_row(
     cells: &mut Vec<LazyStateID>,
     stride: usize,

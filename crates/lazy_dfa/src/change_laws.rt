@@ -13,17 +13,17 @@ ghost use Rattle.search_types.specs.Inputs.{Search};
 ghost use Rattle.lazy_dfa.specs.Caches.{CacheValue, IsCacheOf, greatest};
 ghost use Rattle.lazy_dfa.specs.Changes.{Changes, IsMadeBy, HasRoomFor, IsSpent, FirstClear, AddsFew, LastClear};
 ghost use Rattle.lazy_dfa.specs.Dfas.{Dfa, IsDfa};
-ghost use Rattle.lazy_dfa.specs.WalkAnswers.{IsMadeOnCall, IsMadeOnWalk};
-ghost use Rattle.lazy_dfa.specs.declared.overlapping_state.Walk.{Walk};
+ghost use Rattle.lazy_dfa.specs.OverlappingAnswers.{IsMadeOnCall, IsMadeOnOverlapping};
+ghost use Rattle.lazy_dfa.specs.declared.overlapping_state.OverlappingPosition.{OverlappingPosition};
 
-/// A half search clears its cache at most once for each state that it makes.
+/// A half search clears its cache at most once for each state that it builds.
 pub fn searches_clear_for_states()
     ensures { (d : Dfa) (q : Search) (old new : CacheValue) (n : ℕ) → Changes d (IsMadeBy d q) old new n →
         old.clears ≤ greatest → (old.clears ≤ new.clears) × (new.clears ≤ old.clears + n) }
 {}
 
-/// Over a cache with room for all states that a half search can make, nothing is cleared; and nothing is cleared where the
-/// clears that are allowed are spent.
+/// If a cache has room for all states that a half search can build, nothing is cleared. If the clears that are allowed are used
+/// up, nothing is cleared either.
 pub fn searches_keep_what_has_room()
     ensures room { (d : Dfa) (q : Search) (old new : CacheValue) (n : ℕ) → IsDfa d → IsCacheOf d old → HasRoomFor d old n →
         Changes d (IsMadeBy d q) old new n → AddsFew d (IsMadeBy d q) old new n }
@@ -31,8 +31,8 @@ pub fn searches_keep_what_has_room()
         Changes d (IsMadeBy d q) old new n → AddsFew d (IsMadeBy d q) old new n }
 {}
 
-/// Where the count of clears is as before and hasn't stopped, a half search added states on its way alone. Where it isn't, the
-/// first clear was for a state on its way that wasn't held and had no room.
+/// If the count of clears is unchanged and below its greatest value, a half search added states on its way alone. If the count
+/// changed, the first clear was for a state on its way that wasn't held and had no room.
 pub fn searches_add_states_on_their_way()
     ensures kept { (d : Dfa) (q : Search) (old new : CacheValue) (n : ℕ) → IsDfa d → IsCacheOf d old → new.clears ≡ old.clears →
         old.clears < greatest → Changes d (IsMadeBy d q) old new n → AddsFew d (IsMadeBy d q) old new n }
@@ -40,49 +40,59 @@ pub fn searches_add_states_on_their_way()
         Changes d (IsMadeBy d q) old new n → FirstClear d (IsMadeBy d q) old }
 {}
 
-/// If a half search cleared its cache, the last clear left at most one state: that from which the clearing step started. A clear for a
-/// start left none. All else that is held after the search was made since.
+/// If a half search cleared its cache, the last clear left at most one state: the one from which the clearing step started. A
+/// clear for a start state left none. Everything else that is held after the search was built since.
 pub fn searches_keep_the_state_that_they_clear_from()
     ensures { (d : Dfa) (q : Search) (old new : CacheValue) (n : ℕ) → (new.clears ≡ old.clears → ⊥) → Changes d (IsMadeBy d q) old new n →
         LastClear d (IsMadeBy d q) new n }
 {}
 
-/// A call of a walk clears its cache at most once for each state that it makes, and never where there is room for all of these or the
-/// clears that are allowed are spent. Where the count of clears is as before and hasn't stopped, it added states on its way alone;
-/// where it isn't, the first clear was for a state on its way that wasn't held and had no room, and the last one left at most the state
-/// from which its step started.
+/// A call of an overlapping search clears its cache at most once for each state that it builds. It never clears the cache if
+/// there is room for all of these, or if the clears that are allowed are used up.
+///
+/// If the count of clears is unchanged and below its greatest value, the call added states on its way alone. If the count
+/// changed, the first clear was for a state on its way that wasn't held and had no room. The last clear then left at most the
+/// state from which its step started.
 pub fn calls_clear_for_states_alone()
-    ensures count { (d : Dfa) (q : Search) (w : Walk) (old new : CacheValue) (n : ℕ) → Changes d (IsMadeOnCall d q w) old new n →
+    ensures count { (d : Dfa) (q : Search) (w : OverlappingPosition) (old new : CacheValue) (n : ℕ) →
+        Changes d (IsMadeOnCall d q w) old new n →
         old.clears ≤ greatest →
         (old.clears ≤ new.clears) × (new.clears ≤ old.clears + n) }
-    ensures room { (d : Dfa) (q : Search) (w : Walk) (old new : CacheValue) (n : ℕ) → IsDfa d → IsCacheOf d old → HasRoomFor d old n →
+    ensures room { (d : Dfa) (q : Search) (w : OverlappingPosition) (old new : CacheValue) (n : ℕ) → IsDfa d → IsCacheOf d old →
+        HasRoomFor d old n →
         Changes d (IsMadeOnCall d q w) old new n → AddsFew d (IsMadeOnCall d q w) old new n }
-    ensures spent { (d : Dfa) (q : Search) (w : Walk) (old new : CacheValue) (n : ℕ) → IsDfa d → IsCacheOf d old → IsSpent d old →
+    ensures spent { (d : Dfa) (q : Search) (w : OverlappingPosition) (old new : CacheValue) (n : ℕ) → IsDfa d → IsCacheOf d old →
+        IsSpent d old →
         Changes d (IsMadeOnCall d q w) old new n → AddsFew d (IsMadeOnCall d q w) old new n }
-    ensures kept { (d : Dfa) (q : Search) (w : Walk) (old new : CacheValue) (n : ℕ) → IsDfa d → IsCacheOf d old → new.clears ≡ old.clears →
+    ensures kept { (d : Dfa) (q : Search) (w : OverlappingPosition) (old new : CacheValue) (n : ℕ) → IsDfa d → IsCacheOf d old →
+        new.clears ≡ old.clears →
         old.clears < greatest → Changes d (IsMadeOnCall d q w) old new n → AddsFew d (IsMadeOnCall d q w) old new n }
-    ensures cleared { (d : Dfa) (q : Search) (w : Walk) (old new : CacheValue) (n : ℕ) → IsDfa d → IsCacheOf d old →
+    ensures cleared { (d : Dfa) (q : Search) (w : OverlappingPosition) (old new : CacheValue) (n : ℕ) → IsDfa d → IsCacheOf d old →
         (new.clears ≡ old.clears → ⊥) →
         Changes d (IsMadeOnCall d q w) old new n → FirstClear d (IsMadeOnCall d q w) old }
-    ensures left { (d : Dfa) (q : Search) (w : Walk) (old new : CacheValue) (n : ℕ) → (new.clears ≡ old.clears → ⊥) →
+    ensures left { (d : Dfa) (q : Search) (w : OverlappingPosition) (old new : CacheValue) (n : ℕ) → (new.clears ≡ old.clears → ⊥) →
         Changes d (IsMadeOnCall d q w) old new n → LastClear d (IsMadeOnCall d q w) new n }
 {}
 
-/// A walk over a whole span, as that which tells which patterns match, clears its cache at most once for each state that it makes, and
-/// never where there is room for all of these or the clears that are allowed are spent. Where the count of clears is as before and hasn't
-/// stopped, it added states on its way alone; where it isn't, the first clear was for a state on its way that wasn't held and had no room,
-/// and the last one left at most the state from which its step started.
+/// An overlapping search over a whole span, as the one that finds which patterns match, clears its cache at most once for each
+/// state that it builds. It never clears the cache if there is room for all of these, or if the clears that are allowed are used
+/// up.
+///
+/// If the count of clears is unchanged and below its greatest value, the search added states on its way alone. If the count
+/// changed, the first clear was for a state on its way that wasn't held and had no room. The last clear then left at most the
+/// state from which its step started.
 pub fn walks_clear_for_states_alone()
-    ensures count { (d : Dfa) (q : Search) (old new : CacheValue) (n : ℕ) → Changes d (IsMadeOnWalk d q) old new n → old.clears ≤ greatest →
+    ensures count { (d : Dfa) (q : Search) (old new : CacheValue) (n : ℕ) → Changes d (IsMadeOnOverlapping d q) old new n →
+        old.clears ≤ greatest →
         (old.clears ≤ new.clears) × (new.clears ≤ old.clears + n) }
     ensures room { (d : Dfa) (q : Search) (old new : CacheValue) (n : ℕ) → IsDfa d → IsCacheOf d old → HasRoomFor d old n →
-        Changes d (IsMadeOnWalk d q) old new n → AddsFew d (IsMadeOnWalk d q) old new n }
+        Changes d (IsMadeOnOverlapping d q) old new n → AddsFew d (IsMadeOnOverlapping d q) old new n }
     ensures spent { (d : Dfa) (q : Search) (old new : CacheValue) (n : ℕ) → IsDfa d → IsCacheOf d old → IsSpent d old →
-        Changes d (IsMadeOnWalk d q) old new n → AddsFew d (IsMadeOnWalk d q) old new n }
+        Changes d (IsMadeOnOverlapping d q) old new n → AddsFew d (IsMadeOnOverlapping d q) old new n }
     ensures kept { (d : Dfa) (q : Search) (old new : CacheValue) (n : ℕ) → IsDfa d → IsCacheOf d old → new.clears ≡ old.clears →
-        old.clears < greatest → Changes d (IsMadeOnWalk d q) old new n → AddsFew d (IsMadeOnWalk d q) old new n }
+        old.clears < greatest → Changes d (IsMadeOnOverlapping d q) old new n → AddsFew d (IsMadeOnOverlapping d q) old new n }
     ensures cleared { (d : Dfa) (q : Search) (old new : CacheValue) (n : ℕ) → IsDfa d → IsCacheOf d old → (new.clears ≡ old.clears → ⊥) →
-        Changes d (IsMadeOnWalk d q) old new n → FirstClear d (IsMadeOnWalk d q) old }
+        Changes d (IsMadeOnOverlapping d q) old new n → FirstClear d (IsMadeOnOverlapping d q) old }
     ensures left { (d : Dfa) (q : Search) (old new : CacheValue) (n : ℕ) → (new.clears ≡ old.clears → ⊥) →
-        Changes d (IsMadeOnWalk d q) old new n → LastClear d (IsMadeOnWalk d q) new n }
+        Changes d (IsMadeOnOverlapping d q) old new n → LastClear d (IsMadeOnOverlapping d q) new n }
 {}

@@ -7,8 +7,8 @@ use search_core::ByteSet;
 use search_types::MatchKind;
 use std::marker::Model;
 
-/// How a DFA is made and how its caches behave, as `regex_automata::hybrid::dfa::Config`. An option that isn't set has its
-/// default.
+/// How a DFA is built and how its caches behave, as `regex_automata::hybrid::dfa::Config`. An option that isn't set has
+/// its default.
 #[derive(Clone, Copy)]
 pub struct Config {
     match_kind: Option<MatchKind>,
@@ -56,7 +56,7 @@ impl Model for Config {
 }
 
 impl Config {
-    /// No option is set.
+    /// Returns a configuration in which no option is set.
     pub fn new() -> Config
         ensures { result ≡ no_dfa_options }
     {
@@ -74,7 +74,7 @@ impl Config {
         }
     }
 
-    /// Which matches are told. The leftmost first ones where it isn't set.
+    /// Sets which matches are reported. The default is the leftmost-first ones.
     pub fn match_kind(self, kind: MatchKind) -> Config
         ensures { result ≡ record self { match_kind = Some kind } }
     {
@@ -84,7 +84,7 @@ impl Config {
         }
     }
 
-    /// Whether a search may name the pattern that it looks for. Off where it isn't set.
+    /// Sets whether a search may name the pattern that it looks for. Off by default.
     pub fn starts_for_each_pattern(self, yes: bool) -> Config
         ensures { result ≡ record self { starts_for_each_pattern = Some yes } }
     {
@@ -94,7 +94,7 @@ impl Config {
         }
     }
 
-    /// Whether bytes that the automaton doesn't tell apart share their transitions. On where it isn't set.
+    /// Sets whether bytes that the automaton doesn't distinguish share their transitions. On by default.
     pub fn byte_classes(self, yes: bool) -> Config
         ensures { result ≡ record self { byte_classes = Some yes } }
     {
@@ -104,8 +104,8 @@ impl Config {
         }
     }
 
-    /// Whether looks for words by characters are taken, where searches then give up at bytes above 7F. Off where it isn't
-    /// set.
+    /// Sets whether Unicode word boundaries are accepted. If so, searches of patterns that have them give up at bytes
+    /// above 0x7F. Off by default.
     pub fn unicode_word_boundary(self, yes: bool) -> Config
         ensures { result ≡ record self { unicode_word_boundary = Some yes } }
     {
@@ -115,8 +115,8 @@ impl Config {
         }
     }
 
-    /// Whether searches give up at this byte. No byte is set where none was. With
-    /// [`unicode_word_boundary`](Config::unicode_word_boundary) on, bytes above 7F can't be taken out again.
+    /// Sets whether searches give up at this byte. By default no byte is set. With
+    /// [`unicode_word_boundary`](Config::unicode_word_boundary) on, bytes above 0x7F can't be removed again.
     pub fn quit(self, byte: u8, yes: bool) -> Config
         requires { (yes ≡ true) ⊎ (byte < 128) ⊎ (word_boundary_of self ≡ false) }
         ensures { result ≡ record self { quit_set = Some (slice_set (by_hand self) byte yes) } }
@@ -133,7 +133,7 @@ impl Config {
         }
     }
 
-    /// Whether the IDs of states in which searches start are tagged. Off where it isn't set.
+    /// Sets whether the IDs of states in which searches start are tagged. Off by default.
     pub fn specialize_start_states(self, yes: bool) -> Config
         ensures { result ≡ record self { specialize_start_states = Some yes } }
     {
@@ -143,7 +143,7 @@ impl Config {
         }
     }
 
-    /// How many bytes a cache may take, as they are counted. 2097152 where it isn't set.
+    /// Sets how many bytes a cache may take, as they are counted. The default is 2097152.
     pub fn cache_capacity(self, bytes: usize) -> Config
         ensures { result ≡ record self { cache_capacity = Some bytes } }
     {
@@ -153,7 +153,7 @@ impl Config {
         }
     }
 
-    /// Whether a capacity below the least one is raised to that rather than refused. Off where it isn't set.
+    /// Sets whether a capacity below the minimum is raised to it. If not, such a capacity is an error. Off by default.
     pub fn skip_cache_capacity_check(self, yes: bool) -> Config
         ensures { result ≡ record self { skip_cache_capacity_check = Some yes } }
     {
@@ -163,8 +163,8 @@ impl Config {
         }
     }
 
-    /// After how many clears of a cache a further one may be refused; none ever is where it is `None`, and where it isn't
-    /// set.
+    /// Sets the number of clears of a cache after which a further clear may fail. With `None`, which is the default, no
+    /// clear ever fails.
     pub fn minimum_cache_clear_count(self, min: Option<usize>) -> Config
         ensures { result ≡ record self { minimum_cache_clear_count = Some min } }
     {
@@ -174,8 +174,9 @@ impl Config {
         }
     }
 
-    /// How many bytes have to be searched for each state that was made since the last clear, so that a further clear isn't
-    /// refused; the clear is refused whatever was searched where it is `None`, and where it isn't set.
+    /// Sets how many bytes have to be searched for each state that was built since the last clear. If that many were searched, a
+    /// further clear doesn't fail. With `None`, which is the default, the clear fails however much was searched. This concerns
+    /// the clears that may fail by [`minimum_cache_clear_count`](Config::minimum_cache_clear_count).
     pub fn minimum_bytes_per_state(self, min: Option<usize>) -> Config
         ensures { result ≡ record self { minimum_bytes_per_state = Some min } }
     {
@@ -213,7 +214,7 @@ impl Config {
         self.unicode_word_boundary.unwrap_or(false)
     }
 
-    /// Whether the byte was set by hand as one at which searches give up.
+    /// Whether the byte was set by [`quit`](Config::quit) as one at which searches give up.
     pub fn get_quit(&self, byte: u8) -> bool
         ensures { result ≡ has (by_hand self.now) byte }
     {
@@ -255,7 +256,7 @@ impl Config {
         self.minimum_bytes_per_state.unwrap_or(None)
     }
 
-    /// The bytes that were set by hand.
+    /// The bytes that were set by [`quit`](Config::quit).
     pub(crate) fn quits(&self) -> ByteSet
         ensures { result ≡ by_hand self.now }
     {
@@ -265,7 +266,7 @@ impl Config {
         }
     }
 
-    /// This configuration with each option that the other one has set.
+    /// Returns this configuration, changed in each option that the other one has set.
     pub(crate) fn overwrite(self, other: Config) -> Config
         ensures { result ≡ changed_dfa_options self other }
     {

@@ -1,4 +1,4 @@
-//! A DFA that is made as it is used, as `regex_automata::hybrid::dfa`.
+//! Lazy DFAs, as `regex_automata::hybrid::dfa`.
 //! ```rust
 //! pub fn least_capacity(nfa: &NFA) -> Result<usize, BuildError> {
 //!     Config::new().get_minimum_cache_capacity(nfa)
@@ -22,8 +22,8 @@ use search_core::{ByteClasses, ByteSet};
 use search_types::MatchKind;
 use std::marker::Model;
 
-/// An automaton whose powerset states are made as searches come to them, as `regex_automata::hybrid::dfa::DFA`. What was
-/// made is kept in a [`Cache`], which each call takes.
+/// An automaton whose powerset states are built when searches first need them, as `regex_automata::hybrid::dfa::DFA`. The states
+/// are kept in a [`Cache`], which each call takes.
 #[derive(Drop)]
 pub struct DFA {
     pub(crate) nfa: NFA,
@@ -32,7 +32,7 @@ pub struct DFA {
     pub(crate) quits: ByteSet,
     pub(crate) start_map: StartByteMap,
     pub(crate) measures: Measures,
-    /// How many bytes a cache may take.
+    /// The number of bytes that a cache may take.
     pub(crate) capacity: usize,
 }
 
@@ -61,9 +61,9 @@ impl Model for DFA {
     }) × IsStartTable d.nfa.terminator d.start_map };
 }
 
-/// What the automaton is of.
+/// The parts of the automaton.
 impl DFA {
-    /// How many patterns it searches for, as `DFA::pattern_len`.
+    /// Returns the number of patterns that the automaton searches for, as `DFA::pattern_len`.
     pub fn pattern_len(&self) -> usize
         ensures value { result ≡ length self.now.nfa.automaton.start_pattern }
         ensures in_range { result ≤ greatest_index + 1 }
@@ -71,35 +71,36 @@ impl DFA {
         self.nfa.pattern_len()
     }
 
-    /// The classes of bytes that share transitions, as `DFA::byte_classes`.
+    /// Returns the classes of bytes that share transitions, as `DFA::byte_classes`.
     pub fn byte_classes(&self) -> &ByteClasses
         ensures { result.now ≡ self.now.classes }
     {
         &self.classes
     }
 
-    /// The options as they were given, as `DFA::get_config`: a capacity that was raised is told as it was.
+    /// Returns the options as they were given, as `DFA::get_config`. A capacity that was raised is returned as it was given.
     pub fn get_config(&self) -> &Config
         ensures { result.now ≡ self.now.options }
     {
         &self.config
     }
 
-    /// The NFA, as `DFA::get_nfa`.
+    /// Returns the NFA, as `DFA::get_nfa`.
     pub fn get_nfa(&self) -> &NFA
         ensures { result.now ≡ self.now.nfa }
     {
         &self.nfa
     }
 
-    /// The bytes that it takes beside its own size and its NFA's, as `DFA::memory_usage`: none.
+    /// Returns the number of bytes that the automaton takes in addition to its own size and its NFA's, as `DFA::memory_usage`.
+    /// This is 0.
     pub fn memory_usage(&self) -> usize
         ensures { result ≡ 0 }
     {
         0
     }
 
-    /// What each automaton keeps to.
+    /// States the invariant of each automaton.
     pub fn is_made(&self)
         ensures { IsDfa self.now }
     {
@@ -107,7 +108,7 @@ impl DFA {
     }
 }
 
-/// What steps ask of it.
+/// What steps need of the automaton.
 impl DFA {
     pub(crate) fn kind(&self) -> MatchKind
         ensures { result ≡ kind_of self.now.options }
@@ -147,7 +148,7 @@ impl DFA {
         self.config.get_specialize_start_states()
     }
 
-    /// By what the bytes of a cache are told.
+    /// The numbers from which the bytes of a cache are computed.
     pub(crate) fn measures(&self) -> Measures
         ensures { result ≡ self.now.measures }
     {
@@ -179,7 +180,7 @@ impl DFA {
         self.quits.contains(byte)
     }
 
-    /// The start behind a byte.
+    /// The kind of start state after a byte.
     #[inline(always)]
     pub(crate) fn start_behind(&self, byte: u8) -> Start
         ensures { result ≡ start_of self.now.nfa.terminator (Some byte) }

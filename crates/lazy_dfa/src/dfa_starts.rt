@@ -1,11 +1,12 @@
-//! The starts of searches over a DFA.
+//! The start states of searches over a DFA.
 ghost use Rattle.std.specs.Prelude.{◌≡◌, ◌<◌, ◌≤◌, None, Some, Ok, Err, IfOk, IfErr, MatchOption, IfSome, length, ⊤};
 ghost use Rattle.determinize_core.specs.Starts.{start_of};
 ghost use Rattle.lazy_dfa.specs.Caches.{IsCacheOf};
 ghost use Rattle.lazy_dfa.specs.Dfas.{start_in};
 ghost use Rattle.lazy_dfa.specs.declared.cache_error.CacheError.TheVariants.{GaveUp};
 ghost use Rattle.lazy_dfa.specs.declared.start_error.StartError.TheVariants.{Cache as CacheRefusal};
-ghost use Rattle.lazy_dfa.specs.StartCalls.{mode_of, behind_refusal, mode_refusal, start_refusal, start_error_of, IsStart, IsStartCause};
+ghost use Rattle.lazy_dfa.specs.StartCalls.{mode_of, rejected_by_byte, rejected_mode, rejected_start, start_error_of, IsStart};
+ghost use Rattle.lazy_dfa.specs.StartCalls.{IsStartCause};
 ghost use Rattle.lazy_dfa.specs.SearchStarts.{MakesStart};
 
 use crate::cache_error::CacheError;
@@ -19,10 +20,10 @@ use search_core::StateID;
 use search_types::Anchored;
 use std::sync::ledger::Ledger;
 
-/// Refuses a start whatever the cache holds.
+/// The error of a start that fails whatever the cache holds.
 #[inline(always)]
 fn check_start(dfa: &DFA, look_behind: Option<u8>, mode: Anchored) -> Option<StartError>
-    ensures { result ≡ behind_refusal dfa.now look_behind (mode_refusal dfa.now mode) }
+    ensures { result ≡ rejected_by_byte dfa.now look_behind (rejected_mode dfa.now mode) }
 {
     if let Some(byte) = look_behind {
         if dfa.is_quit(byte) {
@@ -40,7 +41,7 @@ fn check_start(dfa: &DFA, look_behind: Option<u8>, mode: Anchored) -> Option<Sta
     }
 }
 
-/// What stands before the place.
+/// The kind of start state, by the look-behind byte.
 #[inline(always)]
 fn start_behind(dfa: &DFA, look_behind: Option<u8>) -> Start
     ensures { result ≡ start_of dfa.now.nfa.terminator look_behind }
@@ -64,7 +65,7 @@ fn mode_number(mode: Anchored) -> usize
     }
 }
 
-/// The state of the NFA in which a search in a mode starts; `None` where there is no such pattern.
+/// The state of the NFA in which a search in a mode starts, or `None` if the pattern of the mode doesn't exist.
 #[inline(always)]
 fn name_of(dfa: &DFA, mode: Anchored) -> Option<StateID>
     ensures name { result ≡ start_in dfa.now (mode_of mode) }
@@ -79,7 +80,7 @@ fn name_of(dfa: &DFA, mode: Anchored) -> Option<StateID>
     }
 }
 
-/// The refusal of a start by that of its state.
+/// The error of a start whose state can't be added.
 fn start_error(err: CacheError) -> StartError
     ensures { result ≡ start_error_of err }
 {
@@ -90,13 +91,16 @@ fn start_error(err: CacheError) -> StartError
 }
 
 impl DFA {
-    /// The ID of the state in which a search starts, as `DFA::start_state`; the dead one for a pattern that there isn't.
+    /// Returns the ID of the state in which a search starts, as `DFA::start_state`. For a pattern that doesn't exist, this is the
+    /// dead state.
     ///
-    /// It is refused for a look-behind byte at which searches give up, else for a mode for which there are no starts, else
-    /// where the state has no room and no clear is allowed, which leaves the cache as it was, and where memory lacks. The
-    /// cache is cleared only where the start isn't known and its state isn't held and has no room: the start is held alone
-    /// then, and the IDs from before are to be asked of [`holds_id`](DFA::holds_id) again. A start that is known is answered
-    /// at once.
+    /// If the look-behind byte is a quit byte, the call returns an error. Otherwise, if there are no start states for the mode,
+    /// it returns an error. Otherwise, it returns an error if the state has no room and no clear is allowed, which leaves the
+    /// cache as it was, and if memory runs out.
+    ///
+    /// The cache is cleared only if the start isn't known and its state isn't held and has no room. After a clear, the start
+    /// state is the only state that is held. For earlier IDs, [`holds_id`](DFA::holds_id) reports whether they are still held. A
+    /// start that is known is returned at once.
     #[inline(always)]
     pub fn start_state<L: Ledger, M: Ledger>(
         &self,
@@ -106,9 +110,9 @@ impl DFA {
     ) -> Result<LazyStateID, StartError>
         requires { IsCacheOf self.now cache.old }
         ensures own { IsCacheOf self.now cache.new }
-        ensures refused { MatchOption (start_refusal self.now config.now) ⊤ (λ e. result ≡ Err e) }
-        ensures start { start_refusal self.now config.now ≡ None → IfOk result (λ id. IsStart self.now cache.new config.now id) }
-        ensures err { start_refusal self.now config.now ≡ None → IfErr result (λ e. IsStartCause self.now cache.old config.now e) }
+        ensures refused { MatchOption (rejected_start self.now config.now) ⊤ (λ e. result ≡ Err e) }
+        ensures start { rejected_start self.now config.now ≡ None → IfOk result (λ id. IsStart self.now cache.new config.now id) }
+        ensures err { rejected_start self.now config.now ≡ None → IfErr result (λ e. IsStartCause self.now cache.old config.now e) }
         ensures gave_up { result ≡ Err (CacheRefusal GaveUp) → cache.new ≡ cache.old }
         ensures made { MakesStart self.now config.now cache.old cache.new work.old.determinized work.new.determinized work.old.inserted
             work.new.inserted result }
@@ -127,8 +131,8 @@ impl DFA {
         match start_in_mode(self, cache, number, name, start, work) {
             Ok(id) => Ok(id),
             Err(e) => {
-                let told = start_error(e);
-                Err(told)
+                let reported = start_error(e);
+                Err(reported)
             }
         }
     }

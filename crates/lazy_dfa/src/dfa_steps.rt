@@ -1,4 +1,4 @@
-//! The steps of a DFA: what searches are made of.
+//! The steps of a DFA, of which searches consist.
 ghost use Rattle.std.specs.Prelude.{◌≡◌, ◌⊎◌, ◌↔◌, ◌<◌, true, length, slice_index, IfOk, None, Some};
 ghost use Rattle.determinize_core.specs.States.{StateValue};
 ghost use Rattle.lazy_dfa.specs.Ids.{tag, unknown_id};
@@ -15,14 +15,15 @@ use search_core::{PatternID, Unit};
 use std::sync::ledger::Ledger;
 
 impl DFA {
-    /// The ID of the state behind a byte, as `DFA::next_state`. A sentinel leads to itself; from the other states a quit
-    /// byte leads to the quit sentinel, which makes no state and is never refused, and any other byte to the state that
-    /// lists what matched before it. A state that wasn't held gets no tag of starts.
+    /// Returns the ID of the state after a byte, as `DFA::next_state`. A sentinel leads to itself. From the other states, a quit
+    /// byte leads to the quit sentinel. This builds no state and never fails. Any other byte leads to the state that lists what
+    /// matched before this byte. A state that wasn't held doesn't get the tag of start states.
     ///
-    /// The cache is cleared only where the step isn't known and its state isn't held and has no room: the ID that is answered
-    /// is held then, and the others are to be asked of [`holds_id`](DFA::holds_id) again. The step is refused where a state
-    /// has no room and no clear is allowed, and where memory lacks; the cache is of use after that too. Where a clear isn't
-    /// allowed the cache is as it was.
+    /// The cache is cleared only if the step isn't known and its state isn't held and has no room. After a clear, the returned ID
+    /// is held. For other IDs, [`holds_id`](DFA::holds_id) reports whether they are still held.
+    ///
+    /// The call returns an error if a state has no room and no clear is allowed, and if memory runs out. The cache is usable
+    /// after that too. If a clear isn't allowed, the cache is as it was.
     pub fn next_state<L: Ledger, M: Ledger>(
         &self,
         cache: &mut Cache,
@@ -42,8 +43,8 @@ impl DFA {
         step(self, cache, current, Unit::u8(input), class, is_quit, work)
     }
 
-    /// The ID of the state behind the end of the input, as `DFA::next_eoi_state`. It is as [`next_state`](DFA::next_state)
-    /// is, but the end is no quit byte.
+    /// Returns the ID of the state after the end of the input, as `DFA::next_eoi_state`. It is as
+    /// [`next_state`](DFA::next_state), but the end is never a quit byte.
     pub fn next_eoi_state<L: Ledger, M: Ledger>(
         &self,
         cache: &mut Cache,
@@ -61,8 +62,8 @@ impl DFA {
         step(self, cache, current, Unit::eoi(class), class, false, work)
     }
 
-    /// What is known of the step from an untagged ID by a byte, as `DFA::next_state_untagged`: the ID to which it leads,
-    /// or an unknown one.
+    /// Returns what is known of the step from an untagged ID by a byte, as `DFA::next_state_untagged`. This is the ID to which it
+    /// leads, or an unknown one.
     #[inline(always)]
     pub fn next_state_untagged(&self, cache: &Cache, current: LazyStateID, input: u8) -> LazyStateID
         requires own { IsCacheOf self.now cache.now }
@@ -74,7 +75,7 @@ impl DFA {
         cache.cell_of_untagged(current, self.class(input))
     }
 
-    /// How many patterns the state of an ID lists, as `DFA::match_len`.
+    /// Returns the number of patterns that the state of an ID lists, as `DFA::match_len`.
     pub fn match_len(&self, cache: &Cache, id: LazyStateID) -> usize
         requires own { IsCacheOf self.now cache.now }
         requires row { IsRow cache.now id }
@@ -84,8 +85,8 @@ impl DFA {
         cache.state(k).match_len()
     }
 
-    /// The pattern at a place among those that the state of an ID lists, as `DFA::match_pattern`, in order of preference.
-    /// An automaton of one pattern need not look.
+    /// Returns the pattern at an index among those that the state of an ID lists, as `DFA::match_pattern`. They are in order of
+    /// preference. If the automaton has one pattern, the call needn't read the state.
     pub fn match_pattern(&self, cache: &Cache, id: LazyStateID, index: usize) -> PatternID
         requires own { IsCacheOf self.now cache.now }
         requires row { IsRow cache.now id }

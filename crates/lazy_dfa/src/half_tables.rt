@@ -1,4 +1,4 @@
-//! A test of bytes by two tables: one by the low half of a byte, and one by its high half.
+//! A test of bytes by two tables: one for the low half of a byte, and one for its high half.
 ghost use Rattle.std.specs.Prelude.{◌≡◌, ◌<◌, ◌%◌, ◌/◌, IfSome, map, slice_index};
 ghost use Rattle.lazy_dfa.specs.ByteTests.{in_halves, IsTwice};
 
@@ -6,10 +6,10 @@ use crate::byte_tests::ByteTest;
 use search_core::ByteSet;
 use std::simd::prelude::*;
 
-/// How many marks there are: a byte has a bit for each.
+/// The number of marks: a byte has a bit for each.
 const MARKS: usize = 8;
 
-/// A byte passes where the marks of its low half and of its high half have one in common.
+/// A byte passes if the marks of its low half and of its high half have one in common.
 #[derive(Clone, Copy)]
 pub(crate) struct HalfTables {
     low: [u8; 16],
@@ -17,8 +17,8 @@ pub(crate) struct HalfTables {
 }
 
 impl HalfTables {
-    /// The tables of a set. A row is the low halves that go with one high half, and each kind of row has a mark,
-    /// so there are tables where the rows are of eight kinds at most.
+    /// Returns the tables of a set. A row is the set of low halves that go with one high half, and each kind of row has a mark.
+    /// So there are tables if the rows are of at most eight kinds.
     pub(crate) fn new(set: &ByteSet) -> Option<HalfTables> {
         let mut rows = [0u16; MARKS];
         let mut tables = HalfTables {
@@ -37,7 +37,7 @@ impl HalfTables {
         Some(tables)
     }
 
-    /// Gives the low halves of a row these marks too.
+    /// Adds these marks to the low halves of a row.
     fn mark_low(&mut self, row: u16, marks: u8) {
         for low in 0..16usize {
             if row & (1 << low) != 0 {
@@ -60,7 +60,7 @@ fn row_of(set: &ByteSet, high: usize) -> u16
     row
 }
 
-/// The mark of a row: the one that it has, or else the first that no row has.
+/// The mark of a row: the one that it has, or otherwise the first that no row has.
 fn mark_of(rows: &[u16; MARKS], row: u16) -> Option<usize>
     ensures { IfSome result (λ mark. mark < 8) }
 {
@@ -89,7 +89,7 @@ impl ByteTest for HalfTables {
     }
 }
 
-/// What a table has at the low half of each byte.
+/// The entries of a table for the low half of each byte.
 #[inline(always)]
 fn by_low_half(table: &[u8; 16], bytes: u8x32) -> u8x32
     ensures { result ≡ map (λ x. slice_index table.now (x % 16)) bytes }
@@ -97,7 +97,7 @@ fn by_low_half(table: &[u8; 16], bytes: u8x32) -> u8x32
     twice(table).swizzle_dyn_within::<16>(bytes & u8x32::splat(15))
 }
 
-/// What a table has at the high half of each byte.
+/// The entries of a table for the high half of each byte.
 #[inline(always)]
 fn by_high_half(table: &[u8; 16], bytes: u8x32) -> u8x32
     ensures { result ≡ map (λ x. slice_index table.now (x / 16)) bytes }
@@ -105,7 +105,7 @@ fn by_high_half(table: &[u8; 16], bytes: u8x32) -> u8x32
     twice(table).swizzle_dyn_within::<16>(bytes >> u8x32::splat(4))
 }
 
-/// The table, and the same once more behind it.
+/// The table, followed by a copy of it.
 #[inline(always)]
 fn twice(table: &[u8; 16]) -> u8x32
     ensures { IsTwice table.now result }

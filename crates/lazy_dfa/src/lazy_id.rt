@@ -4,9 +4,9 @@ ghost use Rattle.lazy_dfa.specs.Ids.{is_sentinel, tagged};
 
 use std::marker::Model;
 
-/// The name of a state in a cache, as `regex_automata::hybrid::LazyStateID`: the place of its first transition, with tags
-/// in the five highest bits. A contract sees the number. What it names is asked of the cache, by
-/// [`holds_id`](crate::dfa::DFA::holds_id); the default, 0, is never held.
+/// The ID of a state in a cache, as `regex_automata::hybrid::LazyStateID`. It is the index of the state's first transition, with
+/// tags in the five highest bits. In contracts, an ID is this number. [`holds_id`](crate::dfa::DFA::holds_id) reports whether it
+/// is an ID of a cache. The default, 0, is never held.
 #[derive(Clone, Copy, PartialEq, Eq, PartialOrd, Ord, Hash)]
 pub struct LazyStateID(u32);
 
@@ -28,12 +28,12 @@ pub(crate) const START: u32 = 0x1000_0000;
 
 pub(crate) const MATCH: u32 = 0x800_0000;
 
-/// How many sentinels there are: of a step that isn't known, of the dead state, and of a quit byte. The first rows of a table are
-/// theirs.
+/// The number of sentinels: for a step that isn't known, for the dead state, and for a quit byte. The first rows of a table
+/// belong to them.
 pub(crate) const SENTINELS: usize = 3;
 
 impl LazyStateID {
-    /// Whether it has a tag: it is a sentinel's, or that of a state that matches or in which searches start.
+    /// Whether the ID has a tag. Sentinels, states that match, and tagged start states have one.
     #[inline(always)]
     pub fn is_tagged(&self) -> bool
         ensures { result ≡ nat_le tag self.now }
@@ -41,35 +41,35 @@ impl LazyStateID {
         self.0 >= MATCH
     }
 
-    /// Whether it has the tag of steps that aren't known yet.
+    /// Whether the ID has the tag of steps that aren't known yet.
     pub fn is_unknown(&self) -> bool
         ensures { result ≡ has_tag unknown_tag self.now }
     {
         self.0 / UNKNOWN % 2 == 1
     }
 
-    /// Whether it has the tag of the dead state, from which no search goes on.
+    /// Whether the ID has the tag of the dead state, from which no search goes on.
     pub fn is_dead(&self) -> bool
         ensures { result ≡ has_tag dead_tag self.now }
     {
         self.0 / DEAD % 2 == 1
     }
 
-    /// Whether it has the tag of searches that gave up at a quit byte.
+    /// Whether the ID has the tag of searches that gave up at a quit byte.
     pub fn is_quit(&self) -> bool
         ensures { result ≡ has_tag quit_tag self.now }
     {
         self.0 / QUIT % 2 == 1
     }
 
-    /// Whether it has the tag of states in which searches start.
+    /// Whether the ID has the tag of states in which searches start.
     pub fn is_start(&self) -> bool
         ensures { result ≡ has_tag start_tag self.now }
     {
         self.0 / START % 2 == 1
     }
 
-    /// Whether it has the tag of states that match.
+    /// Whether the ID has the tag of states that match.
     pub fn is_match(&self) -> bool
         ensures { result ≡ has_tag match_tag self.now }
     {
@@ -85,7 +85,7 @@ impl Default for LazyStateID {
     }
 }
 
-/// What the crate alone makes and reads.
+/// Functions that only this crate uses.
 impl LazyStateID {
     /// The ID of these bits.
     pub(crate) fn from_bits(bits: u32) -> LazyStateID
@@ -125,14 +125,14 @@ impl LazyStateID {
         LazyStateID(QUIT + 2 * stride as u32)
     }
 
-    /// Whether it has one of the tags of sentinels.
+    /// Whether the ID has one of the tags of sentinels.
     pub(crate) fn is_sentinel(self) -> bool
         ensures { result ≡ is_sentinel self }
     {
         self.0 >= QUIT
     }
 
-    /// Whether it is that of a row, with the tag of a match or none.
+    /// Whether the ID is that of a row, with the tag of a match or none.
     #[inline(always)]
     pub(crate) fn is_of_row(self) -> bool
         ensures { (result ≡ true) ↔ (self < start_tag) }
@@ -140,7 +140,7 @@ impl LazyStateID {
         self.0 < START
     }
 
-    /// Whether it is the dead sentinel, of an ID that stands in a cache.
+    /// Whether the ID is the dead sentinel, for an ID that is stored in a cache.
     #[inline(always)]
     pub(crate) fn is_dead_cell(self) -> bool
         ensures { result ≡ true → (self < unknown_id) × (has_tag dead_tag self ≡ true) }
@@ -148,7 +148,7 @@ impl LazyStateID {
         self.0 / DEAD == 1
     }
 
-    /// Whether it is the unknown sentinel, of an ID that stands in a cache.
+    /// Whether the ID is the unknown sentinel, for an ID that is stored in a cache.
     #[inline(always)]
     pub(crate) fn is_not_known(self) -> bool
         ensures { result ≡ nat_le unknown_id self }
@@ -157,7 +157,7 @@ impl LazyStateID {
     }
 }
 
-/// The ID of the row at a place.
+/// The ID of the row that starts at an index.
 pub(crate) fn id_of(place: u32, is_start: bool, is_match: bool) -> LazyStateID
     requires { place ≤ tag }
     ensures { result ≡ tagged is_start is_match place }

@@ -1,19 +1,20 @@
-//! Byte automata that are determinized while they are searched: a search makes the powerset states that it needs, and keeps
+//! Lazy DFAs: byte automata that are determinized while they are searched. A search builds the powerset states that it needs, and keeps
 //! them in a cache of bounded size.
 //!
-//! A half search finds one end of a match: forward its end, in reverse its start. What it answers is a function of values
-//! that knows no cache. By what it goes is in `specs/Readers.antt`, one pass of it in `Passes.antt`, and the search with
-//! its restarts in `Scans.antt`. Their laws are public functions without code in [`pass_laws`], [`scan_laws`] and
-//! [`reach_laws`], in words of `PassLaws.antt` and `ScanLaws.antt`. Which bytes are quit bytes is in `Quits.antt`, with
-//! laws in [`quit_laws`], and how many bytes a cache is taken to need in `Accounting.antt`, with laws in
+//! A half search finds one end of a match: its end when forward, its start when in reverse. Its answer is a function of values and
+//! doesn't depend on the cache. `specs/Readers.antt` defines what it depends on, `Scans.antt` one scan, `scan`, and `HalfSearches.antt`
+//! the whole half search with its restarts, `half_search`. Their laws are public functions without code in [`pass_laws`], [`scan_laws`]
+//! and [`reach_laws`], stated with the definitions of `ScanLaws.antt` and `HalfSearchLaws.antt`. `Quits.antt` defines which bytes are
+//! quit bytes, with laws in [`quit_laws`]. `Accounting.antt` defines how many bytes a cache is counted to need, with laws in
 //! [`accounting_laws`].
 //!
-//! An overlapping walk tells all ends one by one. What is left of one is in `Walks.antt`, what its calls answer in
-//! `WalkAnswers.antt`; its laws are in [`walk_laws`], in words of `WalkLaws.antt`.
+//! An overlapping search reports all ends, one by one. `Overlapping.antt` defines what is left of one, and `OverlappingAnswers.antt` what
+//! its calls return. Its laws are in [`walk_laws`], stated with the definitions of `OverlappingLaws.antt`.
 //!
-//! Options are in `ConfigValue.antt`, an automaton in `Dfas.antt`, a cache and how it belongs to its automaton in
-//! `Caches.antt`, steps in `Steps.antt`, starts in `StartCalls.antt`, those of searches over an input in
-//! `SearchStarts.antt`. What a search reports that gives up is in `LeftTold.antt`, with laws in [`room_laws`]. What is built of an NFA, and why it is refused, is in `Building.antt`.
+//! Options are defined in `ConfigValue.antt` and automata in `Dfas.antt`. `Caches.antt` defines caches and how a cache belongs to its
+//! automaton. Steps are in `Steps.antt`, start states in `StartCalls.antt`, and the start states of searches over an input in
+//! `SearchStarts.antt`. `LeftProgress.antt` defines what a search reports that gives up, with laws in [`room_laws`]. `Building.antt`
+//! defines what is built of an NFA, and why the build fails.
 //! ```rust
 //! pub fn was_never_cleared(cache: &Cache) -> bool {
 //!     cache.clear_count() == 0
@@ -21,8 +22,10 @@
 //! ```
 #![tactic(auto)]
 
+mod accel_bytes;
+mod accel_next;
+mod accel_rounds;
 pub mod accounting_laws;
-mod behind;
 mod build_error;
 mod builder;
 mod byte_tests;
@@ -34,16 +37,14 @@ mod cache_progress;
 mod cache_skip;
 mod cache_writes;
 pub mod change_laws;
-mod circling;
 mod config;
 pub mod dfa;
 mod dfa_starts;
 mod dfa_steps;
 mod half_tables;
 mod lazy_id;
-mod leaving;
-mod lingering;
 mod making;
+mod match_loop;
 mod measures;
 mod overlapping;
 mod overlapping_state;
@@ -58,13 +59,13 @@ pub mod reach_laws;
 pub mod room_laws;
 mod runs;
 pub mod scan_laws;
+mod scan_steps;
 mod search_starts;
 mod searching;
 mod skip;
 mod start_error;
 mod starting;
 mod stepping;
-mod turns;
 pub mod walk_laws;
 mod walk_reads;
 mod which_patterns;

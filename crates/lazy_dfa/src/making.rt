@@ -1,4 +1,4 @@
-//! How caches are made and made anew.
+//! How caches are created and reset.
 ghost use Rattle.std.specs.Prelude.{◌≡◌, IfOk, OnOk, OnErr, length};
 ghost use Rattle.lazy_dfa.specs.Accounting.{fresh_usage};
 ghost use Rattle.lazy_dfa.specs.Caches.{IsCacheOf, made_for};
@@ -7,7 +7,8 @@ use crate::dfa::{Cache, DFA};
 use std::alloc::{AllocError, Global};
 
 impl Cache {
-    /// A cache for the automaton that holds no states, as `Cache::new`. It is refused where memory lacks.
+    /// Creates a cache for the automaton that holds no states, as `Cache::new`. If memory runs out, the call returns an
+    /// error.
     pub fn new(alloc: Global, dfa: &DFA) -> Result<Cache, AllocError>
         ensures value { IfOk result (λ c. c ≡ made_for dfa.now) }
         ensures own { IfOk result (λ c. IsCacheOf dfa.now c) }
@@ -25,8 +26,8 @@ impl Cache {
         Ok(cache)
     }
 
-    /// Makes the cache one for the automaton as [`new`](Cache::new) does, as `Cache::reset`. It is refused where memory
-    /// lacks, and the cache is then left as it was.
+    /// Resets the cache to one for the automaton as [`new`](Cache::new) creates it, as `Cache::reset`. If memory runs
+    /// out, the call returns an error and leaves the cache as it was.
     pub fn reset(&mut self, dfa: &DFA) -> Result<(), AllocError>
         ensures value { OnOk result (self.new ≡ made_for dfa.now) }
         ensures own { OnOk result (IsCacheOf dfa.now self.new) }
@@ -40,7 +41,7 @@ impl Cache {
 }
 
 impl DFA {
-    /// A cache for the automaton, as `DFA::create_cache`. It is refused where memory lacks.
+    /// Creates a cache for the automaton, as `DFA::create_cache`. If memory runs out, the call returns an error.
     pub fn create_cache(&self, alloc: Global) -> Result<Cache, AllocError>
         ensures value { IfOk result (λ c. c ≡ made_for self.now) }
         ensures own { IfOk result (λ c. IsCacheOf self.now c) }
@@ -49,8 +50,8 @@ impl DFA {
         Ok(cache)
     }
 
-    /// Makes the cache one for the automaton, as `DFA::reset_cache`. It is refused where memory lacks, and the cache is
-    /// then left as it was.
+    /// Resets the cache to a new one for the automaton, as `DFA::reset_cache`. If memory runs out, the call returns an
+    /// error and leaves the cache as it was.
     pub fn reset_cache(&self, cache: &mut Cache) -> Result<(), AllocError>
         ensures value { OnOk result (cache.new ≡ made_for self.now) }
         ensures own { OnOk result (IsCacheOf self.now cache.new) }

@@ -4,19 +4,20 @@ ghost use Rattle.lazy_dfa.specs.Accounting.{longest_state, fresh_usage, least_ca
 use crate::lazy_id::SENTINELS;
 use std::marker::Model;
 
-/// How many kinds of starts there are: what stands before the place where a search starts, as far as looks ask for it.
+/// The number of kinds of start states. The kind says what precedes the offset where a search starts, as far as looks distinguish
+/// it.
 pub(crate) const START_KINDS: usize = 7;
 
-/// By what the bytes of a cache are told, apart from the states that it holds.
+/// The numbers from which the bytes of a cache are computed, apart from the states that it holds.
 #[derive(Clone, Copy)]
 pub(crate) struct Measures {
-    /// How many states the NFA has.
+    /// The number of states of the NFA.
     pub(crate) states: usize,
-    /// How many patterns.
+    /// The number of patterns.
     pub(crate) patterns: usize,
-    /// How many transitions a state of the cache has.
+    /// The number of transitions that a state of the cache has.
     pub(crate) stride: usize,
-    /// How many starts the cache knows.
+    /// The number of start states that the cache records.
     pub(crate) starts: usize,
 }
 
@@ -31,7 +32,7 @@ impl Model for Measures {
 }
 
 impl Measures {
-    /// How many bytes a state may have.
+    /// The greatest number of bytes of a state.
     pub(crate) fn longest_state(&self) -> usize
         requires states { self.now.states < 0x1_0000_0000 }
         requires patterns { self.now.patterns < 0x1_0000_0000 }
@@ -40,7 +41,7 @@ impl Measures {
         13 + 4 * self.patterns + 5 * self.states
     }
 
-    /// The bytes of a cache that holds no states.
+    /// The number of bytes of a cache that holds no states.
     pub(crate) fn fresh_usage(&self) -> usize
         requires states { self.now.states < 0x1_0000_0000 }
         requires patterns { self.now.patterns < 0x1_0000_0000 }
@@ -56,7 +57,7 @@ impl Measures {
             + 27
     }
 
-    /// The least bytes that a cache may be given.
+    /// The least capacity in bytes that a cache may have.
     pub(crate) fn least_capacity(&self) -> usize
         requires states { self.now.states < 0x1_0000_0000 }
         requires patterns { self.now.patterns < 0x1_0000_0000 }

@@ -1,13 +1,14 @@
 ghost use Rattle.std.specs.Prelude.{◌≡◌, None};
-ghost use Rattle.lazy_dfa.specs.Walks.{is_failed_walk};
-ghost use Rattle.lazy_dfa.specs.WalkAnswers.{failed_by};
-ghost use Rattle.lazy_dfa.specs.declared.overlapping_state.Walk.TheVariants.{Fresh, Ended};
+ghost use Rattle.lazy_dfa.specs.Overlapping.{is_failed_overlapping};
+ghost use Rattle.lazy_dfa.specs.OverlappingAnswers.{failed_by};
+ghost use Rattle.lazy_dfa.specs.declared.overlapping_state.OverlappingPosition.TheVariants.{Fresh, Ended};
 
 use crate::lazy_id::LazyStateID;
 use search_types::{HalfMatch, MatchErrorKind};
 use std::marker::Model;
 
-/// Where a walk stopped: behind the unit at a place, in a state, with the index of the next pattern in the state's list.
+/// Where an overlapping search stopped: the position of the last unit that it read, the state after that unit, and the index of
+/// the next pattern in the state's list.
 #[derive(Clone, Copy, PartialEq, Eq)]
 pub(crate) struct Stop {
     pub(crate) id: LazyStateID,
@@ -15,32 +16,34 @@ pub(crate) struct Stop {
     pub(crate) at: usize,
 }
 
-/// Where a walk is between two calls.
+/// The progress of an overlapping search between two calls.
 #[derive(Clone, Copy, PartialEq, Eq)]
-pub(crate) enum Walk {
+pub(crate) enum OverlappingPosition {
     /// It hasn't begun.
     Fresh,
     /// Nothing is left of it.
     Ended,
-    /// A call was refused, and so are all later ones.
+    /// A call failed, and so do all later ones.
     Failed(MatchErrorKind),
-    /// It stopped at an end that it told.
+    /// It stopped at an end that it reported.
     Stopped(Stop),
 }
 
-/// An overlapping walk between two calls, as `regex_automata::hybrid::dfa::OverlappingState`: the end that the last call
-/// told, and where the walk goes on. It keeps nothing of the cache but the ID of a state, so the walk goes on as long as the
-/// cache still has this state under this ID: a call that clears nothing leaves it so.
+/// An overlapping search between two calls, as `regex_automata::hybrid::dfa::OverlappingState`. It holds the end that the last
+/// call reported, and where the search goes on.
+///
+/// Of the cache, it keeps the ID of a state alone. So the search can go on as long as the cache still has this state under this
+/// ID. A call that clears nothing leaves it so.
 #[derive(Clone, Copy, PartialEq, Eq)]
 pub struct OverlappingState {
     pub(crate) found: Option<HalfMatch>,
-    pub(crate) walk: Walk,
+    pub(crate) walk: OverlappingPosition,
 }
 
 impl Model for OverlappingState {
-    ghost use Rattle.lazy_dfa.specs.Walks.{WalkState};
+    ghost use Rattle.lazy_dfa.specs.Overlapping.{OverlappingValue};
 
-    ghost Value = { WalkState };
+    ghost Value = { OverlappingValue };
 
     ghost view = { λ s. record { found = s.found; walk = s.walk } };
 
@@ -48,53 +51,53 @@ impl Model for OverlappingState {
 }
 
 impl OverlappingState {
-    /// A walk that hasn't begun, as `OverlappingState::start`.
+    /// Returns a search that hasn't begun, as `OverlappingState::start`.
     pub fn start() -> OverlappingState
         ensures { result ≡ record { found = None; walk = Fresh } }
     {
         OverlappingState {
             found: None,
-            walk: Walk::Fresh,
+            walk: OverlappingPosition::Fresh,
         }
     }
 
-    /// The end that the last call told, as `OverlappingState::get_match`: none before the first call, at the walk's end, and
-    /// after a refusal.
+    /// Returns the end that the last call reported, as `OverlappingState::get_match`. There is none before the first call, at the
+    /// end of the search, and after an error.
     pub fn get_match(&self) -> Option<HalfMatch>
         ensures { result ≡ self.now.found }
     {
         self.found
     }
 
-    /// Whether a call was refused. All later ones answer the same refusal.
+    /// Whether a call failed. All later calls return this error again.
     pub fn is_failed(&self) -> bool
-        ensures { result ≡ is_failed_walk self.now.walk }
+        ensures { result ≡ is_failed_overlapping self.now.walk }
     {
         match self.walk {
-            Walk::Failed(_) => true,
-            Walk::Fresh => false,
-            Walk::Ended => false,
-            Walk::Stopped(_) => false,
+            OverlappingPosition::Failed(_) => true,
+            OverlappingPosition::Fresh => false,
+            OverlappingPosition::Ended => false,
+            OverlappingPosition::Stopped(_) => false,
         }
     }
 
-    /// A walk of which nothing is left.
+    /// A search of which nothing is left.
     pub(crate) fn ended() -> OverlappingState
         ensures { result ≡ record { found = None; walk = Ended } }
     {
         OverlappingState {
             found: None,
-            walk: Walk::Ended,
+            walk: OverlappingPosition::Ended,
         }
     }
 
-    /// A walk that failed.
+    /// A search that failed.
     pub(crate) fn failed(kind: MatchErrorKind) -> OverlappingState
         ensures { result ≡ failed_by kind }
     {
         OverlappingState {
             found: None,
-            walk: Walk::Failed(kind),
+            walk: OverlappingPosition::Failed(kind),
         }
     }
 }

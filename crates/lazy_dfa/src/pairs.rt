@@ -1,11 +1,11 @@
-//! The search for two bytes in a row that pass two tests, at 32 places at once.
+//! The search for two adjacent bytes that pass two tests, at 32 offsets at once.
 ghost use Rattle.std.specs.Prelude.{◌≡◌, ◌+◌, ◌<◌, ◌≤◌, length, map, bit_and};
 ghost use Rattle.std.specs.Simd.Lanes.{chunk, mask_l, zip2};
 ghost use Rattle.lazy_dfa.specs.ByteTests.{has_bits, marked, NoPairs};
 
 use crate::byte_tests::{ByteTest, LANES, bits_of, marks_at};
 
-/// A bit for each of the 32 places from one on, set where the byte passes one test and the byte behind it the other.
+/// A bit for each of the 32 offsets from `at` on, set if the byte passes the first test and the byte after it the second one.
 #[inline(always)]
 fn pair_bits<A: ByteTest, B: ByteTest>(first: &A, second: &B, haystack: &[u8], at: usize) -> u64
     requires { at + 33 ≤ length haystack.now }
@@ -15,8 +15,8 @@ fn pair_bits<A: ByteTest, B: ByteTest>(first: &A, second: &B, haystack: &[u8], a
     bits_of(marks_at(first, haystack, at) & marks_at(second, haystack, at + 1))
 }
 
-/// A place from `from` on such that nowhere before it a byte passes one test and the byte behind it the other: they do there, or no
-/// two bytes are left before `end`.
+/// Returns an offset from `from` on. At no earlier offset does a byte pass the first test and the byte after it the second one.
+/// At the returned offset they do, or no two bytes are left before `end`.
 #[inline(always)]
 pub(crate) fn find_pair<A: ByteTest, B: ByteTest>(
     first: &A,

@@ -1,42 +1,44 @@
-//! One pass of a half search.
+//! A single scan of a half search.
 ghost use Rattle.std.specs.Prelude.{◌≡◌, ◌≢◌, ◌&&◌, ℕ, ◌+◌, ◌-◌, ◌<◌, ◌≤◌, Bool, false, true, None, Option, Some, IsSome};
-ghost use Rattle.nfa_core.specs.Ways.{place_of};
+ghost use Rattle.nfa_core.specs.Ways.{offset_of};
 ghost use Rattle.determinize_core.specs.States.{StateValue};
 ghost use Rattle.determinize_core.specs.Steps.{unit_at};
 ghost use Rattle.lazy_dfa.specs.Caches.{IsCacheOf, IsRow, HeldAt};
 ghost use Rattle.lazy_dfa.specs.Linked.{IsMoved};
-ghost use Rattle.lazy_dfa.specs.MadePasses.{span_len, MakesPass};
-ghost use Rattle.lazy_dfa.specs.Passes.{index_at};
+ghost use Rattle.lazy_dfa.specs.MadeScans.{span_len, MakesScan};
+ghost use Rattle.lazy_dfa.specs.Scans.{index_at};
 ghost use Rattle.lazy_dfa.specs.Points.{point};
-ghost use Rattle.lazy_dfa.specs.Scans.{first_place};
-ghost use Rattle.lazy_dfa.specs.SearchAnswers.{pair_of, told_of};
-ghost use Rattle.lazy_dfa.specs.PassPlaces.{IsWithinSpan, last_place, left_at, tells, finished_where, error_of, told_begun, told_behind};
-ghost use Rattle.lazy_dfa.specs.PassPlaces.{BeginsFirst, GoesBetween, TurnsTo, RunsOn, StartsPass};
+ghost use Rattle.lazy_dfa.specs.HalfSearches.{first_offset};
+ghost use Rattle.lazy_dfa.specs.SearchAnswers.{pair_of, progress_of};
+ghost use Rattle.lazy_dfa.specs.ScanOffsets.{IsWithinSpan, last_offset, left_at, reports, finished_where, error_of, progress_begun};
+ghost use Rattle.lazy_dfa.specs.ScanOffsets.{progress_past};
+ghost use Rattle.lazy_dfa.specs.ScanOffsets.{BeginsFirst, GoesBetween, TurnsTo, RunsOn, StartsScan};
 
 use crate::cache_error::CacheError;
 use crate::dfa::{Cache, DFA};
 use crate::lazy_id::LazyStateID;
-use crate::lingering::linger;
+use crate::match_loop::linger;
 use crate::position::Position;
 use crate::runs::{run_forward, run_reverse, see_bytes};
-use crate::turns::{Turn, make_turn};
+use crate::scan_steps::{Turn, make_turn};
 use crate::work::Work;
 use search_types::{HalfMatch, Input, MatchError, MatchErrorKind};
 use std::sync::ledger::Ledger;
 
-/// What comes of a turn in a span: the pass goes on from a stand, or it has ended with the match that was recorded last.
+/// The result of a turn in a span. Either the scan goes on from a position, or it has ended with the match that was recorded
+/// last.
 #[derive(Clone, Copy)]
 pub(crate) struct Turned {
     position: Position,
     has_ended: bool,
 }
 
-// ---- places
+// ---- positions
 
-/// Where one who reads forward or in reverse through the span begins.
+/// The position where a search that reads forward or in reverse through the span begins.
 #[inline(always)]
-pub(crate) fn first_place(input: &Input<'_>, is_reverse: bool) -> usize
-    ensures { result ≡ first_place is_reverse input.now.start input.now.end }
+pub(crate) fn first_offset(input: &Input<'_>, is_reverse: bool) -> usize
+    ensures { result ≡ first_offset is_reverse input.now.start input.now.end }
 {
     if is_reverse {
         return input.end();
@@ -44,10 +46,10 @@ pub(crate) fn first_place(input: &Input<'_>, is_reverse: bool) -> usize
     input.start()
 }
 
-/// Where one ends.
+/// The position where such a search ends.
 #[inline(always)]
-pub(crate) fn last_place(input: &Input<'_>, is_reverse: bool) -> usize
-    ensures { result ≡ last_place is_reverse input.now }
+pub(crate) fn last_offset(input: &Input<'_>, is_reverse: bool) -> usize
+    ensures { result ≡ last_offset is_reverse input.now }
 {
     if is_reverse {
         return input.start();
@@ -55,7 +57,7 @@ pub(crate) fn last_place(input: &Input<'_>, is_reverse: bool) -> usize
     input.end()
 }
 
-/// The index of the byte that is read next at a place.
+/// The index of the byte that is read next at a position.
 #[inline(always)]
 pub(crate) fn index_at(at: usize, is_reverse: bool) -> usize
     ensures { result ≡ index_at is_reverse at }
@@ -63,11 +65,11 @@ pub(crate) fn index_at(at: usize, is_reverse: bool) -> usize
     if is_reverse { at.saturating_sub(1) } else { at }
 }
 
-/// The place behind the byte at a place.
+/// The position after the byte at a position, in reading order.
 #[inline(always)]
-pub(crate) fn next_place(at: usize, is_reverse: bool) -> usize
+pub(crate) fn next_offset(at: usize, is_reverse: bool) -> usize
     requires { at < 0xFFFF_FFFF_FFFF_FFFF }
-    ensures { result ≡ place_of is_reverse at 1 }
+    ensures { result ≡ offset_of is_reverse at 1 }
 {
     if is_reverse {
         at.saturating_sub(1)
@@ -76,7 +78,7 @@ pub(crate) fn next_place(at: usize, is_reverse: bool) -> usize
     }
 }
 
-/// The unit at a place: a byte, or none at the end of the input.
+/// The unit at a position: a byte, or none at the end of the input.
 #[inline(always)]
 pub(crate) fn unit_at(haystack: &[u8], at: usize, is_reverse: bool) -> Option<u8>
     ensures { result ≡ unit_at is_reverse haystack.now at }
@@ -90,24 +92,24 @@ pub(crate) fn unit_at(haystack: &[u8], at: usize, is_reverse: bool) -> Option<u8
     haystack.get(at - 1).copied()
 }
 
-/// Whether a pass tells its cache how far it comes.
+/// Whether a scan reports to its cache how far it comes.
 #[inline(always)]
-fn tells(input: &Input<'_>, is_reverse: bool) -> bool
-    ensures { result ≡ tells is_reverse input.now }
+fn reports(input: &Input<'_>, is_reverse: bool) -> bool
+    ensures { result ≡ reports is_reverse input.now }
 {
     !(is_reverse && input.end() <= input.start())
 }
 
-/// Whether it tells that before its last turn: in reverse it does, where it tells anything, since its last byte is read by
+/// Whether a scan reports this before its last turn. In reverse it does, if it reports anything, since its last byte is read by
 /// then.
 #[inline(always)]
 fn tells_before(input: &Input<'_>, is_reverse: bool) -> bool
-    ensures { result ≡ is_reverse && tells is_reverse input.now }
+    ensures { result ≡ is_reverse && reports is_reverse input.now }
 {
-    is_reverse && tells(input, is_reverse)
+    is_reverse && reports(input, is_reverse)
 }
 
-/// Where it is wanted, ends the search that goes on at this place.
+/// If wanted, ends the search in progress at this position.
 #[inline(always)]
 pub(crate) fn finish_where(cache: &mut Cache, at: usize, wanted: bool)
     requires { wanted ≡ true → IsSome cache.old.progress }
@@ -118,8 +120,8 @@ pub(crate) fn finish_where(cache: &mut Cache, at: usize, wanted: bool)
     }
 }
 
-/// The refusal of a search by that of a step.
-pub(crate) fn refusal(err: CacheError, place: usize) -> MatchError
+/// The error of a search whose step failed.
+pub(crate) fn rejection(err: CacheError, place: usize) -> MatchError
     ensures { result ≡ error_of place err }
 {
     match err {
@@ -130,7 +132,7 @@ pub(crate) fn refusal(err: CacheError, place: usize) -> MatchError
 
 // ---- turns
 
-/// Goes on over known steps while no state has a tag, up to the last place of the span.
+/// Follows known steps while no state has a tag, up to the last position of the span.
 #[inline(always)]
 pub(crate) fn run(
     dfa: &DFA,
@@ -188,7 +190,7 @@ pub(crate) fn run(
     }
 }
 
-/// Goes on over known steps, up to the last place of the span: while no state has a tag, and then through those that match too.
+/// Follows known steps up to the last position of the span: while no state has a tag, and then through matching states too.
 #[inline(always)]
 fn run_known(
     dfa: &DFA,
@@ -216,7 +218,8 @@ fn run_known(
     linger(dfa, cache, input, is_reverse, next)
 }
 
-/// The same behind a turn, which is seldom wanted, so that a pass has the loops of runs but once.
+/// Does what `run_known` does, after a turn. This is rarely needed. It is a function of its own, so that a scan's code has the
+/// loops of runs just once.
 #[inline(never)]
 fn run_further(
     dfa: &DFA,
@@ -255,7 +258,7 @@ fn living_turn<L: Ledger, M: Ledger>(
     requires is_reverse { is_reverse ≡ dfa.now.nfa.automaton.reverse }
     requires row { IsRow cache.old position.id }
     requires within { IsWithinSpan input.now position.at }
-    requires left { position.at ≢ last_place is_reverse input.now }
+    requires left { position.at ≢ last_offset is_reverse input.now }
     requires running { IsSome cache.old.progress }
     ensures own { IsCacheOf dfa.now cache.new }
     ensures turn { TurnsTo dfa.now input.now
@@ -279,10 +282,10 @@ fn living_turn<L: Ledger, M: Ledger>(
         work,
     ) {
         Ok(seen) => seen,
-        Err(e) => return Err(refusal(e, index)),
+        Err(e) => return Err(rejection(e, index)),
     };
     let next = Position {
-        at: next_place(position.at, is_reverse),
+        at: next_offset(position.at, is_reverse),
         id: seen.id,
         best: seen.best,
     };
@@ -305,8 +308,8 @@ fn living_turn<L: Ledger, M: Ledger>(
     }
 }
 
-/// A turn by a byte of the span. One that is known to lead to the dead state, as those do with which most passes end, is told
-/// the cache once.
+/// A turn by a byte of the span. If it is known to lead to the dead state, as at the end of most scans, the cache is updated just
+/// once.
 #[inline(always)]
 fn byte_turn<L: Ledger, M: Ledger>(
     dfa: &DFA,
@@ -320,7 +323,7 @@ fn byte_turn<L: Ledger, M: Ledger>(
     requires is_reverse { is_reverse ≡ dfa.now.nfa.automaton.reverse }
     requires row { IsRow cache.old position.id }
     requires within { IsWithinSpan input.now position.at }
-    requires left { position.at ≢ last_place is_reverse input.now }
+    requires left { position.at ≢ last_offset is_reverse input.now }
     requires running { IsSome cache.old.progress }
     ensures own { IsCacheOf dfa.now cache.new }
     ensures turn { TurnsTo dfa.now input.now
@@ -342,7 +345,7 @@ fn byte_turn<L: Ledger, M: Ledger>(
     })
 }
 
-/// The last turn, by the unit behind the span.
+/// The last turn, by the unit after the span.
 #[inline(always)]
 fn last_turn<L: Ledger, M: Ledger>(
     dfa: &DFA,
@@ -355,9 +358,9 @@ fn last_turn<L: Ledger, M: Ledger>(
     requires own { IsCacheOf dfa.now cache.old }
     requires is_reverse { is_reverse ≡ dfa.now.nfa.automaton.reverse }
     requires row { IsRow cache.old position.id }
-    requires last { position.at ≡ last_place is_reverse input.now }
+    requires last { position.at ≡ last_offset is_reverse input.now }
     requires begun { input.now.start ≤ input.now.end }
-    requires running { tells is_reverse input.now ≡ true → IsSome cache.old.progress }
+    requires running { reports is_reverse input.now ≡ true → IsSome cache.old.progress }
     ensures own { IsCacheOf dfa.now cache.new }
     ensures turn { TurnsTo dfa.now input.now
         (point cache.old work.old.determinized work.old.inserted position.at position.id (pair_of position.best)) cache.new
@@ -377,7 +380,7 @@ fn last_turn<L: Ledger, M: Ledger>(
         work,
     ) {
         Ok(seen) => seen,
-        Err(e) => return Err(refusal(e, position.at)),
+        Err(e) => return Err(rejection(e, position.at)),
     };
     if let Turn::Quits = seen.turn {
         let Some(byte) = unit else { unreachable!() };
@@ -395,7 +398,7 @@ fn last_turn<L: Ledger, M: Ledger>(
     })
 }
 
-/// A turn by the unit at a place.
+/// A turn by the unit at a position.
 #[inline(always)]
 fn turn_at<L: Ledger, M: Ledger>(
     dfa: &DFA,
@@ -409,22 +412,22 @@ fn turn_at<L: Ledger, M: Ledger>(
     requires is_reverse { is_reverse ≡ dfa.now.nfa.automaton.reverse }
     requires row { IsRow cache.old position.id }
     requires within { IsWithinSpan input.now position.at }
-    requires running { tells is_reverse input.now ≡ true → IsSome cache.old.progress }
+    requires running { reports is_reverse input.now ≡ true → IsSome cache.old.progress }
     ensures own { IsCacheOf dfa.now cache.new }
     ensures turn { TurnsTo dfa.now input.now
         (point cache.old work.old.determinized work.old.inserted position.at position.id (pair_of position.best)) cache.new
         work.new.determinized work.new.inserted result }
 {
-    if position.at == last_place(input, is_reverse) {
+    if position.at == last_offset(input, is_reverse) {
         last_turn(dfa, cache, input, is_reverse, position, work)
     } else {
         byte_turn(dfa, cache, input, is_reverse, position, work)
     }
 }
 
-// ---- passes
+// ---- scans
 
-/// The pass from its first state on, which isn't dead.
+/// The scan from its first state on, which isn't dead.
 #[inline(always)]
 fn go_on<L: Ledger, M: Ledger>(
     dfa: &DFA,
@@ -441,13 +444,13 @@ fn go_on<L: Ledger, M: Ledger>(
     requires running { BeginsFirst is_reverse input.now cache.old }
     ensures own { IsCacheOf dfa.now cache.new }
     ensures runs { (s : StateValue) → HeldAt cache.old id s → RunsOn dfa.now input.now s
-        (point cache.old work.old.determinized work.old.inserted (first_place is_reverse input.now.start input.now.end) id None) cache.new
+        (point cache.old work.old.determinized work.old.inserted (first_offset is_reverse input.now.start input.now.end) id None) cache.new
         work.new.determinized work.new.inserted result }
 {
     dfa.is_made();
     see_bytes(input.haystack());
     let first = Position {
-        at: first_place(input, is_reverse),
+        at: first_offset(input, is_reverse),
         id,
         best: None,
     };
@@ -464,7 +467,7 @@ fn go_on<L: Ledger, M: Ledger>(
     }
 }
 
-/// The ID of the state in which a pass starts.
+/// Returns the ID of the state in which a scan starts.
 #[inline(always)]
 pub(crate) fn start_of_pass<L: Ledger, M: Ledger>(
     dfa: &DFA,
@@ -476,7 +479,7 @@ pub(crate) fn start_of_pass<L: Ledger, M: Ledger>(
     requires own { IsCacheOf dfa.now cache.old }
     requires is_reverse { is_reverse ≡ dfa.now.nfa.automaton.reverse }
     ensures own { IsCacheOf dfa.now cache.new }
-    ensures start { StartsPass dfa.now input.now cache.old cache.new work.old.determinized work.new.determinized work.old.inserted
+    ensures start { StartsScan dfa.now input.now cache.old cache.new work.old.determinized work.new.determinized work.old.inserted
         work.new.inserted result }
 {
     if is_reverse {
@@ -486,34 +489,36 @@ pub(crate) fn start_of_pass<L: Ledger, M: Ledger>(
     }
 }
 
-/// Tells a cache where a pass begins.
+/// Reports to a cache where a scan begins.
 #[inline(always)]
 fn begin_at_first(cache: &mut Cache, input: &Input<'_>, is_reverse: bool)
     ensures moved { IsMoved cache.old cache.new }
-    ensures told { told_of cache.new ≡ told_begun is_reverse input.now (told_of cache.old) }
+    ensures reported { progress_of cache.new ≡ progress_begun is_reverse input.now (progress_of cache.old) }
     ensures running { BeginsFirst is_reverse input.now cache.new }
 {
-    if !tells(input, is_reverse) {
+    if !reports(input, is_reverse) {
         return;
     }
-    cache.search_start(index_at(first_place(input, is_reverse), is_reverse));
+    cache.search_start(index_at(first_offset(input, is_reverse), is_reverse));
 }
 
-/// Tells it that one begins there and reads nothing.
+/// Reports to a cache that a scan begins and reads nothing.
 #[inline(always)]
 fn end_at_first(cache: &mut Cache, input: &Input<'_>, is_reverse: bool)
     ensures moved { IsMoved cache.old cache.new }
-    ensures told { told_of cache.new ≡ told_behind is_reverse (span_len input.now) (told_begun is_reverse input.now (told_of cache.old)) 0 }
+    ensures reported { progress_of cache.new ≡ progress_past is_reverse (span_len input.now) (progress_begun is_reverse input.now
+        (progress_of
+        cache.old)) 0 }
 {
-    if !tells(input, is_reverse) {
+    if !reports(input, is_reverse) {
         return;
     }
-    let index = index_at(first_place(input, is_reverse), is_reverse);
+    let index = index_at(first_offset(input, is_reverse), is_reverse);
     cache.search_start(index);
     cache.search_finish(index);
 }
 
-/// A pass over a whole span, in a direction that its caller knows.
+/// A scan over a whole span, in a direction that its caller knows.
 #[inline(always)]
 fn pass_in<L: Ledger, M: Ledger>(
     dfa: &DFA,
@@ -526,7 +531,7 @@ fn pass_in<L: Ledger, M: Ledger>(
     requires is_reverse { is_reverse ≡ dfa.now.nfa.automaton.reverse }
     requires begun { input.now.start ≤ input.now.end }
     ensures own { IsCacheOf dfa.now cache.new }
-    ensures pass { MakesPass dfa.now input.now cache.old cache.new work.old.determinized work.new.determinized work.old.inserted
+    ensures scan { MakesScan dfa.now input.now cache.old cache.new work.old.determinized work.new.determinized work.old.inserted
         work.new.inserted result }
 {
     dfa.is_made();
@@ -542,7 +547,7 @@ fn pass_in<L: Ledger, M: Ledger>(
     go_on(dfa, cache, input, is_reverse, id, work)
 }
 
-/// A pass forward: its code asks nowhere in which direction it reads.
+/// A scan forward. Its code never tests the direction in which it reads.
 #[inline(never)]
 fn pass_forward<L: Ledger, M: Ledger>(
     dfa: &DFA,
@@ -554,13 +559,13 @@ fn pass_forward<L: Ledger, M: Ledger>(
     requires is_forward { dfa.now.nfa.automaton.reverse ≡ false }
     requires begun { input.now.start ≤ input.now.end }
     ensures own { IsCacheOf dfa.now cache.new }
-    ensures pass { MakesPass dfa.now input.now cache.old cache.new work.old.determinized work.new.determinized work.old.inserted
+    ensures scan { MakesScan dfa.now input.now cache.old cache.new work.old.determinized work.new.determinized work.old.inserted
         work.new.inserted result }
 {
     pass_in(dfa, cache, input, false, work)
 }
 
-/// A pass in reverse, likewise.
+/// A scan in reverse. Its code never tests the direction in which it reads.
 #[inline(never)]
 fn pass_reverse<L: Ledger, M: Ledger>(
     dfa: &DFA,
@@ -572,15 +577,15 @@ fn pass_reverse<L: Ledger, M: Ledger>(
     requires is_reverse { dfa.now.nfa.automaton.reverse ≡ true }
     requires begun { input.now.start ≤ input.now.end }
     ensures own { IsCacheOf dfa.now cache.new }
-    ensures pass { MakesPass dfa.now input.now cache.old cache.new work.old.determinized work.new.determinized work.old.inserted
+    ensures scan { MakesScan dfa.now input.now cache.old cache.new work.old.determinized work.new.determinized work.old.inserted
         work.new.inserted result }
 {
     pass_in(dfa, cache, input, true, work)
 }
 
-/// A pass over a whole span.
+/// A scan over a whole span.
 #[inline(always)]
-pub(crate) fn pass<L: Ledger, M: Ledger>(
+pub(crate) fn scan<L: Ledger, M: Ledger>(
     dfa: &DFA,
     cache: &mut Cache,
     input: &Input<'_>,
@@ -591,7 +596,7 @@ pub(crate) fn pass<L: Ledger, M: Ledger>(
     requires is_reverse { is_reverse ≡ dfa.now.nfa.automaton.reverse }
     requires begun { input.now.start ≤ input.now.end }
     ensures own { IsCacheOf dfa.now cache.new }
-    ensures pass { MakesPass dfa.now input.now cache.old cache.new work.old.determinized work.new.determinized work.old.inserted
+    ensures scan { MakesScan dfa.now input.now cache.old cache.new work.old.determinized work.new.determinized work.old.inserted
         work.new.inserted result }
 {
     if is_reverse {

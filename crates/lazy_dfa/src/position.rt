@@ -1,8 +1,8 @@
-//! Where a pass stands.
+//! The position and state of a scan.
 use crate::lazy_id::LazyStateID;
 use search_types::HalfMatch;
 
-/// Where a pass stands: before the unit at a place, in a state that isn't dead, with the match that it recorded last.
+/// The position and state of a scan: before the unit at `at`, in a state that isn't dead, with the match that it recorded last.
 #[derive(Clone, Copy)]
 pub(crate) struct Position {
     pub(crate) at: usize,

@@ -1,8 +1,8 @@
-//! A search that goes on.
+//! A search in progress.
 ghost use Rattle.std.specs.Prelude.{◌≡◌};
 ghost use Rattle.lazy_dfa.specs.Caches.{begun_anew, distance};
 
-/// A search that goes on: where it started, and where it is.
+/// A search in progress: where it started, and where it is.
 #[derive(Clone, Copy)]
 pub(crate) struct Progress {
     pub(crate) start: usize,
@@ -10,7 +10,7 @@ pub(crate) struct Progress {
 }
 
 impl Progress {
-    /// How far it came.
+    /// The number of bytes that the search read.
     #[inline(always)]
     pub(crate) fn len(self) -> usize
         ensures { result ≡ distance self.start self.at }
@@ -23,7 +23,7 @@ impl Progress {
     }
 }
 
-/// The search that goes on, begun anew where it is.
+/// The search in progress, restarted where it is.
 pub(crate) fn begun_anew(progress: Option<Progress>) -> Option<Progress>
     ensures { result ≡ begun_anew progress }
 {

@@ -11,8 +11,8 @@ ghost use Rattle.search_core.specs.ByteSets.{has};
 ghost use Rattle.nfa_core.specs.Nfa.{Automaton};
 ghost use Rattle.lazy_dfa.specs.Quits.{has_unicode_word, quit_bytes, is_unsupported};
 
-/// The quit bytes are those that were set by hand. Where the automaton has a look for words by characters and word
-/// boundaries are on, all bytes above 7F are quit bytes too, and else no other byte is one.
+/// The bytes that were set by hand are quit bytes. If the automaton has a Unicode word boundary and Unicode word boundaries are
+/// on, all bytes above 0x7F are quit bytes too. Otherwise no other byte is one.
 pub fn quit_bytes_are_set_by_hand_or_high()
     ensures by_hand { (a : Automaton) (boundaries : Bool) (set : List Bool) (b : ℕ) → b < 256 → has set b ≡ true →
         has (quit_bytes a boundaries set) b ≡ true }
@@ -25,8 +25,8 @@ pub fn quit_bytes_are_set_by_hand_or_high()
     ensures len { (a : Automaton) (boundaries : Bool) (set : List Bool) → length set ≡ 256 → length (quit_bytes a boundaries set) ≡ 256 }
 {}
 
-/// An automaton is refused exactly where it has a look for words by characters, word boundaries are off, and some byte
-/// above 7F was not set by hand.
+/// An automaton is rejected exactly if it has a Unicode word boundary, Unicode word boundaries are off, and some byte above 0x7F
+/// was not set by hand.
 pub fn automata_are_unsupported_without_high_quit_bytes()
     ensures some { (a : Automaton) (boundaries : Bool) (set : List Bool) → is_unsupported a boundaries set ≡ true →
         (has_unicode_word a ≡ true) × (boundaries ≡ false) × ((b : ℕ) × (0x80 ≤ b) × (b < 256) × (has set b ≡ false)) }
@@ -34,7 +34,7 @@ pub fn automata_are_unsupported_without_high_quit_bytes()
         is_unsupported a false set ≡ true }
 {}
 
-/// So of an automaton that isn't refused and has a look for words by characters, each byte above 7F is a quit byte.
+/// If an automaton isn't rejected and has a Unicode word boundary, each byte above 0x7F is a quit byte.
 pub fn unicode_words_quit_at_high_bytes()
     ensures { (a : Automaton) (boundaries : Bool) (set : List Bool) (b : ℕ) → is_unsupported a boundaries set ≡ false →
         has_unicode_word a ≡ true →

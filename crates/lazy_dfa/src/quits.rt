@@ -1,4 +1,4 @@
-//! At which bytes searches give up.
+//! Quit bytes: the bytes at which searches give up.
 ghost use Rattle.std.specs.Prelude.{◌≡◌};
 ghost use Rattle.lazy_dfa.specs.ConfigValue.{word_boundary_of, by_hand};
 ghost use Rattle.lazy_dfa.specs.Quits.{with_high_bytes, has_high_bytes, has_unicode_word, quit_bytes, is_unsupported};
@@ -7,7 +7,7 @@ use crate::config::Config;
 use nfa_core::NFA;
 use search_core::ByteSet;
 
-/// The set with all bytes above 7F.
+/// The set with all bytes above 0x7F added.
 fn with_high_bytes(set: &ByteSet) -> ByteSet
     ensures { result ≡ with_high_bytes set.now }
 {
@@ -20,7 +20,7 @@ fn with_high_bytes(set: &ByteSet) -> ByteSet
     quits
 }
 
-/// Whether all bytes above 7F are in the set.
+/// Whether all bytes above 0x7F are in the set.
 fn has_high_bytes(set: &ByteSet) -> bool
     ensures { result ≡ has_high_bytes set.now }
 {
@@ -32,7 +32,7 @@ fn has_high_bytes(set: &ByteSet) -> bool
     true
 }
 
-/// Whether a state of the automaton is a look for words by characters.
+/// Whether a state of the automaton is a Unicode word boundary.
 fn has_unicode_word(nfa: &NFA) -> bool
     ensures { result ≡ has_unicode_word nfa.now.automaton }
 {

@@ -1,37 +1,37 @@
-//! Runs over known steps: the loops in which searches spend their time. They only read.
+//! Loops over known steps, in which searches spend their time. They only read.
 ghost use Rattle.std.specs.Prelude.{◌≡◌, ℕ, ◌+◌, ◌-◌, ◌<◌, ◌≤◌, false, true, length, Option, slice_index_or};
 ghost use Rattle.lazy_dfa.specs.Caches.{IsCacheOf, IsRow};
 ghost use Rattle.lazy_dfa.specs.Ids.{tag};
 ghost use Rattle.lazy_dfa.specs.Points.{GoesTo, point};
 ghost use Rattle.lazy_dfa.specs.Stretches.{MovesTo};
 
+use crate::accel_rounds::skip_over;
 use crate::bytewise::{walk_both, walk_forward};
-use crate::circling::pass_over;
 use crate::dfa::{Cache, DFA};
 use crate::lazy_id::LazyStateID;
 
-/// How many bytes are read before a search passes over bytes or makes two walks: a match often is as near as that.
+/// The number of bytes that are read before a search skips bytes or runs two loops: a match is often as near as that.
 const FEW: usize = 4;
 
-/// How many bytes the second of two walks reads before it counts.
+/// The number of bytes that the second of two loops has to read before it counts.
 const LEAD: usize = 8;
 
-/// How many bytes each of them reads beside those.
+/// The number of bytes that each of them reads apart from those.
 const HALF: usize = 48;
 
-/// The bytes of a haystack are bytes.
+/// The elements of a haystack are bytes.
 pub(crate) fn see_bytes(bytes: &[u8])
     ensures { (at : ℕ) → slice_index_or bytes.now at 0 < 256 }
 {}
 
-/// How far a run came, and to which state.
+/// How far a loop came, and to which state.
 #[derive(Clone, Copy)]
 pub(crate) struct Moved {
     pub(crate) at: usize,
     pub(crate) id: LazyStateID,
 }
 
-/// Goes on forward over known steps while no state has a tag, past bytes that leave the state to stop at as it is.
+/// Follows known steps forward while no state has a tag. Skips bytes that don't change the state to stop at.
 #[inline(never)]
 fn skip_forward(
     dfa: &DFA,
@@ -68,18 +68,18 @@ fn skip_forward(
                 id: sid,
             };
         }
-        at = pass_over(dfa, cache, haystack, sid, walked.at, end);
+        at = skip_over(dfa, cache, haystack, sid, walked.at, end);
     }
 }
 
-/// How far a stretch was read, and whether the step behind has a tag or isn't known.
+/// How far a stretch was read, and whether the next step has a tag or isn't known.
 #[derive(Clone, Copy)]
 struct Stretch {
     moved: Moved,
     has_stopped: bool,
 }
 
-/// Reads up to a place in one walk.
+/// Reads up to an offset in one loop.
 #[inline(always)]
 fn read_alone(dfa: &DFA, cache: &Cache, haystack: &[u8], moved: Moved, limit: usize) -> Stretch
     requires own { IsCacheOf dfa.now cache.now }
@@ -103,7 +103,7 @@ fn read_alone(dfa: &DFA, cache: &Cache, haystack: &[u8], moved: Moved, limit: us
     }
 }
 
-/// Reads a stretch in two walks at once.
+/// Reads a stretch in two loops at once.
 #[inline(always)]
 fn read_stretch(dfa: &DFA, cache: &Cache, haystack: &[u8], moved: Moved, end: usize) -> Stretch
     requires own { IsCacheOf dfa.now cache.now }
@@ -156,8 +156,8 @@ fn read_stretch(dfa: &DFA, cache: &Cache, haystack: &[u8], moved: Moved, end: us
     }
 }
 
-/// Goes on forward over known steps while no state has a tag: by two walks at once, as long as enough bytes are left. The loops stand
-/// in a function of its own, since how fast they are depends on where their code lies.
+/// Follows known steps forward while no state has a tag, in two loops at once as long as enough bytes are left. The loops are in
+/// a function of their own, since their speed depends on the address of their code.
 #[inline(never)]
 fn read_forward(
     dfa: &DFA,
@@ -187,7 +187,7 @@ fn read_forward(
     read_alone(dfa, cache, haystack, moved, end).moved
 }
 
-/// Goes on forward over known steps while no state has a tag: by a few bytes, and then a search that isn't anchored passes over bytes,
+/// Follows known steps forward while no state has a tag. It first reads a few bytes. Then an unanchored search skips bytes,
 /// unless that didn't pay off.
 #[inline(always)]
 pub(crate) fn run_forward(
@@ -229,7 +229,7 @@ pub(crate) fn run_forward(
     skip_forward(dfa, cache, haystack, first.id, first.at, end)
 }
 
-/// Goes on in reverse over known steps while no state has a tag.
+/// Follows known steps in reverse while no state has a tag.
 pub(crate) fn run_reverse(
     dfa: &DFA,
     cache: &Cache,

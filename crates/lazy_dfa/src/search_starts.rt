@@ -1,4 +1,4 @@
-//! The starts of searches over an input.
+//! The start states of searches over an input.
 ghost use Rattle.std.specs.Prelude.{◌≡◌, ◌-◌, Err};
 ghost use Rattle.lazy_dfa.specs.Caches.{IsCacheOf};
 ghost use Rattle.search_types.specs.declared.match_error.MatchErrorKind.TheVariants.{GaveUp as SearchGaveUp};
@@ -12,7 +12,7 @@ use determinize_core::Config as StartConfig;
 use search_types::{Input, MatchError, MatchErrorKind};
 use std::sync::ledger::Ledger;
 
-/// The refusal of a search by that of its start.
+/// The error of a search whose start failed.
 fn match_error(err: StartError, quit_place: usize, place: usize) -> MatchError
     ensures { result ≡ error_at quit_place place err }
 {
@@ -24,7 +24,7 @@ fn match_error(err: StartError, quit_place: usize, place: usize) -> MatchError
     }
 }
 
-/// The start of a search at a place, with the refusals of searches.
+/// The start state of a search at `place`, or the error of the search.
 #[inline(always)]
 fn start_at<L: Ledger, M: Ledger>(
     dfa: &DFA,
@@ -44,16 +44,16 @@ fn start_at<L: Ledger, M: Ledger>(
     match dfa.start_state(cache, config, work) {
         Ok(id) => Ok(id),
         Err(e) => {
-            let told = match_error(e, quit_place, place);
-            Err(told)
+            let reported = match_error(e, quit_place, place);
+            Err(reported)
         }
     }
 }
 
 impl DFA {
-    /// The ID of the state in which a search forward over the input starts, as `DFA::start_state_forward`. It is refused
-    /// as [`start_state`](DFA::start_state) is: a quit byte stands one place before the span's start, and a search gives
-    /// up at that start.
+    /// Returns the ID of the state in which a forward search over the input starts, as `DFA::start_state_forward`. The call fails
+    /// if [`start_state`](DFA::start_state) fails. The error of a quit byte has the offset just before the span's start. The
+    /// error of a search that gives up has the span's start.
     #[inline(always)]
     pub fn start_state_forward<L: Ledger, M: Ledger>(
         &self,
@@ -74,8 +74,9 @@ impl DFA {
         start_at(self, cache, &config, quit_place, place, work)
     }
 
-    /// The ID of the state in which a search in reverse over the input starts, as `DFA::start_state_reverse`. It is refused
-    /// as [`start_state`](DFA::start_state) is: a quit byte stands at the span's end, where a search gives up too.
+    /// Returns the ID of the state in which a search in reverse over the input starts, as `DFA::start_state_reverse`. The call
+    /// fails if [`start_state`](DFA::start_state) fails. The error of a quit byte has the span's end as its offset, and so has
+    /// the error of a search that gives up.
     #[inline(always)]
     pub fn start_state_reverse<L: Ledger, M: Ledger>(
         &self,

@@ -1,20 +1,20 @@
-//! Half searches: passes one after the other.
+//! Half searches: one scan, or several in turn.
 ghost use Rattle.std.specs.Prelude.{◌≡◌, ℕ, Option, false, true, IfOk};
 ghost use Rattle.search_types.specs.Inputs.{IsWithin};
 ghost use Rattle.lazy_dfa.specs.Caches.{IsCacheOf};
 ghost use Rattle.lazy_dfa.specs.Dfas.{IsDfa, reader};
-ghost use Rattle.lazy_dfa.specs.MadePasses.{MakesSearch};
+ghost use Rattle.lazy_dfa.specs.MadeScans.{MakesSearch};
 ghost use Rattle.lazy_dfa.specs.SearchAnswers.{half_of, HasReach, HasReachBack};
 ghost use Rattle.lazy_dfa.specs.SearchPromises.{MakesHalf};
 
 use crate::dfa::{Cache, DFA};
-use crate::passing::pass;
+use crate::passing::scan;
 use crate::runs::see_bytes;
 use crate::work::Work;
 use search_types::{HalfMatch, Input, MatchError};
 use std::sync::ledger::Ledger;
 
-/// The same input.
+/// Returns a copy of the input.
 fn same_input<'h>(input: &Input<'h>) -> Input<'h>
     ensures { result ≡ input.now }
 {
@@ -25,7 +25,7 @@ fn same_input<'h>(input: &Input<'h>) -> Input<'h>
     same
 }
 
-/// Whether it reads in reverse.
+/// Whether the automaton reads in reverse.
 pub(crate) fn is_reverse(dfa: &DFA) -> bool
     ensures { result ≡ (reader dfa.now).automaton.reverse }
 {
@@ -40,7 +40,7 @@ pub(crate) fn is_between_characters(dfa: &DFA) -> bool
     nfa.is_utf8() && nfa.has_empty()
 }
 
-/// A half search: a pass, and while its end doesn't count another one over a byte less.
+/// A half search: one scan, and as long as its end doesn't count another one over a byte less.
 #[inline(never)]
 fn search_again<L: Ledger, M: Ledger>(
     dfa: &DFA,
@@ -61,7 +61,7 @@ fn search_again<L: Ledger, M: Ledger>(
     let between_characters = is_between_characters(dfa);
     let mut rest = same_input(input);
     while !rest.is_done() {
-        let found = match pass(dfa, cache, &rest, is_reverse, work) {
+        let found = match scan(dfa, cache, &rest, is_reverse, work) {
             Ok(found) => found,
             Err(e) => return Err(e),
         };
@@ -90,7 +90,7 @@ fn search_again<L: Ledger, M: Ledger>(
     Ok(None)
 }
 
-/// A half search: one pass where each end counts, else as many as it takes.
+/// A half search: one scan if every end counts, and otherwise as many as it takes.
 #[inline(always)]
 fn search<L: Ledger, M: Ledger>(
     dfa: &DFA,
@@ -115,7 +115,7 @@ fn search<L: Ledger, M: Ledger>(
     if input.is_done() {
         return Ok(None);
     }
-    let found = match pass(dfa, cache, input, is_reverse, work) {
+    let found = match scan(dfa, cache, input, is_reverse, work) {
         Ok(found) => found,
         Err(e) => return Err(e),
     };
@@ -126,31 +126,32 @@ fn search<L: Ledger, M: Ledger>(
 }
 
 impl DFA {
-    /// The end of the match in a span that the kind of match prefers, or none, as `DFA::try_search_fwd`. The automaton
-    /// reads forward.
+    /// Returns the end of the match in a span that the match kind prefers, or none, as `DFA::try_search_fwd`. The automaton reads
+    /// forward.
     ///
-    /// The answer is that of [`scan`](crate::scan_laws) over the automaton and the input, whatever the cache holds and
-    /// whatever was done with it before. Else the search is refused: it gave up where a state has no room and no clear is
-    /// allowed, at the place of the byte to be read, or memory lacked. The cache is of use after that too.
+    /// The answer is that of [`half_search`](crate::scan_laws) over the automaton and the input, whatever the cache holds and whatever
+    /// was done with it before. Otherwise the call returns an error for one of two reasons. If a state has no room and no clear
+    /// is allowed, the search gives up, and the error has the offset of the byte to be read. The other reason is that memory ran
+    /// out. The cache is usable after that too.
     ///
-    /// It adds no states but those on its way, at most one for each pass and each unit, and clears the cache only where one of
-    /// these isn't held and has no room: [`change_laws`](crate::change_laws) say when that is never. A clear keeps at most the
-    /// state from which the clearing step started, and none where a start clears the cache.
+    /// The search adds no states but those on its way, at most one for each scan and one for each unit. It clears the cache only
+    /// if one of these isn't held and has no room. [`change_laws`](crate::change_laws) state when it never clears the cache. A
+    /// clear keeps at most the state from which the clearing step started, and none if a start state clears the cache.
     ///
-    /// Where no quit byte stands in or beside the span, no least count of clears is set and the mode is supported, it
-    /// answers, if memory suffices. Where the cache isn't cleared on the way, all steps of the search are known afterwards,
-    /// and a search whose steps are known makes no states and takes no memory.
+    /// If no quit byte is in the span or next to it, no minimum count of clears is set, and the mode is supported, the search
+    /// succeeds unless memory runs out. If the cache isn't cleared during the search, it knows all steps of the search
+    /// afterwards. A search whose steps are known builds no states and allocates no memory.
     ///
-    /// If nothing was cleared, the cache knows exactly how far the search came, after an error too. At a quit byte of the span the
-    /// search has ended. Where it gave up at a byte, it still goes on and is at that byte. A pass that fails at its start reports
-    /// nothing. At the unit after the span a search forward still goes on, and one in reverse ended at the span's start. Running
-    /// out of memory has no offset, so the progress is then that of a failed start or of some unit of the search.
-    /// Where the cache was cleared, nothing counts that was searched before the last clear, and the search that goes on began
-    /// at the byte where it was then.
+    /// If nothing was cleared, the cache records exactly how far the search came, after an error too. After a quit byte in the
+    /// span, the search has ended. If it gave up at a byte, it is still in progress and at that byte. A scan that fails at its
+    /// start records nothing. After an error at the unit after the span, a forward search is still in progress, and one in
+    /// reverse ended at the span's start. Running out of memory has no offset, so the progress is then that of a failed start or
+    /// of some unit of the search. If the cache was cleared, what was searched before the last clear doesn't count. The search in
+    /// progress then began at the byte where it was at that clear.
     ///
-    /// A match, or none, comes with a place up to which it was looked for: no quit byte stands from the byte before the span
-    /// to there, whatever has the same bytes there is answered the same, and under leftmost-first what is found is the first
-    /// end for each reading of looks that agrees with the one by ASCII bytes up to there.
+    /// A match, or none, comes with an offset up to which the search read. From the byte before the span up to this offset there
+    /// is no quit byte. Any haystack with the same bytes there gives the same answer. Under leftmost-first, the result is the
+    /// first end for each interpretation of looks that agrees with the one by ASCII bytes up to there.
     pub fn try_search_fwd<L: Ledger, M: Ledger>(
         &self,
         cache: &mut Cache,
@@ -167,9 +168,9 @@ impl DFA {
         search(self, cache, input, false, work)
     }
 
-    /// The start of the match in a span that the kind of match prefers, or none, as `DFA::try_search_rev`. The automaton
-    /// reads in reverse, from the span's end. All else is as [`try_search_fwd`](DFA::try_search_fwd) has it; a match, or none,
-    /// comes with a place down to which it was looked for, from the byte behind the span on.
+    /// Returns the start of the match in a span that the match kind prefers, or none, as `DFA::try_search_rev`. The automaton
+    /// reads in reverse, from the span's end. A match, or none, comes with an offset down to which the search read, from the byte
+    /// after the span on. Everything else is as for [`try_search_fwd`](DFA::try_search_fwd).
     #[inline(always)]
     pub fn try_search_rev<L: Ledger, M: Ledger>(
         &self,

@@ -1,24 +1,24 @@
-//! How searches pass over bytes.
+//! How searches skip bytes.
 //!
-//! A search that comes back to a state which most bytes leave as it is, doesn't read these one by one: it looks for the next
-//! byte that leaves the state, many at once. A cache notes one such state, the one to stop at, with the bytes that leave it,
-//! and lasts from search to search. Whatever writes a step forgets it, since the state may be left by fewer bytes from then
-//! on; it is looked for anew in the next stretch of bytes that is read one by one. Bytes whose step isn't known yet, or that
-//! are quit bytes, count as leaving.
+//! A search may come back to a state that most bytes don't change. It then doesn't read these bytes one by one. It looks for the
+//! next byte that leaves the state, many bytes at once. A cache notes one such state, the state to stop at, with the bytes that
+//! leave it. The cache lasts from search to search. Whatever writes a step forgets the state, since fewer bytes may leave it from
+//! then on. A search looks for such a state again in the next stretch of bytes that it reads one by one. Bytes whose step isn't
+//! known yet count as leaving, and so do quit bytes.
 //!
-//! Where few bytes leave the state, a search may be back in it with the next one. Then the cache notes too with which bytes behind one
-//! that leaves it may not be back, and two bytes in a row are looked for: one that leaves, and one of these.
+//! If few bytes leave the state, the byte after one of them may lead the search back to it. The cache then also notes with which
+//! of these next bytes the search may not be back. The search looks for two adjacent bytes: one that leaves, and one of these.
 //!
-//! A skip costs about as much as the reading of a few bytes, so each is paid from a credit, to which it adds the bytes that
-//! it passed. Where the credit is used up, a search reads all bytes until the cache is cleared.
+//! A skip costs about as much as reading a few bytes. So each skip is paid from a credit, to which it adds the number of bytes
+//! that it skipped. If the credit is used up, a search reads all bytes until the cache is cleared.
 ghost use Rattle.std.specs.Prelude.{◌≡◌};
 ghost use Rattle.lazy_dfa.specs.Ids.{unknown_id};
 
+use crate::accel_bytes::Leaving;
 use crate::half_tables::HalfTables;
 use crate::lazy_id::LazyStateID;
-use crate::leaving::Leaving;
 
-/// What a skip costs: as much as the reading of so many bytes, about.
+/// The cost of a skip: about as much as reading this many bytes.
 const SKIP_COST: usize = 8;
 
 /// The credit of a cache that holds no states.
@@ -30,16 +30,16 @@ const MOST_CREDIT: usize = 4096;
 /// A state to stop at.
 #[derive(Clone, Copy)]
 pub(crate) struct Skip {
-    /// Its ID, or the unknown one where none is noted.
+    /// Its ID, or the unknown one if none is noted.
     pub(crate) stop: LazyStateID,
     /// The bytes that leave it.
     pub(crate) leaving: Leaving,
-    /// The bytes behind one of those with which the search may not be back, where that is noted.
+    /// The bytes that, after one of those, may not lead the search back, if they are noted.
     pub(crate) behind: Option<HalfTables>,
     pub(crate) credit: usize,
 }
 
-/// The credit behind a skip over so many bytes.
+/// The credit after a skip over this many bytes.
 #[inline(always)]
 pub(crate) fn paid(credit: usize, passed: usize) -> usize {
     let more = credit.saturating_add(passed).min(MOST_CREDIT);
@@ -53,7 +53,7 @@ pub(crate) fn is_used_up(credit: usize) -> bool {
 }
 
 impl Skip {
-    /// Notes no state.
+    /// Returns notes of no state, with the first credit.
     pub(crate) fn new() -> Skip
         ensures { result.stop ≡ unknown_id }
     {
@@ -65,7 +65,7 @@ impl Skip {
         }
     }
 
-    /// The same without the state.
+    /// Returns these notes without the state.
     pub(crate) fn forgotten(self) -> Skip
         ensures { result.stop ≡ unknown_id }
     {

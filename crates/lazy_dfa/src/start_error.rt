@@ -2,28 +2,28 @@ use crate::cache_error::CacheError;
 use search_types::Anchored;
 use thiserror::Error;
 
-/// Why a state in which a search starts can't be told, as `regex_automata::hybrid::StartError`.
+/// Why no start state of a search can be returned, as `regex_automata::hybrid::StartError`.
 #[derive(Clone, Copy, Debug, PartialEq, Eq, Error)]
 pub enum StartError {
-    /// The state has no room, and the configuration doesn't allow another clear.
+    /// There is no room for the state, and the configuration doesn't allow another clear.
     #[error("error computing start state because of cache inefficiency")]
     Cache {
-        /// The refusal.
+        /// The error of the cache.
         err: CacheError,
     },
-    /// The byte before the place is one at which searches give up.
+    /// The byte before the start of the search is a quit byte.
     #[error("error computing start state because the look-behind byte {byte} is a quit byte")]
     Quit {
-        /// The byte.
+        /// The quit byte.
         byte: u8,
     },
-    /// The automaton has no starts for this mode.
+    /// The automaton has no start states for this mode.
     #[error("there is no start for searches in this mode")]
     UnsupportedAnchored {
         /// The mode.
         mode: Anchored,
     },
-    /// There is no memory left.
+    /// Out of memory.
     #[error("out of memory")]
     NoMemory,
 }

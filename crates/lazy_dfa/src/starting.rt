@@ -2,10 +2,10 @@
 ghost use Rattle.std.specs.Prelude.{◌≡◌, ◌≢◌, ◌⊎◌, ◌+◌, ◌<◌, ◌≤◌, true, false, length, slice_index_or, IfOk, OnOk, IfErr, OnErr, Ok, Err};
 ghost use Rattle.std.specs.Prelude.{None, Some};
 ghost use Rattle.lazy_dfa.specs.Dfas.{IsStateOf, is_dead, start_in, first_state};
-ghost use Rattle.lazy_dfa.specs.Caches.{IsCacheOf, Names, Fits, row_holding, slot_of_start, needs_clear, lacks_room, cleared};
+ghost use Rattle.lazy_dfa.specs.Caches.{IsCacheOf, Names, Fits, row_holding, slot_of_start, needs_clear, has_no_room, cleared};
 ghost use Rattle.lazy_dfa.specs.ConfigValue.{specializes};
 ghost use Rattle.lazy_dfa.specs.Ids.{unknown_id};
-ghost use Rattle.lazy_dfa.specs.StartCalls.{PlacesStart, ClearedFor, TagsStart};
+ghost use Rattle.lazy_dfa.specs.StartCalls.{GivesStart, ClearedFor, TagsStart};
 ghost use Rattle.lazy_dfa.specs.Steps.{IsCause, Added, Grew, WasCleared, ClearsFor, HasStatesOf, ComesTo, most_inserts};
 ghost use Rattle.lazy_dfa.specs.declared.cache_error.CacheError.TheVariants.{GaveUp};
 
@@ -20,7 +20,7 @@ use search_core::StateID;
 use std::alloc::AllocError;
 use std::sync::ledger::Ledger;
 
-/// Makes room for a state that isn't held, by a clear of all where there is none.
+/// Makes room for a state that isn't held. If there is no room, it clears the whole cache.
 fn room_alone(dfa: &DFA, cache: &mut Cache, state: &State) -> Result<(), CacheError>
     requires own { IsCacheOf dfa.now cache.old }
     requires is { IsStateOf dfa.now state.now }
@@ -34,7 +34,7 @@ fn room_alone(dfa: &DFA, cache: &mut Cache, state: &State) -> Result<(), CacheEr
     ensures err_same { OnErr result (cache.new ≡ cache.old) }
     ensures fresh { OnOk result (row_holding state.now cache.new.states ≡ None) }
     ensures fits { OnOk result (Fits dfa.now.capacity state.now cache.new) }
-    ensures ok { OnOk result (lacks_room dfa.now cache.old state.now ≡ false) }
+    ensures ok { OnOk result (has_no_room dfa.now cache.old state.now ≡ false) }
     ensures err { IfErr result (λ e. IsCause dfa.now cache.old state.now e) }
 {
     dfa.is_made();
@@ -48,20 +48,20 @@ fn room_alone(dfa: &DFA, cache: &mut Cache, state: &State) -> Result<(), CacheEr
     Ok(())
 }
 
-/// The ID of a state in which a search starts, which is added where it isn't held.
+/// The ID of a state in which a search starts. The state is added if it isn't held.
 #[inline(never)]
 fn place_start(dfa: &DFA, cache: &mut Cache, state: State) -> Result<LazyStateID, CacheError>
     requires own { IsCacheOf dfa.now cache.old }
     requires is { IsStateOf dfa.now state }
     ensures own { IsCacheOf dfa.now cache.new }
     ensures slots { length cache.new.starts ≡ length cache.old.starts }
-    ensures made { IfOk result (λ id. PlacesStart dfa.now cache.old cache.new state id) }
+    ensures made { IfOk result (λ id. GivesStart dfa.now cache.old cache.new state id) }
     ensures unmade { OnErr result ((cache.new ≡ cache.old) ⊎ (cache.new ≡ cleared cache.old)) }
     ensures cause { Added cache.old cache.new ⊎ (needs_clear dfa.now cache.old state ≡ true) }
     ensures adds { ComesTo (Added cache.old cache.new) dfa.now (specializes dfa.now.options) None state cache.old cache.new }
     ensures gave_up { result ≡ Err GaveUp → cache.new ≡ cache.old }
     ensures to { IfOk result (λ id. Names cache.new id state) }
-    ensures ok { OnOk result (lacks_room dfa.now cache.old state ≡ false) }
+    ensures ok { OnOk result (has_no_room dfa.now cache.old state ≡ false) }
     ensures err { IfErr result (λ e. IsCause dfa.now cache.old state e) }
 {
     dfa.is_made();
@@ -74,7 +74,7 @@ fn place_start(dfa: &DFA, cache: &mut Cache, state: State) -> Result<LazyStateID
         return Ok(id);
     }
     room_alone(dfa, cache, &state)?;
-    // a capacity is a number of 64 bits, so the count doesn't pass these
+    // A capacity is a 64-bit number, so the count doesn't overflow.
     let _capacity = dfa.capacity();
     let id = cache.add_state(state, dfa.specializes())?;
     Ok(id)
@@ -103,8 +103,8 @@ fn first_of<L: Ledger, M: Ledger>(
     Ok(state)
 }
 
-/// The ID of the state in which a search starts in a mode, from the NFA's state for that mode. Of modes 0 is the one of
-/// unanchored searches, 1 that of anchored ones, and the others are those of patterns.
+/// The ID of the state in which a search starts in a mode, from the NFA's state for that mode. Mode 0 is that of unanchored
+/// searches and mode 1 that of anchored ones. The others are those of patterns.
 #[inline(always)]
 pub(crate) fn start_in_mode<L: Ledger, M: Ledger>(
     dfa: &DFA,
@@ -135,7 +135,7 @@ pub(crate) fn start_in_mode<L: Ledger, M: Ledger>(
         ComesTo (Grew dfa.now cache.old cache.new) dfa.now (specializes dfa.now.options) None (first_state dfa.now start name) cache.old
         cache.new }
     ensures ok { OnOk result (slice_index_or cache.old.starts (slot_of_start mode start) 0 ≡ unknown_id →
-        lacks_room dfa.now cache.old (first_state dfa.now start name) ≡ false) }
+        has_no_room dfa.now cache.old (first_state dfa.now start name) ≡ false) }
     ensures gave_up { result ≡ Err GaveUp → cache.new ≡ cache.old }
     ensures tag { IfOk result (λ id. TagsStart dfa.now cache.old (first_state dfa.now start name) id) }
     ensures unknown { OnErr result (slice_index_or cache.old.starts (slot_of_start mode start) 0 ≡ unknown_id) }

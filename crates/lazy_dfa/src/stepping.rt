@@ -4,8 +4,8 @@ ghost use Rattle.search_core.specs.Units.{unit_byte};
 ghost use Rattle.determinize_core.specs.Costs.{free_ways};
 ghost use Rattle.lazy_dfa.specs.Dfas.{IsStateOf, IsUnit, after, class_of, is_dead};
 ghost use Rattle.lazy_dfa.specs.Ids.{unknown_id, has_tag, start_tag};
-ghost use Rattle.lazy_dfa.specs.Caches.{IsCacheOf, HeldAt, IsRow, Names, Fits, fits, is_refused, row_holding, state_at, with_state};
-ghost use Rattle.lazy_dfa.specs.Caches.{needs_clear, lacks_room};
+ghost use Rattle.lazy_dfa.specs.Caches.{IsCacheOf, HeldAt, IsRow, Names, Fits, fits, is_clear_denied, row_holding, state_at, with_state};
+ghost use Rattle.lazy_dfa.specs.Caches.{needs_clear, has_no_room};
 ghost use Rattle.lazy_dfa.specs.ConfigValue.{clears_of, minimum_bytes_of};
 ghost use Rattle.lazy_dfa.specs.declared.cache_error.CacheError.TheVariants.{GaveUp};
 ghost use Rattle.lazy_dfa.specs.Readers.{is_quit, is_quit as is_quit_unit};
@@ -53,14 +53,14 @@ pub(crate) fn fits(dfa: &DFA, cache: &Cache, state: &State) -> bool
     cache.fits(state, dfa.capacity())
 }
 
-/// Whether a clear is refused.
+/// Whether no further clear is allowed.
 pub(crate) fn refuses_clear(dfa: &DFA, cache: &Cache) -> bool
-    ensures { result ≡ is_refused (clears_of dfa.now.options) (minimum_bytes_of dfa.now.options) cache.now }
+    ensures { result ≡ is_clear_denied (clears_of dfa.now.options) (minimum_bytes_of dfa.now.options) cache.now }
 {
     cache.refuses_clear(dfa.least_clears(), dfa.least_bytes())
 }
 
-/// Makes room for a state that isn't held, by a clear where there is none, and answers the ID of the row's state.
+/// Makes room for a state that isn't held, and returns the ID of the row's state. If there is no room, it clears the cache.
 fn make_room(
     dfa: &DFA,
     cache: &mut Cache,
@@ -81,7 +81,7 @@ fn make_room(
     ensures from { IfOk result (λ id. HeldAt cache.new id (state_at cache.old k)) }
     ensures fresh { OnOk result (row_holding state.now cache.new.states ≡ None) }
     ensures fits { OnOk result (Fits dfa.now.capacity state.now cache.new) }
-    ensures ok { OnOk result (lacks_room dfa.now cache.old state.now ≡ false) }
+    ensures ok { OnOk result (has_no_room dfa.now cache.old state.now ≡ false) }
     ensures err { IfErr result (λ e. IsCause dfa.now cache.old state.now e) }
 {
     dfa.is_made();
@@ -104,7 +104,7 @@ struct Rows {
     to: LazyStateID,
 }
 
-/// The ID of a state, which is added where it isn't held, and that of the row's state.
+/// The ID of a state, which is added if it isn't held, and the ID of the row's state.
 fn place(dfa: &DFA, cache: &mut Cache, k: usize, state: State) -> Result<Rows, CacheError>
     requires own { IsCacheOf dfa.now cache.old }
     requires row { k < length cache.old.states }
@@ -119,7 +119,7 @@ fn place(dfa: &DFA, cache: &mut Cache, k: usize, state: State) -> Result<Rows, C
     ensures to { IfOk result (λ rows. Names cache.new rows.to state) }
     ensures tag { IfOk result (λ rows. is_dead state ≡ false → row_holding state cache.old.states ≡ None →
         has_tag start_tag rows.to ≡ false) }
-    ensures ok { OnOk result (lacks_room dfa.now cache.old state ≡ false) }
+    ensures ok { OnOk result (has_no_room dfa.now cache.old state ≡ false) }
     ensures err { IfErr result (λ e. IsCause dfa.now cache.old state e) }
 {
     dfa.is_made();
@@ -138,14 +138,14 @@ fn place(dfa: &DFA, cache: &mut Cache, k: usize, state: State) -> Result<Rows, C
         });
     }
     let from = make_room(dfa, cache, k, &state)?;
-    // a capacity is a number of 64 bits, so the count doesn't pass these
+    // A capacity is a 64-bit number, so the count doesn't overflow.
     let _capacity = dfa.capacity();
     let to = cache.add_state(state, false)?;
     Ok(Rows { from, to })
 }
 
-/// The state behind a unit, from the state of a row.
-fn state_behind<L: Ledger, M: Ledger>(
+/// The state after a unit, from the state of a row.
+fn state_after<L: Ledger, M: Ledger>(
     dfa: &DFA,
     cache: &mut Cache,
     k: usize,
@@ -166,7 +166,7 @@ fn state_behind<L: Ledger, M: Ledger>(
     Ok(state)
 }
 
-/// Makes a step that isn't known yet, and notes it.
+/// Computes a step that isn't known yet, and records it.
 fn fill<L: Ledger, M: Ledger>(
     dfa: &DFA,
     cache: &mut Cache,
@@ -197,7 +197,7 @@ fn fill<L: Ledger, M: Ledger>(
 {
     dfa.is_made();
     let k = cache.row(id);
-    let state = state_behind(dfa, cache, k, unit, work)?;
+    let state = state_after(dfa, cache, k, unit, work)?;
     match place(dfa, cache, k, state) {
         Ok(rows) => {
             let to = rows.to;
@@ -208,7 +208,7 @@ fn fill<L: Ledger, M: Ledger>(
     }
 }
 
-/// The step from an ID by a unit, of which the class is known and whether a search gives up at it.
+/// The step from an ID by a unit. Its class is known, and so is whether it is a quit byte.
 pub(crate) fn step<L: Ledger, M: Ledger>(
     dfa: &DFA,
     cache: &mut Cache,

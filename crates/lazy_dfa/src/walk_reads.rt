@@ -1,4 +1,4 @@
-//! How overlapping walks read on, up to the next end that counts.
+//! How overlapping searches read on, up to the next end that counts.
 ghost use Rattle.std.specs.Prelude.{◌≡◌, ◌+◌, ◌&&◌, true, slice_index, Some, None, IsSome};
 ghost use Rattle.search_types.specs.Places.{counts};
 ghost use Rattle.lazy_dfa.specs.Caches.{IsCacheOf, IsRow, HeldAt};
@@ -6,51 +6,51 @@ ghost use Rattle.lazy_dfa.specs.Dfas.{reader};
 ghost use Rattle.lazy_dfa.specs.Ids.{has_tag, match_tag};
 ghost use Rattle.lazy_dfa.specs.Points.{point};
 ghost use Rattle.lazy_dfa.specs.SearchAnswers.{half_of, pair_of};
-ghost use Rattle.lazy_dfa.specs.PassPlaces.{IsWithinSpan, gave_up_at};
-ghost use Rattle.lazy_dfa.specs.Walks.{StopsAt, value_past};
-ghost use Rattle.lazy_dfa.specs.WalkAnswers.{ReadsOn, value_before, lists_more};
-ghost use Rattle.lazy_dfa.specs.WalkTurns.{is_over, stopped, StepsAt, ReadsTo};
-ghost use Rattle.lazy_dfa.specs.declared.overlapping_state.Walk.TheVariants.{Stopped};
+ghost use Rattle.lazy_dfa.specs.ScanOffsets.{IsWithinSpan, gave_up_at};
+ghost use Rattle.lazy_dfa.specs.Overlapping.{StopsAt, value_past};
+ghost use Rattle.lazy_dfa.specs.OverlappingAnswers.{ReadsOn, value_before, lists_more};
+ghost use Rattle.lazy_dfa.specs.OverlappingTurns.{is_over, stopped, StepsAt, ReadsTo};
+ghost use Rattle.lazy_dfa.specs.declared.overlapping_state.OverlappingPosition.TheVariants.{Stopped};
 
 use crate::dfa::{Cache, DFA};
 use crate::lazy_id::LazyStateID;
-use crate::overlapping_state::{OverlappingState, Stop, Walk};
-use crate::passing::{finish_where, index_at, last_place, next_place, refusal, run, unit_at};
+use crate::overlapping_state::{OverlappingPosition, OverlappingState, Stop};
+use crate::passing::{finish_where, index_at, last_offset, next_offset, rejection, run, unit_at};
 use crate::position::Position;
 use crate::runs::see_bytes;
+use crate::scan_steps::{Seen, Turn, make_turn};
 use crate::searching::is_between_characters;
-use crate::turns::{Seen, Turn, make_turn};
 use crate::work::Work;
 use search_types::{HalfMatch, Input, MatchError};
 use std::sync::ledger::Ledger;
 
-/// What comes of a unit: the walk reads on from a stand, or the call is over there, and tells the end that was recorded or
-/// none.
+/// The result of reading a unit. Either the search reads on from a position, or the call ends there and reports the end that was
+/// recorded, or none.
 #[derive(Clone, Copy)]
 pub(crate) struct Read {
     position: Position,
     is_over: bool,
-    tells: bool,
+    reports: bool,
 }
 
-/// How far a call came that is to read at a place: the index of the next byte, or the last place of the span.
+/// The progress of a call that is to read the unit at a position: the index of the next byte, or the last position of the span.
 pub(crate) fn progress_at(input: &Input<'_>, is_reverse: bool, at: usize) -> usize
     ensures { result ≡ gave_up_at is_reverse input.now at }
 {
-    if at == last_place(input, is_reverse) {
+    if at == last_offset(input, is_reverse) {
         return at;
     }
     index_at(at, is_reverse)
 }
 
-/// Whether an end at a place counts.
+/// Whether an end at an offset counts.
 fn counts_at(dfa: &DFA, input: &Input<'_>, at: usize) -> bool
     ensures { result ≡ counts (reader dfa.now).between_characters input.now.haystack at }
 {
     !is_between_characters(dfa) || input.is_char_boundary(at)
 }
 
-/// Whether the state at which a walk stopped lists more.
+/// Whether the state at which an overlapping search stopped lists more.
 pub(crate) fn lists_more(
     dfa: &DFA,
     cache: &Cache,
@@ -66,7 +66,7 @@ pub(crate) fn lists_more(
     counts_at(dfa, input, at) && index < dfa.match_len(cache, id)
 }
 
-/// Tells the end at the index of a stop, and stops behind it.
+/// Reports the end at the index of a stop, and stops after it.
 pub(crate) fn tell(
     dfa: &DFA,
     cache: &Cache,
@@ -81,12 +81,12 @@ pub(crate) fn tell(
     ensures found { result.found ≡ half_of (Some (at, slice_index (value_past (reader dfa.now) input.now at).matches index)) }
     ensures walk { result.walk ≡ Stopped (record { id = id; index = index + 1; at = at }) }
 {
-    // there are no more patterns than a `usize` counts
+    // There are no more patterns than a `usize` counts.
     let _len = dfa.match_len(cache, id);
     let pattern = dfa.match_pattern(cache, id, index);
     OverlappingState {
         found: Some(HalfMatch::new(pattern, at)),
-        walk: Walk::Stopped(Stop {
+        walk: OverlappingPosition::Stopped(Stop {
             id,
             index: index + 1,
             at,
@@ -94,34 +94,34 @@ pub(crate) fn tell(
     }
 }
 
-/// Whether the state of an ID lists an end that counts at a place.
+/// Whether the state of an ID lists an end that counts at an offset.
 fn tells_at(dfa: &DFA, input: &Input<'_>, id: LazyStateID, at: usize) -> bool
     ensures { result ≡ has_tag match_tag id && counts (reader dfa.now).between_characters input.now.haystack at }
 {
     id.is_match() && counts_at(dfa, input, at)
 }
 
-/// Whether a call is over behind a unit.
-fn is_over(turn: Turn, tells: bool, is_last: bool) -> bool
-    ensures { result ≡ is_over turn tells is_last }
+/// Whether a call ends after a unit.
+fn is_over(turn: Turn, reports: bool, is_last: bool) -> bool
+    ensures { result ≡ is_over turn reports is_last }
 {
     match turn {
-        Turn::GoesOn => tells || is_last,
+        Turn::GoesOn => reports || is_last,
         Turn::Ends => true,
         Turn::Quits => true,
     }
 }
 
-/// The walk behind the last unit that a call reads.
-fn stopped(position: Position, tells: bool) -> OverlappingState
-    ensures { result ≡ stopped tells position.id position.at position.best }
+/// The state of the search after the last unit that a call reads.
+fn stopped(position: Position, reports: bool) -> OverlappingState
+    ensures { result ≡ stopped reports position.id position.at position.best }
 {
-    if !tells {
+    if !reports {
         return OverlappingState::ended();
     }
     OverlappingState {
         found: position.best,
-        walk: Walk::Stopped(Stop {
+        walk: OverlappingPosition::Stopped(Stop {
             id: position.id,
             index: 1,
             at: position.at,
@@ -131,7 +131,8 @@ fn stopped(position: Position, tells: bool) -> OverlappingState
 
 // ---- units
 
-/// The step by the unit at a place. Where it is refused the search that goes on ends with the last unit, and not before.
+/// The step by the unit at a position. If it gives up or memory runs out, the search in progress ends only if this is the last
+/// unit. At a quit byte it always ends.
 fn step_at<L: Ledger, M: Ledger>(
     dfa: &DFA,
     cache: &mut Cache,
@@ -164,8 +165,8 @@ fn step_at<L: Ledger, M: Ledger>(
     ) {
         Ok(seen) => seen,
         Err(e) => {
-            finish_where(cache, place, position.at == last_place(input, is_reverse));
-            return Err(refusal(e, place));
+            finish_where(cache, place, position.at == last_offset(input, is_reverse));
+            return Err(rejection(e, place));
         }
     };
     if let Turn::Quits = seen.turn {
@@ -176,7 +177,7 @@ fn step_at<L: Ledger, M: Ledger>(
     Ok(seen)
 }
 
-/// Reads the unit at a place. Matches at places that don't count are passed over.
+/// Reads the unit at a position. Matches at offsets that don't count are skipped.
 fn read_at<L: Ledger, M: Ledger>(
     dfa: &DFA,
     cache: &mut Cache,
@@ -196,17 +197,17 @@ fn read_at<L: Ledger, M: Ledger>(
         work.new.determinized work.new.inserted result }
 {
     let at = position.at;
-    // a haystack is shorter than the greatest place, so there is a place behind each byte
+    // A haystack is shorter than the greatest `usize`, so there is an offset after each byte.
     let _len = input.haystack().len();
-    let is_last = at == last_place(input, is_reverse);
+    let is_last = at == last_offset(input, is_reverse);
     let seen = match step_at(dfa, cache, input, is_reverse, position, work) {
         Ok(seen) => seen,
         Err(e) => return Err(e),
     };
     let id = seen.id;
     let turn = seen.turn;
-    let tells = tells_at(dfa, input, id, at);
-    if is_over(turn, tells, is_last) {
+    let reports = tells_at(dfa, input, id, at);
+    if is_over(turn, reports, is_last) {
         cache.search_finish(progress_at(input, is_reverse, at));
         let here = Position {
             at,
@@ -216,18 +217,18 @@ fn read_at<L: Ledger, M: Ledger>(
         return Ok(Read {
             position: here,
             is_over: true,
-            tells,
+            reports,
         });
     }
     let next = Position {
-        at: next_place(at, is_reverse),
+        at: next_offset(at, is_reverse),
         id,
         best: seen.best,
     };
     Ok(Read {
         position: next,
         is_over: false,
-        tells,
+        reports,
     })
 }
 
@@ -259,7 +260,7 @@ pub(crate) fn read_on<L: Ledger, M: Ledger>(
             Err(e) => return Err(e),
         };
         if read.is_over {
-            return Ok(stopped(read.position, read.tells));
+            return Ok(stopped(read.position, read.reports));
         }
         position = run(dfa, cache, input, is_reverse, read.position);
     }

@@ -1,4 +1,4 @@
-//! Which patterns match: those of all ends of a walk.
+//! Which patterns match: those of all ends of an overlapping search.
 ghost use Rattle.std.specs.Prelude.{◌≡◌, ◌+◌, ◌*◌, ◌<◌, ◌≤◌, ◌||◌, false, None, Ok, IfErr};
 ghost use Rattle.search_types.specs.declared.match_error.MatchErrorKind.TheVariants.{NoMemory};
 ghost use Rattle.lazy_dfa.specs.Caches.{IsCacheOf};
@@ -7,8 +7,9 @@ ghost use Rattle.lazy_dfa.specs.ConfigValue.{clears_of};
 ghost use Rattle.lazy_dfa.specs.Dfas.{reader};
 ghost use Rattle.lazy_dfa.specs.Linked.{GrowsOrClears};
 ghost use Rattle.lazy_dfa.specs.Steps.{most_inserts};
-ghost use Rattle.lazy_dfa.specs.Walks.{whole_rest};
-ghost use Rattle.lazy_dfa.specs.WalkAnswers.{AnswersWhich, MakesWhich, with_pattern, is_full, which_made, IsMadeOnWalk, IsWhichTold};
+ghost use Rattle.lazy_dfa.specs.Overlapping.{whole_rest};
+ghost use Rattle.lazy_dfa.specs.OverlappingAnswers.{AnswersWhich, MakesWhich, with_pattern, is_full, which_made, IsMadeOnOverlapping};
+ghost use Rattle.lazy_dfa.specs.OverlappingAnswers.{IsWhichReported};
 
 use crate::dfa::{Cache, DFA};
 use crate::overlapping::call;
@@ -38,7 +39,7 @@ fn is_enough(patterns: &PatternSet, input: &Input<'_>) -> bool
     input.get_earliest() || has_all(patterns)
 }
 
-/// A walk over a whole span, end by end.
+/// An overlapping search over a whole span, end by end.
 fn which<L: Ledger, M: Ledger>(
     dfa: &DFA,
     cache: &mut Cache,
@@ -71,10 +72,14 @@ fn which<L: Ledger, M: Ledger>(
 impl DFA {
     /// Adds the patterns of all ends in a span to a set, as `DFA::try_which_overlapping_matches`. The automaton reads forward.
     ///
-    /// The ends are those that a walk tells. Patterns at or above the set's capacity are skipped. Behind an end at which the set is
-    /// full, and behind the first one where the earliest end is enough, no more are looked for. It is refused as the walk is: the
-    /// patterns of the ends that its calls told by then were added, those before the unit at which it was refused, and stay. The
-    /// cache is told of each call as the walk tells it, so a walk that gives up at its start reports nothing. A done span has no ends, and is never refused.
+    /// The ends are those that an overlapping search reports. Patterns at or above the set's capacity are skipped. The search
+    /// stops at an end with which the set is full. If the earliest end is enough, it stops at the first one.
+    ///
+    /// The call fails as an overlapping search does. The patterns of the ends that its calls reported by then were added, and
+    /// stay in the set. These are the ends before the unit at which the search failed.
+    ///
+    /// The cache records the progress of each call as an overlapping search does. So a search that gives up at its start records
+    /// nothing. A done span has no ends, and the call never fails there.
     pub fn try_which_overlapping_matches<L: Ledger, M: Ledger>(
         &self,
         cache: &mut Cache,
@@ -87,11 +92,12 @@ impl DFA {
         ensures own { IsCacheOf self.now cache.new }
         ensures answer { AnswersWhich self.now cache.new input.now patterns.old patterns.new result }
         ensures done { input.now.end < input.now.start → (result ≡ Ok tt) × (cache.new ≡ cache.old) × (patterns.new ≡ patterns.old) }
-        ensures sure { clears_of self.now.options ≡ None → (whole_rest (reader self.now) input.now).refusal ≡ None →
+        ensures sure { clears_of self.now.options ≡ None → (whole_rest (reader self.now) input.now).rejection ≡ None →
             IfErr result (λ e. e ≡ NoMemory) }
         ensures kept { GrowsOrClears self.now cache.old cache.new }
-        ensures changes { Changes self.now (IsMadeOnWalk self.now input.now) cache.old cache.new (which_made (reader self.now) input.now) }
-        ensures told { IsWhichTold self.now input.now patterns.old patterns.new result cache.old cache.new }
+        ensures changes { Changes self.now (IsMadeOnOverlapping self.now input.now) cache.old cache.new (which_made (reader self.now)
+            input.now) }
+        ensures reported { IsWhichReported self.now input.now patterns.old patterns.new result cache.old cache.new }
         ensures determinized { work.new.determinized ≤ work.old.determinized + which_made (reader self.now) input.now }
         ensures inserted { work.new.inserted ≤ work.old.inserted + which_made (reader self.now) input.now * most_inserts self.now }
     {

@@ -3,19 +3,19 @@ ghost use Rattle.std.specs.Prelude.{◌≡◌, ◌<◌};
 use nfa_core::Steps;
 use std::sync::ledger::{Blank, Ledger};
 
-/// How much work was done: how many powerset states were made, and how many names were put into sets for them. It has no
-/// bytes, so the built program has no trace of it; contracts say by it what a call costs.
+/// The amount of work that was done: how many powerset states were built, and how many NFA state IDs were put into sets for them.
+/// It takes no bytes, so the built program has no trace of it. Contracts use it to state what a call costs.
 #[derive(Drop)]
 pub struct Work<L: Ledger, M: Ledger> {
-    /// How many states were made: one for each step or start that wasn't known.
+    /// The number of states that were built: one for each step or start state that wasn't known.
     pub determinized: Steps<L>,
-    /// How many names were put into a set, or tried to be.
+    /// The number of NFA state IDs that were put into a set, or tried to be.
     pub inserted: Steps<M>,
 }
 
 impl<L: Ledger, M: Ledger> Work<L, M> {
-    /// A count of nothing. A caller that counts nothing has a function that is generic in `L` and `M` make it, and calls
-    /// that at [`Brand`](std::marker::Brand) with `Blank::new(1)` twice.
+    /// Returns a count of nothing. A caller that counts nothing lets a function that is generic in `L` and `M` create it. It
+    /// calls that function at [`Brand`](std::marker::Brand) with `Blank::new(1)` twice.
     pub fn new(determinized: Blank, inserted: Blank) -> Work<L, M>
         requires name1 { determinized.name ≡ L.name }
         requires parts1 { determinized.parts ≡ L.parts }

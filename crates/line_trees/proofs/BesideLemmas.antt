@@ -1,7 +1,8 @@
--- What stands beside a place of a line, as a byte and as a character, is what stands there in a block with that line. The exceptions are
--- the line's edges, where the line has nothing and the block nothing or a line feed. A line feed is a character of its own: it neither
--- begins nor continues a longer spelling, whatever bytes stand beside it, so no character reaches over the edges.
-use Rattle.std.proofs.Common.{◌≡◌, ℕ, zero, suc, ◌+◌, ◌-◌, ◌<◌, ◌≤◌, ◌⊎◌, inl, inr, Bool, true, false, List, [], ◌∷◌, ◌++◌, length, get_or, take, drop}
+-- What is next to an offset of a line, as a byte and as a character, is what is there in a block with that line. The exceptions are the
+-- line's edges, where the line has nothing and the block nothing or a line feed. A line feed is a character of its own: it neither begins
+-- nor continues a longer spelling, whatever bytes are next to it, so no character reaches over the edges.
+use Rattle.std.proofs.Common.{◌≡◌, ℕ, zero, suc, ◌+◌, ◌-◌, ◌<◌, ◌≤◌, ◌⊎◌, inl, inr, Bool, true, false, List, [], ◌∷◌, ◌++◌, length, get_or}
+use Rattle.std.proofs.Common.{take, drop}
 use Rattle.std.proofs.Common.{slice_get, Option, Some, None, refl, sym, ap, subst, ◌∙◌, arith, length-append, length-drop}
 use Rattle.std.proofs.Common.{drop-drop, append_assoc, take_at, drop_at, take-append-drop}
 use Rattle.std.proofs.lemmas.Bool.{cases_lt}
@@ -15,7 +16,7 @@ use Rattle.search_core.proofs.ForCallers.{spelling_tails, character_begins, begu
 use Rattle.line_trees.specs.LineTrees.{FollowsLine}
 use Rattle.line_trees.proofs.ReachLemmas.{character_reaches}
 
--- ---- texts that are put together
+-- ---- bytes that are concatenated
 get_behind : (xs ys : List ℕ) (i : ℕ) → slice_get (xs ++ ys) (length xs + i) ≡ slice_get ys i
 get_behind [] ys i = let none : 0 + i ≡ i = omega arith in ap (slice_get ys) none
 get_behind (x ∷ xs) ys i =
@@ -30,14 +31,14 @@ get_within (x ∷ xs) ys (suc i) l = get_within xs ys i (omega arith)
 drop_behind : (xs ys : List ℕ) (i : ℕ) → drop (length xs + i) (xs ++ ys) ≡ drop i ys
 drop_behind xs ys i = sym (drop-drop i (length xs) (xs ++ ys)) ∙ ap (drop i) (drop_at xs ys (length xs) refl)
 
--- what begins a text with more behind it, and isn't longer than the text, begins the text
+-- what begins a haystack with more bytes after it, and isn't longer than the haystack, begins the haystack
 pub begins_with : (text more s rest : List ℕ) → text ++ more ≡ s ++ rest → length s ≤ length text → text ≡ s ++ drop (length s) text
 begins_with text more s rest e short =
     let begins : take (length s) text ≡ s =
     sym (take-append-le (length s) text more short) ∙ ap (take (length s)) e ∙ take_at s rest (length s) refl in
     sym (take-append-drop (length s) text) ∙ ap (λ (t : List ℕ). t ++ drop (length s) text) begins
 
--- ---- a spelling in a text is one in a longer text
+-- ---- a spelling in a haystack is one in a longer haystack
 first_of_more : (c : ℕ) (text more : List ℕ) → SpellsFirst c text → SpellsFirst c (text ++ more)
 first_of_more c text more f = record {
   spelling = f.spelling;
@@ -46,7 +47,7 @@ first_of_more c text more f = record {
   joined = ap (λ t. t ++ more) f.joined ∙ append_assoc f.spelling f.rest more;
 }
 
--- ---- and the other way round, where the byte behind the text continues nothing
+-- ---- and vice versa, if the byte after the haystack continues nothing
 module _ (c : ℕ) (text more : List ℕ) (some : 0 < length text) (low : get_or more 0 0 < 0x80) (f : SpellsFirst c (text ++ more)) where
   -- a longer spelling would have that byte, and not as its first
   first_is_short : length f.spelling ≤ length text
@@ -96,8 +97,8 @@ follows true line after (inl none) = inl none
 follows true line after (inr (inl r)) = inr (record { byte = 0x0D; rest = r.0; ending = inr refl; joined = r.1 })
 follows true line after (inr (inr r)) = inr (record { byte = 0x0A; rest = r.0.0; ending = inl refl; joined = r.0.1 })
 
--- ---- beside the places of a line
--- the byte behind the line, and the one in front of it, are of ASCII, where there are any
+-- ---- next to the offsets of a line
+-- the byte after the line, and the one in front of it, are ASCII, if there are any
 pub feed_behind : (after : List ℕ) → Follows after → get_or after 0 0 < 0x80
 feed_behind after s =
     let Low : List ℕ → Type 0 = λ t. get_or t 0 0 < 0x80 in
@@ -162,7 +163,7 @@ module _ (before line after : List ℕ) where
       character_reaches line (before ++ (line ++ after)) (length before) i above l (fits i l)
       (λ j m. same_get j (omega arith)) (low_in_front low)
 
--- ---- beside the edges of the line
+-- ---- next to the edges of the line
 -- a line feed is a character, and so is a carriage return
 feed_spells : Spells 0x0A (0x0A ∷ [])
 feed_spells = from_0000 0x0A (omega arith, omega arith) refl refl
@@ -174,7 +175,7 @@ ending_spells : (b : ℕ) → IsEnding b → Spells b (b ∷ [])
 ending_spells b (inl e) = subst (λ (c : ℕ). Spells c (c ∷ [])) (sym e) feed_spells
 ending_spells b (inr e) = subst (λ (c : ℕ). Spells c (c ∷ [])) (sym e) return_spells
 
--- in front of a place of the block there is nothing, as it is the block's start, or a line feed
+-- in front of an offset of the block there is nothing, as it is the block's start, or a line feed
 abbrev pub StartsLine : List ℕ → ℕ → Type 0
 StartsLine h k = ((k ≡ 0) × (byte_before h k ≡ None)) ⊎ ((byte_before h k ≡ Some 0x0A) × (character_before h k ≡ Some 0x0A))
 
@@ -214,7 +215,7 @@ starts_line before more k s e = elim s [
       subst (λ (b : List ℕ). StartsLine (b ++ more) k) (sym r.1) (starts_behind_feed r.0 more k (e ∙ ap length r.1))
 ]
 
--- the byte after a part of a text
+-- the byte after a part of a haystack
 pub byte_after : (front after rest : List ℕ) (k b : ℕ) → k ≡ length front → after ≡ b ∷ rest → byte_at (front ++ after) k ≡ Some b
 byte_after front after rest k b e joined =
     let offset : k ≡ length front + 0 = omega (arith, e) in

@@ -1,4 +1,4 @@
--- What a tree means that reads no line feed has none among its bytes.
+-- What a tree that reads no line feed means has no line feed among its bytes.
 use Rattle.std.proofs.Common.{◌≡◌, ◌==◌, ℕ, zero, suc, ◌+◌, ◌-◌, inl, inr, true, false, List, [], ◌∷◌, length, get_or, drop}
 use Rattle.std.proofs.Common.{slice_get, slice_range, Some, refl, sym, ap, subst, ◌∙◌, arith, true≢false}
 use Rattle.std.specs.List.{list_any}

@@ -29,7 +29,7 @@ or_none false = refl
 feed_is_no_word : (words : ℕ → Bool) → IsWordSet words → word_if (words 0x0A) ≡ no_word
 feed_is_no_word words set = ap word_if (set 0x0A (omega arith))
 
--- what stands in front of a line's first place, and behind its last one, is no word
+-- what is in front of a line's first offset, and after its last one, is no word
 module _ (words : ℕ → Bool) (set : IsWordSet words) where
   no_word_in_front : (h : List ℕ) (k : ℕ) → StartsLine h k → character_side words (byte_before h k) (character_before h k) ≡ no_word
   no_word_in_front h k (inl none) = ap (λ (o : Option ℕ). character_side words o (character_before h k)) none.1
@@ -78,7 +78,7 @@ one_of_three false false false (inr (inr e)) = e
 both_hold : (a b : Bool) → a ≡ true → b ≡ false → (a && not b) ≡ true
 both_hold a b is none = ap₂ (λ (c d : Bool). c && not d) is none
 
--- no carriage return stands before a place where the byte before isn't one
+-- no carriage return is before an offset where the byte before isn't one
 no_return : (o : Option ℕ) → o ≢ Some 0x0D → is_byte 0x0D o ≡ false
 no_return None other = refl
 no_return (Some c) other = ne_eqb 0x0D c (λ e. absurd (other (ap Some (sym e))))
@@ -113,7 +113,7 @@ module _ (crlf : Bool) (before line after : List ℕ) (is : IsLineBetween crlf b
       (ends_line_at (before ++ line) after (length before + length line) (follows crlf line after is.ends)
       (sym (length-append before line)))
 
-  -- what stands after the line in the block
+  -- what is after the line in the block
   behind : (rest : List ℕ) (b : ℕ) → after ≡ b ∷ rest → byte_at (block_of before line after) (length before + length line) ≡ Some b
   behind rest b joined =
       subst (λ (h : List ℕ). byte_at h (length before + length line) ≡ Some b) (append_assoc before line after)
@@ -250,7 +250,7 @@ module _ (crlf : Bool) (before line after : List ℕ) (is : IsLineBetween crlf b
           ∙ sym (no_word_behind words set (block_of before line after) (length before + i) (at_last i l past))
     ]
 
-    -- where the line ends at its line feed alone
+    -- if the line ends at its line feed alone
     look_same : crlf ≡ false → (l : Look) → is_anchor_crlf l ≡ false → (i : ℕ) → i ≤ length line →
         line_looks words line l i ≡ line_looks words (block_of before line after) (line_look false l) (length before + i)
     look_same plain Start u i l = start_same i l

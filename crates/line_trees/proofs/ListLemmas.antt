@@ -1,9 +1,9 @@
--- Lists: bytes at a place of a part of a text, and the line trees of parts one after the other, or of a choice.
+-- Lists: bytes at an offset of a part of a haystack, and the line trees of parts one after the other, or of a choice.
 use Rattle.std.proofs.Common.{◌≡◌, ℕ, zero, suc, ◌+◌, ◌<◌, Bool, List, [], ◌∷◌, take, drop, slice_get, map, refl, ap, ◌∙◌, arith}
 use Rattle.hir_core.specs.Tree.{Tree, cat, alt, concat, alternation}
 use Rattle.line_trees.specs.LineTrees.{line_tree}
 
--- ---- a part of a text
+-- ---- a part of a haystack
 pub get_taken : (n : ℕ) (xs : List ℕ) (k : ℕ) → k < n → slice_get (take n xs) k ≡ slice_get xs k
 get_taken zero xs k less = absurd (omega (arith, less))
 get_taken (suc n) [] k less = refl

@@ -1,5 +1,5 @@
--- A character that ends inside a line doesn't reach over the line's start: in front of the line stands a byte of ASCII, or nothing, and
--- in a spelling of more than one byte no byte is one of ASCII. So the character before a place is told by the line's bytes alone.
+-- A character that ends inside a line doesn't reach over the line's start. In front of the line is an ASCII byte, or nothing, and in a
+-- spelling of more than one byte no byte is ASCII. So the line's bytes alone determine the character before an offset.
 use Rattle.std.proofs.Common.{◌≡◌, ℕ, ◌+◌, ◌-◌, ◌<◌, ◌≤◌, ◌⊎◌, inl, inr, Bool, false, cond, ◌&&◌, leb, ltb, List, length, get_or}
 use Rattle.std.proofs.Common.{Option, Some, None, sym, ap, ap₂, subst, ◌∙◌, arith}
 use Rattle.std.proofs.lemmas.Bool.{cases_lt, cond-true, cond-false, lt-leb, le-leb, lt-ltb}
@@ -19,7 +19,7 @@ three_value a b d = cond (second_of_three a b && is_in_range 0x80 0xBF d) (Some 
 abbrev four_value : ℕ → ℕ → ℕ → ℕ → Option ℕ
 four_value a b d e = cond (second_of_four a b && is_in_range 0x80 0xBF d && is_in_range 0x80 0xBF e) (Some (scalar_of_four a b d e)) None
 
--- nothing, where a byte before the last is of ASCII
+-- nothing, if a byte before the last is ASCII
 two_fail : (a b : ℕ) → a < 0x80 → is_in_range 0xC2 0xDF a && is_in_range 0x80 0xBF b ≡ false
 two_fail a b low = grind (arith, nat_tests)
 
@@ -50,7 +50,7 @@ ends_none n f h k none = elim (cases_lt k n) [
   | inr l ↦ cond-true _ _ _ (le-leb n k l) ∙ none l
 ]
 
--- ---- two texts with the same bytes before a place, up to a place where the line starts
+-- ---- two haystacks with the same bytes before an offset, up to an offset where the line starts
 module _ (line h : List ℕ) (p i : ℕ) (above : 0 < i) (in_line : i ≤ length line) (in_text : p + i ≤ length h)
     (same : (j : ℕ) → j < i → get_or line j 0 ≡ get_or h (p + j) 0) (low : 0 < p → get_or h (p - 1) 0 < 0x80) where
   at : (j k : ℕ) → j < i → k ≡ p + j → get_or line j 0 ≡ get_or h k 0
@@ -59,7 +59,7 @@ module _ (line h : List ℕ) (p i : ℕ) (above : 0 < i) (in_line : i ≤ length
   low_at : (k : ℕ) → 0 < p → k ≡ p - 1 → get_or h k 0 < 0x80
   low_at k some e = subst (λ (m : ℕ). get_or h m 0 < 0x80) (sym e) (low some)
 
-  -- a length of spelling is read in both texts alike, or else it reaches over the line's start and fits in neither
+  -- a length of spelling is read in both haystacks alike, or else it reaches over the line's start and fits in neither
   ends_same : (n : ℕ) (f : List ℕ → ℕ → Option ℕ) → (n ≤ i → f line (i - n) ≡ f h (p + i - n)) →
       (i < n → n ≤ p + i → f h (p + i - n) ≡ None) → ending_at n f line i ≡ ending_at n f h (p + i)
   ends_same n f alike none = elim (cases_lt i n) [

@@ -1,4 +1,4 @@
--- Which trees read a line feed; and why the two looks of carriage returns are left out: behind a carriage return at a line's end both hold
+-- Which trees read a line feed, and why the two looks of carriage returns are left out. After a carriage return at a line's end both hold
 -- in the line, and neither in the line with its line feed.
 use Rattle.std.proofs.Common.{◌≡◌, ℕ, Bool, true, false, [], ◌∷◌, refl}
 use Rattle.look_core.specs.declared.look.Look.TheVariants.{StartCRLF, EndCRLF}

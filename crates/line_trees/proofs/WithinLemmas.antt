@@ -1,4 +1,4 @@
--- What a line tree means in a block between two places of one line, the tree means in the line.
+-- What a line tree means in a block between two offsets of one line, the tree means in the line.
 use Rattle.std.proofs.Common.{◌≡◌, ℕ, zero, suc, ◌+◌, ◌-◌, ◌≤◌, inl, inr, Bool, true, false, List, ◌++◌, length, drop}
 use Rattle.std.proofs.Common.{Some, refl, sym, subst, ◌∙◌, arith, length-drop}
 use Rattle.std.proofs.lemmas.Bool.{or_parts}
@@ -43,15 +43,16 @@ module _ (words : ℕ → Bool) (set : IsWordSet words) (before line after : Lis
   InBlock x i j = Means (line_looks words (block_of before line after)) (block_of before line after) (line_tree false x) i j
 
   forward_in_block : (x : Tree) (i j : ℕ) → InBlock x i j → i ≤ j
-  forward_in_block x i j m = span_forward (line_looks words (block_of before line after)) (block_of before line after) (line_tree false x) i j m
+  forward_in_block x i j m = span_forward (line_looks words (block_of before line after)) (block_of before line after) (line_tree false x)
+      i j m
 
   -- rounds are spans of a repetition
   rounds_forward : (x : Tree) (n i j : ℕ) → Rounds (InBlock x) n i j → i ≤ j
   rounds_forward x n i j r = forward_in_block (repetition n (Some n) false x) i j (n, omega arith, omega arith, r)
 
-  -- a place between two of the line is one of the line
-  place_of : (k s : ℕ) → length before + s ≤ k → k ≡ length before + (k - length before)
-  place_of k s l = omega arith
+  -- an offset between two of the line is one of the line
+  offset_of : (k s : ℕ) → length before + s ≤ k → k ≡ length before + (k - length before)
+  offset_of k s l = omega arith
 
   rounds_in_line : (x : Tree) → MeansInLine words before line after x → (n s e : ℕ) → e ≤ length line →
       Rounds (InBlock x) n (length before + s) (length before + e) → Rounds (Means (line_looks words line) line x) n s e
@@ -60,7 +61,7 @@ module _ (words : ℕ → Bool) (set : IsWordSet words) (before line after : Lis
       let j : ℕ = r.0 - length before in
       let up = forward_in_block x (length before + s) r.0 r.1 in
       let on = rounds_forward x n r.0 (length before + e) r.2 in
-      let at : r.0 ≡ length before + j = place_of r.0 s up in (
+      let at : r.0 ≡ length before + j = offset_of r.0 s up in (
         j,
         each s j (omega (arith, on, at, l)) (subst (λ (k : ℕ). InBlock x (length before + s) k) at r.1),
         rounds_in_line x each n j e l (subst (λ (k : ℕ). Rounds (InBlock x) n k (length before + e)) at r.2),
@@ -86,7 +87,7 @@ module _ (words : ℕ → Bool) (set : IsWordSet words) (before line after : Lis
       let j : ℕ = m.0 - length before in
       let up = forward_in_block x (length before + s) m.0 m.1 in
       let on = forward_in_block y m.0 (length before + e) m.2 in
-      let at : m.0 ≡ length before + j = place_of m.0 s up in (
+      let at : m.0 ≡ length before + j = offset_of m.0 s up in (
         j,
         in_line x none.0 s j (omega (arith, on, at, l)) (subst (λ (k : ℕ). InBlock x (length before + s) k) at m.1),
         in_line y none.1 j e l (subst (λ (k : ℕ). InBlock y k (length before + e)) at m.2),

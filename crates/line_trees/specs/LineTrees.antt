@@ -1,5 +1,5 @@
--- Text is searched in blocks of lines. A tree that is meant for one line is read for a block: where it asks for an edge of the
--- haystack, its line tree asks for an edge of a line. The law is that what the tree means in a line, its line tree means in the block.
+-- Input is searched in blocks of lines. A tree that is meant for one line is read for a block: where it asks for an edge of the haystack,
+-- its line tree asks for an edge of a line. The law is that a line tree matches in the block what the tree matches in a line.
 use Rattle.std.specs.Prelude.{◌≡◌, ◌≢◌, ◌==◌, ℕ, ◌+◌, ◌≤◌, ◌<◌, ◌⊎◌, Bool, true, false, ◌||◌, List, [], ◌∷◌, ◌++◌, length, slice_get, Some}
 use Rattle.std.specs.Prelude.{if◌then◌else◌}
 use Rattle.std.specs.List.{All, list_any}
@@ -17,14 +17,14 @@ use Rattle.hir_core.specs.Means.{Looks, Means, is_member}
 abbrev pub line_end : Bool → Look
 line_end crlf = if crlf then EndCRLF else EndLF
 
--- the look that holds in a block of lines where this one holds in a line of it
+-- the look that holds in a block of lines if this one holds in a line of it
 abbrev pub line_look : Bool → Look → Look
 line_look crlf Start = StartLF
 line_look crlf End = line_end crlf
 line_look crlf EndLF = line_end crlf
 line_look crlf l = l
 
--- the tree with each of its looks replaced so
+-- the tree with each of its looks replaced in this way
 abbrev pub line_tree : Bool → Tree → Tree
 line_tree crlf empty = empty
 line_tree crlf (literal bytes) = literal bytes
@@ -38,8 +38,8 @@ line_tree crlf (cat x y) = cat (line_tree crlf x) (line_tree crlf y)
 line_tree crlf never = never
 line_tree crlf (alt x y) = alt (line_tree crlf x) (line_tree crlf y)
 
--- Whether the tree has a look at carriage returns. If a line ends with one, these two looks hold after it in the line alone, which ends
--- there, and not in the block, where a line feed follows. So the laws leave out trees that have them.
+-- Whether the tree has a look at carriage returns. If a line ends with a carriage return, these two looks hold after it in the line by
+-- itself, which ends there. They don't hold there in the block, where a line feed follows. So the laws leave out trees that have them.
 abbrev pub has_crlf : Tree → Bool
 has_crlf empty = false
 has_crlf (literal bytes) = false
@@ -53,7 +53,8 @@ has_crlf (cat x y) = has_crlf x || has_crlf y
 has_crlf never = false
 has_crlf (alt x y) = has_crlf x || has_crlf y
 
--- Whether the tree may read a line feed: one stands in a literal, or a class has it. What a tree means that reads none lies in one line.
+-- Whether the tree may consume a line feed: a literal contains one, or a class has it. What a tree matches that consumes none lies in one
+-- line.
 abbrev pub reads_feed : Tree → Bool
 reads_feed empty = false
 reads_feed (literal bytes) = list_any (λ b. b == 0x0A) bytes
@@ -67,15 +68,15 @@ reads_feed (cat x y) = reads_feed x || reads_feed y
 reads_feed never = false
 reads_feed (alt x y) = reads_feed x || reads_feed y
 
--- What follows a line in a block: nothing, or its line feed and more. With `crlf` the line was cut before the carriage return that belongs
--- to its end, which then follows; a line whose line feed follows at once doesn't end with a carriage return.
+-- What follows a line in a block: nothing, or its line feed and more. With `crlf`, the line was cut before the carriage return that
+-- belongs to its end, which then follows. A line that is followed at once by its line feed doesn't end with a carriage return.
 abbrev pub FollowsLine : Bool → List ℕ → List ℕ → Type 0
 FollowsLine false line after = (after ≡ []) ⊎ ((rest : List ℕ) × (after ≡ 0x0A ∷ rest))
 FollowsLine true line after = (after ≡ []) ⊎ (((rest : List ℕ) × (after ≡ 0x0D ∷ rest))
     ⊎ (((rest : List ℕ) × (after ≡ 0x0A ∷ rest)) × (byte_before line (length line) ≢ Some 0x0D)))
 
--- A line stands between these two parts of a block: before it stands nothing, or text that a line feed ends. It has no line feed itself.
--- The bytes need not be UTF-8.
+-- A line between these two parts of a block. Before it there is nothing, or bytes that end with a line feed. The line has no line feed
+-- itself. The bytes need not be UTF-8.
 pub record IsLineBetween (crlf : Bool) (before line after : List ℕ) : Type 0 where
   pub starts : (before ≡ []) ⊎ ((front : List ℕ) × (before ≡ front ++ (0x0A ∷ [])))
   pub ends : FollowsLine crlf line after
@@ -89,21 +90,21 @@ block_of before line after = before ++ (line ++ after)
 abbrev pub line_looks : (ℕ → Bool) → List ℕ → Looks
 line_looks words h = holds words (one_of 0x0A) h
 
--- a span that the tree means in the line, its line tree means in the block, where the line's bytes stand there
+-- a span that the tree matches in the line, its line tree matches in the block, at the line's bytes there
 abbrev pub MeansInBlock : Bool → (ℕ → Bool) → List ℕ → List ℕ → List ℕ → Tree → Type 0
 MeansInBlock crlf words before line after x = (s e : ℕ) → s ≤ length line → Means (line_looks words line) line x s e →
     Means (line_looks words (block_of before line after)) (block_of before line after) (line_tree crlf x)
     (length before + s) (length before + e)
 
--- And the other way round, for what the line tree means in the block up to the line's end: it is meant in the line. With `crlf` this need
--- not be so, since a look at the end of a line then also holds before a carriage return inside the line.
+-- The converse, for what the line tree matches in the block up to the line's end: the tree matches it in the line. With `crlf` this need
+-- not hold, since a look at the end of a line then also holds before a carriage return inside the line.
 abbrev pub MeansInLine : (ℕ → Bool) → List ℕ → List ℕ → List ℕ → Tree → Type 0
 MeansInLine words before line after x = (s e : ℕ) → e ≤ length line →
     Means (line_looks words (block_of before line after)) (block_of before line after) (line_tree false x) (length before + s)
     (length before + e) →
     Means (line_looks words line) line x s e
 
--- no line feed stands from the one place up to the other
+-- no byte from the one offset up to the other is a line feed
 abbrev pub HasNoFeedFrom : List ℕ → ℕ → ℕ → Type 0
 HasNoFeedFrom text from to = (i : ℕ) → from ≤ i → i < to → slice_get text i ≡ Some 0x0A → ⊥
 

@@ -10,8 +10,9 @@ ghost use Rattle.line_trees.specs.LineTrees.{line_look, line_tree, has_crlf, IsL
 ghost use Rattle.line_trees.specs.LineTrees.{MeansInBlock, MeansInLine, HasMatch};
 ghost use Rattle.line_trees.specs.LineTrees.{reads_feed, HasNoFeedFrom};
 
-/// At each offset of a line, every look but the two at carriage returns holds in the line exactly where its line look holds in the block. If
-/// a carriage return belongs to the end of a line, its line look holds there at least.
+/// At each offset of a line, every look except the two at carriage returns holds in the line exactly if its line look holds in the block.
+/// If a carriage return belongs to the end of a line, one direction remains: if the look holds in the line, its line look holds in the
+/// block.
 #[tactic(auto, using(crate::proofs::LineLookLemmas::same_looks, crate::proofs::LineLookLemmas::looks_go_on))]
 pub fn line_looks_hold_in_the_block()
     ensures same { (words : ℕ → Bool) (before line after : List ℕ) (l : Look) (i : ℕ) → IsWordSet words →
@@ -22,8 +23,8 @@ pub fn line_looks_hold_in_the_block()
         line_looks words (block_of before line after) (line_look crlf l) (length before + i) ≡ true }
 {}
 
-/// What a tree means in a line, its line tree means in each block with that line, at the same bytes. So a line with a match is a block
-/// with one. A block with a match need not have a line with one, since the match may reach over the ends of lines.
+/// What a tree matches in a line, its line tree matches in each block with that line, at the same bytes. So if a line has a match, the
+/// block has one. If a block has a match, no line need have one, since the match may reach over the ends of lines.
 #[tactic(auto, using(crate::proofs::MeaningLemmas::means_in_block, crate::proofs::MeaningLemmas::match_in_block))]
 pub fn a_line_with_a_match_is_a_block_with_one()
     ensures spans { (crlf : Bool) (words : ℕ → Bool) (before line after : List ℕ) (x : Tree) → IsWordSet words →
@@ -33,7 +34,7 @@ pub fn a_line_with_a_match_is_a_block_with_one()
         HasMatch (line_looks words (block_of before line after)) (block_of before line after) (line_tree crlf x) }
 {}
 
-/// A match of the line tree in the block that reaches over no end of a line is a match of the tree in that line, if a line feed alone ends
+/// A match of the line tree in the block that reaches over no end of a line is a match of the tree in that line, if only a line feed ends
 /// lines.
 #[tactic(auto, using(crate::proofs::WithinLemmas::means_in_line))]
 pub fn a_match_within_a_line_is_one_of_the_line()
@@ -41,14 +42,15 @@ pub fn a_match_within_a_line_is_one_of_the_line()
         has_crlf x ≡ false → MeansInLine words before line after x }
 {}
 
-/// What a tree means that reads no line feed has none among its bytes, in any haystack: where its line tree has a match in a block, that
-/// match lies in one line.
+/// If a tree consumes no line feed, none is among the bytes of its matches, in any haystack. So a match of its line tree in a block lies in
+/// one line.
 #[tactic(auto, using(crate::proofs::FeedLemmas::reads_none))]
 pub fn a_match_that_reads_no_feed_lies_in_one_line()
     ensures { (looks : Looks) (h : List ℕ) (x : Tree) (s e : ℕ) → reads_feed x ≡ false → Means looks h x s e → HasNoFeedFrom h s e }
 {}
 
-/// A line tree has the minimum length of the tree, loops that read where the tree's do, and reads a line feed where the tree does.
+/// Line trees preserve three facts of the tree. The minimum length is equal. The body of every unbounded repetition consumes at least one
+/// byte exactly if that holds for the tree. A line tree can consume a line feed exactly if the tree can.
 #[tactic(auto, using(crate::proofs::KeptLemmas::minimum_kept, crate::proofs::KeptLemmas::loops_kept, crate::proofs::KeptLemmas::feeds_kept))]
 pub fn line_trees_read_as_much()
     ensures least { (crlf : Bool) (x : Tree) → minimum_len (line_tree crlf x) ≡ minimum_len x }

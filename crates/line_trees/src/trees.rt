@@ -1,4 +1,4 @@
-//! Trees that are read for blocks of lines, and the test for what has none.
+//! Trees that are read for blocks of lines, and the test for trees that have none.
 ghost use Rattle.std.specs.Prelude.{◌≡◌, ◌==◌, IfOk, map, option_map, string_bytes};
 ghost use Rattle.std.specs.List.{list_any};
 ghost use Rattle.look_core.specs.Codes.{is_anchor_crlf};
@@ -10,14 +10,14 @@ use hir_core::{Hir, HirKind};
 use look_core::Look;
 use std::alloc::{AllocError, Global};
 
-/// The look at the end of a line in a block. With `crlf` a carriage return right before the line feed belongs to the end of the line.
+/// The look at the end of a line in a block. With `crlf`, a carriage return right before the line feed belongs to the end of the line.
 pub fn line_end(crlf: bool) -> Look
     ensures { result ≡ line_end crlf }
 {
     if crlf { Look::EndCRLF } else { Look::EndLF }
 }
 
-/// The look that holds in a block of lines where this one holds in a line of it.
+/// The look that holds in a block of lines if this one holds in a line of it.
 pub fn line_look(look: Look, crlf: bool) -> Look
     ensures { result ≡ line_look crlf look }
 {
@@ -38,9 +38,9 @@ fn copied(alloc: Global, name: &Option<String>) -> Result<Option<String>, AllocE
     }
 }
 
-/// The tree with each of its looks replaced by its line look. What the tree means in a line, this one means in each block with that line
-/// ([`a_line_with_a_match_is_a_block_with_one`](crate::laws::a_line_with_a_match_is_a_block_with_one)). The only error is a failed
-/// allocation.
+/// The tree with each of its looks replaced by its line look. What the tree matches in a line, the line tree matches in each block with
+/// that line ([`a_line_with_a_match_is_a_block_with_one`](crate::laws::a_line_with_a_match_is_a_block_with_one)). The only error is a
+/// failed allocation.
 #[cycle(line_tree)]
 pub fn line_tree(alloc: Global, x: &Hir, crlf: bool) -> Result<Hir, AllocError>
     ensures { IfOk result (λ y. y ≡ line_tree crlf x.now) }
@@ -92,7 +92,7 @@ fn knows_crlf(look: Look) -> bool
     }
 }
 
-/// Whether a look stands in the tree that knows carriage returns, so that nothing is said of its line tree.
+/// Whether the tree has a look that knows carriage returns, so that the laws say nothing of its line tree.
 #[cycle(has_crlf)]
 pub fn has_crlf(x: &Hir) -> bool
     ensures { result ≡ has_crlf x.now }
@@ -107,7 +107,7 @@ pub fn has_crlf(x: &Hir) -> bool
     }
 }
 
-/// Whether one stands in some of the trees.
+/// Whether one of the trees has such a look.
 #[cycle(has_crlf)]
 pub fn any_has_crlf(xs: &[Hir]) -> bool
     ensures any { result ≡ list_any has_crlf xs.now }
@@ -144,7 +144,7 @@ fn has_feed_char(ranges: &[(char, char)]) -> bool
         .any(|range| range.0 <= '\n' && '\n' <= range.1)
 }
 
-/// Whether the tree may read a line feed. What a tree means that reads none lies in one line
+/// Whether the tree may consume a line feed. What a tree matches that consumes none lies in one line
 /// ([`a_match_that_reads_no_feed_lies_in_one_line`](crate::laws::a_match_that_reads_no_feed_lies_in_one_line)).
 #[cycle(reads_feed)]
 pub fn reads_feed(x: &Hir) -> bool
@@ -162,7 +162,7 @@ pub fn reads_feed(x: &Hir) -> bool
     }
 }
 
-/// Whether some of the trees may read one.
+/// Whether one of the trees may consume a line feed.
 #[cycle(reads_feed)]
 pub fn any_reads_feed(xs: &[Hir]) -> bool
     ensures any { result ≡ list_any reads_feed xs.now }

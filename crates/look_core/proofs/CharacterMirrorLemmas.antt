@@ -1,4 +1,4 @@
--- Unicode looks in a text whose characters are reversed.
+-- Unicode looks in a haystack whose characters are reversed.
 use Rattle.std.proofs.Common.{◌≡◌, ℕ, ◌-◌, ◌<◌, ◌≤◌, true, Bool, List, [], ◌∷◌, ◌++◌, length, get_or, Option, Some, None, refl, sym, ap}
 use Rattle.std.proofs.Common.{ap₂, subst, ◌∙◌, arith, length-append, take, drop, append-nil, reverse, length-drop}
 use Rattle.std.proofs.lemmas.Bool.{and_parts, and_from}
@@ -38,7 +38,7 @@ scalars_reverse (x ∷ xs) h =
     subst (λ (l : List ℕ). all_scalars l ≡ true) (sym (reverse-append (x ∷ []) xs))
     (scalars_join (reverse xs) (x ∷ []) (scalars_reverse xs p.1) last)
 
--- ---- the sides of a place between characters
+-- ---- the sides of an offset between characters
 abbrev head_side : (ℕ → Bool) → List ℕ → Side
 head_side words [] = no_word
 head_side words (c ∷ cs) = word_if (words c)
@@ -89,7 +89,7 @@ before_side words (c ∷ rs) rest h =
     subst (λ (a : List ℕ). (by_characters words).before (a ++ rest) (length a) ≡ head_side words (c ∷ rs)) e
     (last_side words (encode_utf8_all (reverse rs)) (encode_utf8 c) rest c (encoded_spells c _ (and_parts _ _ h).0 refl))
 
--- ---- a text cut in two, and the reversed one
+-- ---- a haystack cut in two, and the reversed one
 text_of_two : (xs ys : List ℕ) → encode_utf8_all xs ++ encode_utf8_all ys ≡ encode_utf8_all (xs ++ ys)
 text_of_two xs ys = sym (encodes-append xs ys)
 

@@ -14,7 +14,7 @@ use Rattle.search_core.proofs.ForCallers.{same_class_tells}
 use Rattle.look_core.specs.Looks.{Reading, byte_side, word_if, is_byte, is_line_end, is_no_word, is_edge_of_word, is_no_edge_of_word}
 use Rattle.look_core.specs.Looks.{is_start_of_word, is_end_of_word, holds_by, holds_ascii}
 use Rattle.look_core.specs.Terminators.{Terminator, ends_line}
-use Rattle.look_core.specs.ToldApart.{line_ends, crlf_ranges, word_ranges, told_apart}
+use Rattle.look_core.specs.ToldApart.{line_ends, crlf_ranges, word_ranges, ranges_apart}
 use Rattle.look_core.specs.Codes.{is_word_unicode}
 use Rattle.look_core.specs.declared.look.Look.{Look}
 use Rattle.look_core.specs.declared.look.Look.TheVariants.{Start, End, StartLF, EndLF, StartCRLF, EndCRLF, WordAscii, WordAsciiNegate}
@@ -22,7 +22,7 @@ use Rattle.look_core.specs.declared.look.Look.TheVariants.{WordUnicode, WordUnic
 use Rattle.look_core.specs.declared.look.Look.TheVariants.{WordEndUnicode, WordStartHalfAscii, WordEndHalfAscii, WordStartHalfUnicode}
 use Rattle.look_core.specs.declared.look.Look.TheVariants.{WordEndHalfUnicode}
 
--- two bytes lie alike in a range
+-- a range has both bytes or neither
 abbrev pub LieAlike : ℕ → ℕ → ℕ × ℕ → Type 0
 LieAlike a b r = IsIn r a ↔ IsIn r b
 
@@ -57,9 +57,9 @@ All-parts P f (y ∷ ys) h =
     All-cons (λ y. All P (f y)) y ys (All-left P (f y) (flat_map f ys) h) (All-parts P f ys (All-right P (f y) (flat_map f ys) h))
 
 pub alike_for : (t : Terminator) (looks : List Look) (l : Look) (a b : ℕ) → Contains looks l →
-    All (LieAlike a b) (flat_map (told_apart t) looks) → All (LieAlike a b) (told_apart t l)
-alike_for t looks l a b c h = All-contains (λ k. All (LieAlike a b) (told_apart t k)) looks l
-    (All-parts (LieAlike a b) (told_apart t) looks h) c
+    All (LieAlike a b) (flat_map (ranges_apart t) looks) → All (LieAlike a b) (ranges_apart t l)
+alike_for t looks l a b c h = All-contains (λ k. All (LieAlike a b) (ranges_apart t k)) looks l
+    (All-parts (LieAlike a b) (ranges_apart t) looks h) c
 
 -- ---- each question on a byte is answered by the ranges
 same_in_range : (lo hi a b : ℕ) → LieAlike a b (lo, hi) → is_in_range lo hi a ≡ is_in_range lo hi b
@@ -95,7 +95,7 @@ same_end (c, None) a b h = same_byte c a b (All-head (LieAlike a b) (c, c) [] h)
 same_end (c, Some d) a b h =
     ap₂ ◌||◌ (same_byte c a b (All-head (LieAlike a b) (c, c) ((d, d) ∷ []) h)) (same_byte d a b (second (LieAlike a b) (c, c) (d, d) [] h))
 
--- ---- the bytes beside a place of two haystacks of one length
+-- ---- the bytes next to an offset of two haystacks of one length
 abbrev pub AtEach : (ℕ → ℕ → Type 0) → List ℕ → List ℕ → Type 0
 AtEach R h g = (k : ℕ) → k < length h → R (get_or h k 0) (get_or g k 0)
 
@@ -112,7 +112,7 @@ module _ (R : ℕ → ℕ → Type 0) (h g : List ℕ) (len : length h ≡ lengt
   same_before (suc k) = same_at k
 
 abbrev Alike : Terminator → Look → ℕ → ℕ → Type 0
-Alike t l a b = All (LieAlike a b) (told_apart t l)
+Alike t l a b = All (LieAlike a b) (ranges_apart t l)
 
 pub same_line : (s s2 a a2 b b2 c c2 : Bool) → s ≡ s2 → a ≡ a2 → b ≡ b2 → c ≡ c2 → (s || a || (b && not c)) ≡ (s2 || a2 || (b2 && not c2))
 same_line s s2 a a2 b b2 c c2 p q r t = rw (p, q, r, t)
@@ -201,7 +201,7 @@ same_unicode r t h g i b a WordEndHalfAscii u = cc
 same_unicode r t h g i b a WordStartHalfUnicode u = ap is_no_word b
 same_unicode r t h g i b a WordEndHalfUnicode u = ap is_no_word a
 
-pub word_ranges_told : (t : Terminator) (l : Look) → is_word_unicode l ≡ true → told_apart t l ≡ word_ranges
+pub word_ranges_told : (t : Terminator) (l : Look) → is_word_unicode l ≡ true → ranges_apart t l ≡ word_ranges
 word_ranges_told t Start u = cc
 word_ranges_told t End u = cc
 word_ranges_told t StartLF u = cc

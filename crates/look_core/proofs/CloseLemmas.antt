@@ -1,4 +1,4 @@
--- Haystacks that differ in bytes of ASCII alone: the characters of more bytes are the same.
+-- Haystacks that differ in ASCII bytes alone: the characters of more bytes are the same.
 use Rattle.std.proofs.Common.{◌≡◌, ℕ, zero, suc, ◌+◌, ◌-◌, ◌<◌, ◌⊎◌, inl, inr, false, Bool, List, length, get_or, Option, Some, None, refl}
 use Rattle.std.proofs.Common.{sym, ap, ap₂, ◌∙◌, arith, cond, ◌&&◌, leb, ltb}
 use Rattle.std.proofs.lemmas.Bool.{cond-false, cond-true, cases_lt, le-leb, and_from, lt-ltb}
@@ -12,7 +12,7 @@ use Rattle.search_core.specs.Characters.{one_byte, two_bytes, three_bytes, four_
 use Rattle.look_core.specs.Looks.{word_if, character_side, by_characters, IsWordSet}
 use Rattle.look_core.proofs.ReadLemmas.{two_lead, two_next, three_lead, three_next, three_last, four_lead, four_next, four_third, four_last}
 
--- one byte, or two of ASCII
+-- one byte, or two ASCII bytes
 abbrev pub AreClose : ℕ → ℕ → Type 0
 AreClose a b = (a ≡ b) ⊎ ((a < 128) × (b < 128))
 
@@ -102,7 +102,7 @@ module _ (h g : List ℕ) (len : length h ≡ length g) (close : (k : ℕ) → A
 
   module _ (words : ℕ → Bool) (set : IsWordSet words)
       (alike : (k : ℕ) → k < length h → is_word_byte (get_or h k 0) ≡ is_word_byte (get_or g k 0)) where
-    -- the byte at k, as one character, beside whatever more bytes spell there
+    -- the byte at k, as one character, with whatever more bytes spell there
     side_by : (k : ℕ) (one two x y : Option ℕ) → one ≡ one_byte h k → two ≡ one_byte g k → x ≡ y →
         character_side words (byte_at h k) (option_or one x) ≡ character_side words (byte_at g k) (option_or two y)
     side_by k one two x y p q r = elim (cases_lt k (length h)) [

@@ -1,4 +1,4 @@
--- A place strictly inside a spelling has bytes on both sides, and no character ends or begins there.
+-- An offset strictly inside a spelling has bytes on both sides, and no character ends or begins there.
 use Rattle.std.proofs.Common.{◌≡◌, ℕ, zero, suc, ◌+◌, ◌-◌, ◌<◌, ◌≤◌, inl, inr, true, false, Bool, List, ◌++◌, length, get_or, Option, Some}
 use Rattle.std.proofs.Common.{None, sym, ap, subst, ◌∙◌, arith, length-append}
 use Rattle.std.proofs.lemmas.Bool.{cond-false, cond-true, cases_lt, cases_eq, lt-leb, le-leb}
@@ -20,7 +20,7 @@ use Rattle.look_core.specs.declared.look.Look.TheVariants.{WordEndHalfUnicode}
 use Rattle.look_core.proofs.ReadLemmas.{no_one, no_two_lead, no_two_next, no_three_lead, no_three_next, no_three_last, no_four_lead}
 use Rattle.look_core.proofs.ReadLemmas.{no_four_next, no_four_third, no_four_last, none_of_four}
 
--- what a lead says where more bytes follow it
+-- what a lead says if more bytes follow it
 lead_two : (a n : ℕ) → Leads a n → 1 < n → 0xC2 ≤ a
 lead_two a n h l = grind arith
 
@@ -44,7 +44,7 @@ pub before_some : (h : List ℕ) (i : ℕ) → 0 < i → i ≤ length h → byte
 before_some h zero l m = absurd (omega arith)
 before_some h (suc i) l m = let e : suc i - 1 ≡ i = omega arith in rw e (slice_get-get_or h i 0 (omega arith))
 
--- a spelling of n bytes stands at p, and i lies inside it
+-- a spelling of n bytes is at p, and i lies inside it
 module _ (h : List ℕ) (p n i : ℕ) (lead : Leads (get_or h p 0) n)
     (tails : (m : ℕ) → p < m → m < p + n → IsContinuation (get_or h m 0)) (above : p < i) (below : i < p + n) where
   pub inside_at : character_at h i ≡ None
@@ -113,7 +113,7 @@ module _ (h : List ℕ) (p n i : ℕ) (lead : Leads (get_or h p 0) n)
       let a : byte_at h i ≡ Some (get_or h i 0) = slice_get-get_or h i 0 (omega arith) in
       (rw (b, inside_before), rw (a, inside_at))
 
--- with both sides broken no Unicode look holds
+-- if both sides are broken no Unicode look holds
 broken_fails : (words : ℕ → Bool) (t : Terminator) (h : List ℕ) (l : Look) (i : ℕ) →
     (by_characters words).before h i ≡ broken → (by_characters words).after h i ≡ broken → is_word_unicode l ≡ true →
     holds words t h l i ≡ false
@@ -136,7 +136,7 @@ broken_fails words t h WordEndHalfAscii i p q u = cc
 broken_fails words t h WordStartHalfUnicode i p q u = rw p
 broken_fails words t h WordEndHalfUnicode i p q u = rw q
 
--- the bytes of a spelling where it stands
+-- the bytes of a spelling where it lies
 at_place : (before s after : List ℕ) (m : ℕ) → length before ≤ m → m < length before + length s →
     get_or (before ++ (s ++ after)) m 0 ≡ get_or s (m - length before) 0
 at_place before s after m low high =

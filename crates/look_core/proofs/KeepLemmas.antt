@@ -7,7 +7,7 @@ use Rattle.search_core.specs.Marks.{recorded, IsUnmarked}
 use Rattle.look_core.specs.Looks.{by_characters, holds, IsWordSet}
 use Rattle.look_core.specs.SameClasses.{HaveSameClasses, DifferInAscii}
 use Rattle.look_core.specs.Terminators.{Terminator}
-use Rattle.look_core.specs.ToldApart.{told_apart}
+use Rattle.look_core.specs.ToldApart.{ranges_apart}
 use Rattle.look_core.specs.Codes.{is_word_unicode}
 use Rattle.look_core.specs.declared.look.Look.{Look}
 use Rattle.look_core.proofs.ClassLemmas.{LieAlike, AtEach, same_class_alike, alike_for, alike_bytes, same_word, same_unicode}
@@ -17,11 +17,11 @@ use Rattle.look_core.proofs.MirrorLemmas.{reads_bytes}
 
 module _ (t : Terminator) (looks : List Look) (marks : List Bool) (unmarked : IsUnmarked marks) (h g : List ℕ)
     (bytes_h : All (λ b. b < length marks) h) (bytes_g : All (λ b. b < length marks) g)
-    (same : HaveSameClasses (recorded marks (flat_map (told_apart t) looks)) h g) (l : Look) (member : Contains looks l) where
-  alike_each : AtEach (λ a b. All (LieAlike a b) (told_apart t l)) h g
+    (same : HaveSameClasses (recorded marks (flat_map (ranges_apart t) looks)) h g) (l : Look) (member : Contains looks l) where
+  alike_each : AtEach (λ a b. All (LieAlike a b) (ranges_apart t l)) h g
   alike_each k low =
       alike_for t looks l (get_or h k 0) (get_or g k 0) member
-      (same_class_alike marks (flat_map (told_apart t) looks) (get_or h k 0) (get_or g k 0) unmarked
+      (same_class_alike marks (flat_map (ranges_apart t) looks) (get_or h k 0) (get_or g k 0) unmarked
       (All-get_or (λ b. b < length marks) h k 0 low bytes_h) (All-get_or (λ b. b < length marks) g k 0 (omega (arith, same.0)) bytes_g)
       (same.1 k low))
 

@@ -219,26 +219,26 @@ set_bit-low s t h one = ⊎_elim (λ l. l) (λ le. absurd (omega (arith, bit_at_
 
 first_at : (s n t : ℕ) (r : Option Look) → n ≡ 2 ^ t → t < 18 → bit_at s t ≡ 1 → ((i : ℕ) → i < t → bit_at s i ≡ 0)
     → ((l : Look) → (n ≡ repr l) ↔ (r ≡ Some l)) → IsFirstLook s r
-first_at s n t r e low one below tells =
+first_at s n t r e low one below reports =
     let b : bit_of (look_at t) ≡ t = bit_of-look_at t low in
-    let is : r ≡ Some (look_at t) = (tells (look_at t)).0 (e ∙ ap (λ j. 2 ^ j) (sym b)) in
+    let is : r ≡ Some (look_at t) = (reports (look_at t)).0 (e ∙ ap (λ j. 2 ^ j) (sym b)) in
     subst (λ (o : Option Look). IsFirstLook s o) (sym is)
     (members-first s (look_at t) (ap (λ j. bit_at s j == 1) b ∙ ap (λ d. d == 1) one) (λ i q. below i (omega (arith, b))))
 
 -- the look of the lowest bit
 pub first-some : (s n : ℕ) (r : Option Look) → IsLookSet s → 0 < s → n ≡ 1 * 2 ^ trailing_zeros w32 s % 2 ^ 32
     → ((l : Look) → (n ≡ repr l) ↔ (r ≡ Some l)) → IsFirstLook s r
-first-some s n r h some e tells =
+first-some s n r h some e reports =
     let z = bit_at-trailing_zeros w32 s some (omega arith) in
-    first_at s n (trailing_zeros w32 s) r (e ∙ one_shl (trailing_zeros w32 s) 32 z.0) (set_bit-low s _ h z.1) z.1 z.2 tells
+    first_at s n (trailing_zeros w32 s) r (e ∙ one_shl (trailing_zeros w32 s) 32 z.0) (set_bit-low s _ h z.1) z.1 z.2 reports
 
--- what is left behind the least member
+-- what is left after the least member
 pub first-gives : (s : ℕ) (r : Option Look) (l : Look) → r ≡ Some l → IsFirstLook s r → members s ≡ l ∷ members (without_look s l)
 first-gives s r l e h = subst (λ (o : Option Look). IsFirstLook s o) e h
 
 -- ---- families
 
--- as the members of the family alone are asked for
+-- as only the members of the family are asked for
 pub has_any-flip : (test : Look → Bool) (s : ℕ) → list_any (λ l. test l && has_look s l) all_looks ≡ has_any test s
 has_any-flip test s i = list_any (λ l. and_comm (test l) (has_look s l) i) all_looks
 

@@ -1,4 +1,4 @@
--- Looks in a reversed haystack: what stood before a place stands behind its mirror place.
+-- Looks in a reversed haystack: what is before an offset is after the mirrored offset there.
 use Rattle.std.proofs.Common.{◌≡◌, ℕ, zero, suc, ◌-◌, ◌≤◌, true, false, Bool, List, length, get_or, Option, Some, None, refl, sym, ap, ap₂}
 use Rattle.std.proofs.Common.{◌∙◌, arith, eqb, map, reverse, ◌||◌}
 use Rattle.std.proofs.lemmas.Bool.Decides.{nat_tests}
@@ -18,7 +18,7 @@ use Rattle.look_core.specs.declared.look.Look.TheVariants.{WordEndUnicode, WordS
 use Rattle.look_core.specs.declared.look.Look.TheVariants.{WordEndHalfUnicode}
 use Rattle.look_core.proofs.ClassLemmas.{same_line}
 
--- ---- the bytes beside the mirror place
+-- ---- the bytes next to the mirrored offset
 mirror_at : (h : List ℕ) (i : ℕ) → i ≤ length h → byte_at (reverse h) (length h - i) ≡ byte_before h i
 mirror_at h zero l = slice_get_past (reverse h) (length h - 0) (omega (arith, length-reverse h))
 mirror_at h (suc i) l =
@@ -37,7 +37,7 @@ mirror_before h i l =
 same_test : (a b c d : ℕ) → (a ≡ b → c ≡ d) → (c ≡ d → a ≡ b) → eqb a b ≡ eqb c d
 same_test a b c d f g = grind (arith, nat_tests)
 
--- ---- both sides turned
+-- ---- both sides exchanged
 pub edge_turns : (b a : Side) → is_edge_of_word b a ≡ is_edge_of_word a b
 edge_turns word word = refl
 edge_turns word no_word = refl
@@ -74,7 +74,7 @@ start_turns broken broken = refl
 same_sides : (f : Side → Side → Bool) (b a c d : Side) → b ≡ c → a ≡ d → f b a ≡ f c d
 same_sides f b a c d p q = ap₂ f p q
 
--- a place i of h and one j of g, whose neighbours are exchanged
+-- an offset i of h and an offset j of g, whose neighbours are exchanged
 module _ (r : Reading) (t : Terminator) (h g : List ℕ) (i j : ℕ)
     (before : r.before h i ≡ r.after g j) (after : r.after h i ≡ r.before g j) where
   pub unicode_turns : (l : Look) → is_word_unicode l ≡ true → holds_by r t h l i ≡ holds_by r t g (reversed l) j

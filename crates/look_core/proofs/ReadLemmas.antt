@@ -1,4 +1,4 @@
--- Which bytes keep a place from being the start or the end of a spelling.
+-- Which bytes keep an offset from being the start or the end of a spelling.
 use Rattle.std.proofs.Common.{◌≡◌, ℕ, ◌+◌, ◌<◌, ◌≤◌, ◌⊎◌, false, List, get_or, Option, None, arith, ◌&&◌}
 use Rattle.std.proofs.lemmas.Bool.{cond-false}
 use Rattle.std.proofs.lemmas.Bool.Decides.{nat_tests}
@@ -38,7 +38,7 @@ four_third a b d e h = grind (arith, nat_tests)
 pub four_last : (a b d e : ℕ) → NoContinuation e → second_of_four a b && is_in_range 0x80 0xBF d && is_in_range 0x80 0xBF e ≡ false
 four_last a b d e h = grind (arith, nat_tests)
 
--- no spelling of this length from the place k on
+-- no spelling of this length from offset k on
 pub no_one : (h : List ℕ) (k : ℕ) → 0x80 ≤ get_or h k 0 → one_byte h k ≡ None
 no_one h k l = grind (arith, nat_tests)
 

@@ -1,4 +1,4 @@
--- What stands beside a place, read as a byte and as a character.
+-- What is next to an offset, read as a byte and as a character.
 use Rattle.std.proofs.Common.{◌≡◌, ℕ, zero, suc, ◌<◌, ◌≤◌, Bool, List, length, slice_index_or, Option, Some, None, IfSome, Result, refl, ap}
 use Rattle.std.proofs.Common.{◌∙◌, arith, take, drop, ◌-◌}
 use Rattle.std.specs.Option.{option_map, ok_or}
@@ -41,7 +41,7 @@ pub decoded_in_front : (words : ℕ → Bool) (h : List ℕ) (i : ℕ) (read : O
 decoded_in_front words h i read within d =
     ap (decoded_side words) (read_before_once h i read within d) ∙ decoded_is_character words (byte_before h i) (character_before h i)
 
--- a byte of ASCII is a character
+-- an ASCII byte is a character
 ascii_is_one : (h : List ℕ) (i b : ℕ) → byte_at h i ≡ Some b → b < 128 → one_byte h i ≡ Some b
 ascii_is_one h i b e low =
     let within : i < length h = slice_get_within h i b e in

@@ -25,7 +25,7 @@ union_of s t = bit_or s t
 abbrev pub shared_by : ℕ → ℕ → ℕ
 shared_by s t = bit_and s t
 
--- the members of the first set that the second has not
+-- the members of the first set that the second doesn't have
 abbrev pub without : ℕ → ℕ → ℕ
 without s t = bit_and s (bit_not w32 t)
 
@@ -44,7 +44,7 @@ members s = filter (has_look s) all_looks
 abbrev pub has_any : (Look → Bool) → ℕ → Bool
 has_any test s = list_any (λ l. has_look s l && test l) all_looks
 
--- r is the member with the least bit, and `None` where the set has no member
+-- r is the member with the least bit, or `None` if the set has no member
 abbrev pub IsFirstLook : ℕ → Option Look → Type 0
 IsFirstLook s r = MatchOption r
     (members s ≡ [])

@@ -1,5 +1,5 @@
--- Where a look holds: by the neighbours of the place, read on the whole haystack. The source is the table of
--- assertions of `regex_automata::util::look`.
+-- Where a look (a look-around assertion) holds: by the bytes or characters next to the offset, read on the whole
+-- haystack. The source is the table of assertions of `regex_automata::util::look`.
 use Rattle.std.specs.Prelude.{◌≡◌, ◌<◌, ℕ, Bool, true, false, ◌&&◌, ◌||◌, ◌==◌, not, List, length, Option, Some, None}
 use Rattle.search_core.specs.Text.{byte_at, byte_before}
 use Rattle.search_core.specs.Utf8.{is_word_byte}
@@ -11,8 +11,8 @@ use Rattle.look_core.specs.declared.look.Look.TheVariants.{WordUnicode, WordUnic
 use Rattle.look_core.specs.declared.look.Look.TheVariants.{WordEndUnicode, WordStartHalfAscii, WordEndHalfAscii, WordStartHalfUnicode}
 use Rattle.look_core.specs.declared.look.Look.TheVariants.{WordEndHalfUnicode}
 
--- What one side of a place reads as: a word; no word, as the edge of the haystack is; or a byte of no character that
--- ends or begins at the place.
+-- What one side of an offset reads as: a word; no word, as at the edge of the haystack; or a byte that belongs to no
+-- character that ends or begins at the offset.
 pub data Side : Type 0 where
   word : Side
   no_word : Side
@@ -28,7 +28,7 @@ is_no_word word = false
 is_no_word no_word = true
 is_no_word broken = false
 
--- how the two sides of a place of a haystack are read
+-- how the two sides of an offset of a haystack are read
 pub record Reading : Type 0 where
   pub before : List ℕ → ℕ → Side
   pub after : List ℕ → ℕ → Side
@@ -37,7 +37,7 @@ abbrev pub word_if : Bool → Side
 word_if true = word
 word_if false = no_word
 
--- the side where this byte stands, if one does, read by itself
+-- how a side with this byte, or without a byte, reads if the byte is read by itself
 abbrev pub byte_side : Option ℕ → Side
 byte_side None = no_word
 byte_side (Some b) = word_if (is_word_byte b)
@@ -46,13 +46,13 @@ byte_side (Some b) = word_if (is_word_byte b)
 abbrev pub by_bytes : Reading
 by_bytes = record { before = λ h i. byte_side (byte_before h i); after = λ h i. byte_side (byte_at h i) }
 
--- the side where this byte stands, if one does, as part of this character, if it is part of one
+-- how a side with this byte, or without a byte, reads if the byte belongs to this character, or to none
 abbrev pub character_side : (ℕ → Bool) → Option ℕ → Option ℕ → Side
 character_side words None c = no_word
 character_side words (Some b) None = broken
 character_side words (Some b) (Some c) = word_if (words c)
 
--- words as characters of a set: the character whose spelling ends at the place, and the one whose spelling begins there
+-- words as characters of a set: the character whose spelling ends at the offset, and the one whose spelling begins there
 abbrev pub by_characters : (ℕ → Bool) → Reading
 by_characters words = record {
   before = λ h i. character_side words (byte_before h i) (character_before h i);
@@ -87,8 +87,8 @@ abbrev pub is_line_end : Terminator → Option ℕ → Bool
 is_line_end t None = false
 is_line_end t (Some b) = ends_line t b
 
--- Whether the look holds at the place i of the haystack h. Lines end at the terminator t, and the six Unicode looks read
--- the two sides of the place by the reading r; the ASCII ones read bytes.
+-- Whether the look holds at the offset i of the haystack h. Lines end at the terminator t. The six Unicode looks read
+-- the two sides of the offset by the reading r; the ASCII ones read bytes.
 abbrev pub holds_by : Reading → Terminator → List ℕ → Look → ℕ → Bool
 holds_by r t h Start i = i == 0
 holds_by r t h End i = i == length h

@@ -1,4 +1,4 @@
--- What a matcher of looks is told: the class of words, and what ends a line.
+-- What a matcher of looks is made from: the class of words, and what ends a line.
 use Rattle.look_core.specs.Terminators.{Terminator}
 
 pub record Matcher (W : Type 0) : Type 0 where

@@ -1,9 +1,9 @@
--- Haystacks that are alike place by place.
+-- Haystacks that are alike at each index.
 use Rattle.std.specs.Prelude.{◌≡◌, ◌<◌, ◌⊎◌, ℕ, Bool, List, length}
 use Rattle.search_core.specs.Characters.{byte_or_zero}
 use Rattle.search_core.specs.Marks.{marks_below}
 
--- of one length, with bytes of the same class at each place
+-- of one length, with bytes of the same class at each index
 abbrev pub HaveSameClasses : List Bool → List ℕ → List ℕ → Type 0
 HaveSameClasses marks h g = (length h ≡ length g) × ((k : ℕ) → k < length h →
     marks_below marks (byte_or_zero h k) ≡ marks_below marks (byte_or_zero g k))

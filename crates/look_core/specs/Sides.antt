@@ -1,4 +1,4 @@
--- What the code reads on one side of a place, as the definitions of looks say it.
+-- What the code reads on one side of an offset, in terms of the definitions of looks.
 use Rattle.std.specs.Prelude.{ℕ, Bool, Option, Some, None, Result, Ok, Err}
 use Rattle.look_core.specs.Looks.{Side as SideRead, word_if}
 use Rattle.look_core.specs.Looks.Side.{word, no_word, broken}

@@ -1,5 +1,5 @@
--- The ranges of bytes that a look tells apart: inside each range, and outside all of them, bytes are alike for the look,
--- where words are read as bytes of ASCII.
+-- The ranges of bytes that a look distinguishes. Within one range, and outside of all ranges, the look treats all bytes
+-- alike, if words are read as bytes of ASCII.
 use Rattle.std.specs.Prelude.{ℕ, Some, None, List, [], ◌∷◌}
 use Rattle.look_core.specs.Terminators.{Terminator}
 use Rattle.look_core.specs.declared.look.Look.{Look}
@@ -21,23 +21,23 @@ crlf_ranges = (0x0A, 0x0A) ∷ (0x0D, 0x0D) ∷ []
 abbrev pub word_ranges : List (ℕ × ℕ)
 word_ranges = (0x30, 0x39) ∷ (0x41, 0x5A) ∷ (0x5F, 0x5F) ∷ (0x61, 0x7A) ∷ []
 
--- what the look tells apart, where lines end at the terminator; the edges of the haystack are no bytes
-abbrev pub told_apart : Terminator → Look → List (ℕ × ℕ)
-told_apart t Start = []
-told_apart t End = []
-told_apart t StartLF = line_ends t
-told_apart t EndLF = line_ends t
-told_apart t StartCRLF = crlf_ranges
-told_apart t EndCRLF = crlf_ranges
-told_apart t WordAscii = word_ranges
-told_apart t WordAsciiNegate = word_ranges
-told_apart t WordUnicode = word_ranges
-told_apart t WordUnicodeNegate = word_ranges
-told_apart t WordStartAscii = word_ranges
-told_apart t WordEndAscii = word_ranges
-told_apart t WordStartUnicode = word_ranges
-told_apart t WordEndUnicode = word_ranges
-told_apart t WordStartHalfAscii = word_ranges
-told_apart t WordEndHalfAscii = word_ranges
-told_apart t WordStartHalfUnicode = word_ranges
-told_apart t WordEndHalfUnicode = word_ranges
+-- the ranges that the look distinguishes if lines end at the terminator; the edges of the haystack aren't bytes
+abbrev pub ranges_apart : Terminator → Look → List (ℕ × ℕ)
+ranges_apart t Start = []
+ranges_apart t End = []
+ranges_apart t StartLF = line_ends t
+ranges_apart t EndLF = line_ends t
+ranges_apart t StartCRLF = crlf_ranges
+ranges_apart t EndCRLF = crlf_ranges
+ranges_apart t WordAscii = word_ranges
+ranges_apart t WordAsciiNegate = word_ranges
+ranges_apart t WordUnicode = word_ranges
+ranges_apart t WordUnicodeNegate = word_ranges
+ranges_apart t WordStartAscii = word_ranges
+ranges_apart t WordEndAscii = word_ranges
+ranges_apart t WordStartUnicode = word_ranges
+ranges_apart t WordEndUnicode = word_ranges
+ranges_apart t WordStartHalfAscii = word_ranges
+ranges_apart t WordEndHalfAscii = word_ranges
+ranges_apart t WordStartHalfUnicode = word_ranges
+ranges_apart t WordEndHalfUnicode = word_ranges

@@ -17,10 +17,10 @@ ghost use Rattle.look_core.specs.Looks.{holds, holds_ascii, IsWordSet};
 ghost use Rattle.look_core.specs.Mirror.{exchanged};
 ghost use Rattle.look_core.specs.SameClasses.{HaveSameClasses, DifferInAscii};
 ghost use Rattle.look_core.specs.Terminators.{Terminator};
-ghost use Rattle.look_core.specs.ToldApart.{told_apart};
+ghost use Rattle.look_core.specs.ToldApart.{ranges_apart};
 ghost use Rattle.look_core.specs.declared.look.Look.{Look};
 
-/// Strictly inside the spelling of a character no Unicode look holds, whatever bytes stand before and behind it.
+/// Strictly inside the spelling of a character no Unicode look holds, whatever bytes come before and after it.
 pub fn no_unicode_look_holds_inside_a_character()
     ensures { (words : ℕ → Bool) (t : Terminator) (before spelling after : List ℕ) (c : ℕ) (l : Look) (i : ℕ) → Spells c spelling →
         length before < i → i < length before + length spelling → is_word_unicode l ≡ true →
@@ -33,8 +33,9 @@ pub fn other_looks_read_bytes()
         holds words t h l i ≡ holds_ascii t h l i }
 {}
 
-/// By bytes, a look holds at a place exactly where its reverse holds in the reversed haystack. For the two looks
-/// that know carriage returns and line feeds these two are exchanged as well, so that a pair of them keeps its order.
+/// By bytes, a look holds at an offset exactly if its reverse holds at the mirrored offset of the reversed haystack.
+/// For the two looks that know carriage returns and line feeds, these two bytes are exchanged as well, so that a pair
+/// of them keeps its order.
 pub fn reversed_looks_hold_in_the_reversed_haystack()
     ensures mirror { (t : Terminator) (h : List ℕ) (l : Look) (i : ℕ) → i ≤ length h → is_anchor_crlf l ≡ false →
         holds_ascii t h l i ≡ holds_ascii t (reverse h) (reversed l) (length h - i) }
@@ -42,8 +43,8 @@ pub fn reversed_looks_hold_in_the_reversed_haystack()
         holds_ascii t h l i ≡ holds_ascii t (exchanged h) (reversed l) (length h - i) }
 {}
 
-/// By characters, a Unicode look holds between two characters of a text exactly where its reverse holds between
-/// them in the text of the reversed characters. Each valid text is one of scalars.
+/// If words are read as characters, a Unicode look holds between two characters of UTF-8 exactly if its reverse holds
+/// between them in the UTF-8 of the reversed characters. All valid UTF-8 is that of scalars.
 pub fn reversed_looks_hold_between_the_reversed_characters()
     ensures mirror { (words : ℕ → Bool) (t : Terminator) (cs : List ℕ) (l : Look) (k : ℕ) → all_scalars cs ≡ true → k ≤ length cs →
         is_word_unicode l ≡ true → holds words t (encode_utf8_all cs) l (length (encode_utf8_all (take k cs)))
@@ -51,16 +52,16 @@ pub fn reversed_looks_hold_between_the_reversed_characters()
     ensures valid { (h : List ℕ) → IsValidText h → (cs : List ℕ) × ((all_scalars cs ≡ true) × (encode_utf8_all cs ≡ h)) }
 {}
 
-/// Classes that are made from the ranges of a list of looks keep these looks: where two haystacks have bytes of the
-/// same class at each place, each look of the list holds at the same places of both. A Unicode look needs more: the
-/// haystacks may only differ in bytes of ASCII. Neither has to be valid UTF-8.
+/// Byte classes that are made from the ranges of a list of looks preserve these looks. If two haystacks have bytes of
+/// the same class at each index, each look of the list holds at the same offsets of both. A Unicode look needs more:
+/// the haystacks may differ only in bytes of ASCII. Neither has to be valid UTF-8.
 pub fn byte_classes_keep_looks()
     ensures bytes { (words : ℕ → Bool) (t : Terminator) (looks : List Look) (marks : List Bool) (h g : List ℕ) (l : Look) (i : ℕ) →
         IsUnmarked marks → All (λ b. b < length marks) h → All (λ b. b < length marks) g →
-        HaveSameClasses (recorded marks (flat_map (told_apart t) looks)) h g → Contains looks l → is_word_unicode l ≡ false →
+        HaveSameClasses (recorded marks (flat_map (ranges_apart t) looks)) h g → Contains looks l → is_word_unicode l ≡ false →
         holds words t h l i ≡ holds words t g l i }
     ensures characters { (words : ℕ → Bool) (t : Terminator) (looks : List Look) (marks : List Bool) (h g : List ℕ) (l : Look) (i : ℕ) →
         IsUnmarked marks → All (λ b. b < length marks) h → All (λ b. b < length marks) g →
-        HaveSameClasses (recorded marks (flat_map (told_apart t) looks)) h g → Contains looks l → is_word_unicode l ≡ true →
+        HaveSameClasses (recorded marks (flat_map (ranges_apart t) looks)) h g → Contains looks l → is_word_unicode l ≡ true →
         IsWordSet words → DifferInAscii h g → holds words t h l i ≡ holds words t g l i }
 {}

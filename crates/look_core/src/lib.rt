@@ -1,7 +1,8 @@
-//! Looks: assertions on the place between two bytes of a haystack, and sets of them.
+//! Looks (look-around assertions): conditions on an offset between two bytes of a haystack, and sets of
+//! looks.
 //!
-//! The definitions are in `specs/`; the laws are public functions without code, those of looks and of
-//! their sets in [`look_set_laws`], and those of where looks hold in [`matcher_laws`] and [`laws`].
+//! The definitions are in `specs/`. The laws are public functions without code: [`look_set_laws`] has those
+//! of looks and of sets of looks, [`matcher_laws`] and [`laws`] those of where looks hold.
 //! ```rust
 //! pub fn is_edge_of_word(haystack: &[u8], at: usize) -> bool {
 //!     at <= haystack.len() && LookMatcher::default().matches(Look::WordAscii, haystack, at)

@@ -23,7 +23,7 @@ impl Model for LineTerm {
 }
 
 impl LineTerm {
-    /// This byte alone ends a line.
+    /// A terminator with which this byte alone ends a line.
     pub fn one(byte: u8) -> LineTerm
         ensures { result ≡ one_of byte }
     {
@@ -33,7 +33,8 @@ impl LineTerm {
         }
     }
 
-    /// Each of the two bytes ends a line, in whichever order they are given. Equal bytes are one.
+    /// A terminator with which each of the two bytes ends a line, in whichever order they are given. Equal
+    /// bytes are one.
     pub fn two(a: u8, b: u8) -> LineTerm
         ensures { result ≡ two_of a b }
     {
@@ -66,7 +67,7 @@ impl LineTerm {
         self.first
     }
 
-    /// The greatest byte that ends a line, where there are two.
+    /// The greatest byte that ends a line, if there are two.
     pub fn second(&self) -> Option<u8>
         ensures { result ≡ self.now.1 }
     {

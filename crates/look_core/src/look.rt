@@ -1,45 +1,45 @@
 ghost use Rattle.std.specs.Prelude.{◌≡◌, ◌↔◌, Some};
 ghost use Rattle.look_core.specs.Codes.{reversed, repr, char_of};
 
-/// An assertion on a place of a haystack: it holds or not by the bytes or the characters beside the place,
-/// and reads none of them. As `regex_automata::util::look::Look`.
+/// A look-around assertion: a condition on an offset of a haystack. Whether it holds depends on the bytes or
+/// the characters next to the offset. It consumes none of them. As `regex_automata::util::look::Look`.
 #[derive(Clone, Copy, Debug, PartialEq, Eq)]
 pub enum Look {
-    /// The place is the start of the haystack.
+    /// The offset is the start of the haystack.
     Start,
-    /// The place is the end of the haystack.
+    /// The offset is the end of the haystack.
     End,
-    /// The place is the start of the haystack, or a line terminator stands before it.
+    /// The offset is the start of the haystack, or comes right after a line terminator.
     StartLF,
-    /// The place is the end of the haystack, or a line terminator stands behind it.
+    /// The offset is the end of the haystack, or a line terminator comes right after it.
     EndLF,
-    /// The start of a line, where `\r`, `\n` and `\r\n` end lines: never between `\r` and `\n`.
+    /// The start of a line, if `\r`, `\n` and `\r\n` end lines: never between `\r` and `\n`.
     StartCRLF,
-    /// The end of a line, where `\r`, `\n` and `\r\n` end lines: never between `\r` and `\n`.
+    /// The end of a line, if `\r`, `\n` and `\r\n` end lines: never between `\r` and `\n`.
     EndCRLF,
-    /// A word, of ASCII, stands on one side alone.
+    /// An ASCII word character is on exactly one side of the offset.
     WordAscii,
-    /// A word, of ASCII, stands on both sides or on none.
+    /// An ASCII word character is on both sides of the offset, or on neither.
     WordAsciiNegate,
-    /// A word character stands on one side alone.
+    /// A word character is on exactly one side of the offset.
     WordUnicode,
-    /// A word character stands on both sides or on none.
+    /// A word character is on both sides of the offset, or on neither.
     WordUnicodeNegate,
-    /// A word, of ASCII, stands behind the place and none before it.
+    /// An ASCII word character comes right after the offset, and none right before it.
     WordStartAscii,
-    /// A word, of ASCII, stands before the place and none behind it.
+    /// An ASCII word character comes right before the offset, and none right after it.
     WordEndAscii,
-    /// A word character stands behind the place and none before it.
+    /// A word character comes right after the offset, and none right before it.
     WordStartUnicode,
-    /// A word character stands before the place and none behind it.
+    /// A word character comes right before the offset, and none right after it.
     WordEndUnicode,
-    /// No word, of ASCII, stands before the place.
+    /// No ASCII word character comes right before the offset.
     WordStartHalfAscii,
-    /// No word, of ASCII, stands behind the place.
+    /// No ASCII word character comes right after the offset.
     WordEndHalfAscii,
-    /// No word character stands before the place.
+    /// No word character comes right before the offset.
     WordStartHalfUnicode,
-    /// No word character stands behind the place.
+    /// No word character comes right after the offset.
     WordEndHalfUnicode,
 }
 
@@ -70,7 +70,7 @@ impl Look {
         }
     }
 
-    /// The number that stands for the look: a power of two, another one for each look.
+    /// A number for the look: a power of two, different for each look.
     pub fn as_repr(self) -> u32
         ensures { result ≡ repr self }
     {
@@ -96,7 +96,7 @@ impl Look {
         }
     }
 
-    /// The look that a number stands for, and `None` where it stands for none.
+    /// The look that has this number, or `None` if no look has it.
     pub fn from_repr(number: u32) -> Option<Look>
         ensures { (l : Look) → (number ≡ repr l) ↔ (result ≡ Some l) }
     {
@@ -123,7 +123,7 @@ impl Look {
         }
     }
 
-    /// A character that stands for the look, another one for each.
+    /// A character for the look, different for each look.
     pub fn as_char(self) -> char
         ensures { result ≡ char_of self }
     {

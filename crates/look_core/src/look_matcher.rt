@@ -6,7 +6,7 @@ ghost use Rattle.std.specs.List.{list_all};
 ghost use Rattle.look_core.specs.LookSets.{has_look};
 ghost use Rattle.look_core.specs.declared.look.Look.{Look as TheLook};
 ghost use Rattle.look_core.specs.Sides.{side_of};
-ghost use Rattle.look_core.specs.ToldApart.{told_apart, line_ends, crlf_ranges, word_ranges};
+ghost use Rattle.look_core.specs.ToldApart.{ranges_apart, line_ends, crlf_ranges, word_ranges};
 
 use crate::line_term::LineTerm;
 use crate::look::Look;
@@ -18,9 +18,9 @@ use crate::word_class::{AsciiWord, WordClass};
 use search_core::ByteClassSet;
 use std::marker::Model;
 
-/// Says where looks hold in a haystack, as `regex_automata::util::look::LookMatcher` does, with words
-/// by the caller's class. A place lies between two bytes: place `at` is in front of the byte with index
-/// `at`, and the last place is the haystack's length.
+/// Decides where looks hold in a haystack, as `regex_automata::util::look::LookMatcher` does, with word
+/// characters by the caller's class. An offset lies between two bytes: offset `at` is right before the byte
+/// with index `at`, and the last offset is the haystack's length.
 #[derive(Clone, Debug, Drop)]
 pub struct LookMatcher<W: WordClass> {
     words: W,
@@ -38,7 +38,7 @@ impl<W: WordClass> Model for LookMatcher<W> {
 }
 
 impl<W: WordClass> LookMatcher<W> {
-    /// Lines end at the line feed.
+    /// A matcher with this class of word characters. Lines end at the line feed.
     pub fn new(words: W) -> LookMatcher<W>
         ensures words { result.words ≡ words }
         ensures terminator { result.terminator ≡ one_of 0x0A }
@@ -247,7 +247,7 @@ impl<W: WordClass> LookMatcher<W> {
         Sides::by_characters(&self.words, haystack, at)
     }
 
-    /// Whether the look holds at the place.
+    /// Whether the look holds at the offset.
     pub fn matches(&self, look: Look, haystack: &[u8], at: usize) -> bool
         requires { at ≤ length haystack.now }
         ensures { result ≡ holds (W.words self.now.words) self.now.terminator haystack.now look at }
@@ -274,7 +274,7 @@ impl<W: WordClass> LookMatcher<W> {
         }
     }
 
-    /// Whether each look of the set holds at the place; so it is where the set is empty.
+    /// Whether every look of the set holds at the offset. For the empty set the result is true.
     #[tactic(auto, using(crate::proofs::MemberLemmas::members_pass, crate::proofs::MemberLemmas::all_members_pass))]
     pub fn matches_set(&self, set: LookSet, haystack: &[u8], at: usize) -> bool
         requires { at ≤ length haystack.now }
@@ -296,9 +296,9 @@ impl<W: WordClass> LookMatcher<W> {
         true
     }
 
-    /// Tells the bytes apart that the look tells apart, in the set from which byte classes are made.
+    /// Adds the ranges of bytes that the look distinguishes to the set from which byte classes are made.
     pub fn add_to_byteset(&self, look: Look, set: &mut ByteClassSet)
-        ensures { set.new ≡ recorded set.old (told_apart self.now.terminator look) }
+        ensures { set.new ≡ recorded set.old (ranges_apart self.now.terminator look) }
     {
         match look {
             Look::Start | Look::End => {}

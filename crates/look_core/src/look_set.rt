@@ -28,14 +28,14 @@ impl Model for LookSet {
 }
 
 impl LookSet {
-    /// No looks.
+    /// The empty set.
     pub fn empty() -> LookSet
         ensures { result ≡ 0 }
     {
         LookSet { bits: 0 }
     }
 
-    /// The set of all eighteen looks. It has no bits but theirs, where `regex_automata` sets all 32.
+    /// The set of all eighteen looks. It has their bits and no others, whereas `regex_automata` sets all 32.
     pub fn full() -> LookSet
         ensures { result ≡ full_set }
     {
@@ -49,7 +49,7 @@ impl LookSet {
         LookSet::empty().insert(look)
     }
 
-    /// The number that the set is, with a bit for each member: those that [`Look::as_repr`] gives, added up.
+    /// The number of the set, with a bit for each member: the sum of what [`Look::as_repr`] returns for them.
     pub fn bits(self) -> u32
         ensures value { result ≡ self }
         ensures in_range { IsLookSet result }
@@ -57,7 +57,7 @@ impl LookSet {
         self.bits
     }
 
-    /// The set that a number is, as [`bits`](LookSet::bits) gives it.
+    /// The set of a number, as [`bits`](LookSet::bits) returns it.
     pub fn from_bits(bits: u32) -> LookSet
         requires { IsLookSet bits }
         ensures { result ≡ bits }
@@ -93,7 +93,7 @@ impl LookSet {
         LookSetIter::new(self)
     }
 
-    /// Nothing: the table of word characters, which some looks need, is always there.
+    /// Always `Ok`: the table of word characters, which some looks need, is there.
     pub fn available(self) -> Result<(), UnicodeWordBoundaryError>
         ensures { result ≡ Ok tt }
     {
@@ -111,7 +111,7 @@ impl LookSet {
     }
 }
 
-/// What the set has of a family of looks.
+/// Whether the set has a look of a family.
 impl LookSet {
     /// Whether it has a look of the haystack's edges or of lines.
     pub fn contains_anchor(self) -> bool
@@ -196,9 +196,9 @@ impl LookSet {
     }
 }
 
-/// Sets made of others.
+/// Sets that are made from others.
 impl LookSet {
-    /// The set with the look.
+    /// The set with this look added.
     pub fn insert(self, look: Look) -> LookSet
         ensures { result ≡ with_look self look }
     {
@@ -207,7 +207,7 @@ impl LookSet {
         }
     }
 
-    /// The set without the look.
+    /// The set with this look removed.
     pub fn remove(self, look: Look) -> LookSet
         ensures { result ≡ without_look self look }
     {
@@ -216,7 +216,7 @@ impl LookSet {
         }
     }
 
-    /// The members that the other set has not.
+    /// The members that the other set doesn't have.
     pub fn subtract(self, other: LookSet) -> LookSet
         ensures { result ≡ without self other }
     {
@@ -243,35 +243,35 @@ impl LookSet {
         }
     }
 
-    /// Puts the look in.
+    /// Adds the look to the set.
     pub fn set_insert(&mut self, look: Look)
         ensures { self.new ≡ with_look self.old look }
     {
         *self = self.insert(look);
     }
 
-    /// Takes the look out.
+    /// Removes the look from the set.
     pub fn set_remove(&mut self, look: Look)
         ensures { self.new ≡ without_look self.old look }
     {
         *self = self.remove(look);
     }
 
-    /// Takes the other set's members out.
+    /// Removes the other set's members.
     pub fn set_subtract(&mut self, other: LookSet)
         ensures { self.new ≡ without self.old other }
     {
         *self = self.subtract(other);
     }
 
-    /// Puts the other set's members in.
+    /// Adds the other set's members.
     pub fn set_union(&mut self, other: LookSet)
         ensures { self.new ≡ union_of self.old other }
     {
         *self = self.union(other);
     }
 
-    /// Leaves the members alone that the other set has too.
+    /// Keeps only the members that the other set has, too.
     pub fn set_intersect(&mut self, other: LookSet)
         ensures { self.new ≡ shared_by self.old other }
     {

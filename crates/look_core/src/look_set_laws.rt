@@ -1,4 +1,4 @@
-//! Laws of looks and of their sets. The contract of each function is the law, and but for one of them they have no
+//! Laws of looks and of their sets. The contract of each function is the law. All but one of the functions have no
 //! code.
 //! ```rust
 //! pub fn twice_is_not_at_all()
@@ -27,15 +27,15 @@ pub fn looks_are_told_apart()
     ensures itself { (l : TheLook) → same_look l l ≡ true }
 {}
 
-/// [`Look::from_repr`](crate::Look::from_repr) gives each look for the number that
-/// [`Look::as_repr`](crate::Look::as_repr) gives for it.
+/// [`Look::from_repr`](crate::Look::from_repr) returns each look for the number that
+/// [`Look::as_repr`](crate::Look::as_repr) returns for it.
 pub fn from_repr_inverts_as_repr(look: Look) -> Option<Look>
     ensures { result ≡ Some look }
 {
     Look::from_repr(look.as_repr())
 }
 
-/// What the numbers of sets have as members.
+/// Which members the numbers of sets have.
 pub fn members_of_sets()
     ensures empty { (l : TheLook) → has_look 0 l ≡ false }
     ensures full { (l : TheLook) → has_look full_set l ≡ true }

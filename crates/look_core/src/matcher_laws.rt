@@ -24,7 +24,7 @@ pub fn terminators_are_their_bytes()
     ensures { (s t : Terminator) → IsTerminator s → IsTerminator t → ((c : ℕ) → ends_line s c ≡ ends_line t c) → s ≡ t }
 {}
 
-/// Where the neighbours of a place are bytes of ASCII or the edge of the haystack, it makes no difference
+/// If each neighbour of an offset is a byte of ASCII or the edge of the haystack, it makes no difference
 /// whether words are read as characters or as bytes, whatever the class of words.
 #[tactic(auto, using(crate::proofs::SideLemmas::agree_on_ascii))]
 pub fn words_agree_beside_ascii()

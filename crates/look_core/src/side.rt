@@ -8,14 +8,14 @@ ghost use Rattle.look_core.specs.Sides.{side_of, decoded_side};
 use crate::word_class::WordClass;
 use search_core::utf8::{decode, decode_last, is_word_byte};
 
-/// What one side of a place reads as.
+/// What one side of an offset reads as.
 #[derive(Clone, Copy)]
 pub(crate) enum Side {
     /// A word.
     Word,
     /// No word, or the edge of the haystack.
     NoWord,
-    /// A byte of no character that ends or begins at the place.
+    /// A byte of no character that ends or begins at the offset.
     Broken,
 }
 
@@ -33,7 +33,7 @@ impl Side {
     }
 }
 
-/// The two sides of a place.
+/// The two sides of an offset.
 #[derive(Clone, Copy)]
 pub(crate) struct Sides {
     pub(crate) before: Side,
@@ -95,7 +95,7 @@ impl Sides {
     }
 }
 
-/// The byte in front of the place.
+/// The byte right before the offset.
 pub(crate) fn byte_before(haystack: &[u8], at: usize) -> Option<u8>
     requires { at ≤ length haystack.now }
     ensures { result ≡ byte_before haystack.now at }
@@ -106,7 +106,7 @@ pub(crate) fn byte_before(haystack: &[u8], at: usize) -> Option<u8>
     Some(haystack[at - 1])
 }
 
-/// The byte behind the place.
+/// The byte right after the offset.
 pub(crate) fn byte_at(haystack: &[u8], at: usize) -> Option<u8>
     ensures { result ≡ byte_at haystack.now at }
 {

@@ -3,8 +3,8 @@ ghost use Rattle.std.specs.Prelude.{◌≡◌, Ok};
 use std::error::Error;
 use std::fmt;
 
-/// What asking for Unicode's word boundaries would be refused with, where the table of word characters is left
-/// out. Here the table is always there, so nothing gives this error. As `regex_automata::util::look::UnicodeWordBoundaryError`.
+/// The error that a request for Unicode's word boundaries would return if the table of word characters were left out. Here the
+/// table is always there, so nothing returns this error. As `regex_automata::util::look::UnicodeWordBoundaryError`.
 #[derive(Clone, Copy, Debug, PartialEq, Eq)]
 pub struct UnicodeWordBoundaryError(());
 

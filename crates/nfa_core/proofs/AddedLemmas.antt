@@ -1,4 +1,4 @@
--- What refuses one more state or one more way, and what loops that push leave.
+-- The errors of adding one more state or one more transition, and what loops that push leave.
 use Rattle.std.proofs.Common.{◌≡◌, ℕ, zero, suc, ◌+◌, ◌-◌, ◌<◌, ◌≤◌, List, [], ◌∷◌, ◌++◌, map, length, take, drop, get_or}
 use Rattle.std.proofs.Common.{◌∙◌, arith, min, true, false, if◌then◌else◌, le-ltb, Option, Some, None, Result, Ok, Err}
 use Rattle.std.proofs.Common.{sym, ap, subst, length-append, length-drop}
@@ -13,7 +13,7 @@ use Rattle.nfa_core.specs.BuilderFaults.{add_fault, limit_fault, patch_fault, to
 use Rattle.nfa_core.proofs.BuilderLemmas.{bytes_pushed, bytes_patched}
 use Rattle.nfa_core.proofs.OrderLemmas.{limit_holds}
 
--- an error that is handed on
+-- an error that is returned as it is
 pub refused : {A E : Type 0} (P : A → Type 0) (Q : E → Type 0) (r : Result A E) (e : E) → IsErrAnd r (λ x. x ≡ e) → Q e → MatchResult r P Q
 refused P Q (Ok a) e is q = absurd is
 refused P Q (Err x) e is q = subst Q (sym is) q
@@ -54,7 +54,7 @@ fault_in_room view drafts draft b limit bytes seen same room sum =
     ∙ (ap (λ l. limit_fault l (bytes_of_drafts (b.drafts ++ draft ∷ []))) (sym same)
     ∙ ap (limit_fault limit) (ap (λ l. bytes_of_drafts (l ++ draft ∷ [])) (sym seen) ∙ sym sum))
 
--- ---- one more way
+-- ---- one more transition
 
 pub way_added : (drafts : List DraftNode) (from to old own new : ℕ) → from < length drafts →
     new ≡ min (old + own) 18446744073709551615 → old ≡ bytes_of_drafts drafts → own ≡ way_bytes (draft_at drafts from) →
@@ -87,7 +87,7 @@ way_fault old now from to bytes e sum = ap (λ (b : Assembly). patch_fault b fro
 capped_none : (m s w : ℕ) → w ≡ 0 → min (min s m + w) m ≡ min s m
 capped_none m s w none = grind arith
 
--- a way that takes no bytes passes no limit
+-- a transition that takes no bytes exceeds no limit
 pub free_way : (drafts : List DraftNode) (limit : Option ℕ) (old own new : ℕ) → new ≡ min (old + own) 18446744073709551615 →
     old ≡ bytes_of_drafts drafts → own ≡ 0 → MatchOption limit ⊤ (λ most. bytes_of_drafts drafts ≤ most) → limit_fault limit new ≡ None
 free_way drafts limit old own new sum was none within =

@@ -1,4 +1,4 @@
--- Uncut lists have at each place the ends of all runs there, in order.
+-- Uncut lists have at each position the ends of all runs there, in order.
 use Rattle.std.proofs.Common.{◌≡◌, ◌≢◌, ℕ, zero, suc, ◌+◌, ◌*◌, ◌-◌, ◌<◌, ◌≤◌, true, false, Bool, List, [], ◌∷◌, ◌++◌, refl, sym, ap, ◌∙◌}
 use Rattle.std.proofs.Common.{arith, ⊎_elim, Option}
 use Rattle.std.proofs.lemmas.Bool.{cases_Bool}
@@ -8,11 +8,11 @@ use Rattle.std.specs.List.{flat_map}
 use Rattle.std.specs.Bool.{nat_eq}
 use Rattle.nfa_core.specs.Walks.{distinct, chain_ends, IsEquality}
 use Rattle.nfa_core.specs.Runs.{run_ends}
-use Rattle.nfa_core.specs.Places.{same_pair, nexts, arrivals, AreWalkLists, answers_at, only_at, IsGraph}
+use Rattle.nfa_core.specs.Places.{same_pair, nexts, arrivals, AreStepLists, answers_at, only_at, IsGraph}
 use Rattle.nfa_core.proofs.MemberLemmas.{flat_map_same, flat_map_twice}
 use Rattle.nfa_core.proofs.JoinLemmas.{join_flat_map}
 use Rattle.nfa_core.proofs.PairLemmas.{names_equal}
-use Rattle.nfa_core.proofs.PlaceLemmas.{here, beyond, found, ends_by_place}
+use Rattle.nfa_core.proofs.PlaceLemmas.{here, beyond, found, ends_by_offset}
 use Rattle.nfa_core.proofs.LatestLemmas.{lists_are_joins}
 
 flat_map_nil : {A B : Type 0} (f : A → List B) (xs : List A) → ((x : A) → f x ≡ []) → flat_map f xs ≡ []
@@ -32,13 +32,13 @@ module _ {B : Type 0} (eps step : ℕ → ℕ → List ℕ) (n len : ℕ) (graph
   at_k : (y : ℕ) → here eps step only n k y ≡ here eps step answer n k y
   at_k y = let e : nat_eq k k ≡ true = (Decides-eqb k k).1 refl in rw e
 
-  -- behind place k there are none
+  -- after position k there are none
   none_later : (d j y : ℕ) → k ≤ j → beyond eps step only n d j y ≡ []
   none_later zero j y h = refl
   none_later (suc d) j y h = flat_map_nil (found eps step only n d (suc j)) (flat_map (chain_ends nat_eq (eps (suc j)) n []) (step j y))
       (λ z. rw (off (suc j) z (omega (arith, h)), none_later d (suc j) z (omega (arith, h))))
 
-  -- up to place k all are those of what arrives
+  -- up to position k, the ends are those of what arrives
   up : (start i d : ℕ) → i + d ≡ len → i ≤ k →
       flat_map (found eps step only n len 0) (chain_ends nat_eq (eps 0) n [] start) ≡ flat_map (found eps step only n d i)
       (arrivals eps step n start i)
@@ -57,9 +57,9 @@ module _ {B : Type 0} (eps step : ℕ → ℕ → List ℕ) (n len : ℕ) (graph
   at_place d xs = flat_map_same nat_eq names_equal (found eps step only n d k) (here eps step answer n k) xs
       (λ y h. ap (λ l. here eps step only n k y ++ l) (none_later d k y (omega arith)) ∙ append-nil (here eps step only n k y) ∙ at_k y)
 
-  -- the matches of the list at place k are the ends of runs there
+  -- the matches of the list at position k are the ends of runs there
   pub list_has_ends : (same_end : B → B → Bool) → IsEquality same_end → (start : ℕ) → start < n → (lists : ℕ → List ℕ) →
-      AreWalkLists eps step (λ j xs. xs) len start lists → k ≤ len →
+      AreStepLists eps step (λ j xs. xs) len start lists → k ≤ len →
       distinct same_end (answers_at answer k (lists k)) ≡ run_ends same_pair same_end (nexts eps step) (only_at k answer) (suc len * n) (
         0,
         start,
@@ -68,6 +68,6 @@ module _ {B : Type 0} (eps step : ℕ → ℕ → List ℕ) (n len : ℕ) (graph
       let arrived : List ℕ = arrivals eps step n start k in
       ap (λ l. distinct same_end (answers_at answer k l)) (lists_are_joins eps step n len graph start start_low lists listed k inside)
       ∙ join_flat_map nat_eq names_equal same_end laws_end (here eps step answer n k) [] [] arrived
-      ∙ ap (distinct same_end) (sym (ends_by_place eps step only n len graph start start_low
+      ∙ ap (distinct same_end) (sym (ends_by_offset eps step only n len graph start start_low
       ∙ up start k (len - k) (omega (arith, inside)) (omega arith)
       ∙ at_place (len - k) arrived))

@@ -1,4 +1,4 @@
--- The ways of an automaton over a text: they stay in it, and a match has none.
+-- The edges of an automaton over a haystack: they stay in it, and a match has none.
 use Rattle.std.proofs.Common.{◌≡◌, ℕ, zero, suc, ◌*◌, ◌<◌, ◌≤◌, true, false, Bool, ◌&&◌, List, [], ◌∷◌, length, map, get_or, if◌then◌else◌}
 use Rattle.std.proofs.Common.{refl, arith, ⊎_elim, Option, Some, None}
 use Rattle.std.proofs.lemmas.Bool.{cases_Bool}
@@ -10,12 +10,12 @@ use Rattle.nfa_core.specs.Walks.{Has, IsFinite}
 use Rattle.nfa_core.specs.Places.{same_pair}
 use Rattle.nfa_core.specs.Nfa.{Node, byte_range, sparse_node, dense_node, look_node, union_node, binary_union, capture_node, fail_node}
 use Rattle.nfa_core.specs.Nfa.{match_node, Automaton, node_at, leads_to, IsWellFormed}
-use Rattle.nfa_core.specs.Ways.{Text, reads, with_place, is_passed, in_ranges, named, on_byte, on_nothing, on_read, place_behind}
+use Rattle.nfa_core.specs.Ways.{Text, reads, with_offset, is_satisfied, in_ranges, named, on_byte, on_nothing, on_read, offset_after}
 use Rattle.nfa_core.specs.Ways.{byte_steps, plain_steps, ways, match_of, matched, IsPairOf}
 use Rattle.nfa_core.proofs.MemberLemmas.{none_in, has_later, has_first, has_one, has_same, of_cons, of_append}
 use Rattle.nfa_core.proofs.PairLemmas.{pairs_equal, names_equal, from_map, pairs_room}
 
--- a list that a test leaves as it is, or empties, brings nothing new
+-- a list that a test keeps or empties has no new members
 of_if : (t : Bool) (xs : List ℕ) (r : ℕ) → Has nat_eq r (if t then xs else []) → Has nat_eq r xs
 of_if true xs r h = h
 of_if false xs r h = none_in nat_eq r _ h
@@ -68,31 +68,32 @@ pub read_led : (node : Node) (read : Option (ℕ × ℕ)) (r : ℕ) → Has nat_
 read_led node None r h = none_in nat_eq r _ h
 read_led node (Some (b, j)) r h = byte_led node b r h
 
--- ---- places
+-- ---- offsets
 
--- what is read at a place is followed by the next place, or nothing is read
-abbrev pub IsBeside : Bool → Text → ℕ → Option (ℕ × ℕ) → Type 0
-IsBeside is_reverse t i None = Unit {0}
-IsBeside false t i (Some (b, j)) = (j ≡ suc i) × (i < t.end)
-IsBeside true t i (Some (b, j)) = (i ≡ suc j) × (t.start ≤ j)
+-- what is read at an offset is followed by the next offset, or nothing is read
+abbrev pub IsOutsideOf : Bool → Text → ℕ → Option (ℕ × ℕ) → Type 0
+IsOutsideOf is_reverse t i None = Unit {0}
+IsOutsideOf false t i (Some (b, j)) = (j ≡ suc i) × (i < t.end)
+IsOutsideOf true t i (Some (b, j)) = (i ≡ suc j) × (t.start ≤ j)
 
-beside_forward : (t : Text) (i : ℕ) (o : Option ℕ) → i < t.end → IsBeside false t i (with_place (suc i) o)
+beside_forward : (t : Text) (i : ℕ) (o : Option ℕ) → i < t.end → IsOutsideOf false t i (with_offset (suc i) o)
 beside_forward t i None h = tt
 beside_forward t i (Some b) h = (refl, h)
 
-beside_reverse : (t : Text) (i : ℕ) (o : Option ℕ) → t.start ≤ i → IsBeside true t (suc i) (with_place i o)
+beside_reverse : (t : Text) (i : ℕ) (o : Option ℕ) → t.start ≤ i → IsOutsideOf true t (suc i) (with_offset i o)
 beside_reverse t i None h = tt
 beside_reverse t i (Some b) h = (refl, h)
 
-pub reads_beside : (is_reverse : Bool) (t : Text) (i : ℕ) → IsBeside is_reverse t i (reads is_reverse t i)
+pub reads_beside : (is_reverse : Bool) (t : Text) (i : ℕ) → IsOutsideOf is_reverse t i (reads is_reverse t i)
 reads_beside false t i = ⊎_elim (λ (e : nat_lt i t.end ≡ true). rw e (beside_forward t i (byte_at t.haystack i)
     ((Decides-ltb i t.end).0 e))) (λ (e : nat_lt i t.end ≡ false). rw e tt) (cases_Bool (nat_lt i t.end))
 reads_beside true t zero = tt
-reads_beside true t (suc i) = ⊎_elim (λ told. rw told.0 (beside_reverse t i (byte_at t.haystack i) told.1)) (λ told. rw told.0 tt)
+reads_beside true t (suc i) = ⊎_elim (λ reported. rw reported.0 (beside_reverse t i (byte_at t.haystack i) reported.1)) (λ reported. rw
+    reported.0 tt)
     (leb_tells t.start i)
 
-pub behind_inside : (is_reverse : Bool) (t : Text) (i : ℕ) (read : Option (ℕ × ℕ)) → IsBeside is_reverse t i read → i ≤ t.end →
-    place_behind i read ≤ t.end
+pub behind_inside : (is_reverse : Bool) (t : Text) (i : ℕ) (read : Option (ℕ × ℕ)) → IsOutsideOf is_reverse t i read → i ≤ t.end →
+    offset_after i read ≤ t.end
 behind_inside is_reverse t i None beside h = h
 behind_inside false t i (Some (b, j)) beside h = omega (arith, beside.0, beside.1)
 behind_inside true t i (Some (b, j)) beside h = omega (arith, beside.0, h)
@@ -101,7 +102,7 @@ pub finite_automaton : (a : Automaton) (t : Text) → IsWellFormed a → IsFinit
     (suc t.end * length a.states)
 finite_automaton a t formed = record {
   stays = λ p here.
-      let j : ℕ = place_behind p.0 (reads a.reverse t p.0) in
+      let j : ℕ = offset_after p.0 (reads a.reverse t p.0) in
       let inside : j ≤ t.end = behind_inside a.reverse t p.0 (reads a.reverse t p.0) (reads_beside a.reverse t p.0) here.0 in
       of_append same_pair pairs_equal (IsPairOf a t) (map (λ q. (j, q)) (byte_steps a t p.0 p.1))
       (map (λ q. (p.0, q)) (plain_steps a t p.0 p.1))
@@ -109,7 +110,7 @@ finite_automaton a t formed = record {
       let below : o.0 < length a.states = formed p.1 o.0 (read_led (node_at a p.1) (reads a.reverse t p.0) o.0 o.1) in
       rw o.2 (inside, below))
       (λ q h. let o = from_map p.0 q (plain_steps a t p.0 p.1) h in
-      let below : o.0 < length a.states = formed p.1 o.0 (nothing_led (node_at a p.1) (λ l. is_passed a.reverse t l p.0) o.0 o.1) in
+      let below : o.0 < length a.states = formed p.1 o.0 (nothing_led (node_at a p.1) (λ l. is_satisfied a.reverse t l p.0) o.0 o.1) in
       rw o.2 (here.0, below));
   room = pairs_room (length a.states) t.end;
 }

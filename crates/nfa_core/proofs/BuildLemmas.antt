@@ -1,4 +1,4 @@
--- The automaton that is built keeps to what every NFA keeps to, and it makes no difference which table gives its names.
+-- The automaton that is built satisfies what holds of every NFA. It makes no difference which table gives its names.
 use Rattle.std.proofs.Common.{◌≡◌, ℕ, ◌+◌, ◌<◌, ◌≤◌, true, Bool, List, [], ◌∷◌, length, map, take, get_or, Option, None, refl, sym, ap, ◌∙◌}
 use Rattle.std.proofs.Common.{arith, subst, ⊎_elim, if◌then◌else◌}
 use Rattle.std.specs.Prelude.{is_none, All, reverse, cond}
@@ -188,7 +188,7 @@ node_of_draft name groups patterns (union_reverse_draft names) good = ways_of_no
 node_of_draft name groups patterns fail_draft good = tt
 node_of_draft name groups patterns (match_draft pattern) good = good
 
--- what the automaton is, which every NFA is
+-- the automaton is sound, as every NFA is
 pub sound : (b : Assembly) (x y : ℕ) → CanBuild b x y → HasPasts b.drafts → IsInOrder b.drafts (pattern_count b) b.size_limit →
     IsSound (automaton_of b x y)
 sound b x y can reached order =
@@ -211,10 +211,10 @@ sound b x y can reached order =
     subst (λ (k : ℕ). All (IsDraftOf k) b.drafts) (count ∙ sym starts) order.parts_of in
     record {
       named = λ q r h. ⊎_elim
-          (λ told. let none : get_or nodes q fail_node ≡ fail_node = get_or_past nodes q fail_node told.1 in
+          (λ reported. let none : get_or nodes q fail_node ≡ fail_node = get_or_past nodes q fail_node reported.1 in
           none_in nat_eq r (r < length nodes) (subst (λ (node : Node). Has nat_eq r (leads_to node)) none h))
-          (λ told. has_all (λ q. q < length nodes) (leads_to (get_or nodes q fail_node))
-          (All-get_or (λ node. All (λ q. q < length nodes) (leads_to node)) nodes q fail_node told.1 named) r h)
+          (λ reported. has_all (λ q. q < length nodes) (leads_to (get_or nodes q fail_node))
+          (All-get_or (λ node. All (λ q. q < length nodes) (leads_to node)) nodes q fail_node reported.1 named) r h)
           (leb_tells (length nodes) q);
       anchored = inside x can.anchored_there;
       unanchored = inside y can.unanchored_there;

@@ -1,4 +1,4 @@
--- What is built of the states of the byte `a` behind any other bytes, by computation.
+-- What is built of the states of the byte `a` after any other bytes, by computation.
 use Rattle.std.proofs.Common.{◌≡◌, List, [], ◌∷◌, refl, false, true, Some, None}
 use Rattle.look_core.specs.Terminators.{one_of}
 use Rattle.nfa_core.specs.BuilderStates.{Assembly, DraftNode, empty_draft, range_draft, sparse_draft, union_draft, union_reverse_draft}
@@ -10,7 +10,7 @@ use Rattle.nfa_core.specs.NfaParts.{always_matching}
 use Rattle.nfa_core.specs.NfaValue.{has_empty, reached_freely, memory_of}
 use Rattle.nfa_core.specs.Renaming.{past, new_name, automaton_of}
 
--- a union that prefers its last way, an empty state that stands for it, all bytes, the byte 61, and a match
+-- a union that prefers its last alternative, an empty state that stands for it, all bytes, the byte 0x61, and a match
 abbrev byte_a : List DraftNode
 byte_a = union_reverse_draft (2 ∷ 3 ∷ []) ∷ empty_draft 0 ∷ sparse_draft ((
   0x00,

@@ -25,7 +25,7 @@ longer names to =
     let len = length-append names (to ∷ []) in
     ap (λ n. 24 + 4 * n) len ∙ grind arith
 
--- one more way takes its bytes
+-- one more transition takes its bytes
 draft_bytes_patched : (to : ℕ) (draft : DraftNode) → draft_bytes (patched to draft) ≡ draft_bytes draft + way_bytes draft
 draft_bytes_patched to (empty_draft next) = refl
 draft_bytes_patched to (range_draft low high next) = refl
@@ -50,7 +50,7 @@ bytes_patched drafts from to inside =
     (way_bytes draft)
     (sums ∙ ap (λ n. sum_by draft_bytes drafts + n) (draft_bytes_patched to draft))
 
--- the states as contracts see them, where one was patched
+-- the states as contracts see them, with one that was patched
 pub view_patched : {D : Type 0} (view : D → DraftNode) (drafts : List D) (at from to : ℕ) (old new other : D) → at ≡ from →
     from < length drafts →
     old ≡ get_or drafts from other → view new ≡ patched to (view old) → map view (set drafts at new) ≡ patched_at (map view drafts) from to
@@ -80,7 +80,7 @@ filled_enough filler xs n long =
     let gap : n - length xs ≡ 0 = omega arith in
     ap (λ k. xs ++ replicate k filler) gap ∙ append-nil xs
 
--- the same of things that are seen as others
+-- the same list, seen through a view
 pub view_filled_more : {D A : Type 0} (view : D → A) (filler : A) (old new : List D) (one : D) (n : ℕ) (goal : List A) →
     new ≡ old ++ one ∷ [] →
     view one ≡ filler → length old < n → filled filler (map view old) n ≡ goal → filled filler (map view new) n ≡ goal
@@ -90,7 +90,7 @@ view_filled_more view filler old new one n goal pushed is_filler short so_far =
     let room : length (map view old) < n = omega arith in
     ap (λ xs. filled filler xs n) seen ∙ filled_more filler (map view old) n room ∙ so_far
 
--- the name that comes behind the fillers
+-- the name that comes after the fillers
 pub view_named : {D : Type 0} (view : D → Option Name) (old mid new : List D) (one : D) (index : ℕ) (name : Option Name) →
     new ≡ mid ++ one ∷ [] →
     view one ≡ name → index ≤ length mid → length old ≤ index →
@@ -106,7 +106,7 @@ view_named view old mid new one index name pushed is_name enough absent so_far =
     seen ∙ ap (λ xs. xs ++ name ∷ []) filled_up ∙ sym (ap (λ b. if b then map view old
     else (filled None (map view old) index ++ name ∷ [])) test)
 
--- the groups where those of one pattern were changed
+-- the groups, with a change to those of one pattern
 pub view_group : {D : Type 0} (view : D → List (Option Name)) (old mid : List D) (at pattern index : ℕ) (name : Option Name)
     (was now other : D) → at ≡ pattern →
     map view mid ≡ up_to_pattern (map view old) pattern → pattern < length mid → was ≡ get_or mid pattern other →

@@ -1,10 +1,10 @@
--- Runs that keep off a path: the form in which the walk of simple chains meets them.
+-- Runs that avoid a path: the form in which the search of simple chains finds them.
 use Rattle.std.proofs.Common.{◌≡◌, ℕ, false, Bool, List, [], ◌∷◌, refl, ⊎_elim, subst}
 use Rattle.nfa_core.specs.Walks.{has, Has, HasNoneTwice, IsEquality, IsFinite}
 use Rattle.nfa_core.specs.Runs.{IsChain}
 use Rattle.nfa_core.proofs.MemberLemmas.{none_in, has_or_not, not_both, has_first, has_later, has_cons, lacks_later, of_cons}
 
--- the chain from p goes on by r, comes to nothing twice and to nothing of the path
+-- the chain from p continues with r, visits nothing twice, and avoids the path
 abbrev pub KeepsOff : {A : Type 0} → (A → A → Bool) → (A → List A) → List A → A → List A → Type 0
 KeepsOff same ways path p [] = has same p path ≡ false
 KeepsOff same ways path p (q ∷ r) = (has same p path ≡ false) × Has same q (ways p) × KeepsOff same ways (p ∷ path) q r
@@ -18,7 +18,7 @@ module _ {A : Type 0} (same : A → A → Bool) (laws : IsEquality same) (ways :
   chain_of path p [] off = tt
   chain_of path p (q ∷ r) off = (off.1, chain_of (p ∷ path) q r off.2)
 
-  -- each of the chain is off the path
+  -- no vertex of the chain is on the path
   pub all_off : (path : List A) (p : A) (r : List A) → KeepsOff same ways path p r → (z : A) → Has same z (p ∷ r) → has same z path ≡ false
   all_off path p [] off z h = of_cons same laws (λ y. has same y path ≡ false) p [] off (λ y g. none_in same y _ g) z h
   all_off path p (q ∷ r) off z h = of_cons same laws (λ y. has same y path ≡ false) p (q ∷ r) off.0
@@ -46,7 +46,7 @@ module _ {A : Type 0} (same : A → A → Bool) (laws : IsEquality same) (ways :
         (λ e. e) (has_or_not same z (p ∷ path))),
   )
 
-  -- all of a chain from the set are in the set
+  -- all vertices of a chain that begins in the set are in the set
   pub stays_in : (In : A → Type 0) (n : ℕ) → IsFinite same ways In n → (p : A) (r : List A) → In p → IsChain same ways p r → (z : A) →
       Has same z (p ∷ r) → In z
   stays_in In n finite p [] here chain z h = of_cons same laws In p [] here (λ y g. none_in same y _ g) z h

@@ -1,4 +1,4 @@
--- What is tested of a builder is what is asked of it before an automaton is built.
+-- What is tested of a builder is what building an automaton requires.
 use Rattle.std.proofs.Common.{◌≡◌, ℕ, zero, suc, ◌<◌, ◌≤◌, Bool, true, false, List, length, get_or, refl, sym, ap, ◌∙◌, arith, [], ◌∷◌}
 use Rattle.std.proofs.Common.{Option, Some, None, le-ltb, subst}
 use Rattle.std.specs.Prelude.{All, nat_lt, not, ◌&&◌, is_none, Decides, String, string_bytes, Vec}
@@ -62,12 +62,12 @@ can_checked b x y can =
     (and_from _ _ ((decides_below n b.starts).1 can.starts_there) (and_from _ _ ((decides_named n b.drafts).1 can.named)
     ((decides_known b.groups b.drafts).1 can.known)))))
 
--- where each state was followed to one that stands for itself, there is no loop
+-- if each state was followed to one that stands for itself, there is no loop
 pub followed_free : (drafts : List DraftNode) (n : ℕ) → length drafts ≡ n →
     ((q : ℕ) → q < n → stands_for (draft_at drafts (past drafts q)) ≡ None) → HasNoLoop drafts
 followed_free drafts n len all q inside = (length drafts, all q (omega (arith, len, inside)))
 
--- where one wasn't, there is
+-- if one wasn't, there is a loop
 pub caught : (drafts : List DraftNode) (q : ℕ) → q < length drafts → is_none (stands_for (draft_at drafts (past drafts q))) ≡ false →
     HasNoLoop drafts → false ≡ true
 caught drafts q inside e free = let stands = past_stands drafts free q inside in cc
@@ -133,7 +133,7 @@ names_fail b x y m drafts same_m same e =
     (ap (λ (k : ℕ). list_all (λ draft. list_all (λ q. nat_lt q k) (names_of draft)) b.drafts) (sym same_m)
     ∙ ap (list_all (λ draft. list_all (λ q. nat_lt q m) (names_of draft))) (sym same) ∙ sym e)
 
--- the tests in their order, where all but the last answered true
+-- the tests in their order, if all but the last answered true
 pub all_tested : (b : Assembly) (x y n m : ℕ) (starts : List ℕ) (drafts later : List DraftNode) (groups : Groups)
     (first second third : Bool) →
     n ≡ length b.drafts → m ≡ length b.drafts → starts ≡ b.starts → drafts ≡ b.drafts → later ≡ b.drafts → groups ≡ b.groups →
@@ -155,13 +155,13 @@ all_tested b x y n m starts drafts later groups first second third same_n same_m
     ∙ ap (list_all (is_known b.groups)) same_later in
     rw (closed, one, two, three, four) five
 
--- where a state that was followed stands for itself, it is the one past the first
+-- if a state that was followed stands for itself, it is the one past the first
 pub followed : (drafts : List DraftNode) (k at q : ℕ) → past_within drafts k at ≡ past drafts q → stands_for (draft_at drafts at) ≡ None →
     true ≡ is_none (stands_for (draft_at drafts (past drafts q)))
 followed drafts k at q same e = let there : at ≡ past drafts q = sym (past_itself drafts k at e) ∙ same in
     ap is_none (sym (ap (λ (r : ℕ). stands_for (draft_at drafts r)) (sym there) ∙ e))
 
--- one way more is followed
+-- one more step is followed
 pub follow_next : (drafts : List DraftNode) (k r at next q : ℕ) → k ≡ suc r → stands_for (draft_at drafts at) ≡ Some next →
     past_within drafts k at ≡ past drafts q → past_within drafts r next ≡ past drafts q
 follow_next drafts k r at next q more e same = sym (ap (going_on at (past_within drafts r)) e)

@@ -1,4 +1,4 @@
--- A chain that comes back to a thing goes round: without the round it finds the same.
+-- A chain that returns to a vertex has a cycle. Without the cycle it has the same end.
 use Rattle.std.proofs.Common.{◌≡◌, true, false, Bool, List, [], ◌∷◌, refl, sym, ◌∙◌, subst, ◌⊎◌, inl, inr, ⊎_elim}
 use Rattle.std.proofs.lemmas.Bool.{cases_Bool}
 use Rattle.nfa_core.specs.Walks.{has, Has, HasNoneTwice, IsEquality}
@@ -6,11 +6,11 @@ use Rattle.nfa_core.specs.Runs.{IsChain, last_or, comes_before, IsPreferred}
 use Rattle.nfa_core.proofs.MemberLemmas.{none_in, not_both, has_or_not, has_cons}
 
 module _ {A : Type 0} (same : A → A → Bool) (laws : IsEquality same) (ways : A → List A) where
-  -- a chain from p that comes to nothing twice and ends in x
+  -- a chain from p that visits nothing twice and ends in x
   abbrev pub Simple : A → A → List A → Type 0
   Simple p x r = IsChain same ways p r × HasNoneTwice same (p ∷ r) × (last_or p r ≡ x)
 
-  -- from each of its things on it is one too
+  -- from each of its vertices, such a chain leads to x
   from_there : (z p x : A) (r : List A) → Has same z (p ∷ r) → Simple p x r → (s : List A) × Simple z x s
   from_there z p x [] h simple =
       let S : A → Type 0 = λ w. (s : List A) × Simple w x s in
@@ -20,7 +20,7 @@ module _ {A : Type 0} (same : A → A → Bool) (laws : IsEquality same) (ways :
       ⊎_elim (λ (e : z ≡ p). subst S (sym e) (q ∷ r, simple))
       (λ later. from_there z q x r later (simple.0.1, simple.1.1, simple.2)) (has_cons same laws z p (q ∷ r) h)
 
-  -- some chain without repeats ends where a chain ends
+  -- each chain has the end of some chain without repeats
   pub without_rounds : (p : A) (r : List A) → IsChain same ways p r → (s : List A) × Simple p (last_or p r) s
   without_rounds p [] chain = ([], (tt, (refl, tt), refl))
   without_rounds p (q ∷ r) chain =
@@ -53,11 +53,11 @@ module _ {A : Type 0} (same : A → A → Bool) (laws : IsEquality same) (ways :
       (λ (i : same x q ≡ false). let apart : same q x ≡ false = ⊎_elim
       (λ (t : same q x ≡ true). not_both (same x q) _ ((laws x q).1 (sym ((laws q x).0 t))) i) (λ f. f) (cases_Bool (same q x)) in
       let later : Has same q xs = (rw apart at h) in
-      ⊎_elim inl (λ told. inr (⊎_elim (λ (a : comes_before same q o xs ≡ true). inl (rw (e, i, a) refl))
-      (λ (b : comes_before same o q xs ≡ true). inr (rw (i, e, b) refl)) told)) (either_first q o xs later))
+      ⊎_elim inl (λ reported. inr (⊎_elim (λ (a : comes_before same q o xs ≡ true). inl (rw (e, i, a) refl))
+      (λ (b : comes_before same o q xs ≡ true). inr (rw (i, e, b) refl)) reported)) (either_first q o xs later))
       (cases_Bool (same x q))) (cases_Bool (same x o))
 
-  -- no two are each preferred to the other, and no run to itself
+  -- no two runs are each preferred to the other, and no run is preferred to itself
   pub preferred_one_way : (p : A) (r s : List A) → IsPreferred same ways p r s → IsPreferred same ways p s r → ⊥
   preferred_one_way p [] [] a b = absurd a
   preferred_one_way p [] (o ∷ s) a b = absurd b
@@ -69,7 +69,7 @@ module _ {A : Type 0} (same : A → A → Bool) (laws : IsEquality same) (ways :
       subst C (sym e) back))
       (λ (_e, back). preferred_one_way q r s on (let P : A → Type 0 = λ w. IsPreferred same ways w s r in subst P (sym e) back)) b) a
 
-  -- of two chains that differ, one is preferred
+  -- of a chain and a run that differ, one is preferred
   pub one_is_preferred : (p : A) (r s : List A) → IsChain same ways p r → (r ≡ s) ⊎
       (IsPreferred same ways p r s ⊎ IsPreferred same ways p s r)
   one_is_preferred p [] [] chain = inl refl
@@ -77,8 +77,8 @@ module _ {A : Type 0} (same : A → A → Bool) (laws : IsEquality same) (ways :
   one_is_preferred p (q ∷ r) [] chain = inr (inr tt)
   one_is_preferred p (q ∷ r) (o ∷ s) chain = ⊎_elim
       (λ (e : q ≡ o). ⊎_elim (λ (same_rest : r ≡ s). inl (rw (e, same_rest) refl))
-      (λ told. inr (⊎_elim (λ a. inl (inr (e, a))) (λ b. inr (inr (
+      (λ reported. inr (⊎_elim (λ a. inl (inr (e, a))) (λ b. inr (inr (
         sym e,
         (let P : A → Type 0 = λ w. IsPreferred same ways w s r in subst P e b),
-      ))) told)) (one_is_preferred q r s chain.1))
-      (λ told. inr (⊎_elim (λ a. inl (inl a)) (λ b. inr (inl b)) told)) (either_first q o (ways p) chain.0)
+      ))) reported)) (one_is_preferred q r s chain.1))
+      (λ reported. inr (⊎_elim (λ a. inl (inl a)) (λ b. inr (inl b)) reported)) (either_first q o (ways p) chain.0)

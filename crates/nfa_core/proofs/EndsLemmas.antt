@@ -1,4 +1,4 @@
--- The laws of walks and runs, for the automata and texts of contracts.
+-- The laws of depth-first searches and runs, for the automata and haystacks of contracts.
 use Rattle.std.proofs.Common.{◌≡◌, ℕ, suc, ◌*◌, ◌<◌, ◌≤◌, ◌⊎◌, inl, inr, ⊎_elim, Bool, true, false, List, [], ◌∷◌, length, Some, None, refl}
 use Rattle.std.proofs.Common.{sym, ◌∙◌, arith, ap, subst}
 use Rattle.std.proofs.lemmas.Bool.{cases_Bool}
@@ -12,7 +12,7 @@ use Rattle.nfa_core.specs.Walks.{Has, HasNoneTwice, join, distinct, chain_ends, 
 use Rattle.nfa_core.specs.Runs.{IsRun, IsChain, last_or, IsMostPreferred, answers, wanted_answer}
 use Rattle.nfa_core.specs.Places.{same_pair, first, StaysBelow}
 use Rattle.nfa_core.specs.Nfa.{Automaton, IsWellFormed}
-use Rattle.nfa_core.specs.Ways.{Text, whole, reads, with_place, ways, matched, IsPairOf, ends_from}
+use Rattle.nfa_core.specs.Ways.{Text, whole, reads, with_offset, ways, matched, IsPairOf, ends_from}
 use Rattle.nfa_core.proofs.JoinLemmas.{join_once}
 use Rattle.nfa_core.proofs.WalkLemmas.{walk_is_join}
 use Rattle.nfa_core.proofs.PairLemmas.{pairs_equal, names_equal, finite_names}
@@ -28,17 +28,17 @@ chains_met steps n stack seen after below inside shut v = walk_is_join nat_eq na
     (finite_names n steps below) stack seen after inside shut v
 
 below_or_past : (i n : ℕ) → (i < n) ⊎ (n ≤ i)
-below_or_past i n = ⊎_elim (λ told. inr told.1) (λ told. inl told.1) (leb_tells n i)
+below_or_past i n = ⊎_elim (λ reported. inr reported.1) (λ reported. inl reported.1) (leb_tells n i)
 
-pub read_forward : (t : Terminator) (h : List ℕ) (i : ℕ) → reads false (whole t h) i ≡ with_place (suc i) (byte_at h i)
+pub read_forward : (t : Terminator) (h : List ℕ) (i : ℕ) → reads false (whole t h) i ≡ with_offset (suc i) (byte_at h i)
 read_forward t h i = ⊎_elim (λ (e : nat_lt i (length h) ≡ true). rw e refl)
     (λ (e : nat_lt i (length h) ≡ false). ⊎_elim
     (λ (less : i < length h). let f : true ≡ false = sym ((Decides-ltb i (length h)).1 less) ∙ e in cc)
     (λ (past : length h ≤ i). let none : byte_at h i ≡ None = slice_get_past h i past in rw (e, none) refl) (below_or_past i (length h)))
     (cases_Bool (nat_lt i (length h)))
 
-pub read_reverse : (t : Terminator) (h : List ℕ) (i : ℕ) → reads true (whole t h) (suc i) ≡ with_place i (byte_at h i)
-read_reverse t h i = ⊎_elim (λ told. rw told.0 refl) (λ told. absurd (omega (arith, told.1))) (leb_tells 0 i)
+pub read_reverse : (t : Terminator) (h : List ℕ) (i : ℕ) → reads true (whole t h) (suc i) ≡ with_offset i (byte_at h i)
+read_reverse t h i = ⊎_elim (λ reported. rw reported.0 refl) (λ reported. absurd (omega (arith, reported.1))) (leb_tells 0 i)
 
 pub ends_once : (a : Automaton) (t : Text) (p : ℕ × ℕ) → HasNoneTwice same_pair (ends_from a t p)
 ends_once a t p = join_once same_pair pairs_equal [] (answers (matched a)

@@ -1,4 +1,4 @@
--- From any list to do, a walk with one set for all that was met comes to its end, where ways stay in a finite set.
+-- From any stack, a depth-first search with one set of visited vertices ends, if edges stay in a finite set.
 use Rattle.std.proofs.Common.{◌≡◌, ℕ, zero, suc, ◌+◌, ◌<◌, ◌≤◌, false, Bool, List, [], ◌∷◌, ◌++◌, length, ◌-◌, refl, subst, arith, ⊎_elim}
 use Rattle.std.proofs.Common.{length-append}
 use Rattle.nfa_core.specs.Walks.{has, Has, Visits, done, held, fresh, HasNoneTwice, IsEquality, IsFinite}
@@ -11,7 +11,7 @@ module _ {A : Type 0} (same : A → A → Bool) (laws : IsEquality same) (ways :
   abbrev AreIn : List A → Type 0
   AreIn xs = (q : A) → Has same q xs → In q
 
-  -- what a walk comes to, from what was met before
+  -- what a search ends with, from the vertices that were visited before
   record Walked (stack seen : List A) : Type 0 where
     after : List A
     walk : Visits same ways stack seen after
@@ -70,7 +70,7 @@ module _ {A : Type 0} (same : A → A → Bool) (laws : IsEquality same) (ways :
   walk_within zero = walk_list zero (λ g e. absurd (omega (arith, e)))
   walk_within (suc f) = walk_list (suc f) (λ g e. let here : f ≡ g = omega (arith, e) in subst Walks here (walk_within f))
 
-  -- a walk from one thing
+  -- a search from one vertex
   pub walk_from : (p : A) → In p → (after : List A) × Visits same ways (p ∷ []) [] after
   walk_from p here =
       let w = walk_within n (p ∷ []) [] (of_cons same laws In p [] here (λ q h. none_in same q _ h)) (λ q h. none_in same q _ h) tt

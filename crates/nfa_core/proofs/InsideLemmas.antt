@@ -1,4 +1,4 @@
--- Where the ends of runs lie: at places that are reached by reading bytes of the text.
+-- Where runs end: at offsets that are reached by reading bytes of the haystack.
 use Rattle.std.proofs.Common.{◌≡◌, ℕ, suc, ◌≤◌, true, false, Bool, List, [], ◌∷◌, map, refl, sym, ⊎_elim, Option, Some, None, subst}
 use Rattle.std.proofs.Common.{arith}
 use Rattle.nfa_core.specs.Walks.{Has}
@@ -6,17 +6,17 @@ use Rattle.nfa_core.specs.Runs.{IsChain, last_or}
 use Rattle.nfa_core.specs.Places.{same_pair}
 use Rattle.nfa_core.specs.Nfa.{Automaton, node_at, IsWellFormed}
 use Rattle.nfa_core.specs.Reaches.{IsWithinReach}
-use Rattle.nfa_core.specs.Ways.{Text, reads, is_passed, on_read, on_nothing, place_behind, ways, place_of, bytes_left, IsPairOf}
+use Rattle.nfa_core.specs.Ways.{Text, reads, is_satisfied, on_read, on_nothing, offset_after, ways, offset_of, bytes_left, IsPairOf}
 use Rattle.nfa_core.specs.Ways.{ends_from}
 use Rattle.nfa_core.proofs.MemberLemmas.{has_append}
 use Rattle.nfa_core.proofs.PairLemmas.{from_map}
-use Rattle.nfa_core.proofs.AutomatonLemmas.{IsBeside, reads_beside}
+use Rattle.nfa_core.proofs.AutomatonLemmas.{IsOutsideOf, reads_beside}
 use Rattle.nfa_core.proofs.EndsLemmas.{listed_run}
 use Rattle.nfa_core.proofs.BehindLemmas.{place_zero, match_place}
 
 read_inside : (is_reverse : Bool) (t : Text) (i k : ℕ) (read : Option (ℕ × ℕ)) → k ≤ bytes_left is_reverse t i →
-    IsBeside is_reverse t (place_of is_reverse i k) read →
-    IsWithinReach is_reverse i (bytes_left is_reverse t i) (place_behind (place_of is_reverse i k) read)
+    IsOutsideOf is_reverse t (offset_of is_reverse i k) read →
+    IsWithinReach is_reverse i (bytes_left is_reverse t i) (offset_after (offset_of is_reverse i k) read)
 read_inside is_reverse t i k None l beside = (k, l, refl)
 read_inside false t i k (Some (b, j)) l beside = (suc k, omega (arith, beside.1), omega (arith, beside.0))
 read_inside true t i k (Some (b, j)) l beside = (suc k, omega (arith, beside.0, beside.1), omega (arith, beside.0))
@@ -25,20 +25,20 @@ module _ (a : Automaton) (t : Text) (i : ℕ) where
   abbrev Inside : ℕ → Type 0
   Inside j = IsWithinReach a.reverse i (bytes_left a.reverse t i) j
 
-  moved : (j x : ℕ) → Inside j → Inside (place_behind j (reads a.reverse t j))
+  moved : (j x : ℕ) → Inside j → Inside (offset_after j (reads a.reverse t j))
   moved j x there =
-      subst (λ (m : ℕ). Inside (place_behind m (reads a.reverse t m))) (sym there.2)
-      (read_inside a.reverse t i there.0 (reads a.reverse t (place_of a.reverse i there.0)) there.1
-      (reads_beside a.reverse t (place_of a.reverse i there.0)))
+      subst (λ (m : ℕ). Inside (offset_after m (reads a.reverse t m))) (sym there.2)
+      (read_inside a.reverse t i there.0 (reads a.reverse t (offset_of a.reverse i there.0)) there.1
+      (reads_beside a.reverse t (offset_of a.reverse i there.0)))
 
   way_inside : (p y : ℕ × ℕ) → Inside p.0 → Has same_pair y (ways a t p) → Inside y.0
   way_inside p y there way = ⊎_elim
-      (λ read. let o = from_map (place_behind p.0 (reads a.reverse t p.0)) y (on_read (node_at a p.1) (reads a.reverse t p.0)) read in
+      (λ read. let o = from_map (offset_after p.0 (reads a.reverse t p.0)) y (on_read (node_at a p.1) (reads a.reverse t p.0)) read in
       subst (λ (z : ℕ × ℕ). Inside z.0) (sym o.2) (moved p.0 p.1 there))
-      (λ none. let o = from_map p.0 y (on_nothing (node_at a p.1) (λ l. is_passed a.reverse t l p.0)) none in
+      (λ none. let o = from_map p.0 y (on_nothing (node_at a p.1) (λ l. is_satisfied a.reverse t l p.0)) none in
       subst (λ (z : ℕ × ℕ). Inside z.0) (sym o.2) there)
-      (has_append same_pair y (map (λ q. (place_behind p.0 (reads a.reverse t p.0), q)) (on_read (node_at a p.1) (reads a.reverse t p.0)))
-      (map (λ q. (p.0, q)) (on_nothing (node_at a p.1) (λ l. is_passed a.reverse t l p.0))) way)
+      (has_append same_pair y (map (λ q. (offset_after p.0 (reads a.reverse t p.0), q)) (on_read (node_at a p.1) (reads a.reverse t p.0)))
+      (map (λ q. (p.0, q)) (on_nothing (node_at a p.1) (λ l. is_satisfied a.reverse t l p.0))) way)
 
   chain_inside : (r : List (ℕ × ℕ)) (p : ℕ × ℕ) → Inside p.0 → IsChain same_pair (ways a t) p r → Inside (last_or p r).0
   chain_inside [] p there chain = there

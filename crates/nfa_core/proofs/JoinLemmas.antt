@@ -21,7 +21,7 @@ join_keeps same seen (x ∷ xs) q h = ⊎_elim
     (has_or_not same x seen)
 
 module _ {A : Type 0} (same : A → A → Bool) (laws : IsEquality same) where
-  -- nothing comes of what is there
+  -- members that are there already add nothing
   pub join_held : (seen xs : List A) → ((q : A) → Has same q xs → Has same q seen) → join same seen xs ≡ seen
   join_held seen [] all = refl
   join_held seen (x ∷ xs) all = let e : has same x seen ≡ true = all x (has_first same laws x xs) in
@@ -35,7 +35,7 @@ module _ {A : Type 0} (same : A → A → Bool) (laws : IsEquality same) where
       (λ (e : has same x seen ≡ false). rw e (of_cons same laws (λ p. Has same p (join same (seen ++ x ∷ []) xs)) x xs
       (join_keeps same (seen ++ x ∷ []) xs x (has_pushed same laws x seen)) (join_brings (seen ++ x ∷ []) xs) q h)) (has_or_not same x seen)
 
-  -- no more than was there and comes
+  -- there are no other members than those that were there and those that come
   pub of_join : (P : A → Type 0) (seen xs : List A) → ((q : A) → Has same q seen → P q) → ((q : A) → Has same q xs → P q) → (q : A) →
       Has same q (join same seen xs) → P q
   of_join P seen [] old new q h = old q h

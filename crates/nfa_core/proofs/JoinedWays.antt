@@ -17,7 +17,7 @@ use Rattle.nfa_core.proofs.PairLemmas.{pairs_equal}
 use Rattle.nfa_core.proofs.AutomatonLemmas.{finite_automaton}
 
 module _ {A : Type 0} (same : A → A → Bool) (laws : IsEquality same) (steps : A → List A) (p : A) where
-  -- no chain from q comes to p
+  -- no chain from q leads to p
   abbrev pub IsApartFrom : A → Type 0
   IsApartFrom q = (r : List A) → IsChain same steps q r → last_or q r ≡ p → ⊥
 
@@ -30,7 +30,7 @@ module _ {A : Type 0} (same : A → A → Bool) (laws : IsEquality same) (steps 
       (λ last. let e : q ≡ p = has_one same laws q p last in absurd (apart [] tt e)) (has_append same q path (p ∷ []) h))
       (λ e. e) (has_or_not same q (path ++ p ∷ []))
 
-  -- so it makes no difference that they keep off it
+  -- so it makes no difference whether they avoid it
   path_apart : (n : ℕ) (path : List A) (q : A) → IsApartFrom q →
       chain_ends same steps n (path ++ p ∷ []) q ≡ chain_ends same steps n path q
   path_apart zero path q apart = refl

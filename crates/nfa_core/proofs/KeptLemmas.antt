@@ -1,4 +1,4 @@
--- Lists that leave out what is only passed through: closed anew from the rest, they keep what they would have kept.
+-- Lists that leave out vertices that are only passed through. Closed again from the rest, they keep the vertices that they would have kept.
 use Rattle.std.proofs.Common.{◌≡◌, ℕ, ◌<◌, ◌≤◌, true, false, Bool, List, [], ◌∷◌, ◌++◌, refl, sym, ap, ◌∙◌, subst, arith, ◌⊎◌, inl, inr}
 use Rattle.std.proofs.Common.{⊎_elim}
 use Rattle.std.proofs.lemmas.Bool.{cases_Bool}
@@ -6,7 +6,7 @@ use Rattle.std.proofs.lemmas.List.{append-nil}
 use Rattle.std.proofs.lemmas.List.Elements.{filter-append}
 use Rattle.std.specs.List.{filter, flat_map}
 use Rattle.nfa_core.specs.Walks.{Has, Visits, done, held, fresh, IsEquality}
-use Rattle.nfa_core.specs.Late.{IsHead, IsPassedThrough}
+use Rattle.nfa_core.specs.Late.{IsHead, IsGoneThrough}
 use Rattle.nfa_core.proofs.MemberLemmas.{none_in, not_both, has_append, has_left, has_one, has_pushed, of_flat_map, into_flat_map}
 use Rattle.nfa_core.proofs.RunLemmas.{has_filter}
 use Rattle.nfa_core.proofs.StepLemmas.{all_held, joined, one_after, closes_anew}
@@ -31,15 +31,15 @@ module _ {A : Type 0} (same : A → A → Bool) (laws : IsEquality same) (keep :
   in_more : (x y : A) (s : List A) → In x s → In x (s ++ y ∷ [])
   in_more x y s all q h = has_left same q s (y ∷ []) (all q h)
 
-  module _ (ways : A → List A) (passed : (x : A) → keep x ≡ false → IsPassedThrough ways to rank x) where
-    -- the ways of the kept things, over what is passed through
+  module _ (ways : A → List A) (passed : (x : A) → keep x ≡ false → IsGoneThrough ways to rank x) where
+    -- the edges of the kept vertices, over those that are passed through
     abbrev past : A → List A
     past x = flat_map to (ways x)
 
     abbrev Settled : List A → Type 0
     Settled s = (d : A) → Has same d s → keep d ≡ false → In d s
 
-    -- what is passed through is settled, but for what waits for the next to be met
+    -- vertices that are passed through are settled, except for those that wait for the next one to be visited
     abbrev Waits : List A → List A → Type 0
     Waits s stack = (d : A) → Has same d s → keep d ≡ false → In d s ⊎ ((z : A) × (to d ≡ to z) × (rank z < rank d) × IsHead z stack)
 
@@ -115,9 +115,9 @@ module _ {A : Type 0} (same : A → A → Bool) (laws : IsEquality same) (keep :
       (λ (e : keep x ≡ true). let one : to x ≡ x ∷ [] = to_self x e in rw (e, one) (ap (λ l. x ∷ l) (kept_alone xs)))
       (λ (e : keep x ≡ false). rw e (kept_alone xs)) (cases_Bool (keep x))
 
-  -- closed anew from the kept things alone, the kept things are what they would have been
+  -- a search that is made again from the kept vertices alone keeps the vertices that it would have kept
   pub kept_close_anew : (known full : A → List A) → ((x z : A) → Has same z (known x) → Has same z (full x)) →
-      ((x : A) → keep x ≡ false → IsPassedThrough known to rank x) → ((x : A) → keep x ≡ false → IsPassedThrough full to rank x) →
+      ((x : A) → keep x ≡ false → IsGoneThrough known to rank x) → ((x : A) → keep x ≡ false → IsGoneThrough full to rank x) →
       (entries ids after again : List A) → Visits same known entries [] ids → Visits same full entries [] after →
       Visits same full (filter keep ids) [] again →
       filter keep again ≡ filter keep after

@@ -1,4 +1,4 @@
--- The states of an automaton, made one by one of a builder's states.
+-- The states of an automaton, made one by one from a builder's states.
 use Rattle.std.proofs.Common.{◌≡◌, ℕ, ◌+◌, ◌<◌, ◌≤◌, false, true, List, [], ◌∷◌, ◌++◌, length, map, take, get_or, Option, Some, None, refl}
 use Rattle.std.proofs.Common.{sym, ap, ◌∙◌, arith, inr, subst}
 use Rattle.std.proofs.lemmas.List.{reverse-append}
@@ -23,7 +23,7 @@ pub slot_room : (gs : Groups) (p g : ℕ) → is_some (slot gs p g) ≡ true →
     unwrap_or (slot gs p g) 0 + 1 ≤ greatest_index
 slot_room gs p g there most = room_by gs p g (slot gs p g) refl there most
 
--- what holds of all that a list is seen as holds of each of it
+-- what holds of all images in a list holds for each member of the list
 pub all_of_map : {A B : Type 0} (P : B → Type 0) (f : A → B) (xs : List A) → All P (map f xs) → All (λ x. P (f x)) xs
 all_of_map P f xs all k d inside =
     let len = length-map xs f in
@@ -33,7 +33,7 @@ pub holds_at : {D : Type 0} (P : DraftNode → Type 0) (view : D → DraftNode) 
     draft ≡ get_or drafts i draft → All P (map view drafts) → P (view draft)
 holds_at P view drafts i draft inside there all = subst (λ d. P (view d)) (sym there) (all_of_map P view drafts all i draft inside)
 
--- one state more, which is kept or not
+-- one more state, which is kept or not
 kept_next : {D : Type 0} (view : D → DraftNode) (drafts : List D) (i : ℕ) (draft : D) → i < length drafts → draft ≡ get_or drafts i draft →
     kept (take (i + 1) (map view drafts)) ≡ kept (take i (map view drafts)) ++ kept (view draft ∷ [])
 kept_next view drafts i draft inside there =

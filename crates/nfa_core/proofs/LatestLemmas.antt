@@ -1,5 +1,5 @@
--- The lists of states that one walk a place makes: uncut they are the joins of what arrives, and cut behind the first match
--- their latest match is the most preferred run's.
+-- The lists of states that one depth-first search for each position makes. Uncut, they are the joins of what arrives. Cut after the first
+-- match, their latest match is that of the most preferred run.
 use Rattle.std.proofs.Common.{◌≡◌, ℕ, zero, suc, ◌+◌, ◌*◌, ◌<◌, ◌≤◌, Bool, List, [], ◌∷◌, ◌++◌, refl, sym, ap, ◌∙◌, arith, ⊎_elim, Option}
 use Rattle.std.proofs.Common.{Some, None}
 use Rattle.std.proofs.lemmas.List.{append-nil}
@@ -8,14 +8,14 @@ use Rattle.std.specs.Option.{option_or, option_to_list}
 use Rattle.std.specs.Bool.{nat_eq}
 use Rattle.nfa_core.specs.Walks.{Has, chain_ends, join, Visits, done, held, fresh, IsEquality}
 use Rattle.nfa_core.specs.Runs.{answers, run_ends}
-use Rattle.nfa_core.specs.Places.{same_pair, nexts, StaysBelow, arrivals, AreWalkLists, before_answer, answers_at, first, latest, IsGraph}
+use Rattle.nfa_core.specs.Places.{same_pair, nexts, StaysBelow, arrivals, AreStepLists, before_answer, answers_at, first, latest, IsGraph}
 use Rattle.nfa_core.proofs.MemberLemmas.{none_in, has_first, has_later, of_cons, of_push, of_flat_map, flat_map_same, flat_map_twice}
 use Rattle.nfa_core.proofs.JoinLemmas.{join_flat_map}
 use Rattle.nfa_core.proofs.WalkLemmas.{walk_is_join}
 use Rattle.nfa_core.proofs.PreferenceLemmas.{first_append, option_cases}
 use Rattle.nfa_core.proofs.RunLemmas.{first_distinct}
 use Rattle.nfa_core.proofs.PairLemmas.{names_equal, finite_names}
-use Rattle.nfa_core.proofs.PlaceLemmas.{here, beyond, found, ends_by_place}
+use Rattle.nfa_core.proofs.PlaceLemmas.{here, beyond, found, ends_by_offset}
 
 pub stays : (ways : ℕ → List ℕ) (n : ℕ) → StaysBelow n ways → {stack seen after : List ℕ} → Visits nat_eq ways stack seen after →
     ((q : ℕ) → Has nat_eq q stack → q < n) → ((q : ℕ) → Has nat_eq q seen → q < n) → (q : ℕ) → Has nat_eq q after → q < n
@@ -31,14 +31,14 @@ or_assoc : {A : Type 0} (a b c : Option A) → option_or (option_or a b) c ≡ o
 or_assoc None b c = refl
 or_assoc (Some x) b c = refl
 
--- repeats below a flat_map do not change its first
+-- repeats below a flat_map do not change its first member
 pub first_flat_map : {B : Type 0} (same : B → B → Bool) → IsEquality same → (g : ℕ → List B) (xs : List ℕ) →
     first (flat_map g (join nat_eq [] xs)) ≡ first (flat_map g xs)
 first_flat_map same laws g xs = sym (first_distinct same (flat_map g (join nat_eq [] xs)))
     ∙ ap first (join_flat_map nat_eq names_equal same laws g [] [] xs)
     ∙ first_distinct same (flat_map g xs)
 
--- the runs that go on from before the first match come before it, and all others after it
+-- the runs that go on from states before the first match come before it, and all others after it
 cut_first : {B : Type 0} (answer : ℕ → Option B) (r : ℕ → List B) (xs : List ℕ) →
     option_or (first (flat_map r (before_answer answer xs))) (first (answers answer xs)) ≡ first
     (flat_map (λ y. option_to_list (answer y) ++ r y) xs)
@@ -72,13 +72,13 @@ module _ (eps step : ℕ → ℕ → List ℕ) (n len : ℕ) (graph : IsGraph ep
   pub one_low : (start : ℕ) → start < n → (q : ℕ) → Has nat_eq q (start ∷ []) → q < n
   one_low start low = of_cons nat_eq names_equal (λ q. q < n) start [] low (λ q h. none_in nat_eq q _ h)
 
-  module _ (start : ℕ) (start_low : start < n) (lists : ℕ → List ℕ) (listed : AreWalkLists eps step (λ k xs. xs) len start lists) where
+  module _ (start : ℕ) (start_low : start < n) (lists : ℕ → List ℕ) (listed : AreStepLists eps step (λ k xs. xs) len start lists) where
     lists_low : (k : ℕ) → k ≤ len → (q : ℕ) → Has nat_eq q (lists k) → q < n
     lists_low zero h = stays (eps 0) n (graph.eps_below 0) listed.first (one_low start start_low) (λ q g. none_in nat_eq q _ g)
     lists_low (suc k) h = stays (eps (suc k)) n (graph.eps_below (suc k)) (listed.later k (omega (arith, h)))
         (stepped_low k (lists k) (lists_low k (omega (arith, h)))) (λ q g. none_in nat_eq q _ g)
 
-    -- the list at a place is the join of what arrives there
+    -- the list at a position is the join of what arrives there
     pub lists_are_joins : (k : ℕ) → k ≤ len → lists k ≡ join nat_eq [] (arrivals eps step n start k)
     lists_are_joins zero h = place 0 (start ∷ []) (lists 0) listed.first (one_low start start_low)
         ∙ ap (join nat_eq []) (append-nil (chain_ends nat_eq (eps 0) n [] start))
@@ -98,7 +98,7 @@ module _ (eps step : ℕ → ℕ → List ℕ) (n len : ℕ) (graph : IsGraph ep
         (λ y h. append-nil (here eps step answer n k y))
 
     module _ (start : ℕ) (lists : ℕ → List ℕ)
-        (listed : AreWalkLists eps step (λ k xs. before_answer (λ x. answer (k, x)) xs) len start lists)
+        (listed : AreStepLists eps step (λ k xs. before_answer (λ x. answer (k, x)) xs) len start lists)
       where
         latest_from : (d k : ℕ) (xs : List ℕ) → k + d ≤ len → ((q : ℕ) → Has nat_eq q xs → q < n) → Visits nat_eq (eps k) xs [] (lists k) →
             latest answer lists d k ≡ first (flat_map (found eps step answer n d k) (flat_map (chain_ends nat_eq (eps k) n []) xs))
@@ -132,5 +132,5 @@ module _ (eps step : ℕ → ℕ → List ℕ) (n len : ℕ) (graph : IsGraph ep
         latest_is_first start_low =
             latest_from len 0 (start ∷ []) (omega arith) (one_low start start_low) listed.first
             ∙ ap (λ l. first (flat_map (found eps step answer n len 0) l)) (append-nil (chain_ends nat_eq (eps 0) n [] start))
-            ∙ ap first (sym (ends_by_place eps step answer n len graph start start_low))
+            ∙ ap first (sym (ends_by_offset eps step answer n len graph start start_low))
             ∙ sym (first_distinct same_end (answers answer (chain_ends same_pair (nexts eps step) (suc len * n) [] (0, start))))

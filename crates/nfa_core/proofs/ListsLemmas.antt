@@ -1,4 +1,4 @@
--- The walk of a stack over joined stacks: put together and taken apart.
+-- The search of a stack over concatenated stacks: put together and split.
 use Rattle.std.proofs.Common.{◌≡◌, List, [], ◌∷◌, ◌++◌, refl, sym, ap, ◌∙◌, subst, Option, Some, None}
 use Rattle.std.proofs.lemmas.List.{append_assoc}
 use Rattle.nfa_core.specs.Walks.{Lists, lists_none, lists_answer, lists_ways}
@@ -15,7 +15,7 @@ module _ {A B : Type 0} (ways : A → List A) (answer : A → Option B) where
       let L : List A → Type 0 = λ t. Listed t (l ++ m) in
       lists_ways x (rest ++ ys) (l ++ m) is (subst L (append_assoc (ways x) rest ys) (lists_append walk ys m other))
 
-  -- what the walk lists of the first of two stacks, and of the second
+  -- what the search lists for the first of two stacks, and for the second
   abbrev Parts : List A → List A → List B → Type 0
   Parts xs ys l = (a : List B) × (b : List B) × (l ≡ a ++ b) × Listed xs a × Listed ys b
 
@@ -41,7 +41,7 @@ module _ {A B : Type 0} (ways : A → List A) (answer : A → Option B) where
   none_left : {m : List B} → Listed [] m → [] ≡ m
   none_left lists_none = refl
 
-  -- what is next, where the head has an answer and where it has none
+  -- what comes next, if the first vertex of the stack has an answer and if it has none
   after_answer : {x : A} {rest : List A} {m : List B} → Listed (x ∷ rest) m → (e : B) → answer x ≡ Some e → (t : List B) × (m ≡ e ∷ t) ×
       Listed rest t
   after_answer (lists_answer x d rest l is walk) e has = let i : d ≡ e = one_value (answer x) d e is has in (l, ap (λ w. w ∷ l) i, walk)
@@ -51,7 +51,7 @@ module _ {A B : Type 0} (ways : A → List A) (answer : A → Option B) where
   after_ways (lists_answer x d rest l is walk) none = no_value (answer x) d _ none is
   after_ways (lists_ways x rest l is walk) none = walk
 
-  -- the walk of a stack lists one thing
+  -- the search of a stack lists one list
   pub one_list : {stack : List A} {l : List B} → Listed stack l → (m : List B) → Listed stack m → l ≡ m
   one_list lists_none m other = none_left other
   one_list (lists_answer x e rest l is walk) m other = let r = after_answer other e is in ap (λ t. e ∷ t) (one_list walk r.0 r.2) ∙ sym r.1

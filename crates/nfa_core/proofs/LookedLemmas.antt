@@ -1,4 +1,4 @@
--- The looks of states that sets of looks have, and where transitions lead.
+-- Sets of looks have the looks of states. Where transitions lead.
 use Rattle.std.proofs.Common.{◌≡◌, ℕ, zero, suc, true, false, Bool, List, [], ◌∷◌, map, get_or, refl, sym, ap, ◌∙◌, ◌↔◌, ◌&&◌, ⊎_elim}
 use Rattle.std.proofs.lemmas.Bool.{cases_Bool, eqb-true, eq-eqb}
 use Rattle.std.specs.Bool.{nat_eq, nat_le}

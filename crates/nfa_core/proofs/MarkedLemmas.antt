@@ -41,7 +41,7 @@ marked_elsewhere words n word d h reads k differ =
     (λ (ne : k / 64 ≢ n / 64). ap (λ w. nat_eq (bit_at w (k % 64)) 1) (get_or-set_other words (n / 64) (k / 64) (with_bit word n) 0 ne))
     (cases_eq (k / 64) (n / 64))
 
--- where the marked numbers stand behind the end, none is marked
+-- if every marked number comes after the end of the list, none is marked
 pub none_left : (words names : List ℕ) (i : ℕ) → length names ≤ i → ((n : ℕ) → is_marked words n ≡ true → is_in n (drop i names) ≡ true) →
     (n : ℕ) → is_marked words n ≡ false
 none_left words names i past only n = false_from_ne_true _ (λ marked.

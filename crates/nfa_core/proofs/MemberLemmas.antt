@@ -50,7 +50,7 @@ module _ {A : Type 0} (same : A → A → Bool) (laws : IsEquality same) where
   pub has_one : (q x : A) → Has same q (x ∷ []) → q ≡ x
   has_one q x h = ⊎_elim (λ (e : q ≡ x). e) (λ none. none_in same q _ none) (has_cons q x [] h)
 
-  -- what holds of x, and of all in a list, holds of all in the longer list
+  -- what holds of x and of all members of a list holds of all members of the longer list
   pub of_cons : (P : A → Type 0) (x : A) (xs : List A) → P x → ((q : A) → Has same q xs → P q) → (q : A) → Has same q (x ∷ xs) → P q
   of_cons P x xs one all q h = ⊎_elim (λ (e : q ≡ x). rw e one) (λ g. all q g) (has_cons q x xs h)
 
@@ -72,7 +72,7 @@ module _ {A : Type 0} (same : A → A → Bool) (laws : IsEquality same) where
   flat_map_same f g (x ∷ xs) all = ap (λ l. l ++ flat_map f xs) (all x (has_first x xs))
       ∙ ap (λ l. g x ++ l) (flat_map_same f g xs (λ y h. all y (has_later same y x xs h)))
 
-  -- what holds of all that g gives for each in a list, holds of all in the joined list
+  -- what holds of all members of g x, for each x in a list, holds of all members of the concatenated list
   pub of_flat_map : {B : Type 0} (same_b : B → B → Bool) (g : A → List B) (P : B → Type 0) (xs : List A) →
       ((x : A) → Has same x xs → (q : B) → Has same_b q (g x) → P q) → (q : B) → Has same_b q (flat_map g xs) → P q
   of_flat_map same_b g P [] all q h = none_in same_b q _ h

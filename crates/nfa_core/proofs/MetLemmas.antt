@@ -1,4 +1,4 @@
--- Tests over the members of lists: what doesn't see their order and repeats.
+-- Tests over the members of lists that do not depend on their order and repeats.
 use Rattle.std.proofs.Common.{◌≡◌, true, false, Bool, List, [], ◌∷◌, map, refl, sym, ap, ◌∙◌, ◌||◌, ⊎_elim}
 use Rattle.std.proofs.lemmas.Bool.{cases_Bool}
 use Rattle.std.specs.List.{list_any}

@@ -28,7 +28,7 @@ past_within_inside drafts reached (suc n) q inside = past_inside_by drafts n q (
 pub past_inside : (drafts : List DraftNode) (q : ℕ) → HasPasts drafts → q < length drafts → past drafts q < length drafts
 past_inside drafts q reached inside = past_within_inside drafts reached (length drafts) q inside
 
--- one state more
+-- one more state
 pub kept_more : (drafts : List DraftNode) (i : ℕ) (d : DraftNode) → i < length drafts →
     length (kept (take (i + 1) drafts)) ≡ length (kept (take i drafts)) + length (kept (get_or drafts i d ∷ []))
 kept_more drafts i d inside =
@@ -36,7 +36,7 @@ kept_more drafts i d inside =
     ∙ ap length (filter-append is_kept (take i drafts) (get_or drafts i d ∷ []))
     ∙ length-append (kept (take i drafts)) (kept (get_or drafts i d ∷ []))
 
--- a list of what a function gives for each place, with one more
+-- a list of what a function gives for each index, with one more
 pub pushed_at : (f : ℕ → ℕ) (xs new : List ℕ) (x i : ℕ) → new ≡ xs ++ x ∷ [] → length xs ≡ i → x ≡ f i →
     ((q : ℕ) → q < i → name_in xs q ≡ f q) →
     (q : ℕ) → q < i + 1 → name_in new q ≡ f q
@@ -82,21 +82,22 @@ ranking_done drafts ranks i count long short so_far = record {
 -- the ranks of the states past all states are their names
 pub settled_past : (drafts : List DraftNode) (table : List (Option ℕ)) (q : ℕ) → IsPastTable drafts table → is_settled table q ≡ true →
     unwrap_or (get_or table q None) q ≡ past drafts q
-settled_past drafts table q told there = known_end drafts table q told (inl there)
+settled_past drafts table q reported there = known_end drafts table q reported (inl there)
 
 pub past_is_inside : (drafts : List DraftNode) (table : List (Option ℕ)) (q : ℕ) → HasPasts drafts → IsPastTable drafts table →
     is_settled table q ≡ true → q < length drafts →
     unwrap_or (get_or table q None) q < length drafts
-past_is_inside drafts table q reached told there inside =
-    let e = settled_past drafts table q told there in
+past_is_inside drafts table q reached reported there inside =
+    let e = settled_past drafts table q reported there in
     let h = past_inside drafts q reached inside in omega (arith, e, h)
 
 pub naming_done : (drafts : List DraftNode) (table : List (Option ℕ)) (ranks names : List ℕ) → HasPasts drafts → IsPastTable drafts table →
     ((q : ℕ) → q < length drafts → is_settled table q ≡ true) →
     IsRanking drafts ranks → length names ≡ length ranks → ((q : ℕ) → q < length ranks →
     name_in names q ≡ name_in ranks (unwrap_or (get_or table q None) q)) → IsNaming drafts names
-naming_done drafts table ranks names reached told there ranked len right = record {
+naming_done drafts table ranks names reached reported there ranked len right = record {
   len = len ∙ ranked.len;
-  right = λ q inside. right q (omega (arith, inside, ranked.len)) ∙ ap (name_in ranks) (settled_past drafts table q told (there q inside))
+  right = λ q inside. right q (omega (arith, inside, ranked.len)) ∙ ap (name_in ranks) (settled_past drafts table q reported (there q
+      inside))
       ∙ ranked.right (past drafts q) (past_inside drafts q reached inside);
 }

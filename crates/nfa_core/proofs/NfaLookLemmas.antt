@@ -52,7 +52,7 @@ looks_distinct f xs = same_members (looks_of (map f (distinct nat_eq xs))) (look
     has_looks (map f (distinct nat_eq xs)) l ∙ any_map test f (distinct nat_eq xs) ∙ any_distinct nat_eq names_equal (λ x. test (f x)) xs
     ∙ sym (any_map test f xs) ∙ sym (has_looks (map f xs) l))
 
--- what an NFA knows of the states that its patterns reach, from a list of these without repeats
+-- what an NFA stores about the states that its patterns reach, from a list of these without repeats
 pub empty_met : (a : Automaton) (met : List ℕ) → met ≡ distinct nat_eq (reached_freely a) →
     list_any (λ q. is_match (node_at a q)) met ≡ has_empty a
 empty_met a met e = rw e (any_distinct nat_eq names_equal (λ q. is_match (node_at a q)) (reached_freely a))

@@ -18,7 +18,7 @@ pub limit_kept : (limit : Option ℕ) (bytes : ℕ) → limit_fault limit bytes 
 limit_kept None bytes e = tt
 limit_kept (Some most) bytes e = grind (arith, ltb-false most bytes)
 
--- what is within the limit isn't refused
+-- a size within the limit is no error
 pub limit_holds : (limit : Option ℕ) (bytes : ℕ) → MatchOption limit ⊤ (λ most. bytes ≤ most) → limit_fault limit bytes ≡ None
 limit_holds None bytes within = refl
 limit_holds (Some most) bytes within = ap (λ b. if b then Some (exceeded_size_limit most) else None) (le-ltb most bytes within)

@@ -1,4 +1,4 @@
--- Pairs of a place and a state: when two are one, and how many there are.
+-- Pairs of an offset and a state: when two are equal, and how many there are.
 use Rattle.std.proofs.Common.{◌≡◌, ◌≢◌, ℕ, zero, suc, ◌+◌, ◌*◌, ◌<◌, ◌≤◌, true, false, Bool, List, [], ◌∷◌, ◌++◌, length, map, refl, sym}
 use Rattle.std.proofs.Common.{ap, ◌∙◌, arith, ◌⊎◌, inl, inr, ⊎_elim}
 use Rattle.std.proofs.lemmas.Bool.{cases_Bool}
@@ -52,9 +52,9 @@ finite_names n ways below = record {
       (distinct_from nat_eq xs once) inside;
 }
 
--- ---- pairs of the first places and names below n
+-- ---- pairs of the first offsets and names below n
 
--- how many pairs d places have
+-- how many pairs d offsets have
 abbrev pub pairs : ℕ → ℕ → ℕ
 pairs n zero = 0
 pairs n (suc d) = n + pairs n d
@@ -138,7 +138,7 @@ below_or_at k len h = ⊎_elim (λ (e : nat_eq k len ≡ true). inr ((Decides-eq
     (λ (e : nat_eq k len ≡ false). let differ : k ≢ len = λ i. not_both (nat_eq k len) _ ((Decides-eqb k len).1 i) e in
     inl (omega (arith, h, differ))) (cases_Bool (nat_eq k len))
 
--- the pairs of the places up to len and the names below n
+-- the pairs of the offsets up to len and the names below n
 abbrev pub InText : ℕ → ℕ → ℕ × ℕ → Type 0
 InText n len p = (p.0 ≤ len) × (p.1 < n)
 

@@ -1,4 +1,4 @@
--- A list of numbers beside a table of their places.
+-- A list of numbers, and a table with the position of each number in it.
 use Rattle.std.proofs.Common.{◌≡◌, ◌≢◌, ℕ, ◌+◌, ◌<◌, ◌≤◌, true, false, List, [], ◌∷◌, ◌++◌, length, set, get_or, slice_index, take}
 use Rattle.std.proofs.Common.{sym, ap, ◌∙◌, subst, ⊎_elim, arith, length-set, get_or-set_same, get_or-set_other, All}
 use Rattle.std.proofs.lemmas.Bool.{cases_eq, false_from_ne_true}
@@ -21,7 +21,7 @@ length_of_first xs n h = grind (arith, common_steps)
 read_first : (xs : List ℕ) (n k d o : ℕ) → k < n → n ≤ length xs → get_or (take n xs) k d ≡ get_or xs k o
 read_first xs n k d o h within = grind (arith, common_steps, get_or-take)
 
--- a number of the list stands at its place
+-- a number of the list stands at its position
 held_at : (dense places : List ℕ) (n name : ℕ) → IsPaired dense places n → is_in name (take n dense) ≡ true →
     (slice_index places name < n) × (slice_index dense (slice_index places name) ≡ name)
 held_at dense places n name p h =
@@ -42,7 +42,7 @@ held_from dense places n name k p inside read =
       read_first dense n k name 0 inside p.within ∙ read,
     )
 
--- what is read of the tables tells whether the number is there
+-- what is read from the tables shows whether the list has the number
 pub held_inside : (dense places : List ℕ) (n name place read d o : ℕ) → IsPaired dense places n → name < length places →
     place ≡ get_or places name d → place < n → read ≡ get_or dense place o → nat_eq read name ≡ is_in name (take n dense)
 held_inside dense places n name place read d o p h at inside reads =

@@ -1,5 +1,5 @@
--- A walk of one graph carried over to another, where a thing may have the name of the only one that it leads to: what the
--- first walk meets, the second meets under its name, in the same order.
+-- A depth-first search of one graph carried over to another, where a vertex may have the name of the only one to which it leads. What the
+-- first search visits, the second visits under its name, in the same order.
 use Rattle.std.proofs.Common.{◌≡◌, ℕ, zero, suc, ◌⊎◌, inl, inr, ⊎_elim, true, false, Bool, if◌then◌else◌, List, [], ◌∷◌, ◌++◌, map, refl}
 use Rattle.std.proofs.Common.{sym, ap, ◌∙◌, subst, Option, Some, None}
 use Rattle.std.specs.Prelude.{is_none}
@@ -15,7 +15,7 @@ use Rattle.nfa_core.proofs.RenamingWalks.{has_mapped, from_mapped}
 use Rattle.nfa_core.proofs.RunLemmas.{has_filter}
 use Rattle.nfa_core.proofs.StepLemmas.{joined}
 
--- what a test keeps of a list
+-- a member of what a test keeps is in the list and passes the test
 in_filter : {A : Type 0} (same : A → A → Bool) → IsEquality same → (p : A → Bool) (xs : List A) (q : A) → Has same q (filter p xs) →
     Has same q xs × (p q ≡ true)
 in_filter same laws p [] q h = none_in same q _ h
@@ -32,16 +32,16 @@ is_none_of (Some a) e = cc
 
 module _ {A C : Type 0} (same : A → A → Bool) (laws : IsEquality same) (other : C → C → Bool) (laws_o : IsEquality other) (name : A → C)
     (ways : A → List A) (ways_o : C → List C) (stands : A → Option A) where
-  -- the things that stand for themselves, under their names
+  -- the names of the vertices that stand for themselves
   abbrev pub names : List A → List C
   names xs = map name (filter (λ x. is_none (stands x)) xs)
 
-  -- after m steps along things that stand for others one comes to one that doesn't
+  -- m steps along vertices that stand for others lead to one that doesn't
   abbrev pub ComesOut : ℕ → A → Type 0
   ComesOut zero p = stands p ≡ None
   ComesOut (suc m) p = (r : A) × (stands p ≡ Some r) × ComesOut m r
 
-  -- by n such steps one comes from s to x
+  -- n such steps lead from s to x
   abbrev Leads : ℕ → A → A → Type 0
   Leads zero s x = s ≡ x
   Leads (suc n) s x = (r : A) × (stands s ≡ Some r) × Leads n r x
@@ -65,11 +65,11 @@ module _ {A C : Type 0} (same : A → A → Bool) (laws : IsEquality same) (othe
     name_led zero s x e = ap name e
     name_led (suc n) s x l = (stand_ways s l.0 l.1).1 ∙ name_led n l.0 x l.2
 
-    -- a thing of this name that stands for itself was met
+    -- a vertex of this name that stands for itself was visited
     abbrev IsMet : List A → A → Type 0
     IsMet seen s = (k : A) × Has same k seen × (stands k ≡ None) × (name s ≡ name k)
 
-    -- its steps lead to the first thing that is to do
+    -- its steps lead to the first vertex of the stack
     abbrev IsPending : A → List A → Type 0
     IsPending s [] = ⊥
     IsPending s (x ∷ stack) = (n : ℕ) × Leads (suc n) s x
@@ -94,7 +94,7 @@ module _ {A C : Type 0} (same : A → A → Bool) (laws : IsEquality same) (othe
     more_met : (seen : List A) (x s : A) → IsMet seen s → IsMet (seen ++ x ∷ []) s
     more_met seen x s m = (m.0, has_left same m.0 seen (x ∷ []) m.1, m.2, m.3)
 
-    -- the first thing to do has its own met where it was met itself
+    -- if the first vertex of the stack was visited, so was one of its name that stands for itself
     first_met : (seen stack : List A) (x : A) → In x → Has same x seen → AreMetOr seen (x ∷ stack) → IsMet seen x
     first_met seen stack x here there all = let o = out x here in
         ⊎_elim (λ m. m) (λ pending. absurd (no_round o.0 pending.0 x o.1 pending.1)) (all x there)
@@ -197,7 +197,7 @@ module _ {A C : Type 0} (same : A → A → Bool) (laws : IsEquality same) (othe
         })
         (option_cases (stands x))
 
-    -- a walk from one thing is one from its name, and stays in the set
+    -- a search from one vertex is one from its name, and stays in the set
     pub walk_passed : (p : A) → In p → (after : List A) → Visits same ways (p ∷ []) [] after →
         Visits other ways_o (name p ∷ []) [] (names after) × ((q : A) → Has same q after → In q)
     walk_passed p here after walk =

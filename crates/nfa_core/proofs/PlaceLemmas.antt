@@ -1,4 +1,4 @@
--- Runs over pairs, place by place: what arrives at a place, and what goes on from there.
+-- Runs over pairs, position by position: the states that arrive at a position, and how runs go on from there.
 use Rattle.std.proofs.Common.{◌≡◌, ℕ, zero, suc, ◌+◌, ◌*◌, ◌<◌, ◌≤◌, true, false, List, [], ◌∷◌, ◌++◌, length, map, refl, sym, ap, ◌∙◌}
 use Rattle.std.proofs.Common.{arith, ⊎_elim, Option}
 use Rattle.std.proofs.lemmas.List.{append_assoc}
@@ -14,7 +14,7 @@ use Rattle.nfa_core.proofs.MemberLemmas.{none_in, has_or_not, of_cons, flat_map_
 use Rattle.nfa_core.proofs.WalkLemmas.{room_for}
 use Rattle.nfa_core.proofs.PairLemmas.{names_equal, same_here, not_here, finite_names, pairs, pairs_is}
 
--- what is known of a path at place k: `inner` are its states at that place, and no pair is of a later one
+-- what is known of a path at position k: `inner` are its states at that position, and no pair is of a later one
 abbrev Knows : ℕ → List ℕ → List (ℕ × ℕ) → Type 0
 Knows k inner path = ((y : ℕ) → has same_pair (k, y) path ≡ has nat_eq y inner) × ((j y : ℕ) → k < j → has same_pair (j, y) path ≡ false)
 
@@ -31,17 +31,17 @@ module _ {B : Type 0} (eps step : ℕ → ℕ → List ℕ) (answer : ℕ × ℕ
   abbrev pub here : ℕ → ℕ → List B
   here k y = option_to_list (answer (k, y))
 
-  -- what the runs from state y at place k find behind it, over d more bytes
+  -- what the runs from state y at position k find after that position, over d more bytes
   abbrev pub beyond : ℕ → ℕ → ℕ → List B
   beyond zero k y = []
   beyond (suc d) k y = flat_map (λ z. here (suc k) z ++ beyond d (suc k) z) (flat_map (chain_ends nat_eq (eps (suc k)) n []) (step k y))
 
-  -- what those find that arrive in y
+  -- what the runs find that arrive in y
   abbrev pub found : ℕ → ℕ → ℕ → List B
   found d k y = here k y ++ beyond d k y
 
   module _ (len : ℕ) (graph : IsGraph eps step n len) where
-    -- the states of the path at its place: without repeats, below n, and with g more there may be n
+    -- the states of the path at its position: they are without repeats and below n, and at most g are missing to n of them
     abbrev Fits : ℕ → List ℕ → Type 0
     Fits g inner = (n ≤ g + length inner) × HasNoneTwice nat_eq inner × ((q : ℕ) → Has nat_eq q inner → q < n)
 
@@ -108,10 +108,10 @@ module _ {B : Type 0} (eps step : ℕ → ℕ → List ℕ) (answer : ℕ × ℕ
         ∙ sym (append_assoc (here k x) (beyond d k x) (flat_map (found d k) inside))))
         (has_or_not nat_eq x inner)
 
-    -- the ends of chains over pairs, from a state at the first place
-    pub ends_by_place : (start : ℕ) → start < n →
+    -- the ends of chains over pairs, from a state at the first position
+    pub ends_by_offset : (start : ℕ) → start < n →
         answers answer (chain_ends same_pair (nexts eps step) (suc len * n) [] (0, start)) ≡ flat_map (found len 0)
         (chain_ends nat_eq (eps 0) n [] start)
-    ends_by_place start below =
+    ends_by_offset start below =
         let enough : pairs n (suc len) ≡ suc len * n = pairs_is n (suc len) in
         linked (suc len * n) n len 0 start [] [] (omega (arith, enough)) (omega arith) below fits_nil (λ y. refl, λ j y less. refl)

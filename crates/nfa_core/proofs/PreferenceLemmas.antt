@@ -36,7 +36,7 @@ past same laws P x q other xs apart h = ⊎_elim inl (λ (e : comes_before same 
     (cases_Bool (same x q))) (cases_Bool (same x other)))) h
 
 module _ {A B : Type 0} (same : A → A → Bool) (laws : IsEquality same) (ways : A → List A) (answer : A → Option B) where
-  -- a run that keeps off the path, of fewer than f things behind its first
+  -- a run that avoids the path, with fewer than f items after its first
   abbrev pub Short : ℕ → List A → A → List A → B → Type 0
   Short f path p r e = KeepsOff same ways path p r × (answer (last_or p r) ≡ Some e) × (length r < f)
 
@@ -45,7 +45,7 @@ module _ {A B : Type 0} (same : A → A → Bool) (laws : IsEquality same) (ways
   Best f path p (Some e) = (r : List A) × KeepsOff same ways path p r × (answer (last_or p r) ≡ Some e) ×
       ((s : List A) (d : B) → Short f path p s d → (s ≡ r) ⊎ IsPreferred same ways p r s)
 
-  -- the same of several to go on from
+  -- as `Best`, for several vertices to go on from
   abbrev BestOf : ℕ → List A → List A → Option B → Type 0
   BestOf f path qs None = (q : A) → Has same q qs → (s : List A) (d : B) → Short f path q s d → ⊥
   BestOf f path qs (Some e) = (q : A) × Has same q qs × (r : List A) × KeepsOff same ways path q r × (answer (last_or q r) ≡ Some e) ×

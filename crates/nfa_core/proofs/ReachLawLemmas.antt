@@ -13,7 +13,7 @@ use Rattle.nfa_core.proofs.RunLemmas.{listed_is_run, run_is_listed}
 use Rattle.nfa_core.proofs.CutLemmas.{without_rounds}
 use Rattle.nfa_core.proofs.ReachedLemmas.{free_below, has_from_all}
 
--- where each thing answers itself, the answers are the things
+-- if each item answers itself, the answers are the items
 itself_answers : (xs : List ℕ) → answers (λ q. Some q) xs ≡ xs
 itself_answers [] = refl
 itself_answers (x ∷ xs) = ap (λ l. x ∷ l) (itself_answers xs)

@@ -1,4 +1,4 @@
--- Of what can be built, past each state there is one that stands for itself, and what a state stands for is a state.
+-- In a builder that can be built, past each state there is one that stands for itself, and what a state stands for is a state.
 use Rattle.std.proofs.Common.{ℕ}
 use Rattle.nfa_core.specs.BuilderStates.{Assembly}
 use Rattle.nfa_core.specs.CanBuild.{CanBuild}

@@ -1,4 +1,4 @@
--- The walk with a stack over the states of an automaton, looks taken as passed.
+-- The search with a stack over the states of an automaton, with every look taken to hold.
 use Rattle.std.proofs.Common.{◌≡◌, ℕ, suc, ◌<◌, true, false, Bool, List, [], ◌∷◌, ◌++◌, length, map, All, get_or, refl, sym, ap, ◌∙◌, arith}
 use Rattle.std.proofs.Common.{⊎_elim, not, if◌then◌else◌, Some, None}
 use Rattle.std.proofs.lemmas.Bool.{cases_Bool}
@@ -18,7 +18,7 @@ use Rattle.nfa_core.proofs.StepLemmas.{fresh_on_stack}
 use Rattle.nfa_core.proofs.PairLemmas.{names_equal}
 use Rattle.nfa_core.proofs.EndsLemmas.{chains_met}
 
--- the ways without a byte are names that the state has
+-- the states to which a state leads without a byte are among the names that it has
 free_in_names : (node : Node) (r : ℕ) → Has nat_eq r (on_nothing node (λ l. true)) → Has nat_eq r (leads_to node)
 free_in_names (byte_range low high next) r h = none_in nat_eq r _ h
 free_in_names (sparse_node ranges) r h = none_in nat_eq r _ h
@@ -33,7 +33,7 @@ free_in_names (match_node pattern) r h = h
 pub free_below : (a : Automaton) → IsWellFormed a → StaysBelow (length a.states) (free_steps a)
 free_below a formed = λ q low r way. formed q r (free_in_names (node_at a q) r way)
 
--- what holds of all of a list holds of each member
+-- what holds of a whole list holds of each member
 pub has_from_all : (n : ℕ) (xs : List ℕ) → All (λ q. q < n) xs → AreBelow n xs
 has_from_all n [] all q h = none_in nat_eq q _ h
 has_from_all n (x ∷ xs) all q h = of_cons nat_eq names_equal (λ r. r < n) x xs (all 0 0 (omega arith))
@@ -54,35 +54,35 @@ pub len_nodes : (states : List State) → length states ≡ length (map node_of 
 len_nodes [] = refl
 len_nodes (s ∷ states) = ap suc (len_nodes states)
 
--- what an insertion tells
+-- what an insertion returns
 fresh_inserted : (b : Bool) (x : ℕ) (old new : List ℕ) → b ≡ true → b ≡ not (has nat_eq x old) → new ≡ (if b then old ++ x ∷ [] else old) →
     (has nat_eq x old ≡ false) × (new ≡ old ++ x ∷ [])
-fresh_inserted true x old new is tells e = ⊎_elim (λ (h : has nat_eq x old ≡ true). let t : true ≡ false = (rw h at tells) in
+fresh_inserted true x old new is reports e = ⊎_elim (λ (h : has nat_eq x old ≡ true). let t : true ≡ false = (rw h at reports) in
     cc) (λ (h : has nat_eq x old ≡ false). (h, e)) (cases_Bool (has nat_eq x old))
-fresh_inserted false x old new is tells e = cc
+fresh_inserted false x old new is reports e = cc
 
 held_inserted : (b : Bool) (x : ℕ) (old new : List ℕ) → b ≡ false → b ≡ not (has nat_eq x old) → new ≡ (if b then old ++ x ∷ [] else old) →
     (has nat_eq x old ≡ true) × (new ≡ old)
-held_inserted true x old new is tells e = cc
-held_inserted false x old new is tells e = ⊎_elim (λ (h : has nat_eq x old ≡ true). (h, e))
-    (λ (h : has nat_eq x old ≡ false). let t : false ≡ true = (rw h at tells) in cc) (cases_Bool (has nat_eq x old))
+held_inserted true x old new is reports e = cc
+held_inserted false x old new is reports e = ⊎_elim (λ (h : has nat_eq x old ≡ true). (h, e))
+    (λ (h : has nat_eq x old ≡ false). let t : false ≡ true = (rw h at reports) in cc) (cases_Bool (has nat_eq x old))
 
--- a step of the walk: what the set has already is passed over, what it lacks has its ways walked
+-- A step of the search: a state that the set has already is skipped. From a state that is not in the set, its edges are followed.
 module _ (before seen stack names rest new : List ℕ) (x : ℕ) (b : Bool) (same : names ≡ seen) (taken : stack ≡ x ∷ rest)
     (walk : GoesOn before seen stack names)
-    (tells : b ≡ not (has nat_eq x names)) (e : new ≡ (if b then names ++ x ∷ [] else names)) where
+    (reports : b ≡ not (has nat_eq x names)) (e : new ≡ (if b then names ++ x ∷ [] else names)) where
   pub passes : b ≡ false → (new ≡ seen) × GoesOn before seen rest new
-  passes is = let h = held_inserted b x names new is tells e in
+  passes is = let h = held_inserted b x names new is reports e in
       (h.1 ∙ same, λ ways after v. walk ways after (rw taken (held x rest names after h.0 (rw (← h.1) v))))
 
   pub meets : b ≡ true → Meets before seen rest new (Some x)
-  meets is = let h = fresh_inserted b x names new is tells e in (
+  meets is = let h = fresh_inserted b x names new is reports e in (
     h.1 ∙ ap (λ l. l ++ x ∷ []) same,
     λ ways after v. walk ways after
         (rw taken (fresh_on_stack nat_eq ways x rest names after h.0 (rw (← h.1) v))),
   )
 
--- the walk stands at a stack and what was met: going on from there goes on from the patterns' starts
+-- the search is at a stack and at what was visited: to go on from there is to go on from the patterns' starts
 abbrev pub StandsAt : Automaton → ℕ → List ℕ → List ℕ → Type 0
 StandsAt a n stack met = AreBelow n stack × AreBelow n met × ((after : List ℕ) → Visits nat_eq (free_steps a) stack met after →
     Visits nat_eq (free_steps a) a.start_pattern [] after)

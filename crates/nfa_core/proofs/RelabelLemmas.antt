@@ -1,4 +1,4 @@
--- Runs of one graph are those of another whose things have other names; and no larger bound brings more.
+-- Runs of one graph are those of another whose vertices have other names. A larger bound finds no more.
 use Rattle.std.proofs.Common.{◌≡◌, ℕ, zero, suc, ◌+◌, ◌<◌, ◌≤◌, true, false, Bool, List, [], ◌∷◌, ◌++◌, length, map, refl, sym, ap, ◌∙◌}
 use Rattle.std.proofs.Common.{arith, ⊎_elim, Option}
 use Rattle.std.proofs.lemmas.List.Folds.{flat_map-map}
@@ -30,7 +30,7 @@ module _ {A : Type 0} (same : A → A → Bool) (laws : IsEquality same) (ways :
       (of_flat_map same laws same (chain_ends same ways f (x ∷ path)) In (ways x)
       (λ y way. ends_in stays f (x ∷ path) y (stays x here y way))) q g) (has_or_not same x path)
 
-  -- bounds above the number of things in the set bring the same
+  -- bounds of at least the number of vertices in the set give the same ends
   pub same_bound : (n : ℕ) → IsFinite same ways In n → (f g : ℕ) (path : List A) (x : A) → In x → ((q : A) → Has same q path → In q) →
       HasNoneTwice same path →
       n ≤ f + length path → n ≤ g + length path → chain_ends same ways f path x ≡ chain_ends same ways g path x

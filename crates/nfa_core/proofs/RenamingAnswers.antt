@@ -1,4 +1,4 @@
--- What a builder's table lists and finds, the automaton that is built of it lists and finds too, whatever the pairs answer.
+-- What a builder's table lists and finds, the automaton that is built of it lists and finds too, whatever the answers at pairs are.
 use Rattle.std.proofs.Common.{◌≡◌, ℕ, zero, suc, ◌<◌, ◌⊎◌, inl, inr, ⊎_elim, Bool, List, [], ◌∷◌, length, take, map, reverse, refl, sym, ap}
 use Rattle.std.proofs.Common.{◌∙◌, subst, Option, Some, None}
 use Rattle.std.specs.Prelude.{All}
@@ -14,7 +14,7 @@ use Rattle.nfa_core.specs.Drafted.{drafted, table_ways}
 use Rattle.nfa_core.specs.Places.{same_pair}
 use Rattle.nfa_core.specs.Walks.{Has, Lists}
 use Rattle.nfa_core.specs.Runs.{IsChain, last_or}
-use Rattle.nfa_core.specs.Ways.{Text, reads, is_passed, on_read, on_nothing, place_behind, node_ways, ways}
+use Rattle.nfa_core.specs.Ways.{Text, reads, is_satisfied, on_read, on_nothing, offset_after, node_ways, ways}
 use Rattle.nfa_core.specs.Renaming.{stands_for, kept, new_name, automaton_of}
 use Rattle.nfa_core.proofs.MemberLemmas.{none_in, of_cons, of_append, has_first}
 use Rattle.nfa_core.proofs.PairLemmas.{names_equal, pairs_equal, from_map}
@@ -27,7 +27,7 @@ use Rattle.nfa_core.proofs.RenamingWalks.{IsKept, StandsIn, Settled, lists_carri
 
 -- ---- the names that a state leads to are those that it names
 
--- each of the list has the property
+-- each member of the list has the property
 abbrev pub Every : (ℕ → Type 0) → List ℕ → Type 0
 Every P xs = (r : ℕ) → Has nat_eq r xs → P r
 
@@ -52,8 +52,8 @@ node_ways_inside : (is_reverse : Bool) (t : Text) (node : Node) (n i : ℕ) → 
 node_ways_inside is_reverse t node n i all =
     let below : Every (λ r. r < n) (leads_to node) = every_of_all (λ r. r < n) (leads_to node) all in
     let read : Option (ℕ × ℕ) = reads is_reverse t i in
-    let passed : Look → Bool = λ l. is_passed is_reverse t l i in
-    let j : ℕ = place_behind i read in
+    let passed : Look → Bool = λ l. is_satisfied is_reverse t l i in
+    let j : ℕ = offset_after i read in
     let I : ℕ × ℕ → Type 0 = λ p. p.1 < n in
     of_append same_pair pairs_equal I (map (λ q. (j, q)) (on_read node read)) (map (λ q. (i, q)) (on_nothing node passed))
     (λ p h. let o = from_map j p (on_read node read) h in let l : o.0 < n = below o.0 (read_led node read o.0 o.1) in rw o.2 l)
@@ -81,7 +81,7 @@ module _ (b : Assembly) (x y : ℕ) (can : CanBuild b x y) (t : Text) where
   pub same_name : (q r : ℕ) → stands_for (draft_at b.drafts q) ≡ Some r → new_name b.drafts q ≡ new_name b.drafts r
   same_name q r e = ap (λ k. length (kept (take k b.drafts))) (past_next b.drafts can.no_loop q r e)
 
-  -- what pairs answer, here and there: a kept state the same, and one that stands for another nothing
+  -- the answers of pairs in the table and in the automaton: a kept state has the same answer, and one that stands for another has none
   pub record AnswerAlike {E : Type 0} (found found_built : ℕ × ℕ → Option E) : Type 0 where
     pub kept : (p : ℕ × ℕ) → IsInside p → stands_for (draft_at b.drafts p.1) ≡ None → found_built (renamed_pair b.drafts p) ≡ found p
     pub stands : (p : ℕ × ℕ) (r : ℕ) → stands_for (draft_at b.drafts p.1) ≡ Some r → found p ≡ None

@@ -46,7 +46,7 @@ one_state drafts p q inside_p inside_q kept_p kept_q e =
     one_rank is_kept drafts p q fail_draft inside_p inside_q (ap is_none kept_p) (ap is_none kept_q) (sym (name_of_kept drafts p kept_p) ∙ e
     ∙ name_of_kept drafts q kept_q)
 
--- the kept state of which a name is the new one
+-- the kept state whose new name this is
 abbrev pub Named : List DraftNode → ℕ → Type 0
 Named drafts k = (q : ℕ) × (q < length drafts) × (stands_for (draft_at drafts q) ≡ None) × (new_name drafts q ≡ k)
 

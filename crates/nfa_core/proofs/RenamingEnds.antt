@@ -28,7 +28,7 @@ module _ (b : Assembly) (x y : ℕ) (can : CanBuild b x y) where
   abbrev size : ℕ
   size = length (automaton_of b x y).states
 
-  -- the new name of each state is there
+  -- the new name of each state is that of a state
   pub name_inside : (q : ℕ) → q < length b.drafts → new_name b.drafts q < size
   name_inside q inside =
       let p : ℕ = past b.drafts q in
@@ -61,10 +61,10 @@ module _ (b : Assembly) (x y : ℕ) (can : CanBuild b x y) where
 
   pub is_well_formed : IsWellFormed (automaton_of b x y)
   is_well_formed k r h = ⊎_elim
-      (λ told. let none : leads_to (node_at (automaton_of b x y) k) ≡ [] =
-      ap leads_to (get_or_past (automaton_of b x y).states k fail_node told.1) in
+      (λ reported. let none : leads_to (node_at (automaton_of b x y) k) ≡ [] =
+      ap leads_to (get_or_past (automaton_of b x y).states k fail_node reported.1) in
       let H : List ℕ → Type 0 = λ l. Has nat_eq r l in none_in nat_eq r _ (subst H none h))
-      (λ told. node_inside k told.1 r h) (leb_tells size k)
+      (λ reported. node_inside k reported.1 r h) (leb_tells size k)
 
   module _ (t : Text) (q i : ℕ) (inside : q < length b.drafts) (place : i ≤ t.end) where
     here : IsPairOf (automaton_of b x y) t (i, new_name b.drafts q)

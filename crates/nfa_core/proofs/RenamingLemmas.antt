@@ -1,5 +1,5 @@
--- States that stand for themselves. From a state one comes to such a one in fewer steps than there are states, since none
--- is met twice on the way.
+-- States that stand for themselves. From each state, fewer steps than there are states lead to such a one, since no state is met twice on
+-- the way.
 use Rattle.std.proofs.Common.{◌≡◌, ℕ, zero, suc, ◌<◌, ◌≤◌, List, [], ◌∷◌, length, Option, Some, None, refl, sym, ap, ◌∙◌, arith, ⊎_elim}
 use Rattle.std.specs.Prelude.{All}
 use Rattle.std.specs.Bool.{nat_eq}
@@ -38,7 +38,7 @@ stand_in_named n (union_reverse_draft (next ∷ other ∷ others)) r e all = cc
 stand_in_named n fail_draft r e all = cc
 stand_in_named n (match_draft pattern) r e all = cc
 
--- each name that a state names is a state's
+-- each name that a state names is that of a state
 abbrev pub AreNamed : List DraftNode → Type 0
 AreNamed drafts = All (λ draft. All (λ q. q < length drafts) (names_of draft)) drafts
 
@@ -46,7 +46,7 @@ module _ (drafts : List DraftNode) where
   abbrev pub stood_for : ℕ → Option ℕ
   stood_for q = stands_for (draft_at drafts q)
 
-  -- after this many steps, and no fewer, one comes to a state that stands for itself
+  -- exactly so many steps lead to a state that stands for itself
   abbrev pub Comes : ℕ → ℕ → Type 0
   Comes zero q = stood_for q ≡ None
   Comes (suc m) q = (r : ℕ) × (stood_for q ≡ Some r) × Comes m r
@@ -70,12 +70,12 @@ module _ (drafts : List DraftNode) where
       let there : Comes k a.0 = rw same b.2 in
       ap (λ j. suc j) (one_count m k a.0 a.2 there)
 
-  -- what stands for another is there
+  -- a state that stands for another is one of the states
   there_if_stands : (q r : ℕ) → stood_for q ≡ Some r → q < length drafts
   there_if_stands q r e = ⊎_elim
-      (λ told. let past_end : stood_for q ≡ None = ap stands_for (get_or_past drafts q fail_draft told.1) in
+      (λ reported. let past_end : stood_for q ≡ None = ap stands_for (get_or_past drafts q fail_draft reported.1) in
       no_value (stood_for q) r _ past_end e)
-      (λ told. told.1) (leb_tells (length drafts) q)
+      (λ reported. reported.1) (leb_tells (length drafts) q)
 
   -- the states on the way, without the last
   abbrev trail : (m q : ℕ) → Comes m q → List ℕ
@@ -131,7 +131,7 @@ module _ (drafts : List DraftNode) where
     pub past_inside : (q : ℕ) → q < length drafts → past drafts q < length drafts
     past_inside q inside = within_inside (length drafts) q inside
 
-  -- more steps bring nothing more
+  -- more steps change nothing
   same_within : (m j k q : ℕ) → Comes m q → m ≤ j → m ≤ k → past_within drafts j q ≡ past_within drafts k q
   same_within zero j k q c a b = past_itself drafts j q c ∙ sym (past_itself drafts k q c)
   same_within (suc m) zero k q c a b = absurd (omega (arith, a))

@@ -9,7 +9,7 @@ use Rattle.nfa_core.specs.Nfa.{union_node, leads_to}
 use Rattle.nfa_core.specs.BuilderStates.{DraftNode, empty_draft, range_draft, sparse_draft, look_draft, capture_start_draft}
 use Rattle.nfa_core.specs.BuilderStates.{capture_end_draft, union_draft, union_reverse_draft, fail_draft, match_draft}
 use Rattle.nfa_core.specs.Drafted.{drafted}
-use Rattle.nfa_core.specs.Ways.{Text, reads, is_passed, in_ranges, on_byte, on_nothing, on_read, place_behind, node_ways, match_of}
+use Rattle.nfa_core.specs.Ways.{Text, reads, is_satisfied, in_ranges, on_byte, on_nothing, on_read, offset_after, node_ways, match_of}
 use Rattle.nfa_core.specs.Renaming.{stands_for, ways_node, ranges_node, renamed}
 use Rattle.nfa_core.proofs.BuildLemmas.{leads_ways}
 
@@ -146,8 +146,8 @@ module _ (name : ℕ → ℕ) (groups : Groups) where
       node_ways reverse t (renamed name groups draft) i ≡ map (λ p. (p.0, name p.1)) (node_ways reverse t (drafted draft) i)
   ways_renamed draft kept is_reverse t i =
       let read : Option (ℕ × ℕ) = reads is_reverse t i in
-      let j : ℕ = place_behind i read in
-      let passed : Look → Bool = λ l. is_passed is_reverse t l i in
+      let j : ℕ = offset_after i read in
+      let passed : Look → Bool = λ l. is_satisfied is_reverse t l i in
       let first : List ℕ = on_read (drafted draft) read in
       let second : List ℕ = on_nothing (drafted draft) passed in
       ap (λ l. map (at_place j) l ++ map (at_place i) (on_nothing (renamed name groups draft) passed)) (read_renamed draft kept read)
@@ -158,7 +158,7 @@ module _ (name : ℕ → ℕ) (groups : Groups) where
 
 -- ---- a state that stands for another leads there, and nowhere else
 
-one_way_read : (next i : ℕ) (read : Option (ℕ × ℕ)) → map (at_place (place_behind i read)) (on_read (union_node (next ∷ [])) read)
+one_way_read : (next i : ℕ) (read : Option (ℕ × ℕ)) → map (at_place (offset_after i read)) (on_read (union_node (next ∷ [])) read)
     ++ (at_place i next ∷ []) ≡ at_place i next ∷ []
 one_way_read next i None = refl
 one_way_read next i (Some (b, j)) = refl

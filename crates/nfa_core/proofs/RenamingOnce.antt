@@ -1,4 +1,4 @@
--- Where the walk of a stack comes to its end, no chain from its first thing comes to a thing twice.
+-- Where the search of a stack ends, no chain from its first vertex visits a vertex twice.
 use Rattle.std.proofs.Common.{◌≡◌, ℕ, suc, ◌<◌, Bool, List, [], ◌∷◌, refl, arith, ⊎_elim, Option, Some}
 use Rattle.nfa_core.specs.Walks.{Has, Lists, HasNoneTwice, IsEquality, IsFinite}
 use Rattle.nfa_core.specs.Runs.{IsChain}
@@ -6,7 +6,7 @@ use Rattle.nfa_core.proofs.MemberLemmas.{none_in, has_or_not, has_first, has_con
 use Rattle.nfa_core.proofs.StackLemmas.{Falls, no_descent, step_down, all_fall}
 
 module _ {A : Type 0} (same : A → A → Bool) (laws : IsEquality same) (ways : A → List A) where
-  -- what a chain comes to falls by fewer steps
+  -- each vertex of a chain falls by fewer steps than the one that the chain begins with
   abbrev FallsBelow : ℕ → A → Type 0
   FallsBelow m z = (k : ℕ) × (k < m) × Falls same laws ways k z
 

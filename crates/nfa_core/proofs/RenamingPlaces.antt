@@ -1,4 +1,4 @@
--- A chain of the automaton that comes to a kept state comes from one of the builder's table that comes there.
+-- A chain of the automaton that leads to a kept state comes from a chain of the builder's table that leads there.
 use Rattle.std.proofs.Common.{◌≡◌, ℕ, ◌<◌, ⊎_elim, Bool, true, false, if◌then◌else◌, List, length, sym, ap, ◌∙◌, Option, Some, None}
 use Rattle.std.specs.Bool.{nat_eq}
 use Rattle.std.proofs.lemmas.Bool.{cases_Bool, cond-true, cond-false, eqb-true, eq-eqb}
@@ -14,7 +14,7 @@ use Rattle.nfa_core.proofs.RenamingAnswers.{AnswerAlike, renamed_back}
 
 module _ (b : Assembly) (x y : ℕ) (can : CanBuild b x y) (t : Text) (c : ℕ) (c_there : c < length b.drafts)
     (c_stands : stands_for (draft_at b.drafts c) ≡ None) where
-  -- what is answered is the place, where it is in state c
+  -- the answer is the offset, if it is in state c
   abbrev found : ℕ × ℕ → Option ℕ
   found p = if nat_eq p.1 c then Some p.0 else None
 

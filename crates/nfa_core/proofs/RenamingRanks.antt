@@ -1,4 +1,4 @@
--- The part of a list that a test keeps, and the place that an element of the list has there: how many are kept before it.
+-- The part of a list that a test keeps. An element of the list has a position there: the number of elements that are kept before it.
 use Rattle.std.proofs.Common.{◌≡◌, ℕ, zero, suc, ◌<◌, true, false, Bool, List, [], ◌∷◌, length, take, get_or, map, refl, ap, arith, ⊎_elim}
 use Rattle.std.proofs.lemmas.Bool.{cases_Bool}
 use Rattle.std.specs.List.{filter}
@@ -22,7 +22,7 @@ module _ {A : Type 0} (keep : A → Bool) where
       let l : get_or (map f (filter keep xs)) (rank xs q) none ≡ f (get_or xs q d) = at_rank f xs q d none (omega (arith, inside)) is in
       ⊎_elim (λ (e : keep x ≡ true). rw e l) (λ (e : keep x ≡ false). rw e l) (cases_Bool (keep x))
 
-  -- what is kept has a place of its own
+  -- what is kept has a position of its own
   first_rank : (x : A) (xs : List A) (q : ℕ) → keep x ≡ true → 0 < rank (x ∷ xs) (suc q)
   first_rank x xs q is = rw is (omega arith)
 
@@ -41,7 +41,7 @@ module _ {A : Type 0} (keep : A → Bool) where
       (λ (k : keep x ≡ false). (rw k at e)) (cases_Bool (keep x)) in
       ap (λ n. suc n) (one_rank xs p q d (omega (arith, inside_p)) (omega (arith, inside_q)) is_p is_q same)
 
-  -- each place is that of something kept
+  -- each position is that of an element that is kept
   abbrev pub Ranked : List A → A → ℕ → Type 0
   Ranked xs d k = (q : ℕ) × (q < length xs) × (keep (get_or xs q d) ≡ true) × (rank xs q ≡ k)
 

@@ -1,5 +1,5 @@
--- Walks and chains of one graph carried over to another, in which things have other names, and where a thing may have the
--- name of the only one that it leads to.
+-- Depth-first searches and chains of one graph carried over to another, in which vertices have other names. A vertex may have the name of
+-- the only one to which it leads.
 use Rattle.std.proofs.Common.{◌≡◌, ◌⊎◌, ⊎_elim, Bool, List, [], ◌∷◌, ◌++◌, map, sym, ap, ◌∙◌, subst, Option, Some, None}
 use Rattle.std.proofs.lemmas.List.{map-append}
 use Rattle.nfa_core.specs.Walks.{Has, Lists, lists_none, lists_answer, lists_ways, IsEquality}
@@ -24,11 +24,11 @@ module _ {A C : Type 0} (same : A → A → Bool) (laws : IsEquality same) (othe
       (has_cons other laws_o z (name y) (map name ys) h)
 
   module _ {B : Type 0} (ways : A → List A) (answer : A → Option B) (ways_o : C → List C) (answer_o : C → Option B) where
-    -- it leads under its name to what it led to, and answers the same
+    -- under its name it leads where it led, and has the same answer
     abbrev pub IsKept : A → Type 0
     IsKept p = (ways_o (name p) ≡ map name (ways p)) × (answer_o (name p) ≡ answer p)
 
-    -- it has the name of the only thing that it leads to
+    -- it has the name of the only vertex to which it leads
     abbrev pub StandsIn : A → Type 0
     StandsIn p = (r : A) × (ways p ≡ r ∷ []) × (answer p ≡ None) × (name p ≡ name r)
 
@@ -38,7 +38,7 @@ module _ {A C : Type 0} (same : A → A → Bool) (laws : IsEquality same) (othe
     abbrev pub FindsOther : C → B → Type 0
     FindsOther c e = (s : List C) × IsChain other ways_o c s × (answer_o (last_or c s) ≡ Some e)
 
-    -- a kept thing of this name, whose chains are chains from p too
+    -- a kept vertex of this name, whose chains are chains from p too
     pub record Settled (In : A → Type 0) (p : A) : Type 0 where
       pub at : A
       pub inside : In at

@@ -1,4 +1,4 @@
--- The ends of runs: the first is the most preferred run's, and each end of a run is among them.
+-- The ends of runs: the first is that of the most preferred run, and each end of a run is among them.
 use Rattle.std.proofs.Common.{◌≡◌, ℕ, ◌<◌, ◌≤◌, true, false, Bool, List, [], ◌∷◌, ◌++◌, length, refl, sym, ap, ◌∙◌, arith, ⊎_elim, Option}
 use Rattle.std.proofs.Common.{Some, None, subst}
 use Rattle.std.proofs.lemmas.Bool.{cases_Bool}
@@ -71,7 +71,7 @@ wanted_is wanted (Some d) e h = ⊎_elim (λ (i : wanted d ≡ true). rw i at h)
 is_wanted : {B : Type 0} (wanted : B → Bool) (o : Option B) (e : B) → wanted e ≡ true → o ≡ Some e → wanted_answer wanted o ≡ Some e
 is_wanted wanted o e t h = rw (h, t)
 
--- the first that equals e is e
+-- the first member that equals e is e
 first_same : {B : Type 0} (same : B → B → Bool) → IsEquality same → (e : B) (l : List B) → Has same e l → first (filter (same e) l) ≡ Some e
 first_same same laws e [] h = none_in same e _ h
 first_same same laws e (x ∷ l) h = ⊎_elim (λ (i : same e x ≡ true). let k : e ≡ x = (laws e x).0 i in rw i (ap (λ y. Some y) (sym k)))
@@ -115,7 +115,7 @@ module _ {A B : Type 0} (same : A → A → Bool) (laws : IsEquality same) (same
         let ends : List A = chain_ends same ways n [] p in
         ap (distinct same_end) (filter_answers wanted answer ends) ∙ sym (filter_join same_end laws_end wanted [] (answers answer ends))
 
-    -- each end listed is that of a run
+    -- each end that is listed is that of a run
     pub listed_is_run : (answer : A → Option B) (e : B) → Has same_end e (run_ends same same_end ways answer n p) → (r : List A) ×
         IsRun same ways answer p r e
     listed_is_run answer e h =
@@ -141,7 +141,7 @@ module _ {A B : Type 0} (same : A → A → Bool) (laws : IsEquality same) (same
         ∙ some.1))
         (option_cases (first (run_ends same same_end ways wanted n p)))
 
-    -- what a walk with one set for all answers, repeats dropped, are the ends of runs
+    -- the answers that a depth-first search with one set finds, repeats dropped, are the ends of runs
     pub walk_ends : (answer : A → Option B) (after : List A) → Visits same ways (p ∷ []) [] after →
         distinct same_end (answers answer after) ≡ run_ends same same_end ways answer n p
     walk_ends answer after visits =

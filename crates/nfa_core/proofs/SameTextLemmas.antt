@@ -1,4 +1,4 @@
--- Texts whose bytes are of one class place by place are followed alike.
+-- Haystacks whose bytes have the same class at each offset are searched alike.
 use Rattle.std.proofs.Common.{◌≡◌, ℕ, zero, suc, ◌<◌, true, false, Bool, List, [], ◌∷◌, ◌++◌, length, map, All, get_or, if◌then◌else◌, ◌*◌}
 use Rattle.std.proofs.Common.{refl, sym, ap, ap₂, subst, arith, ⊎_elim, Option, Some, None}
 use Rattle.std.proofs.lemmas.Bool.{cases_Bool}
@@ -11,7 +11,7 @@ use Rattle.look_core.specs.LookSets.{has_look}
 use Rattle.look_core.specs.Looks.{Side, by_bytes, byte_side, word_if, holds_ascii}
 use Rattle.look_core.specs.SameClasses.{HaveSameClasses}
 use Rattle.look_core.specs.Terminators.{Terminator}
-use Rattle.look_core.specs.ToldApart.{told_apart, word_ranges}
+use Rattle.look_core.specs.ToldApart.{ranges_apart, word_ranges}
 use Rattle.look_core.specs.declared.look.Look.{Look}
 use Rattle.look_core.specs.declared.look.Look.TheVariants.{Start, End, StartLF, EndLF, StartCRLF, EndCRLF, WordAscii, WordAsciiNegate}
 use Rattle.look_core.specs.declared.look.Look.TheVariants.{WordUnicode, WordUnicodeNegate, WordStartAscii, WordEndAscii, WordStartUnicode}
@@ -21,14 +21,15 @@ use Rattle.look_core.proofs.ForCallers.{LieAlike, AtEach, same_at, same_before, 
 use Rattle.nfa_core.specs.Alike.{marks_of}
 use Rattle.nfa_core.specs.Nfa.{Node, byte_range, sparse_node, dense_node, look_node, union_node, binary_union, capture_node, fail_node}
 use Rattle.nfa_core.specs.Nfa.{match_node, Automaton, node_at}
-use Rattle.nfa_core.specs.NfaValue.{IsSound, told_apart_by, looks_of}
+use Rattle.nfa_core.specs.NfaValue.{IsSound, ranges_apart_by, looks_of}
 use Rattle.nfa_core.specs.Places.{same_pair}
 use Rattle.nfa_core.specs.Runs.{run_ends}
-use Rattle.nfa_core.specs.Ways.{span, reads, with_place, is_passed, on_byte, on_nothing, on_read, place_behind, ways, matched, ends_from}
+use Rattle.nfa_core.specs.Ways.{span, reads, with_offset, is_satisfied, on_byte, on_nothing, on_read, offset_after, ways, matched}
+use Rattle.nfa_core.specs.Ways.{ends_from}
 use Rattle.nfa_core.proofs.ClassLemmas.{lie_alike, bytes_alike}
 use Rattle.nfa_core.proofs.LookedLemmas.{looks_any}
 
-turned_alike : (t : Terminator) (l : Look) → told_apart t (reversed l) ≡ told_apart t l
+turned_alike : (t : Terminator) (l : Look) → ranges_apart t (reversed l) ≡ ranges_apart t l
 turned_alike t Start = refl
 turned_alike t End = refl
 turned_alike t StartLF = refl
@@ -50,11 +51,11 @@ turned_alike t WordEndHalfUnicode = refl
 
 -- where a state leads by what is read
 abbrev by_read : Node → ℕ → Option (ℕ × ℕ) → List (ℕ × ℕ)
-by_read node i read = map (λ q. (place_behind i read, q)) (on_read node read)
+by_read node i read = map (λ q. (offset_after i read, q)) (on_read node read)
 
 module _ (t : Terminator) (h g : List ℕ) (len : length h ≡ length g) where
   -- looks by bytes of ASCII
-  module _ (l : Look) (at : AtEach (λ b c. All (LieAlike b c) (told_apart t l)) h g) (i : ℕ) where
+  module _ (l : Look) (at : AtEach (λ b c. All (LieAlike b c) (ranges_apart t l)) h g) (i : ℕ) where
     words_at : is_word_unicode l ≡ true → AtEach (λ b c. All (LieAlike b c) word_ranges) h g
     words_at u k low = let P : List (ℕ × ℕ) → Type 0 = All (LieAlike (get_or h k 0) (get_or g k 0)) in
         subst P (word_ranges_told t l u) (at k low)
@@ -69,16 +70,16 @@ module _ (t : Terminator) (h g : List ℕ) (len : length h ≡ length g) where
         (λ (u : is_word_unicode l ≡ false). alike_bytes t h g i len l u at) (cases_Bool (is_word_unicode l))
 
   module _ (start end : ℕ) where
-    passed_alike : (is_reverse : Bool) (l : Look) → AtEach (λ b c. All (LieAlike b c) (told_apart t l)) h g → (i : ℕ) →
-        is_passed is_reverse (span t h start end) l i ≡ is_passed is_reverse (span t g start end) l i
+    passed_alike : (is_reverse : Bool) (l : Look) → AtEach (λ b c. All (LieAlike b c) (ranges_apart t l)) h g → (i : ℕ) →
+        is_satisfied is_reverse (span t h start end) l i ≡ is_satisfied is_reverse (span t g start end) l i
     passed_alike false l at i = same_look l at i
     passed_alike true l at i =
         same_look (reversed l) (λ k low. let P : List (ℕ × ℕ) → Type 0 = All (LieAlike (get_or h k 0) (get_or g k 0)) in
-        let e : told_apart t l ≡ told_apart t (reversed l) = sym (turned_alike t l) in subst P e (at k low)) i
+        let e : ranges_apart t l ≡ ranges_apart t (reversed l) = sym (turned_alike t l) in subst P e (at k low)) i
 
-    nothing_alike : (is_reverse : Bool) (node : Node) → AtEach (λ b c. All (LieAlike b c) (told_apart_by t node)) h g → (i : ℕ) →
-        on_nothing node (λ l. is_passed is_reverse (span t h start end) l i) ≡ on_nothing node
-        (λ l. is_passed is_reverse (span t g start end) l i)
+    nothing_alike : (is_reverse : Bool) (node : Node) → AtEach (λ b c. All (LieAlike b c) (ranges_apart_by t node)) h g → (i : ℕ) →
+        on_nothing node (λ l. is_satisfied is_reverse (span t h start end) l i) ≡ on_nothing node
+        (λ l. is_satisfied is_reverse (span t g start end) l i)
     nothing_alike is_reverse (byte_range low high next) at i = refl
     nothing_alike is_reverse (sparse_node ranges) at i = refl
     nothing_alike is_reverse (dense_node names) at i = refl
@@ -90,12 +91,12 @@ module _ (t : Terminator) (h g : List ℕ) (len : length h ≡ length g) where
     nothing_alike is_reverse (match_node pattern) at i = refl
 
     module _ (node : Node) (at : AtEach (λ b c. on_byte node b ≡ on_byte node c) h g) where
-      one_read : (i j k : ℕ) → by_read node i (with_place j (byte_at h k)) ≡ by_read node i (with_place j (byte_at g k))
-      one_read i j k = same_at (λ b c. on_byte node b ≡ on_byte node c) h g len at (List (ℕ × ℕ)) (λ o. by_read node i (with_place j o))
+      one_read : (i j k : ℕ) → by_read node i (with_offset j (byte_at h k)) ≡ by_read node i (with_offset j (byte_at g k))
+      one_read i j k = same_at (λ b c. on_byte node b ≡ on_byte node c) h g len at (List (ℕ × ℕ)) (λ o. by_read node i (with_offset j o))
           (λ b c e. ap (map (λ q. (j, q))) e) k
 
-      if_read : (test : Bool) (i j k : ℕ) → by_read node i (if test then with_place j (byte_at h k) else None) ≡ by_read node i (if test
-          then with_place j (byte_at g k) else None)
+      if_read : (test : Bool) (i j k : ℕ) → by_read node i (if test then with_offset j (byte_at h k) else None) ≡ by_read node i (if test
+          then with_offset j (byte_at g k) else None)
       if_read true i j k = one_read i j k
       if_read false i j k = refl
 
@@ -120,7 +121,7 @@ module _ (a : Automaton) (t : Terminator) (marks : List Bool) (h g : List ℕ) (
       (read_alike t h g classes.0 start end node (at_each (λ b c. on_byte node b ≡ on_byte node c)
       (λ b c lb lc same. (bytes_alike a t marks b c sound has lb lc same).led p.1)) a.reverse p.0)
       (ap (map (λ q. (p.0, q)))
-      (nothing_alike t h g classes.0 start end a.reverse node (at_each (λ b c. All (LieAlike b c) (told_apart_by t node))
+      (nothing_alike t h g classes.0 start end a.reverse node (at_each (λ b c. All (LieAlike b c) (ranges_apart_by t node))
       (λ b c lb lc same. lie_alike a t marks b c has lb lc same p.1)) p.0))
 
   pub ends_alike : (p : ℕ × ℕ) → ends_from a (span t h start end) p ≡ ends_from a (span t g start end) p
@@ -131,6 +132,6 @@ module _ (a : Automaton) (t : Terminator) (marks : List Bool) (h g : List ℕ) (
   pub looks_alike : (l : Look) → has_look (looks_of a.states) l ≡ true → (i : ℕ) → holds_ascii t h l i ≡ holds_ascii t g l i
   looks_alike l there i =
       let r = (looks_any l a).0 there in
-      same_look t h g classes.0 l (at_each (λ b c. All (LieAlike b c) (told_apart t l)) (λ b c lb lc same.
-      let P : Node → Type 0 = λ node. All (LieAlike b c) (told_apart_by t node) in
+      same_look t h g classes.0 l (at_each (λ b c. All (LieAlike b c) (ranges_apart t l)) (λ b c lb lc same.
+      let P : Node → Type 0 = λ node. All (LieAlike b c) (ranges_apart_by t node) in
       subst P r.2 (lie_alike a t marks b c has lb lc same r.0))) i

@@ -27,7 +27,7 @@ ranges_bytes [] = omega arith
 ranges_bytes (range ∷ []) = omega arith
 ranges_bytes (range ∷ other ∷ others) = omega arith
 
--- a state needs no more
+-- a state needs no more bytes
 one_smaller : (name : ℕ → ℕ) (groups : Groups) (draft : DraftNode) → node_memory (renamed name groups draft) ≤ draft_bytes draft
 one_smaller name groups (empty_draft next) = omega arith
 one_smaller name groups (range_draft low high next) = omega arith

@@ -1,4 +1,4 @@
--- Where the walk of a stack ends, no chain is without end, so nothing is come to twice: its answers are the ends of runs.
+-- Where the search of a stack ends, every chain ends, so no vertex is visited twice. The search's answers are the ends of runs.
 use Rattle.std.proofs.Common.{◌≡◌, ℕ, zero, suc, ◌+◌, ◌<◌, ◌≤◌, false, Bool, List, [], ◌∷◌, ◌++◌, length, refl, sym, ap, ◌∙◌, arith, ⊎_elim}
 use Rattle.std.proofs.Common.{Option, Some}
 use Rattle.std.proofs.lemmas.List.{append-nil}
@@ -12,7 +12,7 @@ use Rattle.nfa_core.proofs.MemberLemmas.{none_in, has_or_not, has_first, has_lat
 use Rattle.nfa_core.proofs.WalkLemmas.{room_for}
 
 module _ {A : Type 0} (same : A → A → Bool) (laws : IsEquality same) (ways : A → List A) where
-  -- each chain from x has m things at most
+  -- each chain from x has at most m vertices
   abbrev pub Falls : ℕ → A → Type 0
   Falls zero x = ⊥
   Falls (suc m) x = (y : A) → Has same y (ways x) → Falls m y
@@ -22,13 +22,13 @@ module _ {A : Type 0} (same : A → A → Bool) (laws : IsEquality same) (ways :
   falls_more (suc m) zero x h falls = absurd (omega (arith, h))
   falls_more (suc m) (suc k) x h falls = λ y way. falls_more m k y (omega (arith, h)) (falls y way)
 
-  -- what falls is not led back to itself
+  -- a vertex whose chains have a bound is not on a cycle
   pub no_descent : (x : A) → ((m : ℕ) → Falls m x → (k : ℕ) × (k < m) × Falls k x) → (bound m : ℕ) → m < bound → Falls m x → ⊥
   no_descent x is_reverse zero m h falls = omega (arith, h)
   no_descent x is_reverse (suc bound) m h falls = let d = is_reverse m falls in
       no_descent x is_reverse bound d.0 (omega (arith, h, d.1)) d.2
 
-  -- whatever is on the path leads to x
+  -- every vertex on the path leads to x
   abbrev Above : List A → A → Type 0
   Above path x = (q : A) → Has same q path → (m : ℕ) → Falls m q → (k : ℕ) × (k < m) × Falls k x
 
@@ -63,7 +63,7 @@ module _ {A : Type 0} (same : A → A → Bool) (laws : IsEquality same) (ways :
         let l : length path < n = room_for same laws ways In n finite x path here clear.2 clear.1 (off_path path x m clear.3 falls) in
         omega (arith, l, clear.0)
 
-    -- neither the path nor the bound matters then
+    -- then neither the path nor the bound matters
     same_ends : (f g : ℕ) (path other : List A) (x : A) (m : ℕ) → In x → Falls m x → Clear f path x → Clear g other x →
         chain_ends same ways f path x ≡ chain_ends same ways g other x
     same_ends zero g path other x m here falls a b = absurd (no_room path x m here falls a)
@@ -80,7 +80,7 @@ module _ {A : Type 0} (same : A → A → Bool) (laws : IsEquality same) (ways :
     clear_nil : (x : A) → Clear n [] x
     clear_nil x = (omega arith, tt, λ q h. none_in same q _ h, λ q h. none_in same q _ h)
 
-    -- so the ends of chains from x are x and those from its ways
+    -- so the ends of chains from x are x and those from its edges
     pub unrolled : (x : A) (m : ℕ) → In x → Falls m x → chain_ends same ways n [] x ≡ x ∷ flat_map (chain_ends same ways n []) (ways x)
     unrolled x m here falls =
         same_ends n (suc n) [] [] x m here falls (clear_nil x) (omega arith, tt, λ q h. none_in same q _ h, λ q h. none_in same q _ h)
@@ -90,7 +90,7 @@ module _ {A : Type 0} (same : A → A → Bool) (laws : IsEquality same) (ways :
         (clear_next n [] x y m here falls way (omega arith, tt, λ q h. none_in same q _ h, λ q h. none_in same q _ h)) (clear_nil y)))
 
     module _ {B : Type 0} (answer : A → Option B) (ends_there : (x : A) (e : B) → answer x ≡ Some e → ways x ≡ []) where
-      -- all on the stack of a walk that ends fall
+      -- the chains from the vertices on the stack of a search that ends have a common bound
       pub all_fall : {stack : List A} {l : List B} → Lists ways answer stack l → (m : ℕ) × ((x : A) → Has same x stack → Falls m x)
       all_fall lists_none = (0, λ x h. none_in same x _ h)
       all_fall (lists_answer x e rest l is walk) =
@@ -129,7 +129,7 @@ module _ {A : Type 0} (same : A → A → Bool) (laws : IsEquality same) (ways :
           ∙ ap (λ o. option_to_list o ++ answers answer (ends_of (ways x) ++ ends_of rest)) (sym is)
           ∙ ap (λ c. answers answer (c ++ ends_of rest)) (sym (unrolled x r.0 here (r.1 x first_in)))
 
-      -- the answers of the walk of a stack, repeats dropped, are the ends of runs
+      -- the answers of the search of a stack, repeats dropped, are the ends of runs
       pub stack_ends : (same_end : B → B → Bool) (p : A) (l : List B) → In p → Lists ways answer (p ∷ []) l →
           run_ends same same_end ways answer n p ≡ distinct same_end l
       stack_ends same_end p l here walk =

@@ -1,4 +1,4 @@
--- Walks taken apart and put together: over joined lists, and with ways that become known late.
+-- Depth-first searches split and put together: over concatenated lists, and with edges that become known late.
 use Rattle.std.proofs.Common.{◌≡◌, false, Bool, List, [], ◌∷◌, ◌++◌, refl, sym, ap, ◌∙◌, subst, ◌⊎◌, inl, inr, ⊎_elim}
 use Rattle.std.proofs.lemmas.List.{append_assoc, append-nil}
 use Rattle.nfa_core.specs.Walks.{has, Has, Visits, done, held, fresh, IsEquality, IsClosed}
@@ -6,7 +6,7 @@ use Rattle.nfa_core.proofs.MemberLemmas.{none_in, not_both, has_left, has_right,
 use Rattle.nfa_core.proofs.WalkLemmas.{kept, followed, closed}
 
 module _ {A : Type 0} (same : A → A → Bool) (ways : A → List A) where
-  -- the two ways in which a walk begins
+  -- the two ways in which a depth-first search begins
   pub begun : {x : A} {stack seen after : List A} → Visits same ways (x ∷ stack) seen after →
       (Has same x seen × Visits same ways stack seen after)
       ⊎ ((mid : List A) × (has same x seen ≡ false) × Visits same ways (ways x) (seen ++ x ∷ []) mid × Visits same ways stack mid after)
@@ -30,13 +30,13 @@ module _ {A : Type 0} (same : A → A → Bool) (ways : A → List A) where
       (λ (there, rest). held x (xs ++ ys) seen after there (joined xs ys seen mid after rest w))
       (λ (m, absent, one, two). fresh x (xs ++ ys) seen m after absent one (joined xs ys m mid after two w)) (begun v)
 
-  -- the walk over a stack: a fresh thing's ways go before the rest
+  -- the search of a stack: the edges of a new vertex come before the rest of the stack
   pub fresh_on_stack : (x : A) (rest seen after : List A) → has same x seen ≡ false →
       Visits same ways (ways x ++ rest) (seen ++ x ∷ []) after → Visits same ways (x ∷ rest) seen after
   fresh_on_stack x rest seen after absent v = let s = split (ways x) rest (seen ++ x ∷ []) after v in
       fresh x rest seen s.0 after absent s.1 s.2
 
-  -- a walk comes to one list
+  -- two searches from one stack and one set end with one list
   pub one_after : {stack seen a : List A} → Visits same ways stack seen a → (b : List A) → Visits same ways stack seen b → a ≡ b
   one_after (done seen a e) b w = sym e ∙ ended w
   one_after (held x stack seen a there rest) b w = ⊎_elim (λ (_t, v). one_after rest b v)
@@ -52,7 +52,7 @@ module _ {A : Type 0} (same : A → A → Bool) (laws : IsEquality same) (ways :
   all_held (x ∷ xs) ys seen after all v = held x (xs ++ ys) seen after (all x (has_first same laws x xs))
       (all_held xs ys seen after (λ q h. all q (has_later same q x xs h)) v)
 
-  -- a walk does not leave what is closed under its ways
+  -- a search whose stack and visited vertices are in a set does not leave it, if the set is closed under its edges
   pub within : {stack seen after : List A} → Visits same ways stack seen after → (c : List A) → IsClosed same ways c →
       ((q : A) → Has same q stack → Has same q c) → ((q : A) → Has same q seen → Has same q c) → (q : A) → Has same q after → Has same q c
   within (done seen after e) c shut inside low q h = low q (rw e h)
@@ -64,7 +64,8 @@ module _ {A : Type 0} (same : A → A → Bool) (laws : IsEquality same) (ways :
       (within one c shut (shut x x_in) (of_push same laws (λ p. Has same p c) seen x low x_in)) q h
 
 module _ {A : Type 0} (same : A → A → Bool) (laws : IsEquality same) (known full : A → List A) where
-  -- what a walk under fewer ways adds, under all ways comes to the same as what it had to do
+  -- The list that a search under fewer edges adds can stand for the stack of that search: a search of it under all edges, from a closed
+  -- set, ends with the list with which the search of the stack does.
   anew : ((x z : A) → Has same z (known x) → Has same z (full x)) → {stack seen ids : List A} → Visits same known stack seen ids →
       (new : List A) × (ids ≡ seen ++ new) ×
       ((s a : List A) → Visits same full stack s a → ((q : A) → Has same q seen → Has same q s) → IsClosed same full s →
@@ -107,14 +108,14 @@ module _ {A : Type 0} (same : A → A → Bool) (laws : IsEquality same) (known 
             (begun same full v),
       )
 
-  -- what was closed under fewer ways, closed anew in its order under more, is what closing the entries under all gives
+  -- a list that was closed under fewer edges, closed again in its order under more, is what closing the entries under all of them gives
   pub closes_anew : ((x z : A) → Has same z (known x) → Has same z (full x)) → (entries ids after : List A) →
       Visits same known entries [] ids → Visits same full entries [] after → Visits same full ids [] after
   closes_anew grows entries ids after v w =
       let r = anew grows v in
       rw r.1 (r.2 [] after w (λ q h. h) (λ y h. none_in same y _ h))
 
-  -- and where nothing in it has more ways, it is that already
+  -- and if no vertex in it has more edges, it is that list already
   pub stays_closed : {stack seen ids : List A} → Visits same known stack seen ids → ((x : A) → Has same x ids → known x ≡ full x) →
       Visits same full stack seen ids
   stays_closed (done seen ids e) alike = done seen ids e

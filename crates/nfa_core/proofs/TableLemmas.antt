@@ -1,4 +1,5 @@
--- The ends of runs of what is built are those of the builder's states, in order, also with loops that read nothing.
+-- The ends of the built automaton's runs are those of the builder's states, in order. This also holds with loops whose body can match the
+-- empty string.
 use Rattle.std.proofs.Common.{◌≡◌, ℕ, zero, suc, ◌*◌, ◌<◌, ◌≤◌, Bool, List, [], ◌∷◌, ◌++◌, map, length, refl, sym, ap, ap₂, ◌∙◌, subst}
 use Rattle.std.proofs.Common.{true, false, ⊎_elim, Option, Some, None}
 use Rattle.std.specs.Prelude.{is_none}
@@ -12,7 +13,7 @@ use Rattle.nfa_core.specs.Places.{same_pair}
 use Rattle.nfa_core.specs.Renaming.{stands_for, new_name, automaton_of}
 use Rattle.nfa_core.specs.Runs.{answers}
 use Rattle.nfa_core.specs.Walks.{Has, distinct, IsEquality, IsFinite}
-use Rattle.nfa_core.specs.Ways.{Text, reads, is_passed, on_read, on_nothing, place_behind, node_ways, ways, matched, ends_from, IsPairOf}
+use Rattle.nfa_core.specs.Ways.{Text, reads, is_satisfied, on_read, on_nothing, offset_after, node_ways, ways, matched, ends_from, IsPairOf}
 use Rattle.nfa_core.proofs.AutomatonLemmas.{behind_inside, reads_beside, finite_automaton}
 use Rattle.nfa_core.proofs.ExistLemmas.{walk_from}
 use Rattle.nfa_core.proofs.MemberLemmas.{has_first, has_later, of_append}
@@ -26,19 +27,19 @@ use Rattle.nfa_core.proofs.RenamingNodes.{ways_of_stand, match_of_stand}
 use Rattle.nfa_core.proofs.RenamingAnswers.{stays, same_name}
 use Rattle.nfa_core.proofs.RunLemmas.{walk_ends}
 
--- no way leads behind the text's end
+-- no edge leads beyond the end of the haystack
 ways_placed : (is_reverse : Bool) (t : Text) (node : Node) (i : ℕ) → i ≤ t.end → (p : ℕ × ℕ) →
     Has same_pair p (node_ways is_reverse t node i) → p.0 ≤ t.end
 ways_placed is_reverse t node i here =
-    let j : ℕ = place_behind i (reads is_reverse t i) in
+    let j : ℕ = offset_after i (reads is_reverse t i) in
     let there : j ≤ t.end = behind_inside is_reverse t i (reads is_reverse t i) (reads_beside is_reverse t i) here in
     let I : ℕ × ℕ → Type 0 = λ p. p.0 ≤ t.end in
     of_append same_pair pairs_equal I (map (λ q. (j, q)) (on_read node (reads is_reverse t i)))
-    (map (λ q. (i, q)) (on_nothing node (λ l. is_passed is_reverse t l i)))
+    (map (λ q. (i, q)) (on_nothing node (λ l. is_satisfied is_reverse t l i)))
     (λ p h. let o = from_map j p (on_read node (reads is_reverse t i)) h in subst I (sym o.2) there)
-    (λ p h. let o = from_map i p (on_nothing node (λ l. is_passed is_reverse t l i)) h in subst I (sym o.2) here)
+    (λ p h. let o = from_map i p (on_nothing node (λ l. is_satisfied is_reverse t l i)) h in subst I (sym o.2) here)
 
--- the answers at the things that stand for themselves are all answers
+-- the answers at the vertices that stand for themselves are all answers
 module _ {A B C : Type 0} (same : A → A → Bool) (laws : IsEquality same) (name : A → C) (stands : A → Option A) (answer : A →
     Option B) (answer_o : C → Option B)
     (In : A → Type 0) (kept : (x : A) → In x → stands x ≡ None → answer_o (name x) ≡ answer x) (other : (x r : A) → stands x ≡ Some r →

@@ -1,4 +1,4 @@
--- A depth-first walk with one set for all that was met is the join of the ends of simple chains.
+-- A depth-first search with one set of visited vertices ends with the join of the ends of simple chains.
 use Rattle.std.proofs.Common.{◌≡◌, ℕ, zero, suc, ◌+◌, ◌<◌, ◌≤◌, true, false, Bool, List, [], ◌∷◌, ◌++◌, length, sym, ap, ◌∙◌, arith, ◌⊎◌}
 use Rattle.std.proofs.Common.{inl, inr, ⊎_elim}
 use Rattle.std.specs.List.{flat_map}
@@ -7,7 +7,7 @@ use Rattle.nfa_core.proofs.MemberLemmas.{none_in, has_or_not, not_both, has_appe
 use Rattle.nfa_core.proofs.MemberLemmas.{of_cons, has_pushed, lacks, of_flat_map}
 use Rattle.nfa_core.proofs.JoinLemmas.{join-append, join_held}
 
--- a list of things in the set that keeps off x, another in the set, and has none twice is shorter than n
+-- a list of vertices in the set that is without repeats, and without x of the set, is shorter than n
 pub room_for : {A : Type 0} (same : A → A → Bool) (laws : IsEquality same) (ways : A → List A) (In : A → Type 0) (n : ℕ) →
     IsFinite same ways In n →
     (x : A) (xs : List A) → In x → ((q : A) → Has same q xs → In q) → HasNoneTwice same xs → has same x xs ≡ false → length xs < n
@@ -15,13 +15,13 @@ room_for same laws ways In n finite x xs here inside once absent =
     let l : length (x ∷ xs) ≤ n = finite.room (x ∷ xs) (of_cons same laws In x xs here inside) (absent, once) in omega (arith, l)
 
 module _ {A : Type 0} (same : A → A → Bool) (laws : IsEquality same) (ways : A → List A) where
-  -- what was met stays
+  -- what was visited stays visited
   pub kept : {stack seen after : List A} → Visits same ways stack seen after → (q : A) → Has same q seen → Has same q after
   kept (done seen after e) q h = rw (← e) h
   kept (held x stack seen after there rest) q h = kept rest q h
   kept (fresh x stack seen mid after absent first rest) q h = kept rest q (kept first q (has_left same q seen (x ∷ []) h))
 
-  -- what is still to do is met
+  -- what is on the stack is visited
   pub followed : {stack seen after : List A} → Visits same ways stack seen after → (q : A) → Has same q stack → Has same q after
   followed (done seen after e) q h = none_in same q _ h
   followed (held x stack seen after there rest) q h = of_cons same laws (λ p. Has same p after) x stack (kept rest x there)
@@ -29,7 +29,7 @@ module _ {A : Type 0} (same : A → A → Bool) (laws : IsEquality same) (ways :
   followed (fresh x stack seen mid after absent first rest) q h =
       of_cons same laws (λ p. Has same p after) x stack (kept rest x (kept first x (has_pushed same laws x seen))) (followed rest) q h
 
-  -- all ways of what was met anew are met
+  -- all edges of vertices that are newly visited lead to visited vertices
   pub closed : {stack seen after : List A} → Visits same ways stack seen after → (y : A) → Has same y after → Has same y seen ⊎
       ((z : A) → Has same z (ways y) → Has same z after)
   closed (done seen after e) y h = inl (rw e h)
@@ -42,7 +42,7 @@ module _ {A : Type 0} (same : A → A → Bool) (laws : IsEquality same) (ways :
       (λ (all : (z : A) → Has same z (ways y) → Has same z mid). inr (λ z g. kept rest z (all z g))) (closed first y now))
       inr (closed rest y h)
 
-  -- what was met and is not on the path has all its ways met
+  -- the edges of each visited vertex that isn't on the path lead to visited vertices
   abbrev pub Settled : List A → List A → Type 0
   Settled path seen = (y : A) → Has same y seen → Has same y path ⊎ ((z : A) → Has same z (ways y) → Has same z seen)
 
@@ -103,7 +103,7 @@ module _ {A : Type 0} (same : A → A → Bool) (laws : IsEquality same) (ways :
         (flat_map (chain_ends same ways (suc f) path) stack))
         ∙ rw (off, absent)
 
-    -- the walk is the join of the ends of chains
+    -- the list with which the search ends is the join of the ends of chains
     pub walk_is_join : (stack seen after : List A) → ((q : A) → Has same q stack → In q) → IsClosed same ways seen →
         Visits same ways stack seen after →
         after ≡ join same seen (flat_map (chain_ends same ways n []) stack)

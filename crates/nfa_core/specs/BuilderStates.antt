@@ -12,8 +12,8 @@ pub data DraftNode : Type 0 where
   range_draft : ℕ → ℕ → ℕ → DraftNode  -- a byte from the first to the second number leads to the third
   sparse_draft : List (ℕ × ℕ × ℕ) → DraftNode  -- the same by several ranges
   look_draft : Look → ℕ → DraftNode  -- leads on where the look holds
-  capture_start_draft : ℕ → ℕ → ℕ → DraftNode  -- pattern and group, whose start the place is, and where it leads
-  capture_end_draft : ℕ → ℕ → ℕ → DraftNode  -- pattern and group, whose end the place is, and where it leads
+  capture_start_draft : ℕ → ℕ → ℕ → DraftNode  -- pattern and group, whose start it marks, and where it leads
+  capture_end_draft : ℕ → ℕ → ℕ → DraftNode  -- pattern and group, whose end it marks, and where it leads
   union_draft : List ℕ → DraftNode  -- leads to each of these, the preferred first
   union_reverse_draft : List ℕ → DraftNode  -- leads to each of these, the preferred last
   fail_draft : DraftNode  -- leads nowhere
@@ -46,12 +46,12 @@ blank terminator = record {
 abbrev pub with_draft : Assembly → DraftNode → Assembly
 with_draft b draft = record b { drafts = b.drafts ++ draft ∷ [] }
 
--- the list, lengthened to n by fillers where it is shorter
+-- the list, extended to n by fillers if it is shorter
 abbrev pub filled : {A : Type 0} → A → List A → ℕ → List A
 filled filler xs n = xs ++ replicate (n - length xs) filler
 
--- Where the pattern has no group with this index, it gets one with this name, and those before it that are missing get
--- none. A group that is there stays.
+-- If the pattern has no group with this index, it gets one with this name, and the missing groups before that get no name. A group that
+-- exists stays.
 abbrev pub with_name : List (Option Name) → ℕ → Option Name → List (Option Name)
 with_name names index name = if nat_lt index (length names) then names else (filled None names index ++ name ∷ [])
 
@@ -104,15 +104,15 @@ abbrev pub is_sparse : DraftNode → Bool
 is_sparse (sparse_draft ranges) = true
 is_sparse _ = false
 
--- whether each range has a byte, and they ascend and have no byte in common; the first one starts at `low` or above
+-- whether each range has a byte, they ascend, and no two have a byte in common; the first one starts at `low` or above
 abbrev pub AscendsFrom : ℕ → List (ℕ × ℕ × ℕ) → Type 0
 AscendsFrom low [] = Unit {0}
 AscendsFrom low ((start, end, next) ∷ others) = (low ≤ start) × (start ≤ end) × AscendsFrom (end + 1) others
 
--- the state with this name; one that leads nowhere where there is none
+-- the state with this name; if there is none, a state that leads nowhere
 abbrev pub draft_at : List DraftNode → ℕ → DraftNode
 draft_at drafts q = get_or drafts q fail_draft
 
--- the states where one of them has one more way
+-- the states, after one of them got one more way
 abbrev pub patched_at : List DraftNode → ℕ → ℕ → List DraftNode
 patched_at drafts from to = set drafts from (patched to (draft_at drafts from))

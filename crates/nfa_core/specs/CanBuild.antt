@@ -1,4 +1,4 @@
--- What is asked of a builder before an automaton is built of it.
+-- The preconditions of building an automaton from a builder.
 use Rattle.std.specs.Prelude.{◌≡◌, ℕ, ◌<◌, Bool, true, false, List, [], ◌∷◌, map, length, is_some, All}
 use Rattle.search_types.specs.Groups.{Groups, slot}
 use Rattle.nfa_core.specs.BuilderStates.{DraftNode, empty_draft, range_draft, sparse_draft, look_draft, capture_start_draft}
@@ -18,13 +18,13 @@ names_of (union_reverse_draft names) = names
 names_of fail_draft = []
 names_of (match_draft pattern) = []
 
--- whether the group of the state, where it has one, is there
+-- whether the group of the state exists, if the state has one
 abbrev pub is_known : Groups → DraftNode → Bool
 is_known groups (capture_start_draft pattern group next) = is_some (slot groups pattern group)
 is_known groups (capture_end_draft pattern group next) = is_some (slot groups pattern group)
 is_known groups _ = true
 
--- no pattern is open, all names are of states, all groups are there, and no states that stand for others make a loop
+-- no pattern is open, all names are of states, all groups exist, and no states that stand for others make a loop
 pub record CanBuild (b : Assembly) (anchored unanchored : ℕ) : Type 0 where
   pub closed : b.is_open ≡ false
   pub anchored_there : anchored < length b.drafts

@@ -24,11 +24,11 @@ drafted (match_draft pattern) = match_node pattern
 abbrev pub Table : Type 0
 Table = ℕ → DraftNode
 
--- where a pair of place and state of a table leads, for one who reads forward or in reverse
+-- where a pair of offset and state of a table leads, for a search forward or in reverse
 abbrev pub table_ways : Bool → Text → Table → ℕ × ℕ → List (ℕ × ℕ)
 table_ways reverse t table p = node_ways reverse t (drafted (table p.1)) p.0
 
--- what matches in a state of a table at a place
+-- what matches in a state of a table at an offset
 abbrev pub table_match : Table → ℕ × ℕ → Option (ℕ × ℕ)
 table_match table p = match_of (drafted (table p.1)) p.0
 

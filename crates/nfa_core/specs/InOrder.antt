@@ -1,4 +1,4 @@
--- What every builder keeps to: its size limit, ranges of bytes that ascend, and matches of patterns that there are.
+-- What holds of every builder: the states keep to its size limit, ranges of bytes ascend, and matches are of patterns that exist.
 use Rattle.std.specs.Prelude.{ℕ, ◌+◌, ◌<◌, ◌≤◌, Bool, List, length, Option, All, MatchOption, ⊤, if◌then◌else◌}
 use Rattle.search_core.specs.Index.{greatest_index}
 use Rattle.nfa_core.specs.BuilderStates.{DraftNode, range_draft, sparse_draft, match_draft, AscendsFrom, bytes_of_drafts}

@@ -1,4 +1,4 @@
--- A list of numbers beside a table with a bit for each number.
+-- A list of numbers, and a table with a bit for each number.
 use Rattle.std.specs.Prelude.{◌≡◌, ℕ, Bool, ◌<◌, ◌≤◌, ◌+◌, ◌/◌, ◌%◌, List, length, slice_index, All}
 use Rattle.std.specs.List.{IsDistinct}
 use Rattle.std.specs.Int.{bit_at}

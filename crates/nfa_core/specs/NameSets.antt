@@ -3,7 +3,7 @@ use Rattle.std.specs.Prelude.{ℕ, Bool, List, []}
 use Rattle.std.specs.List.{list_any}
 use Rattle.std.specs.Bool.{nat_eq}
 
--- a set: its numbers in the order in which they came, and a number above all that it may hold
+-- a set: its numbers in the order of insertion, and a number above all that it may hold
 pub record NameSetValue : Type 0 where
   pub names : List ℕ
   pub bound : ℕ
@@ -12,6 +12,6 @@ pub record NameSetValue : Type 0 where
 abbrev pub empty_below : ℕ → NameSetValue
 empty_below bound = record { names = []; bound = bound }
 
--- whether the number stands in the list
+-- whether the number is in the list
 abbrev pub is_in : ℕ → List ℕ → Bool
 is_in name names = list_any (nat_eq name) names

@@ -22,7 +22,7 @@ pub record Automaton : Type 0 where
   pub start_pattern : List ℕ  -- for each pattern its anchored start
   pub reverse : Bool  -- whether it reads from the end of a text to its start
 
--- a name of no state is that of a state which leads nowhere
+-- a name that no state has is that of a state which leads nowhere
 abbrev pub node_at : Automaton → ℕ → Node
 node_at a q = get_or a.states q fail_node
 

@@ -1,4 +1,4 @@
--- The NFA that is built of a builder's states.
+-- The NFA that is built from a builder's states.
 use Rattle.std.specs.Prelude.{ℕ}
 use Rattle.nfa_core.specs.BuilderStates.{Assembly}
 use Rattle.nfa_core.specs.NfaValue.{Nfa}

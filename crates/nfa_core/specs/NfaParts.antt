@@ -1,4 +1,4 @@
--- The parts of an NFA that its code holds, as contracts see them, and what it keeps of its automaton beside them.
+-- The parts of an NFA that its code holds, as contracts see them, and what it stores about its automaton in addition.
 use Rattle.std.specs.Prelude.{◌≡◌, ℕ, zero, suc, ◌<◌, List, [], ◌∷◌, map, length, slice_index, false, true, None}
 use Rattle.std.specs.List.{list_any}
 use Rattle.search_core.specs.Marks.{marks_below}
@@ -27,7 +27,7 @@ nfa_in parts = record {
   terminator = parts.look_matcher.terminator;
 }
 
--- these are the facts of the automaton, where lines end at the terminator
+-- these are the facts of the automaton if lines end at the terminator
 pub record AreFacts (t : Terminator) (a : Automaton) (facts : Facts) : Type 0 where
   pub captures : facts.has_capture ≡ list_any is_capture a.states
   pub empty : facts.has_empty ≡ has_empty a
@@ -43,7 +43,7 @@ abbrev pub numbered_from : ℕ → ℕ → List ℕ
 numbered_from first zero = []
 numbered_from first (suc n) = first ∷ numbered_from (suc first) n
 
--- the NFA of one pattern that matches at each place without a byte: the whole match's start and end, and the match
+-- the NFA of one pattern that matches the empty string at each offset: the whole match's start and end, and the match
 abbrev pub always_matching : Nfa
 always_matching = record {
   automaton = record {

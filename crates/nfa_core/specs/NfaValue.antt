@@ -6,7 +6,7 @@ use Rattle.search_core.specs.Index.{greatest_index}
 use Rattle.look_core.specs.Codes.{repr}
 use Rattle.look_core.specs.LookSets.{union_of}
 use Rattle.look_core.specs.Terminators.{Terminator}
-use Rattle.look_core.specs.ToldApart.{told_apart}
+use Rattle.look_core.specs.ToldApart.{ranges_apart}
 use Rattle.search_types.specs.Groups.{Groups}
 use Rattle.nfa_core.specs.Walks.{chain_ends}
 use Rattle.nfa_core.specs.Nfa.{Node, byte_range, sparse_node, dense_node, look_node, capture_node, match_node, Automaton, node_at}
@@ -21,12 +21,12 @@ pub record Nfa : Type 0 where
   pub utf8 : Bool  -- whether a match without a byte counts between characters alone
   pub terminator : Terminator
 
--- the ranges of bytes that a state tells apart
-abbrev pub told_apart_by : Terminator → Node → List (ℕ × ℕ)
-told_apart_by t (byte_range low high next) = (low, high) ∷ []
-told_apart_by t (sparse_node ranges) = map (λ r. (r.0, r.1)) ranges
-told_apart_by t (look_node l next) = told_apart t l
-told_apart_by t _ = []
+-- the byte ranges that a state distinguishes from other bytes
+abbrev pub ranges_apart_by : Terminator → Node → List (ℕ × ℕ)
+ranges_apart_by t (byte_range low high next) = (low, high) ∷ []
+ranges_apart_by t (sparse_node ranges) = map (λ r. (r.0, r.1)) ranges
+ranges_apart_by t (look_node l next) = ranges_apart t l
+ranges_apart_by t _ = []
 
 -- the look of a state, as a set
 abbrev pub look_of : Node → ℕ
@@ -45,11 +45,11 @@ abbrev pub is_match : Node → Bool
 is_match (match_node pattern) = true
 is_match _ = false
 
--- where a state leads with no byte, each look taken as passed
+-- where a state leads without a byte if each look counts as passed
 abbrev pub free_steps : Automaton → ℕ → List ℕ
 free_steps a q = on_nothing (node_at a q) (λ l. true)
 
--- the states to which the patterns' starts lead so, the starts too
+-- the states that the patterns' starts reach in this way, the starts included
 abbrev pub reached_freely : Automaton → List ℕ
 reached_freely a = flat_map (chain_ends nat_eq (free_steps a) (length a.states) []) a.start_pattern
 

@@ -1,8 +1,8 @@
--- A list of numbers beside a table that has each number's place in it.
+-- A list of numbers, and a table with the position of each number in it.
 use Rattle.std.specs.Prelude.{◌≡◌, ℕ, ◌+◌, ◌<◌, ◌≤◌, List, length, slice_index}
 use Rattle.search_core.specs.Index.{greatest_index}
 
--- each of the first n numbers has its place
+-- the table has the position of each of the first n numbers
 pub record IsPaired (dense places : List ℕ) (n : ℕ) : Type 0 where
   pub within : n ≤ length dense
   pub even : length dense ≡ length places

@@ -1,4 +1,4 @@
--- A table of what each state of a builder leads past to, as it fills.
+-- A table, as it fills, with the state that each state of a builder leads past to.
 use Rattle.std.specs.Prelude.{◌≡◌, ◌⊎◌, ℕ, zero, suc, ◌<◌, Bool, true, false, List, length, take, get_or, Option, Some, None, is_some}
 use Rattle.std.specs.List.{count_by}
 use Rattle.nfa_core.specs.BuilderStates.{DraftNode, draft_at}
@@ -9,26 +9,26 @@ pub record HasPasts (drafts : List DraftNode) : Type 0 where
   pub ends : (q : ℕ) → q < length drafts → stands_for (draft_at drafts (past drafts q)) ≡ None
   pub stays : (q next : ℕ) → q < length drafts → stands_for (draft_at drafts q) ≡ Some next → next < length drafts
 
--- whether the table tells what the state leads past to
+-- whether the table has an entry for the state
 abbrev pub is_settled : List (Option ℕ) → ℕ → Bool
 is_settled table q = is_some (get_or table q None)
 
--- the table tells of the state, or it stands for itself
+-- the table has an entry for the state, or the state stands for itself
 abbrev pub EndsWay : List DraftNode → List (Option ℕ) → ℕ → Type 0
 EndsWay drafts table q = (is_settled table q ≡ true) ⊎ (stands_for (draft_at drafts q) ≡ None)
 
--- what the table tells is so
+-- each entry of the table is right
 pub record IsPastTable (drafts : List DraftNode) (table : List (Option ℕ)) : Type 0 where
   pub len : length table ≡ length drafts
   pub right : (q p : ℕ) → get_or table q None ≡ Some p → p ≡ past drafts q
 
--- from the state on so many follow, each for the one before, of which the table tells nothing
+-- the first so many states from this one on have no entry in the table, and each of them stands for the next one
 abbrev pub IsOpen : List DraftNode → List (Option ℕ) → ℕ → ℕ → Type 0
 IsOpen drafts table zero q = Unit {0}
 IsOpen drafts table (suc n) q = (is_settled table q ≡ false) × ((next : ℕ) × (stands_for (draft_at drafts q) ≡ Some next) ×
     IsOpen drafts table n next)
 
--- how many states the table tells of
+-- how many states have an entry in the table
 abbrev pub settled_count : List (Option ℕ) → ℕ
 settled_count table = count_by is_some table
 

@@ -1,5 +1,5 @@
--- What is built of a builder's states: empty states and unions of one way are left out, and what led to one of them leads
--- to the first state past it that is neither.
+-- What is built from a builder's states. Empty states and unions of one way are left out, and what led to one of them leads to the first
+-- state past it that is neither.
 use Rattle.std.specs.Prelude.{◌≡◌, ℕ, zero, suc, ◌+◌, ◌<◌, List, [], ◌∷◌, map, reverse, length, take, Option, Some, None, is_none}
 use Rattle.std.specs.List.{filter}
 use Rattle.std.specs.Option.{unwrap_or}
@@ -16,21 +16,21 @@ stands_for (union_draft (next ∷ [])) = Some next
 stands_for (union_reverse_draft (next ∷ [])) = Some next
 stands_for _ = None
 
--- goes on from the next state, where there is one
+-- continues from the next state, if there is one
 abbrev pub going_on : ℕ → (ℕ → ℕ) → Option ℕ → ℕ
 going_on q go None = q
 going_on q go (Some next) = go next
 
--- the state that is met past the given number of such states at most
+-- the state that is reached past at most the given number of such states
 abbrev pub past_within : List DraftNode → ℕ → ℕ → ℕ
 past_within drafts zero q = q
 past_within drafts (suc n) q = going_on q (past_within drafts n) (stands_for (draft_at drafts q))
 
--- the first state from q on that stands for itself, where states that stand for others make no loop
+-- the first state from q on that stands for itself, provided that states that stand for others make no loop
 abbrev pub past : List DraftNode → ℕ → ℕ
 past drafts q = past_within drafts (length drafts) q
 
--- from each state one comes to one that stands for itself
+-- from each state, one is reached that stands for itself
 abbrev pub HasNoLoop : List DraftNode → Type 0
 HasNoLoop drafts = (q : ℕ) → q < length drafts → (n : ℕ) × (stands_for (draft_at drafts (past_within drafts n q)) ≡ None)
 

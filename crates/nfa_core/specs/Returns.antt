@@ -6,7 +6,7 @@ use Rattle.nfa_core.specs.Runs.{IsChain, last_or}
 use Rattle.nfa_core.specs.Walks.{Has}
 use Rattle.nfa_core.specs.Ways.{Text, ways}
 
--- no chain from where the pair leads comes back to it
+-- no chain from where the pair leads returns to it
 abbrev pub IsLeftForGood : Automaton → Text → ℕ × ℕ → Type 0
 IsLeftForGood a t p = (q : ℕ × ℕ) → Has same_pair q (ways a t p) → (r : List (ℕ × ℕ)) → IsChain same_pair (ways a t) q r → last_or q r ≡ p →
     ⊥

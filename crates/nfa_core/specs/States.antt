@@ -17,7 +17,7 @@ node_of (Capture next pattern group slot) = capture_node next pattern group slot
 node_of Fail = fail_node
 node_of (Match pattern) = match_node pattern
 
--- whether the state leads on with no byte
+-- whether the state leads on without a byte
 abbrev pub is_epsilon : Node → Bool
 is_epsilon (look_node look next) = true
 is_epsilon (union_node names) = true

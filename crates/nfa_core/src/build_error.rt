@@ -20,7 +20,7 @@ pub enum BuildError {
         /// How many bytes are allowed.
         limit: usize,
     },
-    /// Groups were asked for that the automaton can't have, as of one that reads in reverse.
+    /// Capture groups were requested for an automaton that can't have them, as for one that reads in reverse.
     #[error("groups are not supported here")]
     UnsupportedCaptures,
     /// The groups break a rule, or have an index that is too great.
@@ -29,7 +29,7 @@ pub enum BuildError {
         /// The rule.
         err: GroupInfoError,
     },
-    /// There is no memory left.
+    /// Out of memory.
     #[error("out of memory")]
     NoMemory,
 }
@@ -37,7 +37,7 @@ pub enum BuildError {
 impl BuildError {
     ghost use Rattle.nfa_core.specs.BuildErrors.{size_limit_of};
 
-    /// How many bytes are allowed, where the states take more, as `BuildError::size_limit`.
+    /// How many bytes are allowed, if the error is that the states take more, as `BuildError::size_limit`.
     pub fn size_limit(&self) -> Option<usize>
         ensures { result ≡ size_limit_of self.now }
     {

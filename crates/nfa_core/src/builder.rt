@@ -1,7 +1,7 @@
 ghost use Rattle.std.specs.Prelude.{◌≡◌, ◌≢◌, ◌<◌, ◌≤◌, true, false, [], None, MatchResult, MatchOption, ⊤};
 ghost use Rattle.look_core.specs.Terminators.{one_of};
 ghost use Rattle.nfa_core.specs.BuilderStates.{blank, bytes_of_drafts, pattern_count};
-ghost use Rattle.nfa_core.specs.BuilderFaults.{Adds, Tells, limit_fault};
+ghost use Rattle.nfa_core.specs.BuilderFaults.{Adds, ReportsFaultOf, limit_fault};
 ghost use Rattle.nfa_core.specs.Drafts.{draft_of};
 ghost use Rattle.nfa_core.specs.InOrder.{IsDraftOf};
 
@@ -12,11 +12,11 @@ use search_core::StateID;
 use std::alloc::Global;
 use std::marker::Model;
 
-/// Puts the states of an automaton together, as `regex_automata::nfa::thompson::Builder` does. States may
-/// name others that are still to come, and be told later where they lead.
+/// Puts the states of an automaton together, as `regex_automata::nfa::thompson::Builder` does. States may lead to others that are added
+/// later, and [`patch`](Builder::patch) may set later where they lead.
 ///
-/// A refusal leaves the builder as it was; that of [`add_capture_start`](Builder::add_capture_start) may
-/// leave names of groups noted, which shows in what is built.
+/// A call that fails leaves the builder as it was. As an exception, [`add_capture_start`](Builder::add_capture_start) may leave names of
+/// groups recorded, which shows in what is built.
 #[derive(Drop)]
 pub struct Builder {
     pub(crate) drafts: Vec<Draft>,
@@ -28,7 +28,7 @@ pub struct Builder {
     pub(crate) reverse: bool,
     pub(crate) look_matcher: LookMatcher<AsciiWord>,
     pub(crate) size_limit: Option<usize>,
-    /// The bytes of all states, or [`usize::MAX`] where that is less.
+    /// The bytes of all states, or [`usize::MAX`] if that is less.
     pub(crate) memory: usize,
 }
 
@@ -58,10 +58,10 @@ impl Model for Builder {
         IsInOrder (map draft_of b.drafts.items) (patterns_of b.is_open b.starts.items) b.size_limit };
 }
 
-/// Refuses more bytes than the limit allows.
+/// Returns an error if so many bytes exceed the limit.
 pub(crate) fn check_limit(size_limit: Option<usize>, bytes: usize) -> Result<(), BuildError>
     ensures { MatchResult result (λ _. limit_fault size_limit bytes ≡ None)
-        (λ e. Tells e (limit_fault size_limit bytes) × (limit_fault size_limit bytes ≢ None)) }
+        (λ e. ReportsFaultOf e (limit_fault size_limit bytes) × (limit_fault size_limit bytes ≢ None)) }
 {
     match size_limit {
         Some(limit) if limit < bytes => Err(BuildError::ExceededSizeLimit { limit }),
@@ -70,8 +70,7 @@ pub(crate) fn check_limit(size_limit: Option<usize>, bytes: usize) -> Result<(),
 }
 
 impl Builder {
-    /// A builder without states and patterns, for automata that read forward, keep to characters of UTF-8
-    /// and have no limit of their size.
+    /// A builder without states and patterns. Its automata read forward, keep to characters of UTF-8, and have no size limit.
     pub fn new(alloc: Global) -> Builder
         ensures { result ≡ blank (one_of 0x0A) }
     {
@@ -88,7 +87,7 @@ impl Builder {
         }
     }
 
-    /// Takes all states and patterns away, and keeps the settings.
+    /// Removes all states and patterns, and keeps the settings.
     pub fn clear(&mut self)
         ensures { self.new ≡ record self.old { drafts = []; starts = []; groups = []; is_open = false } }
     {
@@ -99,8 +98,8 @@ impl Builder {
         self.memory = 0;
     }
 
-    /// The bytes that the states are taken to need: 24 for each, 8 for each transition of a sparse one and
-    /// 4 for each alternate of a union. A greater number than [`usize::MAX`] is given as that.
+    /// The bytes that the states are taken to need: 24 for each, 8 for each transition of a sparse one and 4 for each alternate of a union.
+    /// A number above [`usize::MAX`] is returned as [`usize::MAX`].
     pub fn memory_usage(&self) -> usize
         ensures value { result ≡ bytes_of_drafts self.now.drafts }
         ensures within { MatchOption self.now.size_limit ⊤ (λ most. result ≤ most) }
@@ -108,7 +107,7 @@ impl Builder {
         self.memory
     }
 
-    /// Puts a state last.
+    /// Appends a state.
     pub(crate) fn add(&mut self, draft: Draft) -> Result<StateID, BuildError>
         requires { IsDraftOf (pattern_count self.old) (draft_of draft) }
         ensures { Adds self.old self.new result (draft_of draft) }
@@ -123,8 +122,7 @@ impl Builder {
         Ok(id)
     }
 
-    /// Whether the automaton shall keep to characters of UTF-8: matches without a byte are then found
-    /// between characters alone.
+    /// Sets whether the automaton keeps to characters of UTF-8. If so, empty matches are found only between characters.
     pub fn set_utf8(&mut self, utf8: bool)
         ensures { self.new ≡ record self.old { utf8 = utf8 } }
     {
@@ -138,7 +136,7 @@ impl Builder {
         self.utf8
     }
 
-    /// Whether the automaton reads from the end of a text to its start.
+    /// Sets whether the automaton reads from the end of a haystack to its start.
     pub fn set_reverse(&mut self, reverse: bool)
         ensures { self.new ≡ record self.old { reverse = reverse } }
     {
@@ -152,26 +150,25 @@ impl Builder {
         self.reverse
     }
 
-    /// Sets what tells where looks hold.
+    /// Sets the matcher that decides where looks hold.
     pub fn set_look_matcher(&mut self, look_matcher: LookMatcher<AsciiWord>)
         ensures { self.new ≡ record self.old { terminator = look_matcher.terminator } }
     {
         self.look_matcher = look_matcher;
     }
 
-    /// What tells where looks hold.
+    /// The matcher that decides where looks hold.
     pub fn get_look_matcher(&self) -> &LookMatcher<AsciiWord>
         ensures { result.now.terminator ≡ self.now.terminator }
     {
         &self.look_matcher
     }
 
-    /// Sets how many bytes the states may take, any number where it is `None`. It is refused where they
-    /// take more already.
+    /// Sets how many bytes the states may take: any number if it is `None`. Returns an error if they take more already.
     pub fn set_size_limit(&mut self, limit: Option<usize>) -> Result<(), BuildError>
         ensures { MatchResult result
             (λ _. (self.new ≡ record self.old { size_limit = limit }) × (limit_fault limit (bytes_of_drafts self.old.drafts) ≡ None))
-            (λ e. (self.new ≡ self.old) × Tells e (limit_fault limit (bytes_of_drafts self.old.drafts)) ×
+            (λ e. (self.new ≡ self.old) × ReportsFaultOf e (limit_fault limit (bytes_of_drafts self.old.drafts)) ×
             (limit_fault limit (bytes_of_drafts self.old.drafts) ≢ None)) }
     {
         check_limit(limit, self.memory)?;
@@ -179,7 +176,7 @@ impl Builder {
         Ok(())
     }
 
-    /// How many bytes the states may take, any number where it is `None`.
+    /// How many bytes the states may take: any number if it is `None`.
     pub fn get_size_limit(&self) -> Option<usize>
         ensures { result ≡ self.now.size_limit }
     {

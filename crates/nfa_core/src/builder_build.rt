@@ -2,7 +2,7 @@ ghost use Rattle.std.specs.Prelude.{◌≡◌, ◌⊎◌, ◌+◌, ◌*◌, ◌�
 ghost use Rattle.search_types.specs.GroupFaults.{groups_in, group_fault};
 ghost use Rattle.search_types.specs.GroupRefusals.{TakesMemory};
 ghost use Rattle.nfa_core.specs.declared.build_error.BuildError.TheVariants.{NoMemory};
-ghost use Rattle.nfa_core.specs.BuilderFaults.{Tells, groups_fault, build_fault};
+ghost use Rattle.nfa_core.specs.BuilderFaults.{ReportsFaultOf, groups_fault, build_fault};
 ghost use Rattle.nfa_core.specs.CanBuild.{CanBuild};
 ghost use Rattle.nfa_core.specs.NfaOf.{nfa_of};
 ghost use Rattle.nfa_core.specs.NfaParts.{automaton_in, nfa_in};
@@ -21,13 +21,13 @@ use std::alloc::{AllocError, Global};
 use std::sync::ledger::Ledger;
 
 impl Builder {
-    /// The automaton of the states, which starts in one of these for an anchored search and in the other for
-    /// one that isn't. Empty states and unions of one way are left out, and what led to one of them leads to
-    /// the first state past it that is neither. Groups that break a rule are refused, whatever memory there
-    /// is; but where a name stands twice, want of memory may be told for it. The automaton keeps to the builder's
-    /// size limit.
+    /// Builds the automaton of the states. An anchored search starts in the first of the two given states, and any other search in the
+    /// second. Empty states and unions of one way are left out. What led to one of them leads to the first state past it that is neither.
     ///
-    /// A move is one way that is followed past a state that is left out; there are two for each state at most.
+    /// Groups that break a rule are an error, however much memory there is. If a name occurs twice, the error may be out of memory instead.
+    /// The automaton keeps to the builder's size limit.
+    ///
+    /// A move is one way that is followed past a state that is left out. There are at most two moves for each state.
     pub fn build<L: Ledger>(
         &self,
         start_anchored: StateID,
@@ -36,8 +36,8 @@ impl Builder {
     ) -> Result<NFA, BuildError>
         requires { CanBuild self.now start_anchored start_unanchored }
         ensures value { MatchResult result (λ n. (n ≡ nfa_of self.now start_anchored start_unanchored) × (build_fault self.now ≡ None))
-            (λ e. (e ≡ NoMemory) ⊎ Tells e (build_fault self.now)) }
-        ensures told { IfErr result (λ e. e ≡ NoMemory → TakesMemory (group_fault self.now.groups)) }
+            (λ e. (e ≡ NoMemory) ⊎ ReportsFaultOf e (build_fault self.now)) }
+        ensures reported { IfErr result (λ e. e ≡ NoMemory → TakesMemory (group_fault self.now.groups)) }
         ensures within { IfOk result (λ n. MatchOption self.now.size_limit ⊤ (λ most. memory_of n.automaton.states ≤ most)) }
         ensures moves { steps.new ≤ steps.old + 2 * length self.now.drafts }
     {
@@ -48,7 +48,7 @@ impl Builder {
         Ok(nfa)
     }
 
-    /// The parts of the automaton, where the groups are taken.
+    /// The parts of the automaton, with its groups as given.
     fn parts<L: Ledger>(
         &self,
         alloc: Global,
@@ -81,11 +81,11 @@ impl Builder {
     }
 }
 
-/// Takes the names of each pattern's groups, where these break no rule.
+/// Builds the groups from the names of each pattern's groups. Groups that break a rule are an error.
 fn take_groups(alloc: Global, groups: &[Vec<Option<String>>]) -> Result<GroupInfo, BuildError>
     ensures value { MatchResult result (λ g. (g ≡ groups_in groups.now) × (group_fault (groups_in groups.now) ≡ None))
-        (λ e. (e ≡ NoMemory) ⊎ Tells e (groups_fault (group_fault (groups_in groups.now)))) }
-    ensures told { IfErr result (λ e. e ≡ NoMemory → TakesMemory (group_fault (groups_in groups.now))) }
+        (λ e. (e ≡ NoMemory) ⊎ ReportsFaultOf e (groups_fault (group_fault (groups_in groups.now)))) }
+    ensures reported { IfErr result (λ e. e ≡ NoMemory → TakesMemory (group_fault (groups_in groups.now))) }
 {
     match GroupInfo::new(alloc, groups) {
         Ok(taken) => Ok(taken),

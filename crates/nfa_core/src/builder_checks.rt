@@ -16,10 +16,9 @@ use crate::transition::Transition;
 use search_core::{PatternID, SmallIndex, StateID};
 
 impl Builder {
-    /// Whether [`build`](Builder::build) may be called with these starts: no pattern is open, all names are
-    /// of states, all groups were begun, and no states that stand for others make a loop. It takes no
-    /// memory. From each state at most as many ways are followed as there are states, so the time may grow
-    /// with the square of their number.
+    /// Whether [`build`](Builder::build) may be called with these starts: no pattern is open, all names are of states, all groups were
+    /// begun, and no states that stand for others make a loop. It allocates nothing. From each state it follows at most as many ways as
+    /// there are states, so the time may grow with the square of their number.
     pub fn can_build(&self, start_anchored: StateID, start_unanchored: StateID) -> bool
         ensures can { result ≡ true → CanBuild self.now start_anchored start_unanchored }
         ensures only { CanBuild self.now start_anchored start_unanchored → result ≡ true }
@@ -104,7 +103,7 @@ fn are_named(drafts: &[Draft]) -> bool
     true
 }
 
-/// How many groups the pattern has; none where there is no such pattern.
+/// How many groups the pattern has; none if there is no such pattern.
 #[tactic(auto, using(crate::proofs::CheckLemmas::len_there, crate::proofs::CheckLemmas::len_absent))]
 fn group_len(groups: &[Vec<Option<String>>], pattern: PatternID) -> usize
     ensures { result ≡ length (groups_of (groups_in groups.now) pattern) }
@@ -122,7 +121,7 @@ fn has_group(groups: &[Vec<Option<String>>], pattern: PatternID, group: SmallInd
     group.as_usize() < group_len(groups, pattern)
 }
 
-/// Whether the group of a state is there, where it has one.
+/// Whether the group of a state exists, if it has one.
 fn is_known(groups: &[Vec<Option<String>>], draft: &Draft) -> bool
     ensures { result ≡ is_known (groups_in groups.now) (draft_of draft.now) }
 {
@@ -141,7 +140,7 @@ fn is_known(groups: &[Vec<Option<String>>], draft: &Draft) -> bool
     }
 }
 
-/// Whether the groups of all states are there.
+/// Whether the groups of all states exist.
 fn are_known(groups: &[Vec<Option<String>>], drafts: &[Draft]) -> bool
     ensures { result ≡ list_all (is_known (groups_in groups.now)) (map draft_of drafts.now) }
 {
@@ -153,7 +152,7 @@ fn are_known(groups: &[Vec<Option<String>>], drafts: &[Draft]) -> bool
     true
 }
 
-/// The state for which this one stands; none where there is no such state.
+/// The state for which this one stands; none if there is no such state.
 fn next_of(drafts: &[Draft], q: StateID) -> Option<StateID>
     ensures { result ≡ stands_for (draft_at (map draft_of drafts.now) q) }
 {
@@ -165,7 +164,7 @@ fn next_of(drafts: &[Draft], q: StateID) -> Option<StateID>
 
 /// Whether the state past this one stands for itself.
 #[tactic(auto, using(crate::proofs::CheckLemmas::followed))]
-fn is_passed(drafts: &[Draft], q: StateID) -> bool
+fn is_satisfied(drafts: &[Draft], q: StateID) -> bool
     ensures { result ≡ is_none (stands_for (draft_at (map draft_of drafts.now) (past (map draft_of drafts.now) q))) }
 {
     let mut at = q;
@@ -184,7 +183,7 @@ fn has_no_loop(drafts: &[Draft]) -> bool
     ensures { Decides result (HasNoLoop (map draft_of drafts.now)) }
 {
     for index in 0..drafts.len() {
-        if !is_passed(drafts, StateID::must(index)) {
+        if !is_satisfied(drafts, StateID::must(index)) {
             return false;
         }
     }

@@ -5,7 +5,7 @@ ghost use Rattle.search_core.specs.Index.{greatest_index};
 ghost use Rattle.search_types.specs.GroupFaults.{names_in, groups_in, TooManyGroups};
 ghost use Rattle.nfa_core.specs.declared.build_error.BuildError.TheVariants.{NoMemory};
 ghost use Rattle.nfa_core.specs.BuilderStates.{with_name, with_group, up_to_pattern, capture_start_draft, capture_end_draft};
-ghost use Rattle.nfa_core.specs.BuilderFaults.{AddsGroup, AddsGroupEnd, Tells, TellsIndex, index_fault, captures_refused};
+ghost use Rattle.nfa_core.specs.BuilderFaults.{AddsGroup, AddsGroupEnd, ReportsFaultOf, ReportsIndex, index_fault, captures_refused};
 
 use crate::build_error::BuildError;
 use crate::builder::Builder;
@@ -14,9 +14,9 @@ use search_core::{PatternID, SmallIndex, StateID};
 use search_types::GroupInfoError;
 
 impl Builder {
-    /// Adds a state that notes where a group of the pattern that was begun starts. The group's name is that
-    /// of the first such state; groups with lesser indices that have none yet get no name. An index above
-    /// [`SmallIndex::MAX`] is refused before anything else, and nothing is noted then.
+    /// Adds a state that records where a group of the current pattern starts. The group's name is that of the first such state. Groups with
+    /// lesser indices that have none yet get no name. If the index is above [`SmallIndex::MAX`], the call fails before anything else and
+    /// records nothing.
     pub fn add_capture_start(
         &mut self,
         next: StateID,
@@ -37,8 +37,8 @@ impl Builder {
         })
     }
 
-    /// Adds a state that notes where a group of the pattern that was begun ends. An index above
-    /// [`SmallIndex::MAX`] is refused before anything else.
+    /// Adds a state that records where a group of the current pattern ends. If the index is above [`SmallIndex::MAX`], the call fails
+    /// before anything else.
     pub fn add_capture_end(
         &mut self,
         next: StateID,
@@ -58,11 +58,11 @@ impl Builder {
     }
 }
 
-/// The index of a group of the pattern; one above [`SmallIndex::MAX`] is refused.
+/// The index of a group of the pattern. An index above [`SmallIndex::MAX`] is an error.
 fn checked_index(pattern: PatternID, index: u32) -> Result<SmallIndex, BuildError>
     ensures { MatchResult result (λ i. (i ≡ index) × (index_fault pattern index ≡ None) × (index ≤ greatest_index))
-        (λ e. Tells e (index_fault pattern index) ×
-        (index_fault pattern index ≡ Some (captures_refused (TooManyGroups pattern index))) × TellsIndex e pattern index) }
+        (λ e. ReportsFaultOf e (index_fault pattern index) ×
+        (index_fault pattern index ≡ Some (captures_refused (TooManyGroups pattern index))) × ReportsIndex e pattern index) }
 {
     let minimum = index as usize;
     let Ok(small) = SmallIndex::new(minimum) else {
@@ -72,7 +72,7 @@ fn checked_index(pattern: PatternID, index: u32) -> Result<SmallIndex, BuildErro
     Ok(small)
 }
 
-/// Notes the name of a pattern's group, unless that group is there.
+/// Records the name of a pattern's group, unless that group exists.
 fn note_group(
     groups: &mut Vec<Vec<Option<String>>>,
     pattern: PatternID,
@@ -87,7 +87,7 @@ fn note_group(
     Ok(())
 }
 
-/// Lets there be groups for all patterns up to this one.
+/// Adds empty lists of groups until each pattern up to this one has a list.
 #[tactic(auto, using(crate::proofs::BuilderLemmas::filled_more, crate::proofs::BuilderLemmas::filled_enough))]
 fn fill_patterns(
     groups: &mut Vec<Vec<Option<String>>>,
@@ -104,7 +104,7 @@ fn fill_patterns(
     Ok(())
 }
 
-/// Notes the name of a group, unless that group is there.
+/// Records the name of a group, unless that group exists.
 #[tactic(auto, using(crate::proofs::BuilderLemmas::filled_more, crate::proofs::BuilderLemmas::filled_enough))]
 fn note_name(
     names: &mut Vec<Option<String>>,

@@ -17,8 +17,8 @@ ghost use Rattle.nfa_core.specs.Runs.{IsChain, last_or};
 ghost use Rattle.nfa_core.specs.Walks.{Has, HasNoneTwice, distinct, Lists};
 ghost use Rattle.nfa_core.specs.Ways.{Text, ways, matched, ends_from};
 
-/// A state that stands for itself keeps its place, and past any state there is one that does, where states
-/// that stand for others make no loop. A state that stands for another is passed to where that one is.
+/// A state that stands for itself is itself the state past it. If states that stand for others make no loop, past any state there is one
+/// that stands for itself. A state that stands for another leads past to what that one leads past to.
 pub fn past_states_stand_for_themselves()
     ensures itself { (drafts : List DraftNode) (q : ℕ) → stands_for (draft_at drafts q) ≡ None → past drafts q ≡ q }
     ensures stands { (drafts : List DraftNode) (q : ℕ) → HasNoLoop drafts → q < length drafts →
@@ -31,8 +31,7 @@ pub fn past_states_stand_for_themselves()
         past drafts q ≡ past drafts r }
 {}
 
-/// A kept state is in the automaton under its new name, no two have one name, and each name of the automaton
-/// is that of a kept state.
+/// A kept state is in the automaton under its new name. No two have the same name, and each name of the automaton is that of a kept state.
 pub fn kept_states_are_renamed()
     ensures inside { (b : Assembly) (x y q : ℕ) → q < length b.drafts → stands_for (draft_at b.drafts q) ≡ None →
         new_name b.drafts q < length (automaton_of b x y).states }
@@ -54,7 +53,7 @@ pub fn ways_are_renamed()
         matched (automaton_of b x y) (i, new_name b.drafts q) ≡ table_match (draft_at b.drafts) (i, q) }
 {}
 
-/// What the walk of a stack lists from a pair of the table, it lists from that pair of the automaton.
+/// What the search of a stack lists from a pair of the table, it lists from that pair of the automaton.
 pub fn lists_are_carried_over()
     ensures { (b : Assembly) (x y : ℕ) (t : Text) (q i : ℕ) (l : List (ℕ × ℕ)) → CanBuild b x y → q < length b.drafts →
         Lists (table_ways b.reverse t (draft_at b.drafts)) (table_match (draft_at b.drafts)) ((i, q) ∷ []) l →
@@ -82,15 +81,15 @@ pub fn built_automata_are_well_formed()
     ensures formed { (b : Assembly) (x y : ℕ) → CanBuild b x y → IsWellFormed (automaton_of b x y) }
 {}
 
-/// The ends of the automaton's runs from a pair are those of the table's runs, in the same order of preference,
-/// whatever loops the table has that read nothing.
+/// The ends of the automaton's runs from a pair are those of the table's runs, in the same order of preference, whatever loops the table
+/// has that consume nothing.
 pub fn ends_keep_their_order()
     ensures { (b : Assembly) (x y : ℕ) (t : Text) (q i : ℕ) → CanBuild b x y → q < length b.drafts → i ≤ t.end →
         ends_from (automaton_of b x y) t (i, new_name b.drafts q) ≡ table_ends b.reverse t b.drafts (i, q) }
 {}
 
-/// The ends of the automaton's runs from a pair are what the table lists from it, repeats dropped, and what
-/// chains of the table find. Where the walk of a stack comes to its end, no chain comes to a pair twice.
+/// The ends of the automaton's runs from a pair are what the table lists from it, with repeats dropped. They are also what chains of the
+/// table find. If the search of a stack comes to its end, no chain visits a pair twice.
 pub fn ends_are_those_of_the_table()
     ensures listed { (b : Assembly) (x y : ℕ) (t : Text) (q i : ℕ) (l : List (ℕ × ℕ)) → CanBuild b x y → q < length b.drafts → i ≤ t.end →
         Lists (table_ways b.reverse t (draft_at b.drafts)) (table_match (draft_at b.drafts)) ((i, q) ∷ []) l →

@@ -9,14 +9,14 @@ use crate::builder::Builder;
 use search_core::{PatternID, StateID};
 
 impl Builder {
-    /// Whether a pattern was begun that isn't finished.
+    /// Whether a pattern was started that isn't finished.
     pub fn in_pattern(&self) -> bool
         ensures { result ≡ self.now.is_open }
     {
         self.is_open
     }
 
-    /// How many patterns were begun.
+    /// How many patterns were started.
     pub fn pattern_len(&self) -> usize
         ensures { result ≡ pattern_count self.now }
     {
@@ -26,7 +26,7 @@ impl Builder {
         self.starts.len()
     }
 
-    /// The number of the pattern that was begun and isn't finished.
+    /// The number of the pattern that was started and isn't finished.
     pub fn current_pattern_id(&self) -> PatternID
         requires { self.now.is_open ≡ true }
         ensures value { result ≡ length self.now.starts }
@@ -35,7 +35,7 @@ impl Builder {
         PatternID::must(self.starts.len())
     }
 
-    /// Begins a pattern, and gives its number.
+    /// Starts a pattern, and returns its number.
     pub fn start_pattern(&mut self) -> Result<PatternID, BuildError>
         requires { self.old.is_open ≡ false }
         ensures { MatchResult result
@@ -49,8 +49,7 @@ impl Builder {
         Ok(id)
     }
 
-    /// Finishes the pattern that was begun, which starts in this state, and gives its number. Only want of
-    /// memory refuses it.
+    /// Finishes the current pattern, which starts in this state, and returns its number. It fails only if an allocation fails.
     pub fn finish_pattern(&mut self, start: StateID) -> Result<PatternID, BuildError>
         requires { self.old.is_open ≡ true }
         ensures { MatchResult result

@@ -11,8 +11,8 @@ ghost use Rattle.nfa_core.specs.BuilderStates.{Assembly, bytes_of_drafts};
 ghost use Rattle.nfa_core.specs.NfaValue.{memory_of};
 ghost use Rattle.nfa_core.specs.Renaming.{automaton_of};
 
-/// The states of an automaton are taken to need no more bytes than those of the builder of which it is
-/// built. So an automaton that is built under a limit keeps to it.
+/// The states of an automaton are taken to need no more bytes than those of the builder from which it is built. So an automaton that is
+/// built under a limit keeps to it.
 pub fn automata_need_no_more_than_builders()
     ensures { (b : Assembly) (anchored unanchored : ℕ) → memory_of (automaton_of b anchored unanchored).states ≤ bytes_of_drafts b.drafts }
 {}

@@ -1,7 +1,7 @@
 ghost use Rattle.std.specs.Prelude.{◌≡◌, ◌<◌, ◌≤◌, true, false, length, map, None, All, IsOk, MatchResult};
 ghost use Rattle.nfa_core.specs.BuilderStates.{empty_draft, range_draft, sparse_draft, look_draft, union_draft, union_reverse_draft};
 ghost use Rattle.nfa_core.specs.BuilderStates.{fail_draft, match_draft, AscendsFrom, draft_at, patched_at, way_bytes, is_sparse};
-ghost use Rattle.nfa_core.specs.BuilderFaults.{Adds, Tells, patch_fault};
+ghost use Rattle.nfa_core.specs.BuilderFaults.{Adds, ReportsFaultOf, patch_fault};
 ghost use Rattle.nfa_core.specs.declared.build_error.BuildError.TheVariants.{NoMemory};
 ghost use Rattle.nfa_core.specs.Drafts.{draft_of};
 ghost use Rattle.nfa_core.specs.Transitions.{range_of};
@@ -38,7 +38,7 @@ impl Builder {
         self.add(Draft::UnionReverse { alternates })
     }
 
-    /// Adds a state that leads on by the bytes of a range, of which there is one at least.
+    /// Adds a state that leads on by the bytes of a range, which has at least one byte.
     pub fn add_range(&mut self, trans: Transition) -> Result<StateID, BuildError>
         requires { trans.start ≤ trans.end }
         ensures { Adds self.old self.new result (range_draft trans.start trans.end trans.next) }
@@ -46,8 +46,8 @@ impl Builder {
         self.add(Draft::ByteRange { trans })
     }
 
-    /// Adds a state that leads on by the bytes of ranges. Each has a byte at least, they ascend, and no two
-    /// have a byte in common. It can't be patched.
+    /// Adds a state that leads on by the bytes of ranges. Each range has at least one byte, they ascend, and no two have a byte in common.
+    /// The state can't be patched.
     pub fn add_sparse(&mut self, transitions: Vec<Transition>) -> Result<StateID, BuildError>
         requires { AscendsFrom 0 (map range_of transitions.items) }
         ensures { Adds self.old self.new result (sparse_draft (map range_of transitions.items)) }
@@ -56,7 +56,7 @@ impl Builder {
         self.add(Draft::Sparse { transitions })
     }
 
-    /// Adds a state that leads on where the look holds.
+    /// Adds a state that leads on if the look holds.
     pub fn add_look(&mut self, next: StateID, look: Look) -> Result<StateID, BuildError>
         ensures { Adds self.old self.new result (look_draft look next) }
     {
@@ -70,7 +70,7 @@ impl Builder {
         self.add(Draft::Fail)
     }
 
-    /// Adds a state in which the pattern that was begun matches. Patching it changes nothing.
+    /// Adds a state in which the current pattern matches. Patching it changes nothing.
     pub fn add_match(&mut self) -> Result<StateID, BuildError>
         requires { self.old.is_open ≡ true }
         ensures { Adds self.old self.new result (match_draft (length self.old.starts)) }
@@ -79,15 +79,15 @@ impl Builder {
         self.add(Draft::Match { pattern_id })
     }
 
-    /// Lets the state `from` lead to `to`: a union has one more way, behind those that it had, and any other
-    /// state leads there and no more where it did, which is never refused.
+    /// Makes the state `from` lead to `to`. A union gets one more way, after those that it had. Any other state leads to `to` and no longer
+    /// where it did, and for such a state the call never fails.
     pub fn patch(&mut self, from: StateID, to: StateID) -> Result<(), BuildError>
         requires from { from < length self.old.drafts }
         requires to { to < length self.old.drafts }
         requires kind { is_sparse (draft_at self.old.drafts from) ≡ false }
         ensures value { MatchResult result
             (λ _. (self.new ≡ record self.old { drafts = patched_at self.old.drafts from to }) × (patch_fault self.old from to ≡ None))
-            (λ e. (self.new ≡ self.old) × Tells e (patch_fault self.old from to)) }
+            (λ e. (self.new ≡ self.old) × ReportsFaultOf e (patch_fault self.old from to)) }
         ensures free { way_bytes (draft_at self.old.drafts from) ≡ 0 → IsOk result }
     {
         let memory = self.memory.saturating_add(way_memory(&self.drafts, from));
@@ -123,7 +123,7 @@ fn way_memory(drafts: &[Draft], from: StateID) -> usize
     drafts[from.as_usize()].patch_memory()
 }
 
-/// Lets one of the states lead to `to`.
+/// Makes one of the states lead to `to`.
 #[tactic(auto, using(crate::proofs::BuilderLemmas::view_patched, crate::proofs::BuilderLemmas::view_kept, crate::proofs::BuilderLemmas::view_at))]
 fn patch(drafts: &mut Vec<Draft>, from: StateID, to: StateID) -> Result<(), BuildError>
     requires { from < length drafts.old.items }

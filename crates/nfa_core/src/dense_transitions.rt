@@ -6,14 +6,14 @@ ghost use Rattle.nfa_core.specs.Transitions.{dense_next};
 
 use search_core::{StateID, Unit};
 
-/// A table with the state to which each byte leads, where [`StateID::ZERO`] says that it leads nowhere.
+/// A table with the state to which each byte leads. [`StateID::ZERO`] means that the byte leads nowhere.
 #[derive(Clone, PartialEq, Eq, Debug, Drop)]
 pub struct DenseTransitions {
     pub transitions: Box<[StateID; 256]>,
 }
 
 impl DenseTransitions {
-    /// Where the byte at the place `at` of the haystack leads, if there is one.
+    /// Where the byte at the offset `at` of the haystack leads, if there is one.
     pub fn matches(&self, haystack: &[u8], at: usize) -> Option<StateID>
         ensures { result ≡ option_and_then (dense_next self.now.transitions.value) (byte_at haystack.now at) }
     {
@@ -27,7 +27,7 @@ impl DenseTransitions {
         self.matches_byte(unit.as_u8()?)
     }
 
-    /// Where the byte leads. It leads nowhere where the table has state 0 for it.
+    /// Where the byte leads. It leads nowhere if the table has state 0 for it.
     #[inline]
     pub fn matches_byte(&self, byte: u8) -> Option<StateID>
         ensures { result ≡ dense_next self.now.transitions.value byte }

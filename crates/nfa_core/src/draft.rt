@@ -14,7 +14,7 @@ const STATE_SIZE: usize = 24;
 /// The bytes that a [`Transition`] takes.
 const TRANSITION_SIZE: usize = 8;
 
-/// A state of a builder. Where it leads may be told later.
+/// A state of a builder. Where it leads may be set later.
 #[derive(Drop)]
 pub(crate) enum Draft {
     /// Stands for the state that it names.
@@ -55,7 +55,7 @@ pub(crate) enum Draft {
 }
 
 impl Draft {
-    /// The bytes that the state is taken to need, or [`usize::MAX`] where that is less.
+    /// The bytes that the state is taken to need, or [`usize::MAX`] if that is less.
     pub(crate) fn memory_usage(&self) -> usize
         ensures { result ≡ min (draft_bytes (draft_of self.now)) usize.MAX }
     {
@@ -92,7 +92,7 @@ impl Draft {
         }
     }
 
-    /// The state for which this one stands, where it is empty or a union of one way.
+    /// The state for which this one stands, if it is empty or a union of one way.
     pub(crate) fn stands_for(&self) -> Option<StateID>
         ensures { result ≡ stands_for (draft_of self.now) }
     {
@@ -106,7 +106,7 @@ impl Draft {
         }
     }
 
-    /// How many states of the automaton it becomes: none where it stands for another, and else one.
+    /// How many states of the automaton it becomes: none if it stands for another, and otherwise one.
     pub(crate) fn kept_len(&self) -> usize
         ensures value { result ≡ length (kept (draft_of self.now ∷ [])) }
         ensures most { result ≤ 1 }
@@ -114,7 +114,7 @@ impl Draft {
         if self.stands_for().is_none() { 1 } else { 0 }
     }
 
-    /// Lets the state lead to `to`: a union has one more way, and any other state leads there alone.
+    /// Makes the state lead to `to`: a union gets one more way, and any other state leads there alone.
     pub(crate) fn patch(&mut self, to: StateID) -> Result<(), AllocError>
         ensures value { MatchResult result (λ _. draft_of self.new ≡ patched to (draft_of self.old))
             (λ _. draft_of self.new ≡ draft_of self.old) }
@@ -134,7 +134,7 @@ impl Draft {
     }
 }
 
-/// The state of a list that has no other.
+/// The state of a list that has exactly one.
 fn only(names: &[StateID]) -> Option<StateID>
     ensures { result ≡ stands_for (union_draft names.now) }
 {

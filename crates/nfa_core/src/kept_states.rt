@@ -98,7 +98,7 @@ fn ranges_state(transitions: Vec<Transition>) -> State
     State::Sparse(SparseTransitions { transitions })
 }
 
-/// The first slot of a group, which is there.
+/// The first slot of a group, which exists.
 fn first_slot(groups: &GroupInfo, pattern: PatternID, group: SmallIndex) -> usize
     requires { is_some (slot groups.now pattern group) ≡ true }
     ensures value { result ≡ unwrap_or (slot groups.now pattern group) 0 }
@@ -108,7 +108,7 @@ fn first_slot(groups: &GroupInfo, pattern: PatternID, group: SmallIndex) -> usiz
     groups.slot(pattern, group.as_usize()).unwrap_or(0)
 }
 
-/// The state of the automaton that a state of the builder becomes which is kept.
+/// The state of the automaton that a kept state of the builder becomes.
 fn kept_state(
     alloc: Global,
     names: &[StateID],

@@ -1,14 +1,22 @@
-//! Byte automata: their definitions and laws, their states, a builder that puts states together, and what a
-//! search over these keeps, which is counters and sets of the states' numbers.
+//! Byte automata: their definitions and laws, their states, a builder that puts states together, and what a search over them keeps. A
+//! search keeps counters and sets of the states' numbers.
 //!
-//! The definitions are in `specs/`: an automaton in `Nfa.antt`, where its states lead in `Ways.antt`, runs and
-//! their preference in `Runs.antt`, walks in `Walks.antt`, lists of states by place in `Places.antt`. Their
-//! laws are public functions without code in [`run_laws`], [`place_laws`], [`walk_laws`] and [`way_laws`]. What a builder
-//! holds is in `BuilderStates.antt`, why it refuses in `BuilderFaults.antt`, and the automaton that its states
-//! stand for in `Renaming.antt`, with laws in [`builder_laws`] and [`builder_size_laws`]. What is asked before
-//! it is built is in `CanBuild.antt`, and what is built in `NfaOf.antt`. What an [`NFA`] knows of its automaton
-//! is in `NfaValue.antt`, which bytes it doesn't tell apart in `Alike.antt`, with laws in [`nfa_laws`]. How far
-//! runs read is in `Reaches.antt`, with laws in [`text_laws`].
+//! The definitions are in `specs/`:
+//!
+//! - `Nfa.antt`: an automaton
+//! - `Ways.antt`: where its states lead
+//! - `Runs.antt`: runs and their preference
+//! - `Walks.antt`: depth-first searches
+//! - `Places.antt`: lists of states by position
+//!
+//! Their laws are public functions without code in [`run_laws`], [`place_laws`], [`walk_laws`] and [`way_laws`].
+//!
+//! What a builder holds is in `BuilderStates.antt`, and why its calls fail in `BuilderFaults.antt`. The automaton that its states stand for
+//! is in `Renaming.antt`, with laws in [`builder_laws`] and [`builder_size_laws`]. The preconditions of building it are in `CanBuild.antt`,
+//! and the result is in `NfaOf.antt`.
+//!
+//! What an [`NFA`] knows of its automaton is in `NfaValue.antt`. Which bytes the automaton doesn't distinguish is in `Alike.antt`, with
+//! laws in [`nfa_laws`]. How far runs read is in `Reaches.antt`, with laws in [`text_laws`].
 //! ```rust
 //! pub fn is_for_text_alone(nfa: &NFA) -> bool {
 //!     nfa.is_utf8() && !nfa.has_empty()

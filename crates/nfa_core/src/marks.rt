@@ -30,7 +30,7 @@ impl Marks {
         Ok(Marks { words })
     }
 
-    /// Makes a table that marks nothing one for the numbers below `bound`.
+    /// Makes a table without marks a table for the numbers below `bound`.
     pub(crate) fn resize(&mut self, bound: usize) -> Result<(), AllocError>
         requires { (n : ℕ) → is_marked self.old.words.items n ≡ false }
         ensures none { (n : ℕ) → is_marked self.new.words.items n ≡ false }
@@ -59,7 +59,7 @@ impl Marks {
         self.words[number / 64] |= 1 << (number % 64);
     }
 
-    /// Unmarks the numbers, which must be all that are marked: so a word of one of them is cleared whole.
+    /// Unmarks the numbers, which must be all that are marked. So the whole word of each number is cleared.
     pub(crate) fn unmark(&mut self, names: &[StateID])
         requires in_range { (n : ℕ) → is_in n names.now ≡ true → n / 64 < length self.old.words.items }
         requires all { (n : ℕ) → is_marked self.old.words.items n ≡ true → is_in n names.now ≡ true }

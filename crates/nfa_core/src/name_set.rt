@@ -7,10 +7,9 @@ use crate::steps::Steps;
 use search_core::StateID;
 use std::sync::ledger::Ledger;
 
-/// A set of numbers of states that keeps the order in which they came. Its memory is taken once, so no
-/// insertion fails.
+/// A set of numbers of states that keeps the order of insertion. Its memory is allocated once, so no insertion fails.
 pub trait NameSet {
-    /// The numbers in the set, in the order in which they came.
+    /// The numbers in the set, in the order of insertion.
     ghost names: { Self → List ℕ };
 
     /// Each number that the set may hold is below it.
@@ -32,7 +31,7 @@ pub trait NameSet {
         requires { name < bound self.now }
         ensures { result ≡ is_in name (names self.now) };
 
-    /// Puts the number last unless it is in the set, and tells whether it was absent. Each call counts as a step.
+    /// Appends the number unless it is in the set, and returns whether it was absent. Each call counts as a step.
     fn insert<L: Ledger>(&mut self, name: StateID, steps: &mut Steps<L>) -> bool
         requires { name < bound self.old }
         ensures fresh { result ≡ not (is_in name (names self.old)) }
@@ -41,12 +40,12 @@ pub trait NameSet {
         ensures fits { length (names self.new) ≤ bound self.new }
         ensures cost { steps.new ≡ steps.old + 1 };
 
-    /// Takes each number out of the set.
+    /// Removes each number from the set.
     fn clear(&mut self)
         ensures names { names self.new ≡ [] }
         ensures bound { bound self.new ≡ bound self.old };
 
-    /// The number that came as number `k`, counted from 0.
+    /// The number that was inserted as number `k`, counted from 0.
     fn name(&self, k: usize) -> StateID
         requires { k < length (names self.now) }
         ensures { result ≡ slice_index (names self.now) k };

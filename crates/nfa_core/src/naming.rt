@@ -41,8 +41,7 @@ fn rank_pasts(alloc: Global, pasts: &Pasts, ranks: &[StateID]) -> Result<Vec<Sta
     Ok(names)
 }
 
-/// The names that the states get in the automaton. Each way past a state that stands for another is followed
-/// twice at most.
+/// The names that the states get in the automaton. Each way past a state that stands for another is followed at most twice.
 pub(crate) fn name_all<L: Ledger>(
     alloc: Global,
     drafts: &[Draft],

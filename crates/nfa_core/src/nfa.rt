@@ -20,8 +20,8 @@ use search_types::GroupInfo;
 use std::alloc::{AllocError, Global};
 use std::marker::Model;
 
-/// A byte automaton that is ready to be searched with, as `regex_automata::nfa::thompson::NFA`. A contract
-/// sees its states, where it starts, its groups and its settings.
+/// A byte automaton that is ready for searches, as `regex_automata::nfa::thompson::NFA`. A contract sees its states, where it starts, its
+/// groups and its settings.
 #[derive(Drop)]
 pub struct NFA {
     parts: Parts,
@@ -40,7 +40,7 @@ impl Model for NFA {
 }
 
 impl NFA {
-    /// The NFA of these parts. It is refused where memory lacks.
+    /// The NFA of these parts. Returns an error if an allocation fails.
     pub(crate) fn from_parts(alloc: Global, parts: Parts) -> Result<NFA, AllocError>
         requires { IsSound (automaton_in parts) }
         ensures { IfOk result (λ n. n ≡ nfa_in parts) }
@@ -49,8 +49,8 @@ impl NFA {
         Ok(NFA { parts, facts })
     }
 
-    /// A copy, by which a second automaton is built over the same states with other settings. Refused only for
-    /// want of memory. Rust's `NFA` is shared by its `Clone`, and copies nothing.
+    /// A copy, from which a second automaton is built over the same states with other settings. Returns an error only if an allocation
+    /// fails. Rust's `NFA` is shared by its `Clone`, and copies nothing.
     pub fn try_clone(&self, alloc: Global) -> Result<NFA, AllocError>
         ensures { IfOk result (λ n. n ≡ self.now) }
     {
@@ -92,15 +92,14 @@ impl NFA {
         self.parts.start_unanchored
     }
 
-    /// The state in which an anchored search for one pattern starts, as `NFA::start_pattern`; `None` where
-    /// there is no such pattern.
+    /// The state in which an anchored search for one pattern starts, as `NFA::start_pattern`; `None` if there is no such pattern.
     pub fn start_pattern(&self, pid: PatternID) -> Option<StateID>
         ensures { result ≡ slice_get self.now.automaton.start_pattern pid }
     {
         self.parts.start_pattern.get(pid.as_usize()).copied()
     }
 
-    /// The classes of bytes that the states don't tell apart, as `NFA::byte_classes`.
+    /// The classes of bytes that the states don't distinguish, as `NFA::byte_classes`.
     pub fn byte_classes(&self) -> &ByteClasses
         ensures len { length result.now ≡ 256 }
         ensures classes { (b : ℕ) → b < 256 →
@@ -109,7 +108,7 @@ impl NFA {
         &self.facts.byte_classes
     }
 
-    /// The marks by which these classes are made, as `NFA::byte_class_set`.
+    /// The marks from which these classes are made, as `NFA::byte_class_set`.
     pub fn byte_class_set(&self) -> &ByteClassSet
         ensures { result.now ≡ marks_of self.now.terminator self.now.automaton.states }
     {
@@ -149,7 +148,7 @@ impl NFA {
         self.facts.has_capture
     }
 
-    /// Whether a pattern may match without a byte, where each look is taken as passed, as `NFA::has_empty`.
+    /// Whether a pattern may match the empty string if each look counts as passed, as `NFA::has_empty`.
     #[inline]
     pub fn has_empty(&self) -> bool
         ensures { result ≡ has_empty self.now.automaton }
@@ -157,7 +156,7 @@ impl NFA {
         self.facts.has_empty
     }
 
-    /// Whether a match without a byte counts between characters alone, as `NFA::is_utf8`.
+    /// Whether an empty match counts only between characters, as `NFA::is_utf8`.
     #[inline]
     pub fn is_utf8(&self) -> bool
         ensures { result ≡ self.now.utf8 }
@@ -165,7 +164,7 @@ impl NFA {
         self.parts.utf8
     }
 
-    /// Whether the automaton reads from the end of a text to its start, as `NFA::is_reverse`.
+    /// Whether the automaton reads from the end of a haystack to its start, as `NFA::is_reverse`.
     #[inline]
     pub fn is_reverse(&self) -> bool
         ensures { result ≡ self.now.automaton.reverse }
@@ -173,8 +172,8 @@ impl NFA {
         self.parts.reverse
     }
 
-    /// Whether each search starts in the same state, as `NFA::is_always_start_anchored`: an unanchored one
-    /// then comes to no other matches than an anchored one.
+    /// Whether each search starts in the same state, as `NFA::is_always_start_anchored`. An unanchored search then finds no other matches
+    /// than an anchored one.
     #[inline]
     pub fn is_always_start_anchored(&self) -> bool
         ensures { result ≡ nat_eq self.now.automaton.start_anchored self.now.automaton.start_unanchored }
@@ -182,7 +181,7 @@ impl NFA {
         self.start_anchored() == self.start_unanchored()
     }
 
-    /// What tells where looks hold, as `NFA::look_matcher`.
+    /// The matcher that decides where looks hold, as `NFA::look_matcher`.
     #[inline]
     pub fn look_matcher(&self) -> &LookMatcher<AsciiWord>
         ensures { result.now.terminator ≡ self.now.terminator }
@@ -198,7 +197,7 @@ impl NFA {
         self.facts.look_set_any
     }
 
-    /// The looks of the states to which patterns come without a byte, as `NFA::look_set_prefix_any`.
+    /// The looks of the states that patterns reach without a byte, as `NFA::look_set_prefix_any`.
     #[inline]
     pub fn look_set_prefix_any(&self) -> LookSet
         ensures { result ≡ prefix_looks self.now.automaton }
@@ -206,8 +205,8 @@ impl NFA {
         self.facts.look_set_prefix_any
     }
 
-    /// The bytes that the states are taken to need, as `NFA::memory_usage`: 24 for each, and those of its
-    /// list. A greater number than [`usize::MAX`] is given as that.
+    /// The bytes that the states are taken to need, as `NFA::memory_usage`: 24 for each, and those of its list. A number above
+    /// [`usize::MAX`] is returned as [`usize::MAX`].
     #[inline]
     pub fn memory_usage(&self) -> usize
         ensures { result ≡ memory_of self.now.automaton.states }
@@ -262,8 +261,8 @@ fn clone_state(state: &State) -> Result<State, AllocError>
 
 /// NFAs that are made by hand.
 impl NFA {
-    /// The NFA of one pattern that matches at each place without a byte, as `NFA::always_match`. It is
-    /// refused where memory lacks.
+    /// The NFA of one pattern that matches the empty string at each offset, as `NFA::always_match`. Returns an error if an allocation
+    /// fails.
     pub fn always_match(alloc: Global) -> Result<NFA, AllocError>
         ensures { IfOk result (λ n. n ≡ always_matching) }
     {
@@ -284,7 +283,7 @@ impl NFA {
         )
     }
 
-    /// The NFA of no pattern, as `NFA::never_match`. It is refused where memory lacks.
+    /// The NFA of no pattern, as `NFA::never_match`. Returns an error if an allocation fails.
     pub fn never_match(alloc: Global) -> Result<NFA, AllocError>
         ensures { IfOk result (λ n. n ≡ never_matching) }
     {
@@ -306,7 +305,7 @@ impl NFA {
     }
 }
 
-/// The states of an automaton that puts down where its match starts and ends, and matches.
+/// The states of an automaton that records where its match starts and ends, and matches.
 fn always_states(alloc: Global) -> Result<Vec<State>, AllocError>
     ensures { IfOk result (λ states. map node_of states.items ≡ always_matching.automaton.states) }
 {
@@ -329,7 +328,7 @@ fn always_states(alloc: Global) -> Result<Vec<State>, AllocError>
     Ok(states)
 }
 
-/// One pattern with one group. These groups break no rule, so memory alone may lack.
+/// One pattern with one group. These groups break no rule, so the only error is a failed allocation.
 fn one_group(alloc: Global) -> Result<GroupInfo, AllocError>
     ensures { IfOk result (λ groups. groups ≡ always_matching.groups) }
 {

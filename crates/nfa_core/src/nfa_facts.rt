@@ -1,4 +1,4 @@
-// What an NFA keeps of its automaton beside the states.
+// What an NFA stores about its automaton in addition to the states.
 ghost use Rattle.std.specs.Prelude.{◌≡◌, ℕ, ◌<◌, ◌≤◌, All, map, length, IfOk, get_or};
 ghost use Rattle.std.specs.List.{list_any};
 ghost use Rattle.search_core.specs.Marks.{recorded};
@@ -6,7 +6,7 @@ ghost use Rattle.look_core.specs.Terminators.{Terminator};
 ghost use Rattle.nfa_core.specs.Alike.{marks_of};
 ghost use Rattle.nfa_core.specs.Nfa.{fail_node};
 ghost use Rattle.nfa_core.specs.NfaParts.{automaton_in, AreFacts};
-ghost use Rattle.nfa_core.specs.NfaValue.{IsSound, IsNodeOf, told_apart_by, look_of, looks_of, is_capture, is_match, memory_of};
+ghost use Rattle.nfa_core.specs.NfaValue.{IsSound, IsNodeOf, ranges_apart_by, look_of, looks_of, is_capture, is_match, memory_of};
 ghost use Rattle.nfa_core.specs.Reached.{AreBelow};
 ghost use Rattle.nfa_core.specs.States.{node_of};
 ghost use Rattle.nfa_core.specs.Transitions.{range_of};
@@ -21,23 +21,23 @@ use look_core::{AsciiWord, LookMatcher, LookSet};
 use search_core::{ByteClassSet, ByteClasses};
 use std::alloc::{AllocError, Global};
 
-/// What an NFA keeps of its automaton, so that no call has to go over the states.
+/// What an NFA stores about its automaton, so that no call has to loop over the states.
 #[derive(Drop)]
 pub(crate) struct Facts {
     pub(crate) has_capture: bool,
-    /// Whether a pattern may match without a byte.
+    /// Whether a pattern may match the empty string.
     pub(crate) has_empty: bool,
     pub(crate) look_set_any: LookSet,
     /// The looks that may be met before a byte is read.
     pub(crate) look_set_prefix_any: LookSet,
     pub(crate) byte_class_set: ByteClassSet,
     pub(crate) byte_classes: ByteClasses,
-    /// The bytes of all states, or [`usize::MAX`] where that is less.
+    /// The bytes of all states, or [`usize::MAX`] if that is less.
     pub(crate) memory: usize,
 }
 
 impl Facts {
-    /// The facts of an automaton. They are refused where memory lacks.
+    /// The facts of an automaton. Returns an error if an allocation fails.
     pub(crate) fn new(alloc: Global, parts: &Parts) -> Result<Facts, AllocError>
         requires { IsSound (automaton_in parts.now) }
         ensures { IfOk result (λ facts. AreFacts parts.now.look_matcher.terminator (automaton_in parts.now) facts) }
@@ -124,7 +124,7 @@ fn looks_among(states: &[State], set: &SparseSet) -> LookSet
     looks
 }
 
-/// The marks by which the bytes are told apart that states tell apart.
+/// The marks that separate the bytes which states distinguish.
 fn class_set(states: &[State], matcher: &LookMatcher<AsciiWord>) -> ByteClassSet
     requires { (patterns : ℕ) × All (IsNodeOf patterns) (map node_of states.now) }
     ensures { result ≡ marks_of matcher.now.terminator (map node_of states.now) }
@@ -136,10 +136,10 @@ fn class_set(states: &[State], matcher: &LookMatcher<AsciiWord>) -> ByteClassSet
     set
 }
 
-/// Marks the ranges of bytes that a state tells apart.
+/// Marks the byte ranges that a state distinguishes from other bytes.
 fn add_told(state: &State, matcher: &LookMatcher<AsciiWord>, set: &mut ByteClassSet)
     requires { (patterns : ℕ) × IsNodeOf patterns (node_of state.now) }
-    ensures { set.new ≡ recorded set.old (told_apart_by matcher.now.terminator (node_of state.now)) }
+    ensures { set.new ≡ recorded set.old (ranges_apart_by matcher.now.terminator (node_of state.now)) }
 {
     match state {
         State::ByteRange { trans } => set.set_range(trans.start, trans.end),
@@ -159,7 +159,7 @@ fn add_ranges(transitions: &[Transition], set: &mut ByteClassSet)
     }
 }
 
-/// The bytes of all states, or [`usize::MAX`] where that is less.
+/// The bytes of all states, or [`usize::MAX`] if that is less.
 fn memory(states: &[State]) -> usize
     ensures { result ≡ memory_of (map node_of states.now) }
 {

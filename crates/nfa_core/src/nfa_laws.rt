@@ -24,8 +24,7 @@ ghost use Rattle.nfa_core.specs.Transitions.{sparse_next, dense_next};
 ghost use Rattle.nfa_core.specs.Walks.{Has};
 ghost use Rattle.nfa_core.specs.Ways.{span, ways, in_ranges, named, ends_from};
 
-/// The states that patterns reach without a byte are those to which chains lead from their starts, each
-/// look taken as passed.
+/// The states that patterns reach without a byte are those to which chains lead from their starts if each look counts as passed.
 pub fn reached_states_are_led_to()
     ensures led { (a : Automaton) (q : ℕ) → IsSound a → Has nat_eq q (reached_freely a) →
         (s : ℕ) × (r : List ℕ) × Has nat_eq s a.start_pattern × IsChain nat_eq (free_steps a) s r × (last_or s r ≡ q) }
@@ -40,8 +39,8 @@ pub fn bytes_of_one_class_are_alike()
         b < 256 → c < 256 → marks_below marks b ≡ marks_below marks c → AreAlike t a b c }
 {}
 
-/// Texts whose bytes are of one class place by place are followed alike, the looks of states hold at the same
-/// places, and runs find the same ends.
+/// Let two haystacks have bytes of the same class at each offset. Then the automaton follows both alike, the looks of states hold at the
+/// same offsets, and runs find the same ends.
 pub fn texts_of_one_class_are_followed_alike()
     ensures looks { (a : Automaton) (t : Terminator) (marks : List Bool) (h g : List ℕ) (l : Look) (i : ℕ) → IsSound a →
         HasMarks marks (marks_of t a.states) → All (λ b. b < 256) h → All (λ b. b < 256) g → HaveSameClasses marks h g →
@@ -62,7 +61,7 @@ pub fn look_sets_have_the_looks_of_states()
         ((q : ℕ) × (next : ℕ) × Has nat_eq q (reached_freely a) × (node_at a q ≡ look_node l next)) }
 {}
 
-/// Where transitions lead by a byte is what the ways of an automaton say.
+/// A transition leads by a byte where the automaton's definition says that the byte leads.
 pub fn transitions_lead_where_bytes_do()
     ensures sparse { (ranges : List (ℕ × ℕ × ℕ)) (b : ℕ) → option_to_list (sparse_next ranges b) ≡ in_ranges ranges b }
     ensures dense { (names : List ℕ) (b : ℕ) → option_to_list (dense_next names b) ≡ named (get_or names b 0) }

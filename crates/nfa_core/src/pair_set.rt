@@ -10,8 +10,8 @@ use std::alloc::{AllocError, Global};
 use std::marker::Model;
 use std::sync::ledger::Ledger;
 
-/// A set of numbers of states below a capacity, in the order in which they came: a list, beside a table
-/// that has each number's place in it. [`clear`](NameSet::clear) is one step, whatever the set has.
+/// A set of numbers of states below a capacity, in the order in which they were inserted. It is a list, and a table with the position of
+/// each number in the list. [`clear`](NameSet::clear) is one step, whatever the set has.
 #[derive(Drop)]
 pub struct PairSet {
     dense: Vec<StateID>,
@@ -33,7 +33,7 @@ impl Model for PairSet {
 }
 
 impl PairSet {
-    /// An empty set for the numbers below the capacity. It is refused where memory lacks.
+    /// An empty set for the numbers below the capacity. Returns an error if an allocation fails.
     pub fn new(alloc: Global, capacity: usize) -> Result<PairSet, AllocError>
         requires { capacity ≤ greatest_index + 1 }
         ensures empty { IfOk result (λ s. s ≡ empty_below capacity) }
@@ -56,7 +56,7 @@ fn table(alloc: Global, len: usize) -> Result<Vec<StateID>, AllocError>
     Ok(table)
 }
 
-// A number that is not in the list may have any place in the table, so the list is asked what stands there.
+// A number that is not in the list may have any position in the table, so this also compares the number at that position of the list.
 #[inline(always)]
 fn is_held(dense: &[StateID], places: &[StateID], len: usize, name: StateID) -> bool
     requires paired { IsPaired dense.now places.now len }

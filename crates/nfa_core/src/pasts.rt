@@ -23,11 +23,11 @@ pub(crate) struct Pasts {
 struct Way {
     /// The state that stands for itself.
     end: StateID,
-    /// How many states were passed of which the table told nothing.
+    /// How many states without an entry in the table were passed.
     len: usize,
 }
 
-/// The state for which this one stands. To go there is a move, and is counted.
+/// The state for which this one stands. Going there is a move, and is counted.
 #[tactic(auto, using(crate::proofs::BuilderLemmas::view_at))]
 fn next_of<L: Ledger>(drafts: &[Draft], q: StateID, steps: &mut Steps<L>) -> Option<StateID>
     requires { q < length drafts.now }
@@ -42,7 +42,7 @@ fn next_of<L: Ledger>(drafts: &[Draft], q: StateID, steps: &mut Steps<L>) -> Opt
 }
 
 impl Pasts {
-    /// A table that tells nothing.
+    /// A table without entries.
     fn new(alloc: Global, len: usize) -> Result<Pasts, AllocError>
         ensures len { IfOk result (λ p. length p.table.items ≡ len) }
         ensures none { IfOk result (λ p. (q : ℕ) → is_settled p.table.items q ≡ false) }
@@ -52,7 +52,7 @@ impl Pasts {
         Ok(Pasts { table })
     }
 
-    /// Notes what a state leads past to.
+    /// Records what a state leads past to.
     fn settle(&mut self, q: StateID, end: StateID)
         requires { q < length self.old.table.items }
         ensures { self.new.table.items ≡ set self.old.table.items q (Some end) }
@@ -60,8 +60,7 @@ impl Pasts {
         self.table[q.as_usize()] = Some(end);
     }
 
-    /// The state for which this one stands, unless the table tells what it leads past to. To go there is
-    /// counted.
+    /// The state for which this one stands, unless the table has an entry for this one. Going there is counted.
     fn next_open<L: Ledger>(
         &self,
         drafts: &[Draft],
@@ -80,7 +79,7 @@ impl Pasts {
         next_of(drafts, at, steps)
     }
 
-    /// What the table tells that the state leads past to, or else the state itself.
+    /// The table's entry for the state, or the state itself if there is none.
     pub(crate) fn known(&self, at: StateID) -> StateID
         requires { at < length self.now.table.items }
         ensures { result ≡ unwrap_or (get_or self.now.table.items at None) at }
@@ -88,7 +87,7 @@ impl Pasts {
         self.table[at.as_usize()].unwrap_or(at)
     }
 
-    /// Follows the states from `q` on to one that stands for itself, or of which the table tells.
+    /// Follows the states from `q` on to one that stands for itself or has an entry in the table.
     #[tactic(auto, using(crate::proofs::PastLemmas::known_end))]
     fn find_end<L: Ledger>(&self, drafts: &[Draft], q: StateID, steps: &mut Steps<L>) -> Way
         requires reached { HasPasts (map draft_of drafts.now) }
@@ -111,7 +110,7 @@ impl Pasts {
         }
     }
 
-    /// Notes where a way from `q` ends for all states that it passed.
+    /// Records where a way from `q` ends, for all states that it passed.
     fn settle_path<L: Ledger>(
         &mut self,
         drafts: &[Draft],
@@ -140,7 +139,7 @@ impl Pasts {
         }
     }
 
-    /// Notes what `q` leads past to, and with it all states that are met before the table tells more.
+    /// Records what `q` leads past to, and with it all states that are met before one with an entry in the table.
     fn settle_from<L: Ledger>(&mut self, drafts: &[Draft], q: StateID, steps: &mut Steps<L>)
         requires reached { HasPasts (map draft_of drafts.now) }
         requires numbered { length drafts.now ≤ greatest_index + 1 }
@@ -157,8 +156,7 @@ impl Pasts {
     }
 }
 
-/// Finds what all states lead past to. Each way past a state that stands for another is followed twice at
-/// most.
+/// Finds what all states lead past to. Each way past a state that stands for another is followed at most twice.
 pub(crate) fn settle_all<L: Ledger>(
     alloc: Global,
     drafts: &[Draft],

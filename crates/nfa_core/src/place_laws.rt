@@ -1,9 +1,8 @@
-//! Laws of the lists of states that a search makes place by place. Each function has no code: its contract is
-//! the law.
+//! Laws of the lists of states that a search makes position by position. Each function has no code: its contract is the law.
 //! ```rust
 //! pub fn lists_are_joined()
 //!     ensures { (eps step : ℕ → ℕ → List ℕ) (n len q : ℕ) (ls : ℕ → List ℕ) → IsGraph eps step n len → q < n →
-//!         AreWalkLists eps step (λ k xs. xs) len q ls → (k : ℕ) → k ≤ len → ls k ≡ join nat_eq [] (arrivals eps step n q k) }
+//!         AreStepLists eps step (λ k xs. xs) len q ls → (k : ℕ) → k ≤ len → ls k ≡ join nat_eq [] (arrivals eps step n q k) }
 //! {
 //!     lists_join_what_arrives();
 //! }
@@ -12,28 +11,28 @@ ghost use Rattle.std.specs.Prelude.{◌≡◌, ℕ, ◌<◌, ◌≤◌, List, []
 ghost use Rattle.std.specs.Bool.{nat_eq};
 ghost use Rattle.std.specs.List.{filter};
 ghost use Rattle.nfa_core.specs.Walks.{join, distinct};
-ghost use Rattle.nfa_core.specs.Places.{same_pair, arrivals, AreWalkLists, IsGraph, before_answer, answers_at, first, latest};
+ghost use Rattle.nfa_core.specs.Places.{same_pair, arrivals, AreStepLists, IsGraph, before_answer, answers_at, first, latest};
 ghost use Rattle.nfa_core.specs.Nfa.{Automaton, IsWellFormed};
-ghost use Rattle.nfa_core.specs.Ways.{Text, IsPairOf, AreLists, matched_behind, bytes_left, place_of, ends_from};
+ghost use Rattle.nfa_core.specs.Ways.{Text, IsPairOf, AreLists, matched_after, bytes_left, offset_of, ends_from};
 
-/// The list at each place is the join of what arrives there.
+/// The list at each position is the join of what arrives there.
 pub fn lists_join_what_arrives()
     ensures { (eps step : ℕ → ℕ → List ℕ) (n len start : ℕ) (lists : ℕ → List ℕ) → IsGraph eps step n len → start < n →
-        AreWalkLists eps step (λ k xs. xs) len start lists → (k : ℕ) → k ≤ len → lists k ≡ join nat_eq [] (arrivals eps step n start k) }
+        AreStepLists eps step (λ k xs. xs) len start lists → (k : ℕ) → k ≤ len → lists k ≡ join nat_eq [] (arrivals eps step n start k) }
 {}
 
-/// Where each list is cut behind its first match before its states read a byte, the latest match is the
-/// first end of runs, that of the most preferred run.
+/// Let each list be cut after its first match before its states read a byte. Then the latest match is the first end of runs, that of the
+/// most preferred run.
 pub fn cut_lists_end_with_the_first_run()
     ensures { (a : Automaton) (t : Text) (i q : ℕ) (lists : ℕ → List ℕ) → IsWellFormed a → IsPairOf a t (i, q) →
-        AreLists a t (i, q) (λ k xs. before_answer (λ x. matched_behind a i (k, x)) xs) lists →
-        latest (matched_behind a i) lists (bytes_left a.reverse t i) 0 ≡ first (ends_from a t (i, q)) }
+        AreLists a t (i, q) (λ k xs. before_answer (λ x. matched_after a i (k, x)) xs) lists →
+        latest (matched_after a i) lists (bytes_left a.reverse t i) 0 ≡ first (ends_from a t (i, q)) }
 {}
 
-/// Where lists are not cut, the matches of each are the ends of all runs to its place, in order of preference.
+/// If lists are not cut, the matches of each are the ends of all runs to its position, in order of preference.
 pub fn uncut_lists_have_all_ends()
     ensures { (a : Automaton) (t : Text) (i q : ℕ) (lists : ℕ → List ℕ) → IsWellFormed a → IsPairOf a t (i, q) →
         AreLists a t (i, q) (λ k xs. xs) lists → (k : ℕ) → k ≤ bytes_left a.reverse t i →
-        distinct same_pair (answers_at (matched_behind a i) k (lists k)) ≡
-        filter (λ e. nat_eq e.0 (place_of a.reverse i k)) (ends_from a t (i, q)) }
+        distinct same_pair (answers_at (matched_after a i) k (lists k)) ≡
+        filter (λ e. nat_eq e.0 (offset_of a.reverse i k)) (ends_from a t (i, q)) }
 {}

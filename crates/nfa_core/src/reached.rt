@@ -1,4 +1,4 @@
-// The states to which the patterns' starts lead with no byte.
+// The states that the patterns' starts reach without a byte.
 ghost use Rattle.std.specs.Prelude.{◌≡◌, ◌<◌, ◌++◌, length, map, get_or, reverse, true, IfOk, OnOk};
 ghost use Rattle.std.specs.Bool.{nat_eq};
 ghost use Rattle.nfa_core.specs.Nfa.{fail_node};
@@ -20,8 +20,8 @@ use std::alloc::{AllocError, Global};
 use std::marker::Brand;
 use std::sync::ledger::{Blank, Ledger};
 
-/// The states to which the patterns' starts lead with no byte, each once, in the order of a depth-first
-/// walk that takes each look as passed.
+/// The states that the patterns' starts reach without a byte, each once. They are in the order of a depth-first search that takes each look
+/// as passed.
 pub(crate) fn reached(alloc: Global, parts: &Parts) -> Result<SparseSet, AllocError>
     requires { IsSound (automaton_in parts.now) }
     ensures names { IfOk result (λ set. set.names ≡ distinct nat_eq (reached_freely (automaton_in parts.now))) }
@@ -30,7 +30,7 @@ pub(crate) fn reached(alloc: Global, parts: &Parts) -> Result<SparseSet, AllocEr
     walk::<Brand>(alloc, parts, Blank::new(1))
 }
 
-/// The same, and counts the steps.
+/// Finds the states that [`reached`] returns, and counts the steps.
 fn walk<L: Ledger>(alloc: Global, parts: &Parts, blank: Blank) -> Result<SparseSet, AllocError>
     requires sound { IsSound (automaton_in parts.now) }
     requires name { blank.name ≡ L.name }
@@ -58,7 +58,7 @@ pub(crate) fn state_at(states: &[State], id: StateID) -> &State
     &states[id.as_usize()]
 }
 
-/// Puts the states to which a state leads with no byte on a stack, the preferred one on top.
+/// Puts the states to which a state leads without a byte on a stack, the preferred one on top.
 fn push_ways(stack: &mut Vec<StateID>, state: &State) -> Result<(), AllocError>
     ensures { OnOk result (reverse stack.new.items ≡ on_nothing (node_of state.now) (λ l. true) ++ reverse stack.old.items) }
 {

@@ -7,8 +7,8 @@ use crate::sparse_set::SparseSet;
 use std::alloc::{AllocError, Global};
 use std::mem;
 
-/// Two sets, as a walk over the states needs them: one for the states at this place of the input, and one
-/// for those at the next. As `regex_automata::util::sparse_set::SparseSets`.
+/// Two sets, as a search over the states needs them: one for the states at this offset of the input, and one for those at the next offset.
+/// As `regex_automata::util::sparse_set::SparseSets`.
 #[derive(Drop)]
 pub struct Sets<S: NameSet> {
     pub set1: S,
@@ -19,7 +19,7 @@ pub struct Sets<S: NameSet> {
 pub type SparseSets = Sets<SparseSet>;
 
 impl<S: NameSet> Sets<S> {
-    /// Takes each number out of both sets.
+    /// Removes each number from both sets.
     pub fn clear(&mut self)
         ensures names1 { S.names self.new.set1 ≡ [] }
         ensures names2 { S.names self.new.set2 ≡ [] }
@@ -40,7 +40,7 @@ impl<S: NameSet> Sets<S> {
 }
 
 impl Sets<SparseSet> {
-    /// Two empty sets for the numbers below the capacity. It is refused where memory lacks.
+    /// Two empty sets for the numbers below the capacity. Returns an error if an allocation fails.
     pub fn new(alloc: Global, capacity: usize) -> Result<Sets<SparseSet>, AllocError>
         requires { capacity ≤ greatest_index + 1 }
         ensures empty { IfOk result (λ s. (s.set1 ≡ empty_below capacity) × (s.set2 ≡ empty_below capacity)) }
@@ -52,8 +52,8 @@ impl Sets<SparseSet> {
         })
     }
 
-    /// Empties both sets and gives them another capacity. It is refused where memory lacks, by the first set,
-    /// and then the second is left as it was, or by the second.
+    /// Empties both sets and gives them another capacity. If an allocation fails, the call returns an error. Either the first set fails,
+    /// and the second one is left as it was, or the second set fails.
     pub fn resize(&mut self, capacity: usize) -> Result<(), AllocError>
         requires { capacity ≤ greatest_index + 1 }
         ensures set1 { OnOk result (self.new.set1 ≡ empty_below capacity) }

@@ -12,10 +12,9 @@ use std::alloc::{AllocError, Global};
 use std::marker::Model;
 use std::sync::ledger::Ledger;
 
-/// A set of numbers of states below a capacity, in the order in which they came: a list whose memory is
-/// reserved, beside a table with a bit for each number. So a test and an insertion read one word, and
-/// [`clear`](NameSet::clear) costs as much as the numbers in the set, not as the capacity.
-/// As `regex_automata::util::sparse_set::SparseSet`.
+/// A set of numbers of states below a capacity, in the order in which they were inserted. It is a list whose memory is reserved, and a
+/// table with a bit for each number. So a test and an insertion read one word, and [`clear`](NameSet::clear) costs as much as the numbers
+/// in the set, not as the capacity. As `regex_automata::util::sparse_set::SparseSet`.
 #[derive(Drop)]
 pub struct SparseSet {
     names: Vec<StateID>,
@@ -36,7 +35,7 @@ impl Model for SparseSet {
 }
 
 impl SparseSet {
-    /// An empty set for the numbers below the capacity. It is refused where memory lacks.
+    /// An empty set for the numbers below the capacity. Returns an error if an allocation fails.
     pub fn new(alloc: Global, capacity: usize) -> Result<SparseSet, AllocError>
         requires { capacity ≤ greatest_index + 1 }
         ensures empty { IfOk result (λ s. s ≡ empty_below capacity) }
@@ -51,8 +50,8 @@ impl SparseSet {
         })
     }
 
-    /// Empties the set and gives it another capacity. It is refused where memory lacks, which it can't where
-    /// the capacity does not grow; the set is then empty and keeps the capacity that it had.
+    /// Empties the set and gives it another capacity. If an allocation fails, the call returns an error, and the set is empty and keeps its
+    /// capacity. The call can't fail if the new capacity isn't greater than the old one.
     pub fn resize(&mut self, capacity: usize) -> Result<(), AllocError>
         requires { capacity ≤ greatest_index + 1 }
         ensures ok { OnOk result (self.new ≡ empty_below capacity) }
@@ -73,7 +72,7 @@ impl SparseSet {
         self.names.is_empty()
     }
 
-    /// The numbers of the set, in the order in which they came.
+    /// The numbers of the set, in the order of insertion.
     pub fn iter(&self) -> SparseSetIter<'_>
         ensures { result ≡ self.now.names }
     {

@@ -4,8 +4,8 @@ ghost use Rattle.std.specs.Iterator.{YieldsFirst, item_count};
 use search_core::StateID;
 use std::marker::Model;
 
-/// The numbers of a set, in the order in which they came. A contract sees those that are left.
-/// As `regex_automata::util::sparse_set::SparseSetIter`.
+/// The numbers of a set, in the order of insertion. A contract sees those that are left. As
+/// `regex_automata::util::sparse_set::SparseSetIter`.
 #[derive(Drop)]
 pub struct SparseSetIter<'a> {
     rest: &'a [StateID],

@@ -7,16 +7,15 @@ ghost use Rattle.nfa_core.specs.Transitions.{range_of, sparse_next};
 use crate::transition::Transition;
 use search_core::{StateID, Unit};
 
-/// Ranges of bytes, each with the state to which it leads. The builder makes them ascending, with no byte in
-/// two of them; in a list where ranges overlap, the first that has a byte tells where it leads.
-/// As `regex_automata::nfa::thompson::SparseTransitions`.
+/// Ranges of bytes, each with the state to which it leads. The builder makes them ascending, with no byte in two of them. In a list whose
+/// ranges overlap, the first range that has a byte decides where it leads. As `regex_automata::nfa::thompson::SparseTransitions`.
 #[derive(Clone, PartialEq, Eq, Debug, Drop)]
 pub struct SparseTransitions {
     pub transitions: Vec<Transition>,
 }
 
 impl SparseTransitions {
-    /// Where the byte at the place `at` of the haystack leads, if there is one.
+    /// Where the byte at the offset `at` of the haystack leads, if there is one.
     pub fn matches(&self, haystack: &[u8], at: usize) -> Option<StateID>
         ensures { result ≡ option_and_then (sparse_next (map range_of self.now.transitions.items)) (byte_at haystack.now at) }
     {

@@ -1,4 +1,4 @@
-//! The numbers of states that a walk has still to visit: a list that ends with the one on top.
+//! The numbers of states that a depth-first search has still to visit: a list that ends with the one on top.
 //! ```rust
 //! pub fn push_both(states: &mut Vec<StateID>, a: StateID, b: StateID) -> Result<(), AllocError> {
 //!     stack::push(states, a)?;
@@ -16,7 +16,7 @@ use search_core::StateID;
 use std::alloc::AllocError;
 use std::sync::ledger::Ledger;
 
-/// Puts a number on top. Where memory lacks, the stack stands as it was.
+/// Puts a number on top. If an allocation fails, the stack stays as it was.
 #[tactic(auto, using(crate::proofs::StackedLemmas::reverse_pushed))]
 pub fn push(stack: &mut Vec<StateID>, id: StateID) -> Result<(), AllocError>
     ensures ok { OnOk result (reverse stack.new.items ≡ id ∷ reverse stack.old.items) }
@@ -26,7 +26,7 @@ pub fn push(stack: &mut Vec<StateID>, id: StateID) -> Result<(), AllocError>
     Ok(())
 }
 
-/// Takes the number on top away.
+/// Pops the number on top.
 #[tactic(auto, using(crate::proofs::StackedLemmas::reverse_pushed))]
 pub fn pop(stack: &mut Vec<StateID>) -> Option<StateID>
     ensures top { MatchOption result ((reverse stack.old.items ≡ []) × (reverse stack.new.items ≡ []))
@@ -37,8 +37,8 @@ pub fn pop(stack: &mut Vec<StateID>) -> Option<StateID>
     stack.pop()
 }
 
-/// Puts numbers on top, the first one at the very top. Where memory lacks, the stack has only the last of them on top,
-/// fewer than all: an empty list is never refused.
+/// Puts numbers on top, the first one at the very top. If an allocation fails, the stack has only the last of them on top, fewer than all.
+/// So the call can't fail for an empty list.
 pub fn push_all(stack: &mut Vec<StateID>, ids: &[StateID]) -> Result<(), AllocError>
     ensures ok { OnOk result (reverse stack.new.items ≡ ids.now ++ reverse stack.old.items) }
     ensures err { OnErr result ((k : ℕ) × (0 < k) × (reverse stack.new.items ≡ drop k ids.now ++ reverse stack.old.items)) }
@@ -50,7 +50,7 @@ pub fn push_all(stack: &mut Vec<StateID>, ids: &[StateID]) -> Result<(), AllocEr
     Ok(())
 }
 
-/// Takes numbers away until one is met that the set lacks, and puts that into the set.
+/// Pops numbers until one isn't in the set, and inserts that one into the set.
 pub fn next_fresh<S: NameSet, L: Ledger>(
     stack: &mut Vec<StateID>,
     set: &mut S,
@@ -69,7 +69,7 @@ pub fn next_fresh<S: NameSet, L: Ledger>(
 {
     while let Some(id) = pop(stack) {
         if set.insert(id, steps) {
-            // What a set has is there once, and below its bound.
+            // A set has each of its numbers once, and below its bound.
             let _ = set.len();
             return Some(id);
         }

@@ -25,23 +25,23 @@ pub enum State {
     },
     /// Leads on by the bytes of some ranges.
     Sparse(SparseTransitions),
-    /// Leads on as a table tells for each byte.
+    /// Leads on by a table that has a state for each byte.
     Dense(DenseTransitions),
-    /// Leads on with no byte, where the look holds.
+    /// Leads on without a byte, if the look holds.
     Look {
         look: Look,
         next: StateID,
     },
-    /// Leads to each of these states with no byte. An earlier one is preferred.
+    /// Leads to each of these states without a byte. An earlier one is preferred.
     Union {
         alternates: Vec<StateID>,
     },
-    /// Leads to both states with no byte. The first is preferred.
+    /// Leads to both states without a byte. The first is preferred.
     BinaryUnion {
         alt1: StateID,
         alt2: StateID,
     },
-    /// Leads on with no byte, and puts the place into a slot of a group of a pattern.
+    /// Leads on without a byte, and stores the offset in a slot of a group of a pattern.
     Capture {
         next: StateID,
         pattern_id: PatternID,
@@ -57,7 +57,7 @@ pub enum State {
 }
 
 impl State {
-    /// Whether the state leads on with no byte: those that look, unite or capture do.
+    /// Whether the state leads on without a byte, as looks, unions and captures do.
     #[inline]
     pub fn is_epsilon(&self) -> bool
         ensures { result ≡ is_epsilon (node_of self.now) }
@@ -70,9 +70,8 @@ impl State {
         }
     }
 
-    /// The bytes that the state is taken to need: 24 for itself, and for its list 8 for each transition of a
-    /// sparse state, 1024 for the table of a dense one, and 4 for each alternate of a union. A greater number
-    /// than [`usize::MAX`] is given as that.
+    /// The bytes that the state is taken to need: 24 for itself, and for its list 8 for each transition of a sparse state, 1024 for the
+    /// table of a dense one, and 4 for each alternate of a union. A number above [`usize::MAX`] is returned as [`usize::MAX`].
     pub fn memory_usage(&self) -> usize
         ensures { result ≡ min (node_memory (node_of self.now)) usize.MAX }
     {

@@ -3,9 +3,8 @@ ghost use Rattle.std.specs.Prelude.{◌≡◌, ◌+◌, ◌<◌};
 use std::marker::Model;
 use std::sync::ledger::{Blank, Book, Ledger, Share};
 
-/// How many steps were taken. A contract sees the number; the value has no bytes, and only
-/// [`tick`](Steps::tick) changes it. So a contract that takes one says what a call costs, and the built
-/// program has no trace of it.
+/// How many steps were taken. A contract sees the number; the value has no bytes, and only [`tick`](Steps::tick) changes it. So the
+/// contract of a function that takes one says what a call costs, and the built program has no trace of it.
 #[derive(Drop)]
 pub struct Steps<L: Ledger> {
     book: Book<L>,
@@ -23,8 +22,8 @@ impl<L: Ledger> Model for Steps<L> {
 }
 
 impl<L: Ledger> Steps<L> {
-    /// A count of no steps. A caller that counts nothing has a function that is generic in `L` make it,
-    /// and calls that at [`Brand`](std::marker::Brand) with `Blank::new(1)`.
+    /// A count of no steps. A caller that counts nothing lets a function that is generic in `L` make it, and calls that function at
+    /// [`Brand`](std::marker::Brand) with `Blank::new(1)`.
     pub fn new(blank: Blank) -> Steps<L>
         requires name { blank.name ≡ L.name }
         requires parts { blank.parts ≡ L.parts }

@@ -16,7 +16,7 @@ pub struct Transition {
 }
 
 impl Transition {
-    /// Whether there is a byte at the place `at` of the haystack and it lies in the range.
+    /// Whether there is a byte at the offset `at` of the haystack and it lies in the range.
     pub fn matches(&self, haystack: &[u8], at: usize) -> bool
         ensures { result ≡ has_byte self.now.start self.now.end (byte_at haystack.now at) }
     {

@@ -20,15 +20,14 @@ ghost use Rattle.nfa_core.specs.Runs.{IsChain, last_or};
 ghost use Rattle.nfa_core.specs.Walks.{distinct};
 ghost use Rattle.nfa_core.specs.Ways.{Text, IsPairOf, ways, matched, ends_from};
 
-/// From a pair that matches nothing and to which nothing leads back, the ends of runs are those from where it
-/// leads, one after the other, repeats dropped. Rounds without a byte elsewhere make no difference.
+/// Let a pair match nothing, and let nothing lead back to it. Then the ends of runs from it are those from where it leads, one after the
+/// other, with repeats dropped. Loops elsewhere that consume nothing make no difference.
 pub fn ends_come_by_the_ways()
     ensures { (a : Automaton) (t : Text) (p : ℕ × ℕ) → IsWellFormed a → IsPairOf a t p → IsLeftForGood a t p → matched a p ≡ None →
         ends_from a t p ≡ distinct same_pair (flat_map (ends_from a t) (ways a t p)) }
 {}
 
-/// A chain of what is built that comes to a state which was kept comes from a chain of the builder's own states
-/// that comes there.
+/// A chain of what is built that reaches a kept state comes from a chain of the builder's own states that reaches that state.
 pub fn chains_come_from_the_builders_states()
     ensures { (b : Assembly) (x y : ℕ) → CanBuild b x y → (t : Text) (c : ℕ) → c < length b.drafts →
         stands_for (draft_at b.drafts c) ≡ None →

@@ -22,7 +22,7 @@ use Rattle.pattern_search.specs.Searches.{whole_search, whole_query, found_from,
 use Rattle.pattern_search.proofs.ChoiceLemmas.{answer_is_loose}
 use Rattle.pattern_search.proofs.FindLemmas.{finds_as_read}
 
--- ---- one list beside the other, over any functions that find the same spans
+-- ---- one list compared with the other, over any functions that find the same spans
 record SameSearch (search : ℕ → Option Match) (answer : ℕ → Option Found) (e : ℕ) : Type 0 where
   same : (s : ℕ) → option_map span_of_match (search s) ≡ option_map span_of_found (answer s)
   ok : AnswersWithin answer e
@@ -33,7 +33,7 @@ ends_of m f same = ap (λ (s : ℕ × ℕ). s.1) same
 same_span : (m : Match) (f : Found) → Some (span_of_match m) ≡ Some (span_of_found f) → span_of_match m ≡ span_of_found f
 same_span m f same = same_Some (span_of_match m) (span_of_found f) same
 
--- an end at the place is one of an empty span
+-- an end at the offset is one of an empty span
 empty_there : (f : Found) (at : ℕ) → at ≤ f.start → f.start ≤ f.end → (b : Bool) → nat_eq f.end at ≡ b → b ≡ nat_eq f.start f.end && b
 empty_there f at low forward false is = by_test (nat_eq f.start f.end)
   where
@@ -92,7 +92,7 @@ module _ (search : ℕ → Option Match) (answer : ℕ → Option Found) (e : �
   same_list zero s = refl
   same_list (suc n) s = and_so_on n (λ k. same_after n k) (search s) (answer s) (both.same s)
 
--- ---- no more answers than places
+-- ---- no more answers than offsets
 rises_within : (e last : ℕ) (fs : List Found) → EndsRise (Some last) fs → All (λ f. f.end ≤ e) fs → length fs ≤ e - last
 rises_within e last [] rise all = omega arith
 rises_within e last (f ∷ fs) rise all =

@@ -1,4 +1,4 @@
--- Where a match may start and end, in bytes and in text.
+-- Where a match may start and end, in bytes and in UTF-8 mode.
 use Rattle.std.proofs.Common.{◌≡◌, ℕ, ◌<◌, ◌≤◌, ◌&&◌, ◌||◌, not, Bool, true, false, nat_le, nat_lt, List, length, slice_index, Option, ◌==◌}
 use Rattle.std.proofs.Common.{eq-eqb, refl, sym, ap, ◌∙◌, subst, inl, inr, arith, le-leb}
 use Rattle.std.proofs.lemmas.Bool.{cases_lt, and_from}
@@ -35,7 +35,7 @@ same_boundary h i within = elim (cases_lt i (length h)) [
       (sym (eq-eqb i (length h) (omega arith)))
 ]
 
--- whether a match may start at the place
+-- whether a match may start at the offset
 abbrev pub may_begin : Bool → List ℕ → ℕ → Bool
 may_begin false h i = true
 may_begin true h i = is_boundary h i
@@ -44,7 +44,7 @@ pub same_begin : (utf8 : Bool) (h : List ℕ) (i : ℕ) → i ≤ length h → m
 same_begin false h i within = refl
 same_begin true h i within = same_boundary h i within
 
--- a span that a tree means from a place that counts ends at one, up to the haystack's end
+-- a span that a tree means from an offset that counts ends at one, up to the haystack's end
 module _ (utf8 : Bool) (xs : List Tree) (h : List ℕ) (s : ℕ) (search : IsSearchOf xs utf8 (whole_search h s)) where
   end_counts : (x : Tree) (i j : ℕ) → (utf8 ≡ true → is_utf8_tree x ≡ true) → i ≤ length h → counts utf8 h i ≡ true →
       Means (pattern_looks h) h x i j →

@@ -1,4 +1,5 @@
--- The answer that trees define has the least start, the first pattern there, and an end that it means, whatever the loops read.
+-- The answer that trees define has the least start, the first pattern there, and an end that it means, whatever the bodies of repetitions
+-- consume.
 use Rattle.std.proofs.Common.{◌≡◌, ℕ, zero, suc, ◌+◌, ◌<◌, ◌≤◌, Bool, true, false, nat_le, List, [], ◌∷◌, ◌++◌, map, length, slice_get}
 use Rattle.std.proofs.Common.{Option, Some, None, if◌then◌else◌, refl, sym, ap, ◌∙◌, subst, inl, inr, arith, le-leb, leb-true, true≢false}
 use Rattle.std.specs.List.{filter}
@@ -159,7 +160,7 @@ module _ (looks : Looks) (h : List ℕ) (i : ℕ) (may_find kept : ℕ → Bool)
       first_or_later p y ys c cs (pattern_choices (may_find p) kept p (ends y)) (choices may_find kept (p + 1) (map ends ys)) refl some
       (λ later. choices_first (p + 1) ys c cs later)
 
--- ---- the choices at a place
+-- ---- the choices at an offset
 module _ (q : Query) where
   abbrev listed_choices : ℕ → List (ℕ × ℕ)
   listed_choices i = choices (allowed q.mode (length q.patterns)) (may_end q) 0 (pattern_ends q i)

@@ -1,4 +1,4 @@
--- Searches find the spans that the toolchain's matcher finds, where the loops read.
+-- Searches find the spans that the toolchain's matcher finds, if the body of every unbounded repetition consumes at least one byte.
 use Rattle.std.proofs.Common.{◌≡◌, ℕ, zero, suc, ◌+◌, ◌-◌, ◌≤◌, ◌<◌, Bool, true, false, nat_le, List, [], ◌∷◌, ◌++◌, map, length, All}
 use Rattle.std.proofs.Common.{Option, Some, None, option_map, slice_get, if◌then◌else◌, refl, sym, ap, ap₂, ◌∙◌, arith, inl, inr, le-leb}
 use Rattle.std.proofs.Common.{lt-ltb}
@@ -27,7 +27,7 @@ use Rattle.pattern_search.specs.Searches.{whole_search, whole_query, found_from,
 use Rattle.pattern_search.proofs.BoundaryLemmas.{may_begin, same_begin, span_may_end}
 use Rattle.pattern_search.proofs.MatchSpanLemmas.{spans_or}
 
--- ---- the ends of several trees from one place
+-- ---- the ends of several trees from one offset
 -- the first end of several lists, one after the other
 abbrev first_all : List (List ℕ) → Option ℕ
 first_all [] = None
@@ -65,7 +65,7 @@ abbrev AreKept : (ℕ → Bool) → List (List ℕ) → Type 0
 AreKept kept [] = Unit {0}
 AreKept kept (ends ∷ rest) = IsKept kept ends × AreKept kept rest
 
--- ---- the first choice at a place
+-- ---- the first choice at an offset
 abbrev span_of : Option Found → Option (ℕ × ℕ)
 span_of = option_map span_of_found
 
@@ -99,7 +99,7 @@ length-ends h i [] = refl
 length-ends h i (x ∷ xs) = ap suc (length-ends h i xs)
 
 -- ---- searches
--- what the matcher tries at a place
+-- what the matcher tries at an offset
 abbrev pub tried : Bool → List ℕ → Re → Rest
 tried utf8 h re i = if may_begin utf8 h i then attempt h re accept i else None
 
@@ -155,7 +155,7 @@ module _ (utf8 : Bool) (res : List Re) (xs : List Tree) (same : AreSameEnds res 
       ∙ ap₂ option_or (here i (tried utf8 h (alt_all res) i) ∙ sym (at_one i (omega arith))) (from n (i + 1) (omega arith))
       ∙ sym (founds-or (first_choice i (choices_at (whole_query utf8 xs h) i)) (leftmost (choices_at (whole_query utf8 xs h)) n (i + 1)))
 
-  -- behind the end of the haystack nothing is tried
+  -- after the end of the haystack nothing is tried
   none_behind : (n : ℕ) → n ≡ 0 → (b : Bool) →
       option_map span_of_match (first_from (tried utf8 h (alt_all res)) n s)
       ≡ span_of (if b then leftmost (choices_at (whole_query utf8 xs h)) n s else None)

@@ -1,21 +1,24 @@
--- What the proofs of other crates may cite of this crate, beside its definitions and its public laws.
+-- What the proofs of other crates may cite of this crate, besides its definitions and its public laws.
+--
 -- the matcher's boundaries are those of UTF-8 mode
 pub use Rattle.pattern_search.proofs.BoundaryLemmas.{same_boundary}
--- what trees define, whatever the loops read: the answer by its property, and that answers stand where they were asked for
+-- what trees define, whatever the bodies of repetitions consume: the answer by its property, and that answers lie in the span that was
+-- asked for
 pub use Rattle.pattern_search.proofs.ChoiceLemmas.{answer_is_loose}
 pub use Rattle.pattern_search.proofs.AllMatchLemmas.{within_of}
--- spans and starts whatever the loops read, and where they read what is found and all that is found
+-- spans and starts, whatever the bodies of repetitions consume; and what is found, and all that is found, if the body of every unbounded
+-- repetition consumes at least one byte
 pub use Rattle.pattern_search.proofs.StartLemmas.{spans_as_read, starts_as_read}
 pub use Rattle.pattern_search.proofs.FindLemmas.{finds_as_read}
 pub use Rattle.pattern_search.proofs.AllMatchLemmas.{all_from_start, lists_from, lists_as_read}
--- the patterns that texts are read as, with what their trees find
+-- the parsed patterns, with what their trees find
 pub use Rattle.pattern_search.proofs.ReadLemmas.{finds_what_is_written}
--- a text is read as one pattern, and the regex of what is read of it is of that pattern
+-- a pattern's bytes are parsed as one pattern, and the regex of what is parsed is of that pattern
 pub use Rattle.pattern_search.proofs.ReadLemmas.{same_patterns, one_same}
--- the texts behind references
+-- the patterns that references refer to
 pub use Rattle.pattern_search.proofs.TextLemmas.{read_texts}
--- what the matcher tries at a place, and what it finds by that
+-- what the matcher tries at an offset, and what it finds by that
 pub use Rattle.pattern_search.proofs.FindLemmas.{tried, found_is}
 pub use Rattle.pattern_search.proofs.BoundaryLemmas.{may_begin}
--- the span of what is found from a place on, place by place; nothing is found where nothing is tried; what has starts alike is alike
+-- the span of what is found from an offset on, offset by offset; nothing is found where nothing is tried; what has starts alike is alike
 pub use Rattle.pattern_search.proofs.MatchSpanLemmas.{spans, step, NoEarlier, or_later, later_from, no_class, none_spans, alike_some}

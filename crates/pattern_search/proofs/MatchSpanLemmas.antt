@@ -1,4 +1,4 @@
--- The span of what a matcher finds from a place on, by what it tries at each place.
+-- The span of what a matcher finds from an offset on, by what it tries at each offset.
 use Rattle.std.proofs.Common.{◌≡◌, ℕ, zero, suc, ◌+◌, ◌≤◌, Option, Some, None, [], option_map, if◌then◌else◌, refl, sym, ap, ap₂, ◌∙◌}
 use Rattle.std.proofs.Common.{arith}
 use Rattle.std.proofs.lemmas.Option.{none-some, same_Some}
@@ -33,7 +33,7 @@ step f n i =
     spans_or (option_map (λ t. record { start = i; trace = t }) (f i)) (first_from f n (i + 1))
     ∙ ap (λ o. option_or o (spans f n (i + 1))) (here_is i (f i))
 
--- nothing starts before the first place
+-- nothing starts before the first offset
 abbrev pub NoEarlier : ℕ → Option (ℕ × ℕ) → Type 0
 NoEarlier i o = (s : ℕ × ℕ) → o ≡ Some s → i ≤ s.0
 
@@ -58,7 +58,7 @@ unfolding first_from
 none_spans f none zero i = refl
 none_spans f none (suc n) i = step f n i ∙ ap₂ option_or (ap (option_map (λ t. (i, Trace.end t))) (none i)) (none_spans f none n (i + 1))
 
--- where starts are alike, there is either something on both sides or nothing
+-- if starts are alike, there is either something on both sides or nothing
 pub alike_some : {A B : Type 0} (f : A → ℕ) (g : B → ℕ) (x : Option A) (y : Option B) → option_map f x ≡ option_map g y →
     is_some x ≡ is_some y
 alike_some f g x y e = sym (is_some-option_map f x) ∙ ap is_some e ∙ is_some-option_map g y

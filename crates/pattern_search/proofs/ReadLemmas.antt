@@ -1,4 +1,4 @@
--- What several texts are read as, and what their trees find.
+-- What several patterns are parsed as, and what their trees find.
 use Rattle.std.proofs.Common.{◌≡◌, ℕ, ◌≤◌, List, [], ◌∷◌, length, chars, Option, Some, None, IsSomeAnd, refl, sym, ap₂, ◌∙◌, subst}
 use Rattle.regex_hir.specs.declared.hir.Hir.{Hir}
 use Rattle.regex_hir.specs.Meaning.{meaning}
@@ -19,7 +19,7 @@ use Rattle.pattern_search.proofs.AllMatchLemmas.{lists_as_read}
 use Rattle.pattern_search.proofs.FindLemmas.{finds_as_read}
 use Rattle.pattern_search.proofs.StartLemmas.{spans_as_read, starts_as_read}
 
--- what one text is read as, with its tree
+-- what one pattern is parsed as, with its tree
 one_read : (config : Config) (x : Tree) (r : Option (Nested Re × Names)) →
     IsSomeAnd r (λ (re, names). (re.depth ≤ config.nest_limit) × SameEnds re.value x × SameSpans re.value x × HasNames names x) →
     (a : Re) × IsSomeAnd r (λ (re, names). (re.depth ≤ config.nest_limit) × (re.value ≡ a)) × SameEnds a x × SameSpans a x
@@ -62,7 +62,7 @@ answers_what_is_written config ts xs s p m each =
     let r = all_read config ts xs m in
     record { patterns = r.0; are_read = r.1; answers = each r.0 r.2 r.3 }
 
--- ---- what a text is read as is one pattern
+-- ---- a pattern is parsed in one way
 one_value : {A : Type 0} (o : Option A) (of : A → Re) (D : A → Type 0) (a b : Re) →
     IsSomeAnd o (λ it. D it × (of it ≡ a)) → IsSomeAnd o (λ it. D it × (of it ≡ b)) → a ≡ b
 one_value None of D a b p q = elim p [ ]

@@ -1,4 +1,4 @@
--- Whatever the loops read: the spans of the trees are those of the patterns, and so are the starts of what is found.
+-- Whatever the bodies of repetitions consume, the spans of the trees are those of the patterns, and so are the starts of what is found.
 use Rattle.std.proofs.Common.{◌≡◌, ℕ, zero, suc, ◌≤◌, Bool, true, false, List, [], ◌∷◌, length, All, Option, Some, None, option_map}
 use Rattle.std.proofs.Common.{slice_get, if◌then◌else◌, refl, sym, ap, ◌∙◌, subst, arith, inl, inr, lt-ltb, true≢false}
 use Rattle.std.proofs.lemmas.Bool.{cases_lt}
@@ -66,7 +66,7 @@ module _ (h : List ℕ) (i j : ℕ) where
   any_of (b ∷ res) zero a listed m = inl (subst (λ r. Matches h r i j) (sym (same_Some b a listed)) m)
   any_of (b ∷ res) (suc p) a listed m = inr (any_of res p a listed m)
 
--- ---- where the matcher finds a match, a span counts, and the other way round
+-- ---- if the matcher finds a match, a span counts, and vice versa
 pub holds_of : (xs : List Tree) (p : ℕ) (x : Tree) → slice_get xs p ≡ Some x → All (λ y. is_utf8_tree y ≡ true) xs → is_utf8_tree x ≡ true
 holds_of xs p x listed all =
     subst (λ y. is_utf8_tree y ≡ true) (get_or_from_slice_get xs p x x listed) (all p x (slice_get_within xs p x listed))

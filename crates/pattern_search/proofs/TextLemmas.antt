@@ -1,4 +1,4 @@
--- Texts whose trees are made one by one.
+-- Patterns whose trees are made one by one.
 use Rattle.std.proofs.Common.{◌≡◌, ℕ, zero, suc, ◌+◌, ◌<◌, ◌≤◌, List, [], ◌∷◌, ◌++◌, map, length, take, slice_get, slice_index_or, Some}
 use Rattle.std.proofs.Common.{Bor, All, refl, sym, ap, subst, arith}
 use Rattle.std.proofs.lemmas.List.Elements.{All-append, All-cons}
@@ -8,7 +8,7 @@ use Rattle.pattern_text.specs.declared.parse_error.ParseError.{ParseError}
 use Rattle.pattern_text.specs.Patterns.{MeansText, IsFault}
 use Rattle.pattern_search.specs.Texts.{AllMean, IsFirstFault}
 
--- the texts behind references
+-- the patterns that references refer to
 abbrev pub read_texts : List (Bor (List ℕ)) → List (List ℕ)
 read_texts = map (λ (t : Bor (List ℕ)). t.now)
 
@@ -27,7 +27,7 @@ next_means config (t ∷ ts) d zero (y ∷ ys) x below m means = absurd m
 next_means config (t ∷ ts) d (suc n) [] x below m means = absurd m
 next_means config (t ∷ ts) d (suc n) (y ∷ ys) x below m means = (m.0, next_means config ts d n ys x (omega arith) m.1 means)
 
--- one more text has its tree
+-- one more pattern has its tree
 pub one_more_means : (config : Config) (ts : List (Bor (List ℕ))) (d : Bor (List ℕ)) (n : ℕ) (old new : List Tree) (x : Tree) →
     n < length ts →
     new ≡ old ++ x ∷ [] → AllMean config (take n (read_texts ts)) old → MeansText config (slice_index_or ts n d).now x →
@@ -43,7 +43,7 @@ take_all [] (suc n) above = refl
 take_all (t ∷ ts) zero above = absurd (omega arith)
 take_all (t ∷ ts) (suc n) above = ap (λ us. t.now ∷ us) (take_all ts n (omega arith))
 
--- all texts have their trees
+-- all patterns have their trees
 pub all_mean : (config : Config) (ts : List (Bor (List ℕ))) (n : ℕ) (xs : List Tree) → length ts ≤ n →
     AllMean config (take n (read_texts ts)) xs →
     AllMean config (read_texts ts) xs
@@ -54,7 +54,7 @@ pub one_more_holds : (P : Tree → Type 0) (old new : List Tree) (x : Tree) → 
 one_more_holds P old new x is each here = subst (All P) (sym is) (All-append P old (x ∷ []) each
     (All-cons P x [] here (λ k d below. absurd (omega (arith, below)))))
 
--- the first text that is refused
+-- the first pattern that is rejected
 pub first_fault : (config : Config) (ts : List (Bor (List ℕ))) (d : Bor (List ℕ)) (n : ℕ) (xs : List Tree) (e : ParseError) →
     n < length ts →
     AllMean config (take n (read_texts ts)) xs → IsFault config (slice_index_or ts n d).now e → IsFirstFault config (read_texts ts) n e

@@ -1,4 +1,4 @@
--- Which of several patterns match: those of which a walk over all ends tells one.
+-- Which of several patterns match: those of which an overlapping search over all ends reports one.
 use Rattle.std.proofs.Common.{◌≡◌, ◌↔◌, ◌⊎◌, ℕ, zero, suc, ◌<◌, ◌≤◌, ◌||◌, Bool, true, false, List, [], ◌∷◌, length, map, replicate, Option}
 use Rattle.std.proofs.Common.{Some, None, Ok, slice_get}
 use Rattle.std.proofs.Common.{if◌then◌else◌, is_some, refl, sym, ap, ◌∙◌, subst, arith, inl, inr, ⊎_elim, lt-ltb, true≢false}
@@ -24,10 +24,10 @@ use Rattle.hir_core.specs.Facts.{is_utf8_tree}
 use Rattle.hir_core.proofs.ForCallers.{span_forward, span_within, span_start_bounded}
 use Rattle.lazy_dfa.specs.Caches.{CacheValue}
 use Rattle.lazy_dfa.specs.Dfas.{Dfa}
-use Rattle.lazy_dfa.specs.WalkAnswers.{with_pattern, is_full, which_from, AnswersWhich}
+use Rattle.lazy_dfa.specs.OverlappingAnswers.{with_pattern, is_full, which_from, AnswersWhich}
 use Rattle.lazy_dfa.proofs.ForCallers.{room_kept}
 use Rattle.hirscan.specs.Regexes.{IsSearchOf}
-use Rattle.hirscan.specs.TreeWalks.{IsToldEnd}
+use Rattle.hirscan.specs.OverlappingTrees.{IsReportedEnd}
 use Rattle.pattern_text.specs.SameEnds.{pattern_looks, AreSameSpans}
 use Rattle.pattern_search.specs.Searches.{whole_search, whole_query, found_from, which_match}
 use Rattle.pattern_search.proofs.BoundaryLemmas.{may_begin, same_begin, span_counts}
@@ -35,19 +35,19 @@ use Rattle.pattern_search.proofs.FindLemmas.{tried, found_is}
 use Rattle.pattern_search.proofs.StartLemmas.{tree_at, pattern_at, holds_of}
 
 -- ---- a set has as many tests as before
-kept_from : (e : Bool) (s : List Bool) (ends : List (ℕ × ℕ)) (refusal : Option MatchErrorKind) →
-    length (which_from e s ends refusal).set ≡ length s
-kept_from e s [] refusal = refl
-kept_from e s (x ∷ xs) refusal = by (e || is_full (with_pattern s x.1)) (kept_from e (with_pattern s x.1) xs refusal)
+kept_from : (e : Bool) (s : List Bool) (ends : List (ℕ × ℕ)) (rejection : Option MatchErrorKind) →
+    length (which_from e s ends rejection).set ≡ length s
+kept_from e s [] rejection = refl
+kept_from e s (x ∷ xs) rejection = by (e || is_full (with_pattern s x.1)) (kept_from e (with_pattern s x.1) xs rejection)
   where
-    by : (b : Bool) → length (which_from e (with_pattern s x.1) xs refusal).set ≡ length (with_pattern s x.1) →
-        length (if b then (record { set = with_pattern s x.1; refusal = None }) else which_from e (with_pattern s x.1) xs refusal).set ≡
+    by : (b : Bool) → length (which_from e (with_pattern s x.1) xs rejection).set ≡ length (with_pattern s x.1) →
+        length (if b then (record { set = with_pattern s x.1; rejection = None }) else which_from e (with_pattern s x.1) xs rejection).set ≡
         length s
     by true rest = room_kept s (x ∷ [])
     by false rest = rest ∙ room_kept s (x ∷ [])
 
 pub room_of : (d : Dfa) (v : CacheValue) (q : Search) (old new : List Bool) → AnswersWhich d v q old new (Ok tt) → length new ≡ length old
-room_of d v q old new (inl told) = ap length told.1 ∙ kept_from q.earliest old _ _
+room_of d v q old new (inl reported) = ap length reported.1 ∙ kept_from q.earliest old _ _
 room_of d v q old new (inr (k, _, set, inl lacked)) = cc
 room_of d v q old new (inr (k, _, set, inr (x, gave_up, on_its_way, where_it_was))) = cc
 
@@ -87,11 +87,11 @@ module _ (utf8 : Bool) (a : Re) (h : List ℕ) where
 -- ---- a pattern and its tree
 module _ (utf8 : Bool) (res : List Re) (xs : List Tree) (same : AreSameSpans res xs) (h : List ℕ)
     (search : IsSearchOf xs utf8 (whole_search h 0)) where
-  -- an end of a span of this pattern is told
+  -- an end of a span of this pattern is reported
   abbrev IsTold : ℕ → Type 0
-  IsTold p = (j : ℕ) × IsToldEnd (whole_query utf8 xs h) 0 j p
+  IsTold p = (j : ℕ) × IsReportedEnd (whole_query utf8 xs h) 0 j p
 
-  -- a span that ends where it counts starts where it counts
+  -- a span whose end counts has a start that counts
   start_counts : (x : Tree) (i j : ℕ) → (utf8 ≡ true → is_utf8_tree x ≡ true) → i ≤ length h → counts utf8 h j ≡ true →
       Means (pattern_looks h) h x i j →
       (b : Bool) → utf8 ≡ b → counts b h i ≡ true
@@ -106,16 +106,16 @@ module _ (utf8 : Bool) (res : List Re) (xs : List Tree) (same : AreSameSpans res
   ]
 
   told_found : (p : ℕ) (a : Re) → slice_get res p ≡ Some a → IsTold p → is_some (found_from utf8 a h 0) ≡ true
-  told_found p a listed told =
-      let t = told.1 in
+  told_found p a listed reported =
+      let t = reported.1 in
       let span = t.findable.span in
       let within = (starts_at No 0 (length h) t.start t.starts).to_last in
       let b = pattern_at res xs same p span.tree span.listed in
-      let starts = start_counts span.tree t.start told.0
+      let starts = start_counts span.tree t.start reported.0
       (λ on. holds_of xs p span.tree span.listed (search.utf8_trees on)) within t.counted span.means utf8 refl in
       subst (λ r. is_some (found_from utf8 r h 0) ≡ true) (same_Some b.0 a (sym b.1 ∙ listed))
-      (some_found utf8 b.0 h t.start told.0 within (same_begin utf8 h t.start within ∙ starts)
-      ((b.2.at h search.bytes t.start told.0 within).1 span.means))
+      (some_found utf8 b.0 h t.start reported.0 within (same_begin utf8 h t.start within ∙ starts)
+      ((b.2.at h search.bytes t.start reported.0 within).1 span.means))
 
   found_told : (p : ℕ) (a : Re) → p < length xs → slice_get res p ≡ Some a → is_some (found_from utf8 a h 0) ≡ true → IsTold p
   found_told p a below listed some =
@@ -170,7 +170,7 @@ module _ (utf8 : Bool) (res : List Re) (xs : List Tree) (same : AreSameSpans res
     (search : IsSearchOf xs utf8 (whole_search h 0)) where
   pub which_is : (new : List Bool) → length new ≡ length (replicate (length xs) false) →
       ((p : ℕ) → (has new p ≡ true) ↔ ((has (replicate (length xs) false) p ≡ true) ⊎
-      ((p < length (replicate (length xs) false)) × ((j : ℕ) × IsToldEnd (whole_query utf8 xs h) 0 j p)))) →
+      ((p < length (replicate (length xs) false)) × ((j : ℕ) × IsReportedEnd (whole_query utf8 xs h) 0 j p)))) →
       new ≡ which_match utf8 res h
   which_is new room adds = same_tests new (which_match utf8 res h) rooms (λ p below. at p below)
     where
@@ -183,14 +183,14 @@ module _ (utf8 : Bool) (res : List Re) (xs : List Tree) (same : AreSameSpans res
       at : (p : ℕ) → p < length (which_match utf8 res h) → has new p ≡ has (which_match utf8 res h) p
       at p below =
           let inside : p < length xs = omega (arith, below, many) in
-          let told = mapped (λ re. is_some (found_from utf8 re h 0)) res p (omega (arith, inside, as_many res xs same)) in
+          let reported = mapped (λ re. is_some (found_from utf8 re h 0)) res p (omega (arith, inside, as_many res xs same)) in
           both_ways (has new p) (has (which_match utf8 res h) p)
-          (λ there. told.2 ∙ ⊎_elim
+          (λ there. reported.2 ∙ ⊎_elim
           (λ (was : has (replicate (length xs) false) p ≡ true). absurd (nothing_in (length xs) p was))
-          (λ (come : (p < length (replicate (length xs) false)) × ((j : ℕ) × IsToldEnd (whole_query utf8 xs h) 0 j p)).
-          told_found utf8 res xs same h search p told.0 told.1 come.1)
+          (λ (come : (p < length (replicate (length xs) false)) × ((j : ℕ) × IsReportedEnd (whole_query utf8 xs h) 0 j p)).
+          told_found utf8 res xs same h search p reported.0 reported.1 come.1)
           ((adds p).0 there))
           (λ there. (adds p).1 (inr (
             omega (arith, inside, room_for (length xs)),
-            found_told utf8 res xs same h search p told.0 inside told.1 (sym told.2 ∙ there),
+            found_told utf8 res xs same h search p reported.0 inside reported.1 (sym reported.2 ∙ there),
           )))

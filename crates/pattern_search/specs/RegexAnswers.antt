@@ -1,4 +1,4 @@
--- What a regex that is built of the trees of patterns answers, in the words of the toolchain's matcher.
+-- What a regex that is built of the trees of patterns answers, compared with the toolchain's matcher.
 use Rattle.std.specs.Prelude.{◌≡◌, ℕ, ◌+◌, ◌-◌, ◌≤◌, Bool, List, map, length, All, Option, Some, None, Ok, option_map, is_some}
 use Rattle.regex_hir.specs.Re.{Re}
 use Rattle.regex_hir.specs.Meaning.{alt_all}
@@ -16,14 +16,15 @@ use Rattle.hirscan.specs.declared.settings.Settings.{Settings}
 use Rattle.hirscan.specs.Regexes.{IsSearchOf}
 use Rattle.pattern_search.specs.Searches.{whole_search, found_from, all_found, span_of_match, span_of_found, IsOfFirstPattern}
 
--- Of searches of whole haystacks, over whatever caches: where the loops read, an answer has the span that the matcher finds, whether
--- there is a match is told as it finds one, and an iterator that came to its end has given all matches, from a place on or from the
--- start; whatever the loops read, an answer has the start that the matcher finds, and is of the first pattern that matches there.
+-- What a regex answers for searches of whole haystacks, whatever its caches hold. In any case, an answer has the start that the
+-- matcher finds, and is of the first pattern that matches there. More holds if the body of every unbounded repetition consumes at
+-- least one byte. Then an answer has the span that the matcher finds, and a test for a match is true exactly if the matcher finds
+-- one. An iterator that came to its end has then returned all matches, from an offset on or from the start.
 pub record AnswersAsRead (res : List Re) (xs : List Tree) (s : Settings) (p : Pair) : Type 0 where
   pub found : All LoopsRead xs → (h : List ℕ) (at : ℕ) → IsSearchOf xs s.utf8 (whole_search h at) → (c : PairCache) (o : Option Found) →
       AnswersPair p c (whole_search h at) (Ok o) →
       option_map span_of_match (found_from s.utf8 (alt_all res) h at) ≡ option_map span_of_found o
-  pub told : All LoopsRead xs → (h : List ℕ) (at : ℕ) → IsSearchOf xs s.utf8 (whole_search h at) → (c : PairCache) (b : Bool) →
+  pub reported : All LoopsRead xs → (h : List ℕ) (at : ℕ) → IsSearchOf xs s.utf8 (whole_search h at) → (c : PairCache) (b : Bool) →
       AnswersMatch p c (whole_search h at) (Ok b) → b ≡ is_some (found_from s.utf8 (alt_all res) h at)
   pub listed : All LoopsRead xs → (h : List ℕ) (at n : ℕ) → IsSearchOf xs s.utf8 (whole_search h at) → at ≤ length h + 1 →
       length h + 1 - at ≤ n →

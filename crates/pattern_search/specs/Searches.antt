@@ -1,5 +1,6 @@
--- What the trees of several patterns find in a whole haystack, in the words of the toolchain's matcher: `find` in any bytes, and
--- `find_str` in text, where no match starts inside a character. It takes one pattern: several are their alternation, the first preferred.
+-- What the trees of several patterns find in a whole haystack, compared with the toolchain's matcher: `find` in any bytes, and `find_str`
+-- in UTF-8, where no match starts inside a character. The matcher takes one pattern. Several patterns are their alternation, the first
+-- preferred.
 use Rattle.std.specs.Prelude.{◌≡◌, ◌↔◌, ℕ, ◌+◌, ◌-◌, ◌<◌, ◌≤◌, Bool, true, false, List, map, length, slice_get, All, Option, Some}
 use Rattle.std.specs.Prelude.{option_map, is_some}
 use Rattle.regex_hir.specs.Re.{Re}
@@ -15,7 +16,7 @@ use Rattle.hirscan.specs.LooseAnswers.{MeansSpan, IsLooseAnswer}
 use Rattle.hirscan.specs.Regexes.{IsSearchOf, query_of}
 use Rattle.pattern_text.specs.SameEnds.{pattern_looks}
 
--- a search of the whole haystack from the place s on, which may start at any place
+-- a search of the whole haystack from the offset s on, which may start at any offset
 abbrev pub whole_search : List ℕ → ℕ → Search
 whole_search h s = record { haystack = h; start = s; end = length h; anchored = No; earliest = false }
 
@@ -23,7 +24,7 @@ whole_search h s = record { haystack = h; start = s; end = length h; anchored = 
 abbrev pub whole_query : Bool → List Tree → List ℕ → Query
 whole_query utf8 xs h = query_of xs utf8 (pattern_looks h) (whole_search h 0)
 
--- what the matcher finds from the place s on, in bytes or in text
+-- what the matcher finds from the offset s on, in bytes or in UTF-8
 abbrev pub found_from : Bool → Re → List ℕ → ℕ → Option Match
 found_from false re h s = find re h s
 found_from true re h s = find_str re h s
@@ -33,7 +34,7 @@ abbrev pub all_found : Bool → Re → List ℕ → List Match
 all_found false re h = find_all re h
 all_found true re h = find_all_str re h
 
--- for each pattern, whether it finds a match of that one anywhere
+-- for each pattern, whether the matcher finds a match of it anywhere
 abbrev pub which_match : Bool → List Re → List ℕ → List Bool
 which_match utf8 res h = map (λ re. is_some (found_from utf8 re h 0)) res
 
@@ -43,7 +44,7 @@ span_of_match m = (m.start, m.trace.end)
 abbrev pub span_of_found : Found → ℕ × ℕ
 span_of_found f = (f.start, f.end)
 
--- ---- whatever the loops read
+-- ---- also with empty loops
 
 -- the pattern of this number matches the span from i to j
 pub record IsMatchOf (res : List Re) (h : List ℕ) (p i j : ℕ) : Type 0 where
@@ -51,7 +52,7 @@ pub record IsMatchOf (res : List Re) (h : List ℕ) (p i j : ℕ) : Type 0 where
   pub listed : slice_get res p ≡ Some pattern
   pub matches : Matches h pattern i j
 
--- from each place of any bytes, each pattern matches the spans that the tree in its place means, and no others
+-- from each offset of any bytes, each pattern matches the spans that the tree at its index matches, and no others
 abbrev pub SpansAsRead : List Re → List Tree → Type 0
 SpansAsRead res xs =
     (h : List ℕ) → All (λ b. b < 256) h → (utf8 : Bool) (p i j : ℕ) → i ≤ length h →
@@ -62,8 +63,8 @@ pub record IsOfFirstPattern (res : List Re) (h : List ℕ) (f : Found) : Type 0 
   pub matches : IsMatchOf res h f.pattern f.start f.end
   pub none_before : (p j : ℕ) → p < f.pattern → IsMatchOf res h p f.start j → ⊥
 
--- Where the matcher finds no match there is no answer, and where it finds one the answer has its start, and there the first pattern
--- that matches: so are an answer that the trees define but for preferred ends, and the preferred one.
+-- If the matcher finds no match, there is no answer. If it finds one, the answer has its start, and is of the first pattern that matches
+-- there. This holds for each answer that the trees define apart from preferred ends, and for the preferred one.
 pub record StartsAsRead (utf8 : Bool) (res : List Re) (xs : List Tree) : Type 0 where
   pub loose : (h : List ℕ) (s : ℕ) → IsSearchOf xs utf8 (whole_search h s) → (o : Option Found) →
       IsLooseAnswer (whole_query utf8 xs h) s o →
@@ -74,15 +75,15 @@ pub record StartsAsRead (utf8 : Bool) (res : List Re) (xs : List Tree) : Type 0 
       IsLooseAnswer (whole_query utf8 xs h) s (Some f) →
       IsOfFirstPattern res h f
 
--- ---- where the loops read
+-- ---- if the body of every unbounded repetition consumes at least one byte
 
--- the answer from each place has the span that the matcher finds, if it finds one
+-- the answer from each offset has the span that the matcher finds, if it finds one
 abbrev pub FindsAsRead : Bool → List Re → List Tree → Type 0
 FindsAsRead utf8 res xs = (h : List ℕ) (s : ℕ) → IsSearchOf xs utf8 (whole_search h s) →
     option_map span_of_match (found_from utf8 (alt_all res) h s) ≡ option_map span_of_found (answer_from (whole_query utf8 xs h) s)
 
--- All answers from each place have, in their order, the spans of all matches that the matcher's iteration gives from there, where its
--- bound on their number is no less than the number of places; so have all answers from the start on and its list of all matches.
+-- All answers from each offset have, in their order, the spans of all matches that the matcher's iteration returns from there, if its
+-- bound on their number is at least the number of offsets. All answers from the start on have the spans of its list of all matches.
 pub record ListsAsRead (utf8 : Bool) (res : List Re) (xs : List Tree) : Type 0 where
   pub from : (h : List ℕ) (s n : ℕ) → IsSearchOf xs utf8 (whole_search h s) → length h + 1 - s ≤ n →
       map span_of_match (matches_from (found_from utf8 (alt_all res) h) n (found_from utf8 (alt_all res) h s))

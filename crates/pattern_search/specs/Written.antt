@@ -1,4 +1,4 @@
--- What the trees of several texts find, in the words of what the toolchain's grammar reads in the texts.
+-- What the trees of several patterns as text find, in terms of what the toolchain's grammar reads in them.
 use Rattle.std.specs.Prelude.{ℕ, Bool, List, All}
 use Rattle.regex_hir.specs.Re.{Re}
 use Rattle.regex_syntax.specs.declared.Config.{Config}
@@ -11,7 +11,7 @@ use Rattle.pattern_search.specs.RegexAnswers.{AnswersAsRead}
 use Rattle.pattern_search.specs.Searches.{SpansAsRead, StartsAsRead, FindsAsRead, ListsAsRead}
 use Rattle.pattern_search.specs.Texts.{AreReadAs}
 
--- The texts are patterns, and each tree prefers the ends and has the spans of the pattern in its place. So searches for the trees find
+-- Each text is a pattern, and each tree prefers the ends and has the spans of the pattern at its index. So searches for the trees find
 -- what the patterns match.
 pub record FindsWhatIsWritten (config : Config) (texts : List (List ℕ)) (xs : List Tree) : Type 0 where
   pub patterns : List Re
@@ -23,7 +23,7 @@ pub record FindsWhatIsWritten (config : Config) (texts : List (List ℕ)) (xs : 
   pub finds : All LoopsRead xs → (utf8 : Bool) → FindsAsRead utf8 patterns xs
   pub lists : All LoopsRead xs → (utf8 : Bool) → ListsAsRead utf8 patterns xs
 
--- the texts are patterns, and a regex that is built of the trees answers what these match
+-- each text is a pattern, and a regex that is built of the trees answers what these patterns match
 pub record AnswersWhatIsWritten (config : Config) (texts : List (List ℕ)) (xs : List Tree) (s : Settings) (p : Pair) : Type 0 where
   pub patterns : List Re
   pub are_read : AreReadAs config texts patterns

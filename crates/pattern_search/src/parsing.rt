@@ -10,16 +10,16 @@ use std::alloc::Global;
 use std::error::Error;
 use std::fmt;
 
-/// Why texts have no trees.
+/// Why there are no trees for several patterns: the error of one of them.
 #[derive(Clone, Copy, Debug, PartialEq, Eq)]
-pub struct TextError {
-    /// The number of the text, counted from 0.
+pub struct PatternError {
+    /// The number of the pattern, counted from 0.
     pub number: usize,
     /// What is wrong with it, and where in it.
     pub error: ParseError,
 }
 
-/// The tree of a text, behind those before it.
+/// Appends the tree of a pattern to those before it.
 fn push(alloc: Global, trees: &mut Vec<Hir>, text: &str, config: &Config) -> Result<(), ParseError>
     ensures pushed { OnOk result ((x : Tree) × (trees.new.items ≡ trees.old.items ++ x ∷ []) × MeansText config.now text.now x
         × (IsTrue config.now.utf8 → IsTrue (is_utf8_tree x))
@@ -33,9 +33,9 @@ fn push(alloc: Global, trees: &mut Vec<Hir>, text: &str, config: &Config) -> Res
     }
 }
 
-/// The trees of texts, one for each and in their order. Where a text is refused, the first that is refused
-/// is told, by its number from 0.
-pub fn parse_all(alloc: Global, texts: &[&str], config: &Config) -> Result<Vec<Hir>, TextError>
+/// The trees of patterns, one for each and in their order. If a pattern is rejected, the error is that of the
+/// first rejected one, with its number, counted from 0.
+pub fn parse_all(alloc: Global, texts: &[&str], config: &Config) -> Result<Vec<Hir>, PatternError>
     ensures means { IfOk result (λ xs. AllMean config.now (map (λ t. t.now) texts.now) xs.items) }
     ensures utf8 { IsTrue config.now.utf8 → IfOk result (λ xs. All (λ x. IsTrue (is_utf8_tree x)) xs.items) }
     ensures heights { IfOk result (λ xs. All (λ x. height x ≤ 5 * config.now.nest_limit + 5) xs.items) }
@@ -45,18 +45,18 @@ pub fn parse_all(alloc: Global, texts: &[&str], config: &Config) -> Result<Vec<H
     for (number, text) in texts.iter().enumerate() {
         match push(alloc, &mut trees, text, config) {
             Ok(()) => {}
-            Err(error) => return Err(TextError { number, error }),
+            Err(error) => return Err(PatternError { number, error }),
         }
     }
     Ok(trees)
 }
 
-impl fmt::Display for TextError {
+impl fmt::Display for PatternError {
     fn fmt<W: fmt::Write>(&self, f: &mut fmt::Formatter<W>) -> fmt::Result {
         let number = self.number;
         let error = self.error;
-        write!(f, "text {number}: {error}")
+        write!(f, "pattern {number}: {error}")
     }
 }
 
-impl Error for TextError {}
+impl Error for PatternError {}

@@ -1,4 +1,4 @@
--- Both read the same character at a place.
+-- Both read the same character at an offset.
 use Rattle.std.proofs.Common.{◌≡◌, ℕ, ◌+◌, ◌<◌, Bool, List, ◌++◌, drop, slice_get, Option, Some, None, option_and_then, refl, sym, subst}
 use Rattle.std.proofs.Common.{ap, ap₂, ◌∙◌, if◌then◌else◌}
 use Rattle.std.proofs.lemmas.Option.{slice_get_within, get_or_from_slice_get}

@@ -36,7 +36,7 @@ bytes_ascend m n (r ∷ rs) le e =
     (λ e. bytes_ascend (min r.1 0xFF + 1) (r.1 + 2) rs (omega arith) p.3)
     (λ e. bytes_ascend m (r.1 + 2) rs (omega (arith, p.0, p.1)) p.3)
 
--- what is below and above the surrogates, before ranges that ascend from behind
+-- what is below and above the surrogates, before ranges that ascend from there
 scalars_step : (m : ℕ) (r : ℕ × ℕ) (rest : List (ℕ × ℕ)) → m ≤ r.0 → r.0 ≤ r.1 →
     ((k : ℕ) → k ≤ r.1 + 2 → ours.rises_from k rest ≡ true) → ours.rises_from m (below_surrogates r ++ (above_surrogates r ++ rest)) ≡ true
 scalars_step m r rest p q more =
@@ -56,7 +56,7 @@ scalars_ascend m n (r ∷ rs) le e =
     let p = fits n r (rises_from (r.1 + 2) rs) e in
     scalars_step m r (without_surrogates rs) (omega (arith, p.0)) p.1 (λ k le. scalars_ascend k (r.1 + 2) rs le p.3)
 
--- a character is a member of what is left just where it was one
+-- a character is a member of what is left if and only if it was one
 member_if : (b : Bool) (x : ℕ × ℕ) (rest : List (ℕ × ℕ)) (c : ℕ) →
     is_member ((if b then x ∷ [] else []) ++ rest) c ≡ ((b && (nat_le x.0 c && nat_le c x.1)) || is_member rest c)
 member_if true x rest c = refl
@@ -65,7 +65,7 @@ member_if false x rest c = refl
 byte_side : (a b c : ℕ) → c < 256 → (nat_le a (min b 0xFF) && (nat_le a c && nat_le c (min b 0xFF))) ≡ (nat_le a c && nat_le c b)
 byte_side a b c byte = grind (arith, nat_tests)
 
--- and a byte is a member just where it was one
+-- and a byte is a member if and only if it was one
 pub same_members : (rs : List (ℕ × ℕ)) (b : ℕ) → b < 256 → in_ranges rs b ≡ is_member (cut_to_bytes rs) b
 unfolding in_ranges in_range
 same_members [] b byte = refl

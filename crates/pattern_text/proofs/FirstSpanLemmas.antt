@@ -10,7 +10,7 @@ use Rattle.hir_core.specs.PreferredEnds.{preferred_ends}
 use Rattle.pattern_text.specs.SameEnds.{pattern_looks, trace_end, first_that_goes_on, SameEnds}
 use Rattle.pattern_text.specs.FirstSpan.{IsFirstSpan}
 
--- where nothing follows, the first end is taken
+-- if nothing follows, the first end is taken
 first_taken : (ends : List ℕ) → first_that_goes_on (λ j. trace_end (accept j)) ends ≡ slice_get ends 0
 first_taken [] = refl
 first_taken (j ∷ ends) = refl

@@ -1,4 +1,5 @@
--- Why ends are the same only where loops read: a row that tells the toolchain's loops and those of trees apart.
+-- Why ends are the same only if the body of every unbounded repetition consumes at least one byte: a row in which the toolchain's loops and
+-- those of trees differ.
 use Rattle.std.proofs.Common.{◌≡◌, true, false, [], ◌∷◌, Some, None, nat_eq, refl, if◌then◌else◌}
 use Rattle.regex_hir.specs.Text.{has_bytes_at}
 use Rattle.regex_hir.specs.Re.{Re, Rest, attempt, accept, rounds}
@@ -8,7 +9,7 @@ use Rattle.hir_core.specs.Tree as tree
 use Rattle.hir_core.specs.PreferredEnds.{preferred_ends}
 use Rattle.pattern_text.specs.SameEnds.{trace_end, first_that_goes_on}
 
--- `(?:|a)*` on "aa", where what follows refuses 0: the pattern goes on from 2
+-- `(?:|a)*` on "aa", if what follows doesn't accept 0: the pattern goes on from 2
 abbrev loop : Re
 loop = meaning.at_least true 0 (re.alt re.empty (re.literal (97 ∷ [])))
 

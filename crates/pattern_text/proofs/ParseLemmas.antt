@@ -1,4 +1,4 @@
--- From what the toolchain's parser tells to what is told of trees and refusals.
+-- From what the toolchain's parser returns to what is said of trees and errors.
 use Rattle.std.proofs.Common.{◌≡◌, ◌≢◌, ℕ, ◌≤◌, ◌+◌, ◌*◌, arith, List, length, chars, Option, Some, None, IsSomeAnd, ap, sym, ◌∙◌, subst}
 use Rattle.std.proofs.Common.{option_map, ⊎_elim, refl, Bool, true, false, IsTrue, true≢false}
 use Rattle.regex_hir.specs.Re.{Re, attempt}
@@ -23,7 +23,7 @@ use Rattle.pattern_text.proofs.TranslatedLemmas.{same_ends, same_spans, keeps_na
 pub refused_for : (config : Config) (text : List ℕ) (kind : ErrorKind) → kind ≢ OutOfMemory → Refuses config text kind →
     IsTextRefused config text kind
 unfolding Refuses IsTextRefused
-refused_for config text kind other refuses = ⊎_elim (λ memory. absurd (other memory)) (λ told. told) refuses
+refused_for config text kind other refuses = ⊎_elim (λ memory. absurd (other memory)) (λ reported. reported) refuses
 
 outcome_ends : (o : Option _) → option_map (λ (p : ℕ × (ℕ → Option ℕ)). p.0) (outcome o) ≡ trace_end o
 unfolding outcome
@@ -60,7 +60,7 @@ unfolding Reads MeansText
 means_text config text hir names x reads is =
     subst (MeansText config text) (sym is) (carried config hir names (read config (chars text)) reads)
 
--- where the option is on, the tree is seen to be UTF-8
+-- if the option is on, the tree is seen to be UTF-8
 pub utf8_tree : (utf8 : Bool) (hir : Hir) (names : Names) (x : Tree) → IsTrue utf8 → IsWellFormed utf8 hir → x ≡ translated names hir →
     IsTrue (is_utf8_tree x)
 utf8_tree true hir names x on formed is = subst (λ (t : Tree). IsTrue (is_utf8_tree t)) (sym is) (is_text names hir formed)

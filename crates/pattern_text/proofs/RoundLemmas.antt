@@ -1,4 +1,4 @@
--- Repetitions of a pattern and of a tree have the same spans, whether their rounds read or not.
+-- Repetitions of a pattern and of a tree have the same spans, whether their rounds consume a byte or not.
 use Rattle.std.proofs.Common.{◌≡◌, ℕ, zero, suc, ◌+◌, ◌-◌, ◌≤◌, Bool, true, false, List, length, max, Option, Some, None, option_map, refl}
 use Rattle.std.proofs.Common.{sym, ap, subst, arith, inl, inr, ⊎_elim, ◌⊎◌}
 use Rattle.std.specs.Option.{ForSome}
@@ -46,7 +46,7 @@ module _ (R : ℕ → ℕ → Type 0) where
   to_plus zero i j r = one_round j (subst (R i) r.2 r.1)
   to_plus (suc n) i j r = before i r.0 j r.1 (to_plus n r.0 j r.2)
 
--- rounds carried along, from the places of the haystack on which they stay
+-- rounds carried along, from the offsets of the haystack on which they stay
 along_rounds : (R S : ℕ → ℕ → Type 0) (last : ℕ) → ((i j : ℕ) → i ≤ last → R i j → S i j × (j ≤ last)) → (n i j : ℕ) → i ≤ last →
     Rounds R n i j → Rounds S n i j
 along_rounds R S last step zero i j w r = r
@@ -121,7 +121,7 @@ module _ (h : List ℕ) (a : Re) where
       let p = parted (Matches h a) min (suc (n - suc min)) n i j rest r in
       to_copies min (re.plus greedy a) i p.0 j p.1 (to_plus (Matches h a) (n - suc min) p.0 j p.2)
 
-  -- as many rounds as are owed, where the bound is less
+  -- as many rounds as are owed, if the bound is less
   pub of_repeat : (min : ℕ) (most : Option ℕ) (greedy : Bool) (i j : ℕ) → Matches h (meaning.repeat min most greedy a) i j →
       RoundsFrom (Matches h a) min (option_map (λ n. max n min) most) i j
   unfolding meaning.repeat

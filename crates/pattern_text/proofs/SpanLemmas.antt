@@ -17,7 +17,7 @@ use Rattle.hir_core.proofs.ForCallers.{preferred_ends_sound, preferred_ends_comp
 use Rattle.pattern_text.specs.SameEnds.{pattern_looks, trace_end, first_that_goes_on, SameEnds, SameSpans}
 
 -- ---- a span is an end that what follows takes, and no other
--- what follows takes one place alone
+-- what follows takes one offset alone
 abbrev only : ℕ → Rest
 only j l = if l == j then accept l else None
 
@@ -31,13 +31,13 @@ some_end : (o : Option Trace) → is_some (trace_end o) ≡ is_some o
 some_end None = refl
 some_end (Some t) = refl
 
--- an outcome is there where a trace is
+-- an outcome exists if a trace does
 pub some_outcome : (o : Option Trace) → is_some (outcome o) ≡ is_some o
 unfolding outcome
 some_outcome None = refl
 some_outcome (Some t) = refl
 
--- one of the ends is the place just where what follows takes one
+-- one of the ends is the offset if and only if what follows takes one
 first_has : (j : ℕ) (ends : List ℕ) → IsSome (first_that_goes_on (λ l. trace_end (only j l)) ends) → Has ends j
 first_has j [] h = absurd (true≢false (sym h))
 first_has j (l ∷ ends) h =
@@ -82,7 +82,7 @@ spans_of_captures a b x same s = record {
       (λ m. q.0 (p.1 m), λ m. p.0 (q.1 m));
 }
 
--- where loops read, the same ends are the same spans; the leaves of trees have no loops
+-- if the body of every unbounded repetition consumes at least one byte, the same ends are the same spans; the leaves of trees have no loops
 pub spans_of_ends : (a : Re) (x : Tree) → LoopsRead x → SameEnds a x → SameSpans a x
 spans_of_ends a x loops s = record {
   at = λ h bytes i j within.

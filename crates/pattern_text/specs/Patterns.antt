@@ -1,4 +1,4 @@
--- What the tree of a text is, and which texts have none.
+-- Which tree a pattern as text has, and which ones are rejected.
 use Rattle.std.specs.Prelude.{◌≡◌, ◌≢◌, ◌⊎◌, ℕ, ◌<◌, ◌≤◌, List, None, chars, IsSomeAnd, IfSome, IsCharBoundary, ⊤}
 use Rattle.regex_syntax.specs.declared.Config.{Config}
 use Rattle.regex_syntax.specs.declared.error.Span.{Span}
@@ -22,11 +22,11 @@ IsTextRefused config text kind =
     (read config (chars text) ≡ None)
     ⊎ ((kind ≡ NestLimitExceeded) × IfSome (read config (chars text)) (λ (re, _). config.nest_limit < re.depth))
 
--- the place is a part of the text, from one character to another
+-- the span is a part of the text, from one character boundary to another
 abbrev pub LiesIn : List ℕ → Span → Type 0
 LiesIn text place = (place.start ≤ place.end) × IsCharBoundary text place.start × IsCharBoundary text place.end
 
--- a refusal is one of the grammar, for a cause in the text, with its place; no memory says nothing of the text
+-- an error is one of the grammar, for a cause in the text, with its span; out of memory says nothing about the text
 abbrev pub IsFault : Config → List ℕ → ParseError → Type 0
 IsFault config text NoMemory = ⊤
 IsFault config text (Refused kind place) = (kind ≢ OutOfMemory) × IsTextRefused config text kind × LiesIn text place

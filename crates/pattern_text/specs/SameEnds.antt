@@ -21,22 +21,23 @@ pattern_looks h = holds is_word_char (one_of 10) h
 abbrev pub trace_end : Option Trace → Option ℕ
 trace_end = option_map (λ t. t.end)
 
--- what follows at the first of the places from which it goes on
+-- what follows at the first of the offsets from which it goes on
 abbrev pub first_that_goes_on : (ℕ → Option ℕ) → List ℕ → Option ℕ
 first_that_goes_on k [] = None
 first_that_goes_on k (j ∷ js) = option_or (k j) (first_that_goes_on k js)
 
--- On every haystack of bytes, from every place and whatever follows, the pattern goes on from the first end of the tree
--- from which that goes on. The toolchain's loops leave where a round reads nothing, so the loops of the tree have to read.
+-- On every haystack of bytes, from every offset and whatever follows, the pattern goes on from the first end of the tree
+-- from which that goes on. The toolchain's loops end at an empty round, so the body of every unbounded repetition of the
+-- tree has to consume at least one byte.
 pub record SameEnds (re : Re) (x : Tree) : Type 0 where
   pub at : (h : List ℕ) → All (λ b. b < 256) h → LoopsRead x → (k : Rest) (i : ℕ) → i ≤ length h →
       trace_end (attempt h re k i) ≡ first_that_goes_on (λ j. trace_end (k j)) (preferred_ends (pattern_looks h) h x i)
 
--- on every haystack of bytes both have the same spans, whatever the loops read
+-- on every haystack of bytes both have the same spans, also if there are empty loops
 pub record SameSpans (re : Re) (x : Tree) : Type 0 where
   pub at : (h : List ℕ) → All (λ b. b < 256) h → (i j : ℕ) → i ≤ length h → Matches h re i j ↔ Means (pattern_looks h) h x i j
 
--- the same of each pattern of a list and the tree in its place
+-- the same for each pattern of a list and the tree at its index
 abbrev pub AreSameEnds : List Re → List Tree → Type 0
 AreSameEnds [] [] = ⊤
 AreSameEnds (a ∷ bs) (x ∷ xs) = SameEnds a x × AreSameEnds bs xs
@@ -47,7 +48,7 @@ AreSameSpans [] [] = ⊤
 AreSameSpans (a ∷ bs) (x ∷ xs) = SameSpans a x × AreSameSpans bs xs
 AreSameSpans _ _ = ⊥
 
--- each group of the tree has the name at its index, or none where none stands there
+-- each group of the tree has the name at its index, or none if there is none
 abbrev pub HasNames : Names → Tree → Type 0
 HasNames names (capture index name x) = (name ≡ name_at names index) × HasNames names x
 HasNames names (repetition min most greedy x) = HasNames names x

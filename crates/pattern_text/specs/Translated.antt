@@ -15,7 +15,7 @@ use Rattle.hir_core.specs.Tree.{Tree, concat, alternation}
 use Rattle.hir_core.specs.Tree as tree
 use Rattle.pattern_text.specs.Cut.{cut_to_bytes, without_surrogates}
 
--- the look that an assertion is
+-- the look for an assertion
 abbrev pub translated_look : Assertion → Look
 translated_look assertion.Start = Start
 translated_look assertion.End = End
@@ -40,7 +40,8 @@ translated_look assertion.WordEndHalfUnicode = WordEndHalfUnicode
 abbrev pub name_at : Names → ℕ → Option (List ℕ)
 name_at names index = slice_index_or names index None
 
--- one node, with the tree of each child in its place; a bound below the rounds that are owed is raised to them
+-- one node, with each child replaced by its tree; an upper bound below the minimum number of rounds is raised
+-- to that number
 abbrev pub node_tree : Names → Hir-F Tree → Tree
 node_tree names Hir-F.Empty = tree.empty
 node_tree names (Hir-F.Literal bytes) = tree.literal bytes.items

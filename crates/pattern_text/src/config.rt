@@ -3,8 +3,8 @@ ghost use Rattle.regex_syntax.specs.Verdict.{default_config};
 
 use std::marker::Model;
 
-/// How a text is read, by the names that `regex::RegexBuilder` gives its options. A flag in the text, as
-/// `(?i)`, goes before the option from there on.
+/// How a pattern is read, by the names that `regex::RegexBuilder` gives its options. A flag in the pattern,
+/// as `(?i)`, overrides the option from there on.
 ///
 /// A line ends at a line feed, or as [`crlf`](Config::crlf) says: the grammar knows no other terminator.
 #[derive(Clone, Copy, Debug)]
@@ -79,7 +79,8 @@ impl Config {
         self
     }
 
-    /// Whether white space and comments in the text are passed over, as the flag `x`. Off where it isn't set.
+    /// Whether white space and comments in the pattern are ignored, as by the flag `x`. Off where it isn't
+    /// set.
     pub fn ignore_whitespace(mut self, yes: bool) -> Config
         ensures { result ≡ record self { flags = record (self.flags) { ignore_whitespace = yes } } }
     {
@@ -95,8 +96,8 @@ impl Config {
         self
     }
 
-    /// Whether a text is refused that may match bytes which are no UTF-8, as the builder for `&str` refuses
-    /// it. On where it isn't set; off is the builder for bytes.
+    /// Whether a pattern is rejected that may match bytes which aren't UTF-8, as the builder for `&str`
+    /// rejects it. On where it isn't set; off is the builder for bytes.
     pub fn utf8(mut self, yes: bool) -> Config
         ensures { result ≡ record self { utf8 = yes } }
     {
@@ -114,7 +115,7 @@ impl Config {
     }
 
     /// How deep groups, classes and repetitions may nest. 250 where it isn't set. Calls nest as deep as the
-    /// text does, so a higher limit needs a stack to match.
+    /// pattern does, so a higher limit needs a larger stack.
     pub fn nest_limit(mut self, limit: u32) -> Config
         ensures { result ≡ record self { nest_limit = limit } }
     {

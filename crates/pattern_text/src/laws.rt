@@ -26,26 +26,28 @@ ghost use Rattle.pattern_text.specs.Translated.{translated};
 ghost use Rattle.pattern_text.specs.FirstSpan.{IsFirstSpan};
 ghost use Rattle.pattern_text.specs.SameEnds.{pattern_looks, SameEnds, SameSpans, AreSameEnds, AreSameSpans, HasNames};
 
-/// The tree of a pattern prefers the ends that the pattern does where its loops read, has the same spans
-/// whatever they read, and its groups have the names that stand at their indices.
+/// The tree of a pattern has the same spans as the pattern, also if it has empty loops. If the body of each
+/// of its unbounded repetitions consumes at least one byte, it prefers the ends that the pattern does. Its
+/// groups have the names at their indices.
 pub fn trees_mean_what_patterns_do()
     ensures ends { (names : Names) (p : Pattern) → SameEnds (meaning p) (translated names p) }
     ensures spans { (names : Names) (p : Pattern) → SameSpans (meaning p) (translated names p) }
     ensures named { (names : Names) (p : Pattern) → HasNames names (translated names p) }
 {}
 
-/// The tree of a pattern that matches UTF-8 alone is seen to be UTF-8.
+/// If a pattern matches only UTF-8, the facts of its tree say so.
 pub fn trees_of_utf8_patterns_are_utf8()
     ensures { (names : Names) (p : Pattern) → IsWellFormed true p → IsTrue (is_utf8_tree (translated names p)) }
 {}
 
-/// Where the loops of a tree read, the same ends are the same spans.
+/// If the body of every unbounded repetition of a tree consumes at least one byte, the same ends mean the
+/// same spans.
 #[tactic(auto, using(crate::proofs::SpanLemmas::spans_of_ends))]
 pub fn same_ends_are_same_spans()
     ensures { (a : Re) (x : Tree) → LoopsRead x → SameEnds a x → SameSpans a x }
 {}
 
-/// Parts that prefer the same ends make wholes that do.
+/// If parts prefer the same ends, so do the wholes made of them.
 #[tactic(auto, using(crate::proofs::SameEndsLemmas::same_literal, crate::proofs::SameEndsLemmas::same_bytes, crate::proofs::CharLemmas::same_chars, crate::proofs::SameEndsLemmas::same_cat, crate::proofs::SameEndsLemmas::same_alt, crate::proofs::SameEndsLemmas::same_group, crate::proofs::LoopLemmas::same_repetition))]
 pub fn parts_agree()
     ensures literal { (bytes : List ℕ) → SameEnds (re.literal bytes) (tree.literal bytes) }
@@ -60,7 +62,7 @@ pub fn parts_agree()
         SameEnds (repeat min max greedy a) (tree.repetition min max greedy x) }
 {}
 
-/// Parts that have the same spans make wholes that do, whatever their rounds read.
+/// If parts have the same spans, so do the wholes made of them, also if rounds are empty.
 #[tactic(auto, using(crate::proofs::SpanLemmas::spans_cat, crate::proofs::SpanLemmas::spans_alt, crate::proofs::SpanLemmas::spans_group, crate::proofs::RoundLemmas::spans_repetition))]
 pub fn spans_of_parts_agree()
     ensures cat { (a b : Re) (x y : Tree) → SameSpans a x → SameSpans b y → SameSpans (re.cat a b) (tree.cat x y) }
@@ -71,7 +73,7 @@ pub fn spans_of_parts_agree()
         SameSpans (repeat min max greedy a) (tree.repetition min max greedy x) }
 {}
 
-/// Lists of parts, one after the other or as a choice, agree where each part does. So several texts are one
+/// Lists of parts, one after the other or as a choice, agree if each part does. So several patterns are one
 /// tree: the alternation of their trees.
 #[tactic(auto, using(crate::proofs::ListLemmas::same_concat, crate::proofs::ListLemmas::same_alternation, crate::proofs::ListLemmas::spans_concat, crate::proofs::ListLemmas::spans_alternation))]
 pub fn lists_of_parts_agree()
@@ -81,8 +83,9 @@ pub fn lists_of_parts_agree()
     ensures alternation_spans { (rs : List Re) (xs : List Tree) → AreSameSpans rs xs → SameSpans (alt_all rs) (alternation xs) }
 {}
 
-/// Where loops read, the toolchain's search finds the first place at which the tree has a span, and there the
-/// end that the tree prefers; it finds none where the tree has none.
+/// Precondition: the body of every unbounded repetition consumes at least one byte. Then the toolchain's
+/// search finds the first offset at which the tree has a span, and there the end that the tree prefers. If
+/// the tree has no span, the search finds none.
 pub fn searches_find_the_first_preferred_span()
     ensures found { (re : Re) (x : Tree) → SameEnds re x → (h : List ℕ) → All (λ b. b < 256) h → LoopsRead x →
         (s : ℕ) (m : Match) → find re h s ≡ Some m → IsFirstSpan h x s m.start m.trace.end }

@@ -1,9 +1,9 @@
-//! Patterns as text: what is written in the syntax of the crate `regex`, as a tree.
+//! Patterns as text in the syntax of the crate `regex`, and their expression trees.
 //!
-//! [`parse`] reads a text with the options of a [`Config`] and answers the tree of what the grammar of the
-//! toolchain's `regex_syntax` reads, or why it is refused and where; [`tree_of`] makes the tree of a pattern
-//! that is parsed already. What a text means is defined in `specs/`: `Patterns.antt` and `SameEnds.antt`, with
-//! laws in [`laws`].
+//! [`parse`] reads a pattern with the options of a [`Config`]. It returns the tree of what the grammar of the
+//! toolchain's `regex_syntax` reads, or why the pattern is rejected and where. [`tree_of`] makes the tree of a
+//! pattern that is parsed already. `Patterns.antt` and `SameEnds.antt` in `specs/` define what a pattern as
+//! text means, with laws in [`laws`].
 //! ```rust
 //! pub fn in_either_case(alloc: Global, text: &str) -> Result<Hir, ParseError> {
 //!     parse(alloc, text, &Config::new().case_insensitive(true))

@@ -9,12 +9,12 @@ use regex_syntax::{ErrorKind, Span};
 use std::error::Error;
 use std::fmt;
 
-/// Why a text has no tree.
+/// Why a pattern has no tree.
 #[derive(Clone, Copy, Debug, PartialEq, Eq)]
 pub enum ParseError {
-    /// There is no memory left.
+    /// An allocation failed.
     NoMemory,
-    /// The text is no pattern, or one that nests too deep.
+    /// The text isn't a pattern, or it nests too deep.
     Refused {
         /// What is wrong with it.
         kind: ErrorKind,
@@ -24,7 +24,7 @@ pub enum ParseError {
 }
 
 impl ParseError {
-    /// What the toolchain's parser tells.
+    /// The error for one of the toolchain's parser.
     pub(crate) fn of_parser(error: regex_syntax::Error) -> ParseError
         ensures memory { result ≡ NoMemory → error.kind ≡ OutOfMemory }
         ensures fault { (config : Options) (text : List ℕ) → Refuses config text error.kind → LiesIn text error.span →

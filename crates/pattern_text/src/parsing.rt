@@ -8,7 +8,7 @@ use crate::trees::tree_of;
 use hir_core::Hir;
 use std::alloc::Global;
 
-/// The tree of a pattern that is written as text, in the syntax of the crate `regex`.
+/// The tree of a pattern, which is written in the syntax of the crate `regex`.
 pub fn parse(alloc: Global, pattern: &str, config: &Config) -> Result<Hir, ParseError>
     ensures means { IfOk result (λ x. MeansText config.now pattern.now x) }
     ensures utf8 { IsTrue config.now.utf8 → IfOk result (λ x. IsTrue (is_utf8_tree x)) }

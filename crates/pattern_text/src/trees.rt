@@ -7,9 +7,9 @@ use hir_core::Hir;
 use regex_hir::Hir as Pattern;
 use std::alloc::{AllocError, Global};
 
-/// The tree of a parsed pattern, part by part. A group has the name that stands at its index, if there is one.
-/// Refused only for want of memory. What the tree means is told by
-/// [`trees_mean_what_patterns_do`](crate::laws::trees_mean_what_patterns_do).
+/// The tree of a parsed pattern, part by part. A group has the name at its index, if there is one. The call
+/// fails only if it is out of memory.
+/// [`trees_mean_what_patterns_do`](crate::laws::trees_mean_what_patterns_do) says what the tree means.
 #[cycle(tree_of)]
 pub fn tree_of(
     alloc: Global,
@@ -60,7 +60,7 @@ fn trees_of(
     Ok(trees)
 }
 
-/// The bound, raised to `min` where it is less: a round that is owed is made.
+/// The upper bound, raised to `min` if it is less: the minimum number of rounds is always made.
 fn at_least(min: u32, most: Option<u32>) -> Option<u32>
     ensures { result ≡ option_map (λ n. max n min) most }
 {

@@ -19,7 +19,7 @@ error e = Err e
 refused : (d : Dfa) (e : BuildError) (P : Type 0) → of d ≡ error e → P
 refused d e P is = let never : true ≡ false = cc in absurd (grind (arith, never))
 
--- what is built of two tests that may refuse it
+-- what is built of two tests that may reject it
 kept_by : (b s : Bool) (e f : BuildError) (d g : Dfa) → Ok d ≡ (if b then Err e else if s then Err f else Ok g) → d ≡ g
 kept_by true s e f d g is = refused d e (d ≡ g) is
 kept_by false true e f d g is = refused d f (d ≡ g) is

@@ -1,4 +1,4 @@
--- Searches over a done span: their halves make no pass, so none needs to be made.
+-- Searches over a done span: their halves make no scan, so none needs to be made.
 use Rattle.std.proofs.Common.{◌≡◌, ℕ, ◌-◌, ◌<◌, Bool, true, false, List, [], ◌∷◌, None, Ok, refl, sym, ap}
 use Rattle.std.proofs.Common.{◌∙◌, inl, subst, arith, if◌then◌else◌}
 use Rattle.std.specs.Bool.{IsTrue}
@@ -8,10 +8,10 @@ use Rattle.search_types.specs.Modes.{is_anchored}
 use Rattle.lazy_dfa.specs.Changes.{unchanged}
 use Rattle.lazy_dfa.specs.Caches.{CacheValue}
 use Rattle.lazy_dfa.specs.Dfas.{Dfa, reader}
-use Rattle.lazy_dfa.specs.Linked.{AreLinked, passes_on, passes_of}
-use Rattle.lazy_dfa.specs.ScanLaws.{begins_at}
-use Rattle.lazy_dfa.specs.SearchAnswers.{told, told_of, told_by}
-use Rattle.lazy_dfa.specs.SearchPromises.{MakesHalf, TellsHalf, half_made}
+use Rattle.lazy_dfa.specs.Linked.{AreLinked, scans_on, scans_of}
+use Rattle.lazy_dfa.specs.HalfSearchLaws.{begins_at}
+use Rattle.lazy_dfa.specs.SearchAnswers.{reported, progress_of, progress_by}
+use Rattle.lazy_dfa.specs.SearchPromises.{MakesHalf, ReportsHalf, half_made}
 use Rattle.lazy_dfa.proofs.ForCallers.{scan_done}
 use Rattle.regex_pair.specs.MadeSearches.{MakesMatch, MakesPair}
 use Rattle.regex_pair.specs.Matching.{match_search}
@@ -29,35 +29,35 @@ is_over b s e f is = f.0 is
 pub not_done : (b : Bool) (s e : ℕ) (P : Type 0) → (IsTrue b ↔ (e < s)) → b ≡ false → e < s → P
 not_done b s e P f is past = let t = f.1 past in absurd (grind (arith, t, is))
 
--- a half search over it finds none, and its cache is told nothing
+-- a half search over it finds none, and reports nothing to its cache
 module _ (d : Dfa) (q : Search) (v : CacheValue) (m n : ℕ) (past : q.end < q.start) where
   abbrev passes_begun : List (ℕ × ℕ)
   passes_begun =
       if is_anchored q.anchored
       then (q.end - q.start, begins_at (reader d) q) ∷ []
-      else passes_on (reader d) q.anchored q.earliest q.haystack (q.end - q.start) (begins_at (reader d) q)
+      else scans_on (reader d) q.anchored q.earliest q.haystack (q.end - q.start) (begins_at (reader d) q)
 
-  no_passes : passes_of (reader d) q ≡ []
+  no_passes : scans_of (reader d) q ≡ []
   no_passes = ap (λ (b : Bool). if b then passes_begun else []) (lt-leb q.start q.end past)
 
-  tells_nothing : TellsHalf d q v v (answer None)
+  tells_nothing : ReportsHalf d q v v (answer None)
   tells_nothing = record {
-    told = λ same less. sym (ap (told_by (reader d) q (told_of v)) no_passes);
-    left_told = tt;
+    reported = λ same less. sym (ap (progress_by (reader d) q (progress_of v)) no_passes);
+    left_progress = tt;
     told_since = λ changed. absurd (changed refl);
     changes = unchanged v (half_made (reader d) q) refl;
   }
 
   pub no_half : MakesHalf d q v v m m n n (answer None)
   no_half = record {
-    answer = inl (sym (ap told (scan_done (reader d) q past)));
+    answer = inl (sym (ap reported (scan_done (reader d) q past)));
     sure = λ none supported quiet. tt;
     kept = untouched_grows d v;
     linked = λ same less. subst (λ (ps : List (ℕ × ℕ)). AreLinked d v q ps) (sym no_passes) (λ k p in_it. absurd (omega (arith, in_it)));
-    tells = tells_nothing;
+    reports = tells_nothing;
     moved = λ linked. refl;
     free = λ linked. (refl, refl);
-    sure_if_linked = λ linked. sym (ap told (scan_done (reader d) q past));
+    sure_if_linked = λ linked. sym (ap reported (scan_done (reader d) q past));
     determinized = omega arith;
     inserted = omega arith;
   }
@@ -65,7 +65,7 @@ module _ (d : Dfa) (q : Search) (v : CacheValue) (m n : ℕ) (past : q.end < q.s
 module _ (p : Pair) (q : Search) (c : PairCache) (m n : ℕ) (past : q.end < q.start) where
   never_back : (e : ℕ × ℕ) → GoesBack p q e → ⊥
   never_back e there = some_is_not_none (record { pattern = e.1; offset = e.0 }) ⊥
-      (sym (ap told (sym (scan_done (reader p.forward) q past) ∙ there.found)))
+      (sym (ap reported (sym (scan_done (reader p.forward) q past) ∙ there.found)))
 
   pub no_pair_search : MakesPair p q c c m m n n (Ok None)
   no_pair_search = stops p q c c m m n n (answer None) (no_half p.forward q c.forward m n past) refl (λ is e there. never_back e there)

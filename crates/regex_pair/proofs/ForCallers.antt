@@ -1,6 +1,7 @@
--- What other crates' proofs may cite of this crate's, beside its public functions.
+-- What other crates' proofs may cite of this crate's, besides its public functions.
+--
 -- ---- matches one after the other, by steps
--- nothing is taken at first, one more is by a step that gives it, all are where a step gives nothing, and some at any time
+-- nothing is taken at first, one more is by a step that gives it, all are if a step gives nothing, and some at any time
 pub use Rattle.regex_pair.proofs.TakenLemmas.{none_taken, one_more_taken, all_taken, some_taken}
 -- what was taken, with one more, as a list that is equal
 pub use Rattle.regex_pair.proofs.TakenLemmas.{taken_so}
@@ -13,7 +14,7 @@ pub use Rattle.regex_pair.proofs.JoinedLemmas.{chain_begins, chain_is_whole}
 -- ---- what is found
 -- a match lies in its span, and an answer depends on its reach
 pub use Rattle.regex_pair.proofs.JoinedLemmas.{match_lies, joined_by_reach}
--- an answer that isn't a refusal is the joined one
+-- an answer that isn't an error is the joined one
 pub use Rattle.regex_pair.proofs.NextLemmas.{answer_is_joined}
 -- how far an answer reaches, and that pairs over the same NFAs answer alike
 pub use Rattle.regex_pair.proofs.ReachLemmas.{joined_has_reach}

@@ -9,8 +9,8 @@ use Rattle.search_types.specs.Inputs.{Search}
 use Rattle.search_types.proofs.ForCallers.{chains_begin_the_list, whole_chains_are_the_list, ends_rise}
 use Rattle.lazy_dfa.specs.Dfas.{reader}
 use Rattle.lazy_dfa.specs.Readers.{Reader, HalfAnswer, found, quit, unsupported}
-use Rattle.lazy_dfa.specs.Scans.{scan}
-use Rattle.lazy_dfa.specs.ScanLaws.{Agree}
+use Rattle.lazy_dfa.specs.HalfSearches.{half_search}
+use Rattle.lazy_dfa.specs.HalfSearchLaws.{Agree}
 use Rattle.lazy_dfa.proofs.ForCallers.{scan_by_reach, scan_in_span}
 use Rattle.regex_pair.specs.Finding.{AnswersAt, search_at}
 use Rattle.regex_pair.specs.Joined.{is_start_known, back_from, from_start, with_start, answer_by_end, joined}
@@ -34,10 +34,10 @@ started_lies start end e (quit b x) high lies = tt
 started_lies start end e (unsupported mode) high lies = tt
 
 known_or_not_lies : (f r : Reader) (q : Search) (e : ℕ × ℕ) (known : Bool) → q.start ≤ e.0 → e.0 ≤ q.end →
-    LiesIfSome q.start q.end (found_of (if known then Ok (Some (from_start q e)) else with_start e (scan r (back_from q e.0))))
+    LiesIfSome q.start q.end (found_of (if known then Ok (Some (from_start q e)) else with_start e (half_search r (back_from q e.0))))
 known_or_not_lies f r q e true low high = (omega arith, low, high)
 known_or_not_lies f r q e false low high =
-    started_lies q.start q.end e (scan r (back_from q e.0)) high (λ s is. scan_in_span r (back_from q e.0) s is)
+    started_lies q.start q.end e (half_search r (back_from q e.0)) high (λ s is. scan_in_span r (back_from q e.0) s is)
 
 join_lies : (f r : Reader) (q : Search) (a : HalfAnswer) → ((e : ℕ × ℕ) → a ≡ found (Some e) → (q.start ≤ e.0) × (e.0 ≤ q.end)) →
     LiesIfSome q.start q.end (found_of (answer_by_end f r q a))
@@ -48,7 +48,7 @@ join_lies f r q (unsupported mode) lies = tt
 
 joined_lies : (p : Pair) (q : Search) → LiesIfSome q.start q.end (found_of (joined p q))
 joined_lies p q =
-    join_lies (reader p.forward) (reader p.reverse) q (scan (reader p.forward) q) (λ e is. scan_in_span (reader p.forward) q e is)
+    join_lies (reader p.forward) (reader p.reverse) q (half_search (reader p.forward) q) (λ e is. scan_in_span (reader p.forward) q e is)
 
 pub match_lies : (p : Pair) (q : Search) (f : Found) → joined p q ≡ Ok (Some f) → (q.start ≤ f.start) × (f.start ≤ f.end) × (f.end ≤ q.end)
 match_lies p q f is = subst (λ (o : Option Found). LiesIfSome q.start q.end o) (ap found_of is) (joined_lies p q)
@@ -86,15 +86,15 @@ ends_of_all_rise p q = ends_rise (answer_at p q) q.end (answers_within p q) q.st
 -- ---- on which bytes an answer depends
 
 known_or_back : (r : Reader) (q : Search) (g : List ℕ) (e : ℕ × ℕ) (known : Bool) →
-    (known ≡ false → scan r (back_from q e.0) ≡ scan r (back_from (record q { haystack = g }) e.0)) →
-    (if known then Ok (Some (from_start q e)) else with_start e (scan r (back_from q e.0))) ≡
-    (if known then Ok (Some (from_start q e)) else with_start e (scan r (back_from (record q { haystack = g }) e.0)))
+    (known ≡ false → half_search r (back_from q e.0) ≡ half_search r (back_from (record q { haystack = g }) e.0)) →
+    (if known then Ok (Some (from_start q e)) else with_start e (half_search r (back_from q e.0))) ≡
+    (if known then Ok (Some (from_start q e)) else with_start e (half_search r (back_from (record q { haystack = g }) e.0)))
 known_or_back r q g e true same = refl
 known_or_back r q g e false same = ap (with_start e) (same refl)
 
 join_alike : (f r : Reader) (q : Search) (g : List ℕ) (a : HalfAnswer) →
     ((e : ℕ × ℕ) → a ≡ found (Some e) → is_start_known f q e.0 ≡ false →
-    scan r (back_from q e.0) ≡ scan r (back_from (record q { haystack = g }) e.0)) →
+    half_search r (back_from q e.0) ≡ half_search r (back_from (record q { haystack = g }) e.0)) →
     answer_by_end f r q a ≡ answer_by_end f r (record q { haystack = g }) a
 join_alike f r q g (found (Some e)) same = known_or_back r q g e (is_start_known f q e.0) (same e refl)
 join_alike f r q g (found None) same = refl
@@ -105,7 +105,7 @@ pub joined_by_reach : (p : Pair) (q : Search) (g : List ℕ) → q.end ≤ lengt
     Agree q.haystack g (IsInPairReach p q) →
     joined p q ≡ joined p (record q { haystack = g })
 joined_by_reach p q g in_h in_g agree =
-    join_alike (reader p.forward) (reader p.reverse) q g (scan (reader p.forward) q)
+    join_alike (reader p.forward) (reader p.reverse) q g (half_search (reader p.forward) q)
     (λ e is unknown.
     let high = (scan_in_span (reader p.forward) q e is).1 in
     scan_by_reach (reader p.reverse) (back_from q e.0) g (omega (arith, high, in_h)) (omega (arith, high, in_g))

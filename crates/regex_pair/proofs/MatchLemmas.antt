@@ -1,4 +1,4 @@
--- What a search that tells whether there is a match does, by what its half search did.
+-- What a search that returns whether there is a match does, by what its half search did.
 use Rattle.std.proofs.Common.{◌≡◌, ℕ, ◌<◌, Bool, Some, None, refl, sym, ap, ◌∙◌, inl, inr, subst}
 use Rattle.std.specs.Prelude.{Result, Ok, Err, IfErr, OnOk}
 use Rattle.search_types.specs.declared.match_error.MatchErrorKind.{MatchErrorKind}
@@ -6,18 +6,18 @@ use Rattle.search_types.specs.declared.match_error.MatchErrorKind.TheVariants.{N
 use Rattle.search_types.specs.Inputs.{Search}
 use Rattle.lazy_dfa.specs.Caches.{CacheValue, greatest}
 use Rattle.lazy_dfa.specs.Dfas.{reader}
-use Rattle.lazy_dfa.specs.Linked.{IsLinked, passes_of}
+use Rattle.lazy_dfa.specs.Linked.{IsLinked, scans_of}
 use Rattle.lazy_dfa.specs.Readers.{HalfAnswer, found, quit, unsupported}
-use Rattle.lazy_dfa.specs.Scans.{scan}
-use Rattle.lazy_dfa.specs.SearchAnswers.{Answers, told, told_of, told_by}
+use Rattle.lazy_dfa.specs.HalfSearches.{half_search}
+use Rattle.lazy_dfa.specs.SearchAnswers.{Answers, reported, progress_of, progress_by}
 use Rattle.lazy_dfa.specs.SearchPromises.{MakesHalf}
 use Rattle.regex_pair.specs.MadeSearches.{FindsEnd, MakesMatch}
-use Rattle.regex_pair.specs.Matching.{AnswersMatch, has_match, match_search, match_told}
+use Rattle.regex_pair.specs.Matching.{AnswersMatch, has_match, match_search, match_result}
 use Rattle.regex_pair.specs.Pairs.{Pair, PairCache}
-use Rattle.regex_pair.specs.PairTold.{is_some_half}
+use Rattle.regex_pair.specs.PairProgress.{is_some_half}
 use Rattle.regex_pair.proofs.AnswerLemmas.{Half}
 
-told_match : (a : HalfAnswer) → is_some_half (told a) ≡ match_told a
+told_match : (a : HalfAnswer) → is_some_half (reported a) ≡ match_result a
 told_match (found (Some e)) = refl
 told_match (found None) = refl
 told_match (quit b x) = refl
@@ -38,8 +38,8 @@ module _ (p : Pair) (q : Search) (f g r : CacheValue) (m1 m2 n1 n2 : ℕ) (h : H
   abbrev asked : Search
   asked = match_search (reader p.forward) q
 
-  told_there : h ≡ told (scan (reader p.forward) asked) → is_some_half h ≡ has_match p q
-  told_there is = ap is_some_half is ∙ told_match (scan (reader p.forward) asked)
+  told_there : h ≡ reported (half_search (reader p.forward) asked) → is_some_half h ≡ has_match p q
+  told_there is = ap is_some_half is ∙ told_match (half_search (reader p.forward) asked)
 
   answers_there : Answers p.forward g asked h → AnswersMatch p (record { forward = g; reverse = r }) q (is_some_half h)
   answers_there (inl is) = inl (told_there is)
@@ -53,9 +53,9 @@ module _ (p : Pair) (q : Search) (f g r : CacheValue) (m1 m2 n1 n2 : ℕ) (h : H
     kept = made.kept;
     untouched = refl;
     linked = on_some h (g.clears ≡ f.clears → f.clears < greatest → IsLinked p.forward g asked) made.linked;
-    is_told = on_some h (g.clears ≡ f.clears → f.clears < greatest →
-        told_of g ≡ told_by (reader p.forward) asked (told_of f) (passes_of (reader p.forward) asked)) made.tells.told;
-    tells = record { half = h; answer = refl; asked = made.answer; forward = made.tells; reverse = refl };
+    is_reported = on_some h (g.clears ≡ f.clears → f.clears < greatest →
+        progress_of g ≡ progress_by (reader p.forward) asked (progress_of f) (scans_of (reader p.forward) asked)) made.reports.reported;
+    reports = record { half = h; answer = refl; asked = made.answer; forward = made.reports; reverse = refl };
     moved = made.moved;
     free = made.free;
     sure_if_linked = λ linked. told_there (made.sure_if_linked linked);
@@ -63,10 +63,10 @@ module _ (p : Pair) (q : Search) (f g r : CacheValue) (m1 m2 n1 n2 : ℕ) (h : H
     inserted = made.inserted;
   }
 
-pub tells : (p : Pair) (q s : Search) (f g r : CacheValue) (old : PairCache) (m1 m2 n1 n2 : ℕ) (result : Result Bool MatchErrorKind) →
+pub reports : (p : Pair) (q s : Search) (f g r : CacheValue) (old : PairCache) (m1 m2 n1 n2 : ℕ) (result : Result Bool MatchErrorKind) →
     record { forward = f; reverse = r } ≡ old → s ≡ match_search (reader p.forward) q → FindsEnd p.forward s f g m1 m2 n1 n2 result →
     MakesMatch p q old (record { forward = g; reverse = r }) m1 m2 n1 n2 result
-tells p q s f g r old m1 m2 n1 n2 result was is finds =
+reports p q s f g r old m1 m2 n1 n2 result was is finds =
     subst (λ (c : PairCache). MakesMatch p q c (record { forward = g; reverse = r }) m1 m2 n1 n2 result) was
     (subst (λ (x : Result Bool MatchErrorKind). MakesMatch p q (record { forward = f; reverse = r }) (record {
       forward = g;

@@ -1,5 +1,5 @@
--- Whether there is a match: where each end counts, the nearest end of a run is there exactly where the first or the last one is, as
--- there is one of each where there is a run.
+-- Whether there is a match. If each end counts, the nearest end of a run exists exactly if the first or the last one does, as each of them
+-- exists if there is a run.
 use Rattle.std.proofs.Common.{◌≡◌, ◌⊎◌, ℕ, zero, suc, ◌<◌, ◌≤◌, Bool, true, false, not, List, [], ◌∷◌, length, Option, Some, None, Result}
 use Rattle.std.proofs.Common.{Ok, refl, sym, ap, ◌∙◌, ⊎_elim, inl, inr, arith}
 use Rattle.std.proofs.lemmas.Bool.{cases_lt}
@@ -11,13 +11,13 @@ use Rattle.search_types.specs.Places.{counts}
 use Rattle.nfa_core.specs.Nfa.{IsWellFormed}
 use Rattle.nfa_core.specs.Places.{first}
 use Rattle.lazy_dfa.specs.Dfas.{reader}
-use Rattle.lazy_dfa.specs.Passes.{start_name}
-use Rattle.lazy_dfa.specs.PassLaws.{IsLastEnd, IsNearestEnd, best_at}
+use Rattle.lazy_dfa.specs.Scans.{start_name}
+use Rattle.lazy_dfa.specs.ScanLaws.{IsLastEnd, IsNearestEnd, best_at}
 use Rattle.lazy_dfa.specs.Readers.{Reader, HalfAnswer, found, quit, unsupported}
-use Rattle.lazy_dfa.specs.ScanLaws.{IsWanted, IsFound, ends_of, IsSplitBy}
-use Rattle.lazy_dfa.specs.Scans.{scan}
+use Rattle.lazy_dfa.specs.HalfSearchLaws.{IsWanted, IsFound, ends_of, IsSplitBy}
+use Rattle.lazy_dfa.specs.HalfSearches.{half_search}
 use Rattle.lazy_dfa.proofs.ForCallers.{scan_finds, scan_done, no_pattern, one_found}
-use Rattle.regex_pair.specs.Matching.{match_search, is_some_match, match_told, has_match}
+use Rattle.regex_pair.specs.Matching.{match_search, is_some_match, match_result, has_match}
 use Rattle.regex_pair.specs.Pairs.{Pair}
 
 -- ---- of the ends of runs
@@ -57,24 +57,24 @@ never_split r h j whole never = cc
 counted_tells : (r : Reader) (q : Search) (name : ℕ) (o : Option (ℕ × ℕ)) → r.between_characters ≡ false → IsFound r q name o →
     is_some_match o ≡ is_filled (ends_of r q name 0)
 counted_tells r q name o whole is = ⊎_elim
-    (λ some. first_place some.0 some.2 some.3)
+    (λ some. first_offset some.0 some.2 some.3)
     (λ none. absurd (split_never 0 (none.0 0 (omega arith))))
     is
   where
     split_never : (k : ℕ) → IsSplitBy (λ k x. IsWanted r.kind q.earliest r.automaton.reverse (ends_of r q name k) x) r q k → ⊥
     split_never k at = grind (arith, never_split r q.haystack at.0.0 whole at.2)
 
-    first_place : (k : ℕ) →
+    first_offset : (k : ℕ) →
         ((m : ℕ) → m < k → IsSplitBy (λ k x. IsWanted r.kind q.earliest r.automaton.reverse (ends_of r q name k) x) r q m) →
         IsWanted r.kind q.earliest r.automaton.reverse (ends_of r q name k) o → is_some_match o ≡ is_filled (ends_of r q name 0)
-    first_place zero before there = wanted_tells r.kind q.earliest r.automaton.reverse (ends_of r q name 0) o there
-    first_place (suc k) before there = absurd (split_never 0 (before 0 (omega arith)))
+    first_offset zero before there = wanted_tells r.kind q.earliest r.automaton.reverse (ends_of r q name 0) o there
+    first_offset (suc k) before there = absurd (split_never 0 (before 0 (omega arith)))
 
 module _ (r : Reader) (q : Search) (formed : IsWellFormed r.automaton) (within : q.end ≤ length q.haystack)
     (low : (name : ℕ) → start_name r.automaton q.anchored ≡ Some name → name < length r.automaton.states)
     (whole : r.between_characters ≡ false) where
   named_tells : (x y : Bool) (name : ℕ) (o u : Option (ℕ × ℕ)) → q.start ≤ q.end → start_name r.automaton q.anchored ≡ Some name →
-      scan r (with_earliest x q) ≡ found o → scan r (with_earliest y q) ≡ found u → is_some_match o ≡ is_some_match u
+      half_search r (with_earliest x q) ≡ found o → half_search r (with_earliest y q) ≡ found u → is_some_match o ≡ is_some_match u
   named_tells x y name o u fits named is too =
       counted_tells r (with_earliest x q) name o whole
       (scan_finds r (with_earliest x q) name formed fits within named (low name named) o is)
@@ -82,13 +82,14 @@ module _ (r : Reader) (q : Search) (formed : IsWellFormed r.automaton) (within :
       (scan_finds r (with_earliest y q) name formed fits within named (low name named) u too))
 
   by_name : (x y : Bool) (name : Option ℕ) (o u : Option (ℕ × ℕ)) → q.start ≤ q.end → start_name r.automaton q.anchored ≡ name →
-      scan r (with_earliest x q) ≡ found o → scan r (with_earliest y q) ≡ found u → is_some_match o ≡ is_some_match u
+      half_search r (with_earliest x q) ≡ found o → half_search r (with_earliest y q) ≡ found u → is_some_match o ≡ is_some_match u
   by_name x y (Some name) o u fits named is too = named_tells x y name o u fits named is too
   by_name x y None o u fits named is too =
       ap is_some_match (no_pattern r (with_earliest x q) o named is ∙ sym (no_pattern r (with_earliest y q) u named too))
 
-  -- the earliest end is there where another is
-  both_tell : (x y : Bool) (o u : Option (ℕ × ℕ)) → scan r (with_earliest x q) ≡ found o → scan r (with_earliest y q) ≡ found u →
+  -- the earliest end exists if another does
+  both_tell : (x y : Bool) (o u : Option (ℕ × ℕ)) → half_search r (with_earliest x q) ≡ found o →
+      half_search r (with_earliest y q) ≡ found u →
       is_some_match o ≡ is_some_match u
   both_tell x y o u is too = ⊎_elim
       (λ (fits : q.start ≤ q.end). by_name x y (start_name r.automaton q.anchored) o u fits refl is too)
@@ -103,7 +104,7 @@ module _ (r : Reader) (q : Search) (formed : IsWellFormed r.automaton) (within :
 abbrev told_as : Bool → Result Bool MatchErrorKind
 told_as b = Ok b
 
-told_is : (a : HalfAnswer) (b : Bool) → match_told a ≡ Ok b → (o : Option (ℕ × ℕ)) × (a ≡ found o) × (b ≡ is_some_match o)
+told_is : (a : HalfAnswer) (b : Bool) → match_result a ≡ Ok b → (o : Option (ℕ × ℕ)) × (a ≡ found o) × (b ≡ is_some_match o)
 told_is (found o) b is = (o, refl, sym (same_told (is_some_match o) b is))
   where
     same_told : (x y : Bool) → told_as x ≡ told_as y → x ≡ y
@@ -111,19 +112,19 @@ told_is (found o) b is = (o, refl, sym (same_told (is_some_match o) b is))
 told_is (quit c x) b is = let never : true ≡ false = cc in absurd (grind (arith, never))
 told_is (unsupported mode) b is = let never : true ≡ false = cc in absurd (grind (arith, never))
 
--- What is told is whether the end that is preferred is found, wherever that is told.
+-- The result is whether the preferred end is found, wherever that is reported.
 module _ (p : Pair) (q : Search) (b : Bool) (o : Option (ℕ × ℕ)) (formed : IsWellFormed (reader p.forward).automaton)
     (within : q.end ≤ length q.haystack)
     (low : (name : ℕ) → start_name (reader p.forward).automaton q.anchored ≡ Some name → name < length (reader p.forward).automaton.states)
-    (told : has_match p q ≡ Ok b) (is : scan (reader p.forward) (with_earliest false q) ≡ found o) where
+    (reported : has_match p q ≡ Ok b) (is : half_search (reader p.forward) (with_earliest false q) ≡ found o) where
   tells_by : (u : Option (ℕ × ℕ)) (between : Bool) → (reader p.forward).between_characters ≡ between →
-      scan (reader p.forward) (match_search (reader p.forward) q) ≡ found u → is_some_match u ≡ is_some_match o
+      half_search (reader p.forward) (match_search (reader p.forward) q) ≡ found u → is_some_match u ≡ is_some_match o
   tells_by u false whole there =
       both_tell (reader p.forward) q formed within low whole (not (reader p.forward).between_characters) false u o there is
   tells_by u true split there = ap is_some_match (one_found u o
-      (sym there ∙ ap (λ (between : Bool). scan (reader p.forward) (with_earliest (not between) q)) split ∙ is))
+      (sym there ∙ ap (λ (between : Bool). half_search (reader p.forward) (with_earliest (not between) q)) split ∙ is))
 
   pub match_is_told : b ≡ is_some_match o
   match_is_told =
-      let t = told_is (scan (reader p.forward) (match_search (reader p.forward) q)) b told in
+      let t = told_is (half_search (reader p.forward) (match_search (reader p.forward) q)) b reported in
       t.2 ∙ tells_by t.0 (reader p.forward).between_characters refl t.1

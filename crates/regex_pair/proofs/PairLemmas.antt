@@ -1,4 +1,4 @@
--- What a search over two automata does, by what its half searches did: where it stops after the first, and where it goes back.
+-- What a search over two automata does, by what its half searches did: when it stops after the first, and when it goes back.
 use Rattle.std.proofs.Common.{◌≡◌, ℕ, ◌+◌, ◌*◌, ◌<◌, ◌≤◌, Bool, true, false, Option, Some, None, refl, sym, ap, ◌∙◌, ◌⊎◌, inl, inr, subst}
 use Rattle.std.proofs.Common.{arith, if◌then◌else◌}
 use Rattle.std.specs.Prelude.{Ok, Err, IfErr, OnOk}
@@ -8,19 +8,19 @@ use Rattle.search_types.specs.Found.{Found, HalfFound}
 use Rattle.search_types.specs.Inputs.{Search}
 use Rattle.lazy_dfa.specs.Caches.{CacheValue, IsCacheOf, greatest}
 use Rattle.lazy_dfa.specs.Dfas.{Dfa, reader}
-use Rattle.lazy_dfa.specs.Linked.{IsLinked, GrowsOrClears, IsMoved, passes_of}
+use Rattle.lazy_dfa.specs.Linked.{IsLinked, GrowsOrClears, IsMoved, scans_of}
 use Rattle.lazy_dfa.specs.Readers.{Reader, HalfAnswer, found, quit, unsupported}
-use Rattle.lazy_dfa.specs.ScanLaws.{HasNoQuitNear}
-use Rattle.lazy_dfa.specs.Scans.{scan}
-use Rattle.lazy_dfa.specs.SearchAnswers.{Answers, told, told_of, told_by}
-use Rattle.lazy_dfa.specs.SearchPromises.{MakesHalf, TellsHalf, half_made}
+use Rattle.lazy_dfa.specs.HalfSearchLaws.{HasNoQuitNear}
+use Rattle.lazy_dfa.specs.HalfSearches.{half_search}
+use Rattle.lazy_dfa.specs.SearchAnswers.{Answers, reported, progress_of, progress_by}
+use Rattle.lazy_dfa.specs.SearchPromises.{MakesHalf, ReportsHalf, half_made}
 use Rattle.lazy_dfa.specs.Steps.{most_inserts}
 use Rattle.regex_pair.specs.Joined.{is_start_known, back_from, from_start, with_start, answer_by_end, joined}
 use Rattle.regex_pair.specs.MadeSearches.{MakesBack, MakesPair}
 use Rattle.regex_pair.specs.PairAnswers.{GoesBack, gives_up_forward, gives_up_back, AnswersPair, IsBackLinked, back_made_by}
 use Rattle.regex_pair.specs.PairAnswers.{back_made}
 use Rattle.regex_pair.specs.Pairs.{Pair, PairCache, AreCachesOf}
-use Rattle.regex_pair.specs.PairTold.{TellsPair, tells_refusal, tells_end, tells_start, with_half}
+use Rattle.regex_pair.specs.PairProgress.{ReportsPair, tells_refusal, reports_end, tells_start, with_half}
 use Rattle.regex_pair.proofs.AnswerLemmas.{Half, Whole}
 use Rattle.regex_pair.proofs.AnswerLemmas.{answer, error, pair, ok_is_no_error, some_is_not_none, some_is_found, ok_is_told, finds_in_span}
 
@@ -33,9 +33,9 @@ untouched_grows d v = inl (record {
   clears = refl;
 })
 
--- ---- where it stops after the first half search
+-- ---- when it stops after the first half search
 
--- the answer by that of the first half search, where an end is the match's with the span's start
+-- the answer by that of the first half search, if an end is the match's with the span's start
 abbrev pub by_end : Search → Half → Whole
 by_end q (Ok (Some e)) = Ok (Some (from_start q (pair e)))
 by_end q (Ok None) = Ok None
@@ -47,9 +47,9 @@ not_unknown true a b never = refl
 not_unknown false a b never = absurd (never refl)
 
 stops_joined : (f r : Reader) (q : Search) (a : HalfAnswer) → ((e : ℕ × ℕ) → a ≡ found (Some e) → is_start_known f q e.0 ≡ false → ⊥) →
-    by_end q (told a) ≡ answer_by_end f r q a
+    by_end q (reported a) ≡ answer_by_end f r q a
 stops_joined f r q (found (Some e)) never =
-    sym (not_unknown (is_start_known f q e.0) (Ok (Some (from_start q e))) (with_start e (scan r (back_from q e.0))) (never e refl))
+    sym (not_unknown (is_start_known f q e.0) (Ok (Some (from_start q e))) (with_start e (half_search r (back_from q e.0))) (never e refl))
 stops_joined f r q (found None) never = refl
 stops_joined f r q (quit b x) never = refl
 stops_joined f r q (unsupported mode) never = refl
@@ -59,7 +59,7 @@ on_end q (Ok (Some e)) A B g a = g a
 on_end q (Ok None) A B g a = g a
 on_end q (Err x) A B g a = tt
 
--- a clause on values that may use that there is one
+-- a clause on values, which may use that there is one
 on_value : (q : Search) (h : Half) (B : Type 0) → ((f : Option HalfFound) → h ≡ Ok f → B) → OnOk (by_end q h) B
 on_value q (Ok (Some e)) B g = g (Some e) refl
 on_value q (Ok None) B g = g None refl
@@ -72,10 +72,10 @@ if_err_end q (Err x) i = inl i
 
 module _ (p : Pair) (q : Search) (old new : PairCache) (m1 m2 n1 n2 : ℕ) (h : Half)
     (ends : MakesHalf p.forward q old.forward new.forward m1 m2 n1 n2 h) (same : new.reverse ≡ old.reverse)
-    (never : h ≡ told (scan (reader p.forward) q) → (e : ℕ × ℕ) → GoesBack p q e → ⊥) where
-  joined_there : h ≡ told (scan (reader p.forward) q) → by_end q h ≡ joined p q
+    (never : h ≡ reported (half_search (reader p.forward) q) → (e : ℕ × ℕ) → GoesBack p q e → ⊥) where
+  joined_there : h ≡ reported (half_search (reader p.forward) q) → by_end q h ≡ joined p q
   joined_there is = ap (λ (x : Half). by_end q x) is
-      ∙ stops_joined (reader p.forward) (reader p.reverse) q (scan (reader p.forward) q)
+      ∙ stops_joined (reader p.forward) (reader p.reverse) q (half_search (reader p.forward) q)
       (λ e finds unknown. never is e (record { found = finds; unknown = unknown }))
 
   answers_there : Answers p.forward new.forward q h → AnswersPair p new q (by_end q h)
@@ -83,18 +83,18 @@ module _ (p : Pair) (q : Search) (old new : PairCache) (m1 m2 n1 n2 : ℕ) (h : 
   answers_there (inr (inl is)) = inr (inl (ap (λ (x : Half). by_end q x) is))
   answers_there (inr (inr g)) = inr (inr (g.0, ap (λ (x : Half). by_end q x) g.1, gives_up_forward g.2))
 
-  is_answer : (f : Option HalfFound) → h ≡ Ok f → h ≡ told (scan (reader p.forward) q)
+  is_answer : (f : Option HalfFound) → h ≡ Ok f → h ≡ reported (half_search (reader p.forward) q)
   is_answer f is = is ∙ ok_is_told p.forward new.forward q f (subst (λ (x : Half). Answers p.forward new.forward q x) is ends.answer)
 
   never_back : (f : Option HalfFound) → h ≡ Ok f → (e : ℕ × ℕ) → GoesBack p q e → ⊥
   never_back f is = never (is_answer f is)
 
   stops_told : (x : Half) → ((f : Option HalfFound) → x ≡ Ok f → by_end q x ≡ joined p q) → Answers p.forward new.forward q x →
-      ((f : Option HalfFound) → x ≡ Ok f → (e : ℕ × ℕ) → GoesBack p q e → ⊥) → TellsHalf p.forward q old.forward new.forward x →
-      TellsPair p q old new (by_end q x)
-  stops_told (Ok (Some e)) is answers none tells = tells_end (Some e) (is (Some e) refl) answers (none (Some e) refl) tells same
-  stops_told (Ok None) is answers none tells = tells_end None (is None refl) answers (none None refl) tells same
-  stops_told (Err x) is answers none tells = tells_refusal x refl answers tells same
+      ((f : Option HalfFound) → x ≡ Ok f → (e : ℕ × ℕ) → GoesBack p q e → ⊥) → ReportsHalf p.forward q old.forward new.forward x →
+      ReportsPair p q old new (by_end q x)
+  stops_told (Ok (Some e)) is answers none reports = reports_end (Some e) (is (Some e) refl) answers (none (Some e) refl) reports same
+  stops_told (Ok None) is answers none reports = reports_end None (is None refl) answers (none None refl) reports same
+  stops_told (Err x) is answers none reports = tells_refusal x refl answers reports same
 
   pub stops : MakesPair p q old new m1 m2 n1 n2 (by_end q h)
   stops = record {
@@ -110,15 +110,16 @@ module _ (p : Pair) (q : Search) (old new : PairCache) (m1 m2 n1 n2 : ℕ) (h : 
         (new.forward.clears ≡ old.forward.clears → old.forward.clears < greatest → IsLinked p.forward new.forward q) (λ l. l) ends.linked;
     back_linked = on_value q h (new.reverse.clears ≡ old.reverse.clears → old.reverse.clears < greatest → IsBackLinked p new.reverse q)
         (λ f is kept less e there. absurd (never_back f is e there));
-    is_told = on_end q h (new.forward.clears ≡ old.forward.clears → old.forward.clears < greatest →
-        told_of new.forward ≡ told_by (reader p.forward) q (told_of old.forward) (passes_of (reader p.forward) q))
+    is_reported = on_end q h (new.forward.clears ≡ old.forward.clears → old.forward.clears < greatest →
+        progress_of new.forward ≡ progress_by (reader p.forward) q (progress_of old.forward) (scans_of (reader p.forward) q))
         (new.forward.clears ≡ old.forward.clears → old.forward.clears < greatest →
-        told_of new.forward ≡ told_by (reader p.forward) q (told_of old.forward) (passes_of (reader p.forward) q)) (λ t. t) ends.tells.told;
+        progress_of new.forward ≡ progress_by (reader p.forward) q (progress_of old.forward) (scans_of (reader p.forward) q)) (λ t. t)
+        ends.reports.reported;
     back_told = on_value q h (new.reverse.clears ≡ old.reverse.clears → old.reverse.clears < greatest → (e : ℕ × ℕ) → GoesBack p q e →
-        told_of new.reverse ≡ told_by (reader p.reverse) (back_from q e.0) (told_of old.reverse)
-        (passes_of (reader p.reverse) (back_from q e.0)))
+        progress_of new.reverse ≡ progress_by (reader p.reverse) (back_from q e.0) (progress_of old.reverse)
+        (scans_of (reader p.reverse) (back_from q e.0)))
         (λ f is kept less e there. absurd (never_back f is e there));
-    tells = stops_told h (λ f is. joined_there (is_answer f is)) ends.answer never_back ends.tells;
+    reports = stops_told h (λ f is. joined_there (is_answer f is)) ends.answer never_back ends.reports;
     moved = λ linked. record {
       forward = ends.moved linked.forward;
       reverse =
@@ -130,9 +131,9 @@ module _ (p : Pair) (q : Search) (old new : PairCache) (m1 m2 n1 n2 : ℕ) (h : 
     inserted = let few = ends.inserted in omega (arith, few);
   }
 
--- ---- where it goes back
+-- ---- when it goes back
 
-with_back : (e : HalfFound) (a : HalfAnswer) → with_half e (told a) ≡ with_start (pair e) a
+with_back : (e : HalfFound) (a : HalfAnswer) → with_half e (reported a) ≡ with_start (pair e) a
 with_back e (found (Some s)) = refl
 with_back e (found None) = refl
 with_back e (quit b x) = refl
@@ -172,11 +173,11 @@ module _ (p : Pair) (q : Search) (e : HalfFound) (there : GoesBack p q (pair e))
   only : (x : ℕ × ℕ) → GoesBack p q x → pair e ≡ x
   only x other = one_pair (pair e) x (sym there.found ∙ other.found)
 
-  back_joined : with_half e (told (scan (reader p.reverse) back)) ≡ joined p q
-  back_joined = with_back e (scan (reader p.reverse) back)
+  back_joined : with_half e (reported (half_search (reader p.reverse) back)) ≡ joined p q
+  back_joined = with_back e (half_search (reader p.reverse) back)
       ∙ sym (ap (λ (a : HalfAnswer). answer_by_end (reader p.forward) (reader p.reverse) q a) there.found
       ∙ known_false (is_start_known (reader p.forward) q e.offset) (Ok (Some (from_start q (pair e))))
-      (with_start (pair e) (scan (reader p.reverse) back)) there.unknown)
+      (with_start (pair e) (half_search (reader p.reverse) back)) there.unknown)
 
   back_count : back_made p q ≡ half_made (reader p.reverse) back
   back_count = ap (λ (a : HalfAnswer). back_made_by p q a) there.found
@@ -199,8 +200,8 @@ module _ (p : Pair) (q : Search) (e : HalfFound) (there : GoesBack p q (pair e))
     linked_back l same less x other = subst (λ (y : ℕ × ℕ). IsLinked p.reverse new.reverse (back_from q y.0)) (only x other) (l same less)
 
     abbrev IsTold : ℕ × ℕ → Type 0
-    IsTold x = told_of new.reverse ≡ told_by (reader p.reverse) (back_from q x.0) (told_of old.reverse)
-        (passes_of (reader p.reverse) (back_from q x.0))
+    IsTold x = progress_of new.reverse ≡ progress_by (reader p.reverse) (back_from q x.0) (progress_of old.reverse)
+        (scans_of (reader p.reverse) (back_from q x.0))
 
     told_back : (new.reverse.clears ≡ old.reverse.clears → old.reverse.clears < greatest → IsTold (pair e)) →
         new.reverse.clears ≡ old.reverse.clears → old.reverse.clears < greatest → (x : ℕ × ℕ) → GoesBack p q x → IsTold x
@@ -227,12 +228,13 @@ module _ (p : Pair) (q : Search) (e : HalfFound) (there : GoesBack p q (pair e))
       back_linked = on_back e b (new.reverse.clears ≡ old.reverse.clears → old.reverse.clears < greatest →
           IsLinked p.reverse new.reverse back)
           (new.reverse.clears ≡ old.reverse.clears → old.reverse.clears < greatest → IsBackLinked p new.reverse q) linked_back made.linked;
-      is_told = always_back e b (new.forward.clears ≡ old.forward.clears → old.forward.clears < greatest →
-          told_of new.forward ≡ told_by (reader p.forward) q (told_of old.forward) (passes_of (reader p.forward) q)) ends.tells.told;
+      is_reported = always_back e b (new.forward.clears ≡ old.forward.clears → old.forward.clears < greatest →
+          progress_of new.forward ≡ progress_by (reader p.forward) q (progress_of old.forward) (scans_of (reader p.forward) q))
+          ends.reports.reported;
       back_told = on_back e b (new.reverse.clears ≡ old.reverse.clears → old.reverse.clears < greatest → IsTold (pair e))
           (new.reverse.clears ≡ old.reverse.clears → old.reverse.clears < greatest → (x : ℕ × ℕ) → GoesBack p q x →
-          IsTold x) told_back made.tells.told;
-      tells = tells_start e b refl there made.answer ends.tells made.tells;
+          IsTold x) told_back made.reports.reported;
+      reports = tells_start e b refl there made.answer ends.reports made.reports;
       moved = λ linked. record { forward = ends.moved linked.forward; reverse = made.moved (linked.back (pair e) there) };
       free = λ linked. let up = ends.free linked.forward in let is_reverse = made.free (linked.back (pair e) there) in
           (is_reverse.0 ∙ up.0, is_reverse.1 ∙ up.1);
@@ -243,7 +245,7 @@ module _ (p : Pair) (q : Search) (e : HalfFound) (there : GoesBack p q (pair e))
 
 -- ---- the ways in which a search ends
 
--- where the first half search came from f to g and found an end
+-- if the first half search came from f to g and found an end
 module _ (p : Pair) (q : Search) (f g : CacheValue) (m1 m2 n1 n2 : ℕ) (h : Half) (o : Option HalfFound) (e : HalfFound)
     (ends : MakesHalf p.forward q f g m1 m2 n1 n2 h) (ok : h ≡ Ok o) (some : o ≡ Some e) where
   abbrev is_value : h ≡ answer (Some e)
@@ -259,8 +261,8 @@ module _ (p : Pair) (q : Search) (f g : CacheValue) (m1 m2 n1 n2 : ℕ) (h : Hal
   pub lies_behind : (start : ℕ) → start ≡ q.start → start ≤ e.offset
   lies_behind start is = subst (λ (k : ℕ). k ≤ e.offset) (sym is) lies.0
 
-  is_found : scan (reader p.forward) q ≡ found (Some (pair e))
-  is_found = some_is_found (scan (reader p.forward) q) e (ok_is_told p.forward g q (Some e) ends_there.answer)
+  is_found : half_search (reader p.forward) q ≡ found (Some (pair e))
+  is_found = some_is_found (half_search (reader p.forward) q) e (ok_is_told p.forward g q (Some e) ends_there.answer)
 
   not_both : (b : Bool) → b ≡ true → b ≡ false → ⊥
   not_both b is not = let never : true ≡ false = sym is ∙ not in absurd (grind (arith, never))
@@ -309,7 +311,8 @@ module _ (p : Pair) (q : Search) (f g r : CacheValue) (old : PairCache) (m1 m2 n
   reverse = r;
 } ≡ old)
     (ends : MakesHalf p.forward q f g m1 m2 n1 n2 h) where
-  ends_so : (y : Half) (w : Whole) → h ≡ y → w ≡ by_end q y → (y ≡ told (scan (reader p.forward) q) → (e : ℕ × ℕ) → GoesBack p q e → ⊥) →
+  ends_so : (y : Half) (w : Whole) → h ≡ y → w ≡ by_end q y → (y ≡ reported (half_search (reader p.forward) q) → (e : ℕ × ℕ) →
+      GoesBack p q e → ⊥) →
       MakesPair p q old (record { forward = g; reverse = r }) m1 m2 n1 n2 w
   ends_so y w is gives never =
       subst (λ (c : PairCache). MakesPair p q c (record { forward = g; reverse = r }) m1 m2 n1 n2 w) was
@@ -318,16 +321,16 @@ module _ (p : Pair) (q : Search) (f g r : CacheValue) (old : PairCache) (m1 m2 n
       (stops p q (record { forward = f; reverse = r }) (record { forward = g; reverse = r }) m1 m2 n1 n2 y
       (subst (λ (x : Half). MakesHalf p.forward q f g m1 m2 n1 n2 x) is ends) refl never))
 
-  -- the first half search is refused
+  -- the first half search fails
   pub fails : (x : MatchErrorKind) → h ≡ Err x → MakesPair p q old (record { forward = g; reverse = r }) m1 m2 n1 n2 (Err x)
   fails x is = ends_so (error x) (Err x) is refl
-      (λ told_so e there. ok_is_no_error (Some (record { pattern = e.1; offset = e.0 })) x ⊥ (sym (told_so ∙ ap told there.found)))
+      (λ told_so e there. ok_is_no_error (Some (record { pattern = e.1; offset = e.0 })) x ⊥ (sym (told_so ∙ ap reported there.found)))
 
   -- it finds no end
   pub finds_none : (o : Option HalfFound) → h ≡ Ok o → o ≡ None → MakesPair p q old (record { forward = g; reverse = r }) m1 m2 n1 n2
       (Ok None)
   finds_none o ok none = ends_so (answer None) (Ok None) (ok ∙ ap answer none) refl
-      (λ told_so e there. some_is_not_none (record { pattern = e.1; offset = e.0 }) ⊥ (sym (told_so ∙ ap told there.found)))
+      (λ told_so e there. some_is_not_none (record { pattern = e.1; offset = e.0 }) ⊥ (sym (told_so ∙ ap reported there.found)))
 
 -- of caches that are taken apart each is one of its automaton
 module _ (p : Pair) (f r : CacheValue) (w : PairCache) (is : record { forward = f; reverse = r } ≡ w) (own : AreCachesOf p w) where

@@ -9,8 +9,8 @@ use Rattle.search_types.specs.Found.{Found}
 use Rattle.search_types.specs.Inputs.{Search}
 use Rattle.lazy_dfa.specs.Dfas.{reader}
 use Rattle.lazy_dfa.specs.Readers.{Reader, HalfAnswer, found, quit, unsupported}
-use Rattle.lazy_dfa.specs.Scans.{scan}
-use Rattle.lazy_dfa.specs.ScanLaws.{IsInReach, scan_len}
+use Rattle.lazy_dfa.specs.HalfSearches.{half_search}
+use Rattle.lazy_dfa.specs.HalfSearchLaws.{IsInReach, scan_len}
 use Rattle.lazy_dfa.proofs.ForCallers.{scan_done, scan_few, scan_is_quiet, scan_place_is_reached, reach_is_near, reached_forward}
 use Rattle.lazy_dfa.proofs.ForCallers.{below_reach}
 use Rattle.regex_pair.specs.Joined.{is_start_known, back_from, from_start, with_start, answer_by_end, joined}
@@ -54,7 +54,7 @@ known_end q e false a m is = started_end e a m is
 
 match_end : (f r : Reader) (q : Search) (a : HalfAnswer) (m : Found) → answer_by_end f r q a ≡ Ok (Some m) →
     (e : ℕ × ℕ) × (a ≡ found (Some e)) × (e.0 ≡ m.end)
-match_end f r q (found (Some e)) m is = (e, refl, known_end q e (is_start_known f q e.0) (scan r (back_from q e.0)) m is)
+match_end f r q (found (Some e)) m is = (e, refl, known_end q e (is_start_known f q e.0) (half_search r (back_from q e.0)) m is)
 match_end f r q (found None) m is = none_is_some _ m (ap found_of is)
 match_end f r q (quit b x) m is = refused _ _ (Some m) is
 match_end f r q (unsupported mode) m is = refused _ _ (Some m) is
@@ -66,10 +66,10 @@ module _ (p : Pair) (q : Search) (o : Option Found) (up : (reader p.forward).aut
   abbrev f : Reader
   f = reader p.forward
 
-  ended : (e : Option (ℕ × ℕ)) × (scan f q ≡ found e)
-  ended = end_found f (reader p.reverse) q (scan f q) o is
+  ended : (e : Option (ℕ × ℕ)) × (half_search f q ≡ found e)
+  ended = end_found f (reader p.reverse) q (half_search f q) o is
 
-  -- the place behind what the search for an end read
+  -- the offset after what the search for an end read
   abbrev stop : ℕ
   stop = q.start + scan_len f q
 
@@ -95,7 +95,7 @@ module _ (p : Pair) (q : Search) (o : Option Found) (up : (reader p.forward).aut
     within = let few = scan_few f q in omega (arith, fits, few);
     done = λ over x from to. absurd (omega (arith, fits, over));
     past = λ m same.
-        let e = match_end f (reader p.reverse) q (scan f q) m (is ∙ ap Ok same) in
+        let e = match_end f (reader p.reverse) q (half_search f q) m (is ∙ ap Ok same) in
         subst (λ (n : ℕ). n < stop) e.2 (below_stop e.0.0 (scan_place_is_reached f q e.0 e.1));
     quiet = λ x from to.
         scan_is_quiet f q ended.0 within ended.1 x (fits, reached_forward f.automaton.reverse q.start q.end (scan_len f q) x up from to);
@@ -106,7 +106,7 @@ module _ (p : Pair) (q : Search) (o : Option Found) (up : (reader p.forward).aut
   reach_done over = record {
     within = omega arith;
     done = λ past x from to. absurd (omega (arith, to));
-    past = λ m same. let e = match_end f (reader p.reverse) q (scan f q) m (is ∙ ap Ok same) in
+    past = λ m same. let e = match_end f (reader p.reverse) q (half_search f q) m (is ∙ ap Ok same) in
         let place = scan_place_is_reached f q e.0 e.1 in let fits = place.0 in absurd (omega (arith, fits, over));
     quiet = λ x from to. absurd (omega (arith, to));
     local = λ g in_g same.

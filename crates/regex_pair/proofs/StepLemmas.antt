@@ -6,9 +6,9 @@ use Rattle.search_types.specs.declared.match_error.MatchErrorKind.{MatchErrorKin
 use Rattle.search_types.specs.Found.{Found}
 use Rattle.search_types.specs.Inputs.{Search}
 use Rattle.regex_pair.specs.declared.find_matches.FindMatches.{FindMatches}
-use Rattle.regex_pair.specs.Finding.{Finding, IsNextFound, IsNextAnswer, IsPlaced, KeepsTwice, finds_next, finds_none, fails, is_over}
+use Rattle.regex_pair.specs.Finding.{Finding, IsNextFound, IsNextAnswer, IsPositioned, KeepsTwice, finds_next, finds_none, fails, is_over}
 use Rattle.regex_pair.specs.Finding.{behind, most_left}
-use Rattle.regex_pair.specs.FindSteps.{searches_by, search_of, finds_from, caches_of, lender_of, items_left, MayGoOn, FindsNext}
+use Rattle.regex_pair.specs.FindSteps.{searches_by, search_of, finds_from, caches_of, borrow_name_of, items_left, MayGoOn, FindsNext}
 use Rattle.regex_pair.specs.Pairs.{Pair, AreCachesOf}
 use Rattle.regex_pair.specs.StepSearches.{SearchesNext}
 use Rattle.regex_pair.proofs.NextLemmas.{next_falls, next_is, refused_is, behind_placed, kept_untouched, match_is_no_end, refusal_is_no_end}
@@ -29,7 +29,7 @@ finds_nothing_more it ready over = record {
 }
 
 module _ (old new : FindMatches) (ready : MayGoOn old) (begun : old.is_over ≡ false) (own : AreCachesOf (searches_by old) (caches_of new))
-    (same_regex : searches_by new ≡ searches_by old) (same_reference : lender_of new ≡ lender_of old)
+    (same_regex : searches_by new ≡ searches_by old) (same_reference : borrow_name_of new ≡ borrow_name_of old)
     (kept : KeepsTwice (searches_by old) (caches_of old) (caches_of new)) (q : Search) (asked : q ≡ search_of old) (result : Whole)
     (answered : IsNextAnswer (searches_by old) (record { search = q; last = old.last; is_over = false }) (caches_of new) result)
     (searched : SearchesNext (searches_by old) (record { search = q; last = old.last; is_over = false }) (caches_of old)
@@ -64,7 +64,7 @@ module _ (old new : FindMatches) (ready : MayGoOn old) (begun : old.is_over ≡ 
       done = λ past. match_is_no_end f _ (sym is ∙ (done_here past).0);
       goes_on = record {
         own = owned;
-        placed = subst IsPlaced (sym there) (behind_placed (searches_by old) (finds_from old) f begun ready.placed next);
+        placed = subst IsPositioned (sym there) (behind_placed (searches_by old) (finds_from old) f begun ready.placed next);
       };
     }
 
@@ -79,7 +79,8 @@ module _ (old new : FindMatches) (ready : MayGoOn old) (begun : old.is_over ≡ 
       rests = λ finite. tt;
     }
 
-  pub finds_end : (o : Option Found) → result ≡ Ok o → o ≡ None → new.is_over ≡ true → IsPlaced (finds_from new) → FindsNext old None new
+  pub finds_end : (o : Option Found) → result ≡ Ok o → o ≡ None → new.is_over ≡ true → IsPositioned (finds_from new) →
+      FindsNext old None new
   finds_end o ok none over placed = let is : result ≡ Ok None = ok ∙ ap (λ (u : Option Found). Ok u) none in record {
     same_regex = same_regex;
     same_reference = same_reference;
@@ -92,7 +93,7 @@ module _ (old new : FindMatches) (ready : MayGoOn old) (begun : old.is_over ≡ 
     goes_on = record { own = owned; placed = placed };
   }
 
-  pub finds_refusal : (e : MatchErrorKind) → result ≡ Err e → new.is_over ≡ true → IsPlaced (finds_from new) →
+  pub finds_refusal : (e : MatchErrorKind) → result ≡ Err e → new.is_over ≡ true → IsPositioned (finds_from new) →
       FindsNext old (Some (Err e)) new
   finds_refusal e is over placed =
       let refused = refused_is (searches_by old) (finds_from old) q (caches_of new) e asked

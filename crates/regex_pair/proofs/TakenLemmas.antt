@@ -1,5 +1,5 @@
--- Matches that are taken one after the other are a chain of answers, and all of them where the iterator comes to its end: by steps, as
--- a loop keeps it. Nothing is taken at first, one more is by a step that gives one, and all are where a step gives nothing.
+-- Matches that are taken one after the other are a chain of answers, and all of them if the iterator comes to its end: by steps, as a loop
+-- keeps it. Nothing is taken at first, one more is by a step that gives one, and all are if a step gives nothing.
 use Rattle.std.proofs.Common.{◌≡◌, ℕ, ◌+◌, ◌≤◌, Bool, true, false, List, [], ◌∷◌, ◌++◌, Option, Some, None, Result, Ok, Err, refl, sym, ap}
 use Rattle.std.proofs.Common.{◌∙◌, subst, arith, append-nil, append_assoc, inl, inr}
 use Rattle.search_types.specs.declared.match_error.MatchErrorKind.{MatchErrorKind}
@@ -25,7 +25,7 @@ next_of_search : (p : Pair) (q : Search) (at : Finding) (o : Option Found) → a
     IsNextTaken (AnswersAt p q) at.last at.search.start o
 next_of_search p q at o here next = subst (λ (s : Search). IsNextTaken (AnswersAt p s) at.last at.search.start o) here next
 
--- and it ends behind where the search is
+-- and it ends at or after the offset where the search is
 taken_is_behind : (p : Pair) (q : Search) (k : ℕ) (o : Option Found) (b : Bool) (f : Found) → AnswersAt p q k o →
     IsTaken (AnswersAt p q) k o b (Some f) → k ≤ f.end
 taken_is_behind p q k o false f first taken =
@@ -117,7 +117,7 @@ all_by_step p q fs old new same taken step =
 pub none_by_begin : (p : Pair) (q : Search) (it : FindMatches) → finds_from it ≡ finding_all q → AreTaken p q [] (finds_from it)
 none_by_begin p q it from = subst (AreTaken p q []) (sym from) (none_taken p q)
 
--- ---- refusals, and what comes behind them and behind the end
+-- ---- errors, and what comes after them and after the end
 
 pub asked_behind : (p : Pair) (at : Finding) (k : ℕ) → IsAskedAt p at k → at.search.start ≤ k
 asked_behind p at k (inl here) = omega (arith, here)
@@ -126,7 +126,7 @@ asked_behind p at k (inr further) = let there = further.0 in omega (arith, there
 same_refusal : (e v : MatchErrorKind) → item_of (refusal_of e) ≡ item_of (refusal_of v) → e ≡ v
 same_refusal e v is = cc
 
--- the refusal of a search from k on, which isn't before the start of this one
+-- the error of a search from k on, which isn't before the start of this one
 abbrev pub RefusesBehind : Pair → Search → Finding → PairCache → MatchErrorKind → Type 0
 RefusesBehind p q at after e = (k : ℕ) × IsAskedAt p at k × (q.start ≤ k) × AnswersPair p after (search_at q k) (Err e)
 

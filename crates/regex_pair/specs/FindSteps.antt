@@ -6,7 +6,7 @@ use Rattle.search_types.specs.declared.match_error.MatchErrorKind.{MatchErrorKin
 use Rattle.search_types.specs.Found.{Found}
 use Rattle.search_types.specs.Inputs.{Search}
 use Rattle.regex_pair.specs.declared.find_matches.FindMatches.{FindMatches}
-use Rattle.regex_pair.specs.Finding.{Finding, Finds, IsPlaced, KeepsTwice, most_left}
+use Rattle.regex_pair.specs.Finding.{Finding, Finds, IsPositioned, KeepsTwice, most_left}
 use Rattle.regex_pair.specs.Pairs.{Pair, PairCache, AreCachesOf}
 use Rattle.regex_pair.specs.StepSearches.{SearchesNext}
 
@@ -21,24 +21,25 @@ search_of it = record { haystack = it.haystack.now; start = it.start; end = it.e
 abbrev pub finds_from : FindMatches → Finding
 finds_from it = record { search = search_of it; last = it.last; is_over = it.is_over }
 
--- the caches behind the reference that it holds
+-- the caches to which its reference points
 abbrev pub caches_of : FindMatches → PairCache
 caches_of it = it.cache.now
 
 -- the ghost name of this reference
-abbrev pub lender_of : FindMatches → GName
-lender_of it = it.cache.ghost_name
+abbrev pub borrow_name_of : FindMatches → GName
+borrow_name_of it = it.cache.ghost_name
 
--- It may go on: the caches are the automata's own, and it stands behind the last match.
+-- The iterator may go on: the caches belong to its automata, and it is right after the last match.
 pub record MayGoOn (it : FindMatches) : Type 0 where
   pub own : AreCachesOf (searches_by it) (caches_of it)
-  pub placed : IsPlaced (finds_from it)
+  pub placed : IsPositioned (finds_from it)
 
--- One step. It is over the same automata and the same reference, and the iterator may go on, whatever the step gave. What it gives is
--- by what its one or two searches answer. Where the span that is left is done it makes none, and the caches stay as they are.
+-- One step. It uses the same automata and the same reference, and the iterator may go on, whatever the step returned. What it returns
+-- depends on what its one or two searches answer. If the span that is left is done, it makes no search, and the caches stay as they
+-- are.
 pub record FindsNext (old : FindMatches) (item : Option (Result Found MatchErrorKind)) (new : FindMatches) : Type 0 where
   pub same_regex : searches_by new ≡ searches_by old
-  pub same_reference : lender_of new ≡ lender_of old
+  pub same_reference : borrow_name_of new ≡ borrow_name_of old
   pub finds : Finds (searches_by old) (finds_from old) (finds_from new) (caches_of old) (caches_of new) item
   pub kept : KeepsTwice (searches_by old) (caches_of old) (caches_of new)
   pub searches : old.is_over ≡ false → (result : Result (Option Found) MatchErrorKind) × (item ≡ result_transpose result) ×
@@ -46,6 +47,6 @@ pub record FindsNext (old : FindMatches) (item : Option (Result Found MatchError
   pub done : old.end < old.start → (item ≡ None) × (caches_of new ≡ caches_of old)
   pub goes_on : MayGoOn new
 
--- so many items come at most
+-- an upper bound on the number of items that are left
 abbrev pub items_left : FindMatches → ℕ
 items_left it = most_left (finds_from it)

@@ -8,11 +8,11 @@ use Rattle.search_types.specs.Inputs.{Search}
 use Rattle.search_types.specs.Modes.{is_anchored}
 use Rattle.lazy_dfa.specs.Dfas.{reader}
 use Rattle.lazy_dfa.specs.Readers.{Reader, HalfAnswer, found, quit, unsupported}
-use Rattle.lazy_dfa.specs.Scans.{scan}
+use Rattle.lazy_dfa.specs.HalfSearches.{half_search}
 use Rattle.regex_pair.specs.Pairs.{Pair}
 
--- Whether the start of a match with this end is known without a search back: the search starts there, it is anchored, or the
--- automaton finds no start further on.
+-- Whether the start of a match with this end is known without a search back. It is if the end is where the search starts, if
+-- the search is anchored, or if the automaton finds no start further on.
 abbrev pub is_start_known : Reader → Search → ℕ → Bool
 is_start_known r q end = end == q.start || is_anchored q.anchored || r.automaton.start_anchored == r.automaton.start_unanchored
 
@@ -24,7 +24,7 @@ back_from q end = record { haystack = q.haystack; start = q.start; end = end; an
 abbrev pub from_start : Search → ℕ × ℕ → Found
 from_start q e = record { pattern = e.1; start = q.start; end = e.0 }
 
--- the match with this end by what the search back answers; where it finds no start, the automata are no pair
+-- the match with this end, by what the search back answers; if that finds no start, the automata aren't a pair
 abbrev pub with_start : ℕ × ℕ → HalfAnswer → Result (Option Found) MatchErrorKind
 with_start e (found (Some s)) = Ok (Some (record { pattern = e.1; start = s.0; end = e.0 }))
 with_start e (found None) = Err NotAPair
@@ -34,11 +34,11 @@ with_start e (unsupported mode) = Err (UnsupportedAnchored mode)
 -- the answer by what the search for an end answers
 abbrev pub answer_by_end : Reader → Reader → Search → HalfAnswer → Result (Option Found) MatchErrorKind
 answer_by_end f r q (found (Some e)) = if is_start_known f q e.0 then Ok (Some (from_start q e)) else with_start e
-    (scan r (back_from q e.0))
+    (half_search r (back_from q e.0))
 answer_by_end f r q (found None) = Ok None
 answer_by_end f r q (quit b x) = Err (Quit b x)
 answer_by_end f r q (unsupported mode) = Err (UnsupportedAnchored mode)
 
 -- what a search over two automata answers
 abbrev pub joined : Pair → Search → Result (Option Found) MatchErrorKind
-joined p q = answer_by_end (reader p.forward) (reader p.reverse) q (scan (reader p.forward) q)
+joined p q = answer_by_end (reader p.forward) (reader p.reverse) q (half_search (reader p.forward) q)

@@ -1,9 +1,9 @@
 pub mod Pairs
-pub mod Lending
+pub mod Borrowing
 pub mod Joined
 pub mod PairAnswers
 pub mod Matching
-pub mod PairTold
+pub mod PairProgress
 pub mod MadeSearches
 pub mod Finding
 pub mod StepSearches

@@ -1,4 +1,4 @@
--- What the functions that make the half searches of a pair, one after the other, say of what they did.
+-- What the functions that make the half searches of a pair, one after the other, promise.
 use Rattle.std.specs.Prelude.{◌≡◌, ◌⊎◌, ℕ, ◌+◌, ◌*◌, ◌<◌, ◌≤◌, Bool, true, Option, None, Result, IfErr, OnOk}
 use Rattle.search_types.specs.declared.match_error.MatchErrorKind.{MatchErrorKind}
 use Rattle.search_types.specs.declared.match_error.MatchErrorKind.TheVariants.{NoMemory, NotAPair}
@@ -8,16 +8,16 @@ use Rattle.search_types.specs.Modes.{is_supported}
 use Rattle.lazy_dfa.specs.Caches.{CacheValue, greatest}
 use Rattle.lazy_dfa.specs.ConfigValue.{clears_of}
 use Rattle.lazy_dfa.specs.Dfas.{Dfa, reader}
-use Rattle.lazy_dfa.specs.Linked.{IsLinked, GrowsOrClears, IsMoved, passes_of}
-use Rattle.lazy_dfa.specs.ScanLaws.{HasNoQuitNear}
-use Rattle.lazy_dfa.specs.SearchAnswers.{told_of, told_by}
+use Rattle.lazy_dfa.specs.Linked.{IsLinked, GrowsOrClears, IsMoved, scans_of}
+use Rattle.lazy_dfa.specs.HalfSearchLaws.{HasNoQuitNear}
+use Rattle.lazy_dfa.specs.SearchAnswers.{progress_of, progress_by}
 use Rattle.lazy_dfa.specs.SearchPromises.{MakesHalf, half_made}
 use Rattle.lazy_dfa.specs.Steps.{most_inserts}
 use Rattle.regex_pair.specs.Joined.{back_from, joined}
 use Rattle.regex_pair.specs.Matching.{AnswersMatch, has_match, match_search}
 use Rattle.regex_pair.specs.PairAnswers.{AnswersPair, ArePathsLinked, GoesBack, IsBackLinked, back_made}
 use Rattle.regex_pair.specs.Pairs.{Pair, PairCache, PairGrowsOrClears, IsPairMoved}
-use Rattle.regex_pair.specs.PairTold.{TellsMatch, TellsPair, is_some_half, with_half}
+use Rattle.regex_pair.specs.PairProgress.{ReportsMatch, ReportsPair, is_some_half, with_half}
 
 -- the search back from an end
 pub record MakesBack (p : Pair) (q : Search) (e : HalfFound) (old new : CacheValue) (m1 m2 n1 n2 : ℕ)
@@ -26,7 +26,7 @@ pub record MakesBack (p : Pair) (q : Search) (e : HalfFound) (old new : CacheVal
   pub made : MakesHalf p.reverse (back_from q e.offset) old new m1 m2 n1 n2 half
   pub answer : result ≡ with_half e half
 
--- a half search that tells whether there is an end
+-- a half search that finds out whether there is an end
 pub record FindsEnd (d : Dfa) (q : Search) (old new : CacheValue) (m1 m2 n1 n2 : ℕ) (result : Result Bool MatchErrorKind) : Type 0 where
   pub half : Result (Option HalfFound) MatchErrorKind
   pub made : MakesHalf d q old new m1 m2 n1 n2 half
@@ -35,56 +35,57 @@ pub record FindsEnd (d : Dfa) (q : Search) (old new : CacheValue) (m1 m2 n1 n2 :
 -- A search over both. The numbers say how many states were made, and how many names were put into sets for them, before and after.
 pub record MakesPair (p : Pair) (q : Search) (old new : PairCache) (m1 m2 n1 n2 : ℕ)
     (result : Result (Option Found) MatchErrorKind) : Type 0 where
-  -- it answers what is joined, or memory lacked, or one of both gave up
+  -- it answers what is joined, or is out of memory, or one of both gave up
   pub answer : AnswersPair p new q result
-  -- memory alone may lack, or the two are no pair, where no clear is refused, the mode is supported and no quit byte stands in or
-  -- beside the span
+  -- If no minimum number of clears is set, the mode is supported and no quit byte is in or next to the span, then there are two
+  -- possible errors: out of memory, and that the two aren't a pair.
   pub sure : clears_of p.forward.options ≡ None → clears_of p.reverse.options ≡ None →
       is_supported (reader p.forward).starts_for_each_pattern q.anchored ≡ true →
       HasNoQuitNear (reader p.forward) q.haystack q.start q.end → HasNoQuitNear (reader p.reverse) q.haystack q.start q.end →
       IfErr result (λ e. (e ≡ NoMemory) ⊎ (e ≡ NotAPair))
-  -- each cache keeps what it has, or was cleared; where none goes back the second stays as it is
+  -- each cache keeps what it has, or was cleared; if no search goes back, the second stays as it is
   pub kept : PairGrowsOrClears p old new
   pub untouched : ((e : ℕ × ℕ) → GoesBack p q e → ⊥) → new.reverse ≡ old.reverse
-  -- where it answers and a cache wasn't cleared, the path of the search over that is known now
+  -- if the search answers and a cache wasn't cleared, the path of the search over that cache is known now
   pub linked : OnOk result (new.forward.clears ≡ old.forward.clears → old.forward.clears < greatest → IsLinked p.forward new.forward q)
   pub back_linked : OnOk result (new.reverse.clears ≡ old.reverse.clears → old.reverse.clears < greatest → IsBackLinked p new.reverse q)
-  -- and it was told all that the search's passes tell
-  pub is_told : OnOk result (new.forward.clears ≡ old.forward.clears → old.forward.clears < greatest →
-      told_of new.forward ≡ told_by (reader p.forward) q (told_of old.forward) (passes_of (reader p.forward) q))
+  -- and the cache recorded all that the scans of the search report
+  pub is_reported : OnOk result (new.forward.clears ≡ old.forward.clears → old.forward.clears < greatest →
+      progress_of new.forward ≡ progress_by (reader p.forward) q (progress_of old.forward) (scans_of (reader p.forward) q))
   pub back_told : OnOk result (new.reverse.clears ≡ old.reverse.clears → old.reverse.clears < greatest → (e : ℕ × ℕ) → GoesBack p q e →
-      told_of new.reverse ≡ told_by (reader p.reverse) (back_from q e.0) (told_of old.reverse)
-      (passes_of (reader p.reverse) (back_from q e.0)))
-  -- what both are told, whatever it answers
-  pub tells : TellsPair p q old new result
-  -- over known paths nothing changes but how far searches came, nothing is made, and it answers
+      progress_of new.reverse ≡ progress_by (reader p.reverse) (back_from q e.0) (progress_of old.reverse)
+      (scans_of (reader p.reverse) (back_from q e.0)))
+  -- what both caches recorded, whatever the search answers
+  pub reports : ReportsPair p q old new result
+  -- over known paths, only how far searches came changes, no state is made, and the search answers
   pub moved : ArePathsLinked p old q → IsPairMoved old new
   pub free : ArePathsLinked p old q → (m2 ≡ m1) × (n2 ≡ n1)
   pub sure_if_linked : ArePathsLinked p old q → result ≡ joined p q
-  -- they make few states, and put few names into sets for them
+  -- the searches make few states, and put few names into sets for them
   pub determinized : m2 ≤ m1 + (half_made (reader p.forward) q + back_made p q)
   pub inserted : n2 ≤ n1 + (half_made (reader p.forward) q * most_inserts p.forward + back_made p q * most_inserts p.reverse)
 
--- the search that tells whether there is a match, and leaves the second cache as it is
+-- the search that finds out whether there is a match, and leaves the second cache as it is
 pub record MakesMatch (p : Pair) (q : Search) (old new : PairCache) (m1 m2 n1 n2 : ℕ) (result : Result Bool MatchErrorKind) : Type 0 where
-  -- it answers what its half search does, or memory lacked, or that one gave up
+  -- it answers what its half search does, or is out of memory, or that one gave up
   pub answer : AnswersMatch p new q result
-  -- memory alone may lack where no clear is refused, the mode is supported and no quit byte stands in or beside the span
+  -- If no minimum number of clears is set, the mode is supported and no quit byte is in or next to the span, then out of memory is
+  -- the only possible error.
   pub sure : clears_of p.forward.options ≡ None → is_supported (reader p.forward).starts_for_each_pattern q.anchored ≡ true →
       HasNoQuitNear (reader p.forward) q.haystack q.start q.end → IfErr result (λ e. e ≡ NoMemory)
-  -- its cache keeps what it has, or was cleared; the second stays as it is
+  -- its cache keeps what it has, or was cleared; the second cache stays as it is
   pub kept : GrowsOrClears p.forward old.forward new.forward
   pub untouched : new.reverse ≡ old.reverse
-  -- where it answers and its cache wasn't cleared, the path of the search is known now
+  -- if the search answers and its cache wasn't cleared, the path of the search is known now
   pub linked : OnOk result (new.forward.clears ≡ old.forward.clears → old.forward.clears < greatest →
       IsLinked p.forward new.forward (match_search (reader p.forward) q))
-  -- and it was told all that its passes tell
-  pub is_told : OnOk result (new.forward.clears ≡ old.forward.clears → old.forward.clears < greatest →
-      told_of new.forward ≡ told_by (reader p.forward) (match_search (reader p.forward) q) (told_of old.forward)
-      (passes_of (reader p.forward) (match_search (reader p.forward) q)))
-  -- what it is told, whatever the answer is
-  pub tells : TellsMatch p q old new result
-  -- over a known path nothing changes but how far searches came, nothing is made, and it answers
+  -- and the cache recorded all that its scans report
+  pub is_reported : OnOk result (new.forward.clears ≡ old.forward.clears → old.forward.clears < greatest →
+      progress_of new.forward ≡ progress_by (reader p.forward) (match_search (reader p.forward) q) (progress_of old.forward)
+      (scans_of (reader p.forward) (match_search (reader p.forward) q)))
+  -- what the cache recorded, whatever the answer is
+  pub reports : ReportsMatch p q old new result
+  -- over a known path, only how far searches came changes, no state is made, and the search answers
   pub moved : IsLinked p.forward old.forward (match_search (reader p.forward) q) → IsMoved old.forward new.forward
   pub free : IsLinked p.forward old.forward (match_search (reader p.forward) q) → (m2 ≡ m1) × (n2 ≡ n1)
   pub sure_if_linked : IsLinked p.forward old.forward (match_search (reader p.forward) q) → result ≡ has_match p q

@@ -1,4 +1,4 @@
--- What the laws of searches over two automata speak of.
+-- Definitions that the laws of searches over two automata use.
 use Rattle.std.specs.Prelude.{◌≡◌, ◌⊎◌, ℕ, Option, None, Result, Ok, Err}
 use Rattle.search_types.specs.declared.anchored.Anchored.{Anchored}
 use Rattle.search_types.specs.declared.match_error.MatchErrorKind.{MatchErrorKind}
@@ -6,7 +6,7 @@ use Rattle.search_types.specs.Found.{Found}
 use Rattle.search_types.specs.Inputs.{Search}
 use Rattle.search_types.specs.Modes.{is_supported}
 use Rattle.lazy_dfa.specs.Dfas.{reader}
-use Rattle.lazy_dfa.specs.ScanLaws.{IsInReach}
+use Rattle.lazy_dfa.specs.HalfSearchLaws.{IsInReach}
 use Rattle.regex_pair.specs.Finding.{search_at}
 use Rattle.regex_pair.specs.Joined.{joined, back_from}
 use Rattle.regex_pair.specs.PairAnswers.{GoesBack}
@@ -16,11 +16,11 @@ abbrev pub found_of : Result (Option Found) MatchErrorKind → Option Found
 found_of (Ok o) = o
 found_of (Err e) = None
 
--- what is answered from a place on, where it isn't refused
+-- what is answered from an offset on, if it isn't an error
 abbrev pub answer_at : Pair → Search → ℕ → Option Found
 answer_at p q k = found_of (joined p (search_at q k))
 
--- x is the index of a byte at which one of both half searches looks
+-- x is the index of a byte that one of both half searches reads
 abbrev pub IsInPairReach : Pair → Search → ℕ → Type 0
 IsInPairReach p q x = IsInReach (reader p.forward) q x ⊎
     ((e : ℕ × ℕ) × GoesBack p q e × IsInReach (reader p.reverse) (back_from q e.0) x)

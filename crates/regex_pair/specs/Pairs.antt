@@ -21,8 +21,8 @@ pub record IsPair (p : Pair) : Type 0 where
 
 -- ---- how a pair is built
 
--- the options of the automaton that reads in reverse, beside those of both: it finds the last place, whatever the kind of the
--- search is, and nobody asks whether one of its states is a start
+-- The options of the automaton that reads in reverse, in addition to those of both. It finds the last offset, whatever the
+-- kind of the search is. Nobody asks whether one of its states is a start, so starts aren't tagged.
 abbrev pub back_options : DfaOptions
 back_options = record no_dfa_options { match_kind = Some AllMatches; specialize_start_states = Some false }
 

@@ -8,8 +8,9 @@ use Rattle.lazy_dfa.specs.Readers.{is_quit}
 use Rattle.regex_pair.specs.Joined.{joined}
 use Rattle.regex_pair.specs.Pairs.{Pair}
 
--- The place behind what a search read. From the byte before the span to there stands no quit byte of the first automaton, and
--- over any haystack that has the same bytes there the answer is the same. A search that was done before it began read nothing.
+-- The offset right after what a search read. From the byte before the span up to there, no byte is a quit byte of the first
+-- automaton. Over any haystack that has the same bytes there, the answer is the same. A search that was done before it began
+-- read nothing.
 pub record IsPairReach (p : Pair) (q : Search) (o : Option Found) (end : ℕ) : Type 0 where
   pub within : end ≤ suc q.end
   pub done : q.end < q.start → (x : ℕ) → q.start ≤ x + 1 → x < end → ⊥

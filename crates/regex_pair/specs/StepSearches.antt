@@ -7,16 +7,16 @@ use Rattle.search_types.specs.Inputs.{Search}
 use Rattle.regex_pair.specs.Finding.{Finding, search_at}
 use Rattle.regex_pair.specs.PairAnswers.{AnswersPair}
 use Rattle.regex_pair.specs.Pairs.{Pair, PairCache, PairGrowsOrClears}
-use Rattle.regex_pair.specs.PairTold.{TellsPair}
+use Rattle.regex_pair.specs.PairProgress.{ReportsPair}
 
--- one of them: what it answers, what it leaves of the caches, and what it tells them
+-- one of them: what it answers, what it leaves of the caches, and what it records in them
 pub record SearchesOnce (p : Pair) (q : Search) (old new : PairCache) (result : Result (Option Found) MatchErrorKind) : Type 0 where
   pub answer : AnswersPair p new q result
   pub kept : PairGrowsOrClears p old new
-  pub told : TellsPair p q old new result
+  pub reported : ReportsPair p q old new result
 
--- One search from where the iterator is; and where what that answers is a repeat, a second one from one place further, over the
--- caches as the first left them.
+-- One search from where the iterator is. If its answer is a repeat, there is a second search from the next offset, over the
+-- caches as the first one left them.
 pub data SearchesNext (p : Pair) (at : Finding) (old new : PairCache) (result : Result (Option Found) MatchErrorKind) : Type 0 where
   searches_once : SearchesOnce p at.search old new result → IfOk result (λ o. is_repeat at.last o ≡ false) →
       SearchesNext p at old new result

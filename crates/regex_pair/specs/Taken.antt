@@ -8,9 +8,9 @@ use Rattle.regex_pair.specs.Finding.{Finding, AnswersAt, search_at}
 use Rattle.regex_pair.specs.FindSteps.{FindsNext, finds_from, searches_by}
 use Rattle.regex_pair.specs.Pairs.{Pair}
 
--- These were taken, and then the iterator is there: whatever is taken from there on, behind these it is a chain of answers to the
--- search, and it is the whole of them where that is the whole of what follows. It isn't before the search's start. No refusal and no end
--- came yet.
+-- The matches `fs` were taken, and then the iterator is at `at`. Take any matches that follow from there on: appended to `fs`, they are
+-- a chain of answers to the search. If they are all that follow, the whole is all answers. The iterator isn't before the search's start.
+-- Neither an error nor the end has come yet.
 pub record AreTaken (p : Pair) (q : Search) (fs : List Found) (at : Finding) : Type 0 where
   pub begun : at.is_over ≡ false
   pub here : at.search ≡ search_at q at.search.start

@@ -63,8 +63,8 @@ impl Builder {
         self
     }
 
-    /// The regex of two automata as they are, as `Builder::build_from_dfas`; no option matters. The first reads forward and the
-    /// second in reverse, as `is_reverse` of their NFAs tells.
+    /// The regex of two automata as they are, as `Builder::build_from_dfas`; no option matters. Precondition: the first reads
+    /// forward and the second in reverse, as `is_reverse` of their NFAs returns.
     pub fn build_from_dfas(&self, forward: DFA, reverse: DFA) -> Regex
         requires is_forward { forward.nfa.automaton.reverse ≡ false }
         requires is_reverse { reverse.nfa.automaton.reverse ≡ true }
@@ -73,10 +73,10 @@ impl Builder {
         Regex { forward, reverse }
     }
 
-    /// The regex of the automata of two NFAs with the options of this builder. The first reads forward and the second
-    /// in reverse, as `is_reverse` tells. The automaton that finds starts has the kind
-    /// [`All`](MatchKind::All) and no tagged starts, whatever is set. It is refused where one of the automata is, the first
-    /// one's refusal first.
+    /// The regex of the automata of two NFAs with the options of this builder. Precondition: the first reads forward and the
+    /// second in reverse, as `is_reverse` returns. The automaton that finds starts has the kind [`All`](MatchKind::All) and no
+    /// tagged starts, whatever is set. If building one of the automata fails, its error is returned; the error of the first one
+    /// comes first.
     pub fn build_from_nfas(&self, forward: NFA, reverse: NFA) -> Result<Regex, BuildError>
         requires is_forward { forward.automaton.reverse ≡ false }
         requires is_reverse { reverse.automaton.reverse ≡ true }

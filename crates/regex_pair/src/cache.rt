@@ -1,7 +1,7 @@
 ghost use Rattle.std.specs.Prelude.{◌≡◌, IfOk, OnOk, OnErr};
 ghost use Rattle.std.specs.Borrow.{sem};
 ghost use Rattle.lazy_dfa.specs.Caches.{IsCacheOf};
-ghost use Rattle.regex_pair.specs.Lending.{LendsForward, LendsReverse};
+ghost use Rattle.regex_pair.specs.Borrowing.{BorrowsForward, BorrowsReverse};
 ghost use Rattle.regex_pair.specs.Pairs.{AreCachesOf, Pair, pair_made_for, pair_usage};
 
 use crate::regex::Regex;
@@ -10,8 +10,8 @@ use std::alloc::{AllocError, Global};
 use std::marker::Model;
 use std::mem;
 
-/// The caches of both automata of a regex, as `regex_automata::hybrid::regex::Cache`. They are of use with the regex for which
-/// they were made, or to which they were [`reset`](Cache::reset), alone.
+/// The caches of both automata of a regex, as `regex_automata::hybrid::regex::Cache`. They are usable only with the regex for
+/// which they were made, or to which they were [`reset`](Cache::reset).
 #[derive(Drop)]
 pub struct Cache {
     pub(crate) forward: dfa::Cache,
@@ -28,7 +28,7 @@ impl Model for Cache {
 }
 
 impl Cache {
-    /// Caches for both automata that hold no states, as `Cache::new`. It is refused where memory lacks.
+    /// Caches for both automata that hold no states, as `Cache::new`. The call fails if it is out of memory.
     pub fn new(alloc: Global, re: &Regex) -> Result<Cache, AllocError>
         ensures value { IfOk result (λ c. c ≡ pair_made_for re.now) }
         ensures own { IfOk result (λ c. AreCachesOf re.now c) }
@@ -42,8 +42,8 @@ impl Cache {
         })
     }
 
-    /// Makes both caches such as [`new`](Cache::new) does, as `Cache::reset`. It is refused where memory lacks, and both are
-    /// then left as they were.
+    /// Resets both caches to what [`new`](Cache::new) makes for this regex, as `Cache::reset`. The call fails if it is out of
+    /// memory, and both are then left as they were.
     pub fn reset(&mut self, re: &Regex) -> Result<(), AllocError>
         ensures value { OnOk result (self.new ≡ pair_made_for re.now) }
         ensures own { OnOk result (AreCachesOf re.now self.new) }
@@ -71,20 +71,20 @@ impl Cache {
         &self.reverse
     }
 
-    /// The cache of the automaton that finds ends, as `Cache::forward_mut`. The other stays as it is. Whoever leaves this one a
-    /// cache of its automaton, leaves both ones of the regex.
+    /// The cache of the automaton that finds ends, as `Cache::forward_mut`. The other stays as it is. If the caller leaves a
+    /// cache of its automaton here, both caches are still those of the regex.
     pub fn forward_mut(&mut self) -> &mut dfa::Cache
-        ensures* lends { sem 𝓛 (LendsForward self.entry result) }
+        ensures* lends { sem 𝓛 (BorrowsForward self.entry result) }
         ensures value { result.now ≡ self.old.forward }
         ensures own { (p : Pair) → AreCachesOf p self.old → IsCacheOf p.forward result.now }
     {
         &mut self.forward
     }
 
-    /// The cache of the automaton that finds starts, as `Cache::reverse_mut`. The other stays as it is. Whoever leaves this one a
-    /// cache of its automaton, leaves both ones of the regex.
+    /// The cache of the automaton that finds starts, as `Cache::reverse_mut`. The other stays as it is. If the caller leaves a
+    /// cache of its automaton here, both caches are still those of the regex.
     pub fn reverse_mut(&mut self) -> &mut dfa::Cache
-        ensures* lends { sem 𝓛 (LendsReverse self.entry result) }
+        ensures* lends { sem 𝓛 (BorrowsReverse self.entry result) }
         ensures value { result.now ≡ self.old.reverse }
         ensures own { (p : Pair) → AreCachesOf p self.old → IsCacheOf p.reverse result.now }
     {
@@ -100,8 +100,8 @@ impl Cache {
         (&self.forward, &self.reverse)
     }
 
-    /// Both caches, as `Cache::as_parts_mut`: that of the automaton that finds ends first. A caller who has to know what both
-    /// are afterwards takes [`forward_mut`](Cache::forward_mut) and [`reverse_mut`](Cache::reverse_mut), one after the other.
+    /// Both caches, as `Cache::as_parts_mut`: that of the automaton that finds ends first. A caller who has to know what both are
+    /// afterwards calls [`forward_mut`](Cache::forward_mut) and [`reverse_mut`](Cache::reverse_mut), one after the other.
     pub fn as_parts_mut(&mut self) -> (&mut dfa::Cache, &mut dfa::Cache)
         ensures forward { result.0.now ≡ self.old.forward }
         ensures reverse { result.1.now ≡ self.old.reverse }
@@ -110,7 +110,8 @@ impl Cache {
         (&mut self.forward, &mut self.reverse)
     }
 
-    /// The bytes that both are taken to need, as `Cache::memory_usage`: the sum, or the greatest number where that is above it.
+    /// The number of bytes that both caches are taken to need, as `Cache::memory_usage`: the sum, or the greatest number if the
+    /// sum is above it.
     pub fn memory_usage(&self) -> usize
         ensures { result ≡ pair_usage self.now }
     {
@@ -121,7 +122,7 @@ impl Cache {
 }
 
 impl Regex {
-    /// Caches for the regex, as `Regex::create_cache`. It is refused where memory lacks.
+    /// Caches for the regex, as `Regex::create_cache`. The call fails if it is out of memory.
     pub fn create_cache(&self, alloc: Global) -> Result<Cache, AllocError>
         ensures value { IfOk result (λ c. c ≡ pair_made_for self.now) }
         ensures own { IfOk result (λ c. AreCachesOf self.now c) }
@@ -130,8 +131,8 @@ impl Regex {
         Ok(cache)
     }
 
-    /// Makes the caches ones for the regex, as `Regex::reset_cache`. It is refused where memory lacks, and both are then left
-    /// as they were.
+    /// Resets the caches to ones for this regex, as `Regex::reset_cache`. The call fails if it is out of memory, and both are
+    /// then left as they were.
     pub fn reset_cache(&self, cache: &mut Cache) -> Result<(), AllocError>
         ensures value { OnOk result (cache.new ≡ pair_made_for self.now) }
         ensures own { OnOk result (AreCachesOf self.now cache.new) }

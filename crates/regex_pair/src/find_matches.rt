@@ -3,11 +3,11 @@ ghost use Rattle.std.specs.Prelude.{◌≡◌, ◌+◌, ◌<◌, ◌≤◌, fals
 ghost use Rattle.std.specs.Iterator.{at_most};
 ghost use Rattle.search_types.specs.AllAnswers.{is_repeat};
 ghost use Rattle.search_types.specs.Inputs.{IsSpanOf};
-ghost use Rattle.regex_pair.specs.Finding.{finding_all, search_at, IsNextAnswer, IsPlaced, KeepsTwice};
-ghost use Rattle.regex_pair.specs.FindSteps.{searches_by, finds_from, caches_of, lender_of, items_left, MayGoOn, FindsNext};
+ghost use Rattle.regex_pair.specs.Finding.{finding_all, search_at, IsNextAnswer, IsPositioned, KeepsTwice};
+ghost use Rattle.regex_pair.specs.FindSteps.{searches_by, finds_from, caches_of, borrow_name_of, items_left, MayGoOn, FindsNext};
 ghost use Rattle.regex_pair.specs.PairAnswers.{AnswersPair};
 ghost use Rattle.regex_pair.specs.Pairs.{AreCachesOf, PairGrowsOrClears};
-ghost use Rattle.regex_pair.specs.PairTold.{TellsPair};
+ghost use Rattle.regex_pair.specs.PairProgress.{ReportsPair};
 ghost use Rattle.regex_pair.specs.StepSearches.{SearchesNext};
 
 use crate::regex::{Cache, Regex};
@@ -16,7 +16,7 @@ use search_types::{Anchored, Input, Match, MatchError, Span};
 use std::marker::Brand;
 use std::sync::ledger::{Blank, Ledger};
 
-/// A search, with a count of its work that is made for it.
+/// A search, with a count of its work that is made for this call.
 #[inline(always)]
 fn search_counted<L: Ledger, M: Ledger>(
     re: &Regex,
@@ -36,7 +36,7 @@ fn search_counted<L: Ledger, M: Ledger>(
     ensures answer { AnswersPair re.now cache.new input.now result }
     ensures done { input.now.end < input.now.start → (result ≡ Ok None) × (cache.new ≡ cache.old) }
     ensures kept { PairGrowsOrClears re.now cache.old cache.new }
-    ensures tells { TellsPair re.now input.now cache.old cache.new result }
+    ensures reports { ReportsPair re.now input.now cache.old cache.new result }
 {
     let mut work = Work::<L, M>::new(first, second);
     re.try_search(cache, input, &mut work)
@@ -54,14 +54,14 @@ fn search_once(
     ensures answer { AnswersPair re.now cache.new input.now result }
     ensures done { input.now.end < input.now.start → (result ≡ Ok None) × (cache.new ≡ cache.old) }
     ensures kept { PairGrowsOrClears re.now cache.old cache.new }
-    ensures tells { TellsPair re.now input.now cache.old cache.new result }
+    ensures reports { ReportsPair re.now input.now cache.old cache.new result }
 {
     let first = Blank::new(1);
     let second = Blank::new(1);
     search_counted::<Brand, Brand>(re, cache, input, first, second)
 }
 
-/// One more search, as [`search_once`] makes it, which is seldom wanted.
+/// One more search, as [`search_once`] makes it. It is rarely needed.
 #[inline(never)]
 fn search_once_more(
     re: &Regex,
@@ -73,7 +73,7 @@ fn search_once_more(
     ensures answer { AnswersPair re.now cache.new input.now result }
     ensures done { input.now.end < input.now.start → (result ≡ Ok None) × (cache.new ≡ cache.old) }
     ensures kept { PairGrowsOrClears re.now cache.old cache.new }
-    ensures tells { TellsPair re.now input.now cache.old cache.new result }
+    ensures reports { ReportsPair re.now input.now cache.old cache.new result }
 {
     search_once(re, cache, input)
 }
@@ -105,7 +105,7 @@ fn search_over<'h>(haystack: &'h [u8], span: Span, anchored: Anchored, earliest:
     input
 }
 
-/// The same search from one place further on.
+/// This search from the next offset on.
 fn one_further<'h>(input: &Input<'h>) -> Input<'h>
     requires { input.now.start ≤ input.now.end }
     ensures { result ≡ search_at input.now (input.now.start + 1) }
@@ -120,7 +120,7 @@ fn one_further<'h>(input: &Input<'h>) -> Input<'h>
     further
 }
 
-/// What comes next: what a search answers, or where that is a repeat what it answers from one place further on.
+/// The next answer: that of the search or, if this is a repeat, that of the search from the next offset on.
 #[inline(always)]
 fn next_answer(
     re: &Regex,
@@ -151,18 +151,20 @@ fn next_answer(
 
 /// An iterator over the matches of a regex in a span, none of which overlap, as `regex_automata::hybrid::regex::FindMatches`.
 ///
-/// Each item is the next match. An empty one at the end of the last match isn't given. A refusal is the last item, where the
-/// iterator of the Rust crate panics; behind it and behind the end comes nothing for good.
+/// Each item is the next match. An empty match at the end of the last match is skipped. An error is the last item, where the
+/// iterator of the Rust crate panics. After an error and after the end, the iterator returns `None` for good.
 ///
-/// The caches are the regex's own after each step, whatever it gave, keep what they have but for clears, and are told how far
-/// searches came, as [`try_search`](Regex::try_search) has it. Over a done span they stay as they are. Those that were lent are the
-/// regex's own once this is gone: a loop keeps that the iterator may go on (`MayGoOn`), and that the regex (`searches_by`) and the
-/// name of the reference (`lender_of`) are those with which it began. What it took is as [`taken_laws`](crate::taken_laws) say.
+/// After each step, whatever it returned, the caches still belong to the regex. They keep what they have unless they were cleared,
+/// and they record how far searches came, as in [`try_search`](Regex::try_search). Over a done span they stay as they are.
+///
+/// When the iterator is dropped, the borrowed caches belong to the regex. For this, the invariant of a loop says that the iterator
+/// may go on (`MayGoOn`). It also says that the regex (`searches_by`) and the name of the reference (`borrow_name_of`) are those with
+/// which the loop began. The laws of what the loop took are in [`taken_laws`](crate::taken_laws).
 #[derive(Drop)]
 pub struct FindMatches<'r, 'c, 'h> {
     cache: &'c mut Cache,
     re: &'r Regex,
-    // the parts of what is asked: with an `Input` in it, callers wouldn't know the caches once this is gone
+    // the parts of the input: with an `Input` as a field, callers wouldn't know the caches after the iterator is dropped
     haystack: &'h [u8],
     start: usize,
     end: usize,
@@ -173,8 +175,8 @@ pub struct FindMatches<'r, 'c, 'h> {
 }
 
 impl Regex {
-    /// The matches in a span one after the other, as `Regex::find_iter`. It has made no search yet. Nobody counts the work of
-    /// its searches.
+    /// The matches in a span one after the other, as `Regex::find_iter`. The iterator has made no search yet. The work of its
+    /// searches isn't counted.
     pub fn find_iter<'r, 'c, 'h>(
         &'r self,
         cache: &'c mut Cache,
@@ -184,7 +186,7 @@ impl Regex {
         ensures regex { searches_by result ≡ self.now }
         ensures from { finds_from result ≡ finding_all input.entry }
         ensures caches { caches_of result ≡ cache.old }
-        ensures same_reference { lender_of result ≡ cache.entry.ghost_name }
+        ensures same_reference { borrow_name_of result ≡ cache.entry.ghost_name }
         ensures goes_on { MayGoOn result }
     {
         FindMatches {
@@ -227,11 +229,11 @@ impl<'r, 'c, 'h> Iterator for FindMatches<'r, 'c, 'h> {
                 Some(Ok(found))
             }
             Ok(None) => {
-                self.is_over = true; // behind the end
+                self.is_over = true; // after the end
                 None
             }
             Err(e) => {
-                self.is_over = true; // behind a refusal
+                self.is_over = true; // after an error
                 Some(Err(e))
             }
         }

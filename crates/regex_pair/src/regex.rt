@@ -16,7 +16,7 @@ use lazy_dfa::dfa::DFA;
 use std::marker::Model;
 
 /// Two automata that search as one, as `regex_automata::hybrid::regex::Regex`: the forward one finds the end of a match, and the
-/// reverse one its start. No tree stands behind them.
+/// reverse one its start. They needn't be compiled from an expression tree.
 #[derive(Drop)]
 pub struct Regex {
     pub(crate) forward: DFA,

@@ -26,7 +26,7 @@ fn is_start_known(re: &Regex, input: &Input<'_>, end: usize) -> bool
     re.forward().get_nfa().is_always_start_anchored()
 }
 
-/// The match of the pattern of an end, from a place on.
+/// The match of the pattern of an end, from an offset on.
 #[inline(always)]
 fn match_between(start: usize, end: HalfMatch) -> Match
     requires { start ≤ end.offset }
@@ -55,7 +55,7 @@ fn back_input<'h>(input: &Input<'h>, end: usize) -> Input<'h>
     back
 }
 
-/// The search that tells whether there is a match.
+/// The search that finds out whether there is a match.
 fn match_input<'h>(re: &Regex, input: &Input<'h>) -> Input<'h>
     ensures { result ≡ match_search (reader re.now.forward) input.now }
 {
@@ -127,8 +127,8 @@ fn search_back<L: Ledger, M: Ledger>(
     Ok(Some(match_between(start.offset(), end)))
 }
 
-/// What is known of a regex and of an input: one automaton reads forward and the other in reverse, and the span lies in the
-/// haystack.
+/// What is known of a regex and of an input: one automaton reads forward, the other one reads in reverse, and the span lies in
+/// the haystack.
 #[inline(always)]
 fn see_pair(re: &Regex, input: &Input<'_>)
     ensures pair { IsPair re.now }
@@ -164,7 +164,7 @@ fn search<L: Ledger, M: Ledger>(
     search_back(re, &mut cache.reverse, input, end, work)
 }
 
-/// A search over both automata; over a done span none is made.
+/// A search over both automata. For a done span no search is made.
 #[inline(always)]
 fn search_span<L: Ledger, M: Ledger>(
     re: &Regex,
@@ -206,7 +206,7 @@ fn finds_end<L: Ledger, M: Ledger>(
     Ok(end.is_some())
 }
 
-/// A search that tells whether there is a match.
+/// A search that finds out whether there is a match.
 fn search_match<L: Ledger, M: Ledger>(
     re: &Regex,
     cache: &mut Cache,
@@ -222,7 +222,7 @@ fn search_match<L: Ledger, M: Ledger>(
     finds_end(re, &mut cache.forward, &search, work)
 }
 
-/// The same; over a done span none is made.
+/// A search that finds out whether there is a match. For a done span no search is made.
 fn match_span<L: Ledger, M: Ledger>(
     re: &Regex,
     cache: &mut Cache,
@@ -242,25 +242,25 @@ fn match_span<L: Ledger, M: Ledger>(
 }
 
 impl Regex {
-    /// The match in a span that leftmost-first prefers, or none, as `Regex::try_search`: the automaton that reads forward finds
-    /// its end, and the one that reads in reverse from there its start, unless that is known.
+    /// The match in a span that leftmost-first prefers, or none, as `Regex::try_search`. The automaton that reads forward finds
+    /// its end. From there, the one that reads in reverse finds its start, unless that is known.
     ///
-    /// The answer is that of two half searches, joined, whatever the caches hold and whatever was done with them before. Else
-    /// memory lacked, or one of both gave up. A quit byte is answered where one of both reads it, and a mode that isn't supported
-    /// is refused. Where the second finds no
-    /// start for the end that the first found, the automata are no pair. The caches are of use after each answer.
+    /// The answer is that of two half searches, joined, whatever the caches hold and whatever was done with them before.
+    /// Otherwise the search is out of memory, or one of both half searches gave up. If one of both reads a quit byte, the answer
+    /// is an error that names it. A mode that isn't supported is an error. If the second finds no start for the end that the
+    /// first found, the error is that the automata aren't a pair. The caches are usable after each answer.
     ///
-    /// Where no quit byte stands in or beside the span, no least count of clears is set and the mode is supported, it answers,
-    /// if memory suffices and the automata are a pair. Where the caches aren't cleared on the way, all steps of the search are
-    /// known afterwards, and a search whose steps are known makes no states and takes no memory. Over a done span it makes
-    /// none, and the caches stay as they are.
+    /// The search returns `Ok` if no quit byte is in or next to the span, no minimum number of clears is set, the mode is
+    /// supported, memory suffices and the automata are a pair. If the caches aren't cleared during the search, all its steps are
+    /// known afterwards. A search whose steps are known makes no states and allocates nothing. For a done span no search is made,
+    /// and the caches stay as they are.
     ///
-    /// The caches are told how far their searches came, whatever the answer is, as
-    /// [`try_search_fwd`](lazy_dfa::dfa::DFA::try_search_fwd) and [`try_search_rev`](lazy_dfa::dfa::DFA::try_search_rev) have
-    /// it. Where no search goes back, the cache of the second automaton stays as it is.
+    /// The caches record how far their searches came, whatever the answer is, as in
+    /// [`try_search_fwd`](lazy_dfa::dfa::DFA::try_search_fwd) and [`try_search_rev`](lazy_dfa::dfa::DFA::try_search_rev). If no
+    /// search goes back, the cache of the second automaton stays as it is.
     ///
-    /// A match, or none, comes with a place up to which the first automaton read: from the byte before the span to there stands
-    /// no quit byte of it, and over each haystack with the same bytes there the answer is the same.
+    /// A match, or none, comes with an offset up to which the first automaton read. From the byte before the span up to there, no
+    /// byte is one of its quit bytes. Over each haystack with the same bytes there, the answer is the same.
     #[inline(always)]
     pub fn try_search<L: Ledger, M: Ledger>(
         &self,
@@ -278,7 +278,7 @@ impl Regex {
         search_span(self, cache, input, work)
     }
 
-    /// The same as [`try_search`](Regex::try_search), as `Regex::find`.
+    /// Searches as [`try_search`](Regex::try_search) does, under the name of `Regex::find`.
     pub fn find<L: Ledger, M: Ledger>(
         &self,
         cache: &mut Cache,
@@ -295,12 +295,13 @@ impl Regex {
         self.try_search(cache, input, work)
     }
 
-    /// Whether there is a match in a span, as `Regex::is_match`: by the automaton that reads forward alone, so the other's cache
-    /// stays as it is, and no two automata are refused for being no pair. Where an end may split a character, the end
-    /// that leftmost-first prefers is looked for, and else the earliest one, whatever the input asks for.
+    /// Whether there is a match in a span, as `Regex::is_match`. Only the automaton that reads forward searches. So the other's
+    /// cache stays as it is, and two automata that aren't a pair are no error. If an end may split a character, the search looks
+    /// for the end that leftmost-first prefers, otherwise for the earliest one, whatever the input asks for.
     ///
-    /// It is refused as the first half search is: at a quit byte, in a mode that isn't supported, where the cache gives up, and
-    /// where memory lacks. Its cache is told how far that one came. Over a done span none is made, and the cache stays as it is.
+    /// It fails as the first half search does: at a quit byte, in a mode that isn't supported, if the cache gives up, and if
+    /// memory runs out. Its cache records how far that search came. For a done span no search is made, and the cache stays as it
+    /// is.
     pub fn is_match<L: Ledger, M: Ledger>(
         &self,
         cache: &mut Cache,

@@ -1,5 +1,4 @@
--- The first byte that passes a test is the head of the list of all that do, and the bytes behind it
--- are its tail.
+-- The first byte that passes a test is the first element of the list of all that do, and the bytes after it are the rest of that list.
 use Rattle.std.proofs.Common.{◌≡◌, ℕ, zero, suc, ◌+◌, ◌-◌, ◌<◌, ◌≤◌, Bool, true, false, cond, List, [], ◌∷◌, drop, get_or, refl, ap, ◌∙◌}
 use Rattle.std.proofs.Common.{subst, Option, Some, None, arith}
 use Rattle.std.specs.List.{All, filter, range_with_len, prefix_len}
@@ -49,7 +48,7 @@ bytes_where-first test from end b p q t h =
     ∙ ap (λ a. filter test (range_with_len a (suc (end - (b + 1))))) f
     ∙ filter_yes test b (end - (b + 1)) t
 
--- as many as pass from the head on, up to the first that does not
+-- as many as pass from the first on, up to the first that doesn't
 prefix_is : (xs : List Bool) (n : ℕ) → ((k : ℕ) → k < n → get_or xs k false ≡ true) → get_or xs n false ≡ false → prefix_len (λ m. m) xs ≡ n
 prefix_is [] zero h f = refl
 prefix_is [] (suc n) h f = cc (h 0 (omega arith))

@@ -1,4 +1,4 @@
--- The computed characters of a text against the spellings that stand at its places.
+-- The characters that are computed from bytes, compared with the spellings at their offsets.
 use Rattle.std.proofs.Common.{◌≡◌, ℕ, zero, suc, ◌+◌, ◌-◌, ◌<◌, ◌≤◌, ◌⊎◌, inl, inr, Bool, true, false, cond, ◌&&◌, List, [], ◌∷◌}
 use Rattle.std.proofs.Common.{length, get_or, take, drop, Option, Some, None, Result, Ok, Err, refl, sym, ap, subst, ◌∙◌, arith, lit<}
 use Rattle.std.proofs.Common.{length-append, length-drop, length-take-le}
@@ -136,7 +136,7 @@ takes None None None z c e = elim e [
 some_same : (r : Option ℕ) (c d : ℕ) → r ≡ Some d → c ≡ d → r ≡ Some c
 some_same r c d e s = e ∙ ap (λ x. Some x) (sym s)
 
--- ---- the bytes of a text at a place
+-- ---- the bytes at an offset
 module _ (h : List ℕ) (k c : ℕ) where
   first_of_one : one_byte h k ≡ Some c → (k < length h) × (get_or h k 0 ≤ 0x7F) × (get_or h k 0 ≡ c)
   first_of_one e =
@@ -150,11 +150,11 @@ module _ (h : List ℕ) (k c : ℕ) where
 some_byte : (h : List ℕ) (k : ℕ) → 0 < get_or h k 0 → k < length h
 some_byte h k some = elim (cases_lt k (length h)) [ inl l ↦ l | inr past ↦ absurd (omega (arith, get_or_past h k 0 past)) ]
 
--- the byte with index j of a list that stands at the place k
+-- the byte with index j of a list that begins at offset k
 abbrev IsAt : List ℕ → ℕ → List ℕ → Type 0
 IsAt h k s = (k + length s ≤ length h) × ((j : ℕ) → j < length s → get_or s j 0 ≡ get_or h (k + j) 0)
 
--- a spelling that stands at the place gives the value of its length
+-- a spelling at the offset gives the value of its length
 module _ (h : List ℕ) (k c : ℕ) (s : List ℕ) (at : IsAt h k s) where
   first_byte : 0 < length s → get_or s 0 0 ≡ get_or h k 0
   first_byte l = at.1 0 l ∙ ap (λ j. get_or h j 0) (omega arith)
@@ -164,8 +164,8 @@ module _ (h : List ℕ) (k c : ℕ) (s : List ℕ) (at : IsAt h k s) where
       ((length s ≡ 1) × (one_byte h k ≡ Some c)) ⊎ (((length s ≡ 2) × (two_bytes h k ≡ Some c)) ⊎
       (((length s ≡ 3) × (three_bytes h k ≡ Some c)) ⊎ ((length s ≡ 4) × (four_bytes h k ≡ Some c))))
 
-  told : Row c s → IsTold
-  told r = elim r [
+  reported : Row c s → IsTold
+  reported r = elim r [
     | inl n ↦ let b0 = first_byte (omega arith) in inl (n.0, one_of_first h k c (omega arith) (omega arith) (n.2 ∙ b0))
     | inr r ↦ elim r [
       | inl n ↦
@@ -271,14 +271,14 @@ module _ (h : List ℕ) (i c : ℕ) where
 pub begun_character : (h : List ℕ) (i c : ℕ) → SpellsFirst c (drop i h) → character_at h i ≡ Some c
 begun_character h i c f =
     let d = takes (one_byte h i) (two_bytes h i) (three_bytes h i) (four_bytes h i) c
-    (elim (told h i c f.spelling (begun_stands h i c f) (row_of c f.spelling f.spells)) [
+    (elim (reported h i c f.spelling (begun_stands h i c f) (row_of c f.spelling f.spells)) [
       | inl o ↦ inl o.1
       | inr o ↦ elim o [ inl p ↦ inr (inl p.1) | inr p ↦ elim p [ inl q ↦ inr (inr (inl q.1)) | inr q ↦ inr (inr (inr q.1)) ] ]
     ]) in
     let g = character_begins h i d.0 d.1 in
     some_same _ c d.0 d.1 (heads_same c d.0 f.spelling g.spelling f.rest g.rest f.spells g.spells (sym f.joined ∙ g.joined)).0
 
--- each value that ends at the place is of a spelling that ends there
+-- each value that ends at the offset is of a spelling that ends there
 ended : (t : Bool) (x : Option ℕ) (c : ℕ) → cond t x None ≡ Some c → (t ≡ true) × (x ≡ Some c)
 ended true x c e = (refl, e)
 ended false x c e = absurd (none-some c e)
@@ -350,7 +350,7 @@ ended_stands h i c fits f =
       ),
     )
 
--- a value at the place where a spelling of n bytes begins is one that ends behind it
+-- a value at the offset where a spelling of n bytes begins is one that ends after it
 ends_with : (h : List ℕ) (i c m n : ℕ) (spelled : List ℕ → ℕ → Option ℕ) → m ≡ n → m ≤ i → spelled h (i - m) ≡ Some c →
     ending_at n spelled h i ≡ Some c
 ends_with h i c m n spelled e l v = cond-true _ _ _ (le-leb n i (omega arith)) ∙ ap (λ k. spelled h (i - k)) (sym e) ∙ v
@@ -359,7 +359,7 @@ pub ended_character : (h : List ℕ) (i c : ℕ) → i ≤ length h → SpellsLa
 ended_character h i c fits f =
     let at = ended_stands h i c fits f in
     let d = takes (ending_at 1 one_byte h i) (ending_at 2 two_bytes h i) (ending_at 3 three_bytes h i) (ending_at 4 four_bytes h i) c
-    (elim (told h (i - length f.spelling) c f.spelling at.1 (row_of c f.spelling f.spells)) [
+    (elim (reported h (i - length f.spelling) c f.spelling at.1 (row_of c f.spelling f.spells)) [
       | inl o ↦ inl (ends_with h i c _ 1 one_byte o.0 at.0 o.1)
       | inr o ↦ elim o [
         | inl p ↦ inr (inl (ends_with h i c _ 2 two_bytes p.0 at.0 p.1))
@@ -374,7 +374,7 @@ ended_character h i c fits f =
     let same = lasts_same (take i h) f.front g.front f.spelling g.spelling c d.0 f.spells g.spells f.joined g.joined in
     some_same _ c d.0 d.1 (one_scalar c d.0 f.spelling f.spells (subst (Spells d.0) (sym same) g.spells))
 
--- ---- what is read at a place
+-- ---- what is read at an offset
 first_read_once : (bytes : List ℕ) (r s : Option (Result ℕ ℕ)) → Decodes bytes s → Decodes bytes r → r ≡ s
 first_read_once bytes r (Some (Ok c)) f d = first_decodes c f.spelling f.rest r f.spells (subst (λ x. Decodes x r) f.joined d)
 first_read_once bytes None None e d = refl
@@ -395,7 +395,7 @@ last_read_once bytes None (Some (Err b)) e d = absurd (none-some b (ap (λ x. by
 last_read_once bytes (Some (Ok c)) (Some (Err b)) e d = absurd (e.1 c d)
 last_read_once bytes (Some (Err a)) (Some (Err b)) e d = ap (option_map (λ x. Err x)) (sym d.0 ∙ e.0)
 
--- the byte at the place
+-- the byte at the offset
 byte_behind : (h : List ℕ) (i : ℕ) → byte_at (drop i h) 0 ≡ byte_at h i
 byte_behind h i = elim (cases_lt i (length h)) [
   | inl l ↦
@@ -412,32 +412,32 @@ byte_in_front h (suc j) l =
     ∙ ap (λ x. Some x) (get_or-take (suc j) h j 0 (omega arith))
     ∙ sym (slice_get-get_or h j 0 (omega arith))
 
--- of a reading by a byte and by a character
+-- for a reading by a byte and by a character
 read_first_by : (bytes : List ℕ) (o : Option ℕ) (b : ℕ) → byte_at bytes 0 ≡ Some b → ((c : ℕ) → o ≡ Some c → SpellsFirst c bytes) →
     ((c : ℕ) → SpellsFirst c bytes → o ≡ Some c) →
     Decodes bytes (Some (ok_or o b))
-read_first_by bytes None b e says tells = (e, λ c f. none-some c (tells c f))
-read_first_by bytes (Some c) b e says tells = says c refl
+read_first_by bytes None b e says reports = (e, λ c f. none-some c (reports c f))
+read_first_by bytes (Some c) b e says reports = says c refl
 
 read_last_by : (bytes : List ℕ) (o : Option ℕ) (b : ℕ) → byte_before bytes (length bytes) ≡ Some b →
     ((c : ℕ) → o ≡ Some c → SpellsLast c bytes) → ((c : ℕ) → SpellsLast c bytes → o ≡ Some c) →
     DecodesLast bytes (Some (ok_or o b))
-read_last_by bytes None b e says tells = (e, λ c f. none-some c (tells c f))
-read_last_by bytes (Some c) b e says tells = says c refl
+read_last_by bytes None b e says reports = (e, λ c f. none-some c (reports c f))
+read_last_by bytes (Some c) b e says reports = says c refl
 
 decodes_option : (bytes : List ℕ) (o : Option ℕ) (p : Option ℕ) → byte_at bytes 0 ≡ p → ((c : ℕ) → o ≡ Some c → SpellsFirst c bytes) →
     ((c : ℕ) → SpellsFirst c bytes → o ≡ Some c) →
     Decodes bytes (option_map (λ b. ok_or o b) p)
-decodes_option bytes o (Some b) e says tells = read_first_by bytes o b e says tells
-decodes_option [] o None e says tells = refl
-decodes_option (a ∷ t) o None e says tells = absurd (none-some a (sym e))
+decodes_option bytes o (Some b) e says reports = read_first_by bytes o b e says reports
+decodes_option [] o None e says reports = refl
+decodes_option (a ∷ t) o None e says reports = absurd (none-some a (sym e))
 
 decodes_last_option : (bytes : List ℕ) (o : Option ℕ) (p : Option ℕ) → byte_before bytes (length bytes) ≡ p →
     ((c : ℕ) → o ≡ Some c → SpellsLast c bytes) → ((c : ℕ) → SpellsLast c bytes → o ≡ Some c) →
     DecodesLast bytes (option_map (λ b. ok_or o b) p)
-decodes_last_option bytes o (Some b) e says tells = read_last_by bytes o b e says tells
-decodes_last_option [] o None e says tells = refl
-decodes_last_option (a ∷ t) o None e says tells = absurd (none-some _ (sym e ∙ slice_get-get_or (a ∷ t) (length t) 0 (omega arith)))
+decodes_last_option bytes o (Some b) e says reports = read_last_by bytes o b e says reports
+decodes_last_option [] o None e says reports = refl
+decodes_last_option (a ∷ t) o None e says reports = absurd (none-some _ (sym e ∙ slice_get-get_or (a ∷ t) (length t) 0 (omega arith)))
 
 pub reads_at : (h : List ℕ) (i : ℕ) → Decodes (drop i h) (read_at h i)
 reads_at h i = decodes_option (drop i h) (character_at h i) (byte_at h i) (byte_behind h i) (character_begins h i) (begun_character h i)

@@ -1,4 +1,4 @@
--- What is read at a place of a valid text that isn't split.
+-- What is read at an offset of valid UTF-8 that isn't split.
 use Rattle.std.proofs.Common.{◌≡◌, ℕ, suc, ◌-◌, ◌<◌, ◌≤◌, inl, inr, true, List, [], ◌∷◌, ◌++◌, length, get_or, take, drop, Option, Some}
 use Rattle.std.proofs.Common.{None, Result, Ok, Err, IsCharBoundary, refl, sym, ap, subst, ◌∙◌, arith, length-append, length-drop}
 use Rattle.std.proofs.Common.{length-take-le, append_assoc, append-nil, drop_at}
@@ -18,7 +18,7 @@ first_decodes c s after (Some (Ok x)) h d =
     ap (λ y. Some (Ok y)) (sym m.0)
 first_decodes c s after (Some (Err b)) h d = absurd (d.1 c (record { spelling = s; rest = after; spells = h; joined = refl }))
 
--- of two spellings that end one text, neither is longer: the first byte of the shorter would lie inside the longer
+-- of two spellings at the end of the same bytes, neither is longer: the first byte of the shorter one would lie inside the longer one
 not_longer : (bytes f g s t : List ℕ) (c d : ℕ) → Spells c s → Spells d t → bytes ≡ f ++ s → bytes ≡ g ++ t → length s < length t → ⊥
 not_longer bytes f g s t c d h k ef eg l =
     let some = spelling_some c s h in
@@ -53,7 +53,7 @@ last_decodes c before s (Some (Ok x)) h d =
     ap (λ y. Some (Ok y)) (sym (one_scalar c x s h (subst (Spells x) (sym e) d.spells)))
 last_decodes c before s (Some (Err b)) h d = absurd (d.1 c (record { front = before; spelling = s; spells = h; joined = refl }))
 
--- parts of a valid text
+-- parts of valid UTF-8
 char_boundary : (h : List ℕ) (i : ℕ) → i ≤ length h → is_boundary h i ≡ true → IsCharBoundary h i
 char_boundary h i l e = (l, λ below high. grind (arith, nat_tests))
 
@@ -66,7 +66,7 @@ valid_before h i v l n = valid_of_utf8 (take i h) (IsUtf8-take h i (utf8_of_vali
 pub valid_behind : (h : List ℕ) (i : ℕ) → IsValidText h → i ≤ length h → ¬ (IsSplit h i) → IsValidText (drop i h)
 valid_behind h i v l n = valid_of_utf8 (drop i h) (IsUtf8-drop h i (utf8_of_valid h v) (cut_is_boundary h i v l n))
 
--- a valid text with a byte has a first spelling and a last
+-- valid UTF-8 that isn't empty has a first spelling and a last
 first_of : (h : List ℕ) → IsValidText h → 0 < length h → (c : ℕ) × SpellsFirst c h
 first_of h (no_spelling _ e) l = absurd (omega (arith, ap length e))
 first_of h (spelling_then c s rest _ k v e) l = (c, record { spelling = s; rest = rest; spells = k; joined = e })

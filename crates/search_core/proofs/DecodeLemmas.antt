@@ -117,7 +117,7 @@ leads_three a n h low high = grind arith
 leads_four : (a n : ℕ) → Leads a n → 0xF0 ≤ a → n ≡ 4
 leads_four a n h low = grind arith
 
--- a spelling that stands first: its bytes are those of the text, so the first byte of the text says how long it is
+-- a spelling at the start: its bytes are the first of all, so the first byte of all says how long it is
 pub same_first : (bytes s rest : List ℕ) (k : ℕ) → bytes ≡ s ++ rest → k < length s → get_or s k 0 ≡ get_or bytes k 0
 same_first bytes s rest k e h = sym (ap (λ l. get_or l k 0) e ∙ get_or_append_left s rest 0 k h)
 
@@ -205,7 +205,7 @@ pub read_four : (bytes : List ℕ) (r : Option ℕ) → 3 < length bytes → 0xF
 read_four bytes None long low h = λ c f. h c (first_is_four bytes c f low).1
 read_four bytes (Some x) long low h = record { spelling = _; rest = drop 4 bytes; spells = h; joined = front_four bytes long }
 
--- a spelling that stands last: its byte k from the end is the text's
+-- a spelling at the end: its byte k from the end is that of the whole
 pub same_last : (bytes front s : List ℕ) (k : ℕ) → bytes ≡ front ++ s → k < length s →
     get_or s (length s - suc k) 0 ≡ get_or bytes (length bytes - suc k) 0
 same_last bytes front s k e h =
@@ -246,7 +246,7 @@ back_four bytes front s e n =
     let e3 = rw n at (same_last bytes front s 0 e (omega arith)) in
     four_of s n ∙ cc
 
--- a spelling that the last k bytes are stands last
+-- a spelling that the last k bytes are is at the end
 module _ (bytes : List ℕ) (c k : ℕ) (long : k ≤ length bytes) where
   cut : bytes ≡ take (length bytes - k) bytes ++ drop (length bytes - k) bytes
   cut = sym (take-append-drop (length bytes - k) bytes)
@@ -278,7 +278,7 @@ pub put_four : (bytes : List ℕ) (c : ℕ) → 3 < length bytes →
 put_four bytes c long h =
     put_last bytes c 4 long (subst (Spells c) (sym (back_four bytes _ _ (cut bytes 0 4 long) (dropped bytes 0 4 long))) h)
 
--- and where the last bytes are a spelling at no length, no spelling stands last
+-- and if the last bytes are a spelling at no length, no spelling is at the end
 module _ (bytes : List ℕ) (high : 0x80 ≤ back bytes 1) (two : (c : ℕ) →
     ¬ (Spells c (back bytes 2 ∷ back bytes 1 ∷ []))) (three : 2 < length bytes → (c : ℕ) →
     ¬ (Spells c (back bytes 3 ∷ back bytes 2 ∷ back bytes 1 ∷ []))) (four : 3 < length bytes → (c : ℕ) →

@@ -1,5 +1,5 @@
--- A class is the number of marks below, so bytes are in one class where no mark lies between them; a
--- range's marks lie between two bytes unless it holds all bytes from one to the other or none.
+-- A class is the number of marks below, so bytes are in one class if no mark lies between them. A range's marks lie between two bytes
+-- unless it holds all bytes from one to the other or none.
 use Rattle.std.proofs.Common.{◌≡◌, ◌≢◌, ℕ, zero, suc, ◌+◌, ◌-◌, ◌<◌, ◌≤◌, ◌⊎◌, ◌↔◌, Bool, true, false, eqb, List, [], ◌∷◌, length, get_or}
 use Rattle.std.proofs.Common.{set, refl, sym, ap, ◌∙◌, subst, inl, inr, arith, get_or-set_other, get_or-set_same, length-set}
 use Rattle.std.specs.List.{All}
@@ -257,7 +257,7 @@ same_class_from_ranges m rs a b u o h k s =
     clear_same (recorded m rs) a b h (omega arith)
     (recorded_clear m a b rs (omega arith) (unmarked_clear m a b (omega arith) u) (all_apart a b (length m) rs h o s))
 
--- where the bytes from a to b lie as a does in each range, each range holds all of them or none
+-- if the bytes from a to b lie as a does in each range, each range holds all of them or none
 alike_all_or_none : (a b : ℕ) (r : ℕ × ℕ) → a ≤ b → ((c : ℕ) → a ≤ c → c ≤ b → IsIn r a ↔ IsIn r c) → HoldsAllOrNone a b r
 alike_all_or_none a b r h s = elim (cases_lt a r.0) [
   | inl p ↦ inr (λ c k l i. let j : IsIn r a = (s c k l).1 i in omega arith)
@@ -299,7 +299,7 @@ coarsest m rs f u o rises alike a b h k e = elim (cases_lt a b) [
 pub own_marks : (m : List Bool) → HasMarks m m
 own_marks m = record { len = refl; marked = λ k t. t }
 
--- a byte with a mark is one of those that there are
+-- a byte with a mark is one of those that exist
 marked_inside : (m : List Bool) (k : ℕ) → get_or m k false ≡ true → k < length m
 marked_inside [] k t = absurd (not_both false t refl)
 marked_inside (x ∷ xs) zero t = omega arith

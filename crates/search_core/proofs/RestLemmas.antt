@@ -1,4 +1,4 @@
--- What follows valid text within valid text is valid, and no character is split where valid text starts or ends.
+-- What follows valid UTF-8 within valid UTF-8 is valid, and no character is split where valid UTF-8 starts or ends.
 use Rattle.std.proofs.Common.{◌≡◌, ℕ, ◌-◌, ◌<◌, ◌≤◌, inl, inr, true, List, ◌++◌, length, take, drop, get_or, sym, ap, subst, ◌∙◌, arith}
 use Rattle.std.proofs.Common.{length-append, length-drop, append_assoc}
 use Rattle.std.proofs.lemmas.List.{get_or_append_left, get_or-append_right, length-take, take-append-drop}
@@ -7,7 +7,7 @@ use Rattle.search_core.specs.Utf8.IsValidText.{no_spelling, spelling_then}
 use Rattle.search_core.proofs.SplitLemmas.{split_continues, spelling_lead, spelling_some, boundary_or_split}
 use Rattle.search_core.proofs.Utf8Lemmas.{heads_same}
 
--- what follows valid text in a valid text is valid
+-- what follows valid UTF-8 in valid UTF-8 is valid
 pub rest_valid : (s r : List ℕ) → IsValidText s → IsValidText (s ++ r) → IsValidText r
 rest_valid s r (no_spelling _ e) v = subst IsValidText (ap (λ l. l ++ r) e) v
 rest_valid s r (spelling_then c u w _ k g e) (no_spelling _ z) =
@@ -25,7 +25,7 @@ get_dropped h i l =
     ∙ get_or-append_right (take i h) (drop i h) i i 0 n (omega arith)
     ∙ ap (λ k. get_or (drop i h) k 0) z
 
--- a place where a spelling begins isn't split
+-- an offset where a spelling begins isn't split
 spelled_whole : (h : List ℕ) (i c : ℕ) (s y : List ℕ) → i ≤ length h → Spells c s → drop i h ≡ s ++ y → IsSplit h i → ⊥
 spelled_whole h i c s y l k e p =
     let q = split_continues h i p in
@@ -34,16 +34,16 @@ spelled_whole h i c s y l k e p =
     let low = q.1.0 in let high = q.1.1 in
     elim (spelling_lead c s k) [ inl a ↦ absurd (omega arith) | inr b ↦ absurd (omega arith) ]
 
--- no character is split where the text behind a place is valid
+-- no character is split at an offset if the bytes after it are valid UTF-8
 pub behind_whole : (h : List ℕ) (i : ℕ) → i ≤ length h → IsValidText (drop i h) → IsSplit h i → ⊥
 behind_whole h i l (no_spelling _ e) p = let q = split_continues h i p in absurd (omega (arith, ap length e, length-drop i h, q.0))
 behind_whole h i l (spelling_then c s y _ k v e) p = spelled_whole h i c s y l k e p
 
--- a place of valid text that splits no character is a boundary
+-- an offset of valid UTF-8 that splits no character is a boundary
 pub unsplit_boundary : (h : List ℕ) (i : ℕ) → IsValidText h → i ≤ length h → (IsSplit h i → ⊥) → is_boundary h i ≡ true
 unsplit_boundary h i v l not = elim (boundary_or_split h i v l) [ inl b ↦ b | inr p ↦ absurd (not p) ]
 
--- nor where valid text with a byte or more starts
+-- nor where valid UTF-8 with a byte or more starts
 pub start_whole : (h : List ℕ) (i j : ℕ) → i < j → j ≤ length h → IsValidText (take (j - i) (drop i h)) → IsSplit h i → ⊥
 start_whole h i j l within (no_spelling _ e) p =
     absurd (omega (arith, ap length e, length-take (j - i) (drop i h), length-drop i h))

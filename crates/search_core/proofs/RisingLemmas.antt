@@ -6,7 +6,7 @@ use Rattle.search_core.specs.Marks.{marks_below}
 use Rattle.search_core.specs.Classes.{IsRising}
 use Rattle.search_core.proofs.MarkLemmas.{below_zero, below_next}
 
--- two classes of bytes that stand k apart
+-- two classes of bytes that are k apart
 record IsWithin (low high k : ℕ) : Type 0 where
   above : low ≤ high
   below : high ≤ low + k
@@ -62,12 +62,12 @@ module _ (classes : List ℕ) (r : IsRising classes) where
       let high = from_start.below in
       omega arith
 
-  -- which a length of 257 tells
+  -- which a length of 257 shows
   pub singletons_told : (n : ℕ) → n ≡ get_or classes 255 0 + 2 →
       (IsTrue (nat_eq n 257) → (b : ℕ) → b < 256 → get_or classes b 0 ≡ b) ×
       (((b : ℕ) → b < 256 → get_or classes b 0 ≡ b) → IsTrue (nat_eq n 257))
   singletons_told n e = (
-    λ h. let told : n ≡ 257 = eqb-true n 257 h in singletons_by_last (omega arith),
+    λ h. let reported : n ≡ 257 = eqb-true n 257 h in singletons_by_last (omega arith),
     λ own. let last : get_or classes 255 0 ≡ 255 = own 255 (omega arith) in eq-eqb n 257 (omega arith),
   )
 

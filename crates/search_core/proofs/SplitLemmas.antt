@@ -1,4 +1,4 @@
--- Places strictly inside a spelling, and places between spellings.
+-- Offsets strictly inside a spelling, and offsets between spellings.
 use Rattle.std.proofs.Common.{◌≡◌, ℕ, zero, suc, ◌+◌, ◌-◌, ◌<◌, ◌≤◌, ◌⊎◌, inl, inr, true, false, List, [], ◌∷◌, ◌++◌, length, get_or, refl}
 use Rattle.std.proofs.Common.{sym, ap, ap₂, subst, ◌∙◌, arith, length-append, append_assoc}
 use Rattle.std.proofs.lemmas.List.{get_or_append_left, get_or-append_right}
@@ -11,7 +11,7 @@ use Rattle.search_core.specs.Utf8.IsValidText.{no_spelling, spelling_then}
 use Rattle.search_core.proofs.DecodeLemmas.{Leads, spelling_leads, leads_some}
 use Rattle.search_core.proofs.Utf8Lemmas.{heads_same}
 
--- the bytes of a spelling behind its first
+-- the bytes of a spelling after its first
 tail_two : (a b : ℕ) → IsContinuation b → (k : ℕ) → 0 < k → k < 2 → IsContinuation (get_or (a ∷ b ∷ []) k 0)
 tail_two a b t zero h l = absurd (omega arith)
 tail_two a b t (suc zero) h l = t
@@ -55,7 +55,7 @@ spelling_lead c s h = lead_of _ _ (spelling_leads c s h)
 pub spelling_some : (c : ℕ) (s : List ℕ) → Spells c s → 0 < length s
 spelling_some c s h = leads_some _ _ (spelling_leads c s h)
 
--- two ways to cut a text beside spellings that a place lies in are one
+-- two ways to cut bytes around a spelling that an offset lies in are one
 same_cut : (a : List ℕ) → IsValidText a → (b : List ℕ) → IsValidText b → (c d : ℕ) (s t x y : List ℕ) (i : ℕ) →
     Spells c s → Spells d t → a ++ (s ++ x) ≡ b ++ (t ++ y) →
     length a < i → i < length a + length s → length b < i → i < length b + length t → (a ≡ b) × (s ≡ t) × (x ≡ y)
@@ -88,7 +88,7 @@ same_split h i p q =
     same_cut p.before p.before_valid q.before q.before_valid p.scalar q.scalar p.spelling q.spelling p.after q.after i
     p.spells q.spells (sym p.joined ∙ q.joined) p.above p.below q.above q.below
 
--- a split place has a byte behind it that continues a spelling
+-- a split offset has a byte after it that continues a spelling
 pub split_continues : (h : List ℕ) (i : ℕ) → IsSplit h i → (i < length h) × IsContinuation (get_or h i 0)
 split_continues h i p =
     let n : length h ≡ length p.before + length (p.spelling ++ p.after) =
@@ -110,14 +110,14 @@ no_boundary h i l t = grind (arith, nat_tests)
 pub split_is_no_boundary : (h : List ℕ) (i : ℕ) → IsSplit h i → is_boundary h i ≡ false
 split_is_no_boundary h i p = let q = split_continues h i p in no_boundary h i q.0 q.1
 
--- the place is the end, or in front of a byte that continues no spelling
+-- the offset is the end, or in front of a byte that continues no spelling
 abbrev Bounds : List ℕ → ℕ → Type 0
 Bounds h i = (i ≡ length h) ⊎ ((i < length h) × ((get_or h i 0 ≤ 0x7F) ⊎ (0xC0 ≤ get_or h i 0)))
 
 boundary_of : (h : List ℕ) (i : ℕ) → Bounds h i → is_boundary h i ≡ true
 boundary_of h i b = grind (arith, nat_tests)
 
--- at the start of a spelling, inside it, and behind it
+-- at the start of a spelling, inside it, and after it
 bounds_at_start : (h s rest : List ℕ) (c : ℕ) → Spells c s → h ≡ s ++ rest → Bounds h 0
 bounds_at_start h s rest c k e =
     let some = spelling_some c s k in

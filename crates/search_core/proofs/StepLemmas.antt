@@ -1,5 +1,5 @@
--- A call of an iterator that is seen as the list of what is left: it gives the head and leaves the
--- tail, or ends at the empty list.
+-- A call of an iterator that is seen as the list of what is left: it returns the first element and leaves the rest, or ends at the empty
+-- list.
 use Rattle.std.proofs.Common.{◌≡◌, ◌<◌, List, [], ◌∷◌, length, ap, subst, sym, Option, Some, None, arith, rules}
 use Rattle.std.specs.Iterator.{YieldsFirst, MakesProgress, item_count}
 

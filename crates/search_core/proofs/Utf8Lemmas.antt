@@ -1,4 +1,4 @@
--- Spellings are the bytes that `encode_utf8` gives, and texts of spellings are what std calls UTF-8.
+-- Spellings are the bytes that `encode_utf8` gives, and concatenated spellings are what std calls UTF-8.
 use Rattle.std.proofs.Common.{◌≡◌, ℕ, ◌+◌, ◌/◌, ◌%◌, ◌<◌, ◌≤◌, inl, inr, true, List, [], ◌∷◌, ◌++◌, IsUtf8, refl, sym, ap, ap₂, subst, ◌∙◌}
 use Rattle.std.proofs.Common.{arith, append-nil, lt-ltb, le-ltb}
 use Rattle.std.proofs.lemmas.Bool.{cond-true, cond-false, cases_lt, and_parts, and_from}
@@ -152,7 +152,7 @@ encoded_spells c s scalar e =
       ]
     ]
 
--- texts
+-- concatenated spellings
 pub utf8_of_valid : (bytes : List ℕ) → IsValidText bytes → IsUtf8 bytes
 utf8_of_valid bytes (no_spelling _ e) = ([], (refl, sym e))
 utf8_of_valid bytes (spelling_then c s rest _ h v e) =
@@ -169,7 +169,7 @@ valid_encodes (c ∷ cs) h =
 pub valid_of_utf8 : (bytes : List ℕ) → IsUtf8 bytes → IsValidText bytes
 valid_of_utf8 bytes u = subst IsValidText u.1.1 (valid_encodes u.0 u.1.0)
 
--- two spellings at one place are one
+-- two spellings at one offset are one
 pub heads_same : (c d : ℕ) (s t x y : List ℕ) → Spells c s → Spells d t → s ++ x ≡ t ++ y → (c ≡ d) × (s ≡ t) × (x ≡ y)
 heads_same c d s t x y h k e =
     let p = spelling_encodes c s h in

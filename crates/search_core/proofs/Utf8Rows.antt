@@ -1,4 +1,4 @@
--- The rows of the table at both ends, and bytes beside them that spell nothing.
+-- The rows of the table at both ends, and the bytes next to them, which spell nothing.
 use Rattle.std.proofs.Common.{◌≡◌, ℕ, true, false, [], ◌∷◌, Some, None, refl, arith}
 use Rattle.search_core.specs.Text.{byte_at, byte_before}
 use Rattle.search_core.specs.Utf8.{Spells, is_boundary, is_word_byte}
@@ -98,7 +98,7 @@ no_lead c h = grind arith
 cut_short : (c : ℕ) → ¬ (Spells c (0xE2 ∷ 0x82 ∷ []))
 cut_short c h = grind arith
 
--- "é!", C3 A9 21: its places are 0 to 3, of which 1 lies inside the first character
+-- "é!", C3 A9 21: its offsets are 0 to 3, of which 1 lies inside the first character
 start_is_boundary : is_boundary (0xC3 ∷ 0xA9 ∷ 0x21 ∷ []) 0 ≡ true
 start_is_boundary = refl
 

@@ -7,7 +7,7 @@ use Rattle.std.specs.List.{filter, range_with_len, prefix_len}
 unfoldable pub bytes_where : (ℕ → Bool) → ℕ → ℕ → List ℕ
 bytes_where test from end = filter test (range_with_len from (end - from))
 
--- r is the first of these bytes, and `None` where there is none
+-- r is the first of these bytes, or `None` if there is none
 abbrev pub IsFirstWhere : (ℕ → Bool) → ℕ → ℕ → Option ℕ → Type 0
 IsFirstWhere test from end r = MatchOption r
     ((k : ℕ) → from ≤ k → k < end → test k ≡ false)
@@ -17,11 +17,11 @@ IsFirstWhere test from end r = MatchOption r
 abbrev pub has : List Bool → ℕ → Bool
 has set b = slice_index_or set b false
 
--- the byte is in the set, and no byte stands before it there
+-- the byte is in the set, and the byte before it isn't
 abbrev pub starts_range : List Bool → ℕ → Bool
 starts_range set b = has set b && not (nat_lt 0 b && has set (b - 1))
 
--- the last byte of the set to which all bytes behind b are in the set
+-- the last byte e such that every byte after b up to e is in the set
 abbrev pub range_end : List Bool → ℕ → ℕ
 range_end set b = b + prefix_len (λ m. m) (drop (b + 1) set)
 

@@ -34,12 +34,12 @@ units_from n next = map Byte (range_with_len next (n - next)) ++ cond (nat_le ne
 abbrev pub all_units : List ℕ → List InputUnit
 all_units classes = units_from (slice_index classes 255 + 1) 0
 
--- the units of a class from the byte `from` on: its bytes, ascending; of the end of the input itself alone
+-- the units of a class from the byte `from` on: its bytes, ascending; for the end of the input, only itself
 abbrev pub elements_from : List ℕ → InputUnit → ℕ → List InputUnit
 elements_from classes (Byte c) from = map Byte (bytes_where (λ b. slice_index classes b == c) from 256)
 elements_from classes (End n) from = cond (nat_le from 256) (End n ∷ []) []
 
--- the units of a class: all bytes that are in it, wherever they stand; of the end of the input itself alone
+-- the units of a class: all bytes that are in it, wherever they are; for the end of the input, only itself
 abbrev pub elements_of : List ℕ → InputUnit → List InputUnit
 elements_of classes class = elements_from classes class 0
 
@@ -52,7 +52,7 @@ abbrev pub range_limit : Option ℕ → ℕ
 range_limit None = 256
 range_limit (Some hi) = hi + 1
 
--- the end of the input, where the range goes so far and it was not given yet
+-- the end of the input, if the range goes that far and it hasn't been returned yet
 abbrev pub end_left : List ℕ → Option ℕ → ℕ → List InputUnit
 end_left classes None from = cond (nat_le from 256) (End (slice_index classes 255 + 1) ∷ []) []
 end_left classes (Some hi) from = []

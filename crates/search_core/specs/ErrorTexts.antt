@@ -1,4 +1,4 @@
--- How a number that is no index is told.
+-- The messages of errors for a number that isn't an index.
 use Rattle.std.specs.Prelude.{ℕ, List, ◌++◌, codes}
 use Rattle.std.specs.Fmt.{decimal}
 use Rattle.search_core.specs.Index.{greatest_index}

@@ -5,8 +5,8 @@ use Rattle.std.specs.Prelude.{◌≡◌, ℕ, ◌<◌, ◌≤◌, Result, MatchR
 abbrev pub greatest_index : ℕ
 greatest_index = 2147483646
 
--- what making an index of the number n gives: the index n, where n is at most the greatest index, and
--- anywhere else an error that has n
-abbrev pub IsIndexOrRefusal : ℕ → Result ℕ ℕ → Type 0
-IsIndexOrRefusal n result =
+-- what making an index of the number n returns: the index n if n is at most the greatest index, otherwise an
+-- error that has n
+abbrev pub IsIndexOrError : ℕ → Result ℕ ℕ → Type 0
+IsIndexOrError n result =
     MatchResult result (λ index. (n ≤ greatest_index) × (index ≡ n)) (λ refused. (greatest_index < n) × (refused ≡ n))

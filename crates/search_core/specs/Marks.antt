@@ -1,4 +1,4 @@
--- Marks on bytes: the bytes b and b + 1 stand in different classes exactly where b has a mark.
+-- Marks on bytes: the bytes b and b + 1 are in different classes exactly if b has a mark.
 use Rattle.std.specs.Prelude.{◌≡◌, ◌<◌, ◌≤◌, ◌⊎◌, ◌-◌, ◌==◌, ℕ, Bool, true, false, cond, length, take, count_by, slice_set, slice_index_or}
 use Rattle.std.specs.Prelude.{List}
 use Rattle.std.specs.List.{fold}
@@ -7,7 +7,7 @@ use Rattle.std.specs.List.{fold}
 abbrev pub marks_below : List Bool → ℕ → ℕ
 marks_below marks b = count_by (λ m. m) (take b marks)
 
--- with a mark at the byte before lo, where there is one
+-- with a mark at the byte before lo, if there is one
 abbrev pub mark_before : List Bool → ℕ → List Bool
 mark_before marks lo = cond (lo == 0) marks (slice_set marks (lo - 1) true)
 

@@ -1,5 +1,4 @@
--- UTF-8: which bytes spell a scalar value, by Table 3-7 of the Unicode Standard, and where a text of such spellings may
--- be cut.
+-- UTF-8: which bytes spell a scalar value, by Table 3-7 of the Unicode Standard, and where valid UTF-8 may be cut.
 use Rattle.std.specs.Prelude.{◌≡◌, ℕ, ◌+◌, ◌-◌, ◌*◌, ◌<◌, Bool, ◌&&◌, ◌||◌, ◌==◌, nat_lt, nat_le, List, [], ◌∷◌, ◌++◌, length, slice_index}
 use Rattle.std.specs.Prelude.{Option, Some, None, Result, Ok, Err}
 use Rattle.std.specs.Int.{IsInRange, is_in_range}
@@ -38,22 +37,22 @@ pub data Spells (c : ℕ) (bytes : List ℕ) : Type 0 where
   from_100000 : (a b d e : ℕ) → a ≡ 0xF4 → IsInRange 0x80 0x8F b → IsContinuation d → IsContinuation e → bytes ≡ a ∷ b ∷ d ∷ e ∷ [] →
       c ≡ scalar_of_four a b d e → Spells c bytes
 
--- a spelling of c stands at the start of the bytes
+-- the bytes start with a spelling of c
 pub record SpellsFirst (c : ℕ) (bytes : List ℕ) : Type 0 where
   pub spelling : List ℕ
   pub rest : List ℕ
   pub spells : Spells c spelling
   pub joined : bytes ≡ spelling ++ rest
 
--- a spelling of c stands at the end of the bytes
+-- the bytes end with a spelling of c
 pub record SpellsLast (c : ℕ) (bytes : List ℕ) : Type 0 where
   pub front : List ℕ
   pub spelling : List ℕ
   pub spells : Spells c spelling
   pub joined : bytes ≡ front ++ spelling
 
--- what reading the first scalar of the bytes gives: nothing where there are no bytes, the scalar whose spelling stands
--- first, or else the first byte
+-- what reading the first scalar of the bytes gives: `None` if there are no bytes; otherwise the scalar with whose
+-- spelling they start; if there is none, the first byte
 abbrev pub Decodes : List ℕ → Option (Result ℕ ℕ) → Type 0
 Decodes bytes None = bytes ≡ []
 Decodes bytes (Some (Ok c)) = SpellsFirst c bytes
@@ -71,7 +70,7 @@ pub data IsValidText : List ℕ → Type 0 where
   spelling_then : (c : ℕ) (spelling rest bytes : List ℕ) → Spells c spelling → IsValidText rest → bytes ≡ spelling ++ rest →
       IsValidText bytes
 
--- the place lies strictly inside a spelling of the valid text h
+-- the offset lies strictly inside a spelling of the valid UTF-8 bytes h
 pub record IsSplit (h : List ℕ) (i : ℕ) : Type 0 where
   pub before : List ℕ
   pub spelling : List ℕ
@@ -84,7 +83,7 @@ pub record IsSplit (h : List ℕ) (i : ℕ) : Type 0 where
   pub above : length before < i
   pub below : i < length before + length spelling
 
--- the place is the end of the bytes, or the byte behind it continues no spelling
+-- the offset is the end of the bytes, or the byte right after it doesn't continue a spelling
 abbrev pub is_boundary : List ℕ → ℕ → Bool
 is_boundary h i = (i == length h) || (nat_lt i (length h) && (nat_le (slice_index h i) 0x7F || nat_le 0xC0 (slice_index h i)))
 
@@ -92,7 +91,7 @@ is_boundary h i = (i == length h) || (nat_lt i (length h) && (nat_le (slice_inde
 abbrev pub is_word_byte : ℕ → Bool
 is_word_byte b = is_in_range 0x30 0x39 b || is_in_range 0x41 0x5A b || b == 0x5F || is_in_range 0x61 0x7A b
 
--- b may stand behind a at the start of a spelling of three bytes
+-- b may be the second byte after a first byte a in a spelling of three bytes
 abbrev pub second_of_three : ℕ → ℕ → Bool
 second_of_three a b =
     (a == 0xE0 && is_in_range 0xA0 0xBF b)
@@ -100,7 +99,7 @@ second_of_three a b =
     || (a == 0xED && is_in_range 0x80 0x9F b)
     || (is_in_range 0xEE 0xEF a && is_in_range 0x80 0xBF b)
 
--- and of four
+-- the same for the first two bytes of a spelling of four bytes
 abbrev pub second_of_four : ℕ → ℕ → Bool
 second_of_four a b =
     (a == 0xF0 && is_in_range 0x90 0xBF b)

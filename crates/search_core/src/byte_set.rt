@@ -21,7 +21,7 @@ impl Model for ByteSet {
 }
 
 impl ByteSet {
-    /// No bytes.
+    /// A set without bytes.
     pub fn empty() -> ByteSet
         ensures len { length result ≡ 256 }
         ensures none { (b : ℕ) → b < 256 → has result b ≡ false }
@@ -31,14 +31,14 @@ impl ByteSet {
         }
     }
 
-    /// Puts a byte in.
+    /// Adds a byte to the set.
     pub fn add(&mut self, byte: u8)
         ensures { self.new ≡ slice_set self.old byte true }
     {
         self.bytes[usize::from(byte)] = true;
     }
 
-    /// Takes a byte out.
+    /// Removes a byte from the set.
     pub fn remove(&mut self, byte: u8)
         ensures { self.new ≡ slice_set self.old byte false }
     {
@@ -52,7 +52,7 @@ impl ByteSet {
         self.bytes[usize::from(byte)]
     }
 
-    /// Whether each byte from `start` to `end` is in the set; so it is where `start` is above `end`.
+    /// Whether each byte from `start` to `end` is in the set. If `start` is above `end`, the result is true.
     pub fn contains_range(&self, start: u8, end: u8) -> bool
         ensures { IsTrue result ↔ ((b : ℕ) → start ≤ b → b ≤ end → has self.now b ≡ true) }
     {

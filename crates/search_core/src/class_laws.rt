@@ -19,9 +19,9 @@ pub fn classes_rise_by_one()
         (marks_below marks (b + 1) ≡ marks_below marks b) ⊎ (marks_below marks (b + 1) ≡ marks_below marks b + 1) }
 {}
 
-/// Classes that start at 0 and rise by at most one from byte to byte have the numbers up to that of the
-/// last byte: each is the class of a byte, and no byte has a greater one. Where that number is 255, each
-/// byte is in a class of its own.
+/// If classes start at 0 and rise by at most one from byte to byte, their numbers are those up to that of the
+/// last byte: each is the class of a byte, and no byte has a greater one. If that number is 255, each byte is
+/// in a class of its own.
 pub fn classes_that_rise_are_numbered_by_the_last()
     ensures met { (classes : List ℕ) (c : ℕ) → IsRising classes → c ≤ slice_index classes 255 →
         (b : ℕ) × (b < 256) × (slice_index classes b ≡ c) }
@@ -29,19 +29,20 @@ pub fn classes_that_rise_are_numbered_by_the_last()
     ensures own { (classes : List ℕ) (b : ℕ) → IsRising classes → slice_index classes 255 ≡ 255 → b < 256 → slice_index classes b ≡ b }
 {}
 
-/// By the marks of ranges, two bytes are in one class exactly where each range holds all bytes from one
-/// to the other or none of them.
+/// By the marks of ranges, two bytes are in one class exactly if each range has all bytes from one to the
+/// other, or none of them.
 #[tactic(auto, using(crate::proofs::MarkLemmas::same_class_from_ranges))]
 pub fn classes_tell_ranges_apart()
-    ensures tells { (marks : List Bool) (ranges : List (ℕ × ℕ)) (a b : ℕ) → IsUnmarked marks → a ≤ b → b < length marks →
+    ensures reports { (marks : List Bool) (ranges : List (ℕ × ℕ)) (a b : ℕ) → IsUnmarked marks → a ≤ b → b < length marks →
         marks_below (recorded marks ranges) a ≡ marks_below (recorded marks ranges) b → All (HoldsAllOrNone a b) ranges }
     ensures only { (marks : List Bool) (ranges : List (ℕ × ℕ)) (a b : ℕ) → IsUnmarked marks → All (IsRangeBelow (length marks)) ranges →
         a ≤ b → b < length marks → All (HoldsAllOrNone a b) ranges →
         marks_below (recorded marks ranges) a ≡ marks_below (recorded marks ranges) b }
 {}
 
-/// No numbering of the bytes that rises weakly, and gives one number only to bytes that lie alike in
-/// each range, puts two bytes together that the classes tell apart.
+/// The classes are the coarsest ones that distinguish the marked ranges. Take any numbering of the bytes that
+/// never decreases, in which two bytes with the same number are always both inside or both outside of each
+/// range. Then two bytes with the same number are in the same class.
 pub fn classes_are_the_coarsest()
     ensures { (marks : List Bool) (ranges : List (ℕ × ℕ)) (f : ℕ → ℕ) → IsUnmarked marks → All (IsRangeBelow (length marks)) ranges →
         ((a b : ℕ) → a ≤ b → b < length marks → f a ≤ f b) →
@@ -50,8 +51,8 @@ pub fn classes_are_the_coarsest()
         marks_below (recorded marks ranges) a ≡ marks_below (recorded marks ranges) b }
 {}
 
-/// Bytes that marks put into one class are in one class of fewer marks too. Marks stay where ranges are
-/// marked beside them.
+/// Marks that contain others make finer classes: two bytes in one class of the marks are also in one class of
+/// the fewer marks. Marking more ranges keeps the marks that are there.
 #[tactic(auto, using(crate::proofs::MarkLemmas::same_class_of_finer, crate::proofs::MarkLemmas::own_marks))]
 pub fn more_marks_make_finer_classes()
     ensures finer { (marks others : List Bool) (a b : ℕ) → HasMarks marks others → a < length marks → b < length marks →

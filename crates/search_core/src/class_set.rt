@@ -35,7 +35,7 @@ impl ByteClassSet {
         }
     }
 
-    /// Tells the bytes from `start` to `end` apart from all others.
+    /// Distinguishes the bytes from `start` to `end`, both included, from all others.
     pub fn set_range(&mut self, start: u8, end: u8)
         requires { start ≤ end }
         ensures { self.new ≡ mark_range self.old start end }
@@ -46,8 +46,8 @@ impl ByteClassSet {
         self.marks[usize::from(end)] = true;
     }
 
-    /// Tells the bytes of each range of a set apart from all others, and so the bytes of the set from
-    /// those outside.
+    /// Distinguishes the bytes of each range of a set from all others. This also distinguishes the bytes of
+    /// the set from those outside.
     pub fn add_set(&mut self, set: &ByteSet)
         ensures { self.new ≡ recorded self.old (ranges_of set.now) }
     {

@@ -7,8 +7,8 @@ use crate::class_iter::{ByteClassElements, ByteClassIter, ByteClassRepresentativ
 use crate::unit::Unit;
 use std::marker::Model;
 
-/// A class for each byte. Bytes of one class are alike to a searcher, which then needs one column of
-/// its table for each class. As `regex_automata::util::alphabet::ByteClasses`.
+/// A class for each byte. A searcher treats the bytes of one class alike, so its table needs one column for
+/// each class. As `regex_automata::util::alphabet::ByteClasses`.
 #[derive(Clone, Copy, Debug)]
 pub struct ByteClasses {
     classes: [u8; 256],
@@ -102,9 +102,9 @@ impl ByteClasses {
         exponent
     }
 
-    /// Whether the last byte is in class 255. Where classes rise from 0 by at most one from byte to byte,
-    /// as those of a [`ByteClassSet`](crate::ByteClassSet) do, this tells whether each byte is in a class
-    /// of its own. Where they were set one by one it tells no more than that.
+    /// Returns whether the last byte is in class 255. If classes rise from 0 by at most one from byte to
+    /// byte, as those of a [`ByteClassSet`](crate::ByteClassSet) do, the result is true exactly if each byte
+    /// is in a class of its own. If classes were set one by one, the result says nothing about other bytes.
     #[tactic(auto, using(crate::proofs::RisingLemmas::singletons_by_last))]
     pub fn is_singleton(&self) -> bool
         ensures last { IsTrue result ↔ (slice_index self.now 255 ≡ 255) }
@@ -113,18 +113,17 @@ impl ByteClasses {
         self.alphabet_len() == 257
     }
 
-    /// A unit for each number from 0 to the class of the last byte, ascending, and then the end of the
-    /// input. Where classes rise from 0 by at most one from byte to byte, these are the classes, each
-    /// once. Where they were set one by one, a number may be the class of no byte, and a greater class is
-    /// left out.
+    /// A unit for each number from 0 to the class of the last byte, ascending, and then the end of the input.
+    /// If classes rise from 0 by at most one from byte to byte, these are the classes, each once. If classes
+    /// were set one by one, a number may be the class of no byte, and a greater class is left out.
     pub fn iter(&self) -> ByteClassIter
         ensures { result ≡ all_units self.now }
     {
         ByteClassIter::new(self.alphabet_len() - 1)
     }
 
-    /// The bytes of the class with this number, ascending, wherever they stand; of the end of the input
-    /// itself alone.
+    /// The bytes of the class with this number, ascending, wherever they are. For the end of the input, only
+    /// the end itself.
     pub fn elements(&self, class: Unit) -> ByteClassElements<'_>
         ensures { result ≡ elements_of self.now class }
     {

@@ -1,5 +1,5 @@
-//! Laws of the indices' constants. A clause cannot name a constant whose type has a model, so such ones are
-//! given back.
+//! Laws of the constants of indices. A clause can't name a constant whose type has a model, so the functions
+//! return those.
 //! ```rust
 //! pub fn last_pattern() -> PatternID
 //!     ensures { result ≡ greatest_index }
@@ -23,7 +23,8 @@ pub fn small_index_constants() -> (SmallIndex, SmallIndex)
     (SmallIndex::ZERO, SmallIndex::MAX)
 }
 
-/// Likewise of the numbers of patterns.
+/// The least and the greatest number of a pattern. The limit is one more than the greatest, and a number
+/// takes four bytes.
 pub fn pattern_id_constants() -> (PatternID, PatternID)
     ensures ends { result ≡ (0, greatest_index) }
     ensures limit { PatternID.LIMIT ≡ greatest_index + 1 }
@@ -32,7 +33,8 @@ pub fn pattern_id_constants() -> (PatternID, PatternID)
     (PatternID::ZERO, PatternID::MAX)
 }
 
-/// Likewise of the numbers of states.
+/// The least and the greatest number of a state. The limit is one more than the greatest, and a number takes
+/// four bytes.
 pub fn state_id_constants() -> (StateID, StateID)
     ensures ends { result ≡ (0, greatest_index) }
     ensures limit { StateID.LIMIT ≡ greatest_index + 1 }

@@ -1,5 +1,5 @@
-//! What the crates of a search share below everything else: the indices that name states and patterns,
-//! UTF-8, byte classes and sets of bytes.
+//! What the crates of a search share at the lowest level: the indices that name states and patterns, UTF-8,
+//! byte classes and sets of bytes.
 //!
 //! The definitions are in `specs/`; their laws are public functions without code in [`index_laws`],
 //! [`utf8_laws`] and [`class_laws`].

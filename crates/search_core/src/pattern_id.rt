@@ -1,5 +1,5 @@
 ghost use Rattle.std.specs.Prelude.{◌≡◌, ℕ, ◌+◌, ◌<◌, ◌≤◌, pos};
-ghost use Rattle.search_core.specs.Index.{greatest_index, IsIndexOrRefusal};
+ghost use Rattle.search_core.specs.Index.{greatest_index, IsIndexOrError};
 
 use crate::small_index::{SmallIndex, SmallIndexError};
 use std::error::Error;
@@ -35,12 +35,12 @@ impl PatternID {
 
     /// Makes the number of a pattern, if it is at most [`PatternID::MAX`].
     pub fn new(id: usize) -> Result<PatternID, PatternIDError>
-        ensures { IsIndexOrRefusal id result }
+        ensures { IsIndexOrError id result }
     {
         PatternID::try_from(id as u64)
     }
 
-    /// Makes the number of a pattern where it is known to be small enough.
+    /// Makes the number of a pattern. Precondition: the number is at most [`PatternID::MAX`].
     pub fn must(id: usize) -> PatternID
         requires { id ≤ greatest_index }
         ensures { result ≡ id }
@@ -80,7 +80,7 @@ impl PatternID {
         self.0.as_i32()
     }
 
-    /// The number plus one, as for how many patterns there are with this one the last.
+    /// The number plus one: how many patterns there are if this is the last one.
     pub fn one_more(&self) -> usize
         ensures value { result ≡ self.now + 1 }
         ensures in_range { self.now ≤ greatest_index }
@@ -114,7 +114,7 @@ impl From<u8> for PatternID {
 impl TryFrom<u16> for PatternID {
     type Error = PatternIDError;
 
-    ghost try_from_gives = { IsIndexOrRefusal };
+    ghost try_from_gives = { IsIndexOrError };
 
     fn try_from(id: u16) -> Result<PatternID, PatternIDError> {
         PatternID::try_from(u64::from(id))
@@ -124,7 +124,7 @@ impl TryFrom<u16> for PatternID {
 impl TryFrom<u32> for PatternID {
     type Error = PatternIDError;
 
-    ghost try_from_gives = { IsIndexOrRefusal };
+    ghost try_from_gives = { IsIndexOrError };
 
     fn try_from(id: u32) -> Result<PatternID, PatternIDError> {
         PatternID::try_from(u64::from(id))
@@ -134,7 +134,7 @@ impl TryFrom<u32> for PatternID {
 impl TryFrom<u64> for PatternID {
     type Error = PatternIDError;
 
-    ghost try_from_gives = { IsIndexOrRefusal };
+    ghost try_from_gives = { IsIndexOrError };
 
     fn try_from(id: u64) -> Result<PatternID, PatternIDError> {
         match SmallIndex::try_from(id) {
@@ -147,14 +147,14 @@ impl TryFrom<u64> for PatternID {
 impl TryFrom<usize> for PatternID {
     type Error = PatternIDError;
 
-    ghost try_from_gives = { IsIndexOrRefusal };
+    ghost try_from_gives = { IsIndexOrError };
 
     fn try_from(id: usize) -> Result<PatternID, PatternIDError> {
         PatternID::new(id)
     }
 }
 
-/// A number is above [`PatternID::MAX`]. A contract sees the error as that number.
+/// The error for a number above [`PatternID::MAX`]. A contract sees it as that number.
 #[derive(Clone, Copy, Debug, PartialEq, Eq)]
 pub struct PatternIDError(SmallIndexError);
 
@@ -169,7 +169,7 @@ impl Model for PatternIDError {
 }
 
 impl PatternIDError {
-    /// The number that was refused.
+    /// The number that was rejected.
     pub fn attempted(&self) -> u64
         ensures value { result ≡ self.now }
         ensures above { greatest_index < result }

@@ -1,5 +1,5 @@
 ghost use Rattle.std.specs.Prelude.{◌≡◌, ℕ, ◌+◌, ◌<◌, ◌≤◌, pos};
-ghost use Rattle.search_core.specs.Index.{greatest_index, IsIndexOrRefusal};
+ghost use Rattle.search_core.specs.Index.{greatest_index, IsIndexOrError};
 
 use std::error::Error;
 use std::fmt;
@@ -34,12 +34,12 @@ impl SmallIndex {
 
     /// Makes an index, if the number is at most [`SmallIndex::MAX`].
     pub fn new(index: usize) -> Result<SmallIndex, SmallIndexError>
-        ensures { IsIndexOrRefusal index result }
+        ensures { IsIndexOrError index result }
     {
         SmallIndex::try_from(index as u64)
     }
 
-    /// Makes an index where the number is known to be small enough.
+    /// Makes an index. Precondition: the number is at most [`SmallIndex::MAX`].
     pub fn must(index: usize) -> SmallIndex
         requires { index ≤ greatest_index }
         ensures { result ≡ index }
@@ -79,7 +79,7 @@ impl SmallIndex {
         self.0 as i32
     }
 
-    /// The index plus one, as for the length of what has its last element there.
+    /// The index plus one: the length of a sequence whose last element is there.
     pub fn one_more(&self) -> usize
         ensures value { result ≡ self.now + 1 }
         ensures in_range { self.now ≤ greatest_index }
@@ -107,7 +107,7 @@ impl From<u8> for SmallIndex {
 impl TryFrom<u16> for SmallIndex {
     type Error = SmallIndexError;
 
-    ghost try_from_gives = { IsIndexOrRefusal };
+    ghost try_from_gives = { IsIndexOrError };
 
     fn try_from(index: u16) -> Result<SmallIndex, SmallIndexError> {
         SmallIndex::try_from(u64::from(index))
@@ -117,7 +117,7 @@ impl TryFrom<u16> for SmallIndex {
 impl TryFrom<u32> for SmallIndex {
     type Error = SmallIndexError;
 
-    ghost try_from_gives = { IsIndexOrRefusal };
+    ghost try_from_gives = { IsIndexOrError };
 
     fn try_from(index: u32) -> Result<SmallIndex, SmallIndexError> {
         SmallIndex::try_from(u64::from(index))
@@ -127,7 +127,7 @@ impl TryFrom<u32> for SmallIndex {
 impl TryFrom<u64> for SmallIndex {
     type Error = SmallIndexError;
 
-    ghost try_from_gives = { IsIndexOrRefusal };
+    ghost try_from_gives = { IsIndexOrError };
 
     fn try_from(index: u64) -> Result<SmallIndex, SmallIndexError> {
         if index > SmallIndex::MAX.as_u64() {
@@ -140,14 +140,14 @@ impl TryFrom<u64> for SmallIndex {
 impl TryFrom<usize> for SmallIndex {
     type Error = SmallIndexError;
 
-    ghost try_from_gives = { IsIndexOrRefusal };
+    ghost try_from_gives = { IsIndexOrError };
 
     fn try_from(index: usize) -> Result<SmallIndex, SmallIndexError> {
         SmallIndex::new(index)
     }
 }
 
-/// A number is above [`SmallIndex::MAX`]. A contract sees the error as that number.
+/// The error for a number above [`SmallIndex::MAX`]. A contract sees it as that number.
 #[derive(Clone, Copy, Debug, PartialEq, Eq)]
 pub struct SmallIndexError {
     attempted: u64,
@@ -164,7 +164,7 @@ impl Model for SmallIndexError {
 }
 
 impl SmallIndexError {
-    /// The number that was refused.
+    /// The number that was rejected.
     pub fn attempted(&self) -> u64
         ensures value { result ≡ self.now }
         ensures above { greatest_index < result }

@@ -1,5 +1,5 @@
 ghost use Rattle.std.specs.Prelude.{◌≡◌, ℕ, ◌+◌, ◌<◌, ◌≤◌, pos};
-ghost use Rattle.search_core.specs.Index.{greatest_index, IsIndexOrRefusal};
+ghost use Rattle.search_core.specs.Index.{greatest_index, IsIndexOrError};
 
 use crate::small_index::{SmallIndex, SmallIndexError};
 use std::error::Error;
@@ -35,12 +35,12 @@ impl StateID {
 
     /// Makes the number of a state, if it is at most [`StateID::MAX`].
     pub fn new(id: usize) -> Result<StateID, StateIDError>
-        ensures { IsIndexOrRefusal id result }
+        ensures { IsIndexOrError id result }
     {
         StateID::try_from(id as u64)
     }
 
-    /// Makes the number of a state where it is known to be small enough.
+    /// Makes the number of a state. Precondition: the number is at most [`StateID::MAX`].
     pub fn must(id: usize) -> StateID
         requires { id ≤ greatest_index }
         ensures { result ≡ id }
@@ -80,7 +80,7 @@ impl StateID {
         self.0.as_i32()
     }
 
-    /// The number plus one, as for how many states there are with this one the last.
+    /// The number plus one: how many states there are if this is the last one.
     pub fn one_more(&self) -> usize
         ensures value { result ≡ self.now + 1 }
         ensures in_range { self.now ≤ greatest_index }
@@ -114,7 +114,7 @@ impl From<u8> for StateID {
 impl TryFrom<u16> for StateID {
     type Error = StateIDError;
 
-    ghost try_from_gives = { IsIndexOrRefusal };
+    ghost try_from_gives = { IsIndexOrError };
 
     fn try_from(id: u16) -> Result<StateID, StateIDError> {
         StateID::try_from(u64::from(id))
@@ -124,7 +124,7 @@ impl TryFrom<u16> for StateID {
 impl TryFrom<u32> for StateID {
     type Error = StateIDError;
 
-    ghost try_from_gives = { IsIndexOrRefusal };
+    ghost try_from_gives = { IsIndexOrError };
 
     fn try_from(id: u32) -> Result<StateID, StateIDError> {
         StateID::try_from(u64::from(id))
@@ -134,7 +134,7 @@ impl TryFrom<u32> for StateID {
 impl TryFrom<u64> for StateID {
     type Error = StateIDError;
 
-    ghost try_from_gives = { IsIndexOrRefusal };
+    ghost try_from_gives = { IsIndexOrError };
 
     fn try_from(id: u64) -> Result<StateID, StateIDError> {
         match SmallIndex::try_from(id) {
@@ -147,14 +147,14 @@ impl TryFrom<u64> for StateID {
 impl TryFrom<usize> for StateID {
     type Error = StateIDError;
 
-    ghost try_from_gives = { IsIndexOrRefusal };
+    ghost try_from_gives = { IsIndexOrError };
 
     fn try_from(id: usize) -> Result<StateID, StateIDError> {
         StateID::new(id)
     }
 }
 
-/// A number is above [`StateID::MAX`]. A contract sees the error as that number.
+/// The error for a number above [`StateID::MAX`]. A contract sees it as that number.
 #[derive(Clone, Copy, Debug, PartialEq, Eq)]
 pub struct StateIDError(SmallIndexError);
 
@@ -169,7 +169,7 @@ impl Model for StateIDError {
 }
 
 impl StateIDError {
-    /// The number that was refused.
+    /// The number that was rejected.
     pub fn attempted(&self) -> u64
         ensures value { result ≡ self.now }
         ensures above { greatest_index < result }

@@ -9,8 +9,8 @@ ghost use Rattle.std.specs.Int.{is_in_range};
 ghost use Rattle.search_core.specs.Utf8.{second_of_three, second_of_four, Spells, SpellsFirst, SpellsLast, Decodes};
 ghost use Rattle.search_core.specs.Utf8.{DecodesLast, is_boundary, is_word_byte};
 
-/// The first character of the bytes, or the first byte where no character begins them; `None` where
-/// there are no bytes.
+/// The first character of the bytes. If no character begins them, the error is the first byte. If there are
+/// no bytes, the result is `None`.
 pub fn decode(bytes: &[u8]) -> Option<Result<char, u8>>
     ensures { Decodes bytes.now result }
 {
@@ -18,8 +18,8 @@ pub fn decode(bytes: &[u8]) -> Option<Result<char, u8>>
     Some(first_char(bytes).ok_or(first))
 }
 
-/// The last character of the bytes, or the last byte where no character ends them; `None` where there
-/// are no bytes.
+/// The last character of the bytes. If no character ends them, the error is the last byte. If there are no
+/// bytes, the result is `None`.
 pub fn decode_last(bytes: &[u8]) -> Option<Result<char, u8>>
     ensures { DecodesLast bytes.now result }
 {
@@ -143,8 +143,8 @@ fn is_continuation(b: u8) -> bool
     (0x80..=0xBF).contains(&b)
 }
 
-/// Whether a text may be cut at the place `i`: it is the end, or no byte that continues a character
-/// follows.
+/// Whether the bytes may be cut at the offset `i`: it is their end, or the byte after it doesn't continue a
+/// character.
 pub fn is_boundary(bytes: &[u8], i: usize) -> bool
     ensures { result ≡ is_boundary bytes.now i }
 {

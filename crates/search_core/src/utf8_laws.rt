@@ -18,7 +18,8 @@ pub fn spelling_is_encode_utf8()
     ensures spelled { (c : ℕ) (bytes : List ℕ) → IsScalar c → encode_utf8 c ≡ bytes → Spells c bytes }
 {}
 
-/// Texts of spellings are what std calls UTF-8, so its functions on text may be used on them.
+/// The byte strings that are spellings of scalars one after the other are exactly those that std calls UTF-8.
+/// So std's functions on UTF-8 can be used on them.
 #[tactic(auto, using(crate::proofs::Utf8Lemmas::utf8_of_valid, crate::proofs::Utf8Lemmas::valid_of_utf8))]
 pub fn valid_text_is_utf8()
     ensures utf8 { (bytes : List ℕ) → IsValidText bytes → IsUtf8 bytes }
@@ -38,19 +39,19 @@ pub fn no_spelling_begins_another()
     ensures { (c d : ℕ) (s t : List ℕ) → Spells c s → Spells d (s ++ t) → t ≡ [] }
 {}
 
-/// A place of a text lies strictly inside one spelling at most, however the text is cut into spellings.
+/// An offset lies strictly inside at most one spelling, however the bytes are cut into spellings.
 pub fn places_lie_in_one_spelling()
     ensures { (h : List ℕ) (i : ℕ) (p q : IsSplit h i) → (p.before ≡ q.before) × (p.spelling ≡ q.spelling) × (p.after ≡ q.after) }
 {}
 
-/// In a valid text a place up to the length is a boundary exactly where it isn't split.
+/// In valid UTF-8, an offset up to the length is a boundary exactly if no spelling is split there.
 #[tactic(auto, using(crate::proofs::SplitLemmas::split_is_no_boundary, crate::proofs::SplitLemmas::boundary_or_split))]
 pub fn boundaries_are_not_split()
     ensures split { (h : List ℕ) (i : ℕ) → IsSplit h i → is_boundary h i ≡ false }
     ensures either { (h : List ℕ) (i : ℕ) → IsValidText h → i ≤ length h → (is_boundary h i ≡ true) ⊎ IsSplit h i }
 {}
 
-/// Where a valid text is cut at a place that isn't split, both parts are valid.
+/// If valid UTF-8 is cut at an offset where no spelling is split, both parts are valid.
 #[tactic(auto, using(crate::proofs::CutLemmas::valid_before, crate::proofs::CutLemmas::valid_behind))]
 pub fn parts_of_valid_text_are_valid()
     ensures before { (h : List ℕ) (i : ℕ) → IsValidText h → i ≤ length h → ¬ (IsSplit h i) → IsValidText (take i h) }
@@ -66,9 +67,9 @@ pub fn spellings_decode()
         DecodesLast (before ++ spelling) read → read ≡ Some (Ok c) }
 {}
 
-/// At a place of a valid text that isn't split, [`decode`](crate::utf8::decode) gives a character of what
-/// follows unless it is the end, and [`decode_last`](crate::utf8::decode_last) one of what precedes unless it
-/// is the start.
+/// Take an offset of valid UTF-8 where no spelling is split. Unless it is the end,
+/// [`decode`](crate::utf8::decode) reads a character from the bytes after it. Unless it is the start,
+/// [`decode_last`](crate::utf8::decode_last) reads a character from the bytes before it.
 pub fn cut_points_decode()
     ensures behind { (h : List ℕ) (i : ℕ) (read : Option (Result ℕ ℕ)) → IsValidText h → i < length h → ¬ (IsSplit h i) →
         Decodes (drop i h) read → (c : ℕ) × (read ≡ Some (Ok c)) }
@@ -82,8 +83,8 @@ pub fn spellings_have_lengths()
     ensures { (c : ℕ) (s : List ℕ) → Spells c s → length s ≡ spelling_len c }
 {}
 
-/// The character that is computed at a place is the one whose spelling begins there, and likewise in
-/// front of a place.
+/// `character_at` computes the character whose spelling begins at an offset, and `character_before` the one
+/// whose spelling ends there.
 pub fn characters_at_places()
     ensures begins { (h : List ℕ) (i c : ℕ) → character_at h i ≡ Some c → SpellsFirst c (drop i h) }
     ensures at { (h : List ℕ) (i c : ℕ) → SpellsFirst c (drop i h) → character_at h i ≡ Some c }
@@ -91,9 +92,9 @@ pub fn characters_at_places()
     ensures before { (h : List ℕ) (i c : ℕ) → i ≤ length h → SpellsLast c (take i h) → character_before h i ≡ Some c }
 {}
 
-/// What [`decode`](crate::utf8::decode) reads from a place on, and what
-/// [`decode_last`](crate::utf8::decode_last) reads in front of one, is computed from the character and the
-/// byte there.
+/// `read_at` computes what [`decode`](crate::utf8::decode) reads from an offset on, and `read_before` what
+/// [`decode_last`](crate::utf8::decode_last) reads before one. Both use only the character and the byte
+/// there.
 pub fn what_decode_reads()
     ensures behind { (h : List ℕ) (i : ℕ) (read : Option (Result ℕ ℕ)) → Decodes (drop i h) read → read ≡ read_at h i }
     ensures behind_decodes { (h : List ℕ) (i : ℕ) → Decodes (drop i h) (read_at h i) }

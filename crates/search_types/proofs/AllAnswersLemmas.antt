@@ -28,7 +28,7 @@ pub none_asked : (answer : ℕ → Option Found) (written : List Found) (n : ℕ
     written ≡ written ++ answers_from answer n last at
 none_asked answer written n last at e = sym (append-nil written) ∙ ap (λ k. written ++ answers_from answer k last at) (sym e)
 
--- a span between two places that ends after the first
+-- a span between two offsets that ends after the first
 pub record IsPast (at e : ℕ) (f : Found) : Type 0 where
   pub later : at < f.end
   pub starts : at ≤ f.start
@@ -74,7 +74,7 @@ module _ (answer : ℕ → Option Found) (e : ℕ) (ok : AnswersWithin answer e)
   next_is_past at f None is next = cc
   next_is_past at f (Some g) is next = not_repeat at g f (nat_eq g.start g.end && nat_eq g.end at) refl is next
 
-  -- the next answer after one that ended at the present place
+  -- the next answer after one that ended at the present offset
   next_past : (at : ℕ) (f : Found) → next_answer answer (Some at) at ≡ Some f → IsPast at e f
   next_past at f next = next_is_past at f (answer at) refl next
 
@@ -106,7 +106,7 @@ module _ (answer : ℕ → Option Found) (e : ℕ) (ok : AnswersWithin answer e)
   pub ends_rise : (s : ℕ) → EndsRise None (all_answers answer s e)
   ends_rise s = ends_rise_from (e + 2 - s) s
 
-  -- each answer stands between the start and the end
+  -- each answer lies between the start and the end
   spans_on : (s at : ℕ) (on : Found → List Found) → s ≤ at →
       ((f : Found) → s ≤ f.end → All (λ g. (s ≤ g.start) × (g.start ≤ g.end) × (g.end ≤ e)) (on f)) → (o : Option Found) →
       next_answer answer (Some at) at ≡ o → All (λ g. (s ≤ g.start) × (g.start ≤ g.end) × (g.end ≤ e)) (and_on o on)

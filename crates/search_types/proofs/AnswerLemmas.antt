@@ -9,7 +9,7 @@ use Rattle.search_types.specs.Found.{Found}
 use Rattle.search_types.specs.LeftmostAnswer.{first_choice, leftmost, leftmost_answer, IsAnswer}
 use Rattle.search_types.proofs.ModeLemmas.{starts_at, may_start_at, no_start}
 
--- f is the first choice at the least place from s to e that has one
+-- f is the first choice at the least offset from s to e that has one
 pub record IsLeast (choices_at : ℕ → List (ℕ × ℕ)) (s e : ℕ) (f : Found) : Type 0 where
   pub from_s : s ≤ f.start
   pub to_e : f.start ≤ e
@@ -52,7 +52,7 @@ module _ (choices_at : ℕ → List (ℕ × ℕ)) where
   leftmost_is_least (suc n) s e is =
       at_place n s e (choices_at s) refl (omega arith) (leftmost_is_least n (s + 1) e (omega arith))
 
-  -- the least place is the least at which the mode lets a search start
+  -- the least offset is the least at which the mode lets a search start
   of_least : (mode : Anchored) (s e : ℕ) (o : Option Found) → s ≤ e → IsLeastAnswer choices_at s (last_start mode s e) o →
       IsAnswer choices_at mode s e o
   of_least mode s e None le is = λ i starts. let at = starts_at mode s e i starts in is i at.from_s at.to_last
@@ -72,7 +72,7 @@ module _ (choices_at : ℕ → List (ℕ × ℕ)) where
   pub computed_is_answer : (mode : Anchored) (s e : ℕ) → IsAnswer choices_at mode s e (leftmost_answer choices_at mode s e)
   computed_is_answer mode s e = of_order mode s e (nat_le s e) refl
 
-  -- a place without a choice has no first one
+  -- an offset without a choice has no first one
   none_and_some : (f : Found) → choices_at f.start ≡ [] → first_choice f.start (choices_at f.start) ≡ Some f → ⊥
   none_and_some f none some =
       let e : None ≡ Some f = sym (ap (first_choice f.start) none) ∙ some in cc

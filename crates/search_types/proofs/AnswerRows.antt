@@ -1,4 +1,4 @@
--- The definitions of modes, places, spans and answers at small haystacks.
+-- The definitions of modes, offsets, spans and answers at small haystacks.
 use Rattle.std.proofs.Common.{◌≡◌, ℕ, zero, suc, true, false, List, [], ◌∷◌, Some, None, refl, lit≤}
 use Rattle.search_types.specs.declared.anchored.Anchored.TheVariants.{No, Yes, Pattern}
 use Rattle.search_types.specs.Modes.{may_start, allowed, is_supported}
@@ -6,7 +6,7 @@ use Rattle.search_types.specs.Places.{counts}
 use Rattle.search_types.specs.Inputs.{IsSpanOf}
 use Rattle.search_types.specs.LeftmostAnswer.{leftmost_answer}
 
--- the choices of b|ab, the only pattern, at the places of "ab", and those of b alone
+-- the choices of b|ab, the only pattern, at the offsets of "ab", and those of b alone
 abbrev alternation : ℕ → List (ℕ × ℕ)
 alternation zero = (0, 2) ∷ []
 alternation (suc zero) = (0, 2) ∷ []
@@ -40,7 +40,7 @@ anchored_in_front = refl
 anchored_at_it : leftmost_answer letter (Pattern 0) 1 2 ≡ Some (record { pattern = 0; start = 1; end = 2 })
 anchored_at_it = refl
 
--- of several choices the preferred one, though the pattern's number and the end are greater
+-- of several choices the preferred one, although the pattern's number and the end are greater
 preferred : leftmost_answer (λ i. (1, 5) ∷ (0, 3) ∷ []) No 2 6 ≡ Some (record { pattern = 1; start = 2; end = 5 })
 preferred = refl
 
@@ -84,7 +84,7 @@ starts_for_each = refl
 one_start_for_all : is_supported false (Pattern 1) ≡ false
 one_start_for_all = refl
 
--- the places of a letter with an accent and a mark, as three bytes
+-- the offsets of a letter with an accent and a mark, as three bytes
 inside_the_letter : counts true (0xC3 ∷ 0xA9 ∷ 0x21 ∷ []) 1 ≡ false
 inside_the_letter = refl
 
@@ -94,6 +94,6 @@ behind_the_letter = refl
 inside_where_bytes_count : counts false (0xC3 ∷ 0xA9 ∷ 0x21 ∷ []) 1 ≡ true
 inside_where_bytes_count = refl
 
--- a search of "ab" may start one place behind its end
+-- a search of "ab" may start one offset after its end
 one_behind_the_end : IsSpanOf (97 ∷ 98 ∷ []) 3 2
 one_behind_the_end = (lit≤ tt, lit≤ tt)

@@ -9,7 +9,7 @@ use Rattle.search_types.specs.Groups.{Groups, groups_of, slot}
 use Rattle.search_types.specs.CapturesLends.{with_slots}
 use Rattle.search_types.specs.CapturesValue.{CapturesValue, group_span, spans_from, first_slot, cut_span, cut_spans}
 
--- the first span and the ones behind it
+-- the first span and the ones after it
 pub spans_first : (c : CapturesValue) (g end : ℕ) → g < end → spans_from c g (end - g) ≡ group_span c g ∷ spans_from c (g + 1)
     (end - (g + 1))
 spans_first c g end h =
@@ -19,7 +19,7 @@ spans_first c g end h =
 abbrev pub captures_of : Groups → Option ℕ → List (Option ℕ) → CapturesValue
 captures_of gs p slots = record { groups = gs; pattern = p; slots = slots }
 
--- the slots that were lent come back, in their number as the vector counts it
+-- the slots that were passed come back, in their number as the vector counts it
 pub slots_written : (gs : Groups) (p : Option ℕ) (slots written : List (Option ℕ)) (n : ℕ) → n ≡ length slots →
     captures_of gs p (take n (written ++ drop (length written) slots)) ≡ with_slots (captures_of gs p slots) written
 slots_written gs p slots written n e = ap (λ m. captures_of gs p (take m (written ++ drop (length written) slots))) e
@@ -46,14 +46,14 @@ module _ (cuts : Span → Bool) (h : List ℕ) where
       ap (cut_spans cuts h (suc n)) e ∙ ap (λ o. option_and_then (λ part. option_map (λ parts. part ∷ parts) (cut_spans cuts h n rest)) o)
       (sym f)
 
--- what the loop over the groups behind the first one keeps, where the next span cuts nothing out, where it does, and at the end
+-- what the loop over the groups after the first one keeps: if the next span cuts nothing out, if it does, and at the end
 pub none_from_here : (cuts : Span → Bool) (h : List ℕ) (all : Option (List (List ℕ))) (front : List (List ℕ)) (index end : ℕ)
     (spans : List Span) →
     all ≡ onto_parts front (cut_spans cuts h (end - index) spans) → index < end → ((n : ℕ) → cut_spans cuts h (suc n) spans ≡ None) →
     None ≡ all
-none_from_here cuts h all front index end spans told below none =
+none_from_here cuts h all front index end spans reported below none =
     let n : end - index ≡ suc (end - (index + 1)) = omega arith in
-    sym (told ∙ ap (λ m. onto_parts front (cut_spans cuts h m spans)) n ∙ ap (onto_parts front) (none (end - (index + 1))))
+    sym (reported ∙ ap (λ m. onto_parts front (cut_spans cuts h m spans)) n ∙ ap (onto_parts front) (none (end - (index + 1))))
 
 module _ {H : Type 0} (bytes : H → List ℕ) where
   -- the parts so far, once one more is stored
@@ -68,11 +68,11 @@ module _ {H : Type 0} (bytes : H → List ℕ) where
       all ≡ onto_parts (bytes whole ∷ take index (map bytes parts)) (cut_spans cuts h (end - index) spans) →
       spans ≡ s ∷ rest → Some (bytes part) ≡ cut_span cuts h s →
       all ≡ onto_parts (bytes whole ∷ take (index + 1) (map bytes (set parts index part))) (cut_spans cuts h (end - (index + 1)) rest)
-  parts_more cuts h all whole part parts index end spans rest s len below told e f =
+  parts_more cuts h all whole part parts index end spans rest s len below reported e f =
       let front = bytes whole ∷ take index (map bytes parts) in
       let left = cut_spans cuts h (end - (index + 1)) rest in
       let n : end - index ≡ suc (end - (index + 1)) = omega arith in
-      told ∙ ap (λ m. onto_parts front (cut_spans cuts h m spans)) n
+      reported ∙ ap (λ m. onto_parts front (cut_spans cuts h m spans)) n
       ∙ ap (onto_parts front) (cut_goes cuts h (end - (index + 1)) spans rest s (bytes part) e f)
       ∙ onto_twice front (bytes part ∷ []) left
       ∙ ap (λ texts. onto_parts (bytes whole ∷ texts) left) (sym (store parts index part (omega arith)))
@@ -82,13 +82,13 @@ module _ {H : Type 0} (bytes : H → List ℕ) where
       length parts ≡ end → end ≤ index →
       all ≡ onto_parts (bytes whole ∷ take index (map bytes parts)) (cut_spans cuts h (end - index) spans) →
       Some (bytes whole ∷ map bytes parts) ≡ all
-  parts_end cuts h all whole parts index end spans len past told =
+  parts_end cuts h all whole parts index end spans len past reported =
       let n : end - index ≡ 0 = omega arith in
       let texts = take_all index (map bytes parts) (omega (arith, length-map parts bytes)) in
-      sym (told ∙ ap (λ m. onto_parts (bytes whole ∷ take index (map bytes parts)) (cut_spans cuts h m spans)) n
+      sym (reported ∙ ap (λ m. onto_parts (bytes whole ∷ take index (map bytes parts)) (cut_spans cuts h m spans)) n
       ∙ ap (λ ts. Some (bytes whole ∷ ts)) (append-nil _ ∙ texts))
 
--- the slots of a single pattern's groups by arithmetic and by their layout
+-- the slots of a single pattern's groups, by arithmetic and by their layout
 pub one_pattern : (gs : Groups) (g : ℕ) → length gs ≡ 1 → g < length (groups_of gs 0) → first_slot gs 0 g ≡ slot gs 0 g
 one_pattern [] g one below = absurd (omega arith)
 one_pattern (names ∷ []) zero one below = grind (arith, nat_tests)

@@ -1,30 +1,30 @@
--- Answers that are taken one after the other begin the list of all answers, and are all of it where nothing more is answered.
+-- Answers that are taken one after the other begin the list of all answers, and are all of it if nothing more is answered.
 use Rattle.std.proofs.Common.{◌≡◌, ℕ, zero, suc, ◌+◌, ◌-◌, ◌≤◌, Bool, true, false, cond, List, [], ◌∷◌, ◌++◌, length, Option, Some, None}
 use Rattle.std.proofs.Common.{refl, sym, ap, ◌∙◌, arith, append-nil}
 use Rattle.search_types.specs.Found.{Found}
 use Rattle.search_types.specs.AllAnswers.{is_repeat, and_on, next_answer, answers_from, all_answers, AnswersWithin}
 use Rattle.search_types.proofs.AllAnswersLemmas.{no_answer_is_cut_off}
-use Rattle.search_types.specs.Chains.{IsTaken, IsNextTaken, IsTakenList, IsWholeTakenList, TellsAnswers}
+use Rattle.search_types.specs.Chains.{IsTaken, IsNextTaken, IsTakenList, IsWholeTakenList, ReportsResults}
 
 module _ (answer : ℕ → Option Found) (low e : ℕ) (answers : ℕ → Option Found → Type 0)
-    (one : TellsAnswers answers answer low e) (ok : AnswersWithin answer e) where
-  -- where the next search is from: behind an answer within the span, or as first asked
-  abbrev IsPlace : Option ℕ → ℕ → Type 0
-  IsPlace None at = (low ≤ at) × (at ≤ e + 1)
-  IsPlace (Some last) at = (low ≤ at) × (at ≤ e)
+    (one : ReportsResults answers answer low e) (ok : AnswersWithin answer e) where
+  -- where the next search is from: after an answer within the span, or as first asked
+  abbrev IsGroupSlot : Option ℕ → ℕ → Type 0
+  IsGroupSlot None at = (low ≤ at) × (at ≤ e + 1)
+  IsGroupSlot (Some last) at = (low ≤ at) × (at ≤ e)
 
-  place_within : (last : Option ℕ) (at : ℕ) → IsPlace last at → (low ≤ at) × (at ≤ e + 1)
+  place_within : (last : Option ℕ) (at : ℕ) → IsGroupSlot last at → (low ≤ at) × (at ≤ e + 1)
   place_within None at p = p
   place_within (Some last) at p = (p.0, omega (arith, p.1))
 
-  taken_is : (last : Option ℕ) (at : ℕ) (o taken : Option Found) (b : Bool) → is_repeat last o ≡ b → IsPlace last at → o ≡ answer at →
+  taken_is : (last : Option ℕ) (at : ℕ) (o taken : Option Found) (b : Bool) → is_repeat last o ≡ b → IsGroupSlot last at → o ≡ answer at →
       IsTaken answers at o b taken →
       taken ≡ cond b (answer (at + 1)) (answer at)
   taken_is last at o taken false is p same t = t ∙ same
   taken_is None at o taken true is p same t = cc
   taken_is (Some last) at o taken true is p same t = one (at + 1) taken (omega (arith, p.0)) (omega (arith, p.1)) t
 
-  next_is : (last : Option ℕ) (at : ℕ) (taken : Option Found) → IsPlace last at → IsNextTaken answers last at taken →
+  next_is : (last : Option ℕ) (at : ℕ) (taken : Option Found) → IsGroupSlot last at → IsNextTaken answers last at taken →
       taken ≡ next_answer answer last at
   next_is last at taken p n =
       let within = place_within last at p in
@@ -45,7 +45,8 @@ module _ (answer : ℕ → Option Found) (low e : ℕ) (answers : ℕ → Option
   chain_on last at f fs rest n next on = ap (λ o. and_on o (λ g. answers_from answer n (Some g.end) g.end)) (sym next)
       ∙ ap (λ gs. f ∷ gs) on
 
-  chain_begins : (last : Option ℕ) (at : ℕ) (fs : List Found) (n : ℕ) → length fs ≤ n → IsPlace last at → IsTakenList answers last at fs →
+  chain_begins : (last : Option ℕ) (at : ℕ) (fs : List Found) (n : ℕ) → length fs ≤ n → IsGroupSlot last at →
+      IsTakenList answers last at fs →
       (rest : List Found) × (answers_from answer n last at ≡ fs ++ rest)
   chain_begins last at [] n l p c = (answers_from answer n last at, refl)
   chain_begins last at (f ∷ fs) zero l p c = absurd (omega arith)
@@ -59,7 +60,7 @@ module _ (answer : ℕ → Option Found) (low e : ℕ) (answers : ℕ → Option
   none_next last at zero next = refl
   none_next last at (suc n) next = ap (λ o. and_on o (λ g. answers_from answer n (Some g.end) g.end)) (sym next)
 
-  chain_is_all : (last : Option ℕ) (at : ℕ) (fs : List Found) (n : ℕ) → length fs ≤ n → IsPlace last at →
+  chain_is_all : (last : Option ℕ) (at : ℕ) (fs : List Found) (n : ℕ) → length fs ≤ n → IsGroupSlot last at →
       IsWholeTakenList answers last at fs →
       answers_from answer n last at ≡ fs
   chain_is_all last at [] n l p c = none_next last at n (next_is last at None p c)
@@ -70,7 +71,7 @@ module _ (answer : ℕ → Option Found) (low e : ℕ) (answers : ℕ → Option
       (place_within last at p).0 next) c.1 in
       chain_on last at f fs [] n next (more ∙ sym (append-nil fs)) ∙ ap (λ gs. f ∷ gs) (append-nil fs)
 
-  -- a chain is a beginning of the list of all answers, and it is all of it where nothing more is answered
+  -- a chain is a beginning of the list of all answers, and it is all of it if nothing more is answered
   pub chains_begin_the_list : (s : ℕ) (fs : List Found) → low ≤ s → s ≤ e + 1 → IsTakenList answers None s fs → (rest : List Found) ×
       (all_answers answer s e ≡ fs ++ rest)
   chains_begin_the_list s fs from l c =

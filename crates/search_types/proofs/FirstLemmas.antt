@@ -1,8 +1,8 @@
--- The first of all that places offer, one after the other, is the first offer of the least place that has one.
+-- The first of all that offsets offer, one after the other, is the first offer of the least offset that has one.
 use Rattle.std.proofs.Common.{◌≡◌, ℕ, zero, suc, ◌<◌, ◌≤◌, inl, inr, List, [], ◌∷◌, ◌++◌, Option, Some, None, refl, subst, arith}
 use Rattle.std.proofs.lemmas.Bool.{cases_lt}
 use Rattle.std.specs.List.{flat_map}
-use Rattle.search_types.specs.FirstFound.{first_of, places_from, IsFirstOffer}
+use Rattle.search_types.specs.FirstFound.{first_of, offsets_from, IsFirstOffer}
 
 module _ {A : Type 0} (offers : ℕ → List A) where
   none_here : (i k : ℕ) → offers i ≡ [] → i ≤ k → (i < k → offers k ≡ []) → offers k ≡ []
@@ -34,6 +34,6 @@ module _ {A : Type 0} (offers : ℕ → List A) where
     none_before = λ k low high. absurd (omega arith);
   }
 
-  pub first_found : (n i : ℕ) → IsFirstOffer offers i n (first_of (flat_map offers (places_from i n)))
+  pub first_found : (n i : ℕ) → IsFirstOffer offers i n (first_of (flat_map offers (offsets_from i n)))
   first_found zero i = λ k low high. absurd (omega arith)
-  first_found (suc n) i = first_step n i (offers i) (flat_map offers (places_from (suc i) n)) refl (first_found n (suc i))
+  first_found (suc n) i = first_step n i (offers i) (flat_map offers (offsets_from (suc i) n)) refl (first_found n (suc i))

@@ -1,4 +1,4 @@
--- Why a name finds exactly the group that has it, and a slot is of exactly one group.
+-- Why a name finds exactly the group that has it, and each slot belongs to exactly one group.
 use Rattle.std.proofs.Common.{◌≡◌, ◌≢◌, ◌==◌, ℕ, zero, suc, ◌+◌, ◌-◌, ◌*◌, ◌<◌, ◌≤◌, ◌⊎◌, ◌↔◌, Bool, true, List, [], ◌∷◌, ◌++◌, length}
 use Rattle.std.proofs.Common.{take, get_or, refl, sym, ap, ◌∙◌, inl, inr, arith, Some, None, is_some, length-append, append_assoc}
 use Rattle.std.specs.Prelude.{Option, nat_lt, slice_get}
@@ -105,7 +105,7 @@ other_is_explicit gs k p g s h =
     let n = near gs k p g h in
     omega (arith, n.from, explicit_above gs n.first p g n.known s)
 
--- ---- no slot is of two groups
+-- ---- no slot belongs to two groups
 bases_rise : (gs : Groups) (p q : ℕ) → p < q → q < length gs → explicit_slot_len (take p gs) +
     (length (groups_of gs p) - 1) * 2 ≤ explicit_slot_len (take q gs)
 bases_rise [] p q l h = absurd (omega (arith, h))
@@ -150,7 +150,7 @@ slot_of_one gs k p g q h x y =
     let n = near gs k q h y in
     known_one gs m.first p g n.first q h m.known n.known (omega (arith, m.from, n.upto)) (omega (arith, n.from, m.upto))
 
--- ---- each slot is of a group
+-- ---- each slot belongs to a group
 two : (a k : ℕ) → a ≤ k → k ≤ a + 1 → (k ≡ a) ⊎ (k ≡ a + 1)
 two a k l m = elim (cases_lt k (a + 1)) [
   | inl h ↦ inl (omega (arith, l, h))
@@ -171,7 +171,7 @@ halves (suc n) =
       | inr h ↦ record { half = r.half + 1; from = omega (arith, h); upto = omega (arith, r.upto) }
     ]
 
--- the explicit slot e, counted from the first of them, is of group g of pattern p
+-- the explicit slot e, counted from the first of them, belongs to group g of pattern p
 record IsExplicitAt (gs : Groups) (e : ℕ) : Type 0 where
   pub p : ℕ
   pub g : ℕ

@@ -80,7 +80,7 @@ explicit_start_in_slots [] p g h s l = absurd (omega (arith, h))
 explicit_start_in_slots (names ∷ rest) zero g h s l = omega (arith, s, l)
 explicit_start_in_slots (names ∷ rest) (suc p) g h s l = omega (arith, explicit_start_in_slots rest p g (omega (arith, h)) s l)
 
--- a group that there is has its pattern
+-- a group that exists has its pattern
 pub has_pattern : (gs : Groups) (p g : ℕ) → g < length (groups_of gs p) → p < length gs
 has_pattern [] p g h = absurd (omega (arith, h))
 has_pattern (names ∷ rest) zero g h = omega arith
@@ -173,7 +173,7 @@ left_step gs p g q name seen v e h n =
     sym v ∙ step ∙ ap (λ k. (k, g, to_name gs p g) ∷ left_from gs p (g + 1)) (sym e)
     ∙ ap (λ (m : Option Name). (q, g, m) ∷ left_from gs p (g + 1)) (sym same)
 
--- where that is the last group of its pattern, the next pattern's first one comes behind it
+-- if that is the last group of its pattern, the next pattern's first one comes after it
 left_next : (gs : Groups) (p g : ℕ) → length (groups_of gs p) ≤ g → left_from gs p g ≡ left_from gs (p + 1) 0
 left_next gs p g h =
     ap (λ (xs : List (ℕ × ℕ × Option Name)). xs ++ all_named_from (p + 1) (drop (p + 1) gs)) (named_past p g (groups_of gs p) g h)
@@ -221,7 +221,7 @@ pattern_step gs p g name seen v h n =
     sym v ∙ drop_step_suc (groups_of gs p) g h ∙ ap (λ (m : Option Name). m ∷ drop (suc g) (groups_of gs p)) (sym n)
     ∙ ap (λ k. name ∷ drop k (groups_of gs p)) e
 
--- an iterator that yields what is seen as the head of its list leaves the tail
+-- an iterator that yields what is seen as the first element of its list leaves the rest
 pub step_goes : {A B : Type 0} (x : A) (y : B) (s t : List B) → s ≡ y ∷ t →
     MakesProgress {S = List B} {A = A} (λ _. Unit {0}) (item_count {S = List B} {A = B} (λ rest. rest)) s (Some x) t
 step_goes x y s t e =

@@ -54,7 +54,7 @@ room_pushed old new seen y pushed same few =
     one_longer (length new) (length seen) greatest_index
     (ap length pushed ∙ length-append old (y ∷ []) ∙ ap (λ l. length l + 1) (sym same)) few
 
--- ---- behind the loop
+-- ---- after the loop
 pub all_read : {S B : Type 0} (see : S → B) (xs old : List S) (i : ℕ) (whole : List B) → length xs ≤ i →
     map see old ++ map see (drop i xs) ≡ whole → map see old ≡ whole
 all_read see xs old i whole past so_far =

@@ -1,4 +1,4 @@
--- The first place at which a test passes, and a map that finds each name's place.
+-- The first index at which a test passes, and a map that finds each name's index.
 use Rattle.std.proofs.Common.{◌≡◌, ℕ, suc, ◌≤◌, Bool, true, false, List, [], ◌∷◌, ◌++◌, length, refl, sym, ap, ◌∙◌, subst, inl, inr}
 use Rattle.std.proofs.Common.{arith, Some, None, is_some}
 use Rattle.std.specs.Prelude.{Option, nat_lt, if◌then◌else◌, String, string_bytes}
@@ -17,7 +17,7 @@ use Rattle.search_types.specs.Groups.{Name, is_named}
 use Rattle.search_types.specs.GroupFaults.{names_in, Duplicate, name_fault, group_fault_after}
 use Rattle.search_types.specs.GroupIndices.{FindsEach}
 
--- ---- the first place
+-- ---- the first index
 pub position_first : {X : Type 0} (p : X → Bool) (x : X) (xs : List X) → p x ≡ true → position p (x ∷ xs) ≡ Some 0
 position_first p x xs h = grind (arith, h)
 
@@ -56,7 +56,7 @@ pub option_or-None : {A : Type 0} (o : Option A) → option_or o None ≡ o
 option_or-None None = refl
 option_or-None (Some x) = refl
 
--- one name's place before and after the map takes a new one
+-- one name's index before and after the map takes a new one
 named_at : (names : List (Option Name)) (old new : Option ℕ) (key text : Name) (index : ℕ) (name : Name)
     → old ≡ position (is_named name) names → key ≡ text → index ≡ length names
     → new ≡ (if bytes_eq key name then Some index else old) → position (is_named text) names ≡ None
@@ -111,7 +111,7 @@ pub not_some : {A : Type 0} (o : Option A) → is_some o ≡ false → o ≡ Non
 not_some None h = refl
 not_some (Some x) h = absurd (grind (arith, h))
 
--- ---- what is said of texts, from what is said of their bytes
+-- ---- what is said of strings, from what is said of their bytes
 length-names_in : {A : Type 0} (texts : List (Option (String A))) → length (names_in texts) ≡ length texts
 length-names_in texts = length-map texts (option_map string_bytes)
 

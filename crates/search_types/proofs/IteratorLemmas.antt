@@ -3,7 +3,7 @@ use Rattle.std.proofs.Common.{◌≡◌, ◌<◌, List, [], ◌∷◌, ◌++◌,
 use Rattle.std.proofs.lemmas.List.{length_push}
 use Rattle.std.specs.Iterator.{MakesProgress, item_count}
 
--- it gives the last of them and leaves those before it
+-- it returns the last of them and leaves those before it
 pub step_from_back : {A : Type 0} (x : A) (s t : List A) → s ≡ t ++ x ∷ [] →
     MakesProgress {S = List A} {A = A} (λ _. Unit {0}) (item_count {S = List A} {A = A} (λ rest. rest)) s (Some x) t
 step_from_back {A} x s t e =

@@ -1,4 +1,4 @@
--- At which places a search may start, and which places count, by their properties.
+-- At which offsets a search may start, and which offsets count, by their properties.
 use Rattle.std.proofs.Common.{◌≡◌, ℕ, ◌≤◌, ◌⊎◌, ◌↔◌, Bool, true, false, ◌&&◌, List, length, nat_le, refl, sym, ◌∙◌, inl, inr, arith}
 use Rattle.std.proofs.Common.{leb-true, le-leb}
 use Rattle.search_core.specs.Utf8.{IsSplit, IsValidText, is_boundary}
@@ -9,7 +9,7 @@ use Rattle.search_types.specs.Modes.{may_start, last_start}
 use Rattle.search_types.specs.Places.{counts}
 use Rattle.std.proofs.lemmas.Bool.{and_from}
 
--- the three tests of a place, one by one
+-- the three tests of an offset, one by one
 pub record StartsAt (mode : Anchored) (s e i : ℕ) : Type 0 where
   pub forward : s ≤ e
   pub from_s : s ≤ i
@@ -58,7 +58,7 @@ anchored_starts s e i = (
 pub pattern_starts : (p s e i : ℕ) → (may_start (Pattern p) s e i ≡ true) ↔ ((i ≡ s) × (s ≤ e))
 pattern_starts p s e i = anchored_starts s e i
 
--- in a valid text a boundary isn't split, and other places are
+-- in valid UTF-8 a boundary isn't split, and other offsets are
 unsplit : (h : List ℕ) (j : ℕ) → is_boundary h j ≡ true → ¬ (IsSplit h j)
 unsplit h j is split = let differ : true ≡ false = sym is ∙ split_is_no_boundary h j split in cc
 

@@ -11,7 +11,7 @@ count_cons b bs = sum_by-cons (λ c. cond c 1 0) b bs
 count_le : (bs : List Bool) → member_count bs ≤ length bs
 count_le bs = count_by-le-length (λ c. c) bs
 
--- a set of no members has none at any place, and the other way round
+-- a set of no members has none at any index, and vice versa
 pub none_of_count : (bs : List Bool) → member_count bs ≡ 0 → (p : ℕ) → p < length bs → get_or bs p false ≡ false
 none_of_count [] e p h = absurd (omega arith)
 none_of_count (true ∷ bs) e p h = absurd (omega (arith, count_cons true bs))
@@ -23,7 +23,7 @@ count_of_none [] h = refl
 count_of_none (true ∷ bs) h = let e = h 0 (omega arith) in cc
 count_of_none (false ∷ bs) h = omega (arith, count_cons false bs, count_of_none bs (λ p q. h (suc p) (omega arith)))
 
--- a set of as many members as there are places has one at each, and the other way round
+-- a set of as many members as there are indices has one at each, and vice versa
 pub all_of_count : (bs : List Bool) → member_count bs ≡ length bs → (p : ℕ) → p < length bs → get_or bs p false ≡ true
 all_of_count [] e p h = absurd (omega arith)
 all_of_count (false ∷ bs) e p h = absurd (omega (arith, count_cons false bs, count_le bs))
@@ -44,7 +44,7 @@ members_push p (true ∷ bs) b =
 members_push p (false ∷ bs) b =
     members_push (p + 1) bs b ∙ ap (λ n. members_from (p + 1) bs ++ onto_members b n []) (omega arith)
 
--- what is left once the last place was passed over, and once its pattern was given
+-- what is left once the last index was skipped, and once its pattern was given
 pub back_skips : (p : ℕ) (bs rest : List Bool) (b : Bool) → bs ≡ rest ++ b ∷ [] → b ≡ false → members_from p bs ≡ members_from p rest
 back_skips p bs rest b e f =
     ap (members_from p) e ∙ members_push p rest b ∙ ap (λ c. members_from p rest ++ onto_members c (p + length rest) []) f ∙ append-nil _
@@ -54,7 +54,7 @@ pub back_gives : (p : ℕ) (bs rest : List Bool) (b : Bool) → bs ≡ rest ++ b
 back_gives p bs rest b e t =
     ap (members_from p) e ∙ members_push p rest b ∙ ap (λ c. members_from p rest ++ onto_members c (p + length rest) []) t
 
--- what `is_empty` and `is_full` tell, by the count of the members
+-- what `is_empty` and `is_full` return, by the count of the members
 pub empty_when_zero : (bs : List Bool) (n : ℕ) → n ≡ member_count bs → IsTrue (n == 0) ↔
     ((p : ℕ) → p < length bs → get_or bs p false ≡ false)
 empty_when_zero bs n e = (λ t. none_of_count bs (sym e ∙ eqb-true n 0 t), λ h. eq-eqb n 0 (e ∙ count_of_none bs h))

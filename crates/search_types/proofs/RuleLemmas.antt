@@ -15,7 +15,7 @@ is_some-option_map : {A B : Type 0} (f : A → B) (o : Option A) → is_some (op
 is_some-option_map f None = refl
 is_some-option_map f (Some x) = refl
 
--- the place i of a list
+-- index i of a list
 next_left : {X : Type 0} (xs : List X) (i : ℕ) (x : X) → i < length xs → x ≡ get_or xs i x → drop i xs ≡ x ∷ drop (i + 1) xs
 next_left xs i x below at = drop_more xs i x below ∙ ap (λ y. y ∷ drop (i + 1) xs) (sym at)
 
@@ -43,7 +43,7 @@ module _ {A : Type 0} (name : Name) (groups : List (Option (String A))) (i : ℕ
 -- ---- one group
 module _ {A : Type 0} (p : ℕ) (texts : List (Option (String A))) (name : Option (String A)) (text : String A) (bytes : Name) (found : Bool)
     (few : length texts ≤ greatest_index) (is : name ≡ Some text) (same : bytes ≡ string_bytes text)
-    (told : found ≡ is_some (position (is_named bytes) (names_in texts))) where
+    (reported : found ≡ is_some (position (is_named bytes) (names_in texts))) where
   few_names : length (names_in texts) ≤ greatest_index
   few_names = omega (arith, few, length-map texts (option_map string_bytes))
 
@@ -52,7 +52,7 @@ module _ {A : Type 0} (p : ℕ) (texts : List (Option (String A))) (name : Optio
       ∙ ap (λ b. group_fault_after p (names_in texts) (Some b)) (sym same)
 
   pub rule_of_new : found ≡ false → None ≡ group_fault_after p (names_in texts) (option_map string_bytes name)
-  rule_of_new e = sym (named_so ∙ fault_new_name p (names_in texts) bytes few_names (sym told ∙ e))
+  rule_of_new e = sym (named_so ∙ fault_new_name p (names_in texts) bytes few_names (sym reported ∙ e))
 
   pub rule_of_duplicate : found ≡ true → Some (Duplicate p bytes) ≡ group_fault_after p (names_in texts) (option_map string_bytes name)
-  rule_of_duplicate e = sym (named_so ∙ fault_duplicate p (names_in texts) bytes few_names (sym told ∙ e))
+  rule_of_duplicate e = sym (named_so ∙ fault_duplicate p (names_in texts) bytes few_names (sym reported ∙ e))

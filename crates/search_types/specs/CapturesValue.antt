@@ -8,21 +8,21 @@ use Rattle.search_types.specs.declared.span.Span.{Span}
 use Rattle.search_types.specs.Found.{Found}
 use Rattle.search_types.specs.Groups.{Name, Groups, groups_of, slot, to_index}
 
--- the groups, the pattern that matched, if one did, and the slots that are kept, which are set or unset
+-- the groups, the pattern that matched, if one did, and the slots that are kept, each of them set or unset
 pub record CapturesValue : Type 0 where
   pub groups : Groups
   pub pattern : Option ℕ
   pub slots : List (Option ℕ)
 
--- the slot where the span of group g starts; where there is one pattern alone, it is the matched one, whichever that is
+-- the slot of the start of the span of group g; if there is only one pattern, it is the matched one, whichever p is
 abbrev pub first_slot : Groups → ℕ → ℕ → Option ℕ
 first_slot gs p g = if length gs == 1 then Some (g * 2) else slot gs p g
 
--- what a slot says, nothing where it is unset or isn't kept
+-- the value of a slot; `None` if it is unset or isn't kept
 abbrev pub slot_value : List (Option ℕ) → ℕ → Option ℕ
 slot_value slots i = slice_index_or slots i None
 
--- the span of which both ends are known
+-- the span, if both of its ends are known
 abbrev pub span_between : Option ℕ → Option ℕ → Option Span
 span_between None end = None
 span_between (Some s) None = None
@@ -36,7 +36,7 @@ span_at slots i = span_between (slot_value slots i) (slot_value slots (i + 1))
 abbrev pub group_span : CapturesValue → ℕ → Option Span
 group_span c g = option_and_then (λ p. option_and_then (span_at c.slots) (first_slot c.groups p g)) c.pattern
 
--- the same of the group with this name
+-- the span of the group with this name
 abbrev pub named_span : CapturesValue → Name → Option Span
 named_span c name = option_and_then (λ p. option_and_then (group_span c) (to_index c.groups p name)) c.pattern
 
@@ -65,13 +65,13 @@ group_spans c = spans_from c 0 (matched_group_len c.groups c.pattern)
 abbrev pub known_spans : List (Option Span) → List Span
 known_spans spans = filter_map (λ span. span) spans
 
--- the overall span, and behind it those of the other groups that took part; nothing where the overall span isn't there
+-- the overall span, followed by those of the other groups that took part; empty if there is no overall span
 abbrev pub match_spans : List (Option Span) → List Span
 match_spans [] = []
 match_spans (None ∷ spans) = []
 match_spans (Some whole ∷ spans) = whole ∷ known_spans spans
 
--- whether a span cuts bytes out of a haystack, and whether it cuts a text out of a text
+-- whether a span cuts bytes out of a haystack, and whether it cuts UTF-8 out of UTF-8
 abbrev pub cuts_bytes : List ℕ → Span → Bool
 cuts_bytes h s = nat_le s.start s.end && nat_le s.end (length h)
 
@@ -82,7 +82,7 @@ cuts_text h s = cuts_bytes h s && is_boundary h s.start && is_boundary h s.end
 abbrev pub cut_span : (Span → Bool) → List ℕ → Span → Option (List ℕ)
 cut_span cuts h s = if cuts s then Some (slice_range h s.start s.end) else None
 
--- what the first n of these spans cut out, if there are so many and each does cut
+-- what the first n of these spans cut out, if there are so many and each of them cuts
 abbrev pub cut_spans : (Span → Bool) → List ℕ → ℕ → List Span → Option (List (List ℕ))
 cut_spans cuts h zero spans = Some []
 cut_spans cuts h (suc n) [] = None

@@ -1,8 +1,8 @@
--- How the errors of a search, of groups and of sets of patterns are told.
+-- The messages of the errors of a search, of groups and of sets of patterns.
 use Rattle.std.specs.Prelude.{ℕ, List, ◌++◌, codes, string_bytes}
 use Rattle.std.specs.Fmt.{decimal}
 use Rattle.search_core.specs.ErrorTexts.{pattern_id_text}
-use Rattle.search_types.specs.PatternSets.{InsertRefusal}
+use Rattle.search_types.specs.PatternSets.{InsertErrorValue}
 use Rattle.search_types.specs.declared.group_info_error.GroupInfoError.{GroupInfoError}
 use Rattle.search_types.specs.declared.group_info_error.GroupInfoError.TheVariants as group
 use Rattle.search_types.specs.declared.anchored.Anchored.{Anchored}
@@ -26,7 +26,7 @@ error_text (UnsupportedAnchored mode) = mode_text mode
 error_text NotAPair = codes "forward and reverse automata are no pair"
 error_text NoMemory = codes "out of memory"
 
--- groups that can't be taken
+-- groups that can't be accepted
 abbrev pub group_error_text : GroupInfoError → List ℕ
 group_error_text (group.TooManyPatterns attempted) = codes "too many patterns: " ++ pattern_id_text attempted
 group_error_text (group.TooManyGroups p minimum) = codes "pattern " ++ (decimal p
@@ -38,5 +38,5 @@ group_error_text (group.Duplicate p name) = codes "two groups of pattern "
 group_error_text group.NoMemory = codes "out of memory"
 
 -- a pattern for which a set has no room
-abbrev pub insert_error_text : InsertRefusal → List ℕ
+abbrev pub insert_error_text : InsertErrorValue → List ℕ
 insert_error_text r = codes "pattern " ++ (decimal r.attempted ++ (codes " is not below the set's capacity " ++ decimal r.capacity))

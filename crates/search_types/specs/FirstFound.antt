@@ -1,17 +1,17 @@
--- Places that each offer a list: the first of all that is offered, place by place.
+-- Offsets that each offer a list: the first of all offers, in the order of the offsets.
 use Rattle.std.specs.Prelude.{◌≡◌, ℕ, zero, suc, ◌+◌, ◌<◌, ◌≤◌, List, [], ◌∷◌, Option, Some, None}
 
--- so many places from i on
-abbrev pub places_from : ℕ → ℕ → List ℕ
-places_from i zero = []
-places_from i (suc n) = i ∷ places_from (suc i) n
+-- so many offsets from i on
+abbrev pub offsets_from : ℕ → ℕ → List ℕ
+offsets_from i zero = []
+offsets_from i (suc n) = i ∷ offsets_from (suc i) n
 
 -- the first of a list
 abbrev pub first_of : {A : Type 0} → List A → Option A
 first_of [] = None
 first_of (x ∷ xs) = Some x
 
--- c is the first offer of the least of the n places from i on that has one
+-- c is the first offer of the least of the n offsets from i on that has one
 pub record IsFirstAt {A : Type 0} (offers : ℕ → List A) (i n : ℕ) (c : A) : Type 0 where
   pub place : ℕ
   pub from : i ≤ place
@@ -20,7 +20,7 @@ pub record IsFirstAt {A : Type 0} (offers : ℕ → List A) (i n : ℕ) (c : A) 
   pub here : offers place ≡ c ∷ others
   pub none_before : (k : ℕ) → i ≤ k → k < place → offers k ≡ []
 
--- the same, or that none of these places offers anything
+-- `Some c`: c is this first offer; `None`: none of these offsets offers anything
 abbrev pub IsFirstOffer : {A : Type 0} → (ℕ → List A) → ℕ → ℕ → Option A → Type 0
 IsFirstOffer offers i n None = (k : ℕ) → i ≤ k → k < i + n → offers k ≡ []
 IsFirstOffer offers i n (Some c) = IsFirstAt offers i n c

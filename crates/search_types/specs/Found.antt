@@ -7,7 +7,7 @@ pub record Found : Type 0 where
   pub start : ℕ
   pub end : ℕ
 
--- of a `HalfMatch`: the pattern's number, and the place where the search along one direction came to
+-- of a `HalfMatch`: the pattern's number, and the offset that the search reached in its direction
 pub record HalfFound : Type 0 where
   pub pattern : ℕ
   pub offset : ℕ

@@ -1,4 +1,4 @@
--- Which groups are refused, and why: the first rule that they break.
+-- Which groups are rejected, and why: the first rule that they break.
 use Rattle.std.specs.Prelude.{ℕ, ◌+◌, ◌-◌, ◌*◌, nat_lt, List, [], ◌∷◌, ◌++◌, length, map, Option, Some, None, is_some, if◌then◌else◌}
 use Rattle.std.specs.Prelude.{String, string_bytes, Vec}
 use Rattle.std.specs.Option.{option_map, option_or}
@@ -6,14 +6,14 @@ use Rattle.std.specs.List.{position}
 use Rattle.search_core.specs.Index.{greatest_index}
 use Rattle.search_types.specs.Groups.{Name, Groups, implicit_slot_len, is_named}
 
--- the names in a list of texts, and in such a list for each pattern
+-- the names in a list of strings, and in such a list for each pattern
 abbrev pub names_in : {A : Type 0} → List (Option (String A)) → List (Option Name)
 names_in names = map (option_map string_bytes) names
 
 abbrev pub groups_in : {A B : Type 0} → List (Vec (Option (String A)) B) → Groups
 groups_in groups = map (λ names. names_in names.items) groups
 
--- a broken rule: the number of the pattern, and what else tells the place
+-- a broken rule: the number of the pattern, and what else locates the fault
 pub data GroupFault : Type 0 where
   -- the pattern's number is above the greatest index
   TooManyPatterns : ℕ → GroupFault
@@ -32,7 +32,7 @@ name_fault p earlier None = None
 name_fault p earlier (Some name) =
     if is_some (position (is_named name) earlier) then Some (Duplicate p name) else None
 
--- what is wrong with a group of pattern p that has a name or none, where the earlier ones have these
+-- what is wrong with a group of pattern p that has this name or none, if the earlier groups have these names
 abbrev pub group_fault_after : ℕ → List (Option Name) → Option Name → Option GroupFault
 group_fault_after p earlier name =
     if nat_lt greatest_index (length earlier)
@@ -51,7 +51,7 @@ pattern_fault p [] = Some (MissingGroups p)
 pattern_fault p (Some name ∷ rest) = Some (FirstMustBeUnnamed p)
 pattern_fault p (None ∷ rest) = fault_after p (None ∷ []) rest
 
--- the same where the pattern may have a number that is too great
+-- what is wrong with the groups of pattern p, whose number may be too great
 abbrev pub numbered_fault : ℕ → List (Option Name) → Option GroupFault
 numbered_fault p names = if nat_lt greatest_index p then Some (TooManyPatterns p) else pattern_fault p names
 
@@ -68,7 +68,7 @@ slots_end start names = start + (length names - 1) * 2
 abbrev pub end_fault : ℕ → List (Option Name) → ℕ → Option GroupFault
 end_fault p names end = if nat_lt greatest_index end then Some (TooManyGroups p (length names)) else None
 
--- the first pattern from p on for whose groups there are too many slots, where its explicit slots start here
+-- the first pattern from p on for whose groups there are too many slots, if its explicit slots start here
 abbrev pub slots_fault : ℕ → ℕ → Groups → Option GroupFault
 slots_fault p start [] = None
 slots_fault p start (names ∷ rest) =

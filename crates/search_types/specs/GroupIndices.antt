@@ -10,7 +10,7 @@ use Rattle.search_types.specs.GroupFaults.{pattern_fault}
 abbrev pub FindsEach : {A S : Type 0} → List (Option Name) → HashMap (String A) ℕ S → Type 0
 FindsEach names indices = (name : Name) → get_by_text indices name ≡ position (is_named name) names
 
--- the same, where there are groups, no more than can be numbered, and they break no rule
+-- such a map for groups that break no rule; there is at least one, and no more than can be numbered
 pub record IsIndexed {A S : Type 0} (names : List (Option Name)) (indices : HashMap (String A) ℕ S) : Type 0 where
   pub finds : FindsEach names indices
   pub some : 0 < length names

@@ -22,11 +22,11 @@ all_named gs = all_named_from 0 gs
 abbrev pub left_from : Groups → ℕ → ℕ → List (ℕ × ℕ × Option Name)
 left_from gs p g = named_from p g (drop g (groups_of gs p)) ++ all_named_from (p + 1) (drop (p + 1) gs)
 
--- p and g name a group, or lie behind all of them
-abbrev pub IsPlace : Groups → ℕ → ℕ → Type 0
-IsPlace gs p g = p < length gs → g < length (groups_of gs p)
+-- p and g are the numbers of a group, or lie after all groups
+abbrev pub IsGroupSlot : Groups → ℕ → ℕ → Type 0
+IsGroupSlot gs p g = p < length gs → g < length (groups_of gs p)
 
--- the first explicit slot of each pattern, where those of the first one start here
+-- the first explicit slot of each pattern, if those of the first one start here
 abbrev pub starts_from : ℕ → Groups → List ℕ
 starts_from start [] = []
 starts_from start (names ∷ rest) = start ∷ starts_from (slots_end start names) rest

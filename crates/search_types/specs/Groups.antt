@@ -14,13 +14,13 @@ Name = List ℕ
 abbrev pub Groups : Type 0
 Groups = List (List (Option Name))
 
--- the groups of a pattern; none where there is no such pattern
+-- the groups of a pattern; empty if there is no such pattern
 abbrev pub groups_of : Groups → ℕ → List (Option Name)
 groups_of [] p = []
 groups_of (names ∷ rest) zero = names
 groups_of (names ∷ rest) (suc p) = groups_of rest p
 
--- how many groups the patterns have in all, and how many beside the first ones
+-- how many groups the patterns have in all, and how many without the first ones
 abbrev pub all_group_len : Groups → ℕ
 all_group_len [] = 0
 all_group_len (names ∷ rest) = length names + all_group_len rest

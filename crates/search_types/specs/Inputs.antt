@@ -1,5 +1,5 @@
--- What a search is asked: the haystack, the span of it that is searched, the mode, and whether the first end that is met
--- is enough.
+-- The parameters of a search: the haystack, the span of it that is searched, the mode, and whether the first end that it
+-- finds is enough.
 use Rattle.std.specs.Prelude.{ℕ, ◌+◌, ◌≤◌, Bool, List, length}
 use Rattle.search_types.specs.declared.anchored.Anchored.{Anchored}
 
@@ -11,7 +11,7 @@ pub record Search : Type 0 where
   pub anchored : Anchored
   pub earliest : Bool
 
--- the span rule: a search ends in the haystack, and starts one place behind its end at most
+-- the span rule: a search ends in the haystack, and starts at most one byte after its end
 abbrev pub IsSpanOf : List ℕ → ℕ → ℕ → Type 0
 IsSpanOf h start end = (end ≤ length h) × (start ≤ end + 1)
 
@@ -19,7 +19,7 @@ IsSpanOf h start end = (end ≤ length h) × (start ≤ end + 1)
 abbrev pub IsWithin : Search → Type 0
 IsWithin q = IsSpanOf q.haystack q.start q.end
 
--- the same search but for its span, its mode, or when it is done
+-- the search with another span, another mode, or another flag for whether the first end is enough
 abbrev pub with_span : ℕ → ℕ → Search → Search
 with_span start end q = record { haystack = q.haystack; start = start; end = end; anchored = q.anchored; earliest = q.earliest }
 

@@ -1,4 +1,4 @@
--- Search modes: at which places a search may start, and which patterns it may find.
+-- Search modes: at which offsets a search may start, and which patterns it may find.
 use Rattle.std.specs.Prelude.{ℕ, Bool, true, false, Option, Some, None, ◌&&◌, ◌==◌, nat_lt, nat_le}
 use Rattle.search_types.specs.declared.anchored.Anchored.{Anchored}
 use Rattle.search_types.specs.declared.anchored.Anchored.TheVariants.{No, Yes, Pattern}
@@ -15,13 +15,13 @@ named_pattern No = None
 named_pattern Yes = None
 named_pattern (Pattern p) = Some p
 
--- the last place at which a search from s to e may start
+-- the last offset at which a search from s to e may start
 abbrev pub last_start : Anchored → ℕ → ℕ → ℕ
 last_start No s e = e
 last_start Yes s e = s
 last_start (Pattern p) s e = s
 
--- whether a search from s to e may start at the place i; where s is above e there is no such place
+-- whether a search from s to e may start at the offset i; if s is above e, there is no such offset
 abbrev pub may_start : Anchored → ℕ → ℕ → ℕ → Bool
 may_start mode s e i = nat_le s e && nat_le s i && nat_le i (last_start mode s e)
 

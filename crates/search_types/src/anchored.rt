@@ -6,16 +6,16 @@ use search_core::PatternID;
 /// Where a search may find a match, and of which patterns. As `regex_automata::Anchored`.
 #[derive(Clone, Copy, Debug, PartialEq, Eq)]
 pub enum Anchored {
-    /// At any place of the span.
+    /// At any offset of the span.
     No,
-    /// At the start of the span alone.
+    /// Only at the start of the span.
     Yes,
-    /// At the start of the span alone, and of this pattern alone.
+    /// Only at the start of the span, and only for this pattern.
     Pattern(PatternID),
 }
 
 impl Anchored {
-    /// Whether a match must begin where the search begins.
+    /// Whether a match must start where the search starts.
     pub fn is_anchored(&self) -> bool
         ensures { result ≡ is_anchored self.now }
     {

@@ -1,4 +1,5 @@
-//! The first rule that groups break. It is found without memory, so it is told whatever memory there is.
+//! The first rule that groups break. It is found without an allocation, so it doesn't depend on how much
+//! memory there is.
 ghost use Rattle.std.specs.Prelude.{◌≡◌, ◌+◌, ◌≤◌, [], length, Some, None, is_some, IfNone};
 ghost use Rattle.std.specs.Option.{option_map};
 ghost use Rattle.std.specs.String.{string_bytes};
@@ -7,13 +8,13 @@ ghost use Rattle.search_core.specs.Index.{greatest_index};
 ghost use Rattle.search_types.specs.Groups.{is_named, implicit_slot_len};
 ghost use Rattle.search_types.specs.GroupFaults.{names_in, groups_in, group_fault_after, fault_after, numbered_fault};
 ghost use Rattle.search_types.specs.GroupFaults.{names_fault, slots_fault, group_fault};
-ghost use Rattle.search_types.specs.GroupRefusals.{fault_of, Tells};
+ghost use Rattle.search_types.specs.GroupRefusals.{fault_of, ReportsFaultOf};
 
 use crate::group_info_error::GroupInfoError;
 use search_core::{PatternID, PatternIDError, SmallIndex};
 use std::alloc::Global;
 
-/// A rule that groups break. A name that stands twice is borrowed from them.
+/// A rule that groups break. A name that occurs twice is borrowed from them.
 #[derive(Drop)]
 pub(crate) enum BrokenRule<'a> {
     TooManyPatterns { err: PatternIDError },
@@ -23,9 +24,9 @@ pub(crate) enum BrokenRule<'a> {
     Duplicate { pattern: PatternID, name: &'a str },
 }
 
-/// The error that tells a broken rule. It takes memory for a name that stands twice, and for nothing else.
+/// The error that reports a broken rule. It takes memory for a name that occurs twice, and for nothing else.
 pub(crate) fn error_of(alloc: Global, rule: BrokenRule<'_>) -> GroupInfoError
-    ensures { Tells result (Some (fault_of rule.entry)) }
+    ensures { ReportsFaultOf result (Some (fault_of rule.entry)) }
 {
     match rule {
         BrokenRule::TooManyPatterns { err } => GroupInfoError::TooManyPatterns { err },
@@ -82,7 +83,7 @@ fn broken_by_pattern(index: usize, names: &[Option<String>]) -> Option<BrokenRul
     }
 }
 
-/// The first rule that the groups of a pattern break, each seen beside the ones before it.
+/// The first rule that the groups of a pattern break, each checked against the ones before it.
 fn broken_by_groups(pattern: PatternID, names: &[Option<String>]) -> Option<BrokenRule<'_>>
     ensures { option_map fault_of result ≡ fault_after pattern [] (names_in names.now) }
 {
@@ -94,7 +95,7 @@ fn broken_by_groups(pattern: PatternID, names: &[Option<String>]) -> Option<Brok
     None
 }
 
-/// The rule that a group breaks which stands behind these ones.
+/// The rule that a group breaks which comes after these ones.
 fn broken_by_group<'a>(
     pattern: PatternID,
     earlier: &[Option<String>],

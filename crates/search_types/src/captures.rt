@@ -5,7 +5,7 @@ ghost use Rattle.search_core.specs.Index.{greatest_index};
 ghost use Rattle.search_types.specs.Groups.{slot_len, implicit_slot_len};
 ghost use Rattle.search_types.specs.CapturesValue.{group_span, named_span, whole_match, matched_group_len, group_spans, slot_value};
 ghost use Rattle.search_types.specs.CapturesValue.{span_at, cut_spans, match_spans};
-ghost use Rattle.search_types.specs.CapturesLends.{lends_slots};
+ghost use Rattle.search_types.specs.CapturesLends.{borrows_slots};
 
 use crate::captures_iter::CapturesPatternIter;
 use crate::group_info::GroupInfo;
@@ -16,11 +16,10 @@ use search_core::{NonMaxUsize, PatternID};
 use std::alloc::{AllocError, Global};
 use std::marker::Model;
 
-/// Which pattern matched, and the spans of its groups. A contract sees the groups, that pattern and the
-/// slots.
+/// Which pattern matched, and the spans of its groups. A contract sees the groups, that pattern and the slots.
 ///
-/// A slot has one end of a group's span, and is unset where the group took no part in the match. Where
-/// only some of the slots are kept, the groups of the others count as such. As `regex_automata::util::captures::Captures`.
+/// A slot has one end of a group's span. It is unset if the group took no part in the match. If only some of the slots are
+/// kept, the groups of the others count as groups that took no part. As `regex_automata::util::captures::Captures`.
 #[derive(Drop)]
 pub struct Captures {
     group_info: GroupInfo,
@@ -76,7 +75,7 @@ impl Captures {
         }
     }
 
-    /// Another one with the same groups, pattern and slots.
+    /// A copy with the same groups, pattern and slots.
     pub fn try_clone(&self, alloc: Global) -> Result<Captures, AllocError>
         ensures { IfOk result (λ c. c ≡ self.now) }
     {
@@ -113,8 +112,8 @@ impl Captures {
         Some(Match::new(pid, span))
     }
 
-    /// The span of a group of the matched pattern. There is none where no pattern matched, or the group
-    /// took no part in the match, or its slots aren't kept, or there is no such group.
+    /// The span of a group of the matched pattern. The result is `None` if no pattern matched, the group took no part in
+    /// the match, its slots aren't kept, or there is no such group.
     pub fn get_group(&self, index: usize) -> Option<Span>
         ensures { result ≡ group_span self.now index }
     {
@@ -126,8 +125,8 @@ impl Captures {
         span_at(&self.slots, first)
     }
 
-    /// The span of the group of the matched pattern with this name. There is none where
-    /// [`Captures::get_group`] has none, or no group has this name.
+    /// The span of the group of the matched pattern with this name. The result is `None` if [`Captures::get_group`]
+    /// returns `None`, or if no group has this name.
     pub fn get_group_by_name(&self, name: &str) -> Option<Span>
         ensures { result ≡ named_span self.now name.now }
     {
@@ -135,15 +134,15 @@ impl Captures {
         self.get_group(index)
     }
 
-    /// The spans of the groups of the matched pattern in order, `None` for a group without one. There
-    /// are none where no pattern matched.
+    /// The spans of the groups of the matched pattern in order, `None` for a group without one. If no pattern matched,
+    /// there are none.
     pub fn iter(&self) -> CapturesPatternIter<'_>
         ensures { result ≡ group_spans self.now }
     {
         CapturesPatternIter::new(self)
     }
 
-    /// How many groups the matched pattern has, and 0 where no pattern matched.
+    /// How many groups the matched pattern has, or 0 if no pattern matched.
     pub fn group_len(&self) -> usize
         ensures value { result ≡ matched_group_len self.now.groups self.now.pattern }
         ensures in_range { result ≤ greatest_index }
@@ -169,7 +168,7 @@ impl Captures {
         self.slots.fill(None);
     }
 
-    /// Says which pattern matched, if one did. The slots stay as they are.
+    /// Sets which pattern matched, if one did. The slots stay as they are.
     pub fn set_pattern(&mut self, pid: Option<PatternID>)
         ensures { self.new ≡ record { groups = self.old.groups; pattern = pid; slots = self.old.slots } }
     {
@@ -183,9 +182,9 @@ impl Captures {
         &self.slots
     }
 
-    /// The slots that are kept, to be written.
+    /// The slots that are kept, for writing.
     pub fn slots_mut(&mut self) -> &mut [Option<NonMaxUsize>]
-        ensures* writes_back { sem 𝓛 (lends_slots self.entry result) }
+        ensures* writes_back { sem 𝓛 (borrows_slots self.entry result) }
         ensures value { result.now ≡ self.old.slots }
     {
         self.slots.as_mut_slice()
@@ -199,7 +198,7 @@ fn unset(alloc: Global, len: usize) -> Result<Vec<Option<NonMaxUsize>>, AllocErr
     vec![in alloc; None; len]
 }
 
-/// What a slot says, `None` where it is unset or isn't kept.
+/// The value of a slot; `None` if it is unset or isn't kept.
 fn slot_value(slots: &[Option<NonMaxUsize>], index: usize) -> Option<usize>
     ensures { result ≡ slot_value slots.now index }
 {
@@ -209,7 +208,7 @@ fn slot_value(slots: &[Option<NonMaxUsize>], index: usize) -> Option<usize>
     }
 }
 
-/// The span of which the two slots from this one on have the ends.
+/// The span whose ends are in this slot and the next one.
 fn span_at(slots: &[Option<NonMaxUsize>], first: usize) -> Option<Span>
     ensures { result ≡ span_at slots.now first }
 {
@@ -219,9 +218,9 @@ fn span_at(slots: &[Option<NonMaxUsize>], first: usize) -> Option<Span>
 }
 
 impl Captures {
-    /// The parts of a text in the overall span of the match and in those of the next `N` groups that took
-    /// part in it. There are none where no pattern matched, the overall span isn't there, fewer groups
-    /// took part, or one of the spans cuts no part out of the text.
+    /// The parts of a haystack of UTF-8 in the overall span of the match and in those of the next `N` groups that took
+    /// part in it. The result is `None` if no pattern matched, the overall span isn't there, fewer groups took part, or
+    /// one of the spans cuts no part out of the haystack.
     pub fn extract<H: Text, const N: usize>(&self, haystack: H) -> Option<(H, [H; N])>
         ensures { option_map (λ parts. H.bytes parts.0 ∷ map H.bytes parts.1) result
             ≡ cut_spans (H.cuts (H.bytes haystack)) (H.bytes haystack) (N + 1) (match_spans (group_spans self.now)) }
@@ -229,7 +228,8 @@ impl Captures {
         self.parts(haystack)
     }
 
-    /// The same of bytes, of which a span may cut out any.
+    /// The parts of a haystack of bytes in the overall span of the match and in those of the next `N` groups that took
+    /// part in it. A span may cut out any bytes. Otherwise this is [`extract`](Captures::extract).
     pub fn extract_bytes<H: Bytes, const N: usize>(&self, haystack: H) -> Option<(H, [H; N])>
         ensures { option_map (λ parts. H.bytes parts.0 ∷ map H.bytes parts.1) result
             ≡ cut_spans (H.cuts (H.bytes haystack)) (H.bytes haystack) (N + 1) (match_spans (group_spans self.now)) }
@@ -237,7 +237,7 @@ impl Captures {
         self.parts(haystack)
     }
 
-    /// The same of any haystack.
+    /// The parts of any haystack that [`extract`](Captures::extract) returns for text.
     fn parts<H: Haystack, const N: usize>(&self, haystack: H) -> Option<(H, [H; N])>
         ensures { option_map (λ parts. H.bytes parts.0 ∷ map H.bytes parts.1) result
             ≡ cut_spans (H.cuts (H.bytes haystack)) (H.bytes haystack) (N + 1) (match_spans (group_spans self.now)) }

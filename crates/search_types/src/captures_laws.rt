@@ -10,7 +10,7 @@ ghost use Rattle.std.specs.Prelude.{◌≡◌, ℕ, ◌<◌, length};
 ghost use Rattle.search_types.specs.Groups.{Groups, groups_of, slot};
 ghost use Rattle.search_types.specs.CapturesValue.{first_slot};
 
-/// Where there is one pattern, its groups' slots lie pair by pair, in the groups' order.
+/// If there is one pattern, its groups' slots come pair by pair, in the order of the groups.
 #[tactic(auto, using(crate::proofs::CapturesLemmas::one_pattern))]
 pub fn slots_of_one_pattern()
     ensures { (gs : Groups) (g : ℕ) → length gs ≡ 1 → g < length (groups_of gs 0) → first_slot gs 0 g ≡ slot gs 0 g }

@@ -5,7 +5,7 @@ ghost use Rattle.search_types.specs.Groups.{groups_of, to_index, to_name, slot, 
 ghost use Rattle.search_types.specs.Groups.{implicit_slot_len, explicit_slot_len, all_group_len};
 ghost use Rattle.search_types.specs.GroupFaults.{groups_in, names_fault, slots_fault, group_fault};
 ghost use Rattle.search_types.specs.GroupPlaces.{all_named, starts_from};
-ghost use Rattle.search_types.specs.GroupRefusals.{Tells};
+ghost use Rattle.search_types.specs.GroupRefusals.{ReportsFaultOf};
 
 use crate::broken_rules::{broken_rule, error_of};
 use crate::group_info_error::GroupInfoError;
@@ -41,14 +41,15 @@ impl Model for GroupInfo {
 }
 
 impl GroupInfo {
-    /// Takes the names of each pattern's groups, where these break no rule. If they do, the error tells
-    /// the first one, whatever memory there is; but a name that stands twice is copied into the error, so
-    /// that want of memory may be told for it.
+    /// Returns the groups of each pattern, by their names, if these break no rule. Otherwise the error
+    /// reports the first rule that they break. `GroupInfoError::NoMemory` is possible if no rule is broken,
+    /// and for a name that occurs twice, since it is copied into the error. Every other broken rule is
+    /// reported however little memory there is.
     ///
-    /// Each name is compared with those before it in its pattern, which takes the square of their number.
+    /// Each name is compared with those before it in its pattern, so the time is quadratic in their number.
     pub fn new(alloc: Global, groups: &[Vec<Option<String>>]) -> Result<GroupInfo, GroupInfoError>
         ensures { MatchResult result (λ g. (g ≡ groups_in groups.now) × (group_fault (groups_in groups.now) ≡ None))
-            (λ e. Tells e (group_fault (groups_in groups.now))) }
+            (λ e. ReportsFaultOf e (group_fault (groups_in groups.now))) }
     {
         if let Some(rule) = broken_rule(groups) {
             return Err(error_of(alloc, rule));
@@ -106,8 +107,8 @@ impl GroupInfo {
         }
     }
 
-    /// The names of a pattern's groups in order, `None` for a group without one. There are none where
-    /// there is no such pattern.
+    /// The names of a pattern's groups in order, `None` for a group without one. If there is no such pattern,
+    /// there are none.
     pub fn pattern_names(&self, pid: PatternID) -> GroupInfoPatternNames<'_>
         ensures { result ≡ groups_of self.now pid }
     {
@@ -160,7 +161,7 @@ impl GroupInfo {
         self.patterns.len()
     }
 
-    /// How many groups a pattern has, 0 where there is no such pattern.
+    /// How many groups a pattern has, or 0 if there is no such pattern.
     #[tactic(auto, using(crate::proofs::GroupLemmas::group_len_in_slots))]
     pub fn group_len(&self, pid: PatternID) -> usize
         ensures value { result ≡ length (groups_of self.now pid) }

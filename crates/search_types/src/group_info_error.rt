@@ -6,13 +6,13 @@ use std::alloc::{AllocError, AllocFailed};
 use std::error::Error;
 use std::fmt;
 
-/// Why groups can't be taken: the first rule that they break, or no memory.
-/// As `regex_automata::util::captures::GroupInfoError`.
+/// Why groups can't be accepted: the first rule that they break, or no memory. As
+/// `regex_automata::util::captures::GroupInfoError`.
 #[derive(Debug, Drop)]
 pub enum GroupInfoError {
     /// There are more patterns than can be numbered.
     TooManyPatterns {
-        /// The refusal of the first number that is too great.
+        /// The error for the first number that is too great.
         err: PatternIDError,
     },
     /// A pattern has more groups than can be numbered, or than there are slots for.

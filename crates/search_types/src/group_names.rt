@@ -67,13 +67,13 @@ pub struct GroupInfoAllNames<'a> {
 impl<'a> Model for GroupInfoAllNames<'a> {
     ghost use Rattle.std.specs.Prelude.{List, Option, ℕ};
     ghost use Rattle.search_types.specs.Groups.{Name};
-    ghost use Rattle.search_types.specs.GroupPlaces.{left_from, IsPlace};
+    ghost use Rattle.search_types.specs.GroupPlaces.{left_from, IsGroupSlot};
 
     ghost Value = { List (ℕ × ℕ × Option Name) };
 
     ghost view = { λ s. left_from s.info.now s.pattern s.next };
 
-    ghost invariant = { λ s. IsPlace s.info.now s.pattern s.next };
+    ghost invariant = { λ s. IsGroupSlot s.info.now s.pattern s.next };
 }
 
 impl<'a> GroupInfoAllNames<'a> {

@@ -6,7 +6,7 @@ ghost use Rattle.search_types.specs.CapturesValue.{cut_span, cuts_bytes, cuts_te
 use crate::span::Span;
 use search_core::utf8::is_boundary;
 
-/// What is searched and cut up by spans: a text or bytes.
+/// A haystack that is searched and cut up by spans: UTF-8 or bytes.
 pub trait Haystack: Copy + Drop {
     /// Its bytes.
     ghost bytes: { Self → List ℕ };
@@ -19,7 +19,7 @@ pub trait Haystack: Copy + Drop {
         ensures { option_map bytes result ≡ cut_span (cuts (bytes self)) (bytes self) span };
 }
 
-/// A haystack that is a text.
+/// A haystack that is UTF-8.
 pub trait Text: Haystack {}
 
 /// A haystack of bytes.
@@ -43,7 +43,7 @@ impl<'h> Haystack for &'h [u8] {
     }
 }
 
-/// A span cuts a text out if it cuts bytes out, and no character in two.
+/// A span cuts UTF-8 out if it cuts bytes out, and no character in two.
 impl<'h> Haystack for &'h str {
     ghost bytes = { λ h. h.now };
 

@@ -9,12 +9,12 @@ use search_core::utf8;
 use std::marker::Model;
 use std::ops::Range;
 
-/// What a search is asked: a haystack, the span of it that is searched, in which mode, and whether
-/// the search may stop at the first end of a match that it meets.
+/// The parameters of a search: a haystack, the span of it that is searched, the mode, and whether the search
+/// may stop at the first end of a match that it finds.
 ///
-/// The bytes outside the span still count for what a pattern asks about the places beside a match.
-/// The span's end is at most the haystack's length, and its start at most one above its end; with a
-/// start above the end the search is done. [`Input::fits`] tells whether a span is of this kind.
+/// Looks at the ends of a match also read the bytes outside the span. The span's end is at most the
+/// haystack's length, and its start at most one above its end. With a start above the end, the search is
+/// done. [`Input::fits`] returns whether a span obeys these rules.
 #[derive(Clone, Debug, Drop)]
 pub struct Input<'h> {
     haystack: &'h [u8],
@@ -55,7 +55,7 @@ impl<'h> Input<'h> {
         }
     }
 
-    /// The same search of this span.
+    /// Returns this search with this span.
     pub fn span(self, span: Span) -> Input<'h>
         requires { IsSpanOf self.haystack span.start span.end }
         ensures { result ≡ with_span span.start span.end self.entry }
@@ -63,7 +63,7 @@ impl<'h> Input<'h> {
         Input { span, ..self }
     }
 
-    /// The same search of this range.
+    /// Returns this search with this range as its span.
     pub fn range(self, range: Range<usize>) -> Input<'h>
         requires { IsSpanOf self.haystack range.start range.end }
         ensures { result ≡ with_span range.start range.end self.entry }
@@ -74,7 +74,7 @@ impl<'h> Input<'h> {
         })
     }
 
-    /// The same search in this mode.
+    /// Returns this search in this mode.
     pub fn anchored(self, mode: Anchored) -> Input<'h>
         ensures { result ≡ with_anchored mode self.entry }
     {
@@ -84,7 +84,7 @@ impl<'h> Input<'h> {
         }
     }
 
-    /// The same search, which may or may not stop at the first end that it meets.
+    /// Returns this search with this flag: whether it may stop at the first end that it finds.
     pub fn earliest(self, yes: bool) -> Input<'h>
         ensures { result ≡ with_earliest yes self.entry }
     {
@@ -136,7 +136,7 @@ impl<'h> Input<'h> {
         self.anchored = mode;
     }
 
-    /// Sets whether the search may stop at the first end that it meets.
+    /// Sets whether the search may stop at the first end that it finds.
     pub fn set_earliest(&mut self, yes: bool)
         ensures { self.new ≡ with_earliest yes self.old }
     {
@@ -190,7 +190,7 @@ impl<'h> Input<'h> {
         self.anchored
     }
 
-    /// Whether the search may stop at the first end that it meets.
+    /// Whether the search may stop at the first end that it finds.
     pub fn get_earliest(&self) -> bool
         ensures { result ≡ self.now.earliest }
     {
@@ -205,8 +205,8 @@ impl<'h> Input<'h> {
         self.span.start > self.span.end
     }
 
-    /// Whether a text may be cut at this place of the haystack. Above the haystack's length it may
-    /// not.
+    /// Whether UTF-8 may be cut at this offset of the haystack. Above the haystack's length the result is
+    /// false.
     pub fn is_char_boundary(&self, at: usize) -> bool
         ensures { result ≡ is_boundary self.now.haystack at }
     {

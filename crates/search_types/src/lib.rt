@@ -1,4 +1,4 @@
-//! What a search is asked and what it answers: inputs, spans, matches, sets of patterns, groups and captures.
+//! The parameters of a search and its results: inputs, spans, matches, sets of patterns, groups and captures.
 //!
 //! The definitions are in `specs/`; their laws are public functions without code in [`answer_laws`],
 //! [`all_answers_laws`], [`group_laws`] and [`captures_laws`].

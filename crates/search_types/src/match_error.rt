@@ -7,12 +7,12 @@ use std::fmt::{self, Display, Formatter, Write};
 use std::marker::Model;
 use thiserror::Error;
 
-/// Why a search told neither a match nor that there is none. As `regex_automata::MatchErrorKind`.
+/// Why a search reported neither a match nor that there is none. As `regex_automata::MatchErrorKind`.
 #[derive(Clone, Copy, Debug, PartialEq, Eq)]
 pub enum MatchErrorKind {
-    /// The search met a byte at which it was set to stop. The offset is the byte's place.
+    /// The search read a quit byte: a byte at which it was set to stop. The offset is that of the byte.
     Quit { byte: u8, offset: usize },
-    /// The search would have been too slow from this place on, by its own measure.
+    /// From this offset on, the search would have been too slow, by its own measure.
     GaveUp { offset: usize },
     /// The haystack has so many bytes, which are more than this engine searches.
     HaystackTooLong { len: usize },
@@ -21,7 +21,7 @@ pub enum MatchErrorKind {
     /// The automaton that searches back found no start for the end that the other one found, so the
     /// two are not of the same patterns.
     NotAPair,
-    /// A growth was refused.
+    /// An allocation failed.
     NoMemory,
 }
 
@@ -89,21 +89,21 @@ impl MatchError {
         &self.0
     }
 
-    /// The search met this byte, at which it was set to stop, at this place.
+    /// The search read this quit byte, at which it was set to stop, at this offset.
     pub fn quit(byte: u8, offset: usize) -> MatchError
         ensures { result ≡ Quit byte offset }
     {
         MatchError(MatchErrorKind::Quit { byte, offset })
     }
 
-    /// The search would have been too slow from this place on.
+    /// The search would have been too slow from this offset on.
     pub fn gave_up(offset: usize) -> MatchError
         ensures { result ≡ GaveUp offset }
     {
         MatchError(MatchErrorKind::GaveUp { offset })
     }
 
-    /// A haystack of so many bytes is more than this engine searches.
+    /// The haystack has so many bytes, which are more than this engine searches.
     pub fn haystack_too_long(len: usize) -> MatchError
         ensures { result ≡ HaystackTooLong len }
     {

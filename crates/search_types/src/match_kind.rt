@@ -1,4 +1,4 @@
-/// Which of the matches that begin at one place is told. As `regex_automata::MatchKind`.
+/// Which of the matches that start at one offset a search reports. As `regex_automata::MatchKind`.
 #[derive(Clone, Copy, Debug, PartialEq, Eq)]
 pub enum MatchKind {
     /// Each of them.

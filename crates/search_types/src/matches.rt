@@ -6,8 +6,8 @@ use search_core::PatternID;
 use std::marker::Model;
 use std::ops::Range;
 
-/// A match: which pattern it is of, and the span of it, whose start is never above its end. A
-/// contract sees it as a `Found`. As `regex_automata::Match`.
+/// A match: which pattern it is of, and its span, whose start is never above its end. A contract sees it as a
+/// `Found`. As `regex_automata::Match`.
 #[derive(Clone, Copy, Debug, PartialEq, Eq, Hash)]
 pub struct Match {
     pattern: PatternID,
@@ -36,7 +36,7 @@ impl Match {
         Match { pattern, span }
     }
 
-    /// The same, with the pattern by its number.
+    /// A match of the pattern with this number over this span.
     pub fn must(pattern: usize, span: Span) -> Match
         requires index { pattern ≤ greatest_index }
         requires forward { span.start ≤ span.end }
@@ -60,7 +60,7 @@ impl Match {
         self.span.start
     }
 
-    /// Where the match ends: the place behind its last byte.
+    /// Where the match ends: the offset right after its last byte.
     pub fn end(&self) -> usize
         ensures value { result ≡ self.now.end }
         ensures forward { self.now.start ≤ self.now.end }
@@ -84,7 +84,7 @@ impl Match {
         self.span
     }
 
-    /// Whether the match has no byte.
+    /// Whether the match is empty.
     pub fn is_empty(&self) -> bool
         ensures { IsTrue result ↔ (self.now.start ≡ self.now.end) }
     {
@@ -100,9 +100,9 @@ impl Match {
     }
 }
 
-/// One end of a match: which pattern it is of, and the place to which the search came, which is the
-/// match's end for a forward search and its start for a reverse one. A contract sees it as a
-/// `HalfFound`. As `regex_automata::HalfMatch`.
+/// One end of a match: its pattern, and the offset that the search reached. That is the match's end for a
+/// forward search and its start for a reverse one. A contract sees it as a `HalfFound`. As
+/// `regex_automata::HalfMatch`.
 #[derive(Clone, Copy, Debug, PartialEq, Eq, Hash)]
 pub struct HalfMatch {
     pattern: PatternID,
@@ -127,7 +127,7 @@ impl HalfMatch {
         HalfMatch { pattern, offset }
     }
 
-    /// The same, with the pattern by its number.
+    /// A half match of the pattern with this number at this offset.
     pub fn must(pattern: usize, offset: usize) -> HalfMatch
         requires { pattern ≤ greatest_index }
         ensures { result ≡ record { pattern = pattern; offset = offset } }
@@ -142,7 +142,7 @@ impl HalfMatch {
         self.pattern
     }
 
-    /// The place to which the search came, in bytes from the haystack's start.
+    /// The offset that the search reached, in bytes from the haystack's start.
     pub fn offset(&self) -> usize
         ensures { result ≡ self.now.offset }
     {

@@ -1,7 +1,7 @@
 ghost use Rattle.std.specs.Prelude.{◌≡◌, ℕ, ◌<◌, ◌≤◌, ◌↔◌, IsTrue, true, false, not, length, replicate, slice_set, IfOk, MatchResult};
 ghost use Rattle.search_core.specs.Index.{greatest_index};
 ghost use Rattle.search_core.specs.ByteSets.{has};
-ghost use Rattle.search_types.specs.PatternSets.{member_count, members_of, Inserts, Refuses};
+ghost use Rattle.search_types.specs.PatternSets.{member_count, members_of, Inserts, RejectsInsert};
 
 use crate::pattern_set_iter::PatternSetIter;
 use search_core::PatternID;
@@ -43,7 +43,7 @@ impl PatternSet {
         })
     }
 
-    /// Takes all patterns out.
+    /// Removes all patterns from the set.
     pub fn clear(&mut self)
         ensures { self.new ≡ replicate (length self.old) false }
     {
@@ -61,7 +61,8 @@ impl PatternSet {
         }
     }
 
-    /// Puts a pattern into the set, and says whether it was absent.
+    /// Inserts a pattern into the set, and returns whether it was absent. Precondition: the pattern is below
+    /// the capacity.
     pub fn insert(&mut self, pid: PatternID) -> bool
         requires { pid < length self.old }
         ensures { Inserts self.old pid result self.new }
@@ -75,9 +76,10 @@ impl PatternSet {
         true
     }
 
-    /// Puts a pattern into the set, and says whether it was absent. Refuses one at the capacity or above.
+    /// Inserts a pattern into the set, and returns whether it was absent. A pattern at the capacity or above
+    /// is an error.
     pub fn try_insert(&mut self, pid: PatternID) -> Result<bool, PatternSetInsertError>
-        ensures { MatchResult result (λ added. Inserts self.old pid added self.new) (λ error. Refuses self.old pid error self.new) }
+        ensures { MatchResult result (λ added. Inserts self.old pid added self.new) (λ error. RejectsInsert self.old pid error self.new) }
     {
         if pid.as_usize() >= self.capacity() {
             return Err(PatternSetInsertError {
@@ -138,7 +140,7 @@ impl PatternSet {
     }
 }
 
-/// A set of patterns has no room for a pattern. As `regex_automata::PatternSetInsertError`.
+/// The error of a set of patterns that has no room for a pattern. As `regex_automata::PatternSetInsertError`.
 #[derive(Clone, Debug, Drop)]
 pub struct PatternSetInsertError {
     attempted: PatternID,
@@ -146,9 +148,9 @@ pub struct PatternSetInsertError {
 }
 
 impl Model for PatternSetInsertError {
-    ghost use Rattle.search_types.specs.PatternSets.{InsertRefusal};
+    ghost use Rattle.search_types.specs.PatternSets.{InsertErrorValue};
 
-    ghost Value = { InsertRefusal };
+    ghost Value = { InsertErrorValue };
 
     ghost view = { λ e. record { attempted = e.attempted; capacity = e.capacity } };
 
@@ -159,7 +161,7 @@ impl fmt::Display for PatternSetInsertError {
     ghost use Rattle.std.specs.Prelude.{Some};
     ghost use Rattle.search_types.specs.ErrorTexts.{insert_error_text};
 
-    ghost output = { λ refusal. Some (insert_error_text refusal) };
+    ghost output = { λ rejection. Some (insert_error_text rejection) };
 
     fn fmt<W: fmt::Write>(&self, f: &mut fmt::Formatter<W>) -> fmt::Result {
         write!(

@@ -2,8 +2,8 @@ ghost use Rattle.std.specs.Prelude.{◌≡◌, ◌+◌, ◌-◌, ◌<◌, ◌≤
 
 use std::ops::Range;
 
-/// A part of a haystack, as the places of its two ends in bytes. The byte at `end` is outside. A
-/// start above the end is allowed, and such a span is empty. As `regex_automata::Span`.
+/// A part of a haystack, as the offsets of its two ends in bytes. The byte at `end` is outside. A start above
+/// the end is allowed, and such a span is empty. As `regex_automata::Span`.
 #[derive(Clone, Copy, Debug, PartialEq, Eq, Hash)]
 pub struct Span {
     pub start: usize,
@@ -11,7 +11,7 @@ pub struct Span {
 }
 
 impl Span {
-    /// The same two ends as a range.
+    /// The two ends as a range.
     pub fn range(&self) -> Range<usize>
         ensures start { result.start ≡ self.now.start }
         ensures end { result.end ≡ self.now.end }
@@ -26,14 +26,14 @@ impl Span {
         self.start >= self.end
     }
 
-    /// How many bytes the span has: 0 where the start is above the end.
+    /// How many bytes the span has, or 0 if the start is above the end.
     pub fn len(&self) -> usize
         ensures { result ≡ self.now.end - self.now.start }
     {
         self.end.saturating_sub(self.start)
     }
 
-    /// Whether the byte at this place is in the span. The one at the end isn't.
+    /// Whether the byte at this offset is in the span. The one at the end isn't.
     pub fn contains(&self, at: usize) -> bool
         ensures { IsTrue result ↔ ((self.now.start ≤ at) × (at < self.now.end)) }
     {

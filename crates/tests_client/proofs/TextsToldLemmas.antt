@@ -1,4 +1,4 @@
--- What was told, by what the calls promise.
+-- What was reported, by what the calls promise.
 use Rattle.std.proofs.Common.{◌≡◌, ℕ, Bool, List, All, sym, subst}
 use Rattle.regex_syntax.specs.declared.Config.{Config}
 use Rattle.hir_core.specs.Tree.{Tree}
@@ -11,7 +11,7 @@ use Rattle.hirscan.specs.Built.{IsBuilt}
 use Rattle.hirscan.specs.Regexes.{IsSearchOf}
 use Rattle.pattern_search.specs.Searches.{whole_search}
 use Rattle.pattern_search.specs.Written.{AnswersWhatIsWritten}
-use Rattle.tests_client.specs.TextsTold.{IsListed, AreAllMatches}
+use Rattle.tests_client.specs.TextReports.{IsListed, AreAllMatches}
 
 listed_of : (config : Config) (texts : List (List ℕ)) (xs : List Tree) (s : Settings) (h : List ℕ) (fs : List Found) → All LoopsRead xs →
     IsSearchOf xs s.utf8 (whole_search h 0) → (l : IsListed xs s (whole_search h 0) fs) → AnswersWhatIsWritten config texts xs s l.pair →

@@ -1,2 +1,2 @@
-pub mod TextsTold
-pub mod Told
+pub mod TextReports
+pub mod ClientReports

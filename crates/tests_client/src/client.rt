@@ -4,7 +4,7 @@ ghost use Rattle.hir_core.specs.Tree.{Tree};
 ghost use Rattle.regex_pair.specs.Pairs.{AreCachesOf};
 ghost use Rattle.hirscan.specs.declared.settings.Settings.{Settings};
 ghost use Rattle.hirscan.specs.Built.{IsBuilt, FindsFirst, program_settings};
-ghost use Rattle.tests_client.specs.Told.{client_search, MayAsk, AreTheAnswer, IsTheList, IsClientTold};
+ghost use Rattle.tests_client.specs.ClientReports.{client_search, MayAsk, AreTheAnswer, IsTheList, IsClientReported};
 
 use hir_core::Hir;
 use hirscan::headline::iterators_list_the_answers;
@@ -17,21 +17,21 @@ use std::alloc::{AllocError, Global};
 /// Why there is no answer.
 #[derive(Clone, Copy, Debug, PartialEq, Eq)]
 pub enum Fault {
-    /// No regex is built of the trees, or memory lacked for it.
+    /// No regex is built of the trees, or building it is out of memory.
     NotBuilt,
-    /// A search is refused.
+    /// A search fails.
     Refused(MatchError),
 }
 
 /// What the two searches found, and the list of the iterator.
 #[derive(Drop)]
-pub struct Told {
+pub struct ProgressValue {
     pub first: Option<Match>,
     pub second: Option<Match>,
     pub all: Vec<Match>,
 }
 
-/// The same search twice over the same caches, which are used for another search and then reset in between.
+/// Makes a search twice over the same caches. In between, these are used for another search and then reset.
 fn find_twice(
     re: &Regex,
     cache: &mut Cache,
@@ -89,22 +89,22 @@ fn answers(
     cache: &mut Cache,
     input: Input<'_>,
     other: &Input<'_>,
-) -> Result<Told, Fault>
+) -> Result<ProgressValue, Fault>
     requires own { AreCachesOf re.now cache.old }
     ensures { (xs : List Tree) (s : Settings) → IsBuilt xs s re.now → FindsFirst s → MayAsk xs s input.entry →
-        IfOk result (λ told. IsClientTold xs s input.entry told.first told.second told.all.items) }
+        IfOk result (λ reported. IsClientReported xs s input.entry reported.first reported.second reported.all.items) }
 {
     let (first, second) = match find_twice(re, cache, &input, other) {
         Ok(found) => found,
         Err(e) => return Err(Fault::Refused(e)),
     };
     match list(alloc, re, cache, input) {
-        Ok(all) => Ok(Told { first, second, all }),
+        Ok(all) => Ok(ProgressValue { first, second, all }),
         Err(e) => Err(Fault::Refused(e)),
     }
 }
 
-/// Drops a value. Where it has many parts, a call is cheaper to prove than the drop of each of them.
+/// Drops a value. If it has many parts, a call is cheaper to prove than the drop of each of them.
 fn give_up<T: Drop>(_value: T) {}
 
 /// What a regex that is built of the trees answers.
@@ -114,10 +114,11 @@ fn ask_regex(
     settings: &Settings,
     input: Input<'_>,
     other: &Input<'_>,
-) -> Result<Told, Fault>
+) -> Result<ProgressValue, Fault>
     requires first { FindsFirst settings.now }
     requires asked { MayAsk trees.now settings.now input }
-    ensures { IfOk result (λ told. IsClientTold trees.now settings.now input.entry told.first told.second told.all.items) }
+    ensures { IfOk result (λ reported. IsClientReported trees.now settings.now input.entry reported.first reported.second
+        reported.all.items) }
 {
     let re = match build(alloc, trees, settings) {
         Ok(re) => re,
@@ -133,10 +134,10 @@ fn ask_regex(
             return Err(Fault::NotBuilt);
         }
     };
-    let told = answers(alloc, &re, &mut cache, input, other);
+    let reported = answers(alloc, &re, &mut cache, input, other);
     give_up(cache);
     give_up(re);
-    told
+    reported
 }
 
 /// What a regex of the trees finds in the haystack, with the program's settings; `None` where the trees define no answer to that.
@@ -146,9 +147,9 @@ pub fn ask(
     said: Settings,
     haystack: &[u8],
     other: &[u8],
-) -> Result<Option<Told>, Fault>
-    ensures { IfOk result (λ told. MatchOption told (MayAsk trees.now (program_settings said) (client_search haystack.now) → ⊥)
-        (λ t. IsClientTold trees.now (program_settings said) (client_search haystack.now) t.first t.second t.all.items)) }
+) -> Result<Option<ProgressValue>, Fault>
+    ensures { IfOk result (λ reported. MatchOption reported (MayAsk trees.now (program_settings said) (client_search haystack.now) → ⊥)
+        (λ t. IsClientReported trees.now (program_settings said) (client_search haystack.now) t.first t.second t.all.items)) }
 {
     let settings = program_settings(said);
     let input = Input::new(haystack);
@@ -159,7 +160,7 @@ pub fn ask(
         return Ok(None);
     }
     match ask_regex(alloc, trees, &settings, input, &Input::new(other)) {
-        Ok(told) => Ok(Some(told)),
+        Ok(reported) => Ok(Some(reported)),
         Err(e) => Err(e),
     }
 }

@@ -1,10 +1,10 @@
-// What the client is told of heads and haystacks.
-use crate::client::{Fault, Told, ask};
+// What the client gets for queries and haystacks.
+use crate::client::{Fault, ProgressValue, ask};
 use hirscan::read_head;
 use search_types::Match;
 use std::alloc::Global;
 
-/// A head: `a` or `ab`; any number of the empty text or `a`; a byte above 7F in either mode; and `a`.
+/// A query: `a` or `ab`; any number of the empty pattern or `a`; a byte above 7F in either mode; and `a`.
 #[derive(Clone, Copy)]
 enum Head {
     OneOrTwo,
@@ -21,7 +21,7 @@ enum Text {
     Broken,
 }
 
-fn head_of(head: Head) -> &'static [u8] {
+fn query_for(head: Head) -> &'static [u8] {
     match head {
         Head::OneOrTwo => b"lit 61\nlit 6162\nalt 2\npattern\nfind\n",
         Head::EmptyOrA => b"empty\nlit 61\nalt 2\nrep 0 inf greedy\npattern\nfind\n",
@@ -67,23 +67,24 @@ fn is_at(found: Option<&Match>, start: usize, end: usize) -> bool {
 }
 
 /// These spans are listed, and both searches found the first of them.
-fn is_told(told: &Told, spans: Spans) -> bool {
-    if told.first != told.second || told.all.first() != told.first.as_ref() {
+fn is_reported(reported: &ProgressValue, spans: Spans) -> bool {
+    if reported.first != reported.second || reported.all.first() != reported.first.as_ref() {
         return false;
     }
     match spans {
         Spans::Undefined => false,
-        Spans::One(start, end) => told.all.len() == 1 && is_at(told.all.first(), start, end),
+        Spans::One(start, end) => reported.all.len() == 1
+            && is_at(reported.all.first(), start, end),
         Spans::Two(start, end, from, to) => {
-            told.all.len() == 2
-                && is_at(told.all.first(), start, end)
-                && is_at(told.all.get(1), from, to)
+            reported.all.len() == 2
+                && is_at(reported.all.first(), start, end)
+                && is_at(reported.all.get(1), from, to)
         }
     }
 }
 
 fn is_answered(alloc: Global, head: Head, text: Text, spans: Spans) -> bool {
-    let Ok(head) = read_head(alloc, head_of(head)) else {
+    let Ok(head) = read_head(alloc, query_for(head)) else {
         return false;
     };
     match ask(
@@ -93,7 +94,7 @@ fn is_answered(alloc: Global, head: Head, text: Text, spans: Spans) -> bool {
         text_of(text),
         text_of(Text::Xabab),
     ) {
-        Ok(Some(told)) => is_told(&told, spans),
+        Ok(Some(reported)) => is_reported(&reported, spans),
         Ok(None) => matches!(spans, Spans::Undefined),
         Err(Fault::NotBuilt | Fault::Refused(_)) => false,
     }

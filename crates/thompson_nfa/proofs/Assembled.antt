@@ -1,4 +1,4 @@
--- What the finished automaton is said to be, one field after the other.
+-- What the contract says about the finished automaton, one field after the other.
 
 pub mod AssembledSpans
 pub mod AssembledOrders

@@ -1,4 +1,4 @@
--- The words on compiled automata compute: small automata over small texts, and looks that are turned round.
+-- The definitions on compiled automata compute: small automata over short haystacks, and looks that are turned round.
 use Rattle.std.proofs.Common.{◌≡◌, true, false, [], ◌∷◌, Some, refl}
 use Rattle.std.specs.List.{flat_map}
 use Rattle.look_core.specs.Terminators.{Terminator}
@@ -8,7 +8,7 @@ use Rattle.nfa_core.specs.Nfa.{Automaton, byte_range, binary_union, match_node}
 use Rattle.nfa_core.specs.Places.{same_pair}
 use Rattle.nfa_core.specs.Walks.{distinct}
 use Rattle.nfa_core.specs.Ways.{ends_from, whole}
-use Rattle.search_types.specs.FirstFound.{places_from}
+use Rattle.search_types.specs.FirstFound.{offsets_from}
 use Rattle.thompson_nfa.specs.Compilations.{pattern_start}
 use Rattle.thompson_nfa.specs.Compiled.{turned, uses}
 
@@ -32,7 +32,7 @@ not_used_reverse = refl
 used_in_no_round : uses false (repetition 0 (Some 0) true (look StartLF)) StartLF ≡ false
 used_in_no_round = refl
 
--- ---- the patterns `a` and `b`, and what stands before them
+-- ---- the patterns `a` and `b`, and what comes before them
 
 abbrev a_and_b : Automaton
 a_and_b = record {
@@ -51,17 +51,17 @@ unanchored_ends : (t : Terminator) → ends_from a_and_b (whole t (0x61 ∷ 0x62
 unanchored_ends t = refl
 
 one_place_after_the_other : (t : Terminator) → distinct same_pair (flat_map (λ k. ends_from a_and_b (whole t (0x61 ∷ 0x62 ∷ [])) (k, 6))
-    (places_from 0 3)) ≡ (1, 0) ∷ (2, 1) ∷ []
+    (offsets_from 0 3)) ≡ (1, 0) ∷ (2, 1) ∷ []
 one_place_after_the_other t = refl
 
 one_pattern_after_the_other : (t : Terminator) →
-    distinct same_pair (flat_map (λ p. ends_from a_and_b (whole t (0x61 ∷ 0x62 ∷ [])) (0, pattern_start a_and_b p)) (places_from 0 2)) ≡ (
+    distinct same_pair (flat_map (λ p. ends_from a_and_b (whole t (0x61 ∷ 0x62 ∷ [])) (0, pattern_start a_and_b p)) (offsets_from 0 2)) ≡ (
       1,
       0,
     ) ∷ []
 one_pattern_after_the_other t = refl
 
--- ---- the pattern `ab`, read forward and in reverse
+-- ---- the pattern `ab`, forward and in reverse
 
 abbrev ab_forward : Automaton
 ab_forward = record {

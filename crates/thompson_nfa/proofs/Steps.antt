@@ -1,4 +1,4 @@
--- What one call of the builder changes, what it costs, and what refuses it.
+-- What one call of the builder changes, what it costs, and why it fails.
 
 pub mod ByteLemmas
 pub mod ByteRows

@@ -1,4 +1,4 @@
--- Tries of ranges of bytes: what an insertion changes, and in which order their sequences stand.
+-- Tries of ranges of bytes: what an insertion changes, and the order of their sequences.
 
 pub mod CallLemmas
 pub mod CoverLemmas

@@ -1,4 +1,4 @@
--- How walks go through an automaton that is being built, what they find, and what trees mean along them.
+-- How chains and depth-first searches go through an automaton that is being built, what they find, and what trees mean along them.
 
 pub mod WayLemmas
 pub mod LeadLemmas

@@ -1,4 +1,4 @@
--- Patterns one after the other, what stands before them, and how a compile ends.
+-- Patterns one after the other, what comes before them, and how a compile ends.
 
 pub mod AnyByteLemmas
 pub mod StandLemmas

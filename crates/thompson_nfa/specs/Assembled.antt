@@ -1,4 +1,4 @@
--- What stands in a builder when all patterns are compiled, before it is built.
+-- What a builder has when all patterns are compiled, before the automaton is built.
 use Rattle.std.specs.Prelude.{◌≡◌, ◌≢◌, ◌⊎◌, ℕ, suc, ◌+◌, ◌*◌, ◌<◌, ◌≤◌, Bool, true, false, ◌&&◌, List, [], ◌∷◌, length, All}
 use Rattle.search_core.specs.Index.{greatest_index}
 use Rattle.look_core.specs.declared.look.Look.{Look}
@@ -32,7 +32,7 @@ abbrev pub LeadsToAll : Table → ℕ → List ℕ → Type 0
 LeadsToAll table c starts = (starts ≡ c ∷ []) ⊎ ((table c ≡ union_draft starts) ⊎ ((starts ≡ []) × (table c ≡ fail_draft)))
 
 -- the state u goes on to c at once, or else reads a byte, whichever it is, and comes back to itself
-pub record TriesEachPlace (table : Table) (u c : ℕ) : Type 0 where
+pub record TriesEachOffset (table : Table) (u c : ℕ) : Type 0 where
   pub byte : ℕ
   pub back : ℕ
   pub loop : table u ≡ union_reverse_draft (byte ∷ c ∷ [])
@@ -43,14 +43,14 @@ pub record TriesEachPlace (table : Table) (u c : ℕ) : Type 0 where
 abbrev pub AllAnchored : Bool → List Tree → Type 0
 AllAnchored reverse xs = All (λ x. is_anchored_tree reverse x ≡ true) xs
 
--- the unanchored start comes to the anchored one as the state that stands for it, where all trees are anchored, and else at
--- each place
+-- if all trees are anchored, the unanchored start comes to the anchored one as the state that stands for it, and otherwise at
+-- each offset
 abbrev pub ComesBefore : Bool → List Tree → Table → ℕ → ℕ → Type 0
 ComesBefore reverse xs table u c = (AllAnchored reverse xs × (table u ≡ empty_draft c)) ⊎
-    ((AllAnchored reverse xs → ⊥) × TriesEachPlace table u c)
+    ((AllAnchored reverse xs → ⊥) × TriesEachOffset table u c)
 
--- what the patterns do depends neither on states below `low` nor on one hole: the state that leads to them, where it isn't
--- the start of the only one
+-- what the patterns do depends neither on states below `low` nor on one hole: the state that leads to them, if it isn't the start
+-- of the only one
 pub record IsIndependent (reverse : Bool) (low first : ℕ) (drafts : List DraftNode) (c : ℕ) (starts : List ℕ)
     (xs : List Tree) : Type 0 where
   pub hole : ℕ
@@ -68,7 +68,7 @@ pub record IsAssembled (o : Options) (xs : List Tree) (b : Assembly) (anchored u
   pub accept : AcceptAll (reverse_of o) (draft_at b.drafts) 0 b.starts xs
   pub leads : LeadsToAll (draft_at b.drafts) anchored b.starts
   pub before : ComesBefore (reverse_of o) xs (draft_at b.drafts) unanchored anchored
-  -- what stands before the patterns is below `low`, and what leads to them isn't
+  -- what precedes the patterns is below `low`, and what leads to them isn't
   pub low : ℕ
   pub below : unanchored < low
   pub above : low ≤ anchored

@@ -5,7 +5,7 @@ use Rattle.nfa_core.specs.BuilderStates.{Assembly}
 use Rattle.nfa_core.specs.declared.build_error.BuildError.{BuildError}
 use Rattle.thompson_nfa.specs.Compiled.{Makes, Does}
 use Rattle.thompson_nfa.specs.Added.{Led}
-use Rattle.thompson_nfa.specs.Refusals.{RefusesStep}
+use Rattle.thompson_nfa.specs.Refusals.{FailsStep}
 
 -- the choice has one more way, to the branch's first state, and the branch's last state leads to the common end
 pub record LeadsBranch (old new : Assembly) (choice end first last : ℕ) : Type 0 where
@@ -13,10 +13,10 @@ pub record LeadsBranch (old new : Assembly) (choice end first last : ℕ) : Type
   pub one : Led old middle choice first
   pub two : Led middle new last end
 
--- one of these two steps is refused, and the builder has its settings
+-- one of these two steps fails, and the builder has its settings
 pub record FailsToLead (old new : Assembly) (e : BuildError) : Type 0 where
   pub settings : new ≡ record old { drafts = new.drafts; groups = new.groups }
-  pub cause : RefusesStep old 0 8 e
+  pub cause : FailsStep old 0 8 e
 
 -- a fragment of n states at most that does what the tree means was added, as one more branch
 pub record AddsBranch (old new : Assembly) (choice end n : ℕ) (x : Tree) : Type 0 where

@@ -1,10 +1,10 @@
--- How many bytes the states of a tree take, as a builder counts them: 24 for each state, 8 for each range of a class and 4 for each way
--- of a choice. Counted is each state that is made, one that the finished automaton leaves out as well. Exact are the figures of trees
--- that share no states; for the others there are two bounds.
+-- How many bytes the states of a tree take, as a builder counts them: 24 for each state, 8 for each range of a class and 4 for
+-- each way of a choice. Each state that is made counts, also one that the finished automaton leaves out. The figures of trees
+-- that share no states are exact. For the others there are two bounds.
 use Rattle.std.specs.Prelude.{ℕ, zero, suc, ◌+◌, ◌-◌, ◌*◌, max, Bool, true, false, ◌&&◌, ◌||◌, not, List, [], ◌∷◌, length, nat_lt, Option}
 use Rattle.std.specs.Prelude.{Some, None, if◌then◌else◌}
 use Rattle.hir_core.specs.BySequences.{sequences_of}
-use Rattle.hir_core.specs.Facts.{minimum_len}
+use Rattle.hir_core.specs.Facts.{is_never, minimum_len}
 use Rattle.hir_core.specs.Tree.{Tree, empty, literal, byte_class, char_class, look, repetition, capture, nothing, cat, never, alt}
 use Rattle.thompson_nfa.specs.AsciiClasses.{is_ascii}
 use Rattle.thompson_nfa.specs.Compiled.{is_above_zero}
@@ -13,7 +13,7 @@ use Rattle.thompson_nfa.specs.NotedGroups.{keeps_group}
 use Rattle.thompson_nfa.specs.ScalarCounts.{scalars_in}
 use Rattle.thompson_nfa.specs.declared.which_captures.WhichCaptures.{WhichCaptures}
 
--- which bound: the bytes that are taken at least, or those that are taken at most, where classes are shrunk or not
+-- which bound: the bytes that are taken at least, or those that are taken at most, with classes shrunk or not
 pub data Bound : Type 0 where
   at_least : Bound
   at_most : Bool → Bound
@@ -24,11 +24,7 @@ has_literals never = true
 has_literals (alt x y) = is_literal x && has_literals y
 has_literals _ = false
 
-abbrev pub is_never : Tree → Bool
-is_never never = true
-is_never _ = false
-
--- the same of an alternation that has this first part and others
+-- whether an alternation that has this first part and others has two parts or more, all of them literals
 abbrev pub is_choice : Tree → Tree → Bool
 is_choice x never = false
 is_choice x y = is_literal x && has_literals y
@@ -49,7 +45,7 @@ abbrev pub sequence_bytes : List (List (ℕ × ℕ)) → ℕ
 sequence_bytes [] = 0
 sequence_bytes (q ∷ qs) = 24 * length q + 8 + sequence_bytes qs
 
--- the sequences of a class; where it is shrunk, one of four ranges for each scalar
+-- the sequences of a class; if it is shrunk, one of four ranges for each scalar
 abbrev pub class_bytes : Bool → List (ℕ × ℕ) → ℕ
 class_bytes false ranges = 52 + sequence_bytes (sequences_of ranges)
 class_bytes true ranges = 52 + 104 * scalars_in ranges
@@ -58,20 +54,21 @@ abbrev pub sequences_bytes : Bound → List (ℕ × ℕ) → ℕ
 sequences_bytes at_least ranges = 0
 sequences_bytes (at_most shrink) ranges = class_bytes shrink ranges
 
--- a class of scalars, which is one of bytes where it is ASCII
+-- a class of scalars, which is one of bytes if it is ASCII
 abbrev pub scalar_bytes : Bound → List (ℕ × ℕ) → ℕ
 scalar_bytes b ranges = if is_ascii ranges then 48 + 8 * length ranges else sequences_bytes b ranges
 
--- Any number of rounds of n bytes. Where each of them reads, one choice is both start and end; else there are two choices and an end.
+-- Any number of rounds of n bytes. If each round consumes at least one byte, one choice is both start and end. Otherwise there
+-- are two choices and an end.
 abbrev pub loop_bytes : Bool → ℕ → ℕ
 loop_bytes reads n = n + (if reads then 32 else 88)
 
--- a number of rounds at least
+-- at least `min` rounds
 abbrev pub at_least_bytes : ℕ → Bool → ℕ → ℕ
 at_least_bytes zero reads n = loop_bytes reads n
 at_least_bytes (suc min) reads n = suc min * n + 32
 
--- rounds that are owed, a choice before each further one, and the end
+-- rounds that are required, a choice before each further one, and the end
 abbrev pub rounds_bytes : ℕ → ℕ → ℕ → ℕ
 rounds_bytes min most n = min * n + (most - min) * (n + 32) + 24
 
@@ -92,8 +89,8 @@ abbrev pub alternative_bytes : Bound → Tree → Tree → ℕ → ℕ → ℕ
 alternative_bytes b x y first others = if is_choice x y then literals_bytes b (alt x y)
     else (if is_never y then first else first + 4 + others)
 
--- The bytes of a tree, with the way by which its end is led on to what follows. `rest`: the tree is what is left of a concatenation or
--- of an alternation behind a part of it.
+-- The bytes of a tree, with the way by which its end is led on to what follows. `rest`: the tree is what is left of a
+-- concatenation or of an alternation after a part of it.
 abbrev pub tree_bytes : Bound → WhichCaptures → Bool → Tree → ℕ
 tree_bytes b which rest empty = 24
 tree_bytes b which rest (literal bytes) = 24 * max (length bytes) 1

@@ -1,4 +1,4 @@
--- Classes of scalars in a trie of ranges. Each sequence is turned round, as one who reads in reverse meets its bytes.
+-- Classes of scalars in a trie of ranges. Each sequence is reversed, as an automaton that reads in reverse meets its bytes.
 use Rattle.std.specs.Prelude.{◌⊎◌, ℕ, ◌<◌, ◌≤◌, List, [], ◌∷◌, map, reverse, length}
 use Rattle.thompson_nfa.specs.RangeTries.{IsInSome}
 
@@ -6,12 +6,12 @@ use Rattle.thompson_nfa.specs.RangeTries.{IsInSome}
 abbrev pub turned_round : List (List (ℕ × ℕ)) → List (List (ℕ × ℕ))
 turned_round ss = map reverse ss
 
--- the sequences have the strings of the others turned round, and no more
+-- the sequences have the strings of the others, reversed, and no more
 pub record HasTurned (qs ss : List (List (ℕ × ℕ))) : Type 0 where
   pub only : (s : List ℕ) → IsInSome qs s → IsInSome (turned_round ss) s
   pub kept : (s : List ℕ) → IsInSome (turned_round ss) s → IsInSome qs s
 
--- the new sequences have the strings of the old ones, and those of the others turned round
+-- the new sequences have the strings of the old ones, and those of the others, reversed
 pub record GainsTurned (old ss new : List (List (ℕ × ℕ))) : Type 0 where
   pub only : (s : List ℕ) → IsInSome new s → IsInSome old s ⊎ IsInSome (turned_round ss) s
   pub kept : (s : List ℕ) → IsInSome old s → IsInSome new s

@@ -15,7 +15,7 @@ use Rattle.thompson_nfa.specs.Denotes.{Denotes}
 use Rattle.thompson_nfa.specs.declared.which_captures.WhichCaptures.{WhichCaptures}
 use Rattle.thompson_nfa.specs.declared.which_captures.WhichCaptures.TheVariants as which
 
--- a pattern was begun, and where the automaton reads in reverse no groups are kept
+-- a pattern was begun, and if the automaton reads in reverse, no groups are kept
 pub record IsReady (kept : WhichCaptures) (b : Assembly) : Type 0 where
   pub in_pattern : b.is_open ≡ true
   pub forward : b.reverse ≡ true → kept ≡ which.None
@@ -31,16 +31,16 @@ pub record Grows (old new : Assembly) : Type 0 where
 abbrev pub Finishes : ℕ → List DraftNode → ℕ → Table → Type 0
 Finishes low drafts end table = (q : ℕ) → low ≤ q → q < length drafts → q ≢ end → table q ≡ draft_at drafts q
 
--- the state that is met past so many states that stand for others
+-- the state that is met after so many states that stand for others
 abbrev pub past_in : Table → ℕ → ℕ → ℕ
 past_in table zero q = q
 past_in table (suc n) q = going_on q (past_in table n) (stands_for (table q))
 
--- from state q, past states that stand for others, one comes to a state that stands for itself, or to the target
+-- from state q, states that stand for others lead to a state that stands for itself, or to the target
 abbrev pub ComesOut : Table → ℕ → ℕ → Type 0
 ComesOut table target q = (n : ℕ) × ((stands_for (table (past_in table n q)) ≡ None) ⊎ (past_in table n q ≡ target))
 
--- the same from each state from `low` on and below `high`
+-- `ComesOut` holds for each state from `low` on and below `high`
 abbrev pub AllComeOut : Table → ℕ → ℕ → ℕ → Type 0
 AllComeOut table target low high = (q : ℕ) → low ≤ q → q < high → ComesOut table target q
 
@@ -48,23 +48,23 @@ abbrev pub is_match_draft : DraftNode → Bool
 is_match_draft (match_draft pattern) = true
 is_match_draft _ = false
 
--- a match is barred, and where states are plain a look is, too
+-- a match is barred, and so is a look if states are plain
 abbrev pub is_barred : Bool → DraftNode → Bool
 is_barred plain (match_draft pattern) = true
 is_barred plain (look_draft l next) = plain
 is_barred plain _ = false
 
--- the state names states that are there, its group is noted, and it is no match, nor a look where states are plain
+-- the state names states that are there, its group is noted, and it is no match, nor a look if states are plain
 pub record IsTame (plain : Bool) (b : Assembly) (draft : DraftNode) : Type 0 where
   pub named : All (λ q. q < length b.drafts) (names_of draft)
   pub known : is_known b.groups draft ≡ true
   pub not_barred : is_barred plain draft ≡ false
 
--- the states from `low` on are such
+-- `IsTame` holds for each state from `low` on
 abbrev pub AllTame : Bool → ℕ → Assembly → Type 0
 AllTame plain low b = (q : ℕ) → low ≤ q → q < length b.drafts → IsTame plain b (draft_at b.drafts q)
 
--- whether a length is told, and above 0
+-- whether a length is known, and above 0
 abbrev pub is_above_zero : Option ℕ → Bool
 is_above_zero None = false
 is_above_zero (Some n) = nat_lt 0 n
@@ -78,12 +78,12 @@ is_look l _ = false
 abbrev pub looks_in : List DraftNode → Look → Bool
 looks_in drafts l = list_any (is_look l) drafts
 
--- the look that holds where this one does, for one who reads forward or in reverse
+-- the look that holds where this one does, when reading forward or in reverse
 abbrev pub turned : Bool → Look → Look
 turned false l = l
 turned true l = reversed l
 
--- whether one who reads forward or in reverse, comes to the look in the tree; repetitions of no rounds have none
+-- whether the look is met in the tree when reading forward or in reverse; repetitions of no rounds have none
 abbrev pub uses : Bool → Tree → Look → Bool
 uses back empty l = false
 uses back (literal bytes) l = false
@@ -114,11 +114,11 @@ abbrev pub way_at : Assembly → ℕ → ℕ
 way_at b q = way_bytes (draft_at b.drafts q)
 
 -- What was added takes so many bytes at least and at most, with the way by which its end is led on.
-pub record Takes (old new : Assembly) (end low high : ℕ) : Type 0 where
+pub record TakesBytes (old new : Assembly) (end low high : ℕ) : Type 0 where
   pub least : sum_of_bytes old + low ≤ sum_of_bytes new + way_at new end
   pub most : sum_of_bytes new + way_at new end ≤ sum_of_bytes old + high
 
--- the same of what isn't led on
+-- What was added and isn't led on takes so many bytes at least and at most.
 pub record TakesInAll (old new : Assembly) (low high : ℕ) : Type 0 where
   pub least : sum_of_bytes old + low ≤ sum_of_bytes new
   pub most : sum_of_bytes new ≤ sum_of_bytes old + high
@@ -157,7 +157,8 @@ pub record Does (old new : Assembly) (start end : ℕ) (x : Tree) : Type 0 where
       Denotes old.reverse table start target x
   pub looks : (l : Look) → looks_in new.drafts l ≡ (looks_in old.drafts l || uses old.reverse x l)
 
--- The same where something is still to do behind it: once `rest` is done from the target, `whole` is done from the start.
+-- What the fragment does if something is still to do after it: once `rest` is done from the target, `whole` is done from the
+-- start.
 pub record DoesFirst (old new : Assembly) (start end : ℕ) (rest whole : Tree) : Type 0 where
   pub before : (table : Table) (target : ℕ) → Finished (length old.drafts) new.drafts end target table → (last : ℕ) →
       Denotes old.reverse table target last rest →
@@ -174,7 +175,7 @@ pub record DoesCopies (old new : Assembly) (start end n : ℕ) (x : Tree) : Type
   pub before : (min : ℕ) (most : Option ℕ) (greedy : Bool) → DoesFirst old new start end (repetition min most greedy x)
       (repetition (n + min) (raised n most) greedy x)
 
--- one more round of the tree may come before the others, or all of them are passed by on the way to the exit
+-- one more round of the tree may come before the others, or all of them are skipped on the way to the exit
 pub record DoesOption (old new : Assembly) (start end exit : ℕ) (greedy : Bool) (x : Tree) : Type 0 where
   pub before : (table : Table) (target : ℕ) → Finished (length old.drafts) new.drafts end target table → (left : ℕ) →
       Denotes old.reverse table target exit (repetition 0 (Some left) greedy x) →

@@ -17,7 +17,7 @@ pub record Options : Type 0 where
 abbrev pub no_options : Options
 no_options = record { utf8 = None; reverse = None; size_limit = None; shrink = None; captures = None; terminator = None }
 
--- the options of the first where the second has not set them
+-- the options of the first, unless the second has set them
 abbrev pub changed_by : Options → Options → Options
 changed_by old new = record {
   utf8 = option_or new.utf8 old.utf8;
@@ -28,7 +28,7 @@ changed_by old new = record {
   terminator = option_or new.terminator old.terminator;
 }
 
--- what holds where an option is not set
+-- what holds if an option is not set
 abbrev pub utf8_of : Options → Bool
 utf8_of o = unwrap_or o.utf8 true
 

@@ -4,11 +4,11 @@ use Rattle.std.specs.Prelude.{if◌then◌else◌}
 use denote.Ref.{Bor}
 use Rattle.thompson_nfa.specs.declared.literal_groups.Edge.{Edge}
 
--- the strings behind references to them
+-- the strings that these references point to
 abbrev pub texts : List (Bor (List ℕ)) → List (List ℕ)
 texts strings = map (λ s. s.now) strings
 
--- one more string: it is kept, without its first byte, where this is the byte
+-- one more string: it is kept, without its first byte, if this is the byte
 abbrev pub with_tail : ℕ → List ℕ → List (List ℕ) → List (List ℕ)
 with_tail b [] rest = rest
 with_tail b (a ∷ w) rest = if nat_eq a b then w ∷ rest else rest
@@ -22,7 +22,7 @@ abbrev pub lesser : ℕ → Option ℕ → Option ℕ
 lesser a None = Some a
 lesser a (Some b) = Some (min a b)
 
--- the lesser of this and of the first byte, where that is `low` or above
+-- the lesser of `least` and the first byte, if that byte is `low` or above; otherwise `least`
 abbrev pub with_first : ℕ → List ℕ → Option ℕ → Option ℕ
 with_first low [] least = least
 with_first low (a ∷ w) least = if nat_le low a then lesser a least else least
@@ -32,25 +32,25 @@ abbrev pub next_of : ℕ → List (List ℕ) → Option ℕ
 next_of low [] = None
 next_of low (w ∷ ws) = with_first low w (next_of low ws)
 
--- how many strings stand before the first that is empty
+-- how many strings come before the first empty one
 abbrev pub run_of : List (List ℕ) → ℕ
 run_of [] = 0
 run_of ([] ∷ ws) = 0
 run_of ((b ∷ w) ∷ ws) = suc (run_of ws)
 
--- all of them, each behind the byte
-abbrev pub each_behind : ℕ → List (List ℕ) → List (List ℕ)
-each_behind b [] = []
-each_behind b (w ∷ ws) = (b ∷ w) ∷ each_behind b ws
+-- all of them, each after the byte
+abbrev pub each_after : ℕ → List (List ℕ) → List (List ℕ)
+each_after b [] = []
+each_after b (w ∷ ws) = (b ∷ w) ∷ each_after b ws
 
 -- the strings of each group, where groups hold references
-abbrev pub texts_of_groups : {V : Type 0} → (V → List (Bor (List ℕ))) → List V → List (List (List ℕ))
-texts_of_groups items groups = map (λ g. texts (items g)) groups
+abbrev pub strings_of_groups : {V : Type 0} → (V → List (Bor (List ℕ))) → List V → List (List (List ℕ))
+strings_of_groups items groups = map (λ g. texts (items g)) groups
 
 -- the strings of edges, each of which leads to a group by its number
 abbrev pub chunk_strings : List (List (List ℕ)) → List Edge → List (List ℕ)
 chunk_strings groups [] = []
-chunk_strings groups (e ∷ es) = each_behind e.byte (get_or groups e.next []) ++ chunk_strings groups es
+chunk_strings groups (e ∷ es) = each_after e.byte (get_or groups e.next []) ++ chunk_strings groups es
 
 -- what is left between two bytes: each edge has a byte of its own, and they ascend
 abbrev pub Ascends : ℕ → List Edge → ℕ → Type 0

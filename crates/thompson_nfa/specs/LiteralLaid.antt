@@ -1,7 +1,7 @@
 -- A trie of strings as its nodes, each with the stem of its strings.
 use Rattle.std.specs.Prelude.{◌≡◌, ℕ, ◌+◌, ◌<◌, ◌≤◌, List, [], ◌∷◌, ◌++◌, map, length, get_or}
 use Rattle.thompson_nfa.specs.LiteralGroups.{bytes_in, strings_in_all, AddsGroups}
-use Rattle.thompson_nfa.specs.LiteralStems.{behind_text}
+use Rattle.thompson_nfa.specs.LiteralStems.{after_prefix}
 use Rattle.thompson_nfa.specs.LiteralTries.{edges_in, matches_in, IsNode}
 use Rattle.thompson_nfa.specs.declared.literal_groups.Edge.{Edge}
 use Rattle.thompson_nfa.specs.declared.literal_nodes.Node.{Node}
@@ -14,7 +14,7 @@ pub record NodeValue : Type 0 where
 abbrev pub node_value : Node → NodeValue
 node_value n = record { stem = n.stem.now; items = map (λ x. x.items) n.items.items }
 
--- how many bytes stand in the stem and on the edges
+-- how many bytes the stem and the edges have
 abbrev pub node_weight : NodeValue → ℕ
 node_weight n = length n.stem + edges_in n.items
 
@@ -34,13 +34,13 @@ no_node = record { stem = []; items = [] }
 -- The node has the strings: its items have what follows the stem.
 pub record HasStrings (first : ℕ) (groups : List (List (List ℕ))) (node : NodeValue) (strings : List (List ℕ)) : Type 0 where
   pub rest : List (List ℕ)
-  pub is : behind_text node.stem rest ≡ strings
+  pub is : after_prefix node.stem rest ≡ strings
   pub holds : IsNode first groups node.items rest
 
 -- A node was made of the strings, and groups were added to which its edges lead; each match is the end of a string.
 pub record LaysNode (first : ℕ) (old new : List (List (List ℕ))) (node : NodeValue) (strings : List (List ℕ)) : Type 0 where
   pub rest : List (List ℕ)
-  pub is : behind_text node.stem rest ≡ strings
+  pub is : after_prefix node.stem rest ≡ strings
   pub adds : AddsGroups old new (edges_in node.items) rest
   pub ended : matches_in node.items + strings_in_all new ≤ strings_in_all old + length rest
   pub holds : (before : List (List (List ℕ))) → length before ≡ first → IsNode first (before ++ new) node.items rest

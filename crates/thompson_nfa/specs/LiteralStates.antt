@@ -17,7 +17,7 @@ abbrev pub edge_ranges : List ℕ → List Edge → List (ℕ × ℕ × ℕ)
 edge_ranges names [] = []
 edge_ranges names (e ∷ es) = (e.byte, e.byte, get_or names e.next 0) ∷ edge_ranges names es
 
--- an item is a state of its own, or, where it is a match, the common end
+-- an item is a state of its own, or the common end if it is a match
 abbrev pub AddsItem : Assembly → Assembly → List ℕ → ℕ → List Edge → ℕ → Type 0
 AddsItem old new names end [] id = (new ≡ old) × (id ≡ end)
 AddsItem old new names end (e ∷ es) id = AddsDraft old new id (sparse_draft (edge_ranges names (e ∷ es))) old.groups
@@ -52,8 +52,8 @@ item_trees back names x (i ∷ is) = item_tree back names x i ∷ item_trees bac
 abbrev pub IsLed : Bool → Table → ℕ → ℕ → List ℕ → (ℕ → Tree) → Type 0
 IsLed back table end first names x = (n : ℕ) → first ≤ n → n < length names → Denotes back table (get_or names n 0) end (x n)
 
--- States of a node were added, or none where it is a match alone, whose state is the common end. An edge takes 32 bytes at most: a
--- state with one transition; and a match 36: a choice of three ways.
+-- States of a node were added, or none if it is a match alone, whose state is the common end. An edge takes at most 32 bytes: a
+-- state with one transition. A match takes at most 36: a choice of three ways.
 pub record AddsNode (old new : Assembly) (names : List ℕ) (end : ℕ) (items : List (List Edge)) (id : ℕ) : Type 0 where
   pub grows : Grows old new
   pub groups : new.groups ≡ old.groups

@@ -1,7 +1,7 @@
 -- The stem of strings: a text with which each of them begins.
 use Rattle.std.specs.Prelude.{◌≡◌, ℕ, ◌+◌, List, [], ◌∷◌, ◌++◌, drop, length}
 
--- each of the strings has the byte at the place
+-- each of the strings has the byte at offset k
 abbrev pub HaveAll : ℕ → ℕ → List (List ℕ) → Type 0
 HaveAll k b [] = Unit {0}
 HaveAll k b (w ∷ ws) = (drop k w ≡ b ∷ drop (k + 1) w) × HaveAll k b ws
@@ -16,7 +16,7 @@ abbrev pub without_first : ℕ → List (List ℕ) → List (List ℕ)
 without_first n [] = []
 without_first n (w ∷ ws) = drop n w ∷ without_first n ws
 
--- all of them, each behind the text
-abbrev pub behind_text : List ℕ → List (List ℕ) → List (List ℕ)
-behind_text t [] = []
-behind_text t (w ∷ ws) = (t ++ w) ∷ behind_text t ws
+-- all of them, each after the text
+abbrev pub after_prefix : List ℕ → List (List ℕ) → List (List ℕ)
+after_prefix t [] = []
+after_prefix t (w ∷ ws) = (t ++ w) ∷ after_prefix t ws

@@ -7,10 +7,10 @@ use Rattle.nfa_core.specs.Renaming.{stands_for}
 use Rattle.thompson_nfa.specs.Compiled.{Grows, AllTame, Weighs, sum_of_bytes}
 use Rattle.thompson_nfa.specs.Denotes.{Denotes}
 use Rattle.thompson_nfa.specs.LiteralStates.{literals}
-use Rattle.thompson_nfa.specs.LiteralStems.{behind_text}
+use Rattle.thompson_nfa.specs.LiteralStems.{after_prefix}
 
--- A state was added for each byte of the text. From the first of them on the table does what strings mean behind the text where
--- it does from the state `next` on what these mean.
+-- A state was added for each byte of the text. Suppose that from the state `next` on the table does what some strings mean. Then
+-- from the first added state on it does what these strings mean after the text.
 pub record AddsText (old new : Assembly) (next : ℕ) (text : List ℕ) (id : ℕ) : Type 0 where
   pub grows : Grows old new
   pub groups : new.groups ≡ old.groups
@@ -23,4 +23,4 @@ pub record AddsText (old new : Assembly) (next : ℕ) (text : List ℕ) (id : �
   pub there : (id ≡ next) ⊎ ((length old.drafts ≤ id) × (id < length new.drafts))
   pub denotes : (back : Bool) (table : Table) → ((q : ℕ) → length old.drafts ≤ q → q < length new.drafts →
       table q ≡ draft_at new.drafts q) → (end : ℕ) (strings : List (List ℕ)) →
-      Denotes back table next end (literals back strings) → Denotes back table id end (literals back (behind_text text strings))
+      Denotes back table next end (literals back strings) → Denotes back table id end (literals back (after_prefix text strings))

@@ -5,12 +5,12 @@ use Rattle.nfa_core.specs.Walks.{distinct}
 use Rattle.thompson_nfa.specs.LiteralGroups.{chunk_strings, Ascends, LeadWithin}
 use Rattle.thompson_nfa.specs.declared.literal_groups.Edge.{Edge}
 
--- where the strings end that stand at the place, in order
+-- where the strings end that occur at offset i, in order
 abbrev pub literal_ends_of : List (List ℕ) → List ℕ → ℕ → List ℕ
 literal_ends_of [] h i = []
 literal_ends_of (w ∷ ws) h i = (if stands h i w then (i + length w) ∷ [] else []) ++ literal_ends_of ws h i
 
--- at each place the same ends first
+-- at each offset both have the same ends in the same order, repeats dropped
 abbrev pub IsLike : List (List ℕ) → List (List ℕ) → Type 0
 IsLike vs ws = (h : List ℕ) (i : ℕ) → distinct nat_eq (literal_ends_of vs h i) ≡ distinct nat_eq (literal_ends_of ws h i)
 
@@ -34,7 +34,7 @@ chunks_in [] = 0
 chunks_in ([] ∷ xs) = chunks_in xs
 chunks_in ((e ∷ es) ∷ xs) = suc (chunks_in xs)
 
--- and how many are
+-- how many items are matches
 abbrev pub matches_in : List (List Edge) → ℕ
 matches_in [] = 0
 matches_in ([] ∷ xs) = suc (matches_in xs)
@@ -45,8 +45,8 @@ abbrev pub AreChunks : ℕ → ℕ → List (List Edge) → Type 0
 AreChunks first end [] = Unit {0}
 AreChunks first end (x ∷ xs) = Ascends 0 x 256 × LeadWithin first end x × AreChunks first end xs
 
--- The items have the strings, those of the groups to which edges lead, from number `first` on; no two matches stand side by side,
--- and no two others.
+-- The items have the strings, by way of the groups to which edges lead, whose numbers begin at `first`. No two matches are adjacent,
+-- and no two others are.
 pub record IsNode (first : ℕ) (groups : List (List (List ℕ))) (items : List (List Edge)) (strings : List (List ℕ)) : Type 0 where
   pub like : IsLike (node_strings groups items) strings
   pub chunks : AreChunks first (length groups) items

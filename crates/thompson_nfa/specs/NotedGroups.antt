@@ -28,7 +28,7 @@ with_groups_of kept p (cat x y) groups = with_groups_of kept p y (with_groups_of
 with_groups_of kept p never groups = groups
 with_groups_of kept p (alt x y) groups = with_groups_of kept p y (with_groups_of kept p x groups)
 
--- a group with this index, which is kept, stands in the tree
+-- the tree has a group with this index, which is kept
 abbrev pub HasGroup : WhichCaptures → ℕ → Tree → Type 0
 HasGroup kept index (repetition min most greedy x) = HasGroup kept index x
 HasGroup kept index (capture other name x) = ((index ≡ other) × (keeps_group kept index ≡ true)) ⊎ HasGroup kept index x

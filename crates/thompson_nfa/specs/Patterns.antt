@@ -1,4 +1,4 @@
--- What the compile of patterns, one after the other, adds to a builder, and why it is refused.
+-- What the compile of patterns, one after the other, adds to a builder, and why it fails.
 use Rattle.std.specs.Prelude.{◌≡◌, ◌≢◌, ℕ, ◌+◌, ◌*◌, ◌<◌, ◌≤◌, nat_lt, Bool, true, false, ◌||◌, List, [], ◌∷◌, ◌++◌, length, slice_get, All}
 use Rattle.std.specs.Prelude.{Option, None, Some, if◌then◌else◌}
 use Rattle.search_core.specs.Index.{greatest_index}
@@ -16,7 +16,7 @@ use Rattle.thompson_nfa.specs.Assembled.{AcceptAll, LeadsToAll, IsIndependent}
 use Rattle.thompson_nfa.specs.Configs.{Options, utf8_of, reverse_of, limit_of, terminator_of}
 use Rattle.thompson_nfa.specs.NotedGroups.{HasGroup, noted_from}
 use Rattle.thompson_nfa.specs.Prefix.{HasPrefix}
-use Rattle.thompson_nfa.specs.Refusals.{RefusesStates, RefusesIndex}
+use Rattle.thompson_nfa.specs.Refusals.{FailsStates, FailsIndex}
 use Rattle.thompson_nfa.specs.Room.{room}
 use Rattle.thompson_nfa.specs.declared.which_captures.WhichCaptures.{WhichCaptures}
 
@@ -24,11 +24,11 @@ use Rattle.thompson_nfa.specs.declared.which_captures.WhichCaptures.{WhichCaptur
 abbrev pub Holds : ℕ → ℕ → List DraftNode → Table → Type 0
 Holds hole low drafts table = (q : ℕ) → low ≤ q → q < length drafts → q ≢ hole → table q ≡ draft_at drafts q
 
--- past states that stand for others one comes from q to one that stands for itself, at `low` or above
+-- from q, states that stand for others lead to one that stands for itself, at `low` or above
 abbrev pub ComesToKept : ℕ → Table → ℕ → Type 0
 ComesToKept low table q = (n : ℕ) × (stands_for (table (past_in table n q)) ≡ None) × (low ≤ past_in table n q)
 
--- what patterns need at most: 3 states beside their trees'
+-- what patterns need at most: 3 states each, and those of their trees
 abbrev pub room_for : Bool → List Tree → ℕ
 room_for shrink [] = 0
 room_for shrink (x ∷ xs) = room shrink x + 3 + room_for shrink xs
@@ -62,7 +62,7 @@ pub record HasPatterns (which : WhichCaptures) (hole : ℕ) (old new : Assembly)
   pub bytes : sum_of_bytes new + spare + 4096 * length old.drafts ≤ sum_of_bytes old + 4096 * length new.drafts
   pub last : length old.drafts ≤ greatest_index + 1 → length new.drafts ≤ greatest_index + 1
 
--- The same without a hole.
+-- All patterns were compiled, without a hole.
 abbrev pub HasAll : WhichCaptures → Assembly → Assembly → List ℕ → List Tree → ℕ → ℕ → Type 0
 HasAll which old new starts xs n spare = HasPatterns which (length new.drafts) old new starts xs n spare
 
@@ -79,7 +79,7 @@ LeadsToFurther which union old new xs n =
     (starts : List ℕ) × HasPatterns which union old new starts xs n 0
     × ((ways : List ℕ) → draft_at old.drafts union ≡ union_draft ways → draft_at new.drafts union ≡ union_draft (ways ++ starts))
 
--- What stands before the patterns: one state that is led on to them, where all are anchored, or a prefix.
+-- What precedes the patterns: one state that is led on to them if all are anchored, or else a prefix.
 abbrev pub HasStart : Bool → Assembly → Assembly → ℕ → Type 0
 HasStart true old new u = AddsDraft old new u (empty_draft 0) old.groups
 HasStart false old new u = HasPrefix old new u
@@ -97,15 +97,14 @@ begun_with o = record {
   size_limit = limit_of o;
 }
 
--- Patterns for which n states are room are refused: some tree's group has an index that is too great, or the states are
--- refused.
-abbrev pub RefusesPatterns : WhichCaptures → Assembly → ℕ → List Tree → BuildError → Type 0
-RefusesPatterns which b n xs (error.Captures err) =
-    (k index : ℕ) × (x : Tree) × (slice_get xs k ≡ Some x) × HasGroup which index x × RefusesIndex (length b.starts + k) index err
-RefusesPatterns which b n xs e = RefusesStates b n e
+-- Patterns that need at most n states are rejected: some tree's group has an index that is too great, or adding the states fails.
+abbrev pub FailsPatterns : WhichCaptures → Assembly → ℕ → List Tree → BuildError → Type 0
+FailsPatterns which b n xs (error.Captures err) =
+    (k index : ℕ) × (x : Tree) × (slice_get xs k ≡ Some x) × HasGroup which index x × FailsIndex (length b.starts + k) index err
+FailsPatterns which b n xs e = FailsStates b n e
 
--- where the limit has no room for as many states as can be numbered, it is passed before the numbers run out
-abbrev pub told_under : Option ℕ → BuildError → BuildError
-told_under (Some limit) error.TooManyStates = if nat_lt limit (24 * (greatest_index + 1)) then error.ExceededSizeLimit limit
+-- if the limit has no room for as many states as can be numbered, it is exceeded before the numbers run out
+abbrev pub error_under : Option ℕ → BuildError → BuildError
+error_under (Some limit) error.TooManyStates = if nat_lt limit (24 * (greatest_index + 1)) then error.ExceededSizeLimit limit
     else error.TooManyStates
-told_under limit e = e
+error_under limit e = e

@@ -1,4 +1,4 @@
--- What stands before the patterns: a state that goes on at each place, past any bytes.
+-- The unanchored prefix, which precedes the patterns: a state that goes on at each offset, past any bytes.
 use Rattle.std.specs.Prelude.{◌≡◌, ℕ, ◌+◌, ◌<◌, ◌≤◌, [], ◌∷◌, length}
 use Rattle.nfa_core.specs.BuilderStates.{Assembly, empty_draft, sparse_draft, union_reverse_draft, draft_at}
 use Rattle.thompson_nfa.specs.Compiled.{sum_of_bytes}

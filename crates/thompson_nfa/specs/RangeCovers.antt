@@ -1,5 +1,5 @@
--- The edges of a node, divided at both ends of a range and with an edge to no string for each gap in it: then each edge lies
--- in the range or beside it, and each byte of the range has an edge. A range is given by its first byte and the one behind it.
+-- The edges of a node, divided at both ends of a range and with an edge to no string for each gap in it. Then each edge lies in
+-- the range or outside it, and each byte of the range has an edge. A range is given by its first byte and the one after its last.
 use Rattle.std.specs.Prelude.{ℕ, ◌+◌, ◌-◌, ◌++◌, List, [], ◌∷◌, min, max, nat_lt, if◌then◌else◌}
 use Rattle.thompson_nfa.specs.declared.trie_nodes.Edge.{Edge}
 use Rattle.thompson_nfa.specs.declared.trie_nodes.Next.{Next}
@@ -13,7 +13,7 @@ edge_of start end next = record { range = record { start = start; end = end }; n
 abbrev pub piece : ℕ → ℕ → Next → List Edge
 piece start stop next = if nat_lt start stop then edge_of start (stop - 1) next ∷ [] else []
 
--- the gap before an edge, from a byte on, and the edge before, in and behind the range
+-- the gap before an edge, from a byte on, and the parts of the edge before, in and after the range
 abbrev pub cut_edge : ℕ → ℕ → ℕ → Edge → List Edge
 cut_edge from start stop e =
     piece (max from start) (min e.range.start stop) Nothing

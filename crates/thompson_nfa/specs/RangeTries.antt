@@ -1,5 +1,5 @@
--- A trie of ranges, seen as the sequences that it emits, ascending: where two of them differ first, the range of the earlier
--- one ends before that of the later one begins. So each string is in one sequence at most.
+-- A trie of ranges, seen as the sequences that it emits, which ascend: at the first range in which two of them differ, the range
+-- of the earlier one ends before that of the later one begins. So each string is in at most one sequence.
 use Rattle.std.specs.Prelude.{◌≡◌, ◌⊎◌, ℕ, ◌<◌, ◌≤◌, ◌++◌, true, List, [], ◌∷◌}
 use Rattle.hir_core.specs.Sequences.{is_in_ranges}
 
@@ -8,7 +8,7 @@ abbrev pub IsInSome : List (List (ℕ × ℕ)) → List ℕ → Type 0
 IsInSome [] s = ⊥
 IsInSome (q ∷ qs) s = (is_in_ranges q s ≡ true) ⊎ IsInSome qs s
 
--- at the first place where they differ the one ends before the other begins
+-- at the first index where they differ the one ends before the other begins
 abbrev pub IsBefore : List (ℕ × ℕ) → List (ℕ × ℕ) → Type 0
 IsBefore [] r = ⊥
 IsBefore (a ∷ q) [] = ⊥

@@ -1,4 +1,4 @@
--- The sequences behind a path in a trie of ranges.
+-- The sequences that continue a path in a trie of ranges.
 use Rattle.std.specs.Prelude.{ℕ, ◌+◌, List, ◌++◌, map, Vec}
 use Rattle.std.specs.declared.alloc.Global.{Global}
 use Rattle.hir_core.specs.declared.utf8_sequences.Utf8Range.{Utf8Range}

@@ -15,13 +15,13 @@ abbrev pub read_tree : Bool → List (ℕ × ℕ) → Tree
 read_tree back [] = empty
 read_tree back (r ∷ q) = read_then back r (read_tree back q)
 
--- for each transition: a byte of its range is read, and then the tree at the same place
+-- for each transition: a byte of its range is read, and then the tree at the same index
 abbrev pub branch_trees : Bool → List (ℕ × ℕ × ℕ) → List Tree → List Tree
 branch_trees back [] ys = []
 branch_trees back (r ∷ trans) [] = []
 branch_trees back ((low, high, next) ∷ trans) (y ∷ ys) = read_then back (low, high) y ∷ branch_trees back trans ys
 
--- from where each transition leads to e the table does what the tree at the same place means
+-- from where each transition leads to e the table does what the tree at the same index means
 abbrev pub LeadAll : Bool → Table → ℕ → List (ℕ × ℕ × ℕ) → List Tree → Type 0
 LeadAll back table e [] [] = Unit {0}
 LeadAll back table e [] (y ∷ ys) = ⊥

@@ -6,25 +6,25 @@ use Rattle.thompson_nfa.specs.Added.{AddsDraft, Led}
 use Rattle.thompson_nfa.specs.SlotTables.{SlotTable, held_at, with_held}
 use Rattle.thompson_nfa.specs.declared.utf8_suffix_map.Utf8SuffixKey.{Utf8SuffixKey}
 
--- what a state is kept by that reads a byte of the range and leads to `next`
+-- the key under which a state is kept that reads a byte of the range and leads to `next`
 abbrev pub key_of : ℕ → ℕ × ℕ → Utf8SuffixKey
 key_of next range = record { from = next; start = range.0; end = range.1 }
 
--- a state for the range was added that leads to `next`, and a place keeps it
+-- a state for the range was added that leads to `next`, and a slot keeps it
 pub record AddsRange (old new : Assembly) (map changed : SlotTable Utf8SuffixKey) (next : ℕ) (range : ℕ × ℕ) (id : ℕ) : Type 0 where
   pub place : ℕ
   pub inside : place < map.capacity
   pub added : AddsDraft old new id (range_draft range.0 range.1 next) old.groups
   pub kept : changed ≡ with_held map place (key_of next range) id
 
--- a state for the range that leads to `next` is kept at a place, or was added
+-- a state for the range that leads to `next` is kept in a slot, or was added
 pub data SharesRange (old new : Assembly) (map changed : SlotTable Utf8SuffixKey) (next : ℕ) (range : ℕ × ℕ) (id : ℕ) : Type 0 where
   finds_state : (place : ℕ) → held_at map place ≡ Some (key_of next range, id) → new ≡ old → changed ≡ map →
       SharesRange old new map changed next range id
   adds_state : AddsRange old new map changed next range id → SharesRange old new map changed next range id
 
--- the same for one range after the other, where the first one's state leads to the end: `id` is that of the last, or the end
--- where there is none
+-- states are kept or were added for one range after the other, and the first one's state leads to the end: `id` is the state of
+-- the last one, or the end if there is none
 pub data SharesRanges (end : ℕ) (old : Assembly) (map : SlotTable Utf8SuffixKey) : Assembly → SlotTable Utf8SuffixKey → ℕ → List (ℕ × ℕ) →
     Type 0 where
   shares_none : SharesRanges end old map old map end []
@@ -32,8 +32,8 @@ pub data SharesRanges (end : ℕ) (old : Assembly) (map : SlotTable Utf8SuffixKe
       SharesRanges end old map mid kept next ranges → SharesRange mid new kept changed next range id →
       SharesRanges end old map new changed id (ranges ++ range ∷ [])
 
--- The choice has one more way, to the states of a sequence of four ranges at most. The state of the last range is new: no
--- sequence is another one, or the begin of another.
+-- The choice has one more way, to the states of a sequence of at most four ranges. The state of the last range is new: no
+-- sequence is another one, or the beginning of another.
 pub record AddsSequence (old new : Assembly) (map changed : SlotTable Utf8SuffixKey) (choice end : ℕ) (ranges : List (ℕ × ℕ)) : Type 0 where
   pub others : List (ℕ × ℕ)
   pub last : ℕ × ℕ
@@ -48,7 +48,7 @@ pub record AddsSequence (old new : Assembly) (map changed : SlotTable Utf8Suffix
   pub adds : AddsRange shared whole kept changed next last first
   pub leads : Led whole new choice first
 
--- the same for each of the sequences, one after the other
+-- the choice has one more way for each of the sequences, one after the other
 pub data AddsSequences (choice end : ℕ) (old : Assembly) (map : SlotTable Utf8SuffixKey) : Assembly → SlotTable Utf8SuffixKey →
     List (List (ℕ × ℕ)) → Type 0 where
   sequences_none : AddsSequences choice end old map old map []

@@ -30,7 +30,7 @@ abbrev pub AreInside : ℕ → List Edge → Type 0
 AreInside count [] = Unit {0}
 AreInside count (e ∷ es) = IsInside count e.next × AreInside count es
 
--- no range is empty, each begins behind the one before it, and the first one at this byte or behind it
+-- no range is empty, each begins after the one before it ends, and the first one begins at this byte or after it
 abbrev pub Rises : ℕ → List Edge → Type 0
 Rises low [] = Unit {0}
 Rises low (e ∷ es) = (low ≤ e.range.start) × (e.range.start ≤ e.range.end) × Rises (e.range.end + 1) es

@@ -20,14 +20,14 @@ HasEdge (e ∷ es) b = ((e.range.start ≤ b) × (b ≤ e.range.end)) ⊎ HasEdg
 abbrev pub LiesWithin : ℕ → ℕ → Edge → Type 0
 LiesWithin start stop e = (start ≤ e.range.start) × (e.range.end < stop)
 
--- the edge lies beside the range
-abbrev pub IsBeside : ℕ → ℕ → Edge → Type 0
-IsBeside start stop e = (e.range.end < start) ⊎ (stop ≤ e.range.start)
+-- the edge lies outside the range
+abbrev pub IsOutsideOf : ℕ → ℕ → Edge → Type 0
+IsOutsideOf start stop e = (e.range.end < start) ⊎ (stop ≤ e.range.start)
 
--- each edge lies in the range or beside it
+-- each edge lies in the range or outside it
 abbrev pub AreDivided : ℕ → ℕ → List Edge → Type 0
 AreDivided start stop [] = Unit {0}
-AreDivided start stop (e ∷ es) = (LiesWithin start stop e ⊎ IsBeside start stop e) × AreDivided start stop es
+AreDivided start stop (e ∷ es) = (LiesWithin start stop e ⊎ IsOutsideOf start stop e) × AreDivided start stop es
 
 -- the pieces have the strings of what follows, and an edge for each byte of the range
 pub record IsCover (v : List (List (List (ℕ × ℕ)))) (next : Next) (start stop : ℕ) (pieces : List Edge) : Type 0 where
@@ -38,9 +38,9 @@ pub record IsCover (v : List (List (List (ℕ × ℕ)))) (next : Next) (start st
   pub only : (b : ℕ) (t : List ℕ) → EdgesRead v pieces b t → IsInSome (following v next) (b ∷ t)
   pub kept : (b : ℕ) (t : List ℕ) → IsInSome (following v next) (b ∷ t) → EdgesRead v pieces b t
 
--- what follows an edge in the range gains the strings, and what follows one beside it stays
+-- what follows an edge in the range gains the strings, and what follows one outside it stays
 abbrev pub GainsStrings : List (List (List (ℕ × ℕ))) → List (List (List (ℕ × ℕ))) → ℕ → ℕ → List (ℕ × ℕ) → Edge → Edge → Type 0
 GainsStrings v w start stop rest p e =
     (e.range ≡ p.range)
     × ((LiesWithin start stop p × IsWith (following v p.next) rest (following w e.next)) ⊎
-    (IsBeside start stop p × (following w e.next ≡ following v p.next)))
+    (IsOutsideOf start stop p × (following w e.next ≡ following v p.next)))

@@ -22,7 +22,7 @@ pub record Branch : Type 0 where
   pub next : ℕ
   pub tree : Tree
 
--- a node with what is read behind its ranges
+-- a node with what is read after its ranges
 pub record Limb : Type 0 where
   pub branches : List Branch
   pub last : ℕ × ℕ
@@ -42,7 +42,7 @@ abbrev pub limb_tree : Bool → List Limb → Tree
 limb_tree back [] = empty
 limb_tree back (l ∷ ls) = alternation (map (branch_tree back) l.branches ++ read_then back l.last (limb_tree back ls) ∷ [])
 
--- what is read from the first node: nothing, where there is none as yet
+-- what is read from the first node: nothing if there is none yet
 abbrev pub whole_tree : Bool → List Limb → Tree
 whole_tree back [] = never
 whole_tree back (l ∷ ls) = limb_tree back (l ∷ ls)
@@ -51,7 +51,7 @@ whole_tree back (l ∷ ls) = limb_tree back (l ∷ ls)
 abbrev pub fresh_limb : ℕ × ℕ → Limb
 fresh_limb range = record { branches = []; last = range }
 
--- the node whose last range leads to a state from which this tree is read, with another range behind it
+-- the node whose last range leads to a state from which this tree is read, with another range after it
 abbrev pub grown : ℕ → Tree → ℕ × ℕ → Limb → Limb
 grown next x range l = record {
   branches = l.branches ++ record { low = l.last.0; high = l.last.1; next = next; tree = x } ∷ [];
@@ -76,18 +76,18 @@ abbrev pub LimbsBelow : ℕ → List Limb → Type 0
 LimbsBelow n [] = Unit {0}
 LimbsBelow n (l ∷ ls) = BranchesBelow n l.branches × LimbsBelow n ls
 
--- both prefer the same ends, and where loops read in z they read in y
+-- both prefer the same ends, and if the body of every unbounded repetition consumes at least one byte in z, so it does in y
 pub record ReadsAs (y z : Tree) : Type 0 where
   pub reading : LoopsRead z → LoopsRead y
   pub ends : (looks : Looks) (h : List ℕ) (i : ℕ) → preferred_ends looks h y i ≡ preferred_ends looks h z i
 
--- the last of the sequences; no range where there is none
+-- the last of the sequences, or no range if there is none
 abbrev pub last_of : List (List (ℕ × ℕ)) → List (ℕ × ℕ)
 last_of [] = []
 last_of (q ∷ []) = q
 last_of (q ∷ r ∷ qs) = last_of (r ∷ qs)
 
--- At most so many states were added since `old`, with 4096 bytes for each and eight less for all: the end, and behind it states
+-- At most so many states were added since `old`, with 4096 bytes for each and eight less for all: the end, and after it states
 -- that are never led on.
 pub record HasStates (old new : Assembly) (end : ℕ) (most : ℕ) : Type 0 where
   pub end_is : end ≡ length old.drafts
@@ -123,7 +123,7 @@ pub record IsBeingCompiled (b : Assembly) (end : ℕ) (compiled : SlotTable (Lis
   pub before : List (List (ℕ × ℕ))
   pub is : IsCompiling old b end compiled nodes before
 
--- the sequences may be added behind the path, one after the other
+-- the sequences may be added after the path, one after the other
 abbrev pub CanFollow : List (ℕ × ℕ) → List (List (ℕ × ℕ)) → Type 0
 CanFollow p [] = Unit {0}
 CanFollow p (q ∷ qs) = (1 ≤ length q) × (length q ≤ 4) × AreBytes q × ComesAfter p q × CanFollow q qs

@@ -15,7 +15,7 @@ pub record Stage : Type 0 where
   pub frozen : List (ℕ × ℕ × ℕ)
   pub last : ℕ × ℕ
 
--- all its ranges, where the last one leads to this state
+-- all its ranges, with the last one leading to this state
 abbrev pub frozen_with : ℕ → Stage → List (ℕ × ℕ × ℕ)
 frozen_with next n = n.frozen ++ (n.last.0, n.last.1, next) ∷ []
 
@@ -30,7 +30,7 @@ advanced next range n = record { frozen = frozen_with next n; last = range }
 abbrev pub path_of : List Stage → List (ℕ × ℕ)
 path_of ns = map (λ n. n.last) ns
 
--- each range starts behind the one before it, and its bytes are below 256
+-- each range starts after the one before it ends, and its bytes are below 256
 abbrev pub RisesIn : ℕ → List (ℕ × ℕ × ℕ) → Type 0
 RisesIn low [] = Unit {0}
 RisesIn low ((start, end, next) ∷ others) = (low ≤ start) × (start ≤ end) × (end < 256) × RisesIn (end + 1) others
@@ -44,7 +44,7 @@ abbrev pub AreBytes : List (ℕ × ℕ) → Type 0
 AreBytes [] = Unit {0}
 AreBytes (r ∷ rs) = (r.0 ≤ r.1) × (r.1 < 256) × AreBytes rs
 
--- the sequence comes after the path, where there is one
+-- the sequence comes after the path, if there is one
 abbrev pub ComesAfter : List (ℕ × ℕ) → List (ℕ × ℕ) → Type 0
 ComesAfter [] q = Unit {0}
 ComesAfter (r ∷ p) q = IsBefore (r ∷ p) q
@@ -54,14 +54,14 @@ abbrev pub open_bytes : List Stage → ℕ
 open_bytes [] = 0
 open_bytes (n ∷ ns) = 32 + 8 * length n.frozen + open_bytes ns
 
--- what is made at the end: where there is no node, a state without ranges
+-- what is made at the end: a state without ranges if there is no node
 abbrev pub left_bytes : List Stage → ℕ
 left_bytes [] = 24
 left_bytes (n ∷ ns) = open_bytes (n ∷ ns)
 
 -- ---- states that were made
 
--- what a place holds is a state behind the end, with this content
+-- what a slot holds is a state after the end, with this content
 abbrev pub HoldsState : Assembly → ℕ → Option (List Transition × ℕ) → Type 0
 HoldsState b end None = Unit {0}
 HoldsState b end (Some (key, id)) = (end < id) × (id < length b.drafts) × (draft_at b.drafts id ≡ sparse_draft (map range_of key))
@@ -92,7 +92,7 @@ pub data Pops (end : ℕ) (b0 : Assembly) (ns0 : List Stage) : Assembly → List
   pops_more : (b c : Assembly) (ns ms : List Stage) (next id : ℕ) → Pops end b0 ns0 b ns next → MakesTop b c end ns ms next id →
       Pops end b0 ns0 c ms id
 
--- the node at the place leads on, and has this last range now
+-- the node at this index leads on, and has this last range now
 pub record Turns (end : ℕ) (b0 b1 : Assembly) (ns0 ns1 : List Stage) (range : ℕ × ℕ) (at : ℕ) : Type 0 where
   pub stack : List Stage
   pub rest : List Stage
@@ -104,7 +104,7 @@ pub record Turns (end : ℕ) (b0 b1 : Assembly) (ns0 ns1 : List Stage) (range : 
   pub rising : StagesRise stack
   pub is : ns1 ≡ rest ++ advanced next range top ∷ []
 
--- one more state is refused, behind those that were made
+-- adding one more state fails, after those that were made
 pub record PopsUntil (end : ℕ) (b0 new : Assembly) (ns0 : List Stage) (e : BuildError) : Type 0 where
   pub middle : Assembly
   pub stack : List Stage
@@ -112,7 +112,7 @@ pub record PopsUntil (end : ℕ) (b0 new : Assembly) (ns0 : List Stage) (e : Bui
   pub pops : Pops end b0 ns0 middle stack next
   pub stays : Stays middle new 1 2072 e
 
--- up to the place both are the same, and there the one ends before the other begins
+-- up to this index both are the same, and there the one ends before the other begins
 pub record PartsAt (p q : List (ℕ × ℕ)) (at : ℕ) : Type 0 where
   pub before : List (ℕ × ℕ)
   pub one : ℕ × ℕ

@@ -5,8 +5,8 @@ ghost use Rattle.hir_core.specs.Tree.{byte_class};
 ghost use Rattle.nfa_core.specs.BuilderStates.{sparse_draft, AscendsFrom};
 ghost use Rattle.nfa_core.specs.Transitions.{range_of};
 ghost use Rattle.thompson_nfa.specs.Added.{AddsDraft};
-ghost use Rattle.thompson_nfa.specs.Compiled.{Makes, Does, Takes};
-ghost use Rattle.thompson_nfa.specs.Refusals.{Quits, Stays, Passes};
+ghost use Rattle.thompson_nfa.specs.Compiled.{Makes, Does, TakesBytes};
+ghost use Rattle.thompson_nfa.specs.Refusals.{Quits, Stays, ExceedsLimit};
 
 use crate::compiling::Fragment;
 use crate::drafts::add_empty;
@@ -22,7 +22,7 @@ fn last_byte(range: &(u8, u8)) -> u8
     range.1
 }
 
-/// A transition by each of the ranges, which end in bytes, all to the same state.
+/// One transition for each of the ranges, which end in bytes, all to the same state.
 fn transitions(
     alloc: Global,
     ranges: &[(u8, u8)],
@@ -55,15 +55,15 @@ fn add_ranges(
         (sparse_draft (map (λ r. (r.0, r.1, next)) ranges.now)) builder.old.groups) }
     ensures few { IfOk result (λ _. length ranges.now ≤ 256) }
     ensures refused { IfErr result (λ e. Stays builder.old builder.new 1 2072 e) }
-    ensures passed { IfErr result (λ e. Passes builder.old (24 + 8 * length ranges.now) e) }
+    ensures passed { IfErr result (λ e. ExceedsLimit builder.old (24 + 8 * length ranges.now) e) }
 {
     let all = transitions(alloc, ranges, next)?;
     let id = builder.add_sparse(all)?;
     Ok(id)
 }
 
-/// One state that reads a byte of the ranges, before one that stands for what follows. Read in reverse it is
-/// the same.
+/// One state that reads a byte of the ranges, before one that stands for what follows. It is the same when
+/// the automaton reads in reverse.
 #[tactic(auto, using(crate::proofs::Fragments::ClassLemmas::class_made, crate::proofs::Fragments::ClassLemmas::class_takes, crate::proofs::Fragments::ClassLemmas::class_does, crate::proofs::Steps::ProgressLemmas::first_quits, crate::proofs::Fragments::ClassLemmas::class_quits))]
 pub(crate) fn byte_class(
     builder: &mut Builder,
@@ -73,9 +73,9 @@ pub(crate) fn byte_class(
     requires { IsTrue (is_ascending ranges.now) }
     ensures made { IfOk result (λ f. Makes builder.old builder.new f.start f.end 2) }
     ensures denotes { IfOk result (λ f. Does builder.old builder.new f.start f.end (byte_class ranges.now)) }
-    ensures weighs { IfOk result (λ f. Takes builder.old builder.new f.end
+    ensures weighs { IfOk result (λ f. TakesBytes builder.old builder.new f.end
         (48 + 8 * length ranges.now) (48 + 8 * length ranges.now)) }
-    ensures passed { IfErr result (λ e. Passes builder.old (48 + 8 * length ranges.now) e) }
+    ensures passed { IfErr result (λ e. ExceedsLimit builder.old (48 + 8 * length ranges.now) e) }
     ensures groups { IfOk result (λ _. builder.new.groups ≡ builder.old.groups) }
     ensures refused { IfErr result (λ e. Quits builder.old builder.new 2 e) }
 {

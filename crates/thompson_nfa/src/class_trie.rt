@@ -26,7 +26,7 @@ fn insert_turned(
     Ok(())
 }
 
-/// Adds the sequences of the characters from `first` to `last`, each turned round.
+/// Adds the sequences of the characters from `first` to `last`, each reversed.
 fn insert_range(
     trie: &mut RangeTrie,
     alloc: Global,
@@ -42,7 +42,7 @@ fn insert_range(
     Ok(())
 }
 
-/// Makes the trie hold the spellings of the class, each turned round, and no other strings.
+/// Makes the trie hold the spellings of the class, each reversed, and no other strings.
 pub(crate) fn insert_class(
     trie: &mut RangeTrie,
     alloc: Global,
@@ -57,7 +57,7 @@ pub(crate) fn insert_class(
     inserted
 }
 
-/// Adds the sequences of all ranges, each turned round, to an empty trie.
+/// Adds the sequences of all ranges, each reversed, to an empty trie.
 fn insert_ranges(
     trie: &mut RangeTrie,
     alloc: Global,

@@ -4,15 +4,15 @@ ghost use Rattle.std.specs.Prelude.{IfErr, IfSome, Some, None, option_map, strin
 ghost use Rattle.hir_core.specs.Facts.{minimum_len};
 ghost use Rattle.hir_core.specs.Tree.{repetition, capture, concat, alternation};
 ghost use Rattle.thompson_nfa.specs.ByteRoom.{tree_least, tree_most, group_bytes, loop_bytes, rounds_bytes};
-ghost use Rattle.thompson_nfa.specs.Compiled.{IsReady, Makes, Takes, Does, DoesCopies, DoesOption, is_above_zero};
+ghost use Rattle.thompson_nfa.specs.Compiled.{IsReady, Makes, TakesBytes, Does, DoesCopies, DoesOption, is_above_zero};
 ghost use Rattle.thompson_nfa.specs.NotedGroups.{with_groups_of, keeps_group};
-ghost use Rattle.thompson_nfa.specs.Refusals.{RefusesFragment, Passes};
+ghost use Rattle.thompson_nfa.specs.Refusals.{FailsFragment, ExceedsLimit};
 ghost use Rattle.thompson_nfa.specs.Room.{room};
 
 use crate::class::byte_class;
 use crate::compiling::{Fragment, How, Shared};
 use crate::drafts::{add_choice, add_empty, end_group, lead, start_group};
-use crate::leaves::{empty, fail, literal, look, turned_place};
+use crate::leaves::{empty, fail, literal, look, turned_position};
 use crate::literals::{all_literals, compile_literals};
 use crate::scalar_class::compile_scalars;
 use crate::which_captures::WhichCaptures;
@@ -33,12 +33,12 @@ pub(crate) fn compile(
     requires { IsReady how.which builder.old }
     ensures made { IfOk result (λ f. Makes builder.old builder.new f.start f.end (room how.shrink x.now)) }
     ensures denotes { IfOk result (λ f. Does builder.old builder.new f.start f.end (x.now)) }
-    ensures weighs { IfOk result (λ f. Takes builder.old builder.new f.end
+    ensures weighs { IfOk result (λ f. TakesBytes builder.old builder.new f.end
         (tree_least how.which x.now) (tree_most how.which how.shrink x.now)) }
     ensures groups { IfOk result (λ _. builder.new.groups ≡
         with_groups_of how.which (length builder.old.starts) (x.now) builder.old.groups) }
-    ensures refused { IfErr result (λ e. RefusesFragment how.which builder.old builder.new (room how.shrink x.now) (x.now) e) }
-    ensures passed { IfErr result (λ e. Passes builder.old (tree_most how.which how.shrink x.now) e) }
+    ensures refused { IfErr result (λ e. FailsFragment how.which builder.old builder.new (room how.shrink x.now) (x.now) e) }
+    ensures passed { IfErr result (λ e. ExceedsLimit builder.old (tree_most how.which how.shrink x.now) e) }
 {
     match x.kind() {
         HirKind::Empty => empty(builder),
@@ -98,13 +98,13 @@ pub(crate) fn captured(
     ensures made { IfOk result (λ f. Makes builder.old builder.new f.start f.end (room how.shrink x.now + 2)) }
     ensures denotes { IfOk result (λ f. Does builder.old builder.new f.start f.end
         (capture index (option_map string_bytes name.now) x.now)) }
-    ensures weighs { IfOk result (λ f. Takes builder.old builder.new f.end
+    ensures weighs { IfOk result (λ f. TakesBytes builder.old builder.new f.end
         (group_bytes how.which index + tree_least how.which x.now) (group_bytes how.which index + tree_most how.which how.shrink x.now)) }
     ensures groups { IfOk result (λ _. builder.new.groups ≡
         with_groups_of how.which (length builder.old.starts) (capture index (option_map string_bytes name.now) x.now) builder.old.groups) }
-    ensures refused { IfErr result (λ e. RefusesFragment how.which builder.old builder.new (room how.shrink x.now + 2)
+    ensures refused { IfErr result (λ e. FailsFragment how.which builder.old builder.new (room how.shrink x.now + 2)
         (capture index (option_map string_bytes name.now) x.now) e) }
-    ensures passed { IfErr result (λ e. Passes builder.old (group_bytes how.which index + tree_most how.which how.shrink x.now) e) }
+    ensures passed { IfErr result (λ e. ExceedsLimit builder.old (group_bytes how.which index + tree_most how.which how.shrink x.now) e) }
 {
     if !keeps(how.which, index) {
         let body = compile(builder, alloc, how, shared, x)?;
@@ -131,24 +131,24 @@ fn concatenation(
     requires { IsReady how.which builder.old }
     ensures made { IfOk result (λ f. Makes builder.old builder.new f.start f.end (room how.shrink (concat subs.now))) }
     ensures denotes { IfOk result (λ f. Does builder.old builder.new f.start f.end (concat subs.now)) }
-    ensures weighs { IfOk result (λ f. Takes builder.old builder.new f.end
+    ensures weighs { IfOk result (λ f. TakesBytes builder.old builder.new f.end
         (tree_least how.which (concat subs.now)) (tree_most how.which how.shrink (concat subs.now))) }
     ensures groups { IfOk result (λ _. builder.new.groups ≡
         with_groups_of how.which (length builder.old.starts) (concat subs.now) builder.old.groups) }
-    ensures refused { IfErr result (λ e. RefusesFragment how.which builder.old builder.new
+    ensures refused { IfErr result (λ e. FailsFragment how.which builder.old builder.new
         (room how.shrink (concat subs.now)) (concat subs.now) e) }
-    ensures passed { IfErr result (λ e. Passes builder.old (tree_most how.which how.shrink (concat subs.now)) e) }
+    ensures passed { IfErr result (λ e. ExceedsLimit builder.old (tree_most how.which how.shrink (concat subs.now)) e) }
 {
     if subs.len() == 0 {
         let none = empty(builder)?;
         return Ok(none);
     }
     let reverse = builder.get_reverse();
-    let begin = turned_place(reverse, 0, subs.len());
+    let begin = turned_position(reverse, 0, subs.len());
     let first = compile(builder, alloc, how, shared, &subs[begin])?;
     let mut end = first.end;
     for i in 1..subs.len() {
-        let place = turned_place(reverse, i, subs.len());
+        let place = turned_position(reverse, i, subs.len());
         let next = compile(builder, alloc, how, shared, &subs[place])?;
         lead(builder, end, next.start)?;
         end = next.end;
@@ -159,7 +159,7 @@ fn concatenation(
     })
 }
 
-/// Whether each span of the tree has a byte, so far as its minimum length tells.
+/// Whether each span of the tree has at least one byte, as far as its minimum length shows.
 fn reads(x: &Hir) -> bool
     ensures { result ≡ is_above_zero (minimum_len x.now) }
 {
@@ -169,8 +169,8 @@ fn reads(x: &Hir) -> bool
     }
 }
 
-/// Any number of rounds. Where each of them reads, one choice is both start and end. Where rounds may read
-/// nothing, such a loop would prefer other ends, so there it has a form of its own.
+/// Any number of rounds. If each round consumes at least one byte, one choice is both start and end. If
+/// rounds may consume nothing, such a loop would prefer other ends, so the fragment has a form of its own.
 #[cycle(compile)]
 fn zero_or_more(
     builder: &mut Builder,
@@ -183,13 +183,13 @@ fn zero_or_more(
     requires { IsReady how.which builder.old }
     ensures made { IfOk result (λ f. Makes builder.old builder.new f.start f.end (room how.shrink x.now + 3)) }
     ensures denotes { IfOk result (λ f. Does builder.old builder.new f.start f.end (repetition 0 None greedy x.now)) }
-    ensures weighs { IfOk result (λ f. Takes builder.old builder.new f.end
+    ensures weighs { IfOk result (λ f. TakesBytes builder.old builder.new f.end
         (loop_bytes (is_above_zero (minimum_len x.now)) (tree_least how.which x.now))
         (loop_bytes (is_above_zero (minimum_len x.now)) (tree_most how.which how.shrink x.now))) }
     ensures groups { IfOk result (λ _. builder.new.groups ≡
         with_groups_of how.which (length builder.old.starts) (x.now) builder.old.groups) }
-    ensures refused { IfErr result (λ e. RefusesFragment how.which builder.old builder.new (room how.shrink x.now + 3) (x.now) e) }
-    ensures passed { IfErr result (λ e. Passes builder.old
+    ensures refused { IfErr result (λ e. FailsFragment how.which builder.old builder.new (room how.shrink x.now + 3) (x.now) e) }
+    ensures passed { IfErr result (λ e. ExceedsLimit builder.old
         (loop_bytes (is_above_zero (minimum_len x.now)) (tree_most how.which how.shrink x.now)) e) }
     ensures form { IfOk result (λ f. (f.start == f.end) ≡ is_above_zero (minimum_len x.now)) }
 {
@@ -208,7 +208,7 @@ fn zero_or_more(
     })
 }
 
-/// Any number of rounds of what may read nothing.
+/// Any number of rounds of a tree that may consume nothing.
 #[cycle(compile)]
 fn zero_or_more_of_empty(
     builder: &mut Builder,
@@ -221,12 +221,12 @@ fn zero_or_more_of_empty(
     requires { IsReady how.which builder.old }
     ensures made { IfOk result (λ f. Makes builder.old builder.new f.start f.end (room how.shrink x.now + 3)) }
     ensures denotes { IfOk result (λ f. Does builder.old builder.new f.start f.end (repetition 0 None greedy x.now)) }
-    ensures weighs { IfOk result (λ f. Takes builder.old builder.new f.end
+    ensures weighs { IfOk result (λ f. TakesBytes builder.old builder.new f.end
         (tree_least how.which x.now + 88) (tree_most how.which how.shrink x.now + 88)) }
     ensures groups { IfOk result (λ _. builder.new.groups ≡
         with_groups_of how.which (length builder.old.starts) (x.now) builder.old.groups) }
-    ensures refused { IfErr result (λ e. RefusesFragment how.which builder.old builder.new (room how.shrink x.now + 3) (x.now) e) }
-    ensures passed { IfErr result (λ e. Passes builder.old (tree_most how.which how.shrink x.now + 88) e) }
+    ensures refused { IfErr result (λ e. FailsFragment how.which builder.old builder.new (room how.shrink x.now + 3) (x.now) e) }
+    ensures passed { IfErr result (λ e. ExceedsLimit builder.old (tree_most how.which how.shrink x.now + 88) e) }
     ensures apart { IfOk result (λ f. (f.start == f.end) ≡ false) }
 {
     let body = compile(builder, alloc, how, shared, x)?;
@@ -244,7 +244,7 @@ fn zero_or_more_of_empty(
     })
 }
 
-/// One round at least.
+/// At least one round.
 #[cycle(compile)]
 fn one_or_more(
     builder: &mut Builder,
@@ -257,12 +257,12 @@ fn one_or_more(
     requires { IsReady how.which builder.old }
     ensures made { IfOk result (λ f. Makes builder.old builder.new f.start f.end (room how.shrink x.now + 1)) }
     ensures denotes { IfOk result (λ f. Does builder.old builder.new f.start f.end (repetition 1 None greedy x.now)) }
-    ensures weighs { IfOk result (λ f. Takes builder.old builder.new f.end
+    ensures weighs { IfOk result (λ f. TakesBytes builder.old builder.new f.end
         (tree_least how.which x.now + 32) (tree_most how.which how.shrink x.now + 32)) }
     ensures groups { IfOk result (λ _. builder.new.groups ≡
         with_groups_of how.which (length builder.old.starts) (x.now) builder.old.groups) }
-    ensures refused { IfErr result (λ e. RefusesFragment how.which builder.old builder.new (room how.shrink x.now + 1) (x.now) e) }
-    ensures passed { IfErr result (λ e. Passes builder.old (tree_most how.which how.shrink x.now + 32) e) }
+    ensures refused { IfErr result (λ e. FailsFragment how.which builder.old builder.new (room how.shrink x.now + 1) (x.now) e) }
+    ensures passed { IfErr result (λ e. ExceedsLimit builder.old (tree_most how.which how.shrink x.now + 32) e) }
 {
     let body = compile(builder, alloc, how, shared, x)?;
     let union = add_choice(builder, alloc, greedy)?;
@@ -274,7 +274,7 @@ fn one_or_more(
     })
 }
 
-/// So many rounds, one after the other; there is one at least.
+/// Exactly `n` rounds, one after the other; `n` is at least 1.
 #[cycle(compile)]
 fn copies(
     builder: &mut Builder,
@@ -288,12 +288,12 @@ fn copies(
     requires some { 1 ≤ n }
     ensures made { IfOk result (λ f. Makes builder.old builder.new f.start f.end (n * room how.shrink x.now)) }
     ensures denotes { IfOk result (λ f. DoesCopies builder.old builder.new f.start f.end n x.now) }
-    ensures weighs { IfOk result (λ f. Takes builder.old builder.new f.end
+    ensures weighs { IfOk result (λ f. TakesBytes builder.old builder.new f.end
         (n * tree_least how.which x.now) (n * tree_most how.which how.shrink x.now)) }
     ensures groups { IfOk result (λ _. builder.new.groups ≡
         with_groups_of how.which (length builder.old.starts) (x.now) builder.old.groups) }
-    ensures refused { IfErr result (λ e. RefusesFragment how.which builder.old builder.new (n * room how.shrink x.now) (x.now) e) }
-    ensures passed { IfErr result (λ e. Passes builder.old (n * tree_most how.which how.shrink x.now) e) }
+    ensures refused { IfErr result (λ e. FailsFragment how.which builder.old builder.new (n * room how.shrink x.now) (x.now) e) }
+    ensures passed { IfErr result (λ e. ExceedsLimit builder.old (n * tree_most how.which how.shrink x.now) e) }
 {
     let first = compile(builder, alloc, how, shared, x)?;
     let mut end = first.end;
@@ -308,7 +308,7 @@ fn copies(
     })
 }
 
-/// At least so many rounds.
+/// At least `min` rounds.
 #[cycle(compile)]
 fn at_least(
     builder: &mut Builder,
@@ -322,13 +322,13 @@ fn at_least(
     requires { IsReady how.which builder.old }
     ensures made { IfOk result (λ f. Makes builder.old builder.new f.start f.end (room how.shrink (repetition min None greedy x.now))) }
     ensures denotes { IfOk result (λ f. Does builder.old builder.new f.start f.end (repetition min None greedy x.now)) }
-    ensures weighs { IfOk result (λ f. Takes builder.old builder.new f.end
+    ensures weighs { IfOk result (λ f. TakesBytes builder.old builder.new f.end
         (tree_least how.which (repetition min None greedy x.now)) (tree_most how.which how.shrink (repetition min None greedy x.now))) }
     ensures groups { IfOk result (λ _. builder.new.groups ≡
         with_groups_of how.which (length builder.old.starts) (repetition min None greedy x.now) builder.old.groups) }
-    ensures refused { IfErr result (λ e. RefusesFragment how.which builder.old builder.new
+    ensures refused { IfErr result (λ e. FailsFragment how.which builder.old builder.new
         (room how.shrink (repetition min None greedy x.now)) (repetition min None greedy x.now) e) }
-    ensures passed { IfErr result (λ e. Passes builder.old (tree_most how.which how.shrink (repetition min None greedy x.now)) e) }
+    ensures passed { IfErr result (λ e. ExceedsLimit builder.old (tree_most how.which how.shrink (repetition min None greedy x.now)) e) }
 {
     if min == 0 {
         let any = zero_or_more(builder, alloc, how, shared, x, greedy)?;
@@ -362,12 +362,12 @@ fn option(
     requires there { exit < length builder.old.drafts }
     ensures made { IfOk result (λ f. Makes builder.old builder.new f.start f.end (room how.shrink x.now + 1)) }
     ensures denotes { IfOk result (λ f. DoesOption builder.old builder.new f.start f.end exit greedy x.now) }
-    ensures weighs { IfOk result (λ f. Takes builder.old builder.new f.end
+    ensures weighs { IfOk result (λ f. TakesBytes builder.old builder.new f.end
         (tree_least how.which x.now + 32) (tree_most how.which how.shrink x.now + 32)) }
     ensures groups { IfOk result (λ _. builder.new.groups ≡
         with_groups_of how.which (length builder.old.starts) (x.now) builder.old.groups) }
-    ensures refused { IfErr result (λ e. RefusesFragment how.which builder.old builder.new (room how.shrink x.now + 1) (x.now) e) }
-    ensures passed { IfErr result (λ e. Passes builder.old (tree_most how.which how.shrink x.now + 32) e) }
+    ensures refused { IfErr result (λ e. FailsFragment how.which builder.old builder.new (room how.shrink x.now + 1) (x.now) e) }
+    ensures passed { IfErr result (λ e. ExceedsLimit builder.old (tree_most how.which how.shrink x.now + 32) e) }
 {
     let union = add_choice(builder, alloc, greedy)?;
     let body = compile(builder, alloc, how, shared, x)?;
@@ -379,7 +379,7 @@ fn option(
     })
 }
 
-/// No more rounds than so many; one may be.
+/// At most `most` rounds; `most` is at least 1.
 #[cycle(compile)]
 fn up_to(
     builder: &mut Builder,
@@ -394,13 +394,13 @@ fn up_to(
     requires some { 1 ≤ most }
     ensures made { IfOk result (λ f. Makes builder.old builder.new f.start f.end (most * (room how.shrink x.now + 1) + 1)) }
     ensures denotes { IfOk result (λ f. Does builder.old builder.new f.start f.end (repetition 0 (Some most) greedy x.now)) }
-    ensures weighs { IfOk result (λ f. Takes builder.old builder.new f.end
+    ensures weighs { IfOk result (λ f. TakesBytes builder.old builder.new f.end
         (rounds_bytes 0 most (tree_least how.which x.now)) (rounds_bytes 0 most (tree_most how.which how.shrink x.now))) }
     ensures groups { IfOk result (λ _. builder.new.groups ≡
         with_groups_of how.which (length builder.old.starts) (x.now) builder.old.groups) }
-    ensures refused { IfErr result (λ e. RefusesFragment how.which builder.old builder.new
+    ensures refused { IfErr result (λ e. FailsFragment how.which builder.old builder.new
         (most * (room how.shrink x.now + 1) + 1) (x.now) e) }
-    ensures passed { IfErr result (λ e. Passes builder.old (rounds_bytes 0 most (tree_most how.which how.shrink x.now)) e) }
+    ensures passed { IfErr result (λ e. ExceedsLimit builder.old (rounds_bytes 0 most (tree_most how.which how.shrink x.now)) e) }
 {
     let exit = add_empty(builder)?;
     let first = option(builder, alloc, how, shared, x, greedy, exit)?;
@@ -417,7 +417,7 @@ fn up_to(
     })
 }
 
-/// Rounds that are owed, one at least, and more up to a bound above them.
+/// At least `min` rounds, and at most `most`; `min` is at least 1.
 #[cycle(compile)]
 fn owed_and_more(
     builder: &mut Builder,
@@ -435,13 +435,13 @@ fn owed_and_more(
     ensures made { IfOk result (λ f. Makes builder.old builder.new f.start f.end
         (min * room how.shrink x.now + (most - min) * (room how.shrink x.now + 1) + 1)) }
     ensures denotes { IfOk result (λ f. Does builder.old builder.new f.start f.end (repetition min (Some most) greedy x.now)) }
-    ensures weighs { IfOk result (λ f. Takes builder.old builder.new f.end
+    ensures weighs { IfOk result (λ f. TakesBytes builder.old builder.new f.end
         (rounds_bytes min most (tree_least how.which x.now)) (rounds_bytes min most (tree_most how.which how.shrink x.now))) }
     ensures groups { IfOk result (λ _. builder.new.groups ≡
         with_groups_of how.which (length builder.old.starts) (x.now) builder.old.groups) }
-    ensures refused { IfErr result (λ e. RefusesFragment how.which builder.old builder.new
+    ensures refused { IfErr result (λ e. FailsFragment how.which builder.old builder.new
         (min * room how.shrink x.now + (most - min) * (room how.shrink x.now + 1) + 1) (x.now) e) }
-    ensures passed { IfErr result (λ e. Passes builder.old (rounds_bytes min most (tree_most how.which how.shrink x.now)) e) }
+    ensures passed { IfErr result (λ e. ExceedsLimit builder.old (rounds_bytes min most (tree_most how.which how.shrink x.now)) e) }
 {
     let prefix = copies(builder, alloc, how, shared, x, min)?;
     let exit = add_empty(builder)?;
@@ -475,14 +475,15 @@ fn between(
     ensures made { IfOk result (λ f. Makes builder.old builder.new f.start f.end
         (room how.shrink (repetition min (Some most) greedy x.now))) }
     ensures denotes { IfOk result (λ f. Does builder.old builder.new f.start f.end (repetition min (Some most) greedy x.now)) }
-    ensures weighs { IfOk result (λ f. Takes builder.old builder.new f.end
+    ensures weighs { IfOk result (λ f. TakesBytes builder.old builder.new f.end
         (tree_least how.which (repetition min (Some most) greedy x.now))
         (tree_most how.which how.shrink (repetition min (Some most) greedy x.now))) }
     ensures groups { IfOk result (λ _. builder.new.groups ≡
         with_groups_of how.which (length builder.old.starts) (repetition min (Some most) greedy x.now) builder.old.groups) }
-    ensures refused { IfErr result (λ e. RefusesFragment how.which builder.old builder.new
+    ensures refused { IfErr result (λ e. FailsFragment how.which builder.old builder.new
         (room how.shrink (repetition min (Some most) greedy x.now)) (repetition min (Some most) greedy x.now) e) }
-    ensures passed { IfErr result (λ e. Passes builder.old (tree_most how.which how.shrink (repetition min (Some most) greedy x.now)) e) }
+    ensures passed { IfErr result (λ e. ExceedsLimit builder.old (tree_most how.which how.shrink (repetition min (Some most) greedy x.now))
+        e) }
 {
     if most == 0 {
         let none = empty(builder)?;
@@ -500,7 +501,7 @@ fn between(
     Ok(any)
 }
 
-/// One of the parts, an earlier one preferred. Two parts at least are led to by a union.
+/// One of the parts, an earlier one preferred. If there are two parts or more, a union leads to them.
 #[cycle(compile)]
 fn alternatives(
     builder: &mut Builder,
@@ -512,13 +513,13 @@ fn alternatives(
     requires { IsReady how.which builder.old }
     ensures made { IfOk result (λ f. Makes builder.old builder.new f.start f.end (room how.shrink (alternation subs.now))) }
     ensures denotes { IfOk result (λ f. Does builder.old builder.new f.start f.end (alternation subs.now)) }
-    ensures weighs { IfOk result (λ f. Takes builder.old builder.new f.end
+    ensures weighs { IfOk result (λ f. TakesBytes builder.old builder.new f.end
         (tree_least how.which (alternation subs.now)) (tree_most how.which how.shrink (alternation subs.now))) }
     ensures groups { IfOk result (λ _. builder.new.groups ≡
         with_groups_of how.which (length builder.old.starts) (alternation subs.now) builder.old.groups) }
-    ensures refused { IfErr result (λ e. RefusesFragment how.which builder.old builder.new
+    ensures refused { IfErr result (λ e. FailsFragment how.which builder.old builder.new
         (room how.shrink (alternation subs.now)) (alternation subs.now) e) }
-    ensures passed { IfErr result (λ e. Passes builder.old (tree_most how.which how.shrink (alternation subs.now)) e) }
+    ensures passed { IfErr result (λ e. ExceedsLimit builder.old (tree_most how.which how.shrink (alternation subs.now)) e) }
 {
     if subs.len() == 0 {
         let none = fail(builder)?;

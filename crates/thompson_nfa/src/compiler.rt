@@ -1,7 +1,7 @@
 ghost use Rattle.std.specs.Prelude.{◌≡◌, [], ◌∷◌, IfOk, IfErr};
 ghost use Rattle.thompson_nfa.specs.Configs.{no_options, changed_by};
 ghost use Rattle.thompson_nfa.specs.Compilations.{IsCompiled};
-ghost use Rattle.thompson_nfa.specs.RefusedTrees.{RefusesTrees};
+ghost use Rattle.thompson_nfa.specs.RefusedTrees.{RejectsTrees};
 
 use crate::compiling::Shared;
 use crate::config::Config;
@@ -12,9 +12,9 @@ use std::alloc::Global;
 use std::marker::Model;
 use std::slice;
 
-/// Makes byte automata of trees. A contract sees the options that were set: it relates each automaton, and each
-/// refusal, to these and the trees alone, whatever was made or refused before. That is a relation, and no
-/// function: how states are numbered, and which of them are shared, is not said.
+/// Compiles trees to byte automata. A contract sees the options that were set. It relates each automaton, and each error, to
+/// these options and the trees alone, whatever was compiled or rejected before. It is a relation and not a function: it doesn't
+/// say how states are numbered, or which of them are shared.
 ///
 /// As `regex_automata::nfa::thompson::Compiler`.
 #[derive(Drop)]
@@ -59,7 +59,7 @@ impl Compiler {
     pub fn build_from_hir(&mut self, expr: &Hir) -> Result<NFA, BuildError>
         ensures options { self.new ≡ self.old }
         ensures compiled { IfOk result (λ n. IsCompiled self.old (expr.now ∷ []) n) }
-        ensures refused { IfErr result (λ e. RefusesTrees self.old (expr.now ∷ []) e) }
+        ensures refused { IfErr result (λ e. RejectsTrees self.old (expr.now ∷ []) e) }
     {
         let nfa = self.build_many_from_hir(slice::from_ref(expr))?;
         Ok(nfa)
@@ -67,14 +67,18 @@ impl Compiler {
 
     /// The automaton of these trees, each as a pattern of its own, numbered from 0.
     ///
-    /// It is refused where groups are asked for in an automaton that reads in reverse, or break a rule, where
-    /// there are more patterns or states than can be numbered, where the states take more bytes than they may,
-    /// and where memory lacks. Where no states may be shared, the size limit is exact to the byte:
+    /// The call returns an error in each of these cases:
+    /// - Groups are asked for in an automaton that reads in reverse, or they break a rule.
+    /// - There are more patterns or states than can be numbered.
+    /// - The states take more bytes than they may.
+    /// - An allocation fails.
+    ///
+    /// If no states may be shared, the size limit is exact to the byte:
     /// [`limits_are_exact_where_no_states_are_shared`](crate::room_laws::limits_are_exact_where_no_states_are_shared).
     pub fn build_many_from_hir(&mut self, exprs: &[Hir]) -> Result<NFA, BuildError>
         ensures options { self.new ≡ self.old }
         ensures compiled { IfOk result (λ n. IsCompiled self.old exprs.now n) }
-        ensures refused { IfErr result (λ e. RefusesTrees self.old exprs.now e) }
+        ensures refused { IfErr result (λ e. RejectsTrees self.old exprs.now e) }
     {
         let nfa = compile_trees(
             &mut self.builder,

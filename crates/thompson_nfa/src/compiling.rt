@@ -1,4 +1,4 @@
-//! What the compile of a tree is handed, and the fragment that it gives.
+//! What the compile of a tree is given, and the fragment that it returns.
 
 use crate::range_trie::RangeTrie;
 use crate::utf8_state::Utf8State;

@@ -16,7 +16,7 @@ pub struct Config {
     nfa_size_limit: Option<Option<usize>>,
     shrink: Option<bool>,
     which_captures: Option<WhichCaptures>,
-    /// What a look matcher over ASCII words has beside these.
+    /// What a look matcher has in addition to ASCII words: the line terminator.
     line_terminator: Option<LineTerm>,
 }
 
@@ -59,7 +59,7 @@ impl Config {
         }
     }
 
-    /// Whether a match without a byte counts between characters of UTF-8 alone. On where it isn't set.
+    /// Whether an empty match counts only between characters of UTF-8. On by default.
     pub fn utf8(self, yes: bool) -> Config
         ensures { result ≡ record self { utf8 = Some yes } }
     {
@@ -69,7 +69,7 @@ impl Config {
         }
     }
 
-    /// Whether the automaton reads from the end of a text to its start. Off where it isn't set.
+    /// Whether the automaton reads from the end of a text to its start. Off by default.
     pub fn reverse(self, yes: bool) -> Config
         ensures { result ≡ record self { reverse = Some yes } }
     {
@@ -79,8 +79,8 @@ impl Config {
         }
     }
 
-    /// How many bytes the states may take, as [`Builder`](nfa_core::Builder) counts them; any number where
-    /// it is `None`, and where it isn't set.
+    /// How many bytes the states may take, as [`Builder`](nfa_core::Builder) counts them. `None`, the
+    /// default, means any number.
     pub fn nfa_size_limit(self, bytes: Option<usize>) -> Config
         ensures { result ≡ record self { size_limit = Some bytes } }
     {
@@ -91,7 +91,7 @@ impl Config {
     }
 
     /// Whether an automaton that reads in reverse is made smaller, at the cost of the time that this takes.
-    /// Off where it isn't set.
+    /// Off by default.
     pub fn shrink(self, yes: bool) -> Config
         ensures { result ≡ record self { shrink = Some yes } }
     {
@@ -112,7 +112,7 @@ impl Config {
         self.which_captures(WhichCaptures::None)
     }
 
-    /// For which groups there are states. For all where it isn't set.
+    /// For which groups there are states. By default for all.
     pub fn which_captures(self, which_captures: WhichCaptures) -> Config
         ensures { result ≡ record self { captures = Some which_captures } }
     {
@@ -122,7 +122,7 @@ impl Config {
         }
     }
 
-    /// What tells where looks hold. Lines end at the line feed where it isn't set.
+    /// The matcher that decides where looks hold. If none is set, lines end at the line feed.
     pub fn look_matcher(self, matcher: LookMatcher<AsciiWord>) -> Config
         ensures { result ≡ record self { terminator = Some matcher.terminator } }
     {

@@ -51,8 +51,8 @@ pub(crate) fn add_look(builder: &mut Builder, look: Look) -> Result<StateID, Bui
     builder.add_look(StateID::ZERO, look)
 }
 
-/// Adds a choice of ways, none as yet. What it is led on to first comes first where it is greedy, and last
-/// where it is lazy.
+/// Adds a choice that has no ways yet. The state to which it is led on first comes first if the choice is
+/// greedy, and last if it is lazy.
 #[tactic(auto, using(crate::proofs::Steps::StepLemmas::added_of, crate::proofs::Steps::StepLemmas::add_refused))]
 pub(crate) fn add_choice(
     builder: &mut Builder,
@@ -69,7 +69,8 @@ pub(crate) fn add_choice(
     }
 }
 
-/// Lets the state `from` lead to `to`, after where it leads already where it is a choice.
+/// Lets the state `from` lead to `to`. If `from` is a choice, `to` comes after the states to which it leads
+/// already.
 #[tactic(auto, using(crate::proofs::Steps::StepLemmas::led_of, crate::proofs::Steps::StepLemmas::lead_refused))]
 pub(crate) fn lead(builder: &mut Builder, from: StateID, to: StateID) -> Result<(), BuildError>
     requires from { from < length builder.old.drafts }

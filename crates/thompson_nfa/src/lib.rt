@@ -1,4 +1,4 @@
-//! Compiles trees to byte automata.
+//! Compiles expression trees to automata over bytes.
 //! ```rust
 //! pub fn automaton_of(alloc: Global, trees: &[Hir]) -> Result<NFA, BuildError> {
 //!     let mut compiler = Compiler::new(alloc);

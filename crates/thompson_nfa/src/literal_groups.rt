@@ -1,10 +1,11 @@
 //! Strings in groups, by the bytes with which they begin.
 ghost use Rattle.std.specs.Prelude.{◌≡◌, ◌+◌, ◌≤◌, ◌++◌, length, max, map, ℕ, List, IfOk, ◌<◌};
-ghost use Rattle.thompson_nfa.specs.LiteralGroups.{texts, tails, with_first, next_of, run_of, texts_of_groups, IsChunk, AddsGroups};
+ghost use Rattle.thompson_nfa.specs.LiteralGroups.{texts, tails, with_first, next_of, run_of, strings_of_groups, IsChunk, AddsGroups};
 
 use std::alloc::{AllocError, Global};
 
-/// The group with this number, which has the strings that go on behind the byte.
+/// An edge by a byte to the group with the number `next`. That group has what follows the byte in the strings
+/// that begin with it.
 #[derive(Clone, Copy)]
 pub(crate) struct Edge {
     pub(crate) byte: u8,
@@ -35,7 +36,7 @@ fn tails<'a>(alloc: Global, strings: &[&'a [u8]], byte: u8) -> Result<Vec<&'a [u
     Ok(all)
 }
 
-/// The lesser of this and of the string's first byte, where that is `low` or above.
+/// The lesser of `least` and the string's first byte, if that byte is `low` or above; otherwise `least`.
 fn with_first(low: u16, string: &[u8], least: Option<u8>) -> Option<u8>
     ensures { result ≡ with_first low string.now least }
 {
@@ -62,7 +63,7 @@ fn next_byte(strings: &[&[u8]], low: u16) -> Option<u8>
     least
 }
 
-/// How many strings stand before the first that is empty.
+/// How many strings come before the first empty one.
 fn run_len(strings: &[&[u8]]) -> usize
     ensures value { result ≡ run_of (texts strings.now) }
     ensures within { result ≤ length strings.now }
@@ -74,7 +75,7 @@ fn run_len(strings: &[&[u8]]) -> usize
     len
 }
 
-/// How many strings make one item: the first, where it is empty, or else those before the first that is.
+/// How many strings make one item: the first alone if it is empty, or else those before the first empty one.
 pub(crate) fn turn_len(strings: &[&[u8]]) -> usize
     requires { 1 ≤ length strings.now }
     ensures value { result ≡ max (run_of (texts strings.now)) 1 }
@@ -83,8 +84,8 @@ pub(crate) fn turn_len(strings: &[&[u8]]) -> usize
     run_len(strings).max(1)
 }
 
-/// An edge for each byte with which a string begins. Each leads to a group of its own, which is added; `first`
-/// groups stand before these.
+/// An edge for each byte with which a string begins. Each leads to a group of its own, which is added;
+/// `first` groups come before these.
 pub(crate) fn chunk<'a>(
     alloc: Global,
     strings: &[&'a [u8]],
@@ -92,10 +93,10 @@ pub(crate) fn chunk<'a>(
     groups: &mut Vec<Vec<&'a [u8]>>,
 ) -> Result<Vec<Edge>, AllocError>
     requires { first ≤ 9223372036854775807 }
-    ensures adds { IfOk result (λ edges. AddsGroups (texts_of_groups (λ g. g.items) groups.old.items)
-        (texts_of_groups (λ g. g.items) groups.new.items) (length edges.items) (texts strings.now)) }
+    ensures adds { IfOk result (λ edges. AddsGroups (strings_of_groups (λ g. g.items) groups.old.items)
+        (strings_of_groups (λ g. g.items) groups.new.items) (length edges.items) (texts strings.now)) }
     ensures chunk { IfOk result (λ edges. (before : List (List (List ℕ))) → length before ≡ first →
-        IsChunk first (before ++ texts_of_groups (λ g. g.items) groups.new.items) edges.items (texts strings.now)) }
+        IsChunk first (before ++ strings_of_groups (λ g. g.items) groups.new.items) edges.items (texts strings.now)) }
 {
     let mut edges = Vec::new(alloc);
     let mut low = 0u16;

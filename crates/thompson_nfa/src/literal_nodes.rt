@@ -1,6 +1,6 @@
 //! The nodes of a trie of strings.
 ghost use Rattle.std.specs.Prelude.{◌≡◌, ◌≤◌, ◌+◌, ◌++◌, ◌<◌, length, map, drop, get_or, ℕ, List, IfOk, [], ◌∷◌, if◌then◌else◌};
-ghost use Rattle.thompson_nfa.specs.LiteralGroups.{texts, texts_of_groups, strings_in_all, AddsGroups};
+ghost use Rattle.thompson_nfa.specs.LiteralGroups.{texts, strings_of_groups, strings_in_all, AddsGroups};
 ghost use Rattle.thompson_nfa.specs.LiteralLaid.{NodeValue, node_value, LaysNode, IsLaidTrie};
 ghost use Rattle.thompson_nfa.specs.LiteralTries.{edges_in, matches_in, IsNode};
 
@@ -21,9 +21,9 @@ fn push_match(alloc: Global, items: &mut Vec<Vec<Edge>>, matched: bool) -> Resul
     Ok(())
 }
 
-/// The items of the node that has the strings, in order of preference: edges by bytes, or, where an item has
-/// none, a match. A match beside a match is left out. The groups to which edges lead are added; `first` groups
-/// stand before these.
+/// The items of the node that has the strings, in order of preference: edges by bytes, or, if an item has
+/// none, a match. A match directly after a match is left out. The groups to which edges lead are added;
+/// `first` groups come before these.
 fn items<'a>(
     alloc: Global,
     strings: &[&'a [u8]],
@@ -32,13 +32,13 @@ fn items<'a>(
 ) -> Result<Vec<Vec<Edge>>, AllocError>
     requires few { first ≤ 9223372036854775807 }
     requires some { 1 ≤ length strings.now }
-    ensures adds { IfOk result (λ v. AddsGroups (texts_of_groups (λ g. g.items) groups.old.items)
-        (texts_of_groups (λ g. g.items) groups.new.items) (edges_in (map (λ x. x.items) v.items)) (texts strings.now)) }
+    ensures adds { IfOk result (λ v. AddsGroups (strings_of_groups (λ g. g.items) groups.old.items)
+        (strings_of_groups (λ g. g.items) groups.new.items) (edges_in (map (λ x. x.items) v.items)) (texts strings.now)) }
     ensures ended { IfOk result (λ v.
-        matches_in (map (λ x. x.items) v.items) + strings_in_all (texts_of_groups (λ g. g.items) groups.new.items) ≤
-        strings_in_all (texts_of_groups (λ g. g.items) groups.old.items) + length (texts strings.now)) }
+        matches_in (map (λ x. x.items) v.items) + strings_in_all (strings_of_groups (λ g. g.items) groups.new.items) ≤
+        strings_in_all (strings_of_groups (λ g. g.items) groups.old.items) + length (texts strings.now)) }
     ensures node { IfOk result (λ v. (before : List (List (List ℕ))) → length before ≡ first →
-        IsNode first (before ++ texts_of_groups (λ g. g.items) groups.new.items) (map (λ x. x.items) v.items) (texts strings.now)) }
+        IsNode first (before ++ strings_of_groups (λ g. g.items) groups.new.items) (map (λ x. x.items) v.items) (texts strings.now)) }
 {
     let mut items = Vec::new(alloc);
     let mut rest = strings;
@@ -65,7 +65,7 @@ pub(crate) struct Node<'a> {
     pub(crate) items: Vec<Vec<Edge>>,
 }
 
-/// The node that has the strings. The groups to which edges lead are added; `first` groups stand before these.
+/// The node that has the strings. The groups to which edges lead are added; `first` groups come before these.
 fn lay<'a>(
     alloc: Global,
     strings: &[&'a [u8]],
@@ -74,8 +74,8 @@ fn lay<'a>(
 ) -> Result<Node<'a>, AllocError>
     requires few { first ≤ 9223372036854775807 }
     requires some { 1 ≤ length strings.now }
-    ensures { IfOk result (λ n. LaysNode first (texts_of_groups (λ g. g.items) groups.old.items)
-        (texts_of_groups (λ g. g.items) groups.new.items) (node_value n) (texts strings.now)) }
+    ensures { IfOk result (λ n. LaysNode first (strings_of_groups (λ g. g.items) groups.old.items)
+        (strings_of_groups (λ g. g.items) groups.new.items) (node_value n) (texts strings.now)) }
 {
     let stem = stem(strings);
     let rest = behind_stem(alloc, strings, stem)?;
@@ -83,33 +83,34 @@ fn lay<'a>(
     Ok(Node { stem, items })
 }
 
-/// Takes the group at the place, and leaves none there.
+/// Takes the group at index `at`, and leaves an empty one there.
 fn take_group<'a>(alloc: Global, groups: &mut Vec<Vec<&'a [u8]>>, at: usize) -> Vec<&'a [u8]>
     requires { at < length groups.old.items }
-    ensures taken { texts result.items ≡ get_or (texts_of_groups (λ g. g.items) groups.old.items) at [] }
-    ensures as_many { length (texts_of_groups (λ g. g.items) groups.new.items) ≡ length (texts_of_groups (λ g. g.items) groups.old.items) }
-    ensures later { drop (at + 1) (texts_of_groups (λ g. g.items) groups.new.items) ≡
-        drop (at + 1) (texts_of_groups (λ g. g.items) groups.old.items) }
+    ensures taken { texts result.items ≡ get_or (strings_of_groups (λ g. g.items) groups.old.items) at [] }
+    ensures as_many { length (strings_of_groups (λ g. g.items) groups.new.items) ≡
+        length (strings_of_groups (λ g. g.items) groups.old.items) }
+    ensures later { drop (at + 1) (strings_of_groups (λ g. g.items) groups.new.items) ≡
+        drop (at + 1) (strings_of_groups (λ g. g.items) groups.old.items) }
 {
     mem::replace(&mut groups[at], Vec::new(alloc))
 }
 
-/// Makes the node of the next group, of those that have none yet, and adds the groups to which its edges lead. The
-/// group itself is held no longer.
+/// Makes the node of the next group that has none yet, and adds the groups to which its edges lead. The group
+/// itself is no longer held.
 fn lay_next<'a>(
     alloc: Global,
     groups: &mut Vec<Vec<&'a [u8]>>,
     nodes: &mut Vec<Node<'a>>,
 ) -> Result<(), AllocError>
     requires there { length nodes.old.items < length groups.old.items }
-    requires some { 1 ≤ length (get_or (texts_of_groups (λ g. g.items) groups.old.items) (length nodes.old.items) []) }
+    requires some { 1 ≤ length (get_or (strings_of_groups (λ g. g.items) groups.old.items) (length nodes.old.items) []) }
     ensures { IfOk result (λ _. (kept : List (List (List ℕ))) × (fresh : List (List (List ℕ))) × (node : NodeValue) ×
-        (length kept ≡ length (texts_of_groups (λ g. g.items) groups.old.items)) ×
-        (drop (length nodes.old.items + 1) kept ≡ drop (length nodes.old.items + 1) (texts_of_groups (λ g. g.items) groups.old.items)) ×
-        LaysNode (length (texts_of_groups (λ g. g.items) groups.old.items)) [] fresh node
-        (get_or (texts_of_groups (λ g. g.items) groups.old.items) (length nodes.old.items) []) ×
+        (length kept ≡ length (strings_of_groups (λ g. g.items) groups.old.items)) ×
+        (drop (length nodes.old.items + 1) kept ≡ drop (length nodes.old.items + 1) (strings_of_groups (λ g. g.items) groups.old.items)) ×
+        LaysNode (length (strings_of_groups (λ g. g.items) groups.old.items)) [] fresh node
+        (get_or (strings_of_groups (λ g. g.items) groups.old.items) (length nodes.old.items) []) ×
         (map node_value nodes.new.items ≡ map node_value nodes.old.items ++ node ∷ []) ×
-        (texts_of_groups (λ g. g.items) groups.new.items ≡ kept ++ fresh)) }
+        (strings_of_groups (λ g. g.items) groups.new.items ≡ kept ++ fresh)) }
 {
     let strings = take_group(alloc, groups, nodes.len());
     let mut more = Vec::new(alloc);

@@ -6,7 +6,7 @@ ghost use Rattle.thompson_nfa.specs.Added.{AddsDraft};
 ghost use Rattle.thompson_nfa.specs.LiteralGroups.{Ascends, LeadWithin};
 ghost use Rattle.thompson_nfa.specs.LiteralStates.{edge_ranges, AddsItem, AddsNode};
 ghost use Rattle.thompson_nfa.specs.LiteralTries.{edges_in, chunks_in, matches_in, AreChunks};
-ghost use Rattle.thompson_nfa.specs.Refusals.{Stays, Quits, Passes};
+ghost use Rattle.thompson_nfa.specs.Refusals.{Stays, Quits, ExceedsLimit};
 
 use crate::literal_groups::Edge;
 use nfa_core::{BuildError, Builder, Transition};
@@ -103,7 +103,7 @@ pub(crate) fn add_node(
     requires parted { length items.now ≤ 2 * matches_in (map (λ x. x.items) items.now) + 1 }
     ensures added { IfOk result (λ id. AddsNode builder.old builder.new names.now end (map (λ x. x.items) items.now) id) }
     ensures refused { IfErr result (λ e. Quits builder.old builder.new (2 * edges_in (map (λ x. x.items) items.now)) e) }
-    ensures passed { IfErr result (λ e. Passes builder.old
+    ensures passed { IfErr result (λ e. ExceedsLimit builder.old
         (32 * edges_in (map (λ x. x.items) items.now) + 36 * matches_in (map (λ x. x.items) items.now)) e) }
 {
     let mut ways = Vec::new(alloc);

@@ -5,14 +5,14 @@ ghost use Rattle.thompson_nfa.specs.LiteralStems.{HaveAll, BeginAll, without_fir
 
 use std::alloc::{AllocError, Global};
 
-/// Whether the string has the byte at the place.
+/// Whether the string has the byte at offset `at`.
 fn has_at(string: &[u8], at: usize, byte: u8) -> bool
     ensures { IsTrue result → (at < length string.now) × (get_or string.now at 0 ≡ byte) }
 {
     at < string.len() && string[at] == byte
 }
 
-/// Whether each of the strings has the byte at the place.
+/// Whether each of the strings has the byte at offset `at`.
 fn all_have(strings: &[&[u8]], at: usize, byte: u8) -> bool
     ensures { IsTrue result → HaveAll at byte (texts strings.now) }
 {

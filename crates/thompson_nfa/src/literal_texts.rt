@@ -1,9 +1,9 @@
-//! The states of a text that is read byte by byte.
+//! The states of a string that is read byte by byte.
 ghost use Rattle.std.specs.Prelude.{◌≡◌, ◌<◌, ◌*◌, length, MatchResult, IfOk, IfErr};
 ghost use Rattle.nfa_core.specs.BuilderStates.{range_draft};
 ghost use Rattle.thompson_nfa.specs.Added.{AddsDraft};
 ghost use Rattle.thompson_nfa.specs.LiteralTexts.{AddsText};
-ghost use Rattle.thompson_nfa.specs.Refusals.{Stays, Quits, Passes};
+ghost use Rattle.thompson_nfa.specs.Refusals.{Stays, Quits, ExceedsLimit};
 
 use nfa_core::{BuildError, Builder, Transition};
 use search_core::StateID;
@@ -21,7 +21,8 @@ fn add_byte(builder: &mut Builder, byte: u8, next: StateID) -> Result<StateID, B
     })
 }
 
-/// Adds a state for each byte of the text, which lead one to another and then on to the state `next`.
+/// Adds a state for each byte of the text. Each of them leads to the next, and the last one to the state
+/// `next`.
 pub(crate) fn add_text(
     builder: &mut Builder,
     text: &[u8],
@@ -30,7 +31,7 @@ pub(crate) fn add_text(
     requires { next < length builder.old.drafts }
     ensures added { IfOk result (λ id. AddsText builder.old builder.new next text.now id) }
     ensures refused { IfErr result (λ e. Quits builder.old builder.new (length text.now) e) }
-    ensures passed { IfErr result (λ e. Passes builder.old (24 * length text.now) e) }
+    ensures passed { IfErr result (λ e. ExceedsLimit builder.old (24 * length text.now) e) }
 {
     let mut id = next;
     for i in (0..text.len()).rev() {

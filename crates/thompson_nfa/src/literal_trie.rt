@@ -3,7 +3,7 @@ ghost use Rattle.std.specs.Prelude.{◌≡◌, ◌≤◌, ◌+◌, ◌*◌, ◌+
 ghost use Rattle.thompson_nfa.specs.Compiled.{Makes, Weighs, Does};
 ghost use Rattle.thompson_nfa.specs.LiteralGroups.{texts, bytes_in};
 ghost use Rattle.thompson_nfa.specs.LiteralStates.{literals, spelt};
-ghost use Rattle.thompson_nfa.specs.Refusals.{Quits, Passes};
+ghost use Rattle.thompson_nfa.specs.Refusals.{Quits, ExceedsLimit};
 
 use crate::compiling::Fragment;
 use crate::drafts::add_empty;
@@ -15,7 +15,7 @@ use search_core::StateID;
 use std::alloc::{AllocError, Global};
 use std::marker::Model;
 
-/// The same name for each of so many nodes.
+/// Returns `len` names for nodes, all of them `id`.
 fn same_names(alloc: Global, id: StateID, len: usize) -> Result<Vec<StateID>, AllocError>
     ensures { IfOk result (λ v. (length v.items ≡ len) × All (λ q. q ≡ id) v.items) }
 {
@@ -26,8 +26,8 @@ fn same_names(alloc: Global, id: StateID, len: usize) -> Result<Vec<StateID>, Al
     Ok(names)
 }
 
-/// One of the strings, an earlier one preferred, by the nodes of a trie. Where the automaton reads in reverse, the
-/// strings are those that are read, from the last byte of what they stand for.
+/// A fragment for one of the strings, an earlier one preferred, by the nodes of a trie. If the automaton
+/// reads in reverse, the strings are those that are read, from the last byte of what they stand for.
 fn compile_strings(
     builder: &mut Builder,
     alloc: Global,
@@ -39,7 +39,7 @@ fn compile_strings(
         (literals builder.old.reverse (texts strings.entry.items))) }
     ensures weighs { IfOk result (λ _. Weighs builder.old builder.new
         (24 + 32 * bytes_in (texts strings.entry.items) + 36 * length (texts strings.entry.items))) }
-    ensures passed { IfErr result (λ e. Passes builder.old
+    ensures passed { IfErr result (λ e. ExceedsLimit builder.old
         (24 + 32 * bytes_in (texts strings.entry.items) + 36 * length (texts strings.entry.items)) e) }
     ensures groups { IfOk result (λ _. builder.new.groups ≡ builder.old.groups) }
     ensures refused { IfErr result (λ e. Quits builder.old builder.new (1 + 2 * bytes_in (texts strings.entry.items)) e) }
@@ -58,7 +58,7 @@ fn compile_strings(
     })
 }
 
-/// Literals in order of preference, which share the states of what they begin with, in the order in which they
+/// Literals in order of preference. They share the states of what they begin with, in the order in which they
 /// are read. A contract sees the strings that are read, in that order.
 ///
 /// As `regex_automata::nfa::thompson::literal_trie::LiteralTrie`.
@@ -90,7 +90,7 @@ fn in_order(alloc: Global, reverse: bool, literal: &[u8]) -> Result<Vec<u8>, All
 }
 
 impl LiteralTrie {
-    /// A trie without literals, which are read from the first byte on.
+    /// A trie without literals. Literals are read from the first byte on.
     pub(crate) fn forward(alloc: Global) -> LiteralTrie
         ensures { result ≡ record { reverse = false; strings = [] } }
     {
@@ -100,7 +100,7 @@ impl LiteralTrie {
         }
     }
 
-    /// A trie without literals, which are read from the last byte on.
+    /// A trie without literals. Literals are read from the last byte on.
     pub(crate) fn reverse(alloc: Global) -> LiteralTrie
         ensures { result ≡ record { reverse = true; strings = [] } }
     {
@@ -110,7 +110,7 @@ impl LiteralTrie {
         }
     }
 
-    /// Adds a literal, behind those that are there.
+    /// Adds a literal after those that are there.
     pub(crate) fn add(&mut self, alloc: Global, literal: &[u8]) -> Result<(), AllocError>
         ensures ok { OnOk result (self.new ≡ record self.old { strings = self.old.strings ++ spelt self.old.reverse literal.now ∷ [] }) }
         ensures err { OnErr result (self.new ≡ self.old) }
@@ -141,7 +141,8 @@ impl LiteralTrie {
         ensures denotes { IfOk result (λ f. Does builder.old builder.new f.start f.end (literals builder.old.reverse self.now.strings)) }
         ensures weighs { IfOk result (λ _. Weighs builder.old builder.new
             (24 + 32 * bytes_in self.now.strings + 36 * length self.now.strings)) }
-        ensures passed { IfErr result (λ e. Passes builder.old (24 + 32 * bytes_in self.now.strings + 36 * length self.now.strings) e) }
+        ensures passed { IfErr result (λ e. ExceedsLimit builder.old (24 + 32 * bytes_in self.now.strings + 36 * length self.now.strings)
+            e) }
         ensures groups { IfOk result (λ _. builder.new.groups ≡ builder.old.groups) }
         ensures refused { IfErr result (λ e. Quits builder.old builder.new (1 + 2 * bytes_in self.now.strings) e) }
     {

@@ -3,9 +3,9 @@ ghost use Rattle.std.specs.Prelude.{◌≡◌, true, [], length, IfOk, IfErr};
 ghost use Rattle.hir_core.specs.Facts.{count};
 ghost use Rattle.hir_core.specs.Tree.{alternation};
 ghost use Rattle.thompson_nfa.specs.ByteRoom.{choice_bytes};
-ghost use Rattle.thompson_nfa.specs.Compiled.{Makes, Takes, Does};
+ghost use Rattle.thompson_nfa.specs.Compiled.{Makes, TakesBytes, Does};
 ghost use Rattle.thompson_nfa.specs.LiteralParts.{is_literal, are_literals, bytes_of_literal};
-ghost use Rattle.thompson_nfa.specs.Refusals.{Quits, Passes};
+ghost use Rattle.thompson_nfa.specs.Refusals.{Quits, ExceedsLimit};
 
 use crate::compiling::Fragment;
 use crate::literal_trie::LiteralTrie;
@@ -57,7 +57,7 @@ fn empty_trie(alloc: Global, reverse: bool) -> LiteralTrie
     }
 }
 
-/// One of the literals, an earlier one preferred, by a trie of them.
+/// A fragment for one of the literals, an earlier one preferred, by a trie of them.
 pub(crate) fn compile_literals(
     builder: &mut Builder,
     alloc: Global,
@@ -66,8 +66,8 @@ pub(crate) fn compile_literals(
     requires { are_literals subs.now ≡ true }
     ensures made { IfOk result (λ f. Makes builder.old builder.new f.start f.end (count (alternation subs.now))) }
     ensures denotes { IfOk result (λ f. Does builder.old builder.new f.start f.end (alternation subs.now)) }
-    ensures weighs { IfOk result (λ f. Takes builder.old builder.new f.end 0 (choice_bytes (alternation subs.now))) }
-    ensures passed { IfErr result (λ e. Passes builder.old (choice_bytes (alternation subs.now)) e) }
+    ensures weighs { IfOk result (λ f. TakesBytes builder.old builder.new f.end 0 (choice_bytes (alternation subs.now))) }
+    ensures passed { IfErr result (λ e. ExceedsLimit builder.old (choice_bytes (alternation subs.now)) e) }
     ensures groups { IfOk result (λ _. builder.new.groups ≡ builder.old.groups) }
     ensures refused { IfErr result (λ e. Quits builder.old builder.new (count (alternation subs.now)) e) }
 {

@@ -1,4 +1,4 @@
-//! All patterns, and what stands before them.
+//! All patterns, and what precedes them.
 
 ghost use Rattle.std.specs.Prelude.{◌≡◌, ◌≢◌, ◌<◌, ◌≤◌, ◌+◌, ◌&&◌, true, false, [], ◌∷◌, length, IfOk, IfErr, MatchResult};
 ghost use Rattle.std.specs.List.{list_all};
@@ -8,11 +8,11 @@ ghost use Rattle.nfa_core.specs.Renaming.{past};
 ghost use Rattle.thompson_nfa.specs.Added.{AddsDraft};
 ghost use Rattle.thompson_nfa.specs.Assembled.{IsAssembled};
 ghost use Rattle.thompson_nfa.specs.ByteRoom.{at_least, at_most};
-ghost use Rattle.thompson_nfa.specs.Compiled.{Takes, TakesInAll, sum_of_bytes, way_at};
+ghost use Rattle.thompson_nfa.specs.Compiled.{TakesBytes, TakesInAll, sum_of_bytes, way_at};
 ghost use Rattle.thompson_nfa.specs.Configs.{reverse_of, captures_of, is_any, is_shrunk};
-ghost use Rattle.thompson_nfa.specs.ListBytes.{pattern_bytes, bytes_for, patterns_bytes, start_bytes};
-ghost use Rattle.thompson_nfa.specs.Patterns.{HasAll, HasStart, LeadsToFurther, LeadsToPatterns, RefusesPatterns, begun_with, room_for};
-ghost use Rattle.thompson_nfa.specs.Refusals.{Stays, Passes};
+ghost use Rattle.thompson_nfa.specs.ListBytes.{bytes_of_pattern, bytes_for, patterns_bytes, start_bytes};
+ghost use Rattle.thompson_nfa.specs.Patterns.{HasAll, HasStart, LeadsToFurther, LeadsToPatterns, FailsPatterns, begun_with, room_for};
+ghost use Rattle.thompson_nfa.specs.Refusals.{Stays, ExceedsLimit};
 ghost use Rattle.thompson_nfa.specs.RefusedTrees.{Breaks};
 ghost use Rattle.thompson_nfa.specs.Room.{room};
 ghost use Rattle.thompson_nfa.specs.Compilations.{is_anchored_tree, bytes_needed};
@@ -29,7 +29,7 @@ use nfa_core::{BuildError, Builder, Transition};
 use search_core::StateID;
 use std::alloc::Global;
 
-/// The states in which searches start: those at one place alone, and all others.
+/// The states in which searches start: anchored searches, which start at one offset alone, and all others.
 #[derive(Clone, Copy)]
 pub(crate) struct Starts {
     pub(crate) anchored: StateID,
@@ -46,8 +46,8 @@ fn add_match(builder: &mut Builder) -> Result<StateID, BuildError>
     builder.add_match()
 }
 
-/// One pattern: its tree, with the whole match as group 0, and the state in which it matches. A refusal leaves
-/// it begun.
+/// Compiles one pattern: its tree, with the whole match as group 0, and the state in which it matches. After
+/// an error the pattern stays begun.
 fn compile_pattern(
     builder: &mut Builder,
     alloc: Global,
@@ -60,10 +60,10 @@ fn compile_pattern(
     requires numbered { length builder.old.starts ≤ greatest_index }
     ensures has { IfOk result (λ start. HasAll how.which builder.old builder.new
         (start ∷ []) (expr.now ∷ []) (room how.shrink expr.now + 3) 4) }
-    ensures refused { IfErr result (λ e. RefusesPatterns how.which builder.old (room how.shrink expr.now + 3) (expr.now ∷ []) e) }
+    ensures refused { IfErr result (λ e. FailsPatterns how.which builder.old (room how.shrink expr.now + 3) (expr.now ∷ []) e) }
     ensures weighs { IfOk result (λ _. TakesInAll builder.old builder.new
-        (pattern_bytes at_least how.which expr.now) (pattern_bytes (at_most how.shrink) how.which expr.now)) }
-    ensures passed { IfErr result (λ e. Passes builder.old (pattern_bytes (at_most how.shrink) how.which expr.now) e) }
+        (bytes_of_pattern at_least how.which expr.now) (bytes_of_pattern (at_most how.shrink) how.which expr.now)) }
+    ensures passed { IfErr result (λ e. ExceedsLimit builder.old (bytes_of_pattern (at_most how.shrink) how.which expr.now) e) }
 {
     builder.start_pattern()?;
     let unnamed: Option<String> = None;
@@ -74,7 +74,7 @@ fn compile_pattern(
     Ok(body.start)
 }
 
-/// More patterns, to which a union leads behind those to which it leads already.
+/// Compiles more patterns. The union leads to them after those to which it leads already.
 fn compile_further(
     builder: &mut Builder,
     alloc: Global,
@@ -90,10 +90,10 @@ fn compile_further(
     requires kind { is_sparse (draft_at builder.old.drafts union) ≡ false }
     requires way { way_at builder.old union ≡ 4 }
     ensures has { IfOk result (λ _. LeadsToFurther how.which union builder.old builder.new exprs.now (room_for how.shrink exprs.now)) }
-    ensures refused { IfErr result (λ e. RefusesPatterns how.which builder.old (room_for how.shrink exprs.now) exprs.now e) }
+    ensures refused { IfErr result (λ e. FailsPatterns how.which builder.old (room_for how.shrink exprs.now) exprs.now e) }
     ensures weighs { IfOk result (λ _. TakesInAll builder.old builder.new
         (bytes_for at_least how.which exprs.now) (bytes_for (at_most how.shrink) how.which exprs.now)) }
-    ensures passed { IfErr result (λ e. Passes builder.old (bytes_for (at_most how.shrink) how.which exprs.now) e) }
+    ensures passed { IfErr result (λ e. ExceedsLimit builder.old (bytes_for (at_most how.shrink) how.which exprs.now) e) }
 {
     for expr in exprs {
         let start = compile_pattern(builder, alloc, how, shared, expr)?;
@@ -102,8 +102,8 @@ fn compile_further(
     Ok(())
 }
 
-/// All patterns, and the state that leads to them, the first ones preferred: the only one's start, a union, or
-/// a state that leads nowhere.
+/// Compiles all patterns, and returns the state that leads to them, the first ones preferred. That is the
+/// only one's start, a union, or a state that leads nowhere.
 fn compile_patterns(
     builder: &mut Builder,
     alloc: Global,
@@ -115,10 +115,10 @@ fn compile_patterns(
     requires forward { builder.old.reverse ≡ true → how.which ≡ which_captures.None }
     requires numbered { length builder.old.starts + length exprs.now ≤ greatest_index + 1 }
     ensures has { IfOk result (λ c. LeadsToPatterns how.which builder.old builder.new c exprs.now (room_for how.shrink exprs.now + 1)) }
-    ensures refused { IfErr result (λ e. RefusesPatterns how.which builder.old (room_for how.shrink exprs.now + 1) exprs.now e) }
+    ensures refused { IfErr result (λ e. FailsPatterns how.which builder.old (room_for how.shrink exprs.now + 1) exprs.now e) }
     ensures weighs { IfOk result (λ _. TakesInAll builder.old builder.new
         (patterns_bytes at_least how.which exprs.now) (patterns_bytes (at_most how.shrink) how.which exprs.now)) }
-    ensures passed { IfErr result (λ e. Passes builder.old (patterns_bytes (at_most how.shrink) how.which exprs.now) e) }
+    ensures passed { IfErr result (λ e. ExceedsLimit builder.old (patterns_bytes (at_most how.shrink) how.which exprs.now) e) }
 {
     let Some((first, rest)) = exprs.split_first() else {
         let none = add_fail(builder)?;
@@ -136,11 +136,11 @@ fn compile_patterns(
     Ok(union)
 }
 
-/// Adds what stands before the patterns.
+/// Adds what precedes the patterns.
 fn add_start(builder: &mut Builder, alloc: Global, anchored: bool) -> Result<StateID, BuildError>
     ensures has { MatchResult result (λ u. HasStart anchored builder.old builder.new u) (λ e. Breaks builder.old builder.new 3 e) }
-    ensures weighs { IfOk result (λ u. Takes builder.old builder.new u (start_bytes anchored) (start_bytes anchored)) }
-    ensures passed { IfErr result (λ e. Passes builder.old (start_bytes anchored) e) }
+    ensures weighs { IfOk result (λ u. TakesBytes builder.old builder.new u (start_bytes anchored) (start_bytes anchored)) }
+    ensures passed { IfErr result (λ e. ExceedsLimit builder.old (start_bytes anchored) e) }
 {
     if anchored {
         let start = add_empty(builder)?;
@@ -150,7 +150,8 @@ fn add_start(builder: &mut Builder, alloc: Global, anchored: bool) -> Result<Sta
     Ok(start)
 }
 
-/// All patterns, and what stands before them: an anchored search starts in the state that leads to the patterns.
+/// Compiles all patterns, and what precedes them. An anchored search starts in the state that leads to the
+/// patterns.
 pub(crate) fn compile_all(
     builder: &mut Builder,
     alloc: Global,
@@ -163,9 +164,9 @@ pub(crate) fn compile_all(
     requires numbered { length exprs.now ≤ greatest_index + 1 }
     ensures assembled { IfOk result (λ s. IsAssembled config.now exprs.now builder.new s.anchored s.unanchored) }
     ensures apart { IfOk result (λ s. past builder.new.drafts s.anchored ≢ s.unanchored) }
-    ensures refused { IfErr result (λ e. RefusesPatterns (captures_of config.now) builder.old
+    ensures refused { IfErr result (λ e. FailsPatterns (captures_of config.now) builder.old
         (room_for (is_shrunk config.now) exprs.now + 4) exprs.now e) }
-    ensures passed { IfErr result (λ e. Passes builder.old (bytes_needed (at_most (is_shrunk config.now)) config.now exprs.now) e) }
+    ensures passed { IfErr result (λ e. ExceedsLimit builder.old (bytes_needed (at_most (is_shrunk config.now)) config.now exprs.now) e) }
     ensures needed { IfOk result (λ _. bytes_needed at_least config.now exprs.now ≤ sum_of_bytes builder.new) }
 {
     let which = config.get_which_captures();
@@ -181,9 +182,9 @@ pub(crate) fn compile_all(
     })
 }
 
-// ---- What stands before the patterns, where a search may begin at each place.
+// ---- What precedes the patterns, for a search that may begin at each offset.
 
-/// Whether each tree's spans begin, or end where the automaton reads in reverse, at the haystack's edge.
+/// Whether each tree's spans begin, or end if the automaton reads in reverse, at the haystack's edge.
 pub(crate) fn all_anchored(exprs: &[Hir], reverse: bool) -> bool
     ensures { result ≡ list_all (is_anchored_tree reverse) exprs.now }
 {
@@ -195,7 +196,8 @@ pub(crate) fn all_anchored(exprs: &[Hir], reverse: bool) -> bool
     true
 }
 
-/// The same of one tree, as far as its looks tell.
+/// Whether the tree's spans begin, or end if the automaton reads in reverse, at the haystack's edge, as far
+/// as its looks show.
 fn is_anchored(expr: &Hir, reverse: bool) -> bool
     ensures { result ≡ is_anchored_tree reverse expr.now }
 {
@@ -221,11 +223,12 @@ fn add_any_byte(builder: &mut Builder, alloc: Global, next: StateID) -> Result<S
     builder.add_sparse(transitions)
 }
 
-/// Adds a state that goes on at each place, past any bytes, to what it is led to later.
+/// Adds the state of the unanchored prefix, which goes past any bytes. At each offset it goes on to the state
+/// to which it is led later.
 pub(crate) fn add_prefix(builder: &mut Builder, alloc: Global) -> Result<StateID, BuildError>
     ensures has { MatchResult result (λ u. HasPrefix builder.old builder.new u) (λ e. Breaks builder.old builder.new 3 e) }
-    ensures weighs { IfOk result (λ u. Takes builder.old builder.new u 88 88) }
-    ensures passed { IfErr result (λ e. Passes builder.old 88 e) }
+    ensures weighs { IfOk result (λ u. TakesBytes builder.old builder.new u 88 88) }
+    ensures passed { IfErr result (λ e. ExceedsLimit builder.old 88 e) }
 {
     let union = add_choice(builder, alloc, false)?;
     let end = add_empty(builder)?;

@@ -1,4 +1,4 @@
-//! Copies of the nodes of a trie of ranges: those to which its root comes, and no others.
+//! Copies of the nodes of a trie of ranges: those that can be reached from its root, and no others.
 ghost use Rattle.std.specs.Prelude.{◌≡◌, ◌≤◌, length, map, IfOk, OnErr};
 ghost use Rattle.thompson_nfa.specs.NodeCopies.{AreCopies, AreNone};
 ghost use Rattle.thompson_nfa.specs.TrieNodes.{following, IsInside, IsLater};
@@ -6,7 +6,7 @@ ghost use Rattle.thompson_nfa.specs.TrieNodes.{following, IsInside, IsLater};
 use crate::trie_nodes::{Edge, Next, Nodes};
 use std::alloc::{AllocError, Global};
 
-/// A name for each of so many nodes: none has a copy.
+/// Returns a list of `len` entries, one for each node: none has a copy.
 fn no_copies(alloc: Global, len: usize) -> Result<Vec<Next>, AllocError>
     ensures { IfOk result (λ v. AreNone len v.items) }
 {
@@ -17,7 +17,7 @@ fn no_copies(alloc: Global, len: usize) -> Result<Vec<Next>, AllocError>
     Ok(names)
 }
 
-/// Copies what follows an edge, unless it is there. `names` has the copy of each node that has one.
+/// Copies what follows an edge, unless it has a copy. `names` has the copy of each node that has one.
 fn copy_below(
     nodes: &Nodes,
     alloc: Global,
@@ -52,7 +52,7 @@ fn copy_below(
     Ok(made)
 }
 
-/// Gives up all nodes but those that follow the edge, and answers what follows it then.
+/// Drops all nodes but those that follow the edge, and returns what follows it then.
 pub(crate) fn keep_below(nodes: &mut Nodes, alloc: Global, next: Next) -> Result<Next, AllocError>
     requires { IsInside (length nodes.old) next }
     ensures inside { IfOk result (λ n. IsInside (length nodes.new) n) }

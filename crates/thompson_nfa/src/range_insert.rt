@@ -1,4 +1,4 @@
-//! Insertion into a trie of ranges: it makes new nodes on the way of the ranges, and changes none.
+//! Insertion into a trie of ranges. It makes new nodes along the path of the ranges, and changes none.
 ghost use Rattle.std.specs.Prelude.{◌≡◌, ◌≤◌, ◌+◌, ◌↔◌, IfOk, IsTrue, length, map};
 ghost use Rattle.hir_core.specs.Sequences.{bytes_of};
 ghost use Rattle.thompson_nfa.specs.RangeTries.{AreRanges, IsApart, IsWith};
@@ -35,7 +35,7 @@ fn is_within(edge: &Edge, range: &Utf8Range) -> bool
     range.start <= edge.range.start && edge.range.end <= range.end
 }
 
-/// What emits, beside what follows, the strings of the ranges.
+/// Returns what emits the strings of the ranges in addition to those of `next`.
 pub(crate) fn insert_below(
     nodes: &mut Nodes,
     alloc: Global,

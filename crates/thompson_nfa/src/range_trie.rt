@@ -13,8 +13,8 @@ use hir_core::Utf8Range;
 use std::alloc::{AllocError, Global};
 use std::marker::Model;
 
-/// A set of strings of bytes, given as sequences of ranges in any order, that tells them as sequences that
-/// ascend: where two of them differ first, the earlier one's range ends before the later one's begins. A
+/// A set of byte strings. It takes sequences of ranges in any order, and returns sequences that ascend: at
+/// the first range in which two of them differ, the earlier one's range ends before the later one's begins. A
 /// contract sees these sequences.
 ///
 /// As `regex_automata::nfa::thompson::range_trie::RangeTrie`.
@@ -23,7 +23,7 @@ pub struct RangeTrie {
     alloc: Global,
     nodes: Nodes,
     root: Next,
-    /// How many edges there may be before the nodes to which the root doesn't come are given up.
+    /// How many edges there may be before the nodes that can't be reached from the root are dropped.
     most: usize,
 }
 
@@ -64,7 +64,7 @@ impl RangeTrie {
         self.most = LEAST;
     }
 
-    /// Gives up the nodes to which the root doesn't come, where there are many edges.
+    /// Drops the nodes that can't be reached from the root, if there are many edges.
     fn tidy(&mut self) -> Result<(), AllocError>
         ensures { self.new ≡ self.old }
     {
@@ -78,8 +78,8 @@ impl RangeTrie {
     }
 
     /// Adds the strings with a byte of each range, in the order of the ranges. None of them may be a proper
-    /// prefix of a string of the trie, nor have one as a proper prefix. Where there is no memory, the trie
-    /// stays as it is.
+    /// prefix of a string of the trie, nor have one as a proper prefix. If there is no memory, the trie stays
+    /// as it is.
     pub fn insert(&mut self, ranges: &[Utf8Range]) -> Result<(), AllocError>
         requires ordered { AreRanges (map bytes_of ranges.now) }
         requires apart { IsApart self.old (map bytes_of ranges.now) }
@@ -96,7 +96,7 @@ impl RangeTrie {
         Ok(())
     }
 
-    /// Adds the string without a byte. It is a proper prefix of every other string, so none may be there.
+    /// Adds the empty string. It is a proper prefix of every other string, so the trie may have no other one.
     #[tactic(auto, using(crate::proofs::Tries::EmptyString::empty_alone))]
     pub fn add_empty(&mut self)
         requires { IsApart self.old [] }
@@ -105,8 +105,8 @@ impl RangeTrie {
         self.root = Next::End;
     }
 
-    /// Calls the closure at each sequence, ascending, and stops at its first error. There is an error too
-    /// where there is no memory for the sequences; then no call was made.
+    /// Calls the closure for each sequence, in ascending order, and stops at its first error. If there is no
+    /// memory for the sequences, the call returns an error as well; then the closure wasn't called.
     pub fn iter<E: From<AllocError>, F: FnMut(&[Utf8Range]) -> Result<(), E>>(
         &self,
         f: F,

@@ -49,7 +49,7 @@ pub(crate) fn emit(
     }
 }
 
-/// Calls the closure at each path, in order, up to its first error.
+/// Calls the closure for each path, in order, up to its first error.
 pub(crate) fn call_each<E, F: FnMut(&[Utf8Range]) -> Result<(), E>>(
     mut f: F,
     paths: &[Vec<Utf8Range>],

@@ -4,8 +4,8 @@ ghost use Rattle.std.specs.Prelude.{◌≡◌, ◌+◌, ◌*◌, true, length, I
 ghost use Rattle.hir_core.specs.Facts.{count, is_ascending};
 ghost use Rattle.hir_core.specs.Tree.{char_class};
 ghost use Rattle.thompson_nfa.specs.AsciiClasses.{is_ascii};
-ghost use Rattle.thompson_nfa.specs.Compiled.{Makes, Takes, Does};
-ghost use Rattle.thompson_nfa.specs.Refusals.{Quits, Passes};
+ghost use Rattle.thompson_nfa.specs.Compiled.{Makes, TakesBytes, Does};
+ghost use Rattle.thompson_nfa.specs.Refusals.{Quits, ExceedsLimit};
 
 use crate::class::byte_class;
 use crate::compiling::Fragment;
@@ -32,8 +32,8 @@ fn bytes_of(alloc: Global, ranges: &[(char, char)]) -> Result<Vec<(u8, u8)>, All
     Ok(all)
 }
 
-/// One state that reads the byte of a scalar of the ranges, before one that stands for what follows. Read in
-/// reverse it is the same.
+/// One state that reads the byte of a scalar of the ranges, before one that stands for what follows. It is
+/// the same when the automaton reads in reverse.
 pub(crate) fn compile_ascii(
     builder: &mut Builder,
     alloc: Global,
@@ -43,9 +43,9 @@ pub(crate) fn compile_ascii(
     requires ascii { is_ascii ranges.now ≡ true }
     ensures made { IfOk result (λ f. Makes builder.old builder.new f.start f.end (count (char_class ranges.now))) }
     ensures does { IfOk result (λ f. Does builder.old builder.new f.start f.end (char_class ranges.now)) }
-    ensures weighs { IfOk result (λ f. Takes builder.old builder.new f.end
+    ensures weighs { IfOk result (λ f. TakesBytes builder.old builder.new f.end
         (48 + 8 * length ranges.now) (48 + 8 * length ranges.now)) }
-    ensures passed { IfErr result (λ e. Passes builder.old (48 + 8 * length ranges.now) e) }
+    ensures passed { IfErr result (λ e. ExceedsLimit builder.old (48 + 8 * length ranges.now) e) }
     ensures groups { IfOk result (λ _. builder.new.groups ≡ builder.old.groups) }
     ensures refused { IfErr result (λ e. Quits builder.old builder.new (count (char_class ranges.now)) e) }
 {

@@ -3,8 +3,8 @@ ghost use Rattle.std.specs.Prelude.{◌≡◌, true, IfOk, IfErr};
 ghost use Rattle.hir_core.specs.Facts.{is_ascending};
 ghost use Rattle.hir_core.specs.Tree.{char_class};
 ghost use Rattle.thompson_nfa.specs.ByteRoom.{at_least, at_most, class_bytes, scalar_bytes};
-ghost use Rattle.thompson_nfa.specs.Compiled.{Makes, Takes, Does};
-ghost use Rattle.thompson_nfa.specs.Refusals.{Quits, Passes};
+ghost use Rattle.thompson_nfa.specs.Compiled.{Makes, TakesBytes, Does};
+ghost use Rattle.thompson_nfa.specs.Refusals.{Quits, ExceedsLimit};
 ghost use Rattle.thompson_nfa.specs.Room.{room};
 
 use crate::compiling::{Fragment, How, Shared};
@@ -15,8 +15,8 @@ use crate::scalar_shrunk::compile_scalars_shrunk;
 use nfa_core::{BuildError, Builder};
 use std::alloc::Global;
 
-/// States for the sequences of byte ranges that spell the scalars. They share endings forward and beginnings in
-/// reverse, or both where classes are made smaller.
+/// States for the sequences of byte ranges that spell the scalars. They share endings when the automaton
+/// reads forward, and beginnings when it reads in reverse, or both if classes are made smaller.
 fn scalar_states(
     builder: &mut Builder,
     alloc: Global,
@@ -27,8 +27,8 @@ fn scalar_states(
     requires { is_ascending ranges.now ≡ true }
     ensures made { IfOk result (λ f. Makes builder.old builder.new f.start f.end (room how.shrink (char_class ranges.now))) }
     ensures does { IfOk result (λ f. Does builder.old builder.new f.start f.end (char_class ranges.now)) }
-    ensures weighs { IfOk result (λ f. Takes builder.old builder.new f.end 0 (class_bytes how.shrink ranges.now)) }
-    ensures passed { IfErr result (λ e. Passes builder.old (class_bytes how.shrink ranges.now) e) }
+    ensures weighs { IfOk result (λ f. TakesBytes builder.old builder.new f.end 0 (class_bytes how.shrink ranges.now)) }
+    ensures passed { IfErr result (λ e. ExceedsLimit builder.old (class_bytes how.shrink ranges.now) e) }
     ensures groups { IfOk result (λ _. builder.new.groups ≡ builder.old.groups) }
     ensures refused { IfErr result (λ e. Quits builder.old builder.new (room how.shrink (char_class ranges.now)) e) }
 {
@@ -45,8 +45,8 @@ fn scalar_states(
     Ok(reverse)
 }
 
-/// A class of scalars: one state where it is ASCII, and else states for the sequences of byte ranges that spell
-/// its scalars.
+/// A class of scalars: one state if it is ASCII, and otherwise states for the sequences of byte ranges that
+/// spell its scalars.
 ///
 /// As `regex_automata::nfa::thompson::compiler::Compiler::c_unicode_class`.
 pub(crate) fn compile_scalars(
@@ -59,9 +59,9 @@ pub(crate) fn compile_scalars(
     requires { is_ascending ranges.now ≡ true }
     ensures made { IfOk result (λ f. Makes builder.old builder.new f.start f.end (room how.shrink (char_class ranges.now))) }
     ensures does { IfOk result (λ f. Does builder.old builder.new f.start f.end (char_class ranges.now)) }
-    ensures weighs { IfOk result (λ f. Takes builder.old builder.new f.end
+    ensures weighs { IfOk result (λ f. TakesBytes builder.old builder.new f.end
         (scalar_bytes at_least ranges.now) (scalar_bytes (at_most how.shrink) ranges.now)) }
-    ensures passed { IfErr result (λ e. Passes builder.old (scalar_bytes (at_most how.shrink) ranges.now) e) }
+    ensures passed { IfErr result (λ e. ExceedsLimit builder.old (scalar_bytes (at_most how.shrink) ranges.now) e) }
     ensures groups { IfOk result (λ _. builder.new.groups ≡ builder.old.groups) }
     ensures refused { IfErr result (λ e. Quits builder.old builder.new (room how.shrink (char_class ranges.now)) e) }
 {

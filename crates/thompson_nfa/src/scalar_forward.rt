@@ -7,7 +7,7 @@ ghost use Rattle.hir_core.specs.Tree.{char_class};
 ghost use Rattle.nfa_core.specs.BuilderStates.{Assembly};
 ghost use Rattle.thompson_nfa.specs.ByteRoom.{sequence_bytes};
 ghost use Rattle.thompson_nfa.specs.Compiled.{Makes, Weighs, Does, sum_of_bytes};
-ghost use Rattle.thompson_nfa.specs.Refusals.{Quits, Passes};
+ghost use Rattle.thompson_nfa.specs.Refusals.{Quits, ExceedsLimit};
 ghost use Rattle.thompson_nfa.specs.Utf8Stacks.{path_of, StagesRise, AreBytes, ComesAfter, left_bytes, Keeps};
 ghost use Rattle.thompson_nfa.specs.Utf8Compiles.{IsCompiling, IsBeingCompiled, CanFollow};
 
@@ -39,7 +39,7 @@ fn add_sequence(
     ensures refused { IfErr result (λ e. (old : Assembly) (qs : List (List (ℕ × ℕ))) →
         IsCompiling old builder.old state.old.end state.old.compiled state.old.nodes.items qs →
         Quits old builder.new (2 + 4 * length qs) e) }
-    ensures passed { IfErr result (λ e. Passes builder.old (left_bytes state.old.nodes.items) e) }
+    ensures passed { IfErr result (λ e. ExceedsLimit builder.old (left_bytes state.old.nodes.items) e) }
 {
     add(builder, alloc, state, sequence.as_slice())?;
     Ok(())
@@ -63,7 +63,7 @@ fn add_sequences(
     ensures refused { IfErr result (λ e. (old : Assembly) (qs : List (List (ℕ × ℕ))) →
         IsCompiling old builder.old state.old.end state.old.compiled state.old.nodes.items qs →
         Quits old builder.new (2 + 4 * length (qs ++ utf8_sequences first last)) e) }
-    ensures passed { IfErr result (λ e. Passes builder.old
+    ensures passed { IfErr result (λ e. ExceedsLimit builder.old
         (left_bytes state.old.nodes.items + sequence_bytes (utf8_sequences first last)) e) }
 {
     for sequence in Utf8Sequences::new(first, last) {
@@ -84,7 +84,7 @@ pub(crate) fn compile_scalars_forward(
     ensures made { IfOk result (λ f. Makes builder.old builder.new f.start f.end (count (char_class ranges.now))) }
     ensures does { IfOk result (λ f. Does builder.old builder.new f.start f.end (char_class ranges.now)) }
     ensures weighs { IfOk result (λ _. Weighs builder.old builder.new (48 + sequence_bytes (sequences_of ranges.now))) }
-    ensures passed { IfErr result (λ e. Passes builder.old (48 + sequence_bytes (sequences_of ranges.now)) e) }
+    ensures passed { IfErr result (λ e. ExceedsLimit builder.old (48 + sequence_bytes (sequences_of ranges.now)) e) }
     ensures groups { IfOk result (λ _. builder.new.groups ≡ builder.old.groups) }
     ensures refused { IfErr result (λ e. Quits builder.old builder.new (count (char_class ranges.now)) e) }
 {

@@ -1,5 +1,5 @@
-//! Fragments of classes of scalars for one who reads in reverse: sequences of byte ranges that begin alike share
-//! states.
+//! Fragments of classes of scalars for automata that read in reverse: sequences of byte ranges that begin
+//! alike share states.
 
 ghost use Rattle.std.specs.Prelude.{◌≡◌, ◌<◌, ◌≤◌, ◌+◌, ◌*◌, true, false, length, map, take, All, IfOk, IfErr, IsTrue};
 ghost use Rattle.hir_core.specs.BySequences.{sequences_of};
@@ -9,7 +9,7 @@ ghost use Rattle.hir_core.specs.Tree.{char_class};
 ghost use Rattle.nfa_core.specs.BuilderStates.{draft_at, is_sparse};
 ghost use Rattle.thompson_nfa.specs.ByteRoom.{sequence_bytes};
 ghost use Rattle.thompson_nfa.specs.Compiled.{Makes, Weighs, Does};
-ghost use Rattle.thompson_nfa.specs.Refusals.{Stays, Quits, Passes};
+ghost use Rattle.thompson_nfa.specs.Refusals.{Stays, Quits, ExceedsLimit};
 ghost use Rattle.thompson_nfa.specs.SharedSuffixes.{key_of, AddsRange, SharesRange, SharesRanges, AddsSequence, AddsSequences};
 ghost use Rattle.thompson_nfa.specs.SlotTables.{is_ready};
 
@@ -21,7 +21,7 @@ use nfa_core::{BuildError, Builder, Transition};
 use search_core::StateID;
 use std::alloc::Global;
 
-/// Adds the state of the key, and keeps it at the place.
+/// Adds the state of the key, and keeps it in the slot at `hash`.
 #[tactic(auto, using(crate::proofs::Steps::StepLemmas::add_refused))]
 fn add_key(
     builder: &mut Builder,
@@ -45,7 +45,7 @@ fn add_key(
     Ok(id)
 }
 
-/// What a state is kept by that reads a byte of the range and leads to `next`.
+/// The key under which a state is kept that reads a byte of the range and leads to `next`.
 fn key_of(next: StateID, range: Utf8Range) -> Utf8SuffixKey
     ensures { result ≡ key_of next (bytes_of range) }
 {
@@ -56,7 +56,7 @@ fn key_of(next: StateID, range: Utf8Range) -> Utf8SuffixKey
     }
 }
 
-/// A state that reads a byte of the range and leads to `next`: one that is kept, or else a new one.
+/// A state that reads a byte of the range and leads to `next`: one that is kept, or otherwise a new one.
 fn share_range(
     builder: &mut Builder,
     suffixes: &mut Utf8SuffixMap,
@@ -79,8 +79,8 @@ fn share_range(
     Ok(id)
 }
 
-/// A new state that reads a byte of a sequence's last range and leads to `next`. The map keeps it, and has none
-/// for it as yet: no sequence is another one, or the begin of another.
+/// A new state that reads a byte of a sequence's last range and leads to `next`. The map keeps it, and has
+/// none for it yet: no sequence is another one, or the beginning of another.
 fn last_range(
     builder: &mut Builder,
     suffixes: &mut Utf8SuffixMap,
@@ -100,7 +100,8 @@ fn last_range(
     Ok(id)
 }
 
-/// States for the first ranges, so many, each of which leads to the one before it, and the first to the end.
+/// States for the first `many` ranges. Each leads to the state of the range before it, and the first to the
+/// end.
 fn share_ranges(
     builder: &mut Builder,
     suffixes: &mut Utf8SuffixMap,
@@ -116,7 +117,7 @@ fn share_ranges(
         (take many (map bytes_of ranges.now))) }
     ensures capacity { suffixes.new.capacity ≡ suffixes.old.capacity }
     ensures refused { IfErr result (λ e. Quits builder.old builder.new many e) }
-    ensures passed { IfErr result (λ e. Passes builder.old (24 * many) e) }
+    ensures passed { IfErr result (λ e. ExceedsLimit builder.old (24 * many) e) }
 {
     let mut next = end;
     for place in 0..many {
@@ -144,7 +145,7 @@ fn add_sequence_reverse(
         (ranges_of_sequence sequence.now)) }
     ensures capacity { suffixes.new.capacity ≡ suffixes.old.capacity }
     ensures refused { IfErr result (λ e. Quits builder.old builder.new 4 e) }
-    ensures passed { IfErr result (λ e. Passes builder.old (24 * length (ranges_of_sequence sequence.now) + 4) e) }
+    ensures passed { IfErr result (λ e. ExceedsLimit builder.old (24 * length (ranges_of_sequence sequence.now) + 4) e) }
 {
     let ranges = sequence.as_slice();
     let last = ranges.len() - 1;
@@ -171,7 +172,7 @@ fn add_sequences_reverse(
         (utf8_sequences first last)) }
     ensures capacity { suffixes.new.capacity ≡ suffixes.old.capacity }
     ensures refused { IfErr result (λ e. Quits builder.old builder.new (4 * length (utf8_sequences first last)) e) }
-    ensures passed { IfErr result (λ e. Passes builder.old (sequence_bytes (utf8_sequences first last)) e) }
+    ensures passed { IfErr result (λ e. ExceedsLimit builder.old (sequence_bytes (utf8_sequences first last)) e) }
 {
     for sequence in Utf8Sequences::new(first, last) {
         add_sequence_reverse(builder, suffixes, &sequence, choice, end)?;
@@ -179,8 +180,8 @@ fn add_sequences_reverse(
     Ok(())
 }
 
-/// A choice of the sequences of all ranges, which all lead to one common end, for a builder that reads in reverse.
-/// Sequences that begin alike share the states of their begin, as far as the map keeps them.
+/// A choice of the sequences of all ranges, which all lead to one common end, for a builder that reads in
+/// reverse. Sequences that begin alike share the states of their beginning, as far as the map keeps them.
 ///
 /// As `regex_automata::nfa::thompson::compiler::Compiler::c_unicode_class_reverse_with_suffix`.
 pub(crate) fn compile_scalars_reverse(
@@ -195,7 +196,7 @@ pub(crate) fn compile_scalars_reverse(
     ensures made { IfOk result (λ f. Makes builder.old builder.new f.start f.end (count (char_class ranges.now))) }
     ensures does { IfOk result (λ f. Does builder.old builder.new f.start f.end (char_class ranges.now)) }
     ensures weighs { IfOk result (λ _. Weighs builder.old builder.new (48 + sequence_bytes (sequences_of ranges.now))) }
-    ensures passed { IfErr result (λ e. Passes builder.old (48 + sequence_bytes (sequences_of ranges.now)) e) }
+    ensures passed { IfErr result (λ e. ExceedsLimit builder.old (48 + sequence_bytes (sequences_of ranges.now)) e) }
     ensures groups { IfOk result (λ _. builder.new.groups ≡ builder.old.groups) }
     ensures capacity { suffixes.new.capacity ≡ suffixes.old.capacity }
     ensures refused { IfErr result (λ e. Quits builder.old builder.new (count (char_class ranges.now)) e) }

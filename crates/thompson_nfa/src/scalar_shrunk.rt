@@ -7,7 +7,7 @@ ghost use Rattle.thompson_nfa.specs.ClassTries.{IsShortSequence};
 ghost use Rattle.thompson_nfa.specs.Compiled.{Makes, Weighs, Does};
 ghost use Rattle.thompson_nfa.specs.RangeTries.{IsTrie};
 ghost use Rattle.thompson_nfa.specs.RangeWalks.{paths_of};
-ghost use Rattle.thompson_nfa.specs.Refusals.{Quits, Passes};
+ghost use Rattle.thompson_nfa.specs.Refusals.{Quits, ExceedsLimit};
 ghost use Rattle.thompson_nfa.specs.ScalarCounts.{scalars_in};
 ghost use Rattle.thompson_nfa.specs.Shared.{read_tree};
 
@@ -33,7 +33,7 @@ fn compile_paths(
     ensures does { IfOk result (λ f. Does builder.old builder.new f.start f.end
         (alternation (map (read_tree builder.old.reverse) (paths_of paths.now)))) }
     ensures weighs { IfOk result (λ _. Weighs builder.old builder.new (48 + sequence_bytes (paths_of paths.now))) }
-    ensures passed { IfErr result (λ e. Passes builder.old (48 + sequence_bytes (paths_of paths.now)) e) }
+    ensures passed { IfErr result (λ e. ExceedsLimit builder.old (48 + sequence_bytes (paths_of paths.now)) e) }
     ensures groups { IfOk result (λ _. builder.new.groups ≡ builder.old.groups) }
     ensures refused { IfErr result (λ e. Quits builder.old builder.new (2 + 4 * length paths.now) e) }
 {
@@ -45,8 +45,8 @@ fn compile_paths(
     Ok(all)
 }
 
-/// The class by sequences that are turned round and brought into an order in which they share states at
-/// their ends too. The trie and the state may serve for one class after another.
+/// The class by sequences that are reversed, and brought into an order in which they share states at their
+/// ends too. The trie and the state may be used for one class after another.
 pub(crate) fn compile_scalars_shrunk(
     builder: &mut Builder,
     alloc: Global,
@@ -58,7 +58,7 @@ pub(crate) fn compile_scalars_shrunk(
     ensures made { IfOk result (λ f. Makes builder.old builder.new f.start f.end (2 + 4 * scalars_in ranges.now)) }
     ensures does { IfOk result (λ f. Does builder.old builder.new f.start f.end (char_class ranges.now)) }
     ensures weighs { IfOk result (λ _. Weighs builder.old builder.new (48 + 104 * scalars_in ranges.now)) }
-    ensures passed { IfErr result (λ e. Passes builder.old (48 + 104 * scalars_in ranges.now) e) }
+    ensures passed { IfErr result (λ e. ExceedsLimit builder.old (48 + 104 * scalars_in ranges.now) e) }
     ensures groups { IfOk result (λ _. builder.new.groups ≡ builder.old.groups) }
     ensures refused { IfErr result (λ e. Quits builder.old builder.new (2 + 4 * scalars_in ranges.now) e) }
 {

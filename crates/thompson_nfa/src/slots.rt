@@ -48,7 +48,7 @@ impl<K: Drop> Slots<K> {
         }
     }
 
-    /// Whether the places are there.
+    /// Whether the slots are allocated.
     pub(crate) fn is_ready(&self) -> bool
         ensures { result ≡ is_ready self.now }
     {
@@ -61,7 +61,7 @@ impl<K: Drop> Slots<K> {
         self.capacity
     }
 
-    /// Forgets all that is stored. The first call makes the places; after an error they are as before.
+    /// Forgets all that is stored. The first call allocates the slots; after an error the table is as before.
     pub(crate) fn clear(&mut self) -> Result<(), AllocError>
         ensures ok { OnOk result (self.new ≡ empty_table self.old.capacity) }
         ensures err { OnErr result (self.new ≡ self.old) }
@@ -78,7 +78,7 @@ impl<K: Drop> Slots<K> {
         Ok(())
     }
 
-    /// The slot of the place, if it holds something.
+    /// The slot at index `place`, if it holds something.
     pub(crate) fn at(&self, place: usize) -> Option<&Slot<K>>
         requires { place < length self.now.places }
         ensures { MatchOption result (held_at self.now place ≡ None) (λ s. held_at self.now place ≡ Some (s.now.key, s.now.id)) }
@@ -89,7 +89,7 @@ impl<K: Drop> Slots<K> {
         }
     }
 
-    /// Stores a key and a state in place of what the place held.
+    /// Stores a key and a state at index `place`, instead of what was held there.
     pub(crate) fn set(&mut self, place: usize, key: K, id: StateID)
         requires { place < length self.old.places }
         ensures { self.new ≡ with_held self.old place key id }

@@ -1,7 +1,7 @@
 //! The steps from trees to an automaton.
 ghost use Rattle.std.specs.Prelude.{◌≡◌, ◌≢◌, ◌⊎◌, ◌<◌, ◌≤◌, ◌+◌, ◌&&◌, true, false, length, IfOk, IfErr, MatchOption, MatchResult, ⊤};
 ghost use Rattle.search_core.specs.Index.{greatest_index};
-ghost use Rattle.nfa_core.specs.BuilderFaults.{Tells, build_fault};
+ghost use Rattle.nfa_core.specs.BuilderFaults.{ReportsFaultOf, build_fault};
 ghost use Rattle.nfa_core.specs.CanBuild.{CanBuild};
 ghost use Rattle.nfa_core.specs.NfaOf.{nfa_of};
 ghost use Rattle.nfa_core.specs.NfaValue.{memory_of};
@@ -12,8 +12,8 @@ ghost use Rattle.thompson_nfa.specs.ByteRoom.{at_least};
 ghost use Rattle.thompson_nfa.specs.Compilations.{IsCompiled, bytes_needed};
 ghost use Rattle.thompson_nfa.specs.Compiled.{sum_of_bytes};
 ghost use Rattle.thompson_nfa.specs.Configs.{reverse_of, captures_of, is_any};
-ghost use Rattle.thompson_nfa.specs.Patterns.{begun_with, told_under};
-ghost use Rattle.thompson_nfa.specs.RefusedTrees.{RefusesTrees};
+ghost use Rattle.thompson_nfa.specs.Patterns.{begun_with, error_under};
+ghost use Rattle.thompson_nfa.specs.RefusedTrees.{RejectsTrees};
 
 use crate::compiling::Shared;
 use crate::config::Config;
@@ -26,10 +26,10 @@ use std::alloc::Global;
 use std::marker::Brand;
 use std::sync::ledger::{Blank, Ledger};
 
-/// How many bytes as many states as can be numbered take at least.
+/// The least number of bytes that as many states as can be numbered take.
 const ALL_STATES: usize = 24 * StateID::LIMIT;
 
-/// Refuses more patterns than can be numbered.
+/// Rejects more patterns than can be numbered.
 fn check_patterns(len: usize) -> Result<(), BuildError>
     ensures { MatchResult result (λ _. len ≤ greatest_index + 1) (λ e. (e ≡ TooManyPatterns) × (greatest_index + 1 < len)) }
 {
@@ -39,7 +39,7 @@ fn check_patterns(len: usize) -> Result<(), BuildError>
     Ok(())
 }
 
-/// Refuses groups in an automaton that reads in reverse.
+/// Rejects groups in an automaton that reads in reverse.
 fn check_captures(config: &Config) -> Result<(), BuildError>
     ensures { MatchResult result (λ _. (reverse_of config.now && is_any (captures_of config.now)) ≡ false)
         (λ e. (e ≡ UnsupportedCaptures) × ((reverse_of config.now && is_any (captures_of config.now)) ≡ true)) }
@@ -50,7 +50,7 @@ fn check_captures(config: &Config) -> Result<(), BuildError>
     Ok(())
 }
 
-/// Takes all states and patterns away, whatever they are, and sets what the configuration says.
+/// Removes all states and patterns, whatever they are, and sets what the configuration says.
 fn start_over(builder: &mut Builder, config: &Config) -> Result<(), BuildError>
     ensures { MatchResult result (λ _. builder.new ≡ begun_with config.now) (λ e. e ≡ NoMemory) }
 {
@@ -62,9 +62,10 @@ fn start_over(builder: &mut Builder, config: &Config) -> Result<(), BuildError>
     Ok(())
 }
 
-/// Where the limit has no room for as many states as can be numbered, it is told before the want of numbers.
-fn told(limit: Option<usize>, err: BuildError) -> BuildError
-    ensures { result ≡ told_under limit err }
+/// Returns the error to report. If the limit has no room for as many states as can be numbered, too many
+/// states are reported as an exceeded limit.
+fn reported(limit: Option<usize>, err: BuildError) -> BuildError
+    ensures { result ≡ error_under limit err }
 {
     match (limit, err) {
         (Some(limit), BuildError::TooManyStates) if limit < ALL_STATES => {
@@ -85,7 +86,7 @@ fn build_counted<L: Ledger>(
     requires parts { blank.parts ≡ L.parts }
     requires some { 0 < blank.parts }
     ensures value { MatchResult result (λ n. n ≡ nfa_of builder.now starts.anchored starts.unanchored)
-        (λ e. (e ≡ NoMemory) ⊎ Tells e (build_fault builder.now)) }
+        (λ e. (e ≡ NoMemory) ⊎ ReportsFaultOf e (build_fault builder.now)) }
     ensures within { IfOk result (λ n. MatchOption builder.now.size_limit ⊤ (λ most. memory_of n.automaton.states ≤ most)) }
 {
     let mut steps = Steps::<L>::new(blank);
@@ -97,7 +98,7 @@ fn build_counted<L: Ledger>(
 fn build(builder: &Builder, starts: Starts) -> Result<NFA, BuildError>
     requires { CanBuild builder.now starts.anchored starts.unanchored }
     ensures value { MatchResult result (λ n. n ≡ nfa_of builder.now starts.anchored starts.unanchored)
-        (λ e. (e ≡ NoMemory) ⊎ Tells e (build_fault builder.now)) }
+        (λ e. (e ≡ NoMemory) ⊎ ReportsFaultOf e (build_fault builder.now)) }
     ensures within { IfOk result (λ n. MatchOption builder.now.size_limit ⊤ (λ most. memory_of n.automaton.states ≤ most)) }
 {
     build_counted::<Brand>(builder, starts, Blank::new(1))
@@ -114,7 +115,7 @@ fn finish(
     requires apart { past builder.now.drafts starts.anchored ≢ starts.unanchored }
     requires needed { bytes_needed at_least config.now exprs.now ≤ sum_of_bytes builder.now }
     ensures compiled { IfOk result (λ n. IsCompiled config.now exprs.now n) }
-    ensures refused { IfErr result (λ e. RefusesTrees config.now exprs.now e) }
+    ensures refused { IfErr result (λ e. RejectsTrees config.now exprs.now e) }
 {
     let _ = (config.get_utf8(), exprs.len(), builder.memory_usage());
     let nfa = build(builder, starts)?;
@@ -123,7 +124,7 @@ fn finish(
     Ok(nfa)
 }
 
-/// The automaton of these trees under the configuration. What the builder holds is taken away first.
+/// The automaton of these trees under the configuration. What the builder holds is removed first.
 pub(crate) fn compile_trees(
     builder: &mut Builder,
     alloc: Global,
@@ -132,14 +133,14 @@ pub(crate) fn compile_trees(
     exprs: &[Hir],
 ) -> Result<NFA, BuildError>
     ensures compiled { IfOk result (λ n. IsCompiled config.now exprs.now n) }
-    ensures refused { IfErr result (λ e. RefusesTrees config.now exprs.now e) }
+    ensures refused { IfErr result (λ e. RejectsTrees config.now exprs.now e) }
 {
     check_patterns(exprs.len())?;
     check_captures(config)?;
     start_over(builder, config)?;
     let starts = match compile_all(builder, alloc, shared, config, exprs) {
         Ok(starts) => starts,
-        Err(err) => return Err(told(config.get_nfa_size_limit(), err)),
+        Err(err) => return Err(reported(config.get_nfa_size_limit(), err)),
     };
     let nfa = finish(builder, config, exprs, starts)?;
     Ok(nfa)

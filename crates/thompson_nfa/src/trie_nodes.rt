@@ -102,7 +102,7 @@ impl Nodes {
         self.size = 0;
     }
 
-    /// What each node emits ascends.
+    /// The sequences that each node emits ascend.
     #[tactic(auto, using(crate::proofs::Tries::SequenceOrder::tries_of))]
     pub(crate) fn see_order(&self)
         ensures { (i : ℕ) → IsTrie (get_or self.now i []) }

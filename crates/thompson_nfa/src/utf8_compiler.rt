@@ -6,7 +6,7 @@ ghost use Rattle.nfa_core.specs.Transitions.{range_of};
 ghost use Rattle.nfa_core.specs.declared.build_error.BuildError.TheVariants.{NoMemory};
 ghost use Rattle.thompson_nfa.specs.Added.{AddsDraft};
 ghost use Rattle.thompson_nfa.specs.Compiled.{Makes, Weighs, Does, sum_of_bytes};
-ghost use Rattle.thompson_nfa.specs.Refusals.{Quits, Stays, Passes};
+ghost use Rattle.thompson_nfa.specs.Refusals.{Quits, Stays, ExceedsLimit};
 ghost use Rattle.thompson_nfa.specs.Shared.{read_tree};
 ghost use Rattle.thompson_nfa.specs.Utf8Compiles.{IsCompiling};
 ghost use Rattle.hir_core.specs.Tree.{alternation};
@@ -28,13 +28,13 @@ fn add_state(builder: &mut Builder, trans: Vec<Transition>) -> Result<StateID, B
     requires { RisesIn 0 (map range_of trans.items) }
     ensures added { IfOk result (λ id. AddsDraft builder.old builder.new id (sparse_draft (map range_of trans.items)) builder.old.groups) }
     ensures refused { IfErr result (λ e. Stays builder.old builder.new 1 2072 e) }
-    ensures passed { IfErr result (λ e. Passes builder.old (24 + 8 * length (map range_of trans.items)) e) }
+    ensures passed { IfErr result (λ e. ExceedsLimit builder.old (24 + 8 * length (map range_of trans.items)) e) }
 {
     let id = builder.add_sparse(trans)?;
     Ok(id)
 }
 
-/// A state with these transitions: one that was made before, where it is kept, or a new one.
+/// A state with these transitions: one that was made before, if it is kept, or a new one.
 fn compile(
     builder: &mut Builder,
     state: &mut Utf8State,
@@ -47,7 +47,7 @@ fn compile(
     ensures nodes { state.new.nodes.items ≡ state.old.nodes.items }
     ensures end { state.new.end ≡ state.old.end }
     ensures refused { IfErr result (λ e. Stays builder.old builder.new 1 2072 e) }
-    ensures passed { IfErr result (λ e. Passes builder.old (24 + 8 * length (map range_of trans.items)) e) }
+    ensures passed { IfErr result (λ e. ExceedsLimit builder.old (24 + 8 * length (map range_of trans.items)) e) }
 {
     let hash = state.compiled.hash(&trans);
     if let Some(id) = state.compiled.get(&trans, hash) {
@@ -74,7 +74,7 @@ fn compile_top(
     ensures keeps { IfOk result (λ _. Keeps builder.new state.old.end state.new.compiled) }
     ensures end { state.new.end ≡ state.old.end }
     ensures refused { IfErr result (λ e. Stays builder.old builder.new 1 2072 e) }
-    ensures passed { IfErr result (λ e. Passes builder.old (open_bytes state.old.nodes.items) e) }
+    ensures passed { IfErr result (λ e. ExceedsLimit builder.old (open_bytes state.old.nodes.items) e) }
 {
     let Some(node) = state.nodes.pop() else {
         // Not reached: there is a node.
@@ -85,7 +85,8 @@ fn compile_top(
     Ok(id)
 }
 
-/// Makes the states of the path's nodes down to the place, and gives what the last range below leads to.
+/// Makes the states of the path's nodes from the top down to index `from`, and returns the state to which the
+/// last range of the node below leads.
 fn compile_from(
     builder: &mut Builder,
     state: &mut Utf8State,
@@ -100,7 +101,7 @@ fn compile_from(
     ensures keeps { IfOk result (λ _. Keeps builder.new state.old.end state.new.compiled) }
     ensures end { state.new.end ≡ state.old.end }
     ensures refused { IfErr result (λ e. PopsUntil state.old.end builder.old builder.new state.old.nodes.items e) }
-    ensures passed { IfErr result (λ e. Passes builder.old (open_bytes state.old.nodes.items) e) }
+    ensures passed { IfErr result (λ e. ExceedsLimit builder.old (open_bytes state.old.nodes.items) e) }
 {
     let mut next = state.end;
     for _count in from..state.nodes.len() {
@@ -109,8 +110,8 @@ fn compile_from(
     Ok(next)
 }
 
-/// Lets the node at the place lead on by its last range, once the states above it are made, and puts the new
-/// range behind that.
+/// Makes the states of the nodes above index `from`. Then lets the last range of the node at that index lead
+/// on, and adds the new range after it.
 #[tactic(auto, using(crate::proofs::Classes::StackLemmas::turned, crate::proofs::Classes::StackLemmas::one_shorter))]
 fn turn(
     builder: &mut Builder,
@@ -126,11 +127,11 @@ fn turn(
     ensures keeps { IfOk result (λ _. Keeps builder.new state.old.end state.new.compiled) }
     ensures end { state.new.end ≡ state.old.end }
     ensures refused { IfErr result (λ e. PopsUntil state.old.end builder.old builder.new state.old.nodes.items e) }
-    ensures passed { IfErr result (λ e. Passes builder.old (open_bytes state.old.nodes.items) e) }
+    ensures passed { IfErr result (λ e. ExceedsLimit builder.old (open_bytes state.old.nodes.items) e) }
 {
     let next = compile_from(builder, state, from + 1)?;
     let Some(mut node) = state.nodes.pop() else {
-        // Not reached: the node at the place is left.
+        // Not reached: the node at index `from` is left.
         return Ok(());
     };
     node.advance(next, range)?;
@@ -138,7 +139,7 @@ fn turn(
     Ok(())
 }
 
-/// Puts a node for each of the ranges from the place on above the path.
+/// Adds a node on top of the path for each of the ranges from index `from` on.
 fn push_nodes(
     alloc: Global,
     state: &mut Utf8State,
@@ -156,7 +157,7 @@ fn push_nodes(
     Ok(())
 }
 
-/// The first place at which the ranges aren't those of the path.
+/// The first index at which the ranges aren't those of the path.
 fn first_difference(state: &Utf8State, ranges: &[Utf8Range]) -> usize
     requires some { 0 < length state.now.nodes.items }
     requires rising { StagesRise state.now.nodes.items }
@@ -182,7 +183,7 @@ pub(crate) fn begin(builder: &mut Builder, state: &mut Utf8State) -> Result<(), 
     ensures begun { IfOk result (λ _. IsCompiling builder.old builder.new state.new.end state.new.compiled state.new.nodes.items []) }
     ensures weighs { IfOk result (λ _. sum_of_bytes builder.new + left_bytes state.new.nodes.items ≤ sum_of_bytes builder.old + 48) }
     ensures refused { IfErr result (λ e. Quits builder.old builder.new 1 e) }
-    ensures passed { IfErr result (λ e. Passes builder.old 24 e) }
+    ensures passed { IfErr result (λ e. ExceedsLimit builder.old 24 e) }
 {
     state.compiled.clear()?;
     state.nodes.clear();
@@ -191,8 +192,8 @@ pub(crate) fn begin(builder: &mut Builder, state: &mut Utf8State) -> Result<(), 
     Ok(())
 }
 
-/// Adds a sequence behind those that were added: where it first differs from the last one, its range lies
-/// above the last one's.
+/// Adds a sequence after those that were added. At the first range in which it differs from the last one, its
+/// range lies above the last one's.
 ///
 /// As `regex_automata::nfa::thompson::compiler::Utf8Compiler::add`.
 pub(crate) fn add(
@@ -215,7 +216,7 @@ pub(crate) fn add(
     ensures refused { IfErr result (λ e. (old : Assembly) (qs : List (List (ℕ × ℕ))) →
         IsCompiling old builder.old state.old.end state.old.compiled state.old.nodes.items qs →
         Quits old builder.new (2 + 4 * length qs) e) }
-    ensures passed { IfErr result (λ e. Passes builder.old (left_bytes state.old.nodes.items) e) }
+    ensures passed { IfErr result (λ e. ExceedsLimit builder.old (left_bytes state.old.nodes.items) e) }
 {
     if state.nodes.is_empty() {
         push_nodes(alloc, state, ranges, 0)?;
@@ -227,7 +228,7 @@ pub(crate) fn add(
     Ok(())
 }
 
-/// Makes the states that aren't made yet, and gives the fragment of all sequences.
+/// Makes the states that aren't made yet, and returns the fragment of all sequences.
 ///
 /// As `regex_automata::nfa::thompson::compiler::Utf8Compiler::finish`.
 pub(crate) fn finish(
@@ -245,7 +246,7 @@ pub(crate) fn finish(
     ensures refused { IfErr result (λ e. (old : Assembly) (qs : List (List (ℕ × ℕ))) →
         IsCompiling old builder.old state.old.end state.old.compiled state.old.nodes.items qs →
         Quits old builder.new (2 + 4 * length qs) e) }
-    ensures passed { IfErr result (λ e. Passes builder.old (left_bytes state.old.nodes.items) e) }
+    ensures passed { IfErr result (λ e. ExceedsLimit builder.old (left_bytes state.old.nodes.items) e) }
 {
     let end = state.end;
     if state.nodes.is_empty() {

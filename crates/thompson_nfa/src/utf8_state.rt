@@ -15,8 +15,8 @@ use std::marker::Model;
 /// How many states are kept to be used again.
 const CAPACITY: usize = 10_000;
 
-/// A state on the path of the last sequence, which isn't made yet: ranges that lead to states, and the last
-/// one, of which that isn't known.
+/// A state on the path of the last sequence that isn't made yet. It has ranges that lead to states, and a
+/// last range whose state isn't known.
 ///
 /// As `regex_automata::nfa::thompson::compiler::Utf8Node`.
 #[derive(Drop)]
@@ -54,7 +54,7 @@ impl Utf8Node {
         self.last.start == range.start && self.last.end == range.end
     }
 
-    /// Lets the last range lead to the state, and puts another behind it.
+    /// Lets the last range lead to the state, and puts another after it.
     pub(crate) fn advance(&mut self, next: StateID, range: Utf8Range) -> Result<(), AllocError>
         ensures { OnOk result (self.new ≡ advanced next (bytes_of range) self.old) }
     {
@@ -67,7 +67,7 @@ impl Utf8Node {
         Ok(())
     }
 
-    /// All ranges, where the last one leads to the state.
+    /// All ranges, with the last one leading to the state.
     pub(crate) fn freeze(self, next: StateID) -> Result<Vec<Transition>, AllocError>
         ensures { IfOk result (λ v. map range_of v.items ≡ frozen_with next self) }
     {
@@ -81,8 +81,8 @@ impl Utf8Node {
     }
 }
 
-/// The nodes on the path of the last sequence, the states that were made for nodes, and the state that all
-/// sequences lead to. It may serve for one class after another.
+/// The nodes on the path of the last sequence, the states that were made for nodes, and the state to which
+/// all sequences lead. It may be used for one class after another.
 ///
 /// As `regex_automata::nfa::thompson::compiler::Utf8State`.
 #[derive(Drop)]

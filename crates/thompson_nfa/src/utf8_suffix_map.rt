@@ -1,7 +1,7 @@
 ghost use Rattle.std.specs.Prelude.{◌≡◌, ◌<◌, OnOk, OnErr, IsOk, IsTrue};
 ghost use Rattle.thompson_nfa.specs.SlotTables.{is_ready, unready_table, empty_table, with_held, IsStored};
 
-use crate::fnv::{START, mixed, place_of};
+use crate::fnv::{START, mixed, offset_of};
 use crate::slots::Slots;
 use search_core::StateID;
 use std::alloc::{AllocError, Global};
@@ -17,8 +17,8 @@ pub struct Utf8SuffixKey {
     pub end: u8,
 }
 
-/// The states that were made for ranges, as far as a table of bounded size keeps them: a place keeps what was
-/// stored there last. A contract sees what the places hold.
+/// The states that were made for ranges, as far as a table of bounded size keeps them: a slot keeps what was
+/// stored in it last. A contract sees what the slots hold.
 ///
 /// As `regex_automata::nfa::thompson::map::Utf8SuffixMap`.
 #[derive(Drop)]
@@ -36,7 +36,7 @@ impl Model for Utf8SuffixMap {
 }
 
 impl Utf8SuffixMap {
-    /// A map with so many places, which [`Utf8SuffixMap::clear`] makes.
+    /// A map with `capacity` slots, which [`Utf8SuffixMap::clear`] allocates.
     pub fn new(alloc: Global, capacity: usize) -> Utf8SuffixMap
         ensures { result ≡ unready_table capacity }
     {
@@ -45,15 +45,15 @@ impl Utf8SuffixMap {
         }
     }
 
-    /// Whether the places are made.
+    /// Whether the slots are allocated.
     pub fn is_ready(&self) -> bool
         ensures { result ≡ is_ready self.now }
     {
         self.slots.is_ready()
     }
 
-    /// Forgets all states. The first call makes the places, and is refused where there is no memory for
-    /// them; the map is then as before.
+    /// Forgets all states. The first call allocates the slots, and fails if there is no memory for them. Then
+    /// the map is as before.
     pub fn clear(&mut self) -> Result<(), AllocError>
         ensures ok { OnOk result (self.new ≡ empty_table self.old.capacity) }
         ensures err { OnErr result (self.new ≡ self.old) }
@@ -62,7 +62,7 @@ impl Utf8SuffixMap {
         self.slots.clear()
     }
 
-    /// The place of the key. A map without places has none.
+    /// The index of the key's slot. A map without slots has none.
     pub fn hash(&self, key: &Utf8SuffixKey) -> usize
         requires { 0 < self.now.capacity }
         ensures { result < self.now.capacity }
@@ -70,10 +70,10 @@ impl Utf8SuffixMap {
         let mut hash = mixed(START, key.from.as_u64());
         hash = mixed(hash, u64::from(key.start));
         hash = mixed(hash, u64::from(key.end));
-        place_of(hash, self.slots.capacity())
+        offset_of(hash, self.slots.capacity())
     }
 
-    /// The state that is kept for the key at the place.
+    /// The state that is kept for the key in the slot at `hash`.
     pub fn get(&self, key: &Utf8SuffixKey, hash: usize) -> Option<StateID>
         requires ready { IsTrue (is_ready self.now) }
         requires below { hash < self.now.capacity }
@@ -85,7 +85,7 @@ impl Utf8SuffixMap {
         }
     }
 
-    /// Keeps a state for the key at the place, and nothing else there.
+    /// Keeps a state for the key in the slot at `hash`, and nothing else there.
     pub fn set(&mut self, key: Utf8SuffixKey, hash: usize, id: StateID)
         requires ready { IsTrue (is_ready self.old) }
         requires below { hash < self.old.capacity }

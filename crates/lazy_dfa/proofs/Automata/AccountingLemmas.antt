@@ -1,4 +1,4 @@
--- How many bytes caches are taken to need.
+-- How many bytes caches are counted to need.
 use Rattle.std.proofs.Common.{◌≡◌, ℕ, zero, suc, ◌+◌, ◌*◌, ◌^◌, ◌<◌, ◌≤◌, Bool, true, false, List, [], ◌∷◌, ◌++◌, length, sym}
 use Rattle.std.proofs.Common.{ap, ◌∙◌, ⊎_elim, arith, if◌then◌else◌}
 use Rattle.std.proofs.lemmas.Bool.{cases_lt}
@@ -41,12 +41,12 @@ module _ (k n : ℕ) (least : IsLeastExponent k n) where
       at : (j : ℕ) → j ≤ k → k ≤ j + 0 → j ≡ k
       at j up to = omega (arith, up, to)
   power_is (suc more) j s is up to = ⊎_elim
-      (λ told. let big = told.1 in
-      ap (λ (b : Bool). if b then s else power_from more (2 * s) n) told.0
+      (λ reported. let big = reported.1 in
+      ap (λ (b : Bool). if b then s else power_from more (2 * s) n) reported.0
       ∙ is ∙ ap (λ (i : ℕ). 2 ^ i) (too_small j up (omega (arith, big, is))))
-      (λ told. let small = told.1 in
+      (λ reported. let small = reported.1 in
       let less : j < k = too_big j up (omega (arith, small, is)) in
-      ap (λ (b : Bool). if b then s else power_from more (2 * s) n) told.0
+      ap (λ (b : Bool). if b then s else power_from more (2 * s) n) reported.0
       ∙ power_is more (suc j) (2 * s) (ap (λ (x : ℕ). 2 * x) is ∙ twice j) (omega (arith, less)) (omega (arith, to)))
       (leb_tells n s)
 

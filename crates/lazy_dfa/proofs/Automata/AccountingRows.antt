@@ -1,4 +1,4 @@
--- What caches of small automata are taken to need, worked out by hand.
+-- How many bytes the caches of small automata are counted to need, calculated by hand.
 use Rattle.std.proofs.Common.{◌≡◌, ℕ, true, false, List, [], ◌∷◌, ◌++◌, replicate, Some, None, refl}
 use Rattle.search_types.specs.declared.match_kind.MatchKind.TheVariants.{LeftmostFirst}
 use Rattle.look_core.specs.Terminators.{one_of}
@@ -11,11 +11,11 @@ use Rattle.determinize_core.specs.Starts.{start_of}
 use Rattle.determinize_core.specs.Steps.{start_value, step_value}
 use Rattle.lazy_dfa.specs.Accounting.{Measures, measures_of, fresh_usage, least_capacity, effective_capacity, measured_usage}
 
--- no byte is told apart from another
+-- all bytes are in one class
 abbrev one_class : List ℕ
 one_class = replicate 256 0
 
--- no pattern at all: 20 + 18 + 56 + 72 + 47, and twice 62 more
+-- no pattern at all: 20 + 18 + 56 + 72 + 47, plus twice 62
 abbrev never : Measures
 never = measures_of never_matching.automaton one_class false
 
@@ -25,7 +25,7 @@ never_fresh = refl
 never_least : least_capacity never ≡ 337
 never_least = refl
 
--- the pattern that matches everywhere: 60 + 32 + 56 + 72 + 47, and twice 76 more
+-- the pattern that matches everywhere: 60 + 32 + 56 + 72 + 47, plus twice 76
 abbrev always : Measures
 always = measures_of always_matching.automaton one_class false
 
@@ -45,11 +45,11 @@ letter = record {
   reverse = false;
 }
 
--- the bytes below it, itself, and those above it
+-- the bytes below "a", "a" itself, and the bytes above it
 abbrev letter_classes : List ℕ
 letter_classes = replicate 97 0 ++ 1 ∷ replicate 158 2
 
--- 80 + 37 + 56 + 96 + 47, and twice 89 more
+-- 80 + 37 + 56 + 96 + 47, plus twice 89
 abbrev measures : Measures
 measures = measures_of letter letter_classes false
 
@@ -59,7 +59,7 @@ letter_fresh = refl
 letter_least : least_capacity measures ≡ 494
 letter_least = refl
 
--- where a search may name its pattern there are seven starts more
+-- if a search may name its pattern, there are seven more starts
 letter_least_with_named_patterns : least_capacity (measures_of letter letter_classes true) ≡ 522
 letter_least_with_named_patterns = refl
 
@@ -69,7 +69,7 @@ capacity_is_raised = refl
 capacity_is_kept : effective_capacity measures true 600 ≡ 600
 capacity_is_kept = refl
 
--- the states of a search for it over "ab"
+-- the states of a search for "a" over "ab"
 abbrev started : StateValue
 started = start_value letter (one_of 10) (start_of (one_of 10) None) 0
 

@@ -1,4 +1,4 @@
--- That what is built of a sound NFA keeps to IsDfa.
+-- What is built from a sound NFA satisfies `IsDfa`.
 use Rattle.std.proofs.Common.{◌≡◌, ℕ, zero, suc, ◌+◌, ◌-◌, ◌<◌, ◌≤◌, Bool, true, false, ◌&&◌, not, ◌⊎◌, nat_lt, max, List, length, get_or}
 use Rattle.std.proofs.Common.{map, take, Option, Some, None, if◌then◌else◌, replicate, inl, inr, refl, sym, ap, ◌∙◌, subst, ⊎_elim}
 use Rattle.std.proofs.Common.{arith}
@@ -15,7 +15,7 @@ use Rattle.search_core.proofs.ForCallers.{length-recorded, own_marks, marks_stay
 use Rattle.look_core.specs.Terminators.{Terminator}
 use Rattle.nfa_core.specs.Alike.{marks_of}
 use Rattle.nfa_core.specs.Nfa.{Node}
-use Rattle.nfa_core.specs.NfaValue.{Nfa, IsSound, told_apart_by}
+use Rattle.nfa_core.specs.NfaValue.{Nfa, IsSound, ranges_apart_by}
 use Rattle.nfa_core.proofs.ForCallers.{bytes_alike, all_unmarked}
 use Rattle.determinize_core.specs.Steps.{step_value}
 use Rattle.determinize_core.proofs.ForCallers.{units_step_alike}
@@ -48,7 +48,7 @@ marks_few m b = let short = count_by-le-length (λ (x : Bool). x) (take b m) in 
 
 length-marks_of : (t : Terminator) (nodes : List Node) → length (marks_of t nodes) ≡ 256
 unfolding marks_of
-length-marks_of t nodes = length-recorded (replicate 256 false) (flat_map (told_apart_by t) nodes) ∙ length-replicate 256 false
+length-marks_of t nodes = length-recorded (replicate 256 false) (flat_map (ranges_apart_by t) nodes) ∙ length-replicate 256 false
 
 same_set : (zeros set : List Bool) (rs : List (ℕ × ℕ)) (b c : ℕ) → IsUnmarked zeros → length zeros ≡ 256 → b < 256 → c < 256 →
     marks_below (recorded (recorded zeros rs) (ranges_from set 0)) b ≡ marks_below (recorded (recorded zeros rs) (ranges_from set 0)) c →
@@ -63,7 +63,8 @@ same_quits : (t : Terminator) (nodes : List Node) (set : List Bool) (b c : ℕ) 
     has set b ≡ has set c
 unfolding marks_of
 same_quits t nodes set b c small little e =
-    same_set (replicate 256 false) set (flat_map (told_apart_by t) nodes) b c (all_unmarked 256) (length-replicate 256 false) small little e
+    same_set (replicate 256 false) set (flat_map (ranges_apart_by t) nodes) b c (all_unmarked 256) (length-replicate 256 false) small
+    little e
 
 -- ---- the classes of what is built
 
@@ -129,7 +130,7 @@ module _ (n : Nfa) (o : DfaOptions) where
   alike_bytes b c sound small little (inr e) =
       (ap (has (quits_of n o)) e, λ s stepped. ap (λ (x : ℕ). step_value n.automaton n.terminator (kind_of o) s (Some x)) e)
 
-  -- so marks tell bytes of one class, which have all marks of the automaton
+  -- bytes of one class have the same marks, among which are all marks of the automaton
   pub classes_by_marks : (m : List Bool) × HasMarks m (marks_of n.terminator n.automaton.states) × ((b c : ℕ) → b < 256 → c < 256 →
       class_of (classes_of n o) (Some b) ≡ class_of (classes_of n o) (Some c) → marks_below m b ≡ marks_below m c)
   classes_by_marks = (
@@ -152,7 +153,7 @@ module _ (n : Nfa) (o : DfaOptions) where
   alike sound (Some b) (Some c) l k e =
       alike_bytes b c sound l k (one_class (classes_on o) marks b c (sym (class_there n o b l) ∙ (e ∙ class_there n o c k)))
 
--- ---- capacities, and what is refused
+-- ---- capacities, and what is rejected
 
 room_for : (skips : Bool) (least given : ℕ) → (not skips && nat_lt given least) ≡ false → least ≤ (if skips then max least given else given)
 room_for true least given e = le-max_left least given
@@ -175,7 +176,7 @@ is_dfa n o sound fine large = record {
   enough = room_for (skips_check o) (least_capacity (measures_with n o)) (capacity_of o) large;
 }
 
--- ---- what is built, by its parts
+-- ---- what is built, part by part
 
 abbrev pub made_dfa : Nfa → DfaOptions → List ℕ → List Bool → Measures → ℕ → Dfa
 made_dfa n o cs qs m cap = record { nfa = n; options = o; classes = cs; quits = qs; measures = m; capacity = cap }
@@ -208,7 +209,7 @@ pub made_is_dfa : (n : Nfa) (o : DfaOptions) (cs : List ℕ) (qs : List Bool) (m
     IsDfa (made_dfa n o cs qs m cap)
 made_is_dfa n o cs qs m cap e sound fine large = subst IsDfa (sym e) (is_dfa n o sound fine large)
 
--- what the test of the code says of the capacity
+-- what the test in the code says about the capacity
 pub too_small_is : (n : Nfa) (o : DfaOptions) (skips : Bool) (given least : ℕ) (t : Bool) → skips ≡ skips_check o → given ≡ capacity_of o →
     least ≡ least_capacity (measures_with n o) → t ≡ (not skips && nat_lt given least) → t ≡ is_too_small n o
 too_small_is n o skips given least t p q r e = e ∙ (λ i. not (p i) && nat_lt (q i) (r i))

@@ -1,4 +1,4 @@
--- The automata of no pattern and of one that matches everywhere can be built with no option set.
+-- If no option is set, the automaton of no pattern and the one of a pattern that matches everywhere can be built.
 use Rattle.std.proofs.Common.{◌≡◌, Bool, true, false, ◌&&◌, not, Result, Ok, refl, sym, ap, subst}
 use Rattle.std.specs.Prelude.{MatchResult}
 use Rattle.nfa_core.specs.NfaValue.{Nfa}

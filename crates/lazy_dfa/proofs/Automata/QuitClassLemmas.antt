@@ -1,4 +1,4 @@
--- Bytes of one class of the marks of an automaton and of a set's ranges are both in the set or neither is.
+-- Take the marks of an automaton and of the ranges of a set. If two bytes are in one class of them, both are in the set or neither is.
 use Rattle.std.proofs.Common.{◌≡◌, ℕ, zero, suc, ◌+◌, ◌-◌, ◌<◌, ◌≤◌, Bool, true, false, ◌&&◌, not, nat_lt, List, [], ◌∷◌, ◌++◌, length}
 use Rattle.std.proofs.Common.{get_or, drop, map, cond, refl, sym, ap, ◌∙◌, subst, ⊎_elim, arith}
 use Rattle.std.proofs.lemmas.Bool.{cases_Bool, cases_lt, and_parts}
@@ -29,7 +29,7 @@ starts_next set k b is e f =
 starts_has : (set : List Bool) (s : ℕ) → starts_range set s ≡ true → has set s ≡ true
 starts_has set s e = (and_parts (has set s) (not (nat_lt 0 s && has set (s - 1))) e).0
 
--- where the range of a byte of the set starts
+-- where the range that contains a byte of the set starts
 start_below : (set : List Bool) (b : ℕ) → has set b ≡ true →
     (s : ℕ) × (s ≤ b) × (starts_range set s ≡ true) × ((c : ℕ) → s ≤ c → c ≤ b → has set c ≡ true)
 start_below set zero e = (0, omega arith, starts_first set e, λ c l k. let is : c ≡ 0 = omega (arith, k) in ap (has set) is ∙ e)
@@ -77,7 +77,7 @@ in_range set s c starts low high = ⊎_elim
     (λ (up : c ≤ s). let is : c ≡ s = omega (arith, up, low) in ap (has set) is ∙ starts_has set s starts)
     (cases_lt s c)
 
--- ---- what holds of each range
+-- ---- what holds for each range
 
 kept_here : (P : ℕ × ℕ → Type 0) (f : ℕ → ℕ × ℕ) (x : ℕ) (later : List ℕ) (t : Bool) → t ≡ true → All P (map f (cond t (x ∷ later) later)) →
     P (f x)
@@ -142,7 +142,7 @@ all_behind : (P : ℕ × ℕ → Type 0) (rs qs : List (ℕ × ℕ)) → All P (
 all_behind P [] qs all = all
 all_behind P (r ∷ rs) qs all = all_behind P rs qs (All-tail P r (rs ++ qs) all)
 
--- where marks of other ranges are there already
+-- the marks of other ranges may be set already
 pub same_class_same_set : (set m : List Bool) (rs : List (ℕ × ℕ)) (b c : ℕ) → IsUnmarked m → length m ≡ 256 → b ≤ c → c < 256 →
     marks_below (recorded (recorded m rs) (ranges_from set 0)) b ≡ marks_below (recorded (recorded m rs) (ranges_from set 0)) c →
     has set b ≡ has set c

@@ -21,7 +21,7 @@ by_elements f a (suc n) (x ∷ xs) e g =
     g (suc k) (omega (arith, l)) ∙ ap f there) in
     ap (λ (y : Bool). y ∷ xs) head ∙ ap (λ (ys : List Bool). f a ∷ ys) rest
 
--- whether the byte is to be in the set
+-- whether the byte should be in the set
 abbrev pub is_wanted : List Bool → ℕ → Bool
 is_wanted set b = has set b || nat_le 0x80 b
 
@@ -32,10 +32,10 @@ pub wanted_high : (set : List Bool) (b : ℕ) → 0x80 ≤ b → is_wanted set b
 wanted_high set b l = or_right (has set b) (nat_le 0x80 b) (le-leb 0x80 b l)
 
 pub unwanted : (set : List Bool) (b : ℕ) → has set b ≡ false → b < 0x80 → is_wanted set b ≡ false
-unwanted set b e l = ap (λ (x : Bool). x || nat_le 0x80 b) e ∙ ⊎_elim (λ told. let up = told.1 in
-    absurd (omega (arith, l, up))) (λ told. told.0) (leb_tells 0x80 b)
+unwanted set b e l = ap (λ (x : Bool). x || nat_le 0x80 b) e ∙ ⊎_elim (λ reported. let up = reported.1 in
+    absurd (omega (arith, l, up))) (λ reported. reported.0) (leb_tells 0x80 b)
 
--- so many bytes are settled, and the others aren't in the set
+-- the first n bytes are settled, and the others aren't in the set
 pub record IsSettled (set : List Bool) (made : List Bool) (n : ℕ) : Type 0 where
   pub len : length made ≡ 256
   pub done : (k : ℕ) → k < n → has made k ≡ is_wanted set k

@@ -1,4 +1,4 @@
--- Which bytes are quit bytes. All is stated of ranges of any length, since a list of 256 would be unfolded.
+-- Which bytes are quit bytes. All of it is stated for ranges of any length, since a list of 256 items would be unfolded.
 use Rattle.std.proofs.Common.{◌≡◌, ℕ, zero, suc, ◌+◌, ◌<◌, ◌≤◌, Bool, true, false, ◌&&◌, ◌||◌, not, List, map, length, get_or, refl, sym}
 use Rattle.std.proofs.Common.{ap, ◌∙◌, ⊎_elim, arith, if◌then◌else◌}
 use Rattle.std.proofs.lemmas.Bool.{cases_Bool, cases_lt, and_parts, le-leb, and_from, or_left, or_right, not-true}
@@ -36,7 +36,7 @@ or_false true y e = refl
 or_false false y e = e
 
 above : (b : ℕ) → b < 0x80 → nat_le 0x80 b ≡ false
-above b l = ⊎_elim (λ told. let up = told.1 in absurd (omega (arith, l, up))) (λ told. told.0) (leb_tells 0x80 b)
+above b l = ⊎_elim (λ reported. let up = reported.1 in absurd (omega (arith, l, up))) (λ reported. reported.0) (leb_tells 0x80 b)
 
 module _ (set : List Bool) where
   abbrev is_in : ℕ → Bool
@@ -106,7 +106,7 @@ quits_of_high a set b unicode from to = quits_of_wide a true set b (and_from (ha
 pub quits_off : (a : Automaton) (set : List Bool) → quit_bytes a false set ≡ set
 quits_off a set = quits_plain a false set (and_off (has_unicode_word a))
 
--- ---- refusals
+-- ---- errors
 
 pub some_high_is_missing : (a : Automaton) (boundaries : Bool) (set : List Bool) → is_unsupported a boundaries set ≡ true →
     (has_unicode_word a ≡ true) × (boundaries ≡ false) × ((b : ℕ) × (0x80 ≤ b) × (b < 256) × (has set b ≡ false))
@@ -140,7 +140,7 @@ missing_high_is_refused a set b unicode from to e =
     and_from (has_unicode_word a && true) (not (has_high_bytes set)) (and_from (has_unicode_word a) true unicode refl)
     (ap not (not_high set b from to e))
 
--- where an automaton isn't refused, each high byte is a quit byte one way or the other
+-- if an automaton isn't rejected, each high byte is a quit byte, either by the option for word boundaries or by the given set
 pub supported_quits : (a : Automaton) (boundaries : Bool) (set : List Bool) (b : ℕ) → is_unsupported a boundaries set ≡ false →
     has_unicode_word a ≡ true →
     0x80 ≤ b → b < 256 → has (quit_bytes a boundaries set) b ≡ true

@@ -11,7 +11,7 @@ use Rattle.lazy_dfa.specs.Dfas.{Dfa, IsStateOf, after, is_dead, start_in, first_
 use Rattle.lazy_dfa.specs.Ids.{tag}
 use Rattle.lazy_dfa.specs.Caches.{CacheValue, IsShaped, Fits, fits, row_holding, state_at, id_at, with_state, usage}
 use Rattle.lazy_dfa.specs.Readers.{is_quit}
-use Rattle.lazy_dfa.specs.StartCalls.{mode_of, start_refusal, StartAdds}
+use Rattle.lazy_dfa.specs.StartCalls.{mode_of, rejected_start, StartAdds}
 use Rattle.lazy_dfa.specs.Steps.{Added, Grew, HasStatesOf, ClearsFor, ComesTo, StepAdds}
 use Rattle.lazy_dfa.proofs.CacheChanges.ChangeLemmas.{added_none, added_one}
 use Rattle.lazy_dfa.proofs.CacheChanges.IsCacheLemmas.{same_row}
@@ -33,12 +33,12 @@ fits_true d s v f = both_true (nat_le (usage v + cost v.stride s) d.capacity) (n
     (le_true (usage v + cost v.stride s) d.capacity f.0) (le_true (length v.cells + v.stride) tag f.1)
 
 module _ (d : Dfa) (b : Bool) (from : Option ℕ) (s : StateValue) (v mid new : CacheValue) (shape : IsShaped v) where
-  -- a state that isn't the dead one nor held, for which room was made or is there, and then nothing was added
+  -- the state isn't the dead one and isn't held, and it has room or room was made; nothing was added after that
   pub comes_alone : (mid ≡ v) ⊎ ClearsFor d from s v mid → new ≡ mid → ComesTo (Added v new) d b from s v new
   comes_alone (inl f) e = inl (added_none v new shape (e ∙ f), inl (same_states v new (e ∙ f)))
   comes_alone (inr x) e = inr (record { middle = mid; clears = x; states = inl (same_states mid new e) })
 
-  -- or the state was
+  -- the state was added
   pub comes_with : (mid ≡ v) ⊎ ClearsFor d from s v mid → IsStateOf d s → is_dead s ≡ false → row_holding s v.states ≡ None →
       Fits d.capacity s mid →
       new ≡ with_state b s mid → ComesTo (Added v new) d b from s v new
@@ -54,7 +54,7 @@ module _ (d : Dfa) (b : Bool) (from : Option ℕ) (s : StateValue) (v mid new : 
   )
   comes_with (inr x) is alive fresh fit e = inr (record { middle = mid; clears = x; states = inr (same_states (with_state b s mid) new e) })
 
--- the same with a write behind it that leaves the states
+-- what a state came to still holds after a write that leaves the states
 module _ (d : Dfa) (b : Bool) (from : Option ℕ) (s : StateValue) (v mid new : CacheValue) (same : HasStatesOf new mid) (K L : Type 0)
     (keeps : K → L) where
   pub comes_written : ComesTo K d b from s v mid → ComesTo L d b from s v new
@@ -91,12 +91,12 @@ step_adds d v was new id k u s shape same_cache inside row value no_quit comes j
           (subst (λ (w : CacheValue). ComesTo (Grew d v new) d false (Some k) s w new) same_cache comes)),
     )
 
--- one that makes nothing
+-- a step that makes nothing
 pub step_adds_none : (d : Dfa) (v new : CacheValue) (id : ℕ) (u : Option ℕ) → Grew d v new → HasStatesOf new v → StepAdds d v new id u
 step_adds_none d v new id u grew same k l e = inl (grew, same)
 
 -- a start, by the state that it comes to
-pub start_adds : (d : Dfa) (c : StartValue) (n q : ℕ) (s : Start) (v new : CacheValue) → start_refusal d c ≡ None →
+pub start_adds : (d : Dfa) (c : StartValue) (n q : ℕ) (s : Start) (v new : CacheValue) → rejected_start d c ≡ None →
     Some q ≡ start_in d (mode_of c.anchored) →
     s ≡ start_of d.nfa.terminator c.look_behind →
     (Grew d v new × HasStatesOf new v) ⊎ ComesTo (Grew d v new) d (specializes d.options) None (first_state d s q) v new →
@@ -111,7 +111,7 @@ start_adds d c n q s v new none named is (inr x) = inr (
   ),
 )
 
--- a start with its write behind it
+-- a start and the write after it
 pub start_comes : (d : Dfa) (v was mid new : CacheValue) (s t : StateValue) → was ≡ v → s ≡ t → HasStatesOf new mid →
     (Added v mid → Grew d v new) →
     ComesTo (Added was mid) d (specializes d.options) None s was mid → ComesTo (Grew d v new) d (specializes d.options) None t v new

@@ -1,4 +1,4 @@
--- What the table, the list and the map keep to.
+-- The invariants of the table, the list and the map.
 use Rattle.std.proofs.Common.{◌≡◌, ℕ, zero, suc, ◌+◌, ◌*◌, ◌<◌, ◌≤◌, Bool, true, false, cond, List, [], ◌∷◌, ◌++◌, length, get_or}
 use Rattle.std.proofs.Common.{take, replicate, refl, sym, ap, ◌∙◌, subst, ⊎_elim, arith, length-append, Option, Some, None}
 use Rattle.std.proofs.lemmas.Bool.Decides.{same_from_decides, Decides-like}
@@ -33,7 +33,7 @@ pub Agrees-same : {S : Type 0} (states : List StateValue) (m n : HashMap StateVa
 unfolding Agrees
 Agrees-same states m n a e q = ap (lookup (same q)) e ∙ a q
 
--- a state that is equal to the last one is found there, and another where it was
+-- a state that is equal to the last one is found there, and any other state where it was found before
 find_after : {S : Type 0} (states : List StateValue) (m : HashMap StateValue ℕ S) (s q : StateValue) (b : Bool) →
     get_by (same q) m ≡ position_from (same q) 0 states →
     position_from (same s) 0 states ≡ None → same s q ≡ b → same q s ≡ b →
@@ -131,7 +131,7 @@ IsShaped-cleared v n i =
     cut (suc n) [] l = absurd (omega (arith, l))
     cut (suc n) (x ∷ xs) l = ap suc (cut n xs (omega (arith, l)))
 
--- ---- the whole
+-- ---- the whole invariant
 
 pub IsKept-same : {S : Type 0} (v : CacheValue) (m n : HashMap StateValue ℕ S) (used : ℕ) → IsKept v m used → n.entries ≡ m.entries →
     IsKept v n used
@@ -168,7 +168,7 @@ IsKept-added v m n used k add b s i real fresh room e is put = record {
   counted = omega (arith, i.counted, is, states_cost-append v.stride v.states s);
 }
 
--- the parts of a cache with one state more
+-- the parts of a cache with one more state
 pub added_parts : (v : CacheValue) (b : Bool) (s copy : StateValue) (id : ℕ) (states : List StateValue) (ids cells : List ℕ) →
     states ≡ v.states ++ copy ∷ [] → copy ≡ s → ids ≡ v.ids ++ id ∷ [] → id ≡ new_id v b s →
     cells ≡ v.cells ++ replicate v.stride unknown_id →
@@ -213,7 +213,7 @@ IsKept-empty stride fresh starts bound classes n positive narrow e = record {
   counted = omega arith;
 }
 
--- the same where the parts were just made
+-- the invariant of an empty cache whose parts were just made
 pub IsKept-made : {S : Type 0} (stride fresh starts bound one : ℕ) (classes : List ℕ) (states : List StateValue) (ids cells known : List ℕ)
     (n : HashMap StateValue ℕ S) →
     0 < stride → stride ≤ 512 → states ≡ [] → ids ≡ [] → cells ≡ sentinel_rows stride → known ≡ replicate starts unknown_id →
@@ -228,7 +228,7 @@ pub IsKept-made : {S : Type 0} (stride fresh starts bound one : ℕ) (classes : 
 IsKept-made stride fresh starts bound one classes states ids cells known n positive narrow a b c d e f =
     rw (a, b, c, d, f) (IsKept-empty stride fresh starts bound classes n positive narrow e)
 
--- ---- found and not
+-- ---- states that are found, and states that aren't
 
 pub place_in_none : (s : StateValue) (states : List StateValue) → states ≡ [] → row_holding s states ≡ None
 unfolding row_holding
@@ -238,7 +238,7 @@ pub place_in_one : (s x : StateValue) → same s x ≡ false → row_holding s (
 unfolding row_holding
 place_in_one s x e = ap (λ (b : Bool). cond b (Some 0) None) e
 
--- what is read at a row is the row's state
+-- what is read at a row is the state of the row
 pub read_state : (items : List StateValue) (v : CacheValue) (k : ℕ) (r : StateValue) → items ≡ v.states → r ≡ get_or items k r →
     k < length v.states → r ≡ state_at v k
 read_state items v k r e f l = f ∙ (ap (λ (xs : List StateValue). get_or xs k r) e ∙ any_default v.states k r dead l)
@@ -248,7 +248,7 @@ read_state items v k r e f l = f ∙ (ap (λ (xs : List StateValue). get_or xs k
     any_default (x ∷ xs) zero d e l = refl
     any_default (x ∷ xs) (suc k) d e l = any_default xs k d e (omega (arith, l))
 
--- lists that are equal make the same value
+-- equal lists make the same value
 pub with_lists : (v : CacheValue) (states : List StateValue) (ids cells : List ℕ) → states ≡ v.states → ids ≡ v.ids → cells ≡ v.cells →
     record v { states = states; ids = ids; cells = cells } ≡ v
 with_lists v states ids cells e f g = λ k. record v { states = e k; ids = f k; cells = g k }

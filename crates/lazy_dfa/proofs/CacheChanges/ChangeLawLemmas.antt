@@ -1,4 +1,4 @@
--- When a course clears a cache, and what it adds.
+-- When a sequence of changes clears a cache, and what it adds.
 use Rattle.std.proofs.Common.{◌≡◌, ◌⊎◌, ℕ, suc, ◌+◌, ◌*◌, ◌<◌, ◌≤◌, Bool, true, false, List, [], ◌∷◌, ◌++◌, length, refl, sym}
 use Rattle.std.proofs.Common.{ap, ◌∙◌, subst, inl, inr, ⊎_elim, arith, true≢false, Option, Some, None}
 use Rattle.std.specs.Prelude.{min, not, nat_le, ◌&&◌, is_none, All}
@@ -8,7 +8,8 @@ use Rattle.std.proofs.lemmas.List.{append_assoc, append-nil, length-append}
 use Rattle.std.proofs.lemmas.List.Elements.{All-nil, All-head, All-tail, All-push}
 use Rattle.determinize_core.specs.States.{StateValue}
 use Rattle.lazy_dfa.specs.Accounting.{states_cost}
-use Rattle.lazy_dfa.specs.Caches.{CacheValue, IsCacheOf, state_at, usage, fits, is_refused, needs_clear, with_state, cleared, row_holding}
+use Rattle.lazy_dfa.specs.Caches.{CacheValue, IsCacheOf, state_at, usage, fits, is_clear_denied, needs_clear, with_state, cleared}
+use Rattle.lazy_dfa.specs.Caches.{row_holding}
 use Rattle.lazy_dfa.specs.Caches.{greatest}
 use Rattle.lazy_dfa.specs.Changes.{Changes, unchanged, keeps, adds, clears, row_state, greatest_cost, HasRoomFor, IsSpent, FirstClear}
 use Rattle.lazy_dfa.specs.Changes.{AddsFew, LastClear}
@@ -25,7 +26,7 @@ kept_clears : (from : Option ℕ) (v : CacheValue) → (kept_of from v).clears �
 kept_clears None v = refl
 kept_clears (Some k) v = refl
 
--- a clear that makes room counts one more
+-- a clear that makes room increases the count by one
 pub room_clears : (d : Dfa) (b : Bool) (from : Option ℕ) (s : StateValue) (v w : CacheValue) → MakesRoom d b from s v w →
     w.clears ≡ min (v.clears + 1) greatest
 room_clears d b from s v w x =
@@ -51,7 +52,7 @@ module _ (d : Dfa) (P : Bool → Option StateValue → StateValue → Type 0) (v
 
 -- ---- what is added
 
--- a course that cleared the cache: without a clear it came to a state that asked for one
+-- The changes cleared the cache: before any clear, they came to a state that needed one.
 pub record Cleared (d : Dfa) (P : Bool → Option StateValue → StateValue → Type 0) (v w : CacheValue) (n : ℕ) : Type 0 where
   pub before : CacheValue
   pub made_before : ℕ
@@ -64,7 +65,7 @@ pub record Cleared (d : Dfa) (P : Bool → Option StateValue → StateValue → 
   pub made : P is_start from state
   pub is : IsStateOf d state
   pub needs : needs_clear d before state ≡ true
-  pub allowed : is_refused (clears_of d.options) (minimum_bytes_of d.options) before ≡ false
+  pub allowed : is_clear_denied (clears_of d.options) (minimum_bytes_of d.options) before ≡ false
   pub cleared : min (v.clears + 1) greatest ≤ w.clears
 
 module _ (d : Dfa) (P : Bool → Option StateValue → StateValue → Type 0) (fit : IsDfa d) (v : CacheValue) (own : IsCacheOf d v) where
@@ -178,7 +179,7 @@ module _ (d : Dfa) (P : Bool → Option StateValue → StateValue → Type 0) (f
       (λ (y : Cleared d P v mid m). inr (again mid w m n l (room_clears d b from s mid w x) y))
       (added_or_cleared mid m c)
 
-  -- ---- where nothing is cleared
+  -- ---- if nothing is cleared
 
   unless_cleared : (w : CacheValue) (n : ℕ) → (Cleared d P v w n → ⊥) → Changes d P v w n → AddsFew d P v w n
   unless_cleared w n never c =
@@ -208,13 +209,13 @@ module _ (d : Dfa) (P : Bool → Option StateValue → StateValue → Type 0) (f
   pub kept_if_spent : (w : CacheValue) (n : ℕ) → IsSpent d v → Changes d P v w n → AddsFew d P v w n
   kept_if_spent w n spent c = unless_cleared w n never c
     where
-      refused : (x : Cleared d P v w n) → is_refused (Some spent.0) None x.before ≡ true
+      refused : (x : Cleared d P v w n) → is_clear_denied (Some spent.0) None x.before ≡ true
       refused x = let l = spent.3 in let e = x.adds.grows.clears in
           ap (λ (b : Bool). b && true) (le_true spent.0 x.before.clears (omega (arith, l, e)))
 
       never : Cleared d P v w n → ⊥
-      never x = true≢false (sym (refused x) ∙ (ap (λ (o : Option ℕ). is_refused (Some spent.0) o x.before) (sym spent.2)
-          ∙ (ap (λ (o : Option ℕ). is_refused o (minimum_bytes_of d.options) x.before) (sym spent.1) ∙ x.allowed)))
+      never x = true≢false (sym (refused x) ∙ (ap (λ (o : Option ℕ). is_clear_denied (Some spent.0) o x.before) (sym spent.2)
+          ∙ (ap (λ (o : Option ℕ). is_clear_denied o (minimum_bytes_of d.options) x.before) (sym spent.1) ∙ x.allowed)))
 
   -- ---- room
 

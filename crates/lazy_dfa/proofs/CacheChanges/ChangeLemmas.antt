@@ -1,4 +1,4 @@
--- What calls change of a cache: nothing, a state more, a step more, or all but two states.
+-- What calls change in a cache: nothing, one more state, one more step, or all but two states.
 use Rattle.std.proofs.Common.{◌≡◌, ◌≢◌, ℕ, ◌+◌, ◌%◌, ◌/◌, ◌-◌, ◌<◌, ◌≤◌, Bool, true, false, ◌⊎◌, List, [], ◌∷◌, ◌*◌, length, get_or, set}
 use Rattle.std.proofs.Common.{replicate, refl, sym, ap, ◌∙◌, subst, inl, inr, ⊎_elim, arith, true≢false, Option, Some}
 use Rattle.std.proofs.Common.{get_or-set_same, get_or-set_other}
@@ -15,7 +15,7 @@ use Rattle.lazy_dfa.specs.Readers.{is_quit}
 use Rattle.lazy_dfa.specs.Dfas.{Dfa, IsDfa, IsUnit, after, class_of}
 use Rattle.lazy_dfa.specs.Ids.{tag, unknown_id, is_sentinel, tagged, has_tag, start_tag}
 use Rattle.lazy_dfa.specs.Caches.{CacheValue, IsShaped, IsCacheOf, Leads, Names, names_dead, names_held, HeldAt, IsRow, same}
-use Rattle.lazy_dfa.specs.Caches.{state_at, id_at, cell_at, with_state, cleared, fits, is_refused, needs_clear, lacks_room}
+use Rattle.lazy_dfa.specs.Caches.{state_at, id_at, cell_at, with_state, cleared, fits, is_clear_denied, needs_clear, has_no_room}
 use Rattle.lazy_dfa.specs.Steps.{Added, Grew, WasCleared, ClearedFrom, kept_alone, MadeRoom, AddsOrClears, KeepsOrClears}
 use Rattle.lazy_dfa.specs.Steps.{noted, IsKnown, IsNoted, GivesUp, StepNeedsClear, IsCause, IsStepCause}
 use Rattle.lazy_dfa.specs.declared.cache_error.CacheError.{CacheError}
@@ -25,7 +25,7 @@ use Rattle.lazy_dfa.proofs.CacheChanges.CacheLemmas.{IsShaped-cleared}
 use Rattle.lazy_dfa.proofs.CacheChanges.IsCacheLemmas.{names_added, names_cells, place_inside, untagged, row_place, row_is_plain, same_row}
 use Rattle.lazy_dfa.proofs.CacheChanges.IsCacheLemmas.{row_quotient, le_of, lt_of}
 
--- ---- a state more
+-- ---- one more state
 
 pub added_refl : (v : CacheValue) → IsShaped v → Added v v
 added_refl v i = record {
@@ -62,7 +62,7 @@ cleared_few v w e = subst (λ (x : CacheValue). WasCleared v x 1) (sym e) (recor
   few = omega arith;
 })
 
--- and one of a state behind the room that was made
+-- adds one state after room was made for it
 pub adds_after : (v mid new : CacheValue) (b : Bool) (s : StateValue) → IsShaped v → MadeRoom v mid → new ≡ with_state b s mid →
     AddsOrClears v new
 adds_after v mid new b s i room e = ⊎_elim
@@ -88,7 +88,7 @@ adds_nothing v mid new i room e = ⊎_elim
     })))
     room
 
--- the state of a row is kept, and another one added
+-- keeps the state of a row, and adds another one
 pub made_after : (v mid new : CacheValue) (k : ℕ) (s : StateValue) → IsShaped v → (mid ≡ v) ⊎ (mid ≡ kept_alone v k) →
     new ≡ with_state false s mid →
     Added v new ⊎ (new ≡ with_state false s (kept_alone v k))
@@ -97,14 +97,14 @@ made_after v mid new k s i made e = ⊎_elim
     (λ (f : mid ≡ kept_alone v k). inr (e ∙ ap (with_state false s) f))
     made
 
--- a cache that is as it was, and one with a state more
+-- an unchanged cache, and a cache with one more state
 pub added_none : (v new : CacheValue) → IsShaped v → new ≡ v → Added v new
 added_none v new i e = subst (Added v) (sym e) (added_refl v i)
 
 pub added_one : (v mid new : CacheValue) (b : Bool) (s : StateValue) → IsShaped v → mid ≡ v → new ≡ with_state b s mid → Added v new
 added_one v mid new b s i f e = subst (Added v) (sym (e ∙ ap (with_state b s) f)) (added_state v b s i)
 
--- an ID of a row stays one where it names what it named
+-- an ID of a row stays one if it still names what it named
 pub row_kept : (v w : CacheValue) → IsShaped v → ((id : ℕ) (s : StateValue) → Names v id s → Names w id s) → (id : ℕ) → IsRow v id →
     IsRow w id
 row_kept v w i names id r = row_of (state_at v r.0) (names id (state_at v r.0) (names_held (r.0, r.1, r.2, refl)))
@@ -132,7 +132,7 @@ module _ (d : Dfa) (v : CacheValue) (made : IsDfa d) (own : IsCacheOf d v) (u : 
       named_low id t (names_dead e f) = omega (arith, e, own.shape.narrow)
       named_low id t (names_held h) = let l = row_is_plain v id h.0 own.shape h.1 h.2 in omega (arith, l)
 
-  -- a step that is known has an ID below that of the unknown ones
+  -- if a step is known, its ID is below the unknown ID
   pub known_low : (id : ℕ) → IsRow v id → noted d v id u ≢ unknown_id → noted d v id u < unknown_id
   known_low id x n =
       let read : noted d v id u ≡ cell_at v x.0 (class_of d.classes u) =
@@ -141,7 +141,7 @@ module _ (d : Dfa) (v : CacheValue) (made : IsDfa d) (own : IsCacheOf d v) (u : 
       let led = own.steps x.0 u x.1 unit (λ z. n (read ∙ z)) in
       subst (λ (m : ℕ). m < unknown_id) (sym read) (lead_low (state_at v x.0) (cell_at v x.0 (class_of d.classes u)) led)
 
-  -- so one that isn't below isn't known
+  -- so if its ID isn't below the unknown ID, the step isn't known
   pub unknown_of : (id cell : ℕ) → IsRow v id → cell ≡ noted d v id u → nat_le unknown_id cell ≡ true → noted d v id u ≡ unknown_id
   unknown_of id cell x e t = ⊎_elim
       (λ (f : noted d v id u ≡ unknown_id). f)
@@ -167,12 +167,12 @@ one_id v i j s shape g h = g.2 ∙ (ap (id_at v) (same_at g.0 h.0 g.1 h.1 (sym g
         (cases_lt j k))
         (cases_eq j k)
 
--- an ID that names a state in a row before
+-- an ID below 0x2000_0000 that names a state is the ID of a row
 held_of : (d : Dfa) (v : CacheValue) (id : ℕ) (s : StateValue) → IsShaped v → id < 0x2000_0000 → Names v id s → HeldAt v id s
 held_of d v id s i low (names_dead e f) = absurd (omega (arith, e, low))
 held_of d v id s i low (names_held h) = h
 
--- ---- a step more
+-- ---- one more step
 
 module _ (d : Dfa) (v mid new : CacheValue) (id from c k to : ℕ) (u : Option ℕ) (made : IsDfa d) (own : IsCacheOf d v)
     (mine : IsCacheOf d mid)
@@ -228,7 +228,7 @@ module _ (d : Dfa) (v mid new : CacheValue) (id from c k to : ℕ) (u : Option �
       })))
       changes
 
-  -- after a clear the state stepped from and the one stepped to are left
+  -- after a clear, the state stepped from and the state stepped to are left
   pub remains_set : (s : StateValue) → noted d v id u ≡ unknown_id → s ≡ after d (state_at v k) u → Added v mid ⊎
       (mid ≡ with_state false s (kept_alone v k)) →
       Grew d v new ⊎ ClearedFrom d v new id u
@@ -286,7 +286,7 @@ same_grew d v = record {
 pub grew_refl : (d : Dfa) (v : CacheValue) → KeepsOrClears d v v
 grew_refl d v = inl (same_grew d v)
 
--- where no step was noted
+-- a cache in which no step was stored
 pub grew_added : (d : Dfa) (v mid : CacheValue) → IsDfa d → IsCacheOf d v → Added v mid → Grew d v mid
 grew_added d v mid made own a = record {
   names = a.names;
@@ -304,7 +304,7 @@ grew_of d v mid made own changes = ⊎_elim
     (λ (x : WasCleared v mid 2). inr x)
     changes
 
--- ---- refusals
+-- ---- failures
 
 abbrev refuses : Bool → Bool → Bool → Bool → Bool
 refuses dead new fitting refused = not dead && (new && (not fitting && refused))
@@ -324,15 +324,15 @@ module _ (d : Dfa) (v : CacheValue) (s : StateValue) where
   fitting = fits d.capacity s v
 
   abbrev refused : Bool
-  refused = is_refused (clears_of d.options) (minimum_bytes_of d.options) v
+  refused = is_clear_denied (clears_of d.options) (minimum_bytes_of d.options) v
 
--- the cause of a step that was refused, and that a step which was made has none
+-- why a step failed, and that a step that was made has no such cause
 module _ (d : Dfa) (v mid : CacheValue) (id k : ℕ) (u : Option ℕ) (s : StateValue) (shape : IsShaped v) (same_cache : mid ≡ v)
     (inside : k < length v.states) (row : id ≡ id_at v k) (value : s ≡ after d (state_at v k) u) where
   pub step_cause : (e : CacheError) → noted d v id u ≡ unknown_id → is_quit d.quits u ≡ false → IsCause d mid s e → IsStepCause d v id u e
   step_cause e unknown no_quit cause = ⊎_elim
       (λ (m : e ≡ NoMemory). inl m)
-      (λ (g : (e ≡ GaveUp) × (lacks_room d mid s ≡ true)). inr (
+      (λ (g : (e ≡ GaveUp) × (has_no_room d mid s ≡ true)). inr (
         g.0,
         record {
           row = (k, inside, row);
@@ -340,13 +340,13 @@ module _ (d : Dfa) (v mid : CacheValue) (id k : ℕ) (u : Option ℕ) (s : State
           no_quit = no_quit;
           lacks = λ t h.
               let one : state_at v k ≡ t = ap (state_at v) (same_row v k h.0 shape inside h.1 (sym row ∙ h.2)) ∙ sym h.3 in
-              ap (λ (x : StateValue). lacks_room d v (after d x u)) (sym one)
-              ∙ (ap (lacks_room d v) (sym value) ∙ (ap (λ (w : CacheValue). lacks_room d w s) (sym same_cache) ∙ g.1));
+              ap (λ (x : StateValue). has_no_room d v (after d x u)) (sym one)
+              ∙ (ap (has_no_room d v) (sym value) ∙ (ap (λ (w : CacheValue). has_no_room d w s) (sym same_cache) ∙ g.1));
         },
       ))
       cause
 
-  -- the state asks for a clear, so the step does
+  -- if the state needs a clear, so does the step
   pub step_needs : noted d v id u ≡ unknown_id → is_quit d.quits u ≡ false → needs_clear d mid s ≡ true → StepNeedsClear d v id u
   step_needs unknown no_quit needs = record {
     row = (k, inside, row);
@@ -358,16 +358,16 @@ module _ (d : Dfa) (v mid : CacheValue) (id k : ℕ) (u : Option ℕ) (s : State
         ∙ (ap (needs_clear d v) (sym value) ∙ (ap (λ (w : CacheValue). needs_clear d w s) (sym same_cache) ∙ needs));
   }
 
-  pub no_cause : lacks_room d mid s ≡ false → GivesUp d v id u → ⊥
+  pub no_cause : has_no_room d mid s ≡ false → GivesUp d v id u → ⊥
   no_cause none g = true≢false (sym (g.lacks (state_at v k) (k, inside, row, refl))
-      ∙ (ap (lacks_room d v) (sym value) ∙ (ap (λ (w : CacheValue). lacks_room d w s) (sym same_cache) ∙ none)))
+      ∙ (ap (has_no_room d v) (sym value) ∙ (ap (λ (w : CacheValue). has_no_room d w s) (sym same_cache) ∙ none)))
 
--- ---- what is known of a step
+-- ---- what is known about a step
 
 known_sentinel : (id : ℕ) → is_sentinel id ≡ true → is_sentinel id ≡ false → ⊥
 known_sentinel id e f = true≢false (sym e ∙ f)
 
--- from a sentinel no row is meant
+-- a sentinel is no ID of a row
 pub no_row : (v : CacheValue) (id : ℕ) → IsShaped v → is_sentinel id ≡ true → IsRow v id → ⊥
 no_row v id i e x = let l = row_is_plain v id x.0 i x.1 x.2 in let g = le_of 0x2000_0000 id e in omega (arith, l, g)
 
@@ -403,7 +403,7 @@ pub one_state : (v : CacheValue) (id k : ℕ) (s : StateValue) → IsShaped v �
     state_at v k ≡ s
 one_state v id k s i l e h = ap (state_at v) (same_row v k h.0 i l h.1 (sym e ∙ h.2)) ∙ sym h.3
 
--- where a row is sought by the place of an ID
+-- a row that is looked up by the offset in an ID
 module _ (v : CacheValue) (id n m : ℕ) (i : IsShaped v) (e : n ≡ id) (f : m ≡ v.stride) where
   pub no_low_row : (n % tag) / m < 3 → IsRow v id → ⊥
   no_low_row l x = let q = row_quotient v id n m x i e f in omega (arith, l, q)

@@ -1,17 +1,17 @@
--- Changes of a cache one after the other, and those of one step.
+-- Changes of a cache one after the other, and the changes of one step.
 use Rattle.std.proofs.Common.{◌≡◌, ◌⊎◌, ℕ, suc, ◌+◌, ◌≤◌, Bool, false, List, refl, sym, ap, ◌∙◌, subst, inl, inr, arith, [], ◌∷◌, ◌++◌}
 use Rattle.std.proofs.Common.{Option, Some, None}
-use Rattle.nfa_core.specs.Ways.{place_of}
+use Rattle.nfa_core.specs.Ways.{offset_of}
 use Rattle.determinize_core.specs.States.{StateValue}
 use Rattle.lazy_dfa.specs.Caches.{CacheValue, IsCacheOf, IsRow, HeldAt, state_at}
 use Rattle.search_types.specs.declared.anchored.Anchored.{Anchored}
 use Rattle.search_types.specs.Inputs.{Search}
 use Rattle.lazy_dfa.specs.Changes.{Changes, unchanged, keeps, adds, clears, row_state, IsMadeAt, IsMadeFirst, IsMadeIn, IsMadeAmong}
 use Rattle.lazy_dfa.specs.ConfigValue.{specializes}
-use Rattle.lazy_dfa.specs.Courses.{state_behind, AreRead}
+use Rattle.lazy_dfa.specs.Courses.{state_after, AreRead}
 use Rattle.lazy_dfa.specs.Dfas.{Dfa, after, reader}
 use Rattle.lazy_dfa.specs.Linked.{IsMoved, start_from}
-use Rattle.lazy_dfa.specs.PassLaws.{unit_of}
+use Rattle.lazy_dfa.specs.ScanLaws.{unit_of}
 use Rattle.lazy_dfa.specs.Readers.{Reader, is_quit}
 use Rattle.lazy_dfa.specs.StartCalls.{start_first, StartAdds}
 use Rattle.lazy_dfa.specs.Steps.{Grew, HasStatesOf, ComesTo, StepAdds}
@@ -19,7 +19,7 @@ use Rattle.lazy_dfa.proofs.CacheChanges.ChangeLemmas.{one_state}
 use Rattle.lazy_dfa.proofs.Courses.CourseLemmas.{state_there, read_there, state_behind_one, read_one, not_dead}
 use Rattle.lazy_dfa.proofs.CacheChanges.LinkedLemmas.{grew_grows, grows_moved}
 
--- ---- joins
+-- ---- changes one after the other
 
 module _ (d : Dfa) (P Q : Bool → Option StateValue → StateValue → Type 0)
     (into : (b : Bool) (o : Option StateValue) (s : StateValue) → P b o s → Q b o s) (v : CacheValue) where
@@ -37,7 +37,7 @@ module _ (d : Dfa) (P : Bool → Option StateValue → StateValue → Type 0) (v
   changes_more _ _ k l (adds b o s mid w m n lt c own made g a) = adds b o s mid w m k (omega (arith, l, lt)) c own made g a
   changes_more _ _ k l (clears b from s mid w m n lt c own made x) = clears b from s mid w m k (omega (arith, l, lt)) c own made x
 
-  -- changes behind others
+  -- changes that follow others
   pub changes_on : (u : CacheValue) (m : ℕ) → Changes d P v u m → (w : CacheValue) (n k : ℕ) → m + n ≤ k → Changes d P u w n →
       Changes d P v w k
   changes_on u m before _ _ k l (unchanged w n e) =
@@ -54,25 +54,25 @@ module _ (d : Dfa) (P : Bool → Option StateValue → StateValue → Type 0) (v
 moved_states : (v w : CacheValue) → IsMoved v w → HasStatesOf w v
 moved_states v w e = (ap (λ (x : CacheValue). x.states) e, ap (λ (x : CacheValue). x.ids) e, ap (λ (x : CacheValue). x.clears) e)
 
--- changes behind which only the place of a search is another one
+-- changes after which nothing differs but the progress
 pub changes_moved : (d : Dfa) (P : Bool → Option StateValue → StateValue → Type 0) (u v w : CacheValue) (n : ℕ) → IsMoved v w →
     Changes d P u v n → Changes d P u w n
 changes_moved d P u v w n e c = keeps v w n c (grows_moved d v w e) (moved_states v w e)
 
--- and before which it is
+-- changes before which nothing differs but the progress
 pub changes_from_moved : (d : Dfa) (P : Bool → Option StateValue → StateValue → Type 0) (u v w : CacheValue) (n : ℕ) → IsMoved u v →
     Changes d P v w n → Changes d P u w n
 changes_from_moved d P u v w n e c =
     changes_on d P u v 0 (changes_moved d P u u v 0 e (unchanged u 0 refl)) w n n (omega arith) c
 
--- ---- units behind others
+-- ---- units that follow others
 
-module _ (r : Reader) (h : List ℕ) (i j k l : ℕ) (there : j ≡ place_of r.automaton.reverse i k) (v : StateValue)
+module _ (r : Reader) (h : List ℕ) (i j k l : ℕ) (there : j ≡ offset_of r.automaton.reverse i k) (v : StateValue)
     (read : AreRead r h i v k) where
   pub made_before : (b : Bool) (o : Option StateValue) (s : StateValue) → IsMadeAt r h i v k b o s → IsMadeAt r h i v (k + l) b o s
   made_before b o s (e, (n, lt, are, from, is)) = (e, (n, omega (arith, lt), are, from, is))
 
-  pub made_behind : (b : Bool) (o : Option StateValue) (s : StateValue) → IsMadeAt r h j (state_behind r h i v k) l b o s →
+  pub made_behind : (b : Bool) (o : Option StateValue) (s : StateValue) → IsMadeAt r h j (state_after r h i v k) l b o s →
       IsMadeAt r h i v (k + l) b o s
   made_behind b o s (e, (n, lt, are, from, is)) =
       let one : k + suc n ≡ suc (k + n) = omega arith in (
@@ -82,7 +82,7 @@ module _ (r : Reader) (h : List ℕ) (i j k l : ℕ) (there : j ≡ place_of r.a
           omega (arith, lt),
           subst (AreRead r h i v) one (read_there r h i j k there v (suc n) read are),
           from ∙ ap Some (state_there r h i j k there v n),
-          is ∙ (state_there r h i j k there v (suc n) ∙ ap (state_behind r h i v) one),
+          is ∙ (state_there r h i j k there v (suc n) ∙ ap (state_after r h i v) one),
         ),
       )
 
@@ -126,7 +126,8 @@ made_within r h i v n m l b o s (e, (k, lt, are, from, is)) = (e, (k, omega (ari
 -- ---- one start
 
 module _ (d : Dfa) (mode : Anchored) (h : List ℕ) (i : ℕ) (P : Bool → Option StateValue → StateValue → Type 0)
-    (into : (b : Bool) (o : Option StateValue) (s : StateValue) → IsMadeFirst d mode h i b o s → P b o s) (old new : CacheValue) (own : IsCacheOf d old) where
+    (into : (b : Bool) (o : Option StateValue) (s : StateValue) → IsMadeFirst d mode h i b o s →
+    P b o s) (old new : CacheValue) (own : IsCacheOf d old) where
   pub start_changes : StartAdds d old new (start_from (reader d) mode h i) → Changes d P old new 1
   start_changes (inl (g, e)) = keeps old new 1 (unchanged old 1 refl) (grew_grows d old new g) e
   start_changes (inr (none, (q, named, inl (g, inl e)))) = keeps old new 1 (unchanged old 1 refl) (grew_grows d old new g) e
@@ -140,7 +141,7 @@ module _ (d : Dfa) (mode : Anchored) (h : List ℕ) (i : ℕ) (P : Bool → Opti
       (unchanged old 0 refl) own
       (into (specializes d.options) None (start_first d (start_from (reader d) mode h i) q) (refl, refl, none, (q, named, refl))) m
 
--- ---- passes one after the other
+-- ---- scans one after the other
 
 module _ (d : Dfa) (q : Search) where
   pub among_before : (ps tail : List (ℕ × ℕ)) (b : Bool) (o : Option StateValue) (s : StateValue) → IsMadeAmong d q ps b o s →

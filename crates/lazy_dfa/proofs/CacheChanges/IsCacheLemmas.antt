@@ -1,4 +1,4 @@
--- How a cache stays its automaton's.
+-- How a cache stays the cache of its automaton.
 use Rattle.std.proofs.Common.{◌≡◌, ◌≢◌, ℕ, zero, suc, ◌+◌, ◌*◌, ◌%◌, ◌/◌, ◌<◌, ◌≤◌, Bool, true, false, ◌⊎◌, List, [], ◌∷◌, ◌++◌, length}
 use Rattle.std.proofs.Common.{get_or, set, replicate, refl, sym, ap, ◌∙◌, subst, inl, inr, ⊎_elim, arith, true≢false, Option, Some, None}
 use Rattle.std.proofs.Common.{length-set, get_or-set_same, get_or-set_other}
@@ -34,7 +34,7 @@ use Rattle.nfa_core.specs.Nfa.{Automaton}
 use Rattle.lazy_dfa.specs.Steps.{IsHeld, StepsTo}
 use Rattle.nfa_core.proofs.ForCallers.{some_same}
 
--- ---- places
+-- ---- offsets
 
 pub untag : (b m : Bool) (p : ℕ) → p < tag → tagged b m p % tag ≡ p
 untag true true p l = omega (arith, l)
@@ -117,7 +117,7 @@ leads_alike d v s u w id looks a x = record {
   goes = λ e. subst (Names v id) (a.1 s looks) (x.goes (a.0 ∙ e));
 }
 
--- ---- the whole
+-- ---- the whole invariant
 
 blank : (v : CacheValue) (k c : ℕ) → IsShaped v → k ≡ length v.states → c < v.stride →
     get_or (v.cells ++ replicate v.stride unknown_id) ((k + 3) * v.stride + c) 0 ≡ unknown_id
@@ -236,7 +236,7 @@ is_cache_set d v k to u made own l unit there =
 
 -- ---- starts
 
--- the start of a number
+-- the start with a given number
 abbrev numbered : ℕ → Start
 numbered zero = NonWordByte
 numbered (suc zero) = WordByte
@@ -324,13 +324,13 @@ is_cache_started d v m s to own inside there =
 pub alive_of : (v : StateValue) → is_dead v ≡ false → v ≢ dead
 alive_of v e f = true≢false (ap is_dead (sym f) ∙ e)
 
-module _ (v : CacheValue) (s : StateValue) (i : IsShaped v) (real : IsState s) (tells : (v w : StateValue) → IsState v → IsState w →
+module _ (v : CacheValue) (s : StateValue) (i : IsShaped v) (real : IsState s) (reports : (v w : StateValue) → IsState v → IsState w →
     encoded v ≡ encoded w → v ≡ w) where
   found_held : (k : ℕ) → row_holding s v.states ≡ Some k → (k < length v.states) × HeldAt v (id_at v k) s
   unfolding row_holding
   found_held k e =
       let f = found_at (same s) dead v.states k e in
-      (f.0, (k, f.0, refl, tells s (state_at v k) real (i.real k f.0) ((bytes_eq-Decides (encoded s) (encoded (state_at v k))).0 f.1)))
+      (f.0, (k, f.0, refl, reports s (state_at v k) real (i.real k f.0) ((bytes_eq-Decides (encoded s) (encoded (state_at v k))).0 f.1)))
 
   pub held_some : (o : Option ℕ) → o ≡ row_holding s v.states → IfSome o (λ k. HeldAt v (id_at v k) s)
   held_some None e = tt
@@ -381,7 +381,7 @@ after_of d a t kind s u r e f g h =
 as_long : (d : Dfa) → IsDfa d → widest d.nfa.automaton ≡ longest_state d.measures
 as_long d made = ap (λ (m : Measures). longest_state m) (sym made.measured)
 
--- what starts and steps come to is the automaton's
+-- what starts and steps come to is a state of the automaton
 is_state : (d : Dfa) (s : StateValue) → IsDfa d → IsStepped d.nfa.automaton s → IsStateOf d s
 is_state d s made i = record {
   stepped = i;
@@ -467,7 +467,7 @@ pub leads_quit : (d : Dfa) (v : CacheValue) (s : StateValue) (u : Option ℕ) (t
     Leads d v s u to
 leads_quit d v s u to quits e = record { quits = λ _. e; goes = λ f. absurd (true≢false (sym quits ∙ f)) }
 
--- each state that an ID named is that of its row
+-- each state that an ID named is the state of its row
 pub steps_of_row : (d : Dfa) (old new : CacheValue) (id k : ℕ) (u : Option ℕ) (to : ℕ) → IsShaped old → k < length old.states →
     id ≡ id_at old k →
     Leads d new (state_at old k) u to → StepsTo d old new id u to

@@ -1,4 +1,4 @@
--- What calls leave of known paths: a cache that only grows keeps them, and one in which only searches came further is the same.
+-- What calls preserve of known paths. A cache that only grows preserves them. A cache in which only the progress changed is the same.
 use Rattle.std.proofs.Common.{◌≡◌, ◌≢◌, ◌⊎◌, ℕ, zero, suc, ◌+◌, ◌-◌, ◌*◌, ◌%◌, ◌<◌, ◌≤◌, Bool, true, false, List, length, Option}
 use Rattle.std.proofs.Common.{if◌then◌else◌, get_or, refl, sym, ap, ◌∙◌, subst, inl, inr, ⊎_elim, arith, true≢false}
 use Rattle.std.specs.Prelude.{min}
@@ -6,7 +6,7 @@ use Rattle.std.proofs.lemmas.Bool.{cases_lt, cases_Bool}
 use Rattle.std.proofs.lemmas.Option.{slice_get-get_or, slice_get_past}
 use Rattle.std.proofs.Math.Nat.{min-le_right, min-eq_left, min-eq_right}
 use Rattle.search_core.specs.Text.{byte_at}
-use Rattle.nfa_core.specs.Ways.{place_of}
+use Rattle.nfa_core.specs.Ways.{offset_of}
 use Rattle.determinize_core.specs.States.{StateValue}
 use Rattle.determinize_core.specs.Starts.{start_of, number_of}
 use Rattle.determinize_core.specs.Steps.{unit_at}
@@ -16,9 +16,9 @@ use Rattle.lazy_dfa.specs.Caches.{CacheValue, IsShaped, IsCacheOf, IsRow, Names,
 use Rattle.lazy_dfa.specs.declared.progress.Progress.{Progress}
 use Rattle.lazy_dfa.specs.Dfas.{Dfa, IsDfa, IsUnit, after, first_state, class_of, reader}
 use Rattle.lazy_dfa.specs.Ids.{tag, unknown_id, is_sentinel}
-use Rattle.lazy_dfa.specs.Linked.{led, id_behind, IsLinkedOver, start_from, IsLinkedPass, AreLinked, CacheGrows, HasCleared, GrowsOrClears}
+use Rattle.lazy_dfa.specs.Linked.{led, id_after, IsLinkedOver, start_from, IsLinkedScan, AreLinked, CacheGrows, HasCleared, GrowsOrClears}
 use Rattle.lazy_dfa.specs.Linked.{IsMoved}
-use Rattle.lazy_dfa.specs.PassLaws.{unit_of, pass_len}
+use Rattle.lazy_dfa.specs.ScanLaws.{unit_of, scan_len_of}
 use Rattle.lazy_dfa.specs.Readers.{is_quit}
 use Rattle.lazy_dfa.specs.StartCalls.{mode_of, start_slot, start_noted}
 use Rattle.lazy_dfa.specs.Steps.{IsHeld, Grew, WasCleared, KeepsOrClears, noted, IsKnown}
@@ -27,7 +27,7 @@ use Rattle.lazy_dfa.proofs.CacheChanges.IsCacheLemmas.{row_of_held, cell_read}
 use Rattle.lazy_dfa.proofs.CacheChanges.StartCallLemmas.{mode_fine, slot_inside}
 use Rattle.lazy_dfa.proofs.HalfSearches.FoundLemmas.{place_add}
 
--- ---- what calls leave
+-- ---- what calls preserve
 
 pub grows_refl : (d : Dfa) (v : CacheValue) → CacheGrows d v v
 grows_refl d v = record { names = λ id s n. n; known = λ id u r unit n. refl; starts = λ i n. refl; clears = refl }
@@ -52,7 +52,7 @@ no_less x y e = omega (arith, e)
 pub has_cleared : (a b : CacheValue) (most : ℕ) → WasCleared a b most → HasCleared a b
 has_cleared a b most w = no_less (min (a.clears + 1) greatest) b.clears w.clears
 
--- of a step, and of a start
+-- what a step preserves, and what a start preserves
 pub grows_of : (d : Dfa) (a b : CacheValue) → KeepsOrClears d a b → GrowsOrClears d a b
 grows_of d a b kept = ⊎_elim (λ (g : Grew d a b). inl (grew_grows d a b g)) (λ (w : WasCleared a b 2). inr (has_cleared a b 2 w)) kept
 
@@ -84,11 +84,11 @@ grows_or_clears_trans d a b c made own before behind = ⊎_elim
     (λ (x : HasCleared a b). inr (cleared_grows d a b c x behind))
     before
 
--- counts show that nothing was cleared, short of the greatest one
+-- below the greatest count, an unchanged count of clears shows that nothing was cleared
 pub not_cleared : (old new : CacheValue) → HasCleared old new → new.clears ≡ old.clears → old.clears < greatest → ⊥
 not_cleared old new x e l = same_clears old.clears new.clears greatest x e l
 
--- ---- caches in which only searches came further
+-- ---- caches in which only the progress changed
 
 abbrev moved : CacheValue → ℕ → Option Progress → CacheValue
 moved v n p = record v { searched = n; progress = p }
@@ -162,12 +162,12 @@ module _ (d : Dfa) (v w : CacheValue) (e : IsMoved v w) where
   }
 
   module _ (h : List ℕ) (i id : ℕ) where
-    pub id_moved : (k : ℕ) → id_behind d w h i id k ≡ id_behind d v h i id k
+    pub id_moved : (k : ℕ) → id_after d w h i id k ≡ id_after d v h i id k
     id_moved zero = refl
     id_moved (suc k) =
         ap (λ (x : ℕ). led d w x (unit_of (reader d) h i k)) (id_moved k)
-        ∙ ap (λ (n : ℕ). if is_sentinel (id_behind d v h i id k) then id_behind d v h i id k
-        else n) (noted_moved (id_behind d v h i id k) (unit_of (reader d) h i k))
+        ∙ ap (λ (n : ℕ). if is_sentinel (id_after d v h i id k) then id_after d v h i id k
+        else n) (noted_moved (id_after d v h i id k) (unit_of (reader d) h i k))
 
     known_moved : (x y : ℕ) (u : Option ℕ) → y ≡ x → IsKnown d v x u → IsKnown d w y u
     known_moved x y u f known = subst (λ (n : ℕ). IsKnown d w n u) (sym f) (⊎_elim
@@ -178,16 +178,16 @@ module _ (d : Dfa) (v w : CacheValue) (e : IsMoved v w) where
     pub linked_moved : (n : ℕ) → IsLinkedOver d v h i id n → IsLinkedOver d w h i id n
     linked_moved n l = record {
       start = l.start;
-      steps = λ k lt. known_moved (id_behind d v h i id k) (id_behind d w h i id k) (unit_of (reader d) h i k) (id_moved k) (l.steps k lt);
+      steps = λ k lt. known_moved (id_after d v h i id k) (id_after d w h i id k) (unit_of (reader d) h i k) (id_moved k) (l.steps k lt);
     }
 
-  pub linked_pass_moved : (mode : Anchored) (earliest : Bool) (h : List ℕ) (n i : ℕ) → IsLinkedPass d v mode earliest h n i →
-      IsLinkedPass d w mode earliest h n i
+  pub linked_pass_moved : (mode : Anchored) (earliest : Bool) (h : List ℕ) (n i : ℕ) → IsLinkedScan d v mode earliest h n i →
+      IsLinkedScan d w mode earliest h n i
   linked_pass_moved mode earliest h n i linked q none named =
       let c = start_from (reader d) mode h i in
       let same : start_noted d w c ≡ start_noted d v c = ap (λ (s : List ℕ). get_or s (start_slot d c) 0) moved_starts in
-      subst (λ (x : ℕ). IsLinkedOver d w h i x (pass_len (reader d) mode earliest h n i)) (sym same)
-      (linked_moved h i (start_noted d v c) (pass_len (reader d) mode earliest h n i) (linked q none named))
+      subst (λ (x : ℕ). IsLinkedOver d w h i x (scan_len_of (reader d) mode earliest h n i)) (sym same)
+      (linked_moved h i (start_noted d v c) (scan_len_of (reader d) mode earliest h n i) (linked q none named))
 
   pub are_linked_moved : (q : Search) (ps : List (ℕ × ℕ)) → AreLinked d v q ps → AreLinked d w q ps
   are_linked_moved q ps all k p l = linked_pass_moved q.anchored q.earliest q.haystack (get_or ps k p).0 (get_or ps k p).1 (all k p l)
@@ -237,7 +237,7 @@ held_leads d v s u id x = ⊎_elim
     (λ (q : is_quit d.quits u ≡ false). held_named v id (after d s u) (x.goes q))
     (cases_Bool (is_quit d.quits u))
 
--- a known step from a row leads where the state of the row does
+-- a known step from a row leads where the step from the state of the row leads
 pub row_leads : (d : Dfa) (v : CacheValue) (id : ℕ) (u : Option ℕ) → IsCacheOf d v → IsUnit u → (r : IsRow v id) →
     noted d v id u ≢ unknown_id →
     Leads d v (state_at v r.0) u (noted d v id u)
@@ -277,40 +277,40 @@ module _ (d : Dfa) (b c : CacheValue) (own : IsCacheOf d b) (grows : CacheGrows 
 
   module _ (h : List ℕ) (bytes : AreBytes h) (i : ℕ) where
     unit_is_one : (k : ℕ) → IsUnit (unit_of (reader d) h i k)
-    unit_is_one k = unit_is h bytes d.nfa.automaton.reverse (place_of d.nfa.automaton.reverse i k)
+    unit_is_one k = unit_is h bytes d.nfa.automaton.reverse (offset_of d.nfa.automaton.reverse i k)
 
     -- each ID on a known path is held
-    pub held_on : (id n : ℕ) → IsHeld b id → IsLinkedOver d b h i id n → (k : ℕ) → k ≤ n → IsHeld b (id_behind d b h i id k)
+    pub held_on : (id n : ℕ) → IsHeld b id → IsLinkedOver d b h i id n → (k : ℕ) → k ≤ n → IsHeld b (id_after d b h i id k)
     held_on id n held l zero le = held
     held_on id n held l (suc k) le =
-        held_led d b (id_behind d b h i id k) (unit_of (reader d) h i k) own (unit_is_one k) (held_on id n held l k (omega (arith, le)))
+        held_led d b (id_after d b h i id k) (unit_of (reader d) h i k) own (unit_is_one k) (held_on id n held l k (omega (arith, le)))
         (l.steps k (omega (arith, le)))
 
-    pub id_grows : (id n : ℕ) → IsHeld b id → IsLinkedOver d b h i id n → (k : ℕ) → k ≤ n → id_behind d c h i id k ≡ id_behind d b h i id k
+    pub id_grows : (id n : ℕ) → IsHeld b id → IsLinkedOver d b h i id n → (k : ℕ) → k ≤ n → id_after d c h i id k ≡ id_after d b h i id k
     id_grows id n held l zero le = refl
     id_grows id n held l (suc k) le =
         ap (λ (x : ℕ). led d c x (unit_of (reader d) h i k)) (id_grows id n held l k (omega (arith, le)))
-        ∙ led_grows (id_behind d b h i id k) (unit_of (reader d) h i k) (unit_is_one k) (held_on id n held l k (omega (arith, le)))
+        ∙ led_grows (id_after d b h i id k) (unit_of (reader d) h i k) (unit_is_one k) (held_on id n held l k (omega (arith, le)))
         (l.steps k (omega (arith, le)))
 
     pub linked_grows : (id n : ℕ) → IsHeld b id → IsLinkedOver d b h i id n → IsLinkedOver d c h i id n
     linked_grows id n held l = record {
       start = l.start;
       steps = λ k lt. subst (λ (x : ℕ). IsKnown d c x (unit_of (reader d) h i k)) (sym (id_grows id n held l k (omega (arith, lt))))
-          (known_grows (id_behind d b h i id k) (unit_of (reader d) h i k) (unit_is_one k) (held_on id n held l k (omega (arith, lt)))
+          (known_grows (id_after d b h i id k) (unit_of (reader d) h i k) (unit_is_one k) (held_on id n held l k (omega (arith, lt)))
           (l.steps k lt));
     }
 
   pub linked_pass_grows : (mode : Anchored) (earliest : Bool) (h : List ℕ) (n i : ℕ) → IsDfa d → AreBytes h →
-      IsLinkedPass d b mode earliest h n i → IsLinkedPass d c mode earliest h n i
+      IsLinkedScan d b mode earliest h n i → IsLinkedScan d c mode earliest h n i
   linked_pass_grows mode earliest h n i made bytes linked q none named =
       let s = start_from (reader d) mode h i in
       let t = start_of d.nfa.terminator s.look_behind in
       let l = linked q none named in
       let inside = slot_inside d b mode t q (mode_of mode) made own (mode_fine d s none) refl named in
       let held = held_named b (start_noted d b s) (first_state d t q) (own.starts (mode_of mode) t inside l.start q named) in
-      subst (λ (x : ℕ). IsLinkedOver d c h i x (pass_len (reader d) mode earliest h n i)) (sym (grows.starts (start_slot d s) l.start))
-      (linked_grows h bytes i (start_noted d b s) (pass_len (reader d) mode earliest h n i) held l)
+      subst (λ (x : ℕ). IsLinkedOver d c h i x (scan_len_of (reader d) mode earliest h n i)) (sym (grows.starts (start_slot d s) l.start))
+      (linked_grows h bytes i (start_noted d b s) (scan_len_of (reader d) mode earliest h n i) held l)
 
   pub are_linked_grows : (q : Search) (ps : List (ℕ × ℕ)) → IsDfa d → AreBytes q.haystack → AreLinked d b q ps → AreLinked d c q ps
   are_linked_grows q ps made bytes all k p l = linked_pass_grows q.anchored q.earliest q.haystack (get_or ps k p).0
@@ -325,43 +325,43 @@ module _ (d : Dfa) (v : CacheValue) (h : List ℕ) (i id : ℕ) where
   pub linked_less : (n m : ℕ) → IsLinkedOver d v h i id n → m ≤ n → IsLinkedOver d v h i id m
   linked_less n m l le = record { start = l.start; steps = λ k lt. l.steps k (omega (arith, lt, le)) }
 
-  -- a known path comes to no unknown ID
-  pub id_is_known : (n : ℕ) → IsLinkedOver d v h i id n → (k : ℕ) → k ≤ n → id_behind d v h i id k ≢ unknown_id
+  -- no ID on a known path is the unknown one
+  pub id_is_known : (n : ℕ) → IsLinkedOver d v h i id n → (k : ℕ) → k ≤ n → id_after d v h i id k ≢ unknown_id
   id_is_known n l zero le = l.start
-  id_is_known n l (suc k) le = led_known d v (id_behind d v h i id k) (unit_of (reader d) h i k) (id_is_known n l k (omega (arith, le)))
+  id_is_known n l (suc k) le = led_known d v (id_after d v h i id k) (unit_of (reader d) h i k) (id_is_known n l k (omega (arith, le)))
       (l.steps k (omega (arith, le)))
 
   module _ (k : ℕ) where
     abbrev there : ℕ
-    there = place_of d.nfa.automaton.reverse i k
+    there = offset_of d.nfa.automaton.reverse i k
 
     abbrev id_there : ℕ
-    id_there = id_behind d v h i id k
+    id_there = id_after d v h i id k
 
     pub unit_split : (j : ℕ) → unit_of (reader d) h i (k + j) ≡ unit_of (reader d) h there j
     unit_split j = ap (unit_at d.nfa.automaton.reverse h) (sym (place_add d.nfa.automaton.reverse i k j))
 
-    pub id_split : (j : ℕ) → id_behind d v h i id (k + j) ≡ id_behind d v h there id_there j
-    id_split zero = let e : k + 0 ≡ k = omega arith in ap (id_behind d v h i id) e
+    pub id_split : (j : ℕ) → id_after d v h i id (k + j) ≡ id_after d v h there id_there j
+    id_split zero = let e : k + 0 ≡ k = omega arith in ap (id_after d v h i id) e
     id_split (suc j) =
         let e : k + suc j ≡ suc (k + j) = omega arith in
-        ap (id_behind d v h i id) e
+        ap (id_after d v h i id) e
         ∙ (ap (λ (x : ℕ). led d v x (unit_of (reader d) h i (k + j))) (id_split j)
-        ∙ ap (λ (u : Option ℕ). led d v (id_behind d v h there id_there j) u) (unit_split j))
+        ∙ ap (λ (u : Option ℕ). led d v (id_after d v h there id_there j) u) (unit_split j))
 
     pub linked_split : (l : ℕ) → IsLinkedOver d v h i id (k + l) → IsLinkedOver d v h there id_there l
     linked_split l linked = record {
       start = id_is_known (k + l) linked k (omega arith);
       steps = λ j lt. subst (λ (x : ℕ). IsKnown d v x (unit_of (reader d) h there j)) (id_split j)
-          (subst (λ (u : Option ℕ). IsKnown d v (id_behind d v h i id (k + j)) u) (unit_split j)
+          (subst (λ (u : Option ℕ). IsKnown d v (id_after d v h i id (k + j)) u) (unit_split j)
           (linked.steps (k + j) (omega (arith, lt))));
     }
 
-    step_there : (j m : ℕ) → m ≡ k + j → IsKnown d v (id_behind d v h there id_there j) (unit_of (reader d) h there j) →
-        IsKnown d v (id_behind d v h i id m) (unit_of (reader d) h i m)
-    step_there j m e known = subst (λ (n : ℕ). IsKnown d v (id_behind d v h i id n) (unit_of (reader d) h i n)) (sym e)
+    step_there : (j m : ℕ) → m ≡ k + j → IsKnown d v (id_after d v h there id_there j) (unit_of (reader d) h there j) →
+        IsKnown d v (id_after d v h i id m) (unit_of (reader d) h i m)
+    step_there j m e known = subst (λ (n : ℕ). IsKnown d v (id_after d v h i id n) (unit_of (reader d) h i n)) (sym e)
         (subst (λ (x : ℕ). IsKnown d v x (unit_of (reader d) h i (k + j))) (sym (id_split j))
-        (subst (λ (u : Option ℕ). IsKnown d v (id_behind d v h there id_there j) u) (sym (unit_split j)) known))
+        (subst (λ (u : Option ℕ). IsKnown d v (id_after d v h there id_there j) u) (sym (unit_split j)) known))
 
     pub linked_join : (l : ℕ) → IsLinkedOver d v h i id k → IsLinkedOver d v h there id_there l → IsLinkedOver d v h i id (k + l)
     linked_join l before behind = record {

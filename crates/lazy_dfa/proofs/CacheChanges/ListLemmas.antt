@@ -1,4 +1,4 @@
--- Where a list has the first element that passes a test, and lists that are one longer.
+-- The position of the first element of a list that passes a test, and lists that are longer by one element.
 use Rattle.std.proofs.Common.{◌≡◌, ℕ, zero, suc, ◌+◌, ◌-◌, ◌<◌, ◌≤◌, Bool, true, false, cond, ◌⊎◌, List, [], ◌∷◌, ◌++◌, length, get_or}
 use Rattle.std.proofs.Common.{take, drop, replicate, refl, sym, ap, ◌∙◌, inl, inr, ⊎_elim, arith, length-append, Option, Some, None}
 use Rattle.std.proofs.lemmas.List.{get_or-drop, get_or-take}
@@ -7,7 +7,7 @@ use Rattle.std.proofs.Math.Seq.{get_or-append_seam}
 use Rattle.std.specs.List.{position_from}
 use lib.ListN.{get_or-append}
 
--- the place of the last element too, where the others have none
+-- the position among the other elements, or that of the last one if none of the others passes
 abbrev pub or_last : Option ℕ → Bool → ℕ → Option ℕ
 or_last None b n = cond b (Some n) None
 or_last (Some k) b n = Some k
@@ -32,14 +32,14 @@ none_head : (c : Bool) (i : ℕ) (o : Option ℕ) → cond c (Some i) o ≡ None
 none_head true i o e = absurd cc
 none_head false i o e = (refl, e)
 
--- where none passes, none does at any place
+-- if none passes, none does at any position
 pub none_at : {X : Type 0} (p : X → Bool) (d : X) (i : ℕ) (xs : List X) (j : ℕ) → position_from p i xs ≡ None → j < length xs →
     p (get_or xs j d) ≡ false
 none_at p d i [] j e l = absurd (omega (arith, l))
 none_at p d i (x ∷ xs) zero e l = (none_head (p x) i (position_from p (i + 1) xs) e).0
 none_at p d i (x ∷ xs) (suc j) e l = none_at p d (i + 1) xs j (none_head (p x) i (position_from p (i + 1) xs) e).1 (omega (arith, l))
 
--- and the one that is found passes
+-- the element that is found passes
 pub found_from : {X : Type 0} (p : X → Bool) (d : X) (i : ℕ) (xs : List X) (k : ℕ) → position_from p i xs ≡ Some k →
     (i ≤ k) × (k - i < length xs) × (p (get_or xs (k - i) d) ≡ true)
 found_from p d i [] k e = cc
@@ -76,7 +76,7 @@ at_old xs x d k l = get_or-append xs (x ∷ []) d k l
 pub at_last : {X : Type 0} (xs : List X) (x d : X) (k : ℕ) → k ≡ length xs → get_or (xs ++ x ∷ []) k d ≡ x
 at_last xs x d k e = ap (λ (n : ℕ). get_or (xs ++ x ∷ []) n d) e ∙ get_or-append_seam xs x [] d
 
--- a list of which nothing is true
+-- a list in which all elements are false
 pub all_false : (n : ℕ) (xs : List Bool) → length xs ≡ n → ((b : ℕ) → b < n → get_or xs b false ≡ false) → xs ≡ replicate n false
 all_false zero [] e f = refl
 all_false zero (x ∷ xs) e f = absurd (omega (arith, e))
@@ -86,7 +86,7 @@ all_false (suc n) (x ∷ xs) e f =
     let rest : xs ≡ replicate n false = all_false n xs (omega (arith, e)) (λ b l. f (suc b) (omega (arith, l))) in
     ap (λ (y : Bool). y ∷ xs) head ∙ ap (λ (ys : List Bool). false ∷ ys) rest
 
--- what stands in a column of a table
+-- the content of a column of a table
 pub cell_of_column : (cells : List ℕ) (id c : ℕ) → id + c < length cells →
     get_or (take (length cells - c) (drop c cells)) id 0 ≡ get_or cells (id + c) 0
 cell_of_column cells id c h =

@@ -1,4 +1,4 @@
--- A cache that was just made is its automaton's.
+-- A cache that was just made is a cache of its automaton.
 use Rattle.std.proofs.Common.{◌≡◌, ℕ, ◌+◌, ◌<◌, ◌≤◌, Bool, true, false, length, sym, ap, subst, arith, None}
 use Rattle.search_core.specs.Index.{greatest_index}
 use Rattle.lazy_dfa.specs.Accounting.{Measures, start_count}

@@ -1,4 +1,4 @@
--- What start calls answer, by modes.
+-- The results of start calls, by their modes.
 use Rattle.std.proofs.Common.{◌≡◌, ℕ, zero, suc, ◌+◌, ◌*◌, ◌<◌, ◌≤◌, ◌≢◌, ◌⊎◌, Bool, true, false, List, [], ◌∷◌, length, get_or, refl, sym}
 use Rattle.std.proofs.Common.{ap, ◌∙◌, subst, inl, inr, ⊎_elim, arith, Option, Some, None, true≢false, Result, Ok, Err}
 use Rattle.std.specs.Prelude.{slice_get, if◌then◌else◌, MatchOption, ⊤}
@@ -10,10 +10,10 @@ use Rattle.lazy_dfa.specs.Accounting.{Measures, start_count}
 use Rattle.lazy_dfa.specs.ConfigValue.{starts_each_of}
 use Rattle.lazy_dfa.specs.Dfas.{Dfa, IsDfa, start_in, first_state}
 use Rattle.lazy_dfa.specs.Ids.{unknown_id}
-use Rattle.lazy_dfa.specs.Caches.{CacheValue, IsCacheOf, slot_of_start, needs_clear, lacks_room}
+use Rattle.lazy_dfa.specs.Caches.{CacheValue, IsCacheOf, slot_of_start, needs_clear, has_no_room}
 use Rattle.lazy_dfa.specs.Readers.{is_quit}
 use Rattle.lazy_dfa.specs.Steps.{Grew}
-use Rattle.lazy_dfa.specs.StartCalls.{mode_of, quit_refusal, behind_refusal, mode_refusal, start_refusal, start_slot, start_first}
+use Rattle.lazy_dfa.specs.StartCalls.{mode_of, rejected_by_quit, rejected_by_byte, rejected_mode, rejected_start, start_slot, start_first}
 use Rattle.lazy_dfa.specs.StartCalls.{start_noted}
 use Rattle.lazy_dfa.specs.StartCalls.{IsStartKnown, StartNeedsClear, ClearedFor, StartCleared, TagsStart, StartGivesUp}
 use Rattle.lazy_dfa.specs.declared.cache_error.CacheError.{CacheError}
@@ -34,9 +34,9 @@ at_least : (each : Bool) (p : ℕ) → 14 ≤ start_count each p
 at_least true p = omega arith
 at_least false p = omega arith
 
--- each mode that is supported, and has a state to start in, has its slots
+-- each mode that is supported and has a state to start in has its slots
 pub slot_inside : (d : Dfa) (v : CacheValue) (mode : Anchored) (s : Start) (q n : ℕ) → IsDfa d → IsCacheOf d v →
-    mode_refusal d mode ≡ None → n ≡ mode_of mode →
+    rejected_mode d mode ≡ None → n ≡ mode_of mode →
     start_in d n ≡ Some q → slot_of_start n s < length v.starts
 slot_inside d v No s q n made own fine e f =
     let few = (numbered_back s).1 in let long = starts_are d v made own in let least =
@@ -58,32 +58,32 @@ slot_inside d v (Pattern p) s q n made own fine e f =
     on true e = refl
     on false e = absurd cc
 
--- ---- refusals
+-- ---- errors
 
-quit_passes : (quits : Bool) (b : ℕ) (rest : Option StartError) → quit_refusal quits b rest ≡ None → rest ≡ None
+quit_passes : (quits : Bool) (b : ℕ) (rest : Option StartError) → rejected_by_quit quits b rest ≡ None → rest ≡ None
 quit_passes true b rest e = absurd cc
 quit_passes false b rest e = e
 
-pub mode_fine : (d : Dfa) (c : StartValue) → start_refusal d c ≡ None → mode_refusal d c.anchored ≡ None
+pub mode_fine : (d : Dfa) (c : StartValue) → rejected_start d c ≡ None → rejected_mode d c.anchored ≡ None
 mode_fine d c e = by_behind c.look_behind e
   where
-    by_behind : (o : Option ℕ) → behind_refusal d o (mode_refusal d c.anchored) ≡ None → mode_refusal d c.anchored ≡ None
+    by_behind : (o : Option ℕ) → rejected_by_byte d o (rejected_mode d c.anchored) ≡ None → rejected_mode d c.anchored ≡ None
     by_behind None e = e
-    by_behind (Some b) e = quit_passes (is_quit d.quits (Some b)) b (mode_refusal d c.anchored) e
+    by_behind (Some b) e = quit_passes (is_quit d.quits (Some b)) b (rejected_mode d c.anchored) e
 
--- ---- answers
+-- ---- results
 
--- where nothing was refused there is no refusal, and the mode is supported
+-- if the start wasn't rejected, there is no error and the mode is supported
 pub allowed_of : (d : Dfa) (c : StartValue) (r : Option StartError) (o : Option ℕ) (m : Anchored) → r ≡ None →
-    r ≡ behind_refusal d o (mode_refusal d m) → o ≡ c.look_behind → m ≡ c.anchored →
-    start_refusal d c ≡ None
+    r ≡ rejected_by_byte d o (rejected_mode d m) → o ≡ c.look_behind → m ≡ c.anchored →
+    rejected_start d c ≡ None
 allowed_of d c r o m none e f g =
-    ap (λ (o : Option ℕ). behind_refusal d o (mode_refusal d c.anchored)) (sym f)
-    ∙ (ap (λ (m : Anchored). behind_refusal d o (mode_refusal d m)) (sym g) ∙ (sym e ∙ none))
+    ap (λ (o : Option ℕ). rejected_by_byte d o (rejected_mode d c.anchored)) (sym f)
+    ∙ (ap (λ (m : Anchored). rejected_by_byte d o (rejected_mode d m)) (sym g) ∙ (sym e ∙ none))
 
 pub fine_of : (d : Dfa) (c : StartValue) (r : Option StartError) (o : Option ℕ) (m : Anchored) → r ≡ None →
-    r ≡ behind_refusal d o (mode_refusal d m) → o ≡ c.look_behind → m ≡ c.anchored →
-    mode_refusal d c.anchored ≡ None
+    r ≡ rejected_by_byte d o (rejected_mode d m) → o ≡ c.look_behind → m ≡ c.anchored →
+    rejected_mode d c.anchored ≡ None
 fine_of d c r o m none e f g = mode_fine d c (allowed_of d c r o m none e f g)
 
 told_known : (id n : ℕ) (r : Result ℕ CacheError) (t : Result ℕ StartError) → r ≡ Ok id → r ≡ Ok n → t ≡ Ok id → t ≡ Ok n
@@ -95,8 +95,8 @@ module _ (d : Dfa) (c : StartValue) (n q : ℕ) (s : Start) (named : Some q ≡ 
   same_slot : slot_of_start n s ≡ start_slot d c
   same_slot = ap (λ (m : ℕ). slot_of_start m s) number ∙ ap (λ (t : Start). slot_of_start (mode_of c.anchored) t) is
 
-  -- a start of which nothing is to be made is known
-  pub known_here : (v : CacheValue) → start_refusal d c ≡ None → IsStartKnown d v c → get_or v.starts (slot_of_start n s) 0 ≢ unknown_id
+  -- a start for which nothing has to be made is known
+  pub known_here : (v : CacheValue) → rejected_start d c ≡ None → IsStartKnown d v c → get_or v.starts (slot_of_start n s) 0 ≢ unknown_id
   known_here v none (inl r) z = r none
   known_here v none (inr (inl e)) z = let f : Some q ≡ None = named ∙ e in absurd cc
   known_here v none (inr (inr k)) z = k (ap (λ (i : ℕ). get_or v.starts i 0) (sym same_slot) ∙ z)
@@ -113,7 +113,7 @@ module _ (d : Dfa) (c : StartValue) (n q : ℕ) (s : Start) (named : Some q ≡ 
       }))
       e
 
-  -- a state that asks for a clear is that of a start which does
+  -- if a state needs a clear, so does its start
   pub start_needs : (v w : CacheValue) → Grew d v w ⊎ ((get_or v.starts (slot_of_start n s) 0 ≡ unknown_id) ×
       (needs_clear d v (first_state d s q) ≡ true)) →
       Grew d v w ⊎ StartNeedsClear d v c
@@ -130,7 +130,7 @@ module _ (d : Dfa) (c : StartValue) (n q : ℕ) (s : Start) (named : Some q ≡ 
   pub start_noted_at : (v : CacheValue) (id : ℕ) → get_or v.starts (slot_of_start n s) 0 ≡ id → start_noted d v c ≡ id
   start_noted_at v id e = ap (λ (i : ℕ). get_or v.starts i 0) (sym same_slot) ∙ e
 
-  -- one that was known is answered
+  -- if a start was known, its ID is the result
   pub start_known : (old : CacheValue) (id : ℕ) (r : Result ℕ CacheError) (t : Result ℕ StartError) → r ≡ Ok id → t ≡ Ok id →
       r ≡ Ok (get_or old.starts (slot_of_start n s) 0) → t ≡ Ok (start_noted d old c)
   start_known old id r t e f g =
@@ -144,20 +144,20 @@ module _ (d : Dfa) (c : StartValue) (n q : ℕ) (s : Start) (named : Some q ≡ 
       subst (λ (r : ℕ). TagsStart d old (start_first d c r) id) same (subst (λ (t : Start). TagsStart d old (first_state d t q) id) is h)
 
   pub start_fits : (old : CacheValue) → (get_or old.starts (slot_of_start n s) 0 ≡ unknown_id →
-      lacks_room d old (first_state d s q) ≡ false) →
+      has_no_room d old (first_state d s q) ≡ false) →
       StartGivesUp d old c → ⊥
   start_fits old h gives =
-      let lacks = subst (λ (o : Option ℕ). MatchOption o ⊥ (λ r. lacks_room d old (start_first d c r) ≡ true)) (sym named) gives.lacks in
+      let lacks = subst (λ (o : Option ℕ). MatchOption o ⊥ (λ r. has_no_room d old (start_first d c r) ≡ true)) (sym named) gives.lacks in
       let none = h (ap (λ (i : ℕ). get_or old.starts i 0) same_slot ∙ gives.unknown) in
-      true≢false (sym lacks ∙ (sym (ap (λ (t : Start). lacks_room d old (first_state d t q)) is) ∙ none))
+      true≢false (sym lacks ∙ (sym (ap (λ (t : Start). has_no_room d old (first_state d t q)) is) ∙ none))
 
--- what is refused, and what isn't
+-- what is rejected, and what isn't
 pub refusal_is : (d : Dfa) (c : StartValue) (r : Option StartError) (o : Option ℕ) (m : Anchored) (x : Option StartError) → r ≡ x →
-    r ≡ behind_refusal d o (mode_refusal d m) → o ≡ c.look_behind → m ≡ c.anchored →
-    start_refusal d c ≡ x
+    r ≡ rejected_by_byte d o (rejected_mode d m) → o ≡ c.look_behind → m ≡ c.anchored →
+    rejected_start d c ≡ x
 refusal_is d c r o m x is e f g =
-    ap (λ (o : Option ℕ). behind_refusal d o (mode_refusal d c.anchored)) (sym f)
-    ∙ (ap (λ (m : Anchored). behind_refusal d o (mode_refusal d m)) (sym g) ∙ (sym e ∙ is))
+    ap (λ (o : Option ℕ). rejected_by_byte d o (rejected_mode d c.anchored)) (sym f)
+    ∙ (ap (λ (m : Anchored). rejected_by_byte d o (rejected_mode d m)) (sym g) ∙ (sym e ∙ is))
 
 pub none_refused : (o : Option StartError) (r : Result ℕ StartError) → o ≡ None → MatchOption o ⊤ (λ e. r ≡ Err e)
 none_refused o r e = subst (λ (x : Option StartError). MatchOption x ⊤ (λ y. r ≡ Err y)) (sym e) tt

@@ -1,4 +1,4 @@
--- What start calls change of a cache, and which tag a start gets.
+-- What start calls change in a cache, and which tag a start gets.
 use Rattle.std.proofs.Common.{◌≡◌, ◌≢◌, ℕ, ◌*◌, ◌+◌, ◌%◌, ◌/◌, ◌<◌, ◌≤◌, Bool, true, false, ◌⊎◌, length, get_or, set, refl, sym, ap, ◌∙◌}
 use Rattle.std.proofs.Common.{subst, inl}
 use Rattle.std.proofs.Common.{inr, ⊎_elim, arith, true≢false, Option, Some, None, get_or-set_other}
@@ -17,7 +17,7 @@ use Rattle.lazy_dfa.specs.Caches.{CacheValue, IsShaped, IsCacheOf, Names, names_
 use Rattle.lazy_dfa.specs.Caches.{with_state}
 use Rattle.lazy_dfa.specs.Caches.{IsRow, id_at, state_at, cleared}
 use Rattle.lazy_dfa.specs.Steps.{Added, Grew, WasCleared, StepsTo, TagsStep}
-use Rattle.lazy_dfa.specs.StartCalls.{TagsStart, ClearedFor, PlacesStart, start_found, start_added}
+use Rattle.lazy_dfa.specs.StartCalls.{TagsStart, ClearedFor, GivesStart, start_found, start_added}
 use Rattle.lazy_dfa.proofs.CacheChanges.CacheLemmas.{IsShaped-cleared, fresh_at}
 use Rattle.lazy_dfa.proofs.CacheChanges.ChangeLemmas.{added_refl, added_state, column, row_kept, cleared_few, same_grew}
 use Rattle.lazy_dfa.proofs.CacheChanges.IsCacheLemmas.{alive_of, row_is_plain, same_row, le_of, names_starts}
@@ -27,7 +27,7 @@ use Rattle.lazy_dfa.proofs.CacheChanges.IsCacheLemmas.{alive_of, row_is_plain, s
 off : (n : ℕ) → n ≡ 0 → (n == 1) ≡ false
 off n e = ap (λ (m : ℕ). m == 1) e
 
--- the tag of starts is the one that was put
+-- the start tag is the one that was set
 pub has_start : (b m : Bool) (p : ℕ) → p < tag → has_tag start_tag (tagged b m p) ≡ b
 has_start true true p l = (Decides-eqb ((tagged true true p / start_tag) % 2) 1).1 (omega (arith, l))
 has_start true false p l = (Decides-eqb ((tagged true false p / start_tag) % 2) 1).1 (omega (arith, l))
@@ -59,18 +59,18 @@ unknown_start d v m i q id s own at inside named e high = ⊎_elim
     absurd (omega (arith, low, read, g)))
     (cases_eq (get_or v.starts (slot_of_start m s) 0) unknown_id)
 
--- a refusal of whatever kind
+-- an error of whatever kind
 pub on_err : {A B X : Type 0} (r : Result A B) → X → OnErr r X
 on_err (Ok a) x = tt
 on_err (Err e) x = x
 
--- where memory lacks or no room is made
+-- an allocation failed, or no room is made
 pub unmade_start : (d : Dfa) (v w : CacheValue) → (w ≡ v) ⊎ (w ≡ cleared v) → Grew d v w ⊎ WasCleared v w 1
 unmade_start d v w e = ⊎_elim (λ (f : w ≡ v). inl (subst (Grew d v) (sym f) (same_grew d v)))
     (λ (f : w ≡ cleared v). inr (cleared_few v w f)) e
 
 module _ (d : Dfa) (v mid new : CacheValue) (i id : ℕ) (s : StateValue) (made : IsDfa d) (own : IsCacheOf d v)
-    (unknown : get_or v.starts i 0 ≡ unknown_id) (placed : PlacesStart d v mid s id)
+    (unknown : get_or v.starts i 0 ≡ unknown_id) (placed : GivesStart d v mid s id)
     (e : new ≡ record mid { starts = set mid.starts i id }) where
   starts_on : Added v mid → (j : ℕ) → get_or v.starts j 0 ≢ unknown_id → get_or (set mid.starts i id) j 0 ≡ get_or v.starts j 0
   starts_on a j n = ⊎_elim
@@ -104,11 +104,11 @@ module _ (d : Dfa) (v mid new : CacheValue) (i id : ℕ) (s : StateValue) (made 
     starts = refl;
   }
 
-  -- the cache grew, or the start alone is left
+  -- the cache grew, or only the start is left
   pub start_remains : Grew d v new ⊎ ClearedFor d v new i s
   start_remains = by placed
     where
-      by : PlacesStart d v mid s id → Grew d v new ⊎ ClearedFor d v new i s
+      by : GivesStart d v mid s id → Grew d v new ⊎ ClearedFor d v new i s
       by (start_found f g) = inl (grew_start (subst (Added v) (sym f) (added_refl v own.shape)))
       by (start_added m room l f g) = ⊎_elim
           (λ (h : m ≡ v). inl (grew_start (subst (Added v) (sym (f ∙ ap (with_state (specializes d.options) s) h))
@@ -125,8 +125,8 @@ module _ (d : Dfa) (v mid new : CacheValue) (i id : ℕ) (s : StateValue) (made 
   pub start_kept : Grew d v new ⊎ WasCleared v new 1
   start_kept = ⊎_elim (λ (g : Grew d v new). inl g) (λ (x : ClearedFor d v new i s). inr x.cleared) start_remains
 
--- a start that is new has the tag that it should have
-pub start_tags : (d : Dfa) (v mid : CacheValue) (id : ℕ) (s : StateValue) → 0 < mid.stride → PlacesStart d v mid s id → TagsStart d v s id
+-- a new start has the tag that it should have
+pub start_tags : (d : Dfa) (v mid : CacheValue) (id : ℕ) (s : StateValue) → 0 < mid.stride → GivesStart d v mid s id → TagsStart d v s id
 start_tags d v mid id s positive (start_found f g) alive fresh = absurd (g alive fresh)
 start_tags d v mid id s positive (start_added m room l f g) alive fresh =
     let stride : mid.stride ≡ m.stride = ap (λ (x : CacheValue). x.stride) f in
@@ -134,13 +134,13 @@ start_tags d v mid id s positive (start_added m room l f g) alive fresh =
 
 -- ---- tags of states to which steps lead
 
--- a state that a step adds has no tag of starts
+-- a state that a step adds has no start tag
 pub made_tag : (mid : CacheValue) (s : StateValue) (to : ℕ) → 0 < mid.stride → length mid.cells + mid.stride ≤ tag →
     to ≡ new_id mid false s → has_tag start_tag to ≡ false
 made_tag mid s to positive l e =
     ap (has_tag start_tag) e ∙ has_start false (is_match s.matches) (length mid.cells) (omega (arith, l, positive))
 
--- so a step that is made has none where its state wasn't held
+-- so a step that is made gives no start tag to a state that wasn't held
 pub step_tags : (d : Dfa) (v mid : CacheValue) (id k : ℕ) (u : Option ℕ) (s : StateValue) (to : ℕ) → IsShaped v → mid ≡ v →
     k < length v.states → id ≡ id_at v k → s ≡ after d (state_at v k) u →
     (is_dead s ≡ false → row_holding s mid.states ≡ None → has_tag start_tag to ≡ false) → TagsStep d v id u to
@@ -150,11 +150,11 @@ step_tags d v mid id k u s to shape same_cache inside row value tag t h no_quit 
     tag (ap is_dead is ∙ alive) (ap (λ (x : StateValue). row_holding x mid.states) is
     ∙ (ap (λ (w : CacheValue). row_holding (after d t u) w.states) same_cache ∙ fresh))
 
--- one that is known leads to a state that is held
+-- a step that is known leads to a state that is held
 pub known_tags : (d : Dfa) (v : CacheValue) (id cell : ℕ) (u : Option ℕ) → StepsTo d v v id u cell → TagsStep d v id u cell
 known_tags d v id cell u leads t h no_quit alive fresh = absurd (not_fresh d v cell (after d t u) ((leads t h).goes no_quit) alive fresh)
 
--- and by a quit byte to the quit sentinel
+-- a known step by a quit byte leads to the quit sentinel
 pub known_quits : (d : Dfa) (v : CacheValue) (id cell : ℕ) (u : Option ℕ) → StepsTo d v v id u cell → IsRow v id →
     is_quit d.quits u ≡ true → cell ≡ quit_id v.stride
 known_quits d v id cell u leads row quit = (leads (state_at v row.0) (row.0, row.1, row.2, refl)).quits quit

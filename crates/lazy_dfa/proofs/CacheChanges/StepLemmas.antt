@@ -1,4 +1,4 @@
--- What steps promise that make no state: from a sentinel, one that is known, read from its cell, and one by a quit byte.
+-- What steps guarantee that make no state: a step from a sentinel, a known step that is read from its cell, and a step by a quit byte.
 use Rattle.std.proofs.Common.{◌≡◌, ℕ, ◌+◌, ◌%◌, true, false, get_or, set, Option, refl, sym, ap, ◌∙◌, subst, inl, inr, ⊎_elim, true≢false}
 use Rattle.std.specs.Prelude.{nat_le, Result, Ok, Err, IfOk}
 use Rattle.std.proofs.lemmas.Bool.{cases_Bool}
@@ -19,7 +19,7 @@ use Rattle.lazy_dfa.proofs.CacheChanges.IsCacheLemmas.{steps_of_row}
 use Rattle.lazy_dfa.proofs.CacheChanges.LinkedLemmas.{held_leads}
 use Rattle.lazy_dfa.proofs.CacheChanges.StartChangeLemmas.{known_tags, known_quits}
 
--- from a row a step of which nothing is noted isn't known
+-- a step from a row isn't known if nothing is stored for it
 pub not_known_there : (d : Dfa) (v : CacheValue) (id : ℕ) (u : Option ℕ) → IsShaped v → IsRow v id → noted d v id u ≡ unknown_id →
     IsKnown d v id u → ⊥
 not_known_there d v id u shape row unknown (inl is) = no_row v id shape is row
@@ -35,7 +35,7 @@ abbrev answer_of : Result ℕ CacheError → ℕ
 answer_of (Ok to) = to
 answer_of (Err e) = 0
 
--- what a step from an ID that is held answers is held
+-- the ID that a step from a held ID returns is held
 pub step_held : (d : Dfa) (id : ℕ) (u : Option ℕ) (old new : CacheValue) (m1 m2 n1 n2 : ℕ) (r : Result ℕ CacheError) → IsHeld old id →
     MakesStep d id u old new m1 m2 n1 n2 r → IfOk r (λ to. IsHeld new to)
 step_held d id u old new m1 m2 n1 n2 (Err e) held x = tt
@@ -71,7 +71,7 @@ sentinel_step d v id u shape is m n = record {
   inserted = none_counted n (most_inserts d);
 }
 
--- one that is known leads where its cell says
+-- a known step leads where its cell says
 module _ (d : Dfa) (v : CacheValue) (id c to : ℕ) (u : Option ℕ) (made : IsDfa d) (own : IsCacheOf d v) (row : IsRow v id)
     (unit : IsUnit u) (class : c ≡ class_of d.classes u) (read : to ≡ get_or v.cells (id % tag + c) 0)
     (known : nat_le unknown_id to ≡ false) where
@@ -103,7 +103,7 @@ module _ (d : Dfa) (v : CacheValue) (id c to : ℕ) (u : Option ℕ) (made : IsD
     inserted = none_counted n (most_inserts d);
   }
 
--- by a quit byte the sentinel is noted
+-- for a quit byte the sentinel is stored
 module _ (d : Dfa) (v new : CacheValue) (id c cell to : ℕ) (u : Option ℕ) (made : IsDfa d) (own : IsCacheOf d v) (row : IsRow v id)
     (unit : IsUnit u) (class : c ≡ class_of d.classes u) (read : cell ≡ get_or v.cells (id % tag + c) 0)
     (unread : nat_le unknown_id cell ≡ true) (quit : is_quit d.quits u ≡ true) (sentinel : to ≡ quit_id v.stride)

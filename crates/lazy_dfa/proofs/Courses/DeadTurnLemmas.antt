@@ -1,4 +1,4 @@
--- A turn of a pass by a byte that is known to lead to the dead state.
+-- A turn of a scan by a byte that is known to lead to the dead state.
 use Rattle.std.proofs.Common.{◌≡◌, ◌≢◌, ℕ, ◌+◌, ◌%◌, ◌<◌, Bool, true, false, Option, Some, None, get_or, refl, ap, ◌∙◌, ⊎_elim, arith}
 use Rattle.std.specs.Prelude.{nat_le, min, Ok}
 use Rattle.std.proofs.lemmas.Bool.{cases_Bool}
@@ -7,15 +7,15 @@ use Rattle.search_types.specs.Found.{HalfFound}
 use Rattle.search_types.specs.Inputs.{Search}
 use Rattle.lazy_dfa.specs.Caches.{CacheValue, IsCacheOf, IsRow, greatest, progress_len, moved_to}
 use Rattle.lazy_dfa.specs.declared.progress.Progress.{Progress}
-use Rattle.lazy_dfa.specs.declared.turns.Seen.{Seen}
-use Rattle.lazy_dfa.specs.declared.turns.Turn.TheVariants.{Ends}
+use Rattle.lazy_dfa.specs.declared.scan_steps.Seen.{Seen}
+use Rattle.lazy_dfa.specs.declared.scan_steps.Turn.TheVariants.{Ends}
 use Rattle.lazy_dfa.specs.Dfas.{Dfa, IsDfa, IsUnit, class_of}
 use Rattle.lazy_dfa.specs.Ids.{tag, has_tag, dead_tag, unknown_id}
-use Rattle.lazy_dfa.specs.Passes.{index_at}
+use Rattle.lazy_dfa.specs.Scans.{index_at}
 use Rattle.lazy_dfa.specs.Points.{point}
 use Rattle.lazy_dfa.specs.SearchAnswers.{pair_of}
-use Rattle.lazy_dfa.specs.PassPlaces.{IsWithinSpan, last_place, finished, EndsWith}
-use Rattle.lazy_dfa.specs.Turns.{IsTurn}
+use Rattle.lazy_dfa.specs.ScanOffsets.{IsWithinSpan, last_offset, finished, EndsWith}
+use Rattle.lazy_dfa.specs.ScanSteps.{IsTurn}
 use Rattle.lazy_dfa.proofs.CacheChanges.IsCacheLemmas.{le_of}
 use Rattle.lazy_dfa.proofs.CacheChanges.StepLemmas.{known_held, known_step}
 use Rattle.lazy_dfa.proofs.CacheChanges.LinkedLemmas.{is_cache_moved}
@@ -37,36 +37,38 @@ module _ (d : Dfa) (q : Search) (is_reverse : Bool) (same : is_reverse ≡ d.nfa
     (m n at id c to index b : ℕ) (best : Option HalfFound) (made : IsDfa d) (own : IsCacheOf d v) (row : IsRow v id)
     (unit : IsUnit (Some b)) (class : c ≡ class_of d.classes (Some b)) (read : to ≡ get_or v.cells (id % tag + c) 0)
     (known : to < unknown_id) (dead : has_tag dead_tag to ≡ true) (is : Some b ≡ unit_at d.nfa.automaton.reverse q.haystack at)
-    (here : index ≡ index_at is_reverse at) (within : IsWithinSpan q at) (left : at ≢ last_place is_reverse q) where
-  -- the cache as it would be where the search was told the byte before it is read
-  abbrev told : CacheValue
-  told = record v { progress = moved_to index v.progress }
+    (here : index ≡ index_at is_reverse at) (within : IsWithinSpan q at) (left : at ≢ last_offset is_reverse q) where
+  -- the cache as it would be if the progress were reported before the byte is read
+  abbrev reported : CacheValue
+  reported = record v { progress = moved_to index v.progress }
 
-  mine : IsCacheOf d told
-  mine = is_cache_moved d v told refl own
+  mine : IsCacheOf d reported
+  mine = is_cache_moved d v reported refl own
 
-  there : IsRow told id
-  there = row_moved v told id refl row
+  there : IsRow reported id
+  there = row_moved v reported id refl row
 
   abbrev seen : Seen
   seen = record { turn = Ends; id = to; best = best }
 
-  turn : IsTurn d q.earliest q.haystack (Some b) (point told m n at id (pair_of best)) told m n (Ok seen)
+  turn : IsTurn d q.earliest q.haystack (Some b) (point reported m n at id (pair_of best)) reported m n (Ok seen)
   turn =
       let low = above_is_known unknown_id to known in
-      turn_made d q.haystack told at id m n (Some b) (pair_of best) q.earliest mine there is told m n to mine
-      (known_step d told id c to (Some b) made mine there unit class read low m n) seen
-      (see_dead told to at (pair_of best) q.earliest seen mine.shape
-      (known_held d told id c to (Some b) made mine there unit class read low) refl dead refl refl)
+      turn_made d q.haystack reported at id m n (Some b) (pair_of best) q.earliest mine there is reported m n to mine
+      (known_step d reported id c to (Some b) made mine there unit class read low m n) seen
+      (see_dead reported to at (pair_of best) q.earliest seen mine.shape
+      (known_held d reported id c to (Some b) made mine there unit class read low) refl dead refl refl)
 
-  finished_again : finished index v ≡ finished index told
+  finished_again : finished index v ≡ finished index reported
   finished_again = ap (λ (p : Option Progress). record v { searched = min (v.searched + progress_len p) greatest; progress = None })
       (moved_again index v.progress)
 
   pub dead_turn : (new : CacheValue) → new ≡ finished index v → EndsWith d q (point v m n at id (pair_of best)) new m n (pair_of best)
   dead_turn new e =
-      byte_ends d q is_reverse same v told told m n m n at id (pair_of best) (Some b) to (pair_of best) q.earliest Ends refl turn new index
+      byte_ends d q is_reverse same v reported reported m n m n at id (pair_of best) (Some b) to (pair_of best) q.earliest Ends refl turn
+      new index
       here refl (e ∙ finished_again) within left
-      (λ cleared step. byte_finished q is_reverse d.nfa.automaton.reverse same v told told at true true cleared step index here left refl
+      (λ cleared step. byte_finished q is_reverse d.nfa.automaton.reverse same v reported reported at true true cleared step index here
+      left refl
       new (e ∙ finished_again) refl)
       refl

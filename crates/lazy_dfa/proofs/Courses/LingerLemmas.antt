@@ -1,23 +1,23 @@
--- Runs over known steps through states that match and others: no unit, one unit more, and where they lead a pass.
+-- Runs over known steps, through states that match and states that don't: no unit, one unit more, and where they lead a scan.
 use Rattle.std.proofs.Common.{◌≡◌, ◌≢◌, ℕ, suc, ◌+◌, ◌-◌, ◌/◌, ◌%◌, ◌<◌, ◌≤◌, Bool, true, false, List, [], ◌∷◌, Option, refl, sym, ap, ◌∙◌}
 use Rattle.std.proofs.Common.{subst, ⊎_elim, arith, true≢false}
 use Rattle.std.specs.Prelude.{◌&&◌, not}
 use Rattle.std.proofs.lemmas.Bool.{cases_Bool, cases_eq, cases_lt}
 use Rattle.std.proofs.lemmas.Bool.Decides.{Decides-eqb}
-use Rattle.nfa_core.specs.Ways.{place_of}
+use Rattle.nfa_core.specs.Ways.{offset_of}
 use Rattle.determinize_core.specs.States.{StateValue}
 use Rattle.determinize_core.specs.StateBytes.{is_match}
 use Rattle.search_types.specs.Inputs.{Search}
 use Rattle.lazy_dfa.specs.Caches.{CacheValue, IsCacheOf, IsRow, HeldAt, Leads, state_at}
-use Rattle.lazy_dfa.specs.Courses.{state_behind, HasNoStop}
+use Rattle.lazy_dfa.specs.Courses.{state_after, HasNoStop}
 use Rattle.lazy_dfa.specs.Dfas.{Dfa, IsDfa, IsUnit, after, reader}
 use Rattle.lazy_dfa.specs.Ids.{tag, start_tag, has_tag, match_tag, unknown_id}
-use Rattle.lazy_dfa.specs.Lingering.{Lingers}
-use Rattle.lazy_dfa.specs.PassLaws.{unit_of}
-use Rattle.lazy_dfa.specs.Passes.{best_recorded, is_empty}
+use Rattle.lazy_dfa.specs.MatchLoops.{Lingers}
+use Rattle.lazy_dfa.specs.ScanLaws.{unit_of}
+use Rattle.lazy_dfa.specs.Scans.{best_recorded, is_empty}
 use Rattle.lazy_dfa.specs.Points.{GoesTo, point}
 use Rattle.lazy_dfa.specs.Readers.{is_quit}
-use Rattle.lazy_dfa.specs.PassPlaces.{left_at, GoesBetween}
+use Rattle.lazy_dfa.specs.ScanOffsets.{left_at, GoesBetween}
 use Rattle.lazy_dfa.specs.Steps.{noted}
 use Rattle.lazy_dfa.proofs.CacheChanges.AddsLemmas.{step_adds_none}
 use Rattle.lazy_dfa.proofs.CacheChanges.ChangeLemmas.{same_grew, grew_refl, one_state}
@@ -32,7 +32,7 @@ use Rattle.lazy_dfa.proofs.Courses.TurnStepLemmas.{row_matches}
 match_bit : (id : ℕ) → tag ≤ id → id < start_tag → has_tag match_tag id ≡ true
 match_bit id l m = (Decides-eqb ((id / match_tag) % 2) 1).1 (omega (arith, l, m))
 
--- of two matches that are recorded one after the other the last one is left
+-- if two matches are recorded one after the other, the last one is kept
 recorded_last : (s t : StateValue) (i j : ℕ) (best : Option (ℕ × ℕ)) → is_match t.matches ≡ true →
     best_recorded j t (best_recorded i s best) ≡ best_recorded j t best
 recorded_last s t i j best e = by_list t.matches e
@@ -73,7 +73,7 @@ module _ (d : Dfa) (v : CacheValue) (id next : ℕ) (u : Option ℕ) (own : IsCa
       sym (one_state v next r.0 t own.shape r.1 r.2 h) ∙ one_state v next r.0 (after d s u) own.shape r.1 r.2 (held_next s g)
 
   goes_one : (h : List ℕ) (at m n : ℕ) (best : Option (ℕ × ℕ)) (t : StateValue) → HeldAt v next t → u ≡ unit_of (reader d) h at 0 →
-      GoesTo d h (point v m n at id best) (point v m n (place_of d.nfa.automaton.reverse at 1) next (best_recorded at t best)) 1
+      GoesTo d h (point v m n at id best) (point v m n (offset_of d.nfa.automaton.reverse at 1) next (best_recorded at t best)) 1
   goes_one h at m n best t held is = goes_step d h v at id u own row is quiet v next m m n n best (best_recorded at t best) own
       (grew_refl d v)
       leads (λ s g f. sym read) (λ k. refl) (λ k. (refl, refl)) (omega arith) (omega arith)
@@ -83,18 +83,18 @@ module _ (d : Dfa) (v : CacheValue) (id next : ℕ) (u : Option ℕ) (own : IsCa
   -- a run that came to the ID goes on
   module _ (h : List ℕ) (made : IsDfa d) (bytes : AreBytes h) (from first at met last k : ℕ) (start : IsRow v first)
       (so_far : Lingers d h v from first at id met last k)
-      (at2 k2 : ℕ) (is : u ≡ unit_of (reader d) h at 0) (place : place_of d.nfa.automaton.reverse at 1 ≡ at2) (count : k + 1 ≡ k2) where
+      (at2 k2 : ℕ) (is : u ≡ unit_of (reader d) h at 0) (place : offset_of d.nfa.automaton.reverse at 1 ≡ at2) (count : k + 1 ≡ k2) where
     abbrev Goes : ℕ → ℕ → Option (ℕ × ℕ) → Option (ℕ × ℕ) → Type 0
     Goes m n best b = GoesTo d h (point v m n from first best) (point v m n at2 next b) k2
 
-    -- one unit more, with what is recorded before it and behind it
+    -- one unit more, with what is recorded before it and after it
     on : (m n : ℕ) (best b c : Option (ℕ × ℕ)) → GoesTo d h (point v m n from first best) (point v m n at id b) k →
-        GoesTo d h (point v m n at id b) (point v m n (place_of d.nfa.automaton.reverse at 1) next c) 1 → Goes m n best c
+        GoesTo d h (point v m n at id b) (point v m n (offset_of d.nfa.automaton.reverse at 1) next c) 1 → Goes m n best c
     on m n best b c f g =
         subst (λ (j : ℕ). GoesTo d h (point v m n from first best) (point v m n at2 next c) j) count
         (subst (λ (i : ℕ). GoesTo d h (point v m n from first best) (point v m n i next c) (k + 1)) place
         (goes_on d h made bytes (point v m n from first best) (point v m n at id b)
-        (point v m n (place_of d.nfa.automaton.reverse at 1) next c) k 1 own own start f g))
+        (point v m n (offset_of d.nfa.automaton.reverse at 1) next c) k 1 own own start f g))
 
     lingers_plain : next < tag → Lingers d h v from first at2 next met last k2
     lingers_plain low = record {
@@ -146,14 +146,14 @@ lingers_none d h v at id met last k own row e z = record {
   goes = λ n. absurd (n e);
 }
 
--- ---- where such a run leads a pass
+-- ---- where such a run leads a scan
 
--- a pass that doesn't ask for the earliest end stops nowhere
+-- a scan that doesn't ask for the earliest end has no stop
 never_stops : (d : Dfa) (earliest : Bool) (h : List ℕ) (at : ℕ) (s : StateValue) (k : ℕ) → earliest ≡ false →
     HasNoStop (reader d) earliest h at s k
-never_stops d earliest h at s k e j l = ap (λ (x : Bool). x && not (is_empty (state_behind (reader d) h at s (suc j)).matches)) e
+never_stops d earliest h at s k e j l = ap (λ (x : Bool). x && not (is_empty (state_after (reader d) h at s (suc j)).matches)) e
 
--- the run was handed the haystack of the input and its last place, and the match behind it is told by the state that it met last
+-- The run was passed the haystack of the input and its last offset. The match after the run is that of the last matching state on it.
 module _ (d : Dfa) (v : CacheValue) (q : Search) (h : List ℕ) (is_reverse : Bool) (from first at id met last end : ℕ) (own : IsCacheOf d v)
     (same : h ≡ q.haystack) (late : q.earliest ≡ false) (before behind : Option (ℕ × ℕ))
     (stays : unknown_id ≤ met → behind ≡ before) (best : met < unknown_id → (s : StateValue) → HeldAt v met s →

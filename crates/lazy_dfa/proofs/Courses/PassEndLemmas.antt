@@ -1,13 +1,13 @@
--- How a pass goes on through the units that it reads, and how it ends.
+-- How a scan goes on through the units that it reads, and how it ends.
 use Rattle.std.proofs.Common.{◌≡◌, ℕ, zero, suc, ◌+◌, ◌-◌, ◌<◌, ◌≤◌, Bool, true, false, List, Option, Some, if◌then◌else◌, refl, sym, ap}
 use Rattle.std.proofs.Common.{◌∙◌, arith, ◌⊎◌, ⊎_elim}
 use Rattle.std.proofs.lemmas.Bool.{cases_Bool}
 use Rattle.search_core.specs.ByteSets.{has}
-use Rattle.nfa_core.specs.Ways.{place_of}
+use Rattle.nfa_core.specs.Ways.{offset_of}
 use Rattle.determinize_core.specs.States.{StateValue}
-use Rattle.lazy_dfa.specs.Courses.{state_behind, best_behind, IsRead, AreRead, stops_behind, HasNoStop}
-use Rattle.lazy_dfa.specs.Passes.{index_at, is_dead, unless_quit, best_recorded, next_place, pass_from}
-use Rattle.lazy_dfa.specs.PassLaws.{units_read, unit_of}
+use Rattle.lazy_dfa.specs.Courses.{state_after, best_after, IsRead, AreRead, stops_after, HasNoStop}
+use Rattle.lazy_dfa.specs.Scans.{index_at, is_dead, unless_quit, best_recorded, next_offset, pass_from}
+use Rattle.lazy_dfa.specs.ScanLaws.{units_read, unit_of}
 use Rattle.lazy_dfa.specs.Readers.{Reader, HalfAnswer, found, quit}
 use Rattle.lazy_dfa.proofs.HalfSearches.TurnLemmas.{place_next, goes_on}
 use Rattle.nfa_core.proofs.ForCallers.{place_zero}
@@ -19,13 +19,13 @@ quits_here quits u index b rest e f =
 
 module _ (r : Reader) (earliest : Bool) (h : List ℕ) (i : ℕ) (v : StateValue) where
   abbrev place : ℕ → ℕ
-  place k = place_of r.automaton.reverse i k
+  place k = offset_of r.automaton.reverse i k
 
   abbrev state : ℕ → StateValue
-  state k = state_behind r h i v k
+  state k = state_after r h i v k
 
   abbrev stops : ℕ → Bool
-  stops k = stops_behind r earliest h i v k
+  stops k = stops_after r earliest h i v k
 
   abbrev pass_at : ℕ → ℕ → Option (ℕ × ℕ) → HalfAnswer
   pass_at n k best = pass_from r earliest h n (place k) (state k) best
@@ -39,7 +39,7 @@ module _ (r : Reader) (earliest : Bool) (h : List ℕ) (i : ℕ) (v : StateValue
   rest n k best j = pass_from r earliest h n j (state (suc k)) (best_recorded (place k) (state (suc k)) best)
 
   abbrev behind : ℕ → ℕ → Option (ℕ × ℕ) → Bool → HalfAnswer
-  behind n k best stop = if stop then found (best_recorded (place k) (state (suc k)) best) else rest n k best (next_place r (place k))
+  behind n k best stop = if stop then found (best_recorded (place k) (state (suc k)) best) else rest n k best (next_offset r (place k))
 
   alive : (n k : ℕ) (best : Option (ℕ × ℕ)) → is_dead (state k) ≡ false →
       pass_at (suc n) k best ≡ unless_quit r.quits (unit_of r h i k) (index_at r.automaton.reverse (place k)) (behind n k best (stops k))
@@ -77,7 +77,7 @@ module _ (r : Reader) (earliest : Bool) (h : List ℕ) (i : ℕ) (v : StateValue
   -- ---- how many units are read
 
   abbrev more : ℕ → ℕ → Bool → ℕ
-  more n k stop = if stop then 1 else suc (units_read r earliest h n (next_place r (place k)) (state (suc k)))
+  more n k stop = if stop then 1 else suc (units_read r earliest h n (next_offset r (place k)) (state (suc k)))
 
   alive_units : (n k : ℕ) → is_dead (state k) ≡ false → units_at (suc n) k ≡ more n k (stops k)
   alive_units n k e = ap (λ (d : Bool). if d then 0 else more n k (stops k)) e
@@ -111,14 +111,14 @@ module _ (r : Reader) (earliest : Bool) (h : List ℕ) (i : ℕ) (v : StateValue
   none_more n = omega arith
 
   pub goes : (m n : ℕ) (best : Option (ℕ × ℕ)) → AreRead r h i v m → HasNoStop r earliest h i v m →
-      pass_from r earliest h (m + n) i v best ≡ pass_at n m (best_behind r h i v best m)
+      pass_from r earliest h (m + n) i v best ≡ pass_at n m (best_after r h i v best m)
   goes zero n best read free = ap (λ (k : ℕ). pass_from r earliest h k i v best) (none_more n)
       ∙ ap (λ (j : ℕ). pass_from r earliest h n j v best) (sym (place_zero r.automaton.reverse i))
   goes (suc m) n best read free =
       let same : suc m + n ≡ m + suc n = omega arith in
       ap (λ (k : ℕ). pass_from r earliest h k i v best) same
       ∙ goes m (suc n) best (fewer m read) (fewer_stops m free)
-      ∙ one_on n m (best_behind r h i v best m) (read m (omega arith)) (free m (omega arith))
+      ∙ one_on n m (best_after r h i v best m) (read m (omega arith)) (free m (omega arith))
 
   pub goes_units : (m n : ℕ) → AreRead r h i v m → HasNoStop r earliest h i v m →
       units_read r earliest h (m + n) i v ≡ m + units_at n m
@@ -134,7 +134,7 @@ module _ (r : Reader) (earliest : Bool) (h : List ℕ) (i : ℕ) (v : StateValue
       later : (m k : ℕ) → m + suc k ≡ suc m + k
       later m k = omega arith
 
-  -- ---- ends, of a pass through n units
+  -- ---- ends, of a scan through n units
 
   split : (m n : ℕ) → m ≤ n → n ≡ m + (n - m)
   split m n l = omega (arith, l)
@@ -143,7 +143,7 @@ module _ (r : Reader) (earliest : Bool) (h : List ℕ) (i : ℕ) (v : StateValue
   one_less m n l = omega (arith, l)
 
   abbrev best_at : Option (ℕ × ℕ) → ℕ → Option (ℕ × ℕ)
-  best_at best k = best_behind r h i v best k
+  best_at best k = best_after r h i v best k
 
   pub ends_dead : (m n : ℕ) (best : Option (ℕ × ℕ)) → m ≤ n → AreRead r h i v m → HasNoStop r earliest h i v m → is_dead (state m) ≡ true →
       (pass_from r earliest h n i v best ≡ found (best_at best m)) × (units_read r earliest h n i v ≡ m)
@@ -179,7 +179,7 @@ module _ (r : Reader) (earliest : Bool) (h : List ℕ) (i : ℕ) (v : StateValue
       whole : (n : ℕ) → n ≡ n + 0
       whole n = omega arith
 
-  -- at the last unit it ends either way
+  -- at the last unit it ends in any case
   pub ends_last : (m : ℕ) (best : Option (ℕ × ℕ)) → AreRead r h i v (suc m) → HasNoStop r earliest h i v m →
       (pass_from r earliest h (suc m) i v best ≡ found (best_at best (suc m))) × (units_read r earliest h (suc m) i v ≡ suc m)
   ends_last m best read free = ⊎_elim

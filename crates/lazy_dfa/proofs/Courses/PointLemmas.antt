@@ -1,4 +1,4 @@
--- How a pass comes from point to point: not at all, further, and through one unit.
+-- How a scan gets from point to point: not at all, further, and through one unit.
 use Rattle.std.proofs.Common.{◌≡◌, ◌≢◌, ◌⊎◌, ℕ, zero, suc, ◌+◌, ◌-◌, ◌*◌, ◌<◌, ◌≤◌, Bool, true, false, List, length, Option, Some, None}
 use Rattle.std.proofs.Common.{get_or, refl, sym, ap, ◌∙◌, subst, inl, inr, ⊎_elim, arith}
 use Rattle.std.specs.Prelude.{min, IsSome}
@@ -6,20 +6,20 @@ use Rattle.std.proofs.lemmas.Bool.{cases_Bool}
 use Rattle.std.proofs.lemmas.Option.{slice_get-get_or}
 use Rattle.std.proofs.Math.Nat.{add-mul}
 use Rattle.search_core.specs.Text.{byte_before}
-use Rattle.nfa_core.specs.Ways.{place_of}
+use Rattle.nfa_core.specs.Ways.{offset_of}
 use Rattle.determinize_core.specs.States.{StateValue}
 use Rattle.determinize_core.specs.StateBytes.{is_match}
 use Rattle.determinize_core.specs.Steps.{unit_at}
 use Rattle.lazy_dfa.specs.Caches.{CacheValue, IsShaped, IsCacheOf, IsRow, HeldAt, Names, names_dead, names_held, Leads, begun_anew}
 use Rattle.lazy_dfa.specs.Caches.{state_at, greatest}
 use Rattle.lazy_dfa.specs.Changes.{unchanged, IsMadeAt}
-use Rattle.lazy_dfa.specs.Courses.{state_behind, best_behind}
+use Rattle.lazy_dfa.specs.Courses.{state_after, best_after}
 use Rattle.lazy_dfa.specs.declared.progress.Progress.{Progress}
 use Rattle.lazy_dfa.specs.Dfas.{Dfa, IsDfa, IsUnit, after, reader}
 use Rattle.lazy_dfa.specs.Ids.{tag, tagged, unknown_id, is_sentinel}
-use Rattle.lazy_dfa.specs.Linked.{led, id_behind, IsLinkedOver, CacheGrows, HasCleared, IsMoved}
-use Rattle.lazy_dfa.specs.PassLaws.{unit_of}
-use Rattle.lazy_dfa.specs.Passes.{best_recorded, is_dead}
+use Rattle.lazy_dfa.specs.Linked.{led, id_after, IsLinkedOver, CacheGrows, HasCleared, IsMoved}
+use Rattle.lazy_dfa.specs.ScanLaws.{unit_of}
+use Rattle.lazy_dfa.specs.Scans.{best_recorded, is_dead}
 use Rattle.lazy_dfa.specs.Points.{Point, began, Follows, IsFree, GoesTo, point}
 use Rattle.lazy_dfa.specs.Readers.{is_quit}
 use Rattle.lazy_dfa.specs.Steps.{IsHeld, StepsTo, Grew, WasCleared, KeepsOrClears, noted, IsKnown, IsNoted, StepAdds, most_inserts}
@@ -49,7 +49,7 @@ held_known v id i (inr (inr r)) z = let l = row_is_plain v id r.0 i r.1 r.2 in o
 pub row_known : (v : CacheValue) (id : ℕ) → IsShaped v → IsRow v id → id ≢ unknown_id
 row_known v id i r = held_known v id i (inr (inr r))
 
--- of a row only the state that it holds is named
+-- an ID of a row names only the state that the row holds
 pub held_plain : (v : CacheValue) (id : ℕ) (s : StateValue) → id < 0x2000_0000 → Names v id s → HeldAt v id s
 held_plain v id s l (names_dead e f) = absurd (omega (arith, e, l))
 held_plain v id s l (names_held h) = h
@@ -83,13 +83,13 @@ module _ (d : Dfa) (h : List ℕ) where
     changes = λ s named. unchanged p.cache 0 refl;
   }
 
-  -- the same to a cache in which only the place of the search is another one
+  -- a scan also goes to a cache that differs only in its progress
   pub goes_moved : (a : Point) (v w : CacheValue) (m n at id k : ℕ) (best : Option (ℕ × ℕ)) → IsMoved v w → w.searched ≡ v.searched →
       began w.progress ≡ began v.progress →
       (IsSome v.progress → IsSome w.progress) → GoesTo d h a (point v m n at id best) k → GoesTo d h a (point w m n at id best) k
   goes_moved a v w m n at id k best e searched begins runs g = record {
     place = g.place;
-    names = λ s named. names_moved d v w e id (state_behind (reader d) h a.at s k) (g.names s named);
+    names = λ s named. names_moved d v w e id (state_after (reader d) h a.at s k) (g.names s named);
     read = g.read;
     best = g.best;
     kept = ⊎_elim
@@ -122,24 +122,24 @@ module _ (d : Dfa) (h : List ℕ) where
         clears = (grows_moved d v w e).clears ∙ f.clears;
       }
 
--- ---- further
+-- ---- further on
 
--- a path to a place and an ID, and on from there
-module _ (d : Dfa) (v : CacheValue) (h : List ℕ) (i id j x k : ℕ) (there : j ≡ place_of d.nfa.automaton.reverse i k)
-    (leads : id_behind d v h i id k ≡ x) where
-  pub id_on : (l : ℕ) → id_behind d v h i id (k + l) ≡ id_behind d v h j x l
+-- a path to an offset and an ID, and on from there
+module _ (d : Dfa) (v : CacheValue) (h : List ℕ) (i id j x k : ℕ) (there : j ≡ offset_of d.nfa.automaton.reverse i k)
+    (leads : id_after d v h i id k ≡ x) where
+  pub id_on : (l : ℕ) → id_after d v h i id (k + l) ≡ id_after d v h j x l
   id_on l = id_split d v h i id k l
-      ∙ (ap (λ (y : ℕ). id_behind d v h (place_of d.nfa.automaton.reverse i k) y l) leads
-      ∙ ap (λ (p : ℕ). id_behind d v h p x l) (sym there))
+      ∙ (ap (λ (y : ℕ). id_after d v h (offset_of d.nfa.automaton.reverse i k) y l) leads
+      ∙ ap (λ (p : ℕ). id_after d v h p x l) (sym there))
 
   pub linked_from : (l : ℕ) → IsLinkedOver d v h i id (k + l) → IsLinkedOver d v h j x l
   linked_from l linked =
       subst (λ (p : ℕ). IsLinkedOver d v h p x l) (sym there)
-      (subst (λ (y : ℕ). IsLinkedOver d v h (place_of d.nfa.automaton.reverse i k) y l) leads (linked_split d v h i id k l linked))
+      (subst (λ (y : ℕ). IsLinkedOver d v h (offset_of d.nfa.automaton.reverse i k) y l) leads (linked_split d v h i id k l linked))
 
   pub linked_on : (l : ℕ) → IsLinkedOver d v h i id k → IsLinkedOver d v h j x l → IsLinkedOver d v h i id (k + l)
   linked_on l before behind = linked_join d v h i id k l before
-      (subst (λ (y : ℕ). IsLinkedOver d v h (place_of d.nfa.automaton.reverse i k) y l) (sym leads)
+      (subst (λ (y : ℕ). IsLinkedOver d v h (offset_of d.nfa.automaton.reverse i k) y l) (sym leads)
       (subst (λ (p : ℕ). IsLinkedOver d v h p x l) there behind))
 
 pub sum_of : (a b c k l m : ℕ) → b ≤ a + k * m → c ≤ b + l * m → c ≤ a + (k + l) * m
@@ -188,14 +188,14 @@ module _ (d : Dfa) (h : List ℕ) (made : IsDfa d) (bytes : AreBytes h) (a b c :
 
   pub goes_on : GoesTo d h a c (k + l)
   goes_on = record {
-    place = g.place ∙ (ap (λ (p : ℕ). place_of d.nfa.automaton.reverse p l) f.place ∙ place_add d.nfa.automaton.reverse a.at k l);
+    place = g.place ∙ (ap (λ (p : ℕ). offset_of d.nfa.automaton.reverse p l) f.place ∙ place_add d.nfa.automaton.reverse a.at k l);
     names = λ s named. subst (Names c.cache c.id) (state_there (reader d) h a.at b.at k f.place s l)
-        (g.names (state_behind (reader d) h a.at s k) (f.names s named));
+        (g.names (state_after (reader d) h a.at s k) (f.names s named));
     read = λ s named. read_there (reader d) h a.at b.at k f.place s l (f.read s named)
-        (g.read (state_behind (reader d) h a.at s k) (f.names s named));
+        (g.read (state_after (reader d) h a.at s k) (f.names s named));
     best = λ s named.
-        g.best (state_behind (reader d) h a.at s k) (f.names s named)
-        ∙ (ap (λ (o : Option (ℕ × ℕ)). best_behind (reader d) h b.at (state_behind (reader d) h a.at s k) o l) (f.best s named)
+        g.best (state_after (reader d) h a.at s k) (f.names s named)
+        ∙ (ap (λ (o : Option (ℕ × ℕ)). best_after (reader d) h b.at (state_after (reader d) h a.at s k) o l) (f.best s named)
         ∙ best_there (reader d) h a.at b.at k f.place s a.best l);
     kept = kept_on;
     free = free_on;
@@ -208,9 +208,9 @@ module _ (d : Dfa) (h : List ℕ) (made : IsDfa d) (bytes : AreBytes h) (a b c :
         (changes_into d (IsMadeAt (reader d) h a.at s k) (IsMadeAt (reader d) h a.at s (k + l))
         (made_before (reader d) h a.at b.at k l f.place s read) a.cache b.cache k (f.changes s named))
         c.cache l (k + l) (omega arith)
-        (changes_into d (IsMadeAt (reader d) h b.at (state_behind (reader d) h a.at s k) l) (IsMadeAt (reader d) h a.at s (k + l))
+        (changes_into d (IsMadeAt (reader d) h b.at (state_after (reader d) h a.at s k) l) (IsMadeAt (reader d) h a.at s (k + l))
         (made_behind (reader d) h a.at b.at k l f.place s read) b.cache c.cache l
-        (g.changes (state_behind (reader d) h a.at s k) (f.names s named)));
+        (g.changes (state_after (reader d) h a.at s k) (f.names s named)));
   }
 
 -- ---- one unit
@@ -236,7 +236,7 @@ module _ (d : Dfa) (h : List ℕ) (old : CacheValue) (at id : ℕ) (u : Option �
   alive : (s : StateValue) → HeldAt old id s → is_dead s ≡ false
   alive s n = not_dead s (λ e. own.lives n.0 n.1 (sym n.3 ∙ e))
 
-  id_one : (v : CacheValue) → id_behind d v h at id 1 ≡ noted d v id u
+  id_one : (v : CacheValue) → id_after d v h at id 1 ≡ noted d v id u
   id_one v = ap (led d v id) (sym is) ∙ led_row d v id u (plain_row id low)
 
   module _ (new : CacheValue) (to m1 m2 n1 n2 : ℕ) (best1 best2 : Option (ℕ × ℕ)) (mine : IsCacheOf d new) (kept : KeepsOrClears d old new)
@@ -248,7 +248,7 @@ module _ (d : Dfa) (h : List ℕ) (old : CacheValue) (at id : ℕ) (u : Option �
     here = point old m1 n1 at id best1
 
     abbrev next : Point
-    next = point new m2 n2 (place_of d.nfa.automaton.reverse at 1) to best2
+    next = point new m2 n2 (offset_of d.nfa.automaton.reverse at 1) to best2
 
     to_known : to ≢ unknown_id
     to_known = held_known new to mine.shape (held_named new to (after d from u) ((step from held_from).goes quiet))
@@ -264,7 +264,7 @@ module _ (d : Dfa) (h : List ℕ) (old : CacheValue) (at id : ℕ) (u : Option �
           began = ap began g.progress;
         }
       where
-        first_known : noted d new id u ≡ to → (k : ℕ) → k < 1 → IsKnown d new (id_behind d new h at id k) (unit_of (reader d) h at k)
+        first_known : noted d new id u ≡ to → (k : ℕ) → k < 1 → IsKnown d new (id_after d new h at id k) (unit_of (reader d) h at k)
         first_known e zero lt = subst (IsKnown d new id) is (inr (λ z. to_known (sym e ∙ z)))
         first_known e (suc k) lt = absurd (omega (arith, lt))
 
@@ -337,7 +337,7 @@ module _ (d : Dfa) (v : CacheValue) (id next : ℕ) (u : Option ℕ) (own : IsCa
   next_row = let g = next_held (state_at v row.0) (row.0, row.1, row.2, refl) in (g.0, g.1, g.2)
 
   pub goes_known : (h : List ℕ) (at m n : ℕ) (best : Option (ℕ × ℕ)) → u ≡ unit_of (reader d) h at 0 →
-      GoesTo d h (point v m n at id best) (point v m n (place_of d.nfa.automaton.reverse at 1) next best) 1
+      GoesTo d h (point v m n at id best) (point v m n (offset_of d.nfa.automaton.reverse at 1) next best) 1
   goes_known h at m n best is = goes_step d h v at id u own row is next_quiet v next m m n n best best own (grew_refl d v)
       next_leads (λ s g f. sym read) (λ k. refl) (λ k. (refl, refl)) (omega arith) (omega arith)
       (λ s g. unmatched (after d s u) at best (untagged_match v next (after d s u) own.shape plain (next_held s g)))
@@ -348,12 +348,12 @@ module _ (d : Dfa) (v : CacheValue) (h : List ℕ) (made : IsDfa d) (own : IsCac
     (row : IsRow v first) (here : IsRow v id)
     (k m n : ℕ) (best : Option (ℕ × ℕ)) (so_far : GoesTo d h (point v m n from first best) (point v m n at id best) k) where
   pub runs_on : (next at2 k2 : ℕ) (u : Option ℕ) → IsUnit u → next ≡ noted d v id u → next < tag → u ≡ unit_of (reader d) h at 0 →
-      place_of d.nfa.automaton.reverse at 1 ≡ at2 → k + 1 ≡ k2 → GoesTo d h (point v m n from first best) (point v m n at2 next best) k2
+      offset_of d.nfa.automaton.reverse at 1 ≡ at2 → k + 1 ≡ k2 → GoesTo d h (point v m n from first best) (point v m n at2 next best) k2
   runs_on next at2 k2 u unit read plain is place count =
       subst (λ (j : ℕ). GoesTo d h (point v m n from first best) (point v m n at2 next best) j) count
       (subst (λ (p : ℕ). GoesTo d h (point v m n from first best) (point v m n p next best) (k + 1)) place
       (goes_on d h made bytes (point v m n from first best) (point v m n at id best)
-      (point v m n (place_of d.nfa.automaton.reverse at 1) next best) k 1 own own row so_far
+      (point v m n (offset_of d.nfa.automaton.reverse at 1) next best) k 1 own own row so_far
       (goes_known d v id next u own unit here read plain h at m n best is)))
 
 pub runs_none : (d : Dfa) (v : CacheValue) (h : List ℕ) (at id k : ℕ) → IsCacheOf d v → IsRow v id → k ≡ 0 →
@@ -363,13 +363,13 @@ runs_none d v h at id k own row e m n best =
     subst (λ (j : ℕ). GoesTo d h (point v m n at id best) (point v m n at id best) j) (sym e)
     (goes_none d h (point v m n at id best) (row_known v id own.shape row))
 
--- the unit at a place inside the haystack
+-- the unit at an offset inside the haystack
 pub forward_unit : (d : Dfa) (h : List ℕ) (at : ℕ) → d.nfa.automaton.reverse ≡ false → at < length h →
     Some (get_or h at 0) ≡ unit_of (reader d) h at 0
 forward_unit d h at up l =
     sym (slice_get-get_or h at 0 l)
     ∙ (ap (unit_at false h) (sym (place_zero false at))
-    ∙ ap (λ (r : Bool). unit_at r h (place_of r at 0)) (sym up))
+    ∙ ap (λ (r : Bool). unit_at r h (offset_of r at 0)) (sym up))
 
 pub reverse_unit : (d : Dfa) (h : List ℕ) (at : ℕ) → d.nfa.automaton.reverse ≡ true → 0 < at → at ≤ length h →
     Some (get_or h (at - 1) 0) ≡ unit_of (reader d) h at 0
@@ -377,13 +377,13 @@ reverse_unit d h at is_reverse some l =
     sym (slice_get-get_or h (at - 1) 0 (omega (arith, some, l)))
     ∙ (ap (byte_before h) (back at some)
     ∙ (ap (unit_at true h) (sym (place_zero true at))
-    ∙ ap (λ (r : Bool). unit_at r h (place_of r at 0)) (sym is_reverse)))
+    ∙ ap (λ (r : Bool). unit_at r h (offset_of r at 0)) (sym is_reverse)))
   where
     back : (n : ℕ) → 0 < n → suc (n - 1) ≡ n
     back n l = omega (arith, l)
 
-pub forward_place : (d : Dfa) (at : ℕ) → d.nfa.automaton.reverse ≡ false → place_of d.nfa.automaton.reverse at 1 ≡ at + 1
-forward_place d at up = ap (λ (r : Bool). place_of r at 1) up
+pub forward_place : (d : Dfa) (at : ℕ) → d.nfa.automaton.reverse ≡ false → offset_of d.nfa.automaton.reverse at 1 ≡ at + 1
+forward_place d at up = ap (λ (r : Bool). offset_of r at 1) up
 
-pub reverse_place : (d : Dfa) (at : ℕ) → d.nfa.automaton.reverse ≡ true → place_of d.nfa.automaton.reverse at 1 ≡ at - 1
-reverse_place d at is_reverse = ap (λ (r : Bool). place_of r at 1) is_reverse
+pub reverse_place : (d : Dfa) (at : ℕ) → d.nfa.automaton.reverse ≡ true → offset_of d.nfa.automaton.reverse at 1 ≡ at - 1
+reverse_place d at is_reverse = ap (λ (r : Bool). offset_of r at 1) is_reverse

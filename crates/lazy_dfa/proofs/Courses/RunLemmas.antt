@@ -1,31 +1,33 @@
--- The rest of a pass, by the turns that it makes one after the other.
+-- The rest of a scan, by the turns that it makes one after the other.
 use Rattle.std.proofs.Common.{◌≡◌, ◌⊎◌, inl, inr, ℕ, suc, ◌+◌, ◌-◌, ◌*◌, ◌<◌, ◌≤◌, ◌==◌, ◌&&◌, not, min, Bool, true, false, List, Option}
 use Rattle.std.proofs.Common.{Some, None, Ok, Err, get_or, if◌then◌else◌, refl, sym, ap, ◌∙◌, subst, ⊎_elim, arith, true≢false}
 use Rattle.std.proofs.lemmas.Bool.{cases_Bool, cases_lt, le-leb, ne_eqb}
 use Rattle.std.proofs.Math.Nat.{mul-le-mul_right, suc-mul}
 use Rattle.search_core.specs.ByteSets.{has}
-use Rattle.nfa_core.specs.Ways.{place_of}
+use Rattle.nfa_core.specs.Ways.{offset_of}
 use Rattle.determinize_core.specs.States.{StateValue}
 use Rattle.determinize_core.specs.Steps.{unit_at}
 use Rattle.search_types.specs.declared.match_error.MatchErrorKind.{MatchErrorKind}
 use Rattle.search_types.specs.declared.match_error.MatchErrorKind.TheVariants.{Quit, GaveUp, NoMemory}
 use Rattle.search_types.specs.Found.{HalfFound}
 use Rattle.search_types.specs.Inputs.{Search}
-use Rattle.lazy_dfa.specs.Caches.{CacheValue, IsCacheOf, HeldAt, IsRow, Names, names_held, greatest, lacks_room}
+use Rattle.lazy_dfa.specs.Caches.{CacheValue, IsCacheOf, HeldAt, IsRow, Names, names_held, greatest, has_no_room}
 use Rattle.lazy_dfa.specs.Changes.{Changes, IsMadeAt}
-use Rattle.lazy_dfa.specs.Courses.{state_behind, best_behind, AreRead, HasNoStop, stops_behind}
+use Rattle.lazy_dfa.specs.Courses.{state_after, best_after, AreRead, HasNoStop, stops_after}
 use Rattle.lazy_dfa.specs.Dfas.{Dfa, IsDfa, reader}
 use Rattle.lazy_dfa.specs.Linked.{IsLinkedOver, CacheGrows, HasCleared, GrowsOrClears, IsMoved}
-use Rattle.lazy_dfa.specs.MadePasses.{span_len}
-use Rattle.lazy_dfa.specs.Passes.{index_at, is_empty, is_dead, pass_from}
-use Rattle.lazy_dfa.specs.PassLaws.{units_read, unit_of, HasNoQuit}
+use Rattle.lazy_dfa.specs.MadeScans.{span_len}
+use Rattle.lazy_dfa.specs.Scans.{index_at, is_empty, is_dead, pass_from}
+use Rattle.lazy_dfa.specs.ScanLaws.{units_read, unit_of, HasNoQuit}
 use Rattle.lazy_dfa.proofs.OverlappingWalks.WalkQuitLemmas.{no_quit_once, no_quit_read, no_quit_on}
 use Rattle.lazy_dfa.specs.Points.{Point, Follows, IsFree, GoesTo, point}
 use Rattle.lazy_dfa.specs.Readers.{HalfAnswer, found, quit, is_quit}
-use Rattle.lazy_dfa.specs.SearchAnswers.{half_of, pair_of, told, give_up_place, Told, told_of, pass_distance, running_at}
-use Rattle.lazy_dfa.specs.PassPlaces.{last_place, came, tells, BeganFirst, told_behind, GoesBetween, EndsWith, RestAnew, IsRestTold, RunsOn}
+use Rattle.lazy_dfa.specs.SearchAnswers.{half_of, pair_of, reported, give_up_offset, ProgressValue, progress_of, scan_distance, running_at}
+use Rattle.lazy_dfa.specs.ScanOffsets.{last_offset, came, reports, BeganFirst, progress_past, GoesBetween, EndsWith, RestAnew}
+use Rattle.lazy_dfa.specs.ScanOffsets.{IsRestReported}
+use Rattle.lazy_dfa.specs.ScanOffsets.{RunsOn}
 use Rattle.lazy_dfa.specs.Steps.{most_inserts}
-use Rattle.lazy_dfa.specs.Turns.{Leaves, FailsOn}
+use Rattle.lazy_dfa.specs.ScanSteps.{Leaves, FailsOn}
 use Rattle.lazy_dfa.proofs.CacheChanges.ChangesLemmas.{changes_into, changes_on, changes_moved, changes_from_moved, made_within}
 use Rattle.lazy_dfa.proofs.CacheChanges.ChangesLemmas.{made_behind}
 use Rattle.lazy_dfa.proofs.Courses.CourseLemmas.{state_there, unit_there, not_dead}
@@ -38,9 +40,9 @@ use Rattle.lazy_dfa.proofs.Courses.PointLemmas.{goes_on, held_plain, linked_from
 use Rattle.lazy_dfa.proofs.HalfSearches.TurnLemmas.{dead_is}
 use Rattle.nfa_core.proofs.ForCallers.{place_zero}
 
--- ---- joins
+-- ---- scans one after the other
 
--- a stand is that of a row, so its state is held
+-- the point is at an ID of a row, so the cache holds its state
 pub row_holds : (v : CacheValue) (id : ℕ) (s : StateValue) (d : Dfa) → IsCacheOf d v → IsRow v id → Names v id s → HeldAt v id s
 row_holds v id s d own row named = held_plain v id s (row_is_plain v id row.0 own.shape row.1 row.2) named
 
@@ -54,12 +56,12 @@ module _ (d : Dfa) (earliest : Bool) (h : List ℕ) (made : IsDfa d) (bytes : Ar
   no_stop_on s held m lt = ⊎_elim
       (λ (e : m < k). f.1 s held m e)
       (λ (e : k ≤ m).
-      let there = row_holds b.cache b.id (state_behind (reader d) h a.at s k) d mine here (f.0.names s (names_held held)) in
+      let there = row_holds b.cache b.id (state_after (reader d) h a.at s k) d mine here (f.0.names s (names_held held)) in
       let same : k + suc (m - k) ≡ suc m = omega (arith, e) in
-      let is = sym (ap (state_behind (reader d) h a.at s) same) ∙ sym (state_there (reader d) h a.at b.at k f.0.place s (suc (m - k))) in
-      stop_of (state_behind (reader d) h a.at s (suc m)) (state_behind (reader d) h b.at (state_behind (reader d) h a.at s k) (suc (m - k)))
+      let is = sym (ap (state_after (reader d) h a.at s) same) ∙ sym (state_there (reader d) h a.at b.at k f.0.place s (suc (m - k))) in
+      stop_of (state_after (reader d) h a.at s (suc m)) (state_after (reader d) h b.at (state_after (reader d) h a.at s k) (suc (m - k)))
       is
-      (g.1 (state_behind (reader d) h a.at s k) there (m - k) (omega (arith, e, lt))))
+      (g.1 (state_after (reader d) h a.at s k) there (m - k) (omega (arith, e, lt))))
       (cases_lt m k)
     where
       stop_of : (s t : StateValue) → s ≡ t → stop_at t ≡ false → stop_at s ≡ false
@@ -70,7 +72,7 @@ module _ (d : Dfa) (earliest : Bool) (h : List ℕ) (made : IsDfa d) (bytes : Ar
 
 -- ---- moved caches
 
--- the cache as it would be where no search told it how far it comes
+-- the cache as it would be if no search had reported its progress to it
 abbrev pub as_told : CacheValue → CacheValue → CacheValue
 as_told v w = record w { searched = v.searched; progress = v.progress }
 
@@ -103,7 +105,7 @@ module _ (d : Dfa) (h : List ℕ) (a : Point) (w : CacheValue) (c : Point) (k : 
   pub goes_as_told : GoesTo d h a (record c { cache = kept_as }) k
   goes_as_told = record {
     place = g.place;
-    names = λ s named. names_moved d c.cache kept_as refl c.id (state_behind (reader d) h a.at s k)
+    names = λ s named. names_moved d c.cache kept_as refl c.id (state_after (reader d) h a.at s k)
         (g.names s (names_moved d a.cache w e a.id s named));
     read = λ s named. g.read s (names_moved d a.cache w e a.id s named);
     best = λ s named. g.best s (names_moved d a.cache w e a.id s named);
@@ -137,25 +139,25 @@ sum_to a b c k u w l f g =
     let e = mul-le-mul_right {m = suc k} {n = u} w (omega (arith, l)) in
     let one = suc-mul k w in omega (arith, e, one, f, g)
 
--- ---- answers
+-- ---- results
 
 pub half_back : (b : Option HalfFound) → half_of (pair_of b) ≡ b
 half_back None = refl
 half_back (Some m) = refl
 
--- ---- what is told
+-- ---- what is reported
 
--- where something is told it is counted from what was searched before
-abbrev added : Bool → ℕ → ℕ → ℕ → Told
-added is_reverse n units searched = record { searched = min (searched + pass_distance is_reverse n units) greatest; progress = None }
+-- if something is reported, it is added to what was searched before
+abbrev added : Bool → ℕ → ℕ → ℕ → ProgressValue
+added is_reverse n units searched = record { searched = min (searched + scan_distance is_reverse n units) greatest; progress = None }
 
 told_by_searched : (is_reverse : Bool) (n units : ℕ) (v w : CacheValue) → v.searched ≡ w.searched → (is_reverse && n == 0) ≡ false →
-    told_behind is_reverse n (told_of v) units ≡ told_behind is_reverse n (told_of w) units
+    progress_past is_reverse n (progress_of v) units ≡ progress_past is_reverse n (progress_of w) units
 told_by_searched is_reverse n units v w e none =
-    ap (λ (b : Bool). if b then told_of v else added is_reverse n units v.searched) none
-    ∙ (ap (added is_reverse n units) e ∙ sym (ap (λ (b : Bool). if b then told_of w else added is_reverse n units w.searched) none))
+    ap (λ (b : Bool). if b then progress_of v else added is_reverse n units v.searched) none
+    ∙ (ap (added is_reverse n units) e ∙ sym (ap (λ (b : Bool). if b then progress_of w else added is_reverse n units w.searched) none))
 
-tells_some : (is_reverse : Bool) (q : Search) → tells is_reverse q ≡ true → (is_reverse && span_len q == 0) ≡ false
+tells_some : (is_reverse : Bool) (q : Search) → reports is_reverse q ≡ true → (is_reverse && span_len q == 0) ≡ false
 tells_some false q e = refl
 tells_some true q e = ⊎_elim
     (λ (l : q.end ≤ q.start). let never = sym (ap not (le-leb q.end q.start l)) ∙ e in absurd (true≢false (sym never)))
@@ -178,7 +180,7 @@ module _ (d : Dfa) (q : Search) (made : IsDfa d) (bytes : AreBytes q.haystack) (
   total = suc (span_len q)
 
   abbrev state : StateValue
-  state = state_behind (reader d) h from.at s k
+  state = state_after (reader d) h from.at s k
 
   abbrev units : ℕ
   units = units_read (reader d) q.earliest h total from.at s
@@ -204,9 +206,9 @@ module _ (d : Dfa) (q : Search) (made : IsDfa d) (bytes : AreBytes q.haystack) (
   alive : is_dead state ≡ false
   alive = let x = held_here in not_dead state (λ e. mine.lives x.0 x.1 (sym x.3 ∙ e))
 
-  pub next_is : state_behind (reader d) h p.at state 1 ≡ state_behind (reader d) h from.at s (suc k)
+  pub next_is : state_after (reader d) h p.at state 1 ≡ state_after (reader d) h from.at s (suc k)
   next_is = let one : k + 1 ≡ suc k = omega arith in
-      state_there (reader d) h from.at p.at k goes.place s 1 ∙ ap (state_behind (reader d) h from.at s) one
+      state_there (reader d) h from.at p.at k goes.place s 1 ∙ ap (state_after (reader d) h from.at s) one
 
   unit_is : unit_of (reader d) h p.at 0 ≡ unit_of (reader d) h from.at k
   unit_is = let none : k + 0 ≡ k = omega arith in
@@ -215,15 +217,15 @@ module _ (d : Dfa) (q : Search) (made : IsDfa d) (bytes : AreBytes q.haystack) (
   pub reads_this : k < units
   reads_this = reads_on (reader d) q.earliest h from.at s k total (omega (arith, inside)) read stays alive
 
-  -- the cache was kept up to here
+  -- what was known in the cache is preserved up to here
   kept_here : GrowsOrClears d from.cache p.cache
   kept_here = ⊎_elim (λ (f : Follows d h from p k). inl f.grows) (λ (x : HasCleared from.cache p.cache). inr x) goes.kept
 
-  -- ---- with a refusal
+  -- ---- with an error
 
-  -- how far it came then
+  -- the progress at that point
   abbrev Left : CacheValue → MatchErrorKind → Type 0
-  Left new e = IsRestTold d q s from.at (Err e) from.cache new
+  Left new e = IsRestReported d q s from.at (Err e) from.cache new
 
   module _ (new : CacheValue) (m n : ℕ) (x : Leaves d h p new m n 0) where
     pub kept_on : GrowsOrClears d from.cache new
@@ -266,20 +268,20 @@ module _ (d : Dfa) (q : Search) (made : IsDfa d) (bytes : AreBytes q.haystack) (
         (sym unit_is ∙ (ap (unit_at d.nfa.automaton.reverse h) (place_zero d.nfa.automaton.reverse p.at) ∙ unit)) is
         ∙ ap (λ (j : ℕ). quit b j) (sym (place ∙ ap (index_at d.nfa.automaton.reverse) goes.place)) in
         record {
-          answer = inl (sym (ap told answered));
+          answer = inl (sym (ap reported answered));
           kept = kept_on;
           follows = tt;
           free = λ linked.
               let f = free_here linked in
               let g = x.free f.1 in
-              (moved_trans from.cache p.cache new f.0.moved g.0, g.1 ∙ f.0.determinized, g.2 ∙ f.0.inserted, sym (ap told answered));
+              (moved_trans from.cache p.cache new f.0.moved g.0, g.1 ∙ f.0.determinized, g.2 ∙ f.0.inserted, sym (ap reported answered));
           determinized = few;
           inserted = few_names;
           anew = left;
           changes = changes_here;
         }
 
-  -- memory lacked, or the state behind the unit has no room
+  -- an allocation failed, or the state after the unit has no room
   module _ (new : CacheValue) (m n : ℕ) (x : FailsOn d h p new m n 0) where
     pub runs_no_memory : Left new NoMemory → RunsOn d q s from new m n (Err NoMemory)
     runs_no_memory left = record {
@@ -293,13 +295,22 @@ module _ (d : Dfa) (q : Search) (made : IsDfa d) (bytes : AreBytes q.haystack) (
       changes = changes_here new m n x.leaves;
     }
 
-    pub runs_gave_up : (y : ℕ) → y ≡ give_up_place d.nfa.automaton.reverse (span_len q) from.at k →
-        ((t : StateValue) → HeldAt p.cache p.id t → lacks_room d new (state_behind (reader d) h p.at t 1) ≡ true) →
+    pub runs_gave_up : (y : ℕ) → y ≡ give_up_offset d.nfa.automaton.reverse (span_len q) from.at k →
+        ((t : StateValue) → HeldAt p.cache p.id t → has_no_room d new (state_after (reader d) h p.at t 1) ≡ true) →
         (k < span_len q → running_at new.progress ≡ Some y) → is_quit d.quits (unit_at d.nfa.automaton.reverse h p.at) ≡ false →
         Left new (GaveUp y) →
         RunsOn d q s from new m n (Err (GaveUp y))
     runs_gave_up y place lacks runs quiet left = record {
-      answer = inr (inr (y, k, refl, reads_this, place, sym (ap (lacks_room d new) next_is) ∙ lacks state held_here, runs, no_quits quiet));
+      answer = inr (inr (
+        y,
+        k,
+        refl,
+        reads_this,
+        place,
+        sym (ap (has_no_room d new) next_is) ∙ lacks state held_here,
+        runs,
+        no_quits quiet,
+      ));
       kept = kept_on new m n x.leaves;
       follows = tt;
       free = λ linked. absurd (x.unknown (free_here new m n x.leaves linked).1);
@@ -318,17 +329,17 @@ module _ (d : Dfa) (q : Search) (made : IsDfa d) (bytes : AreBytes q.haystack) (
   -- ---- with what was found
 
   module _ (new : CacheValue) (m n : ℕ) (b : Option HalfFound) (x : EndsWith d q p new m n (pair_of b))
-      (last : p.at ≡ last_place d.nfa.automaton.reverse q → k ≡ span_len q)
+      (last : p.at ≡ last_offset d.nfa.automaton.reverse q → k ≡ span_len q)
       (first : k ≡ came d.nfa.automaton.reverse q p.at) (begun : BeganFirst d.nfa.automaton.reverse q from.cache)
-      (same : tells d.nfa.automaton.reverse q ≡ false → p.cache ≡ from.cache) where
+      (same : reports d.nfa.automaton.reverse q ≡ false → p.cache ≡ from.cache) where
     abbrev behind : CacheValue
     behind = as_told p.cache x.behind
 
     abbrev to : Point
-    to = point behind m n (place_of d.nfa.automaton.reverse p.at 1) x.id (pair_of b)
+    to = point behind m n (offset_of d.nfa.automaton.reverse p.at 1) x.id (pair_of b)
 
     one : GoesTo d h p to 1
-    one = goes_as_told d h p x.before (point x.behind m n (place_of d.nfa.automaton.reverse p.at 1) x.id (pair_of b)) 1 x.begun x.goes
+    one = goes_as_told d h p x.before (point x.behind m n (offset_of d.nfa.automaton.reverse p.at 1) x.id (pair_of b)) 1 x.begun x.goes
 
     whole : GoesTo d h from to (k + 1)
     whole = goes_on d h made bytes from p to k 1 own mine row goes one
@@ -339,9 +350,9 @@ module _ (d : Dfa) (q : Search) (made : IsDfa d) (bytes : AreBytes q.haystack) (
     all_read : AreRead (reader d) h from.at s (suc k)
     all_read = subst (AreRead (reader d) h from.at s) one_more (whole.read s (names_held held))
 
-    best_is : pair_of b ≡ best_behind (reader d) h from.at s None (suc k)
-    best_is = whole.best s (names_held held) ∙ (ap (λ (o : Option (ℕ × ℕ)). best_behind (reader d) h from.at s o (k + 1)) none
-        ∙ ap (best_behind (reader d) h from.at s None) one_more)
+    best_is : pair_of b ≡ best_after (reader d) h from.at s None (suc k)
+    best_is = whole.best s (names_held held) ∙ (ap (λ (o : Option (ℕ × ℕ)). best_after (reader d) h from.at s o (k + 1)) none
+        ∙ ap (best_after (reader d) h from.at s None) one_more)
 
     moved : IsMoved behind new
     moved = moved_trans behind x.behind new (as_told_back p.cache x.behind) x.ended
@@ -353,17 +364,17 @@ module _ (d : Dfa) (q : Search) (made : IsDfa d) (bytes : AreBytes q.haystack) (
         never true = refl
         never false = refl
 
-    no_stop_at : is_dead (state_behind (reader d) h from.at s (suc k)) ≡ true → HasNoStop (reader d) q.earliest h from.at s (suc k)
+    no_stop_at : is_dead (state_after (reader d) h from.at s (suc k)) ≡ true → HasNoStop (reader d) q.earliest h from.at s (suc k)
     no_stop_at dead j lt = ⊎_elim
         (λ (l : j < k). stays j l)
         (λ (l : k ≤ j).
         let e : suc j ≡ suc k = omega (arith, l, lt) in
-        ap (λ (i : ℕ). q.earliest && not (is_empty (state_behind (reader d) h from.at s i).matches)) e
-        ∙ none_of_dead (state_behind (reader d) h from.at s (suc k)) dead)
+        ap (λ (i : ℕ). q.earliest && not (is_empty (state_after (reader d) h from.at s i).matches)) e
+        ∙ none_of_dead (state_after (reader d) h from.at s (suc k)) dead)
         (cases_lt j k)
 
     abbrev IsEnd : Type 0
-    IsEnd = (answer ≡ found (best_behind (reader d) h from.at s None (suc k))) × (units ≡ suc k)
+    IsEnd = (answer ≡ found (best_after (reader d) h from.at s None (suc k))) × (units ≡ suc k)
 
     at_last : k ≡ span_len q → IsEnd
     at_last e =
@@ -373,8 +384,8 @@ module _ (d : Dfa) (q : Search) (made : IsDfa d) (bytes : AreBytes q.haystack) (
           sym (ap (λ (j : ℕ). units_read (reader d) q.earliest h j from.at s) same_total) ∙ x.1,
         )
 
-    by_reason : (stops_behind (reader d) q.earliest h p.at state 0 ≡ true) ⊎ (is_dead (state_behind (reader d) h p.at state 1) ≡ true) ⊎
-        (p.at ≡ last_place d.nfa.automaton.reverse q) → IsEnd
+    by_reason : (stops_after (reader d) q.earliest h p.at state 0 ≡ true) ⊎ (is_dead (state_after (reader d) h p.at state 1) ≡ true) ⊎
+        (p.at ≡ last_offset d.nfa.automaton.reverse q) → IsEnd
     by_reason (inl e) = ends_stop (reader d) q.earliest h from.at s k total None (omega (arith, inside)) all_read stays
         (sym (ap (λ (t : StateValue). q.earliest && not (is_empty t.matches)) next_is) ∙ e)
     by_reason (inr (inl e)) =
@@ -385,10 +396,10 @@ module _ (d : Dfa) (q : Search) (made : IsDfa d) (bytes : AreBytes q.haystack) (
     ended : IsEnd
     ended = by_reason (x.why state held_here)
 
-    answered : Ok b ≡ told answer
-    answered = ap (λ (o : Option HalfFound). Ok o) (sym (half_back b) ∙ ap half_of best_is) ∙ sym (ap told ended.0)
+    answered : Ok b ≡ reported answer
+    answered = ap (λ (o : Option HalfFound). Ok o) (sym (half_back b) ∙ ap half_of best_is) ∙ sym (ap reported ended.0)
 
-    -- ---- what is left of the cache
+    -- ---- what is left in the cache
 
     kept_behind : GrowsOrClears d from.cache behind
     kept_behind = ⊎_elim (λ (f : Follows d h from to (k + 1)). inl f.grows) (λ (y : HasCleared from.cache behind). inr y) whole.kept
@@ -400,23 +411,25 @@ module _ (d : Dfa) (q : Search) (made : IsDfa d) (bytes : AreBytes q.haystack) (
     is_reverse = d.nfa.automaton.reverse
 
     abbrev ToldBehind : CacheValue → Type 0
-    ToldBehind v = told_of new ≡ told_behind is_reverse (span_len q) (told_of v) (suc k)
+    ToldBehind v = progress_of new ≡ progress_past is_reverse (span_len q) (progress_of v) (suc k)
 
-    -- where nothing was cleared, the search that goes on is still the one that began with the pass
+    -- if nothing was cleared, the running search is still the one that began with the scan
     told_here : Follows d h from p k → (ToldBehind from.cache) ⊎ HasCleared p.cache new
     told_here f = ⊎_elim
-        (λ (e : told_of new ≡ told_behind is_reverse (span_len q) (told_of p.cache) (suc (came is_reverse q p.at))).
-        inl (e ∙ (sym (ap (λ (j : ℕ). told_behind is_reverse (span_len q) (told_of p.cache) (suc j)) first) ∙ told_from)))
+        (λ (e : progress_of new ≡ progress_past is_reverse (span_len q) (progress_of p.cache) (suc (came is_reverse q p.at))).
+        inl (e ∙ (sym (ap (λ (j : ℕ). progress_past is_reverse (span_len q) (progress_of p.cache) (suc j)) first) ∙ progress_from)))
         (λ (y : HasCleared p.cache new). inr y)
-        (x.told (λ t. f.began ∙ begun t))
+        (x.reported (λ t. f.began ∙ begun t))
       where
-        told_from : told_behind is_reverse (span_len q) (told_of p.cache) (suc k) ≡ told_behind is_reverse (span_len q) (told_of from.cache)
+        progress_from : progress_past is_reverse (span_len q) (progress_of p.cache) (suc k) ≡
+            progress_past is_reverse (span_len q) (progress_of from.cache)
             (suc k)
-        told_from = ⊎_elim
-            (λ (t : tells is_reverse q ≡ true). told_by_searched is_reverse (span_len q) (suc k) p.cache from.cache f.searched
+        progress_from = ⊎_elim
+            (λ (t : reports is_reverse q ≡ true). told_by_searched is_reverse (span_len q) (suc k) p.cache from.cache f.searched
             (tells_some is_reverse q t))
-            (λ (t : tells is_reverse q ≡ false). ap (λ (v : CacheValue). told_behind is_reverse (span_len q) (told_of v) (suc k)) (same t))
-            (cases_Bool (tells is_reverse q))
+            (λ (t : reports is_reverse q ≡ false). ap (λ (v : CacheValue). progress_past is_reverse (span_len q) (progress_of v) (suc k))
+            (same t))
+            (cases_Bool (reports is_reverse q))
 
     cleared_here : HasCleared p.cache new → GrowsOrClears d from.cache p.cache → HasCleared from.cache new
     cleared_here y (inl g) = subst (λ (c : ℕ). min (c + 1) greatest ≤ new.clears) g.clears y
@@ -427,16 +440,16 @@ module _ (d : Dfa) (q : Search) (made : IsDfa d) (bytes : AreBytes q.haystack) (
 
     follows_new : Follows d h from p k → Follows d h from to (k + 1) → ToldBehind from.cache →
         CacheGrows d from.cache new × IsLinkedOver d new h from.at from.id units ×
-        (told_of new ≡ told_behind is_reverse (span_len q) (told_of from.cache) units)
+        (progress_of new ≡ progress_past is_reverse (span_len q) (progress_of from.cache) units)
     follows_new f g t = (
       grows_trans d from.cache behind new made own g.grows (grows_moved d behind new moved),
       subst (IsLinkedOver d new h from.at from.id) (sym units_are) (linked_moved d behind new moved h from.at from.id (k + 1) g.linked),
-      t ∙ sym (ap (told_behind is_reverse (span_len q) (told_of from.cache)) ended.1),
+      t ∙ sym (ap (progress_past is_reverse (span_len q) (progress_of from.cache)) ended.1),
     )
 
     followed : Follows d h from p k ⊎ HasCleared from.cache p.cache → Follows d h from to (k + 1) ⊎ HasCleared from.cache behind →
         (CacheGrows d from.cache new × IsLinkedOver d new h from.at from.id units ×
-        (told_of new ≡ told_behind is_reverse (span_len q) (told_of from.cache) units)) ⊎
+        (progress_of new ≡ progress_past is_reverse (span_len q) (progress_of from.cache) units)) ⊎
         HasCleared from.cache new
     followed f (inr y) = inr (cleared_behind y)
     followed (inr z) g = inr (cleared_behind (cleared_on z one.kept))
@@ -449,13 +462,14 @@ module _ (d : Dfa) (q : Search) (made : IsDfa d) (bytes : AreBytes q.haystack) (
         (λ (y : HasCleared p.cache new). inr (cleared_here y (inl f.grows)))
         (told_here f)
 
-    -- what was told at its end, whether the cache was cleared or not
+    -- what was reported at its end, whether the cache was cleared or not
     abbrev Ended : ℕ → Type 0
-    Ended all = ((told_of new ≡ told_behind is_reverse (span_len q) (told_of from.cache) all) × (new.clears ≡ from.cache.clears)) ⊎
-        (HasCleared from.cache new × RestAnew is_reverse q all (told_of new))
+    Ended all = ((progress_of new ≡ progress_past is_reverse (span_len q) (progress_of from.cache) all) ×
+        (new.clears ≡ from.cache.clears)) ⊎
+        (HasCleared from.cache new × RestAnew is_reverse q all (progress_of new))
 
     pub runs_found : Ended (suc k) → RunsOn d q s from new m n (Ok b)
-    runs_found told = record {
+    runs_found reported = record {
       answer = inl answered;
       kept = grows_or_clears_trans d from.cache behind new made own kept_behind (inl (grows_moved d behind new moved));
       follows = followed goes.kept whole.kept;
@@ -464,7 +478,7 @@ module _ (d : Dfa) (q : Search) (made : IsDfa d) (bytes : AreBytes q.haystack) (
           (moved_trans from.cache behind new f.moved moved, f.determinized, f.inserted, answered);
       determinized = subst (λ (u : ℕ). m ≤ from.determinized + u) (sym units_are) whole.determinized;
       inserted = subst (λ (u : ℕ). n ≤ from.inserted + u * most_inserts d) (sym units_are) whole.inserted;
-      anew = subst Ended (sym ended.1) told;
+      anew = subst Ended (sym ended.1) reported;
       changes = subst (λ (u : ℕ). Changes d (IsMadeAt (reader d) h from.at s u) from.cache new u) (sym units_are)
           (changes_moved d (IsMadeAt (reader d) h from.at s (k + 1)) from.cache behind new (k + 1) moved
           (whole.changes s (names_held held)));

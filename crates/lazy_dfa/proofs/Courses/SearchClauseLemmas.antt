@@ -1,4 +1,4 @@
--- What a half search tells its callers.
+-- What a half search guarantees to its callers.
 use Rattle.std.proofs.Common.{◌≡◌, ℕ, zero, suc, ◌+◌, ◌-◌, ◌*◌, ◌<◌, ◌≤◌, Bool, true, false, not, ◌&&◌, List, [], ◌∷◌, length, Option, Some}
 use Rattle.std.proofs.Common.{None, refl, sym, ap, ◌∙◌, ◌⊎◌, inl, inr, subst, arith, if◌then◌else◌, true≢false}
 use Rattle.std.specs.Bool.{nat_le}
@@ -11,20 +11,21 @@ use Rattle.search_types.specs.Inputs.{Search}
 use Rattle.search_types.specs.Modes.{is_anchored, is_supported}
 use Rattle.search_types.specs.Places.{counts}
 use Rattle.determinize_core.specs.States.{StateValue}
-use Rattle.lazy_dfa.specs.AnewTold.{IsToldSince}
-use Rattle.lazy_dfa.specs.Caches.{CacheValue, greatest, row_holding, fits, is_refused, lacks_room}
+use Rattle.lazy_dfa.specs.AnewProgress.{IsReportedSince}
+use Rattle.lazy_dfa.specs.Caches.{CacheValue, greatest, row_holding, fits, is_clear_denied, has_no_room}
 use Rattle.lazy_dfa.specs.ConfigValue.{clears_of, minimum_bytes_of}
-use Rattle.lazy_dfa.specs.Courses.{state_behind}
+use Rattle.lazy_dfa.specs.Courses.{state_after}
 use Rattle.lazy_dfa.specs.Dfas.{Dfa, IsDfa, reader, is_dead}
-use Rattle.lazy_dfa.specs.LeftTold.{LeavesTold}
-use Rattle.lazy_dfa.specs.Linked.{CacheGrows, HasCleared, IsLinked, passes_on, passes_of}
-use Rattle.lazy_dfa.specs.MadePasses.{IsSearchTold, MakesSearch}
-use Rattle.lazy_dfa.specs.PassLaws.{pass_len, splits}
-use Rattle.lazy_dfa.specs.Passes.{next_place, pass, first_value}
+use Rattle.lazy_dfa.specs.LeftProgress.{LeavesProgress}
+use Rattle.lazy_dfa.specs.Linked.{CacheGrows, HasCleared, IsLinked, scans_on, scans_of}
+use Rattle.lazy_dfa.specs.MadeScans.{IsSearchReported, MakesSearch}
+use Rattle.lazy_dfa.specs.ScanLaws.{scan_len_of, splits}
+use Rattle.lazy_dfa.specs.Scans.{next_offset, scan, first_value}
 use Rattle.lazy_dfa.specs.Readers.{Reader, found}
-use Rattle.lazy_dfa.specs.ScanLaws.{begins_at, passes_made, units_in_passes, HasNoQuitNear}
-use Rattle.lazy_dfa.specs.Scans.{scan}
-use Rattle.lazy_dfa.specs.SearchAnswers.{half_of, pair_of, told, GivesUpIn, at_start, at_unit, GivesUpAmong, Answers, told_of, told_by}
+use Rattle.lazy_dfa.specs.HalfSearchLaws.{begins_at, scans_made, units_in_scans, HasNoQuitNear}
+use Rattle.lazy_dfa.specs.HalfSearches.{half_search}
+use Rattle.lazy_dfa.specs.SearchAnswers.{half_of, pair_of, reported, GivesUpIn, at_start, at_unit, GivesUpAmong, Answers, progress_of}
+use Rattle.lazy_dfa.specs.SearchAnswers.{progress_by}
 use Rattle.lazy_dfa.specs.SearchAnswers.{made_by, HasReach, HasReachBack}
 use Rattle.lazy_dfa.specs.SearchPromises.{MakesHalf, half_made}
 use Rattle.lazy_dfa.specs.Steps.{most_inserts}
@@ -38,25 +39,25 @@ use Rattle.lazy_dfa.proofs.HalfSearches.ScanLemmas.{scan_finds_near}
 
 module _ (r : Reader) (q : Search) where
   abbrev len_of : ℕ → ℕ → ℕ
-  len_of n i = pass_len r q.anchored q.earliest q.haystack n i
+  len_of n i = scan_len_of r q.anchored q.earliest q.haystack n i
 
   abbrev split : ℕ → ℕ → Bool
-  split n i = splits (counts r.between_characters q.haystack) (pass r q.anchored q.earliest q.haystack n i)
+  split n i = splits (counts r.between_characters q.haystack) (scan r q.anchored q.earliest q.haystack n i)
 
   abbrev on : ℕ → ℕ → List (ℕ × ℕ)
-  on n i = passes_on r q.anchored q.earliest q.haystack n i
+  on n i = scans_on r q.anchored q.earliest q.haystack n i
 
   one_more : (b : Bool) (len made units : ℕ) (ps : List (ℕ × ℕ)) → made_by r q ps ≡ made + units →
       suc len + made_by r q (if b then ps else []) ≡ (if b then suc made else 1) + (if b then len + units else len)
   one_more true len made units ps is = omega (arith, is)
   one_more false len made units ps is = omega arith
 
-  on_counted : (n i : ℕ) → made_by r q (on n i) ≡ passes_made r q.anchored q.earliest q.haystack n i + units_in_passes r q.anchored
+  on_counted : (n i : ℕ) → made_by r q (on n i) ≡ scans_made r q.anchored q.earliest q.haystack n i + units_in_scans r q.anchored
       q.earliest q.haystack n i
   on_counted zero i = omega arith
   on_counted (suc n) i =
-      one_more (split (suc n) i) (len_of (suc n) i) (passes_made r q.anchored q.earliest q.haystack n (next_place r i))
-      (units_in_passes r q.anchored q.earliest q.haystack n (next_place r i)) (on n (next_place r i)) (on_counted n (next_place r i))
+      one_more (split (suc n) i) (len_of (suc n) i) (scans_made r q.anchored q.earliest q.haystack n (next_offset r i))
+      (units_in_scans r q.anchored q.earliest q.haystack n (next_offset r i)) (on n (next_offset r i)) (on_counted n (next_offset r i))
 
   by_mode : (begun once : Bool) (p : ℕ × ℕ) (len made units : ℕ) (ps : List (ℕ × ℕ)) → made_by r q (p ∷ []) ≡ 1 + len →
       made_by r q ps ≡ made + units →
@@ -66,19 +67,19 @@ module _ (r : Reader) (q : Search) where
   by_mode true false p len made units ps one all = all
   by_mode false once p len made units ps one all = refl
 
-  made_is_counted : made_by r q (passes_of r q) ≡ half_made r q
+  made_is_counted : made_by r q (scans_of r q) ≡ half_made r q
   made_is_counted =
       by_mode (nat_le q.start q.end) (is_anchored q.anchored) (q.end - q.start, begins_at r q) (len_of (q.end - q.start) (begins_at r q))
-      (passes_made r q.anchored q.earliest q.haystack (q.end - q.start) (begins_at r q))
-      (units_in_passes r q.anchored q.earliest q.haystack (q.end - q.start) (begins_at r q)) (on (q.end - q.start) (begins_at r q))
+      (scans_made r q.anchored q.earliest q.haystack (q.end - q.start) (begins_at r q))
+      (units_in_scans r q.anchored q.earliest q.haystack (q.end - q.start) (begins_at r q)) (on (q.end - q.start) (begins_at r q))
       (omega arith) (on_counted (q.end - q.start) (begins_at r q))
 
 -- ---- room
 
 no_room_lacks : (o : Option ℕ) (a b c : Bool) (bytes : Option ℕ) (v : CacheValue) → o ≡ None →
-    not a && (b && (c && is_refused o bytes v)) ≡ false
+    not a && (b && (c && is_clear_denied o bytes v)) ≡ false
 no_room_lacks o a b c bytes v none =
-    ap (λ (x : Option ℕ). not a && (b && (c && is_refused x bytes v))) none ∙ none_of a b c
+    ap (λ (x : Option ℕ). not a && (b && (c && is_clear_denied x bytes v))) none ∙ none_of a b c
   where
     none_of : (a b c : Bool) → not a && (b && (c && false)) ≡ false
     none_of true b c = refl
@@ -87,8 +88,8 @@ no_room_lacks o a b c bytes v none =
     none_of false false c = refl
 
 module _ (d : Dfa) (v : CacheValue) (none : clears_of d.options ≡ None) where
-  -- where no least count of clears is set, there is always room
-  pub has_room : (s : StateValue) → lacks_room d v s ≡ true → ⊥
+  -- if no least number of clears is set, there is always room
+  pub has_room : (s : StateValue) → has_no_room d v s ≡ true → ⊥
   has_room s lacks = true≢false (sym lacks
       ∙ no_room_lacks (clears_of d.options) (is_dead s) (is_none (row_holding s v.states)) (not (fits d.capacity s v))
       (minimum_bytes_of d.options) v none)
@@ -96,7 +97,7 @@ module _ (d : Dfa) (v : CacheValue) (none : clears_of d.options ≡ None) where
   pub never_here : (mode : Anchored) (earliest : Bool) (h : List ℕ) (n i x : ℕ) → GivesUpIn d v mode earliest h n i x → ⊥
   never_here mode earliest h n i x (at_start place lacks free) = has_room (first_value (reader d) mode h i) lacks
   never_here mode earliest h n i x (at_unit k less place lacks runs free quits) =
-      has_room (state_behind (reader d) h i (first_value (reader d) mode h i) (suc k)) lacks
+      has_room (state_after (reader d) h i (first_value (reader d) mode h i) (suc k)) lacks
 
   pub never_among : (q : Search) (x : ℕ) (ps : List (ℕ × ℕ)) → GivesUpAmong d v q x ps → ⊥
   never_among q x [] g = g
@@ -110,10 +111,11 @@ module _ (d : Dfa) (q : Search) (old new : CacheValue) (m1 m2 n1 n2 : ℕ) (resu
   abbrev HasNoMemory : Result (Option HalfFound) MatchErrorKind → Type 0
   HasNoMemory x = IfErr x (λ e. e ≡ NoMemory)
 
-  sure_by : clears_of d.options ≡ None → (o : Option (ℕ × ℕ)) → scan (reader d) q ≡ found o → Answers d new q result → HasNoMemory result
-  sure_by none o is (inl e) = subst HasNoMemory (sym (e ∙ ap told is)) tt
+  sure_by : clears_of d.options ≡ None → (o : Option (ℕ × ℕ)) → half_search (reader d) q ≡ found o → Answers d new q result →
+      HasNoMemory result
+  sure_by none o is (inl e) = subst HasNoMemory (sym (e ∙ ap reported is)) tt
   sure_by none o is (inr (inl e)) = subst HasNoMemory (sym e) refl
-  sure_by none o is (inr (inr g)) = absurd (never_among d new none q g.0 (passes_of (reader d) q) g.2)
+  sure_by none o is (inr (inr g)) = absurd (never_among d new none q g.0 (scans_of (reader d) q) g.2)
 
   is_sure : clears_of d.options ≡ None → is_supported (reader d).starts_for_each_pattern q.anchored ≡ true →
       HasNoQuitNear (reader d) q.haystack q.start q.end → HasNoMemory result
@@ -129,7 +131,8 @@ module _ (d : Dfa) (q : Search) (old new : CacheValue) (m1 m2 n1 n2 : ℕ) (resu
   few_changes = subst (Changes d (IsMadeBy d q) old new) (made_is_counted (reader d) q) made.changes
 
   abbrev HasFollowed : Type 0
-  HasFollowed = CacheGrows d old new × IsLinked d new q × (told_of new ≡ told_by (reader d) q (told_of old) (passes_of (reader d) q))
+  HasFollowed = CacheGrows d old new × IsLinked d new q × (progress_of new ≡
+      progress_by (reader d) q (progress_of old) (scans_of (reader d) q))
 
   not_forgotten : HasFollowed ⊎ HasCleared old new → new.clears ≡ old.clears → old.clears < greatest → HasFollowed
   not_forgotten (inl f) same less = f
@@ -144,26 +147,27 @@ module _ (d : Dfa) (q : Search) (old new : CacheValue) (m1 m2 n1 n2 : ℕ) (resu
       (λ kept same less. (not_forgotten kept same less).1) made.follows
 
   is_told_then : OnOk result (new.clears ≡ old.clears → old.clears < greatest →
-      told_of new ≡ told_by (reader d) q (told_of old) (passes_of (reader d) q))
+      progress_of new ≡ progress_by (reader d) q (progress_of old) (scans_of (reader d) q))
   is_told_then = on_ok result (HasFollowed ⊎ HasCleared old new)
-      (new.clears ≡ old.clears → old.clears < greatest → told_of new ≡ told_by (reader d) q (told_of old) (passes_of (reader d) q))
+      (new.clears ≡ old.clears → old.clears < greatest → progress_of new ≡
+      progress_by (reader d) q (progress_of old) (scans_of (reader d) q))
       (λ kept same less. (not_forgotten kept same less).2) made.follows
 
   is_left_then : IfErr result (λ e. new.clears ≡ old.clears → old.clears < greatest →
-      LeavesTold d q e (told_of old) new)
+      LeavesProgress d q e (progress_of old) new)
   is_left_then = left result made.anew
     where
-      left : (x : Result (Option HalfFound) MatchErrorKind) → IsSearchTold d q x old new →
-          IfErr x (λ e. new.clears ≡ old.clears → old.clears < greatest → LeavesTold d q e (told_of old) new)
+      left : (x : Result (Option HalfFound) MatchErrorKind) → IsSearchReported d q x old new →
+          IfErr x (λ e. new.clears ≡ old.clears → old.clears < greatest → LeavesProgress d q e (progress_of old) new)
       left (Ok f) t = tt
       left (Err e) (inl l) = λ same less. l.0
       left (Err e) (inr c) = λ same less. absurd (not_cleared old new c.0 same less)
 
-  is_told_since : (new.clears ≡ old.clears → ⊥) → IsToldSince d q result new
+  is_told_since : (new.clears ≡ old.clears → ⊥) → IsReportedSince d q result new
   is_told_since other = since result made.anew
     where
-      since : (x : Result (Option HalfFound) MatchErrorKind) → IsSearchTold d q x old new →
-          IsToldSince d q x new
+      since : (x : Result (Option HalfFound) MatchErrorKind) → IsSearchReported d q x old new →
+          IsReportedSince d q x new
       since (Ok f) (inl same) = absurd (other same.1)
       since (Ok f) (inr c) = c.1
       since (Err e) (inl same) = absurd (other same.1)
@@ -175,7 +179,7 @@ module _ (d : Dfa) (q : Search) (old new : CacheValue) (m1 m2 n1 n2 : ℕ) (resu
     sure = is_sure;
     kept = made.kept;
     linked = is_linked_then;
-    tells = record { told = is_told_then; left_told = is_left_then; told_since = is_told_since; changes = few_changes };
+    reports = record { reported = is_told_then; left_progress = is_left_then; told_since = is_told_since; changes = few_changes };
     moved = λ linked. (made.free linked).0;
     free = λ linked. ((made.free linked).1, (made.free linked).2);
     sure_if_linked = λ linked. (made.free linked).3;
@@ -187,16 +191,16 @@ half_of_pair : (f : Option HalfFound) → f ≡ half_of (pair_of f)
 half_of_pair None = refl
 half_of_pair (Some m) = refl
 
--- how far an answer reached, forward or in reverse
+-- how far a result reached, forward or in reverse
 reaches_where : (P : Option (ℕ × ℕ) → Type 0) (d : Dfa) (q : Search) (new : CacheValue)
     (result : Result (Option HalfFound) MatchErrorKind) →
-    ((o : Option (ℕ × ℕ)) → scan (reader d) q ≡ found o → P o) → Answers d new q result →
+    ((o : Option (ℕ × ℕ)) → half_search (reader d) q ≡ found o → P o) → Answers d new q result →
     IfOk result (λ f. (o : Option (ℕ × ℕ)) × (f ≡ half_of o) × P o)
 reaches_where P d q new (Err e) reach answers = tt
 reaches_where P d q new (Ok f) reach answers =
-    let is : scan (reader d) q ≡ found (pair_of f) =
-    ok_is_found (scan (reader d) q) f (ok_is_told f (told (scan (reader d) q))
-    (λ (x : ℕ). GivesUpAmong d new q x (passes_of (reader d) q)) answers) in
+    let is : half_search (reader d) q ≡ found (pair_of f) =
+    ok_is_found (half_search (reader d) q) f (ok_is_told f (reported (half_search (reader d) q))
+    (λ (x : ℕ). GivesUpAmong d new q x (scans_of (reader d) q)) answers) in
     (pair_of f, half_of_pair f, reach (pair_of f) is)
 
 module _ (d : Dfa) (q : Search) (new : CacheValue) (result : Result (Option HalfFound) MatchErrorKind) (made : IsDfa d)

@@ -1,4 +1,4 @@
--- How a half search goes on, and how it ends, by what its next pass answers.
+-- How a half search goes on, and how it ends, by the result of its next scan.
 use Rattle.std.proofs.Common.{◌≡◌, ℕ, ◌+◌, ◌-◌, ◌<◌, ◌≤◌, Bool, true, false, not, List, [], ◌∷◌, ◌++◌, Option, Some, None, refl, sym, ap}
 use Rattle.std.proofs.Common.{◌∙◌, ⊎_elim, subst, arith, true≢false}
 use Rattle.std.specs.Prelude.{Ok, Err, IsTrue, ◌↔◌}
@@ -12,13 +12,13 @@ use Rattle.search_types.specs.Modes.{is_anchored}
 use Rattle.search_types.specs.Places.{counts}
 use Rattle.lazy_dfa.specs.Caches.{CacheValue, IsCacheOf}
 use Rattle.lazy_dfa.specs.Dfas.{Dfa, IsDfa, reader}
-use Rattle.lazy_dfa.specs.Linked.{passes_of}
-use Rattle.lazy_dfa.specs.MadePasses.{MakesPass, MakesSearch}
-use Rattle.lazy_dfa.specs.PassLaws.{splits}
+use Rattle.lazy_dfa.specs.Linked.{scans_of}
+use Rattle.lazy_dfa.specs.MadeScans.{MakesScan, MakesSearch}
+use Rattle.lazy_dfa.specs.ScanLaws.{splits}
 use Rattle.lazy_dfa.specs.Readers.{Reader, found}
-use Rattle.lazy_dfa.specs.ScanLaws.{shorter}
-use Rattle.lazy_dfa.specs.Scans.{scan}
-use Rattle.lazy_dfa.specs.SearchAnswers.{pair_of, told, GivesUpIn}
+use Rattle.lazy_dfa.specs.HalfSearchLaws.{shorter}
+use Rattle.lazy_dfa.specs.HalfSearches.{half_search}
+use Rattle.lazy_dfa.specs.SearchAnswers.{pair_of, reported, GivesUpIn}
 use Rattle.lazy_dfa.proofs.Courses.AnswerLemmas.{answer, ok_is_told, ok_is_found}
 use Rattle.lazy_dfa.proofs.CacheChanges.LinkedLemmas.{AreBytes}
 use Rattle.lazy_dfa.proofs.Courses.PassListLemmas.{first_pass, first_answer, first_splits, done_passes, whole_once, whole_scan}
@@ -27,7 +27,7 @@ use Rattle.lazy_dfa.proofs.Courses.PassListLemmas.{anchored_scan, lowest_once, l
 use Rattle.lazy_dfa.proofs.HalfSearches.ScanLemmas.{scan_done}
 use Rattle.lazy_dfa.proofs.Courses.SearchLemmas.{HasMade, HasCome, makes_one, fails_here, finishes}
 
--- ---- what tests tell
+-- ---- what the tests show
 
 pub not_done : (b : Bool) (s e : ℕ) → (IsTrue b ↔ (e < s)) → b ≡ false → s ≤ e
 not_done b s e f is = ⊎_elim
@@ -63,7 +63,7 @@ lower_end t u fits some is = subst (λ (x : Search). x.end + 1 - x.start < t.end
 module _ (d : Dfa) (q t : Search) (old now : CacheValue) (m1 m2 n1 n2 : ℕ) (stands : HasCome d q t old now m1 m2 n1 n2) where
   pub done_ends : t.end < t.start → MakesSearch d q old now m1 m2 n1 n2 (Ok None)
   done_ends past =
-      finishes d q old now m1 m2 n1 n2 None (ap told (sym (scan_done (reader d) t past) ∙ stands.left.scan)) stands.passes
+      finishes d q old now m1 m2 n1 n2 None (ap reported (sym (scan_done (reader d) t past) ∙ stands.left.half_search)) stands.passes
       (sym (append-nil stands.passes) ∙ sym (ap (λ (os : List (ℕ × ℕ)). stands.passes ++ os) (done_passes (reader d) t past))
       ∙ stands.left.passes)
       stands.made
@@ -77,38 +77,38 @@ module _ (d : Dfa) (q t : Search) (old now next : CacheValue) (m1 m2 m3 n1 n2 n3
   abbrev behind : List (ℕ × ℕ)
   behind = stands.passes ++ first_pass r t ∷ []
 
-  pub fails : (x : MatchErrorKind) → MakesPass d t now next m2 m3 n2 n3 (Err x) → MakesSearch d q old next m1 m3 n1 n3 (Err x)
+  pub fails : (x : MatchErrorKind) → MakesScan d t now next m2 m3 n2 n3 (Err x) → MakesSearch d q old next m1 m3 n1 n3 (Err x)
   fails x made =
       let first = passes_begin r t fits in
       fails_here d q old now next m1 m2 m3 n1 n2 n3 stands.passes fit own_old own_now bytes stands.made t.start t.end fits first.0
       (sym (ap (λ (os : List (ℕ × ℕ)). stands.passes ++ os) first.1) ∙ stands.left.passes)
-      (sym (ap (scan r) stands.left.same) ∙ stands.left.scan) x
-      (subst (λ (u : Search). MakesPass d u now next m2 m3 n2 n3 (Err x)) stands.left.same made)
+      (sym (ap (half_search r) stands.left.same) ∙ stands.left.half_search) x
+      (subst (λ (u : Search). MakesScan d u now next m2 m3 n2 n3 (Err x)) stands.left.same made)
 
-  module _ (f : Option HalfFound) (made : MakesPass d t now next m2 m3 n2 n3 (Ok f)) where
+  module _ (f : Option HalfFound) (made : MakesScan d t now next m2 m3 n2 n3 (Ok f)) where
     one_more : HasMade d q old next m1 m3 n1 n3 behind
     one_more =
         makes_one d q old now next m1 m2 m3 n1 n2 n3 stands.passes fit own_old own_now bytes stands.made t.start t.end f
-        (subst (λ (u : Search). MakesPass d u now next m2 m3 n2 n3 (Ok f)) stands.left.same made)
+        (subst (λ (u : Search). MakesScan d u now next m2 m3 n2 n3 (Ok f)) stands.left.same made)
 
-    told_is : answer f ≡ told (first_answer r t)
-    told_is = ok_is_told f (told (first_answer r t))
+    told_is : answer f ≡ reported (first_answer r t)
+    told_is = ok_is_told f (reported (first_answer r t))
         (λ (i : ℕ). GivesUpIn d next t.anchored t.earliest t.haystack (t.end - t.start) (first_pass r t).1 i) made.answer
 
     found_is : first_answer r t ≡ found (pair_of f)
     found_is = ok_is_found (first_answer r t) f told_is
 
-    last_one : passes_of r t ≡ first_pass r t ∷ [] → behind ≡ passes_of r q
+    last_one : scans_of r t ≡ first_pass r t ∷ [] → behind ≡ scans_of r q
     last_one is = sym (ap (λ (os : List (ℕ × ℕ)). stands.passes ++ os) is) ∙ stands.left.passes
 
     whole_ends : first_splits r t ≡ false → MakesSearch d q old next m1 m3 n1 n3 (Ok f)
     whole_ends e =
-        finishes d q old next m1 m3 n1 n3 f (told_is ∙ ap told (sym (whole_scan r t fits e) ∙ stands.left.scan)) behind
+        finishes d q old next m1 m3 n1 n3 f (told_is ∙ ap reported (sym (whole_scan r t fits e) ∙ stands.left.half_search)) behind
         (last_one (whole_once r t fits e)) one_more
 
-    split_ends : passes_of r t ≡ first_pass r t ∷ [] → scan r t ≡ found None → MakesSearch d q old next m1 m3 n1 n3 (Ok None)
+    split_ends : scans_of r t ≡ first_pass r t ∷ [] → half_search r t ≡ found None → MakesSearch d q old next m1 m3 n1 n3 (Ok None)
     split_ends all none =
-        finishes d q old next m1 m3 n1 n3 None (ap told (sym none ∙ stands.left.scan)) behind (last_one all) one_more
+        finishes d q old next m1 m3 n1 n3 None (ap reported (sym none ∙ stands.left.half_search)) behind (last_one all) one_more
 
     pub none_ends : f ≡ None → MakesSearch d q old next m1 m3 n1 n3 (Ok None)
     none_ends is =
@@ -145,9 +145,10 @@ module _ (d : Dfa) (q t : Search) (old now next : CacheValue) (m1 m2 m3 n1 n2 n3
           made = one_more;
           left = record {
             same = subst (λ (x : Search). x ≡ with_span x.start x.end q) (sym same) (same_but_span is_reverse);
-            scan = ap (scan r) same ∙ sym (scan_anew r t a fits (splits_by false inside) is_reverse dir some) ∙ stands.left.scan;
-            passes = append_assoc stands.passes (first_pass r t ∷ []) (passes_of r u)
-                ∙ ap (λ (x : Search). stands.passes ++ first_pass r t ∷ passes_of r x) same
+            half_search = ap (half_search r) same ∙ sym (scan_anew r t a fits (splits_by false inside) is_reverse dir some) ∙
+                stands.left.half_search;
+            passes = append_assoc stands.passes (first_pass r t ∷ []) (scans_of r u)
+                ∙ ap (λ (x : Search). stands.passes ++ first_pass r t ∷ scans_of r x) same
                 ∙ sym (ap (λ (os : List (ℕ × ℕ)). stands.passes ++ os)
                 (passes_anew r t a fits (splits_by false inside) is_reverse dir some))
                 ∙ stands.left.passes;

@@ -1,4 +1,4 @@
--- Turns of a pass in its span: what is carried over to a cache in which only searches came further, and what they tell it.
+-- Turns of a scan in its span: what carries over to a cache that differs only in its progress, and what the turns report to it.
 use Rattle.std.proofs.Common.{◌≡◌, ◌≢◌, ◌⊎◌, ℕ, suc, ◌+◌, ◌-◌, ◌<◌, ◌≤◌, ◌==◌, Bool, true, false, ◌&&◌, not, if◌then◌else◌, nat_le, List}
 use Rattle.std.proofs.Common.{length, get_or, is_some, Option, Some, None, Err, refl, sym, ap, ◌∙◌, subst, inl, inr, ⊎_elim, arith}
 use Rattle.std.proofs.Common.{true≢false}
@@ -8,37 +8,38 @@ use Rattle.std.proofs.lemmas.Option.{slice_get-get_or}
 use Rattle.std.proofs.Math.Nat.{min-eq_left, min-eq_right}
 use Rattle.search_core.specs.ByteSets.{has}
 use Rattle.search_core.specs.Text.{byte_before}
-use Rattle.nfa_core.specs.Ways.{place_of}
+use Rattle.nfa_core.specs.Ways.{offset_of}
 use Rattle.determinize_core.specs.States.{StateValue}
 use Rattle.determinize_core.specs.Steps.{unit_at}
 use Rattle.search_types.specs.declared.match_error.MatchErrorKind.{MatchErrorKind}
 use Rattle.search_types.specs.declared.match_error.MatchErrorKind.TheVariants.{Quit}
 use Rattle.search_types.specs.Inputs.{Search}
-use Rattle.lazy_dfa.specs.AnewTold.{told_anew, anew_if}
+use Rattle.lazy_dfa.specs.AnewProgress.{progress_anew, anew_if}
 use Rattle.lazy_dfa.specs.Caches.{CacheValue, IsRow, HeldAt, greatest, distance, progress_len, moved_to}
-use Rattle.lazy_dfa.specs.Courses.{state_behind, stops_behind}
+use Rattle.lazy_dfa.specs.Courses.{state_after, stops_after}
 use Rattle.lazy_dfa.specs.declared.cache_error.CacheError.{CacheError}
 use Rattle.lazy_dfa.specs.declared.cache_error.CacheError.TheVariants.{GaveUp, NoMemory}
 use Rattle.lazy_dfa.specs.declared.progress.Progress.{Progress}
-use Rattle.lazy_dfa.specs.declared.turns.Turn.{Turn}
-use Rattle.lazy_dfa.specs.declared.turns.Turn.TheVariants.{GoesOn, Ends, Quits}
+use Rattle.lazy_dfa.specs.declared.scan_steps.Turn.{Turn}
+use Rattle.lazy_dfa.specs.declared.scan_steps.Turn.TheVariants.{GoesOn, Ends, Quits}
 use Rattle.lazy_dfa.specs.Dfas.{Dfa, reader}
 use Rattle.lazy_dfa.specs.Linked.{CacheGrows, HasCleared, GrowsOrClears, IsMoved}
-use Rattle.lazy_dfa.specs.MadePasses.{span_len}
-use Rattle.lazy_dfa.specs.Passes.{index_at, is_dead}
+use Rattle.lazy_dfa.specs.MadeScans.{span_len}
+use Rattle.lazy_dfa.specs.Scans.{index_at, is_dead}
 use Rattle.lazy_dfa.specs.Points.{Point, began, Follows, GoesTo, point}
 use Rattle.lazy_dfa.specs.Readers.{is_quit}
-use Rattle.lazy_dfa.specs.SearchAnswers.{Told, told_of, pass_distance, running_at}
-use Rattle.lazy_dfa.specs.PassPlaces.{IsWithinSpan, last_place, came, tells, first_index, BeganFirst, finished, finished_where, told_behind}
-use Rattle.lazy_dfa.specs.PassPlaces.{error_of, EndsWith, gave_up_at, turned_told, TellsTurn, TurnsTo}
-use Rattle.lazy_dfa.specs.Turns.{Leaves, FailsOn, TellsTheSame, GoesOne, IsSeen, IsTurn}
+use Rattle.lazy_dfa.specs.SearchAnswers.{ProgressValue, progress_of, scan_distance, running_at}
+use Rattle.lazy_dfa.specs.ScanOffsets.{IsWithinSpan, last_offset, came, reports, first_index, BeganFirst, finished, finished_where}
+use Rattle.lazy_dfa.specs.ScanOffsets.{progress_past}
+use Rattle.lazy_dfa.specs.ScanOffsets.{error_of, EndsWith, gave_up_at, turned_progress, ReportsTurn, TurnsTo}
+use Rattle.lazy_dfa.specs.ScanSteps.{Leaves, FailsOn, ReportsTheSame, GoesOne, IsSeen, IsTurn}
 use Rattle.lazy_dfa.specs.Changes.{IsMadeAt}
 use Rattle.lazy_dfa.proofs.CacheChanges.ChangesLemmas.{changes_moved, changes_from_moved}
 use Rattle.lazy_dfa.proofs.CacheChanges.IsCacheLemmas.{le_of, lt_of}
 use Rattle.lazy_dfa.proofs.CacheChanges.LinkedLemmas.{moved_refl, moved_trans, names_moved, noted_moved, moved_starts, id_moved}
 use Rattle.lazy_dfa.proofs.CacheChanges.LinkedLemmas.{linked_moved}
 
--- ---- caches in which only searches came further
+-- ---- caches that differ only in their progress
 
 moved_clears : (v w : CacheValue) → IsMoved v w → w.clears ≡ v.clears
 moved_clears v w e = ap (λ (c : CacheValue). c.clears) e
@@ -62,7 +63,7 @@ where_moves v at true = refl
 pub finished_where_moves : (v w : CacheValue) (at : ℕ) (wanted : Bool) → w ≡ finished_where wanted at v → IsMoved v w
 finished_where_moves v w at wanted e = subst (λ (x : CacheValue). IsMoved v x) (sym e) (where_moves v at wanted)
 
--- what stands of the later cache of two stands of the earlier one
+-- what holds for the later one of two such caches holds for the earlier one
 module _ (d : Dfa) (v w : CacheValue) (e : IsMoved v w) where
   cleared_back : (x : CacheValue) → HasCleared w x → HasCleared v x
   cleared_back x c = subst (λ (n : ℕ). min (n + 1) greatest ≤ x.clears) (moved_clears v w e) c
@@ -130,7 +131,7 @@ module _ (d : Dfa) (v w : CacheValue) (e : IsMoved v w) where
           (g.changes s (names_moved d v w e id s named));
     }
 
--- and what was left in the earlier cache is left in the later one
+-- what was left in the earlier cache is left in the later one
 pub leaves_forth : (d : Dfa) (h : List ℕ) (from : Point) (v w : CacheValue) (m n k : ℕ) → IsMoved v w → Leaves d h from v m n k →
     Leaves d h from w m n k
 leaves_forth d h from v w m n k e l = record {
@@ -162,7 +163,7 @@ moved_some at (Some p) r = refl
 pub some_moved : (v w : CacheValue) (at : ℕ) → w ≡ record v { progress = moved_to at v.progress } → IsSome v.progress → IsSome w.progress
 some_moved v w at e r = subst (λ (x : CacheValue). IsSome x.progress) (sym e) (moved_some at v.progress r)
 
--- and is at that place
+-- the running search is at that offset
 moved_there : (o : Option Progress) (at : ℕ) → IsSome o → running_at (moved_to at o) ≡ Some at
 moved_there None at r = absurd (true≢false (sym r))
 moved_there (Some p) at r = refl
@@ -175,12 +176,12 @@ len_there : (o : Option Progress) (a at : ℕ) → began o ≡ Some a → progre
 len_there None a at e = absurd (true≢false (sym (ap is_some e)))
 len_there (Some p) a at e = let same : p.start ≡ a = cc in ap (λ (x : ℕ). distance x at) same
 
-abbrev pub told_end : ℕ → ℕ → Told
+abbrev pub told_end : ℕ → ℕ → ProgressValue
 told_end s x = record { searched = min (s + x) greatest; progress = None }
 
--- what a search tells at its end that began at one index and comes to another
+-- what a search reports at its end if it began at one index and gets to another
 pub told_there : (w : CacheValue) (s a at x : ℕ) → w.searched ≡ s → began w.progress ≡ Some a → distance a at ≡ x →
-    told_of (finished at w) ≡ told_end s x
+    progress_of (finished at w) ≡ told_end s x
 told_there w s a at x e f g =
     ap (λ (n : ℕ). told_end n (progress_len (moved_to at w.progress))) e
     ∙ ap (λ (n : ℕ). told_end s n) (len_there w.progress a at f ∙ g)
@@ -194,15 +195,15 @@ some_bytes n l = ⊎_elim
 no_bytes : (n : ℕ) → n ≡ 0 → n == 0 ≡ true
 no_bytes n e = ap (λ (k : ℕ). k == 0) e
 
-pub told_behind_some : (is_reverse : Bool) (n units x : ℕ) (t : Told) → 0 < n → x ≡ pass_distance is_reverse n units →
-    told_end t.searched x ≡ told_behind is_reverse n t units
+pub told_behind_some : (is_reverse : Bool) (n units x : ℕ) (t : ProgressValue) → 0 < n → x ≡ scan_distance is_reverse n units →
+    told_end t.searched x ≡ progress_past is_reverse n t units
 told_behind_some false n units x t l e = ap (told_end t.searched) e
 told_behind_some true n units x t l e =
     ap (told_end t.searched) e
-    ∙ sym (ap (λ (b : Bool). if b then t else told_end t.searched (pass_distance true n units)) (some_bytes n l))
+    ∙ sym (ap (λ (b : Bool). if b then t else told_end t.searched (scan_distance true n units)) (some_bytes n l))
 
-pub told_behind_none : (n units : ℕ) (t : Told) → n ≡ 0 → t ≡ told_behind true n t units
-told_behind_none n units t e = sym (ap (λ (b : Bool). if b then t else told_end t.searched (pass_distance true n units)) (no_bytes n e))
+pub told_behind_none : (n units : ℕ) (t : ProgressValue) → n ≡ 0 → t ≡ progress_past true n t units
+told_behind_none n units t e = sym (ap (λ (b : Bool). if b then t else told_end t.searched (scan_distance true n units)) (no_bytes n e))
 
 pub not_le : (a b : ℕ) → b < a → not (nat_le a b) ≡ true
 not_le a b l = ⊎_elim
@@ -216,7 +217,7 @@ is_le a b l = ⊎_elim
     (λ (e : nat_le a b ≡ false). let g = lt_of a b e in absurd (omega (arith, g, l)))
     (cases_Bool (nat_le a b))
 
--- the length of a pass by its first index and its last one
+-- the length of a scan, by its first index and its last one
 forward_distance : (s at : ℕ) → s ≤ at → distance s at ≡ suc (at - s) - 1
 forward_distance s at l = omega (arith, l)
 
@@ -242,21 +243,22 @@ cleared_between v0 v1 v2 v3 e f c =
     (subst (λ (n : ℕ). min (v1.clears + 1) greatest ≤ n) (sym (moved_clears v2 v3 f)) c)
 
 abbrev IsSame : CacheValue → CacheValue → Type 0
-IsSame old new = (told_of new ≡ told_of old) × (new.clears ≡ old.clears)
+IsSame old new = (progress_of new ≡ progress_of old) × (new.clears ≡ old.clears)
 
 abbrev IsAnew : CacheValue → CacheValue → Type 0
-IsAnew old new = HasCleared old new × (told_of new ≡ told_anew (told_of old))
+IsAnew old new = HasCleared old new × (progress_of new ≡ progress_anew (progress_of old))
 
 abbrev TellsEnd : Bool → Search → ℕ → CacheValue → CacheValue → Type 0
-TellsEnd is_reverse q at old new = (told_of new ≡ told_behind is_reverse (span_len q) (told_of old) (suc (came is_reverse q at))) ⊎
+TellsEnd is_reverse q at old new = (progress_of new ≡ progress_past is_reverse (span_len q) (progress_of old) (suc (came is_reverse q at)))
+    ⊎
     HasCleared old new
 
--- ---- what a turn by a byte tells
+-- ---- what a turn by a byte reports
 
-byte_end_told : (is_reverse : Bool) (q : Search) (v v2 : CacheValue) (at : ℕ) → IsWithinSpan q at → at ≢ last_place is_reverse q →
+byte_end_told : (is_reverse : Bool) (q : Search) (v v2 : CacheValue) (at : ℕ) → IsWithinSpan q at → at ≢ last_offset is_reverse q →
     v2.searched ≡ v.searched →
-    (tells is_reverse q ≡ true → began v2.progress ≡ Some (first_index is_reverse q)) →
-    told_of (finished (index_at is_reverse at) v2) ≡ told_behind is_reverse (span_len q) (told_of v) (suc (came is_reverse q at))
+    (reports is_reverse q ≡ true → began v2.progress ≡ Some (first_index is_reverse q)) →
+    progress_of (finished (index_at is_reverse at) v2) ≡ progress_past is_reverse (span_len q) (progress_of v) (suc (came is_reverse q at))
 byte_end_told false q v v2 at within left searched begins =
     told_there v2 v.searched q.start at (suc (at - q.start) - 1) searched (begins refl) (forward_distance q.start at within.0)
 byte_end_told true q v v2 at within left searched begins =
@@ -264,60 +266,60 @@ byte_end_told true q v v2 at within left searched begins =
     let far = within.1 in
     told_there v2 v.searched (q.end - 1) (at - 1) (min (suc (q.end - at) - 1) (q.end - q.start - 1)) searched
     (begins (not_le q.end q.start (omega (arith, l, far)))) (reverse_distance q.start q.end at l far)
-    ∙ told_behind_some true (q.end - q.start) (suc (q.end - at)) (min (suc (q.end - at) - 1) (q.end - q.start - 1)) (told_of v)
+    ∙ told_behind_some true (q.end - q.start) (suc (q.end - at)) (min (suc (q.end - at) - 1) (q.end - q.start - 1)) (progress_of v)
     (omega (arith, l, far)) refl
 
 byte_told : (is_reverse : Bool) (q : Search) (v0 v1 v2 v3 : CacheValue) (at index : ℕ) → index ≡ index_at is_reverse at →
     v1 ≡ record v0 { progress = moved_to index v0.progress } →
-    v3 ≡ finished index v2 → IsWithinSpan q at → at ≢ last_place is_reverse q → TellsTheSame v1 v2 → BeganFirst is_reverse q v0 →
+    v3 ≡ finished index v2 → IsWithinSpan q at → at ≢ last_offset is_reverse q → ReportsTheSame v1 v2 → BeganFirst is_reverse q v0 →
     TellsEnd is_reverse q at v0 v3
 byte_told is_reverse q v0 v1 v2 v3 at index here e f within left same begins = ⊎_elim
-    (λ (g : IsSame v1 v2). inl (ap told_of f ∙ (ap (λ (x : ℕ). told_of (finished x v2)) here
-    ∙ byte_end_told is_reverse q v0 v2 at within left (ap (λ (t : Told). t.searched) g.0 ∙ ap (λ (c : CacheValue). c.searched) e)
-    (λ tells. ap (λ (t : Told). began t.progress) g.0 ∙ (ap (λ (c : CacheValue). began c.progress) e
-    ∙ (began_moved index v0.progress ∙ begins tells))))))
+    (λ (g : IsSame v1 v2). inl (ap progress_of f ∙ (ap (λ (x : ℕ). progress_of (finished x v2)) here
+    ∙ byte_end_told is_reverse q v0 v2 at within left (ap (λ (t : ProgressValue). t.searched) g.0 ∙ ap (λ (c : CacheValue). c.searched) e)
+    (λ reports. ap (λ (t : ProgressValue). began t.progress) g.0 ∙ (ap (λ (c : CacheValue). began c.progress) e
+    ∙ (began_moved index v0.progress ∙ begins reports))))))
     (λ (c : IsAnew v1 v2). inr (cleared_between v0 v1 v2 v3 (moved_is v0 v1 index e) (finished_moves v2 v3 index f) c.0))
     same
 
--- ---- what the last turn tells
+-- ---- what the last turn reports
 
 last_told_same : (is_reverse : Bool) (q : Search) (v0 v1 v2 v3 : CacheValue) (at : ℕ) →
-    v1 ≡ finished_where (is_reverse && tells is_reverse q) at v0 → v3 ≡ finished_where (not is_reverse) at v2 →
-    at ≡ last_place is_reverse q → q.start ≤ q.end → told_of v2 ≡ told_of v1 → BeganFirst is_reverse q v0 →
-    told_of v3 ≡ told_behind is_reverse (span_len q) (told_of v0) (suc (came is_reverse q at))
+    v1 ≡ finished_where (is_reverse && reports is_reverse q) at v0 → v3 ≡ finished_where (not is_reverse) at v2 →
+    at ≡ last_offset is_reverse q → q.start ≤ q.end → progress_of v2 ≡ progress_of v1 → BeganFirst is_reverse q v0 →
+    progress_of v3 ≡ progress_past is_reverse (span_len q) (progress_of v0) (suc (came is_reverse q at))
 last_told_same false q v0 v1 v2 v3 at e f last begun g begins =
-    ap told_of f
-    ∙ told_there v2 v0.searched q.start at (suc (at - q.start) - 1) (ap (λ (t : Told). t.searched) g
+    ap progress_of f
+    ∙ told_there v2 v0.searched q.start at (suc (at - q.start) - 1) (ap (λ (t : ProgressValue). t.searched) g
     ∙ ap (λ (c : CacheValue). c.searched) e)
-    (ap (λ (t : Told). began t.progress) g ∙ (ap (λ (c : CacheValue). began c.progress) e ∙ begins refl))
+    (ap (λ (t : ProgressValue). began t.progress) g ∙ (ap (λ (c : CacheValue). began c.progress) e ∙ begins refl))
     (forward_distance q.start at (omega (arith, last, begun)))
-last_told_same true q v0 v1 v2 v3 at e f last begun g begins = ap told_of f ∙ (g ∙ ⊎_elim
+last_told_same true q v0 v1 v2 v3 at e f last begun g begins = ap progress_of f ∙ (g ∙ ⊎_elim
     (λ (l : q.start < q.end).
     let yes_tells = not_le q.end q.start l in
-    ap told_of (e ∙ ap (λ (b : Bool). finished_where b at v0) yes_tells)
+    ap progress_of (e ∙ ap (λ (b : Bool). finished_where b at v0) yes_tells)
     ∙ (told_there v0 v0.searched (q.end - 1) at (min (suc (q.end - q.start) - 1) (q.end - q.start - 1)) refl (begins yes_tells)
     (ap (distance (q.end - 1)) last ∙ whole_distance q.start q.end l)
-    ∙ told_behind_some true (q.end - q.start) (suc (q.end - at)) (min (suc (q.end - q.start) - 1) (q.end - q.start - 1)) (told_of v0)
+    ∙ told_behind_some true (q.end - q.start) (suc (q.end - at)) (min (suc (q.end - q.start) - 1) (q.end - q.start - 1)) (progress_of v0)
     (omega (arith, l))
     (sym (ap (λ (x : ℕ). min (suc (q.end - x) - 1) (q.end - q.start - 1)) last))))
     (λ (l : q.end ≤ q.start).
-    ap told_of (e ∙ ap (λ (b : Bool). finished_where b at v0) (is_le q.end q.start l))
-    ∙ told_behind_none (q.end - q.start) (suc (q.end - at)) (told_of v0) (omega (arith, l)))
+    ap progress_of (e ∙ ap (λ (b : Bool). finished_where b at v0) (is_le q.end q.start l))
+    ∙ told_behind_none (q.end - q.start) (suc (q.end - at)) (progress_of v0) (omega (arith, l)))
     (cases_lt q.start q.end))
 
 last_told : (is_reverse : Bool) (q : Search) (v0 v1 v2 v3 : CacheValue) (at : ℕ) →
-    v1 ≡ finished_where (is_reverse && tells is_reverse q) at v0 → v3 ≡ finished_where (not is_reverse) at v2 →
-    at ≡ last_place is_reverse q → q.start ≤ q.end → TellsTheSame v1 v2 → BeganFirst is_reverse q v0 → TellsEnd is_reverse q at v0 v3
+    v1 ≡ finished_where (is_reverse && reports is_reverse q) at v0 → v3 ≡ finished_where (not is_reverse) at v2 →
+    at ≡ last_offset is_reverse q → q.start ≤ q.end → ReportsTheSame v1 v2 → BeganFirst is_reverse q v0 → TellsEnd is_reverse q at v0 v3
 last_told is_reverse q v0 v1 v2 v3 at e f last begun same begins = ⊎_elim
     (λ (g : IsSame v1 v2). inl (last_told_same is_reverse q v0 v1 v2 v3 at e f last begun g.0 begins))
-    (λ (c : IsAnew v1 v2). inr (cleared_between v0 v1 v2 v3 (finished_where_moves v0 v1 at (is_reverse && tells is_reverse q) e)
+    (λ (c : IsAnew v1 v2). inr (cleared_between v0 v1 v2 v3 (finished_where_moves v0 v1 at (is_reverse && reports is_reverse q) e)
     (finished_where_moves v2 v3 at (not is_reverse) f) c.0))
     same
 
--- ---- the unit at a place
+-- ---- the unit at an offset
 
 pub byte_unit : (is_reverse back : Bool) (q : Search) (h : List ℕ) (at index : ℕ) → is_reverse ≡ back → h ≡ q.haystack →
-    index ≡ index_at is_reverse at → IsWithinSpan q at → at ≢ last_place is_reverse q →
+    index ≡ index_at is_reverse at → IsWithinSpan q at → at ≢ last_offset is_reverse q →
     q.end ≤ length q.haystack → Some (get_or h index 0) ≡ unit_at back q.haystack at
 byte_unit is_reverse back q h at index same is here within left inside =
     ap (λ (x : List ℕ). Some (get_or x index 0)) is
@@ -327,7 +329,7 @@ byte_unit is_reverse back q h at index same is here within left inside =
     back_one : (n s : ℕ) → s < n → suc (n - 1) ≡ n
     back_one n s l = omega (arith, l)
 
-    there : (is_reverse : Bool) → at ≢ last_place is_reverse q → Some (get_or q.haystack (index_at is_reverse at) 0) ≡ unit_at is_reverse
+    there : (is_reverse : Bool) → at ≢ last_offset is_reverse q → Some (get_or q.haystack (index_at is_reverse at) 0) ≡ unit_at is_reverse
         q.haystack at
     there false left =
         let far = above_end at q.end within.1 left in
@@ -351,59 +353,61 @@ module _ (d : Dfa) (q : Search) (is_reverse : Bool) (same : is_reverse ≡ d.nfa
   index_there : (index : ℕ) → index ≡ index_at is_reverse at → index ≡ index_at d.nfa.automaton.reverse at
   index_there index e = e ∙ ap (λ (b : Bool). index_at b at) same
 
-  gave_up : (is : Bool) (place : ℕ) → at == last_place d.nfa.automaton.reverse q ≡ is →
+  gave_up : (is : Bool) (place : ℕ) → at == last_offset d.nfa.automaton.reverse q ≡ is →
       place ≡ (if is then at else index_at d.nfa.automaton.reverse at) → place ≡ gave_up_at d.nfa.automaton.reverse q at
   gave_up is place e f = f ∙ sym (ap (λ (b : Bool). if b then at else index_at d.nfa.automaton.reverse at) e)
 
-  pub gave_up_last : (place : ℕ) → place ≡ at → at ≡ last_place is_reverse q → place ≡ gave_up_at d.nfa.automaton.reverse q at
+  pub gave_up_last : (place : ℕ) → place ≡ at → at ≡ last_offset is_reverse q → place ≡ gave_up_at d.nfa.automaton.reverse q at
   gave_up_last place e last =
-      gave_up true place (eq-eqb at (last_place d.nfa.automaton.reverse q) (last ∙ ap (λ (b : Bool). last_place b q) same)) e
+      gave_up true place (eq-eqb at (last_offset d.nfa.automaton.reverse q) (last ∙ ap (λ (b : Bool). last_offset b q) same)) e
 
-  pub gave_up_byte : (place : ℕ) → place ≡ index_at is_reverse at → at ≢ last_place is_reverse q →
+  pub gave_up_byte : (place : ℕ) → place ≡ index_at is_reverse at → at ≢ last_offset is_reverse q →
       place ≡ gave_up_at d.nfa.automaton.reverse q at
   gave_up_byte place e left = ⊎_elim
-      (λ (f : at == last_place d.nfa.automaton.reverse q ≡ true). absurd
-      (left (eqb-true at (last_place d.nfa.automaton.reverse q) f ∙ ap (λ (b : Bool). last_place b q) (sym same))))
-      (λ (f : at == last_place d.nfa.automaton.reverse q ≡ false). gave_up false place f (index_there place e))
-      (cases_Bool (at == last_place d.nfa.automaton.reverse q))
+      (λ (f : at == last_offset d.nfa.automaton.reverse q ≡ true). absurd
+      (left (eqb-true at (last_offset d.nfa.automaton.reverse q) f ∙ ap (λ (b : Bool). last_offset b q) (sym same))))
+      (λ (f : at == last_offset d.nfa.automaton.reverse q ≡ false). gave_up false place f (index_there place e))
+      (cases_Bool (at == last_offset d.nfa.automaton.reverse q))
 
-  -- what a turn tells, by what was told before its step
+  -- what a turn reports, by what was reported before its step
   abbrev Turned : Bool → Bool → CacheValue → Type 0
-  Turned finishes ends v3 = (cleared : Bool) → told_of v2 ≡ anew_if cleared (told_of v1) →
-      told_of v3 ≡ turned_told d.nfa.automaton.reverse finishes ends cleared q at (told_of v0)
+  Turned finishes ends v3 = (cleared : Bool) → progress_of v2 ≡ anew_if cleared (progress_of v1) →
+      progress_of v3 ≡ turned_progress d.nfa.automaton.reverse finishes ends cleared q at (progress_of v0)
 
-  tells_turn : (finishes ends : Bool) (v3 : CacheValue) → IsMoved v0 v1 → IsMoved v2 v3 → Turned finishes ends v3 → TellsTheSame v1 v2 →
-      TellsTurn d finishes ends q at v0 v3
-  tells_turn finishes ends v3 moved after told same = ⊎_elim
-      (λ (g : IsSame v1 v2). inl (told false g.0, moved_clears v2 v3 after ∙ (g.1 ∙ moved_clears v0 v1 moved)))
-      (λ (c : IsAnew v1 v2). inr (cleared_between v0 v1 v2 v3 moved after c.0, told true c.1))
+  tells_turn : (finishes ends : Bool) (v3 : CacheValue) → IsMoved v0 v1 → IsMoved v2 v3 → Turned finishes ends v3 → ReportsTheSame v1 v2 →
+      ReportsTurn d finishes ends q at v0 v3
+  tells_turn finishes ends v3 moved after reported same = ⊎_elim
+      (λ (g : IsSame v1 v2). inl (reported false g.0, moved_clears v2 v3 after ∙ (g.1 ∙ moved_clears v0 v1 moved)))
+      (λ (c : IsAnew v1 v2). inr (cleared_between v0 v1 v2 v3 moved after c.0, reported true c.1))
       same
 
   refused_so : (earliest : Bool) (place : ℕ) (e : CacheError) → IsMoved v0 v1 → u ≡ unit_at d.nfa.automaton.reverse q.haystack at →
       place ≡ gave_up_at d.nfa.automaton.reverse q at →
-      (at ≢ last_place d.nfa.automaton.reverse q → running_at v1.progress ≡ Some place) → Turned false false v2 →
+      (at ≢ last_offset d.nfa.automaton.reverse q → running_at v1.progress ≡ Some place) → Turned false false v2 →
       IsTurn d earliest q.haystack u before v2 m2 n2 (Err e) → TurnsTo d q from v2 m2 n2 (Err (error_of place e))
-  refused_so earliest place NoMemory moved is there runs tells turn =
-      (fails_back d v0 v1 moved q.haystack m1 n1 at id best v2 m2 n2 0 turn.0, tells_turn false false v2 moved (moved_refl v2) tells turn.2)
-  refused_so earliest place GaveUp moved is there runs tells turn = (
+  refused_so earliest place NoMemory moved is there runs reports turn = (
+    fails_back d v0 v1 moved q.haystack m1 n1 at id best v2 m2 n2 0 turn.0,
+    tells_turn false false v2 moved (moved_refl v2) reports turn.2,
+  )
+  refused_so earliest place GaveUp moved is there runs reports turn = (
     fails_back d v0 v1 moved q.haystack m1 n1 at id best v2 m2 n2 0 turn.0,
     ap (is_quit d.quits) (sym is) ∙ turn.1,
     there,
     λ s held. turn.2 s (held_moved v0 v1 id s moved held),
     λ far. ap (λ (v : CacheValue). running_at v.progress) turn.3 ∙ runs far,
-    inl (tells false (ap told_of turn.3), ap (λ (v : CacheValue). v.clears) turn.3 ∙ moved_clears v0 v1 moved),
+    inl (reports false (ap progress_of turn.3), ap (λ (v : CacheValue). v.clears) turn.3 ∙ moved_clears v0 v1 moved),
     subst (λ (v : CacheValue). IsMoved v0 v) (sym turn.3) moved,
   )
 
-  -- a turn that was refused
+  -- a turn that failed
   pub turn_refused : (earliest : Bool) (place : ℕ) (e : CacheError) (err : MatchErrorKind) → IsMoved v0 v1 →
       u ≡ unit_at d.nfa.automaton.reverse q.haystack at →
-      place ≡ gave_up_at d.nfa.automaton.reverse q at → (at ≢ last_place d.nfa.automaton.reverse q → running_at v1.progress ≡ Some place) →
+      place ≡ gave_up_at d.nfa.automaton.reverse q at → (at ≢ last_offset d.nfa.automaton.reverse q → running_at v1.progress ≡ Some place) →
       Turned false false v2 →
       err ≡ error_of place e → IsTurn d earliest q.haystack u before v2 m2 n2 (Err e) → TurnsTo d q from v2 m2 n2 (Err err)
-  turn_refused earliest place e err moved is there runs tells told turn =
-      subst (λ (x : MatchErrorKind). TurnsTo d q from v2 m2 n2 (Err x)) (sym told)
-      (refused_so earliest place e moved is there runs tells turn)
+  turn_refused earliest place e err moved is there runs reports reported turn =
+      subst (λ (x : MatchErrorKind). TurnsTo d q from v2 m2 n2 (Err x)) (sym reported)
+      (refused_so earliest place e moved is there runs reports turn)
 
   module _ (to : ℕ) (best2 : Option (ℕ × ℕ)) (earliest : Bool) (turn : Turn) (asked : earliest ≡ q.earliest)
       (seen : IsSeen d earliest q.haystack u before v2 m2 n2 to best2 turn) where
@@ -412,7 +416,7 @@ module _ (d : Dfa) (q : Search) (is_reverse : Bool) (same : is_reverse ≡ d.nfa
         (subst (λ (b : Bool). IsSeen d b q.haystack u before v2 m2 n2 to best2 turn) asked seen)
 
     goes_unless : (t : Turn) → (t ≡ Quits → ⊥) → IsSeen d q.earliest q.haystack u before v2 m2 n2 to best2 t →
-        GoesOne d q.haystack before v2 m2 n2 to best2 × TellsTheSame v1 v2
+        GoesOne d q.haystack before v2 m2 n2 to best2 × ReportsTheSame v1 v2
     goes_unless GoesOn never x = (x.0, x.1)
     goes_unless Ends never x = (x.0, x.1)
     goes_unless Quits never x = absurd (never refl)
@@ -422,15 +426,15 @@ module _ (d : Dfa) (q : Search) (is_reverse : Bool) (same : is_reverse ≡ d.nfa
         u ≡ unit_at d.nfa.automaton.reverse q.haystack at → u ≡ Some b →
         index ≡ index_at is_reverse at → err ≡ Quit b index → Turned true false v3 →
         turn ≡ Quits → TurnsTo d q from v3 m2 n2 (Err err)
-    turn_quits v3 b index err moved after is some here told tells e =
+    turn_quits v3 b index err moved after is some here reported reports e =
         let x = seen_as Quits e in
         let byte : x.2.0 ≡ b = one_byte x.2.0 b (sym x.2.1 ∙ some) in
-        subst (λ (o : MatchErrorKind). TurnsTo d q from v3 m2 n2 (Err o)) (sym told) (
+        subst (λ (o : MatchErrorKind). TurnsTo d q from v3 m2 n2 (Err o)) (sym reported) (
           leaves_forth d q.haystack from v2 v3 m2 n2 0 after (leaves_back d v0 v1 moved q.haystack m1 n1 at id best v2 m2 n2 0 x.0),
           sym is ∙ some,
           ap (has d.quits) (sym byte) ∙ x.2.2,
           index_there index here,
-          tells_turn true false v3 moved after tells x.3,
+          tells_turn true false v3 moved after reports x.3,
         )
       where
         one_byte : (a b : ℕ) → Some a ≡ Some b → a ≡ b
@@ -445,31 +449,31 @@ module _ (d : Dfa) (q : Search) (is_reverse : Bool) (same : is_reverse ≡ d.nfa
     pub some_unless : IsSome v1.progress → (turn ≡ Quits → ⊥) → IsSome v2.progress
     some_unless r never = (goes_unless turn never (seen_as turn refl)).0.running r
 
-    -- by a byte, from which it goes on
-    pub byte_goes : (index next : ℕ) → v1 ≡ record v0 { progress = moved_to index v0.progress } → next ≡ place_of is_reverse at 1 →
-        at ≢ last_place is_reverse q → Turned false false v2 → turn ≡ GoesOn →
-        GoesOne d q.haystack from v2 m2 n2 to best2 × (next ≡ place_of d.nfa.automaton.reverse at 1) ×
-        (at ≢ last_place d.nfa.automaton.reverse q) × IsRow v2 to ×
-        ((s : StateValue) → HeldAt v0 id s → stops_behind (reader d) q.earliest q.haystack at s 0 ≡ false) ×
-        TellsTurn d false false q at v0 v2
-    byte_goes index next moved place left tells e =
+    -- by a byte after which the scan goes on
+    pub byte_goes : (index next : ℕ) → v1 ≡ record v0 { progress = moved_to index v0.progress } → next ≡ offset_of is_reverse at 1 →
+        at ≢ last_offset is_reverse q → Turned false false v2 → turn ≡ GoesOn →
+        GoesOne d q.haystack from v2 m2 n2 to best2 × (next ≡ offset_of d.nfa.automaton.reverse at 1) ×
+        (at ≢ last_offset d.nfa.automaton.reverse q) × IsRow v2 to ×
+        ((s : StateValue) → HeldAt v0 id s → stops_after (reader d) q.earliest q.haystack at s 0 ≡ false) ×
+        ReportsTurn d false false q at v0 v2
+    byte_goes index next moved place left reports e =
         let x = seen_as GoesOn e in
         let m = moved_is v0 v1 index moved in (
-          goes_back d v0 v1 m q.haystack m1 n1 at id best (point v2 m2 n2 (place_of d.nfa.automaton.reverse at 1) to best2) 1
+          goes_back d v0 v1 m q.haystack m1 n1 at id best (point v2 m2 n2 (offset_of d.nfa.automaton.reverse at 1) to best2) 1
               (ap (λ (c : CacheValue). c.searched) moved)
               (ap (λ (c : CacheValue). began c.progress) moved ∙ began_moved index v0.progress) (some_moved v0 v1 index moved) x.0,
-          place ∙ ap (λ (b : Bool). place_of b at 1) same,
-          (λ z. left (z ∙ ap (λ (b : Bool). last_place b q) (sym same))),
+          place ∙ ap (λ (b : Bool). offset_of b at 1) same,
+          (λ z. left (z ∙ ap (λ (b : Bool). last_offset b q) (sym same))),
           x.2,
           λ s held. x.3 s (held_moved v0 v1 id s m held),
-          tells_turn false false v2 m (moved_refl v2) tells x.1,
+          tells_turn false false v2 m (moved_refl v2) reports x.1,
         )
 
-    -- by a byte, with which it ends
+    -- by a byte at which the scan ends
     pub byte_ends : (v3 : CacheValue) (index : ℕ) → index ≡ index_at is_reverse at →
         v1 ≡ record v0 { progress = moved_to index v0.progress } → v3 ≡ finished index v2 →
-        IsWithinSpan q at → at ≢ last_place is_reverse q → Turned true true v3 → turn ≡ Ends → EndsWith d q from v3 m2 n2 best2
-    byte_ends v3 index here moved f within left tells e =
+        IsWithinSpan q at → at ≢ last_offset is_reverse q → Turned true true v3 → turn ≡ Ends → EndsWith d q from v3 m2 n2 best2
+    byte_ends v3 index here moved f within left reports e =
         let x = seen_as Ends e in
         let m = moved_is v0 v1 index moved in
         record {
@@ -479,16 +483,16 @@ module _ (d : Dfa) (q : Search) (is_reverse : Bool) (same : is_reverse ≡ d.nfa
           begun = m;
           goes = x.0;
           ended = finished_moves v2 v3 index f;
-          told = subst (λ (b : Bool). BeganFirst b q v0 → TellsEnd b q at v0 v3) same
+          reported = subst (λ (b : Bool). BeganFirst b q v0 → TellsEnd b q at v0 v3) same
               (byte_told is_reverse q v0 v1 v2 v3 at index here moved f within left x.1);
-          why = λ s held. ⊎_elim (λ (y : stops_behind (reader d) q.earliest q.haystack at s 0 ≡ true). inl y)
-              (λ (y : is_dead (state_behind (reader d) q.haystack at s 1) ≡ true). inr (inl y)) (x.2 s (held_moved v0 v1 id s m held));
-          tells = tells_turn true true v3 m (finished_moves v2 v3 index f) tells x.1;
+          why = λ s held. ⊎_elim (λ (y : stops_after (reader d) q.earliest q.haystack at s 0 ≡ true). inl y)
+              (λ (y : is_dead (state_after (reader d) q.haystack at s 1) ≡ true). inr (inl y)) (x.2 s (held_moved v0 v1 id s m held));
+          reports = tells_turn true true v3 m (finished_moves v2 v3 index f) reports x.1;
         }
 
-    -- at the last place
-    pub last_ends : (v3 : CacheValue) → v1 ≡ finished_where (is_reverse && tells is_reverse q) at v0 →
-        v3 ≡ finished_where (not is_reverse) at v2 → at ≡ last_place is_reverse q → q.start ≤ q.end →
+    -- at the last offset
+    pub last_ends : (v3 : CacheValue) → v1 ≡ finished_where (is_reverse && reports is_reverse q) at v0 →
+        v3 ≡ finished_where (not is_reverse) at v2 → at ≡ last_offset is_reverse q → q.start ≤ q.end →
         Turned true true v3 → (turn ≡ Quits → ⊥) → EndsWith d q from v3 m2 n2 best2
     last_ends v3 e f last begun turned never =
         let x = goes_unless turn never (seen_as turn refl) in
@@ -496,12 +500,12 @@ module _ (d : Dfa) (q : Search) (is_reverse : Bool) (same : is_reverse ≡ d.nfa
           before = v1;
           behind = v2;
           id = to;
-          begun = finished_where_moves v0 v1 at (is_reverse && tells is_reverse q) e;
+          begun = finished_where_moves v0 v1 at (is_reverse && reports is_reverse q) e;
           goes = x.0;
           ended = finished_where_moves v2 v3 at (not is_reverse) f;
-          told = subst (λ (b : Bool). BeganFirst b q v0 → TellsEnd b q at v0 v3) same
+          reported = subst (λ (b : Bool). BeganFirst b q v0 → TellsEnd b q at v0 v3) same
               (last_told is_reverse q v0 v1 v2 v3 at e f last begun x.1);
-          why = λ s held. inr (inr (last ∙ ap (λ (b : Bool). last_place b q) same));
-          tells = tells_turn true true v3 (finished_where_moves v0 v1 at (is_reverse && tells is_reverse q) e)
+          why = λ s held. inr (inr (last ∙ ap (λ (b : Bool). last_offset b q) same));
+          reports = tells_turn true true v3 (finished_where_moves v0 v1 at (is_reverse && reports is_reverse q) e)
               (finished_where_moves v2 v3 at (not is_reverse) f) turned x.1;
         }

@@ -1,4 +1,4 @@
--- One turn of a pass over a cache: what an ID says by its tags, and what a step by one unit makes of the pass.
+-- One turn of a scan over a cache: what an ID shows by its tags, and what a step by one unit makes of the scan.
 use Rattle.std.proofs.Common.{◌≡◌, ◌≢◌, ℕ, ◌+◌, ◌*◌, ◌/◌, ◌%◌, ◌<◌, Bool, true, false, List, [], ◌∷◌, length, get_or, Option, Some}
 use Rattle.std.proofs.Common.{None, refl, sym, ap, ◌∙◌, subst, inl, inr, ⊎_elim, arith, true≢false}
 use Rattle.std.specs.Prelude.{◌&&◌, ◌==◌, not, nat_le, Result, Ok, Err, IsSome}
@@ -8,26 +8,26 @@ use Rattle.determinize_core.specs.States.{StateValue, dead}
 use Rattle.determinize_core.specs.StateBytes.{is_match}
 use Rattle.determinize_core.specs.Steps.{unit_at}
 use Rattle.lazy_dfa.specs.Caches.{CacheValue, IsShaped, IsCacheOf, IsRow, HeldAt, Names, names_dead, names_held, Leads}
-use Rattle.lazy_dfa.specs.Caches.{state_at, lacks_room}
-use Rattle.lazy_dfa.specs.Courses.{stops_behind}
+use Rattle.lazy_dfa.specs.Caches.{state_at, has_no_room}
+use Rattle.lazy_dfa.specs.Courses.{stops_after}
 use Rattle.lazy_dfa.specs.declared.cache_error.CacheError.{CacheError}
 use Rattle.lazy_dfa.specs.declared.cache_error.CacheError.TheVariants.{GaveUp, NoMemory}
 use Rattle.lazy_dfa.specs.declared.progress.Progress.{Progress}
-use Rattle.lazy_dfa.specs.declared.turns.Seen.{Seen}
-use Rattle.lazy_dfa.specs.declared.turns.Turn.{Turn}
-use Rattle.lazy_dfa.specs.declared.turns.Turn.TheVariants.{GoesOn, Ends, Quits}
+use Rattle.lazy_dfa.specs.declared.scan_steps.Seen.{Seen}
+use Rattle.lazy_dfa.specs.declared.scan_steps.Turn.{Turn}
+use Rattle.lazy_dfa.specs.declared.scan_steps.Turn.TheVariants.{GoesOn, Ends, Quits}
 use Rattle.lazy_dfa.specs.Dfas.{Dfa, after, reader}
 use Rattle.lazy_dfa.specs.Ids.{tag, has_tag, dead_tag, quit_tag, match_tag, tagged, dead_id, quit_id, is_sentinel}
 use Rattle.lazy_dfa.specs.Linked.{IsLinkedOver}
-use Rattle.lazy_dfa.specs.Passes.{is_empty, is_dead, best_recorded}
-use Rattle.lazy_dfa.specs.PassLaws.{unit_of}
+use Rattle.lazy_dfa.specs.Scans.{is_empty, is_dead, best_recorded}
+use Rattle.lazy_dfa.specs.ScanLaws.{unit_of}
 use Rattle.lazy_dfa.specs.Points.{Point, point}
 use Rattle.lazy_dfa.specs.Readers.{is_quit}
-use Rattle.lazy_dfa.specs.SearchAnswers.{pair_of, told_of}
+use Rattle.lazy_dfa.specs.SearchAnswers.{pair_of, progress_of}
 use Rattle.lazy_dfa.specs.StepPromises.{MakesStep}
 use Rattle.lazy_dfa.specs.Steps.{IsHeld, Grew, WasCleared, noted, IsKnown, GivesUp, IsStepCause, most_inserts}
-use Rattle.lazy_dfa.specs.Turns.{Sees, sees_dead, sees_quit, sees_end, sees_on, Leaves, FailsOn, StaysRunning, TellsTheSame}
-use Rattle.lazy_dfa.specs.Turns.{GoesOne, IsSeen, IsTurn}
+use Rattle.lazy_dfa.specs.ScanSteps.{Sees, sees_dead, sees_quit, sees_end, sees_on, Leaves, FailsOn, StaysRunning, ReportsTheSame}
+use Rattle.lazy_dfa.specs.ScanSteps.{GoesOne, IsSeen, IsTurn}
 use Rattle.lazy_dfa.proofs.CacheChanges.ChangeLemmas.{one_state}
 use Rattle.lazy_dfa.proofs.Courses.CourseLemmas.{state_behind_one, unmatched}
 use Rattle.lazy_dfa.proofs.CacheChanges.IsCacheLemmas.{row_is_low, row_is_plain, lt_of}
@@ -57,7 +57,7 @@ match_tagged true false p l = has_not match_tag (tagged true false p) (omega (ar
 match_tagged false true p l = has_it match_tag (tagged false true p) (omega (arith, l))
 match_tagged false false p l = has_not match_tag (tagged false false p) (omega (arith, l))
 
--- of an ID of a row the tag tells whether its state lists a match
+-- the tag of an ID of a row shows whether its state lists a match
 pub row_matches : (v : CacheValue) (id : ℕ) (s : StateValue) → IsShaped v → HeldAt v id s → has_tag match_tag id ≡ is_match s.matches
 row_matches v id s i g =
     let t = i.tags g.0 g.1 in
@@ -69,7 +69,7 @@ module _ (v : CacheValue) (id : ℕ) (i : IsShaped v) where
   row_low : IsRow v id → id < 0x2000_0000
   row_low r = row_is_plain v id r.0 i r.1 r.2
 
-  -- an ID without a tag is that of a row
+  -- an ID without a tag is an ID of a row
   pub row_untagged : IsHeld v id → nat_le tag id ≡ false → IsRow v id
   row_untagged (inl e) f = let l = lt_of tag id f in absurd (omega (arith, e, l))
   row_untagged (inr (inl e)) f = let l = lt_of tag id f in absurd (omega (arith, e, l))
@@ -85,7 +85,7 @@ module _ (v : CacheValue) (id : ℕ) (i : IsShaped v) where
   quit_tagged (inr (inl e)) f = e
   quit_tagged (inr (inr r)) f = let t = tag_on quit_tag id f in let l = row_low r in absurd (omega (arith, l, t))
 
-  -- and so is one with neither tag of sentinels
+  -- an ID with neither tag of a sentinel is an ID of a row, too
   pub row_of_neither : IsHeld v id → has_tag dead_tag id ≡ false → has_tag quit_tag id ≡ false → IsRow v id
   row_of_neither (inl e) f g = let t = tag_off dead_tag id f in absurd (omega (arith, e, t, i.narrow))
   row_of_neither (inr (inl e)) f g = let t = tag_off quit_tag id g in absurd (omega (arith, e, t, i.narrow))
@@ -96,7 +96,7 @@ module _ (v : CacheValue) (id : ℕ) (i : IsShaped v) where
 
 -- ---- matches
 
--- where a state lists no match no pass stops, and where it does one stops that asks for the earliest end
+-- If a state lists no match, no scan stops there. If it lists one, a scan stops there if it asks for the earliest end.
 quiet_end : (earliest : Bool) (ms : List ℕ) → is_match ms ≡ false → (earliest && not (is_empty ms)) ≡ false
 quiet_end true [] e = refl
 quiet_end false [] e = refl
@@ -120,7 +120,7 @@ pub matches_there : (v : CacheValue) (id : ℕ) → IsShaped v → has_tag match
     0 < length s.matches
 matches_there v id i t s g = some_match s.matches (sym (row_matches v id s i g) ∙ t)
 
--- ---- what an ID says
+-- ---- what an ID shows
 
 module _ (v : CacheValue) (id place : ℕ) (best : Option (ℕ × ℕ)) (earliest : Bool) (seen : Seen) (i : IsShaped v) (held : IsHeld v id)
     (same : seen.id ≡ id) where
@@ -130,7 +130,7 @@ module _ (v : CacheValue) (id place : ℕ) (best : Option (ℕ × ℕ)) (earlies
   pub see_quit : has_tag quit_tag id ≡ true → seen.turn ≡ Quits → Sees v id place best earliest seen
   see_quit t quits = sees_quit (quit_tagged v id i held t) quits
 
-  -- of a row whose state lists no match
+  -- an ID of a row whose state lists no match
   see_row : IsRow v id → ((s : StateValue) → HeldAt v id s → is_match s.matches ≡ false) → seen.turn ≡ GoesOn → pair_of seen.best ≡ best →
       Sees v id place best earliest seen
   see_row r none goes b =
@@ -187,7 +187,7 @@ module _ (d : Dfa) (h : List ℕ) (old : CacheValue) (at id m1 n1 : ℕ) (u : Op
   abbrev held_here : HeldAt old id (state_at old row.0)
   held_here = (row.0, row.1, row.2, refl)
 
-  -- a known path knows this step
+  -- if a path is known, so is this step
   known_first : IsLinkedOver d old h at id 1 → IsKnown d old id u
   known_first l = subst (IsKnown d old id) (sym is) (l.steps 0 (omega arith))
 
@@ -208,16 +208,16 @@ module _ (d : Dfa) (h : List ℕ) (old : CacheValue) (at id m1 n1 : ℕ) (u : Op
         (λ (w : WasCleared old new 2). subst (λ (p : Option Progress). IsSome p) (sym w.progress) (runs_anew old.progress runs))
         step.kept
 
-    tells_same : TellsTheSame old new
+    tells_same : ReportsTheSame old new
     tells_same = ⊎_elim
         (λ (g : Grew d old new). inl (told_same g.searched g.progress, g.clears))
         (λ (w : WasCleared old new 2). inr (has_cleared old new 2 w, λ i. record { searched = w.searched i; progress = w.progress i }))
         step.kept
       where
-        told_same : new.searched ≡ old.searched → new.progress ≡ old.progress → told_of new ≡ told_of old
+        told_same : new.searched ≡ old.searched → new.progress ≡ old.progress → progress_of new ≡ progress_of old
         told_same e f = λ i. record { searched = e i; progress = f i }
 
-  -- ---- where it is refused
+  -- ---- a step that fails
 
   abbrev refused : CacheError → Result ℕ CacheError
   refused e = Err e
@@ -253,18 +253,18 @@ module _ (d : Dfa) (h : List ℕ) (old : CacheValue) (at id m1 n1 : ℕ) (u : Op
         let g = gives_up step.err in (
           fails_on GaveUp step,
           g.no_quit,
-          λ s held. ap (λ (t : StateValue). lacks_room d new t) (state_behind_one d h at u is s)
-              ∙ (ap (λ (v : CacheValue). lacks_room d v (after d s u)) (step.gave_up refl) ∙ g.lacks s held),
+          λ s held. ap (λ (t : StateValue). has_no_room d new t) (state_behind_one d h at u is s)
+              ∙ (ap (λ (v : CacheValue). has_no_room d v (after d s u)) (step.gave_up refl) ∙ g.lacks s held),
           step.gave_up refl,
         )
 
-    -- ---- where it leads
+    -- ---- where the step leads
 
     module _ (to : ℕ) (mine : IsCacheOf d new) (step : MakesStep d id u old new m1 m2 n1 n2 (Ok to)) where
       leads : Leads d new (state_at old row.0) u to
       leads = step.step (state_at old row.0) held_here
 
-      -- not by a quit byte, where it doesn't lead to that sentinel
+      -- the unit isn't a quit byte if the step doesn't lead to the quit sentinel
       quiet_if : to ≢ quit_id new.stride → is_quit d.quits u ≡ false
       quiet_if n = ⊎_elim (λ (q : is_quit d.quits u ≡ true). absurd (n (leads.quits q))) (λ (q : is_quit d.quits u ≡ false). q)
           (cases_Bool (is_quit d.quits u))
@@ -289,7 +289,7 @@ module _ (d : Dfa) (h : List ℕ) (old : CacheValue) (at id m1 n1 : ℕ) (u : Op
           step.determinized step.inserted recs step.adds
 
       stops_one : (s t : StateValue) (b : Bool) → after d s u ≡ t → (earliest && not (is_empty t.matches)) ≡ b →
-          stops_behind (reader d) earliest h at s 0 ≡ b
+          stops_after (reader d) earliest h at s 0 ≡ b
       stops_one s t b e f = ap (λ (x : StateValue). earliest && not (is_empty x.matches)) (state_behind_one d h at u is s ∙ e) ∙ f
 
       abbrev Seeing : ℕ → Option (ℕ × ℕ) → Turn → Type 0
@@ -333,7 +333,7 @@ module _ (d : Dfa) (h : List ℕ) (old : CacheValue) (at id m1 n1 : ℕ) (u : Op
         seen_on : (earliest && not (is_empty t.matches)) ≡ false → Seeing to last GoesOn
         seen_on e = (goes_there, tells_same new m2 n2 (Ok to) step, (g.0, g.1, g.2), λ s k. stops_one s t false (becomes s k) e)
 
-      -- what was seen, by its own names
+      -- what was seen, under its own names
       named_so : (seen : Seen) (t : Turn) → seen.id ≡ to → seen.turn ≡ t → Seeing to (pair_of seen.best) t →
           Seeing seen.id (pair_of seen.best) seen.turn
       named_so seen t e f x =

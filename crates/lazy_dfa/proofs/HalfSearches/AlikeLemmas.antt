@@ -1,16 +1,16 @@
--- What a pass depends on.
+-- What a scan depends on.
 use Rattle.std.proofs.Common.{◌≡◌, ℕ, zero, suc, ◌<◌, Bool, true, false, ◌&&◌, not, List, Option, None, if◌then◌else◌, refl, sym, ap, ◌∙◌}
 use Rattle.std.proofs.Common.{⊎_elim, arith}
 use Rattle.std.proofs.lemmas.Bool.{cases_Bool}
 use Rattle.search_types.specs.declared.anchored.Anchored.{Anchored}
 use Rattle.search_types.specs.Modes.{is_supported}
 use Rattle.determinize_core.specs.States.{StateValue}
-use Rattle.determinize_core.specs.Steps.{unit_at, unit_behind, step_value}
+use Rattle.determinize_core.specs.Steps.{unit_at, unit_before, step_value}
 use Rattle.lazy_dfa.specs.Readers.{Reader, HalfAnswer, found}
-use Rattle.lazy_dfa.specs.Passes.{index_at, index_behind, is_empty, is_dead, unless_quit, if_supported, best_recorded, next_value}
-use Rattle.lazy_dfa.specs.Passes.{next_place}
-use Rattle.lazy_dfa.specs.Passes.{pass_from, start_name, start_or_dead, first_value, pass}
-use Rattle.lazy_dfa.specs.PassLaws.{units_read, pass_len, unit_of}
+use Rattle.lazy_dfa.specs.Scans.{index_at, index_before_offset, is_empty, is_dead, unless_quit, if_supported, best_recorded, next_value}
+use Rattle.lazy_dfa.specs.Scans.{next_offset}
+use Rattle.lazy_dfa.specs.Scans.{pass_from, start_name, start_or_dead, first_value, scan}
+use Rattle.lazy_dfa.specs.ScanLaws.{units_read, scan_len_of, unit_of}
 use Rattle.lazy_dfa.proofs.HalfSearches.PassQuitLemmas.{unit_first, unit_later, reads_all}
 
 next_alike : (r : Reader) (h g : List ℕ) (i : ℕ) (v : StateValue) →
@@ -43,9 +43,9 @@ module _ (r : Reader) (earliest : Bool) (h g : List ℕ) where
   abbrev stops : StateValue → Bool
   stops v = earliest && not (is_empty v.matches)
 
-  -- behind a unit, the pass over the one haystack or the other
+  -- after a unit, the scan over one haystack or the other
   abbrev goes : List ℕ → ℕ → ℕ → Option (ℕ × ℕ) → StateValue → HalfAnswer
-  goes f n i best w = if stops w then found (best_recorded i w best) else pass_from r earliest f n (next_place r i) w
+  goes f n i best w = if stops w then found (best_recorded i w best) else pass_from r earliest f n (next_offset r i) w
       (best_recorded i w best)
 
   abbrev turn : Option ℕ → ℕ → HalfAnswer → HalfAnswer
@@ -69,31 +69,31 @@ module _ (r : Reader) (earliest : Bool) (h g : List ℕ) where
       let unit : unit_at r.automaton.reverse h i ≡ unit_at r.automaton.reverse g i =
       sym (unit_first r h i)
       ∙ all 0 (first_within (is_dead v) (stops (next_value r h i v))
-      (units_read r earliest h n (next_place r i) (next_value r h i v)) lives) ∙ unit_first r g i in
+      (units_read r earliest h n (next_offset r i) (next_value r h i v)) lives) ∙ unit_first r g i in
       ap (λ (rest : HalfAnswer). ended (is_dead v) best (turn (unit_at r.automaton.reverse h i) i rest))
       (alike_turn (stops (next_value r h i v)) (best_recorded i (next_value r h i v) best)
-      (pass_from r earliest h n (next_place r i) (next_value r h i v) (best_recorded i (next_value r h i v) best))
-      (pass_from r earliest g n (next_place r i) (next_value r h i v) (best_recorded i (next_value r h i v) best))
-      (λ stop. alike_from n (next_place r i) (next_value r h i v) (best_recorded i (next_value r h i v) best)
+      (pass_from r earliest h n (next_offset r i) (next_value r h i v) (best_recorded i (next_value r h i v) best))
+      (pass_from r earliest g n (next_offset r i) (next_value r h i v) (best_recorded i (next_value r h i v) best))
+      (λ stop. alike_from n (next_offset r i) (next_value r h i v) (best_recorded i (next_value r h i v) best)
       (λ k l. unit_later r h i k
       ∙ all (suc k) (within (is_dead v) (stops (next_value r h i v)) k
-      (units_read r earliest h n (next_place r i) (next_value r h i v)) lives stop l) ∙ sym (unit_later r g i k))))
+      (units_read r earliest h n (next_offset r i) (next_value r h i v)) lives stop l) ∙ sym (unit_later r g i k))))
       ∙ ap (λ (u : Option ℕ). ended (is_dead v) best (turn u i (goes g n i best (next_value r h i v)))) unit
       ∙ ap (λ (x : StateValue). ended (is_dead v) best (turn (unit_at r.automaton.reverse g i) i (goes g n i best x)))
       (next_alike r h g i v unit))
       (cases_Bool (is_dead v))
 
-  pub pass_alike : (mode : Anchored) (n i : ℕ) → unit_behind r.automaton.reverse h i ≡ unit_behind r.automaton.reverse g i →
-      ((k : ℕ) → k < pass_len r mode earliest h n i → unit_of r h i k ≡ unit_of r g i k) →
-      pass r mode earliest h n i ≡ pass r mode earliest g n i
+  pub pass_alike : (mode : Anchored) (n i : ℕ) → unit_before r.automaton.reverse h i ≡ unit_before r.automaton.reverse g i →
+      ((k : ℕ) → k < scan_len_of r mode earliest h n i → unit_of r h i k ≡ unit_of r g i k) →
+      scan r mode earliest h n i ≡ scan r mode earliest g n i
   pass_alike mode n i back all =
-      ap (λ (rest : HalfAnswer). unless_quit r.quits (unit_behind r.automaton.reverse h i)
-      (index_behind r.automaton.reverse i) rest)
+      ap (λ (rest : HalfAnswer). unless_quit r.quits (unit_before r.automaton.reverse h i)
+      (index_before_offset r.automaton.reverse i) rest)
       (same_in_mode (is_supported r.starts_for_each_pattern mode) mode
       (pass_from r earliest h (suc n) i (first_value r mode h i) None)
       (pass_from r earliest g (suc n) i (first_value r mode h i) None)
       (λ fit. let same = reads_all r mode earliest h n i fit in
       alike_from (suc n) i (first_value r mode h i) None (λ k l. all k (omega (arith, l, same)))))
-      ∙ ap (λ (b : Option ℕ). unless_quit r.quits b (index_behind r.automaton.reverse i)
+      ∙ ap (λ (b : Option ℕ). unless_quit r.quits b (index_before_offset r.automaton.reverse i)
       (if_supported (is_supported r.starts_for_each_pattern mode) mode
       (pass_from r earliest g (suc n) i (start_or_dead r b (start_name r.automaton mode)) None))) back

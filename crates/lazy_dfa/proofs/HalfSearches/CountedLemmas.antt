@@ -1,4 +1,4 @@
--- What calls count, where they count nothing and where they count one.
+-- The counts of calls that count nothing, and of calls that count one.
 use Rattle.std.proofs.Common.{◌≡◌, ℕ, ◌+◌, ◌≤◌, arith}
 
 pub none_counted : (n m : ℕ) → n ≤ n + m

@@ -1,4 +1,4 @@
--- What half searches find: what their passes find, at the first place where they begin at which the end counts.
+-- What a half search finds: what its scan finds from the first of its starting offsets for which the end counts.
 use Rattle.std.proofs.Common.{◌≡◌, ℕ, zero, suc, ◌+◌, ◌-◌, ◌<◌, ◌≤◌, Bool, true, false, List, length, Option, Some, None, refl, sym, ap}
 use Rattle.std.proofs.Common.{◌∙◌, inl, inr, ⊎_elim, subst, arith, if◌then◌else◌}
 use Rattle.std.proofs.lemmas.Bool.{cases_Bool}
@@ -13,13 +13,14 @@ use Rattle.nfa_core.specs.Places.{first}
 use Rattle.nfa_core.specs.Nfa.{IsWellFormed}
 use Rattle.nfa_core.specs.NfaValue.{is_capture}
 use Rattle.nfa_core.specs.Reaches.{read_by}
-use Rattle.nfa_core.specs.Ways.{Text, span, is_passed, place_of, bytes_left}
+use Rattle.nfa_core.specs.Ways.{Text, span, is_satisfied, offset_of, bytes_left}
 use Rattle.lazy_dfa.specs.Readers.{Reader, HalfAnswer, found}
-use Rattle.lazy_dfa.specs.Passes.{next_place, start_name, pass}
-use Rattle.lazy_dfa.specs.Scans.{unless_split, passes, first_place, scan}
-use Rattle.lazy_dfa.specs.PassLaws.{pass_len, splits, pass_of}
-use Rattle.lazy_dfa.specs.ScanLaws.{IsWanted, begins_at, ends_of, restarts, IsSplitBy, IsFoundBy, IsFound, ends_by, IsFirstFound, Splits}
-use Rattle.lazy_dfa.specs.ScanLaws.{passes_len, scan_len, ReadsAlike}
+use Rattle.lazy_dfa.specs.Scans.{next_offset, start_name, scan}
+use Rattle.lazy_dfa.specs.HalfSearches.{unless_split, rescans, first_offset, half_search}
+use Rattle.lazy_dfa.specs.ScanLaws.{scan_len_of, splits, scan_of}
+use Rattle.lazy_dfa.specs.HalfSearchLaws.{IsWanted, begins_at, ends_of, restarts, IsSplitBy, IsFoundBy, IsFound, ends_by, IsFirstFound}
+use Rattle.lazy_dfa.specs.HalfSearchLaws.{Splits}
+use Rattle.lazy_dfa.specs.HalfSearchLaws.{scans_len, scan_len, ReadsAlike}
 use Rattle.lazy_dfa.proofs.HalfSearches.TurnLemmas.{one_found, place_later}
 use Rattle.lazy_dfa.proofs.HalfSearches.RestartLemmas.{whole_stays, split_goes, later_first, later_next}
 use Rattle.lazy_dfa.proofs.HalfSearches.ScanLemmas.{pass_finds, passes_are, scan_anchored, scan_unanchored, split_found}
@@ -27,12 +28,12 @@ use Rattle.lazy_dfa.proofs.HalfSearches.ReachLemmas.{in_first, in_later, len_anc
 use Rattle.lazy_dfa.proofs.HalfSearches.ReadingLemmas.{pass_finds_first_anyhow}
 use Rattle.nfa_core.proofs.ForCallers.{place_zero}
 
--- ---- whatever is wanted at each place
+-- ---- whatever has to be found from each offset
 
 module _ (r : Reader) (q : Search) (fits : q.start ≤ q.end) (wanted : ℕ → Option (ℕ × ℕ) → Type 0)
     (finds : (k : ℕ) (o : Option (ℕ × ℕ)) → k ≤ restarts q.anchored (q.end - q.start) →
     ((m : ℕ) → m < k → Splits r q.anchored q.earliest q.haystack (q.end - q.start) (begins_at r q) m) →
-    pass_of r q.anchored q.earliest q.haystack (q.end - q.start) (begins_at r q) k ≡ found o → wanted k o) where
+    scan_of r q.anchored q.earliest q.haystack (q.end - q.start) (begins_at r q) k ≡ found o → wanted k o) where
   abbrev len : ℕ
   len = q.end - q.start
 
@@ -43,7 +44,7 @@ module _ (r : Reader) (q : Search) (fits : q.start ≤ q.end) (wanted : ℕ → 
   top = restarts q.anchored len
 
   abbrev nth : ℕ → HalfAnswer
-  nth k = pass_of r q.anchored q.earliest q.haystack len begin k
+  nth k = scan_of r q.anchored q.earliest q.haystack len begin k
 
   abbrev split : HalfAnswer → Bool
   split a = splits (counts r.between_characters q.haystack) a
@@ -58,13 +59,13 @@ module _ (r : Reader) (q : Search) (fits : q.start ≤ q.end) (wanted : ℕ → 
   never_anew : is_anchored q.anchored ≡ true → top ≡ 0
   never_anew a = ap (λ (b : Bool). if b then 0 else len) a
 
-  found_unanchored : (o : Option (ℕ × ℕ)) → is_anchored q.anchored ≡ false → scan r q ≡ found o → IsFoundBy wanted r q o
+  found_unanchored : (o : Option (ℕ × ℕ)) → is_anchored q.anchored ≡ false → half_search r q ≡ found o → IsFoundBy wanted r q o
   found_unanchored o a is =
       let bound = anew a in
-      let all : passes r q.anchored q.earliest q.haystack len begin ≡ found o = sym (scan_unanchored r q fits a) ∙ is in
+      let all : rescans r q.anchored q.earliest q.haystack len begin ≡ found o = sym (scan_unanchored r q fits a) ∙ is in
       ⊎_elim
       (λ (some : (k : ℕ) × (k ≤ len) × ((m : ℕ) → m < k → split (nth m) ≡ true) × (split (nth k) ≡ false) ×
-      (passes r q.anchored q.earliest q.haystack len begin ≡ nth k)).
+      (rescans r q.anchored q.earliest q.haystack len begin ≡ nth k)).
       let up = some.1 in
       let there : nth some.0 ≡ found o = sym some.4 ∙ all in
       inl (
@@ -74,7 +75,7 @@ module _ (r : Reader) (q : Search) (fits : q.start ≤ q.end) (wanted : ℕ → 
         finds some.0 o (omega (arith, up, bound)) some.2 there,
         ap split (sym there) ∙ some.3,
       ))
-      (λ (none : ((m : ℕ) → m ≤ len → split (nth m) ≡ true) × (passes r q.anchored q.earliest q.haystack len begin ≡ found None)).
+      (λ (none : ((m : ℕ) → m ≤ len → split (nth m) ≡ true) × (rescans r q.anchored q.earliest q.haystack len begin ≡ found None)).
       inr (
         (λ m l. nth_splits m l (λ j less. none.0 j (omega (arith, less, l, bound))) (none.0 m (omega (arith, l, bound)))),
         one_found o None (sym all ∙ none.1),
@@ -84,25 +85,25 @@ module _ (r : Reader) (q : Search) (fits : q.start ≤ q.end) (wanted : ℕ → 
   nothing_before : (m : ℕ) → m < 0 → split (nth m) ≡ true
   nothing_before m l = absurd (omega (arith, l))
 
-  found_anchored : (o : Option (ℕ × ℕ)) → is_anchored q.anchored ≡ true → scan r q ≡ found o → IsFoundBy wanted r q o
+  found_anchored : (o : Option (ℕ × ℕ)) → is_anchored q.anchored ≡ true → half_search r q ≡ found o → IsFoundBy wanted r q o
   found_anchored o a is =
       let bound = never_anew a in
-      let one : unless_split (counts r.between_characters q.haystack) (pass r q.anchored q.earliest q.haystack len begin)
+      let one : unless_split (counts r.between_characters q.haystack) (scan r q.anchored q.earliest q.haystack len begin)
       (found None) ≡ found o =
       sym (scan_anchored r q fits a) ∙ is in
-      let same : nth 0 ≡ pass r q.anchored q.earliest q.haystack len begin =
+      let same : nth 0 ≡ scan r q.anchored q.earliest q.haystack len begin =
       later_first r q.anchored q.earliest q.haystack len begin in
       ⊎_elim
       (λ (e : split (nth 0) ≡ true).
       inr (
         (λ m l. zero_splits e m (omega (arith, l, bound))),
         one_found o None (sym one
-            ∙ split_goes (counts r.between_characters q.haystack) (pass r q.anchored q.earliest q.haystack len begin) (found None)
+            ∙ split_goes (counts r.between_characters q.haystack) (scan r q.anchored q.earliest q.haystack len begin) (found None)
             (ap split (sym same) ∙ e)),
       ))
       (λ (e : split (nth 0) ≡ false).
       let there : nth 0 ≡ found o = same
-      ∙ sym (whole_stays (counts r.between_characters q.haystack) (pass r q.anchored q.earliest q.haystack len begin) (found None)
+      ∙ sym (whole_stays (counts r.between_characters q.haystack) (scan r q.anchored q.earliest q.haystack len begin) (found None)
       (ap split (sym same) ∙ e)) ∙ one in
       inl (
         0,
@@ -117,20 +118,20 @@ module _ (r : Reader) (q : Search) (fits : q.start ≤ q.end) (wanted : ℕ → 
       zero_splits : split (nth 0) ≡ true → (m : ℕ) → m ≡ 0 → IsSplitBy wanted r q m
       zero_splits e m is = subst (λ (k : ℕ). IsSplitBy wanted r q k) (sym is) (nth_splits 0 (omega arith) nothing_before e)
 
-  pub scan_finds_by : (o : Option (ℕ × ℕ)) → scan r q ≡ found o → IsFoundBy wanted r q o
+  pub scan_finds_by : (o : Option (ℕ × ℕ)) → half_search r q ≡ found o → IsFoundBy wanted r q o
   scan_finds_by o is = ⊎_elim
       (λ (a : is_anchored q.anchored ≡ true). found_anchored o a is)
       (λ (a : is_anchored q.anchored ≡ false). found_unanchored o a is)
       (cases_Bool (is_anchored q.anchored))
 
--- ---- what is wanted of the ends of runs
+-- ---- what has to be found among the ends of runs
 
 left_is : (is_reverse : Bool) (t : Text) (s e k : ℕ) → t.start ≡ s → t.end ≡ e → s ≤ e → k ≤ e - s →
-    e - s - k ≡ bytes_left is_reverse t (place_of is_reverse (first_place is_reverse s e) k)
+    e - s - k ≡ bytes_left is_reverse t (offset_of is_reverse (first_offset is_reverse s e) k)
 left_is false t s e k a b l up = omega (arith, a, b, l, up)
 left_is true t s e k a b l up = omega (arith, a, b, l, up)
 
-place_low : (is_reverse : Bool) (s e k : ℕ) → s ≤ e → k ≤ e - s → place_of is_reverse (first_place is_reverse s e) k ≤ e
+place_low : (is_reverse : Bool) (s e k : ℕ) → s ≤ e → k ≤ e - s → offset_of is_reverse (first_offset is_reverse s e) k ≤ e
 place_low false s e k l up = omega (arith, l, up)
 place_low true s e k l up = omega (arith, l, up)
 
@@ -148,7 +149,7 @@ module _ (r : Reader) (q : Search) (name : ℕ) (formed : IsWellFormed r.automat
   bytes = q.end - q.start
 
   abbrev place : ℕ → ℕ
-  place k = place_of r.automaton.reverse (begins_at r q) k
+  place k = offset_of r.automaton.reverse (begins_at r q) k
 
   abbrev left : ℕ → ℕ
   left k = bytes_left r.automaton.reverse (span r.terminator q.haystack q.start q.end) (place k)
@@ -157,64 +158,64 @@ module _ (r : Reader) (q : Search) (name : ℕ) (formed : IsWellFormed r.automat
   bytes_there k up = left_is r.automaton.reverse (span r.terminator q.haystack q.start q.end) q.start q.end k refl refl fits up
 
   pub nth_finds : (k : ℕ) (o : Option (ℕ × ℕ)) → k ≤ restarts q.anchored bytes →
-      pass_of r q.anchored q.earliest q.haystack bytes (begins_at r q) k ≡ found o →
+      scan_of r q.anchored q.earliest q.haystack bytes (begins_at r q) k ≡ found o →
       IsWanted r.kind q.earliest r.automaton.reverse (ends_of r q name k) o
   nth_finds k o few is =
       let up = few_restarts q.anchored bytes k few in
       pass_finds r q.anchored q.earliest q.haystack q.start q.end (place k) name o formed
       (place_low r.automaton.reverse q.start q.end k fits up) within named low r.kind refl
-      (subst (λ (m : ℕ). pass r q.anchored q.earliest q.haystack m (place k) ≡ found o) (bytes_there k up) is)
+      (subst (λ (m : ℕ). scan r q.anchored q.earliest q.haystack m (place k) ≡ found o) (bytes_there k up) is)
 
-  pub scan_finds : (o : Option (ℕ × ℕ)) → scan r q ≡ found o → IsFound r q name o
+  pub scan_finds : (o : Option (ℕ × ℕ)) → half_search r q ≡ found o → IsFound r q name o
   scan_finds o is = scan_finds_by r q fits (λ k x. IsWanted r.kind q.earliest r.automaton.reverse (ends_of r q name k) x)
       (λ k x few before there. nth_finds k x few there) o is
 
--- ---- for each reading of looks
+-- ---- for each interpretation of looks
 
-pub place_add : (is_reverse : Bool) (i m k : ℕ) → place_of is_reverse (place_of is_reverse i m) k ≡ place_of is_reverse i (m + k)
+pub place_add : (is_reverse : Bool) (i m k : ℕ) → offset_of is_reverse (offset_of is_reverse i m) k ≡ offset_of is_reverse i (m + k)
 place_add false i m k = omega arith
 place_add true i m k = omega arith
 
--- the units of a pass that begins anew are among those that all passes read
+-- the units of a scan after a restart are among those that all scans read
 module _ (r : Reader) (mode : Anchored) (earliest : Bool) (h : List ℕ) where
   abbrev len_of : ℕ → ℕ → ℕ → ℕ
-  len_of n i m = pass_len r mode earliest h (n - m) (place_of r.automaton.reverse i m)
+  len_of n i m = scan_len_of r mode earliest h (n - m) (offset_of r.automaton.reverse i m)
 
   abbrev is_split : HalfAnswer → Bool
   is_split a = splits (counts r.between_characters h) a
 
-  pub len_first : (n i : ℕ) → len_of n i 0 ≡ pass_len r mode earliest h n i
+  pub len_first : (n i : ℕ) → len_of n i 0 ≡ scan_len_of r mode earliest h n i
   len_first n i =
-      ap (λ (j : ℕ). pass_len r mode earliest h (n - 0) j) (place_zero r.automaton.reverse i)
-      ∙ ap (λ (d : ℕ). pass_len r mode earliest h d i) (zero_off n)
+      ap (λ (j : ℕ). scan_len_of r mode earliest h (n - 0) j) (place_zero r.automaton.reverse i)
+      ∙ ap (λ (d : ℕ). scan_len_of r mode earliest h d i) (zero_off n)
     where
       zero_off : (n : ℕ) → n - 0 ≡ n
       zero_off n = omega arith
 
-  len_next : (n i m : ℕ) → len_of n (next_place r i) m ≡ len_of (suc n) i (suc m)
+  len_next : (n i m : ℕ) → len_of n (next_offset r i) m ≡ len_of (suc n) i (suc m)
   len_next n i m =
-      ap (λ (j : ℕ). pass_len r mode earliest h (n - m) j) (place_later r.automaton.reverse i m)
-      ∙ ap (λ (d : ℕ). pass_len r mode earliest h d (place_of r.automaton.reverse i (suc m))) (one_off n m)
+      ap (λ (j : ℕ). scan_len_of r mode earliest h (n - m) j) (place_later r.automaton.reverse i m)
+      ∙ ap (λ (d : ℕ). scan_len_of r mode earliest h d (offset_of r.automaton.reverse i (suc m))) (one_off n m)
     where
       one_off : (n m : ℕ) → n - m ≡ suc n - suc m
       one_off n m = omega arith
 
   pub within_passes : (n i m k : ℕ) → m ≤ n → ((j : ℕ) → j < m → Splits r mode earliest h n i j) → k < len_of n i m →
-      m + k < passes_len r mode earliest h n i
+      m + k < scans_len r mode earliest h n i
   within_passes zero i zero k l before less = let same = len_first 0 i in omega (arith, less, same)
   within_passes zero i (suc m) k l before less = absurd (omega (arith, l))
   within_passes (suc n) i zero k l before less =
       let same = len_first (suc n) i in
-      in_first (is_split (pass r mode earliest h (suc n) i)) (0 + k) (pass_len r mode earliest h (suc n) i)
-      (suc (passes_len r mode earliest h n (next_place r i))) (omega (arith, less, same))
+      in_first (is_split (scan r mode earliest h (suc n) i)) (0 + k) (scan_len_of r mode earliest h (suc n) i)
+      (suc (scans_len r mode earliest h n (next_offset r i))) (omega (arith, less, same))
   within_passes (suc n) i (suc m) k l before less =
-      let here : is_split (pass r mode earliest h (suc n) i) ≡ true = ap is_split (sym (later_first r mode earliest h (suc n) i))
+      let here : is_split (scan r mode earliest h (suc n) i) ≡ true = ap is_split (sym (later_first r mode earliest h (suc n) i))
       ∙ before 0 (omega arith) in
       let same = len_next n i m in
-      let rest = within_passes n (next_place r i) m k (omega (arith, l))
+      let rest = within_passes n (next_offset r i) m k (omega (arith, l))
       (λ j lt. ap is_split (later_next r mode earliest h n i j) ∙ before (suc j) (omega (arith, lt))) (omega (arith, less, same)) in
-      in_later (is_split (pass r mode earliest h (suc n) i)) (suc m + k) (pass_len r mode earliest h (suc n) i)
-      (suc (passes_len r mode earliest h n (next_place r i))) here (omega (arith, rest))
+      in_later (is_split (scan r mode earliest h (suc n) i)) (suc m + k) (scan_len_of r mode earliest h (suc n) i)
+      (suc (scans_len r mode earliest h n (next_offset r i))) here (omega (arith, rest))
 
 module _ (r : Reader) (q : Search) (name : ℕ) (formed : IsWellFormed r.automaton) (fits : q.start ≤ q.end)
     (within : q.end ≤ length q.haystack)
@@ -229,19 +230,19 @@ module _ (r : Reader) (q : Search) (name : ℕ) (formed : IsWellFormed r.automat
   all_bytes = q.end - q.start
 
   abbrev there : ℕ → ℕ
-  there k = place_of is_reverse (begins_at r q) k
+  there k = offset_of is_reverse (begins_at r q) k
 
   abbrev left_there : ℕ → ℕ
   left_there k = bytes_left is_reverse (span r.terminator q.haystack q.start q.end) (there k)
 
   abbrev len_there : ℕ → ℕ
-  len_there k = pass_len r q.anchored q.earliest q.haystack (all_bytes - k) (there k)
+  len_there k = scan_len_of r q.anchored q.earliest q.haystack (all_bytes - k) (there k)
 
   abbrev BeforeSplits : ℕ → Type 0
   BeforeSplits k = (m : ℕ) → m < k → Splits r q.anchored q.earliest q.haystack all_bytes (begins_at r q) m
 
-  -- a search that begins once makes one pass
-  once : (m k : ℕ) → m ≡ 0 → k < len_there m → m + k < pass_len r q.anchored q.earliest q.haystack all_bytes (begins_at r q)
+  -- a search that never restarts makes one scan
+  once : (m k : ℕ) → m ≡ 0 → k < len_there m → m + k < scan_len_of r q.anchored q.earliest q.haystack all_bytes (begins_at r q)
   once zero k is less = let same = len_first r q.anchored q.earliest q.haystack all_bytes (begins_at r q) in
       omega (arith, less, same)
   once (suc m) k is less = absurd (omega (arith, is))
@@ -263,37 +264,37 @@ module _ (r : Reader) (q : Search) (name : ℕ) (formed : IsWellFormed r.automat
   same_bytes k few = bytes_there r q name formed fits within named low k (few_restarts q.anchored all_bytes k few)
 
   same_len : (k : ℕ) → k ≤ restarts q.anchored all_bytes →
-      len_there k ≡ pass_len r q.anchored false q.haystack (left_there k) (there k)
+      len_there k ≡ scan_len_of r q.anchored false q.haystack (left_there k) (there k)
   same_len k few =
-      ap (λ (early : Bool). pass_len r q.anchored early q.haystack (all_bytes - k) (there k)) late
-      ∙ ap (λ (n : ℕ). pass_len r q.anchored false q.haystack n (there k)) (same_bytes k few)
+      ap (λ (early : Bool). scan_len_of r q.anchored early q.haystack (all_bytes - k) (there k)) late
+      ∙ ap (λ (n : ℕ). scan_len_of r q.anchored false q.haystack n (there k)) (same_bytes k few)
 
   same_pass : (k : ℕ) → k ≤ restarts q.anchored all_bytes →
-      pass r q.anchored q.earliest q.haystack (all_bytes - k) (there k) ≡ pass r q.anchored false q.haystack (left_there k)
+      scan r q.anchored q.earliest q.haystack (all_bytes - k) (there k) ≡ scan r q.anchored false q.haystack (left_there k)
       (there k)
   same_pass k few =
-      ap (λ (early : Bool). pass r q.anchored early q.haystack (all_bytes - k) (there k)) late
-      ∙ ap (λ (n : ℕ). pass r q.anchored false q.haystack n (there k)) (same_bytes k few)
+      ap (λ (early : Bool). scan r q.anchored early q.haystack (all_bytes - k) (there k)) late
+      ∙ ap (λ (n : ℕ). scan r q.anchored false q.haystack n (there k)) (same_bytes k few)
 
   abbrev IsReadAlike : Look → ℕ → Type 0
-  IsReadAlike l j = is_passed is_reverse (span r.terminator q.haystack q.start q.end) l j ≡ is_passed is_reverse
+  IsReadAlike l j = is_satisfied is_reverse (span r.terminator q.haystack q.start q.end) l j ≡ is_satisfied is_reverse
       (read_by holds q.haystack q.start q.end) l j
 
   agree_there : (k : ℕ) → k ≤ restarts q.anchored all_bytes → BeforeSplits k → ReadsAlike r holds q.haystack q.start q.end (there k)
-      (pass_len r q.anchored false q.haystack (left_there k) (there k))
+      (scan_len_of r q.anchored false q.haystack (left_there k) (there k))
   agree_there k few before l j has less =
       let same = same_len k few in
       subst (λ (p : ℕ). IsReadAlike l p) (sym (place_add is_reverse (begins_at r q) k j))
       (agree l (k + j) has (covered k j few before (omega (arith, less, same))))
 
   nth_finds_first : (k : ℕ) (o : Option (ℕ × ℕ)) → k ≤ restarts q.anchored all_bytes → BeforeSplits k →
-      pass_of r q.anchored q.earliest q.haystack all_bytes (begins_at r q) k ≡ found o → o ≡ first (ends_by r q holds name k)
+      scan_of r q.anchored q.earliest q.haystack all_bytes (begins_at r q) k ≡ found o → o ≡ first (ends_by r q holds name k)
   nth_finds_first k o few before is =
       pass_finds_first_anyhow r q.anchored q.haystack q.start q.end (there k) name leftmost formed plain
       (place_low is_reverse q.start q.end k fits (few_restarts q.anchored all_bytes k few)) within named low holds
       (agree_there k few before) o
       (sym (same_pass k few) ∙ is)
 
-  pub scan_finds_first : (o : Option (ℕ × ℕ)) → scan r q ≡ found o → IsFirstFound r q holds name o
+  pub scan_finds_first : (o : Option (ℕ × ℕ)) → half_search r q ≡ found o → IsFirstFound r q holds name o
   scan_finds_first o is = scan_finds_by r q fits (λ k x. x ≡ first (ends_by r q holds name k))
       (λ k x few before there. nth_finds_first k x few before there) o is

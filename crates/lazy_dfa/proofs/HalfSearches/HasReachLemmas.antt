@@ -1,4 +1,4 @@
--- How far a half search came when it found a match or none.
+-- How far a half search reached if it found a match, and if it found none.
 use Rattle.std.proofs.Common.{◌≡◌, ℕ, zero, suc, ◌+◌, ◌-◌, ◌<◌, ◌≤◌, Bool, true, false, List, [], ◌∷◌, length, Option, Some, None, sym, ap}
 use Rattle.std.proofs.Common.{◌∙◌, ⊎_elim, subst, arith}
 use Rattle.std.specs.Prelude.{All, slice_get}
@@ -9,10 +9,10 @@ use Rattle.search_types.specs.Inputs.{Search}
 use Rattle.search_core.specs.Text.{byte_at}
 use Rattle.nfa_core.specs.Nfa.{Automaton}
 use Rattle.nfa_core.specs.NfaValue.{IsSound}
-use Rattle.lazy_dfa.specs.Passes.{start_name}
+use Rattle.lazy_dfa.specs.Scans.{start_name}
 use Rattle.lazy_dfa.specs.Readers.{Reader, found}
-use Rattle.lazy_dfa.specs.ScanLaws.{IsReached, IsInReach, begins_at, scan_len, ReadsAlike}
-use Rattle.lazy_dfa.specs.Scans.{first_place, scan}
+use Rattle.lazy_dfa.specs.HalfSearchLaws.{IsReached, IsInReach, begins_at, scan_len, ReadsAlike}
+use Rattle.lazy_dfa.specs.HalfSearches.{first_offset, half_search}
 use Rattle.lazy_dfa.specs.SearchAnswers.{IsReachOf, HasReach, IsReachBack, HasReachBack}
 use Rattle.lazy_dfa.proofs.HalfSearches.FoundLemmas.{scan_finds_first}
 use Rattle.lazy_dfa.proofs.HalfSearches.IntervalReachLemmas.{scan_by_reach, scan_is_quiet, scan_place_is_reached, reach_is_near}
@@ -28,35 +28,36 @@ one_of P [] k x all e = let never : true ≡ false = cc in absurd (grind (arith,
 one_of P (y ∷ ys) zero x all e = let same : y ≡ x = cc in subst P same (All-head P y ys all)
 one_of P (y ∷ ys) (suc k) x all e = one_of P ys k x (All-tail P y ys all) e
 
--- a state in which a search starts is one of the automaton's
+-- the state in which a search starts is a state of the automaton
 pub start_is_state : (a : Automaton) (mode : Anchored) (name : ℕ) → IsSound a → start_name a mode ≡ Some name → name < length a.states
 start_is_state a No name sound e = subst (λ (x : ℕ). x < length a.states) (some_same a.start_unanchored name e) sound.unanchored
 start_is_state a Yes name sound e = subst (λ (x : ℕ). x < length a.states) (some_same a.start_anchored name e) sound.anchored
 start_is_state a (Pattern p) name sound e = one_of (λ (x : ℕ). x < length a.states) a.start_pattern p name sound.starts e
 
--- ---- places
+-- ---- offsets
 
--- for one who reads forward
+-- for a forward search
 pub reached_forward : (is_reverse : Bool) (s e n x : ℕ) → is_reverse ≡ false → s ≤ x + 1 → x < s + n →
-    IsReached is_reverse (first_place is_reverse s e) n x
+    IsReached is_reverse (first_offset is_reverse s e) n x
 reached_forward false s e n x up from to = (from, to)
 reached_forward true s e n x up from to = let never : true ≡ false = up in absurd (grind (arith, never))
 
-pub below_reach : (is_reverse : Bool) (s e n x : ℕ) → is_reverse ≡ false → IsReached is_reverse (first_place is_reverse s e) n x → x < s + n
+pub below_reach : (is_reverse : Bool) (s e n x : ℕ) → is_reverse ≡ false → IsReached is_reverse (first_offset is_reverse s e) n x →
+    x < s + n
 below_reach false s e n x up there = there.1
 below_reach true s e n x up there = let never : true ≡ false = up in absurd (grind (arith, never))
 
-same_length : (is_reverse : Bool) (s e n : ℕ) → is_reverse ≡ false → s + n - first_place is_reverse s e ≡ n
+same_length : (is_reverse : Bool) (s e n : ℕ) → is_reverse ≡ false → s + n - first_offset is_reverse s e ≡ n
 same_length false s e n up = omega arith
 same_length true s e n up = let never : true ≡ false = up in absurd (grind (arith, never))
 
--- for one who reads in reverse
+-- for a reverse search
 reached_reverse : (is_reverse : Bool) (s e n x : ℕ) → is_reverse ≡ true → e - n ≤ x → x ≤ e →
-    IsReached is_reverse (first_place is_reverse s e) n x
+    IsReached is_reverse (first_offset is_reverse s e) n x
 reached_reverse true s e n x back from to = (omega (arith, from), to)
 reached_reverse false s e n x back from to = let never : false ≡ true = back in absurd (grind (arith, never))
 
-above_reach : (is_reverse : Bool) (s e n x : ℕ) → is_reverse ≡ true → IsReached is_reverse (first_place is_reverse s e) n x → e - n ≤ x
+above_reach : (is_reverse : Bool) (s e n x : ℕ) → is_reverse ≡ true → IsReached is_reverse (first_offset is_reverse s e) n x → e - n ≤ x
 above_reach true s e n x back there = let from = there.0 in omega (arith, from)
 above_reach false s e n x back there = let never : false ≡ true = back in absurd (grind (arith, never))
 
@@ -65,23 +66,23 @@ above_reach false s e n x back there = let never : false ≡ true = back in absu
 nothing : (e : ℕ × ℕ) (P : Type 0) → None ≡ Some e → P
 nothing e P never = let no_way : true ≡ false = cc in absurd (grind (arith, no_way))
 
-module _ (r : Reader) (q : Search) (o : Option (ℕ × ℕ)) (is : scan r q ≡ found o) (past : q.end < q.start) where
+module _ (r : Reader) (q : Search) (o : Option (ℕ × ℕ)) (is : half_search r q ≡ found o) (past : q.end < q.start) where
   none_is : None ≡ o
   none_is = one_found None o (sym (scan_done r q past) ∙ is)
 
-  done_anywhere : (g : List ℕ) → scan r (record q { haystack = g }) ≡ found o
+  done_anywhere : (g : List ℕ) → half_search r (record q { haystack = g }) ≡ found o
   done_anywhere g = scan_done r (record q { haystack = g }) past ∙ ap found none_is
 
 -- ---- reaches
 
-module _ (r : Reader) (q : Search) (o : Option (ℕ × ℕ)) (within : q.end ≤ length q.haystack) (is : scan r q ≡ found o) where
-  -- the same bytes where it reads, the same answer
+module _ (r : Reader) (q : Search) (o : Option (ℕ × ℕ)) (within : q.end ≤ length q.haystack) (is : half_search r q ≡ found o) where
+  -- if another haystack has the same bytes where the search reads, the result is the same
   same_elsewhere : (g : List ℕ) → q.end ≤ length g → ((x : ℕ) → IsInReach r q x → byte_at g x ≡ byte_at q.haystack x) →
-      scan r (record q { haystack = g }) ≡ found o
+      half_search r (record q { haystack = g }) ≡ found o
   same_elsewhere g in_g same = sym (scan_by_reach r q g within in_g (λ x there. sym (same x there))) ∙ is
 
 module _ (r : Reader) (q : Search) (o : Option (ℕ × ℕ)) (up : r.automaton.reverse ≡ false) (sound : IsSound r.automaton)
-    (within : q.end ≤ length q.haystack) (is : scan r q ≡ found o) where
+    (within : q.end ≤ length q.haystack) (is : half_search r q ≡ found o) where
   abbrev len : ℕ
   len = scan_len r q
 
@@ -117,7 +118,7 @@ module _ (r : Reader) (q : Search) (o : Option (ℕ × ℕ)) (up : r.automaton.r
       (le_or_done r q q.start q.end)
 
 module _ (r : Reader) (q : Search) (o : Option (ℕ × ℕ)) (back : r.automaton.reverse ≡ true)
-    (within : q.end ≤ length q.haystack) (is : scan r q ≡ found o) where
+    (within : q.end ≤ length q.haystack) (is : half_search r q ≡ found o) where
   back_begun : q.start ≤ q.end → IsReachBack r q o (q.end - scan_len r q)
   back_begun fits = record {
     within = let few = scan_few r q in omega (arith, fits, few);

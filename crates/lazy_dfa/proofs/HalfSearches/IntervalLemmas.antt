@@ -1,36 +1,36 @@
--- The bytes at which one who reads looks, by their indices: they follow each other.
+-- The bytes that a search looks at, by their indices: they are consecutive.
 use Rattle.std.proofs.Common.{◌≡◌, ℕ, zero, suc, ◌+◌, ◌-◌, ◌<◌, ◌≤◌, Bool, true, false, List, refl, ⊎_elim, subst, arith}
 use Rattle.std.proofs.lemmas.Bool.{cases_lt}
 use Rattle.search_core.specs.Text.{byte_at, byte_before}
-use Rattle.nfa_core.specs.Ways.{place_of}
-use Rattle.determinize_core.specs.Steps.{unit_at, unit_behind}
+use Rattle.nfa_core.specs.Ways.{offset_of}
+use Rattle.determinize_core.specs.Steps.{unit_at, unit_before}
 use Rattle.lazy_dfa.specs.Readers.{is_quit}
-use Rattle.lazy_dfa.specs.ScanLaws.{IsReached, Agree}
+use Rattle.lazy_dfa.specs.HalfSearchLaws.{IsReached, Agree}
 
 -- ---- from indices to units
 
 pub behind_agrees : (is_reverse : Bool) (h g : List ℕ) (i n : ℕ) → Agree h g (IsReached is_reverse i n) →
-    unit_behind is_reverse h i ≡ unit_behind is_reverse g i
+    unit_before is_reverse h i ≡ unit_before is_reverse g i
 behind_agrees false h g zero n agree = refl
 behind_agrees false h g (suc i) n agree = agree i (omega arith, omega arith)
 behind_agrees true h g i n agree = agree i (omega arith, omega arith)
 
--- for one who reads in reverse, the byte before a place
+-- in reverse, the byte before an offset
 before_agrees : (h g : List ℕ) (i n k j : ℕ) → Agree h g (IsReached true i n) → k < n → j ≡ i - k →
     byte_before h j ≡ byte_before g j
 before_agrees h g i n k zero agree l is = refl
 before_agrees h g i n k (suc j) agree l is = agree j (omega (arith, l, is), omega (arith, is))
 
 pub units_agree : (is_reverse : Bool) (h g : List ℕ) (i n k : ℕ) → Agree h g (IsReached is_reverse i n) → k < n →
-    unit_at is_reverse h (place_of is_reverse i k) ≡ unit_at is_reverse g (place_of is_reverse i k)
+    unit_at is_reverse h (offset_of is_reverse i k) ≡ unit_at is_reverse g (offset_of is_reverse i k)
 units_agree false h g i n k agree l = agree (i + k) (omega arith, omega (arith, l))
 units_agree true h g i n k agree l = before_agrees h g i n k (i - k) agree l refl
 
 -- ---- and back
 
--- what is told of the unit behind place i and of those from there on is told of each byte
-pub told_of_each : (quits : List Bool) (is_reverse : Bool) (h : List ℕ) (i n x : ℕ) → is_quit quits (unit_behind is_reverse h i) ≡ false →
-    ((k : ℕ) → k < n → is_quit quits (unit_at is_reverse h (place_of is_reverse i k)) ≡ false) → IsReached is_reverse i n x →
+-- If the look-behind unit of offset i is no quit byte, and no unit from there on is one, then no byte that is reached is one.
+pub told_of_each : (quits : List Bool) (is_reverse : Bool) (h : List ℕ) (i n x : ℕ) → is_quit quits (unit_before is_reverse h i) ≡ false →
+    ((k : ℕ) → k < n → is_quit quits (unit_at is_reverse h (offset_of is_reverse i k)) ≡ false) → IsReached is_reverse i n x →
     is_quit quits (byte_at h x) ≡ false
 told_of_each quits false h i n x back all there = ⊎_elim
     (λ (before : x < i).
@@ -53,7 +53,7 @@ told_of_each quits true h i n x back all there = ⊎_elim
     let is : i ≡ x = omega (arith, at, to) in subst (λ (j : ℕ). is_quit quits (byte_at h j) ≡ false) is back)
     (cases_lt x i)
 
--- a place that was reached by reading less units than all has its byte there
-pub place_is_reached : (is_reverse : Bool) (i n k j : ℕ) → k < n → j ≡ place_of is_reverse i k → IsReached is_reverse i n j
+-- if an offset is reached after fewer than n units, the byte there is reached
+pub place_is_reached : (is_reverse : Bool) (i n k j : ℕ) → k < n → j ≡ offset_of is_reverse i k → IsReached is_reverse i n j
 place_is_reached false i n k j l is = (omega (arith, is), omega (arith, l, is))
 place_is_reached true i n k j l is = (omega (arith, l, is), omega (arith, is))

@@ -1,4 +1,4 @@
--- The last and the nearest end of runs, by what states list.
+-- The last end and the nearest end of runs, by what states list.
 use Rattle.std.proofs.Common.{◌≡◌, ℕ, suc, ◌+◌, ◌-◌, ◌<◌, ◌≤◌, Bool, true, false, List, [], ◌∷◌, map, Option, Some, None, refl, sym, ap}
 use Rattle.std.proofs.Common.{◌∙◌, ⊎_elim, subst, arith, if◌then◌else◌}
 use Rattle.std.proofs.lemmas.Bool.{cases_lt, le-ltb}
@@ -7,13 +7,13 @@ use Rattle.std.specs.List.{filter}
 use Rattle.std.specs.Bool.{nat_eq}
 use Rattle.nfa_core.specs.Walks.{has, Has}
 use Rattle.nfa_core.specs.Places.{same_pair, first}
-use Rattle.nfa_core.specs.Ways.{place_of}
+use Rattle.nfa_core.specs.Ways.{offset_of}
 use Rattle.nfa_core.proofs.ForCallers.{none_in, has_first, pairs_equal, one_value, no_value, has_filter}
 use Rattle.nfa_core.specs.Reaches.{IsWithinReach}
 use Rattle.determinize_core.specs.States.{StateValue}
 use Rattle.determinize_core.specs.Walked.{latest_listed}
 use Rattle.determinize_core.proofs.ForCallers.{none_listed, last_listed}
-use Rattle.lazy_dfa.specs.PassLaws.{is_past, IsLastEnd, IsNearestEnd}
+use Rattle.lazy_dfa.specs.ScanLaws.{is_past, IsLastEnd, IsNearestEnd}
 
 abbrev pub pattern : ℕ × ℕ → ℕ
 pattern x = x.1
@@ -44,22 +44,22 @@ pub none_there : (xs : List (ℕ × ℕ)) → ((x : ℕ × ℕ) → Has same_pai
 none_there [] f = refl
 none_there (x ∷ xs) f = absurd (f x (has_first same_pair pairs_equal x xs))
 
--- an end at a place is kept by the test for this place
+-- the test for an offset keeps an end at this offset
 no_end : (xs : List (ℕ × ℕ)) (x : ℕ × ℕ) (j : ℕ) → Has same_pair x xs → x.0 ≡ j → filter (is_at j) xs ≡ [] → ⊥
 no_end xs x j there at none =
     let kept : has same_pair x (filter (is_at j) xs) ≡ true =
     has_filter same_pair pairs_equal (is_at j) x xs ((Decides-eqb x.0 j).1 at) ∙ there in
     none_in same_pair x ⊥ (sym (ap (has same_pair x) none) ∙ kept)
 
-pub not_past : (is_reverse : Bool) (i k m : ℕ) → k ≤ m → is_past is_reverse (place_of is_reverse i k) (place_of is_reverse i m) ≡ false
+pub not_past : (is_reverse : Bool) (i k m : ℕ) → k ≤ m → is_past is_reverse (offset_of is_reverse i k) (offset_of is_reverse i m) ≡ false
 not_past false i k m l = le-ltb (i + m) (i + k) (omega (arith, l))
 not_past true i k m l = le-ltb (i - k) (i - m) (omega (arith, l))
 
 module _ (is_reverse : Bool) (i len : ℕ) (ends : List (ℕ × ℕ)) (states : ℕ → StateValue)
     (inside : (x : ℕ × ℕ) → Has same_pair x ends → IsWithinReach is_reverse i len x.0)
-    (all : (k : ℕ) → k ≤ len → (states (suc k)).matches ≡ map pattern (filter (is_at (place_of is_reverse i k)) ends)) where
+    (all : (k : ℕ) → k ≤ len → (states (suc k)).matches ≡ map pattern (filter (is_at (offset_of is_reverse i k)) ends)) where
   abbrev place : ℕ → ℕ
-  place k = place_of is_reverse i k
+  place k = offset_of is_reverse i k
 
   none_at : (k : ℕ) → k ≤ len → (states (suc k)).matches ≡ [] → filter (is_at (place k)) ends ≡ []
   none_at k l silent = none_mapped (filter (is_at (place k)) ends) (sym (all k l) ∙ silent)
@@ -68,7 +68,7 @@ module _ (is_reverse : Bool) (i len : ℕ) (ends : List (ℕ × ℕ)) (states : 
   no_ends silent = none_there ends
       (λ x there. let j = inside x there in no_end ends x (place j.0) there j.2 (none_at j.0 j.1 (silent j.0 j.1)))
 
-  -- the first pattern that is listed is that of the best run there
+  -- the first pattern that is listed is the pattern of the best run there
   best_there : (m p : ℕ) → m ≤ len → first (states (suc m)).matches ≡ Some p →
       first (filter (is_at (place m)) ends) ≡ Some (place m, p)
   best_there m p l is =

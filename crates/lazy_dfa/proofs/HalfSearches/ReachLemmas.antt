@@ -1,4 +1,4 @@
--- What half searches depend on, those included that begin anew.
+-- What half searches depend on, including those that restart.
 use Rattle.std.proofs.Common.{◌≡◌, ℕ, zero, suc, ◌+◌, ◌-◌, ◌<◌, ◌≤◌, Bool, true, false, ◌&&◌, ◌||◌, not, List, length, get_or, Option, Some}
 use Rattle.std.proofs.Common.{None, if◌then◌else◌, refl, sym, ap, ◌∙◌, ◌⊎◌, inl, inr, ⊎_elim, subst, arith}
 use Rattle.std.proofs.lemmas.Bool.{cases_Bool, cases_lt, eq-eqb, ne_eqb, lt-ltb, le-leb}
@@ -11,16 +11,16 @@ use Rattle.search_core.specs.Utf8.{is_boundary}
 use Rattle.search_types.specs.declared.anchored.Anchored.{Anchored}
 use Rattle.search_types.specs.Places.{counts}
 use Rattle.nfa_core.specs.Places.{first}
-use Rattle.nfa_core.specs.Ways.{place_of}
+use Rattle.nfa_core.specs.Ways.{offset_of}
 use Rattle.determinize_core.specs.States.{StateValue}
-use Rattle.determinize_core.specs.Steps.{unit_at, unit_behind}
+use Rattle.determinize_core.specs.Steps.{unit_at, unit_before}
 use Rattle.determinize_core.specs.Walked.{end_at}
 use Rattle.lazy_dfa.specs.Readers.{Reader, is_quit, HalfAnswer, found, quit, unsupported}
-use Rattle.lazy_dfa.specs.Passes.{index_at, is_empty, is_dead, best_recorded, next_value, next_place, pass_from, start_name, first_value}
-use Rattle.lazy_dfa.specs.Passes.{pass}
-use Rattle.lazy_dfa.specs.Scans.{unless_split, passes, first_place, scan}
-use Rattle.lazy_dfa.specs.PassLaws.{units_read, pass_len, unit_of, HasNoQuit, splits}
-use Rattle.lazy_dfa.specs.ScanLaws.{begins_at, larger, passes_len, scan_len}
+use Rattle.lazy_dfa.specs.Scans.{index_at, is_empty, is_dead, best_recorded, next_value, next_offset, pass_from, start_name, first_value}
+use Rattle.lazy_dfa.specs.Scans.{scan}
+use Rattle.lazy_dfa.specs.HalfSearches.{unless_split, rescans, first_offset, half_search}
+use Rattle.lazy_dfa.specs.ScanLaws.{units_read, scan_len_of, unit_of, HasNoQuit, splits}
+use Rattle.lazy_dfa.specs.HalfSearchLaws.{begins_at, larger, scans_len, scan_len}
 use Rattle.search_types.specs.Inputs.{Search}
 use Rattle.search_types.specs.Modes.{is_anchored}
 use Rattle.lazy_dfa.proofs.HalfSearches.TurnLemmas.{place_later, one_found, turn_found, found_no_quit, found_no_mode}
@@ -34,7 +34,7 @@ use Rattle.search_types.specs.declared.anchored.Anchored.TheVariants.{No, Yes, P
 use Rattle.nfa_core.specs.Nfa.{Automaton}
 use Rattle.nfa_core.proofs.ForCallers.{place_zero}
 
--- ---- a place that is found was read behind
+-- ---- if an offset is found, the unit after it was read
 
 recorded_by : (o : Option ℕ) (j : ℕ) (best : Option (ℕ × ℕ)) →
     (option_or (end_at j o) best ≡ best) ⊎ ((p : ℕ) × (option_or (end_at j o) best ≡ Some (j, p)))
@@ -43,7 +43,7 @@ recorded_by (Some p) j best = inr (p, refl)
 
 module _ (r : Reader) (earliest : Bool) (h : List ℕ) where
   abbrev IsRead : ℕ → ℕ → Option (ℕ × ℕ) → Type 0
-  IsRead i n o = (k : ℕ) × (p : ℕ) × (k < n) × (o ≡ Some (place_of r.automaton.reverse i k, p))
+  IsRead i n o = (k : ℕ) × (p : ℕ) × (k < n) × (o ≡ Some (offset_of r.automaton.reverse i k, p))
 
   read_here : (i n : ℕ) (v : StateValue) (best o : Option (ℕ × ℕ)) → 0 < n → best_recorded i v best ≡ o → (o ≡ best) ⊎ IsRead i n o
   read_here i n v best o l is = ⊎_elim
@@ -52,7 +52,7 @@ module _ (r : Reader) (earliest : Bool) (h : List ℕ) where
       inr (0, some.0, l, sym is ∙ some.1 ∙ ap (λ (j : ℕ). Some (j, some.0)) (sym (place_zero r.automaton.reverse i))))
       (recorded_by (first v.matches) i best)
 
-  read_later : (i n m : ℕ) (o : Option (ℕ × ℕ)) → ((k : ℕ) → k < m → suc k < n) → IsRead (next_place r i) m o → IsRead i n o
+  read_later : (i n m : ℕ) (o : Option (ℕ × ℕ)) → ((k : ℕ) → k < m → suc k < n) → IsRead (next_offset r i) m o → IsRead i n o
   read_later i n m o up there = (
     suc there.0,
     there.1,
@@ -74,43 +74,43 @@ module _ (r : Reader) (earliest : Bool) (h : List ℕ) where
       (λ (ended : (is_dead v ≡ true) × (best ≡ o)). inl (sym ended.1))
       (λ (goes : (is_dead v ≡ false) × (is_quit r.quits (unit_at r.automaton.reverse h i) ≡ false) ×
       ((if earliest && not (is_empty (next_value r h i v).matches) then found (best_recorded i (next_value r h i v) best) else
-      pass_from r earliest h n (next_place r i) (next_value r h i v) (best_recorded i (next_value r h i v) best)) ≡ found o)).
+      pass_from r earliest h n (next_offset r i) (next_value r h i v) (best_recorded i (next_value r h i v) best)) ≡ found o)).
       ⊎_elim
       (λ (stop : ((earliest && not (is_empty (next_value r h i v).matches)) ≡ true) × (best_recorded i (next_value r h i v) best ≡ o)).
       read_here i (units_read r earliest h (suc n) i v) (next_value r h i v) best o
       (first_within (is_dead v) (earliest && not (is_empty (next_value r h i v).matches))
-      (units_read r earliest h n (next_place r i) (next_value r h i v)) goes.0) stop.1)
+      (units_read r earliest h n (next_offset r i) (next_value r h i v)) goes.0) stop.1)
       (λ (on : ((earliest && not (is_empty (next_value r h i v).matches)) ≡ false) ×
-      (pass_from r earliest h n (next_place r i) (next_value r h i v) (best_recorded i (next_value r h i v) best) ≡ found o)).
+      (pass_from r earliest h n (next_offset r i) (next_value r h i v) (best_recorded i (next_value r h i v) best) ≡ found o)).
       ⊎_elim
       (λ (same : o ≡ best_recorded i (next_value r h i v) best).
       read_here i (units_read r earliest h (suc n) i v) (next_value r h i v) best o
       (first_within (is_dead v) (earliest && not (is_empty (next_value r h i v).matches))
-      (units_read r earliest h n (next_place r i) (next_value r h i v)) goes.0) (sym same))
-      (λ (there : IsRead (next_place r i) (units_read r earliest h n (next_place r i) (next_value r h i v)) o).
-      inr (read_later i (units_read r earliest h (suc n) i v) (units_read r earliest h n (next_place r i) (next_value r h i v)) o
+      (units_read r earliest h n (next_offset r i) (next_value r h i v)) goes.0) (sym same))
+      (λ (there : IsRead (next_offset r i) (units_read r earliest h n (next_offset r i) (next_value r h i v)) o).
+      inr (read_later i (units_read r earliest h (suc n) i v) (units_read r earliest h n (next_offset r i) (next_value r h i v)) o
       (λ k l. within (is_dead v) (earliest && not (is_empty (next_value r h i v).matches)) k
-      (units_read r earliest h n (next_place r i) (next_value r h i v)) goes.0 on.0 l) there))
-      (found_read n (next_place r i) (next_value r h i v) (best_recorded i (next_value r h i v) best) o on.1))
+      (units_read r earliest h n (next_offset r i) (next_value r h i v)) goes.0 on.0 l) there))
+      (found_read n (next_offset r i) (next_value r h i v) (best_recorded i (next_value r h i v) best) o on.1))
       (stopped (earliest && not (is_empty (next_value r h i v).matches)) (best_recorded i (next_value r h i v) best) o
-      (pass_from r earliest h n (next_place r i) (next_value r h i v) (best_recorded i (next_value r h i v) best)) goes.2))
+      (pass_from r earliest h n (next_offset r i) (next_value r h i v) (best_recorded i (next_value r h i v) best)) goes.2))
       (turn_found (is_dead v) r.quits (unit_at r.automaton.reverse h i) (index_at r.automaton.reverse i) best o
       (if earliest && not (is_empty (next_value r h i v).matches) then found (best_recorded i (next_value r h i v) best) else
-      pass_from r earliest h n (next_place r i) (next_value r h i v) (best_recorded i (next_value r h i v) best)) e)
+      pass_from r earliest h n (next_offset r i) (next_value r h i v) (best_recorded i (next_value r h i v) best)) e)
 
   pub no_some : (x : ℕ × ℕ) (P : Type 0) → Some x ≡ None → P
   no_some x P e = let never : true ≡ false = cc in absurd (grind (arith, never))
 
-  pub pass_read : (mode : Anchored) (n i : ℕ) (x : ℕ × ℕ) → pass r mode earliest h n i ≡ found (Some x) →
-      (k : ℕ) × (k < pass_len r mode earliest h n i) × (x.0 ≡ place_of r.automaton.reverse i k)
+  pub pass_read : (mode : Anchored) (n i : ℕ) (x : ℕ × ℕ) → scan r mode earliest h n i ≡ found (Some x) →
+      (k : ℕ) × (k < scan_len_of r mode earliest h n i) × (x.0 ≡ offset_of r.automaton.reverse i k)
   pass_read mode n i x e =
       let begun = found_in_mode r mode earliest h n i (Some x) e in
       let same = reads_all r mode earliest h n i begun.0 in
       ⊎_elim
       (λ (never : Some x ≡ None). no_some x _ never)
       (λ (there : IsRead i (units_read r earliest h (suc n) i (first_value r mode h i)) (Some x)).
-      let pair : x ≡ (place_of r.automaton.reverse i there.0, there.1) =
-      same_pair_of x (place_of r.automaton.reverse i there.0, there.1) there.3 in
+      let pair : x ≡ (offset_of r.automaton.reverse i there.0, there.1) =
+      same_pair_of x (offset_of r.automaton.reverse i there.0, there.1) there.3 in
       let l = there.2 in
       (there.0, omega (arith, l, same), ap (λ (y : ℕ × ℕ). y.0) pair))
       (found_read (suc n) i (first_value r mode h i) None (Some x) begun.1)
@@ -118,7 +118,7 @@ module _ (r : Reader) (earliest : Bool) (h : List ℕ) where
       same_pair_of : (x y : ℕ × ℕ) → Some x ≡ Some y → x ≡ y
       same_pair_of x y e = cc
 
--- ---- whether a place counts is told by the byte behind it
+-- ---- the byte after an offset decides whether the offset counts
 
 abbrev boundary_by : Option ℕ → Bool
 boundary_by None = true
@@ -142,17 +142,21 @@ pub counts_alike : (utf8 : Bool) (h g : List ℕ) (j : ℕ) → j ≤ length h �
 counts_alike utf8 h g j lh lg e =
     ap (λ (b : Bool). not utf8 || b) (boundary_is h j lh ∙ ap boundary_by e ∙ sym (boundary_is g j lg))
 
--- ---- places
+-- ---- offsets
 
 larger_left : (m n k : ℕ) → k < m → k < larger m n
 larger_left m n k l = ⊎_elim
-    (λ told. let t = told.1 in subst (λ (b : Bool). k < (if b then n else m)) (sym told.0) (omega (arith, l, t)))
-    (λ told. subst (λ (b : Bool). k < (if b then n else m)) (sym told.0) l) (leb_tells m n)
+    (λ reported. let t = reported.1 in subst (λ (b : Bool). k < (if b then n else m)) (sym reported.0) (omega (arith, l, t)))
+    (λ reported. subst (λ (b : Bool). k < (if b then n else m)) (sym reported.0) l) (leb_tells m n)
 
 larger_right : (m n k : ℕ) → k < n → k < larger m n
 larger_right m n k l = ⊎_elim
-    (λ told. subst (λ (b : Bool). k < (if b then n else m)) (sym told.0) l)
-    (λ told. let t = told.1 in subst (λ (b : Bool). k < (if b then n else m)) (sym told.0) (omega (arith, l, t))) (leb_tells m n)
+    (λ reported. subst (λ (b : Bool). k < (if b then n else m)) (sym reported.0) l)
+    (λ reported. let t = reported.1 in subst (λ (b : Bool). k < (if b then n else m)) (sym reported.0) (omega (
+      arith,
+      l,
+      t,
+    ))) (leb_tells m n)
 
 larger_cases : (m n k : ℕ) → k < larger m n → (k < m) ⊎ (k < n)
 larger_cases m n k l = by (nat_le m n) l
@@ -161,9 +165,9 @@ larger_cases m n k l = by (nat_le m n) l
     by true l = inr l
     by false l = inl l
 
--- the byte behind the next place is the one that is read
+-- the look-behind byte of the next offset is the byte that is read
 behind_next : (is_reverse : Bool) (h : List ℕ) (s e n i : ℕ) → Fits is_reverse s e (suc n) i →
-    unit_behind is_reverse h (place_of is_reverse i 1) ≡ unit_at is_reverse h i
+    unit_before is_reverse h (offset_of is_reverse i 1) ≡ unit_at is_reverse h i
 behind_next false h s e n i fit = ap (byte_before h) (one i)
   where
     one : (i : ℕ) → i + 1 ≡ suc i
@@ -174,11 +178,11 @@ behind_next true h s e n (suc i) fit = ap (byte_at h) (one i)
     one : (i : ℕ) → suc i - 1 ≡ i
     one i = omega arith
 
--- the byte behind a place that was reached is one of those that were read
+-- the byte after an offset that was reached is one of those that were read
 byte_alike : (is_reverse : Bool) (h g : List ℕ) (i k : ℕ) → (k ≤ i) ⊎ (is_reverse ≡ false) →
-    unit_behind is_reverse h i ≡ unit_behind is_reverse g i →
-    ((m : ℕ) → m ≤ k → unit_at is_reverse h (place_of is_reverse i m) ≡ unit_at is_reverse g (place_of is_reverse i m)) →
-    byte_at h (place_of is_reverse i k) ≡ byte_at g (place_of is_reverse i k)
+    unit_before is_reverse h i ≡ unit_before is_reverse g i →
+    ((m : ℕ) → m ≤ k → unit_at is_reverse h (offset_of is_reverse i m) ≡ unit_at is_reverse g (offset_of is_reverse i m)) →
+    byte_at h (offset_of is_reverse i k) ≡ byte_at g (offset_of is_reverse i k)
 byte_alike false h g i k low back all = all k (omega arith)
 byte_alike true h g i zero low back all = ap (byte_at h) (same i) ∙ back ∙ sym (ap (byte_at g) (same i))
   where
@@ -194,7 +198,7 @@ byte_alike true h g i (suc k) low back all = ⊎_elim
     before : (h : List ℕ) (i k : ℕ) → suc k ≤ i → byte_before h (i - k) ≡ byte_at h (i - suc k)
     before h i k l = before_at h (i - k) (i - suc k) (omega (arith, l))
 
-place_under : (is_reverse : Bool) (s e n i k : ℕ) → Fits is_reverse s e n i → k ≤ n → place_of is_reverse i k ≤ e
+place_under : (is_reverse : Bool) (s e n i k : ℕ) → Fits is_reverse s e n i → k ≤ n → offset_of is_reverse i k ≤ e
 place_under false s e n i k fit l = omega (arith, fit.0, l)
 place_under true s e n i k fit l = omega (arith, fit.1)
 
@@ -202,7 +206,7 @@ room_below : (is_reverse : Bool) (s e n i k : ℕ) → Fits is_reverse s e n i �
 room_below false s e n i k fit l = inr refl
 room_below true s e n i k fit l = inl (omega (arith, fit.0, l))
 
--- ---- passes that follow each other
+-- ---- scans that follow each other
 
 unless_alike : (c d : ℕ → Bool) (a b other rest : HalfAnswer) → a ≡ b → splits c a ≡ splits d b →
     (splits c a ≡ true → other ≡ rest) → unless_split c a other ≡ unless_split d b rest
@@ -226,70 +230,70 @@ module _ (r : Reader) (mode : Anchored) (earliest : Bool) (h g : List ℕ) (s e 
   abbrev Same : ℕ → ℕ → Type 0
   Same i n = (k : ℕ) → k < n → unit_of r h i k ≡ unit_of r g i k
 
-  counts_at : (n i : ℕ) (x : ℕ × ℕ) → Fits is_reverse s e n i → unit_behind is_reverse h i ≡ unit_behind is_reverse g i →
-      Same i (pass_len r mode earliest h n i) →
-      pass r mode earliest h n i ≡ found (Some x) → counts r.between_characters h x.0 ≡ counts r.between_characters g x.0
+  counts_at : (n i : ℕ) (x : ℕ × ℕ) → Fits is_reverse s e n i → unit_before is_reverse h i ≡ unit_before is_reverse g i →
+      Same i (scan_len_of r mode earliest h n i) →
+      scan r mode earliest h n i ≡ found (Some x) → counts r.between_characters h x.0 ≡ counts r.between_characters g x.0
   counts_at n i x fit back all is =
       let rd = pass_read r earliest h mode n i x is in
       let few = pass_units r mode earliest h n i in
       let read = rd.1 in
       let up : rd.0 ≤ n = omega (arith, few, read) in
-      let low : place_of is_reverse i rd.0 ≤ e = place_under is_reverse s e n i rd.0 fit up in
+      let low : offset_of is_reverse i rd.0 ≤ e = place_under is_reverse s e n i rd.0 fit up in
       ap (counts r.between_characters h) rd.2
-      ∙ counts_alike r.between_characters h g (place_of is_reverse i rd.0) (omega (arith, low, in_h)) (omega (arith, low, in_g))
+      ∙ counts_alike r.between_characters h g (offset_of is_reverse i rd.0) (omega (arith, low, in_h)) (omega (arith, low, in_g))
       (byte_alike is_reverse h g i rd.0 (room_below is_reverse s e n i rd.0 fit up) back (λ m l. all m (omega (arith, l, read))))
       ∙ ap (counts r.between_characters g) (sym rd.2)
 
-  splits_at : (n i : ℕ) (a : HalfAnswer) → pass r mode earliest h n i ≡ a → Fits is_reverse s e n i →
-      unit_behind is_reverse h i ≡ unit_behind is_reverse g i → Same i (pass_len r mode earliest h n i) →
+  splits_at : (n i : ℕ) (a : HalfAnswer) → scan r mode earliest h n i ≡ a → Fits is_reverse s e n i →
+      unit_before is_reverse h i ≡ unit_before is_reverse g i → Same i (scan_len_of r mode earliest h n i) →
       splits (counts r.between_characters h) a ≡ splits (counts r.between_characters g) a
   splits_at n i (quit b x) is fit back all = refl
   splits_at n i (unsupported m) is fit back all = refl
   splits_at n i (found None) is fit back all = refl
   splits_at n i (found (Some x)) is fit back all = ap not (counts_at n i x fit back all is)
 
-  one_alike : (n i : ℕ) (other rest : HalfAnswer) → Fits is_reverse s e n i → unit_behind is_reverse h i ≡ unit_behind is_reverse g i →
-      Same i (pass_len r mode earliest h n i) →
-      (splits (counts r.between_characters h) (pass r mode earliest h n i) ≡ true → other ≡ rest) →
-      unless_split (counts r.between_characters h) (pass r mode earliest h n i) other ≡ unless_split (counts r.between_characters g)
-      (pass r mode earliest g n i) rest
+  one_alike : (n i : ℕ) (other rest : HalfAnswer) → Fits is_reverse s e n i → unit_before is_reverse h i ≡ unit_before is_reverse g i →
+      Same i (scan_len_of r mode earliest h n i) →
+      (splits (counts r.between_characters h) (scan r mode earliest h n i) ≡ true → other ≡ rest) →
+      unless_split (counts r.between_characters h) (scan r mode earliest h n i) other ≡ unless_split (counts r.between_characters g)
+      (scan r mode earliest g n i) rest
   one_alike n i other rest fit back all on =
-      let same : pass r mode earliest h n i ≡ pass r mode earliest g n i = pass_alike r earliest h g mode n i back all in
-      unless_alike (counts r.between_characters h) (counts r.between_characters g) (pass r mode earliest h n i)
-      (pass r mode earliest g n i) other rest same
-      (splits_at n i (pass r mode earliest h n i) refl fit back all ∙ ap (splits (counts r.between_characters g)) same) on
+      let same : scan r mode earliest h n i ≡ scan r mode earliest g n i = pass_alike r earliest h g mode n i back all in
+      unless_alike (counts r.between_characters h) (counts r.between_characters g) (scan r mode earliest h n i)
+      (scan r mode earliest g n i) other rest same
+      (splits_at n i (scan r mode earliest h n i) refl fit back all ∙ ap (splits (counts r.between_characters g)) same) on
 
-  pub once_alike : (n i : ℕ) → Fits is_reverse s e n i → unit_behind is_reverse h i ≡ unit_behind is_reverse g i →
-      Same i (pass_len r mode earliest h n i) →
-      unless_split (counts r.between_characters h) (pass r mode earliest h n i) (found None) ≡ unless_split
-      (counts r.between_characters g) (pass r mode earliest g n i) (found None)
+  pub once_alike : (n i : ℕ) → Fits is_reverse s e n i → unit_before is_reverse h i ≡ unit_before is_reverse g i →
+      Same i (scan_len_of r mode earliest h n i) →
+      unless_split (counts r.between_characters h) (scan r mode earliest h n i) (found None) ≡ unless_split
+      (counts r.between_characters g) (scan r mode earliest g n i) (found None)
   once_alike n i fit back all = one_alike n i (found None) (found None) fit back all (λ e. refl)
 
-  -- where an end splits, a unit was read
-  read_one : (n i : ℕ) → splits (counts r.between_characters h) (pass r mode earliest h n i) ≡ true →
-      0 < pass_len r mode earliest h n i
+  -- if an end doesn't count, a unit was read
+  read_one : (n i : ℕ) → splits (counts r.between_characters h) (scan r mode earliest h n i) ≡ true →
+      0 < scan_len_of r mode earliest h n i
   read_one n i split =
-      let x = split_found (counts r.between_characters h) (pass r mode earliest h n i) split in
+      let x = split_found (counts r.between_characters h) (scan r mode earliest h n i) split in
       let rd = pass_read r earliest h mode n i x.0 x.1 in
       let l = rd.1 in omega (arith, l)
 
-  pub passes_alike : (n i : ℕ) → Fits is_reverse s e n i → unit_behind is_reverse h i ≡ unit_behind is_reverse g i →
-      Same i (passes_len r mode earliest h n i) →
-      passes r mode earliest h n i ≡ passes r mode earliest g n i
+  pub passes_alike : (n i : ℕ) → Fits is_reverse s e n i → unit_before is_reverse h i ≡ unit_before is_reverse g i →
+      Same i (scans_len r mode earliest h n i) →
+      rescans r mode earliest h n i ≡ rescans r mode earliest g n i
   passes_alike zero i fit back all = once_alike 0 i fit back all
   passes_alike (suc n) i fit back all =
-      let first_len : ℕ = pass_len r mode earliest h (suc n) i in
-      one_alike (suc n) i (passes r mode earliest h n (next_place r i)) (passes r mode earliest g n (next_place r i)) fit back
-      (λ k l. all k (in_first (splits (counts r.between_characters h) (pass r mode earliest h (suc n) i)) k
-      (pass_len r mode earliest h (suc n) i) (suc (passes_len r mode earliest h n (next_place r i))) l))
-      (λ split. passes_alike n (next_place r i) (fits_next is_reverse s e n i fit)
+      let first_len : ℕ = scan_len_of r mode earliest h (suc n) i in
+      one_alike (suc n) i (rescans r mode earliest h n (next_offset r i)) (rescans r mode earliest g n (next_offset r i)) fit back
+      (λ k l. all k (in_first (splits (counts r.between_characters h) (scan r mode earliest h (suc n) i)) k
+      (scan_len_of r mode earliest h (suc n) i) (suc (scans_len r mode earliest h n (next_offset r i))) l))
+      (λ split. passes_alike n (next_offset r i) (fits_next is_reverse s e n i fit)
       (behind_next is_reverse h s e n i fit ∙ sym (unit_first r h i)
-      ∙ all 0 (in_first (splits (counts r.between_characters h) (pass r mode earliest h (suc n) i)) 0
-      (pass_len r mode earliest h (suc n) i) (suc (passes_len r mode earliest h n (next_place r i))) (read_one (suc n) i split))
+      ∙ all 0 (in_first (splits (counts r.between_characters h) (scan r mode earliest h (suc n) i)) 0
+      (scan_len_of r mode earliest h (suc n) i) (suc (scans_len r mode earliest h n (next_offset r i))) (read_one (suc n) i split))
       ∙ unit_first r g i ∙ sym (behind_next is_reverse g s e n i fit))
       (λ k l. unit_later r h i k
-      ∙ all (suc k) (in_later (splits (counts r.between_characters h) (pass r mode earliest h (suc n) i)) (suc k)
-      (pass_len r mode earliest h (suc n) i) (suc (passes_len r mode earliest h n (next_place r i))) split (omega (arith, l)))
+      ∙ all (suc k) (in_later (splits (counts r.between_characters h) (scan r mode earliest h (suc n) i)) (suc k)
+      (scan_len_of r mode earliest h (suc n) i) (suc (scans_len r mode earliest h n (next_offset r i))) split (omega (arith, l)))
       ∙ sym (unit_later r g i k)))
 
 -- ---- no quit byte is read on the way to an answer
@@ -307,33 +311,33 @@ none_joined false m n P one later k l = one k l
 
 module _ (r : Reader) (mode : Anchored) (earliest : Bool) (h : List ℕ) (s e : ℕ) where
   abbrev none_behind : ℕ → Type 0
-  none_behind i = is_quit r.quits (unit_behind r.automaton.reverse h i) ≡ false
+  none_behind i = is_quit r.quits (unit_before r.automaton.reverse h i) ≡ false
 
   pub once_quiet : (n i : ℕ) (other : HalfAnswer) (o : Option (ℕ × ℕ)) →
-      unless_split (counts r.between_characters h) (pass r mode earliest h n i) other ≡ found o →
-      none_behind i × HasNoQuit r h i (pass_len r mode earliest h n i)
-  once_quiet n i other o is = let x = found_first (counts r.between_characters h) (pass r mode earliest h n i) other o is in
+      unless_split (counts r.between_characters h) (scan r mode earliest h n i) other ≡ found o →
+      none_behind i × HasNoQuit r h i (scan_len_of r mode earliest h n i)
+  once_quiet n i other o is = let x = found_first (counts r.between_characters h) (scan r mode earliest h n i) other o is in
       found_without_quit r mode earliest h n i x.0 x.1
 
-  shifted : (n i m : ℕ) → Fits r.automaton.reverse s e (suc n) i → none_behind (next_place r i) → HasNoQuit r h (next_place r i) m →
+  shifted : (n i m : ℕ) → Fits r.automaton.reverse s e (suc n) i → none_behind (next_offset r i) → HasNoQuit r h (next_offset r i) m →
       HasNoQuit r h i (suc m)
   shifted n i m fit back none zero l = ap (is_quit r.quits) (unit_first r h i ∙ sym (behind_next r.automaton.reverse h s e n i fit))
       ∙ back
   shifted n i m fit back none (suc k) l = ap (is_quit r.quits) (sym (unit_later r h i k)) ∙ none k (omega (arith, l))
 
-  pub passes_quiet : (n i : ℕ) (o : Option (ℕ × ℕ)) → Fits r.automaton.reverse s e n i → passes r mode earliest h n i ≡ found o →
-      none_behind i × HasNoQuit r h i (passes_len r mode earliest h n i)
+  pub passes_quiet : (n i : ℕ) (o : Option (ℕ × ℕ)) → Fits r.automaton.reverse s e n i → rescans r mode earliest h n i ≡ found o →
+      none_behind i × HasNoQuit r h i (scans_len r mode earliest h n i)
   passes_quiet zero i o fit is = once_quiet 0 i (found None) o is
   passes_quiet (suc n) i o fit is =
-      let first = once_quiet (suc n) i (passes r mode earliest h n (next_place r i)) o is in (
+      let first = once_quiet (suc n) i (rescans r mode earliest h n (next_offset r i)) o is in (
         first.0,
-        none_joined (splits (counts r.between_characters h) (pass r mode earliest h (suc n) i))
-            (pass_len r mode earliest h (suc n) i) (suc (passes_len r mode earliest h n (next_place r i)))
+        none_joined (splits (counts r.between_characters h) (scan r mode earliest h (suc n) i))
+            (scan_len_of r mode earliest h (suc n) i) (suc (scans_len r mode earliest h n (next_offset r i)))
             (λ k. is_quit r.quits (unit_of r h i k) ≡ false) first.1
-            (λ split. let later = passes_quiet n (next_place r i) o (fits_next r.automaton.reverse s e n i fit)
-            (sym (split_goes (counts r.between_characters h) (pass r mode earliest h (suc n) i)
-            (passes r mode earliest h n (next_place r i)) split) ∙ is) in
-            shifted n i (passes_len r mode earliest h n (next_place r i)) fit later.0 later.1),
+            (λ split. let later = passes_quiet n (next_offset r i) o (fits_next r.automaton.reverse s e n i fit)
+            (sym (split_goes (counts r.between_characters h) (scan r mode earliest h (suc n) i)
+            (rescans r mode earliest h n (next_offset r i)) split) ∙ is) in
+            shifted n i (scans_len r mode earliest h n (next_offset r i)) fit later.0 later.1),
       )
 
 -- ---- half searches
@@ -346,10 +350,10 @@ module _ (r : Reader) (q : Search) (fits : q.start ≤ q.end) where
   i = begins_at r q
 
   abbrev len_once : ℕ
-  len_once = pass_len r q.anchored q.earliest q.haystack n i
+  len_once = scan_len_of r q.anchored q.earliest q.haystack n i
 
   abbrev len_anew : ℕ
-  len_anew = passes_len r q.anchored q.earliest q.haystack n i
+  len_anew = scans_len r q.anchored q.earliest q.haystack n i
 
   len_begun : scan_len r q ≡ (if is_anchored q.anchored then len_once else len_anew)
   len_begun = ap (λ (b : Bool). if b then (if is_anchored q.anchored then len_once else len_anew) else 0)
@@ -372,8 +376,8 @@ module _ (r : Reader) (q : Search) (g : List ℕ) (fits : q.start ≤ q.end) (in
   abbrev over_g : Search
   over_g = record q { haystack = g }
 
-  pub scan_alike : unit_behind r.automaton.reverse q.haystack begin ≡ unit_behind r.automaton.reverse g begin →
-      ((k : ℕ) → k < scan_len r q → unit_of r q.haystack begin k ≡ unit_of r g begin k) → scan r q ≡ scan r over_g
+  pub scan_alike : unit_before r.automaton.reverse q.haystack begin ≡ unit_before r.automaton.reverse g begin →
+      ((k : ℕ) → k < scan_len r q → unit_of r q.haystack begin k ≡ unit_of r g begin k) → half_search r q ≡ half_search r over_g
   scan_alike back all = ⊎_elim
       (λ (a : is_anchored q.anchored ≡ true). let len = len_anchored r q fits a in
       scan_anchored r q fits a
@@ -387,8 +391,8 @@ module _ (r : Reader) (q : Search) (g : List ℕ) (fits : q.start ≤ q.end) (in
       ∙ sym (scan_unanchored r over_g fits a))
       (cases_Bool (is_anchored q.anchored))
 
-  pub scan_quiet : (o : Option (ℕ × ℕ)) → scan r q ≡ found o →
-      (is_quit r.quits (unit_behind r.automaton.reverse q.haystack begin) ≡ false) × HasNoQuit r q.haystack begin (scan_len r q)
+  pub scan_quiet : (o : Option (ℕ × ℕ)) → half_search r q ≡ found o →
+      (is_quit r.quits (unit_before r.automaton.reverse q.haystack begin) ≡ false) × HasNoQuit r q.haystack begin (scan_len r q)
   scan_quiet o is = ⊎_elim
       (λ (a : is_anchored q.anchored ≡ true).
       let quiet = once_quiet r q.anchored q.earliest q.haystack q.start q.end all_bytes begin (found None) o
@@ -400,59 +404,59 @@ module _ (r : Reader) (q : Search) (g : List ℕ) (fits : q.start ≤ q.end) (in
       (quiet.0, subst (λ (m : ℕ). HasNoQuit r q.haystack begin m) (sym (len_unanchored r q fits a)) quiet.1))
       (cases_Bool (is_anchored q.anchored))
 
--- ---- the place that is found
+-- ---- the offset that is found
 
 module _ (r : Reader) (mode : Anchored) (earliest : Bool) (h : List ℕ) (x : ℕ × ℕ) where
   abbrev IsReadFrom : ℕ → ℕ → Type 0
-  IsReadFrom i m = (k : ℕ) × (k < m) × (x.0 ≡ place_of r.automaton.reverse i k)
+  IsReadFrom i m = (k : ℕ) × (k < m) × (x.0 ≡ offset_of r.automaton.reverse i k)
 
   once_read : (n i m : ℕ) (other : HalfAnswer) →
-      unless_split (counts r.between_characters h) (pass r mode earliest h n i) other ≡ found (Some x) →
-      (splits (counts r.between_characters h) (pass r mode earliest h n i) ≡ false → IsReadFrom i (pass_len r mode earliest h n i) →
+      unless_split (counts r.between_characters h) (scan r mode earliest h n i) other ≡ found (Some x) →
+      (splits (counts r.between_characters h) (scan r mode earliest h n i) ≡ false → IsReadFrom i (scan_len_of r mode earliest h n i) →
       IsReadFrom i m) →
-      (splits (counts r.between_characters h) (pass r mode earliest h n i) ≡ true → other ≡ found (Some x) → IsReadFrom i m) →
+      (splits (counts r.between_characters h) (scan r mode earliest h n i) ≡ true → other ≡ found (Some x) → IsReadFrom i m) →
       IsReadFrom i m
   once_read n i m other is here later = ⊎_elim
-      (λ (split : splits (counts r.between_characters h) (pass r mode earliest h n i) ≡ true).
-      later split (sym (split_goes (counts r.between_characters h) (pass r mode earliest h n i) other split) ∙ is))
-      (λ (whole : splits (counts r.between_characters h) (pass r mode earliest h n i) ≡ false).
+      (λ (split : splits (counts r.between_characters h) (scan r mode earliest h n i) ≡ true).
+      later split (sym (split_goes (counts r.between_characters h) (scan r mode earliest h n i) other split) ∙ is))
+      (λ (whole : splits (counts r.between_characters h) (scan r mode earliest h n i) ≡ false).
       here whole (pass_read r earliest h mode n i x
-      (sym (whole_stays (counts r.between_characters h) (pass r mode earliest h n i) other whole) ∙ is)))
-      (cases_Bool (splits (counts r.between_characters h) (pass r mode earliest h n i)))
+      (sym (whole_stays (counts r.between_characters h) (scan r mode earliest h n i) other whole) ∙ is)))
+      (cases_Bool (splits (counts r.between_characters h) (scan r mode earliest h n i)))
 
   nothing_later : (i m : ℕ) → found None ≡ found (Some x) → IsReadFrom i m
   nothing_later i m e = no_some r earliest h x (IsReadFrom i m) (sym (one_found None (Some x) e))
 
   pub once_found_read : (n i : ℕ) →
-      unless_split (counts r.between_characters h) (pass r mode earliest h n i) (found None) ≡ found (Some x) →
-      IsReadFrom i (pass_len r mode earliest h n i)
+      unless_split (counts r.between_characters h) (scan r mode earliest h n i) (found None) ≡ found (Some x) →
+      IsReadFrom i (scan_len_of r mode earliest h n i)
   once_found_read n i is =
-      once_read n i (pass_len r mode earliest h n i) (found None) is (λ whole there. there)
-      (λ split e. nothing_later i (pass_len r mode earliest h n i) e)
+      once_read n i (scan_len_of r mode earliest h n i) (found None) is (λ whole there. there)
+      (λ split e. nothing_later i (scan_len_of r mode earliest h n i) e)
 
-  pub passes_found_read : (n i : ℕ) → passes r mode earliest h n i ≡ found (Some x) →
-      IsReadFrom i (passes_len r mode earliest h n i)
+  pub passes_found_read : (n i : ℕ) → rescans r mode earliest h n i ≡ found (Some x) →
+      IsReadFrom i (scans_len r mode earliest h n i)
   passes_found_read zero i is = once_found_read 0 i is
   passes_found_read (suc n) i is =
-      once_read (suc n) i (passes_len r mode earliest h (suc n) i) (passes r mode earliest h n (next_place r i)) is
+      once_read (suc n) i (scans_len r mode earliest h (suc n) i) (rescans r mode earliest h n (next_offset r i)) is
       (λ whole there. (
         there.0,
-        in_first (splits (counts r.between_characters h) (pass r mode earliest h (suc n) i)) there.0
-            (pass_len r mode earliest h (suc n) i) (suc (passes_len r mode earliest h n (next_place r i))) there.1,
+        in_first (splits (counts r.between_characters h) (scan r mode earliest h (suc n) i)) there.0
+            (scan_len_of r mode earliest h (suc n) i) (suc (scans_len r mode earliest h n (next_offset r i))) there.1,
         there.2,
       ))
-      (λ split e. let later = passes_found_read n (next_place r i) e in
+      (λ split e. let later = passes_found_read n (next_offset r i) e in
       let less = later.1 in (
         suc later.0,
-        in_later (splits (counts r.between_characters h) (pass r mode earliest h (suc n) i)) (suc later.0)
-            (pass_len r mode earliest h (suc n) i) (suc (passes_len r mode earliest h n (next_place r i))) split
+        in_later (splits (counts r.between_characters h) (scan r mode earliest h (suc n) i)) (suc later.0)
+            (scan_len_of r mode earliest h (suc n) i) (suc (scans_len r mode earliest h n (next_offset r i))) split
             (omega (arith, less)),
         later.2 ∙ place_later r.automaton.reverse i later.0,
       ))
 
 module _ (r : Reader) (q : Search) (fits : q.start ≤ q.end) where
-  pub scan_found_read : (x : ℕ × ℕ) → scan r q ≡ found (Some x) →
-      (k : ℕ) × (k < scan_len r q) × (x.0 ≡ place_of r.automaton.reverse (begins_at r q) k)
+  pub scan_found_read : (x : ℕ × ℕ) → half_search r q ≡ found (Some x) →
+      (k : ℕ) × (k < scan_len r q) × (x.0 ≡ offset_of r.automaton.reverse (begins_at r q) k)
   scan_found_read x is = ⊎_elim
       (λ (a : is_anchored q.anchored ≡ true).
       let len = len_anchored r q fits a in
@@ -470,37 +474,37 @@ module _ (r : Reader) (q : Search) (fits : q.start ≤ q.end) where
 
 larger_below : (m n top : ℕ) → m ≤ top → n ≤ top → larger m n ≤ top
 larger_below m n top a b = ⊎_elim
-    (λ told. subst (λ (x : Bool). (if x then n else m) ≤ top) (sym told.0) b)
-    (λ told. subst (λ (x : Bool). (if x then n else m) ≤ top) (sym told.0) a) (leb_tells m n)
+    (λ reported. subst (λ (x : Bool). (if x then n else m) ≤ top) (sym reported.0) b)
+    (λ reported. subst (λ (x : Bool). (if x then n else m) ≤ top) (sym reported.0) a) (leb_tells m n)
 
 either_below : (b : Bool) (m n top : ℕ) → m ≤ top → n ≤ top → (if b then m else n) ≤ top
 either_below true m n top l up = l
 either_below false m n top l up = up
 
-pub passes_few : (r : Reader) (mode : Anchored) (earliest : Bool) (h : List ℕ) (n i : ℕ) → passes_len r mode earliest h n i ≤ suc n
+pub passes_few : (r : Reader) (mode : Anchored) (earliest : Bool) (h : List ℕ) (n i : ℕ) → scans_len r mode earliest h n i ≤ suc n
 passes_few r mode earliest h zero i = pass_units r mode earliest h 0 i
 passes_few r mode earliest h (suc n) i =
     let one = pass_units r mode earliest h (suc n) i in
-    let later = passes_few r mode earliest h n (next_place r i) in
-    either_below (splits (counts r.between_characters h) (pass r mode earliest h (suc n) i))
-    (larger (pass_len r mode earliest h (suc n) i) (suc (passes_len r mode earliest h n (next_place r i))))
-    (pass_len r mode earliest h (suc n) i) (suc (suc n))
-    (larger_below (pass_len r mode earliest h (suc n) i) (suc (passes_len r mode earliest h n (next_place r i))) (suc (suc n)) one
+    let later = passes_few r mode earliest h n (next_offset r i) in
+    either_below (splits (counts r.between_characters h) (scan r mode earliest h (suc n) i))
+    (larger (scan_len_of r mode earliest h (suc n) i) (suc (scans_len r mode earliest h n (next_offset r i))))
+    (scan_len_of r mode earliest h (suc n) i) (suc (suc n))
+    (larger_below (scan_len_of r mode earliest h (suc n) i) (suc (scans_len r mode earliest h n (next_offset r i))) (suc (suc n)) one
     (omega (arith, later))) one
 
 pub scan_few : (r : Reader) (q : Search) → scan_len r q ≤ suc (q.end - q.start)
 scan_few r q =
     either_below (nat_le q.start q.end)
-    (if is_anchored q.anchored then pass_len r q.anchored q.earliest q.haystack (q.end - q.start)
-    (first_place r.automaton.reverse q.start q.end)
-    else passes_len r q.anchored q.earliest q.haystack (q.end - q.start) (first_place r.automaton.reverse q.start q.end)) 0
+    (if is_anchored q.anchored then scan_len_of r q.anchored q.earliest q.haystack (q.end - q.start)
+    (first_offset r.automaton.reverse q.start q.end)
+    else scans_len r q.anchored q.earliest q.haystack (q.end - q.start) (first_offset r.automaton.reverse q.start q.end)) 0
     (suc (q.end - q.start))
     (either_below (is_anchored q.anchored)
-    (pass_len r q.anchored q.earliest q.haystack (q.end - q.start) (first_place r.automaton.reverse q.start q.end))
-    (passes_len r q.anchored q.earliest q.haystack (q.end - q.start) (first_place r.automaton.reverse q.start q.end))
+    (scan_len_of r q.anchored q.earliest q.haystack (q.end - q.start) (first_offset r.automaton.reverse q.start q.end))
+    (scans_len r q.anchored q.earliest q.haystack (q.end - q.start) (first_offset r.automaton.reverse q.start q.end))
     (suc (q.end - q.start))
-    (pass_units r q.anchored q.earliest q.haystack (q.end - q.start) (first_place r.automaton.reverse q.start q.end))
-    (passes_few r q.anchored q.earliest q.haystack (q.end - q.start) (first_place r.automaton.reverse q.start q.end)))
+    (pass_units r q.anchored q.earliest q.haystack (q.end - q.start) (first_offset r.automaton.reverse q.start q.end))
+    (passes_few r q.anchored q.earliest q.haystack (q.end - q.start) (first_offset r.automaton.reverse q.start q.end)))
     (omega arith)
 
 -- ---- no pattern
@@ -517,13 +521,13 @@ once_none c (unsupported m) o all is = absurd (found_no_mode o m (sym is))
 once_none c (found None) o all is = sym (one_found None o is)
 once_none c (found (Some x)) o all is = let never : Some x ≡ None = all (Some x) refl in cc
 
-pub no_pattern : (r : Reader) (q : Search) (o : Option (ℕ × ℕ)) → start_name r.automaton q.anchored ≡ None → scan r q ≡ found o →
+pub no_pattern : (r : Reader) (q : Search) (o : Option (ℕ × ℕ)) → start_name r.automaton q.anchored ≡ None → half_search r q ≡ found o →
     o ≡ None
 no_pattern r q o none is = ⊎_elim
     (λ (l : q.start ≤ q.end).
     once_none (counts r.between_characters q.haystack)
-    (pass r q.anchored q.earliest q.haystack (q.end - q.start) (first_place r.automaton.reverse q.start q.end)) o
-    (λ x e. dead_pass r q.anchored q.earliest q.haystack (q.end - q.start) (first_place r.automaton.reverse q.start q.end) x none e)
+    (scan r q.anchored q.earliest q.haystack (q.end - q.start) (first_offset r.automaton.reverse q.start q.end)) o
+    (λ x e. dead_pass r q.anchored q.earliest q.haystack (q.end - q.start) (first_offset r.automaton.reverse q.start q.end) x none e)
     (sym (scan_anchored r q l (named_only q.anchored r.automaton none)) ∙ is))
     (λ (past : q.end < q.start). sym (one_found None o (sym (scan_done r q past) ∙ is)))
     (le_or_done r q q.start q.end)

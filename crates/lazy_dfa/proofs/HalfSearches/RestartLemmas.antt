@@ -1,13 +1,13 @@
--- Passes that are begun anew where an end doesn't count.
+-- Scans that restart if an end doesn't count.
 use Rattle.std.proofs.Common.{◌≡◌, ℕ, zero, suc, ◌-◌, ◌<◌, ◌≤◌, Bool, true, false, not, List, Some, None, if◌then◌else◌, refl, sym, ap, ◌∙◌}
 use Rattle.std.proofs.Common.{arith}
-use Rattle.nfa_core.specs.Ways.{place_of}
+use Rattle.nfa_core.specs.Ways.{offset_of}
 use Rattle.search_types.specs.declared.anchored.Anchored.{Anchored}
 use Rattle.search_types.specs.Places.{counts}
 use Rattle.lazy_dfa.specs.Readers.{Reader, HalfAnswer, found, quit, unsupported}
-use Rattle.lazy_dfa.specs.Passes.{next_place, pass}
-use Rattle.lazy_dfa.specs.Scans.{unless_split, passes}
-use Rattle.lazy_dfa.specs.PassLaws.{splits, pass_of}
+use Rattle.lazy_dfa.specs.Scans.{next_offset, scan}
+use Rattle.lazy_dfa.specs.HalfSearches.{unless_split, rescans}
+use Rattle.lazy_dfa.specs.ScanLaws.{splits, scan_of}
 use Rattle.lazy_dfa.proofs.HalfSearches.TurnLemmas.{place_later}
 use Rattle.nfa_core.proofs.ForCallers.{place_zero}
 
@@ -33,18 +33,18 @@ split_goes counted (found (Some p)) other e = if_splits (counted p.0) p other e
 
 module _ (r : Reader) (mode : Anchored) (earliest : Bool) (h : List ℕ) where
   abbrev later : ℕ → ℕ → ℕ → HalfAnswer
-  later n i m = pass_of r mode earliest h n i m
+  later n i m = scan_of r mode earliest h n i m
 
-  pub later_first : (n i : ℕ) → later n i 0 ≡ pass r mode earliest h n i
-  later_first n i = ap (λ (j : ℕ). pass r mode earliest h (n - 0) j) (place_zero r.automaton.reverse i)
-      ∙ ap (λ (d : ℕ). pass r mode earliest h d i) (zero_off n)
+  pub later_first : (n i : ℕ) → later n i 0 ≡ scan r mode earliest h n i
+  later_first n i = ap (λ (j : ℕ). scan r mode earliest h (n - 0) j) (place_zero r.automaton.reverse i)
+      ∙ ap (λ (d : ℕ). scan r mode earliest h d i) (zero_off n)
     where
       zero_off : (n : ℕ) → n - 0 ≡ n
       zero_off n = omega arith
 
-  pub later_next : (n i m : ℕ) → later n (next_place r i) m ≡ later (suc n) i (suc m)
-  later_next n i m = ap (pass r mode earliest h (n - m)) (place_later r.automaton.reverse i m)
-      ∙ ap (λ (d : ℕ). pass r mode earliest h d (place_of r.automaton.reverse i (suc m))) (one_off n m)
+  pub later_next : (n i m : ℕ) → later n (next_offset r i) m ≡ later (suc n) i (suc m)
+  later_next n i m = ap (scan r mode earliest h (n - m)) (place_later r.automaton.reverse i m)
+      ∙ ap (λ (d : ℕ). scan r mode earliest h d (offset_of r.automaton.reverse i (suc m))) (one_off n m)
     where
       one_off : (n m : ℕ) → n - m ≡ suc n - suc m
       one_off n m = omega arith
@@ -53,26 +53,26 @@ module _ (r : Reader) (mode : Anchored) (earliest : Bool) (h : List ℕ) where
   split a = splits (counts r.between_characters h) a
 
   pub first_whole : (n i k : ℕ) → k ≤ n → ((m : ℕ) → m < k → split (later n i m) ≡ true) → split (later n i k) ≡ false →
-      passes r mode earliest h n i ≡ later n i k
+      rescans r mode earliest h n i ≡ later n i k
   first_whole zero i zero l all here =
-      whole_stays (counts r.between_characters h) (pass r mode earliest h 0 i) (found None)
+      whole_stays (counts r.between_characters h) (scan r mode earliest h 0 i) (found None)
       (ap split (sym (later_first 0 i)) ∙ here) ∙ sym (later_first 0 i)
   first_whole zero i (suc k) l all here = absurd (omega (arith, l))
   first_whole (suc n) i zero l all here =
-      whole_stays (counts r.between_characters h) (pass r mode earliest h (suc n) i) (passes r mode earliest h n (next_place r i))
+      whole_stays (counts r.between_characters h) (scan r mode earliest h (suc n) i) (rescans r mode earliest h n (next_offset r i))
       (ap split (sym (later_first (suc n) i)) ∙ here) ∙ sym (later_first (suc n) i)
   first_whole (suc n) i (suc k) l all here =
-      split_goes (counts r.between_characters h) (pass r mode earliest h (suc n) i) (passes r mode earliest h n (next_place r i))
+      split_goes (counts r.between_characters h) (scan r mode earliest h (suc n) i) (rescans r mode earliest h n (next_offset r i))
       (ap split (sym (later_first (suc n) i)) ∙ all 0 (omega arith))
-      ∙ first_whole n (next_place r i) k (omega (arith, l))
+      ∙ first_whole n (next_offset r i) k (omega (arith, l))
       (λ m less. ap split (later_next n i m) ∙ all (suc m) (omega (arith, less))) (ap split (later_next n i k) ∙ here)
       ∙ later_next n i k
 
-  pub all_split : (n i : ℕ) → ((m : ℕ) → m ≤ n → split (later n i m) ≡ true) → passes r mode earliest h n i ≡ found None
+  pub all_split : (n i : ℕ) → ((m : ℕ) → m ≤ n → split (later n i m) ≡ true) → rescans r mode earliest h n i ≡ found None
   all_split zero i all =
-      split_goes (counts r.between_characters h) (pass r mode earliest h 0 i) (found None)
+      split_goes (counts r.between_characters h) (scan r mode earliest h 0 i) (found None)
       (ap split (sym (later_first 0 i)) ∙ all 0 (omega arith))
   all_split (suc n) i all =
-      split_goes (counts r.between_characters h) (pass r mode earliest h (suc n) i) (passes r mode earliest h n (next_place r i))
+      split_goes (counts r.between_characters h) (scan r mode earliest h (suc n) i) (rescans r mode earliest h n (next_offset r i))
       (ap split (sym (later_first (suc n) i)) ∙ all 0 (omega arith))
-      ∙ all_split n (next_place r i) (λ m less. ap split (later_next n i m) ∙ all (suc m) (omega (arith, less)))
+      ∙ all_split n (next_offset r i) (λ m less. ap split (later_next n i m) ∙ all (suc m) (omega (arith, less)))

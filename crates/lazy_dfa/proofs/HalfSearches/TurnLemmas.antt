@@ -1,4 +1,4 @@
--- One turn of a pass, by what it answers.
+-- One turn of a scan, by its result.
 use Rattle.std.proofs.Common.{◌≡◌, ℕ, suc, Bool, true, false, ◌&&◌, not, ◌==◌, List, [], ◌∷◌, Option, Some, None, if◌then◌else◌, refl, sym}
 use Rattle.std.proofs.Common.{ap, ◌∙◌, ◌⊎◌, inl, inr, arith}
 use Rattle.std.proofs.lemmas.Bool.{and_parts, eqb-true, not-true}
@@ -7,19 +7,19 @@ use Rattle.std.specs.Prelude.{Result, Err}
 use Rattle.search_types.specs.declared.anchored.Anchored.{Anchored}
 use Rattle.search_types.specs.declared.match_error.MatchErrorKind.{MatchErrorKind}
 use Rattle.search_types.specs.Found.{HalfFound}
-use Rattle.nfa_core.specs.Ways.{place_of}
+use Rattle.nfa_core.specs.Ways.{offset_of}
 use Rattle.determinize_core.specs.States.{StateValue, dead}
 use Rattle.lazy_dfa.specs.Readers.{is_quit, HalfAnswer, found, quit, unsupported}
-use Rattle.lazy_dfa.specs.Passes.{is_empty, is_dead, unless_quit, if_supported}
-use Rattle.lazy_dfa.specs.PassLaws.{IsQuitAt}
+use Rattle.lazy_dfa.specs.Scans.{is_empty, is_dead, unless_quit, if_supported}
+use Rattle.lazy_dfa.specs.ScanLaws.{IsQuitAt}
 
--- ---- places
+-- ---- offsets
 
-pub place_next : (is_reverse : Bool) (i k : ℕ) → place_of is_reverse (place_of is_reverse i k) 1 ≡ place_of is_reverse i (suc k)
+pub place_next : (is_reverse : Bool) (i k : ℕ) → offset_of is_reverse (offset_of is_reverse i k) 1 ≡ offset_of is_reverse i (suc k)
 place_next false i k = omega arith
 place_next true i k = omega arith
 
-pub place_later : (is_reverse : Bool) (i k : ℕ) → place_of is_reverse (place_of is_reverse i 1) k ≡ place_of is_reverse i (suc k)
+pub place_later : (is_reverse : Bool) (i k : ℕ) → offset_of is_reverse (offset_of is_reverse i 1) k ≡ offset_of is_reverse i (suc k)
 place_later false i k = omega arith
 place_later true i k = omega arith
 
@@ -56,7 +56,7 @@ found_no_mode o mode e = let never : true ≡ false = cc in absurd (grind (arith
 pub quit_no_mode : (b x : ℕ) (mode : Anchored) → quit b x ≡ unsupported mode → ⊥
 quit_no_mode b x mode e = let never : true ≡ false = cc in absurd (grind (arith, never))
 
--- errors in the place of what a search finds
+-- an error instead of what a search finds
 abbrev pub failed : MatchErrorKind → Result (Option HalfFound) MatchErrorKind
 failed e = Err e
 
@@ -103,7 +103,7 @@ pub turn_quit : (end : Bool) (quits : List Bool) (u : Option ℕ) (index : ℕ) 
 turn_quit true quits u index best c x rest e = absurd (found_no_quit best c x e)
 turn_quit false quits u index best c x rest e = (refl, quit_or_on quits u index c x rest e)
 
--- where the unit is no quit byte, the pass goes on
+-- if the unit is no quit byte, the scan goes on
 pub goes_on : (quits : List Bool) (u : Option ℕ) (index : ℕ) (rest : HalfAnswer) → is_quit quits u ≡ false →
     unless_quit quits u index rest ≡ rest
 goes_on quits None index rest e = refl

@@ -1,4 +1,4 @@
--- What is left of a walk, turn by turn: how it begins and reads on, by what it is refused, and where the ends lie that it tells.
+-- What is left of an overlapping search, turn by turn: how it begins and reads on, its errors, and where the ends lie that it reports.
 use Rattle.std.proofs.Common.{◌≡◌, ℕ, zero, suc, ◌-◌, ◌<◌, ◌≤◌, Bool, true, false, List, [], ◌∷◌, map, Option, Some, None, if◌then◌else◌}
 use Rattle.std.proofs.Common.{refl, sym, ap, ◌∙◌, ◌⊎◌, inl, inr, ⊎_elim, subst, arith}
 use Rattle.std.proofs.lemmas.Bool.{cases_Bool, le-leb}
@@ -12,16 +12,17 @@ use Rattle.search_types.specs.Modes.{is_supported}
 use Rattle.search_types.specs.Places.{counts}
 use Rattle.nfa_core.specs.Places.{same_pair}
 use Rattle.nfa_core.specs.Walks.{Has}
-use Rattle.nfa_core.specs.Ways.{place_of}
+use Rattle.nfa_core.specs.Ways.{offset_of}
 use Rattle.nfa_core.proofs.ForCallers.{none_in, has_cons, of_append, option_cases, one_value, no_value, pairs_equal, place_zero}
 use Rattle.determinize_core.specs.States.{StateValue, dead}
-use Rattle.determinize_core.specs.Steps.{unit_at, unit_behind}
+use Rattle.determinize_core.specs.Steps.{unit_at, unit_before}
 use Rattle.lazy_dfa.specs.Readers.{Reader, is_quit}
-use Rattle.lazy_dfa.specs.Passes.{index_at, index_behind, is_dead, next_value, next_place, start_name, start_or_dead, first_value}
-use Rattle.lazy_dfa.specs.PassLaws.{IsFirstQuit, HasNoQuitBehind}
-use Rattle.lazy_dfa.specs.Scans.{first_place}
-use Rattle.lazy_dfa.specs.ScanLaws.{begins_at, IsQuitNear, HasNoQuitNear}
-use Rattle.lazy_dfa.specs.Walks.{Rest, nothing_left, refused, onto, unless_quit_at, where_supported, end_of, listed, rest_from, whole_rest}
+use Rattle.lazy_dfa.specs.Scans.{index_at, index_before_offset, is_dead, next_value, next_offset, start_name, start_or_dead, first_value}
+use Rattle.lazy_dfa.specs.ScanLaws.{IsFirstQuit, HasNoQuitBefore}
+use Rattle.lazy_dfa.specs.HalfSearches.{first_offset}
+use Rattle.lazy_dfa.specs.HalfSearchLaws.{begins_at, IsQuitNear, HasNoQuitNear}
+use Rattle.lazy_dfa.specs.Overlapping.{Rest, nothing_left, refused, onto, unless_quit_at, where_supported, end_of, listed, rest_from}
+use Rattle.lazy_dfa.specs.Overlapping.{whole_rest}
 use Rattle.lazy_dfa.proofs.HalfSearches.TurnLemmas.{place_later}
 use Rattle.lazy_dfa.proofs.HalfSearches.PassQuitLemmas.{first_here, first_later}
 use Rattle.lazy_dfa.proofs.HalfSearches.NearbyLemmas.{behind_near, at_near}
@@ -29,7 +30,7 @@ use Rattle.lazy_dfa.proofs.HalfSearches.ScanLemmas.{past_le, begins_inside, le_o
 
 -- ---- a unit
 
--- a walk is refused at a unit, or what is left stays
+-- an overlapping search fails at a unit, or what is left stays
 pub data AtUnit (quits : List Bool) (u : Option ℕ) (index : ℕ) (rest : Rest) : Type 0 where
   reads_quit : (b : ℕ) → u ≡ Some b → has quits b ≡ true → unless_quit_at quits u index rest ≡ refused (Quit b index) →
       AtUnit quits u index rest
@@ -49,14 +50,14 @@ past_other quits (Some b) index rest e = ap (λ (q : Bool). if q then refused (Q
 
 -- ---- a turn
 
--- a walk ends at the dead state, is refused at a quit byte, or goes on behind the unit
+-- an overlapping search ends at the dead state, fails at a quit byte, or goes on after the unit
 pub data Turn (r : Reader) (h : List ℕ) (n i : ℕ) (v : StateValue) : Type 0 where
   turn_ends : is_dead v ≡ true → rest_from r h (suc n) i v ≡ nothing_left → Turn r h n i v
   turn_quits : (b : ℕ) → is_dead v ≡ false → unit_at r.automaton.reverse h i ≡ Some b → has r.quits b ≡ true →
       rest_from r h (suc n) i v ≡ refused (Quit b (index_at r.automaton.reverse i)) → Turn r h n i v
   turn_goes : is_dead v ≡ false → is_quit r.quits (unit_at r.automaton.reverse h i) ≡ false →
       rest_from r h (suc n) i v ≡ onto (listed (counts r.between_characters h) i (next_value r h i v).matches)
-      (rest_from r h n (next_place r i) (next_value r h i v)) → Turn r h n i v
+      (rest_from r h n (next_offset r i) (next_value r h i v)) → Turn r h n i v
 
 pub rest_none : (r : Reader) (h : List ℕ) (i : ℕ) (v : StateValue) → rest_from r h zero i v ≡ nothing_left
 unfolding rest_from
@@ -65,7 +66,7 @@ rest_none r h i v = refl
 module _ (r : Reader) (h : List ℕ) (n i : ℕ) (v : StateValue) where
   abbrev read_on : Rest
   read_on = onto (listed (counts r.between_characters h) i (next_value r h i v).matches)
-      (rest_from r h n (next_place r i) (next_value r h i v))
+      (rest_from r h n (next_offset r i) (next_value r h i v))
 
   abbrev read_unit : Rest
   read_unit = unless_quit_at r.quits (unit_at r.automaton.reverse h i) (index_at r.automaton.reverse i) read_on
@@ -89,16 +90,16 @@ module _ (r : Reader) (h : List ℕ) (n i : ℕ) (v : StateValue) where
       (λ (e : is_dead v ≡ false). alive_turn e (at_unit r.quits (unit_at r.automaton.reverse h i) (index_at r.automaton.reverse i) read_on))
       (cases_Bool (is_dead v))
 
--- ---- how a walk begins
+-- ---- how an overlapping search begins
 
--- it is done, refused at the byte behind its first place or in its mode, or reads on from there
+-- It is done, or fails at the look-behind byte of its first offset or for its mode, or reads on from that offset.
 pub data Begins (r : Reader) (q : Search) : Type 0 where
   begins_done : q.end < q.start → whole_rest r q ≡ nothing_left → Begins r q
-  begins_quit : (b : ℕ) → q.start ≤ q.end → unit_behind r.automaton.reverse q.haystack (begins_at r q) ≡ Some b → has r.quits b ≡ true →
-      whole_rest r q ≡ refused (Quit b (index_behind r.automaton.reverse (begins_at r q))) → Begins r q
-  begins_unfit : q.start ≤ q.end → HasNoQuitBehind r q.haystack (begins_at r q) →
+  begins_quit : (b : ℕ) → q.start ≤ q.end → unit_before r.automaton.reverse q.haystack (begins_at r q) ≡ Some b → has r.quits b ≡ true →
+      whole_rest r q ≡ refused (Quit b (index_before_offset r.automaton.reverse (begins_at r q))) → Begins r q
+  begins_unfit : q.start ≤ q.end → HasNoQuitBefore r q.haystack (begins_at r q) →
       is_supported r.starts_for_each_pattern q.anchored ≡ false → whole_rest r q ≡ refused (UnsupportedAnchored q.anchored) → Begins r q
-  begins_there : q.start ≤ q.end → HasNoQuitBehind r q.haystack (begins_at r q) →
+  begins_there : q.start ≤ q.end → HasNoQuitBefore r q.haystack (begins_at r q) →
       is_supported r.starts_for_each_pattern q.anchored ≡ true →
       whole_rest r q ≡ rest_from r q.haystack (suc (q.end - q.start)) (begins_at r q)
       (first_value r q.anchored q.haystack (begins_at r q)) →
@@ -112,8 +113,8 @@ module _ (r : Reader) (q : Search) where
   in_mode = where_supported (is_supported r.starts_for_each_pattern q.anchored) q.anchored from_start
 
   abbrev past_behind : Rest
-  past_behind = unless_quit_at r.quits (unit_behind r.automaton.reverse q.haystack (begins_at r q))
-      (index_behind r.automaton.reverse (begins_at r q)) in_mode
+  past_behind = unless_quit_at r.quits (unit_before r.automaton.reverse q.haystack (begins_at r q))
+      (index_before_offset r.automaton.reverse (begins_at r q)) in_mode
 
   pub rest_done : q.end < q.start → whole_rest r q ≡ nothing_left
   rest_done past = ap (λ (b : Bool). if b then past_behind else nothing_left) (past_le q.start q.end past)
@@ -128,14 +129,14 @@ module _ (r : Reader) (q : Search) where
   mode_fits fit = ap (λ (b : Bool). if b then from_start else refused (UnsupportedAnchored q.anchored)) fit
 
   pub rest_unfit : q.start ≤ q.end → is_supported r.starts_for_each_pattern q.anchored ≡ false →
-      HasNoQuitBehind r q.haystack (begins_at r q) → whole_rest r q ≡ refused (UnsupportedAnchored q.anchored)
+      HasNoQuitBefore r q.haystack (begins_at r q) → whole_rest r q ≡ refused (UnsupportedAnchored q.anchored)
   rest_unfit l unfit none = rest_begun l
-      ∙ past_other r.quits (unit_behind r.automaton.reverse q.haystack (begins_at r q))
-      (index_behind r.automaton.reverse (begins_at r q)) in_mode none
+      ∙ past_other r.quits (unit_before r.automaton.reverse q.haystack (begins_at r q))
+      (index_before_offset r.automaton.reverse (begins_at r q)) in_mode none
       ∙ mode_told unfit
 
   begun : q.start ≤ q.end →
-      AtUnit r.quits (unit_behind r.automaton.reverse q.haystack (begins_at r q)) (index_behind r.automaton.reverse (begins_at r q))
+      AtUnit r.quits (unit_before r.automaton.reverse q.haystack (begins_at r q)) (index_before_offset r.automaton.reverse (begins_at r q))
       in_mode → Begins r q
   begun l (reads_quit b u quits is) = begins_quit b l u quits (rest_begun l ∙ is)
   begun l (reads_other none is) = ⊎_elim
@@ -147,8 +148,8 @@ module _ (r : Reader) (q : Search) where
 
   pub begins : Begins r q
   begins = ⊎_elim
-      (λ (l : q.start ≤ q.end). begun l (at_unit r.quits (unit_behind r.automaton.reverse q.haystack (begins_at r q))
-      (index_behind r.automaton.reverse (begins_at r q)) in_mode))
+      (λ (l : q.start ≤ q.end). begun l (at_unit r.quits (unit_before r.automaton.reverse q.haystack (begins_at r q))
+      (index_before_offset r.automaton.reverse (begins_at r q)) in_mode))
       (λ (past : q.end < q.start). begins_done past (rest_done past))
       (le_or_done r q q.start q.end)
 
@@ -166,9 +167,9 @@ if_listed : (b : Bool) (counted : ℕ → Bool) (i : ℕ) (ms : List ℕ) (x : �
 if_listed true counted i ms x e there = let at = mapped_there i ms x there in (at, ap counted at ∙ e)
 if_listed false counted i ms x e there = none_in same_pair x _ there
 
--- an end lies at a place that is read and that counts
+-- an end lies at an offset that is read and that counts
 abbrev pub IsToldAt : Reader → List ℕ → ℕ → ℕ → ℕ × ℕ → Type 0
-IsToldAt r h n i x = (k : ℕ) × (k < n) × (x.0 ≡ place_of r.automaton.reverse i k) × (counts r.between_characters h x.0 ≡ true)
+IsToldAt r h n i x = (k : ℕ) × (k < n) × (x.0 ≡ offset_of r.automaton.reverse i k) × (counts r.between_characters h x.0 ≡ true)
 
 module _ (r : Reader) (h : List ℕ) where
   abbrev AreToldAt : ℕ → ℕ → StateValue → Type 0
@@ -180,13 +181,13 @@ module _ (r : Reader) (h : List ℕ) where
       let at = if_listed (counts r.between_characters h i) (counts r.between_characters h) i ms x refl there in
       (0, omega arith, at.0 ∙ sym (place_zero r.automaton.reverse i), at.1)
 
-  told_turn : (n i : ℕ) (v : StateValue) → Turn r h n i v → AreToldAt n (next_place r i) (next_value r h i v) → AreToldAt (suc n) i v
+  told_turn : (n i : ℕ) (v : StateValue) → Turn r h n i v → AreToldAt n (next_offset r i) (next_value r h i v) → AreToldAt (suc n) i v
   told_turn n i v (turn_ends e is) later x there = none_in same_pair x _ (subst (λ (z : Rest). Has same_pair x z.ends) is there)
   told_turn n i v (turn_quits b e u quits is) later x there = none_in same_pair x _ (subst (λ (z : Rest). Has same_pair x z.ends) is there)
   told_turn n i v (turn_goes e quiet is) later x there =
       of_append same_pair pairs_equal (λ (y : ℕ × ℕ). IsToldAt r h (suc n) i y)
       (listed (counts r.between_characters h) i (next_value r h i v).matches)
-      (rest_from r h n (next_place r i) (next_value r h i v)).ends
+      (rest_from r h n (next_offset r i) (next_value r h i v)).ends
       (λ y here. listed_first n i (next_value r h i v).matches y here)
       (λ y on. let at = later y on in let less = at.1 in
       (suc at.0, omega (arith, less), at.2 ∙ place_later r.automaton.reverse i at.0, at.3))
@@ -195,41 +196,41 @@ module _ (r : Reader) (h : List ℕ) where
   pub told_there : (n i : ℕ) (v : StateValue) → AreToldAt n i v
   told_there zero i v x there = none_in same_pair x _ (subst (λ (z : Rest). Has same_pair x z.ends) (rest_none r h i v) there)
   told_there (suc n) i v x there =
-      told_turn n i v (turn r h n i v) (λ y on. told_there n (next_place r i) (next_value r h i v) y on) x there
+      told_turn n i v (turn r h n i v) (λ y on. told_there n (next_offset r i) (next_value r h i v) y on) x there
 
--- ---- by what a walk is refused
+-- ---- the errors of an overlapping search
 
 module _ (r : Reader) (h : List ℕ) where
-  -- by a quit byte, and by the first one that it reads
+  -- the error is that of a quit byte, the first one that is read
   abbrev IsRefusedBy : ℕ → ℕ → MatchErrorKind → Type 0
   IsRefusedBy n i e = (b : ℕ) × (x : ℕ) × (e ≡ Quit b x) × IsFirstQuit r h i n b x
 
   abbrev AreRefusedBy : ℕ → ℕ → StateValue → Type 0
-  AreRefusedBy n i v = (e : MatchErrorKind) → (rest_from r h n i v).refusal ≡ Some e → IsRefusedBy n i e
+  AreRefusedBy n i v = (e : MatchErrorKind) → (rest_from r h n i v).rejection ≡ Some e → IsRefusedBy n i e
 
-  refused_turn : (n i : ℕ) (v : StateValue) → Turn r h n i v → AreRefusedBy n (next_place r i) (next_value r h i v) →
+  refused_turn : (n i : ℕ) (v : StateValue) → Turn r h n i v → AreRefusedBy n (next_offset r i) (next_value r h i v) →
       AreRefusedBy (suc n) i v
   refused_turn n i v (turn_ends d is) later e there =
-      no_value None e _ refl (subst (λ (z : Rest). z.refusal ≡ Some e) is there)
+      no_value None e _ refl (subst (λ (z : Rest). z.rejection ≡ Some e) is there)
   refused_turn n i v (turn_quits b d u quits is) later e there = (
     b,
     index_at r.automaton.reverse i,
     sym (one_value (Some (Quit b (index_at r.automaton.reverse i))) (Quit b (index_at r.automaton.reverse i)) e refl
-        (subst (λ (z : Rest). z.refusal ≡ Some e) is there)),
+        (subst (λ (z : Rest). z.rejection ≡ Some e) is there)),
     first_here r h i n b (index_at r.automaton.reverse i) u quits refl,
   )
   refused_turn n i v (turn_goes d quiet is) later e there =
-      let by = later e (subst (λ (z : Rest). z.refusal ≡ Some e) is there) in
+      let by = later e (subst (λ (z : Rest). z.rejection ≡ Some e) is there) in
       (by.0, by.1, by.2, first_later r h i n by.0 by.1 quiet by.3)
 
   pub refused_there : (n i : ℕ) (v : StateValue) → AreRefusedBy n i v
-  refused_there zero i v e there = no_value None e _ refl (subst (λ (z : Rest). z.refusal ≡ Some e) (rest_none r h i v) there)
+  refused_there zero i v e there = no_value None e _ refl (subst (λ (z : Rest). z.rejection ≡ Some e) (rest_none r h i v) there)
   refused_there (suc n) i v e there =
-      refused_turn n i v (turn r h n i v) (λ f on. refused_there n (next_place r i) (next_value r h i v) f on) e there
+      refused_turn n i v (turn r h n i v) (λ f on. refused_there n (next_offset r i) (next_value r h i v) f on) e there
 
--- ---- whole walks
+-- ---- whole overlapping searches
 
-in_span : (is_reverse : Bool) (s e k j : ℕ) → s ≤ e → k < suc (e - s) → j ≡ place_of is_reverse (first_place is_reverse s e) k → (s ≤ j) ×
+in_span : (is_reverse : Bool) (s e k j : ℕ) → s ≤ e → k < suc (e - s) → j ≡ offset_of is_reverse (first_offset is_reverse s e) k → (s ≤ j) ×
     (j ≤ e)
 in_span false s e k j fits l at = (omega (arith, fits, l, at), omega (arith, fits, l, at))
 in_span true s e k j fits l at = (omega (arith, fits, l, at), omega (arith, fits, l, at))
@@ -257,56 +258,56 @@ module _ (r : Reader) (q : Search) where
       let near = in_span r.automaton.reverse q.start q.end at.0 x.0 l at.1 at.2 in
       (near.0, near.1, at.3)
 
-  -- each end that is told lies in the span and at a place that counts
+  -- each end that is reported lies in the span, at an offset that counts
   pub rest_in_span : (x : ℕ × ℕ) → Has same_pair x (whole_rest r q).ends → IsInSpan x
   rest_in_span x there = told_in_span x (begins r q) there
 
-  abbrev IsRefusal : MatchErrorKind → Type 0
-  IsRefusal e = ((b : ℕ) × (x : ℕ) × (e ≡ Quit b x) × IsQuitNear r q.haystack q.start q.end b x) ⊎
+  abbrev IsEarliestError : MatchErrorKind → Type 0
+  IsEarliestError e = ((b : ℕ) × (x : ℕ) × (e ≡ Quit b x) × IsQuitNear r q.haystack q.start q.end b x) ⊎
       ((e ≡ UnsupportedAnchored q.anchored) × (is_supported r.starts_for_each_pattern q.anchored ≡ false))
 
-  refusal_by : (e : MatchErrorKind) → Begins r q → (whole_rest r q).refusal ≡ Some e → IsRefusal e
-  refusal_by e (begins_done past is) there = no_value None e _ refl (subst (λ (z : Rest). z.refusal ≡ Some e) is there)
+  refusal_by : (e : MatchErrorKind) → Begins r q → (whole_rest r q).rejection ≡ Some e → IsEarliestError e
+  refusal_by e (begins_done past is) there = no_value None e _ refl (subst (λ (z : Rest). z.rejection ≡ Some e) is there)
   refusal_by e (begins_quit b l u quits is) there =
-      let x : ℕ = index_behind r.automaton.reverse (begins_at r q) in
+      let x : ℕ = index_before_offset r.automaton.reverse (begins_at r q) in
       inl (
         b,
         x,
-        sym (one_value (Some (Quit b x)) (Quit b x) e refl (subst (λ (z : Rest). z.refusal ≡ Some e) is there)),
+        sym (one_value (Some (Quit b x)) (Quit b x) e refl (subst (λ (z : Rest). z.rejection ≡ Some e) is there)),
         behind_near r q.haystack q.start q.end r.automaton.reverse (q.end - q.start) (begins_at r q) b x
             (begins_inside r q r.automaton.reverse q.start q.end l) u quits refl,
       )
   refusal_by e (begins_unfit l none unfit is) there =
       inr (
         sym (one_value (Some (UnsupportedAnchored q.anchored)) (UnsupportedAnchored q.anchored) e refl
-            (subst (λ (z : Rest). z.refusal ≡ Some e) is there)),
+            (subst (λ (z : Rest). z.rejection ≡ Some e) is there)),
         unfit,
       )
   refusal_by e (begins_there l none fit is) there =
       let by = refused_there r q.haystack (suc (q.end - q.start)) (begins_at r q) (first_value r q.anchored q.haystack (begins_at r q)) e
-      (subst (λ (z : Rest). z.refusal ≡ Some e) is there) in
+      (subst (λ (z : Rest). z.rejection ≡ Some e) is there) in
       let at = by.3 in
       inl (
         by.0,
         by.1,
         by.2,
         at_near r q.haystack q.start q.end r.automaton.reverse (q.end - q.start) (begins_at r q) at.0
-            (place_of r.automaton.reverse (begins_at r q) at.0) by.0 by.1 (begins_inside r q r.automaton.reverse q.start q.end l)
+            (offset_of r.automaton.reverse (begins_at r q) at.0) by.0 by.1 (begins_inside r q r.automaton.reverse q.start q.end l)
             at.1 refl at.2 at.3 at.4,
       )
 
-  -- a refusal is that of a quit byte in or beside the span, or of the mode
-  pub refusal_is : (e : MatchErrorKind) → (whole_rest r q).refusal ≡ Some e → IsRefusal e
+  -- an error is that of a quit byte in the span or next to it, or that of the mode
+  pub refusal_is : (e : MatchErrorKind) → (whole_rest r q).rejection ≡ Some e → IsEarliestError e
   refusal_is e there = refusal_by e (begins r q) there
 
-  pub refusal_kinds : (e : MatchErrorKind) → (whole_rest r q).refusal ≡ Some e →
+  pub refusal_kinds : (e : MatchErrorKind) → (whole_rest r q).rejection ≡ Some e →
       ((b x : ℕ) × (e ≡ Quit b x)) ⊎ ((e ≡ UnsupportedAnchored q.anchored) × (is_supported r.starts_for_each_pattern q.anchored ≡ false))
   refusal_kinds e there = ⊎_elim
       (λ (quits : (b : ℕ) × (x : ℕ) × (e ≡ Quit b x) × IsQuitNear r q.haystack q.start q.end b x). inl (quits.0, quits.1, quits.2))
       (λ (unfit : (e ≡ UnsupportedAnchored q.anchored) × (is_supported r.starts_for_each_pattern q.anchored ≡ false)). inr unfit)
       (refusal_is e there)
 
-  pub quit_is_near : (b x : ℕ) → (whole_rest r q).refusal ≡ Some (Quit b x) → IsQuitNear r q.haystack q.start q.end b x
+  pub quit_is_near : (b x : ℕ) → (whole_rest r q).rejection ≡ Some (Quit b x) → IsQuitNear r q.haystack q.start q.end b x
   quit_is_near b x there = ⊎_elim
       (λ (quits : (c : ℕ) × (y : ℕ) × (Quit b x ≡ Quit c y) × IsQuitNear r q.haystack q.start q.end c y).
       let same = quit_parts b x quits.0 quits.1 quits.2 in
@@ -317,7 +318,7 @@ module _ (r : Reader) (q : Search) where
       (refusal_is (Quit b x) there)
 
   not_refused : is_supported r.starts_for_each_pattern q.anchored ≡ true → HasNoQuitNear r q.haystack q.start q.end →
-      (e : MatchErrorKind) → (whole_rest r q).refusal ≡ Some e → ⊥
+      (e : MatchErrorKind) → (whole_rest r q).rejection ≡ Some e → ⊥
   not_refused fit none e there = ⊎_elim
       (λ (quits : (b : ℕ) × (x : ℕ) × (e ≡ Quit b x) × IsQuitNear r q.haystack q.start q.end b x).
       let near = quits.3 in
@@ -327,16 +328,16 @@ module _ (r : Reader) (q : Search) where
       (refusal_is e there)
 
   pub quiet_goes : is_supported r.starts_for_each_pattern q.anchored ≡ true → HasNoQuitNear r q.haystack q.start q.end →
-      (whole_rest r q).refusal ≡ None
-  quiet_goes fit none = ⊎_elim (λ (e : (whole_rest r q).refusal ≡ None). e)
-      (λ (e : (x : MatchErrorKind) × ((whole_rest r q).refusal ≡ Some x)). absurd (not_refused fit none e.0 e.1))
-      (option_cases (whole_rest r q).refusal)
+      (whole_rest r q).rejection ≡ None
+  quiet_goes fit none = ⊎_elim (λ (e : (whole_rest r q).rejection ≡ None). e)
+      (λ (e : (x : MatchErrorKind) × ((whole_rest r q).rejection ≡ Some x)). absurd (not_refused fit none e.0 e.1))
+      (option_cases (whole_rest r q).rejection)
 
   -- ---- no pattern
 
   first_dead : start_name r.automaton q.anchored ≡ None → first_value r q.anchored q.haystack (begins_at r q) ≡ dead
   unfolding start_or_dead
-  first_dead none = ap (λ (name : Option ℕ). start_or_dead r (unit_behind r.automaton.reverse q.haystack (begins_at r q)) name) none
+  first_dead none = ap (λ (name : Option ℕ). start_or_dead r (unit_before r.automaton.reverse q.haystack (begins_at r q)) name) none
 
   none_told : start_name r.automaton q.anchored ≡ None → Begins r q → (whole_rest r q).ends ≡ []
   none_told none (begins_done past is) = ap (λ (z : Rest). z.ends) is
@@ -346,6 +347,6 @@ module _ (r : Reader) (q : Search) where
       ∙ rest_dead r q.haystack (q.end - q.start) (begins_at r q) (first_value r q.anchored q.haystack (begins_at r q))
       (ap is_dead (first_dead none)))
 
-  -- no end is told of a pattern that doesn't exist
+  -- no end of a pattern that doesn't exist is reported
   pub rest_of_no_pattern : start_name r.automaton q.anchored ≡ None → (whole_rest r q).ends ≡ []
   rest_of_no_pattern none = none_told none (begins r q)

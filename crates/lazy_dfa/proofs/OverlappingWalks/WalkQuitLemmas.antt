@@ -1,15 +1,15 @@
--- That no quit byte stands among the units that a walk reads, from one place of its span to a later one.
+-- No quit byte is among the units that an overlapping search reads, from one offset of its span to a later one.
 use Rattle.std.proofs.Common.{◌≡◌, ℕ, zero, suc, ◌+◌, ◌-◌, ◌<◌, ◌≤◌, Bool, true, false, List, sym, ap, ◌∙◌, ⊎_elim, arith}
 use Rattle.std.proofs.lemmas.Bool.{cases_lt}
 use Rattle.search_types.specs.Inputs.{Search}
-use Rattle.nfa_core.specs.Ways.{place_of}
+use Rattle.nfa_core.specs.Ways.{offset_of}
 use Rattle.determinize_core.specs.States.{StateValue}
 use Rattle.determinize_core.specs.Steps.{unit_at}
 use Rattle.lazy_dfa.specs.Courses.{AreRead}
-use Rattle.lazy_dfa.specs.PassLaws.{HasNoQuit}
+use Rattle.lazy_dfa.specs.ScanLaws.{HasNoQuit}
 use Rattle.lazy_dfa.specs.Readers.{Reader, is_quit}
-use Rattle.lazy_dfa.specs.Scans.{first_place}
-use Rattle.lazy_dfa.specs.PassPlaces.{last_place, came, left_at, IsWithinSpan}
+use Rattle.lazy_dfa.specs.HalfSearches.{first_offset}
+use Rattle.lazy_dfa.specs.ScanOffsets.{last_offset, came, left_at, IsWithinSpan}
 use Rattle.lazy_dfa.proofs.HalfSearches.FoundLemmas.{place_add}
 use Rattle.nfa_core.proofs.ForCallers.{place_zero}
 
@@ -30,27 +30,27 @@ module _ (r : Reader) (h : List ℕ) where
   no_quit_read i v n read k l = (read k l).quiet
 
   -- some units, and then some more
-  pub no_quit_on : (i j m n : ℕ) → j ≡ place_of r.automaton.reverse i m → HasNoQuit r h i m → HasNoQuit r h j n → HasNoQuit r h i (m + n)
+  pub no_quit_on : (i j m n : ℕ) → j ≡ offset_of r.automaton.reverse i m → HasNoQuit r h i m → HasNoQuit r h j n → HasNoQuit r h i (m + n)
   no_quit_on i j m n e before behind k l = ⊎_elim
       (λ (less : k < m). before k less)
       (λ (past : m ≤ k). later past (k - m) (omega (arith, past)) (omega (arith, l, past)))
       (cases_lt k m)
     where
-      later : m ≤ k → (x : ℕ) → m + x ≡ k → x < n → IsQuiet (place_of r.automaton.reverse i k)
+      later : m ≤ k → (x : ℕ) → m + x ≡ k → x < n → IsQuiet (offset_of r.automaton.reverse i k)
       later past x sum less =
-          ap (λ (y : ℕ). is_quit r.quits (unit_at r.automaton.reverse h (place_of r.automaton.reverse i y))) (sym sum)
+          ap (λ (y : ℕ). is_quit r.quits (unit_at r.automaton.reverse h (offset_of r.automaton.reverse i y))) (sym sum)
           ∙ (ap (λ (y : ℕ). is_quit r.quits (unit_at r.automaton.reverse h y)) (sym (place_add r.automaton.reverse i m x))
-          ∙ (ap (λ (y : ℕ). is_quit r.quits (unit_at r.automaton.reverse h (place_of r.automaton.reverse y x))) (sym e)
+          ∙ (ap (λ (y : ℕ). is_quit r.quits (unit_at r.automaton.reverse h (offset_of r.automaton.reverse y x))) (sym e)
           ∙ behind x less))
 
--- ---- places of a span
+-- ---- offsets of a span
 
-pub came_first : (is_reverse : Bool) (q : Search) → came is_reverse q (first_place is_reverse q.start q.end) ≡ 0
+pub came_first : (is_reverse : Bool) (q : Search) → came is_reverse q (first_offset is_reverse q.start q.end) ≡ 0
 came_first false q = omega arith
 came_first true q = omega arith
 
-pub came_next : (is_reverse : Bool) (q : Search) (at : ℕ) → IsWithinSpan q at → (at ≡ last_place is_reverse q → ⊥) →
-    came is_reverse q (place_of is_reverse at 1) ≡ suc (came is_reverse q at)
+pub came_next : (is_reverse : Bool) (q : Search) (at : ℕ) → IsWithinSpan q at → (at ≡ last_offset is_reverse q → ⊥) →
+    came is_reverse q (offset_of is_reverse at 1) ≡ suc (came is_reverse q at)
 came_next false q at w n = omega (arith, w.0, w.1, n)
 came_next true q at w n = omega (arith, w.0, w.1, n)
 

@@ -1,4 +1,4 @@
--- How many states a walk over a whole span may still make between two calls, and that its calls give up where a pass would.
+-- How many states an overlapping search over a whole span may still make between two calls. Its calls give up where a scan would.
 use Rattle.std.proofs.Common.{◌≡◌, ◌⊎◌, ℕ, zero, suc, ◌+◌, ◌-◌, ◌<◌, ◌≤◌, ◌==◌, ◌&&◌, ◌||◌, Bool, true, false, not, List, [], ◌∷◌, ◌++◌}
 use Rattle.std.proofs.Common.{length, map, drop, Option, Some, None, ◌≢◌, refl, sym, ap, ◌∙◌, inl, inr, ⊎_elim, subst, arith, length-append}
 use Rattle.std.proofs.Common.{drop_of_length-le, if◌then◌else◌, true≢false, nat_lt, nat_le}
@@ -10,37 +10,38 @@ use Rattle.search_types.specs.Inputs.{Search}
 use Rattle.search_types.specs.Modes.{is_supported}
 use Rattle.search_types.specs.Places.{counts}
 use Rattle.nfa_core.specs.Places.{first}
-use Rattle.nfa_core.specs.Ways.{place_of}
+use Rattle.nfa_core.specs.Ways.{offset_of}
 use Rattle.determinize_core.specs.States.{StateValue}
-use Rattle.determinize_core.specs.Steps.{unit_behind}
-use Rattle.lazy_dfa.specs.Caches.{CacheValue, lacks_room}
-use Rattle.lazy_dfa.specs.Courses.{state_behind}
+use Rattle.determinize_core.specs.Steps.{unit_before}
+use Rattle.lazy_dfa.specs.Caches.{CacheValue, has_no_room}
+use Rattle.lazy_dfa.specs.Courses.{state_after}
 use Rattle.lazy_dfa.specs.declared.overlapping_state.Stop.{Stop}
-use Rattle.lazy_dfa.specs.declared.overlapping_state.Walk.{Walk}
-use Rattle.lazy_dfa.specs.declared.overlapping_state.Walk.TheVariants.{Fresh, Ended, Failed, Stopped}
+use Rattle.lazy_dfa.specs.declared.overlapping_state.OverlappingPosition.{OverlappingPosition}
+use Rattle.lazy_dfa.specs.declared.overlapping_state.OverlappingPosition.TheVariants.{Fresh, Ended, Failed, Stopped}
 use Rattle.lazy_dfa.specs.Dfas.{Dfa, reader}
-use Rattle.lazy_dfa.specs.MadePasses.{span_len}
-use Rattle.lazy_dfa.specs.Passes.{index_at, index_behind, next_place, first_value}
-use Rattle.lazy_dfa.specs.PassLaws.{units_read, pass_len, HasNoQuit}
+use Rattle.lazy_dfa.specs.MadeScans.{span_len}
+use Rattle.lazy_dfa.specs.Scans.{index_at, index_before_offset, next_offset, first_value}
+use Rattle.lazy_dfa.specs.ScanLaws.{units_read, scan_len_of, HasNoQuit}
 use Rattle.lazy_dfa.specs.Readers.{Reader}
-use Rattle.lazy_dfa.specs.Scans.{first_place}
-use Rattle.lazy_dfa.specs.ScanLaws.{begins_at}
-use Rattle.lazy_dfa.specs.SearchAnswers.{give_up_place, running_at, GivesUpIn, at_start, at_unit}
-use Rattle.lazy_dfa.specs.PassPlaces.{came, left_at, last_place, gave_up_at, IsWithinSpan, pass_start}
-use Rattle.lazy_dfa.specs.StartCalls.{start_refusal}
-use Rattle.lazy_dfa.specs.Walks.{Rest, nothing_left, refused, unless_quit_at, where_supported, end_of, listed, rest_from, whole_rest}
-use Rattle.lazy_dfa.specs.Walks.{value_past, rest_past, rest_of}
-use Rattle.lazy_dfa.specs.WalkAnswers.{units_met, lists_more, reads_on, call_place, units_there, call_units, call_made, GivesUpOn}
-use Rattle.lazy_dfa.specs.WalkAnswers.{at_start as on_start, at_unit as on_unit, which_made, StartsQuietly, HasReadQuietly}
+use Rattle.lazy_dfa.specs.HalfSearches.{first_offset}
+use Rattle.lazy_dfa.specs.HalfSearchLaws.{begins_at}
+use Rattle.lazy_dfa.specs.SearchAnswers.{give_up_offset, running_at, GivesUpIn, at_start, at_unit}
+use Rattle.lazy_dfa.specs.ScanOffsets.{came, left_at, last_offset, gave_up_at, IsWithinSpan, scan_start}
+use Rattle.lazy_dfa.specs.StartCalls.{rejected_start}
+use Rattle.lazy_dfa.specs.Overlapping.{Rest, nothing_left, refused, unless_quit_at, where_supported, end_of, listed, rest_from, whole_rest}
+use Rattle.lazy_dfa.specs.Overlapping.{value_past, rest_past, rest_of}
+use Rattle.lazy_dfa.specs.OverlappingAnswers.{units_met, lists_more, reads_on, call_offset, units_there, call_units, call_made, GivesUpOn}
+use Rattle.lazy_dfa.specs.OverlappingAnswers.{at_start as on_start, at_unit as on_unit, which_made, StartsQuietly, HasReadQuietly}
 use Rattle.lazy_dfa.proofs.OverlappingWalks.WalkQuitLemmas.{no_quit_on}
 use Rattle.lazy_dfa.proofs.HalfSearches.TurnLemmas.{place_next}
-use Rattle.lazy_dfa.proofs.OverlappingWalks.WhichUnitLemmas.{told_at, first_met, read_behind, read_few, met_is_read, listed_place, no_first}
+use Rattle.lazy_dfa.proofs.OverlappingWalks.WhichUnitLemmas.{progress_reached, first_met, read_behind, read_few, met_is_read, listed_place}
+use Rattle.lazy_dfa.proofs.OverlappingWalks.WhichUnitLemmas.{no_first}
 use Rattle.lazy_dfa.proofs.OverlappingWalks.WhichUnitLemmas.{no_head}
 use Rattle.nfa_core.proofs.ForCallers.{place_zero}
 use Rattle.lazy_dfa.proofs.HalfSearches.FoundLemmas.{place_add}
 use Rattle.lazy_dfa.proofs.OverlappingWalks.WalkPlaceLemmas.{place_came}
 
--- ---- places of a span
+-- ---- offsets of a span
 
 pub left_and_came : (is_reverse : Bool) (q : Search) (at : ℕ) → IsWithinSpan q at →
     suc (span_len q) ≡ left_at is_reverse q at + suc (came is_reverse q at)
@@ -48,49 +49,49 @@ left_and_came false q at within = let low = within.0 in let high = within.1 in o
 left_and_came true q at within = let low = within.0 in let high = within.1 in omega (arith, low, high)
 
 came_of : (is_reverse : Bool) (q : Search) (k : ℕ) → q.start ≤ q.end → k ≤ span_len q →
-    came is_reverse q (place_of is_reverse (first_place is_reverse q.start q.end) k) ≡ k
+    came is_reverse q (offset_of is_reverse (first_offset is_reverse q.start q.end) k) ≡ k
 came_of false q k fits le = omega (arith, fits, le)
 came_of true q k fits le = omega (arith, fits, le)
 
 one_place : (is_reverse : Bool) (q : Search) (k l : ℕ) → q.start ≤ q.end → k ≤ span_len q → l ≤ span_len q →
-    place_of is_reverse (first_place is_reverse q.start q.end) k ≡ place_of is_reverse (first_place is_reverse q.start q.end) l → k ≡ l
+    offset_of is_reverse (first_offset is_reverse q.start q.end) k ≡ offset_of is_reverse (first_offset is_reverse q.start q.end) l → k ≡ l
 one_place is_reverse q k l fits small_k small_l e = sym (came_of is_reverse q k fits small_k) ∙ ap (came is_reverse q) e
     ∙ came_of is_reverse q l fits small_l
 
 is_last : (is_reverse : Bool) (q : Search) (k : ℕ) → q.start ≤ q.end → k ≤ span_len q →
-    place_of is_reverse (first_place is_reverse q.start q.end) k ≡ last_place is_reverse q → k ≡ span_len q
+    offset_of is_reverse (first_offset is_reverse q.start q.end) k ≡ last_offset is_reverse q → k ≡ span_len q
 is_last false q k fits le e = omega (arith, fits, le, e)
 is_last true q k fits le e = omega (arith, fits, le, e)
 
 at_last : (is_reverse : Bool) (q : Search) (k : ℕ) → q.start ≤ q.end → k ≡ span_len q →
-    place_of is_reverse (first_place is_reverse q.start q.end) k ≡ last_place is_reverse q
+    offset_of is_reverse (first_offset is_reverse q.start q.end) k ≡ last_offset is_reverse q
 at_last false q k fits e = omega (arith, fits, e)
 at_last true q k fits e = omega (arith, fits, e)
 
--- a call that gives up at a unit gives up there as a pass does
+-- a call that gives up at a unit gives up there as a scan does
 module _ (is_reverse : Bool) (q : Search) (k : ℕ) (fits : q.start ≤ q.end) (le : k ≤ span_len q) where
   abbrev there : ℕ
-  there = place_of is_reverse (first_place is_reverse q.start q.end) k
+  there = offset_of is_reverse (first_offset is_reverse q.start q.end) k
 
-  pub same_give_up : gave_up_at is_reverse q there ≡ give_up_place is_reverse (span_len q) (first_place is_reverse q.start q.end) k
+  pub same_give_up : gave_up_at is_reverse q there ≡ give_up_offset is_reverse (span_len q) (first_offset is_reverse q.start q.end) k
   same_give_up = ⊎_elim
       (λ (less : k < span_len q).
       ap (λ (b : Bool). if b then there else index_at is_reverse there) (not_last less)
       ∙ sym (ap (λ (b : Bool). if b then index_at is_reverse there else there) (lt-ltb k (span_len q) less)))
       (λ (past : span_len q ≤ k).
       ap (λ (b : Bool). if b then there else index_at is_reverse there)
-      (eq-eqb there (last_place is_reverse q) (at_last is_reverse q k fits (omega (arith, le, past))))
+      (eq-eqb there (last_offset is_reverse q) (at_last is_reverse q k fits (omega (arith, le, past))))
       ∙ sym (ap (λ (b : Bool). if b then index_at is_reverse there else there) (le-ltb k (span_len q) past)))
       (cases_lt k (span_len q))
     where
-      not_last : k < span_len q → (there == last_place is_reverse q) ≡ false
+      not_last : k < span_len q → (there == last_offset is_reverse q) ≡ false
       not_last less = ⊎_elim
-          (λ (e : (there == last_place is_reverse q) ≡ true).
-          let same = is_last is_reverse q k fits le (eqb-true there (last_place is_reverse q) e) in absurd (omega (arith, less, same)))
-          (λ (e : (there == last_place is_reverse q) ≡ false). e)
-          (cases_Bool (there == last_place is_reverse q))
+          (λ (e : (there == last_offset is_reverse q) ≡ true).
+          let same = is_last is_reverse q k fits le (eqb-true there (last_offset is_reverse q) e) in absurd (omega (arith, less, same)))
+          (λ (e : (there == last_offset is_reverse q) ≡ false). e)
+          (cases_Bool (there == last_offset is_reverse q))
 
--- ---- a walk that has begun
+-- ---- an overlapping search that has begun
 
 module _ (r : Reader) (q : Search) where
   abbrev is_reverse : Bool
@@ -103,10 +104,10 @@ module _ (r : Reader) (q : Search) where
   start = first_value r q.anchored q.haystack begins
 
   abbrev state : ℕ → StateValue
-  state k = state_behind r q.haystack begins start k
+  state k = state_after r q.haystack begins start k
 
   abbrev place : ℕ → ℕ
-  place k = place_of is_reverse begins k
+  place k = offset_of is_reverse begins k
 
   -- the states follow each other
   abbrev steps : (k : ℕ) → state (suc k) ≡ state (suc k)
@@ -124,7 +125,7 @@ module _ (r : Reader) (q : Search) where
   abbrev units : ℕ
   units = suc (span_len q)
 
-  -- it reads its span from the first place on
+  -- it reads its span from the first offset on
   pub record HasBegun : Type 0 where
     pub fits : nat_le q.start q.end ≡ true
     pub supported : is_supported r.starts_for_each_pattern q.anchored ≡ true
@@ -151,36 +152,36 @@ module _ (r : Reader) (q : Search) where
   by_span true all some = (refl, refl)
   by_span false all some = absurd (omega (arith, some))
 
-  -- a walk that has an end to tell has begun
+  -- an overlapping search that has an end to report has begun
   pub has_begun : 0 < length (whole_rest r q).ends → HasBegun
   has_begun some =
       let on = rest_from r q.haystack units begins start in
       let moded = where_supported (is_supported r.starts_for_each_pattern q.anchored) q.anchored on in
-      let read = unless_quit_at r.quits (unit_behind is_reverse q.haystack begins) (index_behind is_reverse begins) moded in
+      let read = unless_quit_at r.quits (unit_before is_reverse q.haystack begins) (index_before_offset is_reverse begins) moded in
       let spanned = by_span (nat_le q.start q.end) read some in
       let read_some : IsSome read = subst IsSome spanned.1 some in
-      let quiet = by_unit (unit_behind is_reverse q.haystack begins) (index_behind is_reverse begins) moded read_some in
+      let quiet = by_unit (unit_before is_reverse q.haystack begins) (index_before_offset is_reverse begins) moded read_some in
       let mode = by_mode (is_supported r.starts_for_each_pattern q.anchored) on (subst IsSome quiet read_some) in
       record { fits = spanned.0; supported = mode.0; whole = spanned.1 ∙ quiet ∙ mode.1 }
 
 -- ---- how many states are made
 
--- how many a walk may still make
-abbrev pub left_to_make : Reader → Search → Walk → ℕ
+-- how many states an overlapping search may still make
+abbrev pub left_to_make : Reader → Search → OverlappingPosition → ℕ
 left_to_make r q Fresh = which_made r q
 left_to_make r q Ended = 0
 left_to_make r q (Failed e) = 0
-left_to_make r q (Stopped stop) = units_read r false q.haystack (left_at r.automaton.reverse q stop.at) (next_place r stop.at)
+left_to_make r q (Stopped stop) = units_read r false q.haystack (left_at r.automaton.reverse q stop.at) (next_offset r stop.at)
     (value_past r q stop.at)
 
-abbrev pub IsWithinWalk : Search → Walk → Type 0
+abbrev pub IsWithinWalk : Search → OverlappingPosition → Type 0
 IsWithinWalk q Fresh = ⊤
 IsWithinWalk q Ended = ⊤
 IsWithinWalk q (Failed e) = ⊤
 IsWithinWalk q (Stopped stop) = IsWithinSpan q stop.at
 
--- a walk that stopped has told an end
-abbrev pub IsOn : Reader → Search → Walk → Type 0
+-- an overlapping search that stopped has reported an end
+abbrev pub IsOn : Reader → Search → OverlappingPosition → Type 0
 IsOn r q w = (w ≡ Fresh) ⊎ (0 < length (whole_rest r q).ends)
 
 stopped_is_on : (r : Reader) (q : Search) (stop : Stop) → IsOn r q (Stopped stop) → 0 < length (whole_rest r q).ends
@@ -205,7 +206,7 @@ made_at_first true true met is_b is_s = omega arith
 made_at_first true false met is_b is_s = absurd (true≢false (sym is_s))
 made_at_first false s met is_b is_s = absurd (true≢false (sym is_b))
 
--- a walk comes so many units further at least, and what is read from there is read from here
+-- an overlapping search gets at least this many units further, and what is read from there is also read from here
 advance : (met here later gap : ℕ) → met ≤ gap → met ≤ here → ((u : ℕ) → u < later → gap + u < here) → met + later ≤ here
 advance met here zero gap le few on = omega (arith, few)
 advance met here (suc later) gap le few on = let last = on later (omega arith) in omega (arith, le, last)
@@ -231,8 +232,8 @@ module _ (r : Reader) (q : Search) where
     abbrev more : ℕ
     more = left_at r.automaton.reverse q stop.at
 
-    next_is : next_place r stop.at ≡ place r q behind
-    next_is = ap (next_place r) (sym (place_came r.automaton.reverse q stop.at within))
+    next_is : next_offset r stop.at ≡ place r q behind
+    next_is = ap (next_offset r) (sym (place_came r.automaton.reverse q stop.at within))
         ∙ place_next r.automaton.reverse (begins r q) (came r.automaton.reverse q stop.at)
 
     past_is : rest_past r q stop.at ≡ rest r q more behind
@@ -252,8 +253,8 @@ module _ (r : Reader) (q : Search) where
         let le = met_is_read r q.haystack (begins r q) (state r q) (steps r q) more behind in
         let a = met_behind in let b = left_behind in omega (arith, le, a, b)
 
-  -- a call makes no more than is left
-  pub few_made : (w : Walk) → IsWithinWalk q w → call_made r q w ≤ left_to_make r q w
+  -- a call makes at most what is left to make
+  pub few_made : (w : OverlappingPosition) → IsWithinWalk q w → call_made r q w ≤ left_to_make r q w
   few_made Fresh within =
       few_at_first (nat_le q.start q.end) (is_supported r.starts_for_each_pattern q.anchored)
       (units_met r q.haystack (units r q) (begins r q) (start r q))
@@ -263,7 +264,7 @@ module _ (r : Reader) (q : Search) where
   few_made (Stopped stop) within = few_then (reads_on r q (Stopped stop)) (units_there r q (Stopped stop))
       (left_to_make r q (Stopped stop)) (met_then_is_read stop within)
 
--- a stop with an end to list lists more
+-- if a stop has an end to list, it lists more
 more_if : (b : Bool) (i index : ℕ) (ms : List ℕ) (y : ℕ × ℕ) (ys : List (ℕ × ℕ)) →
     (if b then map (end_of i) (drop index ms) else []) ≡ y ∷ ys →
     (b && nat_lt index (length ms)) ≡ true
@@ -274,7 +275,7 @@ more_if true i index ms y ys e = ⊎_elim
     absurd (no_head y ys (sym (ap (λ (l : List ℕ). map (end_of i) l) (drop_of_length-le ms (ltb-false index (length ms) f))) ∙ e)))
     (cases_Bool (nat_lt index (length ms)))
 
--- the whole walk tells this end behind those that were told
+-- the whole overlapping search reports this end after those that were reported
 abbrev IsNext : Reader → Search → List (ℕ × ℕ) → (ℕ × ℕ) → List (ℕ × ℕ) → Type 0
 IsNext r q done x left = (whole_rest r q).ends ≡ done ++ x ∷ left
 
@@ -293,20 +294,20 @@ module _ (r : Reader) (q : Search) (done left : List (ℕ × ℕ)) (x : ℕ × �
   whole_is = begun.whole
       ∙ ap (λ (i : ℕ). rest_from r q.haystack (units r q) i (start r q)) (sym (place_zero r.automaton.reverse (begins r q)))
 
-  -- the unit at which the end is told
+  -- the unit at which the end is reported
   abbrev IsUnitOf : ℕ → Type 0
   IsUnitOf u = (u ≤ span_len q) × (x.0 ≡ place r q u)
 
   same_unit : (u v : ℕ) → IsUnitOf u → IsUnitOf v → u ≡ v
   same_unit u v a b = one_place r.automaton.reverse q u v fits a.0 b.0 (sym a.1 ∙ b.1)
 
-  -- a walk with only the ends behind it left stopped there, or later
-  abbrev IsBehind : Stop → ℕ → Type 0
-  IsBehind stop u = u ≤ came r.automaton.reverse q stop.at
+  -- an overlapping search that has only the ends after this one left stopped there, or later
+  abbrev IsAfterByte : Stop → ℕ → Type 0
+  IsAfterByte stop u = u ≤ came r.automaton.reverse q stop.at
 
-  not_before : (stop : Stop) → IsWithinSpan q stop.at → (rest_of r q (Stopped stop)).ends ≡ left → (u : ℕ) × IsUnitOf u × IsBehind stop u
+  not_before : (stop : Stop) → IsWithinSpan q stop.at → (rest_of r q (Stopped stop)).ends ≡ left → (u : ℕ) × IsUnitOf u × IsAfterByte stop u
   not_before stop within same =
-      let t = told_at r q.haystack (begins r q) (state r q) (steps r q) (units r q) 0 done left x
+      let t = progress_reached r q.haystack (begins r q) (state r q) (steps r q) (units r q) 0 done left x
       (sym (ap (λ (w : Rest). w.ends) whole_is) ∙ next) in
       let less = t.1 in
       let at : 0 + t.0 ≡ t.0 = omega arith in
@@ -327,7 +328,7 @@ module _ (r : Reader) (q : Search) (done left : List (ℕ × ℕ)) (x : ℕ × �
             (cases_lt (came r.automaton.reverse q stop.at) t.0),
       )
 
-  -- a walk with only these left hasn't to begin
+  -- an overlapping search that has only these ends left has begun
   not_fresh : (whole_rest r q).ends ≡ left → ⊥
   not_fresh same =
       let sum : length (whole_rest r q).ends ≡ length done + suc (length left) = ap length next ∙ length-append done (x ∷ left) in
@@ -344,11 +345,11 @@ module _ (r : Reader) (q : Search) (done left : List (ℕ × ℕ)) (x : ℕ × �
 
   whole_made : which_made r q ≡ suc (read r q (units r q) 0)
   whole_made =
-      ap (λ (b : Bool). if b then suc (pass_len r q.anchored false q.haystack (span_len q) (begins r q)) else 0) begun.fits
+      ap (λ (b : Bool). if b then suc (scan_len_of r q.anchored false q.haystack (span_len q) (begins r q)) else 0) begun.fits
       ∙ ap (λ (b : Bool). suc (if b then units_read r false q.haystack (units r q) (begins r q) (start r q) else 0)) begun.supported
       ∙ ap suc (read_at_first r q)
 
-  -- a stop at least so many units behind another place
+  -- a stop that is at least this many units after another offset
   module _ (stop : Stop) (within : IsWithinSpan q stop.at) (n k met : ℕ) (all : units r q ≡ n + k)
       (far : k + met ≤ suc (came r.automaton.reverse q stop.at)) (few : met ≤ read r q n k) where
     abbrev gap : ℕ
@@ -363,7 +364,7 @@ module _ (r : Reader) (q : Search) (done left : List (ℕ × ℕ)) (x : ℕ × �
         (omega (arith, sum, all, far)) (omega (arith, far)) less) in
         omega (arith, le, there)
 
-  -- the first call comes so far
+  -- the first call gets this far
   fresh_goes : (stop : Stop) → IsWithinSpan q stop.at → first (whole_rest r q).ends ≡ Some x → (rest_of r q (Stopped stop)).ends ≡ left →
       call_made r q Fresh + left_to_make r q (Stopped stop) ≤ left_to_make r q Fresh
   fresh_goes stop within e same =
@@ -381,7 +382,7 @@ module _ (r : Reader) (q : Search) (done left : List (ℕ × ℕ)) (x : ℕ × �
       let all = whole_made in
       omega (arith, le, made, all)
 
-  -- and each later one
+  -- each later call gets this far
   module _ (here : Stop) (near : IsWithinSpan q here.at) (stop : Stop) (within : IsWithinSpan q stop.at)
       (same : (rest_of r q (Stopped stop)).ends ≡ left) where
     abbrev listed_here : List (ℕ × ℕ)
@@ -418,8 +419,8 @@ module _ (r : Reader) (q : Search) (done left : List (ℕ × ℕ)) (x : ℕ × �
         (omega (arith, le, units_there_is, left_there_is))
 
     -- it lists more, so the call reads nothing
-    tells : (y : ℕ × ℕ) (ys : List (ℕ × ℕ)) → listed_here ≡ y ∷ ys → first (rest_of r q (Stopped here)).ends ≡ Some x → Goes
-    tells y ys is e =
+    reports : (y : ℕ × ℕ) (ys : List (ℕ × ℕ)) → listed_here ≡ y ∷ ys → first (rest_of r q (Stopped here)).ends ≡ Some x → Goes
+    reports y ys is e =
         let head : Some y ≡ Some x = sym (ap (λ (l : List (ℕ × ℕ)). first (l ++ (rest_past r q here.at).ends)) is) ∙ e in
         let same_end : y ≡ x = cc in
         let place_is : x.0 ≡ here.at = sym (ap (λ (z : ℕ × ℕ). z.0) same_end)
@@ -433,32 +434,33 @@ module _ (r : Reader) (q : Search) (done left : List (ℕ × ℕ)) (x : ℕ × �
         let left_there_is = left_behind r q here near in
         let lists : lists_more r q here ≡ true =
         more_if (counts r.between_characters q.haystack here.at) here.at here.index (value_past r q here.at).matches y ys is in
-        let still : reads_on r q (Stopped here) ≡ false = ap (λ (b : Bool). not (b || here.at == last_place r.automaton.reverse q)) lists in
+        let still : reads_on r q (Stopped here) ≡ false = ap (λ (b : Bool). not (b || here.at == last_offset r.automaton.reverse q)) lists
+        in
         let none : call_made r q (Stopped here) ≡ 0 + 0 = ap (λ (b : Bool). 0 + (if b then units_there r q (Stopped here) else 0)) still in
         omega (arith, le, left_there_is, none)
 
     by_list : (l : List (ℕ × ℕ)) → listed_here ≡ l → first (rest_of r q (Stopped here)).ends ≡ Some x → Goes
     by_list [] is e = reads is e
-    by_list (y ∷ ys) is e = tells y ys is e
+    by_list (y ∷ ys) is e = reports y ys is e
 
     stop_goes : first (rest_of r q (Stopped here)).ends ≡ Some x → Goes
     stop_goes e = by_list listed_here refl e
 
-  abbrev Spends : Walk → Walk → Type 0
+  abbrev Spends : OverlappingPosition → OverlappingPosition → Type 0
   Spends w new = call_made r q w + left_to_make r q new ≤ left_to_make r q w
 
-  nothing_more : (w : Walk) → IsWithinWalk q w → call_made r q w + 0 ≤ left_to_make r q w
+  nothing_more : (w : OverlappingPosition) → IsWithinWalk q w → call_made r q w + 0 ≤ left_to_make r q w
   nothing_more w within = let few = few_made r q w within in omega (arith, few)
 
-  stop_spends : (w : Walk) (stop : Stop) → IsWithinWalk q w → IsWithinSpan q stop.at → first (rest_of r q w).ends ≡ Some x →
+  stop_spends : (w : OverlappingPosition) (stop : Stop) → IsWithinWalk q w → IsWithinSpan q stop.at → first (rest_of r q w).ends ≡ Some x →
       (rest_of r q (Stopped stop)).ends ≡ left → Spends w (Stopped stop)
   stop_spends Fresh stop near within e same = fresh_goes stop within e same
   stop_spends Ended stop near within e same = absurd (no_first x e)
   stop_spends (Failed kind) stop near within e same = absurd (no_first x e)
   stop_spends (Stopped here) stop near within e same = stop_goes here near stop within same e
 
-  -- what a call makes and what is then left to make was left before
-  pub spends : (w new : Walk) → IsWithinWalk q w → IsWithinWalk q new → first (rest_of r q w).ends ≡ Some x →
+  -- what a call makes, together with what is then left to make, was left to make before
+  pub spends : (w new : OverlappingPosition) → IsWithinWalk q w → IsWithinWalk q new → first (rest_of r q w).ends ≡ Some x →
       (rest_of r q new).ends ≡ left → Spends w new
   spends w Fresh near within e same = absurd (not_fresh same)
   spends w Ended near within e same = nothing_more w near
@@ -485,24 +487,24 @@ module _ (d : Dfa) (v : CacheValue) (q : Search) (x : ℕ) where
 
   abbrev GivesUpThere : ℕ → Type 0
   GivesUpThere at =
-      (x ≡ gave_up_at r.automaton.reverse q at) × (lacks_room d v (value_past r q at) ≡ true) ×
-      (at ≢ last_place r.automaton.reverse q → running_at v.progress ≡ Some x)
+      (x ≡ gave_up_at r.automaton.reverse q at) × (has_no_room d v (value_past r q at) ≡ true) ×
+      (at ≢ last_offset r.automaton.reverse q → running_at v.progress ≡ Some x)
 
   gives_up_at : (m : ℕ) → q.start ≤ q.end → is_supported r.starts_for_each_pattern q.anchored ≡ true → m < read r q (units r q) 0 →
       StartsQuietly d q (suc m) → GivesUpThere (place r q m) → GivesUp
   gives_up_at m fits supported less quiet there =
       let few = read_few r q.haystack (begins r q) (state r q) (steps r q) (units r q) 0 in
       let small : m ≤ span_len q = omega (arith, less, few) in
-      let all : pass_len r q.anchored false q.haystack (span_len q) (begins r q) ≡ read r q (units r q) 0 =
+      let all : scan_len_of r q.anchored false q.haystack (span_len q) (begins r q) ≡ read r q (units r q) 0 =
       ap (λ (b : Bool). if b then units_read r false q.haystack (units r q) (begins r q) (start r q) else 0) supported
       ∙ read_at_first r q in
       at_unit m (omega (arith, less, all)) (there.0 ∙ same_give_up r.automaton.reverse q m fits small)
-      (sym (ap (λ (k : ℕ). lacks_room d v (state r q (suc k))) (came_of r.automaton.reverse q m fits small)) ∙ there.1)
+      (sym (ap (λ (k : ℕ). has_no_room d v (state r q (suc k))) (came_of r.automaton.reverse q m fits small)) ∙ there.1)
       (λ before. there.2 (λ last. let end = is_last r.automaton.reverse q m fits small last in absurd (omega (arith, before, end)))) quiet.0
       quiet.1
 
   at_first_units : (k : ℕ) → k < call_units r q Fresh → StartsQuietly d q (suc k) →
-      GivesUpThere (place_of r.automaton.reverse (call_place r q Fresh) k) → GivesUp
+      GivesUpThere (offset_of r.automaton.reverse (call_offset r q Fresh) k) → GivesUp
   at_first_units k less quiet there =
       let on = whole_units (nat_le q.start q.end) (is_supported r.starts_for_each_pattern q.anchored) k
       (units_met r q.haystack (units r q) (begins r q) (start r q)) less in
@@ -512,8 +514,8 @@ module _ (d : Dfa) (v : CacheValue) (q : Search) (x : ℕ) where
       gives_up_at k (leb-true q.start q.end on.0) on.1 (omega (arith, here, few, all)) quiet there
 
   at_stop_units : (stop : Stop) (k : ℕ) → IsOn r q (Stopped stop) → IsWithinSpan q stop.at → k < call_units r q (Stopped stop) →
-      HasReadQuietly d q (Stopped stop) → HasNoQuit r q.haystack (call_place r q (Stopped stop)) (suc k) →
-      GivesUpThere (place_of r.automaton.reverse (call_place r q (Stopped stop)) k) → GivesUp
+      HasReadQuietly d q (Stopped stop) → HasNoQuit r q.haystack (call_offset r q (Stopped stop)) (suc k) →
+      GivesUpThere (offset_of r.automaton.reverse (call_offset r q (Stopped stop)) k) → GivesUp
   at_stop_units stop k on within less quiet quits there =
       let begun = has_begun r q (stopped_is_on r q stop on) in
       let here = then_units (reads_on r q (Stopped stop)) k (units_there r q (Stopped stop)) less in
@@ -522,12 +524,12 @@ module _ (d : Dfa) (v : CacheValue) (q : Search) (x : ℕ) where
       let later = read_behind r q.haystack (begins r q) (state r q) (steps r q) (behind r q stop within) (more r q stop within)
       (units r q) 0 (behind r q stop within) k
       (all_units r q stop within) (omega arith) (omega (arith, here, few, left)) in
-      let place_is : place_of r.automaton.reverse (call_place r q (Stopped stop)) k ≡ place r q (behind r q stop within + k) =
-      ap (λ (i : ℕ). place_of r.automaton.reverse i k) (next_is r q stop within)
+      let place_is : offset_of r.automaton.reverse (call_offset r q (Stopped stop)) k ≡ place r q (behind r q stop within + k) =
+      ap (λ (i : ℕ). offset_of r.automaton.reverse i k) (next_is r q stop within)
       ∙ place_add r.automaton.reverse (begins r q) (behind r q stop within) k in
       gives_up_at (behind r q stop within + k) (leb-true q.start q.end begun.fits) begun.supported later (
         quiet.0,
-        quiet_later (no_quit_on r q.haystack (begins r q) (next_place r stop.at) (behind r q stop within) (suc k)
+        quiet_later (no_quit_on r q.haystack (begins r q) (next_offset r stop.at) (behind r q stop within) (suc k)
             (next_is r q stop within) quiet.1 quits),
       ) (subst GivesUpThere place_is there)
     where
@@ -535,16 +537,16 @@ module _ (d : Dfa) (v : CacheValue) (q : Search) (x : ℕ) where
           HasNoQuit r q.haystack (begins r q) (suc (suc (came r.automaton.reverse q stop.at) + k))
       quiet_later all m less = all m (omega (arith, less))
 
-  by_walk : (w : Walk) (k : ℕ) → IsOn r q w → IsWithinWalk q w → HasReadQuietly d q w → k < call_units r q w →
-      (w ≡ Fresh → start_refusal d (pass_start d q) ≡ None) → HasNoQuit r q.haystack (call_place r q w) (suc k) →
-      GivesUpThere (place_of r.automaton.reverse (call_place r q w) k) → GivesUp
+  by_walk : (w : OverlappingPosition) (k : ℕ) → IsOn r q w → IsWithinWalk q w → HasReadQuietly d q w → k < call_units r q w →
+      (w ≡ Fresh → rejected_start d (scan_start d q) ≡ None) → HasNoQuit r q.haystack (call_offset r q w) (suc k) →
+      GivesUpThere (offset_of r.automaton.reverse (call_offset r q w) k) → GivesUp
   by_walk Fresh k on within quiet less free quits there = at_first_units k less (free refl, quits) there
   by_walk Ended k on within quiet less free quits there = absurd (omega (arith, less))
   by_walk (Failed e) k on within quiet less free quits there = absurd (omega (arith, less))
   by_walk (Stopped stop) k on within quiet less free quits there = at_stop_units stop k on within less quiet quits there
 
-  -- a call that gives up does so as a pass over the whole span would
-  pub gives_up : (w : Walk) → IsOn r q w → IsWithinWalk q w → HasReadQuietly d q w → GivesUpOn d v q w x → GivesUp
+  -- if a call gives up, it does so as a scan over the whole span would
+  pub gives_up : (w : OverlappingPosition) → IsOn r q w → IsWithinWalk q w → HasReadQuietly d q w → GivesUpOn d v q w x → GivesUp
   gives_up w on within quiet (on_start fresh place lacks free) = at_start place lacks free
   gives_up w on within quiet (on_unit k less place lacks runs free quits) =
       by_walk w k on within quiet less free quits (place, lacks, runs)

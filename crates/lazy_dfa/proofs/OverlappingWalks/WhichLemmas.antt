@@ -8,9 +8,9 @@ use Rattle.search_core.specs.ByteSets.{has}
 use Rattle.nfa_core.specs.Places.{same_pair}
 use Rattle.nfa_core.specs.Walks.{Has}
 use Rattle.nfa_core.proofs.ForCallers.{none_in, has_cons, has_same, has_later, pairs_equal}
-use Rattle.lazy_dfa.specs.WalkAnswers.{Which, with_pattern, is_full, with_ends, which_from}
+use Rattle.lazy_dfa.specs.OverlappingAnswers.{Which, with_pattern, is_full, with_ends, which_from}
 
--- ---- a pattern more
+-- ---- one more pattern
 
 module _ (s : List Bool) (p : ℕ) where
   abbrev chosen : Bool → List Bool
@@ -40,7 +40,7 @@ module _ (s : List Bool) (p : ℕ) where
   no_room true e l h = inr (l refl)
   no_room false e l h = inl h
 
-  -- what has been a member is one, and else it is the pattern
+  -- a pattern that was a member still is one, and any new member is the added pattern
   pub members_kept : (q : ℕ) → has s q ≡ true → has more q ≡ true
   members_kept q h = kept (nat_lt p (length s)) (λ e. (Decides-ltb p (length s)).0 e)
     where
@@ -63,7 +63,7 @@ module _ (s : List Bool) (p : ℕ) where
       (λ (n : q ≢ p). inl (sym (others_kept q n) ∙ h))
       (cases_eq q p)
 
--- a full set has all that it has room for
+-- a full set has all patterns that it has room for
 pub all_there : (s : List Bool) (q : ℕ) → is_full s ≡ true → q < length s → has s q ≡ true
 all_there [] q full l = absurd (omega (arith, l))
 all_there (b ∷ s) zero full l = (and_parts b (is_full s) full).0
@@ -71,7 +71,7 @@ all_there (b ∷ s) (suc q) full l = all_there s q (and_parts b (is_full s) full
 
 -- ---- the patterns of ends
 
--- a member from before, or the pattern of an end that there is room for
+-- a pattern that was a member, or the pattern of an end that there is room for
 abbrev IsAdded : List Bool → List (ℕ × ℕ) → ℕ → Type 0
 IsAdded s ends p = (has s p ≡ true) ⊎ ((p < length s) × ((j : ℕ) × Has same_pair (j, p) ends))
 
@@ -80,7 +80,7 @@ module _ (s : List Bool) (x : ℕ × ℕ) (xs : List (ℕ × ℕ)) where
   then_set = with_pattern s x.1
 
   abbrev stopped : Which
-  stopped = record { set = then_set; refusal = None }
+  stopped = record { set = then_set; rejection = None }
 
   abbrev on : Which
   on = which_from false then_set xs None
@@ -145,15 +145,16 @@ added_members s (x ∷ xs) p added = ⊎_elim
     (added_members (with_pattern s x.1) xs p (added_later s x xs p added)))
     (cases_Bool (is_full (with_pattern s x.1)))
 
--- without a refusal behind the ends there is none
-pub which_goes : (s : List Bool) (ends : List (ℕ × ℕ)) → (which_from false s ends None).refusal ≡ None
+-- if no error comes after the ends, there is no error
+pub which_goes : (s : List Bool) (ends : List (ℕ × ℕ)) → (which_from false s ends None).rejection ≡ None
 which_goes s [] = refl
 which_goes s (x ∷ xs) = ⊎_elim
-    (λ (full : is_full (with_pattern s x.1) ≡ true). ap (λ (w : Which). w.refusal) (stops s x xs full))
-    (λ (more : is_full (with_pattern s x.1) ≡ false). ap (λ (w : Which). w.refusal) (goes s x xs more) ∙ which_goes (with_pattern s x.1) xs)
+    (λ (full : is_full (with_pattern s x.1) ≡ true). ap (λ (w : Which). w.rejection) (stops s x xs full))
+    (λ (more : is_full (with_pattern s x.1) ≡ false). ap (λ (w : Which). w.rejection) (goes s x xs more) ∙
+    which_goes (with_pattern s x.1) xs)
     (cases_Bool (is_full (with_pattern s x.1)))
 
--- a set keeps its room
+-- the room of a set doesn't change
 pub room_kept : (s : List Bool) (ends : List (ℕ × ℕ)) → length (with_ends s ends) ≡ length s
 room_kept s [] = refl
 room_kept s (x ∷ xs) = room_kept (with_pattern s x.1) xs ∙ same_room s x.1

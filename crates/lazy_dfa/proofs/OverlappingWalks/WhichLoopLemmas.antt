@@ -1,4 +1,4 @@
--- What a walk over a whole span has done when it has told so many ends, and how it ends.
+-- What an overlapping search over a whole span has done when it has reported some ends, and how it ends.
 use Rattle.std.proofs.Common.{◌≡◌, ℕ, zero, suc, ◌+◌, ◌*◌, ◌<◌, ◌≤◌, ◌||◌, Bool, true, false, List, [], ◌∷◌, ◌++◌, length, drop, take}
 use Rattle.std.proofs.Common.{length-append, get_or, Option, Some, None, ◌↔◌, IsTrue, refl, sym, ap, ◌∙◌, inl, inr, ⊎_elim, subst, arith}
 use Rattle.std.proofs.Common.{append_assoc}
@@ -13,21 +13,25 @@ use Rattle.search_types.specs.Inputs.{Search}
 use Rattle.nfa_core.specs.Places.{first}
 use Rattle.lazy_dfa.specs.Caches.{CacheValue, IsCacheOf}
 use Rattle.lazy_dfa.specs.ConfigValue.{clears_of}
-use Rattle.lazy_dfa.specs.declared.overlapping_state.Walk.{Walk}
-use Rattle.lazy_dfa.specs.declared.overlapping_state.Walk.TheVariants.{Fresh, Ended, Failed, Stopped}
+use Rattle.lazy_dfa.specs.declared.overlapping_state.OverlappingPosition.{OverlappingPosition}
+use Rattle.lazy_dfa.specs.declared.overlapping_state.OverlappingPosition.TheVariants.{Fresh, Ended, Failed, Stopped}
 use Rattle.lazy_dfa.specs.Dfas.{Dfa, IsDfa, reader}
 use Rattle.lazy_dfa.specs.Linked.{GrowsOrClears}
-use Rattle.lazy_dfa.specs.MadePasses.{span_len}
+use Rattle.lazy_dfa.specs.MadeScans.{span_len}
 use Rattle.lazy_dfa.specs.Readers.{Reader}
-use Rattle.lazy_dfa.specs.ScanLaws.{begins_at}
+use Rattle.lazy_dfa.specs.HalfSearchLaws.{begins_at}
 use Rattle.lazy_dfa.specs.SearchAnswers.{half_of}
 use Rattle.lazy_dfa.specs.Steps.{most_inserts}
-use Rattle.lazy_dfa.specs.Walks.{Rest, whole_rest, rest_of, IsWalk, WalkState}
-use Rattle.lazy_dfa.specs.WalkAnswers.{call_made, told_left, TellsNext, AnswersWalk, MakesCall, with_pattern, is_full, with_ends, Which}
-use Rattle.lazy_dfa.specs.WalkAnswers.{which_from, which_of, AnswersWhich, MakesWhich, which_made, HasReadQuietly}
-use Rattle.lazy_dfa.specs.WalkAnswers.{without_id, walk_behind, walk_after, calls_for, IsToldAfter, IsWhichTold, GivesUpOn}
+use Rattle.lazy_dfa.specs.Overlapping.{Rest, whole_rest, rest_of, CanContinue, OverlappingValue}
+use Rattle.lazy_dfa.specs.OverlappingAnswers.{call_made, result_left, ReportsNext, AnswersOverlapping, MakesCall, with_pattern, is_full}
+use Rattle.lazy_dfa.specs.OverlappingAnswers.{with_ends}
+use Rattle.lazy_dfa.specs.OverlappingAnswers.{Which}
+use Rattle.lazy_dfa.specs.OverlappingAnswers.{which_from, which_of, AnswersWhich, MakesWhich, which_made, HasReadQuietly}
+use Rattle.lazy_dfa.specs.OverlappingAnswers.{without_id, overlapping_after, overlapping_after_calls, calls_for, IsReportedAfter}
+use Rattle.lazy_dfa.specs.OverlappingAnswers.{IsWhichReported}
+use Rattle.lazy_dfa.specs.OverlappingAnswers.{GivesUpOn}
 use Rattle.lazy_dfa.specs.Changes.{Changes, unchanged}
-use Rattle.lazy_dfa.specs.WalkAnswers.{IsMadeOnCall, IsMadeOnWalk}
+use Rattle.lazy_dfa.specs.OverlappingAnswers.{IsMadeOnCall, IsMadeOnOverlapping}
 use Rattle.lazy_dfa.proofs.CacheChanges.ChangesLemmas.{changes_into, changes_on}
 use Rattle.lazy_dfa.proofs.OverlappingWalks.WhichChangesLemmas.{on_walk}
 use Rattle.lazy_dfa.proofs.CacheChanges.LinkedLemmas.{grows_refl, grows_or_clears_trans}
@@ -48,11 +52,11 @@ members_of_full (false ∷ set) full p less = absurd (true≢false (sym full))
 members_of_full (true ∷ set) full zero less = refl
 members_of_full (true ∷ set) full (suc p) less = members_of_full set full p (omega (arith, less))
 
--- what `is_full` of a set tells
+-- what `is_full` of a set says
 pub told_full : (b : Bool) (set : List Bool) → (IsTrue b ↔ ((p : ℕ) → p < length set → has set p ≡ true)) → b ≡ is_full set
-told_full true set told = sym (full_by_members set (told.0 refl))
-told_full false set told = ⊎_elim
-    (λ (full : is_full set ≡ true). absurd (true≢false (sym (told.1 (members_of_full set full)))))
+told_full true set reported = sym (full_by_members set (reported.0 refl))
+told_full false set reported = ⊎_elim
+    (λ (full : is_full set ≡ true). absurd (true≢false (sym (reported.1 (members_of_full set full)))))
     (λ (not_full : is_full set ≡ false). sym not_full)
     (cases_Bool (is_full set))
 
@@ -64,7 +68,7 @@ take_front : (front back : List (ℕ × ℕ)) → take (length front) (front ++ 
 take_front [] back = refl
 take_front (x ∷ front) back = ap (λ (l : List (ℕ × ℕ)). x ∷ l) (take_front front back)
 
--- ---- answers of a call
+-- ---- results of a call
 
 abbrev Answer : Type 0
 Answer = Result ⊤ MatchErrorKind
@@ -81,16 +85,17 @@ ok_is_no_failure e is = let never : true ≡ false = cc in absurd (grind (arith,
 one_failure : (a b : MatchErrorKind) → failure a ≡ failure b → a ≡ b
 one_failure a b is = cc
 
-told_failure : (ends : List (ℕ × ℕ)) (refusal : Option MatchErrorKind) (e : MatchErrorKind) → failure e ≡ told_left ends refusal →
-    (ends ≡ []) × (refusal ≡ Some e)
+told_failure : (ends : List (ℕ × ℕ)) (rejection : Option MatchErrorKind) (e : MatchErrorKind) → failure e ≡ result_left ends rejection →
+    (ends ≡ []) × (rejection ≡ Some e)
 told_failure [] None e is = absurd (ok_is_no_failure e (sym is))
 told_failure [] (Some k) e is = (refl, ap Some (sym (one_failure e k is)))
-told_failure (x ∷ ends) refusal e is = absurd (ok_is_no_failure e (sym is))
+told_failure (x ∷ ends) rejection e is = absurd (ok_is_no_failure e (sym is))
 
-told_well : (ends : List (ℕ × ℕ)) (refusal : Option MatchErrorKind) → ends ≡ [] → done_well ≡ told_left ends refusal → refusal ≡ None
+told_well : (ends : List (ℕ × ℕ)) (rejection : Option MatchErrorKind) → ends ≡ [] → done_well ≡ result_left ends rejection →
+    rejection ≡ None
 told_well [] None none is = refl
 told_well [] (Some k) none is = absurd (ok_is_no_failure k is)
-told_well (x ∷ ends) refusal none is = absurd (let e = ap length none in omega (arith, e))
+told_well (x ∷ ends) rejection none is = absurd (let e = ap length none in omega (arith, e))
 
 abbrev end_of_half : HalfFound → ℕ × ℕ
 end_of_half half = (half.offset, half.pattern)
@@ -105,7 +110,7 @@ some_found (x ∷ ends) half is =
     let same : half ≡ record { pattern = x.1; offset = x.0 } = cc in
     ap (λ (m : HalfFound). end_of_half m ∷ ends) (sym same)
 
-within_walk : (d : Dfa) (v : CacheValue) (q : Search) (w : Walk) → IsWalk d v q w → IsWithinWalk q w
+within_walk : (d : Dfa) (v : CacheValue) (q : Search) (w : OverlappingPosition) → CanContinue d v q w → IsWithinWalk q w
 within_walk d v q Fresh walk = tt
 within_walk d v q Ended walk = tt
 within_walk d v q (Failed e) walk = tt
@@ -123,54 +128,58 @@ spent_on n1 n2 n3 made left now all k before call le =
 
 -- ---- what was done
 
--- The ends that were told, whose patterns are in the set, and the walk's rest, which is to do what the whole was to do.
-pub record HasCome (d : Dfa) (q : Search) (old now : CacheValue) (m1 m2 n1 n2 : ℕ) (set so_far : List Bool) (w : Walk) : Type 0 where
+-- The ends that were reported, whose patterns are in the set, and the rest of the search, which has the result of the whole search.
+pub record HasCome (d : Dfa) (q : Search) (old now : CacheValue) (m1 m2 n1 n2 : ℕ) (set so_far : List Bool) (w : OverlappingPosition) :
+    Type 0 where
   pub done : List (ℕ × ℕ)
   pub ends : (whole_rest (reader d) q).ends ≡ done ++ (rest_of (reader d) q w).ends
   pub on : IsOn (reader d) q w
   pub added : so_far ≡ with_ends set done
-  pub which : which_from q.earliest so_far (rest_of (reader d) q w).ends (rest_of (reader d) q w).refusal ≡ which_of (reader d) q set
+  pub which : which_from q.earliest so_far (rest_of (reader d) q w).ends (rest_of (reader d) q w).rejection ≡ which_of (reader d) q set
   pub kept : GrowsOrClears d old now
   pub determinized : m2 + left_to_make (reader d) q w ≤ m1 + which_made (reader d) q
   pub inserted : n2 + left_to_make (reader d) q w * most_inserts d ≤ n1 + which_made (reader d) q * most_inserts d
   pub quits : HasReadQuietly d q w
-  pub behind : without_id w ≡ walk_after (reader d) q (length done)
-  pub told : IsToldAfter (reader d) q (length done) old now
+  pub behind : without_id w ≡ overlapping_after_calls (reader d) q (length done)
+  pub reported : IsReportedAfter (reader d) q (length done) old now
   pub calls : length done + calls_for q.earliest so_far (rest_of (reader d) q w).ends ≡
       calls_for q.earliest set (whole_rest (reader d) q).ends
   pub made : ℕ
   pub few : made + left_to_make (reader d) q w ≤ which_made (reader d) q
-  pub changes : Changes d (IsMadeOnWalk d q) old now made
+  pub changes : Changes d (IsMadeOnOverlapping d q) old now made
 
-pub begins : (d : Dfa) (q : Search) (v : CacheValue) (m n : ℕ) (set : List Bool) (s : WalkState) →
+pub begins : (d : Dfa) (q : Search) (v : CacheValue) (m n : ℕ) (set : List Bool) (s : OverlappingValue) →
     s ≡ record { found = None; walk = Fresh } →
     HasCome d q v v m m n n set set s.walk
-begins d q v m n set s is = subst (λ (w : Walk). HasCome d q v v m m n n set set w) (sym (ap (λ (x : WalkState). x.walk) is)) (record {
-  done = [];
-  ends = refl;
-  on = inl refl;
-  added = refl;
-  which = refl;
-  kept = inl (grows_refl d v);
-  determinized = omega arith;
-  inserted = omega arith;
-  quits = tt;
-  behind = refl;
-  told = none_told (reader d) q v;
-  calls = none_more (calls_for q.earliest set (whole_rest (reader d) q).ends);
-  made = 0;
-  few = omega arith;
-  changes = unchanged v 0 refl;
-})
+begins d q v m n set s is = subst (λ (w : OverlappingPosition). HasCome d q v v m m n n set set w) (sym (ap (λ (x : OverlappingValue).
+    x.walk) is)) (record {
+      done = [];
+      ends = refl;
+      on = inl refl;
+      added = refl;
+      which = refl;
+      kept = inl (grows_refl d v);
+      determinized = omega arith;
+      inserted = omega arith;
+      quits = tt;
+      behind = refl;
+      reported = none_told (reader d) q v;
+      calls = none_more (calls_for q.earliest set (whole_rest (reader d) q).ends);
+      made = 0;
+      few = omega arith;
+      changes = unchanged v 0 refl;
+    })
   where
     none_more : (k : ℕ) → 0 + k ≡ k
     none_more k = omega arith
 
-pub begins_well : (d : Dfa) (q : Search) (v : CacheValue) (s : WalkState) → s ≡ record { found = None; walk = Fresh } → IsWalk d v q s.walk
-begins_well d q v s is = subst (IsWalk d v q) (sym (ap (λ (x : WalkState). x.walk) is)) tt
+pub begins_well : (d : Dfa) (q : Search) (v : CacheValue) (s : OverlappingValue) → s ≡ record { found = None; walk = Fresh } →
+    CanContinue d v q s.walk
+begins_well d q v s is = subst (CanContinue d v q) (sym (ap (λ (x : OverlappingValue). x.walk) is)) tt
 
-module _ (d : Dfa) (q : Search) (old now next : CacheValue) (m1 m2 m3 n1 n2 n3 : ℕ) (set so_far : List Bool) (w : Walk) (after : WalkState)
-    (fit : IsDfa d) (own : IsCacheOf d old) (stands : HasCome d q old now m1 m2 n1 n2 set so_far w) (walk : IsWalk d now q w) where
+module _ (d : Dfa) (q : Search) (old now next : CacheValue) (m1 m2 m3 n1 n2 n3 : ℕ) (set so_far : List Bool) (w : OverlappingPosition)
+    (after : OverlappingValue)
+    (fit : IsDfa d) (own : IsCacheOf d old) (stands : HasCome d q old now m1 m2 n1 n2 set so_far w) (walk : CanContinue d now q w) where
   abbrev r : Reader
   r = reader d
 
@@ -186,14 +195,14 @@ module _ (d : Dfa) (q : Search) (old now next : CacheValue) (m1 m2 m3 n1 n2 n3 :
   few : call_made r q w + 0 ≤ left_to_make r q w
   few = let le = few_made r q w within in omega (arith, le)
 
-  call_changes : (result : Answer) → Call result → Changes d (IsMadeOnWalk d q) now next (call_made r q w)
+  call_changes : (result : Answer) → Call result → Changes d (IsMadeOnOverlapping d q) now next (call_made r q w)
   call_changes result call =
-      changes_into d (IsMadeOnCall d q w) (IsMadeOnWalk d q) (on_walk d q w within) now next (call_made r q w) call.changes
+      changes_into d (IsMadeOnCall d q w) (IsMadeOnOverlapping d q) (on_walk d q w within) now next (call_made r q w) call.changes
 
-  -- the walk is over with this call
+  -- the overlapping search is over with this call
   over : (result : Answer) (new : List Bool) → Call result → AnswersWhich d next q set new result →
-      IsWhichTold d q set new result old next → MakesWhich d q old next m1 m3 n1 n3 set new result
-  over result new call answer told = record {
+      IsWhichReported d q set new result old next → MakesWhich d q old next m1 m3 n1 n3 set new result
+  over result new call answer reported = record {
     answer = answer;
     kept = grows_or_clears_trans d old now next fit own stands.kept call.kept;
     determinized = let le = spent m1 m2 m3 (call_made r q w) 0 (left_to_make r q w) (which_made r q) stands.determinized call.determinized
@@ -201,9 +210,9 @@ module _ (d : Dfa) (q : Search) (old now next : CacheValue) (m1 m2 m3 n1 n2 n3 :
     inserted = let le = spent_on n1 n2 n3 (call_made r q w) 0 (left_to_make r q w) (which_made r q) (most_inserts d) stands.inserted
         call.inserted few in omega (arith, le);
     changes = let small = stands.few in let this = few in
-        changes_on d (IsMadeOnWalk d q) old now stands.made stands.changes next (call_made r q w) (which_made r q)
+        changes_on d (IsMadeOnOverlapping d q) old now stands.made stands.changes next (call_made r q w) (which_made r q)
         (omega (arith, small, this)) (call_changes result call);
-    told = told;
+    reported = reported;
   }
 
   abbrev come : ℕ
@@ -212,13 +221,13 @@ module _ (d : Dfa) (q : Search) (old now next : CacheValue) (m1 m2 m3 n1 n2 n3 :
   abbrev needed : ℕ
   needed = calls_for q.earliest set (whole_rest r q).ends
 
-  told_on : Call done_well → IsToldAfter r q (suc come) old next
-  told_on call = told_next d q old now next w come call.kept stands.behind stands.told call.anew
+  told_on : Call done_well → IsReportedAfter r q (suc come) old next
+  told_on call = told_next d q old now next w come call.kept stands.behind stands.reported call.anew
 
-  -- where one call more is made
-  last_told : (new : List Bool) → Call done_well → come + 1 ≡ needed → IsWhichTold d q set new done_well old next
+  -- if one more call is made
+  last_told : (new : List Bool) → Call done_well → come + 1 ≡ needed → IsWhichReported d q set new done_well old next
   last_told new call last =
-      subst (λ (k : ℕ). IsToldAfter r q k old next) (let e = last in one_more come needed e) (told_on call)
+      subst (λ (k : ℕ). IsReportedAfter r q k old next) (let e = last in one_more come needed e) (told_on call)
     where
       one_more : (k n : ℕ) → k + 1 ≡ n → suc k ≡ n
       one_more k n e = omega (arith, e)
@@ -228,31 +237,31 @@ module _ (d : Dfa) (q : Search) (old now next : CacheValue) (m1 m2 m3 n1 n2 n3 :
       let sum : length (whole_rest r q).ends ≡ come + length rest.ends = ap length stands.ends ∙ length-append stands.done rest.ends in
       omega (arith, sum)
 
-  tells : Call done_well → TellsNext r q w after done_well
-  tells call = by_answer call.answer
+  reports : Call done_well → ReportsNext r q w after done_well
+  reports call = by_answer call.answer
     where
-      by_answer : AnswersWalk d next q w after done_well → TellsNext r q w after done_well
+      by_answer : AnswersOverlapping d next q w after done_well → ReportsNext r q w after done_well
       by_answer (inl t) = t
       by_answer (inr (inl e)) = absurd (ok_is_no_failure NoMemory e)
       by_answer (inr (inr g)) = absurd (ok_is_no_failure (GaveUp g.0) g.1)
 
   -- ---- no end is left
 
-  nothing_told : (refusal : Option MatchErrorKind) → rest.ends ≡ [] → rest.refusal ≡ refusal →
-      record { set = so_far; refusal = refusal } ≡ which_of r q set
-  nothing_told refusal none is =
+  nothing_told : (rejection : Option MatchErrorKind) → rest.ends ≡ [] → rest.rejection ≡ rejection →
+      record { set = so_far; rejection = rejection } ≡ which_of r q set
+  nothing_told rejection none is =
       ap (which_from q.earliest so_far []) (sym is)
-      ∙ ap (λ (ends : List (ℕ × ℕ)). which_from q.earliest so_far ends rest.refusal) (sym none)
+      ∙ ap (λ (ends : List (ℕ × ℕ)). which_from q.earliest so_far ends rest.rejection) (sym none)
       ∙ stands.which
 
   so_far_is : so_far ≡ with_ends set (take (length stands.done) (whole_rest r q).ends)
   so_far_is = stands.added ∙ ap (with_ends set) (sym (ap (take (length stands.done)) stands.ends ∙ take_front stands.done rest.ends))
 
-  refused_with : (e : MatchErrorKind) → AnswersWalk d next q w after (failure e) → AnswersWhich d next q set so_far (failure e)
+  refused_with : (e : MatchErrorKind) → AnswersOverlapping d next q w after (failure e) → AnswersWhich d next q set so_far (failure e)
   refused_with e (inl t) =
-      let told = told_failure rest.ends rest.refusal e t.answer in
-      let is = nothing_told (Some e) told.0 told.1 in
-      inl (ap (λ (x : Which). told_left [] x.refusal) is, ap (λ (x : Which). x.set) is)
+      let reported = told_failure rest.ends rest.rejection e t.answer in
+      let is = nothing_told (Some e) reported.0 reported.1 in
+      inl (ap (λ (x : Which). result_left [] x.rejection) is, ap (λ (x : Which). x.set) is)
   refused_with e (inr (inl lacks)) = inr (come, within_ends, so_far_is, inl lacks)
   refused_with e (inr (inr g)) = inr (
     come,
@@ -261,7 +270,7 @@ module _ (d : Dfa) (q : Search) (old now next : CacheValue) (m1 m2 m3 n1 n2 n3 :
     inr (
       g.0,
       g.1,
-      subst (λ (x : Walk). GivesUpOn d next q x g.0) stands.behind (same_give_up d next q g.0 w g.2),
+      subst (λ (x : OverlappingPosition). GivesUpOn d next q x g.0) stands.behind (same_give_up d next q g.0 w g.2),
       gives_up d next q g.0 w stands.on within stands.quits g.2,
     ),
   )
@@ -271,18 +280,18 @@ module _ (d : Dfa) (q : Search) (old now next : CacheValue) (m1 m2 m3 n1 n2 n3 :
     come,
     within_ends,
     so_far_is,
-    left_next d q old now next w come call.kept stands.behind stands.told e call.anew,
+    left_next d q old now next w come call.kept stands.behind stands.reported e call.anew,
   )
 
   pub none_left : after.found ≡ None → Call done_well → MakesWhich d q old next m1 m3 n1 n3 set so_far done_well
   none_left none call =
-      let t = tells call in
+      let t = reports call in
       let gone = none_found rest.ends (sym none ∙ t.found) in
-      let is = nothing_told None gone (told_well rest.ends rest.refusal gone t.answer) in
-      over done_well so_far call (inl (ap (λ (x : Which). told_left [] x.refusal) is, ap (λ (x : Which). x.set) is))
+      let is = nothing_told None gone (told_well rest.ends rest.rejection gone t.answer) in
+      over done_well so_far call (inl (ap (λ (x : Which). result_left [] x.rejection) is, ap (λ (x : Which). x.set) is))
       (last_told so_far call (ap (λ (ends : List (ℕ × ℕ)). come + calls_for q.earliest so_far ends) (sym gone) ∙ stands.calls))
 
-  -- ---- an end is told
+  -- ---- an end is reported
 
   module _ (half : HalfFound) (some : after.found ≡ Some half) (call : Call done_well) (more : List Bool)
       (more_is : more ≡ with_pattern so_far half.pattern) where
@@ -290,23 +299,23 @@ module _ (d : Dfa) (q : Search) (old now next : CacheValue) (m1 m2 m3 n1 n2 n3 :
     left = drop 1 rest.ends
 
     told_is : rest.ends ≡ end_of_half half ∷ left
-    told_is = some_found rest.ends half (sym some ∙ (tells call).found)
+    told_is = some_found rest.ends half (sym some ∙ (reports call).found)
 
-    left_is : rest_of r q after.walk ≡ record { ends = left; refusal = rest.refusal }
-    left_is = (tells call).left
+    left_is : rest_of r q after.walk ≡ record { ends = left; rejection = rest.rejection }
+    left_is = (reports call).left
 
     all_is : (whole_rest r q).ends ≡ stands.done ++ end_of_half half ∷ left
     all_is = stands.ends ∙ ap (λ (l : List (ℕ × ℕ)). stands.done ++ l) told_is
 
-    step_is : (if q.earliest || is_full more then record { set = more; refusal = None } else which_from q.earliest more left
-        rest.refusal) ≡ which_of r q set
+    step_is : (if q.earliest || is_full more then record { set = more; rejection = None } else which_from q.earliest more left
+        rest.rejection) ≡ which_of r q set
     step_is =
-        ap (λ (s : List Bool). if q.earliest || is_full s then record { set = s; refusal = None } else which_from q.earliest s left
-        rest.refusal) more_is
-        ∙ ap (λ (l : List (ℕ × ℕ)). which_from q.earliest so_far l rest.refusal) (sym told_is)
+        ap (λ (s : List Bool). if q.earliest || is_full s then record { set = s; rejection = None } else which_from q.earliest s left
+        rest.rejection) more_is
+        ∙ ap (λ (l : List (ℕ × ℕ)). which_from q.earliest so_far l rest.rejection) (sym told_is)
         ∙ stands.which
 
-    -- the calls that are still to be made, this one among them
+    -- the calls that are still to be made, including this one
     abbrev calls_then : ℕ
     calls_then = suc (calls_for q.earliest more left)
 
@@ -317,10 +326,11 @@ module _ (d : Dfa) (q : Search) (old now next : CacheValue) (m1 m2 m3 n1 n2 n3 :
 
     pub stops : (q.earliest || is_full more) ≡ true → MakesWhich d q old next m1 m3 n1 n3 set more done_well
     stops enough =
-        let is : record { set = more; refusal = None } ≡ which_of r q set =
-        sym (ap (λ (b : Bool). if b then record { set = more; refusal = None } else which_from q.earliest more left rest.refusal) enough)
+        let is : record { set = more; rejection = None } ≡ which_of r q set =
+        sym (ap (λ (b : Bool). if b then record { set = more; rejection = None } else which_from q.earliest more left rest.rejection)
+        enough)
         ∙ step_is in
-        over done_well more call (inl (ap (λ (x : Which). told_left [] x.refusal) is, ap (λ (x : Which). x.set) is))
+        over done_well more call (inl (ap (λ (x : Which). result_left [] x.rejection) is, ap (λ (x : Which). x.set) is))
         (last_told more call (ap (λ (k : ℕ). come + k) (sym (calls_there ∙ ap (λ (b : Bool). if b then 1 else calls_then) enough))
         ∙ stands.calls))
 
@@ -339,8 +349,9 @@ module _ (d : Dfa) (q : Search) (old now next : CacheValue) (m1 m2 m3 n1 n2 n3 :
       on = inr (some_told (whole_rest r q).ends stands.done left (end_of_half half) all_is);
       added = more_is ∙ ap (λ (s : List Bool). with_pattern s half.pattern) stands.added
           ∙ sym (with_more set stands.done (end_of_half half));
-      which = ap (λ (x : Rest). which_from q.earliest more x.ends x.refusal) left_is
-          ∙ sym (ap (λ (b : Bool). if b then record { set = more; refusal = None } else which_from q.earliest more left rest.refusal) on)
+      which = ap (λ (x : Rest). which_from q.earliest more x.ends x.rejection) left_is
+          ∙ sym (ap (λ (b : Bool). if b then record { set = more; rejection = None } else which_from q.earliest more left rest.rejection)
+          on)
           ∙ step_is;
       kept = grows_or_clears_trans d old now next fit own stands.kept call.kept;
       determinized = spent m1 m2 m3 (call_made r q w) (left_to_make r q after.walk) (left_to_make r q w) (which_made r q)
@@ -348,8 +359,9 @@ module _ (d : Dfa) (q : Search) (old now next : CacheValue) (m1 m2 m3 n1 n2 n3 :
       inserted = spent_on n1 n2 n3 (call_made r q w) (left_to_make r q after.walk) (left_to_make r q w) (which_made r q) (most_inserts d)
           stands.inserted call.inserted few_then;
       quits = call.quits stands.quits;
-      behind = (tells call).stops ∙ (same_behind r q w ∙ (ap (walk_behind r q) stands.behind ∙ ap (walk_after r q) (sym one_longer)));
-      told = subst (λ (k : ℕ). IsToldAfter r q k old next) (sym one_longer) (told_on call);
+      behind = (reports call).stops ∙ (same_behind r q w ∙ (ap (overlapping_after r q) stands.behind ∙
+          ap (overlapping_after_calls r q) (sym one_longer)));
+      reported = subst (λ (k : ℕ). IsReportedAfter r q k old next) (sym one_longer) (told_on call);
       calls =
           let here : come + calls_then ≡ needed = ap (λ (k : ℕ). come + k)
           (sym (calls_there ∙ ap (λ (b : Bool). if b then 1 else calls_then) on)) ∙ stands.calls in
@@ -360,7 +372,8 @@ module _ (d : Dfa) (q : Search) (old now next : CacheValue) (m1 m2 m3 n1 n2 n3 :
           (calls_for q.earliest more left) needed longer there here;
       made = stands.made + call_made r q w;
       few = let small = stands.few in let this = few_then in omega (arith, small, this);
-      changes = changes_on d (IsMadeOnWalk d q) old now stands.made stands.changes next (call_made r q w) (stands.made + call_made r q w)
+      changes = changes_on d (IsMadeOnOverlapping d q) old now stands.made stands.changes next (call_made r q w) (stands.made + call_made r
+          q w)
           (omega arith) (call_changes done_well call);
     }
       where
@@ -375,23 +388,23 @@ module _ (d : Dfa) (q : Search) (old now next : CacheValue) (m1 m2 m3 n1 n2 n3 :
 
 -- ---- clauses
 
-no_refusal : (earliest : Bool) (set : List Bool) (ends : List (ℕ × ℕ)) → (which_from earliest set ends None).refusal ≡ None
+no_refusal : (earliest : Bool) (set : List Bool) (ends : List (ℕ × ℕ)) → (which_from earliest set ends None).rejection ≡ None
 no_refusal earliest set [] = refl
 no_refusal earliest set (x ∷ ends) = by_test (earliest || is_full (with_pattern set x.1)) (no_refusal earliest (with_pattern set x.1) ends)
   where
-    by_test : (b : Bool) → (which_from earliest (with_pattern set x.1) ends None).refusal ≡ None →
-        (if b then record { set = with_pattern set x.1; refusal = None } else which_from earliest (with_pattern set x.1) ends
-        None).refusal ≡ None
+    by_test : (b : Bool) → (which_from earliest (with_pattern set x.1) ends None).rejection ≡ None →
+        (if b then record { set = with_pattern set x.1; rejection = None } else which_from earliest (with_pattern set x.1) ends
+        None).rejection ≡ None
     by_test true later = refl
     by_test false later = later
 
--- where there is always room and no refusal, memory alone may lack
+-- if there is always room and there is no error, only an allocation may fail
 pub is_sure : (d : Dfa) (v : CacheValue) (q : Search) (set after : List Bool) (result : Answer) → AnswersWhich d v q set after result →
-    clears_of d.options ≡ None → (whole_rest (reader d) q).refusal ≡ None → IfErr result (λ e. e ≡ NoMemory)
+    clears_of d.options ≡ None → (whole_rest (reader d) q).rejection ≡ None → IfErr result (λ e. e ≡ NoMemory)
 is_sure d v q set after result (inl a) none quiet =
     subst (λ (x : Answer). IfErr x (λ e. e ≡ NoMemory))
-    (sym (a.0 ∙ ap (told_left [])
-    (ap (λ (x : Option MatchErrorKind). (which_from q.earliest set (whole_rest (reader d) q).ends x).refusal) quiet
+    (sym (a.0 ∙ ap (result_left [])
+    (ap (λ (x : Option MatchErrorKind). (which_from q.earliest set (whole_rest (reader d) q).ends x).rejection) quiet
     ∙ no_refusal q.earliest set (whole_rest (reader d) q).ends))) tt
 is_sure d v q set after result (inr (k, _, added, inl lacks)) none quiet = subst (λ (x : Answer). IfErr x (λ e. e ≡ NoMemory))
     (sym lacks) refl

@@ -1,4 +1,4 @@
--- At which unit a walk tells an end, what is left from there, and how many units one pass would still read.
+-- At which unit an overlapping search reports an end, what is left from there, and how many units one scan would still read.
 use Rattle.std.proofs.Common.{◌≡◌, ◌⊎◌, ℕ, zero, suc, ◌+◌, ◌<◌, ◌≤◌, Bool, true, false, ◌&&◌, not, List, [], ◌∷◌, ◌++◌, length, map, Option}
 use Rattle.std.proofs.Common.{Some, None, refl, sym, ap, ◌∙◌, inl, inr, ⊎_elim, subst, arith, length-append, if◌then◌else◌, true≢false}
 use Rattle.std.proofs.lemmas.Bool.{cases_Bool}
@@ -6,14 +6,14 @@ use Rattle.search_core.specs.ByteSets.{has}
 use Rattle.search_types.specs.declared.match_error.MatchErrorKind.TheVariants.{Quit}
 use Rattle.search_types.specs.Places.{counts}
 use Rattle.nfa_core.specs.Places.{first}
-use Rattle.nfa_core.specs.Ways.{place_of}
+use Rattle.nfa_core.specs.Ways.{offset_of}
 use Rattle.determinize_core.specs.States.{StateValue}
 use Rattle.determinize_core.specs.Steps.{unit_at}
-use Rattle.lazy_dfa.specs.Passes.{index_at, is_empty, is_dead, next_value, next_place}
-use Rattle.lazy_dfa.specs.PassLaws.{units_read}
+use Rattle.lazy_dfa.specs.Scans.{index_at, is_empty, is_dead, next_value, next_offset}
+use Rattle.lazy_dfa.specs.ScanLaws.{units_read}
 use Rattle.lazy_dfa.specs.Readers.{Reader}
-use Rattle.lazy_dfa.specs.Walks.{Rest, nothing_left, refused, onto, unless_quit_at, end_of, listed, rest_from}
-use Rattle.lazy_dfa.specs.WalkAnswers.{units_met}
+use Rattle.lazy_dfa.specs.Overlapping.{Rest, nothing_left, refused, onto, unless_quit_at, end_of, listed, rest_from}
+use Rattle.lazy_dfa.specs.OverlappingAnswers.{units_met}
 use Rattle.lazy_dfa.proofs.HalfSearches.PassLemmas.{dead_stays}
 use Rattle.lazy_dfa.proofs.HalfSearches.TurnLemmas.{place_next, dead_is}
 use Rattle.lazy_dfa.proofs.OverlappingWalks.WalkRestLemmas.{none_listed}
@@ -23,7 +23,7 @@ use Rattle.lazy_dfa.proofs.OverlappingWalks.WalkRestLemmas.{none_listed}
 abbrev IsAmong : (ℕ × ℕ) → List (ℕ × ℕ) → Type 0
 IsAmong x xs = (before behind : List (ℕ × ℕ)) × (xs ≡ before ++ x ∷ behind)
 
--- where an end of two lists is in the second one, what is behind it stays
+-- if an end of two lists is in the second one, what comes after it stays the same
 abbrev IsBefore : (ℕ × ℕ) → List (ℕ × ℕ) → List (ℕ × ℕ) → Type 0
 IsBefore x left xs = (before : List (ℕ × ℕ)) × (xs ≡ before ++ x ∷ left)
 
@@ -46,7 +46,7 @@ in_parts (y ∷ front) back (z ∷ done) left x e =
     one_more (inl a) = inl (y ∷ a.0, a.1, ap (λ (l : List (ℕ × ℕ)). y ∷ l) a.2)
     one_more (inr b) = inr b
 
--- all ends of a list at a place have this place
+-- all ends of a list at an offset have this offset
 among_place : (i : ℕ) (ps : List ℕ) (before behind : List (ℕ × ℕ)) (x : ℕ × ℕ) → map (end_of i) ps ≡ before ++ x ∷ behind → x.0 ≡ i
 among_place i [] before behind x e = absurd (no_middle before behind x e)
 among_place i (p ∷ ps) [] behind x e = let same : end_of i p ≡ x = cc in sym (ap (λ (z : ℕ × ℕ). z.0) same)
@@ -87,11 +87,11 @@ past_turn : (dies : Bool) (quits : List Bool) (u : Option ℕ) (index : ℕ) (re
 past_turn true quits u index rest = inl refl
 past_turn false quits u index rest = past_unit quits u index rest
 
--- states that follow each other from place i on
+-- states that follow each other from offset i on
 module _ (r : Reader) (h : List ℕ) (i : ℕ) (state : ℕ → StateValue)
-    (steps : (k : ℕ) → state (suc k) ≡ next_value r h (place_of r.automaton.reverse i k) (state k)) where
+    (steps : (k : ℕ) → state (suc k) ≡ next_value r h (offset_of r.automaton.reverse i k) (state k)) where
   abbrev place : ℕ → ℕ
-  place k = place_of r.automaton.reverse i k
+  place k = offset_of r.automaton.reverse i k
 
   abbrev rest : ℕ → ℕ → Rest
   rest n k = rest_from r h n (place k) (state k)
@@ -117,7 +117,7 @@ module _ (r : Reader) (h : List ℕ) (i : ℕ) (state : ℕ → StateValue)
 
   rest_turn : (n k : ℕ) → rest (suc n) k ≡ turn n k (state (suc k)) (place (suc k))
   unfolding rest_from
-  rest_turn n k = ap (λ (v : StateValue). turn n k v (next_place r (place k))) (sym (steps k))
+  rest_turn n k = ap (λ (v : StateValue). turn n k v (next_offset r (place k))) (sym (steps k))
       ∙ ap (λ (j : ℕ). turn n k (state (suc k)) j) (place_next r.automaton.reverse i k)
 
   turns : (n k : ℕ) → TurnsTo (is_dead (state k)) (rest (suc n) k) (onto (here k) (rest n (suc k)))
@@ -126,9 +126,9 @@ module _ (r : Reader) (h : List ℕ) (i : ℕ) (state : ℕ → StateValue)
       (past_turn (is_dead (state k)) r.quits (unit_at r.automaton.reverse h (place k)) (index_at r.automaton.reverse (place k))
       (onto (here k) (rest n (suc k))))
 
-  -- ---- where an end is told
+  -- ---- where an end is reported
 
-  -- from each place up to that of an end, more is left than behind the end
+  -- from each offset up to that of an end, more ends are left than after that end
   abbrev HasMore : List (ℕ × ℕ) → ℕ → ℕ → ℕ → Type 0
   HasMore left n k u = (l m a : ℕ) → l ≤ u → n ≡ m + l → a ≡ k + l → length left < length (rest m a).ends
 
@@ -151,13 +151,13 @@ module _ (r : Reader) (h : List ℕ) (i : ℕ) (state : ℕ → StateValue)
   more_behind n k u done left x e later zero m a le en ea = more_here (suc n) k done left x e zero m a (omega arith) en ea
   more_behind n k u done left x e later (suc l) m a le en ea = later l m a (omega (arith, le)) (omega (arith, en)) (omega (arith, ea))
 
-  pub told_at : (n k : ℕ) (done left : List (ℕ × ℕ)) (x : ℕ × ℕ) → (rest n k).ends ≡ done ++ x ∷ left → IsToldAt x left n k
-  told_at zero k done left x e = absurd (no_middle done left x (sym (ap (λ (w : Rest). w.ends) (rest_none k)) ∙ e))
-  told_at (suc n) k done left x e = ⊎_elim
+  pub progress_reached : (n k : ℕ) (done left : List (ℕ × ℕ)) (x : ℕ × ℕ) → (rest n k).ends ≡ done ++ x ∷ left → IsToldAt x left n k
+  progress_reached zero k done left x e = absurd (no_middle done left x (sym (ap (λ (w : Rest). w.ends) (rest_none k)) ∙ e))
+  progress_reached (suc n) k done left x e = ⊎_elim
       (λ (none : (rest (suc n) k).ends ≡ []). absurd (no_middle done left x (sym none ∙ e)))
       (λ (on : (is_dead (state k) ≡ false) × (rest (suc n) k ≡ onto (here k) (rest n (suc k)))).
       by_part (in_parts (here k) (rest n (suc k)).ends done left x (sym (ap (λ (w : Rest). w.ends) on.1) ∙ e))
-      (λ before is. told_at n (suc k) before left x is))
+      (λ before is. progress_reached n (suc k) before left x is))
       (turns n k)
     where
       by_part : IsAmong x (here k) ⊎ IsBefore x left (rest n (suc k)).ends →
@@ -188,7 +188,7 @@ module _ (r : Reader) (h : List ℕ) (i : ℕ) (state : ℕ → StateValue)
       suc (units_met r h n j v)
 
   met_turn : (n k : ℕ) → met (suc n) k ≡ met_by n k (state (suc k)) (place (suc k))
-  met_turn n k = ap (λ (v : StateValue). met_by n k v (next_place r (place k))) (sym (steps k))
+  met_turn n k = ap (λ (v : StateValue). met_by n k v (next_offset r (place k))) (sym (steps k))
       ∙ ap (λ (j : ℕ). met_by n k (state (suc k)) j) (place_next r.automaton.reverse i k)
 
   met_dead : (n k : ℕ) → is_dead (state k) ≡ true → met (suc n) k ≡ 0
@@ -206,7 +206,7 @@ module _ (r : Reader) (h : List ℕ) (i : ℕ) (state : ℕ → StateValue)
   abbrev IsMetAt : (ℕ × ℕ) → ℕ → ℕ → Type 0
   IsMetAt x n k = (u : ℕ) × (u < n) × (met n k ≡ suc u) × (x.0 ≡ place (k + u))
 
-  -- the first end that is left is told at the last unit that a call meets
+  -- the first end that is left is reported at the last unit that a call meets
   pub first_met : (n k : ℕ) (x : ℕ × ℕ) → first (rest n k).ends ≡ Some x → IsMetAt x n k
   first_met zero k x e = absurd (no_first x (sym (ap first (ap (λ (w : Rest). w.ends) (rest_none k))) ∙ e))
   first_met (suc n) k x e = ⊎_elim
@@ -214,12 +214,12 @@ module _ (r : Reader) (h : List ℕ) (i : ℕ) (state : ℕ → StateValue)
       (λ (on : (is_dead (state k) ≡ false) × (rest (suc n) k ≡ onto (here k) (rest n (suc k)))).
       let split : first (here k ++ (rest n (suc k)).ends) ≡ Some x = sym (ap (λ (w : Rest). first w.ends) on.1) ∙ e in
       ⊎_elim
-      (λ (told : stops k ≡ true).
+      (λ (reported : stops k ≡ true).
       let same : k ≡ k + 0 = omega arith in (
         0,
         omega arith,
-        met_one n k on.0 told,
-        some_if (counts r.between_characters h (place k)) (place k) (state (suc k)).matches (rest n (suc k)).ends x told split
+        met_one n k on.0 reported,
+        some_if (counts r.between_characters h (place k)) (place k) (state (suc k)).matches (rest n (suc k)).ends x reported split
             ∙ ap place same,
       ))
       (λ (goes : stops k ≡ false).
@@ -231,13 +231,13 @@ module _ (r : Reader) (h : List ℕ) (i : ℕ) (state : ℕ → StateValue)
       (cases_Bool (stops k)))
       (turns n k)
 
-  -- ---- units of a pass
+  -- ---- units of a scan
 
   abbrev read_by : ℕ → ℕ → StateValue → ℕ → ℕ
   read_by n k v j = if is_dead (state k) then 0 else suc (units_read r false h n j v)
 
   read_turn : (n k : ℕ) → read (suc n) k ≡ read_by n k (state (suc k)) (place (suc k))
-  read_turn n k = ap (λ (v : StateValue). read_by n k v (next_place r (place k))) (sym (steps k))
+  read_turn n k = ap (λ (v : StateValue). read_by n k v (next_offset r (place k))) (sym (steps k))
       ∙ ap (λ (j : ℕ). read_by n k (state (suc k)) j) (place_next r.automaton.reverse i k)
 
   read_dead : (n k : ℕ) → is_dead (state k) ≡ true → read n k ≡ 0
@@ -250,7 +250,7 @@ module _ (r : Reader) (h : List ℕ) (i : ℕ) (state : ℕ → StateValue)
   dead_next : (k : ℕ) → is_dead (state k) ≡ true → is_dead (state (suc k)) ≡ true
   dead_next k dies = ap is_dead (steps k ∙ ap (next_value r h (place k)) (dead_is (state k) dies) ∙ dead_stays r h (place k))
 
-  -- what is read from a later place is read by one who comes from before
+  -- what is read from a later offset is also read from an earlier one
   pub read_behind : (gap n m k l u : ℕ) → m ≡ n + gap → l ≡ k + gap → u < read n l → gap + u < read m k
   read_behind zero n m k l u em el less =
       let same_m : n ≡ m = omega (arith, em) in

@@ -1,4 +1,4 @@
--- Sixteen items that a vector has twice, looked up at a half of each byte.
+-- Sixteen items, which a vector holds twice, looked up by one half of each byte.
 use Rattle.std.proofs.Common.{◌≡◌, ◌∙◌, ◌+◌, ◌*◌, ◌/◌, ◌%◌, ◌^◌, ◌<◌, ℕ, List, length, get_or, map, replicate, refl, sym, ap, arith}
 use Rattle.std.proofs.Common.{cond, not, eqb, bit_and, w8, Fits}
 use Rattle.std.proofs.lemmas.List.{ext_get_or, get_or-map, length-map}
@@ -9,7 +9,7 @@ use Rattle.std.specs.Simd.Lanes.{zip2, Each1}
 use Rattle.lazy_dfa.specs.ByteTests.{has_bits, in_halves, marked, IsTwice}
 use Rattle.lazy_dfa.proofs.PassedBytes.ByteTestLemmas.{compared, marked_compared}
 
--- both halves of bytes, as the operations on vectors make them
+-- both halves of bytes, as the vector operations make them
 pub low_halves : (bytes : List ℕ) → length bytes ≡ 32 → zip2 bit_and bytes (replicate 32 15) ≡ map (λ x. x % 16) bytes
 low_halves bytes long = zip2_splat bit_and bytes 32 15 long ∙ ap (λ (f : ℕ → ℕ). map f bytes) (λ i x. and_mask x 4 i)
 
@@ -51,7 +51,7 @@ module _ (half : ℕ → ℕ) (bytes : List ℕ) (long : length bytes ≡ 32) (b
       ∙ ap (λ j. get_or table j 0) (omega arith)
       ∙ sym (get_or-map (λ x. get_or table (half x) 0) bytes k 0 0 (omega arith)))
 
--- the bytes whose marks have one in common
+-- the bytes whose two marks have a bit in common
 pub marked_halves : (low high bytes lows highs : List ℕ) → length bytes ≡ 32 →
     lows ≡ map (λ x. get_or low (x % 16) 0) bytes → highs ≡ map (λ x. get_or high (x / 16) 0) bytes →
     compared (λ x y. not (eqb x y)) (zip2 bit_and lows highs) 0 ≡ marked (in_halves low high) bytes

@@ -1,4 +1,4 @@
--- Where two bytes in a row pass, by lanes, and where a search stands behind places at which none do.
+-- Where two adjacent bytes pass their tests, by lanes, and where a search is after offsets at which none do.
 use Rattle.std.proofs.Common.{◌≡◌, ◌∙◌, ◌+◌, ◌-◌, ◌<◌, ◌≤◌, ◌&&◌, ℕ, zero, suc, List, length, get_or, map, Bool, true, false, not, cond}
 use Rattle.std.proofs.Common.{Option, Some}
 use Rattle.std.proofs.Common.{bit_and, ⊎_elim, inl, inr, refl, sym, ap, subst, arith, true≢false}
@@ -29,7 +29,7 @@ both_bits true false = refl
 both_bits false true = refl
 both_bits false false = refl
 
--- what the 32 places from one on tell, by a bit for each lane
+-- what the 32 offsets from one on show, by one bit for each lane
 module _ (p q : ℕ → Bool) (h : List ℕ) (at : ℕ) (room : at + 33 ≤ length h) where
   abbrev first : List ℕ
   first = marked p (chunk at 32 h)
@@ -74,11 +74,11 @@ module _ (p q : ℕ → Bool) (h : List ℕ) (at : ℕ) (room : at + 33 ≤ leng
         sym (lane_at j k (omega (arith, l, small)) (omega (arith, low)))
         ∙ not-true _ (prefix_len_passes (λ x. not (has_bits x)) lanes j 0 (omega (arith, counted, l)))
 
-  module _ (bits : ℕ) (told : bits ≡ mask_l (map has_bits lanes)) where
+  module _ (bits : ℕ) (reported : bits ≡ mask_l (map has_bits lanes)) where
     counted_bits : 0 < bits → count_trailing_zeros 64 bits ≡ prefix_len (λ x. not (has_bits x)) lanes
     counted_bits some =
-        subst (λ n. count_trailing_zeros 64 n ≡ prefix_len (λ x. not (has_bits x)) lanes) (sym told)
-        (trailing_mask_l has_bits 64 lanes (omega (arith, long_lanes)) (subst (λ n. 0 < n) told some))
+        subst (λ n. count_trailing_zeros 64 n ≡ prefix_len (λ x. not (has_bits x)) lanes) (sym reported)
+        (trailing_mask_l has_bits 64 lanes (omega (arith, long_lanes)) (subst (λ n. 0 < n) reported some))
 
     pub pair_within : 0 < bits → count_trailing_zeros 64 bits ≤ 32
     pair_within some = within (count_trailing_zeros 64 bits) (counted_bits some)
@@ -91,9 +91,9 @@ module _ (p q : ℕ → Bool) (h : List ℕ) (at : ℕ) (room : at + 33 ≤ leng
     pub no_pair_in_lanes : (from : ℕ) → bits ≡ 0 → NoPairs p q h from at → NoPairs p q h from (at + 32)
     no_pair_in_lanes from none before =
         pairs_joined p q h from at (at + 32) before
-        (none_before 32 (sym (leading_from_mask_l has_bits lanes (sym told ∙ none) ∙ long_lanes)))
+        (none_before 32 (sym (leading_from_mask_l has_bits lanes (sym reported ∙ none) ∙ long_lanes)))
 
--- ---- where a search stands
+-- ---- where a search is
 
 module _ (d : Dfa) (v : CacheValue) (h : List ℕ) (made : IsDfa d) (own : IsCacheOf d v) (bytes : AreBytes h)
     (up : d.nfa.automaton.reverse ≡ false) (id : ℕ) (row : IsRow v id) (low : id < tag) (p q : ℕ → Bool)
@@ -105,7 +105,7 @@ module _ (d : Dfa) (v : CacheValue) (h : List ℕ) (made : IsDfa d) (own : IsCac
   Way k next = (m n : ℕ) (best : Option (ℕ × ℕ)) →
       GoesTo d h (point v m n from id best) (point v m n (from + k) next best) (from + k - from)
 
-  -- a byte that passes has one before it that doesn't
+  -- the byte before a byte that passes doesn't pass
   fails_before : (k : ℕ) → from + k + 1 < to → p (byte_at (from + k + 1)) ≡ true → p (byte_at (from + k)) ≡ false
   fails_before k within passes = elim (cases_Bool (p (byte_at (from + k)))) [
     | inl hit ↦
@@ -117,7 +117,7 @@ module _ (d : Dfa) (v : CacheValue) (h : List ℕ) (made : IsDfa d) (own : IsCac
     | inr miss ↦ miss
   ]
 
-  -- the byte before a place fails, where there is one
+  -- if there is a byte before an offset, it fails the test
   abbrev IsQuiet : ℕ → Type 0
   IsQuiet k = 0 < k → p (byte_at (from + k - 1)) ≡ false
 
@@ -157,7 +157,7 @@ module _ (d : Dfa) (v : CacheValue) (h : List ℕ) (made : IsDfa d) (own : IsCac
       id (class_of d.classes (Some (byte_at (from + (k + 1))))) refl
       (read (from + (k + 1)) next id (subst (λ j. cell_by v.cells v.classes next (byte_at j) ≡ id) e back)) low
 
-  -- behind any number of bytes of which the last one fails, the search is in the state in which it was
+  -- after any number of bytes the last of which fails, the search is in the state in which it was before
   way_far : (k : ℕ) → from + k ≤ to → IsQuiet k → Way k id
   way_far zero within quiet = stands d v h own from id row
   way_far (suc zero) within quiet =
@@ -183,7 +183,7 @@ module _ (d : Dfa) (v : CacheValue) (h : List ℕ) (made : IsDfa d) (own : IsCac
             )
       ]
 
-  -- the same to a place, before a byte that passes or behind one that fails
+  -- the search is in that state at an offset before a byte that passes, and at one after a byte that fails
   module _ (at : ℕ) (past : from ≤ at) (near : at ≤ to) where
     way_there : IsQuiet (at - from) → (m n : ℕ) (best : Option (ℕ × ℕ)) → GoesTo d h (point v m n from id best) (point v m n at id best)
         (at - from)

@@ -1,4 +1,4 @@
--- Runs over bytes that are read one by one, and that are passed over.
+-- Runs over bytes that are read one by one, and over bytes that are skipped.
 use Rattle.std.proofs.Common.{◌≡◌, ℕ, zero, suc, ◌+◌, ◌-◌, ◌<◌, ◌≤◌, false, List, length, Option, Some, get_or, refl, sym, subst, arith}
 use Rattle.lazy_dfa.specs.Caches.{CacheValue, IsCacheOf, IsRow}
 use Rattle.lazy_dfa.specs.Dfas.{Dfa, IsDfa, class_of}
@@ -11,7 +11,7 @@ use Rattle.lazy_dfa.proofs.CacheChanges.ChangeLemmas.{plain_noted}
 use Rattle.lazy_dfa.proofs.CacheChanges.LinkedLemmas.{AreBytes}
 use Rattle.lazy_dfa.proofs.Courses.PointLemmas.{goes_on, runs_none, runs_on, next_row, forward_unit, forward_place}
 
--- where bytes are counted, a way begins with none
+-- if bytes are counted, a path begins with none
 pub stands : (d : Dfa) (v : CacheValue) (h : List ℕ) → IsCacheOf d v → (from id : ℕ) → IsRow v id → (m n : ℕ) (best : Option (ℕ × ℕ)) →
     GoesTo d h (point v m n from id best) (point v m n (from + 0) id best) (from + 0 - from)
 stands d v h own from id row = subst (λ (j : ℕ). (m n : ℕ) (best : Option (ℕ × ℕ)) → GoesTo d h (point v m n from id best)
@@ -19,7 +19,7 @@ stands d v h own from id row = subst (λ (j : ℕ). (m n : ℕ) (best : Option (
 
 module _ (d : Dfa) (v : CacheValue) (h : List ℕ) (made : IsDfa d) (own : IsCacheOf d v) (bytes : AreBytes h)
     (up : d.nfa.automaton.reverse ≡ false) where
-  -- the way goes on by a byte whose step is known
+  -- the path goes on by a byte whose step is known
   module _ (from first at id : ℕ) (row : IsRow v first) (here : IsRow v id) (low : id < tag) (past : from ≤ at) (inside : at < length h)
       (so_far : (m n : ℕ) (best : Option (ℕ × ℕ)) → GoesTo d h (point v m n from first best) (point v m n at id best) (at - from))
       (next c : ℕ) (class : c ≡ class_of d.classes (Some (get_or h at 0))) (read : next ≡ get_or v.cells (id + c) 0)
@@ -35,7 +35,7 @@ module _ (d : Dfa) (v : CacheValue) (h : List ℕ) (made : IsDfa d) (own : IsCac
         (plain_noted d v id c (get_or h at 0) next class low read) plain (forward_unit d h at up inside) (forward_place d at up)
         (omega (arith, past))
 
-  -- the same, where bytes are counted
+  -- the path goes on by such a byte, if bytes are counted
   module _ (from first k id : ℕ) (row : IsRow v first) (here : IsRow v id) (low : id < tag) (inside : from + k < length h)
       (so_far : (m n : ℕ) (best : Option (ℕ × ℕ)) →
       GoesTo d h (point v m n from first best) (point v m n (from + k) id best) (from + k - from))
@@ -50,7 +50,7 @@ module _ (d : Dfa) (v : CacheValue) (h : List ℕ) (made : IsDfa d) (own : IsCac
         (j - from)) (omega arith)
         (way_on from first (from + k) id row here low (omega arith) inside so_far next c class read plain)
 
-  -- and behind bytes that leave the state as it is
+  -- the path goes on over bytes that leave the state as it is
   module _ (from first at id : ℕ) (row : IsRow v first) (here : IsRow v id) (low : id < tag) (past : from ≤ at)
       (so_far : (m n : ℕ) (best : Option (ℕ × ℕ)) → GoesTo d h (point v m n from first best) (point v m n at id best) (at - from)) where
     stays_on : (k : ℕ) → at + k ≤ length h → StaysOver v.cells v.classes h id at (at + k) →
@@ -75,7 +75,7 @@ module _ (d : Dfa) (v : CacheValue) (h : List ℕ) (made : IsDfa d) (own : IsCac
         subst (λ (j : ℕ). (m n : ℕ) (best : Option (ℕ × ℕ)) → GoesTo d h (point v m n from first best) (point v m n j id best) (j - from)) e
         (stays_on (to - at) (omega (arith, e, within)) (subst (StaysOver v.cells v.classes h id at) (sym e) stays))
 
-  -- two ways, one after the other
+  -- two paths, one after the other
   pub way_behind : (from first at id to next : ℕ) → IsRow v first → IsRow v id → from ≤ at → at ≤ to →
       ((m n : ℕ) (best : Option (ℕ × ℕ)) → GoesTo d h (point v m n from first best) (point v m n at id best) (at - from)) →
       ((m n : ℕ) (best : Option (ℕ × ℕ)) → GoesTo d h (point v m n at id best) (point v m n to next best) (to - at)) →
@@ -88,7 +88,7 @@ module _ (d : Dfa) (v : CacheValue) (h : List ℕ) (made : IsDfa d) (own : IsCac
       sum : from ≤ at → at ≤ to → (at - from) + (to - at) ≡ to - from
       sum l m = omega (arith, l, m)
 
-  -- by a byte to another state, and back by the next one
+  -- one byte leads to another state, and the next one leads back
   module _ (at id : ℕ) (here : IsRow v id) (low : id < tag) (inside : at + 1 < length h) (next c : ℕ)
       (class : c ≡ class_of d.classes (Some (get_or h at 0))) (read : next ≡ get_or v.cells (id + c) 0) (plain : next < tag) where
     begins : (m n : ℕ) (best : Option (ℕ × ℕ)) → GoesTo d h (point v m n at id best) (point v m n at id best) (at - at)
@@ -105,7 +105,7 @@ module _ (d : Dfa) (v : CacheValue) (h : List ℕ) (made : IsDfa d) (own : IsCac
         subst (λ (j : ℕ). GoesTo d h (point v m n at id best) (point v m n j id best) 2) (omega arith)
         (subst (GoesTo d h (point v m n at id best) (point v m n (at + 1 + 1) id best)) (omega arith) twice)
 
-  -- what is read further, behind what was read
+  -- what is read further, after what was read
   pub reads_on : (a b c : Moved) (middle end : ℕ) → IsRow v a.id → MovesTo d v h a middle b → MovesTo d v h b end c → MovesTo d v h a end c
   reads_on a b c middle end row before on = record {
     row = on.row;

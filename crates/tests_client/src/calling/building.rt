@@ -4,7 +4,7 @@ ghost use Rattle.hirscan.specs.Built.{IsBuilt, default_settings};
 use hir_core::Hir;
 use hirscan::{Settings, build, program_settings};
 use lazy_dfa::BuildError;
-use pattern_search::{TextError, parse_all};
+use pattern_search::{PatternError, parse_all};
 use pattern_text::Config;
 use regex_pair::regex::Regex;
 use std::alloc::Global;
@@ -16,16 +16,16 @@ pub fn of_trees(alloc: Global, trees: &[Hir]) -> Result<Regex, BuildError>
     build(alloc, trees, &Settings::new())
 }
 
-/// Why there is no regex of texts.
+/// Why there is no regex of patterns as text.
 #[derive(Debug, Drop)]
 pub enum NoRegex {
-    /// A text is refused, by its number, with what is wrong and where.
-    Text(TextError),
+    /// A pattern is rejected: its number, what is wrong and where.
+    Text(PatternError),
     /// The trees have no automata.
     Trees(BuildError),
 }
 
-/// A regex of texts in the syntax of the crate `regex`. Looks for words by characters are taken: searches then give up at bytes above 7F.
+/// A regex of patterns in the syntax of the crate `regex`. Unicode word boundaries are accepted: searches then give up at bytes above 7F.
 pub fn of_texts(alloc: Global, texts: &[&str]) -> Result<Regex, NoRegex> {
     let trees = match parse_all(alloc, texts, &Config::new()) {
         Ok(trees) => trees,

@@ -16,8 +16,8 @@ use hirscan::headline::searches_answer_where_no_byte_quits;
 use regex_pair::regex::{Cache, Regex};
 use search_types::{Input, Match, MatchError};
 
-/// The first match. Where the loops of the trees read it is the one that they define, and where no byte quits, no limit of clears is set
-/// and the mode is supported, want of memory alone refuses it.
+/// The first match. If the body of every unbounded repetition consumes at least one byte, it is the one that the trees define. If no byte
+/// quits, no limit of clears is set and the mode is supported, the only error is out of memory.
 pub fn first_match(
     re: &Regex,
     cache: &mut Cache,

@@ -3,10 +3,11 @@ use nfa_core::BuildError as CompileError;
 use pattern_text::ParseError;
 use search_types::{MatchError, MatchErrorKind};
 
-/// What a caller does where a regex or an answer is refused.
+/// What a caller does if there is an error instead of a regex or an answer.
 #[derive(Clone, Copy, Debug, PartialEq, Eq)]
 pub enum Then {
-    /// Tells who wrote the pattern, with the bytes of the text from the first to before the second.
+    /// Reports the error to the author of the pattern, with the bytes of the pattern from the first offset up
+    /// to before the second.
     Show(usize, usize),
     /// Gives each NFA more bytes than these, or takes a smaller pattern.
     RaiseSize(usize),
@@ -16,15 +17,15 @@ pub enum Then {
     ChangeWords,
     /// Splits the list of patterns.
     Split,
-    /// Asks another engine from this place on: nothing that was told before is wrong.
+    /// Asks another engine from this offset on: nothing that was reported before is wrong.
     AskAnother(usize),
     /// Searches with a limit on clears that is higher, or with none.
     AllowClears,
     /// Builds the automata with starts for each pattern.
     AddStarts,
-    /// Gives memory back, and calls again: all that was lent is as it was, or of use.
+    /// Frees memory, and calls again: all that was borrowed is as it was, or usable.
     FreeMemory,
-    /// Nothing: it isn't told by a regex that `build` made.
+    /// Nothing: a regex that `build` made never returns this error.
     Never,
 }
 
@@ -56,7 +57,7 @@ pub fn of_build(e: &BuildError) -> Then {
     }
 }
 
-/// Of a search, a step of an iterator or of a walk.
+/// What to do after an error of a search, of a step of an iterator or of an overlapping search.
 pub fn of_search(e: &MatchError) -> Then {
     match e.kind() {
         MatchErrorKind::Quit { offset, .. } => Then::AskAnother(*offset),

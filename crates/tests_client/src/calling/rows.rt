@@ -1,4 +1,4 @@
-// What the examples answer, found by hand.
+// The results of the examples, found by hand.
 ghost use Rattle.std.specs.Prelude.{◌≡◌, false};
 ghost use Rattle.lazy_dfa.specs.Caches.{IsCacheOf};
 ghost use Rattle.regex_pair.specs.Pairs.{AreCachesOf};
@@ -20,12 +20,12 @@ use regex_pair::regex::{Cache, Regex};
 use search_types::{HalfMatch, Input, PatternSet, Span};
 use std::alloc::Global;
 
-/// What is searched for times of day.
+/// A haystack with times of day.
 fn times() -> &'static [u8] {
     b"at 12:30 or 12:45"
 }
 
-/// Drops a value. Where it has many parts, a call is cheaper to prove than the drop of each of them.
+/// Drops a value. If it has many parts, a call is cheaper to prove than the drop of each of them.
 fn give_up<T: Drop>(_value: T) {}
 
 /// Both times of day are found, and none starts at the fourth byte.
@@ -83,7 +83,7 @@ fn times_of_day(rt: HostRuntime) {
     assert!(rt; times_by_text(alloc));
 }
 
-/// A group that stays open is shown in its text.
+/// The position of a group that isn't closed is shown.
 fn shows_the_text(alloc: Global) -> bool {
     match of_texts(alloc, &["a", "b("]) {
         Err(NoRegex::Text(e)) => e.number == 1 && of_text(&e.error) == Then::Show(1, 2),
@@ -104,7 +104,7 @@ fn leaves_a_letter(alloc: Global, re: &Regex) -> bool {
     }
 }
 
-/// So it is where words by characters are looked for.
+/// It is also left to another engine if words are searched for by characters.
 fn leaves_letters(alloc: Global) -> bool {
     match of_texts(alloc, &["\\bx"]) {
         Ok(re) => leaves_a_letter(alloc, &re),
@@ -112,7 +112,7 @@ fn leaves_letters(alloc: Global) -> bool {
     }
 }
 
-/// Without the heuristic for such words no regex is built.
+/// Without the heuristic for such words, no regex is built.
 fn changes_words(alloc: Global) -> bool {
     let Ok(trees) = parse_all(alloc, &["\\bx"], &Config::new()) else {
         return false;
@@ -138,7 +138,7 @@ fn is_at(end: Option<&HalfMatch>, pattern: usize, offset: usize) -> bool {
     }
 }
 
-/// `a+` ends behind each `a` of `baa`, and `aa` behind the last one.
+/// `a+` ends after each `a` of `baa`, and `aa` after the last one.
 fn tells_ends(alloc: Global, dfa: &DFA, cache: &mut dfa::Cache) -> bool
     requires own { IsCacheOf dfa.now cache.old }
     requires is_forward { dfa.now.nfa.automaton.reverse ≡ false }
@@ -202,7 +202,7 @@ fn walked_ends(rt: HostRuntime) {
     assert!(rt; is_walked);
 }
 
-/// A cache with room for two states is cleared, and tells it.
+/// A cache with room for two states is cleared, and reports this.
 fn tells_its_cost(re: &Regex, cache: &mut Cache) -> bool
     requires own { AreCachesOf re.now cache.old }
     ensures own { AreCachesOf re.now cache.new }
@@ -217,9 +217,9 @@ fn costs_by_regex(alloc: Global, re: &Regex) -> bool {
     let Ok(mut cache) = Cache::new(alloc, re) else {
         return false;
     };
-    let is_told = tells_its_cost(re, &mut cache);
+    let is_reported = tells_its_cost(re, &mut cache);
     give_up(cache);
-    is_told
+    is_reported
 }
 
 fn costs_by_trees(alloc: Global, trees: &[Hir]) -> bool {
@@ -232,9 +232,9 @@ fn costs_by_trees(alloc: Global, trees: &[Hir]) -> bool {
 #[test]
 fn costs(rt: HostRuntime) {
     let alloc = rt.alloc();
-    let is_told = match time_of_day(alloc) {
+    let is_reported = match time_of_day(alloc) {
         Ok(tree) => costs_by_trees(alloc, &[tree]),
         Err(_) => false,
     };
-    assert!(rt; is_told);
+    assert!(rt; is_reported);
 }

@@ -9,7 +9,7 @@ use std::alloc::{AllocError, Global};
 use std::marker::Brand;
 use std::sync::ledger::{Blank, Ledger};
 
-/// Settings of a regex whose automata are walked: all matches are looked for.
+/// Settings of a regex for overlapping searches: it looks for all matches.
 pub fn walking_settings() -> Settings {
     let settings = Settings::new();
     Settings {

@@ -7,7 +7,7 @@ ghost use Rattle.nfa_core.specs.Alike.{marks_of, AreAlike};
 ghost use Rattle.nfa_core.specs.BuilderStates.{Assembly, DraftNode, bytes_of_drafts, draft_at};
 ghost use Rattle.nfa_core.specs.Nfa.{Automaton, IsWellFormed};
 ghost use Rattle.nfa_core.specs.NfaValue.{memory_of, IsSound};
-ghost use Rattle.nfa_core.specs.Places.{arrivals, same_pair, IsGraph, AreWalkLists};
+ghost use Rattle.nfa_core.specs.Places.{arrivals, same_pair, IsGraph, AreStepLists};
 ghost use Rattle.nfa_core.specs.Renaming.{automaton_of, past, stands_for};
 ghost use Rattle.nfa_core.specs.Returns.{IsLeftForGood};
 ghost use Rattle.nfa_core.specs.Walks.{distinct, join, Has, Visits};
@@ -50,7 +50,7 @@ pub fn bytes_are_alike()
 
 pub fn lists_are_joined()
     ensures { (eps step : ℕ → ℕ → List ℕ) (n len q : ℕ) (ls : ℕ → List ℕ) → IsGraph eps step n len → q < n →
-        AreWalkLists eps step (λ k xs. xs) len q ls → (k : ℕ) → k ≤ len → ls k ≡ join nat_eq [] (arrivals eps step n q k) }
+        AreStepLists eps step (λ k xs. xs) len q ls → (k : ℕ) → k ≤ len → ls k ≡ join nat_eq [] (arrivals eps step n q k) }
 {
     lists_join_what_arrives();
 }

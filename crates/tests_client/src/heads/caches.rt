@@ -8,18 +8,18 @@ ghost use Rattle.nfa_core.specs.Nfa.{Automaton};
 ghost use Rattle.nfa_core.specs.Places.{same_pair};
 ghost use Rattle.nfa_core.specs.Walks.{HasNoneTwice};
 ghost use Rattle.lazy_dfa.specs.Accounting.{Measures, fresh_usage, state_cost, measured_usage};
-ghost use Rattle.lazy_dfa.specs.Caches.{CacheValue, HeldAt, IsCacheOf, greatest, lacks_room};
+ghost use Rattle.lazy_dfa.specs.Caches.{CacheValue, HeldAt, IsCacheOf, greatest, has_no_room};
 ghost use Rattle.lazy_dfa.specs.Changes.{Changes, IsMadeBy};
 ghost use Rattle.lazy_dfa.specs.Dfas.{Dfa};
-ghost use Rattle.lazy_dfa.specs.LeftTold.{HasRowOf};
-ghost use Rattle.lazy_dfa.specs.PassLaws.{pass_len};
-ghost use Rattle.lazy_dfa.specs.Passes.{pass, start_name};
+ghost use Rattle.lazy_dfa.specs.LeftProgress.{HasRowOf};
+ghost use Rattle.lazy_dfa.specs.ScanLaws.{scan_len_of};
+ghost use Rattle.lazy_dfa.specs.Scans.{scan, start_name};
 ghost use Rattle.lazy_dfa.specs.Quits.{has_unicode_word, quit_bytes};
 ghost use Rattle.lazy_dfa.specs.Readers.{Reader, found};
-ghost use Rattle.lazy_dfa.specs.ScanLaws.{Agree, IsInPass};
-ghost use Rattle.lazy_dfa.specs.Scans.{scan};
-ghost use Rattle.lazy_dfa.specs.WalkLaws.{IsBegun};
-ghost use Rattle.lazy_dfa.specs.Walks.{whole_rest};
+ghost use Rattle.lazy_dfa.specs.HalfSearchLaws.{Agree, IsInScan};
+ghost use Rattle.lazy_dfa.specs.HalfSearches.{half_search};
+ghost use Rattle.lazy_dfa.specs.OverlappingLaws.{IsBegun};
+ghost use Rattle.lazy_dfa.specs.Overlapping.{whole_rest};
 
 use lazy_dfa::BuildError;
 use lazy_dfa::accounting_laws::states_add_to_the_usage;
@@ -64,13 +64,13 @@ pub fn least_capacity(nfa: &NFA) -> Result<usize, BuildError> {
 }
 
 pub fn a_state_that_is_held_has_room()
-    ensures { (d : Dfa) (v : CacheValue) (s : StateValue) → HasRowOf v s → lacks_room d v s ≡ true → ⊥ }
+    ensures { (d : Dfa) (v : CacheValue) (s : StateValue) → HasRowOf v s → has_no_room d v s ≡ true → ⊥ }
 {
     held_states_have_room();
 }
 
 pub fn passes_come_to_an_end()
-    ensures { (r : Reader) (m : Anchored) (b : Bool) (h : List ℕ) (n i : ℕ) → pass_len r m b h n i ≤ suc n }
+    ensures { (r : Reader) (m : Anchored) (b : Bool) (h : List ℕ) (n i : ℕ) → scan_len_of r m b h n i ≤ suc n }
 {
     passes_read_one_unit_more_at_most();
 }
@@ -82,21 +82,21 @@ pub fn no_words_no_further_quits()
 }
 
 pub fn passes_read_their_reach()
-    ensures { (r : Reader) (m : Anchored) (b : Bool) (h g : List ℕ) (n i : ℕ) → Agree h g (IsInPass r m b h n i) →
-        pass r m b h n i ≡ pass r m b g n i }
+    ensures { (r : Reader) (m : Anchored) (b : Bool) (h g : List ℕ) (n i : ℕ) → Agree h g (IsInScan r m b h n i) →
+        scan r m b h n i ≡ scan r m b g n i }
 {
     passes_depend_on_their_reach();
 }
 
 pub fn nothing_is_found_of_no_pattern()
     ensures { (r : Reader) (q : Search) (o : Option (ℕ × ℕ)) → start_name r.automaton q.anchored ≡ None →
-        scan r q ≡ found o → o ≡ None }
+        half_search r q ≡ found o → o ≡ None }
 {
     scans_for_no_pattern_find_nothing();
 }
 
 pub fn ends_are_told_once()
-    ensures { (r : Reader) (q : Search) (s : ℕ) → r.kind ≡ AllMatches → IsBegun r q s → (whole_rest r q).refusal ≡ None →
+    ensures { (r : Reader) (q : Search) (s : ℕ) → r.kind ≡ AllMatches → IsBegun r q s → (whole_rest r q).rejection ≡ None →
         HasNoneTwice same_pair (whole_rest r q).ends }
 {
     walks_for_all_tell_each_end_once();

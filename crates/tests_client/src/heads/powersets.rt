@@ -11,7 +11,7 @@ ghost use Rattle.determinize_core.specs.StateBytes.{encoded};
 ghost use Rattle.determinize_core.specs.States.{StateValue, IsState, dead};
 ghost use Rattle.determinize_core.specs.Stepped.{IsStepped, widest};
 ghost use Rattle.determinize_core.specs.Steps.{step_value};
-ghost use Rattle.determinize_core.specs.Walked.{cut_of, walked_lists};
+ghost use Rattle.determinize_core.specs.Walked.{cut_of, lists_along};
 
 use determinize_core::alike_laws::alike_units_step_alike;
 use determinize_core::start_laws::what_is_known_forward_is_true;
@@ -60,7 +60,7 @@ pub fn states_are_narrow()
 
 pub fn walks_make_lists()
     ensures { (k : MatchKind) (a : Automaton) (t : Text) (i q : ℕ) → IsWellFormed a → q < length a.states →
-        AreLists a t (i, q) (cut_of k a i) (walked_lists k a t i q) }
+        AreLists a t (i, q) (cut_of k a i) (lists_along k a t i q) }
 {
     walked_lists_are_lists();
 }

@@ -18,8 +18,8 @@ ghost use Rattle.hirscan.specs.ReachLaws.{HasItsClasses};
 ghost use Rattle.hirscan.specs.Readers.{IsReader, number};
 ghost use Rattle.hirscan.specs.Reads.{Reads};
 ghost use Rattle.hirscan.specs.Regexes.{IsRegexOf, IsSearchOf, query_of};
-ghost use Rattle.hirscan.specs.Takes.{HeadValue};
-ghost use Rattle.hirscan.specs.TreeWalks.{IsWalkerOf};
+ghost use Rattle.hirscan.specs.Takes.{QueryValue};
+ghost use Rattle.hirscan.specs.OverlappingTrees.{IsOverlappingDfa};
 ghost use Rattle.hirscan.specs.Words.{IsNumber};
 ghost use Rattle.hirscan.specs.declared.settings.Settings.{Settings as SettingsValue};
 
@@ -61,7 +61,7 @@ pub fn built_pairs_have_their_classes()
 }
 
 pub fn heads_read_once()
-    ensures { (text : List ℕ) (p q r : HeadValue) (n m : ℕ) → Reads text p q n → Reads text p r m → q ≡ r }
+    ensures { (text : List ℕ) (p q r : QueryValue) (n m : ℕ) → Reads text p q n → Reads text p r m → q ≡ r }
 {
     texts_read_in_one_way();
 }
@@ -76,7 +76,8 @@ pub fn joined_answers_are_defined()
 }
 
 pub fn starts_can_be_walked()
-    ensures { (xs : List Tree) (s : SettingsValue) (p : Pair) → IsBuilt xs s p → IsWalkerOf xs true s.utf8 s.line_terminator p.reverse }
+    ensures { (xs : List Tree) (s : SettingsValue) (p : Pair) → IsBuilt xs s p →
+        IsOverlappingDfa xs true s.utf8 s.line_terminator p.reverse }
 {
     built_automata_are_walked();
 }

@@ -11,11 +11,11 @@ ghost use Rattle.pattern_search.specs.Written.{AnswersWhatIsWritten, FindsWhatIs
 use hir_core::Hir;
 use pattern_search::laws::searches_find_what_is_written;
 use pattern_search::regex_laws::regexes_answer_what_is_written;
-use pattern_search::{TextError, parse_all};
+use pattern_search::{PatternError, parse_all};
 use pattern_text::Config;
 use std::alloc::Global;
 
-pub fn trees_of(alloc: Global, texts: &[&str]) -> Result<Vec<Hir>, TextError> {
+pub fn trees_of(alloc: Global, texts: &[&str]) -> Result<Vec<Hir>, PatternError> {
     parse_all(alloc, texts, &Config::new())
 }
 

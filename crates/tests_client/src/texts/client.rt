@@ -1,15 +1,15 @@
-// What the client does: its last clause names the texts alone.
+// What the client does: its last clause names only the patterns as text.
 ghost use Rattle.std.specs.Prelude.{◌≡◌, ◌++◌, ◌∷◌, [], IfOk, IfSome, OnOk, map};
 ghost use Rattle.look_core.specs.Terminators.{one_of};
 ghost use Rattle.regex_pair.specs.Pairs.{AreCachesOf};
 ghost use Rattle.regex_pair.specs.Taken.{IsWholeList};
 ghost use Rattle.hirscan.specs.Built.{FindsFirst};
-ghost use Rattle.tests_client.specs.TextsTold.{IsListed, AreAllMatches};
+ghost use Rattle.tests_client.specs.TextReports.{IsListed, AreAllMatches};
 
 use hir_core::Hir;
 use hirscan::{Settings, all_loops_read, build, is_search_of, program_settings};
 use pattern_search::regex_laws::regexes_answer_what_is_written;
-use pattern_search::{TextError, parse_all};
+use pattern_search::{PatternError, parse_all};
 use pattern_text::Config;
 use regex_pair::regex::{Cache, Regex};
 use regex_pair::taken_laws::a_step_takes_one_more;
@@ -19,11 +19,11 @@ use std::alloc::{AllocError, Global};
 /// Why there is no list.
 #[derive(Clone, Copy, Debug, PartialEq, Eq)]
 pub enum Fault {
-    /// A text is refused.
-    Text(TextError),
-    /// No regex is built of the trees, or memory lacked for it.
+    /// A pattern is rejected.
+    Text(PatternError),
+    /// No regex is built of the trees, or building it is out of memory.
     NotBuilt,
-    /// A search is refused.
+    /// A search fails.
     Search(MatchError),
 }
 
@@ -56,7 +56,7 @@ fn list(
     Ok(all)
 }
 
-/// Drops a value. Where it has many parts, a call is cheaper to prove than the drop of each of them.
+/// Drops a value. If it has many parts, a call is cheaper to prove than the drop of each of them.
 fn give_up<T: Drop>(_value: T) {}
 
 /// What a regex that is built of the trees lists.
@@ -103,7 +103,8 @@ fn settings_for(utf8: bool) -> Settings
     })
 }
 
-/// All matches of the texts in the haystack; `None` where a loop may read nothing, or in UTF-8 mode something is no UTF-8.
+/// All matches of the patterns in the haystack. The result is `None` if the body of an unbounded repetition may
+/// consume no byte, or if in UTF-8 mode something isn't UTF-8.
 pub fn all_matches(
     alloc: Global,
     texts: &[&str],
@@ -111,7 +112,8 @@ pub fn all_matches(
     utf8: bool,
     haystack: &[u8],
 ) -> Result<Option<Vec<Match>>, Fault>
-    ensures { IfOk result (λ told. IfSome told (λ all. AreAllMatches config.now (map (λ t. t.now) texts.now) utf8 haystack.now all.items)) }
+    ensures { IfOk result (λ reported. IfSome reported (λ all. AreAllMatches config.now (map (λ t. t.now) texts.now) utf8 haystack.now
+        all.items)) }
 {
     regexes_answer_what_is_written();
     let settings = settings_for(utf8);

@@ -1,9 +1,9 @@
-// A text of ten million bytes, which takes an unproved run longer than a test may take.
+// A pattern of ten million bytes, for which an unproved run takes longer than a test may.
 use hir_core::{Hir, HirKind};
 use pattern_text::{Config, parse};
 use std::alloc::{AllocError, Global};
 
-/// So many times the same.
+/// The string, so many times.
 fn many(alloc: Global, one: &str, count: u32) -> Result<String, AllocError> {
     let mut text = String::from_str(alloc, one)?;
     for _ in 1..count {
@@ -19,7 +19,7 @@ fn bytes(tree: &Hir) -> usize {
     }
 }
 
-/// So many times `abcdefgh` is one text of eight times as many bytes.
+/// Whether the pattern of so many times `abcdefgh` has a literal of eight times as many bytes.
 fn keeps_bytes(alloc: Global, count: u32) -> Result<bool, AllocError> {
     let text = many(alloc, "abcdefgh", count)?;
     match parse(alloc, &text, &Config::new()) {

@@ -1,11 +1,17 @@
-// Texts, a haystack, and the spans of all matches.
+// Patterns, a haystack, and the spans of all matches.
 use crate::texts::client::{Fault, all_matches};
 use pattern_text::Config;
 use search_types::Match;
 use std::alloc::Global;
 
-/// Any number of `a`, or `b`, or nothing; a Greek letter, a small one of ASCII, or a digit; nothing; `ab` or `a`, or else `abc`; a loop
-/// that may read nothing; and a group that stays open, behind and before others.
+/// Patterns:
+///
+/// - one or more `a`, or `b`, or nothing;
+/// - a Greek letter, a small letter of ASCII, or a digit;
+/// - nothing;
+/// - `ab` or `a`, or else `abc`;
+/// - `b`, or an empty loop;
+/// - a group that isn't closed, after one pattern and before another.
 #[derive(Clone, Copy)]
 enum Texts {
     Runs,
@@ -46,10 +52,10 @@ fn bytes_of(haystack: Haystack) -> &'static [u8] {
     }
 }
 
-/// What is told.
+/// What is reported.
 #[derive(Clone, Copy)]
-enum Told {
-    /// The text of this number is refused.
+enum ProgressValue {
+    /// The pattern of this number is rejected.
     Refused(usize),
     /// The laws say nothing of it.
     Undefined,
@@ -57,31 +63,51 @@ enum Told {
     Three(usize, usize, usize, usize, usize, usize),
 }
 
-fn rows() -> &'static [(Texts, bool, Haystack, Told)] {
+fn rows() -> &'static [(Texts, bool, Haystack, ProgressValue)] {
     &[
         (
             Texts::Runs,
             false,
             Haystack::Xaab,
-            Told::Three(0, 0, 1, 3, 3, 4),
+            ProgressValue::Three(0, 0, 1, 3, 3, 4),
         ),
         (
             Texts::Letters,
             true,
             Haystack::Mixed,
-            Told::Three(0, 1, 1, 3, 3, 4),
+            ProgressValue::Three(0, 1, 1, 3, 3, 4),
         ),
-        (Texts::Nothing, true, Haystack::Beta, Told::Two(0, 0, 2, 2)),
+        (
+            Texts::Nothing,
+            true,
+            Haystack::Beta,
+            ProgressValue::Two(0, 0, 2, 2),
+        ),
         (
             Texts::Nothing,
             false,
             Haystack::Beta,
-            Told::Three(0, 0, 1, 1, 2, 2),
+            ProgressValue::Three(0, 0, 1, 1, 2, 2),
         ),
-        (Texts::Longer, true, Haystack::Abcab, Told::Two(0, 2, 3, 5)),
-        (Texts::Longer, true, Haystack::Broken, Told::Undefined),
-        (Texts::Loop, false, Haystack::Xaab, Told::Undefined),
-        (Texts::Open, false, Haystack::Xaab, Told::Refused(1)),
+        (
+            Texts::Longer,
+            true,
+            Haystack::Abcab,
+            ProgressValue::Two(0, 2, 3, 5),
+        ),
+        (
+            Texts::Longer,
+            true,
+            Haystack::Broken,
+            ProgressValue::Undefined,
+        ),
+        (Texts::Loop, false, Haystack::Xaab, ProgressValue::Undefined),
+        (
+            Texts::Open,
+            false,
+            Haystack::Xaab,
+            ProgressValue::Refused(1),
+        ),
     ]
 }
 
@@ -93,13 +119,13 @@ fn is_at(found: Option<&Match>, start: usize, end: usize) -> bool {
 }
 
 /// These spans are listed.
-fn is_listed(all: &[Match], told: Told) -> bool {
-    match told {
-        Told::Refused(_) | Told::Undefined => false,
-        Told::Two(a, b, c, d) => all.len() == 2
+fn is_listed(all: &[Match], reported: ProgressValue) -> bool {
+    match reported {
+        ProgressValue::Refused(_) | ProgressValue::Undefined => false,
+        ProgressValue::Two(a, b, c, d) => all.len() == 2
             && is_at(all.first(), a, b)
             && is_at(all.get(1), c, d),
-        Told::Three(a, b, c, d, e, f) => {
+        ProgressValue::Three(a, b, c, d, e, f) => {
             all.len() == 3
                 && is_at(all.first(), a, b)
                 && is_at(all.get(1), c, d)
@@ -108,19 +134,26 @@ fn is_listed(all: &[Match], told: Told) -> bool {
     }
 }
 
-fn is_told(alloc: Global, texts: Texts, utf8: bool, haystack: Haystack, told: Told) -> bool {
+fn is_reported(
+    alloc: Global,
+    texts: Texts,
+    utf8: bool,
+    haystack: Haystack,
+    reported: ProgressValue,
+) -> bool {
     let config = Config::new().utf8(utf8);
     match all_matches(alloc, texts_of(texts), &config, utf8, bytes_of(haystack)) {
-        Ok(Some(all)) => is_listed(&all, told),
-        Ok(None) => matches!(told, Told::Undefined),
-        Err(Fault::Text(e)) => matches!(told, Told::Refused(number) if number == e.number),
+        Ok(Some(all)) => is_listed(&all, reported),
+        Ok(None) => matches!(reported, ProgressValue::Undefined),
+        Err(Fault::Text(e)) =>
+            matches!(reported, ProgressValue::Refused(number) if number == e.number),
         Err(Fault::NotBuilt | Fault::Search(_)) => false,
     }
 }
 
 #[test]
 fn spans_of_texts(rt: HostRuntime) {
-    for (texts, utf8, haystack, told) in rows() {
-        assert!(rt; is_told(rt.alloc(), *texts, *utf8, *haystack, *told));
+    for (texts, utf8, haystack, reported) in rows() {
+        assert!(rt; is_reported(rt.alloc(), *texts, *utf8, *haystack, *reported));
     }
 }

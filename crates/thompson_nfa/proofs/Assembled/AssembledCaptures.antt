@@ -1,4 +1,4 @@
--- Where no group is kept, no state of the automaton that is built of a compile's states is one of a group.
+-- If no group is kept, no state of the automaton that is built of a compile's states is one of a group.
 use Rattle.std.proofs.Common.{◌≡◌, ℕ, ◌<◌, true, false, List, [], ◌∷◌, map, reverse, None, is_none, is_some, nat_lt, get_or, refl, ap, ◌∙◌}
 use Rattle.std.proofs.Common.{subst, arith, ⊎_elim}
 use Rattle.std.specs.Prelude.{All}
@@ -28,7 +28,7 @@ plain_ranges [] = refl
 plain_ranges ((low, high, next) ∷ []) = refl
 plain_ranges ((low, high, next) ∷ r ∷ ranges) = refl
 
--- among no groups there is none
+-- without groups there is no slot
 no_slot : (pattern group : ℕ) → slot [] pattern group ≡ None
 no_slot pattern group = ⊎_elim
     (λ (below : nat_lt group 0 ≡ true). let none : group < 0 = ltb-true group 0 below in absurd (omega arith))

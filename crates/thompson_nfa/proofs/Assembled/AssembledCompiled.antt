@@ -15,7 +15,7 @@ use Rattle.nfa_core.proofs.ForCallers.{smaller}
 use Rattle.thompson_nfa.specs.Compiled.{sum_of_bytes}
 use Rattle.thompson_nfa.specs.Configs.{Options, reverse_of, limit_of, is_shrunk}
 use Rattle.thompson_nfa.specs.Room.{list_room}
-use Rattle.search_types.specs.FirstFound.{places_from}
+use Rattle.search_types.specs.FirstFound.{offsets_from}
 use Rattle.thompson_nfa.specs.ByteRoom.{at_least}
 use Rattle.thompson_nfa.specs.Compilations.{HasOneMatch, IsCompiled, pattern_start, bytes_needed}
 use Rattle.thompson_nfa.specs.Assembled.{IsAssembled, AllAnchored}
@@ -42,7 +42,7 @@ abbrev pub AreLedTo : Automaton → Type 0
 AreLedTo a = (q : ℕ) → Has nat_eq q (reached_freely a)
     ↔ ((s : ℕ) × Has nat_eq s a.start_pattern × (r : List ℕ) × IsChain nat_eq (free_steps a) s r × (last_or s r ≡ q))
 
--- the same from the two halves of a law
+-- the lemma above, from the two halves of a law
 pub led_to : (a : Automaton) →
     ((q : ℕ) → Has nat_eq q (reached_freely a) →
     (s : ℕ) × (r : List ℕ) × Has nat_eq s a.start_pattern × IsChain nat_eq (free_steps a) s r × (last_or s r ≡ q)) →
@@ -76,12 +76,12 @@ assembled_is_compiled o xs b A U is apart reached n same utf8 terminator groups 
     anchored = λ t i place.
         let P : Automaton → Type 0 =
         λ a. ends_from a t (i, a.start_anchored)
-        ≡ distinct same_pair (flat_map (λ p. ends_from a t (i, pattern_start a p)) (places_from 0 (length xs))) in
+        ≡ distinct same_pair (flat_map (λ p. ends_from a t (i, pattern_start a p)) (offsets_from 0 (length xs))) in
         subst P (sym same) (anchored_starts o xs b A U is t i place);
     unanchored = λ up t i read low high.
         let P : Automaton → Type 0 =
         λ a. ends_from a t (i, a.start_unanchored)
-        ≡ distinct same_pair (flat_map (λ k. ends_from a t (k, a.start_anchored)) (places_from i (suc t.end - i))) in
+        ≡ distinct same_pair (flat_map (λ k. ends_from a t (k, a.start_anchored)) (offsets_from i (suc t.end - i))) in
         subst P (sym same) (unanchored_starts o xs b A U is (is.reverse ∙ up) t i read low high);
   };
   looks = let P : Automaton → Type 0 = λ a. (l : Look) →

@@ -40,16 +40,16 @@ node_of_match node i p h =
     let pair : (i, m.0) ≡ (i, p) = cc in
     m.1 ∙ ap (λ (w : ℕ × ℕ). match_node w.1) pair
 
--- a match is there
+-- a match is one of the states
 pub match_inside : (drafts : List DraftNode) (q p : ℕ) → draft_at drafts q ≡ match_draft p → q < length drafts
 match_inside drafts q p is = ⊎_elim
-    (λ told. let none : draft_at drafts q ≡ fail_draft = get_or_past drafts q fail_draft told.1 in cc)
-    (λ told. told.1) (leb_tells (length drafts) q)
+    (λ reported. let none : draft_at drafts q ≡ fail_draft = get_or_past drafts q fail_draft reported.1 in cc)
+    (λ reported. reported.1) (leb_tells (length drafts) q)
 
 node_inside : (nodes : List Node) (q p : ℕ) → get_or nodes q fail_node ≡ match_node p → q < length nodes
 node_inside nodes q p is = ⊎_elim
-    (λ told. let none : get_or nodes q fail_node ≡ fail_node = get_or_past nodes q fail_node told.1 in cc)
-    (λ told. told.1) (leb_tells (length nodes) q)
+    (λ reported. let none : get_or nodes q fail_node ≡ fail_node = get_or_past nodes q fail_node reported.1 in cc)
+    (λ reported. reported.1) (leb_tells (length nodes) q)
 
 module _ (b : Assembly) (A U p : ℕ) (one : (q r p : ℕ) → draft_at b.drafts q ≡ match_draft p → draft_at b.drafts r ≡ match_draft p →
     q ≡ r) where
@@ -126,7 +126,7 @@ pub assembled_patterns : (o : Options) (xs : List Tree) (b : Assembly) (A U : �
     length (automaton_of b A U).start_pattern ≡ length xs
 assembled_patterns o xs b A U is = all_patterns o xs b A U is
 
--- the two starts are one where all trees are anchored; where they aren't, the premise keeps them apart
+-- The two starts are one if all trees are anchored. If they aren't, the premise keeps the starts apart.
 pub assembled_always_anchored : (o : Options) (xs : List Tree) (b : Assembly) (A U : ℕ) → IsAssembled o xs b A U →
     ((AllAnchored (reverse_of o) xs → ⊥) → past b.drafts A ≢ U) →
     ((automaton_of b A U).start_anchored ≡ (automaton_of b A U).start_unanchored) ↔ AllAnchored (reverse_of o) xs

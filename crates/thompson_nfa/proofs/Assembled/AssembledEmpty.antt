@@ -1,5 +1,5 @@
--- Whether a match of the automaton that is built of a compile's states is reached without a byte: whether some tree means
--- the empty span, each look taken as one that holds.
+-- Whether a match of the automaton that is built of a compile's states is reached without a byte: whether some tree means the empty span,
+-- with every look taken to hold.
 use Rattle.std.proofs.Common.{◌≡◌, ◌↔◌, ℕ, ◌<◌, Bool, true, false, List, [], ◌∷◌, length, map, get_or, slice_get, inl, inr, ⊎_elim, Some}
 use Rattle.std.proofs.Common.{refl, sym, ap, ◌∙◌, subst, arith}
 use Rattle.std.specs.Bool.{nat_eq}
@@ -67,7 +67,7 @@ has_here q (z ∷ qs) h = elim (has_cons nat_eq names_equal q z qs h) [
   | inr g ↦ has_later same_pair (here q) (here z) (map here qs) (has_here q qs g)
 ]
 
--- ---- the text of no byte in which each look holds
+-- ---- the haystack of no byte in which each look holds
 
 abbrev pub free_text : Text
 free_text = record { haystack = []; start = 0; end = 0; holds = λ l i. true }
@@ -98,7 +98,7 @@ module _ (a : Automaton) where
   last_here s [] = refl
   last_here s (q ∷ r) = last_here q r
 
-  -- a chain of such ways, from its pairs
+  -- a chain of such transitions, from its pairs
   abbrev Freely : ℕ → ℕ × ℕ → Type 0
   Freely s e = (w : List ℕ) × IsChain nat_eq (free_steps a) s w × (e ≡ here (last_or s w))
 

@@ -1,4 +1,4 @@
--- In which order the automaton that is built of a compile's states finds spans, for one who reads forward.
+-- In which order the automaton that is built of a compile's states finds spans when reading forward.
 use Rattle.std.proofs.Common.{◌≡◌, ℕ, suc, ◌-◌, ◌<◌, ◌≤◌, Bool, false, List, [], ◌∷◌, length, map, get_or, slice_get, inl, inr, Some, sym}
 use Rattle.std.proofs.Common.{ap, ◌∙◌, subst, arith}
 use Rattle.std.specs.Prelude.{All}
@@ -17,7 +17,7 @@ use Rattle.nfa_core.specs.Drafted.{table_ways, table_match}
 use Rattle.nfa_core.proofs.ForCallers.{ends_listed}
 use Rattle.thompson_nfa.specs.Configs.{Options, reverse_of}
 use Rattle.thompson_nfa.specs.Denotes.{seen}
-use Rattle.search_types.specs.FirstFound.{places_from}
+use Rattle.search_types.specs.FirstFound.{offsets_from}
 use Rattle.thompson_nfa.specs.Compilations.{choices_from, pattern_start, IsPlainText, FindsInOrder}
 use Rattle.thompson_nfa.specs.Assembled.{AcceptAll, IsAssembled, ComesBefore}
 use Rattle.thompson_nfa.proofs.Walks.OrderLemmas.{Listed, ListedFirsts}
@@ -72,7 +72,7 @@ module _ (o : Options) (xs : List Tree) (b : Assembly) (A U : ℕ) (is : IsAssem
     anchored_listed t i place = ends_are_listed t A i (choices_from 0 xs t i) is.can_build.anchored_there place (anchored_walk t i)
 
     all_walked : (t : Text) (i : ℕ) → IsPlainText t → i ≤ t.end →
-        ListedFirsts t (draft_at b.drafts) ((i, U) ∷ []) (flat_map (choices_from 0 xs t) (places_from i (suc t.end - i)))
+        ListedFirsts t (draft_at b.drafts) ((i, U) ∷ []) (flat_map (choices_from 0 xs t) (offsets_from i (suc t.end - i)))
     all_walked t i read high =
         let P : List (ℕ × ℕ) → Type 0 = λ l. ListedFirsts t (draft_at b.drafts) ((i, U) ∷ []) l in
         elim before_forward [
@@ -86,9 +86,9 @@ module _ (o : Options) (xs : List Tree) (b : Assembly) (A U : ℕ) (is : IsAssem
         ]
 
     unanchored_listed : (t : Text) (i : ℕ) → IsPlainText t → i ≤ t.end →
-        ends_from auto t (i, new_name b.drafts U) ≡ distinct same_pair (flat_map (choices_from 0 xs t) (places_from i (suc t.end - i)))
+        ends_from auto t (i, new_name b.drafts U) ≡ distinct same_pair (flat_map (choices_from 0 xs t) (offsets_from i (suc t.end - i)))
     unanchored_listed t i read high =
-        ends_are_listed t U i (flat_map (choices_from 0 xs t) (places_from i (suc t.end - i))) is.can_build.unanchored_there high
+        ends_are_listed t U i (flat_map (choices_from 0 xs t) (offsets_from i (suc t.end - i))) is.can_build.unanchored_there high
         (all_walked t i read high)
 
   finds_in_order : (n : Nfa) → n.automaton ≡ auto → FindsInOrder xs n
@@ -103,7 +103,7 @@ module _ (o : Options) (xs : List Tree) (b : Assembly) (A U : ℕ) (is : IsAssem
     unanchored = λ reading t i read low high.
         let P : Automaton → Type 0 =
         λ a. ends_from a t (i, a.start_unanchored)
-        ≡ distinct same_pair (flat_map (choices_from 0 xs t) (places_from i (suc t.end - i))) in
+        ≡ distinct same_pair (flat_map (choices_from 0 xs t) (offsets_from i (suc t.end - i))) in
         subst P (sym same) (unanchored_listed reading t i read high);
   }
 

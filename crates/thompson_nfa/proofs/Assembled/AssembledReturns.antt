@@ -1,4 +1,4 @@
--- From the unanchored start of the automaton that is built of a compile's states, no chain comes to a pair twice.
+-- From the unanchored start of the automaton that is built of a compile's states, no chain visits a pair twice.
 use Rattle.std.proofs.Common.{◌≡◌, ℕ, ◌≤◌, Bool, List, ◌∷◌, inl, inr, sym, subst}
 use Rattle.std.specs.Prelude.{All}
 use Rattle.hir_core.specs.Tree.{Tree}
@@ -24,7 +24,7 @@ module _ (o : Options) (xs : List Tree) (b : Assembly) (A U : ℕ) (is : IsAssem
   anchored_ends : (t : Text) (i : ℕ) → ComesToEnd (reverse_of o) t (draft_at b.drafts) (i, A)
   anchored_ends t i = all_end (reverse_of o) t (draft_at b.drafts) A b.starts xs i is.leads is.accept reading
 
-  -- in any text
+  -- in any haystack
   unanchored_ends : (t : Text) (i : ℕ) → ComesToEnd (reverse_of o) t (draft_at b.drafts) (i, U)
   unanchored_ends t i = elim is.before [
     | inl x ↦ (halts_at_once (reverse_of o) t (draft_at b.drafts) U A x.1).halts i (λ j m. anchored_ends t j)

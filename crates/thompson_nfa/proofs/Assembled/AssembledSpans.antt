@@ -1,4 +1,4 @@
--- Which spans the automaton finds that is built of a compile's states.
+-- Which spans are found by the automaton that is built of a compile's states.
 use Rattle.std.proofs.Common.{◌≡◌, ◌↔◌, ℕ, ◌<◌, ◌≤◌, Bool, true, false, List, length, get_or, slice_get, inl, inr, Some, sym, subst, arith}
 use Rattle.std.proofs.lemmas.List.{get_or-map}
 use Rattle.std.proofs.lemmas.List.Elements.{All-get_or}

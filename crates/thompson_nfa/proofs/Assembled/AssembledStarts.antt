@@ -17,7 +17,7 @@ use Rattle.nfa_core.specs.Ways.{Text, ways, matched, ends_from}
 use Rattle.nfa_core.proofs.ForCallers.{none_in, pairs_equal, from_map, state_match, name_inside, is_well_formed, past_next, join_once_more}
 use Rattle.nfa_core.proofs.ForCallers.{ends_by_ways, renamed_pair, state_ways, from_mapped, every_of_all, chain_to, unequal}
 use Rattle.thompson_nfa.specs.Assembled.{AcceptAll, IsAssembled}
-use Rattle.search_types.specs.FirstFound.{places_from}
+use Rattle.search_types.specs.FirstFound.{offsets_from}
 use Rattle.thompson_nfa.specs.Compilations.{pattern_start}
 use Rattle.thompson_nfa.specs.Configs.{Options}
 use Rattle.thompson_nfa.proofs.Walks.ApartLemmas.{kept_off}
@@ -35,7 +35,7 @@ module _ (o : Options) (xs : List Tree) (b : Assembly) (A U : ℕ) (is : IsAssem
   abbrev T : Table
   T = draft_at b.drafts
 
-  -- the states on which what patterns do doesn't depend
+  -- the states on which the behaviour of the patterns does not depend
   abbrev out : ℕ → Bool
   out q = nat_lt q is.low || nat_eq q is.free.hole
 
@@ -103,7 +103,7 @@ module _ (o : Options) (xs : List Tree) (b : Assembly) (A U : ℕ) (is : IsAssem
   starts_listed : (t : Text) (i : ℕ) (all ss : List ℕ) (k : ℕ) →
       ((n : ℕ) → n < length ss → get_or all (k + n) 0 ≡ get_or (map (new_name b.drafts) ss) n 0) →
       flat_map (ends t) (map (renamed_pair b.drafts) (each_at ss i))
-      ≡ flat_map (λ p. ends t (i, get_or all p 0)) (places_from k (length ss))
+      ≡ flat_map (λ p. ends t (i, get_or all p 0)) (offsets_from k (length ss))
   starts_listed t i all [] k same = refl
   starts_listed t i all (s ∷ ss) k same =
       let first : k ≡ k + 0 = omega arith in
@@ -114,11 +114,11 @@ module _ (o : Options) (xs : List Tree) (b : Assembly) (A U : ℕ) (is : IsAssem
 
   all_listed : (t : Text) (i : ℕ) →
       flat_map (ends t) (map (renamed_pair b.drafts) (each_at b.starts i))
-      ≡ flat_map (λ p. ends t (i, pattern_start auto p)) (places_from 0 (length xs))
+      ≡ flat_map (λ p. ends t (i, pattern_start auto p)) (offsets_from 0 (length xs))
   all_listed t i =
       starts_listed t i (map (new_name b.drafts) b.starts) b.starts 0
       (λ n l. ap (λ (m : ℕ). get_or (map (new_name b.drafts) b.starts) m 0) (let e : 0 + n ≡ n = omega arith in e))
-      ∙ ap (λ (n : ℕ). flat_map (λ p. ends t (i, pattern_start auto p)) (places_from 0 n))
+      ∙ ap (λ (n : ℕ). flat_map (λ p. ends t (i, pattern_start auto p)) (offsets_from 0 n))
       (accept_count b.reverse T 0 b.starts xs (accept_free T (λ q e. refl)))
 
   -- one start alone
@@ -153,7 +153,7 @@ module _ (o : Options) (xs : List Tree) (b : Assembly) (A U : ℕ) (is : IsAssem
       (nowhere ∙ ap (λ (ss : List ℕ). map (renamed_pair b.drafts) (each_at ss i)) (sym none))
 
   pub anchored_starts : (t : Text) (i : ℕ) → i ≤ t.end →
-      ends t (i, new_name b.drafts A) ≡ distinct same_pair (flat_map (λ p. ends t (i, pattern_start auto p)) (places_from 0 (length xs)))
+      ends t (i, new_name b.drafts A) ≡ distinct same_pair (flat_map (λ p. ends t (i, pattern_start auto p)) (offsets_from 0 (length xs)))
   anchored_starts t i place =
       (elim is.leads [
         | inl one ↦ one_listed t i A one refl

@@ -1,5 +1,5 @@
--- The unanchored start of the automaton that is built of a compile's states, for one who reads forward: it leads to the anchored
--- one at one place after the other.
+-- The unanchored start of the automaton that is built of a compile's states, when reading forward: it leads to the anchored one at one
+-- offset after the other.
 use Rattle.std.proofs.Common.{◌≡◌, ℕ, zero, suc, ◌+◌, ◌-◌, ◌<◌, ◌≤◌, nat_lt, Bool, true, false, List, [], ◌∷◌, ◌++◌, map, length}
 use Rattle.std.proofs.Common.{take, inl, inr, ⊎_elim, if◌then◌else◌, Option, Some, None, refl, sym, ap, ap₂, ◌∙◌, subst, arith, append-nil}
 use Rattle.std.specs.Prelude.{All}
@@ -17,12 +17,12 @@ use Rattle.nfa_core.specs.Places.{same_pair}
 use Rattle.nfa_core.specs.Renaming.{stands_for, kept, new_name, automaton_of}
 use Rattle.nfa_core.specs.Runs.{IsChain, last_or}
 use Rattle.nfa_core.specs.Walks.{Has, distinct}
-use Rattle.nfa_core.specs.Ways.{Text, reads, with_place, is_passed, on_read, on_nothing, place_behind, ways}
+use Rattle.nfa_core.specs.Ways.{Text, reads, with_offset, is_satisfied, on_read, on_nothing, offset_after, ways}
 use Rattle.nfa_core.proofs.ForCallers.{join_once_more, of_append, ends_by_ways, renamed_pair, state_ways, chain_to, join-append, none_in}
 use Rattle.nfa_core.proofs.ForCallers.{has_first, has_cons, names_equal, pairs_equal, from_map, state_match, one_state, name_inside}
 use Rattle.nfa_core.proofs.ForCallers.{is_well_formed, past_next}
-use Rattle.thompson_nfa.specs.Assembled.{IsAssembled, TriesEachPlace, AllAnchored}
-use Rattle.search_types.specs.FirstFound.{places_from}
+use Rattle.thompson_nfa.specs.Assembled.{IsAssembled, TriesEachOffset, AllAnchored}
+use Rattle.search_types.specs.FirstFound.{offsets_from}
 use Rattle.thompson_nfa.specs.Compilations.{IsReadTo, IsPlainText}
 use Rattle.thompson_nfa.specs.Configs.{Options, reverse_of}
 use Rattle.thompson_nfa.specs.Denotes.{at}
@@ -32,7 +32,7 @@ use Rattle.thompson_nfa.proofs.Assembled.AssembledStarts.{stays_in, ends, ends_a
 use Rattle.thompson_nfa.proofs.Walks.TriedPlaces.{any_range, any_ends, IsText, ends_forward}
 use Rattle.thompson_nfa.proofs.Walks.WayLemmas.{byte_ends, Goes, goes_union, goes_fail, goes_choice, goes_sparse}
 
-behind_or_here : (i : ℕ) (c : Bool) (o : Option ℕ) → i ≤ place_behind i (if c then with_place (suc i) o else None)
+behind_or_here : (i : ℕ) (c : Bool) (o : Option ℕ) → i ≤ offset_after i (if c then with_offset (suc i) o else None)
 behind_or_here i true None = omega arith
 behind_or_here i true (Some b) = omega arith
 behind_or_here i false o = omega arith
@@ -48,7 +48,7 @@ distinct_behind xs ys =
 
 pub nothing_read : (t : Text) (i : ℕ) → t.end ≤ i → any_ends false t i ≡ []
 nothing_read t i l =
-    ap (λ (c : Bool). byte_ends any_range (if c then with_place (suc i) (byte_at t.haystack i) else None)) (le-ltb i t.end l)
+    ap (λ (c : Bool). byte_ends any_range (if c then with_offset (suc i) (byte_at t.haystack i) else None)) (le-ltb i t.end l)
 
 module _ (o : Options) (xs : List Tree) (b : Assembly) (A U : ℕ) (is : IsAssembled o xs b A U) (up : b.reverse ≡ false) (t : Text) where
   abbrev T : Table
@@ -60,27 +60,27 @@ module _ (o : Options) (xs : List Tree) (b : Assembly) (A U : ℕ) (is : IsAssem
   abbrev from : ℕ × ℕ → List (ℕ × ℕ)
   from p = ends o xs b A U is t p
 
-  -- ---- places only go up
+  -- ---- offsets only go up
 
   way_forward : (p q : ℕ × ℕ) → Has same_pair q (go p) → p.0 ≤ q.0
   way_forward p q h =
       let node = node_at (automaton_of b A U) p.1 in
       let read : Option (ℕ × ℕ) = reads b.reverse t p.0 in
-      let R : Bool → Type 0 = λ back. p.0 ≤ place_behind p.0 (reads back t p.0) in
-      let above : p.0 ≤ place_behind p.0 read = subst R (sym up) (behind_or_here p.0 (nat_lt p.0 t.end) (byte_at t.haystack p.0)) in
+      let R : Bool → Type 0 = λ back. p.0 ≤ offset_after p.0 (reads back t p.0) in
+      let above : p.0 ≤ offset_after p.0 read = subst R (sym up) (behind_or_here p.0 (nat_lt p.0 t.end) (byte_at t.haystack p.0)) in
       let I : ℕ × ℕ → Type 0 = λ w. p.0 ≤ w.0 in
-      of_append same_pair pairs_equal I (map (λ k. (place_behind p.0 read, k)) (on_read node read))
-      (map (λ k. (p.0, k)) (on_nothing node (λ l. is_passed b.reverse t l p.0)))
-      (λ w g. let m = from_map (place_behind p.0 read) w (on_read node read) g in let e : w.0 ≡ place_behind p.0 read =
+      of_append same_pair pairs_equal I (map (λ k. (offset_after p.0 read, k)) (on_read node read))
+      (map (λ k. (p.0, k)) (on_nothing node (λ l. is_satisfied b.reverse t l p.0)))
+      (λ w g. let m = from_map (offset_after p.0 read) w (on_read node read) g in let e : w.0 ≡ offset_after p.0 read =
       ap (λ (k : ℕ × ℕ). k.0) m.2 in omega (arith, e, above))
-      (λ w g. let m = from_map p.0 w (on_nothing node (λ l. is_passed b.reverse t l p.0)) g in let e : w.0 ≡ p.0 =
+      (λ w g. let m = from_map p.0 w (on_nothing node (λ l. is_satisfied b.reverse t l p.0)) g in let e : w.0 ≡ p.0 =
       ap (λ (k : ℕ × ℕ). k.0) m.2 in omega (arith, e)) q h
 
   chain_forward : (p : ℕ × ℕ) (r : List (ℕ × ℕ)) → IsChain same_pair go p r → p.0 ≤ (last_or p r).0
   chain_forward p [] c = omega arith
   chain_forward p (q ∷ r) c = let a = way_forward p q c.0 in let l = chain_forward q r c.1 in omega (arith, a, l)
 
-  -- ---- no chain from the anchored start comes to the other
+  -- ---- no chain from the anchored start leads to the other
 
   module _ (kept_u : stands_for (draft_at b.drafts U) ≡ None) where
     starts_apart : (s i : ℕ) (r : List (ℕ × ℕ)) → Has nat_eq s b.starts → IsChain same_pair (table_ways b.reverse t T) (i, s) r →
@@ -114,9 +114,9 @@ module _ (o : Options) (xs : List Tree) (b : Assembly) (A U : ℕ) (is : IsAssem
         (ap (λ (k : ℕ × ℕ). k.1) last) in
         table_apart i back.0 back.1 back.2
 
-  -- ---- each place is tried
+  -- ---- each offset is tried
 
-  module _ (x : TriesEachPlace T U A) (text : IsText t) where
+  module _ (x : TriesEachOffset T U A) (text : IsText t) where
     kept_u : stands_for (draft_at b.drafts U) ≡ None
     kept_u = ap stands_for x.loop
 
@@ -148,7 +148,7 @@ module _ (o : Options) (xs : List Tree) (b : Assembly) (A U : ℕ) (is : IsAssem
         state_ways b A U x.byte i t byte_there kept_byte ∙ ap (map (renamed_pair b.drafts)) (byte_goes.ways i)
         ∙ ap (λ (k : List ℕ). map (renamed_pair b.drafts) (at x.back k)) read
 
-    -- where a byte is read one is a place further on
+    -- after a byte is read, the offset is one further on
     byte_moves : (i : ℕ) (q : ℕ × ℕ) → Has same_pair q (go (i, new_name b.drafts x.byte)) → suc i ≤ q.0
     byte_moves i q h =
         let W : List (ℕ × ℕ) → Type 0 = λ ws. Has same_pair q ws in
@@ -194,7 +194,7 @@ module _ (o : Options) (xs : List Tree) (b : Assembly) (A U : ℕ) (is : IsAssem
     byte_not_u e = let same : sparse_draft ((0, 255, x.back) ∷ []) ≡ union_reverse_draft (x.byte ∷ A ∷ []) = sym x.any ∙ ap T e ∙ x.loop in
         cc
 
-    -- from the second way of the start
+    -- from the second edge of the start
     byte_far : (i : ℕ) (r : List (ℕ × ℕ)) → IsChain same_pair go (i, new_name b.drafts x.byte) r →
         last_or (i, new_name b.drafts x.byte) r ≡ (i, new_name b.drafts U) → ⊥
     byte_far i [] c last =
@@ -229,14 +229,14 @@ module _ (o : Options) (xs : List Tree) (b : Assembly) (A U : ℕ) (is : IsAssem
     anchored_at k = from (k, new_name b.drafts A)
 
     pub tried_starts : (n i : ℕ) → i + n ≡ t.end →
-        from (i, new_name b.drafts U) ≡ distinct same_pair (flat_map anchored_at (places_from i (suc n)))
+        from (i, new_name b.drafts U) ≡ distinct same_pair (flat_map anchored_at (offsets_from i (suc n)))
     tried_starts zero i e =
         u_ends i (omega (arith, e)) ∙ ap (λ (l : List (ℕ × ℕ)). distinct same_pair (anchored_at i ++ l)) (last_ends i (omega (arith, e)))
     tried_starts (suc n) i e =
         u_ends i (omega (arith, e))
         ∙ ap (λ (l : List (ℕ × ℕ)). distinct same_pair (anchored_at i ++ l))
         (further_ends i (omega (arith, e)) ∙ tried_starts n (suc i) (omega (arith, e)))
-        ∙ distinct_behind (anchored_at i) (flat_map anchored_at (places_from (suc i) (suc n)))
+        ∙ distinct_behind (anchored_at i) (flat_map anchored_at (offsets_from (suc i) (suc n)))
 
   -- ---- all trees are anchored
 
@@ -254,14 +254,14 @@ module _ (o : Options) (xs : List Tree) (b : Assembly) (A U : ℕ) (is : IsAssem
         (subst R (sym up ∙ is.reverse) (omega arith, high)) choice in
         absurd (omega (arith, same, less)))
 
-    nothing_later : (i : ℕ) → t.start ≤ i → (n k : ℕ) → i < k → k + n ≤ suc t.end → flat_map anchored_from (places_from k n) ≡ []
+    nothing_later : (i : ℕ) → t.start ≤ i → (n k : ℕ) → i < k → k + n ≤ suc t.end → flat_map anchored_from (offsets_from k n) ≡ []
     nothing_later i low zero k less high = refl
     nothing_later i low (suc n) k less high =
         ap₂ (λ (l m : List (ℕ × ℕ)). l ++ m) (none_later i k low less (omega (arith, high)))
         (nothing_later i low n (suc k) (omega arith) (omega (arith, high)))
 
     pub starts_at_once : (n i : ℕ) → t.start ≤ i → i + n ≡ t.end →
-        from (i, new_name b.drafts U) ≡ distinct same_pair (flat_map anchored_from (places_from i (suc n)))
+        from (i, new_name b.drafts U) ≡ distinct same_pair (flat_map anchored_from (offsets_from i (suc n)))
     starts_at_once n i low e =
         ap (λ (k : ℕ). from (i, k)) (ap (λ k. length (kept (take k b.drafts)))
         (past_next b.drafts is.can_build.no_loop U A (ap stands_for at_once)))
@@ -270,11 +270,11 @@ module _ (o : Options) (xs : List Tree) (b : Assembly) (A U : ℕ) (is : IsAssem
         (sym (nothing_later i low n (suc i) (omega arith) (omega (arith, e))))
 
   pub unanchored_starts : (i : ℕ) → IsPlainText t → t.start ≤ i → i ≤ t.end →
-      from (i, new_name b.drafts U) ≡ distinct same_pair (flat_map (λ k. from (k, new_name b.drafts A)) (places_from i (suc t.end - i)))
+      from (i, new_name b.drafts U) ≡ distinct same_pair (flat_map (λ k. from (k, new_name b.drafts A)) (offsets_from i (suc t.end - i)))
   unanchored_starts i read low high =
       let sum : i + (t.end - i) ≡ t.end = omega (arith, high) in
       let count : suc (t.end - i) ≡ suc t.end - i = omega (arith, high) in
       (elim is.before [
         | inl x ↦ starts_at_once x.0 x.1 read (t.end - i) i low sum
         | inr x ↦ tried_starts x.1 (record { within = read.within; bytes = read.bytes }) (t.end - i) i sum
-      ]) ∙ ap (λ (n : ℕ). distinct same_pair (flat_map (λ k. from (k, new_name b.drafts A)) (places_from i n))) count
+      ]) ∙ ap (λ (n : ℕ). distinct same_pair (flat_map (λ k. from (k, new_name b.drafts A)) (offsets_from i n))) count

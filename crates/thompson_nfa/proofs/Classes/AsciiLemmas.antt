@@ -92,7 +92,7 @@ ascii_ends h i ranges e = elim (slice_get_cases h i).1 [
       ∙ sym (none_there ranges h i e (λ c rest at l. let same : [] ≡ c ∷ rest = sym (drop_of_length-le h o.0) ∙ at in cc))
 ]
 
--- a class of scalars is that of the same bytes where all of them are spelled by one
+-- a class of scalars is that of the same bytes if each of them is spelled by one byte
 pub same_ascii : (ranges : List (ℕ × ℕ)) → is_ascii ranges ≡ true → IsSame (byte_class ranges) (char_class ranges)
 same_ascii ranges e = record { reading = λ f. tt; ends = λ looks h i. ascii_ends h i ranges e; met = λ back l. refl }
 

@@ -16,7 +16,7 @@ use Rattle.thompson_nfa.specs.ClassTries.{HasTurned}
 use Rattle.thompson_nfa.specs.Compiled.{Weighs}
 use Rattle.thompson_nfa.specs.RangeTries.{IsTrie}
 use Rattle.thompson_nfa.specs.RangeWalks.{paths_of}
-use Rattle.thompson_nfa.specs.Refusals.{Passes}
+use Rattle.thompson_nfa.specs.Refusals.{ExceedsLimit}
 use Rattle.thompson_nfa.specs.ScalarCounts.{scalars_in}
 use Rattle.thompson_nfa.specs.SharedSuffixes.{SharesRange, finds_state, adds_state, SharesRanges, shares_none, shares_more, AddsSequence}
 use Rattle.thompson_nfa.specs.SharedSuffixes.{AddsSequences, sequences_none, sequences_more}
@@ -34,7 +34,7 @@ sequences_append : (qs rs : List (List (ℕ × ℕ))) → sequence_bytes (qs ++ 
 sequences_append [] rs = omega arith
 sequences_append (q ∷ qs) rs = omega (arith, sequences_append qs rs)
 
--- those of a range, and of the ranges behind it
+-- those of a range, and of the ranges after it
 pub sequences_left : (i : ℕ) (ranges : List (ℕ × ℕ)) (d : ℕ × ℕ) → i < length ranges →
     sequence_bytes (sequences_of (drop i ranges)) ≡ sequence_bytes (utf8_sequences (get_or ranges i d).0 (get_or ranges i d).1)
     + sequence_bytes (sequences_of (drop (i + 1) ranges))
@@ -101,7 +101,7 @@ sequences_weigh (sequences_more mid new kept last qs rs before one) =
     omega (arith, sequences_append qs (rs ∷ []), sequences_weigh before, sequence_weighs one)
 
 pub range_passed : (a b : Assembly) (table changed : SlotTable Utf8SuffixKey) (end id i : ℕ) (rs : List (ℕ × ℕ)) →
-    SharesUpTo a b table changed end id i rs → (e : BuildError) (many : ℕ) → i < many → Passes b 24 e → Passes a (24 * many) e
+    SharesUpTo a b table changed end id i rs → (e : BuildError) (many : ℕ) → i < many → ExceedsLimit b 24 e → ExceedsLimit a (24 * many) e
 range_passed a b table changed end id i rs so_far e many less p =
     omega (arith, ranges_weigh so_far.shares, length-take-le i rs so_far.within, less, p)
 
@@ -119,7 +119,7 @@ others_long ranges all e some =
 
 pub met_passed : (a b : Assembly) (table changed : SlotTable Utf8SuffixKey) (u m lo hi : ℕ) (left : List (List (ℕ × ℕ))) →
     MetSequences a b table changed u m lo hi left → (rest : List (List (ℕ × ℕ))) (rs : List (ℕ × ℕ)) → left ≡ rs ∷ rest →
-    (e : BuildError) → Passes b (24 * length rs + 4) e → Passes a (sequence_bytes (utf8_sequences lo hi)) e
+    (e : BuildError) → ExceedsLimit b (24 * length rs + 4) e → ExceedsLimit a (sequence_bytes (utf8_sequences lo hi)) e
 met_passed a b table changed u m lo hi left so_far rest rs is e p = omega (
   arith,
   sequences_weigh so_far.added,
@@ -131,7 +131,7 @@ met_passed a b table changed u m lo hi left so_far rest rs is e p = omega (
 
 -- ---- shrunk classes
 
--- the path at a place, and those behind it
+-- the path at a position, and those after it
 pub paths_left : (paths : List (Vec Utf8Range Global)) (i : ℕ) (v : Vec Utf8Range Global) (shown : List Utf8Range) → i < length paths →
     v ≡ get_or paths i v → shown ≡ v.items →
     sequence_bytes (drop i (paths_of paths)) ≡ 24 * length (map bytes_of shown) + 8 + sequence_bytes (drop (i + 1) (paths_of paths))

@@ -59,7 +59,7 @@ last_behind qs (x ∷ xs) =
 
 -- ---- the sequences of a class
 
--- the sequence is that of a piece below the number, or there is none
+-- the sequence is that of a piece below the number, or it is empty
 abbrev IsBelow : List (ℕ × ℕ) → ℕ → Type 0
 IsBelow p low = (p ≡ []) ⊎ ((f : ℕ) × (e : ℕ) × (p ≡ byte_ranges (f, e)) × IsPiece f e × (e < low))
 
@@ -260,7 +260,7 @@ module _ (a b : Assembly) (e : ℕ) (c : SlotTable (List Transition)) (n : List 
 
 -- ---- the whole class
 
--- read forward, a sequence is read as it is spelt
+-- when reading forward, a sequence is read as it is spelled
 spelt : (q : List (ℕ × ℕ)) → ReadsAs (read_tree false q) (sequence_tree q)
 spelt [] = record { reading = λ f. tt; ends = λ looks h i. refl }
 spelt (r ∷ q) = as_then false r (read_tree false q) (sequence_tree q) (spelt q)

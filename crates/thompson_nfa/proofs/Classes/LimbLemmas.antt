@@ -56,7 +56,7 @@ has_added old b c end most id trans h x up named =
       numbered = p.numbered;
     }
 
--- one state more at most
+-- at most one more state
 pub record More (old b c : Assembly) (end most : ℕ) : Type 0 where
   pub now : ℕ
   pub least : now ≤ most + 1
@@ -149,7 +149,7 @@ module _ (back : Bool) (T : Table) (e : ℕ) where
   all_trees [] a b next y = refl
   all_trees (x ∷ bs) a b next y = ap (λ (l : List Tree). branch_tree back x ∷ l) (all_trees bs a b next y)
 
-  -- the state of a node, where the states above are made
+  -- the state of a node, if the states above are made
   pub node_leads : (id next : ℕ) (l : Limb) (above : List Limb) → T id ≡ sparse_draft (frozen_with next (stage_of l)) →
       RisesIn 0 (frozen_with next (stage_of l)) → BranchesLead back T e l.branches →
       Denotes back T next e (limb_tree back above) → Denotes back T id e (limb_tree back (l ∷ above))
@@ -202,7 +202,7 @@ pub record Popped (old b : Assembly) (end : ℕ) (ls0 : List Limb) (ns : List St
   pub split : ls0 ≡ front ++ rest
   pub nodes_are : ns ≡ map stage_of front
   pub below : LimbsBelow (length b.drafts) front
-  pub next_behind : end ≤ next
+  pub next_after : end ≤ next
   pub next_there : next < length b.drafts
   pub leads : (table : Table) → Finishes end b.drafts end table → LimbsLead old.reverse table end front
   pub next_leads : (table : Table) → Finishes end b.drafts end table → Denotes old.reverse table next end (limb_tree old.reverse rest)
@@ -219,7 +219,7 @@ popped_none old b end compiled ns qs c = record {
   split = sym (append-nil c.limbs);
   nodes_are = c.nodes_are;
   below = c.below;
-  next_behind = omega arith;
+  next_after = omega arith;
   next_there = c.has.there;
   leads = c.leads;
   next_leads = λ table fin. denotes_empty_here old.reverse table end;
@@ -268,7 +268,7 @@ module _ (old b c : Assembly) (end : ℕ) (ls0 : List Limb) (ns ms : List Stage)
         nodes_are = at_top.ms_is;
         below = limbs_wider (length b.drafts) (length c.drafts) at_top.init more.grows.longer
             (below_front (length b.drafts) at_top.init (at_top.last ∷ []) top_below);
-        next_behind = omega arith;
+        next_after = omega arith;
         next_there = top.compiles.there;
         leads = λ table fin. lead_front old.reverse table end at_top.init (at_top.last ∷ []) (top_leads table (before table fin));
         next_leads = λ table fin.
@@ -288,7 +288,7 @@ popped_all old b0 end ls0 ns0 bound p _ _ _ pops_none = p
 popped_all old b0 end ls0 ns0 bound p _ _ _ (pops_more b c ns ms next id before top) =
     popped_top old b c end ls0 ns ms next id bound (popped_all old b0 end ls0 ns0 bound p b ns next before) top
 
--- a refusal on the way
+-- an error on the way
 pub until_quits : (old b0 new : Assembly) (end : ℕ) (compiled : SlotTable (List Transition)) (ns0 : List Stage) (qs : List (List (ℕ × ℕ)))
     (e : BuildError) → IsCompiling old b0 end compiled ns0 qs →
     PopsUntil end b0 new ns0 e → Quits old new (2 + 4 * length qs) e

@@ -1,4 +1,4 @@
--- A compiler of sequences: one sequence more, the first one, and the end.
+-- A compiler of sequences: one more sequence, the first one, and the end.
 use Rattle.std.proofs.Common.{◌≡◌, ℕ, zero, suc, ◌+◌, ◌*◌, ◌<◌, ◌≤◌, Bool, List, [], ◌∷◌, ◌++◌, map, length, drop, replicate, get_or}
 use Rattle.std.proofs.Common.{Option, None, refl, sym, ap, ◌∙◌, subst, arith, length-append, append_assoc, ⊎_elim, false}
 use Rattle.std.proofs.lemmas.Bool.{cases_eq, eq-eqb}
@@ -424,7 +424,7 @@ module _ (old b0 b : Assembly) (end : ℕ) (compiled : SlotTable (List Transitio
         most = p.most;
         has = p.has;
         least = omega arith;
-        behind = p.next_behind;
+        behind = p.next_after;
         there = p.next_there;
         denotes = λ table fin.
             let P : Tree → Type 0 = λ x. Denotes back table start end x in
@@ -456,7 +456,7 @@ module _ (old b0 b : Assembly) (end : ℕ) (compiled : SlotTable (List Transitio
         met = λ l. uses_reads back back l qs;
       }
 
--- what refuses a state on the way refuses the class
+-- an error of a state on the way is an error of the class
 abbrev pub QuitsAll : ℕ → Assembly → Assembly → SlotTable (List Transition) → List Stage → BuildError → Type 0
 QuitsAll end b0 new compiled ns0 e = (old : Assembly) (qs : List (List (ℕ × ℕ))) → IsCompiling old b0 end compiled ns0 qs →
     Quits old new (2 + 4 * length qs) e
@@ -465,7 +465,7 @@ pub all_quit : (end : ℕ) (b0 new : Assembly) (compiled : SlotTable (List Trans
     PopsUntil end b0 new ns0 e → QuitsAll end b0 new compiled ns0 e
 all_quit end b0 new compiled ns0 e r = λ old qs c. until_quits old b0 new end compiled ns0 qs e c r
 
--- memory lacks for the path
+-- there is no memory for the path
 pub first_quit : (end : ℕ) (b : Assembly) (compiled : SlotTable (List Transition)) (ns : List Stage) (e : BuildError) → e ≡ NoMemory →
     QuitsAll end b b compiled ns e
 first_quit end b compiled ns e is =

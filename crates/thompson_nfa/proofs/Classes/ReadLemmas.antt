@@ -47,7 +47,7 @@ alt_right x y z = record {
   ends = λ looks h i. append_assoc (preferred_ends looks h x i) (preferred_ends looks h y i) (preferred_ends looks h z i);
 }
 
--- one alternative behind others
+-- one alternative after others
 as_snoc : (xs : List Tree) (z : Tree) → ReadsAs (alternation (xs ++ z ∷ [])) (alt (alternation xs) z)
 as_snoc [] z = as_trans (alt z never) z (alt never z) (alt_one z) (last_alt z)
 as_snoc (x ∷ xs) z = as_trans (alt x (alternation (xs ++ z ∷ []))) (alt x (alt (alternation xs) z)) (alt (alt x (alternation xs)) z)
@@ -62,7 +62,7 @@ snoc_as (x ∷ xs) z = as_trans (alt (alt x (alternation xs)) z) (alt x (alt (al
     (alt_right x (alternation xs) z)
     (as_alt x (alt (alternation xs) z) x (alternation (xs ++ z ∷ [])) (as_itself x) (snoc_as xs z))
 
--- ---- behind a range
+-- ---- after a range
 
 pub as_then : (back : Bool) (r : ℕ × ℕ) (y z : Tree) → ReadsAs y z → ReadsAs (read_then back r y) (read_then back r z)
 as_then false r y z a = record {
@@ -75,7 +75,7 @@ as_then true r y z a = record {
   ends = λ looks h i. ap (λ (l : List ℕ). flat_map (preferred_ends looks h (range_tree r)) l) (a.ends looks h i);
 }
 
--- behind one end at most both alternatives are one after the other
+-- after at most one end, both alternatives come one after the other
 both_behind : (f g : ℕ → List ℕ) (c : Bool) (k : ℕ) →
     flat_map (λ n. f n ++ g n) (if c then k ∷ [] else []) ≡ flat_map f (if c then k ∷ [] else []) ++ flat_map g (if c then k ∷ [] else [])
 both_behind f g true k = append-nil (f k ++ g k) ∙ ap (λ (l : List ℕ). l ++ g k) (sym (append-nil (f k)))
@@ -119,7 +119,7 @@ grown_tree back next range l above new =
     ap (λ (xs : List Tree). alternation (xs ++ read_then back range (limb_tree back new) ∷ []))
     (map-append (branch_tree back) l.branches (record { low = l.last.0; high = l.last.1; next = next; tree = limb_tree back above } ∷ []))
 
--- a path that leaves the old one at a node reads one sequence more
+-- a path that leaves the old one at a node reads one more sequence
 pub turned_reads : (back : Bool) (front : List Limb) (next : ℕ) (range : ℕ × ℕ) (l : Limb) (above : List Limb) (q : List (ℕ × ℕ)) →
     ReadsAs (limb_tree back (front ++ grown next (limb_tree back above) range l ∷ map fresh_limb q))
     (alt (limb_tree back (front ++ l ∷ above)) (read_tree back (lasts front ++ range ∷ q)))
@@ -155,7 +155,7 @@ turned_reads back (n ∷ front) next range l above q =
     (as_alt (alt (alternation xs) (read_then back r was)) (read_then back r one) (alternation (xs ++ read_then back r was ∷ []))
     (read_then back r one) (snoc_as xs (read_then back r was)) (as_itself (read_then back r one)))))
 
--- with one sequence more
+-- with one more sequence
 pub more_reads : (back : Bool) (x y : Tree) (qs : List (List (ℕ × ℕ))) (q : List (ℕ × ℕ)) →
     ReadsAs y (alternation (map (read_tree back) qs)) → ReadsAs x (alt y (read_tree back q)) →
     ReadsAs x (alternation (map (read_tree back) (qs ++ q ∷ [])))

@@ -15,7 +15,7 @@ use Rattle.thompson_nfa.proofs.Fragments.LeafLemmas.{tame_one, tame_none}
 use Rattle.thompson_nfa.proofs.Steps.OutLemmas.{out_here, out_next}
 use Rattle.thompson_nfa.proofs.Steps.ProgressLemmas.{Progress, first_added, then_added, made}
 
--- Whatever the choice u and the common end m become: from each other state one comes out where one does from the end.
+-- Whatever the choice u and the common end m become, each other state leads out if the common end does.
 abbrev pub Others : Assembly → Assembly → ℕ → ℕ → Type 0
 Others b0 bk u m = (T : Table) (target : ℕ) → Agrees b0 bk u m T → ComesOut T target m → (q : ℕ) → length b0.drafts ≤ q →
     q < length bk.drafts → q ≢ u → ComesOut T target q
@@ -36,9 +36,9 @@ pub record Branched (b0 bk : Assembly) (u m n : ℕ) (xs : List Tree) : Type 0 w
   pub others : Others b0 bk u m
   pub one_way : (s : ℕ) → ways ≡ s ∷ [] → (length b0.drafts ≤ s) × (s < length bk.drafts) × (s ≢ u)
 
--- ---- one branch more
+-- ---- one more branch
 
--- the steps' parts that lie before them are as they were
+-- if a list of targets with one more has only one target, that target is in the range from `low` to below `high`, and it isn't u
 pub one_more_way : (names : List ℕ) (s to : ℕ) (low high u : ℕ) → ((q : ℕ) → names ≡ q ∷ [] → (low ≤ q) × (q < high) × (q ≢ u)) → low ≤ s →
     s < high → s ≢ u → names ++ s ∷ [] ≡ to ∷ [] →
     (low ≤ to) × (to < high) × (to ≢ u)
@@ -49,7 +49,7 @@ one_more_way [] s to low high u one l h ne e =
 one_more_way (a ∷ []) s to low high u one l h ne e = cc
 one_more_way (a ∷ b ∷ names) s to low high u one l h ne e = cc
 
--- ---- none as yet
+-- ---- none so far
 
 pub branched_begun : {b0 b1 b2 : Assembly} {u m : ℕ} → AddsDraft b0 b1 u (no_choice true) b0.groups →
     AddsDraft b1 b2 m (empty_draft 0) b1.groups →
@@ -79,7 +79,7 @@ branched_begun {b0} {b1} {b2} {u} {m} a1 a2 =
 -- ---- all branches are there
 
 module _ (b0 bk : Assembly) (u m n : ℕ) (xs : List Tree) (all : Branched b0 bk u m n xs) where
-  -- one comes out of the choice, too: it stands for itself, or for its only way
+  -- the choice leads out, too: it stands for itself, or for its only target
   choice_out : (T : Table) (target : ℕ) → Agrees b0 bk u m T → ComesOut T target m → (names : List ℕ) → T u ≡ union_draft names →
       ((s : ℕ) → names ≡ s ∷ [] → (length b0.drafts ≤ s) × (s < length bk.drafts) × (s ≢ u)) →
       ComesOut T target u

@@ -37,7 +37,7 @@ pub among_map : {A B : Type 0} (f : A → B) (xs : List A) (x : A) (y : B) → A
 among_map f [] x y h e = absurd h
 among_map f (z ∷ xs) x y h e = elim h [ inl here ↦ inl (ap f here ∙ e) | inr later ↦ inr (among_map f xs x y later e) ]
 
--- the list without the one at this place
+-- the list without the one at this position
 abbrev without : {A : Type 0} (ys : List A) (x : A) → Among ys x → List A
 without [] x h = []
 without (y ∷ ys) x (inl e) = ys
@@ -66,7 +66,7 @@ no_more_than {A} (x ∷ xs) ys a f =
 
 -- ---- the numbers of a class
 
--- so many numbers from the first on
+-- so many consecutive numbers from the first on
 abbrev pub numbers_from : ℕ → ℕ → List ℕ
 numbers_from first zero = []
 numbers_from first (suc n) = first ∷ numbers_from (suc first) n

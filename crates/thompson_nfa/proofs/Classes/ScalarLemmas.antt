@@ -1,4 +1,4 @@
--- Classes of scalars: the ranges of a sequence, what is refused within what is done, and the branches of all ranges.
+-- Classes of scalars: the ranges of a sequence, errors within what is done, and the branches of all ranges.
 use Rattle.std.proofs.Common.{◌≡◌, ℕ, ◌+◌, ◌*◌, ◌<◌, ◌≤◌, min, true, false, List, length, take, map, get_or}
 use Rattle.std.proofs.Common.{refl, ap, ◌∙◌, subst, arith}
 use Rattle.std.specs.Prelude.{All}
@@ -30,7 +30,7 @@ rising_at rs k d all l =
     let P : ℕ × ℕ → Type 0 = λ r. r.0 ≤ r.1 in
     subst P same (all k (bytes_of d) (let e = length-map rs bytes_of in omega (arith, e)))
 
--- ---- refusals within what is done so far
+-- ---- errors within what is done so far
 
 -- n states were added at most, and states that were there may have been led on
 pub record Spent (old mid : Assembly) (n : ℕ) : Type 0 where

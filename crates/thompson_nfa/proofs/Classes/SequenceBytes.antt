@@ -1,4 +1,4 @@
--- The bytes of the states of sequences that are read forward: those that were made, and those of the path's nodes.
+-- The bytes of the states of sequences that are read forward: of those that were made, and of the path's nodes.
 use Rattle.std.proofs.Common.{◌≡◌, ℕ, ◌+◌, ◌*◌, ◌<◌, ◌≤◌, List, [], ◌∷◌, ◌++◌, map, length, drop, refl, sym, ap, subst, arith}
 use Rattle.std.proofs.Common.{length-append, length-drop, ⊎_elim}
 use Rattle.std.proofs.lemmas.List.{length-map}
@@ -7,7 +7,7 @@ use Rattle.nfa_core.specs.declared.build_error.BuildError.{BuildError}
 use Rattle.nfa_core.specs.declared.build_error.BuildError.TheVariants.{NoMemory}
 use Rattle.thompson_nfa.specs.Added.{AddsDraft}
 use Rattle.thompson_nfa.specs.Compiled.{Weighs, sum_of_bytes}
-use Rattle.thompson_nfa.specs.Refusals.{Passes}
+use Rattle.thompson_nfa.specs.Refusals.{ExceedsLimit}
 use Rattle.thompson_nfa.specs.Utf8Stacks.{Stage, frozen_with, fresh, advanced, open_bytes, left_bytes, Compiles, MakesTop, Pops, pops_none}
 use Rattle.thompson_nfa.specs.Utf8Stacks.{pops_more, Turns}
 
@@ -62,7 +62,7 @@ pub begun_weighs : (a b : Assembly) (end : ℕ) (ns : List Stage) → AddsDraft 
     sum_of_bytes b + left_bytes ns ≤ sum_of_bytes a + 48
 begun_weighs a b end ns x none = omega (arith, x.bytes, ap left_bytes none)
 
--- ---- one sequence more
+-- ---- one more sequence
 
 module _ (end : ℕ) (b0 b1 : Assembly) (ns0 ns1 ns2 : List Stage) (range : ℕ × ℕ) (at : ℕ) (q : List (ℕ × ℕ))
     (t : Turns end b0 b1 ns0 ns1 range at) (few : length q ≤ 4) (pushed : ns2 ≡ ns1 ++ map fresh (drop (at + 1) q)) where
@@ -110,13 +110,13 @@ first_weighs [] ns q none some few pushed = omega (
 )
 first_weighs (n ∷ ns0) ns q none some few pushed = absurd (omega arith)
 
--- ---- refusals
+-- ---- errors
 
-pub no_memory : (b : Assembly) (n : ℕ) (e : BuildError) → e ≡ NoMemory → Passes b n e
-no_memory b n e is = let P : BuildError → Type 0 = λ x. Passes b n x in subst P (sym is) (omega arith)
+pub no_memory : (b : Assembly) (n : ℕ) (e : BuildError) → e ≡ NoMemory → ExceedsLimit b n e
+no_memory b n e is = let P : BuildError → Type 0 = λ x. ExceedsLimit b n x in subst P (sym is) (omega arith)
 
 pub top_passed : (b : Assembly) (next : ℕ) (ns ms : List Stage) (top : Stage) (trans : List (ℕ × ℕ × ℕ)) (e : BuildError) →
-    ns ≡ ms ++ top ∷ [] → trans ≡ frozen_with next top → Passes b (24 + 8 * length trans) e → Passes b (open_bytes ns) e
+    ns ≡ ms ++ top ∷ [] → trans ≡ frozen_with next top → ExceedsLimit b (24 + 8 * length trans) e → ExceedsLimit b (open_bytes ns) e
 top_passed b next ns ms top trans e split is p = omega (arith, top_open next ns ms top split, ap length is, p)
 
 pub none_left : (ns : List Stage) → length ns ≡ 0 → left_bytes ns ≡ 24

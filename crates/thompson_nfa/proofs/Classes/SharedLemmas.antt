@@ -1,4 +1,4 @@
--- A sparse state: of its ranges the one that has the byte which is read leads on.
+-- A sparse state: the range that has the byte which is read leads on.
 use Rattle.std.proofs.Common.{◌≡◌, ℕ, ◌+◌, ◌<◌, ◌≤◌, Bool, true, false, List, [], ◌∷◌, ◌++◌, map, Option, Some, None, if◌then◌else◌, ◌&&◌}
 use Rattle.std.proofs.Common.{◌||◌, nat_le, ◌⊎◌, inl, inr, refl, sym, ap, ◌∙◌, subst, arith, append-nil}
 use Rattle.std.specs.List.{flat_map}
@@ -13,10 +13,10 @@ use Rattle.nfa_core.specs.Nfa.{sparse_node}
 use Rattle.nfa_core.specs.Walks.{Has}
 use Rattle.nfa_core.specs.Runs.{last_or}
 use Rattle.nfa_core.specs.Places.{same_pair}
-use Rattle.nfa_core.specs.Ways.{Text, reads, in_ranges, on_read, place_behind, node_ways, match_of}
+use Rattle.nfa_core.specs.Ways.{Text, reads, in_ranges, on_read, offset_after, node_ways, match_of}
 use Rattle.nfa_core.specs.Drafted.{drafted, Table, table_match}
 use Rattle.nfa_core.proofs.ForCallers.{none_in, has_one, has_same, pairs_equal}
-use Rattle.thompson_nfa.specs.Denotes.{at, seen, IsMeant, LeadsTo, PassesBy, Reaches, ComesToEnd, Halts, Orders, Denotes}
+use Rattle.thompson_nfa.specs.Denotes.{at, seen, IsMeant, LeadsTo, VisitsState, Reaches, ComesToEnd, Halts, Orders, Denotes}
 use Rattle.thompson_nfa.specs.Shared.{read_then, branch_trees, LeadAll}
 use Rattle.thompson_nfa.proofs.Walks.WayLemmas.{each_at, byte_ends, Goes}
 use Rattle.thompson_nfa.proofs.Walks.LeadLemmas.{Chain, goes_begins, goes_leads, passes_later}
@@ -37,7 +37,7 @@ sparse_to trans None = []
 sparse_to trans (Some (b, j)) = each_at (in_ranges trans b) j
 
 sparse_ways : (trans : List (ℕ × ℕ × ℕ)) (i : ℕ) (o : Option (ℕ × ℕ)) →
-    map (λ q. (place_behind i o, q)) (on_read (sparse_node trans) o) ++ [] ≡ sparse_to trans o
+    map (λ q. (offset_after i o, q)) (on_read (sparse_node trans) o) ++ [] ≡ sparse_to trans o
 sparse_ways trans i None = refl
 sparse_ways trans i (Some (b, j)) = append-nil (each_at (in_ranges trans b) j)
 
@@ -88,7 +88,7 @@ later_in : (low high next b : ℕ) (trans : List (ℕ × ℕ × ℕ)) (c : Bool)
 later_in low high next b trans true e is = cc
 later_in low high next b trans false e is = ap (λ (d : Bool). if d then next ∷ [] else in_ranges trans b) e
 
--- the ranges from `least` on lead nowhere by a lesser byte
+-- the ranges from `least` on lead nowhere by a smaller byte
 none_below : (least b : ℕ) (trans : List (ℕ × ℕ × ℕ)) → AscendsFrom least trans → b < least → in_ranges trans b ≡ []
 none_below least b [] up less = refl
 none_below least b ((low, high, next) ∷ trans) up less =
@@ -97,7 +97,7 @@ none_below least b ((low, high, next) ∷ trans) up less =
     (λ (x : low ≤ b) (y : b ≤ high). omega arith))
     ∙ none_below (high + 1) b trans up.2 (omega arith)
 
--- what is read, where a byte of the range leads to k
+-- what is read, if a byte of the range leads to k
 pub record ReadsIn (low high : ℕ) (o : Option (ℕ × ℕ)) (k : ℕ) : Type 0 where
   pub byte : ℕ
   pub is : o ≡ Some (byte, k)
@@ -114,7 +114,7 @@ none_to None w h = h
 none_to (Some (b, j)) w h = h
 
 module _ (back : Bool) (t : Text) (T : Table) (e : ℕ) where
-  -- one of the ways comes to j
+  -- one of the edges leads to j
   pub record ByWay (ws : List (ℕ × ℕ)) (j : ℕ) : Type 0 where
     pub way : ℕ × ℕ
     pub is_way : Has same_pair way ws
@@ -132,7 +132,7 @@ module _ (back : Bool) (t : Text) (T : Table) (e : ℕ) where
         on = on;
       })
 
-  -- a way of the later ranges is one of all
+  -- an edge of the later ranges is one of all ranges
   way_kept : (low high next : ℕ) (trans : List (ℕ × ℕ × ℕ)) (o : Option (ℕ × ℕ)) (w : ℕ × ℕ) → AscendsFrom (high + 1) trans →
       Has same_pair w (sparse_to trans o) →
       Has same_pair w (sparse_to ((low, high, next) ∷ trans) o)
@@ -161,9 +161,9 @@ module _ (back : Bool) (t : Text) (T : Table) (e : ℕ) where
             record { way = w.way; is_way = way_kept low high next trans (reads back t i) w.way up.2 w.is_way; on = w.on }
       ]
 
-  -- ---- a way leads to what is meant
+  -- ---- an edge leads to what is meant
 
-  -- a way is that of the first range, or of a later one
+  -- an edge is that of the first range, or of a later one
   pub record FirstWay (low high next : ℕ) (o : Option (ℕ × ℕ)) (w : ℕ × ℕ) : Type 0 where
     pub place : ℕ
     pub by : ReadsIn low high o place
@@ -197,7 +197,7 @@ module _ (back : Bool) (t : Text) (T : Table) (e : ℕ) where
   branch_sound : (trans : List (ℕ × ℕ × ℕ)) (ys : List Tree) → LeadAll back T e trans ys →
       (i : ℕ) (w : ℕ × ℕ) (r : List (ℕ × ℕ)) (m : ℕ × ℕ) →
       Has same_pair w (sparse_to trans (reads back t i)) → Chain back t T w r → table_match T (last_or w r) ≡ Some m →
-      PassesBy back t T (IsMeant back t (alternation (branch_trees back trans ys))) i e w r
+      VisitsState back t T (IsMeant back t (alternation (branch_trees back trans ys))) i e w r
   branch_sound [] ys all i w r m h c final = none_in same_pair w _ (none_to (reads back t i) w h)
   branch_sound ((low, high, next) ∷ trans) [] all i w r m h c final = absurd all
   branch_sound ((low, high, next) ∷ trans) (y ∷ ys) all i w r m h c final =
@@ -245,7 +245,7 @@ module _ (back : Bool) (t : Text) (T : Table) (e : ℕ) where
             (λ d f. branch_sound trans ys all i b.way b.rest m b.has d (ap (table_match T) f ∙ final)) (λ j y. y);
       }
 
-  -- ---- the walk comes to its end
+  -- ---- the depth-first search ends
 
   first_ended : (low high next : ℕ) (trans : List (ℕ × ℕ × ℕ)) (b j : ℕ) (c : Bool) → within low high b ≡ c →
       (within low high b ≡ true → ComesToEnd back t T (j, next)) →
@@ -284,7 +284,7 @@ module _ (back : Bool) (t : Text) (T : Table) (e : ℕ) where
         (branch_ended trans ys all f i (reads back t i) refl ends);
   }
 
--- ---- in order, read forward
+-- ---- in order, when reading forward
 
 module _ (t : Text) (T : Table) (e : ℕ) where
   abbrev ends : Tree → ℕ → List ℕ
@@ -300,7 +300,7 @@ module _ (t : Text) (T : Table) (e : ℕ) where
   one_end : (low high i b j : ℕ) → reads false t i ≡ Some (b, j) → within low high b ≡ true → ends (range_tree (low, high)) i ≡ j ∷ []
   one_end low high i b j is inside = range_ends low high i (Some (b, j)) is ∙ or_one (within low high b) j inside
 
-  -- the later ranges have no end where the byte is less
+  -- the later ranges have no end if the byte is smaller
   none_later : (least b j i : ℕ) (trans : List (ℕ × ℕ × ℕ)) (ys : List Tree) → AscendsFrom least trans → b < least →
       reads false t i ≡ Some (b, j) →
       ends (alternation (branch_trees false trans ys)) i ≡ []
@@ -312,7 +312,7 @@ module _ (t : Text) (T : Table) (e : ℕ) where
       ap (λ (l : List ℕ). flat_map (ends y) l ++ ends (alternation (branch_trees false trans ys)) i) (no_end low high i b j is out)
       ∙ none_later (high + 1) b j i trans ys up.2 (omega arith) is
 
-  -- by the byte the first range leads on, or a later one
+  -- by the byte, either the first range leads on or a later one
   first_lists : (low high next : ℕ) (trans : List (ℕ × ℕ × ℕ)) (y later : Tree) (b j i : ℕ) (l : List (ℕ × ℕ)) (c : Bool) →
       within low high b ≡ c → (b < high + 1 → ends later i ≡ []) →
       reads false t i ≡ Some (b, j) → Denotes false T next e y → LoopsRead y →
@@ -361,7 +361,7 @@ branch_orders false t T e s trans ys up is rising all f = record {
 }
 branch_orders true t T e s trans ys up is rising all f = cc
 
--- at a byte the range that has it leads on, and no other has it
+-- at a byte, the range that has it leads on, and no other range has it
 pub denotes_branches : (back : Bool) (T : Table) (s e : ℕ) (trans : List (ℕ × ℕ × ℕ)) (ys : List Tree) → T s ≡ sparse_draft trans →
     AscendsFrom 0 trans → LeadAll back T e trans ys →
     Denotes back T s e (alternation (branch_trees back trans ys))

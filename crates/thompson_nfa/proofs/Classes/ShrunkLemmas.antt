@@ -1,4 +1,4 @@
--- A class that is read in reverse by the sequences of a trie: what is done for these is done for the class.
+-- A class that is read in reverse by the sequences of a trie: what the states do for the sequences, they do for the class.
 use Rattle.std.proofs.Common.{◌≡◌, ℕ, ◌+◌, ◌*◌, ◌<◌, ◌≤◌, true, List, [], map, length, get_or, refl, sym, subst, arith, Bool, ◌||◌, ap, ◌∙◌}
 use Rattle.std.proofs.lemmas.List.{length-map}
 use Rattle.std.specs.Prelude.{Vec}

@@ -1,4 +1,4 @@
--- What slots hold after a write, and after the version has gone up.
+-- What slots hold after a write, and after the version has increased.
 use Rattle.std.proofs.Common.{◌≡◌, ℕ, zero, suc, ◌+◌, List, [], ◌∷◌, Option, Some, None, false, All, map, length, set, replicate, take}
 use Rattle.std.proofs.Common.{drop, ◌++◌, refl, ap, ◌∙◌, nat_eq, eq-eqb, arith}
 use Rattle.std.proofs.lemmas.List.{map-set, length-replicate}
@@ -44,7 +44,7 @@ all_written : {K : Type 0} → (n len : ℕ) (old new : List (Option (Slot K))) 
     take len (new ++ drop (length new) old) ≡ new
 all_written n len old new a b e = let many : length new ≡ n = ap length e ∙ length-replicate n None in grind (arith, common_steps)
 
--- all slots are written over
+-- all slots are overwritten
 pub slots_forgotten : {K : Type 0} → (v n len : ℕ) (old new : List (Option (Slot K))) → len ≡ n → length old ≡ n → new ≡ replicate n None →
     map (current v) (take len (new ++ drop (length new) old)) ≡ replicate n None
 slots_forgotten v n len old new a b e =

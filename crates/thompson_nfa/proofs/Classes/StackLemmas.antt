@@ -39,7 +39,7 @@ rises_next : (low : ℕ) (trans : List (ℕ × ℕ × ℕ)) (a b m n : ℕ) → 
 rises_next low [] a b m n up = (up.0, up.1, up.2, tt)
 rises_next low ((start, end, next) ∷ others) a b m n up = (up.0, up.1, up.2, rises_next (end + 1) others a b m n up.3)
 
--- a range behind the last one
+-- a range after the last one
 rises_behind : (low : ℕ) (trans : List (ℕ × ℕ × ℕ)) (a b m c d n : ℕ) → RisesIn low (trans ++ (a, b, m) ∷ []) → b < c → c ≤ d → d < 256 →
     RisesIn low ((trans ++ (a, b, m) ∷ []) ++ (c, d, n) ∷ [])
 rises_behind low [] a b m c d n up l k h = (up.0, up.1, up.2, (omega arith, k, h, tt))
@@ -129,7 +129,7 @@ turned end b0 b ns0 ns ms new top next from range p l up split is =
 
 -- ---- where a sequence leaves the path
 
--- both are the same before the place, and the one comes before the other behind it
+-- both are equal up to the position, and from there the first comes before the second
 pub record Agree (p q : List (ℕ × ℕ)) (i : ℕ) : Type 0 where
   pub before : List (ℕ × ℕ)
   pub left : List (ℕ × ℕ)
@@ -143,7 +143,7 @@ pub get_behind : (before : List (ℕ × ℕ)) (a : ℕ × ℕ) (rest : List (ℕ
 get_behind [] a rest d = refl
 get_behind (b ∷ before) a rest d = get_behind before a rest d
 
--- the ranges at the place
+-- the ranges at the position
 pub record Next (p q : List (ℕ × ℕ)) (i : ℕ) : Type 0 where
   pub before : List (ℕ × ℕ)
   pub one : ℕ × ℕ
@@ -190,7 +190,7 @@ module _ (p q : List (ℕ × ℕ)) (i : ℕ) (a : Agree p q i) where
   other_got d = ap (λ (l : List (ℕ × ℕ)). get_or l i d) next.other_is ∙ ap (λ k. get_or (next.before ++ next.other ∷ next.other_rest) k d)
       (sym next.place) ∙ get_behind next.before next.other next.other_rest d
 
-  -- where the ranges are the same, the rest agrees on
+  -- if the ranges are equal, the rest agrees from the next position on
   pub agree_on : (d e : ℕ × ℕ) → get_or p i d ≡ get_or q i e → (get_or p i d).0 ≤ (get_or p i d).1 → Agree p q (i + 1)
   agree_on d e same some =
       let is : next.one ≡ next.other = sym (one_got d) ∙ same ∙ other_got e in
@@ -211,7 +211,7 @@ module _ (p q : List (ℕ × ℕ)) (i : ℕ) (a : Agree p q i) where
         behind = rest;
       }
 
-  -- where they differ, the one ends before the other begins
+  -- if they differ, the one ends before the other begins
   pub parts_here : (d e : ℕ × ℕ) → (get_or p i d ≡ get_or q i e → ⊥) → PartsAt p q i
   parts_here d e other =
       let less : next.one.1 < next.other.0 = ⊎_elim (λ (l : next.one.1 < next.other.0). l)

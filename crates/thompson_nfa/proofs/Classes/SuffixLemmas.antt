@@ -189,7 +189,7 @@ branched_wider k le s =
 
 -- ---- the states of a sequence
 
--- from the state s one reads the ranges down to the end
+-- from the state s the ranges are read down to the end
 pub record Chained (b0 b : Assembly) (table : SlotTable Utf8SuffixKey) (u m n s : ℕ) (xs : List Tree) (rs : List (ℕ × ℕ)) : Type 0 where
   pub branched : Branched b0 b u m n xs
   pub keeps : Keeps (length b0.drafts) b u m table

@@ -29,7 +29,7 @@ pub ready_held : (table : SlotTable Utf8SuffixKey) (place : ℕ) (key : Utf8Suff
     is_ready (with_held table place key id) ≡ true
 ready_held table place key id e = ap (λ n. nat_eq n table.capacity) (length-set table.places place (Some (key, id))) ∙ e
 
--- the map is ready still
+-- the map is still ready
 abbrev pub StaysReady : SlotTable Utf8SuffixKey → SlotTable Utf8SuffixKey → Type 0
 StaysReady table changed = is_ready table ≡ true → is_ready changed ≡ true
 
@@ -57,7 +57,7 @@ spent_added x le =
     let n = x.size in let s = x.bytes in
     record { settings = x.grows.settings; longer = x.grows.longer; states = omega arith; bytes = omega arith }
 
--- a state was added, and one has one more way
+-- a state was added, and another has one more transition
 spent_led : {a b c : Assembly} {id from to : ℕ} {draft : DraftNode} {groups : Groups} → AddsDraft a b id draft groups → Led b c from to →
     draft_bytes draft ≤ 4000 → Spent a c 1
 spent_led {a} {b} {c} x l le =
@@ -73,7 +73,7 @@ spent_led {a} {b} {c} x l le =
 
 -- ---- one range
 
--- states were added only, one for each range at most
+-- states were only added, at most one for each range
 pub record Shares (a b : Assembly) (table changed : SlotTable Utf8SuffixKey) (n : ℕ) : Type 0 where
   pub grows : Grows a b
   pub spent : Spent a b n
@@ -137,7 +137,7 @@ ranges_share (shares_more mid new kept last next state rs r before step) =
     let sum : length (rs ++ r ∷ []) ≡ length rs + 1 = length-append rs (r ∷ []) in
     shares_wider (length (rs ++ r ∷ [])) (shares_then (ranges_share before) (range_shares step)) (omega (arith, sum))
 
--- states for the first ranges, so many
+-- states for the first i ranges
 pub record SharesUpTo (a b : Assembly) (table changed : SlotTable Utf8SuffixKey) (end id i : ℕ) (rs : List (ℕ × ℕ)) : Type 0 where
   pub shares : SharesRanges end a table b changed id (take i rs)
   pub within : i ≤ length rs
@@ -168,7 +168,7 @@ module _ (a b : Assembly) (table changed : SlotTable Utf8SuffixKey) (end id i : 
       let more : take (i + 1) rs ≡ take i rs ++ r ∷ [] = take_more rs i d less ∙ ap (λ (x : ℕ × ℕ). take i rs ++ x ∷ []) (sym is) in
       record { shares = subst P (sym more) (shares_more b c changed last id state (take i rs) r so_far.shares step); within = omega arith }
 
--- the same where the ranges are given as the code has them
+-- the lemma above, with the ranges as the code has them
 pub next_shared : (a b : Assembly) (table changed : SlotTable Utf8SuffixKey) (end id i : ℕ) (ranges : List Utf8Range) →
     SharesUpTo a b table changed end id i (map bytes_of ranges) →
     (c : Assembly) (last : SlotTable Utf8SuffixKey) (state : ℕ) (d : Utf8Range) → i < length ranges →
@@ -192,7 +192,7 @@ module _ (a b c : Assembly) (table kept changed : SlotTable Utf8SuffixKey) (m ne
   pub still_kind : (u : ℕ) → u < length a.drafts → is_sparse (draft_at a.drafts u) ≡ false → is_sparse (draft_at c.drafts u) ≡ false
   still_kind u l kind = ap is_sparse (still_part u l) ∙ kind
 
-  -- the choice is refused its way
+  -- adding the choice's transition fails
   pub way_refused : (d : Assembly) (e : BuildError) → length rs ≤ 3 → Stays c d 0 4 e → Quits a d 4 e
   way_refused d e few r =
       let s = (ranges_share shares).spent in
@@ -206,13 +206,13 @@ module _ (a b c : Assembly) (table kept changed : SlotTable Utf8SuffixKey) (m ne
             (omega arith) r.cause;
       }
 
--- the last range's state is refused
+-- adding the last range's state fails
 pub last_refused : (a b c : Assembly) (table kept : SlotTable Utf8SuffixKey) (m next : ℕ) (rs : List (ℕ × ℕ)) (e : BuildError) →
     SharesRanges m a table b kept next rs → length rs ≤ 3 → Stays b c 1 24 e → Quits a c 4 e
 last_refused a b c table kept m next rs e shares few r = quits_later 4 (ranges_share shares).spent
     (first_quits 1 r (omega arith) (omega arith)) (omega arith)
 
--- states were added, and the choice may have more ways
+-- states were added, and the choice may have more transitions
 pub record Steps (a b : Assembly) (table changed : SlotTable Utf8SuffixKey) (n : ℕ) : Type 0 where
   pub spent : Spent a b n
   pub groups : b.groups ≡ a.groups
@@ -257,7 +257,7 @@ sequences_steps {u} {m} {a} {table} (sequences_more mid new kept last qs rs befo
     let P : ℕ → Type 0 = λ k. Steps a new table last k in
     subst P sum x
 
--- the choice can be led on still
+-- the choice can still be led on
 pub sequences_kind : (u m : ℕ) (a : Assembly) (table : SlotTable Utf8SuffixKey) (b : Assembly) (changed : SlotTable Utf8SuffixKey)
     (qs : List (List (ℕ × ℕ))) →
     AddsSequences u m a table b changed qs → u < length a.drafts → is_sparse (draft_at a.drafts u) ≡ false →

@@ -1,4 +1,4 @@
--- The sequences of a trie, one after the other: what a compile of them asks of the next.
+-- The sequences of a trie, one after the other: what a compile of them requires of the next one.
 use Rattle.std.proofs.Common.{◌≡◌, ℕ, zero, suc, ◌+◌, ◌<◌, ◌≤◌, List, [], ◌∷◌, ◌++◌, map, length, get_or, take, drop, refl, sym, ap, ◌∙◌}
 use Rattle.std.proofs.Common.{subst, arith, length-take}
 use Rattle.std.proofs.lemmas.List.{take_more, take_all, get_or-map, length-map}
@@ -38,7 +38,7 @@ no_default (suc i) d e (q ∷ qs) l = no_default i d e qs (omega (arith, l))
 abbrev path_of_items : Vec Utf8Range Global → List (ℕ × ℕ)
 path_of_items v = map bytes_of v.items
 
--- the path v at the place, as it is shown
+-- the path v at the position, as it is shown
 module _ (paths : List (Vec Utf8Range Global)) (i : ℕ) (v : Vec Utf8Range Global) (shown : List Utf8Range) (less : i < length paths)
     (is : v ≡ get_or paths i v) (value : shown ≡ v.items) where
   inside : i < length (paths_of paths)

@@ -1,5 +1,5 @@
--- What a class of scalars means where it is read in reverse by sequences that were turned round: the strings of these are its
--- spellings, their last bytes first.
+-- What a class of scalars means if it is read in reverse by sequences that were turned round: the strings of these are its spellings, with
+-- the last bytes first.
 use Rattle.std.proofs.Common.{◌≡◌, inl, inr, ℕ, suc, ◌+◌, ◌≤◌, Bool, true, false, ◌&&◌, ◌||◌, leb, List, [], ◌∷◌, ◌++◌, map, reverse}
 use Rattle.std.proofs.Common.{length, slice_get, Some, refl, sym, ap, ◌∙◌, arith, subst}
 use Rattle.std.proofs.lemmas.Bool.{false≢true, true≢false}
@@ -19,7 +19,7 @@ use Rattle.thompson_nfa.proofs.Walks.DenoteLemmas.{denotes_like_meaning}
 use Rattle.thompson_nfa.proofs.Tries.TrieLemmas.{spelled, spells}
 use Rattle.thompson_nfa.proofs.Classes.TurnedStrings.{in_turned_round, turned_round_in}
 
--- the bytes stand in h at i
+-- h has the bytes at offset i
 abbrev StandsAt : List ℕ → ℕ → List ℕ → Type 0
 StandsAt h i [] = Unit {0}
 StandsAt h i (b ∷ s) = (slice_get h i ≡ Some b) × StandsAt h (i + 1) s
@@ -165,7 +165,7 @@ module _ (looks : Looks) (h : List ℕ) where
         let end : i + length (reverse p.0) ≡ j = ap (λ n. i + n) (length-reverse p.0) ∙ sym p.3 in
         subst (λ (k : ℕ). Means looks h (alternation (map (read_tree true) qs)) i k) end whole
 
--- no loop stands in what is read
+-- there is no loop in what is read
 tree_loops : (q : List (ℕ × ℕ)) → LoopsRead (read_tree true q)
 tree_loops [] = tt
 tree_loops (r ∷ q) = (tree_loops q, tt)
@@ -174,7 +174,7 @@ all_loops : (qs : List (List (ℕ × ℕ))) → LoopsRead (alternation (map (rea
 all_loops [] = tt
 all_loops (q ∷ qs) = (tree_loops q, all_loops qs)
 
--- read in reverse, a table does for the sequences turned round what it does for the class
+-- when reading in reverse, a table does for the sequences turned round what it does for the class
 pub denotes_turned : (back : Bool) (T : Table) (s e : ℕ) (qs : List (List (ℕ × ℕ))) (ranges : List (ℕ × ℕ)) → back ≡ true →
     HasTurned qs (sequences_of ranges) →
     Denotes back T s e (alternation (map (read_tree back) qs)) → Denotes back T s e (char_class ranges)

@@ -76,7 +76,7 @@ spelling_turned c s (from_100000 a b d f r t u w e v) = by_form s _ e (four_turn
   t.1,
 )) u.0 u.1 w.0 w.1)
 
--- no such string begins a longer one
+-- no such string is the beginning of a longer one
 no_longer : (s rest : List ℕ) → IsTurnedSpelling s → IsTurnedSpelling (s ++ rest) → rest ≡ []
 no_longer [] rest h k = absurd h
 no_longer (b ∷ []) [] h k = refl
@@ -93,7 +93,7 @@ turned_apart qs ranges old new = record {
 
 -- ---- the sequences of a range of scalars
 
--- the place of a sequence that has the string
+-- the position of a sequence that has the string
 pub in_place : (ss : List (List (ℕ × ℕ))) (s : List ℕ) → IsInSome ss s → (i : ℕ) × (q : List (ℕ × ℕ)) × (slice_get ss i ≡ Some q) ×
     (is_in_ranges q s ≡ true)
 in_place [] s h = absurd h

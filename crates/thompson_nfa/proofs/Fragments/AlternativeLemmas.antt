@@ -5,10 +5,10 @@ use Rattle.std.proofs.lemmas.List.{take_more, take_all}
 use Rattle.hir_core.specs.Tree.{Tree, alternation}
 use Rattle.nfa_core.specs.BuilderStates.{Assembly, empty_draft, union_draft}
 use Rattle.nfa_core.specs.declared.build_error.BuildError.{BuildError}
-use Rattle.thompson_nfa.specs.Compiled.{Makes, Takes, Does, sum_of_bytes, way_at}
+use Rattle.thompson_nfa.specs.Compiled.{Makes, TakesBytes, Does, sum_of_bytes, way_at}
 use Rattle.thompson_nfa.specs.Added.{AddsDraft, Led}
 use Rattle.thompson_nfa.specs.NotedGroups.{with_groups_of}
-use Rattle.thompson_nfa.specs.Refusals.{RefusesFragment, Passes, Stays, StaysAt}
+use Rattle.thompson_nfa.specs.Refusals.{FailsFragment, ExceedsLimit, Stays, StaysAt}
 use Rattle.thompson_nfa.specs.Room.{room}
 use Rattle.thompson_nfa.specs.ByteRoom.{Bound, at_least, at_most, tree_bytes, tree_least, tree_most}
 use Rattle.thompson_nfa.specs.LiteralParts.{are_literals}
@@ -52,8 +52,8 @@ module _ (how : How) (t0 t1 t2 : Assembly) (s1 e1 s2 e2 : ℕ) (x y : Tree) (xs 
   counted : rooms how.shrink xs ≡ room how.shrink x + (room how.shrink y + rooms how.shrink (drop 2 xs))
   counted = ap (rooms how.shrink) (two_first xs x y two is_x is_y)
 
-  pub second_refused : (new : Assembly) (e : BuildError) → RefusesFragment how.which t1 new (room how.shrink y) y e →
-      RefusesFragment how.which t0 new (room how.shrink (alternation xs)) (alternation xs) e
+  pub second_refused : (new : Assembly) (e : BuildError) → FailsFragment how.which t1 new (room how.shrink y) y e →
+      FailsFragment how.which t0 new (room how.shrink (alternation xs)) (alternation xs) e
   second_refused new e r =
       let c = room_of_alternation how.shrink xs in let d = counted in
       first_refuses (room how.shrink (alternation xs)) (alternation xs)
@@ -61,10 +61,10 @@ module _ (how : How) (t0 t1 t2 : Assembly) (s1 e1 s2 e2 : ℕ) (x y : Tree) (xs 
       (omega arith)) (λ index h. h) (omega arith)
 
   module _ (second : Makes t1 t2 s2 e2 (room how.shrink y)) where
-    -- a step behind the first two parts is refused
+    -- a step after the first two parts fails
     pub later_refused : {mid new : Assembly} {k s n bytes : ℕ} {e : BuildError} → Progress false t0 mid k s → Stays mid new n bytes e →
         k + n ≤ room how.shrink x + room how.shrink y + 2 → bytes ≤ s + 4096 * n →
-        RefusesFragment how.which t0 new (room how.shrink (alternation xs)) (alternation xs) e
+        FailsFragment how.which t0 new (room how.shrink (alternation xs)) (alternation xs) e
     later_refused p r le lb =
         let c = room_of_alternation how.shrink xs in let d = counted in
         refuses how.which (room how.shrink (alternation xs)) (alternation xs) (then_quits (rooms how.shrink xs + 2) p r (omega arith) lb)
@@ -74,11 +74,11 @@ module _ (how : How) (t0 t1 t2 : Assembly) (s1 e1 s2 e2 : ℕ) (x y : Tree) (xs 
     begun = then_made 8 (first_made first) second (omega arith)
 
     pub union_refused : (new : Assembly) (e : BuildError) → Stays t2 new 1 24 e →
-        RefusesFragment how.which t0 new (room how.shrink (alternation xs)) (alternation xs) e
+        FailsFragment how.which t0 new (room how.shrink (alternation xs)) (alternation xs) e
     union_refused new e r = later_refused begun r (omega arith) (omega arith)
 
     pub end_refused : (t3 new : Assembly) (u : ℕ) (e : BuildError) → AddsDraft t2 t3 u (union_draft []) t2.groups → Stays t3 new 1 24 e →
-        RefusesFragment how.which t0 new (room how.shrink (alternation xs)) (alternation xs) e
+        FailsFragment how.which t0 new (room how.shrink (alternation xs)) (alternation xs) e
     end_refused t3 new u e union r = later_refused (choice_then true begun union) r (omega arith) (omega arith)
 
     module _ (t3 t4 : Assembly) (u z : ℕ) (union : AddsDraft t2 t3 u (union_draft []) t2.groups)
@@ -97,20 +97,20 @@ module _ (how : How) (t0 t1 t2 : Assembly) (s1 e1 s2 e2 : ℕ) (x y : Tree) (xs 
       with_two p5 p6 = then_led 16 (with_one p5) p6 (omega (arith, both_sizes)) (omega (arith, both_sizes, p5.size)) (omega arith)
 
       pub first_lead_refused : (new : Assembly) (e : BuildError) → Stays t4 new 0 4 e →
-          RefusesFragment how.which t0 new (room how.shrink (alternation xs)) (alternation xs) e
+          FailsFragment how.which t0 new (room how.shrink (alternation xs)) (alternation xs) e
       first_lead_refused new e r = later_refused both r (omega arith) (omega arith)
 
       pub second_lead_refused : (t5 new : Assembly) (e : BuildError) → Led t4 t5 u s1 → Stays t5 new 0 4 e →
-          RefusesFragment how.which t0 new (room how.shrink (alternation xs)) (alternation xs) e
+          FailsFragment how.which t0 new (room how.shrink (alternation xs)) (alternation xs) e
       second_lead_refused t5 new e p5 r = later_refused (with_one p5) r (omega arith) (omega arith)
 
       pub third_lead_refused : (t5 t6 new : Assembly) (e : BuildError) → Led t4 t5 u s1 → Led t5 t6 e1 z → Stays t6 new 0 4 e →
-          RefusesFragment how.which t0 new (room how.shrink (alternation xs)) (alternation xs) e
+          FailsFragment how.which t0 new (room how.shrink (alternation xs)) (alternation xs) e
       third_lead_refused t5 t6 new e p5 p6 r = later_refused (with_two p5 p6) r (omega arith) (omega arith)
 
       pub fourth_lead_refused : (t5 t6 t7 new : Assembly) (e : BuildError) → Led t4 t5 u s1 → Led t5 t6 e1 z → Led t6 t7 u s2 →
           Stays t7 new 0 4 e →
-          RefusesFragment how.which t0 new (room how.shrink (alternation xs)) (alternation xs) e
+          FailsFragment how.which t0 new (room how.shrink (alternation xs)) (alternation xs) e
       fourth_lead_refused t5 t6 t7 new e p5 p6 p7 r =
           later_refused (then_led 12 (with_two p5 p6) p7 (omega (arith, both_sizes)) (omega (arith, both_sizes, p5.size, p6.size)) (omega
           arith)) r
@@ -121,8 +121,8 @@ module _ (how : How) (t0 t1 t2 : Assembly) (s1 e1 s2 e2 : ℕ) (x y : Tree) (xs 
         (p7 : Led t6 t7 u s2) (p8 : Led t7 t8 e2 z) where
       pub cases_open : Does t0 t1 s1 e1 x → Does t1 t2 s2 e2 y → t1.groups ≡ with_groups_of how.which (length t0.starts) x t0.groups →
           t2.groups ≡ with_groups_of how.which (length t1.starts) y t1.groups →
-          Takes t0 t1 e1 (tree_least how.which x) (tree_most how.which how.shrink x) →
-          Takes t1 t2 e2 (tree_least how.which y) (tree_most how.which how.shrink y) → Cases how t0 t8 u z 2 xs
+          TakesBytes t0 t1 e1 (tree_least how.which x) (tree_most how.which how.shrink x) →
+          TakesBytes t1 t2 e2 (tree_least how.which y) (tree_most how.which how.shrink y) → Cases how t0 t8 u z 2 xs
       cases_open does1 does2 g1 g2 w1 w2 =
           let same = two_first xs x y two is_x is_y in
           let d = counted in
@@ -171,7 +171,7 @@ module _ (how : How) (old b : Assembly) (u z i : ℕ) (xs : List Tree) (cs : Cas
   pub cases_then : (c d f : Assembly) (s e : ℕ) (x : Tree) → i < length xs → x ≡ get_or xs i x → Makes b c s e (room how.shrink x) →
       Does b c s e x → c.groups ≡ with_groups_of how.which (length b.starts) x b.groups →
       Led c d u s → Led d f e z →
-      Takes b c e (tree_least how.which x) (tree_most how.which how.shrink x) → Cases how old f u z (i + 1) xs
+      TakesBytes b c e (tree_least how.which x) (tree_most how.which how.shrink x) → Cases how old f u z (i + 1) xs
   cases_then c d f s e x l is m does g p1 p2 w =
       let here = cs.branches.u_new in
       let below = cs.branches.u_z in
@@ -210,7 +210,7 @@ module _ (how : How) (old b : Assembly) (u z i : ℕ) (xs : List Tree) (cs : Cas
       }
 
   pub cases_weigh : length xs ≤ i → 1 < length xs → are_literals xs ≡ false →
-      Takes old b z (tree_least how.which (alternation xs)) (tree_most how.which how.shrink (alternation xs))
+      TakesBytes old b z (tree_least how.which (alternation xs)) (tree_most how.which how.shrink (alternation xs))
   cases_weigh over two other = record {
     least = omega (
       arith,
@@ -221,7 +221,7 @@ module _ (how : How) (old b : Assembly) (u z i : ℕ) (xs : List Tree) (cs : Cas
     most = omega (arith, cs.bytes_most, bytes_of_alternation (at_most how.shrink) how.which xs two other, cs.end_way);
   }
 
-  -- the next part, and the way to it
+  -- the next part, and the transition to it
   pub cases_left : are_literals xs ≡ false → (x : Tree) → i < length xs → 1 < length xs → x ≡ get_or xs i x →
       sum_of_bytes b + tree_most how.which how.shrink x + 4 ≤ sum_of_bytes old + tree_most how.which how.shrink (alternation xs)
   cases_left other x l two is = omega (
@@ -231,11 +231,11 @@ module _ (how : How) (old b : Assembly) (u z i : ℕ) (xs : List Tree) (cs : Cas
     bytes_of_alternation (at_most how.shrink) how.which xs two other,
   )
 
-  -- the way from it
+  -- the transition from it
   pub cases_lead_passed : are_literals xs ≡ false → (x : Tree) → i < length xs → 1 < length xs → x ≡ get_or xs i x →
       (c d new : Assembly) (s e n : ℕ) (err : BuildError) → Makes b c s e n →
-      Takes b c e (tree_least how.which x) (tree_most how.which how.shrink x) → Led c d u s → StaysAt d new e err →
-      Passes old (tree_most how.which how.shrink (alternation xs)) err
+      TakesBytes b c e (tree_least how.which x) (tree_most how.which how.shrink x) → Led c d u s → StaysAt d new e err →
+      ExceedsLimit old (tree_most how.which how.shrink (alternation xs)) err
   cases_lead_passed other x l two is c d new s e n err m w p1 r =
       let here = cs.branches.u_new in
       let below = cs.branches.u_z in
@@ -244,8 +244,8 @@ module _ (how : How) (old b : Assembly) (u z i : ℕ) (xs : List Tree) (cs : Cas
       omega (arith, cases_left other x l two is, w.most, u_way, p1.takes, p1.ways e, r.passed)
 
   pub cases_refused : (new : Assembly) (x : Tree) (e : BuildError) → i < length xs → x ≡ get_or xs i x →
-      RefusesFragment how.which b new (room how.shrink x) x e →
-      RefusesFragment how.which old new (room how.shrink (alternation xs)) (alternation xs) e
+      FailsFragment how.which b new (room how.shrink x) x e →
+      FailsFragment how.which old new (room how.shrink (alternation xs)) (alternation xs) e
   cases_refused new x e l is r =
       let fits = cs.fits in
       let counted : rooms how.shrink (drop i xs) ≡ room how.shrink x + rooms how.shrink (drop (i + 1) xs) =
@@ -261,7 +261,7 @@ module _ (how : How) (old b : Assembly) (u z i : ℕ) (xs : List Tree) (cs : Cas
 
   pub cases_lead_refused : (c new : Assembly) (s t : ℕ) (x : Tree) (e : BuildError) → i < length xs → x ≡ get_or xs i x →
       Makes b c s t (room how.shrink x) → Stays c new 0 4 e →
-      RefusesFragment how.which old new (room how.shrink (alternation xs)) (alternation xs) e
+      FailsFragment how.which old new (room how.shrink (alternation xs)) (alternation xs) e
   cases_lead_refused c new s t x e l is m r =
       let fits = cs.fits in
       let counted : rooms how.shrink (drop i xs) ≡ room how.shrink x + rooms how.shrink (drop (i + 1) xs) =
@@ -272,7 +272,7 @@ module _ (how : How) (old b : Assembly) (u z i : ℕ) (xs : List Tree) (cs : Cas
 
   pub cases_end_refused : (c d new : Assembly) (s t : ℕ) (x : Tree) (e : BuildError) → i < length xs → x ≡ get_or xs i x →
       Makes b c s t (room how.shrink x) → Led c d u s → Stays d new 0 4 e →
-      RefusesFragment how.which old new (room how.shrink (alternation xs)) (alternation xs) e
+      FailsFragment how.which old new (room how.shrink (alternation xs)) (alternation xs) e
   cases_end_refused c d new s t x e l is m p1 r =
       let fits = cs.fits in
       let v = cs.branches.u_new in
@@ -292,7 +292,7 @@ module _ (how : How) (old b : Assembly) (u z i : ℕ) (xs : List Tree) (cs : Cas
       let P : List Tree → Type 0 = λ ys. Does old b u z (alternation ys) in
       subst P (take_all i xs over) (branches_does old b u z cs.n (take i xs) cs.branches)
 
--- a part takes no more than all
+-- a part takes no more states than all
 part_room : (shrink : Bool) (xs : List Tree) (i : ℕ) (x : Tree) → i < length xs → x ≡ get_or xs i x → room shrink x ≤ rooms shrink xs
 part_room shrink [] i x l is = absurd (omega arith)
 part_room shrink (y ∷ xs) zero x l is = let e = ap (room shrink) is in omega arith
@@ -323,8 +323,8 @@ pub single_bytes : (b : Bound) (which : WhichCaptures) (x : Tree) (xs : List Tre
 single_bytes b which x xs l is = sym (ap (λ ys. tree_bytes b which false (alternation ys)) (one_of xs x l is))
 
 pub part_refused : (how : How) (old new : Assembly) (i : ℕ) (x : Tree) (xs : List Tree) (e : BuildError) → i < length xs →
-    x ≡ get_or xs i x → RefusesFragment how.which old new (room how.shrink x) x e →
-    RefusesFragment how.which old new (room how.shrink (alternation xs)) (alternation xs) e
+    x ≡ get_or xs i x → FailsFragment how.which old new (room how.shrink x) x e →
+    FailsFragment how.which old new (room how.shrink (alternation xs)) (alternation xs) e
 part_refused how old new i x xs e l is r =
     let c = room_of_alternation how.shrink xs in
     let most = part_room how.shrink xs i x l is in

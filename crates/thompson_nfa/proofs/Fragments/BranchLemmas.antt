@@ -1,4 +1,4 @@
--- Fragments of alternations: the branches so far, where the union and the end wait for more.
+-- Fragments of alternations: the branches so far, with a union and an end to which more may be added.
 use Rattle.std.proofs.Common.{◌≡◌, ◌≢◌, ℕ, ◌+◌, ◌<◌, ◌≤◌, true, List, [], ◌∷◌, ◌++◌, length, None, refl, sym, ap, ◌∙◌, subst, arith, ⊎_elim}
 use Rattle.std.proofs.Common.{length-append, Bool, ◌||◌, false}
 use Rattle.std.proofs.lemmas.Bool.{cases_lt, cases_eq}
@@ -18,7 +18,7 @@ use Rattle.thompson_nfa.proofs.Fragments.CaseLemmas.{AllDenote, none_denote, mor
 use Rattle.thompson_nfa.proofs.Walks.AheadLemmas.{denotes_then_empty}
 use Rattle.thompson_nfa.proofs.Walks.DenoteLemmas.{denotes_empty}
 
--- the finished table has the states from `low` on as they are, but for two that are led on later
+-- the finished table has the states from `low` on as they are, except for two that are led on later
 abbrev pub FinishesBut : ℕ → List DraftNode → ℕ → ℕ → Table → Type 0
 FinishesBut low drafts a b table = (q : ℕ) → low ≤ q → q < length drafts → q ≢ a → q ≢ b → table q ≡ draft_at drafts q
 

@@ -11,7 +11,7 @@ use Rattle.search_types.specs.GroupRefusals as group
 use Rattle.hir_core.specs.Tree.{Tree, capture}
 use Rattle.nfa_core.specs.BuilderStates.{DraftNode, Assembly, draft_at, patched, draft_bytes, is_sparse, with_draft, with_group}
 use Rattle.nfa_core.specs.BuilderStates.{capture_start_draft, capture_end_draft}
-use Rattle.nfa_core.specs.BuilderFaults.{Tells, add_fault, index_fault, captures_refused, BuildFault}
+use Rattle.nfa_core.specs.BuilderFaults.{ReportsFaultOf, add_fault, index_fault, captures_refused, BuildFault}
 use Rattle.nfa_core.specs.CanBuild.{is_known}
 use Rattle.nfa_core.specs.Renaming.{stands_for}
 use Rattle.nfa_core.specs.Drafted.{Table}
@@ -19,7 +19,7 @@ use Rattle.nfa_core.specs.declared.build_error.BuildError.{BuildError}
 use Rattle.nfa_core.specs.declared.build_error.BuildError.TheVariants as error
 use Rattle.thompson_nfa.specs.Compiled.{Finished, AllComeOut, IsTame, Makes, Does}
 use Rattle.thompson_nfa.specs.Added.{AddsDraft, Led}
-use Rattle.thompson_nfa.specs.Refusals.{RefusesGroup, QuitsGroup, RefusesFragment, RefusesStep, Stays}
+use Rattle.thompson_nfa.specs.Refusals.{FailsGroup, QuitsGroup, FailsFragment, FailsStep, Stays}
 use Rattle.thompson_nfa.specs.declared.which_captures.WhichCaptures.{WhichCaptures}
 use Rattle.thompson_nfa.proofs.Steps.LookLemmas.{quiet_led, quiet_added, adds_around}
 use Rattle.thompson_nfa.proofs.Steps.SizeLemmas.{AddedAt, added_at, MadeAt, made_at, LedAt}
@@ -34,7 +34,7 @@ use Rattle.thompson_nfa.proofs.Fragments.RepeatLemmas.{reads_as}
 use Rattle.thompson_nfa.proofs.Walks.AheadLemmas.{denotes_capture, denotes_capture_plain}
 use Rattle.thompson_nfa.proofs.Steps.RoomLemmas.{numbered}
 
--- what the builder says where both tests pass
+-- if both tests pass, the builder reports no error
 both_none : (a b : Option BuildFault) → option_or a b ≡ None → b ≡ None
 both_none None b e = e
 both_none (Some x) b e = absurd (cc)
@@ -60,8 +60,8 @@ end_added old new id index is e none =
     let draft = capture_end_draft (length old.starts) index 0 in
     added_of old new id draft draft is e (both_none (index_fault (length old.starts) index) (add_fault old draft) none) refl
 
--- what refuses a state without a group refuses one at the end of a group
-group_step : (p index : ℕ) (old : Assembly) (e : BuildError) → RefusesStep old 1 24 e → RefusesGroup p index old e
+-- an error of a state without a group is an error of one at the end of a group
+group_step : (p index : ℕ) (old : Assembly) (e : BuildError) → FailsStep old 1 24 e → FailsGroup p index old e
 group_step p index old error.TooManyPatterns r = r
 group_step p index old error.TooManyStates r = r
 group_step p index old (error.ExceededSizeLimit limit) r = r
@@ -75,48 +75,50 @@ same_fault p index fault e = cc
 
 group_refused : (b : Bool) (old : Assembly) (index : ℕ) (draft : DraftNode) (e : BuildError) → b ≡ nat_lt greatest_index index →
     draft_bytes draft ≤ 24 →
-    Tells e (option_or (if b then Some (captures_refused (TooManyGroups (length old.starts) index)) else None) (add_fault old draft)) →
-    RefusesGroup (length old.starts) index old e
-group_refused true old index draft error.TooManyPatterns test le told = absurd (cc)
-group_refused true old index draft error.TooManyStates test le told = absurd (cc)
-group_refused true old index draft (error.ExceededSizeLimit limit) test le told = absurd (cc)
-group_refused true old index draft error.UnsupportedCaptures test le told = absurd (cc)
-group_refused true old index draft (error.Captures err) test le told =
-    let P : GroupFault → Type 0 = λ fault. group.Tells err (Some fault) in
-    (ltb-true greatest_index index (sym test), subst P (sym (same_fault (length old.starts) index told.0 told.1)) told.2)
-group_refused true old index draft error.NoMemory test le told = tt
-group_refused false old index draft e test le told =
-    group_step (length old.starts) index old e (refused_name (nat_lt greatest_index (length old.drafts)) old draft 24 e refl told le)
+    ReportsFaultOf e (option_or (if b then Some (captures_refused (TooManyGroups (length old.starts) index)) else None) (add_fault old
+    draft)) →
+    FailsGroup (length old.starts) index old e
+group_refused true old index draft error.TooManyPatterns test le reported = absurd (cc)
+group_refused true old index draft error.TooManyStates test le reported = absurd (cc)
+group_refused true old index draft (error.ExceededSizeLimit limit) test le reported = absurd (cc)
+group_refused true old index draft error.UnsupportedCaptures test le reported = absurd (cc)
+group_refused true old index draft (error.Captures err) test le reported =
+    let P : GroupFault → Type 0 = λ fault. group.ReportsFaultOf err (Some fault) in
+    (ltb-true greatest_index index (sym test), subst P (sym (same_fault (length old.starts) index reported.0 reported.1)) reported.2)
+group_refused true old index draft error.NoMemory test le reported = tt
+group_refused false old index draft e test le reported =
+    group_step (length old.starts) index old e (refused_name (nat_lt greatest_index (length old.drafts)) old draft 24 e refl reported le)
 
 pub end_refused : (old new : Assembly) (index : ℕ) (e : BuildError) → new ≡ old →
-    Tells e (option_or (index_fault (length old.starts) index) (add_fault old (capture_end_draft (length old.starts) index 0))) →
+    ReportsFaultOf e (option_or (index_fault (length old.starts) index) (add_fault old (capture_end_draft (length old.starts) index 0))) →
     QuitsGroup old new index e
-end_refused old new index e same told = record {
+end_refused old new index e same reported = record {
   settings = same ∙ ap (λ (b : Assembly). record old { drafts = b.drafts; groups = b.groups }) (sym same);
   cause = end_cause;
   passed = group_bytes (length old.starts) index old e end_cause;
 } where
-  end_cause : RefusesGroup (length old.starts) index old e
+  end_cause : FailsGroup (length old.starts) index old e
   end_cause = group_refused (nat_lt greatest_index index) old index (capture_end_draft (length old.starts) index 0) e refl (omega arith)
-      told
+      reported
 
 start_cause : (old : Assembly) (index : ℕ) (e : BuildError) →
-    (e ≡ error.NoMemory) ⊎ Tells e (option_or (index_fault (length old.starts) index)
-    (add_fault old (capture_start_draft (length old.starts) index 0))) → RefusesGroup (length old.starts) index old e
-start_cause old index e told = ⊎_elim
-    (λ (none : e ≡ error.NoMemory). let P : BuildError → Type 0 = λ one. RefusesGroup (length old.starts) index old one in
+    (e ≡ error.NoMemory) ⊎ ReportsFaultOf e (option_or (index_fault (length old.starts) index)
+    (add_fault old (capture_start_draft (length old.starts) index 0))) → FailsGroup (length old.starts) index old e
+start_cause old index e reported = ⊎_elim
+    (λ (none : e ≡ error.NoMemory). let P : BuildError → Type 0 = λ one. FailsGroup (length old.starts) index old one in
     subst P (sym none) tt)
-    (λ (t : Tells e (option_or (index_fault (length old.starts) index) (add_fault old (capture_start_draft (length old.starts) index 0)))).
+    (λ (t : ReportsFaultOf e (option_or (index_fault (length old.starts) index) (add_fault old (capture_start_draft (length old.starts)
+    index 0)))).
     group_refused (nat_lt greatest_index index) old index (capture_start_draft (length old.starts) index 0) e refl (omega arith) t)
-    told
+    reported
 
 pub start_refused : (old new : Assembly) (index : ℕ) (e : BuildError) → new ≡ record old { groups = new.groups } →
-    (e ≡ error.NoMemory) ⊎ Tells e (option_or (index_fault (length old.starts) index)
+    (e ≡ error.NoMemory) ⊎ ReportsFaultOf e (option_or (index_fault (length old.starts) index)
     (add_fault old (capture_start_draft (length old.starts) index 0))) → QuitsGroup old new index e
-start_refused old new index e same told = record {
+start_refused old new index e same reported = record {
   settings = same ∙ ap (λ (b : Assembly). record old { drafts = b.drafts; groups = new.groups }) (sym same);
-  cause = start_cause old index e told;
-  passed = group_bytes (length old.starts) index old e (start_cause old index e told);
+  cause = start_cause old index e reported;
+  passed = group_bytes (length old.starts) index old e (start_cause old index e reported);
 }
 
 pub plain_does : (old new : Assembly) (s e index : ℕ) (name : Option Name) (x : Tree) → Does old new s e x →
@@ -129,7 +131,7 @@ plain_does old new s e index name x does =
           does.looks;
     }
 
--- how far a capture has come, and that a step of it is refused
+-- how far a capture has come, and that a step of it fails
 module _ {t0 t1 : Assembly} {a index : ℕ} (name : Option Name)
     (first : AddsDraft t0 t1 a (capture_start_draft (length t0.starts) index 0) (with_group t0.groups (length t0.starts) index name)) where
   start_known : is_known t1.groups (capture_start_draft (length t0.starts) index 0) ≡ true
@@ -164,7 +166,7 @@ module _ {t0 t1 : Assembly} {a index : ℕ} (name : Option Name)
           (omega arith)
 
       pub lead_refused : {new : Assembly} {err : BuildError} (kept : WhichCaptures) (shown : Option Name) (x : Tree) →
-          Stays t3 new 0 4 err → RefusesFragment kept t0 new (n + 2) (capture index shown x) err
+          Stays t3 new 0 4 err → FailsFragment kept t0 new (n + 2) (capture index shown x) err
       lead_refused kept shown x r = refuses kept (n + 2) (capture index shown x)
           (then_quits (n + 2) with_end r (omega arith) (omega arith)) (omega arith)
 

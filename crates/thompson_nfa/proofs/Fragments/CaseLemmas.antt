@@ -1,4 +1,4 @@
--- Alternations: a union of states of which each does what its branch means.
+-- Alternations: a union of states, each of which does what its branch means.
 use Rattle.std.proofs.Common.{◌≡◌, ℕ, Bool, true, false, List, [], ◌∷◌, ◌++◌, Some, inl, inr, refl, sym, ap, ◌∙◌, subst}
 use Rattle.hir_core.specs.Tree.{Tree, alternation}
 use Rattle.hir_core.specs.PreferredEnds.{preferred_ends}
@@ -10,20 +10,20 @@ use Rattle.nfa_core.specs.Places.{same_pair}
 use Rattle.nfa_core.specs.Ways.{Text}
 use Rattle.nfa_core.specs.Drafted.{Table, table_match}
 use Rattle.nfa_core.proofs.ForCallers.{none_in, has_cons, has_same, has_later, pairs_equal}
-use Rattle.thompson_nfa.specs.Denotes.{at, seen, IsMeant, LeadsTo, PassesBy, Reaches, ComesToEnd, Halts, Orders, Denotes}
+use Rattle.thompson_nfa.specs.Denotes.{at, seen, IsMeant, LeadsTo, VisitsState, Reaches, ComesToEnd, Halts, Orders, Denotes}
 use Rattle.thompson_nfa.proofs.Walks.WayLemmas.{each_at, at_append, Goes, goes_union}
 use Rattle.thompson_nfa.proofs.Walks.LeadLemmas.{Chain, goes_begins, goes_leads, passes_later}
 use Rattle.thompson_nfa.proofs.Walks.HaltLemmas.{Ended, ended_none, ended_append, ended_on}
 use Rattle.thompson_nfa.proofs.Walks.OrderLemmas.{Listed, ListedFirsts, firsts_of, firsts_parts, firsts_on}
 use Rattle.thompson_nfa.proofs.Walks.MeantLemmas.{meant_never, alt_meant, meant_alt}
 
--- from each of the states to e the table does what the tree at the same place of the list means
+-- from each of the states to e the table does what the tree at the same position of the list means
 pub data AllDenote (back : Bool) (T : Table) (e : ℕ) : List ℕ → List Tree → Type 0 where
   none_denote : AllDenote back T e [] []
   more_denote : (q : ℕ) (x : Tree) (qs : List ℕ) (xs : List Tree) → Denotes back T q e x → AllDenote back T e qs xs →
       AllDenote back T e (q ∷ qs) (x ∷ xs)
 
--- one branch more behind the others
+-- one more branch after the others
 pub all_denote_push : (back : Bool) (T : Table) (e q : ℕ) (x : Tree) (qs : List ℕ) (xs : List Tree) → AllDenote back T e qs xs →
     Denotes back T q e x →
     AllDenote back T e (qs ++ q ∷ []) (xs ++ x ∷ [])
@@ -52,7 +52,7 @@ module _ (back : Bool) (T : Table) (t : Text) (e : ℕ) where
 
   all_sound : (qs : List ℕ) (xs : List Tree) → AllDenote back T e qs xs → (i : ℕ) (w : ℕ × ℕ) (r : List (ℕ × ℕ)) (m : ℕ × ℕ) →
       Has same_pair w (each_at qs i) →
-      Chain back t T w r → table_match T (last_or w r) ≡ Some m → PassesBy back t T (IsMeant back t (alternation xs)) i e w r
+      Chain back t T w r → table_match T (last_or w r) ≡ Some m → VisitsState back t T (IsMeant back t (alternation xs)) i e w r
   all_sound _ _ none_denote i w r m h c final = none_in same_pair w _ h
   all_sound _ _ (more_denote q x qs xs d ds) i w r m h c final = elim (has_cons same_pair pairs_equal w (i, q) (each_at qs i) h) [
     | inl is ↦

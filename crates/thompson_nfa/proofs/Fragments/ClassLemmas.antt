@@ -10,7 +10,7 @@ use Rattle.nfa_core.specs.BuilderStates.{sparse_draft, way_bytes}
 use Rattle.nfa_core.specs.Renaming.{stands_for}
 use Rattle.nfa_core.specs.CanBuild.{names_of}
 use Rattle.nfa_core.specs.declared.build_error.BuildError.{BuildError}
-use Rattle.thompson_nfa.specs.Compiled.{AllComeOut, IsTame, Makes, Does, Takes, sum_of_bytes, way_at}
+use Rattle.thompson_nfa.specs.Compiled.{AllComeOut, IsTame, Makes, Does, TakesBytes, way_at}
 use Rattle.thompson_nfa.specs.Added.{AddsDraft}
 use Rattle.thompson_nfa.specs.Refusals.{Stays, Quits}
 use Rattle.thompson_nfa.proofs.Steps.LookLemmas.{quiet_added, adds_none}
@@ -45,7 +45,7 @@ ascends next ranges transitions e same = let P : List (ℕ × ℕ × ℕ) → Ty
 pub few_ranges : (ranges : List (ℕ × ℕ)) → IsTrue (is_ascending ranges) → All (λ r. r.1 < 256) ranges → length ranges ≤ 256
 few_ranges ranges e all = let few = few_from 0 ranges e all (omega arith) in omega arith
 
--- the state that reads a byte of the ranges names one state at most
+-- the state that reads a byte of the ranges names at most one state
 names_to_one : (n next : ℕ) (ranges : List (ℕ × ℕ)) → next < n → (k d : ℕ) → k < length (names_of (sparse_draft (to_one next ranges))) →
     get_or (names_of (sparse_draft (to_one next ranges))) k d < n
 names_to_one n next [] l k d h = absurd (omega arith)
@@ -80,7 +80,7 @@ module _ (a b c : Assembly) (end start : ℕ) (ranges : List (ℕ × ℕ)) (firs
       (all_here table target end start (omega arith) (out_next table target end target (ap stands_for last) (out_at table target)))
       (all_here table target start (length c.drafts) (omega arith) (out_here table target start (ap stands_for other)))))
 
-  pub class_takes : Takes a c end (48 + 8 * length ranges) (48 + 8 * length ranges)
+  pub class_takes : TakesBytes a c end (48 + 8 * length ranges) (48 + 8 * length ranges)
   class_takes =
       let long : length (to_one end ranges) ≡ length ranges = length-map ranges (λ r. (r.0, r.1, end)) in
       let way : way_at c end ≡ 0 = ap way_bytes class_end in

@@ -6,11 +6,11 @@ use Rattle.hir_core.specs.Tree.{Tree, concat, alternation}
 use Rattle.hir_core.specs.Weight.{weight}
 use Rattle.nfa_core.specs.BuilderStates.{Assembly}
 use Rattle.nfa_core.specs.declared.build_error.BuildError.{BuildError}
-use Rattle.thompson_nfa.specs.Compiled.{Makes, Takes, Does, DoesFirst, IsReady, sum_of_bytes, way_at}
+use Rattle.thompson_nfa.specs.Compiled.{Makes, TakesBytes, Does, DoesFirst, IsReady, sum_of_bytes, way_at}
 use Rattle.thompson_nfa.specs.Added.{Led}
 use Rattle.thompson_nfa.specs.NotedGroups.{with_groups_of, HasGroup}
-use Rattle.thompson_nfa.specs.Refusals.{RefusesFragment, Passes, Stays, StaysAt}
-use Rattle.thompson_nfa.specs.Turned.{turned_place, left_after}
+use Rattle.thompson_nfa.specs.Refusals.{FailsFragment, ExceedsLimit, Stays, StaysAt}
+use Rattle.thompson_nfa.specs.Turned.{turned_position, left_after}
 use Rattle.thompson_nfa.specs.Room.{room}
 use Rattle.thompson_nfa.specs.ByteRoom.{Bound, at_least, at_most, tree_bytes, tree_least, tree_most}
 use Rattle.thompson_nfa.specs.declared.compiling.How.{How}
@@ -25,7 +25,7 @@ use Rattle.thompson_nfa.proofs.Steps.ProgressLemmas.{Includes, first_made, then_
 use Rattle.thompson_nfa.proofs.Steps.ProgressLemmas.{first_refuses}
 use Rattle.thompson_nfa.proofs.Steps.NoGroups.{none_noted}
 
-turned_below : (back : Bool) (i len : ℕ) → i < len → turned_place back i len < len
+turned_below : (back : Bool) (i len : ℕ) → i < len → turned_position back i len < len
 turned_below false i len l = l
 turned_below true i len l = omega arith
 
@@ -75,7 +75,7 @@ alternation_includes kept xs i x l e index h = let P : Tree → Type 0 = λ y. H
     has_in_alternation kept index xs i x l (subst P e h)
 
 pub left_room : (shrink back : Bool) (xs : List Tree) (i : ℕ) (x : Tree) → i < length xs →
-    x ≡ get_or xs (turned_place back i (length xs)) x →
+    x ≡ get_or xs (turned_position back i (length xs)) x →
     rooms shrink (left_after back i xs) ≡ room shrink x + rooms shrink (left_after back (i + 1) xs)
 left_room shrink false xs i x l e = ap (rooms shrink) (first_left xs i x x l e)
 left_room shrink true xs i x l e = let p = rooms_push shrink (take (length xs - (i + 1)) xs) x in
@@ -84,7 +84,7 @@ left_room shrink true xs i x l e = let p = rooms_push shrink (take (length xs - 
 -- the groups of the parts that are left
 pub left_groups : (kept : WhichCaptures) (p : ℕ) (back : Bool) (xs : List Tree) (i : ℕ) (x : Tree) (was now whole : Groups) →
     (back ≡ true → kept ≡ which.None) → i < length xs →
-    x ≡ get_or xs (turned_place back i (length xs)) x → now ≡ with_groups_of kept p x was →
+    x ≡ get_or xs (turned_position back i (length xs)) x → now ≡ with_groups_of kept p x was →
     with_groups_of kept p (concat (left_after back i xs)) was ≡ whole →
     with_groups_of kept p (concat (left_after back (i + 1) xs)) now ≡ whole
 left_groups kept p false xs i x was now whole none l e is so_far =
@@ -112,7 +112,7 @@ pub record Parts (how : How) (old mid : Assembly) (start end i : ℕ) (xs : List
 
 -- the first part, and the others
 parted : (b : Bound) (which : WhichCaptures) (back : Bool) (xs : List Tree) (x : Tree) → 0 < length xs →
-    x ≡ get_or xs (turned_place back 0 (length xs)) x →
+    x ≡ get_or xs (turned_position back 0 (length xs)) x →
     part_bytes b which 0 xs ≡ tree_bytes b which false x + part_bytes b which 0 (left_after back 1 xs)
 parted b which back xs x some is = omega (
   arith,
@@ -121,9 +121,9 @@ parted b which back xs x some is = omega (
 )
 
 pub parts_first : (how : How) (old mid : Assembly) (s e : ℕ) (x : Tree) (xs : List Tree) → IsReady how.which old → 0 < length xs →
-    x ≡ get_or xs (turned_place old.reverse 0 (length xs)) x →
+    x ≡ get_or xs (turned_position old.reverse 0 (length xs)) x →
     Makes old mid s e (room how.shrink x) → Does old mid s e x → mid.groups ≡ with_groups_of how.which (length old.starts) x old.groups →
-    Takes old mid e (tree_least how.which x) (tree_most how.which how.shrink x) → Parts how old mid s e 1 xs
+    TakesBytes old mid e (tree_least how.which x) (tree_most how.which how.shrink x) → Parts how old mid s e 1 xs
 parts_first how old mid s e x xs ready some is m d g w =
     let counted = left_room how.shrink old.reverse xs 0 x some is in
     let all : rooms how.shrink (left_after old.reverse 0 xs) ≡ rooms how.shrink xs = ap (rooms how.shrink) (left_all old.reverse xs) in
@@ -147,10 +147,10 @@ starts_kept : {how : How} {old mid : Assembly} {start end i : ℕ} {xs : List Tr
 starts_kept ps = ap (λ (b : Assembly). length b.starts) ps.made.fragment.grows.settings
 
 pub parts_then : (how : How) (old b c d : Assembly) (start end s e i : ℕ) (x : Tree) (xs : List Tree) → IsReady how.which old →
-    i < length xs → x ≡ get_or xs (turned_place old.reverse i (length xs)) x →
+    i < length xs → x ≡ get_or xs (turned_position old.reverse i (length xs)) x →
     Parts how old b start end i xs → Makes b c s e (room how.shrink x) → Does b c s e x →
     c.groups ≡ with_groups_of how.which (length b.starts) x b.groups → Led c d end s →
-    Takes b c e (tree_least how.which x) (tree_most how.which how.shrink x) → Parts how old d start e (i + 1) xs
+    TakesBytes b c e (tree_least how.which x) (tree_most how.which how.shrink x) → Parts how old d start e (i + 1) xs
 parts_then how old b c d start end s e i x xs ready inside is ps m does g led w =
     let kept = way_kept m.fragment.grows end ps.made.fragment.end_there in
     let counted = left_room how.shrink old.reverse xs i x inside is in
@@ -195,7 +195,7 @@ module _ (how : How) (old mid : Assembly) (start end i : ℕ) (xs : List Tree) (
       (concat_ended old.reverse i xs over) ps.does
 
   pub parts_weigh : length xs ≤ i → 0 < length xs →
-      Takes old mid end (tree_least how.which (concat xs)) (tree_most how.which how.shrink (concat xs))
+      TakesBytes old mid end (tree_least how.which (concat xs)) (tree_most how.which how.shrink (concat xs))
   parts_weigh over some = record {
     least = omega (
       arith,
@@ -207,7 +207,7 @@ module _ (how : How) (old mid : Assembly) (start end i : ℕ) (xs : List Tree) (
   }
 
   -- the next part
-  pub parts_left : (x : Tree) → i < length xs → x ≡ get_or xs (turned_place old.reverse i (length xs)) x →
+  pub parts_left : (x : Tree) → i < length xs → x ≡ get_or xs (turned_position old.reverse i (length xs)) x →
       sum_of_bytes mid + way_at mid end + tree_most how.which how.shrink x ≤ sum_of_bytes old + tree_most how.which how.shrink (concat xs)
   parts_left x inside is = omega (
     arith,
@@ -216,32 +216,32 @@ module _ (how : How) (old mid : Assembly) (start end i : ℕ) (xs : List Tree) (
     bytes_of_concat (at_most how.shrink) how.which xs (omega arith),
   )
 
-  -- the way to it
+  -- the transition to it
   pub parts_lead_passed : (c new : Assembly) (s e n : ℕ) (x : Tree) (err : BuildError) → i < length xs →
-      x ≡ get_or xs (turned_place old.reverse i (length xs)) x → Makes mid c s e n →
-      Takes mid c e (tree_least how.which x) (tree_most how.which how.shrink x) → StaysAt c new end err →
-      Passes old (tree_most how.which how.shrink (concat xs)) err
+      x ≡ get_or xs (turned_position old.reverse i (length xs)) x → Makes mid c s e n →
+      TakesBytes mid c e (tree_least how.which x) (tree_most how.which how.shrink x) → StaysAt c new end err →
+      ExceedsLimit old (tree_most how.which how.shrink (concat xs)) err
   parts_lead_passed c new s e n x err inside is made w r =
       omega (arith, parts_left x inside is, w.most, way_kept made.fragment.grows end ps.made.fragment.end_there, r.passed)
 
-  -- the next part is refused, or that it is led to
+  -- adding the next part fails, or leading to it fails
   pub parts_refused : (new : Assembly) (x : Tree) (e : BuildError) → i < length xs →
-      x ≡ get_or xs (turned_place old.reverse i (length xs)) x →
-      RefusesFragment how.which mid new (room how.shrink x) x e →
-      RefusesFragment how.which old new (room how.shrink (concat xs)) (concat xs) e
+      x ≡ get_or xs (turned_position old.reverse i (length xs)) x →
+      FailsFragment how.which mid new (room how.shrink x) x e →
+      FailsFragment how.which old new (room how.shrink (concat xs)) (concat xs) e
   parts_refused new x e inside is r =
       let counted = left_room how.shrink old.reverse xs i x inside is in
       let fits = ps.fits in
       let c = room_of_concat how.shrink xs in
       first_refuses (room how.shrink (concat xs)) (concat xs) (then_refuses (rooms how.shrink xs) (concat xs) (first_made ps.made) r
-      (concat_includes how.which xs (turned_place old.reverse i (length xs)) x (turned_below old.reverse i (length xs) inside) is)
+      (concat_includes how.which xs (turned_position old.reverse i (length xs)) x (turned_below old.reverse i (length xs) inside) is)
       (omega arith))
       (λ index h. h) (omega arith)
 
   pub parts_lead_refused : (b new : Assembly) (s t : ℕ) (x : Tree) (e : BuildError) → i < length xs →
-      x ≡ get_or xs (turned_place old.reverse i (length xs)) x →
+      x ≡ get_or xs (turned_position old.reverse i (length xs)) x →
       Makes mid b s t (room how.shrink x) → Stays b new 0 4 e →
-      RefusesFragment how.which old new (room how.shrink (concat xs)) (concat xs) e
+      FailsFragment how.which old new (room how.shrink (concat xs)) (concat xs) e
   parts_lead_refused b new s t x e inside is m r =
       let counted = left_room how.shrink old.reverse xs i x inside is in
       let fits = ps.fits in
@@ -250,17 +250,17 @@ module _ (how : How) (old mid : Assembly) (start end i : ℕ) (xs : List Tree) (
       (then_made 8 (first_made ps.made) m (omega arith)) r (omega arith) (omega arith)) (omega arith)
 
 pub first_part_bytes : (b : Bound) (which : WhichCaptures) (back : Bool) (x : Tree) (xs : List Tree) → 0 < length xs →
-    x ≡ get_or xs (turned_place back 0 (length xs)) x → tree_bytes b which false x ≤ tree_bytes b which false (concat xs)
+    x ≡ get_or xs (turned_position back 0 (length xs)) x → tree_bytes b which false x ≤ tree_bytes b which false (concat xs)
 first_part_bytes b which back x xs some is = omega (arith, parted b which back xs x some is, bytes_of_concat b which xs some)
 
--- the first part is refused
+-- adding the first part fails
 pub first_part_refused : (how : How) (old new : Assembly) (x : Tree) (xs : List Tree) (e : BuildError) → 0 < length xs →
-    x ≡ get_or xs (turned_place old.reverse 0 (length xs)) x →
-    RefusesFragment how.which old new (room how.shrink x) x e →
-    RefusesFragment how.which old new (room how.shrink (concat xs)) (concat xs) e
+    x ≡ get_or xs (turned_position old.reverse 0 (length xs)) x →
+    FailsFragment how.which old new (room how.shrink x) x e →
+    FailsFragment how.which old new (room how.shrink (concat xs)) (concat xs) e
 first_part_refused how old new x xs e some is r =
     let counted = left_room how.shrink old.reverse xs 0 x some is in
     let all : rooms how.shrink (left_after old.reverse 0 xs) ≡ rooms how.shrink xs = ap (rooms how.shrink) (left_all old.reverse xs) in
     let c = room_of_concat how.shrink xs in
-    first_refuses (room how.shrink (concat xs)) (concat xs) r (concat_includes how.which xs (turned_place old.reverse 0 (length xs)) x
+    first_refuses (room how.shrink (concat xs)) (concat xs) r (concat_includes how.which xs (turned_position old.reverse 0 (length xs)) x
     (turned_below old.reverse 0 (length xs) some) is) (omega arith)

@@ -1,15 +1,15 @@
--- Fragments of copies and of rounds that may be passed by: the rounds so far.
+-- Fragments of copies and of rounds that may be skipped: the rounds so far.
 use Rattle.std.proofs.Common.{◌≡◌, ℕ, zero, suc, ◌+◌, ◌-◌, ◌*◌, ◌<◌, ◌≤◌, max, Bool, length, Option, Some, None, refl, sym, ap, ◌∙◌, subst}
 use Rattle.std.proofs.Common.{arith, ◌||◌}
 use Rattle.search_types.specs.Groups.{Groups}
 use Rattle.hir_core.specs.Tree.{Tree, empty, repetition}
 use Rattle.nfa_core.specs.BuilderStates.{Assembly, empty_draft, way_bytes}
 use Rattle.nfa_core.specs.declared.build_error.BuildError.{BuildError}
-use Rattle.thompson_nfa.specs.Compiled.{Makes, Takes, Does, DoesFirst, DoesCopies, DoesOption, raised, looks_in, uses, sum_of_bytes}
+use Rattle.thompson_nfa.specs.Compiled.{Makes, TakesBytes, Does, DoesFirst, DoesCopies, DoesOption, raised, looks_in, uses, sum_of_bytes}
 use Rattle.thompson_nfa.specs.Compiled.{way_at}
 use Rattle.thompson_nfa.specs.Added.{AddsDraft, Led}
 use Rattle.thompson_nfa.specs.NotedGroups.{with_groups_of}
-use Rattle.thompson_nfa.specs.Refusals.{RefusesFragment, Passes, Stays, StaysAt}
+use Rattle.thompson_nfa.specs.Refusals.{FailsFragment, ExceedsLimit, Stays, StaysAt}
 use Rattle.thompson_nfa.specs.Room.{room}
 use Rattle.thompson_nfa.specs.ByteRoom.{tree_least, tree_most, rounds_bytes}
 use Rattle.thompson_nfa.specs.declared.compiling.How.{How}
@@ -65,11 +65,11 @@ pub record Copies (how : How) (old mid : Assembly) (start end i : ℕ) (x : Tree
   pub made : Makes old mid start end (i * room how.shrink x)
   pub does : DoesCopies old mid start end i x
   pub groups : mid.groups ≡ with_groups_of how.which (length old.starts) x old.groups
-  pub weighs : Takes old mid end (i * tree_least how.which x) (i * tree_most how.which how.shrink x)
+  pub weighs : TakesBytes old mid end (i * tree_least how.which x) (i * tree_most how.which how.shrink x)
 
 pub copies_first : (how : How) (old mid : Assembly) (s e : ℕ) (x : Tree) → Makes old mid s e (room how.shrink x) → Does old mid s e x →
     mid.groups ≡ with_groups_of how.which (length old.starts) x old.groups →
-    Takes old mid e (tree_least how.which x) (tree_most how.which how.shrink x) → Copies how old mid s e 1 x
+    TakesBytes old mid e (tree_least how.which x) (tree_most how.which how.shrink x) → Copies how old mid s e 1 x
 copies_first how old mid s e x m d g w = record {
   made = made_capped (1 * room how.shrink x) m (omega arith);
   does = copies_one old mid s e x d;
@@ -87,7 +87,7 @@ groups_again kept p q x old was now same before is = is ∙ ap (λ k. with_group
 pub copies_then : (how : How) (old b c d : Assembly) (start end s e i : ℕ) (x : Tree) → Copies how old b start end i x →
     Makes b c s e (room how.shrink x) → Does b c s e x →
     c.groups ≡ with_groups_of how.which (length b.starts) x b.groups → Led c d end s →
-    Takes b c e (tree_least how.which x) (tree_most how.which how.shrink x) → Copies how old d start e (i + 1) x
+    TakesBytes b c e (tree_least how.which x) (tree_most how.which how.shrink x) → Copies how old d start e (i + 1) x
 copies_then how old b c d start end s e i x cs m does g led w = record {
   made = made_capped ((i + 1) * room how.shrink x) (join_made old b c d start end (i * room how.shrink x) s e
       (room how.shrink x) cs.made m led) (omega arith);
@@ -108,11 +108,11 @@ pub copies_left : (how : How) (old b : Assembly) (start end i n : ℕ) (x : Tree
     sum_of_bytes b + way_at b end + tree_most how.which how.shrink x ≤ sum_of_bytes old + n * tree_most how.which how.shrink x
 copies_left how old b start end i n x cs l = omega (arith, cs.weighs.most, one_fits i n (tree_most how.which how.shrink x) l)
 
--- the way to it
+-- the transition to it
 pub copies_lead_passed : (how : How) (old b c new : Assembly) (start end i n s e : ℕ) (x : Tree) (err : BuildError) →
     Copies how old b start end i x → i < n → Makes b c s e (room how.shrink x) →
-    Takes b c e (tree_least how.which x) (tree_most how.which how.shrink x) → StaysAt c new end err →
-    Passes old (n * tree_most how.which how.shrink x) err
+    TakesBytes b c e (tree_least how.which x) (tree_most how.which how.shrink x) → StaysAt c new end err →
+    ExceedsLimit old (n * tree_most how.which how.shrink x) err
 copies_lead_passed how old b c new start end i n s e x err cs l made w r = omega (
   arith,
   copies_left how old b start end i n x cs l,
@@ -122,14 +122,14 @@ copies_lead_passed how old b c new start end i n s e x err cs l made w r = omega
 )
 
 pub copies_refused : (how : How) (old b new : Assembly) (start end i n : ℕ) (x : Tree) (e : BuildError) → Copies how old b start end i x →
-    i < n → RefusesFragment how.which b new (room how.shrink x) x e →
-    RefusesFragment how.which old new (n * room how.shrink x) x e
+    i < n → FailsFragment how.which b new (room how.shrink x) x e →
+    FailsFragment how.which old new (n * room how.shrink x) x e
 copies_refused how old b new start end i n x e cs l r = let fits = one_fits i n (room how.shrink x) l in
     then_refuses (n * room how.shrink x) x (first_made cs.made) r (λ index h. h) fits
 
 pub copies_lead_refused : (how : How) (old b c new : Assembly) (start end s t i n : ℕ) (x : Tree) (e : BuildError) →
     Copies how old b start end i x → i < n → Makes b c s t (room how.shrink x) → Stays c new 0 4 e →
-    RefusesFragment how.which old new (n * room how.shrink x) x e
+    FailsFragment how.which old new (n * room how.shrink x) x e
 copies_lead_refused how old b c new start end s t i n x e cs l m r =
     let fits = one_fits i n (room how.shrink x) l in
     refuses how.which (n * room how.shrink x) x (then_quits (n * room how.shrink x) (then_made 8 (first_made cs.made) m (omega arith)) r
@@ -164,7 +164,7 @@ copies_loop a b c d s1 e1 n1 s2 e2 n2 low greedy x first second led some copies 
           ∙ lead.looks l;
     })
 
--- rounds that may be passed by, of which i are done
+-- rounds that may be skipped, of which i are done
 pub record Rounds (how : How) (old mid : Assembly) (start end z i low most total : ℕ) (greedy : Bool) (x : Tree) : Type 0 where
   pub n : ℕ
   pub options : Options old mid start end z n (most - i) low most greedy x
@@ -178,7 +178,7 @@ pub record Rounds (how : How) (old mid : Assembly) (start end z i low most total
 pub rounds_owed : (how : How) (t0 t1 t2 : Assembly) (s e z low most : ℕ) (greedy : Bool) (x : Tree) → low ≤ most →
     Makes t0 t1 s e (low * room how.shrink x) → DoesCopies t0 t1 s e low x →
     t1.groups ≡ with_groups_of how.which (length t0.starts) x t0.groups → AddsDraft t1 t2 z (empty_draft 0) t1.groups →
-    Takes t0 t1 e (low * tree_least how.which x) (low * tree_most how.which how.shrink x) →
+    TakesBytes t0 t1 e (low * tree_least how.which x) (low * tree_most how.which how.shrink x) →
     Rounds how t0 t2 s e z low low most (low * room how.shrink x + (most - low) * (room how.shrink x + 1) + 1) greedy x
 rounds_owed how t0 t1 t2 s e z low most greedy x le m copies g added w = record {
   n = low * room how.shrink x + 1;
@@ -192,7 +192,7 @@ rounds_owed how t0 t1 t2 s e z low most greedy x le m copies g added w = record 
 pub rounds_first : (how : How) (t0 t1 t2 : Assembly) (u e z most : ℕ) (greedy : Bool) (x : Tree) → 0 < most →
     AddsDraft t0 t1 z (empty_draft 0) t0.groups → Makes t1 t2 u e (room how.shrink x + 1) →
     DoesOption t1 t2 u e z greedy x → t2.groups ≡ with_groups_of how.which (length t1.starts) x t1.groups →
-    Takes t1 t2 e (tree_least how.which x + 32) (tree_most how.which how.shrink x + 32) →
+    TakesBytes t1 t2 e (tree_least how.which x + 32) (tree_most how.which how.shrink x + 32) →
     Rounds how t0 t2 u e z 1 0 most (most * (room how.shrink x + 1) + 1) greedy x
 rounds_first how t0 t1 t2 u e z zero greedy x some added m does g w = absurd (omega arith)
 rounds_first how t0 t1 t2 u e z (suc left) greedy x some added m does g w = record {
@@ -209,7 +209,7 @@ module _ (how : How) (old b : Assembly) (start end z i low most total : ℕ) (gr
     (rs : Rounds how old b start end z i low most total greedy x) where
   pub rounds_then : (c d : Assembly) (u e : ℕ) → i < most → Makes b c u e (room how.shrink x + 1) → DoesOption b c u e z greedy x →
       c.groups ≡ with_groups_of how.which (length b.starts) x b.groups → Led c d end u →
-      Takes b c e (tree_least how.which x + 32) (tree_most how.which how.shrink x + 32) →
+      TakesBytes b c e (tree_least how.which x + 32) (tree_most how.which how.shrink x + 32) →
       Rounds how old d start e z (i + 1) low most total greedy x
   rounds_then c d u e l m does g led w =
       let step = round_bytes i most (room how.shrink x + 1) l in
@@ -248,20 +248,15 @@ module _ (how : How) (old b : Assembly) (start end z i low most total : ℕ) (gr
       ≤ sum_of_bytes old + rounds_bytes low most (tree_most how.which how.shrink x)
   rounds_left l = omega (arith, rs.bytes_most, round_bytes i most (tree_most how.which how.shrink x + 32) l)
 
-  -- the way to it
+  -- the transition to it
   pub rounds_lead_passed : (c new : Assembly) (u e : ℕ) (err : BuildError) → i < most → Makes b c u e (room how.shrink x + 1) →
-      Takes b c e (tree_least how.which x + 32) (tree_most how.which how.shrink x + 32) → StaysAt c new end err →
-      Passes old (rounds_bytes low most (tree_most how.which how.shrink x)) err
+      TakesBytes b c e (tree_least how.which x + 32) (tree_most how.which how.shrink x + 32) → StaysAt c new end err →
+      ExceedsLimit old (rounds_bytes low most (tree_most how.which how.shrink x)) err
   rounds_lead_passed c new u e err l made w r =
       omega (arith, rounds_left l, w.most, way_kept made.fragment.grows end rs.options.end_there, r.passed)
 
-  -- the way to the exit
-  pub rounds_last_passed : (new : Assembly) (err : BuildError) → StaysAt b new end err →
-      Passes old (rounds_bytes low most (tree_most how.which how.shrink x)) err
-  rounds_last_passed new err r = omega (arith, rs.bytes_most, r.passed)
-
   pub rounds_take : (new : Assembly) → Led b new end z → most ≤ i →
-      Takes old new z (rounds_bytes low most (tree_least how.which x)) (rounds_bytes low most (tree_most how.which how.shrink x))
+      TakesBytes old new z (rounds_bytes low most (tree_least how.which x)) (rounds_bytes low most (tree_most how.which how.shrink x))
   rounds_take new led over =
       let exit : way_at new z ≡ 0 = led.ways z ∙ ap way_bytes rs.options.exit_is in
       record {
@@ -269,15 +264,15 @@ module _ (how : How) (old b : Assembly) (start end z i low most total : ℕ) (gr
         most = omega (arith, rs.bytes_most, led.takes, exit);
       }
 
-  pub rounds_refused : (new : Assembly) (e : BuildError) → i < most → RefusesFragment how.which b new (room how.shrink x + 1) x e →
-      RefusesFragment how.which old new total x e
+  pub rounds_refused : (new : Assembly) (e : BuildError) → i < most → FailsFragment how.which b new (room how.shrink x + 1) x e →
+      FailsFragment how.which old new total x e
   rounds_refused new e l r =
       let step = round_bytes i most (room how.shrink x + 1) l in
       let fits = rs.fits in
       then_refuses total x rs.options.progress r (λ index h. h) (omega arith)
 
   pub rounds_lead_refused : (c new : Assembly) (u t : ℕ) (e : BuildError) → i < most → Makes b c u t (room how.shrink x + 1) →
-      Stays c new 0 4 e → RefusesFragment how.which old new total x e
+      Stays c new 0 4 e → FailsFragment how.which old new total x e
   rounds_lead_refused c new u t e l m r =
       let step = round_bytes i most (room how.shrink x + 1) l in
       let fits = rs.fits in

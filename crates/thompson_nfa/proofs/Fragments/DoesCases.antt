@@ -12,7 +12,7 @@ use Rattle.hir_core.proofs.ForCallers.{sequences_read, class_ends}
 use Rattle.thompson_nfa.proofs.Walks.SameLemmas.{IsSame, denotes_same}
 use Rattle.thompson_nfa.proofs.Fragments.DoesLemmas.{ends_at}
 
--- the table has all states from b0 on but for the union u and the common end m
+-- the table has all states from b0 on, except for the union u and the common end m
 abbrev pub Agrees : Assembly → Assembly → ℕ → ℕ → Table → Type 0
 Agrees b0 bk u m T = (q : ℕ) → length b0.drafts ≤ q → q < length bk.drafts → q ≢ u → q ≢ m → T q ≡ draft_at bk.drafts q
 

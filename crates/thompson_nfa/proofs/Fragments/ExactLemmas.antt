@@ -1,16 +1,16 @@
--- Where no states are shared, both bounds on bytes are one number.
-use Rattle.std.proofs.Common.{◌≡◌, ℕ, zero, suc, ◌+◌, Bool, true, false, ◌&&◌, ◌||◌, not, List, [], ◌∷◌, refl, sym, ap, ◌∙◌, arith}
+-- If no states are shared, both bounds on bytes are one number.
+use Rattle.std.proofs.Common.{◌≡◌, ℕ, ◌+◌, Bool, true, false, ◌&&◌, not, List, [], ◌∷◌, refl, sym, ap, ◌∙◌, arith}
 use Rattle.std.proofs.Common.{if◌then◌else◌}
 use Rattle.std.specs.List.{list_all}
 use Rattle.std.proofs.lemmas.Bool.{and_parts, not-true}
-use Rattle.hir_core.specs.Facts.{minimum_len}
+use Rattle.hir_core.specs.Facts.{is_never, minimum_len}
 use Rattle.hir_core.specs.Tree.{Tree, empty, literal, byte_class, char_class, look, repetition, capture, nothing, cat, never, alt}
 use Rattle.thompson_nfa.specs.ByteRoom.{Bound, tree_bytes, alternative_bytes, literals_bytes, repeated_bytes, group_bytes}
-use Rattle.thompson_nfa.specs.ByteRoom.{is_choice, is_never, is_unshared, shares_no_states}
+use Rattle.thompson_nfa.specs.ByteRoom.{is_choice, is_unshared, shares_no_states}
 use Rattle.thompson_nfa.specs.Compilations.{bytes_needed, is_anchored_tree}
 use Rattle.thompson_nfa.specs.Compiled.{is_above_zero}
 use Rattle.thompson_nfa.specs.Configs.{Options, reverse_of, captures_of}
-use Rattle.thompson_nfa.specs.ListBytes.{pattern_bytes, bytes_for, patterns_bytes, start_bytes}
+use Rattle.thompson_nfa.specs.ListBytes.{bytes_of_pattern, bytes_for, patterns_bytes, start_bytes}
 use Rattle.thompson_nfa.specs.declared.which_captures.WhichCaptures.{WhichCaptures}
 use Rattle.thompson_nfa.proofs.Classes.ScalarBytes.{ascii_bytes}
 
@@ -52,7 +52,7 @@ module _ (b c : Bound) (which : WhichCaptures) where
       apart b c x y (tree_bytes b which false x) (tree_bytes b which true y) (tree_bytes c which false x) (tree_bytes c which true y) both.0
       (same_bytes false x parts.0) (same_bytes true y parts.1)
 
-  same_pattern : (x : Tree) → shares_no_states x ≡ true → pattern_bytes b which x ≡ pattern_bytes c which x
+  same_pattern : (x : Tree) → shares_no_states x ≡ true → bytes_of_pattern b which x ≡ bytes_of_pattern c which x
   same_pattern x e = omega (arith, same_bytes false x e)
 
   same_patterns : (xs : List Tree) → list_all shares_no_states xs ≡ true → bytes_for b which xs ≡ bytes_for c which xs

@@ -14,7 +14,7 @@ use Rattle.thompson_nfa.proofs.Steps.OutLemmas.{all_join, all_on}
 use Rattle.thompson_nfa.proofs.Steps.ProgressLemmas.{first_made, then_made, then_led, made}
 
 module _ (a b c d : Assembly) (s1 e1 n1 s2 e2 n2 : ℕ) (first : Makes a b s1 e1 n1) (second : Makes b c s2 e2 n2) (led : Led c d e1 s2) where
-  -- in the finished table both stand, the first led on to the second
+  -- the finished table has both, with the first led on to the second
   pub join_first : (target : ℕ) (table : Table) → Finished (length a.drafts) d.drafts e2 target table →
       Finished (length a.drafts) b.drafts e1 s2 table
   join_first target table fin =
@@ -50,7 +50,7 @@ module _ (a b c d : Assembly) (s1 e1 n1 s2 e2 n2 : ℕ) (first : Makes a b s1 e1
       subst P (sym l) (all_join table target (length a.drafts) (length b.drafts) (length c.drafts)
       (all_on table target s2 (length a.drafts) (length b.drafts) front (later s2 p o)) later))
 
-  -- what the first leaves to do is done by the second and what that leaves
+  -- what the first leaves to do is done by the second and by what that leaves
   pub join_does : (x rest owed whole : Tree) → Joins a.reverse x rest owed → DoesFirst a b s1 e1 owed whole → Does b c s2 e2 x →
       DoesFirst a d s1 e2 rest whole
   join_does x rest owed whole j lead does = record {

@@ -22,7 +22,7 @@ use Rattle.thompson_nfa.proofs.Walks.AheadLemmas.{denotes_then_empty}
 use Rattle.thompson_nfa.proofs.Walks.DenoteLemmas.{denotes_empty}
 use Rattle.thompson_nfa.proofs.Fragments.DoesLemmas.{chosen}
 
--- one round, which may be passed by
+-- one round, which may be skipped
 module _ (t0 t1 t2 t3 t4 : Assembly) (greedy : Bool) (u s e n z : ℕ) (added : AddsDraft t0 t1 u (no_choice greedy) t0.groups)
     (body : Makes t1 t2 s e n) (p3 : Led t2 t3 u s) (p4 : Led t3 t4 u z) (there : z < length t0.drafts) where
   option_sizes : AddedAt t0 t1 u × MadeAt t1 t2 s e × LedAt t2 t3 × LedAt t3 t4
@@ -104,7 +104,7 @@ options_at : {old mid : Assembly} {start end z n left min most : ℕ} {greedy : 
     Options old mid start end z n left min most greedy x → OptionsAt old mid start end z
 options_at os = (os.progress.partly.grows.longer, os.start_new, os.start_there, os.end_new, os.end_there, os.z_new, os.z_there)
 
--- behind copies that are owed
+-- after the copies that are required
 module _ (t0 t1 t2 : Assembly) (s e n z left min most : ℕ) (greedy : Bool) (x : Tree) (prefix : Makes t0 t1 s e n)
     (copies : DoesCopies t0 t1 s e min x) (added : AddsDraft t1 t2 z (empty_draft 0) t1.groups)
     (sum : min + left ≡ most) where

@@ -8,7 +8,7 @@ use Rattle.thompson_nfa.specs.ByteRoom.{Bound, tree_bytes, has_literals, is_choi
 use Rattle.thompson_nfa.specs.ByteRoom.{group_bytes, loop_bytes, at_least_bytes, rounds_bytes, between_bytes}
 use Rattle.thompson_nfa.specs.LiteralParts.{is_literal, are_literals}
 use Rattle.thompson_nfa.specs.NotedGroups.{keeps_group}
-use Rattle.thompson_nfa.specs.Turned.{turned_place, left_after}
+use Rattle.thompson_nfa.specs.Turned.{turned_position, left_after}
 use Rattle.thompson_nfa.specs.declared.which_captures.WhichCaptures.{WhichCaptures}
 use Rattle.thompson_nfa.proofs.Fragments.TurnLemmas.{first_left, last_left}
 
@@ -24,13 +24,13 @@ module _ (b : Bound) (which : WhichCaptures) where
   bytes_push more (x ∷ xs) y = let e = bytes_push more xs y in omega arith
 
   pub left_bytes : (more : ℕ) (back : Bool) (xs : List Tree) (i : ℕ) (x : Tree) → i < length xs →
-      x ≡ get_or xs (turned_place back i (length xs)) x →
+      x ≡ get_or xs (turned_position back i (length xs)) x →
       part_bytes more (left_after back i xs) ≡ tree_bytes b which false x + more + part_bytes more (left_after back (i + 1) xs)
   left_bytes more false xs i x l e = ap (part_bytes more) (first_left xs i x x l e)
   left_bytes more true xs i x l e = let p = bytes_push more (take (length xs - (i + 1)) xs) x in
       ap (part_bytes more) (last_left xs i x x l e) ∙ omega arith
 
-  -- parts behind a first one
+  -- parts after a first one
   parts_behind : (xs : List Tree) → tree_bytes b which true (concat xs) ≡ part_bytes 0 xs
   parts_behind [] = refl
   parts_behind (x ∷ xs) = omega (arith, parts_behind xs)
@@ -44,9 +44,6 @@ module _ (b : Bound) (which : WhichCaptures) where
   others_behind : (xs : List Tree) → tree_bytes b which true (alternation xs) ≡ part_bytes 4 xs + 48
   others_behind [] = refl
   others_behind (x ∷ xs) = omega (arith, others_behind xs)
-
-  pub one_alternative : (x : Tree) → tree_bytes b which false (alternation (x ∷ [])) ≡ tree_bytes b which false x
-  one_alternative x = refl
 
   abbrev pub if_choice : Bool → Tree → Tree → List Tree → ℕ
   if_choice shared x y xs = if shared then literals_bytes b (alternation (x ∷ y ∷ xs))
@@ -113,12 +110,6 @@ none_left i most n over = let e : most - i ≡ 0 = omega arith in ap (λ k. k * 
 pub loop_is : (reads : Bool) (n : ℕ) → reads ≡ true → loop_bytes reads n ≡ n + 32
 loop_is reads n is = ap (λ b. loop_bytes b n) is
 
-pub loop_is_not : (reads : Bool) (n : ℕ) → reads ≡ false → loop_bytes reads n ≡ n + 88
-loop_is_not reads n is = ap (λ b. loop_bytes b n) is
-
-pub none_owed : (low : ℕ) (reads : Bool) (n : ℕ) → low ≡ 0 → at_least_bytes low reads n ≡ loop_bytes reads n
-none_owed low reads n is = ap (λ k. at_least_bytes k reads n) is
-
 pub some_owed : (low : ℕ) (reads : Bool) (n : ℕ) → 0 < low → at_least_bytes low reads n ≡ low * n + 32
 some_owed zero reads n l = absurd (omega arith)
 some_owed (suc low) reads n l = refl
@@ -130,18 +121,7 @@ group_kept which index is = ap (λ kept. if kept then 48 else 0) is
 abbrev if_more : Bool → Bool → ℕ → ℕ → ℕ → ℕ
 if_more more some low most n = if more then rounds_bytes low most n else (if some then low * n else 24)
 
-between_is : (low most n : ℕ) → between_bytes low most n ≡ if_more (nat_lt low most) (nat_lt 0 most) low most n
-between_is low most n = refl
-
-pub more_rounds : (low most n : ℕ) → low < most → between_bytes low most n ≡ rounds_bytes low most n
-more_rounds low most n l = ap (λ b. if_more b (nat_lt 0 most) low most n) (lt-ltb low most l)
-
 pub same_rounds : (low most n : ℕ) → low ≡ most → 0 < most → between_bytes low most n ≡ low * n
 same_rounds low most n same some =
     ap (λ b. if_more b (nat_lt 0 most) low most n) (le-ltb low most (omega arith))
     ∙ ap (λ b. if_more false b low most n) (lt-ltb 0 most some)
-
-pub no_rounds : (low most n : ℕ) → low ≤ most → most ≡ 0 → between_bytes low most n ≡ 24
-no_rounds low most n le none =
-    ap (λ b. if_more b (nat_lt 0 most) low most n) (le-ltb low most (omega arith))
-    ∙ ap (λ b. if_more false b low most n) (le-ltb 0 most (omega arith))

@@ -56,7 +56,7 @@ pub reads_as : (a b : Assembly) (table : Table) (s e : ℕ) (x : Tree) → Grows
 reads_as a b table s e x g d = let P : Bool → Type 0 = λ back. Denotes back table s e x in
     subst P (ap (λ (z : Assembly). z.reverse) g.settings) d
 
--- a loop whose body reads
+-- a loop whose body consumes at least one byte
 module _ (t0 t1 t2 t3 t4 : Assembly) (greedy : Bool) (u s e n : ℕ) (added : AddsDraft t0 t1 u (no_choice greedy) t0.groups)
     (body : Makes t1 t2 s e n) (led : Led t2 t3 u s) (back : Led t3 t4 e u) where
   star_sizes : AddedAt t0 t1 u × MadeAt t1 t2 s e × LedAt t2 t3 × LedAt t3 t4
@@ -162,7 +162,7 @@ module _ (t0 t1 t2 t3 t4 : Assembly) (greedy : Bool) (u s e n : ℕ) (body : Mak
     looks = λ l. quiet_led led l ∙ quiet_led back l ∙ quiet_choice greedy added l ∙ does.looks l;
   }
 
--- a loop whose body may read nothing
+-- a loop whose body can match the empty string
 module _ (t0 t1 t2 t3 t4 t5 t6 t7 t8 t9 : Assembly) (greedy : Bool) (s e u q z n : ℕ) (body : Makes t0 t1 s e n)
     (p1 : AddsDraft t1 t2 u (no_choice greedy) t1.groups) (p2 : Led t2 t3 e u) (p3 : Led t3 t4 u s)
     (p4 : AddsDraft t4 t5 q (no_choice greedy) t4.groups) (p5 : AddsDraft t5 t6 z (empty_draft 0) t5.groups) (p6 : Led t6 t7 q s)

@@ -22,7 +22,7 @@ use Rattle.thompson_nfa.proofs.Walks.MeantLemmas.{MeantRounds, meant_rounds, rou
 use Rattle.thompson_nfa.proofs.Walks.DenoteLemmas.{Joins, denotes_join, denotes_empty_here}
 use Rattle.thompson_nfa.proofs.Walks.SameLemmas.{IsSame, denotes_same}
 
--- one round more is allowed
+-- one more round is allowed
 abbrev pub one_more : Option ℕ → Option ℕ
 one_more None = None
 one_more (Some n) = Some (suc n)
@@ -74,16 +74,16 @@ joins_copy back low most greedy x = record {
   met = λ l. used_copy back low most greedy x l;
 }
 
--- no round is owed and none is left
+-- no round is required and none is left
 pub same_stopped : (greedy : Bool) (x : Tree) → IsSame empty (repetition 0 (Some 0) greedy x)
 same_stopped greedy x = record { reading = λ f. tt; ends = λ looks h i. refl; met = λ back l. refl }
 
--- what is left to read from a place: up to the end of what is seen, or down to the first byte
+-- how many bytes can be read from an offset: up to the end of what is seen, or down to the first byte
 abbrev left_to_read : Bool → Text → ℕ → ℕ
 left_to_read false t i = length (seen t) - i
 left_to_read true t i = i
 
--- a tree that reads a byte leaves less
+-- after a tree that consumes a byte, less is left to read
 reads_on : (back : Bool) (t : Text) (x : Tree) → IsAboveZero (minimum_len x) → (i k : ℕ) → IsMeant back t x i k →
     left_to_read back t k < left_to_read back t i
 reads_on false t x above i k m =
@@ -108,7 +108,7 @@ module _ (back : Bool) (T : Table) where
   pub denotes_stopped_here : (s : ℕ) (greedy : Bool) (x : Tree) → Denotes back T s s (repetition 0 (Some 0) greedy x)
   denotes_stopped_here s greedy x = denotes_stopped s s greedy x (denotes_empty_here back T s)
 
-  -- ---- a round that may be left out, and then fewer rounds
+  -- ---- a round that may be skipped, and then fewer rounds
 
   module _ (u a m e left : ℕ) (greedy : Bool) (x : Tree) (body : Denotes back T a m x)
       (rest : Denotes back T m e (repetition 0 (Some left) greedy x)) where

@@ -1,15 +1,15 @@
--- What fragments take in bytes, with the way by which their end is led on: each form of a tree, step by step.
-use Rattle.std.proofs.Common.{◌≡◌, ℕ, zero, suc, ◌+◌, ◌-◌, ◌*◌, ◌<◌, ◌≤◌, Bool, true, false, [], ◌∷◌, length, refl, ap, ◌∙◌, subst, arith}
+-- What fragments take in bytes, with the transition by which their end is led on: each form of a tree, step by step.
+use Rattle.std.proofs.Common.{◌≡◌, ℕ, ◌+◌, ◌<◌, ◌≤◌, Bool, true, false, [], length, refl, ap, ◌∙◌, arith}
 use Rattle.search_types.specs.Groups.{Groups}
-use Rattle.nfa_core.specs.BuilderStates.{DraftNode, Assembly, draft_at, draft_bytes, way_bytes, empty_draft, union_draft}
+use Rattle.nfa_core.specs.BuilderStates.{DraftNode, Assembly, draft_bytes, way_bytes, empty_draft, union_draft}
 use Rattle.nfa_core.specs.BuilderStates.{capture_start_draft, capture_end_draft, match_draft}
 use Rattle.nfa_core.specs.declared.build_error.BuildError.{BuildError}
 use Rattle.thompson_nfa.specs.Added.{AddsDraft, Led}
 use Rattle.thompson_nfa.specs.Choice.{no_choice}
-use Rattle.thompson_nfa.specs.Compiled.{Grows, Makes, Takes, TakesInAll, sum_of_bytes, way_at}
-use Rattle.thompson_nfa.specs.Refusals.{Passes, StaysAt}
+use Rattle.thompson_nfa.specs.Compiled.{Grows, Makes, TakesBytes, TakesInAll, sum_of_bytes, way_at}
+use Rattle.thompson_nfa.specs.Refusals.{ExceedsLimit, StaysAt}
 
--- a state that was there leads on as it did
+-- for a state that was there, one more transition takes what it took
 pub way_kept : {a b : Assembly} → Grows a b → (q : ℕ) → q < length a.drafts → way_at b q ≡ way_at a q
 way_kept g q l = ap way_bytes (g.same q l)
 
@@ -27,34 +27,31 @@ choice_size false = refl
 
 -- one state
 pub one_takes : (a b : Assembly) (id : ℕ) (draft : DraftNode) (groups : Groups) → AddsDraft a b id draft groups →
-    draft_bytes draft + way_bytes draft ≡ 24 → Takes a b id 24 24
+    draft_bytes draft + way_bytes draft ≡ 24 → TakesBytes a b id 24 24
 one_takes a b id draft groups added is =
     let way = way_added added in
     record { least = omega (arith, added.bytes, way, is); most = omega (arith, added.bytes, way, is) }
 
-pub takes_wider : (a b : Assembly) (e l m l2 m2 : ℕ) → Takes a b e l m → l2 ≤ l → m ≤ m2 → Takes a b e l2 m2
+pub takes_wider : (a b : Assembly) (e l m l2 m2 : ℕ) → TakesBytes a b e l m → l2 ≤ l → m ≤ m2 → TakesBytes a b e l2 m2
 takes_wider a b e l m l2 m2 t low high = record { least = omega (arith, t.least, low); most = omega (arith, t.most, high) }
 
--- one fragment behind another
-module _ (a b c : Assembly) (end s e n l1 m1 l2 m2 : ℕ) (before : Takes a b end l1 m1) (inside : end < length b.drafts)
-    (made : Makes b c s e n) (next : Takes b c e l2 m2) where
+-- one fragment after another
+module _ (a b c : Assembly) (end s e n l1 m1 l2 m2 : ℕ) (before : TakesBytes a b end l1 m1) (inside : end < length b.drafts)
+    (made : Makes b c s e n) (next : TakesBytes b c e l2 m2) where
   kept : way_at c end ≡ way_at b end
   kept = way_kept made.fragment.grows end inside
 
-  pub join_takes : (d : Assembly) → Led c d end s → Takes a d e (l1 + l2) (m1 + m2)
+  pub join_takes : (d : Assembly) → Led c d end s → TakesBytes a d e (l1 + l2) (m1 + m2)
   join_takes d led = record {
     least = omega (arith, before.least, next.least, kept, led.takes, led.ways e);
     most = omega (arith, before.most, next.most, kept, led.takes, led.ways e);
   }
 
-  pub join_passed : (new : Assembly) (x : BuildError) → StaysAt c new end x → Passes a (m1 + m2) x
-  join_passed new x r = omega (arith, before.most, next.most, kept, r.passed)
-
 -- ---- rounds
 
 module _ (t0 t1 t2 t3 t4 : Assembly) (u s e n l m : ℕ) (greedy : Bool) where
-  pub star_takes : AddsDraft t0 t1 u (no_choice greedy) t0.groups → Makes t1 t2 s e n → Takes t1 t2 e l m → Led t2 t3 u s →
-      Led t3 t4 e u → Takes t0 t4 u (l + 32) (m + 32)
+  pub star_takes : AddsDraft t0 t1 u (no_choice greedy) t0.groups → Makes t1 t2 s e n → TakesBytes t1 t2 e l m → Led t2 t3 u s →
+      Led t3 t4 e u → TakesBytes t0 t4 u (l + 32) (m + 32)
   star_takes union made body first second =
       let u_is = union.is in
       let size = union.size in
@@ -93,8 +90,8 @@ module _ (t0 t1 t2 t3 t4 : Assembly) (u s e n l m : ℕ) (greedy : Bool) where
         );
       }
 
-  pub plus_takes : Makes t0 t1 s e n → Takes t0 t1 e l m → AddsDraft t1 t2 u (no_choice greedy) t1.groups → Led t2 t3 e u →
-      Led t3 t4 u s → Takes t0 t4 u (l + 32) (m + 32)
+  pub plus_takes : Makes t0 t1 s e n → TakesBytes t0 t1 e l m → AddsDraft t1 t2 u (no_choice greedy) t1.groups → Led t2 t3 e u →
+      Led t3 t4 u s → TakesBytes t0 t4 u (l + 32) (m + 32)
   plus_takes made body union first second =
       let kept = way_kept union.grows e made.fragment.end_there in
       let here = way_added union in
@@ -105,8 +102,8 @@ module _ (t0 t1 t2 t3 t4 : Assembly) (u s e n l m : ℕ) (greedy : Bool) where
         most = omega (arith, union.bytes, body.most, kept, here, way, bytes, first.takes, second.takes, first.ways u, second.ways u);
       }
 
-  pub option_takes : (exit : ℕ) → AddsDraft t0 t1 u (no_choice greedy) t0.groups → Makes t1 t2 s e n → Takes t1 t2 e l m →
-      Led t2 t3 u s → Led t3 t4 u exit → Takes t0 t4 e (l + 32) (m + 32)
+  pub option_takes : (exit : ℕ) → AddsDraft t0 t1 u (no_choice greedy) t0.groups → Makes t1 t2 s e n → TakesBytes t1 t2 e l m →
+      Led t2 t3 u s → Led t3 t4 u exit → TakesBytes t0 t4 e (l + 32) (m + 32)
   option_takes exit union made body first second =
       let u_is = union.is in
       let size = union.size in
@@ -145,9 +142,9 @@ module _ (t0 t1 t2 t3 t4 : Assembly) (u s e n l m : ℕ) (greedy : Bool) where
         );
       }
 
--- rounds of what may read nothing
+-- rounds of a body that can match the empty string
 module _ (t0 t1 t2 t3 t4 t5 t6 t7 t8 : Assembly) (s e n p q z l m : ℕ) (greedy : Bool) (made : Makes t0 t1 s e n)
-    (body : Takes t0 t1 e l m) (plus : AddsDraft t1 t2 p (no_choice greedy) t1.groups) (l3 : Led t2 t3 e p) (l4 : Led t3 t4 p s)
+    (body : TakesBytes t0 t1 e l m) (plus : AddsDraft t1 t2 p (no_choice greedy) t1.groups) (l3 : Led t2 t3 e p) (l4 : Led t3 t4 p s)
     (question : AddsDraft t4 t5 q (no_choice greedy) t4.groups) (last : AddsDraft t5 t6 z (empty_draft 0) t5.groups)
     (l7 : Led t6 t7 q s) (l8 : Led t7 t8 q z) where
   p_way : way_at t8 p ≡ 4
@@ -186,19 +183,16 @@ module _ (t0 t1 t2 t3 t4 t5 t6 t7 t8 : Assembly) (s e n p q z l m : ℕ) (greedy
         l8.takes,
       )
 
-  pub loop_takes : (t9 : Assembly) → Led t8 t9 p z → Takes t0 t9 z (l + 88) (m + 88)
+  pub loop_takes : (t9 : Assembly) → Led t8 t9 p z → TakesBytes t0 t9 z (l + 88) (m + 88)
   loop_takes t9 l9 = record {
     least = omega (arith, body.least, summed, p_way, z_way, l9.takes, l9.ways z);
     most = omega (arith, body.most, summed, p_way, z_way, l9.takes, l9.ways z);
   }
 
-  pub loop_passed : (new : Assembly) (x : BuildError) → StaysAt t8 new p x → Passes t0 (m + 88) x
-  loop_passed new x r = omega (arith, body.most, summed, p_way, r.passed)
-
 -- ---- groups
 
 module _ (t0 t1 t2 t3 t4 : Assembly) (a s e z n l m p p2 i next1 next2 : ℕ) (groups1 groups2 : Groups)
-    (start : AddsDraft t0 t1 a (capture_start_draft p i next1) groups1) (made : Makes t1 t2 s e n) (body : Takes t1 t2 e l m)
+    (start : AddsDraft t0 t1 a (capture_start_draft p i next1) groups1) (made : Makes t1 t2 s e n) (body : TakesBytes t1 t2 e l m)
     (last : AddsDraft t2 t3 z (capture_end_draft p2 i next2) groups2) (first : Led t3 t4 a s) where
   captured_sum : (sum_of_bytes t4 ≡ sum_of_bytes t2 + 24) × (way_at t4 e ≡ way_at t2 e)
   captured_sum =
@@ -208,7 +202,7 @@ module _ (t0 t1 t2 t3 t4 : Assembly) (a s e z n l m p p2 i next1 next2 : ℕ) (g
       let way : way_at t3 a ≡ 0 = way_kept last.grows a (omega arith) ∙ way_kept made.fragment.grows a (omega arith) ∙ way_added start in
       (omega (arith, last.bytes, first.takes, way), first.ways e ∙ way_kept last.grows e made.fragment.end_there)
 
-  pub capture_takes : (t5 : Assembly) → Led t4 t5 e z → Takes t0 t5 z (48 + l) (48 + m)
+  pub capture_takes : (t5 : Assembly) → Led t4 t5 e z → TakesBytes t0 t5 z (48 + l) (48 + m)
   capture_takes t5 second =
       let z_way : way_at t5 z ≡ 0 = second.ways z ∙ first.ways z ∙ way_added last in
       record {
@@ -216,13 +210,10 @@ module _ (t0 t1 t2 t3 t4 : Assembly) (a s e z n l m p p2 i next1 next2 : ℕ) (g
         most = omega (arith, start.bytes, body.most, captured_sum.0, captured_sum.1, z_way, second.takes);
       }
 
-  pub capture_passed : (new : Assembly) (x : BuildError) → StaysAt t4 new e x → Passes t0 (48 + m) x
-  capture_passed new x r = omega (arith, start.bytes, body.most, captured_sum.0, captured_sum.1, r.passed)
-
 -- ---- the first two parts of an alternation
 
 module _ (t0 t1 t2 t3 t4 t5 : Assembly) (s1 e1 n1 s2 e2 n2 u z l1 m1 l2 m2 : ℕ) (first : Makes t0 t1 s1 e1 n1)
-    (takes1 : Takes t0 t1 e1 l1 m1) (second : Makes t1 t2 s2 e2 n2) (takes2 : Takes t1 t2 e2 l2 m2)
+    (takes1 : TakesBytes t0 t1 e1 l1 m1) (second : Makes t1 t2 s2 e2 n2) (takes2 : TakesBytes t1 t2 e2 l2 m2)
     (union : AddsDraft t2 t3 u (union_draft []) t2.groups) (last : AddsDraft t3 t4 z (empty_draft 0) t3.groups) (p5 : Led t4 t5 u s1) where
   u_way : way_at t4 u ≡ 4
   u_way = let u_is = union.is in let size = union.size in way_kept last.grows u (omega arith) ∙ way_added union
@@ -243,11 +234,11 @@ module _ (t0 t1 t2 t3 t4 t5 : Assembly) (s1 e1 n1 s2 e2 n2 u z l1 m1 l2 m2 : ℕ
   pub begun_sum : sum_of_bytes t5 ≡ sum_of_bytes t2 + 52
   begun_sum = omega (arith, union.bytes, last.bytes, p5.takes, u_way)
 
-  pub second_lead_passed : (new : Assembly) (x : BuildError) → StaysAt t5 new e1 x → Passes t0 (m1 + m2 + 56) x
+  pub second_lead_passed : (new : Assembly) (x : BuildError) → StaysAt t5 new e1 x → ExceedsLimit t0 (m1 + m2 + 56) x
   second_lead_passed new x r = omega (arith, takes1.most, takes2.most, begun_sum, first_way, r.passed)
 
   module _ (t6 : Assembly) (p6 : Led t5 t6 e1 z) where
-    pub third_lead_passed : (new : Assembly) (x : BuildError) → StaysAt t6 new u x → Passes t0 (m1 + m2 + 56) x
+    pub third_lead_passed : (new : Assembly) (x : BuildError) → StaysAt t6 new u x → ExceedsLimit t0 (m1 + m2 + 56) x
     third_lead_passed new x r = omega (
       arith,
       takes1.most,
@@ -268,7 +259,7 @@ module _ (t0 t1 t2 t3 t4 t5 : Assembly) (s1 e1 n1 s2 e2 n2 u z l1 m1 l2 m2 : ℕ
       second_end : way_at t7 e2 ≡ way_at t2 e2
       second_end = p7.ways e2 ∙ p6.ways e2 ∙ second_way
 
-      pub fourth_lead_passed : (new : Assembly) (x : BuildError) → StaysAt t7 new e2 x → Passes t0 (m1 + m2 + 56) x
+      pub fourth_lead_passed : (new : Assembly) (x : BuildError) → StaysAt t7 new e2 x → ExceedsLimit t0 (m1 + m2 + 56) x
       fourth_lead_passed new x r = omega (arith, takes1.most, takes2.most, parts_sum, second_end, r.passed)
 
       module _ (t8 : Assembly) (p8 : Led t7 t8 e2 z) where
@@ -287,7 +278,7 @@ module _ (t0 t1 t2 t3 t4 t5 : Assembly) (s1 e1 n1 s2 e2 n2 u z l1 m1 l2 m2 : ℕ
 -- ---- a pattern
 
 pub pattern_takes : (b0 b1 b2 b3 b4 b5 : Assembly) (s e end n p l m : ℕ) → sum_of_bytes b1 ≡ sum_of_bytes b0 → Makes b1 b2 s e n →
-    Takes b1 b2 e l m → AddsDraft b2 b3 end (match_draft p) b2.groups → Led b3 b4 e end → sum_of_bytes b5 ≡ sum_of_bytes b4 →
+    TakesBytes b1 b2 e l m → AddsDraft b2 b3 end (match_draft p) b2.groups → Led b3 b4 e end → sum_of_bytes b5 ≡ sum_of_bytes b4 →
     TakesInAll b0 b5 (l + 24) (m + 24)
 pattern_takes b0 b1 b2 b3 b4 b5 s e end n p l m begun made body added led done =
     let kept = way_kept added.grows e made.fragment.end_there in

@@ -7,8 +7,8 @@ use Rattle.std.proofs.lemmas.Grind.{common_steps}
 use Rattle.thompson_nfa.specs.declared.literal_groups.Edge.{Edge}
 use denote.Ref.{Bor}
 use Rattle.std.proofs.lemmas.List.{map-append, length-map}
-use Rattle.thompson_nfa.specs.LiteralGroups.{texts, texts_of_groups, with_tail, tails, lesser, with_first}
-use Rattle.thompson_nfa.specs.LiteralGroups.{next_of, each_behind, chunk_strings}
+use Rattle.thompson_nfa.specs.LiteralGroups.{texts, strings_of_groups, with_tail, tails, lesser, with_first}
+use Rattle.thompson_nfa.specs.LiteralGroups.{next_of, each_after, chunk_strings}
 use Rattle.thompson_nfa.specs.LiteralGroups.{Ascends, LeadWithin, bytes_in, bytes_in_all, strings_in_all, AllSome, IsChunk}
 
 -- the bytes of those that begin with `low` or above
@@ -126,20 +126,20 @@ pub tails_append : (b : ℕ) (us vs : List (List ℕ)) → tails b (us ++ vs) �
 tails_append b [] vs = refl
 tails_append b (w ∷ us) vs = ap (with_tail b w) (tails_append b us vs) ∙ tail_append b w (tails b us) (tails b vs)
 
-tails_behind : (b : ℕ) (ws : List (List ℕ)) → tails b (each_behind b ws) ≡ ws
+tails_behind : (b : ℕ) (ws : List (List ℕ)) → tails b (each_after b ws) ≡ ws
 tails_behind b [] = refl
-tails_behind b (w ∷ ws) = tail_same b b w (tails b (each_behind b ws)) refl ∙ ap (λ (r : List (List ℕ)). w ∷ r) (tails_behind b ws)
+tails_behind b (w ∷ ws) = tail_same b b w (tails b (each_after b ws)) refl ∙ ap (λ (r : List (List ℕ)). w ∷ r) (tails_behind b ws)
 
-tails_behind_other : (a b : ℕ) (ws : List (List ℕ)) → (a ≡ b → ⊥) → tails b (each_behind a ws) ≡ []
+tails_behind_other : (a b : ℕ) (ws : List (List ℕ)) → (a ≡ b → ⊥) → tails b (each_after a ws) ≡ []
 tails_behind_other a b [] ne = refl
-tails_behind_other a b (w ∷ ws) ne = tail_other a b w (tails b (each_behind a ws)) ne ∙ tails_behind_other a b ws ne
+tails_behind_other a b (w ∷ ws) ne = tail_other a b w (tails b (each_after a ws)) ne ∙ tails_behind_other a b ws ne
 
 pub chunk_append : (groups : List (List (List ℕ))) (es fs : List Edge) →
     chunk_strings groups (es ++ fs) ≡ chunk_strings groups es ++ chunk_strings groups fs
 chunk_append groups [] fs = refl
 chunk_append groups (e ∷ es) fs =
-    ap (λ (r : List (List ℕ)). each_behind e.byte (get_or groups e.next []) ++ r) (chunk_append groups es fs)
-    ∙ sym (append_assoc (each_behind e.byte (get_or groups e.next [])) (chunk_strings groups es) (chunk_strings groups fs))
+    ap (λ (r : List (List ℕ)). each_after e.byte (get_or groups e.next []) ++ r) (chunk_append groups es fs)
+    ∙ sym (append_assoc (each_after e.byte (get_or groups e.next [])) (chunk_strings groups es) (chunk_strings groups fs))
 
 pub ascends_push : (low high b : ℕ) (next : ℕ) (es : List Edge) → Ascends low es high → high ≤ b → b < 256 →
     Ascends low (es ++ (record { byte = b; next = next }) ∷ []) (b + 1)
@@ -177,9 +177,9 @@ pub chunk_kept : (groups more : List (List (List ℕ))) (first end : ℕ) (es : 
 chunk_kept groups more first end [] a le = refl
 chunk_kept groups more first end (e ∷ es) a le =
     let x = a.1 in
-    ap (λ (g : List (List ℕ)). each_behind e.byte g ++ chunk_strings (groups ++ more) es)
+    ap (λ (g : List (List ℕ)). each_after e.byte g ++ chunk_strings (groups ++ more) es)
     (get_before (List (List ℕ)) groups more e.next [] (omega arith))
-    ∙ ap (λ (r : List (List ℕ)). each_behind e.byte (get_or groups e.next []) ++ r) (chunk_kept groups more first end es a.2 le)
+    ∙ ap (λ (r : List (List ℕ)). each_after e.byte (get_or groups e.next []) ++ r) (chunk_kept groups more first end es a.2 le)
 
 -- ---- bytes
 
@@ -207,7 +207,7 @@ from_more low high a n le = ⊎_elim
     (λ (l : high ≤ a). let e = from_high high a n l in let f = from_high low a n (omega arith) in omega (arith, e, f))
     (cases_lt a high)
 
--- the strings that begin with b are no longer to come
+-- the strings that begin with b no longer count among those to come
 tails_room : (low b : ℕ) (ws : List (List ℕ)) → low ≤ b → bytes_in (tails b ws) + length (tails b ws) + bytes_from
     (b + 1) ws ≤ bytes_from low ws
 tails_room low b [] le = omega arith
@@ -297,26 +297,26 @@ module _ (first : ℕ) (old new : List (List (List ℕ))) (low : ℕ) (edges : L
 
     -- the strings of all edges are those so far and those of this one
     joined : (before : List (List (List ℕ))) → length before ≡ first →
-        chunk_strings (before ++ more) (edges ++ edge ∷ []) ≡ chunk_strings (before ++ new) edges ++ each_behind b (tails b strings)
+        chunk_strings (before ++ more) (edges ++ edge ∷ []) ≡ chunk_strings (before ++ new) edges ++ each_after b (tails b strings)
     joined before len =
         let all : before ++ more ≡ (before ++ new) ++ tails b strings ∷ [] = sym (append_assoc before new (tails b strings ∷ [])) in
         let both : length (before ++ new) ≡ first + length new = omega (arith, length-append before new, len) in
         chunk_append (before ++ more) edges (edge ∷ [])
         ∙ ap (λ (r : List (List ℕ)). chunk_strings (before ++ more) edges
-        ++ r) (append-nil (each_behind b (get_or (before ++ more) (first + length new) []))
-        ∙ ap (each_behind b) (ap (λ (gs : List (List (List ℕ))). get_or gs (first + length new) []) all
+        ++ r) (append-nil (each_after b (get_or (before ++ more) (first + length new) []))
+        ∙ ap (each_after b) (ap (λ (gs : List (List (List ℕ))). get_or gs (first + length new) []) all
         ∙ get_last (List (List ℕ)) (before ++ new) (tails b strings) [] (first + length new) (sym both)))
-        ∙ ap (λ (gs : List (List (List ℕ))). chunk_strings gs edges ++ each_behind b (tails b strings)) all
-        ∙ ap (λ (r : List (List ℕ)). r ++ each_behind b (tails b strings))
+        ∙ ap (λ (gs : List (List (List ℕ))). chunk_strings gs edges ++ each_after b (tails b strings)) all
+        ∙ ap (λ (r : List (List ℕ)). r ++ each_after b (tails b strings))
         (chunk_kept (before ++ new) (tails b strings ∷ []) (first + length old) (first + length new) edges so_far.inside (omega arith))
 
     tails_joined : (before : List (List (List ℕ))) → length before ≡ first → (c : ℕ) →
         tails c (chunk_strings (before ++ more) (edges ++ edge ∷ [])) ≡ tails c (chunk_strings (before ++ new) edges)
-        ++ tails c (each_behind b (tails b strings))
+        ++ tails c (each_after b (tails b strings))
     tails_joined before len c = ap (tails c) (joined before len) ∙ tails_append c (chunk_strings (before ++ new) edges)
-        (each_behind b (tails b strings))
+        (each_after b (tails b strings))
 
-    -- of a byte but b nothing is added
+    -- a byte other than b adds nothing
     apart : (before : List (List (List ℕ))) → length before ≡ first → (c : ℕ) → (b ≡ c → ⊥) →
         tails c (chunk_strings (before ++ more) (edges ++ edge ∷ [])) ≡ tails c (chunk_strings (before ++ new) edges)
     apart before len c ne =
@@ -326,10 +326,10 @@ module _ (first : ℕ) (old new : List (List (List ℕ))) (low : ℕ) (edges : L
     here : (before : List (List (List ℕ))) → length before ≡ first → tails b
         (chunk_strings (before ++ more) (edges ++ edge ∷ [])) ≡ tails b strings
     here before len =
-        tails_joined before len b ∙ ap (λ (r : List (List ℕ)). r ++ tails b (each_behind b (tails b strings)))
+        tails_joined before len b ∙ ap (λ (r : List (List ℕ)). r ++ tails b (each_after b (tails b strings)))
         (so_far.above before len b next.0) ∙ tails_behind b (tails b strings)
 
-    -- the bytes between `low` and b begin no string
+    -- no string begins with a byte from `low` on and below b
     between : (before : List (List (List ℕ))) → length before ≡ first → (c : ℕ) → low ≤ c → c < b →
         tails c (chunk_strings (before ++ new) edges) ≡ tails c strings
     between before len c le less = so_far.above before len c le ∙ sym (next.2 c le less)
@@ -384,12 +384,12 @@ module _ (first : ℕ) (old new : List (List (List ℕ))) (low : ℕ) (edges : L
 
 pub group_pushed : {V : Type 0} (items : V → List (Bor (List ℕ))) (olds news : List V) (g : V) (strings : List (List ℕ)) →
     news ≡ olds ++ g ∷ [] → texts (items g) ≡ strings →
-    texts_of_groups items news ≡ texts_of_groups items olds ++ strings ∷ []
+    strings_of_groups items news ≡ strings_of_groups items olds ++ strings ∷ []
 group_pushed {V} items olds news g strings e same =
-    ap (texts_of_groups items) e ∙ map-append (λ (v : V). texts (items v)) olds (g ∷ [])
-    ∙ ap (λ (s : List (List ℕ)). texts_of_groups items olds ++ s ∷ []) same
+    ap (strings_of_groups items) e ∙ map-append (λ (v : V). texts (items v)) olds (g ∷ [])
+    ∙ ap (λ (s : List (List ℕ)). strings_of_groups items olds ++ s ∷ []) same
 
-pub group_count : {V : Type 0} (items : V → List (Bor (List ℕ))) (gs : List V) → length (texts_of_groups items gs) ≡ length gs
+pub group_count : {V : Type 0} (items : V → List (Bor (List ℕ))) (gs : List V) → length (strings_of_groups items gs) ≡ length gs
 group_count {V} items gs = length-map gs (λ (v : V). texts (items v))
 
 pub next_above : (low b : ℕ) (strings : List (List ℕ)) → next_of low strings ≡ Some b → low ≤ b

@@ -9,7 +9,7 @@ use Rattle.nfa_core.specs.Walks.{distinct}
 use Rattle.thompson_nfa.specs.declared.literal_groups.Edge.{Edge}
 use Rattle.thompson_nfa.specs.LiteralGroups.{texts, bytes_in, bytes_in_all, strings_in_all, AllSome}
 use Rattle.thompson_nfa.specs.LiteralLaid.{NodeValue, no_node, node_weight, weight_in_all, matches_in_all, HasStrings, LaysNode}
-use Rattle.thompson_nfa.specs.LiteralStems.{BeginAll, without_first, behind_text}
+use Rattle.thompson_nfa.specs.LiteralStems.{BeginAll, without_first, after_prefix}
 use Rattle.thompson_nfa.specs.LiteralTries.{literal_ends_of, edges_in, matches_in, IsNode}
 use Rattle.thompson_nfa.proofs.LiteralTries.LiteralGroupLemmas.{all_some_append, all_bytes_append, all_strings_append}
 use Rattle.thompson_nfa.proofs.LiteralTries.LiteralNodeLemmas.{are_wider, strings_kept, texts_long}
@@ -76,7 +76,7 @@ some_at [] k a l = absurd (omega arith)
 some_at (g ∷ groups) zero a l = a.0
 some_at (g ∷ groups) (suc k) a l = some_at groups k a.1 (omega arith)
 
--- the groups that wait, where one of them is taken and others are added
+-- the groups that wait, if one of them is taken and others are added
 waiting : (groups fresh : List (List (List ℕ))) (k : ℕ) → k < length groups →
     bytes_in_all (drop (k + 1) (groups ++ fresh)) + bytes_in (get_or groups k []) ≡ bytes_in_all (drop k groups) + bytes_in_all fresh
 waiting [] fresh k l = absurd (omega arith)
@@ -106,7 +106,7 @@ module _ (nodes : List NodeValue) (groups : List (List (List ℕ))) (strings : L
   rest_some : 1 ≤ length lays.rest
   rest_some = omega (arith, some_at groups k so_far.filled less, ap length lays.is, behind_long node.stem lays.rest)
 
-  -- a node's stem and edges and the bytes of the new groups are paid for by its group's bytes
+  -- the bytes of a group cover its node's stem and edges and the bytes of the new groups
   paid : node_weight node + bytes_in_all fresh ≤ bytes_in (get_or groups k [])
   paid = omega (arith, fresh_count, lays.adds.room, behind_bytes node.stem lays.rest rest_some, ap bytes_in lays.is)
 
@@ -189,7 +189,7 @@ pub record NodesHeld (nodes : List NodeValue) (held : List (List (List ℕ))) (s
   pub left : drop (length nodes) groups ≡ drop (length nodes) held
   pub to : NodesTo nodes groups strings
 
--- how much is still to be done
+-- how much is still to do
 abbrev pub left_of : List NodeValue → List (List (List ℕ)) → ℕ
 left_of nodes held = length held - length nodes + bytes_in_all (drop (length nodes) held)
 
@@ -275,14 +275,14 @@ module _ (nodes : List NodeValue) (held : List (List (List ℕ))) (strings : Lis
 -- what follows the stem, in references
 module _ (stem : List ℕ) (strings rest row : List (Bor (List ℕ))) (begins : BeginAll stem (texts strings))
     (rest_is : texts rest ≡ without_first (length stem) (texts strings)) (row_is : row ≡ rest) where
-  pub stem_split : behind_text stem (texts row) ≡ texts strings
-  stem_split = ap (λ (r : List (Bor (List ℕ))). behind_text stem (texts r)) row_is ∙ ap (behind_text stem) rest_is
+  pub stem_split : after_prefix stem (texts row) ≡ texts strings
+  stem_split = ap (λ (r : List (Bor (List ℕ))). after_prefix stem (texts r)) row_is ∙ ap (after_prefix stem) rest_is
       ∙ behind_without stem (texts strings) begins
 
   pub rest_long : length row ≡ length strings
   rest_long = omega (arith, texts_long row, texts_long strings, behind_long stem (texts row), ap length stem_split)
 
--- a group was taken and its node laid, behind the other nodes, and groups were added
+-- a group was taken, its node was laid after the other nodes, and groups were added
 abbrev pub LaidNext : List NodeValue → List (List (List ℕ)) → List NodeValue → List (List (List ℕ)) → ℕ → Type 0
 LaidNext nodes held nodes2 held2 k = (kept : List (List (List ℕ))) × (fresh : List (List (List ℕ))) × (node : NodeValue) ×
     (length kept ≡ length held) × (drop (k + 1) kept ≡ drop (k + 1) held) × LaysNode (length held) [] fresh node (get_or held k []) ×

@@ -11,7 +11,7 @@ use Rattle.nfa_core.specs.declared.build_error.BuildError.{BuildError}
 use Rattle.thompson_nfa.specs.Compiled.{Makes}
 use Rattle.thompson_nfa.specs.LiteralParts.{is_literal, are_literals}
 use Rattle.thompson_nfa.specs.NotedGroups.{with_groups_of}
-use Rattle.thompson_nfa.specs.Refusals.{Quits, RefusesFragment}
+use Rattle.thompson_nfa.specs.Refusals.{Quits, FailsFragment}
 use Rattle.thompson_nfa.specs.Room.{room}
 use Rattle.thompson_nfa.specs.declared.which_captures.WhichCaptures.{WhichCaptures}
 use Rattle.thompson_nfa.proofs.Steps.ProgressLemmas.{refuses}
@@ -75,6 +75,6 @@ literals_made shrink a b s e xs are m = let P : ℕ → Type 0 = λ n. Makes a b
 
 pub literals_refused : (kept : WhichCaptures) (shrink : Bool) (a b : Assembly) (xs : List Tree) (err : BuildError) →
     are_literals xs ≡ true → Quits a b (count (alternation xs)) err →
-    RefusesFragment kept a b (room shrink (alternation xs)) (alternation xs) err
+    FailsFragment kept a b (room shrink (alternation xs)) (alternation xs) err
 literals_refused kept shrink a b xs err are q = let same = literals_room shrink xs are in
     refuses kept (room shrink (alternation xs)) (alternation xs) q (omega arith)

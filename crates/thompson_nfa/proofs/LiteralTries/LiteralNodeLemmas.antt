@@ -11,7 +11,7 @@ use denote.Ref.{Bor}
 use Rattle.hir_core.specs.Means.{stands}
 use Rattle.nfa_core.specs.Walks.{has, join, distinct}
 use Rattle.thompson_nfa.specs.declared.literal_groups.Edge.{Edge}
-use Rattle.thompson_nfa.specs.LiteralGroups.{texts, tails, run_of, each_behind, chunk_strings, Ascends, LeadWithin, bytes_in, bytes_in_all}
+use Rattle.thompson_nfa.specs.LiteralGroups.{texts, tails, run_of, each_after, chunk_strings, Ascends, LeadWithin, bytes_in, bytes_in_all}
 use Rattle.thompson_nfa.specs.LiteralGroups.{strings_in_all, AllSome, IsChunk, AddsGroups}
 use Rattle.thompson_nfa.specs.LiteralTries.{literal_ends_of, IsLike, item_strings, node_strings, edges_in, chunks_in, matches_in, AreChunks}
 use Rattle.thompson_nfa.proofs.LiteralTries.LiteralGroupLemmas.{all_some_append, chunk_kept, inside_wider}
@@ -36,13 +36,13 @@ none_end_append [] vs a b = b
 none_end_append ([] ∷ us) vs a b = absurd a
 none_end_append ((c ∷ w) ∷ us) vs a b = none_end_append us vs a b
 
-none_end_behind : (b : ℕ) (ws : List (List ℕ)) → NoneEnds (each_behind b ws)
+none_end_behind : (b : ℕ) (ws : List (List ℕ)) → NoneEnds (each_after b ws)
 none_end_behind b [] = tt
 none_end_behind b (w ∷ ws) = none_end_behind b ws
 
 pub chunk_none_end : (groups : List (List (List ℕ))) (es : List Edge) → NoneEnds (chunk_strings groups es)
 chunk_none_end groups [] = tt
-chunk_none_end groups (e ∷ es) = none_end_append (each_behind e.byte (get_or groups e.next [])) (chunk_strings groups es)
+chunk_none_end groups (e ∷ es) = none_end_append (each_after e.byte (get_or groups e.next [])) (chunk_strings groups es)
     (none_end_behind e.byte (get_or groups e.next [])) (chunk_none_end groups es)
 
 one_end : (t s : Bool) (i n : ℕ) (w : List ℕ) (rest : List (List ℕ)) (h : List ℕ) (others : List ℕ) → s ≡ stands h (i + 1) w →
@@ -71,7 +71,7 @@ ends_at_end ((a ∷ w) ∷ ws) h i none e =
     ap (λ (d : List ℕ). (if starts_with nat_eq d (a ∷ w) then (i + suc (length w)) ∷ [] else []) ++ literal_ends_of ws h i) e
     ∙ ends_at_end ws h i none e
 
--- strings none of which is empty end at the same places where the same strings go on behind each byte
+-- Lists of strings, none of which is empty, end at the same offsets if the same strings follow each byte in both lists.
 pub same_ends : (us vs : List (List ℕ)) → NoneEnds us → NoneEnds vs → ((c : ℕ) → tails c us ≡ tails c vs) → (h : List ℕ) (i : ℕ) →
     literal_ends_of us h i ≡ literal_ends_of vs h i
 same_ends us vs a b same h i = elim (slice_get_cases h i).1 [
@@ -93,7 +93,7 @@ join_append seen (x ∷ xs) ys = elim (has nat_eq x seen) as
     else join nat_eq (seen ++ x ∷ []) xs) ys)
     [ true ↦ join_append seen xs ys | false ↦ join_append (seen ++ x ∷ []) xs ys ]
 
--- what follows may be replaced by what ends at the same places
+-- what follows may be replaced by what ends at the same offsets
 pub like_then : (us vs xs ys : List (List ℕ)) → IsLike us vs → ((h : List ℕ) (i : ℕ) → literal_ends_of xs h i ≡ literal_ends_of ys h i) →
     IsLike (us ++ xs) (vs ++ ys)
 like_then us vs xs ys like same h i =
@@ -120,7 +120,7 @@ join_twice x seen =
     ] in
     all (has nat_eq x seen) refl
 
--- one more match behind a match
+-- one more match after a match
 pub match_twice : (ws : List (List ℕ)) → IsLike ((ws ++ [] ∷ []) ++ [] ∷ []) (ws ++ [] ∷ [])
 match_twice ws h i =
     let here : List ℕ = literal_ends_of ([] ∷ []) h i in
@@ -219,7 +219,7 @@ one_less : (t : Bool) (n c : ℕ) → n ≤ 2 * c + (if t then 0 else 1) → n �
 one_less true n c l = omega arith
 one_less false n c l = l
 
--- where a string comes, it is empty
+-- the first string, if there is one, is empty
 abbrev pub IsEnded : List (List ℕ) → Type 0
 IsEnded [] = Unit {0}
 IsEnded ([] ∷ ws) = Unit {0}
@@ -230,12 +230,12 @@ not_ended [] rest none some h = absurd (omega arith)
 not_ended ([] ∷ ws) rest none some h = none
 not_ended ((b ∷ w) ∷ ws) rest none some h = h
 
--- behind a match, or behind none, no more than two items for each match
+-- after a match, or if there is none, no more than two items for each match
 parted_by : (t : Bool) (n m : ℕ) → n ≤ 2 * m + (if t then 0 else 1) → (t ≡ false → n ≡ 0) → n ≤ 2 * m
 parted_by true n m l none = omega (arith, l)
 parted_by false n m l none = let e = none refl in omega (arith, e)
 
--- The first string, where it is empty, or else the strings before the first that is; and the others.
+-- The first string, if it is empty, or else the strings before the first empty one; and the others.
 pub record IsTurn (all turn rest : List (List ℕ)) : Type 0 where
   pub stops : (b : ℕ) (w : List ℕ) (ws : List (List ℕ)) → turn ≡ (b ∷ w) ∷ ws → IsEnded rest
   pub split : turn ++ rest ≡ all
@@ -305,7 +305,7 @@ nothing_taken (suc n) ws e some = let P : List (List ℕ) → Type 0 = IsSome in
 
 module _ (first : ℕ) (old new : List (List (List ℕ))) (items : List (List Edge)) (left : List (List ℕ)) (matched : Bool)
     (all : List (List ℕ)) (so_far : Listing first old new items left matched all) where
-  -- a string that ends, behind a match
+  -- a string that ends, after a match
   match_again : (rest : List (List ℕ)) → matched ≡ true → left ≡ [] ∷ rest → Listing first old new items rest true all
   match_again rest is_match e =
       record {
@@ -360,7 +360,7 @@ module _ (first : ℕ) (old new : List (List (List ℕ))) (items : List (List Ed
             ∙ like_then (node_strings (before ++ new) items) so_far.met ([] ∷ []) ([] ∷ []) (so_far.like before len) (λ g k. refl) h i;
       }
 
-  -- a string that ends, and a match unless one is there
+  -- a string that ends, and a match unless there is one already
   pub match_next : (flag : Bool) → matched ≡ flag → (rest : List (List ℕ)) (items2 : List (List Edge)) → left ≡ [] ∷ rest →
       items2 ≡ (if flag then items else items ++ [] ∷ []) → Listing first old new items2 rest true all
   match_next true m rest items2 e is = let P : List (List Edge) → Type 0 = λ xs. Listing first old new xs rest true all in
@@ -368,7 +368,7 @@ module _ (first : ℕ) (old new : List (List (List ℕ))) (items : List (List Ed
   match_next false m rest items2 e is = let P : List (List Edge) → Type 0 = λ xs. Listing first old new xs rest true all in
       subst P (sym is) (match_pushed rest m e)
 
-  -- a run of strings that don't end here
+  -- a run of strings that do not end here
   chunk_pushed : (more : List (List (List ℕ))) (edges : List Edge) (run rest : List (List ℕ)) → left ≡ run ++ rest → NoneEnds run →
       IsEnded rest → 1 ≤ length run → AddsGroups new more (length edges) run →
       ((before : List (List (List ℕ))) → length before ≡ first → IsChunk first (before ++ more) edges run) →
@@ -455,7 +455,7 @@ module _ (first : ℕ) (old new : List (List (List ℕ))) (items : List (List Ed
       let f : run ≡ [] ∷ [] = e ∙ ap (λ (l : List (List ℕ)). [] ∷ l) (t.ended (drop 1 run) e) in
       match_next flag m rest items2 (sym t.split ∙ ap (λ (l : List (List ℕ)). l ++ rest) f) is
 
--- ---- turns
+-- ---- rounds
 
 run_none : (ws : List (List ℕ)) → NoneEnds (take (run_of ws) ws)
 run_none [] = tt
@@ -551,7 +551,7 @@ pub texts_long : (xs : List (Bor (List ℕ))) → length (texts xs) ≡ length x
 texts_long [] = refl
 texts_long (x ∷ xs) = ap (λ (n : ℕ). suc n) (texts_long xs)
 
--- ---- turns of the loop over a node's strings
+-- ---- rounds of the loop over a node's strings
 
 module _ (first : ℕ) (old new : List (List (List ℕ))) (items : List (List Edge)) (rest : List (Bor (List ℕ))) (matched : Bool)
     (all : List (List ℕ)) (so_far : Listing first old new items (texts rest) matched all)

@@ -110,7 +110,7 @@ fits : (back : Bool) (xs : List Tree) → list_all is_literal xs ≡ true →
     min (1 + 2 * bytes_in (read_strings back xs)) 18446744073709551615 ≤ count (alternation xs)
 fits back xs e = omega (arith, alternation_count xs, room back xs e)
 
--- and the bytes of its states, with the way from its end
+-- and the bytes of its states, with the transition from its end
 trie_bytes : (back : Bool) (xs : List Tree) → 28 + 32 * bytes_in (read_strings back xs) + 36 * length (read_strings back xs)
     ≡ choice_bytes (alternation xs)
 trie_bytes back [] = refl
@@ -120,7 +120,7 @@ read_append : (back : Bool) (xs ys : List Tree) → read_strings back (xs ++ ys)
 read_append back [] ys = refl
 read_append back (x ∷ xs) ys = ap (λ (l : List (List ℕ)). spelt back (bytes_of_literal x) ∷ l) (read_append back xs ys)
 
--- one literal more
+-- one more literal
 pub read_next : (trie next : Strings) (back : Bool) (xs : List Tree) (k : ℕ) (x : Tree) (bytes : List ℕ) →
     trie ≡ record { reverse = back; strings = read_strings back (take k xs) } → x ≡ get_or xs k x → k < length xs →
     bytes ≡ bytes_of_literal x → next ≡ record trie { strings = trie.strings ++ spelt trie.reverse bytes ∷ [] } →

@@ -19,7 +19,7 @@ use Rattle.thompson_nfa.specs.Denotes.{Denotes}
 use Rattle.thompson_nfa.specs.LiteralGroups.{Ascends, LeadWithin}
 use Rattle.thompson_nfa.specs.LiteralTries.{edges_in, chunks_in, matches_in, AreChunks}
 use Rattle.thompson_nfa.specs.LiteralStates.{edge_ranges, AddsItem, AddsNode, edge_trees, item_tree, item_trees, IsLed}
-use Rattle.thompson_nfa.specs.Refusals.{Stays, Quits, Passes}
+use Rattle.thompson_nfa.specs.Refusals.{Stays, Quits, ExceedsLimit}
 use Rattle.thompson_nfa.specs.Shared.{LeadAll}
 use Rattle.thompson_nfa.specs.declared.literal_groups.Edge.{Edge}
 use Rattle.thompson_nfa.proofs.Walks.AheadLemmas.{denotes_alternation_one}
@@ -61,7 +61,7 @@ pub bytes_of_chunk : (names : List ℕ) (es : List Edge) (ranges : List (ℕ × 
 bytes_of_chunk names es ranges e = let P : List (ℕ × ℕ × ℕ) → Type 0 = λ l. draft_bytes (sparse_draft l) ≤ 24 + 8 * length es in
     subst P (sym e) (chunk_weighs names es)
 
--- the state names states that are there
+-- the state names states that exist
 chunk_names : (names : List ℕ) (n first : ℕ) (es : List Edge) → All (λ q. q < n) names → LeadWithin first (length names) es → (k d : ℕ) →
     k < length (names_of (sparse_draft (edge_ranges names es))) →
     get_or (names_of (sparse_draft (edge_ranges names es))) k d < n
@@ -69,7 +69,7 @@ chunk_names names n first [] all a k d l = absurd (omega arith)
 chunk_names names n first (e ∷ es) all a zero d l = all e.next 0 a.1
 chunk_names names n first (e ∷ es) all a (suc k) d l = chunk_names names n first es all a.2 k d (omega arith)
 
--- where the nodes to which edges lead do what trees mean, the chunk does what the alternation of these means behind their bytes
+-- If the nodes to which edges lead do what trees mean, the chunk does what the alternation of these trees after their bytes means.
 lead_edges : (back : Bool) (T : Table) (end first : ℕ) (names : List ℕ) (x : ℕ → Tree) (es : List Edge) → IsLed back T end first names x →
     LeadWithin first (length names) es →
     LeadAll back T end (edge_ranges names es) (edge_trees x es)
@@ -86,7 +86,7 @@ IsWay old mid end q = (q ≡ end) ⊎ ((length old.drafts ≤ q) × (q < length 
 abbrev pub HasStates : Assembly → Assembly → Table → Type 0
 HasStates old mid table = (q : ℕ) → length old.drafts ≤ q → q < length mid.drafts → table q ≡ draft_at mid.drafts q
 
--- the items so far, each with the state that is the way to it
+-- the items so far, each with the state by which it is entered
 pub record ItemsTo (old mid : Assembly) (names : List ℕ) (end : ℕ) (items : List (List Edge)) (ways : List ℕ) : Type 0 where
   pub partly : Partly true old mid
   pub groups : mid.groups ≡ old.groups
@@ -296,7 +296,7 @@ module _ (old mid : Assembly) (names : List ℕ) (end : ℕ) (items : List (List
               (so_far.denotes table (union_older table has) first chunks x led);
         }
 
-  -- the union is refused
+  -- adding the union fails
   pub ways_refused : (new : Assembly) (e : BuildError) → 2 ≤ length ways → Stays mid new 1 (24 + 4 * length ways) e →
       Quits old new (2 * edges_in items) e
   ways_refused new e two r =
@@ -310,11 +310,11 @@ module _ (old mid : Assembly) (names : List ℕ) (end : ℕ) (items : List (List
             (omega (arith, so_far.bytes, so_far.states, so_far.ways_long, chunks_edges items, some)) (omega arith) r.cause;
       }
 
-  pub ways_passed : (e : BuildError) → 2 ≤ length ways → Passes mid (24 + 4 * length ways) e →
-      Passes old (32 * edges_in items + 36 * matches_in items) e
+  pub ways_passed : (e : BuildError) → 2 ≤ length ways → ExceedsLimit mid (24 + 4 * length ways) e →
+      ExceedsLimit old (32 * edges_in items + 36 * matches_in items) e
   ways_passed e two p = omega (arith, so_far.weighs, so_far.ways_long, chunks_edges items, parted, p)
 
--- the state of an item is refused
+-- adding the state of an item fails
 module _ (old mid : Assembly) (names : List ℕ) (end : ℕ) (all items others : List (List Edge)) (item : List Edge)
     (ways : List ℕ) (so_far : ItemsTo old mid names end items ways)
     (is : all ≡ (items ++ item ∷ []) ++ others) (some : 1 ≤ length item) where
@@ -333,10 +333,10 @@ module _ (old mid : Assembly) (names : List ℕ) (end : ℕ) (all items others :
             (omega (arith, so_far.bytes, so_far.states, chunks_edges items, edges, few_edges 0 256 item up)) (omega arith) r.cause;
       }
 
-  pub item_passed : (e : BuildError) → Passes mid (24 + 8 * length item) e → Passes old (32 * edges_in all) e
+  pub item_passed : (e : BuildError) → ExceedsLimit mid (24 + 8 * length item) e → ExceedsLimit old (32 * edges_in all) e
   item_passed e p = omega (arith, so_far.weighs, chunks_edges items, edges, some, p)
 
--- ---- places in the list of items
+-- ---- positions in the list of items
 
 pub chunk_at : (first end : ℕ) (xs : List (List Edge)) (k : ℕ) (row : List Edge) → AreChunks first end xs → k < length xs →
     get_or xs k [] ≡ row → LeadWithin first end row × Ascends 0 row 256
@@ -392,7 +392,7 @@ module _ {V : Type 0} (items_of : V → List Edge) (rows : List V) (k : ℕ) (v 
         item_refused old mid names end (map items_of rows) (take k (map items_of rows)) (drop (k + 1) (map items_of rows)) row ways so_far
         (split_at (map items_of rows) k row inside here) r.0 new e (row_chunk (length names) chunks).1 r.1
 
-    pub row_passed : Passes old (32 * edges_in (map items_of rows) + 36 * matches_in (map items_of rows)) e
+    pub row_passed : ExceedsLimit old (32 * edges_in (map items_of rows) + 36 * matches_in (map items_of rows)) e
     row_passed =
         let p = item_passed old mid names end (map items_of rows) (take k (map items_of rows)) (drop (k + 1) (map items_of rows)) row ways
         so_far (split_at (map items_of rows) k row inside here) r.0 e r.1.passed in
@@ -409,7 +409,7 @@ got_same : (xs : List ℕ) (d q : ℕ) → 1 ≤ length xs → q ≡ get_or xs 0
 got_same [] d q l e = absurd (omega arith)
 got_same (x ∷ xs) d q l e = sym e
 
--- all items are there
+-- all items are done
 module _ {V : Type 0} (items_of : V → List Edge) (rows : List V) (k : ℕ) (old mid : Assembly) (names : List ℕ) (end : ℕ) (ways : List ℕ)
     (so_far : ItemsTo old mid names end (take k (map items_of rows)) ways) (past : length rows ≤ k)
     (some : 1 ≤ length rows) (few : length rows ≤ 2 * chunks_in (map items_of rows) + 1)
@@ -441,6 +441,6 @@ module _ {V : Type 0} (items_of : V → List Edge) (rows : List V) (k : ℕ) (ol
       Quits old new (2 * edges_in (map items_of rows)) e
   rows_refused new e n l ne r = ways_refused old mid names end (map items_of rows) ways whole few_rows parted_rows new e (two_rows n l ne) r
 
-  pub rows_passed : (e : BuildError) (n : ℕ) → n ≡ length ways → (n ≡ 1 → ⊥) → Passes mid (24 + 4 * length ways) e →
-      Passes old (32 * edges_in (map items_of rows) + 36 * matches_in (map items_of rows)) e
+  pub rows_passed : (e : BuildError) (n : ℕ) → n ≡ length ways → (n ≡ 1 → ⊥) → ExceedsLimit mid (24 + 4 * length ways) e →
+      ExceedsLimit old (32 * edges_in (map items_of rows) + 36 * matches_in (map items_of rows)) e
   rows_passed e n l ne p = ways_passed old mid names end (map items_of rows) ways whole few_rows parted_rows e (two_rows n l ne) p

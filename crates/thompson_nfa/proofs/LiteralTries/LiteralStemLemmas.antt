@@ -1,10 +1,10 @@
--- The stem of strings, byte by byte, and the strings behind it.
+-- The stem of strings, byte by byte, and the strings after it.
 use Rattle.std.proofs.Common.{◌≡◌, ℕ, zero, suc, ◌+◌, ◌<◌, ◌≤◌, List, [], ◌∷◌, ◌++◌, length, take, drop, get_or, refl, sym, ap, ◌∙◌, subst}
 use Rattle.std.proofs.Common.{arith, length-append, append_assoc}
 use Rattle.std.proofs.lemmas.List.{take_more, length-take-le, drop_more, map-append}
 use denote.Ref.{Bor}
-use Rattle.thompson_nfa.specs.LiteralGroups.{texts, each_behind, bytes_in}
-use Rattle.thompson_nfa.specs.LiteralStems.{HaveAll, BeginAll, without_first, behind_text}
+use Rattle.thompson_nfa.specs.LiteralGroups.{texts, each_after, bytes_in}
+use Rattle.thompson_nfa.specs.LiteralStems.{HaveAll, BeginAll, without_first, after_prefix}
 
 -- all begin with no byte
 pub begin_none : (ws : List (List ℕ)) → BeginAll [] ws
@@ -29,42 +29,42 @@ stem_more first k b ws l is a h =
     let Q : ℕ → Type 0 = λ m. HaveAll m b ws in
     subst P (sym longer) (begin_more (take k first) b ws a (subst Q (sym n) h))
 
--- a byte at a place
+-- a byte at a position
 pub has_byte : (w : List ℕ) (k b : ℕ) → k < length w → get_or w k 0 ≡ b → drop k w ≡ b ∷ drop (k + 1) w
 has_byte w k b l is = drop_more w k 0 l ∙ ap (λ (c : ℕ). c ∷ drop (k + 1) w) is
 
--- a string that begins with the text is as long at least
+-- a string that begins with the stem is at least as long
 pub begins_long_at : (t : List ℕ) (ws : List (Bor (List ℕ))) (k : ℕ) (d : Bor (List ℕ)) → BeginAll t (texts ws) → k < length ws →
     length t ≤ length (get_or ws k d).now
 begins_long_at t [] k d a l = absurd (omega arith)
 begins_long_at t (v ∷ ws) zero d a l = omega (arith, ap length a.0, length-append t (drop (length t) v.now))
 begins_long_at t (v ∷ ws) (suc k) d a l = begins_long_at t ws k d a.1 (omega arith)
 
--- the strings are those behind the stem
-pub behind_without : (t : List ℕ) (ws : List (List ℕ)) → BeginAll t ws → behind_text t (without_first (length t) ws) ≡ ws
+-- the strings are those after the stem
+pub behind_without : (t : List ℕ) (ws : List (List ℕ)) → BeginAll t ws → after_prefix t (without_first (length t) ws) ≡ ws
 behind_without t [] a = refl
-behind_without t (w ∷ ws) a = ap (λ (v : List ℕ). v ∷ behind_text t (without_first (length t) ws)) (sym a.0)
+behind_without t (w ∷ ws) a = ap (λ (v : List ℕ). v ∷ after_prefix t (without_first (length t) ws)) (sym a.0)
     ∙ ap (λ (l : List (List ℕ)). w ∷ l) (behind_without t ws a.1)
 
--- a text's first byte comes before the others
-pub text_byte : (b : ℕ) (t : List ℕ) (ws : List (List ℕ)) → each_behind b (behind_text t ws) ≡ behind_text (b ∷ t) ws
+-- a stem's first byte comes before the others
+pub text_byte : (b : ℕ) (t : List ℕ) (ws : List (List ℕ)) → each_after b (after_prefix t ws) ≡ after_prefix (b ∷ t) ws
 text_byte b t [] = refl
 text_byte b t (w ∷ ws) = ap (λ (l : List (List ℕ)). (b ∷ t ++ w) ∷ l) (text_byte b t ws)
 
-pub text_none : (ws : List (List ℕ)) → behind_text [] ws ≡ ws
+pub text_none : (ws : List (List ℕ)) → after_prefix [] ws ≡ ws
 text_none [] = refl
 text_none (w ∷ ws) = ap (λ (l : List (List ℕ)). w ∷ l) (text_none ws)
 
-pub behind_long : (t : List ℕ) (ws : List (List ℕ)) → length (behind_text t ws) ≡ length ws
+pub behind_long : (t : List ℕ) (ws : List (List ℕ)) → length (after_prefix t ws) ≡ length ws
 behind_long t [] = refl
 behind_long t (w ∷ ws) = ap (λ (n : ℕ). suc n) (behind_long t ws)
 
-more_bytes : (t : List ℕ) (ws : List (List ℕ)) → bytes_in ws ≤ bytes_in (behind_text t ws)
+more_bytes : (t : List ℕ) (ws : List (List ℕ)) → bytes_in ws ≤ bytes_in (after_prefix t ws)
 more_bytes t [] = omega arith
 more_bytes t (w ∷ ws) = omega (arith, more_bytes t ws, length-append t w)
 
--- the stem's bytes stand in a string
-pub behind_bytes : (t : List ℕ) (ws : List (List ℕ)) → 1 ≤ length ws → length t + bytes_in ws ≤ bytes_in (behind_text t ws)
+-- the stem's bytes are those of one of the strings
+pub behind_bytes : (t : List ℕ) (ws : List (List ℕ)) → 1 ≤ length ws → length t + bytes_in ws ≤ bytes_in (after_prefix t ws)
 behind_bytes t [] l = absurd (omega arith)
 behind_bytes t (w ∷ ws) l = omega (arith, more_bytes t ws, length-append t w)
 

@@ -1,4 +1,4 @@
--- The states of a text: what one more byte adds before it.
+-- The states of a string: what one more byte adds before it.
 use Rattle.std.proofs.Common.{◌≡◌, inl, inr, ℕ, ◌+◌, ◌<◌, ◌≤◌, List, [], ◌∷◌, length, drop, get_or, ◌-◌, None, refl, sym}
 use Rattle.std.proofs.Common.{ap, ◌∙◌, subst, arith, ⊎_elim, true, drop_of_length-le}
 use Rattle.std.proofs.lemmas.Bool.{cases_lt}
@@ -10,7 +10,7 @@ use Rattle.thompson_nfa.specs.Added.{AddsDraft}
 use Rattle.thompson_nfa.specs.Compiled.{IsTame}
 use Rattle.thompson_nfa.specs.Denotes.{Denotes}
 use Rattle.thompson_nfa.specs.LiteralStates.{literals}
-use Rattle.thompson_nfa.specs.LiteralStems.{behind_text}
+use Rattle.thompson_nfa.specs.LiteralStems.{after_prefix}
 use Rattle.thompson_nfa.specs.LiteralTexts.{AddsText}
 use Rattle.thompson_nfa.proofs.Steps.GrowLemmas.{Partly, partly_joined, partly_added, grows_refl, grows_trans}
 use Rattle.thompson_nfa.proofs.Fragments.LeafLemmas.{tame_one}
@@ -71,11 +71,11 @@ module _ (old mid : Assembly) (next : ℕ) (text : List ℕ) (id : ℕ) (so_far 
           denotes = λ back table has end ws d.
               let P : List (List ℕ) → Type 0 = λ l. Denotes back table id2 end (literals back l) in
               subst P (text_byte b text ws)
-              (denotes_byte_then back table id2 id end b (behind_text text ws) (has id2 (omega arith) (omega arith)
+              (denotes_byte_then back table id2 id end b (after_prefix text ws) (has id2 (omega arith) (omega arith)
               ∙ added.here) (so_far.denotes back table (older table has) end ws d));
         }
 
--- the byte at a place, before those behind it
+-- the byte at a position, before those after it
 module _ (old mid : Assembly) (next : ℕ) (text : List ℕ) (id k m : ℕ) (at : k ≡ m - 1) (some : 1 ≤ m) (within : m ≤ length text)
     (so_far : AddsText old mid next (drop m text) id) (there : next < length old.drafts) where
   pub text_more : (new : Assembly) (b id2 : ℕ) → get_or text k 0 ≡ b → AddsDraft mid new id2 (range_draft b b id) mid.groups →

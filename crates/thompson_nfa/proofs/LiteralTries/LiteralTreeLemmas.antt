@@ -16,7 +16,7 @@ use Rattle.nfa_core.specs.Walks.{Has, distinct}
 use Rattle.nfa_core.specs.Ways.{Text}
 use Rattle.nfa_core.proofs.ForCallers.{join_brings, of_join, none_in, has_cons, has_same, has_later, names_equal}
 use Rattle.thompson_nfa.specs.Denotes.{seen, IsMeant, Orders, Denotes}
-use Rattle.thompson_nfa.specs.LiteralGroups.{each_behind, chunk_strings}
+use Rattle.thompson_nfa.specs.LiteralGroups.{each_after, chunk_strings}
 use Rattle.thompson_nfa.specs.LiteralStates.{spelt_literal, literals, edge_ranges, edge_trees, item_tree, item_trees}
 use Rattle.thompson_nfa.specs.LiteralTries.{literal_ends_of, IsLike, item_strings, node_strings}
 use Rattle.thompson_nfa.specs.Shared.{read_then, branch_trees}
@@ -77,7 +77,7 @@ module _ (looks : Looks) (h : List ℕ) where
       ap (λ (ts : List Tree). ends (alternation ts) i) (map-append (spelt_literal back) us vs)
       ∙ alternation_append (map (spelt_literal back) us) (map (spelt_literal back) vs) i
 
-  -- one place at most
+  -- one offset at most
   both_or_none : (c : Bool) (k : ℕ) (f g : ℕ → List ℕ) → flat_map (λ p. f p ++ g p) (if c then k ∷ [] else []) ≡ flat_map f (if c
       then k ∷ [] else []) ++ flat_map g (if c then k ∷ [] else [])
   both_or_none true k f g = append-nil (f k ++ g k) ∙ ap (λ (l : List ℕ). l ++ g k) (sym (append-nil (f k)))
@@ -98,7 +98,7 @@ module _ (looks : Looks) (h : List ℕ) where
   one_forward b w i = ap (flat_map (ends (literal w))) (byte_here b i) ∙ (same_literal_append (b ∷ []) w).ends looks h i
 
   forward : (b : ℕ) (ws : List (List ℕ)) (i : ℕ) → flat_map (ends (literals false ws)) (ends (range_tree (b, b)) i) ≡ ends
-      (literals false (each_behind b ws)) i
+      (literals false (each_after b ws)) i
   forward b [] i = no_places (ends (range_tree (b, b)) i)
   forward b (w ∷ ws) i =
       ap (flat_map (λ p. ends (literal w) p ++ ends (literals false ws) p)) (byte_here b i)
@@ -115,7 +115,7 @@ module _ (looks : Looks) (h : List ℕ) where
       (sym (reverse-append (b ∷ []) w))
 
   backward : (b : ℕ) (ws : List (List ℕ)) (i : ℕ) → flat_map (ends (range_tree (b, b))) (ends (literals true ws) i) ≡ ends
-      (literals true (each_behind b ws)) i
+      (literals true (each_after b ws)) i
   backward b [] i = refl
   backward b (w ∷ ws) i =
       flat_map-append (ends (range_tree (b, b))) (ends (literal (reverse w)) i) (ends (literals true ws) i)
@@ -123,7 +123,7 @@ module _ (looks : Looks) (h : List ℕ) where
       ∙ ap (λ (l : List ℕ). ends (literal (reverse (b ∷ w))) i ++ l) (backward b ws i)
 
   read_ends : (back : Bool) (b : ℕ) (ws : List (List ℕ)) (i : ℕ) → ends (read_then back (b, b) (literals back ws)) i ≡ ends
-      (literals back (each_behind b ws)) i
+      (literals back (each_after b ws)) i
   read_ends false b ws i = forward b ws i
   read_ends true b ws i = backward b ws i
 
@@ -133,7 +133,7 @@ module _ (looks : Looks) (h : List ℕ) where
     chunk_ends [] i = refl
     chunk_ends (e ∷ es) i =
         let later : List Tree = branch_trees back (edge_ranges names es) (edge_trees (node_tree back groups) es) in
-        let first : List (List ℕ) = each_behind e.byte (get_or groups e.next []) in
+        let first : List (List ℕ) = each_after e.byte (get_or groups e.next []) in
         ap (λ (l : List ℕ). l ++ ends (alternation later) i) (read_ends back e.byte (get_or groups e.next []) i)
         ∙ ap (λ (l : List ℕ). ends (literals back first) i ++ l) (chunk_ends es i)
         ∙ sym (literals_append back first (chunk_strings groups es) i)
@@ -206,7 +206,7 @@ end_of_has : (js : List ℕ) (k : ℕ) → Has nat_eq k js → HasEnd js k
 end_of_has [] k h = none_in nat_eq k (HasEnd [] k) h
 end_of_has (j ∷ js) k h = elim (has_cons nat_eq names_equal k j js h) [ inl e ↦ inl (sym e) | inr g ↦ inr (end_of_has js k g) ]
 
--- strings that end at the same places first have the same members
+-- lists of strings with the same ends, in the same order up to repeats, have the same members
 pub like_members : (us vs : List (List ℕ)) → IsLike us vs → (w : List ℕ) → Member w us → Member w vs
 like_members us vs like w m =
     let js : List ℕ = literal_ends_of us w 0 in
@@ -251,7 +251,7 @@ like_orders false T s e us vs like up t o =
     ∙ ap (distinct nat_eq) (sym (string_ends t.holds (seen t) vs i))) o
 like_orders true T s e us vs like up t o = cc
 
--- strings that end at the same places first may stand for each other
+-- lists of strings with the same ends, in the same order up to repeats, may stand for each other
 pub denotes_like_strings : (back : Bool) (T : Table) (s e : ℕ) (us vs : List (List ℕ)) → IsLike us vs →
     Denotes back T s e (literals back us) → Denotes back T s e (literals back vs)
 denotes_like_strings back T s e us vs like d =
@@ -276,12 +276,12 @@ denotes_node back T s e names groups items strings like d =
     (λ f. items_read back names (node_tree back groups) items (λ n. literals_read back (get_or groups n [])))
     (λ looks h i. items_ends looks h back names groups items i) d)
 
--- a byte, and then what is read behind it
+-- a byte, and then what is read after it
 pub denotes_byte_then : (back : Bool) (T : Table) (s q e b : ℕ) (ws : List (List ℕ)) → T s ≡ range_draft b b q →
-    Denotes back T q e (literals back ws) → Denotes back T s e (literals back (each_behind b ws))
+    Denotes back T q e (literals back ws) → Denotes back T s e (literals back (each_after b ws))
 denotes_byte_then back T s q e b ws is d =
     let both : Tree = read_then back (b, b) (literals back ws) in
-    denotes_like back T s e both (literals back (each_behind b ws)) (λ f. read_reads back (b, b) (literals back ws) (literals_read back ws))
+    denotes_like back T s e both (literals back (each_after b ws)) (λ f. read_reads back (b, b) (literals back ws) (literals_read back ws))
     (λ looks h i. read_ends looks h back b ws i)
     (denotes_join back T s q e (range_tree (b, b)) (literals back ws) both (joins_read back (b, b) (literals back ws))
     (denotes_range back T s q b b is) d)

@@ -17,7 +17,7 @@ use Rattle.thompson_nfa.specs.LiteralStates.{AddsNode, literals, IsLed, item_tre
 use Rattle.thompson_nfa.specs.LiteralLaid.{NodeValue, no_node, node_weight, weight_in_all, matches_in_all, HasStrings, IsLaidTrie}
 use Rattle.thompson_nfa.specs.LiteralTexts.{AddsText}
 use Rattle.thompson_nfa.specs.LiteralTries.{edges_in, chunks_in, matches_in, AreChunks}
-use Rattle.thompson_nfa.specs.Refusals.{Quits, Passes}
+use Rattle.thompson_nfa.specs.Refusals.{Quits, ExceedsLimit}
 use Rattle.thompson_nfa.specs.declared.literal_groups.Edge.{Edge}
 use Rattle.hir_core.specs.Tree.{Tree, alternation}
 use Rattle.thompson_nfa.proofs.Steps.LookLemmas.{adds_none, quiet_plain, uses_literals}
@@ -34,7 +34,7 @@ use Rattle.thompson_nfa.proofs.Classes.ScalarLemmas.{Spent, quits_later}
 abbrev pub IsThere : Assembly → Assembly → ℕ → Type 0
 IsThere old mid q = (length old.drafts ≤ q) × (q < length mid.drafts)
 
--- the table has the states that were added, but for the common end
+-- the table has the states that were added, except for the common end
 abbrev pub HasOthers : Assembly → Assembly → Table → Type 0
 HasOthers old mid table = (q : ℕ) → length old.drafts < q → q < length mid.drafts → table q ≡ draft_at mid.drafts q
 
@@ -128,7 +128,7 @@ module _ (old mid : Assembly) (end : ℕ) (nodes : List NodeValue) (strings : Li
   matches_now : matches_in_all (drop k nodes) ≡ matches_in node.items + matches_in_all (drop (k + 1) nodes)
   matches_now = matches_from nodes k less ∙ ap (λ (n : NodeValue). matches_in n.items + matches_in_all (drop (k + 1) nodes)) node_is
 
-  -- what this node and those behind it take
+  -- what this node and those after it take
   node_fits : 32 * (node_weight node + weight_in_all (drop (k + 1) nodes))
       + 36 * (matches_in node.items + matches_in_all (drop (k + 1) nodes))
       ≤ 32 * bytes_in strings + 36 * length strings
@@ -153,8 +153,8 @@ module _ (old mid : Assembly) (end : ℕ) (nodes : List NodeValue) (strings : Li
       } in
       quits_later (1 + 2 * bytes_in strings) spent r (omega (arith, weight_now, weight_left nodes k, so_far.trie.room))
 
-  pub node_passed : (e : BuildError) → Passes mid (32 * edges_in node.items + 36 * matches_in node.items) e →
-      Passes old (24 + 32 * bytes_in strings + 36 * length strings) e
+  pub node_passed : (e : BuildError) → ExceedsLimit mid (32 * edges_in node.items + 36 * matches_in node.items) e →
+      ExceedsLimit old (24 + 32 * bytes_in strings + 36 * length strings) e
   node_passed e p = omega (arith, so_far.weighs, node_fits, p)
 
   module _ (grown : Assembly) (id : ℕ) (adds : AddsNode mid grown names end node.items id) where
@@ -179,8 +179,8 @@ module _ (old mid : Assembly) (end : ℕ) (nodes : List NodeValue) (strings : Li
         } in
         quits_later (1 + 2 * bytes_in strings) spent r (omega (arith, weight_now, weight_left nodes k, so_far.trie.room))
 
-    pub stem_passed : (e : BuildError) → Passes grown (24 * length node.stem) e →
-        Passes old (24 + 32 * bytes_in strings + 36 * length strings) e
+    pub stem_passed : (e : BuildError) → ExceedsLimit grown (24 * length node.stem) e →
+        ExceedsLimit old (24 + 32 * bytes_in strings + 36 * length strings) e
     stem_passed e p = omega (arith, so_far.weighs, adds.weighs, node_fits, p)
 
     module _ (new : Assembly) (start : ℕ) (text : AddsText grown new id node.stem start) (names2 : List ℕ)
@@ -308,7 +308,7 @@ same_got [] k c d l = absurd (omega arith)
 same_got (x ∷ xs) zero c d l = refl
 same_got (x ∷ xs) (suc k) c d l = same_got xs k c d (omega arith)
 
--- the node whose turn it is, in a list of rows
+-- the node that is next, in a list of rows
 module _ {V : Type 0} (value_of : V → NodeValue) (rows : List V) (old mid : Assembly) (end : ℕ) (strings : List (List ℕ))
     (names now : List ℕ) (m k : ℕ) (so_far : TrieTo old mid end (map value_of rows) strings names m) (some : 1 ≤ m)
     (turn : k ≡ m - 1) (v : V) (got : v ≡ get_or rows k v) (row : List (List Edge)) (row_is : row ≡ (value_of v).items)
@@ -347,10 +347,10 @@ module _ {V : Type 0} (value_of : V → NodeValue) (rows : List V) (old mid : As
       let P : List (List Edge) → Type 0 = λ is. length is ≤ 2 * matches_in is + 1 in
       subst P (sym row_is) (node_parted old mid end (map value_of rows) strings names k next less (value_of v) here)
 
-  pub turn_passed : (e : BuildError) → Passes mid (32 * edges_in row + 36 * matches_in row) e →
-      Passes old (24 + 32 * bytes_in strings + 36 * length strings) e
+  pub turn_passed : (e : BuildError) → ExceedsLimit mid (32 * edges_in row + 36 * matches_in row) e →
+      ExceedsLimit old (24 + 32 * bytes_in strings + 36 * length strings) e
   turn_passed e p =
-      let P : List (List Edge) → Type 0 = λ is. Passes mid (32 * edges_in is + 36 * matches_in is) e in
+      let P : List (List Edge) → Type 0 = λ is. ExceedsLimit mid (32 * edges_in is + 36 * matches_in is) e in
       node_passed old mid end (map value_of rows) strings names k next less (value_of v) here e (subst P row_is p)
 
   module _ (grown : Assembly) (id : ℕ) (adds : AddsNode mid grown now end row id) where
@@ -371,10 +371,10 @@ module _ {V : Type 0} (value_of : V → NodeValue) (rows : List V) (old mid : As
           stem_refused old mid end (map value_of rows) strings names k next less (value_of v) here grown id adds_here new e
           (subst P stem_is r)
 
-      pub turn_stem_passed : (e : BuildError) → Passes grown (24 * length (value_of w).stem) e →
-          Passes old (24 + 32 * bytes_in strings + 36 * length strings) e
+      pub turn_stem_passed : (e : BuildError) → ExceedsLimit grown (24 * length (value_of w).stem) e →
+          ExceedsLimit old (24 + 32 * bytes_in strings + 36 * length strings) e
       turn_stem_passed e p =
-          let P : List ℕ → Type 0 = λ t. Passes grown (24 * length t) e in
+          let P : List ℕ → Type 0 = λ t. ExceedsLimit grown (24 * length t) e in
           stem_passed old mid end (map value_of rows) strings names k next less (value_of v) here grown id adds_here e (subst P stem_is p)
 
       pub turn_compiled : (new : Assembly) (start : ℕ) → AddsText grown new id (value_of w).stem start →

@@ -1,5 +1,5 @@
--- The bytes of a class of bytes that is repeated, of literals, and of a class of scalars; and limits that are exact.
-use Rattle.std.proofs.Common.{◌≡◌, ℕ, ◌+◌, ◌-◌, ◌*◌, ◌<◌, ◌≤◌, max, Bool, true, false, List, [], ◌∷◌, length, Option, Some, None, refl, ap}
+-- The bytes of a repeated class of bytes, of literals, and of a class of scalars; and limits that are exact.
+use Rattle.std.proofs.Common.{◌≡◌, ℕ, ◌+◌, ◌*◌, ◌<◌, ◌≤◌, max, Bool, true, false, List, [], ◌∷◌, length, Option, Some, refl, ap}
 use Rattle.std.proofs.Common.{◌∙◌, subst, arith, if◌then◌else◌}
 use Rattle.std.specs.Prelude.{MatchOption, ⊤}
 use Rattle.std.specs.List.{list_all}
@@ -12,17 +12,17 @@ use Rattle.thompson_nfa.specs.ByteRoom.{Bound, at_least, at_most, choice_bytes, 
 use Rattle.thompson_nfa.specs.ByteRoom.{shares_no_states}
 use Rattle.thompson_nfa.specs.Compilations.{IsCompiled, bytes_needed, is_anchored_tree}
 use Rattle.thompson_nfa.specs.Configs.{Options, reverse_of, limit_of, captures_of, is_shrunk}
-use Rattle.thompson_nfa.specs.ListBytes.{start_bytes, pattern_bytes}
+use Rattle.thompson_nfa.specs.ListBytes.{start_bytes, bytes_of_pattern}
 use Rattle.thompson_nfa.specs.LiteralParts.{are_literals}
 use Rattle.thompson_nfa.specs.NotedGroups.{keeps_group}
-use Rattle.thompson_nfa.specs.RefusedTrees.{RefusesTrees}
+use Rattle.thompson_nfa.specs.RefusedTrees.{RejectsTrees}
 use Rattle.thompson_nfa.specs.declared.which_captures.WhichCaptures.{WhichCaptures}
 use Rattle.thompson_nfa.proofs.Classes.ClassBytes.{counted_bytes}
 use Rattle.thompson_nfa.proofs.Classes.ScalarBytes.{ascii_bytes, other_bytes}
 use Rattle.thompson_nfa.proofs.Fragments.ExactLemmas.{same_needed}
 use Rattle.thompson_nfa.proofs.Fragments.PartBytes.{bytes_of_literals, same_rounds}
 
--- ---- what one tree takes with all that stands around it
+-- ---- what one tree takes with all that is around it
 
 few_start : (anchored : Bool) → start_bytes anchored ≤ 88
 few_start true = omega arith
@@ -32,7 +32,7 @@ few_groups : (kept : Bool) → (if kept then 48 else 0) ≤ 48
 few_groups true = omega arith
 few_groups false = omega arith
 
--- 160 beside the tree's own
+-- 160 bytes in addition to the tree's own
 one_needed : (b : Bound) (o : Options) (x : Tree) → bytes_needed b o (x ∷ []) ≤ tree_bytes b (captures_of o) false x + 160
 one_needed b o x = omega (
   arith,
@@ -41,7 +41,7 @@ one_needed b o x = omega (
 )
 
 one_fits : (o : Options) (limit : ℕ) (x : Tree) → tree_most (captures_of o) (is_shrunk o) x + 160 ≤ limit →
-    RefusesTrees o (x ∷ []) (error.ExceededSizeLimit limit) → ⊥
+    RejectsTrees o (x ∷ []) (error.ExceededSizeLimit limit) → ⊥
 one_fits o limit x fits refused = absurd (omega (arith, refused.2, fits, one_needed (at_most (is_shrunk o)) o x))
 
 -- ---- limits that are exact
@@ -58,7 +58,7 @@ made_within o xs n limit made is =
     (subst P is made.limit).1
 
 pub refused_beyond : (o : Options) (xs : List Tree) (limit : ℕ) → list_all shares_no_states xs ≡ true →
-    RefusesTrees o xs (error.ExceededSizeLimit limit) → limit < bytes_needed at_least o xs
+    RejectsTrees o xs (error.ExceededSizeLimit limit) → limit < bytes_needed at_least o xs
 refused_beyond o xs limit apart refused = omega (arith, refused.2, exact_bytes (is_shrunk o) o xs apart)
 
 literal_free : (back : Bool) (bytes : List ℕ) → is_anchored_tree back (literal bytes) ≡ false
@@ -68,7 +68,7 @@ literal_free true bytes = refl
 pub literal_needs : (o : Options) (bytes : List ℕ) →
     bytes_needed at_least o (literal bytes ∷ []) ≡ 24 * max (length bytes) 1 + group_bytes (captures_of o) 0 + 112
 literal_needs o bytes =
-    ap (λ first. start_bytes (list_all (λ (b : Bool). b) (first ∷ [])) + pattern_bytes at_least (captures_of o) (literal bytes))
+    ap (λ first. start_bytes (list_all (λ (b : Bool). b) (first ∷ [])) + bytes_of_pattern at_least (captures_of o) (literal bytes))
     (literal_free (reverse_of o) bytes) ∙ omega arith
 
 -- ---- classes that are repeated
@@ -84,7 +84,7 @@ ascii_class b which ranges is = ascii_bytes b ranges is
 
 pub repeated_class_fits : (o : Options) (greedy : Bool) (n limit : ℕ) (ranges : List (ℕ × ℕ)) → 0 < n →
     n * (48 + 8 * length ranges) + 160 ≤ limit →
-    RefusesTrees o (repetition n (Some n) greedy (byte_class ranges) ∷ []) (error.ExceededSizeLimit limit) → ⊥
+    RejectsTrees o (repetition n (Some n) greedy (byte_class ranges) ∷ []) (error.ExceededSizeLimit limit) → ⊥
 repeated_class_fits o greedy n limit ranges some fits refused =
     one_fits o limit (repetition n (Some n) greedy (byte_class ranges))
     (omega (arith, repeated_class (at_most (is_shrunk o)) (captures_of o) greedy n ranges some, fits)) refused
@@ -106,7 +106,7 @@ pub words_behind_digits : (b : Bound) (which : WhichCaptures) →
 words_behind_digits b which = refl
 
 pub literals_fit : (o : Options) (limit : ℕ) (xs : List Tree) → are_literals xs ≡ true → choice_bytes (alternation xs) + 160 ≤ limit →
-    RefusesTrees o (alternation xs ∷ []) (error.ExceededSizeLimit limit) → ⊥
+    RejectsTrees o (alternation xs ∷ []) (error.ExceededSizeLimit limit) → ⊥
 literals_fit o limit xs are fits refused = one_fits o limit (alternation xs)
     (omega (arith, bytes_of_literals (at_most (is_shrunk o)) (captures_of o) xs are, fits)) refused
 
@@ -122,6 +122,6 @@ class_most which ranges other = omega (arith, other_class which false ranges oth
 
 pub class_fits : (o : Options) (limit : ℕ) (ranges : List (ℕ × ℕ)) → is_ascii ranges ≡ false →
     class_bytes (is_shrunk o) ranges + 160 ≤ limit →
-    RefusesTrees o (char_class ranges ∷ []) (error.ExceededSizeLimit limit) → ⊥
+    RejectsTrees o (char_class ranges ∷ []) (error.ExceededSizeLimit limit) → ⊥
 class_fits o limit ranges other fits refused = one_fits o limit (char_class ranges)
     (omega (arith, other_class (captures_of o) (is_shrunk o) ranges other, fits)) refused

@@ -86,7 +86,7 @@ barred_patched plain to (union_reverse_draft names) = refl
 barred_patched plain to fail_draft = refl
 barred_patched plain to (match_draft pattern) = refl
 
--- a state that isn't barred is no match; plain ones are fit anywhere
+-- a state that isn't barred is no match; plain ones are suitable anywhere
 pub unmatched : (plain : Bool) (draft : DraftNode) → is_barred plain draft ≡ false → is_match_draft draft ≡ false
 unmatched plain (empty_draft next) e = refl
 unmatched plain (range_draft low high next) e = refl

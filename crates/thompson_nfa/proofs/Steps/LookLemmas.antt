@@ -136,7 +136,7 @@ AddsLooks back a b x = (l : Look) → looks_in b.drafts l ≡ (looks_in a.drafts
 pub adds_none : (back : Bool) (x : Tree) (a b : Assembly) → Quiet a b → ((l : Look) → uses back x l ≡ false) → AddsLooks back a b x
 adds_none back x a b q none l = q l ∙ sym (or-false (looks_in a.drafts l)) ∙ ap (λ (k : Bool). looks_in a.drafts l || k) (sym (none l))
 
--- quiet steps before and behind
+-- quiet steps before and after
 pub adds_around : (a b c d : Assembly) (x : Tree) → Quiet a b → b.reverse ≡ a.reverse → AddsLooks b.reverse b c x → Quiet c d →
     AddsLooks a.reverse a d x
 adds_around a b c d x first same body last l =

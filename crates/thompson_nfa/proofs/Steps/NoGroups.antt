@@ -1,4 +1,4 @@
--- Where no group is kept, trees have none, none is noted, and so none has a fault.
+-- If no group is kept, trees have none, none is noted, and so none has an error.
 use Rattle.std.proofs.Common.{◌≡◌, ℕ, zero, suc, false, true, List, [], ◌∷◌, Some, None, refl, ap, ◌∙◌, subst, ⊎_elim}
 use Rattle.search_types.specs.Groups.{Groups}
 use Rattle.search_types.specs.GroupFaults.{GroupFault, group_fault}

@@ -27,7 +27,7 @@ length_filled x xs n =
     let a = length-append xs (replicate (n - length xs) x) in let b = length_of (n - length xs) x in
     omega arith
 
--- a group is there
+-- a group is in the list
 abbrev pub IsIn : Groups → ℕ → ℕ → Type 0
 IsIn groups p index = index < length (get_or groups p [])
 
@@ -192,7 +192,7 @@ module _ (kept : WhichCaptures) (p : ℕ) where
   pub noted_twice : (x : Tree) (groups : Groups) → with_groups_of kept p x (with_groups_of kept p x groups) ≡ with_groups_of kept p x groups
   noted_twice x groups = noted_same x (with_groups_of kept p x groups) (λ j n. noted_in x groups j n)
 
--- a group that is there is known to the states at its ends
+-- a group in the list is known to the states at its ends
 groups_at : (groups : Groups) (p : ℕ) → groups_of groups p ≡ get_or groups p []
 groups_at [] p = refl
 groups_at (names ∷ rest) zero = refl

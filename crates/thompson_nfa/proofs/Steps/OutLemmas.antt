@@ -1,4 +1,4 @@
--- How one comes out of states that stand for others.
+-- How states that stand for others lead out.
 use Rattle.std.proofs.Common.{◌≡◌, ◌⊎◌, inl, inr, ℕ, zero, suc, ◌+◌, ◌<◌, ◌≤◌, Option, Some, None, refl, sym, ap, subst, arith, ⊎_elim}
 use Rattle.std.proofs.lemmas.Bool.{cases_lt}
 use Rattle.nfa_core.specs.Renaming.{stands_for, going_on}
@@ -35,7 +35,7 @@ module _ (table : Table) where
       ] in
       split (stands_for (table q)) refl o
 
-  -- of several states
+  -- for several states
   pub all_here : (target q : ℕ) (high : ℕ) → high ≡ q + 1 → ComesOut table target q → AllComeOut table target q high
   all_here target q high e o k low less = let P : ℕ → Type 0 = λ n. ComesOut table target n in let same : q ≡ k = omega arith in
       subst P same o

@@ -1,4 +1,4 @@
--- Where classes aren't shrunk, `room` is `count`; where they are, it has room for the plain form too.
+-- If classes aren't shrunk, `room` is `count`. If they are, it has room for the plain form too.
 use Rattle.std.proofs.Common.{◌≡◌, ℕ, suc, ◌+◌, ◌-◌, ◌≤◌, min, Bool, true, false, List, [], ◌∷◌, length, refl, ap, ap₂, arith}
 use Rattle.std.proofs.lemmas.List.{length-map}
 use Rattle.hir_core.specs.Tree.{Tree, empty, literal, byte_class, char_class, look, repetition, capture, nothing, cat, never, alt}
@@ -14,7 +14,7 @@ use Rattle.thompson_nfa.proofs.Steps.ProgressLemmas.{made_capped}
 use Rattle.thompson_nfa.proofs.Classes.ScalarLemmas.{quits_capped}
 use Rattle.hir_core.proofs.ForCallers.{few_pieces}
 
--- where nothing is shrunk
+-- if nothing is shrunk
 pub room_is_count : (x : Tree) → room false x ≡ count x
 room_is_count empty = refl
 room_is_count (literal bytes) = refl

@@ -1,4 +1,4 @@
--- A compile so far: how many states and bytes it added, and what its refusal says of the whole.
+-- A compile so far: how many states and bytes it added, and what its error says about the whole.
 use Rattle.std.proofs.Common.{◌≡◌, ℕ, ◌+◌, ◌*◌, ◌<◌, ◌≤◌, min, false, length, refl, sym, ap, ◌∙◌, subst, arith, Bool}
 use Rattle.search_core.specs.Index.{greatest_index}
 use Rattle.search_types.specs.Groups.{Groups}
@@ -10,7 +10,7 @@ use Rattle.nfa_core.specs.declared.build_error.BuildError.TheVariants as error
 use Rattle.thompson_nfa.specs.Compiled.{Grows, Finished, AllComeOut, IsTame, Makes, sum_of_bytes}
 use Rattle.thompson_nfa.specs.Added.{AddsDraft, Led}
 use Rattle.thompson_nfa.specs.NotedGroups.{HasGroup}
-use Rattle.thompson_nfa.specs.Refusals.{RefusesStep, RefusesStates, RefusesTree, Stays, RefusesFragment, Quits}
+use Rattle.thompson_nfa.specs.Refusals.{FailsStep, FailsStates, FailsTree, Stays, FailsFragment, Quits}
 use Rattle.thompson_nfa.specs.declared.which_captures.WhichCaptures.{WhichCaptures}
 use Rattle.thompson_nfa.proofs.Steps.GrowLemmas.{grows_refl, grows_trans, Partly, tame_anyhow, partly_joined, partly_added, partly_led}
 
@@ -81,7 +81,7 @@ made {plain} {a} {b} m p spare le s1 s2 e1 e2 kind out = record {
   within = record { states = omega (arith, p.states, le); bytes = omega (arith, p.bytes, spare); numbered = p.numbered };
 }
 
--- the same where the count stops at the largest number of 64 bits
+-- the lemma above, with a count that stops at the largest number of 64 bits
 pub made_capped : {a b : Assembly} {start end n : ℕ} (m : ℕ) → Makes a b start end n → min n 18446744073709551615 ≤ m →
     Makes a b start end m
 made_capped m x le = record {
@@ -98,11 +98,11 @@ made_capped m x le = record {
 pub size_kept : {old mid : Assembly} → Grows old mid → mid.size_limit ≡ old.size_limit
 size_kept g = ap (λ (b : Assembly). b.size_limit) g.settings
 
--- what refuses a later step refuses the whole
+-- an error of a later step is an error of the whole
 pub step_later : (old mid : Assembly) (n bytes whole m : ℕ) (e : BuildError) → mid.size_limit ≡ old.size_limit →
     length mid.drafts + n ≤ length old.drafts + whole →
-    sum_of_bytes mid + bytes ≤ sum_of_bytes old + 4096 * whole → min whole 18446744073709551615 ≤ m → RefusesStep mid n bytes e →
-    RefusesStates old m e
+    sum_of_bytes mid + bytes ≤ sum_of_bytes old + 4096 * whole → min whole 18446744073709551615 ≤ m → FailsStep mid n bytes e →
+    FailsStates old m e
 step_later old mid n bytes whole m error.TooManyPatterns size states room cap r = r
 step_later old mid n bytes whole m error.TooManyStates size states room cap r = omega arith
 step_later old mid n bytes whole m (error.ExceededSizeLimit limit) size states room cap r = let x = r.1 in let y = r.2 in
@@ -111,8 +111,8 @@ step_later old mid n bytes whole m error.UnsupportedCaptures size states room ca
 step_later old mid n bytes whole m (error.Captures err) size states room cap r = r
 step_later old mid n bytes whole m error.NoMemory size states room cap r = r
 
-pub tree_later : (kept : WhichCaptures) (p : ℕ) (old : Assembly) (m : ℕ) (x : Tree) (e : BuildError) → RefusesStates old m e →
-    RefusesTree kept p old m x e
+pub tree_later : (kept : WhichCaptures) (p : ℕ) (old : Assembly) (m : ℕ) (x : Tree) (e : BuildError) → FailsStates old m e →
+    FailsTree kept p old m x e
 tree_later kept p old m x error.TooManyPatterns r = r
 tree_later kept p old m x error.TooManyStates r = r
 tree_later kept p old m x (error.ExceededSizeLimit limit) r = r
@@ -124,7 +124,7 @@ call_later : (kept : WhichCaptures) (p : ℕ) (old mid : Assembly) (n whole m : 
     mid.size_limit ≡ old.size_limit → length mid.drafts + n ≤ length old.drafts + whole →
     sum_of_bytes mid + 4096 * n ≤ sum_of_bytes old + 4096 * whole → min whole 18446744073709551615 ≤ m →
     ((index : ℕ) → HasGroup kept index x → HasGroup kept index y) →
-    RefusesTree kept p mid n x e → RefusesTree kept p old m y e
+    FailsTree kept p mid n x e → FailsTree kept p old m y e
 call_later kept p old mid n whole m x y error.TooManyPatterns size states room cap inside r = r
 call_later kept p old mid n whole m x y error.TooManyStates size states room cap inside r =
     step_later old mid n (4096 * n) whole m error.TooManyStates size states room cap r
@@ -134,11 +134,11 @@ call_later kept p old mid n whole m x y error.UnsupportedCaptures size states ro
 call_later kept p old mid n whole m x y (error.Captures err) size states room cap inside r = (r.0, inside r.0 r.1, r.2)
 call_later kept p old mid n whole m x y error.NoMemory size states room cap inside r = r
 
--- the groups of the whole are those of the tree at hand
+-- the groups of a part are groups of the whole
 abbrev pub Includes : WhichCaptures → Tree → Tree → Type 0
 Includes kept x y = (index : ℕ) → HasGroup kept index x → HasGroup kept index y
 
--- the first step is refused
+-- the first step fails
 pub first_quits : {old new : Assembly} {n bytes : ℕ} {e : BuildError} (m : ℕ) → Stays old new n bytes e → n ≤ m → bytes ≤ 4096 * m →
     Quits old new m e
 first_quits {old} {new} {n} {bytes} {e} m r le lb = record {
@@ -146,7 +146,7 @@ first_quits {old} {new} {n} {bytes} {e} m r le lb = record {
   cause = step_later old old n bytes m m e refl (omega arith) (omega arith) (omega arith) r.cause;
 }
 
--- a later step is refused
+-- a later step fails
 pub then_quits : {plain : Bool} {old mid new : Assembly} {k s n bytes : ℕ} {e : BuildError} (m : ℕ) → Progress plain old mid k s →
     Stays mid new n bytes e → k + n ≤ m → bytes ≤ s + 4096 * n → Quits old new m e
 then_quits {plain} {old} {mid} {new} {k} {s} {n} {bytes} {e} m p r le lb = record {
@@ -162,7 +162,7 @@ then_quits {plain} {old} {mid} {new} {k} {s} {n} {bytes} {e} m p r le lb = recor
 }
 
 pub refuses : {old new : Assembly} {n : ℕ} {e : BuildError} (kept : WhichCaptures) (m : ℕ) (x : Tree) → Quits old new n e →
-    min n 18446744073709551615 ≤ m → RefusesFragment kept old new m x e
+    min n 18446744073709551615 ≤ m → FailsFragment kept old new m x e
 refuses {old} {new} {n} {e} kept m x q cap = record {
   settings = q.settings;
   cause = tree_later kept (length old.starts) old m x e (step_later old old n (4096 * n) n m e refl (omega arith)
@@ -170,20 +170,20 @@ refuses {old} {new} {n} {e} kept m x q cap = record {
 }
 
 pub first_refuses : {old new : Assembly} {n : ℕ} {e : BuildError} {kept : WhichCaptures} {x : Tree} (m : ℕ) (y : Tree) →
-    RefusesFragment kept old new n x e → Includes kept x y → min n 18446744073709551615 ≤ m →
-    RefusesFragment kept old new m y e
+    FailsFragment kept old new n x e → Includes kept x y → min n 18446744073709551615 ≤ m →
+    FailsFragment kept old new m y e
 first_refuses {old} {new} {n} {e} {kept} {x} m y r inside cap = record {
   settings = r.settings;
   cause = call_later kept (length old.starts) old old n n m x y e refl (omega arith) (omega arith) cap inside r.cause;
 }
 
--- a later call is refused
+-- a later call fails
 pub then_refuses : {plain : Bool} {old mid new : Assembly} {k s n : ℕ} {e : BuildError} {kept : WhichCaptures} {x : Tree} (m : ℕ)
-    (y : Tree) → Progress plain old mid k s → RefusesFragment kept mid new n x e → Includes kept x y →
-    k + n ≤ m → RefusesFragment kept old new m y e
+    (y : Tree) → Progress plain old mid k s → FailsFragment kept mid new n x e → Includes kept x y →
+    k + n ≤ m → FailsFragment kept old new m y e
 then_refuses {plain} {old} {mid} {new} {k} {s} {n} {e} {kept} {x} m y p r inside le =
     let starts : length mid.starts ≡ length old.starts = ap (λ (b : Assembly). length b.starts) p.partly.grows.settings in
-    let P : ℕ → Type 0 = λ pattern. RefusesTree kept pattern mid n x e in
+    let P : ℕ → Type 0 = λ pattern. FailsTree kept pattern mid n x e in
     record {
       settings = r.settings ∙ ap (λ (b : Assembly). record b { drafts = new.drafts; groups = new.groups }) p.partly.grows.settings;
       cause = call_later kept (length old.starts) old mid n m m x y e (size_kept p.partly.grows) (omega (arith, p.states, le))

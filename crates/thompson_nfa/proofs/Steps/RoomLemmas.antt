@@ -1,4 +1,4 @@
--- What the counts of lists of trees and of classes of scalars have room for; a state that isn't refused could be numbered.
+-- What the counts of lists of trees and of classes of scalars have room for. A state that was added without an error could be numbered.
 use Rattle.std.proofs.Common.{◌≡◌, ℕ, zero, suc, ◌+◌, ◌*◌, ◌<◌, ◌≤◌, min, List, [], ◌∷◌, length, take, ap, ◌∙◌}
 use Rattle.std.proofs.Common.{arith, refl, Some, None, Option, nat_lt, inl, inr}
 use Rattle.std.proofs.Common.{get_or}
@@ -23,7 +23,7 @@ alternation_count [] = refl
 alternation_count (x ∷ xs) = ap (λ n. capped (count x + n)) (alternation_count xs)
     ∙ capped_more (count x) (sum_by count xs + 4) (sum_by count (x ∷ xs) + 4) (omega (arith, sum_by-cons count x xs))
 
--- So many states of the forms, by the counts of their parts, are within the count of the whole, as far as it counts.
+-- So many states of the forms, by the counts of their parts, are within the count of the whole, as far as the count goes.
 module _ (n : ℕ) where
   pub fits_char_class : (ranges : List (ℕ × ℕ)) → n ≤ 2 + 4 * sequence_count ranges → min n 18446744073709551615 ≤ count (char_class ranges)
   fits_char_class ranges h = omega (arith, h)
@@ -45,13 +45,13 @@ sequence_count_some [] (suc i) = omega arith
 sequence_count_some (x ∷ xs) zero = omega arith
 sequence_count_some (x ∷ xs) (suc i) = omega (arith, sequence_count_some xs i)
 
--- ---- a state that isn't refused
+-- ---- a state that is added without an error
 
 refused_and_not : {A : Type 0} (o : Option A) (x : A) → o ≡ None → o ≡ Some x → ⊥
 refused_and_not None x e f = absurd (grind (arith, f))
 refused_and_not (Some y) x e f = absurd (grind (arith, e))
 
--- a state that was not refused could be numbered
+-- a state that is added without an error could be numbered
 pub numbered : (b : Assembly) (draft : DraftNode) → add_fault b draft ≡ None → length b.drafts ≤ greatest_index
 numbered b draft h = elim (cases_lt greatest_index (length b.drafts)) [
   | inl l ↦ absurd (refused_and_not (state_count_fault b.drafts) too_many_states (none_first (state_count_fault b.drafts) _ h)

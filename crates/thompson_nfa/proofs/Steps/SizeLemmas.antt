@@ -1,4 +1,4 @@
--- Where steps and fragments put their states, as orders of numbers alone: `omega` reads these at once.
+-- Where steps and fragments put their states, as orders of numbers alone: `omega` can use these directly.
 use Rattle.std.proofs.Common.{◌≡◌, ℕ, ◌+◌, ◌<◌, ◌≤◌, length}
 use Rattle.search_types.specs.Groups.{Groups}
 use Rattle.nfa_core.specs.BuilderStates.{DraftNode, Assembly}

@@ -1,4 +1,4 @@
--- What the single steps of a compile do to a builder, and why they are refused.
+-- What the single steps of a compile do to a builder, and why they fail.
 use Rattle.std.proofs.Common.{◌≡◌, ℕ, zero, suc, ◌+◌, ◌*◌, ◌<◌, ◌≤◌, min, Bool, true, false, List, [], ◌∷◌, ◌++◌, length, Option, Some}
 use Rattle.std.proofs.Common.{None, nat_lt, if◌then◌else◌, ◌≢◌, ⊎_elim, refl, sym, ap, ◌∙◌, subst, arith, length-append}
 use Rattle.std.specs.List.{sum_by}
@@ -13,20 +13,21 @@ use Rattle.nfa_core.specs.BuilderStates.{DraftNode, Assembly, draft_at, patched,
 use Rattle.nfa_core.specs.BuilderStates.{bytes_of_drafts, with_draft, fail_draft}
 use Rattle.nfa_core.specs.BuilderStates.{union_draft, union_reverse_draft, empty_draft, range_draft, sparse_draft, look_draft}
 use Rattle.nfa_core.specs.BuilderStates.{capture_start_draft, capture_end_draft, match_draft}
-use Rattle.nfa_core.specs.BuilderFaults.{Tells, add_fault, patch_fault, limit_fault, BuildFault, exceeded_size_limit, too_many_states}
+use Rattle.nfa_core.specs.BuilderFaults.{ReportsFaultOf, add_fault, patch_fault, limit_fault, BuildFault, exceeded_size_limit}
+use Rattle.nfa_core.specs.BuilderFaults.{too_many_states}
 use Rattle.nfa_core.specs.BuilderFaults.{unsupported_captures, too_many_patterns, captures_refused}
 use Rattle.nfa_core.specs.declared.build_error.BuildError.{BuildError}
 use Rattle.nfa_core.specs.declared.build_error.BuildError.TheVariants as error
 use Rattle.thompson_nfa.specs.Compiled.{sum_of_bytes, way_at}
 use Rattle.thompson_nfa.specs.Added.{AddsDraft, Led}
-use Rattle.thompson_nfa.specs.Refusals.{RefusesStep, Stays, StaysAt}
+use Rattle.thompson_nfa.specs.Refusals.{FailsStep, Stays, StaysAt}
 use Rattle.thompson_nfa.proofs.Steps.ByteLemmas.{step_bytes}
 use Rattle.thompson_nfa.proofs.Steps.RoomLemmas.{numbered as room_for}
 
 longer : (names : List ℕ) (to : ℕ) → 24 + 4 * length (names ++ to ∷ []) ≡ 24 + 4 * length names + 4
 longer names to = omega (arith, length-append names (to ∷ []))
 
--- one more way takes what it is said to
+-- one more transition takes the bytes that `way_bytes` says
 bytes_patched : (to : ℕ) (draft : DraftNode) → draft_bytes (patched to draft) ≡ draft_bytes draft + way_bytes draft
 bytes_patched to (empty_draft next) = refl
 bytes_patched to (range_draft low high next) = refl
@@ -39,7 +40,7 @@ bytes_patched to (union_reverse_draft names) = longer names to
 bytes_patched to fail_draft = refl
 bytes_patched to (match_draft pattern) = refl
 
--- and the next one as much
+-- and the next one takes as many
 ways_patched : (to : ℕ) (draft : DraftNode) → way_bytes (patched to draft) ≡ way_bytes draft
 ways_patched to (empty_draft next) = refl
 ways_patched to (range_draft low high next) = refl
@@ -109,7 +110,7 @@ passed true given limit sum most test e le =
     (ap Some same, omega arith, omega arith)
 passed false given limit sum most test e le = absurd (cc)
 
--- the limit that is passed
+-- the limit that is exceeded
 limit_passed : (size : Option ℕ) (limit sum most : ℕ) → limit_fault size (min sum 18446744073709551615) ≡ Some (exceeded_size_limit limit) →
     sum ≤ most →
     (size ≡ Some limit) × (limit < most) × (limit < 18446744073709551615)
@@ -130,33 +131,33 @@ never_other : (size : Option ℕ) (bytes : ℕ) (fault : BuildFault) → limit_f
 never_other None bytes fault e other = cc
 never_other (Some given) bytes fault e other = never (nat_lt given bytes) given fault e other
 
--- the limit is passed by one more way
+-- one more transition exceeds the limit
 way_passed : (old : Assembly) (from to limit : ℕ) → from < length old.drafts →
     patch_fault old from to ≡ Some (exceeded_size_limit limit) →
     (old.size_limit ≡ Some limit) × (limit < sum_of_bytes old + way_at old from) × (limit < 18446744073709551615)
-way_passed old from to limit inside told =
+way_passed old from to limit inside reported =
     let sums = sum_patched old.drafts from to inside in
-    limit_passed old.size_limit limit (sum_by draft_bytes (patched_at old.drafts from to)) (sum_of_bytes old + way_at old from) told
+    limit_passed old.size_limit limit (sum_by draft_bytes (patched_at old.drafts from to)) (sum_of_bytes old + way_at old from) reported
     (omega (arith, sums))
 
 pub lead_refused : (old new : Assembly) (from to : ℕ) (e : BuildError) → from < length old.drafts → new ≡ old →
-    Tells e (patch_fault old from to) → StaysAt old new from e
-lead_refused old new from to error.TooManyPatterns inside same told = absurd
-    (never_other old.size_limit (bytes_of_drafts (patched_at old.drafts from to)) too_many_patterns told tt)
-lead_refused old new from to error.TooManyStates inside same told = absurd
-    (never_other old.size_limit (bytes_of_drafts (patched_at old.drafts from to)) too_many_states told tt)
-lead_refused old new from to (error.ExceededSizeLimit limit) inside same told =
-    let most = way_passed old from to limit inside told in
+    ReportsFaultOf e (patch_fault old from to) → StaysAt old new from e
+lead_refused old new from to error.TooManyPatterns inside same reported = absurd
+    (never_other old.size_limit (bytes_of_drafts (patched_at old.drafts from to)) too_many_patterns reported tt)
+lead_refused old new from to error.TooManyStates inside same reported = absurd
+    (never_other old.size_limit (bytes_of_drafts (patched_at old.drafts from to)) too_many_states reported tt)
+lead_refused old new from to (error.ExceededSizeLimit limit) inside same reported =
+    let most = way_passed old from to limit inside reported in
     let small = way_small old from in
     record {
       stays = record { same = same; cause = (most.0, omega (arith, most.1, small), most.2); passed = omega (arith, most.1, small) };
       passed = omega (arith, most.1);
     }
-lead_refused old new from to error.UnsupportedCaptures inside same told =
-    absurd (never_other old.size_limit (bytes_of_drafts (patched_at old.drafts from to)) unsupported_captures told tt)
-lead_refused old new from to (error.Captures err) inside same told = absurd
-    (never_other old.size_limit (bytes_of_drafts (patched_at old.drafts from to)) (captures_refused told.0) told.1 tt)
-lead_refused old new from to error.NoMemory inside same told = record {
+lead_refused old new from to error.UnsupportedCaptures inside same reported =
+    absurd (never_other old.size_limit (bytes_of_drafts (patched_at old.drafts from to)) unsupported_captures reported tt)
+lead_refused old new from to (error.Captures err) inside same reported = absurd
+    (never_other old.size_limit (bytes_of_drafts (patched_at old.drafts from to)) (captures_refused reported.0) reported.1 tt)
+lead_refused old new from to error.NoMemory inside same reported = record {
   stays = record { same = same; cause = tt; passed = omega arith };
   passed = omega arith;
 }
@@ -170,7 +171,7 @@ draft_last : (xs : List DraftNode) (draft : DraftNode) → draft_at (xs ++ draft
 draft_last [] draft = refl
 draft_last (x ∷ xs) draft = draft_last xs draft
 
--- a state that was added, where groups were noted before
+-- a state that was added after groups were noted
 pub added_group : (old new : Assembly) (id : ℕ) (draft : DraftNode) (groups : Groups) → id ≡ length old.drafts →
     new ≡ record (with_draft old draft) { groups = groups } → length old.drafts ≤ greatest_index →
     ((one : DraftNode) → is_known old.groups one ≡ true → is_known groups one ≡ true) → AddsDraft old new id draft groups
@@ -200,37 +201,39 @@ pub added_of : (old new : Assembly) (id : ℕ) (draft shown : DraftNode) → id 
 added_of old new id draft shown is e none same =
     added_group old new id shown old.groups is (e ∙ ap (λ one. with_draft old one) same) (room_for old draft none) (λ one k. k)
 
--- what refuses one more state
+-- the errors of adding one more state
 pub refused_name : (b : Bool) (old : Assembly) (draft : DraftNode) (bytes : ℕ) (e : BuildError) →
     b ≡ nat_lt greatest_index (length old.drafts) →
-    Tells e (option_or (if b then Some too_many_states else None)
+    ReportsFaultOf e (option_or (if b then Some too_many_states else None)
     (limit_fault old.size_limit (bytes_of_drafts (old.drafts ++ draft ∷ [])))) →
-    draft_bytes draft ≤ bytes → RefusesStep old 1 bytes e
-refused_name true old draft bytes error.TooManyPatterns test told le = absurd (cc)
-refused_name true old draft bytes error.TooManyStates test told le = let less : greatest_index < length old.drafts =
+    draft_bytes draft ≤ bytes → FailsStep old 1 bytes e
+refused_name true old draft bytes error.TooManyPatterns test reported le = absurd (cc)
+refused_name true old draft bytes error.TooManyStates test reported le = let less : greatest_index < length old.drafts =
     ltb-true greatest_index (length old.drafts) (sym test) in omega arith
-refused_name true old draft bytes (error.ExceededSizeLimit limit) test told le = absurd (cc)
-refused_name true old draft bytes error.UnsupportedCaptures test told le = absurd (cc)
-refused_name true old draft bytes (error.Captures err) test told le = let same : Some too_many_states ≡ Some (captures_refused told.0) =
-    told.1 in absurd (cc)
-refused_name true old draft bytes error.NoMemory test told le = tt
-refused_name false old draft bytes error.TooManyPatterns test told le =
-    never_other old.size_limit (bytes_of_drafts (old.drafts ++ draft ∷ [])) too_many_patterns told tt
-refused_name false old draft bytes error.TooManyStates test told le = absurd
-    (never_other old.size_limit (bytes_of_drafts (old.drafts ++ draft ∷ [])) too_many_states told tt)
-refused_name false old draft bytes (error.ExceededSizeLimit limit) test told le =
-    limit_passed old.size_limit limit (sum_by draft_bytes (old.drafts ++ draft ∷ [])) (sum_of_bytes old + bytes) told (omega (
+refused_name true old draft bytes (error.ExceededSizeLimit limit) test reported le = absurd (cc)
+refused_name true old draft bytes error.UnsupportedCaptures test reported le = absurd (cc)
+refused_name true old draft bytes (error.Captures err) test reported le = let same : Some too_many_states ≡
+    Some (captures_refused reported.0) =
+    reported.1 in absurd (cc)
+refused_name true old draft bytes error.NoMemory test reported le = tt
+refused_name false old draft bytes error.TooManyPatterns test reported le =
+    never_other old.size_limit (bytes_of_drafts (old.drafts ++ draft ∷ [])) too_many_patterns reported tt
+refused_name false old draft bytes error.TooManyStates test reported le = absurd
+    (never_other old.size_limit (bytes_of_drafts (old.drafts ++ draft ∷ [])) too_many_states reported tt)
+refused_name false old draft bytes (error.ExceededSizeLimit limit) test reported le =
+    limit_passed old.size_limit limit (sum_by draft_bytes (old.drafts ++ draft ∷ [])) (sum_of_bytes old + bytes) reported (omega (
       arith,
       sum_by_push draft_bytes old.drafts draft,
     ))
-refused_name false old draft bytes error.UnsupportedCaptures test told le =
-    never_other old.size_limit (bytes_of_drafts (old.drafts ++ draft ∷ [])) unsupported_captures told tt
-refused_name false old draft bytes (error.Captures err) test told le =
-    never_other old.size_limit (bytes_of_drafts (old.drafts ++ draft ∷ [])) (captures_refused told.0) told.1 tt
-refused_name false old draft bytes error.NoMemory test told le = tt
+refused_name false old draft bytes error.UnsupportedCaptures test reported le =
+    never_other old.size_limit (bytes_of_drafts (old.drafts ++ draft ∷ [])) unsupported_captures reported tt
+refused_name false old draft bytes (error.Captures err) test reported le =
+    never_other old.size_limit (bytes_of_drafts (old.drafts ++ draft ∷ [])) (captures_refused reported.0) reported.1 tt
+refused_name false old draft bytes error.NoMemory test reported le = tt
 
-pub add_refused : (old new : Assembly) (draft : DraftNode) (bytes : ℕ) (e : BuildError) → new ≡ old → Tells e (add_fault old draft) →
+pub add_refused : (old new : Assembly) (draft : DraftNode) (bytes : ℕ) (e : BuildError) → new ≡ old →
+    ReportsFaultOf e (add_fault old draft) →
     draft_bytes draft ≤ bytes → Stays old new 1 bytes e
-add_refused old new draft bytes e same told le =
-    let cause = refused_name (nat_lt greatest_index (length old.drafts)) old draft bytes e refl told le in
+add_refused old new draft bytes e same reported le =
+    let cause = refused_name (nat_lt greatest_index (length old.drafts)) old draft bytes e refl reported le in
     record { same = same; cause = cause; passed = step_bytes old 1 bytes e (omega (arith, le)) cause }

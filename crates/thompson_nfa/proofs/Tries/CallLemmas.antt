@@ -29,17 +29,17 @@ module _ {F E : Type 0} (step : F → Bor (List Utf8Range) → Result (Unit {0})
   pub calls_refused : (e : E) → step f shown (Err e) g → CallsUpTo step f (paths_of rest) e
   calls_refused e s = subst (λ (xs : List (Vec Utf8Range Global)). CallsUpTo step f (paths_of xs) e) (sym is) (inl (shown, g, here, s))
 
--- no path stands before the sequences
-pub behind_nothing : (qs : List (List (ℕ × ℕ))) → path_then [] qs ≡ qs
-behind_nothing [] = refl
-behind_nothing (q ∷ qs) = ap (λ xs. q ∷ xs) (behind_nothing qs)
+-- no path comes before the sequences
+pub after_nothing : (qs : List (List (ℕ × ℕ))) → path_then [] qs ≡ qs
+after_nothing [] = refl
+after_nothing (q ∷ qs) = ap (λ xs. q ∷ xs) (after_nothing qs)
 
--- what is emitted behind no path, after nothing
+-- what is emitted after no path, with nothing before
 pub paths_whole : (old : List (Vec Utf8Range Global)) (path : List Utf8Range) (now qs all : List (List (ℕ × ℕ))) →
     now ≡ paths_of old ++ path_then (map bytes_of path) qs →
     old ≡ [] → path ≡ [] → qs ≡ all → now ≡ all
 paths_whole old path now qs all e a b f =
-    e ∙ ap (λ x. paths_of x ++ path_then (map bytes_of path) qs) a ∙ ap (λ x. path_then (map bytes_of x) qs) b ∙ behind_nothing qs ∙ f
+    e ∙ ap (λ x. paths_of x ++ path_then (map bytes_of path) qs) a ∙ ap (λ x. path_then (map bytes_of x) qs) b ∙ after_nothing qs ∙ f
 
 -- the calls of the last function, at equal sequences
 pub calls_all_if : {F E : Type 0} → (step : F → Bor (List Utf8Range) → Result (Unit {0}) E → F →

@@ -137,7 +137,7 @@ edge_cover b start stop from (e ∷ es) l h g =
       | inr a ↦ edge_right (p1 ++ (p2 ++ (p3 ++ p4))) rest b (edge_cover b start stop high es l h a)
     ]
 
--- ---- each edge lies in the range or beside it
+-- ---- each edge lies in the range or outside it
 pub divided_append : (start stop : ℕ) (xs ys : List Edge) → AreDivided start stop xs → AreDivided start stop ys →
     AreDivided start stop (xs ++ ys)
 divided_append start stop [] ys f g = g

@@ -1,9 +1,9 @@
--- The string without a byte in a trie: it is the only one.
+-- If a trie has the string without a byte, it has no other.
 use Rattle.std.proofs.Common.{◌≡◌, inl, inr, ℕ, true, List, [], ◌∷◌, refl, sym, subst}
 use Rattle.hir_core.specs.Sequences.{is_in_ranges}
 use Rattle.thompson_nfa.specs.RangeTries.{IsApart, IsWith}
 
--- where it is no proper prefix of a string that is there, that string is the same
+-- if the empty string is no proper prefix of a string in the trie, that string is empty
 pub empty_alone : (qs : List (List (ℕ × ℕ))) → IsApart qs [] → IsWith qs [] ([] ∷ [])
 empty_alone qs apart = record {
   only = λ s i. elim i [ inl e ↦ inr e | inr n ↦ absurd n ];

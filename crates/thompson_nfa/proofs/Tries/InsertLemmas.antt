@@ -12,7 +12,7 @@ use Rattle.thompson_nfa.specs.declared.trie_nodes.Next.TheVariants.{Node}
 use Rattle.thompson_nfa.specs.RangeTries.{IsInSome, IsApart, IsWith, AreRanges}
 use Rattle.thompson_nfa.specs.TrieNodes.{following, along, IsInside, AreInside, Rises, IsLater}
 use Rattle.thompson_nfa.specs.RangeCovers.{cover_from}
-use Rattle.thompson_nfa.specs.TrieSteps.{EdgesRead, LiesWithin, IsBeside, AreDivided, IsCover, GainsStrings}
+use Rattle.thompson_nfa.specs.TrieSteps.{EdgesRead, LiesWithin, IsOutsideOf, AreDivided, IsCover, GainsStrings}
 use Rattle.thompson_nfa.proofs.Tries.NodeLemmas.{are_inside_more, inside_more, below_same}
 use Rattle.thompson_nfa.proofs.Tries.CoverLemmas.{cover_has, has_cover, edge_cover, divided_cover, rises_cover, inside_cover, inside_append}
 use Rattle.thompson_nfa.proofs.Tries.TrieLemmas.{steps_rise, spells, spelled, in_along, along_in, none_along, steps_only, steps_kept}
@@ -73,9 +73,9 @@ next_at k (x ∷ es) zero e l at r = subst (λ (y : Edge). IsInside k y.next) (s
 next_at k (x ∷ es) (suc i) e l at r = next_at k es i e (omega arith) at r.1
 
 pub divided_at : (start stop : ℕ) (es : List Edge) (i : ℕ) (e : Edge) → i < length es → e ≡ get_or es i e → AreDivided start stop es →
-    LiesWithin start stop e ⊎ IsBeside start stop e
+    LiesWithin start stop e ⊎ IsOutsideOf start stop e
 divided_at start stop [] i e l at r = absurd (omega arith)
-divided_at start stop (x ∷ es) zero e l at r = subst (λ (y : Edge). LiesWithin start stop y ⊎ IsBeside start stop y) (sym at) r.0
+divided_at start stop (x ∷ es) zero e l at r = subst (λ (y : Edge). LiesWithin start stop y ⊎ IsOutsideOf start stop y) (sym at) r.0
 divided_at start stop (x ∷ es) (suc i) e l at r = divided_at start stop es i e (omega arith) at r.1
 
 cons≢nil : {x : ℕ} {xs : List ℕ} → x ∷ xs ≡ [] → ⊥
@@ -179,7 +179,7 @@ module _ (v w x : List (List (List (ℕ × ℕ)))) (start stop : ℕ) (rest : Li
     pub inserting_beside : e ≡ p → x ≡ w → AreDivided start stop ps → (LiesWithin start stop p → ⊥) →
         IsInserting v x start stop rest (take (i + 1) ps) (es ++ e ∷ [])
     inserting_beside is same divided out =
-        let beside : IsBeside start stop p = elim (divided_at start stop ps i p l at divided) [ inl h ↦ absurd (out h) | inr h ↦ h ] in
+        let beside : IsOutsideOf start stop p = elim (divided_at start stop ps i p l at divided) [ inl h ↦ absurd (out h) | inr h ↦ h ] in
         let inner : IsInside (length w) p.next = inside_more (length v) (length w) p.next here.later.len
         (next_at (length v) ps i p l at inside) in
         inserting_more
@@ -237,7 +237,7 @@ pub nil_of_length : {A : Type 0} → (xs : List A) → length xs ≡ 0 → xs �
 nil_of_length [] e = refl
 nil_of_length (x ∷ xs) e = absurd (omega arith)
 
--- what the call that makes the node answers
+-- what the call that makes the node returns
 pub with_pushed_if : (v w x : List (List (List (ℕ × ℕ)))) (next : Next) (rs rest : List Utf8Range) (first : Utf8Range)
     (e : rs ≡ first ∷ rest) (pieces edges : List Edge) →
     IsCover v next first.start (first.end + 1) pieces → IsApart (following v next) (map bytes_of rs) →

@@ -64,7 +64,7 @@ copying_more nodes old copy copy2 names names2 es edges edges2 e n so_far later 
           ∙ ap (λ (qs : List (List (ℕ × ℕ))). along nodes es ++ (behind qs ++ [])) same ∙ sym (along_append nodes es (e ∷ []));
     })
 
--- the edge at a place
+-- the edge at a position
 pub copying_next : (nodes old copy copy2 : List (List (List (ℕ × ℕ)))) (names names2 : List Next) (all edges edges2 : List Edge) (i : ℕ)
     (d : Edge) (n : Next) → i < length all → IsCopying nodes old copy names (take i all) edges → IsLater copy copy2 →
     AreCopies nodes copy2 names2 → IsInside (length copy2) n → following copy2 n ≡ following nodes (get_or all i d).next →

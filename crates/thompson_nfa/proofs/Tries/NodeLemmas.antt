@@ -1,4 +1,4 @@
--- What the nodes of a trie emit, as nodes are added behind them.
+-- What the nodes of a trie emit, as nodes are added after them.
 use Rattle.std.proofs.Common.{◌≡◌, ℕ, zero, suc, ◌+◌, ◌<◌, ◌≤◌, List, [], ◌∷◌, ◌++◌, map, length, get_or, refl, sym, ap, ◌∙◌, arith}
 use Rattle.std.proofs.Common.{zero-add, length-append, Vec, Global}
 use Rattle.std.proofs.lemmas.Grind.{common_steps}

@@ -1,4 +1,4 @@
--- A walk through a trie of ranges: what is emitted so far, and what is left of a node's edges.
+-- A traversal of a trie of ranges: what is emitted so far, and what is left of a node's edges.
 use Rattle.std.proofs.Common.{◌≡◌, ℕ, ◌+◌, ◌<◌, List, [], ◌∷◌, ◌++◌, map, length, get_or, drop, refl, sym, ap, ◌∙◌, arith, append_assoc}
 use Rattle.std.proofs.lemmas.List.{map-append, drop_more}
 use Rattle.hir_core.specs.Sequences.{bytes_of}

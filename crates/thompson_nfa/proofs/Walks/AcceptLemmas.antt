@@ -1,4 +1,4 @@
--- A state from which a tree leads to a match: what the walk of a stack lists, that it ends, and the chains to matches.
+-- A state from which a tree leads to a match: what a depth-first search from there lists, that it ends, and the chains to matches.
 use Rattle.std.proofs.Common.{◌≡◌, ℕ, Bool, false, List, [], ◌∷◌, Some, refl, sym, ap, ◌∙◌, subst}
 use Rattle.hir_core.specs.Tree.{Tree}
 use Rattle.hir_core.specs.PreferredEnds.{preferred_ends}
@@ -15,12 +15,12 @@ use Rattle.thompson_nfa.proofs.Walks.WayLemmas.{match_has_no_ways}
 use Rattle.thompson_nfa.proofs.Walks.LeadLemmas.{Chain}
 use Rattle.thompson_nfa.proofs.Walks.OrderLemmas.{Listed, ListedFirsts}
 
--- a chain from p to a match of this pattern at this place
+-- a chain from p to a match of this pattern at this offset
 abbrev pub Finds : Bool → Text → Table → ℕ × ℕ → ℕ × ℕ → Type 0
 Finds back t T p m = (r : List (ℕ × ℕ)) × IsChain same_pair (table_ways back t T) p r × (table_match T (last_or p r) ≡ Some m)
 
--- From s the table finds pattern p wherever the tree leads, and nothing else. Where loops read, walks come to their end, and
--- forward they list in the tree's order, up to repeats.
+-- From s the table finds pattern p wherever the tree leads, and nothing else. Suppose that the body of every unbounded repetition consumes
+-- at least one byte. Then depth-first searches end, and when reading forward they list in the tree's order, up to repeats.
 pub record FindsTree (back : Bool) (T : Table) (s p : ℕ) (x : Tree) : Type 0 where
   pub lists : back ≡ false → LoopsRead x → (t : Text) (i : ℕ) → ListedFirsts t T ((i, s) ∷ []) (at p (preferred_ends t.holds (seen t) x i))
   pub ends : LoopsRead x → (t : Text) (i : ℕ) → ComesToEnd back t T (i, s)

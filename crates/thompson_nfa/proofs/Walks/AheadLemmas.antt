@@ -1,5 +1,5 @@
--- Trees joined with what reads nothing, and joined parts of a concatenation and bytes of a literal: forward the parts are
--- taken from the first on, in reverse from the last.
+-- Trees joined with what reads nothing; joined parts of a concatenation and bytes of a literal. When reading forward the parts are taken
+-- from the first on, and in reverse from the last.
 use Rattle.std.proofs.Common.{◌≡◌, ℕ, Bool, true, false, List, [], ◌∷◌, ◌++◌, Option}
 use Rattle.std.proofs.Common.{refl, sym, subst, append-nil}
 use Rattle.std.proofs.Math.Bool.{or-false}
@@ -15,7 +15,7 @@ use Rattle.thompson_nfa.proofs.Walks.SameLemmas.{denotes_same, joins_same, joins
 use Rattle.thompson_nfa.proofs.Walks.SameLemmas.{same_concat_one, same_alternation_one, same_concat_append, same_capture}
 use Rattle.thompson_nfa.proofs.Walks.SameLemmas.{same_literal_one, same_literal_append}
 
--- nothing that is read stands before a tree, or behind it
+-- the empty tree, read before a tree, adds nothing: it stands before the tree, or in reverse after it
 pub joins_empty_then : (back : Bool) (x : Tree) → Joins back empty x x
 joins_empty_then back x = record {
   parts = λ t i j m. (i, empty_meant back t i i refl, m);
@@ -34,7 +34,7 @@ joins_then_empty back x = record {
   met = λ l. sym (or-false (uses back x l));
 }
 
--- one part more behind the others, in reverse
+-- one more part after the others, in reverse
 pub joins_last_part : (x : Tree) (xs : List Tree) → Joins true (concat (x ∷ [])) (concat xs) (concat (xs ++ x ∷ []))
 joins_last_part x xs =
     joins_same true (concat (x ∷ [])) (concat xs) (cat (concat xs) (concat (x ∷ []))) (concat (xs ++ x ∷ []))

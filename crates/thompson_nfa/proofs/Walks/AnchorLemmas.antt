@@ -1,4 +1,4 @@
--- Where all trees are anchored there are choices at one place alone, for one who reads from a place of a span.
+-- If all trees are anchored, there are choices at one offset alone, for reading from an offset of a span.
 use Rattle.std.proofs.Common.{◌≡◌, ℕ, zero, suc, ◌-◌, ◌≤◌, Bool, true, false, List, [], ◌∷◌, ◌++◌, length, map, slice_get, Some, refl, sym}
 use Rattle.std.proofs.Common.{ap, ◌∙◌, subst, arith}
 use Rattle.std.specs.Prelude.{All}
@@ -14,7 +14,7 @@ use Rattle.nfa_core.specs.Ways.{Text}
 use Rattle.nfa_core.specs.Drafted.{Table}
 use Rattle.nfa_core.specs.BuilderStates.{empty_draft}
 use Rattle.thompson_nfa.specs.Denotes.{seen, IsMeant, Reaches, Halts, Orders}
-use Rattle.search_types.specs.FirstFound.{places_from}
+use Rattle.search_types.specs.FirstFound.{offsets_from}
 use Rattle.thompson_nfa.specs.Compilations.{IsChoice, choices_from, IsReadTo, IsPlainText, is_anchored_tree}
 use Rattle.thompson_nfa.specs.Assembled.{AllAnchored}
 use Rattle.thompson_nfa.proofs.Walks.WayLemmas.{goes_empty}
@@ -43,7 +43,7 @@ module _ (t : Text) (is : IsPlainText t) where
   meant_at_end x k j anchored meant =
       eqb-true k (length t.haystack) (sym (is.at_end k) ∙ suffix_sound t.holds t.haystack End x j k meant.0 anchored)
 
-  -- a choice at a place that is read to is one where reading begins
+  -- a choice at an offset that is read to is one at the offset where reading begins
   pub anchored_place : (back : Bool) (xs : List Tree) (i k : ℕ) (e : ℕ × ℕ) → AllAnchored back xs → t.start ≤ i → i ≤ t.end →
       IsReadTo back t i k → IsChoice back xs t k e → i ≡ k
   anchored_place false xs i k e all low high read choice =
@@ -70,15 +70,15 @@ module _ (t : Text) (is : IsPlainText t) where
       (no_ends x k (All-head (λ y. is_anchored_tree false y ≡ true) x xs all))
       ∙ no_choices (suc p) xs k (All-tail (λ y. is_anchored_tree false y ≡ true) x xs all)
 
-  nothing_later : (xs : List Tree) (i n : ℕ) → AllAnchored false xs → flat_map (choices_from 0 xs t) (places_from (suc i) n) ≡ []
+  nothing_later : (xs : List Tree) (i n : ℕ) → AllAnchored false xs → flat_map (choices_from 0 xs t) (offsets_from (suc i) n) ≡ []
   nothing_later xs i zero all = refl
   nothing_later xs i (suc n) all =
-      ap (λ (l : List (ℕ × ℕ)). l ++ flat_map (choices_from 0 xs t) (places_from (suc (suc i)) n)) (no_choices 0 xs i all)
+      ap (λ (l : List (ℕ × ℕ)). l ++ flat_map (choices_from 0 xs t) (offsets_from (suc (suc i)) n)) (no_choices 0 xs i all)
       ∙ nothing_later xs (suc i) n all
 
-  -- so the choices at all places are those where reading begins
+  -- so the choices at all offsets are those at the offset where reading begins
   pub choices_at_once : (xs : List Tree) (i : ℕ) → AllAnchored false xs → i ≤ t.end →
-      flat_map (choices_from 0 xs t) (i ∷ []) ≡ flat_map (choices_from 0 xs t) (places_from i (suc t.end - i))
+      flat_map (choices_from 0 xs t) (i ∷ []) ≡ flat_map (choices_from 0 xs t) (offsets_from i (suc t.end - i))
   choices_at_once xs i all high =
       ap (λ (l : List (ℕ × ℕ)). choices_from 0 xs t i ++ l) (sym (nothing_later xs i (t.end - i) all))
-      ∙ ap (λ (n : ℕ). flat_map (choices_from 0 xs t) (places_from i n)) (let e : suc (t.end - i) ≡ suc t.end - i = omega arith in e)
+      ∙ ap (λ (n : ℕ). flat_map (choices_from 0 xs t) (offsets_from i n)) (let e : suc (t.end - i) ≡ suc t.end - i = omega arith in e)

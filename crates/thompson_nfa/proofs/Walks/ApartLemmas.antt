@@ -1,4 +1,4 @@
--- No chain from a pattern's start comes to a state that isn't the patterns': what they do doesn't depend on these.
+-- No chain from a pattern's start leads to a state outside the patterns, so what patterns do does not depend on such states.
 use Rattle.std.proofs.Common.{◌≡◌, ℕ, Bool, true, false, List, [], ◌∷◌, length, get_or, if◌then◌else◌, sym, ap, subst, arith, ⊎_elim}
 use Rattle.std.specs.Bool.{nat_eq}
 use Rattle.std.proofs.lemmas.Bool.{cases_Bool, cond-true, cond-false}
@@ -15,7 +15,7 @@ use Rattle.thompson_nfa.proofs.Walks.AcceptLemmas.{Finds}
 use Rattle.thompson_nfa.proofs.Walks.FindLemmas.{accepts_finds}
 use Rattle.thompson_nfa.proofs.Walks.ChoiceLemmas.{accept_at, accept_of}
 
--- the table where each state that is out matches pattern p
+-- the table in which each state outside matches pattern p
 abbrev pub barred : (ℕ → Bool) → ℕ → Table → Table
 barred out p table q = if out q then match_draft p else table q
 
@@ -32,7 +32,7 @@ module _ (back : Bool) (t : Text) (T : Table) (out : ℕ → Bool) (p : ℕ) whe
   here : (w : ℕ × ℕ) → out w.1 ≡ true → (j : ℕ) × Finds back t (barred out p T) w (j, p)
   here w l = (w.0, ([], tt, ap (λ (draft : DraftNode). match_of (drafted draft) w.0) (barred_out out p T w.1 l)))
 
-  -- a chain that comes out finds p in that table
+  -- a chain that leads outside finds p in that table
   comes_out : (w : ℕ × ℕ) (r : List (ℕ × ℕ)) → IsChain same_pair (table_ways back t T) w r → out (last_or w r).1 ≡ true →
       (j : ℕ) × Finds back t (barred out p T) w (j, p)
   comes_out w [] c l = here w l

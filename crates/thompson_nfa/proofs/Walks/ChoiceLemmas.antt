@@ -64,7 +64,7 @@ module _ (back : Bool) (T : Table) where
 
 -- ---- the state that leads to all starts
 
--- from c one comes to the starts at the same place, and to nothing else
+-- from c the table leads to the starts at the same offset, and to nothing else
 pub record Enters (back : Bool) (t : Text) (T : Table) (c : ℕ) (starts : List ℕ) : Type 0 where
   pub to : (i s : ℕ) → Has nat_eq s starts → LeadsTo back t T (i, c) (i, s)
   pub from : (i : ℕ) (e : ℕ × ℕ) → Finds back t T (i, c) e → (s : ℕ) × Has nat_eq s starts × Finds back t T (i, s) e
@@ -132,7 +132,7 @@ module _ (back : Bool) (t : Text) (T : Table) where
             (x.1, ap (slice_get xs) m.0 ∙ x.2, m.1);
       }
 
--- ---- walks that come to their end
+-- ---- depth-first searches that end
 
 module _ (back : Bool) (t : Text) (T : Table) where
   starts_end : (p : ℕ) (starts : List ℕ) (xs : List Tree) (i : ℕ) → AcceptAll back T p starts xs → All LoopsRead xs →

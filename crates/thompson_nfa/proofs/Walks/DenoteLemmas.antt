@@ -1,4 +1,4 @@
--- What single states and joined states do for trees, from what is meant of the trees.
+-- What single states and joined states do for trees, by what the trees mean.
 use Rattle.std.proofs.Common.{◌≡◌, ℕ, Bool, true, false, List, [], ◌∷◌, if◌then◌else◌, inl, inr, refl, sym, ap, ◌∙◌, subst, ◌||◌}
 use Rattle.std.specs.List.{flat_map}
 use Rattle.look_core.specs.declared.look.Look.{Look}
@@ -9,7 +9,7 @@ use Rattle.hir_core.specs.Facts.{LoopsRead}
 use Rattle.hir_core.proofs.ForCallers.{preferred_ends_sound, preferred_ends_complete}
 use Rattle.nfa_core.specs.BuilderStates.{empty_draft, range_draft, sparse_draft, look_draft, capture_start_draft, capture_end_draft}
 use Rattle.nfa_core.specs.BuilderStates.{fail_draft}
-use Rattle.nfa_core.specs.Ways.{Text, reads, is_passed}
+use Rattle.nfa_core.specs.Ways.{Text, reads, is_satisfied}
 use Rattle.nfa_core.specs.Drafted.{Table}
 use Rattle.thompson_nfa.specs.Denotes.{at, seen, IsMeant, Denotes}
 use Rattle.thompson_nfa.proofs.Walks.WayLemmas.{Goes, byte_ends, to_one, goes_empty, goes_capture_start, goes_capture_end, goes_fail}
@@ -26,7 +26,7 @@ goes_forward : (back : Bool) (t : Text) (T : Table) (s : ℕ) (to : ℕ → List
 goes_forward false t T s to e g = g
 goes_forward true t T s to e g = cc
 
--- the tree y is x1 and then x2 for one who reads in this direction
+-- the tree y is x1 and then x2, in the direction of reading
 pub record Joins (back : Bool) (x1 x2 y : Tree) : Type 0 where
   pub parts : (t : Text) (i j : ℕ) → IsMeant back t y i j → (k : ℕ) × IsMeant back t x1 i k × IsMeant back t x2 k j
   pub joined : (t : Text) (i j : ℕ) → (k : ℕ) × IsMeant back t x1 i k × IsMeant back t x2 k j → IsMeant back t y i j
@@ -54,7 +54,7 @@ module _ (back : Bool) (T : Table) where
         (orders_join t T s m e p q (a.orders up r.0 t) (b.orders up r.1 t));
   }
 
-  -- a tree that means the same, where read forward it prefers the same ends
+  -- a tree that means the same, and that prefers the same ends when reading forward
   pub denotes_like_meaning : (s e : ℕ) (x y : Tree) → ((looks : Looks) (h : List ℕ) (i j : ℕ) → Means looks h y i j → Means looks h x i j) →
       ((looks : Looks) (h : List ℕ) (i j : ℕ) → Means looks h x i j → Means looks h y i j) → (LoopsRead y → LoopsRead x) →
       (back ≡ false → (looks : Looks) (h : List ℕ) (i : ℕ) → preferred_ends looks h x i ≡ preferred_ends looks h y i) →
@@ -79,7 +79,7 @@ module _ (back : Bool) (T : Table) where
       preferred_ends_sound looks h y i j (subst P (same looks h i) (preferred_ends_complete looks h x i j m)))
       reading (λ up. same) a
 
-  -- one state that leads to e at these places
+  -- one state that leads to e at these offsets
   pub denotes_leaf : (s e : ℕ) (x : Tree) (ends : Text → ℕ → List ℕ) → ((t : Text) → Goes back t T s (λ i. at e (ends t i))) →
       ((t : Text) (i j : ℕ) → IsMeant back t x i j → HasEnd (ends t i) j) →
       ((t : Text) (i j : ℕ) → HasEnd (ends t i) j → IsMeant back t x i j) →
@@ -132,12 +132,12 @@ module _ (back : Bool) (T : Table) where
     orders = λ up f t. orders_nowhere t T s e (goes_forward back t T s (λ i. []) up (goes_fail back t T s is));
   }
 
-  same_look : back ≡ false → (t : Text) (l : Look) (i : ℕ) → (if is_passed back t (turned back l) i then i ∷ []
+  same_look : back ≡ false → (t : Text) (l : Look) (i : ℕ) → (if is_satisfied back t (turned back l) i then i ∷ []
       else []) ≡ preferred_ends t.holds (seen t) (look l) i
-  same_look up t l i = ap (λ (b : Bool). if is_passed b t (turned b l) i then i ∷ [] else []) up
+  same_look up t l i = ap (λ (b : Bool). if is_satisfied b t (turned b l) i then i ∷ [] else []) up
 
   pub denotes_look : (s e : ℕ) (l : Look) → T s ≡ look_draft (turned back l) e → Denotes back T s e (look l)
-  denotes_look s e l is = denotes_leaf s e (look l) (λ t i. if is_passed back t (turned back l) i then i ∷ []
+  denotes_look s e l is = denotes_leaf s e (look l) (λ t i. if is_satisfied back t (turned back l) i then i ∷ []
       else []) (λ t. goes_look back t T s (turned back l) e is)
       (λ t i j m. meant_look back t l i j m) (λ t i j h. look_meant back t l i j h) (λ up t i. same_look up t l i)
 

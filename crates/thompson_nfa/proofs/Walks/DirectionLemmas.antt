@@ -1,4 +1,4 @@
--- What is found forward and what is found in reverse over one text are the same spans.
+-- What is found forward and what is found in reverse over one haystack are the same spans.
 use Rattle.std.proofs.Common.{◌↔◌, ℕ, ◌<◌, ◌≤◌, Bool, true, false, List, length, take, get_or, refl, subst, arith}
 use Rattle.std.proofs.lemmas.Option.{slice_get-get_or}
 use Rattle.hir_core.specs.Tree.{Tree, empty}

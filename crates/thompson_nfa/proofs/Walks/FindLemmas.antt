@@ -1,4 +1,4 @@
--- What the chains from a state find: where a pattern's tree begins, and behind states that lead on.
+-- What the chains from a state find: where a pattern's tree begins, and after states that lead on.
 use Rattle.std.proofs.Common.{◌≡◌, ℕ, Bool, false, [], ◌∷◌, map, refl, sym, ap, ◌∙◌, subst}
 use Rattle.hir_core.specs.Tree.{Tree}
 use Rattle.hir_core.specs.PreferredEnds.{preferred_ends}
@@ -12,7 +12,7 @@ use Rattle.thompson_nfa.proofs.Walks.LeadLemmas.{leads_trans}
 use Rattle.thompson_nfa.proofs.Walks.OrderLemmas.{ListedFirsts}
 use Rattle.thompson_nfa.proofs.Walks.AcceptLemmas.{Finds, FindsTree, finds_tree}
 
--- the chains from state q find what is a choice at their place, and nothing else
+-- the chains from state q find the choices at their offset, and nothing else
 pub record FindsChoices (back : Bool) (t : Text) (T : Table) (q : ℕ) (choices : ℕ → ℕ × ℕ → Type 0) : Type 0 where
   pub complete : (i : ℕ) (e : ℕ × ℕ) → choices i e → Finds back t T (i, q) e
   pub sound : (i : ℕ) (e : ℕ × ℕ) → Finds back t T (i, q) e → choices i e
@@ -21,13 +21,13 @@ pair_of : (e : ℕ × ℕ) (p : ℕ) → e.1 ≡ p → (e.0, p) ≡ e
 pair_of (a, b) p is = ap (λ (k : ℕ). (a, k)) (sym is)
 
 module _ (back : Bool) (t : Text) (T : Table) where
-  -- what is found behind a chain is found
+  -- what is found after a chain is found
   pub found_behind : (p q e : ℕ × ℕ) → LeadsTo back t T p q → Finds back t T q e → Finds back t T p e
   found_behind p q e a b =
       let all = leads_trans back t T p q (last_or q b.0) a (b.0, b.1, refl) in
       (all.0, all.1, ap (table_match T) all.2 ∙ b.2)
 
-  -- behind what leads to state c
+  -- what is found from a state that leads to state c
   pub finds_behind : (s c : ℕ) (meant : ℕ → ℕ → Type 0) (choices : ℕ → ℕ × ℕ → Type 0) → Reaches back t T s c meant →
       FindsChoices back t T c choices →
       FindsChoices back t T s (λ i e. (k : ℕ) × meant i k × choices k e)
@@ -50,7 +50,7 @@ module _ (back : Bool) (t : Text) (T : Table) where
             (ap (λ (w : ℕ × ℕ). w.1) r.2, subst P (sym (ap (λ (w : ℕ × ℕ). w.0) r.2)) r.1);
       }
 
--- the walk of a stack comes to its end from where a pattern's tree begins
+-- the depth-first search ends from where a pattern's tree begins
 pub accepts_ends : (back : Bool) (t : Text) (T : Table) (s p : ℕ) (x : Tree) (i : ℕ) → Accepts back T s p x → LoopsRead x →
     ComesToEnd back t T (i, s)
 accepts_ends back t T s p x i a reads = (finds_tree back T s a.end p x a.matches a.denotes).ends reads t i

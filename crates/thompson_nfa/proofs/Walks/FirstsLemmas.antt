@@ -1,4 +1,4 @@
--- Lists that are the same with repeats dropped.
+-- Lists that are equal with repeats dropped.
 use Rattle.std.proofs.Common.{◌≡◌, ℕ, List, [], ◌∷◌, ◌++◌, sym, ap, ◌∙◌, refl}
 use Rattle.std.specs.Bool.{nat_eq}
 use Rattle.std.specs.List.{flat_map}
@@ -17,7 +17,7 @@ each_once : (l : List (ℕ × ℕ)) → flat_map one_each l ≡ l
 each_once [] = refl
 each_once (p ∷ l) = ap (λ (m : List (ℕ × ℕ)). p ∷ m) (each_once l)
 
--- repeats that are joined to others don't show
+-- repeats that are joined to others do not show
 join_distinct : (seen l : List (ℕ × ℕ)) → join same_pair seen (distinct same_pair l) ≡ join same_pair seen l
 join_distinct seen l =
     ap (join same_pair seen) (sym (each_once (distinct same_pair l)))
@@ -33,7 +33,7 @@ same_firsts_append k l m n a b =
     ∙ join_distinct (distinct same_pair l) n
     ∙ sym (join-append same_pair [] l n)
 
--- what is listed for each of several places, with repeats of the places dropped
+-- what is listed for each of several offsets, with repeats of the offsets dropped
 distinct_places : (lists : ℕ → List (ℕ × ℕ)) (js : List ℕ) → distinct same_pair (flat_map lists (distinct nat_eq js)) ≡ distinct same_pair
     (flat_map lists js)
 distinct_places lists js = join_flat_map nat_eq names_equal same_pair pairs_equal lists [] [] js

@@ -1,5 +1,4 @@
--- Where the walk of a stack comes to its end, reading forward or in reverse: from states that are joined, where it does from their
--- parts.
+-- Where depth-first searches end, when reading forward or in reverse: from states that are joined, if they end from their parts.
 use Rattle.std.proofs.Common.{◌≡◌, ℕ, zero, suc, ◌<◌, ◌≤◌, Bool, true, false, List, [], ◌∷◌, ◌++◌, ◌⊎◌, inl, inr, refl, sym, subst, arith}
 use Rattle.std.proofs.Common.{append-nil}
 use Rattle.hir_core.specs.Means.{Rounds}
@@ -12,7 +11,7 @@ use Rattle.thompson_nfa.specs.Denotes.{at, ComesToEnd, Halts}
 use Rattle.thompson_nfa.proofs.Walks.WayLemmas.{both_at, Goes}
 
 module _ (back : Bool) (t : Text) (T : Table) where
-  -- the walk of the stack comes to its end
+  -- the search of the stack ends
   abbrev pub Ended : List (ℕ × ℕ) → Type 0
   Ended stack = (l : List (ℕ × ℕ)) × Lists (table_ways back t T) (table_match T) stack l
 
@@ -22,13 +21,13 @@ module _ (back : Bool) (t : Text) (T : Table) where
   pub ended_append : (xs ys : List (ℕ × ℕ)) → Ended xs → Ended ys → Ended (xs ++ ys)
   ended_append xs ys a b = (a.0 ++ b.0, lists_append (table_ways back t T) (table_match T) a.1 ys b.0 b.1)
 
-  -- from a state, where it does from its ways
+  -- from a state, if it ends from its edges
   pub ended_on : (s : ℕ) (to : ℕ → List (ℕ × ℕ)) (i : ℕ) → Goes back t T s to → Ended (to i) → ComesToEnd back t T (i, s)
   ended_on s to i g a =
       let P : List (ℕ × ℕ) → Type 0 = λ st. Lists (table_ways back t T) (table_match T) st a.0 in
       (a.0, lists_ways (i, s) [] a.0 (g.is_open i) (subst P (sym (append-nil (table_ways back t T (i, s)))) (subst P (sym (g.ways i)) a.1)))
 
-  -- at each of the places
+  -- at each of the offsets
   ended_at : (e : ℕ) (js : List ℕ) → ((j : ℕ) → HasEnd js j → ComesToEnd back t T (j, e)) → Ended (at e js)
   ended_at e [] each = ended_none
   ended_at e (j ∷ js) each = ended_append ((j, e) ∷ []) (at e js) (each j (inl refl)) (ended_at e js (λ k h. each k (inr h)))
@@ -41,7 +40,7 @@ module _ (back : Bool) (t : Text) (T : Table) where
   pub halts_here : (s : ℕ) → Halts back t T s s (λ i j. i ≡ j)
   halts_here s = record { halts = λ i all. all i refl }
 
-  -- where no more is meant
+  -- for a relation that has at least as many offsets
   pub halts_like : (s e : ℕ) (M N : ℕ → ℕ → Type 0) → ((i j : ℕ) → M i j → N i j) → Halts back t T s e M → Halts back t T s e N
   halts_like s e M N wide a = record { halts = λ i all. a.halts i (λ j m. all j (wide i j m)) }
 
@@ -50,11 +49,11 @@ module _ (back : Bool) (t : Text) (T : Table) where
       Halts back t T s e (λ i j. (k : ℕ) × M i k × N k j)
   halts_join s m e M N a b = record { halts = λ i all. a.halts i (λ k x. b.halts k (λ j y. all j (k, x, y))) }
 
-  -- a state that leads to e alone, at these places
+  -- a state that leads to e alone, at these offsets
   pub halts_leaf : (s e : ℕ) (ends : ℕ → List ℕ) → Goes back t T s (λ i. at e (ends i)) → Halts back t T s e (λ i j. HasEnd (ends i) j)
   halts_leaf s e ends g = record { halts = λ i all. ended_on s (λ k. at e (ends k)) i g (ended_at e (ends i) all) }
 
-  -- a state that leads on at the same place
+  -- a state that leads on at the same offset
   pub halts_pass : (s e : ℕ) → Goes back t T s (λ i. at e (i ∷ [])) → Halts back t T s e (λ i j. i ≡ j)
   halts_pass s e g = halts_like s e (λ i j. HasEnd (i ∷ []) j) (λ i j. i ≡ j) (λ i j h. elim h [ inl is ↦ is | inr n ↦ elim n [ ] ])
       (halts_leaf s e (λ i. i ∷ []) g)

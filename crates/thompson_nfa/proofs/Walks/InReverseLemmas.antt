@@ -1,15 +1,15 @@
--- Relations between places read in reverse: what leads from j to i, for one who comes from i to j above the text's start.
+-- Relations between offsets when reading in reverse: what leads from j to i, for reading from i down to j, not below the haystack's start.
 use Rattle.std.proofs.Common.{ℕ, zero, suc, ◌≤◌, min, refl, sym, subst, arith}
 use Rattle.hir_core.specs.Means.{Rounds}
 
--- R leads from j to i, and j is not below the start but where i is
+-- R leads from j to i, and j is not below the start unless i is
 abbrev pub InReverse : ℕ → (ℕ → ℕ → Type 0) → ℕ → ℕ → Type 0
 InReverse start R i j = R j i × (min i start ≤ j)
 
 abbrev pub IsForward : (ℕ → ℕ → Type 0) → Type 0
 IsForward R = (i j : ℕ) → R i j → i ≤ j
 
--- one more round behind the others
+-- one more round after the others
 pub rounds_more : (R : ℕ → ℕ → Type 0) (n i k j : ℕ) → Rounds R n i k → R k j → Rounds R (suc n) i j
 rounds_more R zero i k j r s = let P : ℕ → Type 0 = λ m. R m j in (j, subst P (sym r) s, refl)
 rounds_more R (suc n) i k j r s = (r.0, r.1, rounds_more R n r.0 k j r.2 s)

@@ -1,11 +1,11 @@
--- Chains of ways, put together and taken apart.
+-- Chains of edges, put together and split.
 use Rattle.std.proofs.Common.{◌≡◌, ℕ, suc, ◌≤◌, Bool, List, [], ◌∷◌, ◌++◌, length, Some, None, refl, sym, ap, ◌∙◌, subst, arith}
 use Rattle.nfa_core.specs.Walks.{Has}
 use Rattle.nfa_core.specs.Runs.{IsChain, last_or}
 use Rattle.nfa_core.specs.Places.{same_pair}
 use Rattle.nfa_core.specs.Ways.{Text}
 use Rattle.nfa_core.specs.Drafted.{Table, table_ways, table_match}
-use Rattle.thompson_nfa.specs.Denotes.{LeadsTo, PassesBy}
+use Rattle.thompson_nfa.specs.Denotes.{LeadsTo, VisitsState}
 use Rattle.thompson_nfa.proofs.Walks.WayLemmas.{Goes}
 
 module _ (back : Bool) (t : Text) (T : Table) where
@@ -31,7 +31,7 @@ module _ (back : Bool) (t : Text) (T : Table) where
   pub leads_way : (p q o : ℕ × ℕ) → Has same_pair q (table_ways back t T p) → LeadsTo back t T q o → LeadsTo back t T p o
   leads_way p q o h b = (q ∷ b.0, (h, b.1), b.2)
 
-  -- the chain begins with one of these ways
+  -- the chain begins with one of these edges
   pub record Begins (ws : List (ℕ × ℕ)) (p : ℕ × ℕ) (r : List (ℕ × ℕ)) : Type 0 where
     pub way : ℕ × ℕ
     pub rest : List (ℕ × ℕ)
@@ -40,7 +40,7 @@ module _ (back : Bool) (t : Text) (T : Table) where
     pub has : Has same_pair way ws
     pub chain : Chain way rest
 
-  -- a chain to a match, from what is none, has a first way
+  -- a chain to a match, from a state that is no match, has a first edge
   pub begins : (p : ℕ × ℕ) (r : List (ℕ × ℕ)) (m : ℕ × ℕ) → table_match T p ≡ None → Chain p r → table_match T (last_or p r) ≡ Some m →
       Begins (table_ways back t T p) p r
   begins p [] m none c final = cc
@@ -59,11 +59,11 @@ module _ (back : Bool) (t : Text) (T : Table) where
       let P : List (ℕ × ℕ) → Type 0 = λ ws. Has same_pair q ws in
       leads_way (i, s) q o (subst P (sym (g.ways i)) h) b
 
-  -- what a chain passes behind its first way it passes itself
+  -- a chain visits the state if it does so after its first edge
   pub passes_later : (M N : ℕ → ℕ → Type 0) (ws : List (ℕ × ℕ)) (i k e : ℕ) (p q : ℕ × ℕ) (r : List (ℕ × ℕ)) (b : Begins ws p r) →
       b.way ≡ q →
-      (Chain q b.rest → last_or q b.rest ≡ last_or p r → PassesBy back t T M k e q b.rest) → ((j : ℕ) → M k j → N i j) →
-      PassesBy back t T N i e p r
+      (Chain q b.rest → last_or q b.rest ≡ last_or p r → VisitsState back t T M k e q b.rest) → ((j : ℕ) → M k j → N i j) →
+      VisitsState back t T N i e p r
   passes_later M N ws i k e p q r b is on wider =
       let C : ℕ × ℕ → Type 0 = λ w. Chain w b.rest in
       let ends : last_or q b.rest ≡ last_or p r = ap (λ (w : ℕ × ℕ). last_or w b.rest) (sym is) ∙ b.same_end in

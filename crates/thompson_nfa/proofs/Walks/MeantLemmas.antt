@@ -1,4 +1,4 @@
--- What one shall have come past for a tree, reading forward or in reverse, from what is meant of its parts.
+-- What a tree means when reading forward or in reverse, by what its parts mean.
 use Rattle.std.proofs.Common.{◌≡◌, ℕ, zero, suc, ◌+◌, ◌≤◌, Bool, true, false, List, [], ◌∷◌, take, Option, Some, None, if◌then◌else◌}
 use Rattle.std.proofs.Common.{slice_get, nat_lt, nat_le, IsTrue, ◌⊎◌, inl, inr, refl, sym, ap, ◌∙◌, subst, arith}
 use Rattle.std.proofs.lemmas.Bool.{ltb-true, ltb-false, le-leb, leb-true}
@@ -12,13 +12,13 @@ use Rattle.hir_core.specs.Tree.{Tree, empty, byte_class, look, repetition, cat, 
 use Rattle.hir_core.specs.Means.{Looks, Means, Rounds, AtMost, is_member}
 use Rattle.hir_core.specs.PreferredEnds.{preferred_ends, class_end, Has as HasEnd}
 use Rattle.hir_core.proofs.ForCallers.{Has-if, Has-then, span_forward, preferred_ends_sound, preferred_ends_complete}
-use Rattle.nfa_core.specs.Ways.{Text, with_place, reads, is_passed}
+use Rattle.nfa_core.specs.Ways.{Text, with_offset, reads, is_satisfied}
 use Rattle.thompson_nfa.specs.Denotes.{IsMeant, seen}
 use Rattle.thompson_nfa.specs.Compiled.{turned}
 use Rattle.thompson_nfa.proofs.Walks.WayLemmas.{byte_ends}
 use Rattle.thompson_nfa.proofs.Walks.InReverseLemmas.{reverse_rounds, rounds_reverse, reverse_join, join_reverse}
 
--- two trees of which one means what the other means
+-- two trees, the second of which means all that the first means
 pub meant_map : (x y : Tree) → ((looks : Looks) (h : List ℕ) (i j : ℕ) → Means looks h x i j → Means looks h y i j) →
     (back : Bool) (t : Text) (i j : ℕ) → IsMeant back t x i j → IsMeant back t y i j
 meant_map x y f false t i j m = f t.holds (seen t) i j m
@@ -46,7 +46,7 @@ meant_alt false t x y i j m = m
 meant_alt true t x y i j (inl m, low) = inl (m, low)
 meant_alt true t x y i j (inr m, low) = inr (m, low)
 
--- of two parts, one who reads in reverse comes past the second first
+-- of two parts, the second is read first in reverse
 pub meant_cat_reverse : (t : Text) (x y : Tree) (i j : ℕ) → IsMeant true t (cat x y) i j → (k : ℕ) × IsMeant true t y i k ×
     IsMeant true t x k j
 meant_cat_reverse t x y i j m =
@@ -77,7 +77,7 @@ rounds_meant true t low most greedy x i j m =
 
 -- ---- looks
 
-pub look_meant : (back : Bool) (t : Text) (l : Look) (i j : ℕ) → HasEnd (if is_passed back t (turned back l) i then i ∷ [] else []) j →
+pub look_meant : (back : Bool) (t : Text) (l : Look) (i j : ℕ) → HasEnd (if is_satisfied back t (turned back l) i then i ∷ [] else []) j →
     IsMeant back t (look l) i j
 look_meant false t l i j h = let one = Has-if (t.holds l i) i j h in (one.1, one.0)
 look_meant true t l i j h =
@@ -87,7 +87,7 @@ look_meant true t l i j h =
     ((sym one.1, subst P one.1 (ap (λ (k : Look). t.holds k i) (sym (reversed_twice l)) ∙ one.0)), omega arith)
 
 pub meant_look : (back : Bool) (t : Text) (l : Look) (i j : ℕ) → IsMeant back t (look l) i j →
-    HasEnd (if is_passed back t (turned back l) i then i ∷ [] else []) j
+    HasEnd (if is_satisfied back t (turned back l) i then i ∷ [] else []) j
 meant_look false t l i j m = Has-then (t.holds l i) i j m.1 m.0
 meant_look true t l i j m =
     let P : ℕ → Type 0 = λ k. IsTrue (t.holds l k) in
@@ -108,7 +108,7 @@ taken_get h n i true e =
 taken_get h n i false e = let past = ltb-false i n e in slice_get_past (take n h) i (omega (arith, length-take n h))
 
 class_ends_read : (ranges : List (ℕ × ℕ)) (c : Bool) (o : Option ℕ) (i : ℕ) →
-    class_end ranges (if c then o else None) i ≡ byte_ends ranges (if c then with_place (suc i) o else None)
+    class_end ranges (if c then o else None) i ≡ byte_ends ranges (if c then with_offset (suc i) o else None)
 class_ends_read ranges true None i = refl
 class_ends_read ranges true (Some b) i = ap (λ (k : ℕ). if is_member ranges b then k ∷ [] else []) (let e : i + 1 ≡ suc i = omega arith in
     e)
@@ -122,14 +122,14 @@ class_ends_forward t ranges i =
     ∙ class_ends_read ranges (nat_lt i t.end) (byte_at t.haystack i) i
 
 read_reverse : (ranges : List (ℕ × ℕ)) (c : Bool) (o : Option ℕ) (i j b : ℕ) → c ≡ true → o ≡ Some b → is_member ranges b ≡ true → i ≡ j →
-    HasEnd (byte_ends ranges (if c then with_place i o else None)) j
+    HasEnd (byte_ends ranges (if c then with_offset i o else None)) j
 read_reverse ranges false o i j b t e m is = cc
 read_reverse ranges true None i j b t e m is = cc
 read_reverse ranges true (Some d) i j b t e m is = let same : d ≡ b = cc in
     Has-then (is_member ranges d) i j (ap (is_member ranges) same ∙ m) is
 
 reverse_read : (ranges : List (ℕ × ℕ)) (c : Bool) (o : Option ℕ) (i j : ℕ) →
-    HasEnd (byte_ends ranges (if c then with_place i o else None)) j →
+    HasEnd (byte_ends ranges (if c then with_offset i o else None)) j →
     (c ≡ true) × (i ≡ j) × (b : ℕ) × (o ≡ Some b) × (is_member ranges b ≡ true)
 reverse_read ranges false o i j h = elim h [ ]
 reverse_read ranges true None i j h = elim h [ ]

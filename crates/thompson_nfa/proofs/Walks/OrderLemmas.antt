@@ -1,4 +1,4 @@
--- What the walk of a stack lists from a state, up to repeats: how states that are joined list what their parts list.
+-- What a depth-first search lists from a state, up to repeats: how states that are joined list what their parts list.
 use Rattle.std.proofs.Common.{◌≡◌, ℕ, zero, suc, ◌+◌, ◌<◌, ◌≤◌, Bool, true, false, List, [], ◌∷◌, ◌++◌, if◌then◌else◌, inl, inr, refl, sym}
 use Rattle.std.proofs.Common.{ap, subst, arith, append-nil, ⊎_elim}
 use Rattle.std.proofs.lemmas.Bool.{cases_Bool}
@@ -15,11 +15,11 @@ use Rattle.thompson_nfa.proofs.Walks.WayLemmas.{at_append, both_at, Goes}
 use Rattle.thompson_nfa.proofs.Walks.FirstsLemmas.{same_firsts_trans, same_firsts_append, same_firsts_each}
 
 module _ (t : Text) (T : Table) where
-  -- what the walk of a stack lists, read forward
+  -- what the search of a stack lists when reading forward
   abbrev pub Listed : List (ℕ × ℕ) → List (ℕ × ℕ) → Type 0
   Listed stack l = Lists (table_ways false t T) (table_match T) stack l
 
-  -- the same up to repeats
+  -- a list that is listed up to repeats
   abbrev pub ListedFirsts : List (ℕ × ℕ) → List (ℕ × ℕ) → Type 0
   ListedFirsts stack l = (m : List (ℕ × ℕ)) × Listed stack m × HasSameFirsts m l
 
@@ -53,12 +53,12 @@ module _ (t : Text) (T : Table) where
       let P : List (ℕ × ℕ) → Type 0 = λ st. Listed st l in
       lists_ways (i, s) [] l (g.is_open i) (subst P (sym (append-nil (table_ways false t T (i, s)))) (subst P (sym (g.ways i)) walk))
 
-  -- a state lists what its ways list
+  -- a state lists what its edges list
   pub firsts_on : (s : ℕ) (to : ℕ → List (ℕ × ℕ)) (i : ℕ) (l : List (ℕ × ℕ)) → Goes false t T s to → ListedFirsts (to i) l →
       ListedFirsts ((i, s) ∷ []) l
   firsts_on s to i l g a = (a.0, listed_on s to i a.0 g a.1, a.2)
 
-  -- at each of the places
+  -- at each of the offsets
   pub firsts_each : (s e : ℕ) (ends : ℕ → List ℕ) (js : List ℕ) (l : List (ℕ × ℕ)) →
       ((k : ℕ) (m : List (ℕ × ℕ)) → HasEnd js k → Listed (at e (ends k)) m → ListedFirsts ((k, s) ∷ []) m) →
       Listed (at e (flat_map ends js)) l → ListedFirsts (at s js) l
@@ -103,7 +103,7 @@ module _ (t : Text) (T : Table) where
       Orders t T u e (λ i. in_order greedy (more i) i)
   orders_choice greedy u a e more g x = record { lists = λ i l walk. firsts_choice greedy u a e i (more i) l g (λ m w. x.lists i m w) walk }
 
-  -- a loop whose rounds read: u leads to a body, which comes back to u, and to e
+  -- a loop whose rounds consume at least one byte each: u leads to a body, which comes back to u, and to e
   module _ (greedy : Bool) (a u e : ℕ) (body loops : ℕ → List ℕ) (len : ℕ) (reading : (i k : ℕ) → HasEnd (body i) k → (i < k) × (k ≤ len))
       (more_or_stop : (i : ℕ) → loops i ≡ in_order greedy (flat_map loops (body i)) i) (loop : Goes false t T u (both_at greedy a e))
       (x : Orders t T a u body) where
@@ -125,9 +125,9 @@ module _ (t : Text) (T : Table) where
     pub orders_rounds : (q : ℕ) → Goes false t T q (both_at greedy a e) → Orders t T q e loops
     orders_rounds q g = record { lists = λ i l walk. loop_order len q i l (omega arith) g walk }
 
-  -- ---- places that are the same, repeats dropped
+  -- ---- equal offsets, repeats dropped
 
-  -- what is listed from the state at each of the places
+  -- what is listed from the state at each of the offsets
   pub record ListedAt (e : ℕ) (js : List ℕ) : Type 0 where
     pub lists : ℕ → List (ℕ × ℕ)
     pub each : (k : ℕ) → Has nat_eq k js → Listed ((k, e) ∷ []) (lists k)

@@ -1,4 +1,4 @@
--- What is reached from a state over relations of places: how states that are joined reach what their parts reach.
+-- What is reached from a state over relations of offsets: how states that are joined reach what their parts reach.
 use Rattle.std.proofs.Common.{◌≡◌, ℕ, zero, suc, ◌≤◌, Bool, List, [], ◌∷◌, length, Some, ◌⊎◌, inl, inr, refl, ap, ◌∙◌, subst, arith}
 use Rattle.hir_core.specs.Means.{Rounds}
 use Rattle.hir_core.specs.PreferredEnds.{Has as HasEnd}
@@ -7,18 +7,18 @@ use Rattle.nfa_core.specs.Places.{same_pair}
 use Rattle.nfa_core.specs.Ways.{Text}
 use Rattle.nfa_core.specs.Drafted.{Table, table_match}
 use Rattle.nfa_core.proofs.ForCallers.{none_in}
-use Rattle.thompson_nfa.specs.Denotes.{at, LeadsTo, PassesBy, Reaches}
+use Rattle.thompson_nfa.specs.Denotes.{at, LeadsTo, VisitsState, Reaches}
 use Rattle.thompson_nfa.proofs.Walks.WayLemmas.{both_at, has_at, at_has, has_both, both_has_body, both_has_exit, Goes}
 use Rattle.thompson_nfa.proofs.Walks.LeadLemmas.{Chain, leads_trans, leads_here, goes_begins, goes_leads, passes_later}
 
 module _ (back : Bool) (t : Text) (T : Table) where
-  -- the chain itself passes where it begins
-  passes_here : (M : ℕ → ℕ → Type 0) (i e : ℕ) (r : List (ℕ × ℕ)) → M i i → Chain back t T (i, e) r → PassesBy back t T M i e (i, e) r
+  -- the chain itself visits the state where it begins
+  passes_here : (M : ℕ → ℕ → Type 0) (i e : ℕ) (r : List (ℕ × ℕ)) → M i i → Chain back t T (i, e) r → VisitsState back t T M i e (i, e) r
   passes_here M i e r m c = record { middle = i; rest = r; is_meant = m; chain = c; fewer = omega arith; same_end = refl }
 
-  -- what passes m, and behind it e
-  passes_then : (M N K : ℕ → ℕ → Type 0) (i m e : ℕ) (q : ℕ × ℕ) (r : List (ℕ × ℕ)) (p : PassesBy back t T M i m q r) →
-      PassesBy back t T N p.middle e (p.middle, m) p.rest → ((j : ℕ) → N p.middle j → K i j) → PassesBy back t T K i e q r
+  -- a visit to m, and after it one to e
+  passes_then : (M N K : ℕ → ℕ → Type 0) (i m e : ℕ) (q : ℕ × ℕ) (r : List (ℕ × ℕ)) (p : VisitsState back t T M i m q r) →
+      VisitsState back t T N p.middle e (p.middle, m) p.rest → ((j : ℕ) → N p.middle j → K i j) → VisitsState back t T K i e q r
   passes_then M N K i m e q r p x wider =
       let u = p.fewer in
       let v = x.fewer in
@@ -68,7 +68,7 @@ module _ (back : Bool) (t : Text) (T : Table) where
         (λ j y. (p.middle, p.is_meant, y));
   }
 
-  -- a state that leads to e alone, at these places
+  -- a state that leads to e alone, at these offsets
   pub reaches_leaf : (s e : ℕ) (ends : ℕ → List ℕ) → Goes back t T s (λ i. at e (ends i)) → Reaches back t T s e (λ i j. HasEnd (ends i) j)
   reaches_leaf s e ends g = record {
     complete = λ i j h. goes_leads back t T s (λ k. at e (ends k)) i (j, e) (
@@ -83,7 +83,7 @@ module _ (back : Bool) (t : Text) (T : Table) where
         (λ j is. let P : ℕ → Type 0 = λ k. HasEnd (ends i) k in subst P is w.1);
   }
 
-  -- a state that leads on at the same place
+  -- a state that leads on at the same offset
   pub reaches_pass : (s e : ℕ) → Goes back t T s (λ i. at e (i ∷ [])) → Reaches back t T s e (λ i j. i ≡ j)
   reaches_pass s e g =
       reaches_like s e (λ i j. HasEnd (i ∷ []) j) (λ i j. i ≡ j) (λ i j is. inl is) (λ i j h. elim h [ inl is ↦ is | inr n ↦ elim n [ ] ])
@@ -135,7 +135,7 @@ module _ (back : Bool) (t : Text) (T : Table) where
 
     loop_sound : (room q i : ℕ) (r : List (ℕ × ℕ)) (m : ℕ × ℕ) → length r ≤ room → Goes back t T q (both_at greedy a e) →
         Chain back t T (i, q) r →
-        table_match T (last_or (i, q) r) ≡ Some m → PassesBy back t T Loops i e (i, q) r
+        table_match T (last_or (i, q) r) ≡ Some m → VisitsState back t T Loops i e (i, q) r
     loop_sound zero q i r m le g c final =
         let b = goes_begins back t T q (both_at greedy a e) i r m g c final in
         let o = b.one_less in absurd (omega arith)

@@ -18,7 +18,7 @@ use Rattle.look_core.specs.declared.look.Look.{Look}
 use Rattle.thompson_nfa.specs.Compiled.{uses}
 use Rattle.thompson_nfa.proofs.Walks.DenoteLemmas.{Joins, denotes_like}
 
--- wherever loops read in z they read in y, and both prefer the same ends
+-- if the bodies of unbounded repetitions in z consume at least one byte, so do those in y; and both trees prefer the same ends
 pub record IsSame (y z : Tree) : Type 0 where
   pub reading : LoopsRead z → LoopsRead y
   pub ends : (looks : Looks) (h : List ℕ) (i : ℕ) → preferred_ends looks h y i ≡ preferred_ends looks h z i

@@ -1,4 +1,4 @@
--- What the walk of a stack lists from a state that tries each place: what it lists at the places, one after the other.
+-- What a depth-first search lists from a state that tries each offset: what it lists at the offsets, one after the other.
 use Rattle.std.proofs.Common.{◌≡◌, ℕ, zero, suc, ◌+◌, ◌-◌, ◌≤◌, false, List, [], ◌∷◌, refl}
 use Rattle.std.proofs.Common.{sym, ap, ◌∙◌, arith, append-nil}
 use Rattle.std.specs.List.{flat_map}
@@ -7,20 +7,20 @@ use Rattle.nfa_core.specs.Walks.{lists_none}
 use Rattle.nfa_core.specs.Ways.{Text}
 use Rattle.nfa_core.specs.Drafted.{Table}
 use Rattle.thompson_nfa.specs.Denotes.{at, Orders}
-use Rattle.search_types.specs.FirstFound.{places_from}
-use Rattle.thompson_nfa.specs.Assembled.{TriesEachPlace}
+use Rattle.search_types.specs.FirstFound.{offsets_from}
+use Rattle.thompson_nfa.specs.Assembled.{TriesEachOffset}
 use Rattle.thompson_nfa.proofs.Walks.WayLemmas.{goes_empty}
 use Rattle.thompson_nfa.proofs.Walks.OrderLemmas.{ListedFirsts, firsts_of, firsts_append, firsts_behind, orders_like, orders_join}
 use Rattle.thompson_nfa.proofs.Walks.OrderLemmas.{orders_leaf, orders_rounds}
 use Rattle.thompson_nfa.proofs.Walks.TriedPlaces.{any_ends, IsText, ends_forward, moves_forward, goes_on, goes_any}
 use Rattle.thompson_nfa.proofs.Assembled.AssembledTries.{nothing_read}
 
--- the place, and those that are come to from it by so many bytes at most
+-- the offset, and those that are reached from it by at most so many bytes
 abbrev pub tried_from : Text → ℕ → ℕ → List ℕ
 tried_from t zero i = i ∷ []
 tried_from t (suc n) i = i ∷ flat_map (tried_from t n) (any_ends false t i)
 
--- all places that are come to
+-- all offsets that are reached
 abbrev pub tried : Text → ℕ → List ℕ
 tried t i = tried_from t (t.end - i) i
 
@@ -35,7 +35,7 @@ single_ends : (js : List ℕ) → flat_map (λ (i : ℕ). i ∷ []) js ≡ js
 single_ends [] = refl
 single_ends (j ∷ js) = ap (λ (l : List ℕ). j ∷ l) (single_ends js)
 
-module _ (t : Text) (T : Table) (u c : ℕ) (w : TriesEachPlace T u c) where
+module _ (t : Text) (T : Table) (u c : ℕ) (w : TriesEachOffset T u c) where
   pub tries_in_order : Orders t T u c (tried t)
   tries_in_order = orders_rounds t T false w.byte u c (any_ends false t) (tried t) t.end
       (λ i k h. let m = moves_forward t i k h in let is = m.0 in let less = m.1 in (omega arith, omega arith))
@@ -52,17 +52,17 @@ module _ (t : Text) (T : Table) (s c : ℕ) (lists : ℕ → List (ℕ × ℕ)) 
   listed_at [] = firsts_of t T [] [] lists_none
   listed_at (j ∷ js) = firsts_append t T ((j, c) ∷ []) (at c js) (lists j) (flat_map lists js) (each j) (listed_at js)
 
-  -- what is listed behind states that lead to c at these places
+  -- what is listed after states that lead to c at these offsets
   pub listed_behind : (ends : ℕ → List ℕ) (i : ℕ) → Orders t T s c ends → ListedFirsts t T ((i, s) ∷ []) (flat_map lists (ends i))
   listed_behind ends i a = firsts_behind t T (at c (ends i)) ((i, s) ∷ []) (flat_map lists (ends i)) (a.lists i) (listed_at (ends i))
 
--- in a text all places up to its end are come to
-tried_places : (t : Text) → IsText t → (n i : ℕ) → i + n ≡ t.end → tried_from t n i ≡ places_from i (suc n)
+-- if the haystack is of bytes and the span ends in it, all offsets up to the span's end are reached
+tried_places : (t : Text) → IsText t → (n i : ℕ) → i + n ≡ t.end → tried_from t n i ≡ offsets_from i (suc n)
 tried_places t is zero i e = refl
 tried_places t is (suc n) i e = ap (λ (l : List ℕ). i ∷ l)
     (ap (flat_map (tried_from t n)) (ends_forward t i is (omega arith)) ∙ append-nil (tried_from t n (suc i))
     ∙ tried_places t is n (suc i) (omega arith))
 
-pub all_tried : (t : Text) (i : ℕ) → IsText t → i ≤ t.end → tried t i ≡ places_from i (suc t.end - i)
-all_tried t i is h = tried_places t is (t.end - i) i (omega arith) ∙ ap (places_from i)
+pub all_tried : (t : Text) (i : ℕ) → IsText t → i ≤ t.end → tried t i ≡ offsets_from i (suc t.end - i)
+all_tried t i is h = tried_places t is (t.end - i) i (omega arith) ∙ ap (offsets_from i)
     (let e : suc (t.end - i) ≡ suc t.end - i = omega arith in e)

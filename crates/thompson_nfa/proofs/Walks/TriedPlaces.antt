@@ -1,4 +1,4 @@
--- From where a state that tries each place comes to the state that it tries: the places that are read to.
+-- At which offsets a state that tries each offset comes to the state that it tries: those that are read to.
 use Rattle.std.proofs.Common.{◌≡◌, ℕ, zero, suc, ◌+◌, ◌-◌, ◌<◌, ◌≤◌, Bool, true, false, List, [], ◌∷◌, length, get_or, if◌then◌else◌, ◌&&◌}
 use Rattle.std.proofs.Common.{◌||◌, nat_lt, nat_le, inl, Option, Some, None, refl, sym, ap, ◌∙◌, subst, arith}
 use Rattle.std.specs.Prelude.{All}
@@ -9,11 +9,11 @@ use Rattle.search_core.specs.Text.{byte_at}
 use Rattle.hir_core.specs.Means.{Rounds, is_member}
 use Rattle.hir_core.specs.PreferredEnds.{Has as HasEnd}
 use Rattle.hir_core.proofs.ForCallers.{Has-if}
-use Rattle.nfa_core.specs.Ways.{Text, reads, with_place}
+use Rattle.nfa_core.specs.Ways.{Text, reads, with_offset}
 use Rattle.nfa_core.specs.Drafted.{Table}
 use Rattle.thompson_nfa.specs.Denotes.{at, Reaches, Halts}
 use Rattle.thompson_nfa.specs.Compilations.{IsReadTo}
-use Rattle.thompson_nfa.specs.Assembled.{TriesEachPlace}
+use Rattle.thompson_nfa.specs.Assembled.{TriesEachOffset}
 use Rattle.thompson_nfa.proofs.Walks.WayLemmas.{both_at, byte_ends, Goes, goes_empty, goes_choice, goes_sparse}
 use Rattle.thompson_nfa.proofs.Walks.ReachLemmas.{reaches_like, reaches_join, reaches_leaf, reaches_pass, reaches_rounds}
 use Rattle.thompson_nfa.proofs.Walks.HaltLemmas.{halts_like, halts_join, halts_leaf, halts_pass, halts_rounds}
@@ -22,7 +22,7 @@ use Rattle.thompson_nfa.proofs.Walks.HaltLemmas.{halts_like, halts_join, halts_l
 abbrev pub any_range : List (ℕ × ℕ)
 any_range = (0, 255) ∷ []
 
--- where that state leads
+-- the offsets to which that state leads
 abbrev pub any_ends : Bool → Text → ℕ → List ℕ
 any_ends back t i = byte_ends any_range (reads back t i)
 
@@ -31,10 +31,10 @@ Moves back t i j = HasEnd (any_ends back t i) j
 
 -- ---- bytes that are read
 
-pub read_as : (c : Bool) (o : Option ℕ) (j b : ℕ) → c ≡ true → o ≡ Some b → (if c then with_place j o else None) ≡ Some (b, j)
+pub read_as : (c : Bool) (o : Option ℕ) (j b : ℕ) → c ≡ true → o ≡ Some b → (if c then with_offset j o else None) ≡ Some (b, j)
 read_as false o j b t e = cc
 read_as true None j b t e = cc
-read_as true (Some d) j b t e = ap (λ (p : Option ℕ). with_place j p) e
+read_as true (Some d) j b t e = ap (λ (p : Option ℕ). with_offset j p) e
 
 in_any_range : (b : ℕ) → b < 256 → is_member any_range b ≡ true
 in_any_range b less = ap (λ (c : Bool). (nat_le 0 b && c) || false) (le-leb b 255 (omega arith))
@@ -43,7 +43,7 @@ in_any_range b less = ap (λ (c : Bool). (nat_le 0 b && c) || false) (le-leb b 2
 ends_of_read : (o : Option (ℕ × ℕ)) (b j : ℕ) → o ≡ Some (b, j) → b < 256 → byte_ends any_range o ≡ j ∷ []
 ends_of_read o b j is less = ap (byte_ends any_range) is ∙ ap (λ (c : Bool). if c then j ∷ [] else []) (in_any_range b less)
 
--- the text is of bytes, and ends in its haystack
+-- the haystack is of bytes, and the span ends in it
 pub record IsText (t : Text) : Type 0 where
   pub within : t.end ≤ length t.haystack
   pub bytes : All (λ byte. byte < 256) t.haystack
@@ -66,7 +66,8 @@ ends_reverse t i is above below =
     (slice_get-get_or t.haystack i 0 there))
     (All-get_or (λ byte. byte < 256) t.haystack i 0 there is.bytes)
 
-ends_read : (c : Bool) (o : Option ℕ) (j k : ℕ) → HasEnd (byte_ends any_range (if c then with_place j o else None)) k → (c ≡ true) × (j ≡ k)
+ends_read : (c : Bool) (o : Option ℕ) (j k : ℕ) → HasEnd (byte_ends any_range (if c then with_offset j o else None)) k →
+    (c ≡ true) × (j ≡ k)
 ends_read false o j k h = elim h [ ]
 ends_read true None j k h = elim h [ ]
 ends_read true (Some b) j k h = let one = Has-if (is_member any_range b) j k h in (refl, one.1)
@@ -85,7 +86,7 @@ moves_reverse t (suc i) j m =
     let same = r.1 in
     (omega arith, omega arith)
 
--- ---- places that are read to
+-- ---- offsets that are read to
 
 rounds_are_forward : (t : Text) (n i k : ℕ) → i ≤ t.end → Rounds (Moves false t) n i k → IsReadTo false t i k
 rounds_are_forward t zero i k h r = (omega arith, omega arith)
@@ -133,7 +134,7 @@ read_rounds true t i k is low high r = let a = r.0 in let b = r.1 in (
   reverse_rounds t is (i - k) i k (omega arith) high (omega arith),
 )
 
--- what is left to read
+-- how much is left to read
 abbrev left : Bool → Text → ℕ → ℕ
 left false t i = t.end - i
 left true t i = i
@@ -142,9 +143,9 @@ moves_leave_less : (back : Bool) (t : Text) (i k : ℕ) → Moves back t i k →
 moves_leave_less false t i k m = let r = moves_forward t i k m in let is = r.0 in let within = r.1 in omega arith
 moves_leave_less true t i k m = let r = moves_reverse t i k m in let is = r.0 in omega arith
 
--- ---- the state that tries each place
+-- ---- the state that tries each offset
 
-module _ (back : Bool) (t : Text) (T : Table) (u c : ℕ) (w : TriesEachPlace T u c) where
+module _ (back : Bool) (t : Text) (T : Table) (u c : ℕ) (w : TriesEachOffset T u c) where
   pub goes_on : Goes back t T u (both_at false w.byte c)
   goes_on = goes_choice back t T u false w.byte c w.loop
 

@@ -1,4 +1,4 @@
--- Where a state of each form leads from a place, and that it is no match.
+-- Where a state of each form leads from an offset, and that it is no match.
 use Rattle.std.proofs.Common.{◌≡◌, ℕ, Bool, true, false, List, [], ◌∷◌, ◌++◌, map, Option, Some, None, if◌then◌else◌, ◌&&◌, ◌||◌, nat_le}
 use Rattle.std.proofs.Common.{◌⊎◌, inl, inr, refl, sym, ap, ◌∙◌}
 use Rattle.look_core.specs.declared.look.Look.{Look}
@@ -9,12 +9,12 @@ use Rattle.nfa_core.specs.BuilderStates.{DraftNode, empty_draft, range_draft, sp
 use Rattle.nfa_core.specs.BuilderStates.{capture_end_draft, union_draft, fail_draft}
 use Rattle.nfa_core.specs.Walks.{Has}
 use Rattle.nfa_core.specs.Places.{same_pair}
-use Rattle.nfa_core.specs.Ways.{Text, reads, is_passed, in_ranges, on_byte, on_nothing, on_read, place_behind, node_ways, match_of}
+use Rattle.nfa_core.specs.Ways.{Text, reads, is_satisfied, in_ranges, on_byte, on_nothing, on_read, offset_after, node_ways, match_of}
 use Rattle.nfa_core.specs.Drafted.{drafted, Table, table_ways, table_match}
 use Rattle.nfa_core.proofs.ForCallers.{none_in, has_cons, has_same, has_later, pairs_equal, match_is}
 use Rattle.thompson_nfa.specs.Denotes.{at, choice}
 
--- ---- a state at several places, and several states at a place
+-- ---- a state at several offsets, and several states at an offset
 
 abbrev pub each_at : List ℕ → ℕ → List (ℕ × ℕ)
 each_at qs i = map (λ q. (i, q)) qs
@@ -65,12 +65,12 @@ no_byte n none (Some (b, j)) = none b
 
 -- a node that reads no byte
 plain_node : (back : Bool) (t : Text) (n : Node) (i : ℕ) → ((b : ℕ) → on_byte n b ≡ []) →
-    node_ways back t n i ≡ each_at (on_nothing n (λ l. is_passed back t l i)) i
+    node_ways back t n i ≡ each_at (on_nothing n (λ l. is_satisfied back t l i)) i
 plain_node back t n i none =
-    ap (λ (qs : List ℕ). map (λ q. (place_behind i (reads back t i), q)) qs ++ each_at (on_nothing n (λ l. is_passed back t l i)) i)
+    ap (λ (qs : List ℕ). map (λ q. (offset_after i (reads back t i), q)) qs ++ each_at (on_nothing n (λ l. is_satisfied back t l i)) i)
     (no_byte n none (reads back t i))
 
--- the end of a byte of the ranges, where this byte or none is read
+-- the end of a byte of the ranges, if this byte or none is read
 abbrev pub byte_ends : List (ℕ × ℕ) → Option (ℕ × ℕ) → List ℕ
 byte_ends ranges None = []
 byte_ends ranges (Some (b, j)) = if is_member ranges b then j ∷ [] else []
@@ -80,7 +80,7 @@ one_byte true j e = refl
 one_byte false j e = refl
 
 range_ways : (low high e i : ℕ) (o : Option (ℕ × ℕ)) →
-    map (λ q. (place_behind i o, q)) (on_read (byte_range low high e) o) ++ [] ≡ at e (byte_ends ((low, high) ∷ []) o)
+    map (λ q. (offset_after i o, q)) (on_read (byte_range low high e) o) ++ [] ≡ at e (byte_ends ((low, high) ∷ []) o)
 range_ways low high e i None = refl
 range_ways low high e i (Some (b, j)) = one_byte (nat_le low b && nat_le b high) j e
 
@@ -102,7 +102,7 @@ byte_or_none true j e = refl
 byte_or_none false j e = refl
 
 sparse_ways : (ranges : List (ℕ × ℕ)) (e i : ℕ) (o : Option (ℕ × ℕ)) →
-    map (λ q. (place_behind i o, q)) (on_read (sparse_node (to_one e ranges)) o) ++ [] ≡ at e (byte_ends ranges o)
+    map (λ q. (offset_after i o, q)) (on_read (sparse_node (to_one e ranges)) o) ++ [] ≡ at e (byte_ends ranges o)
 sparse_ways ranges e i None = refl
 sparse_ways ranges e i (Some (b, j)) =
     ap (λ (qs : List ℕ). map (λ q. (j, q)) qs ++ []) (ranges_to_one ranges b e) ∙ byte_or_none (is_member ranges b) j e
@@ -113,7 +113,7 @@ passed_or_not false i e = refl
 
 -- ---- states of a table
 
--- the state leads from each place to these pairs, and is no match
+-- the state leads from each offset to these pairs, and is no match
 pub record Goes (back : Bool) (t : Text) (table : Table) (s : ℕ) (to : ℕ → List (ℕ × ℕ)) : Type 0 where
   pub ways : (i : ℕ) → table_ways back t table (i, s) ≡ to i
   pub is_open : (i : ℕ) → table_match table (i, s) ≡ None
@@ -157,9 +157,9 @@ module _ (back : Bool) (t : Text) (T : Table) (s : ℕ) where
   goes_choice false a e is = goes_as (choice false a e) (both_at false a e) is (λ i. refl)
       (λ i. plain_node back t (union_node (e ∷ a ∷ [])) i (λ b. refl))
 
-  pub goes_look : (l : Look) (e : ℕ) → T s ≡ look_draft l e → Goes back t T s (λ i. at e (if is_passed back t l i then i ∷ [] else []))
-  goes_look l e is = goes_as (look_draft l e) (λ i. at e (if is_passed back t l i then i ∷ [] else [])) is (λ i. refl)
-      (λ i. plain_node back t (look_node l e) i (λ b. refl) ∙ passed_or_not (is_passed back t l i) i e)
+  pub goes_look : (l : Look) (e : ℕ) → T s ≡ look_draft l e → Goes back t T s (λ i. at e (if is_satisfied back t l i then i ∷ [] else []))
+  goes_look l e is = goes_as (look_draft l e) (λ i. at e (if is_satisfied back t l i then i ∷ [] else [])) is (λ i. refl)
+      (λ i. plain_node back t (look_node l e) i (λ b. refl) ∙ passed_or_not (is_satisfied back t l i) i e)
 
   pub goes_range : (low high e : ℕ) → T s ≡ range_draft low high e → Goes back t T s
       (λ i. at e (byte_ends ((low, high) ∷ []) (reads back t i)))

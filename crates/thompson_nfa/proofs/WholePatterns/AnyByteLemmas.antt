@@ -1,4 +1,4 @@
--- What stands before the patterns, as its states are added one after the other.
+-- What comes before the patterns, as its states are added one after the other.
 use Rattle.std.proofs.Common.{◌≡◌, ◌≢◌, ℕ, ◌+◌, ap, ◌∙◌, arith}
 use Rattle.nfa_core.specs.BuilderStates.{DraftNode, Assembly}
 use Rattle.thompson_nfa.specs.Added.{AddsDraft}

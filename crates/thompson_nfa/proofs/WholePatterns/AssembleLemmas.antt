@@ -1,4 +1,4 @@
--- What stands in a builder when all patterns are compiled.
+-- What a builder has when all patterns are compiled.
 use Rattle.std.proofs.Common.{◌≡◌, ◌≢◌, inl, inr, ℕ, ◌+◌, ◌*◌, ◌<◌, ◌≤◌, min, Bool, true, false, ◌&&◌, List, [], ◌∷◌, ◌++◌, length, None}
 use Rattle.std.proofs.Common.{sym, ap, ◌∙◌, subst, arith, ⊎_elim, ◌||◌, ◌⊎◌}
 use Rattle.std.specs.Prelude.{All}
@@ -210,7 +210,7 @@ module _ (o : Options) (xs : List Tree) (b0 b1 b2 b3 : Assembly) (u c : ℕ) (be
   counted : sum_of_bytes b3 ≤ 4096 * (greatest_index + 1)
   counted = let a = has.last (let b = before.few in omega arith) in omega (arith, size, led.bytes, has.bytes, before.bytes, a)
 
-  -- what stands before the patterns has no looks
+  -- what comes before the patterns has no looks
   no_look_before : (l : Look) (q : ℕ) → q < length b1.drafts → is_look l (draft_at b1.drafts q) ≡ false
   no_look_before l q low = ⊎_elim
       (λ (same : q ≡ u). ap (λ (k : ℕ). is_look l (draft_at b1.drafts k)) same ∙ sym (look_patched l c (draft_at b1.drafts u))
@@ -253,7 +253,7 @@ module _ (o : Options) (xs : List Tree) (b0 b1 b2 b3 : Assembly) (u c : ℕ) (be
         counted = counted;
       }
 
-  -- past the anchored start one is among the patterns' states
+  -- the state past the anchored start is one of the patterns' states
   pub starts_apart : past b3.drafts c ≢ u
   starts_apart same =
       let s = standing c above inside in
@@ -268,7 +268,7 @@ pub start_below : (anchored : Bool) (b0 b1 : Assembly) (u : ℕ) → HasStart an
 start_below true b0 b1 u x = let is = x.is in let size = x.size in omega arith
 start_below false b0 b1 u x = let is = x.is in let size = x.size in omega arith
 
--- the same from what each call says
+-- the lemmas above, from what each call ensures
 module _ (o : Options) (xs : List Tree) (b0 b1 b2 b3 : Assembly) (u c : ℕ) (anchored reverse : Bool) (how : How) (begun : b0 ≡ begun_with o)
     (captures : (reverse_of o && is_any (captures_of o)) ≡ false) (turned : reverse ≡ reverse_of o) (kept : how.which ≡ captures_of o)
     (shrunk : how.shrink ≡ is_shrunk o) (is_anchored : anchored ≡ list_all (is_anchored_tree reverse) xs)

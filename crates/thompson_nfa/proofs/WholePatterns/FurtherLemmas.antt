@@ -24,7 +24,7 @@ use Rattle.thompson_nfa.proofs.Steps.LookLemmas.{quiet_led, quiet_added, or_grou
 use Rattle.thompson_nfa.proofs.Steps.GrowLemmas.{unmatched}
 use Rattle.thompson_nfa.proofs.WholePatterns.PatternLemmas.{no_match_is}
 
--- ---- lists of patterns, one behind the other
+-- ---- lists of patterns, one after the other
 
 noted_joined : (which : WhichCaptures) (p : ℕ) (xs ys : List Tree) (groups : Groups) →
     noted_from which p (xs ++ ys) groups ≡ noted_from which (p + length xs) ys (noted_from which p xs groups)
@@ -81,7 +81,7 @@ patterns_none which hole b = record {
   last = λ le. le;
 }
 
--- the hole is moved to where no new state is
+-- the hole is moved to a number that no new state has
 pub hole_moved : (which : WhichCaptures) (a b : Assembly) (ss : List ℕ) (xs : List Tree) (n spare hole : ℕ) →
     ((q : ℕ) → length a.drafts ≤ q → q < length b.drafts → q ≢ hole) → HasAll which a b ss xs n spare →
     HasPatterns which hole a b ss xs n spare
@@ -111,7 +111,7 @@ hole_moved which a b ss xs n spare hole out h =
       last = h.last;
     }
 
--- a state is added, which is the hole from now on
+-- a state is added, and becomes the hole
 pub patterns_added : (which : WhichCaptures) (a b c : Assembly) (ss : List ℕ) (xs : List Tree) (n spare more id : ℕ) (draft : DraftNode) →
     HasAll which a b ss xs n spare → AddsDraft b c id draft b.groups →
     more + draft_bytes draft ≤ spare + 4096 → ((l : Look) → is_look l draft ≡ false) → HasPatterns which id a c ss xs (n + 1) more
@@ -193,7 +193,7 @@ patterns_led which a b c ss xs n spare more hole to h x le =
       last = λ l. let k = h.last l in omega arith;
     }
 
--- the hole is a state like others
+-- the hole is a state like the others
 pub hole_closed : (which : WhichCaptures) (a b : Assembly) (ss : List ℕ) (xs : List Tree) (n spare hole : ℕ) →
     HasPatterns which hole a b ss xs n spare → length a.drafts ≤ hole →
     ((table : Table) → table hole ≡ draft_at b.drafts hole → stands_for (table hole) ≡ None) → IsTame true b (draft_at b.drafts hole) →
@@ -233,7 +233,7 @@ hole_closed which a b ss xs n spare hole h above none tame =
       last = h.last;
     }
 
--- ---- one list of patterns behind another
+-- ---- one list of patterns after another
 
 module _ (which : WhichCaptures) (hole : ℕ) (a b c : Assembly) (ss ts : List ℕ) (xs ys : List Tree) (n m s1 s2 : ℕ)
     (first : HasPatterns which hole a b ss xs n s1) (second : HasPatterns which hole b c ts ys m s2) where

@@ -1,33 +1,33 @@
--- The bytes of all patterns, of what leads to them, and of what stands before them.
-use Rattle.std.proofs.Common.{◌≡◌, ℕ, ◌+◌, ◌*◌, ◌<◌, ◌≤◌, Bool, true, false, List, [], ◌∷◌, length, ◌≢◌, refl, sym, ap, ◌∙◌, subst, arith}
+-- The bytes of all patterns, of what leads to them, and of what comes before them.
+use Rattle.std.proofs.Common.{◌≡◌, ℕ, ◌+◌, ◌≤◌, Bool, List, [], ◌∷◌, length, refl, ap, ◌∙◌, arith}
 use Rattle.std.specs.List.{list_all}
 use Rattle.hir_core.specs.Tree.{Tree}
-use Rattle.nfa_core.specs.BuilderStates.{Assembly, draft_at, way_bytes, union_draft, fail_draft}
+use Rattle.nfa_core.specs.BuilderStates.{Assembly, way_bytes, union_draft, fail_draft}
 use Rattle.nfa_core.specs.declared.build_error.BuildError.{BuildError}
 use Rattle.thompson_nfa.specs.Added.{AddsDraft, Led}
 use Rattle.thompson_nfa.specs.ByteRoom.{Bound, at_least, at_most}
 use Rattle.thompson_nfa.specs.Compilations.{is_anchored_tree, bytes_needed}
-use Rattle.thompson_nfa.specs.Compiled.{Takes, TakesInAll, sum_of_bytes, way_at}
+use Rattle.thompson_nfa.specs.Compiled.{TakesBytes, TakesInAll, sum_of_bytes, way_at}
 use Rattle.thompson_nfa.specs.Configs.{Options, reverse_of, captures_of, is_shrunk}
-use Rattle.thompson_nfa.specs.ListBytes.{pattern_bytes, bytes_for, patterns_bytes, start_bytes, list_bytes}
+use Rattle.thompson_nfa.specs.ListBytes.{bytes_of_pattern, bytes_for, patterns_bytes, start_bytes, compile_bytes}
 use Rattle.thompson_nfa.specs.Patterns.{HasAll, HasStart, LeadsToPatterns, begun_with}
-use Rattle.thompson_nfa.specs.Refusals.{Passes, StaysAt}
+use Rattle.thompson_nfa.specs.Refusals.{ExceedsLimit, StaysAt}
 use Rattle.thompson_nfa.specs.declared.compiling.How.{How}
 use Rattle.thompson_nfa.specs.declared.which_captures.WhichCaptures.{WhichCaptures}
 use Rattle.thompson_nfa.proofs.Fragments.TakeLemmas.{way_added}
 use Rattle.thompson_nfa.proofs.WholePatterns.AssembleLemmas.{start_below}
 
 -- a first pattern takes no more than all
-first_of : (b : Bound) (which : WhichCaptures) (x : Tree) (xs : List Tree) → pattern_bytes b which x ≤ patterns_bytes b which (x ∷ xs)
+first_of : (b : Bound) (which : WhichCaptures) (x : Tree) (xs : List Tree) → bytes_of_pattern b which x ≤ patterns_bytes b which (x ∷ xs)
 first_of b which x [] = omega arith
 first_of b which x (y ∷ xs) = omega arith
 
 pub first_pattern : (b : Bound) (which : WhichCaptures) (zs xs : List Tree) (x : Tree) → zs ≡ x ∷ xs →
-    pattern_bytes b which x ≤ patterns_bytes b which zs
+    bytes_of_pattern b which x ≤ patterns_bytes b which zs
 first_pattern b which zs xs x is = omega (arith, first_of b which x xs, ap (patterns_bytes b which) is)
 
 pub two_patterns : (b : Bound) (which : WhichCaptures) (zs ys xs : List Tree) (x y : Tree) → zs ≡ x ∷ ys → ys ≡ y ∷ xs →
-    patterns_bytes b which zs ≡ pattern_bytes b which x + pattern_bytes b which y + 8 + bytes_for b which xs + 24
+    patterns_bytes b which zs ≡ bytes_of_pattern b which x + bytes_of_pattern b which y + 8 + bytes_for b which xs + 24
 two_patterns b which zs ys xs x y is others =
     ap (patterns_bytes b which) is ∙ ap (λ rest. patterns_bytes b which (x ∷ rest)) others ∙ omega arith
 
@@ -40,8 +40,8 @@ module _ (t0 t1 t2 t3 : Assembly) (u s1 s2 : ℕ) (union : AddsDraft t0 t1 u (un
   union_sum = omega (arith, union.bytes, first.takes, second.takes, way_added union, first.ways u)
 
 pub several_take : (how : How) (a b t0 t1 t2 t3 c : Assembly) (u s1 s2 : ℕ) (zs ys xs : List Tree) (x y : Tree) → zs ≡ x ∷ ys →
-    ys ≡ y ∷ xs → TakesInAll a b (pattern_bytes at_least how.which x) (pattern_bytes (at_most how.shrink) how.which x) →
-    TakesInAll b t0 (pattern_bytes at_least how.which y) (pattern_bytes (at_most how.shrink) how.which y) →
+    ys ≡ y ∷ xs → TakesInAll a b (bytes_of_pattern at_least how.which x) (bytes_of_pattern (at_most how.shrink) how.which x) →
+    TakesInAll b t0 (bytes_of_pattern at_least how.which y) (bytes_of_pattern (at_most how.shrink) how.which y) →
     AddsDraft t0 t1 u (union_draft []) t0.groups → Led t1 t2 u s1 → Led t2 t3 u s2 →
     TakesInAll t3 c (bytes_for at_least how.which xs) (bytes_for (at_most how.shrink) how.which xs) →
     TakesInAll a c (patterns_bytes at_least how.which zs) (patterns_bytes (at_most how.shrink) how.which zs)
@@ -67,7 +67,7 @@ none_take how a b id zs none added = record {
 }
 
 pub one_takes : (how : How) (a b : Assembly) (zs ys : List Tree) (x : Tree) → zs ≡ x ∷ ys → length ys ≡ 0 →
-    TakesInAll a b (pattern_bytes at_least how.which x) (pattern_bytes (at_most how.shrink) how.which x) →
+    TakesInAll a b (bytes_of_pattern at_least how.which x) (bytes_of_pattern (at_most how.shrink) how.which x) →
     TakesInAll a b (patterns_bytes at_least how.which zs) (patterns_bytes (at_most how.shrink) how.which zs)
 one_takes how a b zs ys x is none one =
     let single : zs ≡ x ∷ [] = is ∙ ap (λ rest. x ∷ rest) (no_part ys none) in
@@ -76,7 +76,7 @@ one_takes how a b zs ys x is none one =
       most = omega (arith, one.most, ap (patterns_bytes (at_most how.shrink) how.which) single);
     }
 
--- ---- what stands before them
+-- ---- what comes before them
 
 module _ (o : Options) (xs : List Tree) (how : How) (anchored reverse : Bool) (kept : how.which ≡ captures_of o)
     (shrunk : how.shrink ≡ is_shrunk o) (turned : reverse ≡ reverse_of o)
@@ -85,19 +85,19 @@ module _ (o : Options) (xs : List Tree) (how : How) (anchored reverse : Bool) (k
   needed_is b =
       ap (λ before. start_bytes before + patterns_bytes b how.which xs)
       (is_anchored ∙ ap (λ back. list_all (is_anchored_tree back) xs) turned)
-      ∙ ap (λ which. list_bytes b which (list_all (is_anchored_tree (reverse_of o)) xs) xs) kept
+      ∙ ap (λ which. compile_bytes b which (list_all (is_anchored_tree (reverse_of o)) xs) xs) kept
 
   needed_at_most : start_bytes anchored + patterns_bytes (at_most how.shrink) how.which xs ≡ bytes_needed (at_most (is_shrunk o)) o xs
   needed_at_most = needed_is (at_most how.shrink) ∙ ap (λ shrink. bytes_needed (at_most shrink) o xs) shrunk
 
-  pub start_passed : (b : Assembly) (e : BuildError) → Passes b (start_bytes anchored) e →
-      Passes b (bytes_needed (at_most (is_shrunk o)) o xs) e
+  pub start_passed : (b : Assembly) (e : BuildError) → ExceedsLimit b (start_bytes anchored) e →
+      ExceedsLimit b (bytes_needed (at_most (is_shrunk o)) o xs) e
   start_passed b e p = omega (arith, p, needed_at_most)
 
-  module _ (b0 b1 : Assembly) (u : ℕ) (start : Takes b0 b1 u (start_bytes anchored) (start_bytes anchored)) where
-    -- the patterns are refused
-    pub patterns_passed : (e : BuildError) → Passes b1 (patterns_bytes (at_most how.shrink) how.which xs) e →
-        Passes b0 (bytes_needed (at_most (is_shrunk o)) o xs) e
+  module _ (b0 b1 : Assembly) (u : ℕ) (start : TakesBytes b0 b1 u (start_bytes anchored) (start_bytes anchored)) where
+    -- the patterns are rejected
+    pub patterns_passed : (e : BuildError) → ExceedsLimit b1 (patterns_bytes (at_most how.shrink) how.which xs) e →
+        ExceedsLimit b0 (bytes_needed (at_most (is_shrunk o)) o xs) e
     patterns_passed e p = omega (arith, start.most, p, needed_at_most)
 
     module _ (b2 : Assembly) (c n : ℕ) (below : HasStart anchored b0 b1 u) (patterns : LeadsToPatterns how.which b1 b2 c xs n)
@@ -111,8 +111,9 @@ module _ (o : Options) (xs : List Tree) (how : How) (anchored reverse : Bool) (k
           let longer = has.longer in
           ap way_bytes (has.same u inside (λ e. omega arith))
 
-      -- the way to them is
-      pub way_passed : (new : Assembly) (e : BuildError) → StaysAt b2 new u e → Passes b0 (bytes_needed (at_most (is_shrunk o)) o xs) e
+      -- adding the transition to them fails
+      pub way_passed : (new : Assembly) (e : BuildError) → StaysAt b2 new u e →
+          ExceedsLimit b0 (bytes_needed (at_most (is_shrunk o)) o xs) e
       way_passed new e r = omega (arith, start.most, takes.most, start_kept, r.passed, needed_at_most)
 
       pub all_needed : (b3 : Assembly) → b0 ≡ begun_with o → Led b2 b3 u c → bytes_needed at_least o xs ≤ sum_of_bytes b3

@@ -55,7 +55,7 @@ module _ (how : How) (b0 b1 b2 b3 b4 b5 : Assembly) (x : Tree) (s e m : ℕ) (cl
   groups_end : b5.groups ≡ b2.groups
   groups_end = ap (λ (z : Assembly). z.groups) done ∙ ap (λ (z : Assembly). z.groups) led.settings ∙ added.groups_are
 
-  -- how the numbers of states follow one another
+  -- how the numbers of states succeed one another
   size_0 : length b1.drafts ≡ length b0.drafts
   size_0 = ap (λ (z : Assembly). length z.drafts) begun
 
@@ -162,7 +162,7 @@ module _ (how : How) (b0 b1 b2 b3 b4 b5 : Assembly) (x : Tree) (s e m : ℕ) (cl
   known_end = each (λ draft. is_known b5.groups draft ≡ true) (λ draft tame. ap (λ gs. is_known gs draft) groups_end ∙ tame.known)
       (λ draft tame. ap (λ gs. is_known gs (patched m draft)) groups_end ∙ known_patched b2 m draft ∙ tame.known) refl
 
-  -- the match alone is one
+  -- no other new state is a match
   only_match : (q p : ℕ) → length b0.drafts ≤ q → q < length b5.drafts → draft_at b5.drafts q ≡ match_draft p → q ≡ m
   only_match q p low high found =
       let z = size_0 in let n = size_5 in let is = end_is in let en = end_low in let et = end_high in

@@ -1,4 +1,4 @@
--- How one comes out of the states of a pattern without coming below them.
+-- How the states of a pattern lead out without leading to states below them.
 use Rattle.std.proofs.Common.{◌≡◌, ℕ, zero, suc, ◌<◌, ◌≤◌, nat_lt, Option, Some, None, if◌then◌else◌, refl, sym, ap, ◌∙◌, arith, ⊎_elim}
 use Rattle.std.proofs.lemmas.Bool.{cases_lt, cond-true, cond-false, lt-ltb, le-ltb}
 use Rattle.nfa_core.specs.BuilderStates.{DraftNode, empty_draft}
@@ -7,7 +7,7 @@ use Rattle.nfa_core.specs.Drafted.{Table}
 use Rattle.thompson_nfa.specs.Compiled.{ComesOut, past_in}
 use Rattle.thompson_nfa.specs.Patterns.{ComesToKept}
 
--- the table where each state below `low` stands for itself, so that a walk that comes there stays there
+-- the table in which each state below `low` stands for itself, so that a path of such steps ends there
 abbrev pub fenced : ℕ → Table → Table
 fenced low table q = if nat_lt q low then empty_draft q else table q
 
@@ -54,7 +54,7 @@ not_below low table q none = ⊎_elim
     (λ (above : low ≤ q). above)
     (cases_lt q low)
 
--- the walk of the fenced table ends at a state that stands for itself, or at one that does so in the table
+-- the path through the fenced table ends at a state that stands for itself, or at one that does so in the table
 pub stands_from : (low : ℕ) (table : Table) (m q : ℕ) → low ≤ m → stands_for (table m) ≡ None → ComesOut (fenced low table) m q →
     ComesToKept low table q
 stands_from low table m q above none o =

@@ -1,4 +1,4 @@
--- What stands before the patterns, once it is led on to them.
+-- What comes before the patterns, once it is led on to them.
 use Rattle.std.proofs.Common.{◌≡◌, ◌≢◌, inl, inr, ℕ, zero, suc, ◌+◌, ◌*◌, ◌<◌, ◌≤◌, Bool, true, false, List, [], ◌∷◌, length, get_or}
 use Rattle.std.proofs.Common.{Option, Some, None, refl, sym, ap, ◌∙◌, subst, arith}
 use Rattle.std.specs.Prelude.{All}
@@ -44,7 +44,7 @@ found_on : (drafts : List DraftNode) (n q : ℕ) (next : Option ℕ) → HasNoLo
 found_on drafts n q None loop e later none = past_itself drafts (length drafts) q e
 found_on drafts n q (Some r) loop e later none = past_next drafts loop q r e ∙ later r none
 
--- a state that stands for itself and is met on the way is the one past all
+-- a state that stands for itself and is met on the path is the one at the path's end
 pub past_found : (drafts : List DraftNode) → HasNoLoop drafts → (n q : ℕ) → stands_for (draft_at drafts (past_within drafts n q)) ≡ None →
     past drafts q ≡ past_within drafts n q
 past_found drafts loop zero q none = past_itself drafts (length drafts) q none

@@ -1,4 +1,4 @@
--- The union that leads to further patterns, and what refuses them.
+-- The union that leads to further patterns, and why they are rejected.
 use Rattle.std.proofs.Common.{◌≡◌, ℕ, zero, suc, ◌+◌, ◌*◌, ◌<◌, ◌≤◌, Bool, false, List, [], ◌∷◌, ◌++◌, length, get_or, take, slice_get}
 use Rattle.std.proofs.Common.{Some, refl, sym, ap, ◌∙◌, subst, arith, length-append}
 use Rattle.std.proofs.lemmas.List.{append_assoc, append-nil, take_more, take_all, length-take-le}
@@ -11,22 +11,22 @@ use Rattle.nfa_core.specs.declared.build_error.BuildError.{BuildError}
 use Rattle.nfa_core.specs.declared.build_error.BuildError.TheVariants as error
 use Rattle.thompson_nfa.specs.Added.{Led}
 use Rattle.thompson_nfa.specs.Compiled.{sum_of_bytes, TakesInAll, way_at}
-use Rattle.thompson_nfa.specs.Patterns.{HasPatterns, HasAll, RefusesPatterns, room_for}
-use Rattle.thompson_nfa.specs.Refusals.{RefusesStep, RefusesIndex, Passes, Stays}
+use Rattle.thompson_nfa.specs.Patterns.{HasPatterns, HasAll, FailsPatterns, room_for}
+use Rattle.thompson_nfa.specs.Refusals.{FailsStep, FailsIndex, ExceedsLimit, Stays}
 use Rattle.thompson_nfa.specs.Room.{room}
 use Rattle.thompson_nfa.specs.ByteRoom.{Bound, at_least, at_most}
-use Rattle.thompson_nfa.specs.ListBytes.{pattern_bytes, bytes_for}
+use Rattle.thompson_nfa.specs.ListBytes.{bytes_of_pattern, bytes_for}
 use Rattle.thompson_nfa.specs.declared.compiling.How.{How}
 use Rattle.thompson_nfa.specs.declared.which_captures.WhichCaptures.{WhichCaptures}
 use Rattle.thompson_nfa.proofs.WholePatterns.FurtherLemmas.{patterns_none, hole_moved, patterns_led, patterns_joined, room_joined}
 use Rattle.thompson_nfa.proofs.Classes.ScalarLemmas.{kind_patched}
 
--- ---- refusals
+-- ---- errors
 
--- what refuses a step refuses the patterns
+-- an error of a step is an error of the patterns
 pub step_refuses : (which : WhichCaptures) (a b : Assembly) (n bytes whole : ℕ) (xs : List Tree) (e : BuildError) →
     b.size_limit ≡ a.size_limit → length b.drafts + n ≤ length a.drafts + whole →
-    sum_of_bytes b + bytes ≤ sum_of_bytes a + 4096 * whole → RefusesStep b n bytes e → RefusesPatterns which a whole xs e
+    sum_of_bytes b + bytes ≤ sum_of_bytes a + 4096 * whole → FailsStep b n bytes e → FailsPatterns which a whole xs e
 step_refuses which a b n bytes whole xs error.TooManyPatterns size states room r = r
 step_refuses which a b n bytes whole xs error.TooManyStates size states room r = omega arith
 step_refuses which a b n bytes whole xs (error.ExceededSizeLimit limit) size states room r = let x = r.1 in
@@ -35,12 +35,12 @@ step_refuses which a b n bytes whole xs error.UnsupportedCaptures size states ro
 step_refuses which a b n bytes whole xs (error.Captures err) size states room r = absurd r
 step_refuses which a b n bytes whole xs error.NoMemory size states room r = r
 
--- so does what refuses the patterns from number k on
+-- an error of the patterns from number k on is an error of all of them
 pub patterns_refuse : (which : WhichCaptures) (a b : Assembly) (k n whole : ℕ) (xs ys : List Tree) (e : BuildError) →
     b.size_limit ≡ a.size_limit → length b.starts ≡ length a.starts + k →
     length b.drafts + n ≤ length a.drafts + whole → sum_of_bytes b + 4096 * n ≤ sum_of_bytes a + 4096 * whole →
-    ((i : ℕ) (x : Tree) → slice_get xs i ≡ Some x → slice_get ys (k + i) ≡ Some x) → RefusesPatterns which b n xs e →
-    RefusesPatterns which a whole ys e
+    ((i : ℕ) (x : Tree) → slice_get xs i ≡ Some x → slice_get ys (k + i) ≡ Some x) → FailsPatterns which b n xs e →
+    FailsPatterns which a whole ys e
 patterns_refuse which a b k n whole xs ys error.TooManyPatterns size starts states room inside r = r
 patterns_refuse which a b k n whole xs ys error.TooManyStates size starts states room inside r =
     step_refuses which a b n (4096 * n) whole ys error.TooManyStates size states room r
@@ -48,7 +48,7 @@ patterns_refuse which a b k n whole xs ys (error.ExceededSizeLimit limit) size s
     step_refuses which a b n (4096 * n) whole ys (error.ExceededSizeLimit limit) size states room r
 patterns_refuse which a b k n whole xs ys error.UnsupportedCaptures size starts states room inside r = r
 patterns_refuse which a b k n whole xs ys (error.Captures err) size starts states room inside r =
-    let P : ℕ → Type 0 = λ p. RefusesIndex p r.1 err in
+    let P : ℕ → Type 0 = λ p. FailsIndex p r.1 err in
     let number : length b.starts + r.0 ≡ length a.starts + (k + r.0) = omega (arith, starts) in
     (k + r.0, r.1, r.2, inside r.0 r.2 r.3, r.4, subst P number r.5)
 patterns_refuse which a b k n whole xs ys error.NoMemory size starts states room inside r = r
@@ -61,11 +61,11 @@ starts_after : {which : WhichCaptures} {hole : ℕ} {a b : Assembly} {ss : List 
     HasPatterns which hole a b ss xs n spare → length b.starts ≡ length a.starts + length xs
 starts_after {which} {hole} {a} {b} {ss} {xs} h = omega (arith, ap length h.starts_are, length-append a.starts ss, h.as_many)
 
--- patterns behind others are refused
+-- an error of patterns that come after others
 pub later_refuse : {which : WhichCaptures} {hole : ℕ} {a b : Assembly} {ss : List ℕ} {xs : List Tree} {n spare : ℕ} (more whole : ℕ)
     (ys zs : List Tree) (e : BuildError) → HasPatterns which hole a b ss xs n spare →
     n + more ≤ whole → ((i : ℕ) (x : Tree) → slice_get ys i ≡ Some x → slice_get zs (length xs + i) ≡ Some x) →
-    RefusesPatterns which b more ys e → RefusesPatterns which a whole zs e
+    FailsPatterns which b more ys e → FailsPatterns which a whole zs e
 later_refuse {which} {hole} {a} {b} {ss} {xs} {n} {spare} more whole ys zs e h le inside r =
     patterns_refuse which a b (length xs) more whole ys zs e (size_after h) (starts_after h) (omega (arith, h.states, le)) (omega (
       arith,
@@ -74,10 +74,10 @@ later_refuse {which} {hole} {a} {b} {ss} {xs} {n} {spare} more whole ys zs e h l
       le,
     )) inside r
 
--- a step behind patterns is refused
+-- an error of a step that comes after patterns
 pub later_stays : {which : WhichCaptures} {hole : ℕ} {a b c : Assembly} {ss : List ℕ} {xs : List Tree} {n spare : ℕ} (more bytes whole : ℕ)
     (zs : List Tree) (e : BuildError) → HasPatterns which hole a b ss xs n spare →
-    n + more ≤ whole → bytes ≤ spare + 4096 * more → Stays b c more bytes e → RefusesPatterns which a whole zs e
+    n + more ≤ whole → bytes ≤ spare + 4096 * more → Stays b c more bytes e → FailsPatterns which a whole zs e
 later_stays {which} {hole} {a} {b} {c} {ss} {xs} {n} {spare} more bytes whole zs e h le room r =
     step_refuses which a b more bytes whole zs e (size_after h) (omega (arith, h.states, le)) (omega (
       arith,
@@ -110,14 +110,14 @@ further_none how union a kind way = record {
 }
 
 bytes_joined : (b : Bound) (which : WhichCaptures) (xs : List Tree) (x : Tree) →
-    bytes_for b which (xs ++ x ∷ []) ≡ bytes_for b which xs + (pattern_bytes b which x + 4)
+    bytes_for b which (xs ++ x ∷ []) ≡ bytes_for b which xs + (bytes_of_pattern b which x + 4)
 bytes_joined b which [] x = omega arith
 bytes_joined b which (y ∷ xs) x = omega (arith, bytes_joined b which xs x)
 
 module _ (how : How) (union : ℕ) (a b c : Assembly) (xs : List Tree) (x : Tree) (s : ℕ) (there : union < length a.drafts)
     (so_far : IsFurther how union a b xs)
     (next : HasAll how.which b c (s ∷ []) (x ∷ []) (room how.shrink x + 3) 4)
-    (weighs : TakesInAll b c (pattern_bytes at_least how.which x) (pattern_bytes (at_most how.shrink) how.which x)) where
+    (weighs : TakesInAll b c (bytes_of_pattern at_least how.which x) (bytes_of_pattern (at_most how.shrink) how.which x)) where
   kept_union : draft_at c.drafts union ≡ draft_at b.drafts union
   kept_union = let l = so_far.has.longer in let m = next.longer in next.same union (omega arith) (λ e. omega arith)
 
@@ -151,12 +151,12 @@ module _ (how : How) (union : ℕ) (a b c : Assembly) (xs : List Tree) (x : Tree
         way = led.ways union ∙ way_there;
       }
 
-  -- the way to it is refused
+  -- adding the transition to it fails
   pub way_refused : (d : Assembly) (whole : ℕ) (zs : List Tree) (e : BuildError) →
-      room_for how.shrink xs + (room how.shrink x + 3) ≤ whole → Stays c d 0 4 e → RefusesPatterns how.which a whole zs e
+      room_for how.shrink xs + (room how.shrink x + 3) ≤ whole → Stays c d 0 4 e → FailsPatterns how.which a whole zs e
   way_refused d whole zs e le r = later_stays 0 4 whole zs e both (omega arith) (omega arith) r
 
--- the first of the patterns that are left is refused
+-- the first of the patterns that are left is rejected
 only_one : (xs zs : List Tree) (i : ℕ) (y : Tree) → slice_get zs i ≡ Some y → length xs ≡ i → (k : ℕ) (x : Tree) →
     slice_get (y ∷ []) k ≡ Some x → slice_get zs (length xs + k) ≡ Some x
 only_one xs zs i y here same zero x e =
@@ -166,11 +166,11 @@ only_one xs zs i y here same (suc k) x e = absurd (cc)
 pub first_left_refused : (how : How) (union : ℕ) (a b : Assembly) (xs zs : List Tree) (x : Tree) (e : BuildError) →
     IsFurther how union a b xs → slice_get zs (length xs) ≡ Some x →
     room_for how.shrink xs + (room how.shrink x + 3) ≤ room_for how.shrink zs →
-    RefusesPatterns how.which b (room how.shrink x + 3) (x ∷ []) e → RefusesPatterns how.which a (room_for how.shrink zs) zs e
+    FailsPatterns how.which b (room how.shrink x + 3) (x ∷ []) e → FailsPatterns how.which a (room_for how.shrink zs) zs e
 first_left_refused how union a b xs zs x e f here le r =
     later_refuse (room how.shrink x + 3) (room_for how.shrink zs) (x ∷ []) zs e f.has le (only_one xs zs (length xs) x here refl) r
 
--- ---- places in the list
+-- ---- positions in the list
 
 pub room_at : (shrink : Bool) (zs : List Tree) (i : ℕ) (d : Tree) → i < length zs →
     room_for shrink (take i zs) + (room shrink (get_or zs i d) + 3) ≤ room_for shrink zs
@@ -179,7 +179,7 @@ room_at shrink (z ∷ zs) zero d l = omega arith
 room_at shrink (z ∷ zs) (suc i) d l = omega (arith, room_at shrink zs i d (omega arith))
 
 bytes_at : (b : Bound) (which : WhichCaptures) (zs : List Tree) (i : ℕ) (d : Tree) → i < length zs →
-    bytes_for b which (take i zs) + (pattern_bytes b which (get_or zs i d) + 4) ≤ bytes_for b which zs
+    bytes_for b which (take i zs) + (bytes_of_pattern b which (get_or zs i d) + 4) ≤ bytes_for b which zs
 bytes_at b which [] i d l = absurd (omega arith)
 bytes_at b which (z ∷ zs) zero d l = omega arith
 bytes_at b which (z ∷ zs) (suc i) d l = omega (arith, bytes_at b which zs i d (omega arith))
@@ -193,36 +193,36 @@ module _ (how : How) (union : ℕ) (a b c : Assembly) (zs : List Tree) (i : ℕ)
   fits : room_for how.shrink (take i zs) + (room how.shrink x + 3) ≤ room_for how.shrink zs
   fits = omega (arith, room_at how.shrink zs i x inside, ap (room how.shrink) is)
 
-  fits_bytes : bytes_for (at_most how.shrink) how.which (take i zs) + (pattern_bytes (at_most how.shrink) how.which x + 4)
+  fits_bytes : bytes_for (at_most how.shrink) how.which (take i zs) + (bytes_of_pattern (at_most how.shrink) how.which x + 4)
       ≤ bytes_for (at_most how.shrink) how.which zs
   fits_bytes = omega (
     arith,
     bytes_at (at_most how.shrink) how.which zs i x inside,
-    ap (pattern_bytes (at_most how.shrink) how.which) is,
+    ap (bytes_of_pattern (at_most how.shrink) how.which) is,
   )
 
-  pub pattern_passed : (e : BuildError) → Passes b (pattern_bytes (at_most how.shrink) how.which x) e →
-      Passes a (bytes_for (at_most how.shrink) how.which zs) e
+  pub pattern_passed : (e : BuildError) → ExceedsLimit b (bytes_of_pattern (at_most how.shrink) how.which x) e →
+      ExceedsLimit a (bytes_for (at_most how.shrink) how.which zs) e
   pattern_passed e p = omega (arith, p, so_far.weighs.most, fits_bytes)
 
   pub union_passed : (e : BuildError) →
-      TakesInAll b c (pattern_bytes at_least how.which x) (pattern_bytes (at_most how.shrink) how.which x) → Passes c 4 e →
-      Passes a (bytes_for (at_most how.shrink) how.which zs) e
+      TakesInAll b c (bytes_of_pattern at_least how.which x) (bytes_of_pattern (at_most how.shrink) how.which x) → ExceedsLimit c 4 e →
+      ExceedsLimit a (bytes_for (at_most how.shrink) how.which zs) e
   union_passed e w p = omega (arith, w.most, p, so_far.weighs.most, fits_bytes)
 
-  pub pattern_refused : (e : BuildError) → RefusesPatterns how.which b (room how.shrink x + 3) (x ∷ []) e →
-      RefusesPatterns how.which a (room_for how.shrink zs) zs e
+  pub pattern_refused : (e : BuildError) → FailsPatterns how.which b (room how.shrink x + 3) (x ∷ []) e →
+      FailsPatterns how.which a (room_for how.shrink zs) zs e
   pattern_refused e r =
       first_left_refused how union a b (take i zs) zs x e so_far (ap (slice_get zs) taken ∙ slice_get-get_or zs i x inside
       ∙ ap Some (sym is)) fits r
 
   pub union_refused : (d : Assembly) (s : ℕ) (e : BuildError) → HasAll how.which b c (s ∷ []) (x ∷ []) (room how.shrink x + 3) 4 →
-      TakesInAll b c (pattern_bytes at_least how.which x) (pattern_bytes (at_most how.shrink) how.which x) → Stays c d 0 4 e →
-      RefusesPatterns how.which a (room_for how.shrink zs) zs e
+      TakesInAll b c (bytes_of_pattern at_least how.which x) (bytes_of_pattern (at_most how.shrink) how.which x) → Stays c d 0 4 e →
+      FailsPatterns how.which a (room_for how.shrink zs) zs e
   union_refused d s e next w r = way_refused how union a b c (take i zs) x s there so_far next w d (room_for how.shrink zs) zs e fits r
 
   pub further_next : (d : Assembly) (s : ℕ) → HasAll how.which b c (s ∷ []) (x ∷ []) (room how.shrink x + 3) 4 →
-      TakesInAll b c (pattern_bytes at_least how.which x) (pattern_bytes (at_most how.shrink) how.which x) → Led c d union s →
+      TakesInAll b c (bytes_of_pattern at_least how.which x) (bytes_of_pattern (at_most how.shrink) how.which x) → Led c d union s →
       IsFurther how union a d (take (i + 1) zs)
   further_next d s next w led =
       let P : List Tree → Type 0 = λ xs. IsFurther how union a d xs in

@@ -8,7 +8,7 @@ use Rattle.nfa_core.specs.declared.build_error.BuildError.{BuildError}
 use Rattle.thompson_nfa.specs.Added.{AddsDraft, Led}
 use Rattle.thompson_nfa.specs.Choice.{no_choice}
 use Rattle.thompson_nfa.specs.Compiled.{IsTame}
-use Rattle.thompson_nfa.specs.Patterns.{HasPatterns, HasAll, LeadsToPatterns, LeadsToFurther, RefusesPatterns, room_for}
+use Rattle.thompson_nfa.specs.Patterns.{HasPatterns, HasAll, LeadsToPatterns, LeadsToFurther, FailsPatterns, room_for}
 use Rattle.thompson_nfa.specs.Room.{room}
 use Rattle.thompson_nfa.specs.declared.compiling.How.{How}
 use Rattle.thompson_nfa.specs.declared.which_captures.WhichCaptures.{WhichCaptures}
@@ -79,10 +79,10 @@ one_compiled how a b xs (y ∷ ys) x s is none h = absurd (omega arith)
 
 pub second_refused : (how : How) (a b : Assembly) (xs ys rest : List Tree) (x y : Tree) (s : ℕ) (e : BuildError) → xs ≡ x ∷ ys →
     ys ≡ y ∷ rest → HasAll how.which a b (s ∷ []) (x ∷ []) (room how.shrink x + 3) 4 →
-    RefusesPatterns how.which b (room how.shrink y + 3) (y ∷ []) e → RefusesPatterns how.which a (room_for how.shrink xs + 1) xs e
+    FailsPatterns how.which b (room how.shrink y + 3) (y ∷ []) e → FailsPatterns how.which a (room_for how.shrink xs + 1) xs e
 second_refused how a b xs ys rest x y s e is more h r =
     let all : xs ≡ x ∷ y ∷ rest = is ∙ ap (λ (zs : List Tree). x ∷ zs) more in
-    let P : List Tree → Type 0 = λ zs. RefusesPatterns how.which a (room_for how.shrink zs + 1) zs e in
+    let P : List Tree → Type 0 = λ zs. FailsPatterns how.which a (room_for how.shrink zs + 1) zs e in
     let inside : (i : ℕ) (z : Tree) → slice_get (y ∷ []) i ≡ Some z → slice_get (x ∷ y ∷ rest) (1 + i) ≡ Some z =
     λ i z. elim i as (λ k. slice_get (y ∷ []) k ≡ Some z → slice_get (x ∷ y ∷ rest) (1 + k) ≡ Some z) [
       | zero ↦ λ here. here
@@ -116,10 +116,10 @@ module _ (how : How) (a b c d e f : Assembly) (x y : Tree) (s t u : ℕ)
   union_here = led_2.here ∙ ap (patched t) (led.here ∙ ap (patched s) added.here)
 
   pub further_refused : (xs ys rest : List Tree) (err : BuildError) → xs ≡ x ∷ ys → ys ≡ y ∷ rest →
-      RefusesPatterns how.which f (room_for how.shrink rest) rest err → RefusesPatterns how.which a (room_for how.shrink xs + 1) xs err
+      FailsPatterns how.which f (room_for how.shrink rest) rest err → FailsPatterns how.which a (room_for how.shrink xs + 1) xs err
   further_refused xs ys rest err is more r =
       let all : xs ≡ x ∷ y ∷ rest = is ∙ ap (λ (zs : List Tree). x ∷ zs) more in
-      let P : List Tree → Type 0 = λ zs. RefusesPatterns how.which a (room_for how.shrink zs + 1) zs err in
+      let P : List Tree → Type 0 = λ zs. FailsPatterns how.which a (room_for how.shrink zs + 1) zs err in
       subst P (sym all) (later_refuse (room_for how.shrink rest) (room_for how.shrink (x ∷ y ∷ rest) + 1) rest (x ∷ y ∷ rest) err united
       (omega arith)
       (λ i z here. let two_more : 2 + i ≡ suc (suc i) = omega arith in ap (slice_get (x ∷ y ∷ rest)) two_more ∙ here) r)

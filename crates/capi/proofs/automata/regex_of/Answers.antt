@@ -4,7 +4,7 @@ use Rattle.hir_core.specs.Facts.{LoopsRead, is_utf8_tree}
 use Rattle.hir_core.specs.Tree.{Tree}
 use Rattle.lazy_dfa.specs.ConfigValue.{kind_of}
 use Rattle.hirscan.specs.declared.settings.Settings.{Settings}
-use Rattle.hirscan.specs.Built.{IsBuilt, RefusesBuild}
+use Rattle.hirscan.specs.Built.{IsBuilt, FailsBuild}
 use Rattle.pattern_search.specs.Texts.{AllMean}
 use Rattle.pattern_search.proofs.ForCallers.{read_texts}
 use Rattle.capi.proofs.automata.regex_of.Goals as goal
@@ -13,14 +13,14 @@ pub returns-in-Err-build-clause-refused : goal.returns-in-Err-build-clause-refus
 returns-in-Err-build-clause-refused c = (
   c.in-Ok.trees.items,
   subst (λ (k : Config). AllMean k (read_texts c.args.texts.now) c.in-Ok.trees.items) c.config-config.ensures c.in-Ok.ensures.means,
-  subst (λ (s : Settings). RefusesBuild c.in-Ok.trees.items s c.in-Err-build.e) c.settings-settings.ensures
-      (subst (λ (xs : List Tree). RefusesBuild xs c.settings-settings.result c.in-Err-build.e)
+  subst (λ (s : Settings). FailsBuild c.in-Ok.trees.items s c.in-Err-build.e) c.settings-settings.ensures
+      (subst (λ (xs : List Tree). FailsBuild xs c.settings-settings.result c.in-Err-build.e)
       c.deref-3.ensures.value c.in-Err-build.ensures.refused),
 )
 
 pub returns-clause-made : goal.returns-clause-made
 returns-clause-made c =
-    let told : (c.all_loops_read-loops.result ≡ true) ↔ All LoopsRead c.in-Ok.trees.items =
+    let reported : (c.all_loops_read-loops.result ≡ true) ↔ All LoopsRead c.in-Ok.trees.items =
     subst (λ (xs : List Tree). (c.all_loops_read-loops.result ≡ true) ↔ All LoopsRead xs)
     c.deref-2.ensures.value c.all_loops_read-loops.ensures in (
       (
@@ -37,7 +37,7 @@ returns-clause-made c =
           utf8_trees = subst (λ (k : Config). k.utf8 ≡ true →
               All (λ x. is_utf8_tree x ≡ true) c.in-Ok.trees.items) c.config-config.ensures c.in-Ok.ensures.utf8;
         },
-        told,
+        reported,
       ),
-      λ off. told.1 (subst (λ (xs : List Tree). All LoopsRead xs) c.deref.ensures.value (c.in_default.ensures.none off)),
+      λ off. reported.1 (subst (λ (xs : List Tree). All LoopsRead xs) c.deref.ensures.value (c.in_default.ensures.none off)),
     )

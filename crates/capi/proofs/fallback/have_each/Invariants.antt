@@ -4,4 +4,4 @@ use Rattle.capi.proofs.fallback.have_each.Given as goal
 
 abbrev pub invariant-loop-regex : goal.invariant-loop-regex
 invariant-loop-regex l =
-    l.told.items ++ map (finds_any l.haystack) (drop l.regex-index l.regexes) ≡ map (finds_any l.haystack) l.regexes
+    l.reported.items ++ map (finds_any l.haystack) (drop l.regex-index l.regexes) ≡ map (finds_any l.haystack) l.regexes

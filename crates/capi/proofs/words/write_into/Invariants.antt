@@ -2,6 +2,6 @@ use Rattle.std.proofs.Common.{◌≡◌, take}
 use Rattle.capi.specs.Compiled.{overlaid}
 use Rattle.capi.proofs.words.write_into.Given as goal
 
--- the bytes so far lie in the room
+-- the bytes so far are in the buffer
 abbrev pub invariant-loop-at : goal.invariant-loop-at
 invariant-loop-at l = l.room ≡ overlaid (take l.at l.fn.bytes) l.fn.room

@@ -41,7 +41,7 @@ loop-id-preserved g c =
           (reverse c.follow.new.stack.items) (g.S.NameSet.names c.follow.new.set) c.follow.new.steps c.in_ok-follow.ensures.goes;
     }
 
--- where there is no memory to begin with, nothing was done
+-- if there is no memory to begin with, nothing was done
 pub returns-in_err-push-clause-grows : goal.returns-in_err-push-clause-grows
 returns-in_err-push-clause-grows g c = ([], sym (append-nil (g.S.NameSet.names c.args.set.now)))
 
@@ -49,7 +49,7 @@ pub returns-in_err-push-clause-below : goal.returns-in_err-push-clause-below
 returns-in_err-push-clause-below g c = subst (λ (n : ℕ). All (λ q. q < n) (g.S.NameSet.names c.args.set.now)) c.requires.bound
     c.len.ensures.below
 
--- where it lacks later, a state was met whose ways were not followed
+-- if memory runs out later, a state was met whose edges were not followed
 pub returns-in_err-follow-clause-grows : goal.returns-in_err-follow-clause-grows
 returns-in_err-follow-clause-grows g c =
     cut_grown c.args.nfa.now.automaton c.args.look_have c.args.start (g.S.NameSet.names c.args.set.now) c.args.steps.now

@@ -92,7 +92,7 @@ returns-clause-cost g c =
     (past_all (g.S.NameSet.names c.args.from.now) c.loop-k.k past) c.is_sound.ensures.named in
     omega (arith, cost, c.len-k-end.ensures.fits, c.requires.from)
 
--- where memory is refused
+-- if an allocation fails
 pub returns-in_err-last-clause-cost : goal.returns-in_err-last-clause-cost
 returns-in_err-last-clause-cost g c =
     let low : All (λ q. q < length c.args.nfa.now.automaton.states) (g.S.NameSet.names c.loop-k.set) =

@@ -96,7 +96,7 @@ returns-clause-cost g c =
     c.in-None.ensures.steps.0 c.is_sound.ensures.named in
     omega (arith, cost, all)
 
--- where memory is refused
+-- if an allocation fails
 pub returns-in_err-last-clause-cost : goal.returns-in_err-last-clause-cost
 returns-in_err-last-clause-cost g c =
     let all : length c.args.state.now.ids ≤ length c.args.nfa.now.automaton.states =

@@ -7,7 +7,8 @@ use Rattle.earliest_ends.proofs.searching.find_earliest_end.Goals as goal
 pub returns-in-Ok-Some-clause-found : goal.returns-in-Ok-Some-clause-found
 returns-in-Ok-Some-clause-found c = λ xs s built first plain words set.
     end_of_some xs s words c.args.block.now c.args.at c.in-Ok-Some.field-0
-    (c.calls_tell_the_least_end.ensures.found xs s c.args.re.now built first plain c.args.block.now c.see_bytes.ensures words set c.args.at
+    (c.calls_report_the_least_end.ensures.found xs s c.args.re.now built first plain c.args.block.now c.see_bytes.ensures words set
+    c.args.at
     c.search_once.new.cache.forward c.in-Ok-Some.field-0
     (subst (λ (q : Search). Answers c.args.re.now.forward c.search_once.new.cache.forward q (Ok c.in-Ok-Some.field-0)) c.search_from.ensures
     c.in-Ok-Some.ensures.answer))
@@ -16,7 +17,8 @@ returns-in-Ok-Some-clause-found c = λ xs s built first plain words set.
 pub returns-in-Ok-None-clause-found : goal.returns-in-Ok-None-clause-found
 returns-in-Ok-None-clause-found c = λ xs s built first plain words set.
     end_of_none xs s words c.args.block.now c.args.at c.in-Ok-None.field-0
-    (c.calls_tell_the_least_end.ensures.found xs s c.args.re.now built first plain c.args.block.now c.see_bytes.ensures words set c.args.at
+    (c.calls_report_the_least_end.ensures.found xs s c.args.re.now built first plain c.args.block.now c.see_bytes.ensures words set
+    c.args.at
     c.search_once.new.cache.forward c.in-Ok-None.field-0
     (subst (λ (q : Search). Answers c.args.re.now.forward c.search_once.new.cache.forward q (Ok c.in-Ok-None.field-0)) c.search_from.ensures
     c.in-Ok-None.ensures.answer))
@@ -24,7 +26,8 @@ returns-in-Ok-None-clause-found c = λ xs s built first plain words set.
 
 pub returns-in-Err-clause-refused : goal.returns-in-Err-clause-refused
 returns-in-Err-clause-refused c = λ xs s built first plain words set.
-    c.calls_tell_the_least_end.ensures.refused xs s c.args.re.now built first plain c.args.block.now c.see_bytes.ensures words set c.args.at
+    c.calls_report_the_least_end.ensures.refused xs s c.args.re.now built first plain c.args.block.now c.see_bytes.ensures words set
+    c.args.at
     c.search_once.new.cache.forward c.in-Err.e
     (subst (λ (q : Search). Answers c.args.re.now.forward c.search_once.new.cache.forward q (Err c.in-Err.e)) c.search_from.ensures
     c.in-Err.ensures.answer)

@@ -2,7 +2,7 @@ use Rattle.std.proofs.Common.{◌≡◌, ◌∙◌, ap, arith, length, map, opti
 use Rattle.std.specs.List.{filter}
 use Rattle.regex_meta.specs.Programs.{pattern_of}
 use Rattle.regex_meta.specs.declared.program.Program.{Program}
-use Rattle.grep_core.specs.Fallbacks.{found_at, next_behind}
+use Rattle.grep_core.specs.Fallbacks.{found_at, next_after}
 use Rattle.grep_core.specs.Printing.{span_pair}
 use Rattle.grep_core.specs.Report.{is_some_text}
 use Rattle.grep_core.proofs.FallbackLemmas.{all_of, told_all}
@@ -19,7 +19,7 @@ loop-step-preserved c = (
       c.loop-step-test.true
       (ap (option_map span_pair) c.in-Some.is)
       (subst (λ (p : Program). option_map span_pair c.find_next-next.result
-      ≡ next_behind (found_at (pattern_of p) c.args.line.now) c.in-Some.span.end)
+      ≡ next_after (found_at (pattern_of p) c.args.line.now) c.in-Some.span.end)
       c.loop-step.invariant.0 c.find_next-next.ensures.found)
       c.in_ok-push_some.ensures c.loop-step.invariant.1,
 )

@@ -1,7 +1,7 @@
 use Rattle.std.proofs.Common.{◌≡◌, ◌++◌, ◌-◌, map, option_map}
 use Rattle.std.specs.List.{filter}
 use Rattle.regex_meta.specs.Programs.{pattern_of}
-use Rattle.grep_core.specs.Fallbacks.{found_at, spans_behind}
+use Rattle.grep_core.specs.Fallbacks.{found_at, spans_following}
 use Rattle.grep_core.specs.Printing.{span_pair}
 use Rattle.grep_core.specs.Report.{is_some_text}
 use Rattle.grep_core.proofs.FallbackLemmas.{all_of}
@@ -12,4 +12,4 @@ invariant-loop-step l =
     (l.searcher.program.now ≡ l.program)
     × (filter is_some_text (all_of l.program l.line)
     ≡ map span_pair l.found.items ++ filter is_some_text
-    (spans_behind (found_at (pattern_of l.program) l.line) (l.most - l.step) (option_map span_pair l.next)))
+    (spans_following (found_at (pattern_of l.program) l.line) (l.most - l.step) (option_map span_pair l.next)))

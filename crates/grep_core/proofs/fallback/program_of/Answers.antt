@@ -1,4 +1,4 @@
-use Rattle.std.proofs.Common.{map, ap, sym, subst, ◌∙◌}
+use Rattle.std.proofs.Common.{ap, sym, subst, ◌∙◌}
 use Rattle.regex_meta.specs.declared.program.Program.{Program}
 use Rattle.regex_hir.proofs.MeaningLemmas.{meaning-Alternation}
 use Rattle.regex_hir.specs.Meaning.{meaning}

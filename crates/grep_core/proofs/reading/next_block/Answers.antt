@@ -28,26 +28,26 @@ returns-then-is_none-clause-reads g c by text is =
 
 pub returns-in-Ok-true-clause-reads : goal.returns-in-Ok-true-clause-reads
 returns-in-Ok-true-clause-reads g c by text is =
-    reads_more c.args.task (finds_by c.args.task by) c.args.progress.now c.tell_read.new.progress c.args.read.now
-    c.read_some.new.self c.tell_read.new.read text
+    reads_more c.args.task (finds_by c.args.task by) c.args.progress.now c.report_read.new.progress c.args.read.now
+    c.read_some.new.self c.report_read.new.read text
     c.in-Ok.ensures.bytes (g.R.Read.remaining c.args.reader.now) (g.R.Read.remaining c.read_some.new.reader)
     (g.W.Write.contents c.args.writer.now)
-    (g.W.Write.contents c.tell_read.new.writer) is c.in-Ok.ensures.taken c.in-Ok.ensures.appended
+    (g.W.Write.contents c.report_read.new.writer) is c.in-Ok.ensures.taken c.in-Ok.ensures.appended
     (λ more. c.in-Ok-true.ensures.writes by more)
 
 pub returns-in-Ok-false-clause-reads : goal.returns-in-Ok-false-clause-reads
 returns-in-Ok-false-clause-reads g c by text is =
-    reads_more c.args.task (finds_by c.args.task by) c.args.progress.now c.tell_read.new.progress c.args.read.now
-    c.read_some.new.self c.tell_read.new.read text
+    reads_more c.args.task (finds_by c.args.task by) c.args.progress.now c.report_read.new.progress c.args.read.now
+    c.read_some.new.self c.report_read.new.read text
     c.in-Ok.ensures.bytes (g.R.Read.remaining c.args.reader.now) (g.R.Read.remaining c.read_some.new.reader)
     (g.W.Write.contents c.args.writer.now)
-    (g.W.Write.contents c.tell_read.new.writer) is c.in-Ok.ensures.taken c.in-Ok.ensures.appended
+    (g.W.Write.contents c.report_read.new.writer) is c.in-Ok.ensures.taken c.in-Ok.ensures.appended
     (λ more. c.in-Ok-false.ensures.writes by more)
 
-pub returns-in-Err-tell_read-clause-fault : goal.returns-in-Err-tell_read-clause-fault
-returns-in-Err-tell_read-clause-fault g c by text is =
+pub returns-in-Err-report_read-clause-fault : goal.returns-in-Err-report_read-clause-fault
+returns-in-Err-report_read-clause-fault g c by text is =
     part_more c.args.task (finds_by c.args.task by) c.args.progress.now c.args.read.now c.read_some.new.self text
     c.in-Ok.ensures.bytes (g.R.Read.remaining c.args.reader.now) (g.R.Read.remaining c.read_some.new.reader)
     (g.W.Write.contents c.args.writer.now)
-    (g.W.Write.contents c.tell_read.new.writer) is c.in-Ok.ensures.taken c.in-Ok.ensures.appended
-    (λ more. c.in-Err-tell_read.ensures.fault by more)
+    (g.W.Write.contents c.report_read.new.writer) is c.in-Ok.ensures.taken c.in-Ok.ensures.appended
+    (λ more. c.in-Err-report_read.ensures.fault by more)

@@ -8,6 +8,7 @@ use Rattle.hirgrep_main.proofs.patterns.push_text.Goals as goal
 pub returns : goal.returns
 returns c =
     let cases = strip_suffix_char 10 c.args.text.now c.strip_suffix.result c.strip_suffix.ensures.cases (lit< tt) in
-    let lines = text_lines c.args.text.now c.strip_suffix.result c.args.text c.unwrap_or-lines.result c.unwrap_or-lines.ensures refl cases (first_of (cc, search rules)) in
+    let lines = text_lines c.args.text.now c.strip_suffix.result c.args.text c.unwrap_or-lines.result c.unwrap_or-lines.ensures refl cases
+    (first_of (cc, search rules)) in
     let asked = lines ∙ ap (λ b. patterns_of_file b c.args.text.now) (sym c.if-crlf.false) in
     on_ok_weaker c.push_lines.result (λ e. e ∙ ap (λ ls. map string_bytes c.args.patterns.now.items ++ ls) asked) c.push_lines.ensures

@@ -4,5 +4,5 @@ use Rattle.hirgrep_main.proofs.searching.search_reader.Goals as goal
 pub returns-clause-continues : goal.returns-clause-continues
 returns-clause-continues g c =
     let print = c.args.task.asked.now.what.print in
-    continues_as (continues_searched print c.args.outcome.now c.count.result c.wrote.result c.tell_reader-told.result)
+    continues_as (continues_searched print c.args.outcome.now c.count.result c.wrote.result c.report_reader-reported.result)
     c.keep_search.ensures

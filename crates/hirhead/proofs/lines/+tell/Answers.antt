@@ -9,14 +9,14 @@ use Rattle.hirhead.proofs.TellLemmas.{many_in_alternation}
 use Rattle.hirhead.proofs.TellLemmas.{part_in_concat, part_in_alternation, one_unfit}
 use Rattle.hirhead.proofs.lines.+tell.Goals as goal
 
-pub tell_parts-tell-requires : goal.tell_parts-tell-requires
-tell_parts-tell-requires t c = (
+pub report_parts-tell-requires : goal.report_parts-tell-requires
+report_parts-tell-requires t c = (
   omega (arith, weight_in_concat c.args.subs.now c.loop-sub.sub-index c.sub-item.result c.loop-sub-test.true, ap weight c.sub-item.is),
   tt,
 )
 
-pub tell-tell_parts-requires-in-Alternation : goal.tell-tell_parts-requires-in-Alternation
-tell-tell_parts-requires-in-Alternation t c =
+pub tell-report_parts-requires-in-Alternation : goal.tell-report_parts-requires-in-Alternation
+tell-report_parts-requires-in-Alternation t c =
     let is = ap alternation c.deref-in-Alternation-2.ensures.value ∙ sym (ap node c.in-Alternation.is) ∙ c.kind.ensures.is in
     (omega (arith, weight_of_either c.deref-in-Alternation-2.result.now, ap weight is), tt)
 
@@ -31,13 +31,14 @@ tell-returns-in_err-count-in-Concat-clause-refused t c =
     (many_in_concat c.deref-in-Concat.result.now c.args.x.now c.args.levels c.in_err-count-in-Concat.field-0.0 is
     c.in_err-count-in-Concat.ensures.refused.0 c.in_err-count-in-Concat.ensures.refused.1)
 
-pub tell-returns-in_err-tell_parts-in-Concat-clause-refused : goal.tell-returns-in_err-tell_parts-in-Concat-clause-refused
-tell-returns-in_err-tell_parts-in-Concat-clause-refused t c =
+pub tell-returns-in_err-report_parts-in-Concat-clause-refused : goal.tell-returns-in_err-report_parts-in-Concat-clause-refused
+tell-returns-in_err-report_parts-in-Concat-clause-refused t c =
     let is = ap concat c.deref-in-Concat-2.ensures.value ∙ sym (ap node c.in-Concat.is) ∙ c.kind.ensures.is in
-    let unfit = c.in_err-tell_parts-in-Concat.ensures.refused in
-    handed c.from_residual-in_err-tell_parts-in-Concat.result (IsUnfit c.args.levels c.args.x.now) c.in_err-tell_parts-in-Concat.field-0.0
-    c.from_residual-in_err-tell_parts-in-Concat.ensures.1
-    (part_in_concat c.deref-in-Concat-2.result.now c.args.x.now c.args.levels unfit.0 c.in_err-tell_parts-in-Concat.field-0.0 is
+    let unfit = c.in_err-report_parts-in-Concat.ensures.refused in
+    handed c.from_residual-in_err-report_parts-in-Concat.result (IsUnfit c.args.levels c.args.x.now)
+    c.in_err-report_parts-in-Concat.field-0.0
+    c.from_residual-in_err-report_parts-in-Concat.ensures.1
+    (part_in_concat c.deref-in-Concat-2.result.now c.args.x.now c.args.levels unfit.0 c.in_err-report_parts-in-Concat.field-0.0 is
     c.if-levels-eq0.false (omega (arith, c.ranges.levels)) unfit.1)
 
 pub tell-returns-in_err-count-in-Alternation-clause-refused : goal.tell-returns-in_err-count-in-Alternation-clause-refused
@@ -48,59 +49,59 @@ tell-returns-in_err-count-in-Alternation-clause-refused t c =
     (many_in_alternation c.deref-in-Alternation.result.now c.args.x.now c.args.levels c.in_err-count-in-Alternation.field-0.0 is
     c.in_err-count-in-Alternation.ensures.refused.0 c.in_err-count-in-Alternation.ensures.refused.1)
 
-pub tell-returns-in_err-tell_parts-in-Alternation-clause-refused : goal.tell-returns-in_err-tell_parts-in-Alternation-clause-refused
-tell-returns-in_err-tell_parts-in-Alternation-clause-refused t c =
+pub tell-returns-in_err-report_parts-in-Alternation-clause-refused : goal.tell-returns-in_err-report_parts-in-Alternation-clause-refused
+tell-returns-in_err-report_parts-in-Alternation-clause-refused t c =
     let is = ap alternation c.deref-in-Alternation-2.ensures.value ∙ sym (ap node c.in-Alternation.is) ∙ c.kind.ensures.is in
-    let unfit = c.in_err-tell_parts-in-Alternation.ensures.refused in
-    handed c.from_residual-in_err-tell_parts-in-Alternation.result
-    (IsUnfit c.args.levels c.args.x.now) c.in_err-tell_parts-in-Alternation.field-0.0
-    c.from_residual-in_err-tell_parts-in-Alternation.ensures.1
+    let unfit = c.in_err-report_parts-in-Alternation.ensures.refused in
+    handed c.from_residual-in_err-report_parts-in-Alternation.result
+    (IsUnfit c.args.levels c.args.x.now) c.in_err-report_parts-in-Alternation.field-0.0
+    c.from_residual-in_err-report_parts-in-Alternation.ensures.1
     (part_in_alternation c.deref-in-Alternation-2.result.now c.args.x.now c.args.levels unfit.0
-    c.in_err-tell_parts-in-Alternation.field-0.0 is
+    c.in_err-report_parts-in-Alternation.field-0.0 is
     c.if-levels-eq0.false (omega (arith, c.ranges.levels)) unfit.1)
 
-pub tell-returns-in_ok-tell_number-in-Concat-clause-lines : goal.tell-returns-in_ok-tell_number-in-Concat-clause-lines
-tell-returns-in_ok-tell_number-in-Concat-clause-lines t c =
+pub tell-returns-in_ok-report_number-in-Concat-clause-lines : goal.tell-returns-in_ok-report_number-in-Concat-clause-lines
+tell-returns-in_ok-report_number-in-Concat-clause-lines t c =
     let is = ap concat c.deref-in-Concat-2.ensures.value ∙ sym (ap node c.in-Concat.is) ∙ c.kind.ensures.is in
     let count = c.in_ok-count-in-Concat.count in
     let counted = c.in_ok-count-in-Concat.ensures.count ∙ ap length c.deref-in-Concat.ensures.value
     ∙ sym (ap length c.deref-in-Concat-2.ensures.value) in
-    concat_text c.deref-in-Concat-2.result.now c.args.x.now count (string_bytes c.args.text.now) (string_bytes c.tell_parts.new.text)
-    (string_bytes c.tell_number.new.text) is counted c.in_ok-tell_parts-in-Concat.ensures.lines c.in_ok-tell_number-in-Concat.ensures
+    concat_text c.deref-in-Concat-2.result.now c.args.x.now count (string_bytes c.args.text.now) (string_bytes c.report_parts.new.text)
+    (string_bytes c.report_number.new.text) is counted c.in_ok-report_parts-in-Concat.ensures.lines c.in_ok-report_number-in-Concat.ensures
 
-pub tell-returns-in_ok-tell_number-in-Concat-clause-fits : goal.tell-returns-in_ok-tell_number-in-Concat-clause-fits
-tell-returns-in_ok-tell_number-in-Concat-clause-fits t c =
+pub tell-returns-in_ok-report_number-in-Concat-clause-fits : goal.tell-returns-in_ok-report_number-in-Concat-clause-fits
+tell-returns-in_ok-report_number-in-Concat-clause-fits t c =
     let is = ap concat c.deref-in-Concat-2.ensures.value ∙ sym (ap node c.in-Concat.is) ∙ c.kind.ensures.is in
     let count = c.in_ok-count-in-Concat.count in
     let counted = c.in_ok-count-in-Concat.ensures.count ∙ ap length c.deref-in-Concat.ensures.value
     ∙ sym (ap length c.deref-in-Concat-2.ensures.value) in
     concat_fits c.deref-in-Concat-2.result.now c.args.x.now c.args.levels count is c.if-levels-eq0.false counted
     c.in_ok-count-in-Concat.ensures.few
-    c.in_ok-tell_parts-in-Concat.ensures.fits
+    c.in_ok-report_parts-in-Concat.ensures.fits
 
-pub tell-returns-in_ok-tell_number-in-Alternation-clause-lines : goal.tell-returns-in_ok-tell_number-in-Alternation-clause-lines
-tell-returns-in_ok-tell_number-in-Alternation-clause-lines t c =
+pub tell-returns-in_ok-report_number-in-Alternation-clause-lines : goal.tell-returns-in_ok-report_number-in-Alternation-clause-lines
+tell-returns-in_ok-report_number-in-Alternation-clause-lines t c =
     let is = ap alternation c.deref-in-Alternation-2.ensures.value ∙ sym (ap node c.in-Alternation.is) ∙ c.kind.ensures.is in
     let count = c.in_ok-count-in-Alternation.count in
     let counted = c.in_ok-count-in-Alternation.ensures.count ∙ ap length c.deref-in-Alternation.ensures.value
     ∙ sym (ap length c.deref-in-Alternation-2.ensures.value) in
     alternation_text c.deref-in-Alternation-2.result.now c.args.x.now count (string_bytes c.args.text.now)
-    (string_bytes c.tell_parts-in-Alternation.new.text)
-    (string_bytes c.tell_number-in-Alternation.new.text) is counted c.in_ok-tell_parts-in-Alternation.ensures.lines
-    c.in_ok-tell_number-in-Alternation.ensures
+    (string_bytes c.report_parts-in-Alternation.new.text)
+    (string_bytes c.report_number-in-Alternation.new.text) is counted c.in_ok-report_parts-in-Alternation.ensures.lines
+    c.in_ok-report_number-in-Alternation.ensures
 
-pub tell-returns-in_ok-tell_number-in-Alternation-clause-fits : goal.tell-returns-in_ok-tell_number-in-Alternation-clause-fits
-tell-returns-in_ok-tell_number-in-Alternation-clause-fits t c =
+pub tell-returns-in_ok-report_number-in-Alternation-clause-fits : goal.tell-returns-in_ok-report_number-in-Alternation-clause-fits
+tell-returns-in_ok-report_number-in-Alternation-clause-fits t c =
     let is = ap alternation c.deref-in-Alternation-2.ensures.value ∙ sym (ap node c.in-Alternation.is) ∙ c.kind.ensures.is in
     let count = c.in_ok-count-in-Alternation.count in
     let counted = c.in_ok-count-in-Alternation.ensures.count ∙ ap length c.deref-in-Alternation.ensures.value
     ∙ sym (ap length c.deref-in-Alternation-2.ensures.value) in
     alternation_fits c.deref-in-Alternation-2.result.now c.args.x.now c.args.levels count is c.if-levels-eq0.false counted
     c.in_ok-count-in-Alternation.ensures.few
-    c.in_ok-tell_parts-in-Alternation.ensures.fits
+    c.in_ok-report_parts-in-Alternation.ensures.fits
 
-pub tell_parts-returns-in_err-tell-clause-refused : goal.tell_parts-returns-in_err-tell-clause-refused
-tell_parts-returns-in_err-tell-clause-refused t c =
+pub report_parts-returns-in_err-tell-clause-refused : goal.report_parts-returns-in_err-tell-clause-refused
+report_parts-returns-in_err-tell-clause-refused t c =
     handed c.from_residual.result (λ e. (n : ℕ) × AreUnfit c.args.levels c.args.subs.now n e)
     c.in_err-tell.field-0.0 c.from_residual.ensures.1 (
       c.loop-sub.sub-index,

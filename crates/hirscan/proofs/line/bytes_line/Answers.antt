@@ -1,6 +1,6 @@
 use Rattle.std.proofs.Common.{map}
 use Rattle.hirscan.specs.Readers.{the_ends}
-use Rattle.hirscan.specs.Tells.{words_left}
+use Rattle.hirscan.specs.QueryReports.{words_left}
 use Rattle.hirscan.proofs.RangeLemmas.{class_ranges_ascend}
 use Rattle.hirscan.proofs.line.bytes_line.Goals as goal
 

@@ -4,5 +4,5 @@ use Rattle.hirscan.proofs.reach_laws.settings_of_caches_do_not_show.Goals as goa
 pub returns-clause-answer : goal.returns-clause-answer
 returns-clause-answer c = answers_alike
 
-pub returns-clause-told : goal.returns-clause-told
-returns-clause-told c = tells_alike
+pub returns-clause-reported : goal.returns-clause-reported
+returns-clause-reported c = tells_alike

@@ -1,6 +1,6 @@
 use Rattle.std.proofs.Common.{◌≡◌, true, rules}
-use Rattle.hirscan.specs.Refusals.{span_of, is_span}
-use Rattle.hirscan.specs.Tells.{value_of_head}
+use Rattle.hirscan.specs.Rejections.{span_of, is_span}
+use Rattle.hirscan.specs.QueryReports.{value_of_query}
 use Rattle.hirscan.proofs.CauseLemmas.{span_fits}
 use Rattle.hirscan.proofs.ListEndLemmas.{ends_list, reply_of_all, reply_of_quit}
 use Rattle.hirscan.proofs.ListingLemmas.{begins_list, lists_more}
@@ -9,7 +9,7 @@ use Rattle.hirscan.proofs.reply.list_matches.Goals as goal
 pub input_of-requires : goal.input_of-requires
 input_of-requires c =
     let fits : is_span (span_of c.args.head.now.span c.args.h.now) c.args.h.now ≡ true =
-    span_fits (value_of_head c.args.head.now).setup c.args.head.now.patterns.items c.args.h.now c.requires.searched in
+    span_fits (value_of_query c.args.head.now).setup c.args.head.now.patterns.items c.args.h.now c.requires.searched in
     search rules
 
 pub loop-item-init : goal.loop-item-init
@@ -25,7 +25,7 @@ loop-item-preserved c =
 pub failed_reply-requires : goal.failed_reply-requires
 failed_reply-requires c =
     record {
-      told = ends_list (value_of_head c.args.head.now).setup c.args.head.now.patterns.items c.args.h.now c.see_bytes.ensures
+      reported = ends_list (value_of_query c.args.head.now).setup c.args.head.now.patterns.items c.args.h.now c.see_bytes.ensures
           c.requires.searched
           c.args.regex.now c.requires.built _ _ _ c.next.new.self c.in-Err.e c.loop-item.invariant
           (rw c.in-Err.is at c.in-Some.ensures.steps);
@@ -33,11 +33,11 @@ failed_reply-requires c =
 
 pub returns-in-Err : goal.returns-in-Err
 returns-in-Err c =
-    reply_of_quit (value_of_head c.args.head.now).setup c.args.head.now.patterns.items c.args.h.now c.see_bytes.ensures c.requires.searched
+    reply_of_quit (value_of_query c.args.head.now).setup c.args.head.now.patterns.items c.args.h.now c.see_bytes.ensures c.requires.searched
     c.args.regex.now c.requires.built _ _ _ c.next.new.self c.in-Err.e c.loop-item.invariant (rw c.in-Err.is at c.in-Some.ensures.steps)
     c.failed_reply.result c.failed_reply.ensures
 
 pub returns : goal.returns
 returns c =
-    reply_of_all (value_of_head c.args.head.now).setup c.args.head.now.patterns.items c.args.h.now c.see_bytes.ensures c.requires.searched
+    reply_of_all (value_of_query c.args.head.now).setup c.args.head.now.patterns.items c.args.h.now c.see_bytes.ensures c.requires.searched
     c.args.regex.now c.requires.built _ _ _ c.next.new.self c.loop-item.invariant c.in-None.ensures.steps

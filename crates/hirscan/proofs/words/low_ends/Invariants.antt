@@ -3,7 +3,7 @@ use Rattle.hir_core.specs.Means.{is_member}
 use Rattle.hirscan.specs.Words.{is_covered}
 use Rattle.hirscan.specs.Readers.{the_ends}
 use Rattle.hirscan.specs.LineFault.{first_fault_of, item_fault}
-use Rattle.hirscan.specs.Tells.{words_left}
+use Rattle.hirscan.specs.QueryReports.{words_left}
 use Rattle.hirscan.proofs.words.low_ends.Given as goal
 
 -- the items so far have no fault, so that the first fault of all is that of the rest

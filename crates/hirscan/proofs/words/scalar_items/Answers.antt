@@ -1,6 +1,6 @@
 use Rattle.std.proofs.Common.{◌≡◌, None, map, ◌∙◌, ap}
 use Rattle.hirscan.specs.LineFault.{scalar_item_fault, first_fault_of}
-use Rattle.hirscan.specs.Tells.{words_left}
+use Rattle.hirscan.specs.QueryReports.{words_left}
 use Rattle.hirscan.proofs.AnyOrderLemmas.{same_ranges}
 use Rattle.hirscan.proofs.words.scalar_items.Goals as goal
 

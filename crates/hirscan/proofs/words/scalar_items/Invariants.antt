@@ -3,7 +3,7 @@ use Rattle.std.specs.List.{list_all}
 use Rattle.hir_core.specs.Means.{is_member}
 use Rattle.hirscan.specs.Readers.{the_hex_ends}
 use Rattle.hirscan.specs.LineFault.{scalar_item_fault, first_fault_of}
-use Rattle.hirscan.specs.Tells.{words_left}
+use Rattle.hirscan.specs.QueryReports.{words_left}
 use Rattle.hirscan.proofs.words.scalar_items.Given as goal
 
 -- the items so far have no fault, so that the first fault of all is that of the rest

@@ -1,4 +1,4 @@
-use Rattle.lazy_dfa.specs.WalkAnswers.{IsMadeOnCall}
+use Rattle.lazy_dfa.specs.OverlappingAnswers.{IsMadeOnCall}
 use Rattle.lazy_dfa.proofs.CacheChanges.ChangeLawLemmas.{clears_few, kept_if_room, kept_if_spent, kept_if_same, first_of_clears}
 use Rattle.lazy_dfa.proofs.CacheChanges.ChangeLawLemmas.{last_of_clears}
 use Rattle.lazy_dfa.proofs.change_laws.calls_clear_for_states_alone.Goals as goal

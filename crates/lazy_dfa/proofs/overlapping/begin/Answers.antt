@@ -2,10 +2,10 @@ use Rattle.std.proofs.Common.{ℕ, sym, ◌∙◌, subst}
 use Rattle.std.specs.Prelude.{Ok}
 use Rattle.lazy_dfa.specs.Caches.{HeldAt}
 use Rattle.lazy_dfa.specs.Dfas.{reader}
-use Rattle.lazy_dfa.specs.PassPlaces.{IsWithinSpan}
-use Rattle.lazy_dfa.specs.declared.overlapping_state.Walk.TheVariants.{Fresh}
-use Rattle.lazy_dfa.specs.Walks.{WalkState}
-use Rattle.lazy_dfa.specs.WalkAnswers.{MakesCall, ReadsOn, value_before}
+use Rattle.lazy_dfa.specs.ScanOffsets.{IsWithinSpan}
+use Rattle.lazy_dfa.specs.declared.overlapping_state.OverlappingPosition.TheVariants.{Fresh}
+use Rattle.lazy_dfa.specs.Overlapping.{OverlappingValue}
+use Rattle.lazy_dfa.specs.OverlappingAnswers.{MakesCall, ReadsOn, value_before}
 use Rattle.lazy_dfa.proofs.CacheChanges.LinkedLemmas.{is_cache_moved}
 use Rattle.lazy_dfa.proofs.Courses.SearchEndLemmas.{not_done}
 use Rattle.lazy_dfa.proofs.OverlappingWalks.WalkLeftLemmas.{first_within}
@@ -15,7 +15,8 @@ use Rattle.lazy_dfa.proofs.overlapping.begin.Goals as goal
 
 pub returns-then-is_done-clause-call : goal.returns-then-is_done-clause-call
 returns-then-is_done-clause-call g c =
-    subst (λ (after : WalkState). MakesCall c.args.dfa.now c.args.input.now c.args.cache.now c.args.cache.now c.args.work.now.determinized
+    subst (λ (after : OverlappingValue). MakesCall c.args.dfa.now c.args.input.now c.args.cache.now c.args.cache.now
+    c.args.work.now.determinized
     c.args.work.now.determinized c.args.work.now.inserted c.args.work.now.inserted Fresh after (Ok tt)) (sym c.ended.ensures)
     (done_call c.args.dfa.now c.args.input.now c.args.cache.now c.args.work.now.determinized c.args.work.now.inserted
     (is_done c.is_done.result c.args.input.now.start c.args.input.now.end c.is_done.ensures c.if-is_done.true))
@@ -37,7 +38,7 @@ pub returns-then-is_dead-clause-call : goal.returns-then-is_dead-clause-call
 returns-then-is_dead-clause-call g c =
     let moved = dead_moved c.start_of_pass.new.cache c.search_start.new.self c.search_finish.new.self c.progress_at-index.result
     c.search_start.ensures c.search_finish.ensures in
-    subst (λ (after : WalkState). MakesCall c.args.dfa.now c.args.input.now c.args.cache.now c.search_finish.new.self
+    subst (λ (after : OverlappingValue). MakesCall c.args.dfa.now c.args.input.now c.args.cache.now c.search_finish.new.self
     c.args.work.now.determinized
     c.start_of_pass.new.work.determinized c.args.work.now.inserted c.start_of_pass.new.work.inserted Fresh after (Ok tt))
     (sym c.ended-then-is_dead.ensures)
@@ -57,14 +58,14 @@ read_on-requires-clause-row g c =
     (h.0, h.1, h.2)
 
 pub read_on-requires-clause-within : goal.read_on-requires-clause-within
-read_on-requires-clause-within g c = subst (IsWithinSpan c.args.input.now) (sym c.first_place-at.ensures)
+read_on-requires-clause-within g c = subst (IsWithinSpan c.args.input.now) (sym c.first_offset-at.ensures)
     (first_within c.args.is_reverse c.args.input.now
     (not_done c.is_done.result c.args.input.now.start c.args.input.now.end c.is_done.ensures c.if-is_done.false))
 
 pub read_on-requires-clause-state : goal.read_on-requires-clause-state
 read_on-requires-clause-state g c =
     subst (λ (at : ℕ). HeldAt c.start_of_pass.new.cache c.in-Ok.id (value_before (reader c.args.dfa.now) c.args.input.now at))
-    (sym c.first_place-at.ensures)
+    (sym c.first_offset-at.ensures)
     (begins_held c.args.dfa.now c.args.input.now c.args.cache.now c.start_of_pass.new.cache c.args.work.now.determinized
     c.start_of_pass.new.work.determinized c.args.work.now.inserted c.start_of_pass.new.work.inserted c.in-Ok.id
     (is_begun c.is_done.result c.args.input.now.start c.args.input.now.end c.is_done.ensures c.if-is_done.false) c.is_made.ensures
@@ -81,7 +82,8 @@ returns-clause-call g c = (begins_walk c.args.dfa.now c.args.input.now c.args.ca
     c.read_on.new.work.inserted c.read_on.result
     (subst (λ (at : ℕ). ReadsOn c.args.dfa.now c.args.input.now at c.start_of_pass.new.cache c.read_on.new.cache
     c.start_of_pass.new.work.determinized
-    c.read_on.new.work.determinized c.start_of_pass.new.work.inserted c.read_on.new.work.inserted c.read_on.result) c.first_place-at.ensures
+    c.read_on.new.work.determinized c.start_of_pass.new.work.inserted c.read_on.new.work.inserted c.read_on.result)
+    c.first_offset-at.ensures
     c.read_on.ensures.reads)).0
 
 pub returns-clause-err : goal.returns-clause-err
@@ -94,5 +96,6 @@ returns-clause-err g c = (begins_walk c.args.dfa.now c.args.input.now c.args.cac
     c.read_on.new.work.inserted c.read_on.result
     (subst (λ (at : ℕ). ReadsOn c.args.dfa.now c.args.input.now at c.start_of_pass.new.cache c.read_on.new.cache
     c.start_of_pass.new.work.determinized
-    c.read_on.new.work.determinized c.start_of_pass.new.work.inserted c.read_on.new.work.inserted c.read_on.result) c.first_place-at.ensures
+    c.read_on.new.work.determinized c.start_of_pass.new.work.inserted c.read_on.new.work.inserted c.read_on.result)
+    c.first_offset-at.ensures
     c.read_on.ensures.reads)).1

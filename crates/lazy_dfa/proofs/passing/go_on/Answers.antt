@@ -1,8 +1,8 @@
 use Rattle.std.proofs.Common.{refl, ap, None, subst, ℕ, ◌-◌}
 use Rattle.lazy_dfa.specs.Points.{point, Point, began}
-use Rattle.lazy_dfa.specs.Scans.{first_place}
+use Rattle.lazy_dfa.specs.HalfSearches.{first_offset}
 use Rattle.lazy_dfa.specs.SearchAnswers.{pair_of}
-use Rattle.lazy_dfa.specs.PassPlaces.{first_index, left_at, GoesBetween, TurnsInto}
+use Rattle.lazy_dfa.specs.ScanOffsets.{first_index, left_at, GoesBetween, TurnsInto}
 use Rattle.lazy_dfa.proofs.CacheChanges.LinkedLemmas.{AreBytes}
 use Rattle.lazy_dfa.proofs.Courses.PassLoopLemmas.{began_runs, under_first, under_on, stand_first, stand_on, goes_further, within_next}
 use Rattle.lazy_dfa.proofs.Courses.PassLoopLemmas.{told_nothing, ends_found, ends_error}
@@ -23,7 +23,7 @@ loop-turned-init g c = rw c.run_known-position.ensures.same (record {
       (point c.args.cache.now c.args.work.now.determinized c.args.work.now.inserted c.run_known-position.result.at
       c.run_known-position.result.id (pair_of c.run_known-position.result.best))
       (left_at c.args.is_reverse c.args.input.now x - left_at c.args.is_reverse c.args.input.now c.run_known-position.result.at))
-      c.first_place.ensures
+      c.first_offset.ensures
       (c.run_known-position.ensures.goes c.args.work.now.determinized c.args.work.now.inserted)) c.run_known-position.ensures.within;
   under = under_first c.args.is_reverse c.args.input.now c.args.cache.now c.run_known-position.result.at c.requires.running;
 })
@@ -33,7 +33,7 @@ returns-in-Err-clause-runs g c s held =
     ends_error c.args.dfa.now c.args.input.now c.args.is_reverse c.requires.is_reverse c.is_made.ensures
     (subst AreBytes c.haystack.ensures.value c.see_bytes.ensures)
     (point c.args.cache.now c.args.work.now.determinized c.args.work.now.inserted
-    (first_place c.args.is_reverse c.args.input.now.start c.args.input.now.end) c.args.id None)
+    (first_offset c.args.is_reverse c.args.input.now.start c.args.input.now.end) c.args.id None)
     (point c.loop-turned.cache c.loop-turned.work.determinized c.loop-turned.work.inserted c.loop-turned.position.at
     c.loop-turned.position.id (pair_of c.loop-turned.position.best))
     c.requires.own c.loop-turned.invariant.own c.requires.row c.loop-turned.invariant.row c.loop-turned.invariant.within
@@ -46,7 +46,7 @@ returns-then-turned-clause-runs g c s held =
     ends_found c.args.dfa.now c.args.input.now c.args.is_reverse c.requires.is_reverse c.is_made.ensures
     (subst AreBytes c.haystack.ensures.value c.see_bytes.ensures)
     (point c.args.cache.now c.args.work.now.determinized c.args.work.now.inserted
-    (first_place c.args.is_reverse c.args.input.now.start c.args.input.now.end) c.args.id None)
+    (first_offset c.args.is_reverse c.args.input.now.start c.args.input.now.end) c.args.id None)
     (point c.loop-turned.cache c.loop-turned.work.determinized c.loop-turned.work.inserted c.loop-turned.position.at
     c.loop-turned.position.id (pair_of c.loop-turned.position.best))
     c.requires.own c.loop-turned.invariant.own c.requires.row c.loop-turned.invariant.row c.loop-turned.invariant.within
@@ -66,7 +66,7 @@ loop-turned-preserved g c =
     let on = subst (TurnsInto c.args.dfa.now c.args.input.now here c.turn_at.new.cache c.turn_at.new.work.determinized
     c.turn_at.new.work.inserted c.in-Ok.turned.position) c.if-turned.false c.in-Ok.ensures.turn in
     let first : Point = point c.args.cache.now c.args.work.now.determinized c.args.work.now.inserted
-    (first_place c.args.is_reverse c.args.input.now.start c.args.input.now.end) c.args.id None in
+    (first_offset c.args.is_reverse c.args.input.now.start c.args.input.now.end) c.args.id None in
     let further = goes_further c.args.dfa.now c.args.input.now c.args.is_reverse c.requires.is_reverse c.is_made.ensures
     (subst AreBytes c.haystack.ensures.value c.see_bytes.ensures) first here c.requires.own c.loop-turned.invariant.own c.requires.row
     c.loop-turned.invariant.row
@@ -93,7 +93,7 @@ loop-turned-preserved g c =
           c.loop-turned.invariant.row
           c.loop-turned.invariant.within c.loop-turned.invariant.goes c.turn_at.new.cache c.turn_at.new.work.determinized
           c.turn_at.new.work.inserted c.in-Ok.turned.position c.in-Ok.ensures.own on
-          (first_place c.args.is_reverse c.args.input.now.start c.args.input.now.end) refl refl
+          (first_offset c.args.is_reverse c.args.input.now.start c.args.input.now.end) refl refl
           c.run_further-position.result.at c.run_further-position.ensures.within
           c.run_further-position.ensures.closer c.loop-turned.invariant.under;
     })

@@ -15,7 +15,7 @@ returns-in-Err-clause-turn g c = turn_refused c.args.dfa.now c.args.input.now c.
     c.search_update.new.self c.make_turn.new.cache c.args.work.now.determinized c.args.work.now.inserted
     c.make_turn.new.work.determinized c.make_turn.new.work.inserted c.args.position.at c.args.position.id (pair_of c.args.position.best)
     (Some (get_or c.haystack-haystack.result.now c.index_at-index.result 0))
-    c.get_earliest-earliest.result c.index_at-index.result c.in-Err.e c.refusal.result
+    c.get_earliest-earliest.result c.index_at-index.result c.in-Err.e c.rejection.result
     (moved_is c.args.cache.now c.search_update.new.self c.index_at-index.result c.search_update.ensures)
     (byte_unit c.args.is_reverse c.args.dfa.now.nfa.automaton.reverse c.args.input.now c.haystack-haystack.result.now c.args.position.at
     c.index_at-index.result c.requires.is_reverse c.haystack-haystack.ensures.value c.index_at-index.ensures c.requires.within
@@ -29,7 +29,7 @@ returns-in-Err-clause-turn g c = turn_refused c.args.dfa.now c.args.input.now c.
     (λ cleared step. byte_turned c.args.input.now c.args.is_reverse c.args.dfa.now.nfa.automaton.reverse c.requires.is_reverse
     c.args.cache.now c.search_update.new.self c.make_turn.new.cache c.args.position.at false false cleared step c.index_at-index.result
     c.index_at-index.ensures c.requires.left c.search_update.ensures refl)
-    c.refusal.ensures (c.in-Err.ensures.turn c.args.input.now.haystack
+    c.rejection.ensures (c.in-Err.ensures.turn c.args.input.now.haystack
     (byte_unit c.args.is_reverse c.args.dfa.now.nfa.automaton.reverse c.args.input.now c.haystack-haystack.result.now c.args.position.at
     c.index_at-index.result c.requires.is_reverse c.haystack-haystack.ensures.value c.index_at-index.ensures c.requires.within
     c.requires.left c.haystack-haystack.ensures.within.0))
@@ -65,7 +65,7 @@ returns-in-GoesOn-clause-turn g c = byte_goes c.args.dfa.now c.args.input.now c.
     (c.in-Ok.ensures.turn c.args.input.now.haystack (byte_unit c.args.is_reverse c.args.dfa.now.nfa.automaton.reverse c.args.input.now
     c.haystack-haystack.result.now c.args.position.at c.index_at-index.result c.requires.is_reverse c.haystack-haystack.ensures.value
     c.index_at-index.ensures c.requires.within c.requires.left c.haystack-haystack.ensures.within.0))
-    c.index_at-index.result c.next_place.result c.search_update.ensures c.next_place.ensures c.requires.left
+    c.index_at-index.result c.next_offset.result c.search_update.ensures c.next_offset.ensures c.requires.left
     (λ cleared step. byte_turned c.args.input.now c.args.is_reverse c.args.dfa.now.nfa.automaton.reverse c.requires.is_reverse
     c.args.cache.now c.search_update.new.self c.make_turn.new.cache c.args.position.at false false cleared step c.index_at-index.result
     c.index_at-index.ensures c.requires.left c.search_update.ensures refl)

@@ -48,23 +48,23 @@ loop-sid-preserved c =
     c.walk_forward-walked.ensures.row in
     let over : (m n : ℕ) (best : Option (ℕ × ℕ)) → GoesTo c.args.dfa.now c.args.haystack.now
     (point c.args.cache.now m n c.walk_forward-walked.result.at c.walk_forward-walked.result.id best)
-    (point c.args.cache.now m n c.pass_over-at.result c.walk_forward-walked.result.id best)
-    (c.pass_over-at.result - c.walk_forward-walked.result.at) =
+    (point c.args.cache.now m n c.skip_over-at.result c.walk_forward-walked.result.id best)
+    (c.skip_over-at.result - c.walk_forward-walked.result.at) =
     subst (λ (v : CacheValue). (m n : ℕ) (best : Option (ℕ × ℕ)) → GoesTo c.args.dfa.now c.args.haystack.now
     (point v m n c.walk_forward-walked.result.at c.walk_forward-walked.result.id best)
-    (point v m n c.pass_over-at.result c.walk_forward-walked.result.id best) (c.pass_over-at.result - c.walk_forward-walked.result.at))
-    c.loop-sid.invariant.same c.pass_over-at.ensures.goes in
+    (point v m n c.skip_over-at.result c.walk_forward-walked.result.id best) (c.skip_over-at.result - c.walk_forward-walked.result.at))
+    c.loop-sid.invariant.same c.skip_over-at.ensures.goes in
     record {
-      same = c.pass_over-at.ensures.same ∙ c.loop-sid.invariant.same;
+      same = c.skip_over-at.ensures.same ∙ c.loop-sid.invariant.same;
       row = row;
       untagged = c.walk_forward-walked.ensures.untagged;
-      past = omega (arith, c.loop-sid.invariant.past, c.walk_forward-walked.ensures.past, c.pass_over-at.ensures.past);
-      within = c.pass_over-at.ensures.within;
+      past = omega (arith, c.loop-sid.invariant.past, c.walk_forward-walked.ensures.past, c.skip_over-at.ensures.past);
+      within = c.skip_over-at.ensures.within;
       goes = way_behind c.args.dfa.now c.args.cache.now c.args.haystack.now c.is_made.ensures c.requires.own (λ i. omega (
         arith,
         c.type_inv.haystack i,
       )) c.requires.is_forward
-          c.args.from c.args.id c.walk_forward-walked.result.at c.walk_forward-walked.result.id c.pass_over-at.result
+          c.args.from c.args.id c.walk_forward-walked.result.at c.walk_forward-walked.result.id c.skip_over-at.result
           c.walk_forward-walked.result.id c.requires.row row
-          (omega (arith, c.loop-sid.invariant.past, c.walk_forward-walked.ensures.past)) c.pass_over-at.ensures.past walked over;
+          (omega (arith, c.loop-sid.invariant.past, c.walk_forward-walked.ensures.past)) c.skip_over-at.ensures.past walked over;
     }

@@ -22,14 +22,14 @@ returns-in-Err g c = record {
   made = c.is_made.ensures;
   within = c.haystack.ensures.within;
   own = c.in-Err.ensures.own;
-  search = fails c.args.dfa.now c.args.input.now c.args.input.now c.args.cache.now c.args.cache.now c.pass.new.cache
-      c.args.work.now.determinized c.args.work.now.determinized c.pass.new.work.determinized c.args.work.now.inserted
-      c.args.work.now.inserted c.pass.new.work.inserted c.is_made.ensures c.requires.own c.requires.own
+  search = fails c.args.dfa.now c.args.input.now c.args.input.now c.args.cache.now c.args.cache.now c.scan.new.cache
+      c.args.work.now.determinized c.args.work.now.determinized c.scan.new.work.determinized c.args.work.now.inserted
+      c.args.work.now.inserted c.scan.new.work.inserted c.is_made.ensures c.requires.own c.requires.own
       (subst AreBytes c.haystack.ensures.value c.see_bytes.ensures)
       (begins c.args.dfa.now c.args.input.now c.args.input.now c.args.cache.now c.args.work.now.determinized
       c.args.work.now.inserted refl)
       (not_done c.is_done.result c.args.input.now.start c.args.input.now.end c.is_done.ensures c.if-is_done.false)
-      c.in-Err.e c.in-Err.ensures.pass;
+      c.in-Err.e c.in-Err.ensures.scan;
 }
 
 pub returns-in_default : goal.returns-in_default
@@ -37,14 +37,14 @@ returns-in_default g c = record {
   made = c.is_made.ensures;
   within = c.haystack.ensures.within;
   own = c.in-Ok.ensures.own;
-  search = none_ends c.args.dfa.now c.args.input.now c.args.input.now c.args.cache.now c.args.cache.now c.pass.new.cache
-      c.args.work.now.determinized c.args.work.now.determinized c.pass.new.work.determinized c.args.work.now.inserted
-      c.args.work.now.inserted c.pass.new.work.inserted c.is_made.ensures c.requires.own c.requires.own
+  search = none_ends c.args.dfa.now c.args.input.now c.args.input.now c.args.cache.now c.args.cache.now c.scan.new.cache
+      c.args.work.now.determinized c.args.work.now.determinized c.scan.new.work.determinized c.args.work.now.inserted
+      c.args.work.now.inserted c.scan.new.work.inserted c.is_made.ensures c.requires.own c.requires.own
       (subst AreBytes c.haystack.ensures.value c.see_bytes.ensures)
       (begins c.args.dfa.now c.args.input.now c.args.input.now c.args.cache.now c.args.work.now.determinized
       c.args.work.now.inserted refl)
       (not_done c.is_done.result c.args.input.now.start c.args.input.now.end c.is_done.ensures c.if-is_done.false)
-      c.in-Ok.found c.in-Ok.ensures.pass c.in_default.is;
+      c.in-Ok.found c.in-Ok.ensures.scan c.in_default.is;
 }
 
 pub returns : goal.returns
@@ -52,14 +52,14 @@ returns g c = record {
   made = c.is_made.ensures;
   within = c.haystack.ensures.within;
   own = c.in-Ok.ensures.own;
-  search = counted_ends c.args.dfa.now c.args.input.now c.args.input.now c.args.cache.now c.args.cache.now c.pass.new.cache
-      c.args.work.now.determinized c.args.work.now.determinized c.pass.new.work.determinized c.args.work.now.inserted
-      c.args.work.now.inserted c.pass.new.work.inserted c.is_made.ensures c.requires.own c.requires.own
+  search = counted_ends c.args.dfa.now c.args.input.now c.args.input.now c.args.cache.now c.args.cache.now c.scan.new.cache
+      c.args.work.now.determinized c.args.work.now.determinized c.scan.new.work.determinized c.args.work.now.inserted
+      c.args.work.now.inserted c.scan.new.work.inserted c.is_made.ensures c.requires.own c.requires.own
       (subst AreBytes c.haystack.ensures.value c.see_bytes.ensures)
       (begins c.args.dfa.now c.args.input.now c.args.input.now c.args.cache.now c.args.work.now.determinized
       c.args.work.now.inserted refl)
       (not_done c.is_done.result c.args.input.now.start c.args.input.now.end c.is_done.ensures c.if-is_done.false)
-      c.in-Ok.found c.in-Ok.ensures.pass c.in-Some.half c.in-Some.is
+      c.in-Ok.found c.in-Ok.ensures.scan c.in-Some.half c.in-Some.is
       (each_counts (reader c.args.dfa.now).between_characters c.args.input.now.haystack c.in-Some.half.offset
       (sym c.is_between_characters.ensures ∙ c.if-is_between_characters.false));
 }

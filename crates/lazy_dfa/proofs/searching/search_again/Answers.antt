@@ -19,54 +19,54 @@ loop-rest-init g c = record {
 
 pub returns-in-Err-clause-search : goal.returns-in-Err-clause-search
 returns-in-Err-clause-search g c = fails c.args.dfa.now c.args.input.now c.loop-rest.rest c.args.cache.now c.loop-rest.cache
-    c.pass.new.cache c.args.work.now.determinized
-    c.loop-rest.work.determinized c.pass.new.work.determinized c.args.work.now.inserted c.loop-rest.work.inserted
-    c.pass.new.work.inserted c.is_made.ensures c.requires c.loop-rest.invariant.own
+    c.scan.new.cache c.args.work.now.determinized
+    c.loop-rest.work.determinized c.scan.new.work.determinized c.args.work.now.inserted c.loop-rest.work.inserted
+    c.scan.new.work.inserted c.is_made.ensures c.requires c.loop-rest.invariant.own
     (subst AreBytes c.haystack.ensures.value c.see_bytes.ensures)
     c.loop-rest.invariant.stands (not_done c.is_done.result c.loop-rest.rest.start c.loop-rest.rest.end c.is_done.ensures
-    c.loop-rest-test.true) c.in-Err.e c.in-Err.ensures.pass
+    c.loop-rest-test.true) c.in-Err.e c.in-Err.ensures.scan
 
 pub returns-in_default-clause-search : goal.returns-in_default-clause-search
 returns-in_default-clause-search g c = none_ends c.args.dfa.now c.args.input.now c.loop-rest.rest c.args.cache.now c.loop-rest.cache
-    c.pass.new.cache c.args.work.now.determinized
-    c.loop-rest.work.determinized c.pass.new.work.determinized c.args.work.now.inserted c.loop-rest.work.inserted
-    c.pass.new.work.inserted c.is_made.ensures c.requires c.loop-rest.invariant.own
+    c.scan.new.cache c.args.work.now.determinized
+    c.loop-rest.work.determinized c.scan.new.work.determinized c.args.work.now.inserted c.loop-rest.work.inserted
+    c.scan.new.work.inserted c.is_made.ensures c.requires c.loop-rest.invariant.own
     (subst AreBytes c.haystack.ensures.value c.see_bytes.ensures)
     c.loop-rest.invariant.stands (not_done c.is_done.result c.loop-rest.rest.start c.loop-rest.rest.end c.is_done.ensures
-    c.loop-rest-test.true) c.in-Ok.found c.in-Ok.ensures.pass c.in_default.is
+    c.loop-rest-test.true) c.in-Ok.found c.in-Ok.ensures.scan c.in_default.is
 
 pub returns-then-not-between_characters-clause-search : goal.returns-then-not-between_characters-clause-search
 returns-then-not-between_characters-clause-search g c = counted_ends c.args.dfa.now c.args.input.now c.loop-rest.rest c.args.cache.now
-    c.loop-rest.cache c.pass.new.cache c.args.work.now.determinized
-    c.loop-rest.work.determinized c.pass.new.work.determinized c.args.work.now.inserted c.loop-rest.work.inserted
-    c.pass.new.work.inserted c.is_made.ensures c.requires c.loop-rest.invariant.own
+    c.loop-rest.cache c.scan.new.cache c.args.work.now.determinized
+    c.loop-rest.work.determinized c.scan.new.work.determinized c.args.work.now.inserted c.loop-rest.work.inserted
+    c.scan.new.work.inserted c.is_made.ensures c.requires c.loop-rest.invariant.own
     (subst AreBytes c.haystack.ensures.value c.see_bytes.ensures)
     c.loop-rest.invariant.stands (not_done c.is_done.result c.loop-rest.rest.start c.loop-rest.rest.end c.is_done.ensures
-    c.loop-rest-test.true) c.in-Ok.found c.in-Ok.ensures.pass
+    c.loop-rest-test.true) c.in-Ok.found c.in-Ok.ensures.scan
     c.in-Some.half c.in-Some.is
     (each_counts (reader c.args.dfa.now).between_characters c.loop-rest.rest.haystack c.in-Some.half.offset
     (sym c.is_between_characters-between_characters.ensures ∙ c.if-not-between_characters.true))
 
 pub returns-then-is_char_boundary-clause-search : goal.returns-then-is_char_boundary-clause-search
 returns-then-is_char_boundary-clause-search g c = counted_ends c.args.dfa.now c.args.input.now c.loop-rest.rest c.args.cache.now
-    c.loop-rest.cache c.pass.new.cache c.args.work.now.determinized
-    c.loop-rest.work.determinized c.pass.new.work.determinized c.args.work.now.inserted c.loop-rest.work.inserted
-    c.pass.new.work.inserted c.is_made.ensures c.requires c.loop-rest.invariant.own
+    c.loop-rest.cache c.scan.new.cache c.args.work.now.determinized
+    c.loop-rest.work.determinized c.scan.new.work.determinized c.args.work.now.inserted c.loop-rest.work.inserted
+    c.scan.new.work.inserted c.is_made.ensures c.requires c.loop-rest.invariant.own
     (subst AreBytes c.haystack.ensures.value c.see_bytes.ensures)
     c.loop-rest.invariant.stands (not_done c.is_done.result c.loop-rest.rest.start c.loop-rest.rest.end c.is_done.ensures
-    c.loop-rest-test.true) c.in-Ok.found c.in-Ok.ensures.pass
+    c.loop-rest-test.true) c.in-Ok.found c.in-Ok.ensures.scan
     c.in-Some.half c.in-Some.is
     (boundary_counts (reader c.args.dfa.now).between_characters c.loop-rest.rest.haystack c.in-Some.half.offset
     (ap (is_boundary c.loop-rest.rest.haystack) (sym c.offset.ensures) ∙ sym c.is_char_boundary.ensures ∙ c.if-is_char_boundary.true))
 
 pub returns-then-is_anchored-clause-search : goal.returns-then-is_anchored-clause-search
 returns-then-is_anchored-clause-search g c = anchored_ends c.args.dfa.now c.args.input.now c.loop-rest.rest c.args.cache.now
-    c.loop-rest.cache c.pass.new.cache c.args.work.now.determinized
-    c.loop-rest.work.determinized c.pass.new.work.determinized c.args.work.now.inserted c.loop-rest.work.inserted
-    c.pass.new.work.inserted c.is_made.ensures c.requires c.loop-rest.invariant.own
+    c.loop-rest.cache c.scan.new.cache c.args.work.now.determinized
+    c.loop-rest.work.determinized c.scan.new.work.determinized c.args.work.now.inserted c.loop-rest.work.inserted
+    c.scan.new.work.inserted c.is_made.ensures c.requires c.loop-rest.invariant.own
     (subst AreBytes c.haystack.ensures.value c.see_bytes.ensures)
     c.loop-rest.invariant.stands (not_done c.is_done.result c.loop-rest.rest.start c.loop-rest.rest.end c.is_done.ensures
-    c.loop-rest-test.true) c.in-Ok.found c.in-Ok.ensures.pass
+    c.loop-rest-test.true) c.in-Ok.found c.in-Ok.ensures.scan
     c.in-Some.half c.in-Some.is
     (inside_counts (reader c.args.dfa.now).between_characters c.loop-rest.rest.haystack c.in-Some.half.offset
     (sym c.is_between_characters-between_characters.ensures ∙ c.if-not-between_characters.false)
@@ -75,12 +75,12 @@ returns-then-is_anchored-clause-search g c = anchored_ends c.args.dfa.now c.args
 
 pub returns-then-end-eq0-clause-search : goal.returns-then-end-eq0-clause-search
 returns-then-end-eq0-clause-search g c = lowest_ends c.args.dfa.now c.args.input.now c.loop-rest.rest c.args.cache.now c.loop-rest.cache
-    c.pass.new.cache c.args.work.now.determinized
-    c.loop-rest.work.determinized c.pass.new.work.determinized c.args.work.now.inserted c.loop-rest.work.inserted
-    c.pass.new.work.inserted c.is_made.ensures c.requires c.loop-rest.invariant.own
+    c.scan.new.cache c.args.work.now.determinized
+    c.loop-rest.work.determinized c.scan.new.work.determinized c.args.work.now.inserted c.loop-rest.work.inserted
+    c.scan.new.work.inserted c.is_made.ensures c.requires c.loop-rest.invariant.own
     (subst AreBytes c.haystack.ensures.value c.see_bytes.ensures)
     c.loop-rest.invariant.stands (not_done c.is_done.result c.loop-rest.rest.start c.loop-rest.rest.end c.is_done.ensures
-    c.loop-rest-test.true) c.in-Ok.found c.in-Ok.ensures.pass
+    c.loop-rest-test.true) c.in-Ok.found c.in-Ok.ensures.scan
     c.in-Some.half c.in-Some.is
     (inside_counts (reader c.args.dfa.now).between_characters c.loop-rest.rest.haystack c.in-Some.half.offset
     (sym c.is_between_characters-between_characters.ensures ∙ c.if-not-between_characters.false)
@@ -97,13 +97,13 @@ loop-rest-smaller-then-is_reverse g c = lower_end c.loop-rest.rest c.set_end.new
 pub loop-rest-preserved-then-is_reverse : goal.loop-rest-preserved-then-is_reverse
 loop-rest-preserved-then-is_reverse g c = record {
   own = c.in-Ok.ensures.own;
-  stands = goes_reverse c.args.dfa.now c.args.input.now c.loop-rest.rest c.args.cache.now c.loop-rest.cache c.pass.new.cache
+  stands = goes_reverse c.args.dfa.now c.args.input.now c.loop-rest.rest c.args.cache.now c.loop-rest.cache c.scan.new.cache
       c.args.work.now.determinized
-      c.loop-rest.work.determinized c.pass.new.work.determinized c.args.work.now.inserted c.loop-rest.work.inserted
-      c.pass.new.work.inserted c.is_made.ensures c.requires c.loop-rest.invariant.own
+      c.loop-rest.work.determinized c.scan.new.work.determinized c.args.work.now.inserted c.loop-rest.work.inserted
+      c.scan.new.work.inserted c.is_made.ensures c.requires c.loop-rest.invariant.own
       (subst AreBytes c.haystack.ensures.value c.see_bytes.ensures)
       c.loop-rest.invariant.stands (not_done c.is_done.result c.loop-rest.rest.start c.loop-rest.rest.end c.is_done.ensures
-      c.loop-rest-test.true) c.in-Ok.found c.in-Ok.ensures.pass
+      c.loop-rest-test.true) c.in-Ok.found c.in-Ok.ensures.scan
       c.in-Some.half c.in-Some.is
       (inside_counts (reader c.args.dfa.now).between_characters c.loop-rest.rest.haystack c.in-Some.half.offset
       (sym c.is_between_characters-between_characters.ensures ∙ c.if-not-between_characters.false)
@@ -117,13 +117,13 @@ loop-rest-preserved-then-is_reverse g c = record {
 pub loop-rest-preserved : goal.loop-rest-preserved
 loop-rest-preserved g c = record {
   own = c.in-Ok.ensures.own;
-  stands = goes_forward c.args.dfa.now c.args.input.now c.loop-rest.rest c.args.cache.now c.loop-rest.cache c.pass.new.cache
+  stands = goes_forward c.args.dfa.now c.args.input.now c.loop-rest.rest c.args.cache.now c.loop-rest.cache c.scan.new.cache
       c.args.work.now.determinized
-      c.loop-rest.work.determinized c.pass.new.work.determinized c.args.work.now.inserted c.loop-rest.work.inserted
-      c.pass.new.work.inserted c.is_made.ensures c.requires c.loop-rest.invariant.own
+      c.loop-rest.work.determinized c.scan.new.work.determinized c.args.work.now.inserted c.loop-rest.work.inserted
+      c.scan.new.work.inserted c.is_made.ensures c.requires c.loop-rest.invariant.own
       (subst AreBytes c.haystack.ensures.value c.see_bytes.ensures)
       c.loop-rest.invariant.stands (not_done c.is_done.result c.loop-rest.rest.start c.loop-rest.rest.end c.is_done.ensures
-      c.loop-rest-test.true) c.in-Ok.found c.in-Ok.ensures.pass
+      c.loop-rest-test.true) c.in-Ok.found c.in-Ok.ensures.scan
       c.in-Some.half c.in-Some.is
       (inside_counts (reader c.args.dfa.now).between_characters c.loop-rest.rest.haystack c.in-Some.half.offset
       (sym c.is_between_characters-between_characters.ensures ∙ c.if-not-between_characters.false)

@@ -34,7 +34,7 @@ returns-clause-to c = subst (λ (w : CacheValue). Names w c.in_ok-id.id c.args.s
     (sym c.in_ok-id.ensures.id)
     (names_held (new_held c.room_alone.new.cache c.specializes.result c.args.state c.in_ok-room_alone.ensures.own.shape)))
 
--- ---- a clear only where the state asks for one
+-- ---- a clear only if the state needs one
 
 pub returns-clause-cause : goal.returns-clause-cause
 returns-clause-cause c = ⊎_elim

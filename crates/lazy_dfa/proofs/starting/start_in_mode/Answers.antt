@@ -2,7 +2,7 @@ use Rattle.std.proofs.Common.{◌≡◌, ◌⊎◌, ◌∙◌, ◌+◌, ◌*◌,
 use Rattle.determinize_core.specs.States.{StateValue}
 use Rattle.lazy_dfa.specs.Caches.{CacheValue, slot_of_start, cleared, needs_clear}
 use Rattle.lazy_dfa.specs.Dfas.{first_state}
-use Rattle.lazy_dfa.specs.StartCalls.{PlacesStart}
+use Rattle.lazy_dfa.specs.StartCalls.{GivesStart}
 use Rattle.lazy_dfa.specs.Steps.{IsCause, Added}
 use Rattle.lazy_dfa.proofs.CacheChanges.ChangeLemmas.{grew_added}
 use Rattle.lazy_dfa.proofs.CacheChanges.IsCacheLemmas.{started, names_started, known_begins}
@@ -39,7 +39,7 @@ returns-then-not-is_not_known-clause-tag g c alive fresh = absurd (not_fresh c.a
     (sym c.is_not_known.ensures ∙ c.if-not-is_not_known.true))
     alive fresh)
 
--- ---- memory lacks
+-- ---- an allocation fails
 
 pub returns-in_err-state-clause-known : goal.returns-in_err-state-clause-known
 returns-in_err-state-clause-known g c n = absurd (n (unknown_start c.args.dfa.now c.args.cache.now c.args.mode
@@ -110,10 +110,10 @@ returns-in-Ok-clause-free g c n = absurd (n (unknown_start c.args.dfa.now c.args
     (sym c.is_not_known.ensures ∙ c.if-not-is_not_known.false)))
 
 placed : (g : Rattle.lazy_dfa.proofs.starting.start_in_mode.Given.Over) (c : goal.After-set_start g) →
-    PlacesStart c.args.dfa.now c.args.cache.now c.place_start.new.cache (first_state c.args.dfa.now c.args.start c.args.name) c.in-Ok.id
-placed g c = subst (λ (w : CacheValue). PlacesStart c.args.dfa.now w c.place_start.new.cache
+    GivesStart c.args.dfa.now c.args.cache.now c.place_start.new.cache (first_state c.args.dfa.now c.args.start c.args.name) c.in-Ok.id
+placed g c = subst (λ (w : CacheValue). GivesStart c.args.dfa.now w c.place_start.new.cache
     (first_state c.args.dfa.now c.args.start c.args.name) c.in-Ok.id) c.first_of.ensures.same
-    (subst (λ (t : StateValue). PlacesStart c.args.dfa.now c.first_of.new.cache c.place_start.new.cache t c.in-Ok.id)
+    (subst (λ (t : StateValue). GivesStart c.args.dfa.now c.first_of.new.cache c.place_start.new.cache t c.in-Ok.id)
     c.in_ok-state.ensures.value c.in-Ok.ensures.made)
 
 noted_at : (g : Rattle.lazy_dfa.proofs.starting.start_in_mode.Given.Over) (c : goal.After-set_start g) →
@@ -150,7 +150,7 @@ pub returns-in-Ok-clause-tag : goal.returns-in-Ok-clause-tag
 returns-in-Ok-clause-tag g c = start_tags c.args.dfa.now c.args.cache.now c.place_start.new.cache c.in-Ok.id
     (first_state c.args.dfa.now c.args.start c.args.name) c.in-Ok.ensures.own.shape.positive (placed g c)
 
--- ---- a clear only where the start asks for one
+-- ---- a clear only if the start needs one
 
 pub returns-in-Err-clause-cause : goal.returns-in-Err-clause-cause
 returns-in-Err-clause-cause g c = ⊎_elim

@@ -11,12 +11,12 @@ use Rattle.lazy_dfa.proofs.stepping.fill.Goals as goal
 
 pub returns-in-Err-clause-kept : goal.returns-in-Err-clause-kept
 returns-in-Err-clause-kept g c = grew_of c.args.dfa.now c.args.cache.now c.place.new.cache c.is_made.ensures c.requires.own
-    (subst (λ (v : CacheValue). AddsOrClears v c.place.new.cache) c.state_behind.ensures.same c.in-Err.ensures.kept)
+    (subst (λ (v : CacheValue). AddsOrClears v c.place.new.cache) c.state_after.ensures.same c.in-Err.ensures.kept)
 
 pub returns-in-Err-clause-err : goal.returns-in-Err-clause-err
-returns-in-Err-clause-err g c = step_cause c.args.dfa.now c.args.cache.now c.state_behind.new.cache c.args.id c.row-k.result
+returns-in-Err-clause-err g c = step_cause c.args.dfa.now c.args.cache.now c.state_after.new.cache c.args.id c.row-k.result
     (unit_byte c.args.unit) c.in_ok-state.state
-    c.requires.own.shape c.state_behind.ensures.same c.row-k.ensures.inside c.row-k.ensures.id c.in_ok-state.ensures.value c.in-Err.e
+    c.requires.own.shape c.state_after.ensures.same c.row-k.ensures.inside c.row-k.ensures.id c.in_ok-state.ensures.value c.in-Err.e
     c.requires.unknown c.requires.no_quit c.in-Err.ensures.err
 
 pub set_cell-requires : goal.set_cell-requires
@@ -32,7 +32,7 @@ led g c = leads_to c.args.dfa.now c.place.new.cache (state_at c.args.cache.now c
 
 held : (g : Rattle.lazy_dfa.proofs.stepping.fill.Given.Over) (c : goal.After-set_cell g) →
     HeldAt c.place.new.cache c.in-Ok.rows.from (state_at c.args.cache.now c.row-k.result)
-held g c = subst (λ (v : CacheValue). HeldAt c.place.new.cache c.in-Ok.rows.from (state_at v c.row-k.result)) c.state_behind.ensures.same
+held g c = subst (λ (v : CacheValue). HeldAt c.place.new.cache c.in-Ok.rows.from (state_at v c.row-k.result)) c.state_after.ensures.same
     c.in-Ok.ensures.from
 
 pub returns-in-Ok-clause-own : goal.returns-in-Ok-clause-own
@@ -46,7 +46,7 @@ returns-in-Ok-clause-kept g c = grew_set c.args.dfa.now c.args.cache.now c.place
     c.args.class c.row-k.result c.in-Ok.rows.to (unit_byte c.args.unit)
     c.is_made.ensures c.requires.own c.in-Ok.ensures.own c.requires.unit c.requires.class c.row-k.ensures.inside c.row-k.ensures.id
     (held g c) c.set_cell.ensures c.requires.unknown
-    (subst (λ (v : CacheValue). AddsOrClears v c.place.new.cache) c.state_behind.ensures.same c.in-Ok.ensures.kept)
+    (subst (λ (v : CacheValue). AddsOrClears v c.place.new.cache) c.state_after.ensures.same c.in-Ok.ensures.kept)
 
 pub returns-in-Ok-clause-remains : goal.returns-in-Ok-clause-remains
 returns-in-Ok-clause-remains g c = remains_set c.args.dfa.now c.args.cache.now c.place.new.cache c.set_cell.new.self c.args.id
@@ -55,7 +55,7 @@ returns-in-Ok-clause-remains g c = remains_set c.args.dfa.now c.args.cache.now c
     (held g c) c.set_cell.ensures c.in_ok-state.state c.requires.unknown
     c.in_ok-state.ensures.value
     (subst (λ (v : CacheValue). Added v c.place.new.cache ⊎ (c.place.new.cache ≡ with_state false c.in_ok-state.state
-    (kept_alone v c.row-k.result))) c.state_behind.ensures.same c.in-Ok.ensures.made)
+    (kept_alone v c.row-k.result))) c.state_after.ensures.same c.in-Ok.ensures.made)
 
 pub returns-in-Ok-clause-noted : goal.returns-in-Ok-clause-noted
 returns-in-Ok-clause-noted g c = set_is_noted c.args.dfa.now c.args.cache.now c.place.new.cache c.set_cell.new.self c.args.id
@@ -64,9 +64,9 @@ returns-in-Ok-clause-noted g c = set_is_noted c.args.dfa.now c.args.cache.now c.
     (held g c) c.set_cell.ensures
 
 pub returns-in-Ok-clause-ok : goal.returns-in-Ok-clause-ok
-returns-in-Ok-clause-ok g c = no_cause c.args.dfa.now c.args.cache.now c.state_behind.new.cache c.args.id c.row-k.result
+returns-in-Ok-clause-ok g c = no_cause c.args.dfa.now c.args.cache.now c.state_after.new.cache c.args.id c.row-k.result
     (unit_byte c.args.unit) c.in_ok-state.state
-    c.requires.own.shape c.state_behind.ensures.same c.row-k.ensures.inside c.row-k.ensures.id c.in_ok-state.ensures.value
+    c.requires.own.shape c.state_after.ensures.same c.row-k.ensures.inside c.row-k.ensures.id c.in_ok-state.ensures.value
     c.in-Ok.ensures.ok
 
 pub returns-in-Ok-clause-step : goal.returns-in-Ok-clause-step
@@ -77,71 +77,71 @@ returns-in-Ok-clause-step g c =
     (unit_byte c.args.unit) c.is_made.ensures c.in-Ok.ensures.own c.requires.unit c.requires.class
     (state_at c.args.cache.now c.row-k.result) c.in-Ok.rows.to c.set_cell.new.self (led g c) c.set_cell.ensures)
 
--- ---- a clear only where the state asks for one
+-- ---- a clear only if the state needs one
 
 pub returns-in-Err-clause-cause : goal.returns-in-Err-clause-cause
 returns-in-Err-clause-cause g c = ⊎_elim
-    (λ (a : Added c.state_behind.new.cache c.place.new.cache). inl (grew_added c.args.dfa.now c.args.cache.now c.place.new.cache
-    c.is_made.ensures c.requires.own (subst (λ (v : CacheValue). Added v c.place.new.cache) c.state_behind.ensures.same a)))
-    (λ (n : needs_clear c.args.dfa.now c.state_behind.new.cache c.in_ok-state.state ≡ true). inr (
-    step_needs c.args.dfa.now c.args.cache.now c.state_behind.new.cache c.args.id c.row-k.result
+    (λ (a : Added c.state_after.new.cache c.place.new.cache). inl (grew_added c.args.dfa.now c.args.cache.now c.place.new.cache
+    c.is_made.ensures c.requires.own (subst (λ (v : CacheValue). Added v c.place.new.cache) c.state_after.ensures.same a)))
+    (λ (n : needs_clear c.args.dfa.now c.state_after.new.cache c.in_ok-state.state ≡ true). inr (
+    step_needs c.args.dfa.now c.args.cache.now c.state_after.new.cache c.args.id c.row-k.result
     (unit_byte c.args.unit) c.in_ok-state.state
-    c.requires.own.shape c.state_behind.ensures.same c.row-k.ensures.inside c.row-k.ensures.id c.in_ok-state.ensures.value
+    c.requires.own.shape c.state_after.ensures.same c.row-k.ensures.inside c.row-k.ensures.id c.in_ok-state.ensures.value
     c.requires.unknown c.requires.no_quit n
     ))
     c.in-Err.ensures.cause
 
 pub returns-in-Ok-clause-cause : goal.returns-in-Ok-clause-cause
 returns-in-Ok-clause-cause g c = ⊎_elim
-    (λ (a : Added c.state_behind.new.cache c.place.new.cache). inl (
+    (λ (a : Added c.state_after.new.cache c.place.new.cache). inl (
     grew_cell c.args.dfa.now c.args.cache.now c.place.new.cache c.set_cell.new.self c.args.id c.in-Ok.rows.from
     c.args.class c.row-k.result c.in-Ok.rows.to (unit_byte c.args.unit)
     c.is_made.ensures c.requires.own c.in-Ok.ensures.own c.requires.unit c.requires.class c.row-k.ensures.inside c.row-k.ensures.id
     (held g c) c.set_cell.ensures c.requires.unknown
-    (subst (λ (v : CacheValue). Added v c.place.new.cache) c.state_behind.ensures.same a)
+    (subst (λ (v : CacheValue). Added v c.place.new.cache) c.state_after.ensures.same a)
     ))
-    (λ (n : needs_clear c.args.dfa.now c.state_behind.new.cache c.in_ok-state.state ≡ true). inr (
-    step_needs c.args.dfa.now c.args.cache.now c.state_behind.new.cache c.args.id c.row-k.result
+    (λ (n : needs_clear c.args.dfa.now c.state_after.new.cache c.in_ok-state.state ≡ true). inr (
+    step_needs c.args.dfa.now c.args.cache.now c.state_after.new.cache c.args.id c.row-k.result
     (unit_byte c.args.unit) c.in_ok-state.state
-    c.requires.own.shape c.state_behind.ensures.same c.row-k.ensures.inside c.row-k.ensures.id c.in_ok-state.ensures.value
+    c.requires.own.shape c.state_after.ensures.same c.row-k.ensures.inside c.row-k.ensures.id c.in_ok-state.ensures.value
     c.requires.unknown c.requires.no_quit n
     ))
     c.in-Ok.ensures.cause
 
 pub returns-in-Ok-clause-tag : goal.returns-in-Ok-clause-tag
-returns-in-Ok-clause-tag g c = step_tags c.args.dfa.now c.args.cache.now c.state_behind.new.cache c.args.id c.row-k.result
-    (unit_byte c.args.unit) c.in_ok-state.state c.in-Ok.rows.to c.requires.own.shape c.state_behind.ensures.same
+returns-in-Ok-clause-tag g c = step_tags c.args.dfa.now c.args.cache.now c.state_after.new.cache c.args.id c.row-k.result
+    (unit_byte c.args.unit) c.in_ok-state.state c.in-Ok.rows.to c.requires.own.shape c.state_after.ensures.same
     c.row-k.ensures.inside c.row-k.ensures.id c.in_ok-state.ensures.value c.in-Ok.ensures.tag
 
 -- ---- what is added
 
-grows_by : (g : Rattle.lazy_dfa.proofs.stepping.fill.Given.Over) (c : goal.In-Err g) → Added c.state_behind.new.cache c.place.new.cache →
+grows_by : (g : Rattle.lazy_dfa.proofs.stepping.fill.Given.Over) (c : goal.In-Err g) → Added c.state_after.new.cache c.place.new.cache →
     Grew c.args.dfa.now c.args.cache.now c.place.new.cache
 grows_by g c a = grew_added c.args.dfa.now c.args.cache.now c.place.new.cache
-    c.is_made.ensures c.requires.own (subst (λ (v : CacheValue). Added v c.place.new.cache) c.state_behind.ensures.same a)
+    c.is_made.ensures c.requires.own (subst (λ (v : CacheValue). Added v c.place.new.cache) c.state_after.ensures.same a)
 
 pub returns-in-Err-clause-adds : goal.returns-in-Err-clause-adds
-returns-in-Err-clause-adds g c = step_adds c.args.dfa.now c.args.cache.now c.state_behind.new.cache c.place.new.cache c.args.id
+returns-in-Err-clause-adds g c = step_adds c.args.dfa.now c.args.cache.now c.state_after.new.cache c.place.new.cache c.args.id
     c.row-k.result (unit_byte c.args.unit) c.in_ok-state.state
-    c.requires.own.shape c.state_behind.ensures.same c.row-k.ensures.inside c.row-k.ensures.id c.in_ok-state.ensures.value
+    c.requires.own.shape c.state_after.ensures.same c.row-k.ensures.inside c.row-k.ensures.id c.in_ok-state.ensures.value
     c.requires.no_quit
-    (comes_written c.args.dfa.now false (Some c.row-k.result) c.in_ok-state.state c.state_behind.new.cache c.place.new.cache
+    (comes_written c.args.dfa.now false (Some c.row-k.result) c.in_ok-state.state c.state_after.new.cache c.place.new.cache
     c.place.new.cache (refl, refl, refl)
-    (Added c.state_behind.new.cache c.place.new.cache) (Grew c.args.dfa.now c.args.cache.now c.place.new.cache)
+    (Added c.state_after.new.cache c.place.new.cache) (Grew c.args.dfa.now c.args.cache.now c.place.new.cache)
     (grows_by g c) c.in-Err.ensures.adds)
 
 pub returns-in-Ok-clause-adds : goal.returns-in-Ok-clause-adds
-returns-in-Ok-clause-adds g c = step_adds c.args.dfa.now c.args.cache.now c.state_behind.new.cache c.set_cell.new.self c.args.id
+returns-in-Ok-clause-adds g c = step_adds c.args.dfa.now c.args.cache.now c.state_after.new.cache c.set_cell.new.self c.args.id
     c.row-k.result (unit_byte c.args.unit) c.in_ok-state.state
-    c.requires.own.shape c.state_behind.ensures.same c.row-k.ensures.inside c.row-k.ensures.id c.in_ok-state.ensures.value
+    c.requires.own.shape c.state_after.ensures.same c.row-k.ensures.inside c.row-k.ensures.id c.in_ok-state.ensures.value
     c.requires.no_quit
-    (comes_written c.args.dfa.now false (Some c.row-k.result) c.in_ok-state.state c.state_behind.new.cache c.place.new.cache
+    (comes_written c.args.dfa.now false (Some c.row-k.result) c.in_ok-state.state c.state_after.new.cache c.place.new.cache
     c.set_cell.new.self (same_states _ c.set_cell.new.self c.set_cell.ensures)
-    (Added c.state_behind.new.cache c.place.new.cache) (Grew c.args.dfa.now c.args.cache.now c.set_cell.new.self)
-    (λ (a : Added c.state_behind.new.cache c.place.new.cache).
+    (Added c.state_after.new.cache c.place.new.cache) (Grew c.args.dfa.now c.args.cache.now c.set_cell.new.self)
+    (λ (a : Added c.state_after.new.cache c.place.new.cache).
     grew_cell c.args.dfa.now c.args.cache.now c.place.new.cache c.set_cell.new.self c.args.id c.in-Ok.rows.from
     c.args.class c.row-k.result c.in-Ok.rows.to (unit_byte c.args.unit)
     c.is_made.ensures c.requires.own c.in-Ok.ensures.own c.requires.unit c.requires.class c.row-k.ensures.inside c.row-k.ensures.id
     (held g c) c.set_cell.ensures c.requires.unknown
-    (subst (λ (v : CacheValue). Added v c.place.new.cache) c.state_behind.ensures.same a))
+    (subst (λ (v : CacheValue). Added v c.place.new.cache) c.state_after.ensures.same a))
     c.in-Ok.ensures.adds)

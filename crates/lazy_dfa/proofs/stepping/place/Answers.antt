@@ -45,7 +45,7 @@ returns-clause-to c = subst (λ (w : CacheValue). Names w c.in_ok-to.to c.args.s
     (subst (λ (n : ℕ). Names (with_state false c.args.state c.make_room.new.cache) n c.args.state) (sym c.in_ok-to.ensures.id)
     (names_held (new_held c.make_room.new.cache false c.args.state c.in_ok-from.ensures.own.shape)))
 
--- ---- a clear only where the state asks for one
+-- ---- a clear only if the state needs one
 
 pub returns-in_err-from-clause-cause : goal.returns-in_err-from-clause-cause
 returns-in_err-from-clause-cause c = ⊎_elim
@@ -67,7 +67,7 @@ returns-clause-cause c = ⊎_elim
     (λ (n : needs_clear c.args.dfa.now c.args.cache.now c.args.state ≡ true). inr n)
     c.in_ok-from.ensures.cause
 
--- ---- a state that is added has no tag of starts
+-- ---- a state that is added has no start tag
 
 pub returns-clause-tag : goal.returns-clause-tag
 returns-clause-tag c alive fresh = made_tag c.make_room.new.cache c.args.state c.in_ok-to.to c.in_ok-from.ensures.own.shape.positive

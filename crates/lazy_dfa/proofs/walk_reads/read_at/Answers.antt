@@ -15,8 +15,8 @@ returns-then-is_over-clause-read g c = unit_ends c.args.dfa.now c.args.input.now
     (point c.args.cache.now c.args.work.now.determinized c.args.work.now.inserted c.args.position.at c.args.position.id
     (pair_of c.args.position.best))
     c.step_at.new.cache c.step_at.new.work.determinized c.step_at.new.work.inserted c.in-Ok.seen.id c.in-Ok.seen.turn
-    c.tells_at-tells.result _
-    c.in-Ok.ensures.own.shape c.tells_at-tells.ensures (ap (λ (x : ℕ). c.args.position.at == x) c.last_place.ensures)
+    c.tells_at-reports.result _
+    c.in-Ok.ensures.own.shape c.tells_at-reports.ensures (ap (λ (x : ℕ). c.args.position.at == x) c.last_offset.ensures)
     c.search_finish.new.self c.progress_at.result
     (record { at = c.args.position.at; id = c.in-Ok.seen.id; best = c.in-Ok.seen.best }) refl refl (sym c.is_over.ensures
     ∙ c.if-is_over.true) c.progress_at.ensures c.search_finish.ensures c.in-Ok.ensures.step
@@ -26,7 +26,7 @@ returns-clause-read g c = unit_goes c.args.dfa.now c.args.input.now c.args.is_re
     (point c.args.cache.now c.args.work.now.determinized c.args.work.now.inserted c.args.position.at c.args.position.id
     (pair_of c.args.position.best))
     c.step_at.new.cache c.step_at.new.work.determinized c.step_at.new.work.inserted c.in-Ok.seen.id c.in-Ok.seen.turn
-    c.tells_at-tells.result _
-    c.in-Ok.ensures.own.shape c.tells_at-tells.ensures (ap (λ (x : ℕ). c.args.position.at == x) c.last_place.ensures)
-    (record { at = c.next_place.result; id = c.in-Ok.seen.id; best = c.in-Ok.seen.best }) refl c.next_place.ensures (sym c.is_over.ensures
+    c.tells_at-reports.result _
+    c.in-Ok.ensures.own.shape c.tells_at-reports.ensures (ap (λ (x : ℕ). c.args.position.at == x) c.last_offset.ensures)
+    (record { at = c.next_offset.result; id = c.in-Ok.seen.id; best = c.in-Ok.seen.best }) refl c.next_offset.ensures (sym c.is_over.ensures
     ∙ c.if-is_over.false) c.in-Ok.ensures.step

@@ -1,10 +1,10 @@
 use Rattle.std.proofs.Common.{◌∙◌, sym, ap, subst, Bool, true, None, Ok}
 use Rattle.lazy_dfa.specs.Points.{point}
 use Rattle.lazy_dfa.specs.SearchAnswers.{pair_of}
-use Rattle.lazy_dfa.specs.PassPlaces.{gave_up_at}
-use Rattle.lazy_dfa.specs.Walks.{WalkState}
-use Rattle.lazy_dfa.specs.WalkAnswers.{ReadsOn}
-use Rattle.lazy_dfa.specs.WalkTurns.{ReadsInto}
+use Rattle.lazy_dfa.specs.ScanOffsets.{gave_up_at}
+use Rattle.lazy_dfa.specs.Overlapping.{OverlappingValue}
+use Rattle.lazy_dfa.specs.OverlappingAnswers.{ReadsOn}
+use Rattle.lazy_dfa.specs.OverlappingTurns.{ReadsInto}
 use Rattle.lazy_dfa.proofs.CacheChanges.LinkedLemmas.{is_cache_moved}
 use Rattle.lazy_dfa.proofs.Courses.SpanTurnLemmas.{row_moved}
 use Rattle.lazy_dfa.proofs.OverlappingWalks.WalkReadLemmas.{started_moves, begins_on, stands_run, stands_next, next_there, ends_over}
@@ -51,7 +51,7 @@ returns-in-Err-clause-reads g c =
 
 pub returns-then-read-clause-reads : goal.returns-then-read-clause-reads
 returns-then-read-clause-reads g c =
-    subst (λ (w : WalkState). ReadsOn c.args.dfa.now c.args.input.now c.args.first.at c.args.cache.now c.read_at.new.cache
+    subst (λ (w : OverlappingValue). ReadsOn c.args.dfa.now c.args.input.now c.args.first.at c.args.cache.now c.read_at.new.cache
     c.args.work.now.determinized c.read_at.new.work.determinized
     c.args.work.now.inserted c.read_at.new.work.inserted (Ok w)) (sym c.stopped.ensures)
     (ends_over c.args.dfa.now c.args.input.now c.is_made.ensures
@@ -59,10 +59,10 @@ returns-then-read-clause-reads g c =
     (point c.loop-read.cache c.loop-read.work.determinized c.loop-read.work.inserted c.loop-read.position.at c.loop-read.position.id
     (pair_of c.loop-read.position.best))
     c.requires.own c.loop-read.invariant.own c.requires.within c.loop-read.invariant.within c.loop-read.invariant.stands
-    c.read_at.new.cache c.read_at.new.work.determinized c.read_at.new.work.inserted c.in-Ok.read.position c.in-Ok.read.tells
+    c.read_at.new.cache c.read_at.new.work.determinized c.read_at.new.work.inserted c.in-Ok.read.position c.in-Ok.read.reports
     (subst (ReadsInto c.args.dfa.now c.args.input.now (point c.loop-read.cache c.loop-read.work.determinized c.loop-read.work.inserted
     c.loop-read.position.at c.loop-read.position.id (pair_of c.loop-read.position.best)) c.read_at.new.cache
-    c.read_at.new.work.determinized c.read_at.new.work.inserted c.in-Ok.read.position c.in-Ok.read.tells) c.if-read.true
+    c.read_at.new.work.determinized c.read_at.new.work.inserted c.in-Ok.read.position c.in-Ok.read.reports) c.if-read.true
     c.in-Ok.ensures.read))
 
 pub run-position-requires-in-loop-read-clause-within : goal.run-position-requires-in-loop-read-clause-within
@@ -72,18 +72,18 @@ run-position-requires-in-loop-read-clause-within g c =
     (point c.loop-read.cache c.loop-read.work.determinized c.loop-read.work.inserted c.loop-read.position.at c.loop-read.position.id
     (pair_of c.loop-read.position.best))
     c.requires.own c.loop-read.invariant.own c.requires.within c.loop-read.invariant.within c.loop-read.invariant.stands
-    c.read_at.new.cache c.read_at.new.work.determinized c.read_at.new.work.inserted c.in-Ok.read.position c.in-Ok.read.tells
+    c.read_at.new.cache c.read_at.new.work.determinized c.read_at.new.work.inserted c.in-Ok.read.position c.in-Ok.read.reports
     c.in-Ok.ensures.own
     (subst (ReadsInto c.args.dfa.now c.args.input.now (point c.loop-read.cache c.loop-read.work.determinized c.loop-read.work.inserted
     c.loop-read.position.at c.loop-read.position.id (pair_of c.loop-read.position.best)) c.read_at.new.cache
-    c.read_at.new.work.determinized c.read_at.new.work.inserted c.in-Ok.read.position c.in-Ok.read.tells) c.if-read.false
+    c.read_at.new.work.determinized c.read_at.new.work.inserted c.in-Ok.read.position c.in-Ok.read.reports) c.if-read.false
     c.in-Ok.ensures.read)
 
 pub loop-read-preserved : goal.loop-read-preserved
 loop-read-preserved g c =
     let on = subst (ReadsInto c.args.dfa.now c.args.input.now (point c.loop-read.cache c.loop-read.work.determinized
     c.loop-read.work.inserted c.loop-read.position.at c.loop-read.position.id (pair_of c.loop-read.position.best)) c.read_at.new.cache
-    c.read_at.new.work.determinized c.read_at.new.work.inserted c.in-Ok.read.position c.in-Ok.read.tells) c.if-read.false
+    c.read_at.new.work.determinized c.read_at.new.work.inserted c.in-Ok.read.position c.in-Ok.read.reports) c.if-read.false
     c.in-Ok.ensures.read in rw c.run-position-in-loop-read.ensures.same (record {
       own = c.in-Ok.ensures.own;
       row = c.run-position-in-loop-read.ensures.row;
@@ -98,14 +98,14 @@ loop-read-preserved g c =
           (point c.loop-read.cache c.loop-read.work.determinized c.loop-read.work.inserted c.loop-read.position.at c.loop-read.position.id
           (pair_of c.loop-read.position.best))
           c.requires.own c.loop-read.invariant.own c.requires.within c.loop-read.invariant.within c.loop-read.invariant.stands
-          c.read_at.new.cache c.read_at.new.work.determinized c.read_at.new.work.inserted c.in-Ok.read.position c.in-Ok.read.tells
+          c.read_at.new.cache c.read_at.new.work.determinized c.read_at.new.work.inserted c.in-Ok.read.position c.in-Ok.read.reports
           c.in-Ok.ensures.own on)
           (stands_next c.args.dfa.now c.args.input.now c.is_made.ensures
           (point c.args.cache.now c.args.work.now.determinized c.args.work.now.inserted c.args.first.at c.args.first.id None)
           (point c.loop-read.cache c.loop-read.work.determinized c.loop-read.work.inserted c.loop-read.position.at c.loop-read.position.id
           (pair_of c.loop-read.position.best))
           c.requires.own c.loop-read.invariant.own c.requires.within c.loop-read.invariant.within c.loop-read.invariant.stands
-          c.read_at.new.cache c.read_at.new.work.determinized c.read_at.new.work.inserted c.in-Ok.read.position c.in-Ok.read.tells
+          c.read_at.new.cache c.read_at.new.work.determinized c.read_at.new.work.inserted c.in-Ok.read.position c.in-Ok.read.reports
           c.in-Ok.ensures.own on)
           c.run-position-in-loop-read.ensures.row c.run-position-in-loop-read.ensures.within c.run-position-in-loop-read.ensures.closer
           (c.run-position-in-loop-read.ensures.goes true c.read_at.new.work.determinized c.read_at.new.work.inserted);

@@ -2,7 +2,7 @@ use Rattle.std.proofs.Common.{None}
 use Rattle.lazy_dfa.specs.Caches.{IsCacheOf, IsRow}
 use Rattle.lazy_dfa.specs.Points.{point}
 use Rattle.lazy_dfa.specs.SearchAnswers.{pair_of}
-use Rattle.lazy_dfa.specs.PassPlaces.{IsWithinSpan, left_at}
+use Rattle.lazy_dfa.specs.ScanOffsets.{IsWithinSpan, left_at}
 use Rattle.lazy_dfa.proofs.OverlappingWalks.WalkReadLemmas.{StandsOn}
 use Rattle.lazy_dfa.proofs.walk_reads.read_on.Given as goal
 

@@ -1,6 +1,6 @@
 use Rattle.std.proofs.Common.{◌∙◌, ◌==◌, ap, Bool, ℕ}
 use Rattle.lazy_dfa.specs.SearchAnswers.{pair_of}
-use Rattle.lazy_dfa.specs.PassPlaces.{gave_up_at}
+use Rattle.lazy_dfa.specs.ScanOffsets.{gave_up_at}
 use Rattle.lazy_dfa.proofs.CacheChanges.LinkedLemmas.{is_cache_moved}
 use Rattle.lazy_dfa.proofs.Courses.SpanTurnLemmas.{moved_is, finished_moves, finished_where_moves}
 use Rattle.lazy_dfa.proofs.OverlappingWalks.WalkTurnLemmas.{unit_same, step_leads, step_refused, step_quits}
@@ -25,7 +25,8 @@ returns-in-Err-clause-step g c =
     (pair_of c.args.position.best) c.unit_at-unit.result c.progress_at-place.result c.search_update.ensures c.requires.running
     c.finish_where.new.cache (c.progress_at-place.ensures ∙ ap (λ (b : Bool). gave_up_at b c.args.input.now c.args.position.at)
     c.requires.is_reverse) is
-    c.in-Err.e c.refusal.result _ (ap (λ (x : ℕ). c.args.position.at == x) c.last_place.ensures) c.finish_where.ensures c.refusal.ensures
+    c.in-Err.e c.rejection.result _ (ap (λ (x : ℕ). c.args.position.at == x) c.last_offset.ensures) c.finish_where.ensures
+    c.rejection.ensures
     (c.in-Err.ensures.turn c.args.input.now.haystack is)
 
 pub returns-in-Quits-clause-own : goal.returns-in-Quits-clause-own

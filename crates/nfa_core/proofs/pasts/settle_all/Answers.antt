@@ -10,24 +10,24 @@ use Rattle.nfa_core.specs.declared.draft.Draft.{Draft}
 use Rattle.search_types.proofs.ForCallers.{failed}
 use Rattle.nfa_core.proofs.pasts.settle_all.Goals as goal
 
--- what a state more has cost
+-- what one more state has cost
 moved : (first was now old new : ℕ) → was ≤ first + 2 * old → now + 2 * old ≤ was + 2 * new → now ≤ first + 2 * new
 moved first was now old new so_far more = omega arith
 
 before : (q len index : ℕ) → q < len → len ≤ index → q < index
 before q len index inside past = omega arith
 
--- no more are settled than there are
+-- no more states are settled than there are
 spent : (ds : List Draft) (table : List (Option ℕ)) (first now : ℕ) → IsPastTable (map draft_of ds) table →
     now ≤ first + 2 * settled_count table → now ≤ first + 2 * length ds
-spent ds table first now told so_far =
+spent ds table first now reported so_far =
     let few : settled_count table ≤ length table = count_by-le-length is_some table in
-    let len : length table ≡ length ds = told.len ∙ length-map ds draft_of in
+    let len : length table ≡ length ds = reported.len ∙ length-map ds draft_of in
     omega (arith, few, len, so_far)
 
 pub loop-index-preserved : goal.loop-index-preserved
 loop-index-preserved g c = record {
-  told = c.settle_from.ensures.table;
+  reported = c.settle_from.ensures.table;
   there = below_more (λ (q : ℕ). is_settled c.settle_from.new.self.table.items q ≡ true) c.loop-index.index
       (λ q h. c.settle_from.ensures.kept q (c.loop-index.invariant.there q h))
       (ap (λ (q : ℕ). is_settled c.settle_from.new.self.table.items q) (sym c.must.ensures) ∙ c.settle_from.ensures.there);
@@ -40,7 +40,7 @@ returns-clause-there g c = λ q h. c.loop-index.invariant.there q (before q _ c.
 
 pub returns-clause-moves : goal.returns-clause-moves
 returns-clause-moves g c = spent c.args.drafts.now c.loop-index.pasts.table.items c.args.steps.now c.loop-index.steps
-    c.loop-index.invariant.told c.loop-index.invariant.moves
+    c.loop-index.invariant.reported c.loop-index.invariant.moves
 
 room : (i n most : ℕ) → i < n → n ≤ most + 1 → i ≤ most
 room i n most below few = omega arith
@@ -52,7 +52,7 @@ pub must-requires : goal.must-requires
 must-requires g c = room c.loop-index.index (length c.args.drafts.now) greatest_index c.loop-index-test.true c.requires.numbered
 
 pub settle_from-requires-clause-table : goal.settle_from-requires-clause-table
-settle_from-requires-clause-table g c = c.loop-index.invariant.told
+settle_from-requires-clause-table g c = c.loop-index.invariant.reported
 
 pub settle_from-requires-clause-inside : goal.settle_from-requires-clause-inside
 settle_from-requires-clause-inside g c = subst (λ (q : ℕ). q < length c.args.drafts.now) (sym c.must.ensures) c.loop-index-test.true
@@ -67,4 +67,4 @@ pub returns-in_err-pasts-clause-moves : goal.returns-in_err-pasts-clause-moves
 returns-in_err-pasts-clause-moves g c = none_spent c.args.steps.now (2 * length c.args.drafts.now)
 
 pub returns-clause-table : goal.returns-clause-table
-returns-clause-table g c = c.loop-index.invariant.told
+returns-clause-table g c = c.loop-index.invariant.reported

@@ -5,7 +5,7 @@ use Rattle.nfa_core.proofs.pasts.settle_all.Given as goal
 
 abbrev pub invariant-loop-index : goal.invariant-loop-index
 invariant-loop-index g l = record {
-  told : IsPastTable (map draft_of l.drafts) l.pasts.table.items;
+  reported : IsPastTable (map draft_of l.drafts) l.pasts.table.items;
   there : (q : ℕ) → q < l.index → is_settled l.pasts.table.items q ≡ true;
   moves : l.steps ≤ l.initial.steps + 2 * settled_count l.pasts.table.items;
 }

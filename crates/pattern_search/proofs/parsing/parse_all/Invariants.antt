@@ -4,7 +4,7 @@ use Rattle.pattern_search.specs.Texts.{AllMean}
 use Rattle.pattern_search.proofs.TextLemmas.{read_texts}
 use Rattle.pattern_search.proofs.parsing.parse_all.Given as goal
 
--- the texts so far have their trees
+-- the patterns so far have their trees
 abbrev pub invariant-loop-number : goal.invariant-loop-number
 invariant-loop-number l =
     AllMean l.config (take l.number (read_texts l.texts)) l.trees.items

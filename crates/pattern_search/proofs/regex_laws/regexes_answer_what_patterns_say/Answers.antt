@@ -10,7 +10,7 @@ pub returns : goal.returns
 returns g = λ res xs ends spans s p built first feeds. record {
   found = λ loops h at search c o answers. found_by_settings res xs ends spans s feeds h at search loops o
       (g.searches_answer_what_trees_define.ensures xs s p built first (whole_search h at) search loops c o answers is_word_char word_set);
-  told = λ loops h at search c b answers. told_by_settings res xs ends spans s feeds h at search loops b
+  reported = λ loops h at search c b answers. told_by_settings res xs ends spans s feeds h at search loops b
       (g.matches_are_told_as_trees_define.ensures xs s p built first (whole_search h at) search loops c b answers is_word_char word_set);
   listed = λ loops h at n search place enough fs old new same taken ends_there. listed_by_settings res xs ends spans s feeds h at
       search loops n enough fs

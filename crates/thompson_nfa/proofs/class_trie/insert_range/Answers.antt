@@ -1,4 +1,4 @@
--- Each sequence stands next in what is left.
+-- Each sequence is the next of what is left.
 use Rattle.thompson_nfa.proofs.Classes.ClassTrieLemmas.{next_ranges, next_turned, met_turned, next_gained}
 use Rattle.thompson_nfa.proofs.class_trie.insert_range.Goals as goal
 

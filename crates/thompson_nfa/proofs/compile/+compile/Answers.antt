@@ -3,8 +3,8 @@ use Rattle.hir_core.specs.Weight.{weight}
 use Rattle.hir_core.specs.Facts.{minimum_len}
 use Rattle.nfa_core.specs.BuilderStates.{Assembly}
 use Rattle.thompson_nfa.specs.Compiled.{is_above_zero}
-use Rattle.thompson_nfa.specs.ByteRoom.{at_least, at_most, tree_least, tree_most, group_bytes, loop_bytes, rounds_bytes}
-use Rattle.thompson_nfa.specs.Turned.{turned_place}
+use Rattle.thompson_nfa.specs.ByteRoom.{at_least, at_most, tree_least, tree_most}
+use Rattle.thompson_nfa.specs.Turned.{turned_position}
 use Rattle.thompson_nfa.proofs.Steps.ErrorLemmas.{handed, err_only}
 use Rattle.thompson_nfa.proofs.Steps.GrowLemmas.{ready_later}
 use Rattle.thompson_nfa.proofs.Steps.ProgressLemmas.{made_capped}
@@ -13,11 +13,11 @@ use Rattle.thompson_nfa.proofs.Fragments.OptionLemmas.{option_made, option_does}
 use Rattle.thompson_nfa.proofs.Fragments.CopyLemmas.{copies_first, copies_then, copies_exact, copies_loop, rounds_owed, rounds_first}
 use Rattle.thompson_nfa.proofs.Fragments.CopyLemmas.{rounds_then, rounds_made, rounds_does, copies_done, at_least_made, stopped_does}
 use Rattle.thompson_nfa.proofs.Fragments.CopyLemmas.{bounds_does, groups_again, copies_left, copies_lead_passed}
-use Rattle.thompson_nfa.proofs.Fragments.CopyLemmas.{rounds_left, rounds_lead_passed, rounds_last_passed, rounds_take}
+use Rattle.thompson_nfa.proofs.Fragments.CopyLemmas.{rounds_left, rounds_lead_passed, rounds_take}
 use Rattle.thompson_nfa.proofs.Fragments.PartBytes.{bytes_of_alternation, bytes_of_literals}
 use Rattle.thompson_nfa.proofs.Fragments.PartBytes.{two_bytes, round_bytes, copies_before, loop_is, some_owed, group_kept}
-use Rattle.thompson_nfa.proofs.Fragments.TakeLemmas.{takes_wider, star_takes, plus_takes, option_takes, loop_takes, loop_passed, capture_takes}
-use Rattle.thompson_nfa.proofs.Fragments.TakeLemmas.{capture_passed, join_takes, join_passed, second_lead_passed, third_lead_passed}
+use Rattle.thompson_nfa.proofs.Fragments.TakeLemmas.{takes_wider, star_takes, plus_takes, option_takes, loop_takes, capture_takes}
+use Rattle.thompson_nfa.proofs.Fragments.TakeLemmas.{join_takes, second_lead_passed, third_lead_passed}
 use Rattle.thompson_nfa.proofs.Fragments.TakeLemmas.{fourth_lead_passed}
 use Rattle.thompson_nfa.proofs.Fragments.CaptureLemmas.{capture_made, capture_does, plain_does}
 use Rattle.thompson_nfa.proofs.Fragments.ConcatLemmas.{weight_in_alternation, parts_first, parts_then, parts_made, parts_does}
@@ -192,8 +192,8 @@ concatenation-compile-requires t c = (
   omega (
     arith,
     c.decreases,
-    weight_in_concat c.args.subs.now c.turned_place-begin.result c.index-subs-begin.result
-        c.turned_place-begin.ensures.within,
+    weight_in_concat c.args.subs.now c.turned_position-begin.result c.index-subs-begin.result
+        c.turned_position-begin.ensures.within,
     ap weight c.index-subs-begin.is,
   ),
   c.requires,
@@ -204,7 +204,7 @@ concatenation-compile-requires-in-loop-i t c = (
   omega (
     arith,
     c.decreases,
-    weight_in_concat c.args.subs.now c.turned_place-place.result c.index-subs-place.result c.turned_place-place.ensures.within,
+    weight_in_concat c.args.subs.now c.turned_position-place.result c.index-subs-place.result c.turned_position-place.ensures.within,
     ap weight c.index-subs-place.is,
   ),
   ready_later c.args.how.which _ _ c.loop-i.invariant.made.fragment.grows c.requires,
@@ -214,14 +214,15 @@ pub concatenation-loop-i-init : goal.concatenation-loop-i-init
 concatenation-loop-i-init t c =
     parts_first c.args.how _ _ _ _ c.index-subs-begin.result c.args.subs.now c.requires (omega arith)
     (c.index-subs-begin.is ∙ ap (λ k. get_or c.args.subs.now k c.index-subs-begin.result)
-    (c.turned_place-begin.ensures.value ∙ ap (λ back. turned_place back 0 (length c.args.subs.now)) c.get_reverse-reverse.ensures))
+    (c.turned_position-begin.ensures.value ∙ ap (λ back. turned_position back 0 (length c.args.subs.now)) c.get_reverse-reverse.ensures))
     c.in_ok-first.ensures.made c.in_ok-first.ensures.denotes c.in_ok-first.ensures.groups c.in_ok-first.ensures.weighs
 
 pub concatenation-loop-i-preserved : goal.concatenation-loop-i-preserved
 concatenation-loop-i-preserved t c =
     parts_then c.args.how _ _ _ _ _ _ _ _ c.loop-i.i c.index-subs-place.result c.args.subs.now c.requires c.loop-i-test.true
     (c.index-subs-place.is ∙ ap (λ k. get_or c.args.subs.now k c.index-subs-place.result)
-    (c.turned_place-place.ensures.value ∙ ap (λ back. turned_place back c.loop-i.i (length c.args.subs.now)) c.get_reverse-reverse.ensures))
+    (c.turned_position-place.ensures.value ∙ ap (λ back. turned_position back c.loop-i.i (length c.args.subs.now))
+    c.get_reverse-reverse.ensures))
     c.loop-i.invariant c.in_ok-next.ensures.made c.in_ok-next.ensures.denotes c.in_ok-next.ensures.groups c.in_ok-lead.ensures
     c.in_ok-next.ensures.weighs
 
@@ -236,13 +237,15 @@ concatenation-returns-in_err-first t c =
       refused = handed _ _ c.in_err-first.field-0.0 is (first_part_refused c.args.how _ _ c.index-subs-begin.result c.args.subs.now _
           (omega arith)
           (c.index-subs-begin.is ∙ ap (λ k. get_or c.args.subs.now k c.index-subs-begin.result)
-          (c.turned_place-begin.ensures.value ∙ ap (λ back. turned_place back 0 (length c.args.subs.now)) c.get_reverse-reverse.ensures))
+          (c.turned_position-begin.ensures.value ∙ ap (λ back. turned_position back 0 (length c.args.subs.now))
+          c.get_reverse-reverse.ensures))
           c.in_err-first.ensures.refused);
       passed = handed _ _ c.in_err-first.field-0.0 is (omega (
         arith,
         first_part_bytes (at_most c.args.how.shrink) c.args.how.which _ c.index-subs-begin.result c.args.subs.now (omega arith)
             (c.index-subs-begin.is ∙ ap (λ k. get_or c.args.subs.now k c.index-subs-begin.result)
-            (c.turned_place-begin.ensures.value ∙ ap (λ back. turned_place back 0 (length c.args.subs.now)) c.get_reverse-reverse.ensures)),
+            (c.turned_position-begin.ensures.value ∙ ap (λ back. turned_position back 0 (length c.args.subs.now))
+            c.get_reverse-reverse.ensures)),
         c.in_err-first.ensures.passed,
       ));
     }
@@ -258,14 +261,14 @@ concatenation-returns-in_err-next t c =
       refused = handed _ _ c.in_err-next.field-0.0 is (parts_refused c.args.how _ _ _ _ c.loop-i.i c.args.subs.now c.loop-i.invariant _
           c.index-subs-place.result _ c.loop-i-test.true
           (c.index-subs-place.is ∙ ap (λ k. get_or c.args.subs.now k c.index-subs-place.result)
-          (c.turned_place-place.ensures.value ∙ ap (λ back. turned_place back c.loop-i.i (length c.args.subs.now))
+          (c.turned_position-place.ensures.value ∙ ap (λ back. turned_position back c.loop-i.i (length c.args.subs.now))
           c.get_reverse-reverse.ensures))
           c.in_err-next.ensures.refused);
       passed = handed _ _ c.in_err-next.field-0.0 is (omega (
         arith,
         parts_left c.args.how _ _ _ _ c.loop-i.i c.args.subs.now c.loop-i.invariant c.index-subs-place.result c.loop-i-test.true
             (c.index-subs-place.is ∙ ap (λ k. get_or c.args.subs.now k c.index-subs-place.result)
-            (c.turned_place-place.ensures.value ∙ ap (λ back. turned_place back c.loop-i.i (length c.args.subs.now))
+            (c.turned_position-place.ensures.value ∙ ap (λ back. turned_position back c.loop-i.i (length c.args.subs.now))
             c.get_reverse-reverse.ensures)),
         c.in_err-next.ensures.passed,
       ));
@@ -283,13 +286,13 @@ concatenation-returns-in_err-lead t c =
           _ _ _ _ c.index-subs-place.result _
           c.loop-i-test.true
           (c.index-subs-place.is ∙ ap (λ k. get_or c.args.subs.now k c.index-subs-place.result)
-          (c.turned_place-place.ensures.value ∙ ap (λ back. turned_place back c.loop-i.i (length c.args.subs.now))
+          (c.turned_position-place.ensures.value ∙ ap (λ back. turned_position back c.loop-i.i (length c.args.subs.now))
           c.get_reverse-reverse.ensures))
           c.in_ok-next.ensures.made c.in_err-lead.ensures.stays);
       passed = handed _ _ c.in_err-lead.field-0.0 is (parts_lead_passed c.args.how _ _ _ _ c.loop-i.i c.args.subs.now
           c.loop-i.invariant _ _ _ _ _ c.index-subs-place.result _ c.loop-i-test.true
           (c.index-subs-place.is ∙ ap (λ k. get_or c.args.subs.now k c.index-subs-place.result)
-          (c.turned_place-place.ensures.value ∙ ap (λ back. turned_place back c.loop-i.i (length c.args.subs.now))
+          (c.turned_position-place.ensures.value ∙ ap (λ back. turned_position back c.loop-i.i (length c.args.subs.now))
           c.get_reverse-reverse.ensures))
           c.in_ok-next.ensures.made c.in_ok-next.ensures.weighs c.in_err-lead.ensures);
     }

@@ -1,9 +1,9 @@
 use Rattle.std.proofs.Common.{◌∙◌, length, get_or, arith, ap}
 use Rattle.nfa_core.specs.BuilderStates.{Assembly}
-use Rattle.thompson_nfa.specs.Turned.{turned_place}
+use Rattle.thompson_nfa.specs.Turned.{turned_position}
 use Rattle.thompson_nfa.proofs.Fragments.JoinLemmas.{join_made, join_does, does_first, does_all, does_same}
 use Rattle.thompson_nfa.proofs.Fragments.TurnLemmas.{literal_joins, literal_begun, literal_ended, none_is_literal}
-use Rattle.thompson_nfa.proofs.Fragments.TakeLemmas.{takes_wider, join_takes, join_passed}
+use Rattle.thompson_nfa.proofs.Fragments.TakeLemmas.{takes_wider, join_takes}
 use Rattle.thompson_nfa.proofs.leaves.literal.Goals as goal
 
 pub loop-i-init : goal.loop-i-init
@@ -12,8 +12,8 @@ loop-i-init c = (
   c.in_ok-first.ensures.groups,
   omega arith,
   does_first _ _ _ _ _ _ _ (literal_begun c.args.builder.now.reverse c.args.bytes.now _ 0 (omega arith)
-      (ap (λ k. get_or c.args.bytes.now k 0) (c.turned_place.ensures.value
-      ∙ ap (λ back. turned_place back 0 (length c.args.bytes.now)) c.get_reverse-reverse.ensures))) c.in_ok-first.ensures.denotes,
+      (ap (λ k. get_or c.args.bytes.now k 0) (c.turned_position.ensures.value
+      ∙ ap (λ back. turned_position back 0 (length c.args.bytes.now)) c.get_reverse-reverse.ensures))) c.in_ok-first.ensures.denotes,
   takes_wider _ _ _ _ _ _ _ c.in_ok-first.ensures.weighs (omega arith) (omega arith),
 )
 
@@ -24,8 +24,8 @@ loop-i-preserved c = (
   omega arith,
   join_does _ _ _ _ _ _ _ _ _ _ c.loop-i.invariant.0 c.in_ok-next.ensures.made c.in_ok-lead.ensures _ _ _ _
       (literal_joins c.args.builder.now.reverse c.args.bytes.now c.loop-i.i _ 0 (omega arith)
-      (ap (λ k. get_or c.args.bytes.now k 0) (c.turned_place-in-loop-i.ensures.value
-      ∙ ap (λ back. turned_place back c.loop-i.i (length c.args.bytes.now)) c.get_reverse-reverse.ensures))) c.loop-i.invariant.3
+      (ap (λ k. get_or c.args.bytes.now k 0) (c.turned_position-in-loop-i.ensures.value
+      ∙ ap (λ back. turned_position back c.loop-i.i (length c.args.bytes.now)) c.get_reverse-reverse.ensures))) c.loop-i.invariant.3
       c.in_ok-next.ensures.denotes,
   takes_wider _ _ _ _ _ _ _ (join_takes _ _ _ _ _ _ _ _ _ _ _ c.loop-i.invariant.4 c.loop-i.invariant.0.fragment.end_there
       c.in_ok-next.ensures.made c.in_ok-next.ensures.weighs _ c.in_ok-lead.ensures) (omega arith) (omega arith),

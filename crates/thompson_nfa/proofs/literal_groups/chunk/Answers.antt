@@ -1,5 +1,5 @@
 use Rattle.std.proofs.Common.{◌++◌, ◌+◌, [], ◌∷◌, sym, ap, ◌∙◌, arith}
-use Rattle.thompson_nfa.specs.LiteralGroups.{texts, tails, texts_of_groups}
+use Rattle.thompson_nfa.specs.LiteralGroups.{texts, tails, strings_of_groups}
 use Rattle.thompson_nfa.proofs.LiteralTries.LiteralGroupLemmas.{chunk_begun, chunk_next, chunk_done, next_above, group_pushed, group_count}
 use Rattle.thompson_nfa.proofs.literal_groups.chunk.Goals as goal
 
@@ -14,7 +14,7 @@ loop-byte-smaller c =
 
 pub loop-byte-preserved : goal.loop-byte-preserved
 loop-byte-preserved c =
-    chunk_next c.args.first _ (texts_of_groups (λ g. g.items) c.loop-byte.groups.items) c.loop-byte.low c.loop-byte.edges.items
+    chunk_next c.args.first _ (strings_of_groups (λ g. g.items) c.loop-byte.groups.items) c.loop-byte.low c.loop-byte.edges.items
     (texts c.args.strings.now) c.loop-byte.invariant c.in-Some.byte (sym c.next_byte.ensures ∙ c.in-Some.is) c.edge_by.ensures.within
     _ _ _ (c.args.first + c.len.result)
     (group_pushed (λ g. g.items) c.loop-byte.groups.items _ c.in_ok-tails.field-0

@@ -1,9 +1,9 @@
-use Rattle.std.proofs.Common.{arith, ap}
+use Rattle.std.proofs.Common.{arith}
 use Rattle.thompson_nfa.specs.ByteRoom.{at_most}
-use Rattle.thompson_nfa.specs.ListBytes.{patterns_bytes}
 use Rattle.thompson_nfa.proofs.Steps.ErrorLemmas.{handed}
 use Rattle.thompson_nfa.proofs.WholePatterns.UnitedLemmas.{none_compiled, one_compiled, second_refused, further_refused, several_compiled}
-use Rattle.thompson_nfa.proofs.WholePatterns.ListLemmas.{first_pattern, two_patterns, no_patterns, union_way, none_take, one_takes, several_take}
+use Rattle.thompson_nfa.proofs.WholePatterns.ListLemmas.{first_pattern, two_patterns, no_patterns, union_way, none_take, one_takes}
+use Rattle.thompson_nfa.proofs.WholePatterns.ListLemmas.{several_take}
 use Rattle.thompson_nfa.proofs.patterns.compile_patterns.Goals as goal
 
 pub returns-in_default-clause-has : goal.returns-in_default-clause-has

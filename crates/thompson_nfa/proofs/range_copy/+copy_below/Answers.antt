@@ -1,4 +1,4 @@
--- Each edge leads to an earlier node, and its copy stands next.
+-- Each edge leads to an earlier node, and its copy is next.
 use Rattle.std.proofs.Common.{◌<◌, length, get_or, arith, subst, refl, sym, ap, ◌∙◌}
 use Rattle.thompson_nfa.specs.declared.trie_nodes.Next.{Next}
 use Rattle.thompson_nfa.specs.declared.trie_nodes.Next.TheVariants.{Nothing}

@@ -1,4 +1,4 @@
--- Each edge leads to an earlier node, and what it emits stands next in what is left.
+-- Each edge leads to an earlier node, and what it emits is next in what is left.
 use Rattle.std.proofs.Common.{◌<◌, length, get_or, arith, subst, ap, ◌∙◌}
 use Rattle.thompson_nfa.specs.declared.trie_nodes.Next.{Next}
 use Rattle.thompson_nfa.specs.declared.trie_nodes.Next.TheVariants.{Nothing}

@@ -1,4 +1,4 @@
--- Each call stands before those that are left.
+-- Each call comes before those that are left.
 use Rattle.std.proofs.Common.{of_calls, subst, Ok, Err}
 use Rattle.thompson_nfa.proofs.Tries.CallLemmas.{calls_more, calls_up_to, calls_refused}
 use Rattle.thompson_nfa.proofs.range_walk.call_each.Goals as goal

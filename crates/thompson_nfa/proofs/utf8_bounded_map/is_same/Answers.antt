@@ -1,4 +1,4 @@
--- Lists are the same where their transitions are.
+-- Lists are equal if their transitions are.
 use Rattle.std.proofs.Common.{rules}
 use Rattle.std.proofs.lemmas.Slice.Eq.{slice_eq-Decides}
 use Rattle.thompson_nfa.proofs.utf8_bounded_map.is_same.Goals as goal

@@ -1,9 +1,9 @@
 use Rattle.std.proofs.Common.{◌∙◌}
 use Rattle.capi.specs.Compiled.{config_by}
-use Rattle.capi.proofs.FoundLemmas.{told_of}
+use Rattle.capi.proofs.FoundLemmas.{progress_of}
 use Rattle.capi.proofs.compiled.Compiled.is_match.Goals as goal
 
-pub returns-clause-told : goal.returns-clause-told
-returns-clause-told c res read =
+pub returns-clause-reported : goal.returns-clause-reported
+returns-clause-reported c res read =
     c.is_some.ensures
-    ∙ told_of (config_by c.args.self.now) c.args.self.now.texts c.args.haystack.now c.in-Ok.found c.in-Ok.ensures.found res read
+    ∙ progress_of (config_by c.args.self.now) c.args.self.now.texts c.args.haystack.now c.in-Ok.found c.in-Ok.ensures.found res read

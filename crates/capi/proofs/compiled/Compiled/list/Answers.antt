@@ -62,7 +62,7 @@ returns-clause-listed c =
     (order_runs_out (config_by c.args.self.now) c.args.self.now.texts c.args.haystack.now c.args.rows.now c.loop-count.count
     c.loop-count.rows c.loop-count.next (omega (arith, last)) c.loop-count.invariant.2)
 
--- where a search fails
+-- if a search fails
 pub returns-in-Err-clause-first : goal.returns-in-Err-clause-first
 returns-in-Err-clause-first c on =
     none_first (config_by c.args.self.now) c.args.self.now.texts c.args.haystack.now c.args.rows.now (sym (none_laid c.args.rows.now))

@@ -3,15 +3,17 @@ use Rattle.std.specs.Prelude.{IfSome}
 use Rattle.search_types.specs.declared.match_kind.MatchKind.TheVariants.{LeftmostFirst, All as AllMatches}
 use Rattle.regex_pair.specs.Pairs.{Pair}
 use Rattle.pattern_search.proofs.ForCallers.{read_texts}
-use Rattle.capi.specs.Compiled.{AreBuiltOf, AreToldOf}
+use Rattle.capi.specs.Compiled.{AreBuiltOf, AreReportedOf}
 use Rattle.capi.specs.Options.{config_of_options}
 use Rattle.capi.proofs.compiled.Compiled.new.Goals as goal
 
 pub invariant_of-result : goal.invariant_of-result
 invariant_of-result c = (
-  subst (λ (ts : List (List ℕ)). AreToldOf (config_of_options c.args.options.now) ts LeftmostFirst c.in-Ok.made.loops c.in-Ok-of.automata)
+  subst (λ (ts : List (List ℕ)). AreReportedOf (config_of_options c.args.options.now) ts LeftmostFirst c.in-Ok.made.loops
+      c.in-Ok-of.automata)
       (sym c.in-Ok-owned.ensures)
-      (subst (λ (p : Pair). AreToldOf (config_of_options c.args.options.now) (read_texts c.args.texts.now) LeftmostFirst c.in-Ok.made.loops
+      (subst (λ (p : Pair). AreReportedOf (config_of_options c.args.options.now) (read_texts c.args.texts.now) LeftmostFirst
+      c.in-Ok.made.loops
       p)
       (sym c.in-Ok-of.ensures)
       c.in-Ok.ensures.made.0),

@@ -1,7 +1,7 @@
 use Rattle.std.proofs.Common.{◌≡◌, true, map, string_bytes, subst, sym}
 use Rattle.search_core.specs.Utf8.{IsValidText}
 use Rattle.search_types.specs.declared.match_kind.MatchKind.TheVariants.{LeftmostFirst}
-use Rattle.capi.specs.Compiled.{Regexed, AreToldOf, HasFoundStart, HasFoundSpan, config_by}
+use Rattle.capi.specs.Compiled.{Regexed, AreReportedOf, HasFoundStart, HasFoundSpan, config_by}
 use Rattle.capi.specs.Options.{config_of_options}
 use Rattle.capi.proofs.compiled.Compiled.search_quickly.Goals as goal
 
@@ -22,7 +22,8 @@ returns-clause-preferred c =
 
 pub invariant_of-self : goal.invariant_of-self
 invariant_of-self c = (
-  subst (AreToldOf (config_of_options c.self.inside.options) (map string_bytes c.self.inside.texts.items) LeftmostFirst c.self.inside.loops)
+  subst (AreReportedOf (config_of_options c.self.inside.options) (map string_bytes c.self.inside.texts.items) LeftmostFirst
+      c.self.inside.loops)
       (sym c.find.ensures.same)
       c.self.invariant.0,
   c.self.invariant.1,
@@ -31,7 +32,8 @@ invariant_of-self c = (
 
 pub invariant_of-self-2 : goal.invariant_of-self-2
 invariant_of-self-2 c = (
-  subst (AreToldOf (config_of_options c.self.inside.options) (map string_bytes c.self.inside.texts.items) LeftmostFirst c.self.inside.loops)
+  subst (AreReportedOf (config_of_options c.self.inside.options) (map string_bytes c.self.inside.texts.items) LeftmostFirst
+      c.self.inside.loops)
       (sym c.find.ensures.same)
       c.self.invariant.0,
   c.self.invariant.1,

@@ -8,16 +8,16 @@ use Rattle.capi.proofs.compiled.Compiled.search_slowly.Goals as goal
 pub returns-clause-found : goal.returns-clause-found
 returns-clause-found c =
     found_slowly c.args.haystack.now c.see_bytes.ensures (config_by c.args.self.now) c.args.self.now.texts c.in-Ok.regexes.items c.args.from
-    c.in-Ok.ensures.regexes c.in-Ok-told.found
-    (c.in-Ok-told.ensures.best
+    c.in-Ok.ensures.regexes c.in-Ok-reported.found
+    (c.in-Ok-reported.ensures.best
     ∙ ap (λ (rs : List Fallback). best_of 0 (map (span_by c.args.haystack.now c.args.from) rs)) c.deref.ensures.value)
 
 pub returns-clause-preferred : goal.returns-clause-preferred
 returns-clause-preferred c =
     preferred_slowly c.args.haystack.now c.see_bytes.ensures
     (config_by c.args.self.now) c.args.self.now.texts c.in-Ok.regexes.items c.args.from
-    c.in-Ok.ensures.regexes c.in-Ok-told.found
-    (c.in-Ok-told.ensures.best
+    c.in-Ok.ensures.regexes c.in-Ok-reported.found
+    (c.in-Ok-reported.ensures.best
     ∙ ap (λ (rs : List Fallback). best_of 0 (map (span_by c.args.haystack.now c.args.from) rs)) c.deref.ensures.value)
 
 pub returns-clause-same : goal.returns-clause-same

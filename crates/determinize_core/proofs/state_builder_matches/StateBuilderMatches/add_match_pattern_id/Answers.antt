@@ -7,7 +7,7 @@ use Rattle.determinize_core.specs.Positions.{ArePositions}
 use Rattle.determinize_core.proofs.PositionLemmas.{noted_same, noted_last, noted_apart}
 use Rattle.determinize_core.proofs.state_builder_matches.StateBuilderMatches.add_match_pattern_id.Goals as goal
 
--- a refused pattern was noted at most, which the list lacks
+-- if an allocation fails, at most a position was noted for the pattern, which isn't in the list
 refused : (old new noted now : List ℕ) (p : ℕ) → IsUnfinished old → ArePositions noted (decoded_unfinished old).matches →
     list_any (nat_eq p) (decoded_unfinished old).matches ≡ false →
     ((q : ℕ) → q ≢ p → slice_index now q ≡ slice_index noted q) → new ≡ old →

@@ -1,4 +1,4 @@
-use Rattle.std.proofs.Common.{◌≡◌, ◌==◌, ◌&&◌, ◌||◌, Bool, Option, map, sym, ◌∙◌, subst}
+use Rattle.std.proofs.Common.{◌≡◌, ◌==◌, ◌&&◌, ◌||◌, ◌∷◌, [], Option, sym, ◌∙◌, subst}
 use Rattle.std.specs.Prelude.{not, option_map}
 use Rattle.line_trees.specs.LineTrees.{line_tree}
 use Rattle.grep_core.specs.declared.candidates.Stop.{Stop}
@@ -10,15 +10,17 @@ use Rattle.grep_core.proofs.candidates.Candidates.next_line.Goals as goal
 pub returns-in-None-clause-passed : goal.returns-in-None-clause-passed
 returns-in-None-clause-passed c how texts it =
     all_passed how texts c.args.self.now.0 c.args.block.now c.args.at it c.see_bytes.ensures c.requires.starts
-    (subst (λ (o : Option Stop). IsStopIfAny (map (line_tree how.crlf) it.trees) c.args.block.now c.args.at (option_map (λ s. s.place) o)) c.in-None.is
-    (c.in-Ok.ensures.told (map (line_tree how.crlf) it.trees) it.capacity it.built))
+    (subst (λ (o : Option Stop). IsStopIfAny (line_tree how.crlf it.tree ∷ []) c.args.block.now c.args.at (option_map (λ s. s.place) o))
+    c.in-None.is
+    (c.in-Ok.ensures.reported (line_tree how.crlf it.tree ∷ []) it.capacity it.built))
 
 pub returns-in-Some-clause-passed : goal.returns-in-Some-clause-passed
 returns-in-Some-clause-passed c how texts it =
     lines_passed how texts c.args.self.now.0 c.args.block.now c.args.at it c.see_bytes.ensures c.requires.starts c.in-Some.stop.place
     c.line_start-start.result
-    (subst (λ (o : Option Stop). IsStopIfAny (map (line_tree how.crlf) it.trees) c.args.block.now c.args.at (option_map (λ s. s.place) o)) c.in-Some.is
-    (c.in-Ok.ensures.told (map (line_tree how.crlf) it.trees) it.capacity it.built))
+    (subst (λ (o : Option Stop). IsStopIfAny (line_tree how.crlf it.tree ∷ []) c.args.block.now c.args.at (option_map (λ s. s.place) o))
+    c.in-Some.is
+    (c.in-Ok.ensures.reported (line_tree how.crlf it.tree ∷ []) it.capacity it.built))
     c.line_start-start.ensures.within c.line_start-start.ensures.before c.line_start-start.ensures.starts
 
 pub returns-in-Some-clause-has : goal.returns-in-Some-clause-has
@@ -28,15 +30,16 @@ returns-in-Some-clause-has c how texts it known =
     c.see_bytes.ensures c.requires.starts c.line_start-start.ensures.within c.line_start-start.ensures.from
     c.line_start-start.ensures.before c.line_start-start.ensures.starts
     (subst (λ (o : Option Stop). IfSome o (λ s. s.is_end ≡ true →
-    IsEnd (map (line_tree how.crlf) it.trees) c.args.block.now c.args.at s.place)) c.in-Some.is
-    (c.in-Ok.ensures.ends (map (line_tree how.crlf) it.trees) it.capacity it.built))
+    IsEnd (line_tree how.crlf it.tree ∷ []) c.args.block.now c.args.at s.place)) c.in-Some.is
+    (c.in-Ok.ensures.ends (line_tree how.crlf it.tree ∷ []) it.capacity it.built))
     c.line_start-start.ensures.last (subst
-    (λ (p : BlockRegex). (not p.crlf && (c.in-Some.stop.is_end && (p.feedless || c.line_start-start.result == c.args.at))) ≡ true) c.stop_from.ensures.same
+    (λ (p : BlockRegex). (not p.crlf && (c.in-Some.stop.is_end && (p.feedless || c.line_start-start.result == c.args.at))) ≡
+    true) c.stop_from.ensures.same
     (sym c.is_known.ensures ∙ known))
 
 pub returns-in-Some-clause-stops : goal.returns-in-Some-clause-stops
 returns-in-Some-clause-stops c xs capacity built below =
     stops_in_line xs c.args.block.now c.args.at c.line_start-start.result c.in-Some.stop.place
     (subst (λ (o : Option Stop). IsStopIfAny xs c.args.block.now c.args.at (option_map (λ s. s.place) o)) c.in-Some.is
-    (c.in-Ok.ensures.told xs capacity built))
+    (c.in-Ok.ensures.reported xs capacity built))
     c.line_start-start.ensures.before c.line_start-start.ensures.last

@@ -1,4 +1,4 @@
-use Rattle.std.proofs.Common.{Bool, Option, ℕ, refl, sym, subst}
+use Rattle.std.proofs.Common.{Option, ℕ, refl, sym, subst}
 use Rattle.ucd_perl.specs.Perl.{is_word_char}
 use Rattle.pattern_text.specs.Words.{word_set}
 use Rattle.regex_pair.specs.Pairs.{PairCache}
@@ -8,8 +8,8 @@ use Rattle.grep_core.specs.Searchers.{sized_settings}
 use Rattle.grep_core.proofs.CandidateLemmas.{end_told, ends_told}
 use Rattle.grep_core.proofs.candidates.Candidates.stop_from.Goals as goal
 
-pub returns-in-Ok-clause-told : goal.returns-in-Ok-clause-told
-returns-in-Ok-clause-told c xs capacity built =
+pub returns-in-Ok-clause-reported : goal.returns-in-Ok-clause-reported
+returns-in-Ok-clause-reported c xs capacity built =
     let is = subst (λ (v : BlockRegex × PairCache). IsBuilt xs (sized_settings capacity) v.0.regex) (sym c.self.view_is) built in
     subst (λ (o : Option ℕ). IsStopIfAny xs c.args.block.now c.args.at o) (sym c.stop_at.ensures)
     (end_told xs c.args.block.now c.args.at c.in-Ok.end
@@ -21,8 +21,8 @@ returns-in-Ok-clause-ends c xs capacity built =
     ends_told xs c.args.block.now c.args.at c.stop_at.result c.in-Ok.end c.stop_at.ensures
     (c.in-Ok.ensures.found xs (sized_settings capacity) is refl refl is_word_char word_set)
 
-pub returns-clause-told : goal.returns-clause-told
-returns-clause-told c xs capacity built =
+pub returns-clause-reported : goal.returns-clause-reported
+returns-clause-reported c xs capacity built =
     let is = subst (λ (v : BlockRegex × PairCache). IsBuilt xs (sized_settings capacity) v.0.regex) (sym c.self.view_is) built in
-    c.in-Ok-refused_at.ensures.told xs c.args.block.now
+    c.in-Ok-refused_at.ensures.reported xs c.args.block.now
     (c.in-Err.ensures.refused xs (sized_settings capacity) is refl refl is_word_char word_set)

@@ -1,6 +1,6 @@
 use Rattle.std.proofs.Common.{map, sym, subst}
 use Rattle.regex_pair.specs.Pairs.{Pair}
-use Rattle.grep_core.specs.Searchers.{IsMatchTold, Sought}
+use Rattle.grep_core.specs.Searchers.{IsMatchReported, Sought}
 use Rattle.grep_core.proofs.SeenLemmas.{IsOwn}
 use Rattle.grep_core.proofs.finder.Finder.has_match_quickly.Goals as goal
 
@@ -20,7 +20,7 @@ invariant_of-self-2 c = (
   c.self.invariant.2,
 )
 
-pub returns-clause-told : goal.returns-clause-told
-returns-clause-told c =
-    subst (λ (s : Sought). IsMatchTold s.how s.texts c.args.line.now c.in-Ok.told) c.self.view_is
-    (c.in-Ok.ensures.told c.self.inside.how (map (λ t. t.now) c.self.inside.texts.now) c.self.invariant.0.0)
+pub returns-clause-reported : goal.returns-clause-reported
+returns-clause-reported c =
+    subst (λ (s : Sought). IsMatchReported s.how s.texts c.args.line.now c.in-Ok.reported) c.self.view_is
+    (c.in-Ok.ensures.reported c.self.inside.how (map (λ t. t.now) c.self.inside.texts.now) c.self.invariant.0.0)

@@ -1,7 +1,7 @@
 use Rattle.std.proofs.Common.{◌≡◌, true, map, sym, subst}
 use Rattle.regex_pair.specs.Pairs.{Pair}
 use Rattle.grep_core.specs.Printing.{span_pair}
-use Rattle.grep_core.specs.Searchers.{AreTold, Sought}
+use Rattle.grep_core.specs.Searchers.{AreReported, Sought}
 use Rattle.grep_core.proofs.SeenLemmas.{IsOwn}
 use Rattle.grep_core.proofs.finder.Finder.matches_quickly.Goals as goal
 
@@ -21,8 +21,8 @@ invariant_of-self-2 c = (
   c.self.invariant.2,
 )
 
-pub returns-clause-told : goal.returns-clause-told
-returns-clause-told c =
-    subst (λ (s : Sought). s.spans ≡ true → AreTold s.how s.texts c.args.line.now (map span_pair c.in-Ok.found.items)) c.self.view_is
-    (λ asked. c.in-Ok.ensures.told c.self.inside.how (map (λ t. t.now) c.self.inside.texts.now) c.self.invariant.0.0
+pub returns-clause-reported : goal.returns-clause-reported
+returns-clause-reported c =
+    subst (λ (s : Sought). s.spans ≡ true → AreReported s.how s.texts c.args.line.now (map span_pair c.in-Ok.found.items)) c.self.view_is
+    (λ asked. c.in-Ok.ensures.reported c.self.inside.how (map (λ t. t.now) c.self.inside.texts.now) c.self.invariant.0.0
     (c.self.invariant.0.1 asked))

@@ -1,4 +1,4 @@
-use Rattle.std.proofs.Common.{◌≡◌, Bool, true, Option, slice_range, subst}
+use Rattle.std.proofs.Common.{◌≡◌, true, Option, slice_range, subst}
 use Rattle.std.specs.Prelude.{IfSome}
 use Rattle.regex_pair.specs.Pairs.{PairCache}
 use Rattle.grep_core.specs.Candidates.{BlockRegex, IsCandidatesOf, HaveNoMatch, HasMatchAt}

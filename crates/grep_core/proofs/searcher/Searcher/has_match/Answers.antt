@@ -4,13 +4,14 @@ use Rattle.search_types.specs.Inputs.{Search}
 use Rattle.pattern_search.specs.Searches.{whole_search}
 use Rattle.regex_pair.specs.PairAnswers.{AnswersPair}
 use Rattle.grep_core.specs.Searchers.{sized_settings}
-use Rattle.grep_core.proofs.ToldLemmas.{told_of}
+use Rattle.grep_core.proofs.ToldLemmas.{progress_of}
 use Rattle.grep_core.proofs.searcher.Searcher.has_match.Goals as goal
 
-pub returns-clause-told : goal.returns-clause-told
-returns-clause-told c how texts it res read =
-    c.is_some.ensures ∙ told_of how texts c.args.self.now.0 c.find.new.cache c.args.line.now c.in-Ok.found
-    (λ rs xs k ends spans built. c.regexes_answer_what_patterns_say.ensures rs xs ends spans (sized_settings k) c.args.self.now.0 built refl refl)
+pub returns-clause-reported : goal.returns-clause-reported
+returns-clause-reported c how texts it res read =
+    c.is_some.ensures ∙ progress_of how texts c.args.self.now.0 c.find.new.cache c.args.line.now c.in-Ok.found
+    (λ rs xs k ends spans built. c.regexes_answer_what_patterns_say.ensures rs xs ends spans (sized_settings k) c.args.self.now.0 built
+    refl refl)
     it c.see_bytes.ensures
     (subst (λ (v : Pair × PairCache). AnswersPair v.0 c.find.new.cache (whole_search c.args.line.now 0) (Ok c.in-Ok.found)) c.self.view_is
     (subst (λ (q : Search). AnswersPair c.self.inside.regex c.find.new.cache q (Ok c.in-Ok.found)) c.new.ensures c.in-Ok.ensures.answer))

@@ -9,13 +9,14 @@ use Rattle.regex_pair.specs.PairAnswers.{AnswersPair}
 use Rattle.regex_pair.specs.Taken.{IsWholeList}
 use Rattle.pattern_search.specs.Searches.{whole_search, span_of_found}
 use Rattle.grep_core.specs.Report.{is_some_text}
-use Rattle.grep_core.specs.Searchers.{IsLineRefused, sized_settings}
+use Rattle.grep_core.specs.Searchers.{IsLineError, sized_settings}
 use Rattle.grep_core.proofs.ToldLemmas.{all_told}
 use Rattle.grep_core.proofs.searcher.Searcher.matches.Goals as goal
 
-pub returns-clause-told : goal.returns-clause-told
-returns-clause-told c how texts it loops = all_told how texts c.args.self.now.0 c.args.line.now c.in-Ok.all.items _
-    (λ rs xs k ends spans built. c.regexes_answer_what_patterns_say.ensures rs xs ends spans (sized_settings k) c.args.self.now.0 built refl refl)
+pub returns-clause-reported : goal.returns-clause-reported
+returns-clause-reported c how texts it loops = all_told how texts c.args.self.now.0 c.args.line.now c.in-Ok.all.items _
+    (λ rs xs k ends spans built. c.regexes_answer_what_patterns_say.ensures rs xs ends spans (sized_settings k) c.args.self.now.0 built
+    refl refl)
     it loops c.see_bytes.ensures
     (subst (λ (v : Pair × PairCache). IsWholeList v.0 (whole_search c.args.line.now 0) c.in-Ok.all.items) c.self.view_is
     (subst (λ (q : Search). IsWholeList c.self.inside.regex q c.in-Ok.all.items) c.new.ensures c.in-Ok.ensures.whole))
@@ -23,7 +24,7 @@ returns-clause-told c how texts it loops = all_told how texts c.args.self.now.0 
 
 pub returns-in-Err-clause-refused : goal.returns-in-Err-clause-refused
 returns-in-Err-clause-refused c =
-    subst (λ (v : Pair × PairCache). IsLineRefused v.0 c.args.line.now c.in-Err.e) c.self.view_is
+    subst (λ (v : Pair × PairCache). IsLineError v.0 c.args.line.now c.in-Err.e) c.self.view_is
     (subst (λ (q : Search). (c.in-Err.e ≡ NoMemory) ⊎
     ((at : ℕ) × (x : PairCache) × AnswersPair c.self.inside.regex x (search_at q at) (Err c.in-Err.e))) c.new.ensures
     c.in-Err.ensures.refused)

@@ -1,4 +1,4 @@
--- `into_box` has parts: memory at the pointer, and the allocator that gave it. This is what the clause of `from_raw` asks for, beside that
+-- `into_box` has parts: memory at the pointer, and the allocator that gave it. The clause of `from_raw` asks for these. It also asks that
 -- both types outlive the lifetimes, which `into_box` may take as given too. The clause answers with a box of the same value, and that is
 -- returned as it is.
 use Rattle.std.proofs.Common.{◌≡◌, ℕ, List, [], ◌∷◌, ◌++◌, refl}
@@ -47,7 +47,7 @@ module _ (E : Bx) where
   abbrev FromParts : Slot 2
   FromParts = plain (λ _. PartsOf E)
 
-  -- what the clause asks for beside the tokens: the allocator and the pointer are owned, both types outlive, and the memory is there
+  -- what the clause asks for besides the tokens: the allocator and the pointer are owned, both types outlive, and the memory is there
   abbrev Asked : {M : Type 1} {𝓤 : Ura M} → Item 𝓤 → Item 𝓤 → Item 𝓤 → (PartsOf E).Denot → Val → ℕ → ℕ → Item 𝓤
   Asked tokens lives alloc_lives p hv b o =
       (tokens ⊛ ‵ (fsep (handle E p.alloc hv) (fsep (feq (List Val) (vptr b o ∷ []) (vptr b o ∷ [])) ftrue)))

@@ -19,8 +19,8 @@ invariant_of-result c = (
       c.is_sound.ensures
       (sym c.is_unsupported.ensures ∙ c.if-is_unsupported.false)
       (sym (too_small_is c.args.nfa c.self.inside.config c.get_skip_cache_capacity_check-skips.result c.get_cache_capacity-given.result
-      c.least_capacity-minimum.result c.is_refused.result
+      c.least_capacity-minimum.result c.is_clear_denied.result
       c.get_skip_cache_capacity_check-skips.ensures c.get_cache_capacity-given.ensures (c.least_capacity-minimum.ensures
-      ∙ ap (λ (m : Measures). least_capacity m) c.measures_of-measures.ensures) c.is_refused.ensures) ∙ c.if-is_refused.false),
+      ∙ ap (λ (m : Measures). least_capacity m) c.measures_of-measures.ensures) c.is_clear_denied.ensures) ∙ c.if-is_clear_denied.false),
   subst (λ (t : Terminator). IsStartTable t c.new-start_map.result) c.look_matcher.ensures c.new-start_map.ensures.table,
 )

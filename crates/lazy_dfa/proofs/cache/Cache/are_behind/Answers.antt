@@ -1,7 +1,7 @@
 use Rattle.std.proofs.Common.{◌≡◌, ◌<◌, ◌≤◌, ⊎_elim, ℕ, refl, sym, ap, ◌∙◌, subst, arith, true≢false}
 use Rattle.std.proofs.lemmas.Bool.{cases_lt}
 use Rattle.lazy_dfa.specs.Ids.{tag}
-use Rattle.lazy_dfa.specs.Leaving.{leaves}
+use Rattle.lazy_dfa.specs.AccelBytes.{leaves}
 use Rattle.lazy_dfa.specs.Skips.{cell_by}
 use Rattle.lazy_dfa.proofs.cache.Cache.are_behind.Goals.{else-leaves-via-then-leaves+else-not-are_behind_one, else-leaves-via-else-leaves}
 use Rattle.lazy_dfa.proofs.cache.Cache.are_behind.Goals as goal

@@ -1,7 +1,7 @@
 use Rattle.std.proofs.Common.{◌≡◌, ◌<◌, ℕ, false, true}
 use Rattle.lazy_dfa.specs.ByteTests.{in_halves}
 use Rattle.lazy_dfa.specs.Ids.{tag}
-use Rattle.lazy_dfa.specs.Leaving.{leaves}
+use Rattle.lazy_dfa.specs.AccelBytes.{leaves}
 use Rattle.lazy_dfa.specs.Skips.{cell_by}
 use Rattle.lazy_dfa.proofs.cache.Cache.are_behind.Given as goal
 

@@ -1,6 +1,6 @@
 use Rattle.std.proofs.Common.{◌≡◌, ◌<◌, ℕ, false}
 use Rattle.lazy_dfa.specs.ByteTests.{in_halves}
-use Rattle.lazy_dfa.specs.Leaving.{leaves}
+use Rattle.lazy_dfa.specs.AccelBytes.{leaves}
 use Rattle.lazy_dfa.specs.Skips.{cell_by}
 use Rattle.lazy_dfa.proofs.cache.Cache.are_behind_one.Given as goal
 

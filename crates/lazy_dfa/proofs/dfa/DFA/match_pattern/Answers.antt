@@ -6,7 +6,7 @@ use Rattle.lazy_dfa.specs.Caches.{CacheValue, IsCacheOf, HeldAt}
 use Rattle.lazy_dfa.proofs.CacheChanges.ChangeLemmas.{one_state}
 use Rattle.lazy_dfa.proofs.dfa.DFA.match_pattern.Goals as goal
 
--- where there is one pattern, each state lists it alone
+-- if there is only one pattern, each state lists only that pattern
 only_pattern : (d : Dfa) (v : CacheValue) (id index : ℕ) (s : StateValue) → IsCacheOf d v → length d.nfa.automaton.start_pattern ≡ 1 →
     HeldAt v id s → index < length s.matches → 0 ≡ slice_index s.matches index
 only_pattern d v id index s own one held inside =

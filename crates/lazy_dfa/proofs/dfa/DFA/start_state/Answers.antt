@@ -30,7 +30,7 @@ returns-in-Ok-clause-made g c =
     let is = c.start_behind-start.ensures ∙ ap (start_of c.args.self.now.nfa.terminator) c.get_look_behind-look_behind.ensures in
     let allowed = allowed_of c.args.self.now c.args.config.now c.check_start.result c.get_look_behind-look_behind.result
     c.get_anchored.result c.in_default.is c.check_start.ensures c.get_look_behind-look_behind.ensures c.get_anchored.ensures in
-    let told = known_here c.args.self.now c.args.config.now c.mode_number-number.result c.in-Some-name_of.name
+    let reported = known_here c.args.self.now c.args.config.now c.mode_number-number.result c.in-Some-name_of.name
     c.start_behind-start.result named number is c.args.cache.now allowed in
     record {
       held = held_named c.start_in_mode.new.cache c.in-Ok.id
@@ -39,10 +39,10 @@ returns-in-Ok-clause-made g c =
           c.start_behind-start.result named number is c.start_in_mode.new.cache c.in-Ok.id x.noted;
       known = λ none q e k. start_known c.args.self.now c.args.config.now c.mode_number-number.result c.in-Some-name_of.name
           c.start_behind-start.result named number is c.args.cache.now c.in-Ok.id _ _
-          refl refl (x.known (told (inr (inr k))));
+          refl refl (x.known (reported (inr (inr k))));
       none = λ none e. absurd (not_none _ c.in-Some-name_of.name (sym named) e);
-      same = λ k. x.same (told k);
-      free = λ k. let w = x.free (told k) in (λ i. (w i).determinized, λ i. (w i).inserted);
+      same = λ k. x.same (reported k);
+      free = λ k. let w = x.free (reported k) in (λ i. (w i).determinized, λ i. (w i).inserted);
       kept = x.kept;
       remains = start_left c.args.self.now c.args.config.now c.mode_number-number.result c.in-Some-name_of.name
           c.start_behind-start.result named number is c.args.cache.now c.start_in_mode.new.cache x.remains;
@@ -66,7 +66,7 @@ returns-in-Err-clause-made g c =
     let is = c.start_behind-start.ensures ∙ ap (start_of c.args.self.now.nfa.terminator) c.get_look_behind-look_behind.ensures in
     let allowed = allowed_of c.args.self.now c.args.config.now c.check_start.result c.get_look_behind-look_behind.result
     c.get_anchored.result c.in_default.is c.check_start.ensures c.get_look_behind-look_behind.ensures c.get_anchored.ensures in
-    let told = known_here c.args.self.now c.args.config.now c.mode_number-number.result c.in-Some-name_of.name
+    let reported = known_here c.args.self.now c.args.config.now c.mode_number-number.result c.in-Some-name_of.name
     c.start_behind-start.result named number is c.args.cache.now allowed in
     record {
       held = tt;
@@ -74,8 +74,8 @@ returns-in-Err-clause-made g c =
       known = λ none q e k. absurd (k (start_noted_at c.args.self.now c.args.config.now c.mode_number-number.result c.in-Some-name_of.name
           c.start_behind-start.result named number is c.args.cache.now unknown_id x.unknown));
       none = λ none e. absurd (not_none _ c.in-Some-name_of.name (sym named) e);
-      same = λ k. x.same (told k);
-      free = λ k. let w = x.free (told k) in (λ i. (w i).determinized, λ i. (w i).inserted);
+      same = λ k. x.same (reported k);
+      free = λ k. let w = x.free (reported k) in (λ i. (w i).determinized, λ i. (w i).inserted);
       kept = x.kept;
       remains = tt;
       cause = start_needs c.args.self.now c.args.config.now c.mode_number-number.result c.in-Some-name_of.name

@@ -1,7 +1,7 @@
 use Rattle.std.proofs.Common.{refl}
 use Rattle.lazy_dfa.specs.Dfas.{reader}
 use Rattle.lazy_dfa.specs.Changes.{unchanged}
-use Rattle.lazy_dfa.specs.WalkAnswers.{which_made}
+use Rattle.lazy_dfa.specs.OverlappingAnswers.{which_made}
 use Rattle.lazy_dfa.proofs.OverlappingWalks.WhichLoopLemmas.{is_sure}
 use Rattle.lazy_dfa.proofs.dfa.DFA.try_which_overlapping_matches.Goals as goal
 

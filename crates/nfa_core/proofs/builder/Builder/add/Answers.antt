@@ -1,7 +1,7 @@
 use Rattle.std.proofs.Common.{ℕ, ◌∷◌, [], ◌≡◌, ◌≤◌, length, ap, sym, subst, refl, ◌∙◌, map}
 use Rattle.std.proofs.lemmas.List.{map-append, length-map}
 use Rattle.search_core.specs.Index.{greatest_index}
-use Rattle.nfa_core.specs.BuilderFaults.{limit_fault, Tells}
+use Rattle.nfa_core.specs.BuilderFaults.{limit_fault, ReportsFaultOf}
 use Rattle.nfa_core.specs.BuilderStates.{bytes_of_drafts, Assembly}
 use Rattle.nfa_core.specs.Drafts.{draft_of}
 use Rattle.nfa_core.specs.InOrder.{patterns_of}
@@ -31,7 +31,7 @@ returns-in_err-check_limit c =
     (ap (λ (b : Assembly). b.drafts) c.self.view_is) (ap (λ (b : Assembly). b.size_limit) c.self.view_is)
     (subst (λ (n : ℕ). n ≤ greatest_index) (c.len.ensures ∙ c.self.inside.drafts.ok.0) c.in-Ok.ensures.0) bytes in
     refused _ _ c.from_residual.result c.in_err-check_limit.field-0.0 c.from_residual.ensures.1
-    (refl, subst (Tells c.in_err-check_limit.field-0.0) (sym fault) c.in_err-check_limit.ensures.0)
+    (refl, subst (ReportsFaultOf c.in_err-check_limit.field-0.0) (sym fault) c.in_err-check_limit.ensures.0)
 
 pub invariant_of-self : goal.invariant_of-self
 invariant_of-self c = rw c.in_err-push.ensures.items c.self.invariant

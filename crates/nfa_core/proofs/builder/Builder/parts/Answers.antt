@@ -17,7 +17,7 @@ use Rattle.nfa_core.proofs.ReachLemmas.{can_reach}
 use Rattle.search_types.proofs.ForCallers.{failed}
 use Rattle.nfa_core.proofs.builder.Builder.parts.Goals as goal
 
--- the names that the code holds are as many as the states
+-- the code holds as many names as there are states
 as_many : (parts seen : List DraftNode) (names given : List ℕ) → seen ≡ parts → given ≡ names → IsNaming seen names →
     length parts ≡ length given
 as_many parts seen names given e same naming = sym (ap length same ∙ (naming.len ∙ ap length e))

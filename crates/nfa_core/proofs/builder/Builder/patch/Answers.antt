@@ -1,6 +1,6 @@
 use Rattle.std.proofs.Common.{ℕ, ◌<◌, List, length, map, ap, sym, subst, refl, ◌∙◌}
 use Rattle.std.proofs.lemmas.List.{length-map}
-use Rattle.nfa_core.specs.BuilderFaults.{limit_fault, Tells, patch_fault}
+use Rattle.nfa_core.specs.BuilderFaults.{limit_fault, ReportsFaultOf, patch_fault}
 use Rattle.nfa_core.specs.BuilderStates.{Assembly, DraftNode, draft_at, way_bytes, bytes_of_drafts}
 use Rattle.nfa_core.specs.Drafts.{draft_of}
 use Rattle.nfa_core.specs.InOrder.{patterns_of, IsInOrder}
@@ -20,7 +20,7 @@ returns-in_err-check_limit-clause-value c =
     (c.way_memory.ensures ∙ ap (λ (l : List Draft). way_bytes (draft_at (map draft_of l) c.args.from)) c.deref.ensures.value) in
     let fault = way_fault _ _ c.args.from c.args.to c.saturating_add-memory.result c.self.view_is bytes in
     refused _ _ c.from_residual.result c.in_err-check_limit.field-0.0 c.from_residual.ensures.1
-    (refl, subst (Tells c.in_err-check_limit.field-0.0) (sym fault) c.in_err-check_limit.ensures.0)
+    (refl, subst (ReportsFaultOf c.in_err-check_limit.field-0.0) (sym fault) c.in_err-check_limit.ensures.0)
 
 pub returns-in_err-check_limit-clause-free : goal.returns-in_err-check_limit-clause-free
 returns-in_err-check_limit-clause-free c free =
@@ -56,7 +56,7 @@ returns-in_err-patch-clause-value c =
     let fault = way_fault _ _ c.args.from c.args.to c.saturating_add-memory.result c.self.view_is bytes in
     refused _ _ c.from_residual-in_err-patch.result c.in_err-patch.field-0.0 c.from_residual-in_err-patch.ensures.1 (
       drafts_kept _ _ _ c.self.view_is c.in_err-patch.ensures.value.0,
-      subst (λ (e : BuildError). Tells e (patch_fault c.args.self.now c.args.from c.args.to)) (sym c.in_err-patch.ensures.value.1)
+      subst (λ (e : BuildError). ReportsFaultOf e (patch_fault c.args.self.now c.args.from c.args.to)) (sym c.in_err-patch.ensures.value.1)
           (fault ∙ c.in_ok-check_limit.ensures),
     )
 

@@ -6,9 +6,9 @@ use Rattle.nfa_core.specs.declared.draft.Draft.{Draft}
 use Rattle.nfa_core.proofs.PastLemmas.{settled_grows, settled_kept, settled_there, told_more}
 use Rattle.nfa_core.proofs.pasts.Pasts.settle_from.Goals as goal
 
--- a state has its place in the table
+-- a state has an entry in the table
 placed : (ds : List Draft) (table : List (Option ℕ)) (q : ℕ) → q < length ds → IsPastTable (map draft_of ds) table → q < length table
-placed ds table q inside told = subst (λ (n : ℕ). q < n) (sym (told.len ∙ length-map ds draft_of)) inside
+placed ds table q inside reported = subst (λ (n : ℕ). q < n) (sym (reported.len ∙ length-map ds draft_of)) inside
 
 pub settle-requires : goal.settle-requires
 settle-requires g c =

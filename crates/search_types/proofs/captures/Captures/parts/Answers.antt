@@ -15,7 +15,7 @@ returns-in_err-parts g c =
     ap (option_map (λ parts. bytes parts.0 ∷ map bytes parts.1)) c.from_residual-in_err-parts.ensures
     ∙ none_from_here cuts h all (bytes c.in_ok-whole.whole ∷ take c.loop-index.index (map bytes c.loop-index.parts)) c.loop-index.index
     g.row.N spans
-    c.loop-index.invariant.told (omega arith)
+    c.loop-index.invariant.reported (omega arith)
     (λ n. cut_refused cuts h n spans (known_spans c.next_known.new.self) c.in_ok-next_known.field-0 c.in_ok-next_known.ensures
     c.in_err-parts.ensures)
 
@@ -29,8 +29,8 @@ loop-index-preserved g c =
     let below : c.loop-index.index < g.row.N = omega arith in
     record {
       len = length-set c.loop-index.parts c.loop-index.index c.in_ok-parts.field-0 ∙ c.loop-index.invariant.len;
-      told = parts_more bytes cuts h all c.in_ok-whole.whole c.in_ok-parts.field-0 c.loop-index.parts c.loop-index.index g.row.N spans
-          (known_spans c.next_known.new.self) c.in_ok-next_known.field-0 c.loop-index.invariant.len below c.loop-index.invariant.told
+      reported = parts_more bytes cuts h all c.in_ok-whole.whole c.in_ok-parts.field-0 c.loop-index.parts c.loop-index.index g.row.N spans
+          (known_spans c.next_known.new.self) c.in_ok-next_known.field-0 c.loop-index.invariant.len below c.loop-index.invariant.reported
           c.in_ok-next_known.ensures c.in_ok-parts.ensures;
     }
 
@@ -41,4 +41,4 @@ returns g c =
     let cuts = g.H.Haystack.cuts h in
     let all = cut_spans cuts h (g.row.N + 1) (match_spans (group_spans c.args.self.now)) in
     parts_end bytes cuts h all c.in_ok-whole.whole c.loop-index.parts c.loop-index.index g.row.N
-    (known_spans c.loop-index.spans) c.loop-index.invariant.len (omega arith) c.loop-index.invariant.told
+    (known_spans c.loop-index.spans) c.loop-index.invariant.len (omega arith) c.loop-index.invariant.reported

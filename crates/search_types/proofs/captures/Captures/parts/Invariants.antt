@@ -10,7 +10,7 @@ invariant-loop-index g l =
     let cuts = g.H.Haystack.cuts (bytes l.haystack) in
     record {
       len : length l.parts ≡ l.index-end;
-      told : cut_spans cuts (bytes l.haystack) (l.index-end + 1) (match_spans (group_spans l.fn.self))
+      reported : cut_spans cuts (bytes l.haystack) (l.index-end + 1) (match_spans (group_spans l.fn.self))
           ≡ onto_parts (bytes l.whole ∷ take l.index (map bytes l.parts))
           (cut_spans cuts (bytes l.haystack) (l.index-end - l.index) (known_spans l.spans));
     }

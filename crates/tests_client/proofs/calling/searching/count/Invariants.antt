@@ -1,7 +1,8 @@
 use Rattle.std.proofs.Common.{◌≡◌}
-use Rattle.regex_pair.specs.FindSteps.{MayGoOn, lender_of, searches_by}
+use Rattle.regex_pair.specs.FindSteps.{MayGoOn, borrow_name_of, searches_by}
 use Rattle.tests_client.proofs.calling.searching.count.Given as goal
 
 abbrev pub invariant-loop-item : goal.invariant-loop-item
 invariant-loop-item l =
-    MayGoOn l.item-iterator × (searches_by l.item-iterator ≡ l.fn.re) × (lender_of l.item-iterator ≡ lender_of l.initial.item-iterator)
+    MayGoOn l.item-iterator × (searches_by l.item-iterator ≡ l.fn.re) ×
+    (borrow_name_of l.item-iterator ≡ borrow_name_of l.initial.item-iterator)

@@ -1,4 +1,4 @@
--- The view of places that hold nothing.
+-- The view of slots that hold nothing.
 use Rattle.std.proofs.lemmas.Result.{on_ok_weaker}
 use Rattle.thompson_nfa.proofs.Classes.SlotViews.{viewed_empty}
 use Rattle.thompson_nfa.proofs.utf8_bounded_map.Utf8BoundedMap.clear.Goals as goal

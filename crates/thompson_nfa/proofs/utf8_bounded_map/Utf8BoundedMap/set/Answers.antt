@@ -1,4 +1,4 @@
--- The view of what is put into a place.
+-- The view of what is put into a slot.
 use Rattle.thompson_nfa.proofs.Classes.SlotViews.{viewed_set}
 use Rattle.thompson_nfa.proofs.utf8_bounded_map.Utf8BoundedMap.set.Goals as goal
 

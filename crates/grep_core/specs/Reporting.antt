@@ -1,0 +1,73 @@
+-- What is still to be printed for an input, after its first lines.
+use Rattle.std.specs.Prelude.{ℕ, ◌+◌, ◌-◌, Bool, true, false, nat_lt, List, [], map, Option, Some, None, option_map, if◌then◌else◌}
+use Rattle.grep_core.specs.declared.context_printer.ContextPrinter.{ContextPrinter}
+use Rattle.grep_core.specs.declared.reporter.Reporter.{Reporter}
+use Rattle.grep_core.specs.declared.output_options.Print.{Print}
+use Rattle.grep_core.specs.declared.output_options.Print.TheVariants.{Lines, Matches, Count, NameIfAny, NameIfNone, Nothing}
+use Rattle.grep_core.specs.declared.output_options.OutputOptions.{OutputOptions}
+use Rattle.grep_core.specs.ContextPrinting.{Item, item, still}
+use Rattle.grep_core.specs.Lines.{TextLine}
+use Rattle.grep_core.specs.Report.{LineMatcher, reported_spans, is_wanted, count_line, name_line}
+use Rattle.grep_core.specs.Selecting.{limited, count_selected}
+
+-- The name that is printed before lines, if any.
+abbrev pub shown : Bool → List ℕ → Option (List ℕ)
+shown with_name name = if with_name then Some name else None
+
+-- A line with its matches that aren't empty.
+abbrev pub reported_item : LineMatcher → TextLine → Item
+reported_item f line = item line (reported_spans f line)
+
+-- Whether the output consists of lines or of the matches in them.
+abbrev pub prints_lines : Print → Bool
+prints_lines Lines = true
+prints_lines Matches = true
+prints_lines Count = false
+prints_lines NameIfAny = false
+prints_lines NameIfNone = false
+prints_lines Nothing = false
+
+-- What is still to be printed for lines that are selected as the flags say, if n of the lines before them are selected.
+abbrev pub reported_lines : Print → OutputOptions → List ℕ → Bool → ContextPrinter → ℕ → List Bool → List Item → List ℕ
+reported_lines Lines w name with_name c n flags items = still w (shown with_name name) c flags items
+reported_lines Matches w name with_name c n flags items = still w (shown with_name name) c flags items
+reported_lines Count w name with_name c n flags items = count_line w (shown with_name name) (n + count_selected flags)
+reported_lines NameIfAny w name with_name c n flags items = if nat_lt 0 (n + count_selected flags) then name_line w name else []
+reported_lines NameIfNone w name with_name c n flags items = if nat_lt 0 (n + count_selected flags) then [] else name_line w name
+reported_lines Nothing w name with_name c n flags items = []
+
+-- How many more lines may be selected, if n are selected already.
+abbrev pub left_of : Option ℕ → ℕ → Option ℕ
+left_of most n = option_map (λ m. m - n) most
+
+abbrev pub may_select : Option ℕ → ℕ → Bool
+may_select None n = true
+may_select (Some m) n = nat_lt n m
+
+-- For each of these lines, whether it is selected, if n of the lines before them are.
+abbrev pub flags_after : OutputOptions → LineMatcher → ℕ → List TextLine → List Bool
+flags_after w f n lines = limited (left_of w.most n) (map (is_wanted w f) lines)
+
+abbrev pub still_reported : OutputOptions → LineMatcher → List ℕ → Bool → Reporter → List TextLine → List ℕ
+still_reported w f name with_name t lines = reported_lines w.print w name with_name t.course t.count (flags_after w f t.count lines)
+    (map (reported_item f) lines)
+
+-- How many lines are selected in all.
+abbrev pub count_in_all : OutputOptions → LineMatcher → Reporter → List TextLine → ℕ
+count_in_all w f t lines = t.count + count_selected (flags_after w f t.count lines)
+
+-- Whether the output depends on the matches: it does if they are printed alone or marked in lines.
+abbrev pub needs_of : Print → Bool → Bool
+needs_of Lines color = color
+needs_of Matches color = true
+needs_of Count color = false
+needs_of NameIfAny color = false
+needs_of NameIfNone color = false
+needs_of Nothing color = false
+
+abbrev pub needs_spans : OutputOptions → Bool
+needs_spans w = needs_of w.print w.color
+
+-- A matcher that agrees on which lines have a match, and reports spans only if the output depends on them.
+abbrev pub with_needed_spans : OutputOptions → LineMatcher → LineMatcher
+with_needed_spans w f = record f { spans = λ line. if needs_spans w then f.spans line else [] }

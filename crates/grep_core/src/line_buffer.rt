@@ -1,0 +1,111 @@
+//! Buffered input: what was read and isn't processed yet.
+ghost use Rattle.std.specs.Prelude.{◌≡◌, ℕ, ◌+◌, ◌-◌, ◌<◌, ◌≤◌, [], length, take, drop, IfOk, OnOk};
+ghost use Rattle.std.specs.Io.KnownBytes.{Consumes, IsAtEnd};
+ghost use Rattle.hirscan.specs.Runs.{ReadsSome};
+
+use crate::fault::Fault;
+use std::alloc::{AllocError, Global};
+use std::io::Read;
+use std::marker::Model;
+
+/// Buffered input: what was read and isn't processed yet. It is the first `len` bytes of a buffer; the rest of the buffer is room for the
+/// next read. So bytes that are processed with the block in which they were read are never copied. Nothing is allocated once there is room
+/// for a block and a line.
+#[derive(Drop)]
+pub(crate) struct LineBuffer {
+    buffer: Vec<u8>,
+    len: usize,
+}
+
+impl Model for LineBuffer {
+    ghost use Rattle.std.specs.Prelude.{◌≤◌, ℕ, List, length, take};
+
+    ghost Value = { List ℕ };
+
+    ghost view = { λ h. take h.len h.buffer.items };
+
+    ghost invariant = { λ h. h.len ≤ length h.buffer.items };
+}
+
+/// Extends a buffer to this length, if it is shorter.
+fn make_room(buffer: &mut Vec<u8>, end: usize) -> Result<(), AllocError>
+    ensures kept { (at : ℕ) → at ≤ length buffer.old.items → take at buffer.new.items ≡ take at buffer.old.items }
+    ensures longer { length buffer.old.items ≤ length buffer.new.items }
+    ensures room { OnOk result (end ≤ length buffer.new.items) }
+{
+    if buffer.len() < end {
+        buffer.resize(end, 0)?;
+    }
+    Ok(())
+}
+
+/// Reads once into the part of a buffer between two offsets. Returns the number of bytes that were read.
+fn read_into<R: Read>(
+    reader: &mut R,
+    buffer: &mut Vec<u8>,
+    at: usize,
+    end: usize,
+) -> Result<usize, Fault>
+    requires room { at < end }
+    requires within { end ≤ length buffer.old.items }
+    ensures before { take at buffer.new.items ≡ take at buffer.old.items }
+    ensures long { length buffer.new.items ≡ length buffer.old.items }
+    ensures some { IfOk result (λ n. at + n ≤ end) }
+    ensures read { IfOk result (λ n. Consumes (R.remaining reader.old) (R.remaining reader.new) (take n (drop at buffer.new.items))) }
+    ensures end { IfOk result (λ n. n ≡ 0 → IsAtEnd (R.remaining reader.new)) }
+{
+    match reader.read(&mut buffer[at..end]) {
+        Ok(n) => Ok(n),
+        Err(e) => Err(Fault::Read(e.kind())),
+    }
+}
+
+/// Moves the bytes between two offsets to the front of a buffer.
+fn move_down(buffer: &mut Vec<u8>, from: usize, end: usize)
+    requires low { from ≤ end }
+    requires within { end ≤ length buffer.old.items }
+    ensures moved { take (end - from) buffer.new.items ≡ take (end - from) (drop from buffer.old.items) }
+    ensures long { length buffer.new.items ≡ length buffer.old.items }
+{
+    buffer.copy_within(from..end, 0);
+}
+
+impl LineBuffer {
+    pub(crate) fn new(alloc: Global) -> LineBuffer
+        ensures { result ≡ [] }
+    {
+        LineBuffer {
+            buffer: Vec::new(alloc),
+            len: 0,
+        }
+    }
+
+    pub(crate) fn bytes(&self) -> &[u8]
+        ensures { result.now ≡ self.now }
+    {
+        &self.buffer[..self.len]
+    }
+
+    /// Appends the bytes of one read, at most this many. Returns their number; 0 means that the reader is at its end.
+    pub(crate) fn read_some<R: Read>(&mut self, reader: &mut R, most: usize) -> Result<usize, Fault>
+        requires { 0 < most }
+        ensures { IfOk result (λ n. ReadsSome (R.remaining reader.old) (R.remaining reader.new) self.old self.new n) }
+    {
+        let Some(end) = self.len.checked_add(most) else {
+            return Err(Fault::TooLong);
+        };
+        make_room(&mut self.buffer, end)?;
+        let n = read_into(reader, &mut self.buffer, self.len, end)?;
+        self.len += n;
+        Ok(n)
+    }
+
+    /// Removes the first bytes.
+    pub(crate) fn forget(&mut self, done: usize)
+        requires { done ≤ length self.old }
+        ensures { self.new ≡ drop done self.old }
+    {
+        move_down(&mut self.buffer, done, self.len);
+        self.len -= done;
+    }
+}

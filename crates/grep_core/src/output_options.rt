@@ -1,0 +1,44 @@
+/// How many context lines are printed around each selected line.
+#[derive(Clone, Copy, Debug, PartialEq, Eq)]
+pub struct Context {
+    /// Lines before it.
+    pub before: u64,
+    /// Lines after it.
+    pub after: u64,
+}
+
+/// What is printed for an input.
+#[derive(Clone, Copy, Debug, PartialEq, Eq)]
+pub enum Print {
+    /// The selected lines.
+    Lines,
+    /// The matches in the selected lines that aren't empty, each as a line of its own.
+    Matches,
+    /// How many lines are selected.
+    Count,
+    /// The name of the input, if a line is selected.
+    NameIfAny,
+    /// The name of the input, if no line is selected.
+    NameIfNone,
+    /// Nothing.
+    Nothing,
+}
+
+/// What is asked for.
+#[derive(Clone, Copy, Debug, PartialEq, Eq)]
+pub struct OutputOptions {
+    /// If set, the lines without a match are selected instead of those with one.
+    pub invert: bool,
+    /// What is printed.
+    pub print: Print,
+    /// Whether the number of each line, counted from 1, is printed before it.
+    pub numbers: bool,
+    /// Whether the offset of the first byte, counted from 0, is printed before each line or match.
+    pub offsets: bool,
+    /// The context lines around selected lines, if asked for. If they are, groups of lines are separated.
+    pub context: Option<Context>,
+    /// The greatest number of lines that are selected, if there is one.
+    pub most: Option<u64>,
+    /// Whether names, numbers, separators and matches are marked for a terminal.
+    pub color: bool,
+}

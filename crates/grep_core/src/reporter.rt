@@ -1,0 +1,252 @@
+//! The output for an input, line by line.
+ghost use Rattle.std.specs.Prelude.{◌≡◌, ◌++◌, ◌∷◌, [], ℕ, ◌+◌, Bool, List, Option, OnOk, IfOk, IsTrue, decimal, map, nat_lt, not, ◌&&◌};
+ghost use Rattle.std.specs.Prelude.{option_map, if◌then◌else◌};
+ghost use Rattle.grep_core.specs.ContextPrinting.{Item, Waits, item};
+ghost use Rattle.grep_core.specs.Lines.{TextLine};
+ghost use Rattle.grep_core.specs.Printing.{span_pair, text_line};
+ghost use Rattle.grep_core.specs.Report.{LineMatcher, reported_spans, report_as, selected, count_line, name_line, counted_as};
+ghost use Rattle.grep_core.specs.Selecting.{count_selected};
+ghost use Rattle.grep_core.specs.Reporting.{shown, prints_lines, reported_lines, may_select, still_reported, count_in_all};
+ghost use Rattle.grep_core.specs.declared.output_options.OutputOptions.{OutputOptions as TheOutputOptions};
+
+use crate::context_printer::{ContextPrinter, next_line, see_end};
+use crate::fault::Fault;
+use crate::line::Line;
+use crate::output_options::{OutputOptions, Print};
+use crate::printing::{push_field, push_marked};
+use crate::role::Role;
+use crate::separator_state::SeparatorState;
+use search_types::Span;
+use std::alloc::{AllocError, Global};
+
+/// The state of the output after some lines.
+#[derive(Drop)]
+pub(crate) struct Reporter {
+    pub course: ContextPrinter,
+    /// How many of them are selected.
+    pub count: u64,
+}
+
+/// The name that is printed before lines, if any.
+pub(crate) fn shown(name: &[u8], with_name: bool) -> Option<&[u8]>
+    ensures { option_map (λ n. n.now) result ≡ shown with_name name.now }
+{
+    if with_name { Some(name) } else { None }
+}
+
+/// Whether the output consists of lines or of the matches in them.
+pub(crate) fn prints_lines(print: Print) -> bool
+    ensures { result ≡ prints_lines print }
+{
+    match print {
+        Print::Lines | Print::Matches => true,
+        Print::Count | Print::NameIfAny | Print::NameIfNone | Print::Nothing => false,
+    }
+}
+
+/// Whether one more line may be selected, after this many.
+fn may_select(what: &OutputOptions, count: u64) -> bool
+    ensures { result ≡ may_select what.now.most count }
+{
+    match what.most {
+        Some(most) => count < most,
+        None => true,
+    }
+}
+
+/// Whether a line is wanted, given whether it has a match.
+fn is_wanted(what: &OutputOptions, has: bool) -> bool
+    ensures { result ≡ (if what.now.invert then not has else has) }
+{
+    if what.invert { !has } else { has }
+}
+
+/// Whether a line is selected, after this many selected ones.
+fn is_selected(what: &OutputOptions, count: u64, has: bool) -> bool
+    ensures { result ≡ ((if what.now.invert then not has else has) && may_select what.now.most count) }
+{
+    is_wanted(what, has) && may_select(what, count)
+}
+
+/// Appends the output for one line, for every kind of output.
+fn report_by_flags(
+    alloc: Global,
+    out: &mut Vec<u8>,
+    what: &OutputOptions,
+    name: Option<&[u8]>,
+    course: &mut ContextPrinter,
+    line: Line<'_>,
+    is_selected: bool,
+    found: &[Span],
+) -> Result<(), Fault>
+    requires { Waits what.now course.old }
+    ensures goes_on { OnOk result ((text : List ℕ) (with_name : Bool) (n m : ℕ) (flags : List Bool) (items : List Item) →
+        shown with_name text ≡ option_map (λ n. n.now) name.entry → m ≡ n + (if is_selected then 1 else 0) →
+        out.old.items ++ reported_lines what.now.print what.now text with_name course.old n (is_selected ∷ flags)
+        (item (text_line line.entry) (map span_pair found.now) ∷ items)
+        ≡ out.new.items ++ reported_lines what.now.print what.now text with_name course.new m flags items) }
+    ensures waits { OnOk result (Waits what.now course.new) }
+{
+    if prints_lines(what.print) {
+        return next_line(alloc, out, what, name, course, line, is_selected, found);
+    }
+    Ok(())
+}
+
+/// Adds one to the count if a line is selected.
+fn count_more(count: u64, is_selected: bool) -> Result<u64, Fault>
+    ensures { IfOk result (λ n. n ≡ count + (if is_selected then 1 else 0)) }
+{
+    if !is_selected {
+        return Ok(count);
+    }
+    match count.checked_add(1) {
+        Some(more) => Ok(more),
+        None => Err(Fault::TooLong),
+    }
+}
+
+impl Reporter {
+    /// The state before the first line, where `known` describes the lines of earlier inputs.
+    pub(crate) fn new(alloc: Global, known: SeparatorState) -> Reporter
+        ensures starts { (w : TheOutputOptions) → (f : LineMatcher) → (name : List ℕ) → (with_name : Bool) → (lines : List TextLine) →
+            still_reported w f name with_name result lines ≡ report_as w.print w f name with_name known lines (selected w f lines) }
+        ensures counts { (w : TheOutputOptions) → (f : LineMatcher) → (lines : List TextLine) →
+            count_in_all w f result lines ≡ count_selected (selected w f lines) }
+        ensures waits { (w : TheOutputOptions) → Waits w result.course }
+    {
+        Reporter {
+            course: ContextPrinter::new(alloc, known),
+            count: 0,
+        }
+    }
+}
+
+/// Processes one line, given whether it has a match and which of its matches aren't empty.
+pub(crate) fn report_line(
+    alloc: Global,
+    out: &mut Vec<u8>,
+    what: &OutputOptions,
+    name: &[u8],
+    with_name: bool,
+    telling: &mut Reporter,
+    line: Line<'_>,
+    has: bool,
+    found: &[Span],
+) -> Result<(), Fault>
+    requires { Waits what.now telling.old.course }
+    ensures goes_on { OnOk result ((f : LineMatcher) → has ≡ f.has_match (text_line line.entry).content →
+        map span_pair found.now ≡ reported_spans f (text_line line.entry) → (lines : List TextLine) →
+        out.old.items ++ still_reported what.now f name.now with_name telling.old (text_line line.entry ∷ lines)
+        ≡ out.new.items ++ still_reported what.now f name.now with_name telling.new lines) }
+    ensures counts { OnOk result ((f : LineMatcher) → has ≡ f.has_match (text_line line.entry).content → (lines : List TextLine) →
+        count_in_all what.now f telling.new lines ≡ count_in_all what.now f telling.old (text_line line.entry ∷ lines)) }
+    ensures waits { OnOk result (Waits what.now telling.new.course) }
+{
+    let is_selected = is_selected(what, telling.count, has);
+    report_by_flags(
+        alloc,
+        out,
+        what,
+        shown(name, with_name),
+        &mut telling.course,
+        line,
+        is_selected,
+        found,
+    )?;
+    telling.count = count_more(telling.count, is_selected)?;
+    Ok(())
+}
+
+/// Appends a number as a line.
+fn push_number(alloc: Global, out: &mut Vec<u8>, number: u64) -> Result<(), AllocError>
+    ensures { OnOk result (out.new.items ≡ out.old.items ++ (decimal number ++ 10 ∷ [])) }
+{
+    let text = format!(in alloc; "{number}")?;
+    out.extend_from_slice(text.as_str().as_bytes())?;
+    out.push(b'\n')?;
+    Ok(())
+}
+
+/// Appends the count of selected lines as a line, after the name if there is one.
+fn push_count(
+    alloc: Global,
+    out: &mut Vec<u8>,
+    what: &OutputOptions,
+    name: Option<&[u8]>,
+    count: u64,
+) -> Result<(), AllocError>
+    ensures { OnOk result (out.new.items ≡ out.old.items ++ count_line what.now (option_map (λ n. n.now) name.entry) count) }
+{
+    let Some(name) = name else {
+        return push_number(alloc, out, count);
+    };
+    push_field(out, what, Role::Selected, b"35", name)?;
+    push_number(alloc, out, count)
+}
+
+/// Appends the name of an input as a line.
+fn push_name(out: &mut Vec<u8>, what: &OutputOptions, name: &[u8]) -> Result<(), AllocError>
+    ensures { OnOk result (out.new.items ≡ out.old.items ++ name_line what.now name.now) }
+{
+    push_marked(out, what.color, b"35", name)?;
+    out.push(b'\n')?;
+    Ok(())
+}
+
+/// Appends what is printed after the last line.
+pub(crate) fn report_end(
+    alloc: Global,
+    out: &mut Vec<u8>,
+    what: &OutputOptions,
+    name: &[u8],
+    with_name: bool,
+    telling: &Reporter,
+) -> Result<(), AllocError>
+    requires { Waits what.now telling.now.course }
+    ensures { OnOk result ((f : LineMatcher) → out.new.items ≡ out.old.items ++ still_reported what.now f name.now with_name telling.now
+        []) }
+{
+    match what.print {
+        Print::Lines | Print::Matches => {
+            see_end(what, &telling.course);
+            Ok(())
+        }
+        Print::Count => push_count(alloc, out, what, shown(name, with_name), telling.count),
+        Print::NameIfAny if telling.count > 0 => push_name(out, what, name),
+        Print::NameIfNone if telling.count == 0 => push_name(out, what, name),
+        _ => Ok(()),
+    }
+}
+
+fn one_of(count: u64) -> u64
+    ensures { result ≡ (if nat_lt 0 count then 1 else 0) }
+{
+    if count > 0 { 1 } else { 0 }
+}
+
+/// The number that is counted for this many selected lines. It is at most 1 if all that is asked for is whether there is one.
+pub(crate) fn counted_as(print: Print, count: u64) -> u64
+    ensures { result ≡ counted_as print count }
+{
+    match print {
+        Print::Lines | Print::Matches | Print::Count => count,
+        Print::NameIfAny | Print::NameIfNone | Print::Nothing => one_of(count),
+    }
+}
+
+/// Whether the next lines change neither the output nor the number that is counted, whatever they are.
+pub(crate) fn is_over(what: &OutputOptions, telling: &Reporter) -> bool
+    ensures reported { IsTrue result → (f : LineMatcher) (name : List ℕ) (with_name : Bool) (lines : List TextLine) →
+        still_reported what.now f name with_name telling.now lines ≡ still_reported what.now f name with_name telling.now [] }
+    ensures counted { IsTrue result → (f : LineMatcher) (lines : List TextLine) →
+        counted_as what.now.print (count_in_all what.now f telling.now lines)
+        ≡ counted_as what.now.print (count_in_all what.now f telling.now []) }
+{
+    let is_spent = !may_select(what, telling.count);
+    match what.print {
+        Print::Lines | Print::Matches => is_spent && telling.course.left == 0,
+        Print::Count => is_spent,
+        Print::NameIfAny | Print::NameIfNone | Print::Nothing => is_spent || telling.count > 0,
+    }
+}

@@ -1,5 +1,0 @@
-use Rattle.hirhead.proofs.HeadLemmas.{head_reads}
-use Rattle.hirhead.proofs.laws.heads_are_read.Goals as goal
-
-pub returns : goal.returns
-returns c = head_reads c.bytes_are_read.ensures.bytes

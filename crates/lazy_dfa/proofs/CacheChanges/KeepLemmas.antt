@@ -1,1 +1,0 @@
--- A state that is kept beside a clear has room, names stay below bounds, and spans within haystacks.
