@@ -1,7 +1,7 @@
 /*
  * hanneddois: regular expressions by a lazy DFA, for C and C++.
  *
- * A regex is made once of one pattern or several, and searched many times:
+ * A regex is made once of one pattern or several, and used for many searches:
  *
  *     hanneddois_regex regex = HANNEDDOIS_EMPTY;
  *     hanneddois_options options = {0};
@@ -18,19 +18,20 @@
  * Patterns are written in the syntax of the Rust crate regex. All offsets count bytes from 0; an offset "end" is
  * the one after the last byte.
  *
- * What a caller has to keep, in every call:
+ * For every call, the caller has to ensure the following:
  *
  *   - A hanneddois_regex begins as HANNEDDOIS_EMPTY, all 0, and only the calls of this header change it. It may be
- *     moved, but of two copies only one may be used from then on. An empty one is refused as HANNEDDOIS_BAD_ARGUMENT.
+ *     moved, but of two copies only one may be used from then on. With an empty one, a search returns
+ *     HANNEDDOIS_BAD_ARGUMENT.
  *   - Calls with the same regex don't run at the same time. Different regexes may be used by different threads.
- *   - No pointer is NULL. Where a length stands beside it, so many elements lie there; where the length is 0, the
+ *   - No pointer is NULL. If a pointer comes with a length, it points to as many elements. If that length is 0, the
  *     pointer isn't read but still isn't NULL.
- *   - Nobody else writes to what a call reads, or reads or writes what it writes, while it runs; and what a call
- *     writes doesn't overlap with anything else that it is given.
+ *   - While a call runs, nobody else writes to what it reads, or reads or writes what it writes. What a call writes
+ *     doesn't overlap with anything else that it is given.
  *
- * Where automata give up, as at a byte above 0x7F where patterns have a word boundary of Unicode, slower regexes of
- * the same patterns answer, which are made when they are first needed. A search is refused there only where memory
- * lacks or these are too large.
+ * The automata may give up, for example at a byte above 0x7F if a pattern has a Unicode word boundary. Then slower
+ * regexes of the same patterns answer. They are made when they are first needed. There a search fails only if it is
+ * out of memory, or if these regexes are too large.
  *
  * No call aborts, waits, prints, starts a thread or calls back. Memory comes from malloc, realloc and free.
  *
@@ -48,7 +49,7 @@ extern "C" {
 #endif
 
 /* The version of this header: 10000 times the major number, 100 times the minor one, and the patch. */
-#define HANNEDDOIS_VERSION 200
+#define HANNEDDOIS_VERSION 300
 
 /* Nothing, or a compiled regex with the caches of its searches. */
 typedef struct hanneddois_regex {
@@ -71,14 +72,15 @@ enum {
     HANNEDDOIS_NO_MEMORY = 3,
     /* A pattern is no UTF-8: error.pattern is its number, error.start the offset of the first faulty byte. */
     HANNEDDOIS_NOT_UTF8 = 4,
-    /* A text is no pattern: error.pattern is its number, error.start and error.end the offsets in it. */
-    HANNEDDOIS_NO_PATTERN = 5,
-    /* A pattern nests deeper than it may: as HANNEDDOIS_NO_PATTERN. */
+    /* A pattern has a syntax error: error.pattern is its number, error.start and error.end are the offsets in it. */
+    HANNEDDOIS_SYNTAX_ERROR = 5,
+    /* A pattern nests deeper than it may: the fields are those of HANNEDDOIS_SYNTAX_ERROR. */
     HANNEDDOIS_NESTS_TOO_DEEP = 6,
-    /* A pattern repeats without a bound what may match the empty text, as (a*)*: error.pattern is its number. */
+    /* A pattern has an unbounded repetition whose body can match the empty string, as (a*)*: error.pattern is its
+       number. */
     HANNEDDOIS_EMPTY_LOOP = 7,
-    /* The automata take more bytes than they may: error.limit is how many they may, where that is what was refused. Of
-       a search: the slower regexes that it needs are too large. */
+    /* The automata take more bytes than they may: error.limit is how many they may, if that limit is the cause. From a
+       search: the slower regexes that it needs are too large. */
     HANNEDDOIS_TOO_LARGE = 8,
     /* A cache may take fewer bytes than it needs: error.limit is how many it needs. */
     HANNEDDOIS_CAPACITY_TOO_SMALL = 9,
@@ -94,8 +96,8 @@ typedef struct hanneddois_match {
     size_t end;
 } hanneddois_match;
 
-/* Why a call failed. Each call with such a parameter writes all of it, also where it doesn't fail. A field that the
-   status doesn't name is 0. */
+/* Why a call failed. Each call with such a parameter writes all of it, even if it doesn't fail. A field that the
+   comment on the status doesn't name is 0. */
 typedef struct hanneddois_error {
     hanneddois_status status;
     /* What is wrong with a pattern, by a number that hanneddois_error_text turns into words. */
@@ -106,7 +108,7 @@ typedef struct hanneddois_error {
     size_t limit;
 } hanneddois_error;
 
-/* Flags of options, to be joined by |. A flag in the text, as (?i), goes before the option from there on. */
+/* Flags of options, to be joined by |. A flag in a pattern, as (?i), overrides the option from there on. */
 enum {
     /* Letters match in either case (i). */
     HANNEDDOIS_CASE_INSENSITIVE = 1 << 0,
@@ -116,7 +118,7 @@ enum {
     HANNEDDOIS_DOT_MATCHES_NEW_LINE = 1 << 2,
     /* a* is lazy and a*? is greedy (U). */
     HANNEDDOIS_SWAP_GREED = 1 << 3,
-    /* White space and comments in patterns are passed over (x). */
+    /* White space and comments in patterns are skipped (x). */
     HANNEDDOIS_IGNORE_WHITESPACE = 1 << 4,
     /* A carriage return ends a line too (R). */
     HANNEDDOIS_CRLF = 1 << 5,
@@ -124,29 +126,30 @@ enum {
     HANNEDDOIS_OCTAL = 1 << 6,
     /* Classes, words and the folding of case are ASCII's rather than Unicode's (-u). */
     HANNEDDOIS_NO_UNICODE = 1 << 7,
-    /* Haystacks have to be UTF-8, and no match splits a character; patterns that could are refused. Each search then
-       looks through its whole haystack once for this. */
+    /* Haystacks must be UTF-8, and no match splits a character. A pattern that could split one is rejected. Each search
+       then checks its whole haystack once for this. */
     HANNEDDOIS_UTF8 = 1 << 8,
-    /* Patterns that repeat without a bound what may match the empty text aren't refused. The end of a match of such a
-       pattern is one that it has, but may be another than the preferred one. Its start is always the leftmost one. */
+    /* A pattern with an unbounded repetition whose body can match the empty string isn't rejected. The end of a match
+       of such a pattern is one that the pattern has, but may be another than the preferred one. Its start is always the
+       leftmost one. */
     HANNEDDOIS_EMPTY_LOOPS = 1 << 9,
-    /* The automaton that hanneddois_which needs is made by hanneddois_new rather than by the first call of it. */
-    HANNEDDOIS_WHICH = 1 << 10,
-    /* A capacity below the least one is raised to that rather than refused: with a capacity of 1, caches are as small
+    /* hanneddois_new makes the automaton that hanneddois_matching_patterns needs, instead of the first call of hanneddois_matching_patterns. */
+    HANNEDDOIS_MATCHING_PATTERNS = 1 << 10,
+    /* A capacity below the least one is raised to that, and isn't an error. With a capacity of 1, caches are as small
        as can be. */
     HANNEDDOIS_RAISE_CAPACITY = 1 << 11,
-    /* Bytes that patterns don't tell apart don't share their transitions: caches are larger. For tests. */
+    /* Bytes that patterns treat alike don't share their transitions: caches are larger. For tests. */
     HANNEDDOIS_NO_BYTE_CLASSES = 1 << 12,
     /* The automaton that finds starts shares states of classes, which takes longer to make. */
     HANNEDDOIS_SHRINK = 1 << 13
 };
 
-/* Options of hanneddois_new. All zero is what most callers want. None but the flags from HANNEDDOIS_CASE_INSENSITIVE
-   to HANNEDDOIS_EMPTY_LOOPS can change which matches are found. */
+/* Options of hanneddois_new. Most callers want all of them 0. Only the flags from HANNEDDOIS_CASE_INSENSITIVE to
+   HANNEDDOIS_EMPTY_LOOPS can change which matches are found. */
 typedef struct hanneddois_options {
-    /* Flags. A bit that is none of them is refused as HANNEDDOIS_BAD_ARGUMENT. */
+    /* Flags. If a bit is set that is none of them, the call returns HANNEDDOIS_BAD_ARGUMENT. */
     uint32_t flags;
-    /* How deep groups, classes and repetitions of a pattern may nest; 0 for 250. A deeper one needs a stack to match. */
+    /* How deep groups, classes and repetitions of a pattern may nest; 0 for 250. Deeper ones need a larger stack. */
     uint32_t nest_limit;
     /* How many bytes each of both caches may take; 0 for 2 MiB. */
     size_t capacity;
@@ -156,8 +159,8 @@ typedef struct hanneddois_options {
 
 /*
  * Makes a regex of `count` patterns, which follow one another in `texts`: the first has lengths[0] bytes, and so on.
- * If count is 0, or the lengths don't sum up to texts_length, the call returns HANNEDDOIS_BAD_ARGUMENT. Of matches that
- * start at the same offset the one of the earlier pattern is preferred.
+ * If count is 0, or the lengths don't sum up to texts_length, the call returns HANNEDDOIS_BAD_ARGUMENT. If matches of
+ * several patterns start at the same offset, the one of the earlier pattern is preferred.
  *
  * Returns HANNEDDOIS_OK, and *regex is the new one; or an error, which *error describes, and *regex is empty. What
  * *regex held before is freed in both cases; this is tested.
@@ -172,7 +175,7 @@ hanneddois_status hanneddois_new(
 /* Frees what a regex holds, and leaves it empty. An empty one stays so. */
 void hanneddois_free(hanneddois_regex *regex);
 
-/* How many patterns the regex has; 0 where it is empty. */
+/* How many patterns the regex has; 0 if it is empty. */
 size_t hanneddois_pattern_count(hanneddois_regex *regex);
 
 /* Whether there is a match in the haystack: HANNEDDOIS_OK, HANNEDDOIS_NONE, or an error. */
@@ -194,11 +197,11 @@ hanneddois_status hanneddois_find_at(
     hanneddois_error *error);
 
 /*
- * All matches from left to right: each is the leftmost one from the end of the last, and an empty one isn't taken
- * where the last one ended. Writes the first of them to `matches`, at most matches_length, and to *count how many
- * there are in all. Returns HANNEDDOIS_OK if there is any, HANNEDDOIS_NONE and a count of 0, or an error. After an
- * error *count is the number of matches before the search that failed, and these are written as far as they fit; for
- * an empty regex it is 0. Rows after the last match are unchanged.
+ * All matches from left to right: each is the leftmost one from the end of the one before it. An empty match right
+ * at the end of the one before it is skipped. Writes the first of them to `matches`, at most matches_length, and to
+ * *count how many there are in all. Returns HANNEDDOIS_OK if there is any, HANNEDDOIS_NONE and a count of 0, or an
+ * error. After an error *count is the number of matches before the search that failed, and these are written as far
+ * as they fit. For an empty regex *count is 0. Rows after the last match are unchanged.
  *
  * With HANNEDDOIS_EMPTY_LOOPS the list goes on from the end that each match has. It ends only if no match follows.
  */
@@ -213,27 +216,32 @@ hanneddois_status hanneddois_find_all(
  * Which patterns match anywhere in the haystack, also if their matches overlap. Writes to matched[i] 1 if pattern i
  * does, and else 0, and to *count how many do. Returns HANNEDDOIS_OK if a pattern matches, HANNEDDOIS_NONE and a count
  * of 0, or an error, after which count and marks are 0. If matched_length isn't the number of patterns, the call returns
- * HANNEDDOIS_BAD_ARGUMENT, and the count is 0. The first call makes an automaton of its own for this.
+ * HANNEDDOIS_BAD_ARGUMENT, and the count is 0. The first call makes a separate automaton for this.
  */
-hanneddois_status hanneddois_which(
+hanneddois_status hanneddois_matching_patterns(
     hanneddois_regex *regex,
     const uint8_t *haystack, size_t haystack_length,
     uint8_t *matched, size_t matched_length,
     size_t *count,
     hanneddois_error *error);
 
-/* Words for an error: writes as many of their bytes as fit into `text`, without a 0 after them, and returns how many
-   there are. They are ASCII, and name no offset or number. */
+/* The message of an error: writes as many of its bytes as fit into `text`, without a 0 after them, and returns how
+   many it has. It is ASCII, and names no offset or number. */
 size_t hanneddois_error_text(const hanneddois_error *error, uint8_t *text, size_t text_length);
 
-/* How many bytes the caches of the regex are taken to need now; 0 where it is empty. */
+/* An estimate of how many bytes the caches of the regex need now; 0 if it is empty. */
 size_t hanneddois_memory_usage(hanneddois_regex *regex);
 
-/* How often the caches of the regex were cleared since it was made; 0 where it is empty. */
+/* How often the caches of the regex were cleared since it was made; 0 if it is empty. */
 size_t hanneddois_clear_count(hanneddois_regex *regex);
 
 /* The version of the library, as HANNEDDOIS_VERSION. */
 uint32_t hanneddois_version(void);
+
+/* Names of version 0.2, for callers that were written for it. Version 0.4 won't have them. */
+#define HANNEDDOIS_NO_PATTERN HANNEDDOIS_SYNTAX_ERROR
+#define HANNEDDOIS_WHICH HANNEDDOIS_MATCHING_PATTERNS
+#define hanneddois_which hanneddois_matching_patterns
 
 #ifdef __cplusplus
 }

@@ -69,11 +69,12 @@ name_note() {
 }
 
 # Sets `running` to the folders that the note names, if it was written on this system and nothing changed since: no file or folder
-# of the sources or of dist/ is newer.
+# of the sources, of the definitions or of dist/ is newer. Proofs change no program, and to look through their 1,200 folders would take
+# longer than all else.
 read_note() {
     [ -f "$note" ] && { read -r running && read -r noted; } <"$note" || return 1
     [ "$noted" = "$system" ] || return 1
-    changed=$(find "$manifest" "$top"/dist/x86_64* "$top"/crates/*/src "$top"/crates/*/specs "$top"/crates/*/proofs \
+    changed=$(find "$manifest" "$top"/dist/x86_64* "$top"/crates/*/src "$top"/crates/*/specs \
         "$top/crates.txt" "$top/HANDLES" -newer "$note" 2>/dev/null)
     [ -z "$changed" ]
 }

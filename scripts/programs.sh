@@ -83,7 +83,7 @@ try_program() {
     status=$(sed -n 's/^run=ended status=\([0-9]*\) .*/\1/p' "$folder/said")
     # A program that may do without standard input tells where it reads it.
     is_read=1
-    [ "${2-}" = --tell-input ] && ! grep -q '^input=read$' "$folder/said" && is_read=
+    [ "${2-}" = --report-input ] && ! grep -q '^input=read$' "$folder/said" && is_read=
     if [ "$is_read" ] && [ -t 0 ]; then
         echo "$program: an unproved run reads no terminal; ./prove builds the program, which does" >&2
         exit 2
@@ -178,5 +178,5 @@ answer_arguments() {
 answer_files() {
     answer_if_built "$@"
     shift
-    try_program "$name" --tell-input --directory "$PWD" "$@"
+    try_program "$name" --report-input --directory "$PWD" "$@"
 }
