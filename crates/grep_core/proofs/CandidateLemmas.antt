@@ -22,9 +22,11 @@ use Rattle.hir_core.specs.Tree.{Tree}
 use Rattle.hir_core.specs.Means.{Means}
 use Rattle.hir_core.proofs.ForCallers.{span_forward}
 use Rattle.line_trees.specs.LineTrees.{line_tree, has_crlf, reads_feed, block_of, line_looks, HasNoFeedFrom}
+use Rattle.line_trees.specs.WordlessTrees.{wordless_tree}
 use Rattle.hirscan.specs.Choices.{answer_from}
 use Rattle.hirscan.specs.LooseAnswers.{IsLooseAnswer}
 use Rattle.line_trees.proofs.ForCallers.{means_in_block, means_in_line, reads_none, feeds_kept, get_dropped}
+use Rattle.line_trees.proofs.ForCallers.{means_wordless, returns_wordless}
 use Rattle.earliest_ends.specs.Earliest.{IsSpanFrom, NoneEndsBefore, IsEarliestEnd, IsEarliestError, looks_by}
 use Rattle.search_types.specs.declared.match_error.MatchErrorKind.{MatchErrorKind}
 use Rattle.search_types.specs.declared.match_error.MatchErrorKind.TheVariants.{Quit}
@@ -38,7 +40,7 @@ use Rattle.grep_core.specs.Meant.{line_config}
 use Rattle.grep_core.specs.declared.candidates.Stop.{Stop}
 use Rattle.grep_core.specs.declared.patterns.PatternOptions.{PatternOptions}
 use Rattle.grep_core.specs.Candidates.{BlockRegex, IsCandidatesOf, IsLineStart, HaveNoMatch, HasMatchAt, IsStop, IsStopIfAny, IsEnd}
-use Rattle.grep_core.specs.Candidates.{StopsInLine}
+use Rattle.grep_core.specs.Candidates.{StopsInLine, searched_tree}
 use Rattle.grep_core.specs.Candidates.IsStop.{least_end, quit_byte}
 use Rattle.grep_core.specs.Lines.{ended, searched, split_lines}
 use Rattle.grep_core.specs.Patterns.{has_match_in}
@@ -110,16 +112,35 @@ none_in crlf xs block at x line plain least s p tree i j listed low high means =
     } in
     absurd (omega (arith, least p (length s.before + i) (length s.before + j) span, s.ends, high))
 
+-- ---- the tree without looks at words by characters
+plain_searched : (exact : Bool) (x : Tree) → has_crlf x ≡ false → has_crlf (searched_tree exact x) ≡ false
+plain_searched true x plain = plain
+plain_searched false x plain = returns_wordless x plain
+
+none_wordless : (x : Tree) (line : List ℕ) → HasNone (wordless_tree x ∷ []) line → HasNone (x ∷ []) line
+none_wordless x line none zero y i j listed low high means =
+    none zero (wordless_tree x) i j refl low high
+    (means_wordless (line_looks is_word_char line) line x i j
+    (subst (λ (t : Tree). Means (line_looks is_word_char line) line t i j) (sym (same_Some x y listed)) means))
+none_wordless x line none (suc p) y i j listed low high means = absurd (none-some y listed)
+
+none_of_tree : (exact : Bool) (x : Tree) (line : List ℕ) → HasNone (searched_tree exact x ∷ []) line → HasNone (x ∷ []) line
+none_of_tree true x line none = none
+none_of_tree false x line none = none_wordless x line none
+
 -- no line that ends before the offset has a match
 pub have_none : (how : PatternOptions) (texts : List (List ℕ)) (p : BlockRegex) (block text : List ℕ) (at x : ℕ) →
     (it : IsCandidatesOf how texts p) →
-    All (λ b. b < 256) block → EndNotBefore (line_tree how.crlf it.tree ∷ []) block at x → All (StandsIn block at x) (split_lines text) →
+    All (λ b. b < 256) block → EndNotBefore (line_tree how.crlf (searched_tree p.exact it.tree) ∷ []) block at x →
+    All (StandsIn block at x) (split_lines text) →
     HaveNoMatch how texts text
 have_none how texts p block text at x it bytes least all res read k line below =
     let s = searched_in block at x how.crlf _ (all k line below) in
     no_match how texts it.tree res _ it.mean read
     (All-left (λ b. b < 256) _ s.after (All-right (λ b. b < 256) s.before _ (subst (All (λ b. b < 256)) s.whole bytes)))
-    (none_in how.crlf (it.tree ∷ []) block at x _ (all_one (λ y. has_crlf y ≡ false) it.tree it.plain) least s)
+    (none_of_tree p.exact it.tree _
+    (none_in how.crlf (searched_tree p.exact it.tree ∷ []) block at x _
+    (all_one (λ y. has_crlf y ≡ false) (searched_tree p.exact it.tree) (plain_searched p.exact it.tree it.plain)) least s))
 
 -- ---- what a search returns
 pub end_told : (xs : List Tree) (block : List ℕ) (at : ℕ) (o : Option ℕ) →
@@ -177,7 +198,7 @@ nothing_between how texts block at next low =
 module _ (how : PatternOptions) (texts : List (List ℕ)) (p : BlockRegex) (block : List ℕ) (at : ℕ) (it : IsCandidatesOf how texts p)
     (bytes : All (λ b. b < 256) block)
     (start : IsLineStart block at) where
-  pub all_passed : IsStopIfAny (line_tree how.crlf it.tree ∷ []) block at None →
+  pub all_passed : IsStopIfAny (line_tree how.crlf (searched_tree p.exact it.tree) ∷ []) block at None →
       HaveNoMatch how texts (slice_range block at (length block))
   all_passed none = elim (cases_lt at (length block)) [
     | inl less ↦
@@ -187,12 +208,13 @@ module _ (how : PatternOptions) (texts : List (List ℕ)) (p : BlockRegex) (bloc
     | inr over ↦ nothing_between how texts block at (length block) over
   ]
 
-  pub lines_passed : (place next : ℕ) → IsStop (line_tree how.crlf it.tree ∷ []) block at place → next ≤ length block →
+  pub lines_passed : (place next : ℕ) → IsStop (line_tree how.crlf (searched_tree p.exact it.tree) ∷ []) block at place →
+      next ≤ length block →
       (at < next → next ≤ place) → (at < next → slice_get block (next - 1) ≡ Some 10) → HaveNoMatch how texts (slice_range block at next)
   lines_passed place next stop within fits feed = elim (cases_lt at next) [
     | inl less ↦
         have_none how texts p block (slice_range block at next) at place it bytes
-        (none_before (line_tree how.crlf it.tree ∷ []) block at place stop)
+        (none_before (line_tree how.crlf (searched_tree p.exact it.tree) ∷ []) block at place stop)
         (lines_between block at next place start less within (fits less) (inl (feed less)))
     | inr over ↦ nothing_between how texts block at next over
   ]
@@ -341,25 +363,28 @@ line_starts_at block at start starts from feed = elim (cases_lt at start) [
   | inr same ↦ let is : at ≡ start = omega (arith, same, from) in subst (IsLineStart block) is starts
 ]
 
-known_by : (c e f s : Bool) → (not c && (e && (f || s))) ≡ true → (c ≡ false) × ((e ≡ true) × ((f ≡ true) ⊎ (s ≡ true)))
-known_by true e f s known = absurd (true≢false (sym known))
-known_by false e f s known =
-    let both = and_parts e (f || s) known in
-    (refl, (both.0, or_cases f s both.1))
+known_by : (c x e f s : Bool) → (not c && (x && (e && (f || s)))) ≡ true →
+    (c ≡ false) × ((x ≡ true) × ((e ≡ true) × ((f ≡ true) ⊎ (s ≡ true))))
+known_by true x e f s known = absurd (true≢false (sym known))
+known_by false x e f s known =
+    let outer = and_parts x (e && (f || s)) known in
+    let both = and_parts e (f || s) outer.1 in
+    (refl, (outer.0, (both.0, or_cases f s both.1)))
 
 -- if a match ends in a line and can't have begun before it, the line has a match
 pub match_known : (how : PatternOptions) (texts : List (List ℕ)) (p : BlockRegex) (block : List ℕ) (at start place : ℕ) (ends : Bool) →
     (it : IsCandidatesOf how texts p) → All (λ b. b < 256) block → IsLineStart block at → start ≤ length block → at ≤ start →
     (at < start → start ≤ place) → (at < start → slice_get block (start - 1) ≡ Some 10) →
-    (ends ≡ true → IsEnd (line_tree how.crlf it.tree ∷ []) block at place) → HasNoFeedFrom block start place →
-    (not p.crlf && (ends && (p.feedless || start == at))) ≡ true →
+    (ends ≡ true → IsEnd (line_tree how.crlf (searched_tree p.exact it.tree) ∷ []) block at place) → HasNoFeedFrom block start place →
+    (not p.crlf && (p.exact && (ends && (p.feedless || start == at)))) ≡ true →
     HasMatchAt how texts block start
 match_known how texts p block at start place ends it bytes starts inside from before feed end none known =
-    let all = known_by p.crlf ends p.feedless (start == at) known in
-    let by = all.1 in
+    let all = known_by p.crlf p.exact ends p.feedless (start == at) known in
+    let by = all.1.1 in
     let lone : how.crlf ≡ false = sym it.same ∙ all.0 in
     let span : LineSpan (it.tree ∷ []) block at place =
-    subst (λ (v : Bool). IsEnd (line_tree v it.tree ∷ []) block at place) lone (end by.0) in
+    subst (λ (v : Bool). IsEnd (line_tree v it.tree ∷ []) block at place) lone
+    (subst (λ (v : Bool). IsEnd (line_tree how.crlf (searched_tree v it.tree) ∷ []) block at place) all.1.0 (end by.0)) in
     match_here how texts p block at start place it lone bytes (line_starts_at block at start starts from feed) inside span
     (elim by.1 [
       | inl feedless ↦

@@ -1,12 +1,13 @@
 -- Which lines of a haystack may have a match, by a regex built from trees that are changed to search blocks of lines.
 use Rattle.std.specs.Prelude.{◌≡◌, ◌==◌, ℕ, ◌+◌, ◌-◌, ◌<◌, ◌≤◌, Bool, true, false, List, [], ◌∷◌, All, drop, length, slice_get, take}
 use Rattle.std.specs.Prelude.{Option, Some}
-use Rattle.std.specs.Prelude.{None}
+use Rattle.std.specs.Prelude.{None, if◌then◌else◌}
 use Rattle.std.specs.List.{position}
 use Rattle.ucd_perl.specs.Perl.{is_word_char}
 use Rattle.regex_hir.specs.Re.{Re}
 use Rattle.hir_core.specs.Tree.{Tree}
 use Rattle.line_trees.specs.LineTrees.{line_tree, has_crlf, reads_feed, HasNoFeedFrom}
+use Rattle.line_trees.specs.WordlessTrees.{wordless_tree}
 use Rattle.regex_pair.specs.Pairs.{Pair}
 use Rattle.hirscan.specs.Built.{IsBuilt, quit_bytes_for}
 use Rattle.hirscan.specs.Headline.{IsQuitNextTo}
@@ -19,15 +20,22 @@ use Rattle.grep_core.specs.Lines.{ended, searched, split_lines}
 use Rattle.grep_core.specs.Patterns.{finds_of}
 use Rattle.grep_core.specs.Searchers.{IsMatchReported, line_settings, sized_settings}
 
--- What searches blocks: a regex, whether its tree consumes no line feed, and whether a carriage return right before a line feed belongs to
--- the end of a line.
+-- What searches blocks: a regex, whether the tree of the patterns is searched for as it is, whether it consumes no line feed, and whether a
+-- carriage return right before a line feed belongs to the end of a line.
 pub record BlockRegex : Type 0 where
   pub regex : Pair
+  pub exact : Bool
   pub feedless : Bool
   pub crlf : Bool
 
--- The regex is built from the line tree of the one tree of these patterns. This tree has no look-around assertion about carriage
--- returns. If the regex is marked as feedless, the tree consumes no line feed, so a match in a block lies in one line.
+-- The tree that is searched for: that of the patterns, or, unless it has to be exact, that tree without its looks at words by characters,
+-- which matches more.
+abbrev pub searched_tree : Bool → Tree → Tree
+searched_tree exact x = if exact then x else wordless_tree x
+
+-- The regex is built from the line tree of the one tree of these patterns, or of that tree without its looks at words by characters. The
+-- tree has no look-around assertion about carriage returns. If the regex is marked as feedless, the tree consumes no line feed, so a match
+-- in a block lies in one line.
 pub record IsCandidatesOf (how : PatternOptions) (texts : List (List ℕ)) (p : BlockRegex) : Type 0 where
   pub same : p.crlf ≡ how.crlf
   pub tree : Tree
@@ -35,7 +43,7 @@ pub record IsCandidatesOf (how : PatternOptions) (texts : List (List ℕ)) (p : 
   pub plain : has_crlf tree ≡ false
   pub feedless : p.feedless ≡ true → reads_feed tree ≡ false
   pub capacity : Option ℕ
-  pub built : IsBuilt (line_tree how.crlf tree ∷ []) (sized_settings capacity) p.regex
+  pub built : IsBuilt (line_tree how.crlf (searched_tree p.exact tree) ∷ []) (sized_settings capacity) p.regex
 
 -- A line starts at this offset: it is the start of the haystack, or it is right after a line feed.
 abbrev pub IsLineStart : List ℕ → ℕ → Type 0

@@ -10,7 +10,7 @@ ghost use Rattle.earliest_ends.specs.Earliest.{IsEarliestError};
 ghost use Rattle.grep_core.specs.BoundedTrees.{IsTreeOf};
 ghost use Rattle.grep_core.specs.declared.patterns.PatternOptions.{PatternOptions};
 ghost use Rattle.grep_core.specs.Candidates.{IsCandidatesOf, IsLineStart, HaveNoMatch, HasMatchAt, IsStop, IsStopIfAny};
-ghost use Rattle.grep_core.specs.Candidates.{IsEnd};
+ghost use Rattle.grep_core.specs.Candidates.{IsEnd, searched_tree};
 ghost use Rattle.grep_core.specs.Candidates.{StopsInLine};
 ghost use Rattle.grep_core.specs.Searchers.{line_settings, sized_settings};
 ghost use Rattle.grep_core.specs.declared.fault.Fault.TheVariants.{NoMemory};
@@ -23,10 +23,10 @@ use earliest_ends::find_earliest_end;
 use hir_core::Hir;
 use hirscan::build;
 use lazy_dfa::BuildError;
-use line_trees::{has_crlf, line_tree, reads_feed};
+use line_trees::{has_crlf, line_tree, reads_feed, wordless_tree};
 use regex_pair::regex::{Cache, Regex};
 use search_types::{MatchError, MatchErrorKind};
-use std::alloc::Global;
+use std::alloc::{AllocError, Global};
 use std::marker::Model;
 use std::slice;
 
@@ -36,10 +36,15 @@ use std::slice;
 /// block have none. A match in the block need not be a match in a line, since it may extend over the ends of lines. It is one if the
 /// tree consumes no line feed and no carriage return belongs to the end of a line. If a carriage return does belong to it, a match in the
 /// block may consume that byte, so each such line is searched by itself.
+///
+/// The regex is built from the tree of the patterns, or from that tree without its looks at words by characters. With such looks a search
+/// gives up at each byte above ASCII. Without them it doesn't, but a line with a match need have none of the patterns.
 #[derive(Drop)]
 pub(crate) struct Candidates {
     regex: Regex,
     cache: Cache,
+    /// Whether the tree of the patterns is searched for as it is.
+    exact: bool,
     /// Whether the tree consumes no line feed.
     feedless: bool,
     /// Whether a carriage return right before a line feed belongs to the end of a line.
@@ -63,6 +68,8 @@ pub(crate) struct Reached {
     pub has: bool,
     /// How many bytes the search consumed.
     pub passed: usize,
+    /// Whether the search gave up in that line.
+    pub gave_up: bool,
 }
 
 impl Model for Candidates {
@@ -71,7 +78,7 @@ impl Model for Candidates {
 
     ghost Value = { BlockRegex × PairCache };
 
-    ghost view = { λ s. (record { regex = s.regex; feedless = s.feedless; crlf = s.crlf }, s.cache) };
+    ghost view = { λ s. (record { regex = s.regex; exact = s.exact; feedless = s.feedless; crlf = s.crlf }, s.cache) };
 
     ghost invariant = { λ s. AreCachesOf s.regex s.cache };
 }
@@ -121,12 +128,27 @@ fn stop_at(end: Option<usize>) -> Option<Stop>
     }
 }
 
+/// The tree that blocks are searched for: the line tree of the tree of the patterns, or, unless it has to be exact, of that tree without its
+/// looks at words by characters.
+fn block_tree(alloc: Global, tree: &Hir, exact: bool, crlf: bool) -> Result<Hir, AllocError>
+    ensures { IfOk result (λ x. x ≡ line_tree crlf (searched_tree exact tree.now)) }
+{
+    if exact {
+        let found = line_tree(alloc, tree, crlf)?;
+        return Ok(found);
+    }
+    let wordless = wordless_tree(alloc, tree)?;
+    let found = line_tree(alloc, &wordless, crlf)?;
+    Ok(found)
+}
+
 /// Builds a search of blocks of lines for these patterns. If there is no such regex, for example because the patterns are rejected, it
 /// returns none, and each line is searched by itself.
 pub(crate) fn candidates_of(
     alloc: Global,
     texts: &[&str],
     how: &PatternOptions,
+    exact: bool,
     capacity: Option<usize>,
 ) -> Option<Candidates>
     ensures { IfSome result (λ c. IsCandidatesOf how.now (map (λ t. t.now) texts.now) c.0) }
@@ -134,7 +156,7 @@ pub(crate) fn candidates_of(
     let Ok(tree) = tree_of(alloc, how, texts, false) else {
         return None;
     };
-    let Ok(candidates) = Candidates::new(alloc, &tree, how.crlf, capacity) else {
+    let Ok(candidates) = Candidates::new(alloc, &tree, exact, how.crlf, capacity) else {
         return None;
     };
     candidates
@@ -146,19 +168,20 @@ impl Candidates {
     pub(crate) fn new(
         alloc: Global,
         tree: &Hir,
+        exact: bool,
         crlf: bool,
         capacity: Option<usize>,
     ) -> Result<Option<Candidates>, BuildError>
         ensures some { IfOk result (λ o. is_some o ≡ not (has_crlf tree.now)) }
         ensures candidates { (how : PatternOptions) (texts : List (List ℕ)) → how.crlf ≡ crlf → IsTreeOf how texts tree.now →
             IfOk result (λ o. IfSome o (λ c. IsCandidatesOf how texts c.0)) }
-        ensures refused { IfErr result (λ e. FailsBuild (line_tree crlf tree.now ∷ []) (sized_settings capacity) e) }
+        ensures refused { IfErr result (λ e. FailsBuild (line_tree crlf (searched_tree exact tree.now) ∷ []) (sized_settings capacity) e) }
     {
         if has_crlf(tree) {
             return Ok(None);
         }
         let feedless = !reads_feed(tree);
-        let Ok(tree) = line_tree(alloc, tree, crlf) else {
+        let Ok(tree) = block_tree(alloc, tree, exact, crlf) else {
             return Err(BuildError::NoMemory);
         };
         let regex = match build(alloc, slice::from_ref(&tree), &settings(capacity)) {
@@ -169,6 +192,7 @@ impl Candidates {
             Ok(cache) => Ok(Some(Candidates {
                 regex,
                 cache,
+                exact,
                 feedless,
                 crlf,
             })),
@@ -191,11 +215,11 @@ impl Candidates {
     /// Whether the line that starts at `start` is known to have a match, if the search started at `at`. It has one if a match ends in it
     /// that can't have begun before it. That is so if the search started there. It is also so if the tree consumes no line feed, since a
     /// match that began earlier would have consumed the one before the line. If a carriage return belongs to the end of a line, no line is
-    /// known to have a match.
+    /// known to have a match. None is if looks at words were left out either.
     fn is_known(&self, stop: Stop, start: usize, at: usize) -> bool
-        ensures { result ≡ (not self.now.0.crlf && (stop.is_end && (self.now.0.feedless || start == at))) }
+        ensures { result ≡ (not self.now.0.crlf && (self.now.0.exact && (stop.is_end && (self.now.0.feedless || start == at)))) }
     {
-        !self.crlf && stop.is_end && (self.feedless || start == at)
+        !self.crlf && self.exact && stop.is_end && (self.feedless || start == at)
     }
 
     /// Where a search stops that starts at this offset. It stops at the least end of the matches in the block that start at this offset or
@@ -257,6 +281,7 @@ impl Candidates {
                 start: block.len(),
                 has: false,
                 passed: block.len() - at,
+                gave_up: false,
             }),
             Some(stop) => {
                 let start = line_start(block, at, stop.place);
@@ -264,6 +289,7 @@ impl Candidates {
                     start,
                     has: self.is_known(stop, start, at),
                     passed: stop.place.saturating_sub(at),
+                    gave_up: !stop.is_end,
                 })
             }
         }

@@ -116,13 +116,26 @@ pub(crate) fn program_of(
 }
 
 /// Whether the line has a match.
-pub(crate) fn has_one(alloc: Global, program: &Program, line: &[u8]) -> Result<bool, AllocError>
+pub(crate) fn has_one(searcher: &mut Searcher<'_>, line: &[u8]) -> bool
+    ensures reported { (how : PatternOptions) (texts : List (List ℕ)) → IsProgramOf how texts searcher.old.program.now →
+        IsMatchReported how texts line.now result }
+    ensures same { searcher.new.program.now ≡ searcher.old.program.now }
+{
+    see_bytes(line);
+    searcher.is_match(line, 0)
+}
+
+/// Whether the line has a match, by a searcher that is made for it.
+pub(crate) fn has_one_anew(
+    alloc: Global,
+    program: &Program,
+    line: &[u8],
+) -> Result<bool, AllocError>
     ensures { IfOk result (λ reported. (how : PatternOptions) (texts : List (List ℕ)) → IsProgramOf how texts program.now →
         IsMatchReported how texts line.now reported) }
 {
-    see_bytes(line);
     let mut searcher = Searcher::new(alloc, program)?;
-    Ok(searcher.is_match(line, 0))
+    Ok(has_one(&mut searcher, line))
 }
 
 /// The span of the match from an offset on.
@@ -177,23 +190,37 @@ fn push_some(found: &mut Vec<Span>, span: Span) -> Result<(), AllocError>
 /// The matches that aren't empty, from left to right.
 pub(crate) fn all_matches(
     alloc: Global,
-    program: &Program,
+    searcher: &mut Searcher<'_>,
     line: &[u8],
 ) -> Result<Vec<Span>, AllocError>
-    ensures { IfOk result (λ found. (how : PatternOptions) (texts : List (List ℕ)) → IsProgramOf how texts program.now →
-        AreReported how texts line.now (map span_pair found.items)) }
+    ensures reported { IfOk result (λ found. (how : PatternOptions) (texts : List (List ℕ)) →
+        IsProgramOf how texts searcher.old.program.now → AreReported how texts line.now (map span_pair found.items)) }
+    ensures same { searcher.new.program.now ≡ searcher.old.program.now }
 {
     see_bytes(line);
-    let mut searcher = Searcher::new(alloc, program)?;
     let mut found = Vec::new(alloc);
-    let mut next = find_from(&mut searcher, line, 0);
+    let mut next = find_from(searcher, line, 0);
     let most = line.len() + 1;
     for step in 0..most {
         let Some(span) = next else {
             return Ok(found);
         };
         push_some(&mut found, span)?;
-        next = find_next(&mut searcher, line, span.end);
+        next = find_next(searcher, line, span.end);
     }
+    Ok(found)
+}
+
+/// The matches that aren't empty, from left to right, by a searcher that is made for the line.
+pub(crate) fn all_matches_anew(
+    alloc: Global,
+    program: &Program,
+    line: &[u8],
+) -> Result<Vec<Span>, AllocError>
+    ensures { IfOk result (λ found. (how : PatternOptions) (texts : List (List ℕ)) → IsProgramOf how texts program.now →
+        AreReported how texts line.now (map span_pair found.items)) }
+{
+    let mut searcher = Searcher::new(alloc, program)?;
+    let found = all_matches(alloc, &mut searcher, line)?;
     Ok(found)
 }

@@ -1,17 +1,17 @@
 //! Finds patterns by automata. Where these give up at a quit byte, a program of the toolchain for the same patterns answers.
 ghost use Rattle.std.specs.Prelude.{◌≡◌, IfErr, IfOk, map, false, true, ◌≤◌, ◌<◌, length, slice_range};
 ghost use Rattle.grep_core.specs.Candidates.{HaveNoMatch, HasMatchAt, IsLineStart};
-ghost use Rattle.grep_core.specs.Fallbacks.{IsProgramOf};
 ghost use Rattle.grep_core.specs.Printing.{span_pair};
 ghost use Rattle.grep_core.specs.Searchers.{IsMatchReported, AreReported, IsSearcherError, SearchesFor};
 
-use crate::candidates::{Candidates, Reached, candidates_of};
-use crate::fallback::{all_matches, has_one, program_of};
+use crate::candidate_finder::CandidateFinder;
+use crate::candidates::Reached;
 use crate::fault::Fault;
+use crate::line_patterns::LinePatterns;
 use crate::patterns::PatternOptions;
 use crate::searcher::{Searcher, SearcherError};
 use crate::sizes::Size;
-use regex_meta::Program;
+use crate::slow_search::SlowSearch;
 use search_types::{MatchError, MatchErrorKind, Span};
 use std::alloc::Global;
 use std::marker::Model;
@@ -19,7 +19,10 @@ use std::marker::Model;
 /// Finds patterns in lines.
 ///
 /// Automata search the lines. In some lines they give up at a quit byte, for example if `\b` is tried next to a byte that isn't ASCII. Such
-/// lines are searched by a program of the toolchain for the same patterns. It is compiled when the first such line comes.
+/// lines are searched by a program of the toolchain for the same patterns ([`LinePatterns`]).
+///
+/// Blocks of lines are searched as the patterns stand, and, after that gave up at a quit byte, for some time without looks at words. That
+/// passes fewer lines, each of which is then searched by itself.
 ///
 /// If the caches of the automata are cleared too soon, they are enlarged, up to 256 MiB each. This happens for example if prose is searched
 /// for a thousand patterns that aren't literals.
@@ -29,21 +32,17 @@ pub struct Finder<'t> {
     texts: &'t [&'t str],
     how: PatternOptions,
     with_matches: bool,
-    program: Option<Box<Program>>,
-    candidates: Option<Candidates>,
-    /// The size of the caches of the search of lines, and of the search of blocks.
+    slow: SlowSearch<'t>,
+    candidates: CandidateFinder<'t>,
+    /// The size of the caches of the search of lines.
     line_size: Size,
-    block_size: Size,
-    slow: u64,
-    /// How often caches were cleared that have been replaced by larger ones.
+    /// How often caches of the search of lines were cleared that have been replaced by larger ones.
     past_clears: usize,
 }
 
 impl<'t> Model for Finder<'t> {
-    ghost use Rattle.std.specs.Prelude.{◌≡◌, IfSome, false, true, map};
+    ghost use Rattle.std.specs.Prelude.{◌≡◌, true, map};
     ghost use Rattle.hir_core.specs.Facts.{LoopsRead};
-    ghost use Rattle.grep_core.specs.Candidates.{IsCandidatesOf};
-    ghost use Rattle.grep_core.specs.Fallbacks.{IsProgramOf};
     ghost use Rattle.grep_core.specs.Searchers.{IsSearcherOf, Sought};
 
     ghost Value = { Sought };
@@ -52,8 +51,8 @@ impl<'t> Model for Finder<'t> {
 
     ghost invariant = { λ f.
         ((it : IsSearcherOf f.how (map (λ t. t.now) f.texts.now) f.searcher.0) × (f.with_matches ≡ true → LoopsRead it.tree))
-        × IfSome f.program (λ p. IsProgramOf f.how (map (λ t. t.now) f.texts.now) p.value)
-        × IfSome f.candidates (λ c. IsCandidatesOf f.how (map (λ t. t.now) f.texts.now) c.0) };
+        × (f.slow ≡ (f.how, map (λ t. t.now) f.texts.now))
+        × (f.candidates ≡ (f.how, map (λ t. t.now) f.texts.now)) };
 }
 
 /// Whether a search failed because it ran out of memory.
@@ -61,14 +60,6 @@ fn lacks_memory(error: &MatchError) -> bool {
     match error.kind() {
         MatchErrorKind::NoMemory => true,
         _ => false,
-    }
-}
-
-/// How often the caches of the search of blocks were cleared.
-fn clears_of(candidates: &Option<Candidates>) -> usize {
-    match candidates {
-        Some(candidates) => candidates.clear_count(),
-        None => 0,
     }
 }
 
@@ -81,29 +72,27 @@ impl<'t> Finder<'t> {
     /// matches are asked for and a pattern has an unbounded repetition whose body can match the empty string.
     pub fn new(
         alloc: Global,
-        texts: &'t [&'t str],
-        how: &PatternOptions,
+        patterns: &'t LinePatterns<'t>,
         with_matches: bool,
     ) -> Result<Finder<'t>, SearcherError>
-        ensures sought { IfOk result (λ f. f ≡
-            record { how = how.now; texts = map (λ t. t.now) texts.now; spans = with_matches }) }
+        ensures sought { IfOk result (λ f. f ≡ record { how = patterns.now.0; texts = patterns.now.1; spans = with_matches }) }
         ensures searches { IfOk result (λ f. SearchesFor f with_matches) }
-        ensures refused { IfErr result (IsSearcherError how.now (map (λ t. t.now) texts.now) with_matches) }
+        ensures refused { IfErr result (IsSearcherError patterns.now.0 patterns.now.1 with_matches) }
     {
-        let searcher = match Searcher::new(alloc, texts, how, with_matches) {
+        let texts = patterns.texts();
+        let how = patterns.how();
+        let searcher = match Searcher::new(alloc, texts, &how, with_matches) {
             Ok(searcher) => searcher,
             Err(e) => return Err(e),
         };
         Ok(Finder {
             searcher,
             texts,
-            how: *how,
+            how,
             with_matches,
-            program: None,
-            candidates: candidates_of(alloc, texts, how, None),
+            slow: SlowSearch::new(patterns),
+            candidates: CandidateFinder::new(alloc, texts, &how),
             line_size: Size::first(),
-            block_size: Size::first(),
-            slow: 0,
             past_clears: 0,
         })
     }
@@ -113,29 +102,6 @@ impl<'t> Finder<'t> {
         ensures { result ≡ self.now.how.crlf }
     {
         self.how.crlf
-    }
-
-    /// Enlarges the caches of the search of blocks, if they were cleared too soon and memory suffices.
-    fn grow_candidates(&mut self, alloc: Global)
-        ensures { self.new ≡ self.old }
-    {
-        if let Some(size) = self.block_size.take_larger() {
-            self.enlarge_candidates(alloc, size);
-        }
-    }
-
-    /// Enlarges the caches of the search of blocks to this size, if memory suffices. It isn't inlined since it is called rarely, and its
-    /// setup would otherwise cost time for every line.
-    #[inline(never)]
-    fn enlarge_candidates(&mut self, alloc: Global, size: Size)
-        ensures { self.new ≡ self.old }
-    {
-        let clears = clears_of(&self.candidates);
-        if let Some(larger) = candidates_of(alloc, self.texts, &self.how, Some(size.capacity)) {
-            self.candidates = Some(larger);
-            self.block_size = size;
-            self.past_clears = self.past_clears.saturating_add(clears);
-        }
     }
 
     /// Enlarges the caches of the search of lines, if they were cleared too soon and memory suffices.
@@ -175,14 +141,6 @@ impl<'t> Finder<'t> {
         self.line_size.note(bytes, clears);
     }
 
-    /// Records that this many bytes of blocks were searched.
-    fn note_blocks(&mut self, bytes: usize)
-        ensures { self.new ≡ self.old }
-    {
-        let clears = clears_of(&self.candidates);
-        self.block_size.note(bytes, clears);
-    }
-
     /// Returns the start of the next line of a block that may have a match, or the end of the block if none may. It also returns whether
     /// that line is known to have a match. The offset `at` is the start of a line. No line from there up to the returned offset has a
     /// match.
@@ -201,35 +159,7 @@ impl<'t> Finder<'t> {
         ensures passed { IfOk result (λ r. HaveNoMatch self.old.how self.old.texts (slice_range block.now at r.start)) }
         ensures has { IfOk result (λ r. r.has ≡ true → HasMatchAt self.old.how self.old.texts block.now r.start) }
     {
-        self.grow_candidates(alloc);
-        let reached = match self.reach(block, at) {
-            Ok(reached) => reached,
-            Err(e) => return Err(e),
-        };
-        self.note_blocks(reached.passed);
-        Ok(reached)
-    }
-
-    /// Returns the start of the next line that may have a match, by the present caches. If blocks can't be searched, this is the line at
-    /// `at`.
-    fn reach(&mut self, block: &[u8], at: usize) -> Result<Reached, Fault>
-        requires within { at ≤ length block.now }
-        requires starts { IsLineStart block.now at }
-        ensures same { self.new ≡ self.old }
-        ensures from { IfOk result (λ r. at ≤ r.start) }
-        ensures within { IfOk result (λ r. r.start ≤ length block.now) }
-        ensures starts { IfOk result (λ r. r.start < length block.now → IsLineStart block.now r.start) }
-        ensures passed { IfOk result (λ r. HaveNoMatch self.old.how self.old.texts (slice_range block.now at r.start)) }
-        ensures has { IfOk result (λ r. r.has ≡ true → HasMatchAt self.old.how self.old.texts block.now r.start) }
-    {
-        let Some(candidates) = &mut self.candidates else {
-            return Ok(Reached {
-                start: at,
-                has: false,
-                passed: 0,
-            });
-        };
-        let reached = match candidates.next_line(block, at) {
+        let reached = match self.candidates.next_line(alloc, block, at) {
             Ok(reached) => reached,
             Err(e) => return Err(e),
         };
@@ -239,36 +169,18 @@ impl<'t> Finder<'t> {
     /// How often the caches of the automata were cleared. The greatest number stands for any number above it.
     pub fn clear_count(&self) -> usize {
         let clears = self.past_clears.saturating_add(self.searcher.clear_count());
-        clears.saturating_add(clears_of(&self.candidates))
+        clears.saturating_add(self.candidates.clear_count())
     }
 
     /// The bytes that the caches are estimated to need.
     pub fn memory_usage(&self) -> usize {
         let usage = self.searcher.memory_usage();
-        match &self.candidates {
-            Some(candidates) => usage.saturating_add(candidates.memory_usage()),
-            None => usage,
-        }
+        usage.saturating_add(self.candidates.memory_usage())
     }
 
     /// The number of lines in which the automata gave up, so that the toolchain's program reported whether there is a match.
     pub fn slow_lines(&self) -> u64 {
-        self.slow
-    }
-
-    /// Takes the program out of the finder. It is compiled if there is none yet.
-    fn take_program(&mut self, alloc: Global) -> Result<Box<Program>, Fault>
-        ensures same { self.new ≡ self.old }
-        ensures program { IfOk result (λ p. IsProgramOf self.old.how self.old.texts p.value) }
-    {
-        if let Some(program) = self.program.take() {
-            return Ok(program);
-        }
-        let program = match program_of(alloc, &self.how, self.texts) {
-            Ok(program) => program,
-            Err(e) => return Err(e),
-        };
-        Ok(program)
+        self.slow.lines()
     }
 
     /// Whether the line has a match, by the program.
@@ -276,16 +188,9 @@ impl<'t> Finder<'t> {
         ensures same { self.new ≡ self.old }
         ensures reported { IfOk result (λ reported. IsMatchReported self.old.how self.old.texts line.now reported) }
     {
-        self.slow = self.slow.saturating_add(1);
-        let program = match self.take_program(alloc) {
-            Ok(program) => program,
-            Err(e) => return Err(e),
-        };
-        let reported = has_one(alloc, &program, line);
-        self.program = Some(program);
-        let has = match reported {
+        let has = match self.slow.has_match(alloc, line) {
             Ok(has) => has,
-            Err(_) => return Err(Fault::NoMemory),
+            Err(e) => return Err(e),
         };
         Ok(has)
     }
@@ -295,15 +200,9 @@ impl<'t> Finder<'t> {
         ensures same { self.new ≡ self.old }
         ensures reported { IfOk result (λ found. AreReported self.old.how self.old.texts line.now (map span_pair found.items)) }
     {
-        let program = match self.take_program(alloc) {
-            Ok(program) => program,
-            Err(e) => return Err(e),
-        };
-        let reported = all_matches(alloc, &program, line);
-        self.program = Some(program);
-        let found = match reported {
+        let found = match self.slow.matches(alloc, line) {
             Ok(found) => found,
-            Err(_) => return Err(Fault::NoMemory),
+            Err(e) => return Err(e),
         };
         Ok(found)
     }

@@ -7,8 +7,10 @@
 //! A [`Searcher`] reports whether a line has a match.
 #![tactic(auto)]
 
+mod block_search;
 mod blocks;
 mod bounded;
+mod candidate_finder;
 mod candidates;
 mod context_printer;
 mod fallback;
@@ -20,6 +22,7 @@ mod joining;
 pub mod laws;
 mod line;
 mod line_buffer;
+mod line_patterns;
 mod listing;
 mod looking;
 mod output_options;
@@ -33,10 +36,12 @@ mod role;
 mod searcher;
 mod separator_state;
 mod sizes;
+mod slow_search;
 
 pub use fault::Fault;
 pub use finder::Finder;
 pub use line::Line;
+pub use line_patterns::LinePatterns;
 pub use looking::needs_spans;
 pub use output_options::{Context, OutputOptions, Print};
 pub use patterns::{PatternOptions, config_of, pattern_source};

@@ -18,7 +18,7 @@ use crate::outcome::Outcome;
 use crate::output::Output;
 use crate::walking::{Kind, is_folder, is_output, kind_of, push_folder};
 use grep_core::{
-    Fault, Finder, Print, SearcherError, SeparatorState, config_of, needs_spans, pattern_source,
+    Fault, Finder, LinePatterns, Print, SearcherError, SeparatorState, config_of, needs_spans, pattern_source,
     report_input,
 };
 use std::alloc::{AllocError, Global};
@@ -456,16 +456,17 @@ fn refuse_patterns(
     Ok(Outcome::failure())
 }
 
-/// Searches files for patterns. `texts` are the patterns in the syntax that is parsed. The finder is the only value of its kind that this
-/// function owns, since proofs of what a function drops get larger faster than what it owns.
+/// Searches files for patterns. `texts` are the patterns in the syntax that is parsed, and `sought` has the same. The finder is the only
+/// value of its kind that this function owns, since proofs of what a function drops get larger faster than what it owns.
 fn search_texts(
     rt: &HostRuntime,
     asked: &Asked,
     patterns: &[&str],
     texts: &[&str],
+    sought: &LinePatterns<'_>,
     files: &[&str],
 ) -> Result<Outcome, AllocError> {
-    match Finder::new(rt.alloc(), texts, &asked.how, needs_spans(&asked.what)) {
+    match Finder::new(rt.alloc(), sought, needs_spans(&asked.what)) {
         Ok(mut finder) => {
             let outcome = search_by(rt, &mut finder, asked, files);
             drop(finder);
@@ -473,6 +474,18 @@ fn search_texts(
         }
         Err(error) => refuse_patterns(rt, asked, patterns, texts, error),
     }
+}
+
+/// Searches files for patterns. `texts` are the patterns in the syntax that is parsed.
+fn search_words(
+    rt: &HostRuntime,
+    asked: &Asked,
+    patterns: &[&str],
+    texts: &[&str],
+    files: &[&str],
+) -> Result<Outcome, AllocError> {
+    let sought = LinePatterns::new(rt.alloc(), texts, &asked.how);
+    search_texts(rt, asked, patterns, texts, &sought, files)
 }
 
 /// Compiles the patterns, and searches files for them.
@@ -485,5 +498,5 @@ pub fn search(
     let patterns = strs_of(rt.alloc(), patterns)?;
     let texts = texts_of(rt.alloc(), asked, patterns.as_slice())?;
     let words = strs_of(rt.alloc(), texts.as_slice())?;
-    search_texts(rt, asked, patterns.as_slice(), words.as_slice(), files)
+    search_words(rt, asked, patterns.as_slice(), words.as_slice(), files)
 }

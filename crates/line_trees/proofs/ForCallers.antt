@@ -12,3 +12,5 @@ pub use Rattle.line_trees.proofs.KeptLemmas.{minimum_kept, loops_kept, feeds_kep
 pub use Rattle.line_trees.proofs.FeedLemmas.{reads_none}
 -- the bytes of a part of a haystack
 pub use Rattle.line_trees.proofs.ListLemmas.{get_taken, get_dropped}
+-- what a tree means, it means without its looks at words by characters too
+pub use Rattle.line_trees.proofs.WordlessLemmas.{means_wordless, returns_wordless, feeds_wordless}

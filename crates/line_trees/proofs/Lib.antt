@@ -5,6 +5,7 @@ pub mod MeaningLemmas
 pub mod WithinLemmas
 pub mod KeptLemmas
 pub mod FeedLemmas
+pub mod WordlessLemmas
 pub mod ForCallers
 mod Rows
 pub mod ListLemmas

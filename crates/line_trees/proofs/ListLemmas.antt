@@ -2,6 +2,7 @@
 use Rattle.std.proofs.Common.{◌≡◌, ℕ, zero, suc, ◌+◌, ◌<◌, Bool, List, [], ◌∷◌, take, drop, slice_get, map, refl, ap, ◌∙◌, arith}
 use Rattle.hir_core.specs.Tree.{Tree, cat, alt, concat, alternation}
 use Rattle.line_trees.specs.LineTrees.{line_tree}
+use Rattle.line_trees.specs.WordlessTrees.{wordless_tree}
 
 -- ---- a part of a haystack
 pub get_taken : (n : ℕ) (xs : List ℕ) (k : ℕ) → k < n → slice_get (take n xs) k ≡ slice_get xs k
@@ -25,3 +26,12 @@ line_of_concat crlf (x ∷ xs) = ap (cat (line_tree crlf x)) (line_of_concat crl
 pub line_of_alternation : (crlf : Bool) (xs : List Tree) → line_tree crlf (alternation xs) ≡ alternation (map (line_tree crlf) xs)
 line_of_alternation crlf [] = refl
 line_of_alternation crlf (x ∷ xs) = ap (alt (line_tree crlf x)) (line_of_alternation crlf xs)
+
+-- ---- the same of trees without looks at words by characters
+pub wordless_of_concat : (xs : List Tree) → wordless_tree (concat xs) ≡ concat (map wordless_tree xs)
+wordless_of_concat [] = refl
+wordless_of_concat (x ∷ xs) = ap (cat (wordless_tree x)) (wordless_of_concat xs)
+
+pub wordless_of_alternation : (xs : List Tree) → wordless_tree (alternation xs) ≡ alternation (map wordless_tree xs)
+wordless_of_alternation [] = refl
+wordless_of_alternation (x ∷ xs) = ap (alt (wordless_tree x)) (wordless_of_alternation xs)

@@ -1,1 +1,2 @@
 pub mod LineTrees
+pub mod WordlessTrees

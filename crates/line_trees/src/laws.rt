@@ -9,6 +9,7 @@ ghost use Rattle.hir_core.specs.Tree.{Tree};
 ghost use Rattle.line_trees.specs.LineTrees.{line_look, line_tree, has_crlf, IsLineBetween, block_of, line_looks};
 ghost use Rattle.line_trees.specs.LineTrees.{MeansInBlock, MeansInLine, HasMatch};
 ghost use Rattle.line_trees.specs.LineTrees.{reads_feed, HasNoFeedFrom};
+ghost use Rattle.line_trees.specs.WordlessTrees.{wordless_tree};
 
 /// At each offset of a line, every look except the two at carriage returns holds in the line exactly if its line look holds in the block.
 /// If a carriage return belongs to the end of a line, one direction remains: if the look holds in the line, its line look holds in the
@@ -56,4 +57,13 @@ pub fn line_trees_read_as_much()
     ensures least { (crlf : Bool) (x : Tree) → minimum_len (line_tree crlf x) ≡ minimum_len x }
     ensures loops { (crlf : Bool) (x : Tree) → LoopsRead (line_tree crlf x) ↔ LoopsRead x }
     ensures feeds { (crlf : Bool) (x : Tree) → reads_feed (line_tree crlf x) ≡ reads_feed x }
+{}
+
+/// Without its looks at words by characters, a tree matches at least the spans that it matches. It has a look at carriage returns only if
+/// the tree has one, and can consume a line feed exactly if the tree can.
+#[tactic(auto, using(crate::proofs::WordlessLemmas::means_wordless, crate::proofs::WordlessLemmas::returns_wordless, crate::proofs::WordlessLemmas::feeds_wordless))]
+pub fn a_wordless_tree_matches_as_much()
+    ensures spans { (looks : Looks) (h : List ℕ) (x : Tree) (s e : ℕ) → Means looks h x s e → Means looks h (wordless_tree x) s e }
+    ensures returns { (x : Tree) → has_crlf x ≡ false → has_crlf (wordless_tree x) ≡ false }
+    ensures feeds { (x : Tree) → reads_feed (wordless_tree x) ≡ reads_feed x }
 {}

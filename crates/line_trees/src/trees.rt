@@ -29,7 +29,7 @@ pub fn line_look(look: Look, crlf: bool) -> Look
 }
 
 /// A copy of the name, if there is one.
-fn copied(alloc: Global, name: &Option<String>) -> Result<Option<String>, AllocError>
+pub(crate) fn copied(alloc: Global, name: &Option<String>) -> Result<Option<String>, AllocError>
     ensures { IfOk result (λ copy. option_map string_bytes copy ≡ option_map string_bytes name.now) }
 {
     match name {

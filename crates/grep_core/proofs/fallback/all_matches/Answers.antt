@@ -12,8 +12,8 @@ use Rattle.grep_core.proofs.fallback.all_matches.Goals as goal
 pub loop-step-preserved : goal.loop-step-preserved
 loop-step-preserved c = (
   c.find_next-next.ensures.same ∙ c.loop-step.invariant.0,
-  one_more_span (found_at (pattern_of c.args.program.now) c.args.line.now)
-      (filter is_some_text (all_of c.args.program.now c.args.line.now))
+  one_more_span (found_at (pattern_of c.args.searcher.now.program.now) c.args.line.now)
+      (filter is_some_text (all_of c.args.searcher.now.program.now c.args.line.now))
       (map span_pair c.loop-step.found.items) (map span_pair c.push_some.new.found.items) (length c.args.line.now + 1) c.loop-step.step
       (option_map span_pair c.loop-step.next) (option_map span_pair c.find_next-next.result) (span_pair c.in-Some.span)
       c.loop-step-test.true
@@ -24,18 +24,18 @@ loop-step-preserved c = (
       c.in_ok-push_some.ensures c.loop-step.invariant.1,
 )
 
-pub returns-in_default : goal.returns-in_default
-returns-in_default c how texts it =
-    told_all how texts c.args.program.now c.args.line.now (map span_pair c.loop-step.found.items) c.see_bytes.ensures
-    (all_found (found_at (pattern_of c.args.program.now) c.args.line.now)
-    (filter is_some_text (all_of c.args.program.now c.args.line.now))
+pub returns-in_default-clause-reported : goal.returns-in_default-clause-reported
+returns-in_default-clause-reported c how texts it =
+    told_all how texts c.args.searcher.now.program.now c.args.line.now (map span_pair c.loop-step.found.items) c.see_bytes.ensures
+    (all_found (found_at (pattern_of c.args.searcher.now.program.now) c.args.line.now)
+    (filter is_some_text (all_of c.args.searcher.now.program.now c.args.line.now))
     (map span_pair c.loop-step.found.items) (length c.args.line.now + 1 - c.loop-step.step) (option_map span_pair c.loop-step.next)
     (ap (option_map span_pair) c.in_default.is) c.loop-step.invariant.1) it
 
-pub returns : goal.returns
-returns c how texts it =
-    told_all how texts c.args.program.now c.args.line.now (map span_pair c.loop-step.found.items) c.see_bytes.ensures
-    (all_counted (found_at (pattern_of c.args.program.now) c.args.line.now)
-    (filter is_some_text (all_of c.args.program.now c.args.line.now))
+pub returns-clause-reported : goal.returns-clause-reported
+returns-clause-reported c how texts it =
+    told_all how texts c.args.searcher.now.program.now c.args.line.now (map span_pair c.loop-step.found.items) c.see_bytes.ensures
+    (all_counted (found_at (pattern_of c.args.searcher.now.program.now) c.args.line.now)
+    (filter is_some_text (all_of c.args.searcher.now.program.now c.args.line.now))
     (map span_pair c.loop-step.found.items) (length c.args.line.now + 1 - c.loop-step.step) (option_map span_pair c.loop-step.next)
     (omega (arith, c.loop-step-test.false)) c.loop-step.invariant.1) it

@@ -9,7 +9,7 @@ use Rattle.grep_core.proofs.fallback.all_matches.Given as goal
 
 abbrev pub invariant-loop-step : goal.invariant-loop-step
 invariant-loop-step l =
-    (l.searcher.program.now ≡ l.program)
-    × (filter is_some_text (all_of l.program l.line)
+    (l.searcher.program.now ≡ l.fn.searcher.program.now)
+    × (filter is_some_text (all_of l.fn.searcher.program.now l.line)
     ≡ map span_pair l.found.items ++ filter is_some_text
-    (spans_following (found_at (pattern_of l.program) l.line) (l.most - l.step) (option_map span_pair l.next)))
+    (spans_following (found_at (pattern_of l.fn.searcher.program.now) l.line) (l.most - l.step) (option_map span_pair l.next)))

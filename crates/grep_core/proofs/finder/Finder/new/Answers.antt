@@ -6,5 +6,5 @@ use Rattle.grep_core.proofs.finder.Finder.new.Goals as goal
 pub returns-clause-searches : goal.returns-clause-searches
 returns-clause-searches c =
     let it = c.in-Ok.ensures.searcher.0 in
-    let read = read_as c.args.how.now (read_texts c.args.texts.now) it.tree it.mean in
-    record { may = λ asked. asked; how = c.args.how.now; same = refl; patterns = read.0; are_read = read.1 }
+    let read = read_as c.how-how.result (read_texts c.texts-texts.result.now) it.tree it.mean in
+    record { may = λ asked. asked; how = c.how-how.result; same = refl; patterns = read.0; are_read = read.1 }

@@ -1,10 +1,10 @@
-use Rattle.std.proofs.Common.{◌≡◌, true, Option, slice_range, subst}
+use Rattle.std.proofs.Common.{◌≡◌, true, ℕ, List, Option, slice_range, subst}
 use Rattle.std.specs.Prelude.{IfSome}
 use Rattle.regex_pair.specs.Pairs.{PairCache}
 use Rattle.grep_core.specs.Candidates.{BlockRegex, IsCandidatesOf, HaveNoMatch, HasMatchAt}
-use Rattle.grep_core.specs.Searchers.{Sought}
+use Rattle.grep_core.specs.declared.patterns.PatternOptions.{PatternOptions}
 use Rattle.pattern_search.proofs.ForCallers.{read_texts}
-use Rattle.grep_core.proofs.finder.Finder.reach.Goals as goal
+use Rattle.grep_core.proofs.block_search.BlockSearch.reach.Goals as goal
 
 pub returns-clause-passed : goal.returns-clause-passed
 returns-clause-passed c =
@@ -12,8 +12,9 @@ returns-clause-passed c =
     subst (λ (o : Option (BlockRegex × PairCache)). IfSome o
     (λ v. IsCandidatesOf c.self.inside.how (read_texts c.self.inside.texts.now) v.0))
     c.in-Some.is
-    c.self.invariant.2 in
-    subst (λ (s : Sought). HaveNoMatch s.how s.texts (slice_range c.args.block.now c.args.at c.in-Ok.reached.start)) c.self.view_is
+    c.self.invariant in
+    subst (λ (v : PatternOptions × List (List ℕ)). HaveNoMatch v.0 v.1 (slice_range c.args.block.now c.args.at c.in-Ok.reached.start))
+    c.self.view_is
     (c.in-Ok.ensures.passed c.self.inside.how (read_texts c.self.inside.texts.now) it)
 
 pub returns-clause-has : goal.returns-clause-has
@@ -22,6 +23,7 @@ returns-clause-has c =
     subst (λ (o : Option (BlockRegex × PairCache)). IfSome o
     (λ v. IsCandidatesOf c.self.inside.how (read_texts c.self.inside.texts.now) v.0))
     c.in-Some.is
-    c.self.invariant.2 in
-    subst (λ (s : Sought). c.in-Ok.reached.has ≡ true → HasMatchAt s.how s.texts c.args.block.now c.in-Ok.reached.start) c.self.view_is
+    c.self.invariant in
+    subst (λ (v : PatternOptions × List (List ℕ)). c.in-Ok.reached.has ≡ true →
+    HasMatchAt v.0 v.1 c.args.block.now c.in-Ok.reached.start) c.self.view_is
     (c.in-Ok.ensures.has c.self.inside.how (read_texts c.self.inside.texts.now) it)

@@ -1,0 +1,174 @@
+//! Finds the lines of blocks that may have a match, in texts of any script.
+ghost use Rattle.std.specs.Prelude.{◌≡◌, ◌≤◌, ◌<◌, IfOk, length, map, slice_range, true};
+ghost use Rattle.grep_core.specs.Candidates.{HaveNoMatch, HasMatchAt, IsLineStart};
+
+use crate::block_search::BlockSearch;
+use crate::candidates::Reached;
+use crate::fault::Fault;
+use crate::patterns::PatternOptions;
+use std::alloc::Global;
+use std::marker::Model;
+
+/// After the exact search of blocks gave up, this many bytes are searched without looks at words.
+const WORDLESS_SPAN: usize = 1 << 16;
+
+/// Two searches of blocks for the same patterns. The exact one is used until it gives up at a byte above ASCII. Then the other one, which has
+/// no looks at words, is used for some time. That one never gives up, but passes fewer lines.
+#[derive(Drop)]
+pub(crate) struct CandidateFinder<'t> {
+    texts: &'t [&'t str],
+    how: PatternOptions,
+    exact: BlockSearch<'t>,
+    /// It is built when the exact one first gives up.
+    wordless: Option<BlockSearch<'t>>,
+    /// How many more bytes are searched without looks at words.
+    wordless_left: usize,
+}
+
+impl<'t> Model for CandidateFinder<'t> {
+    ghost use Rattle.std.specs.Prelude.{◌≡◌, IfSome, ℕ, List, map};
+    ghost use Rattle.grep_core.specs.declared.patterns.PatternOptions.{PatternOptions};
+
+    ghost Value = { PatternOptions × List (List ℕ) };
+
+    ghost view = { λ f. (f.how, map (λ t. t.now) f.texts.now) };
+
+    ghost invariant = { λ f. (f.exact ≡ (f.how, map (λ t. t.now) f.texts.now))
+        × IfSome f.wordless (λ b. b ≡ (f.how, map (λ t. t.now) f.texts.now)) };
+}
+
+impl<'t> CandidateFinder<'t> {
+    /// Builds the exact search.
+    pub(crate) fn new(
+        alloc: Global,
+        texts: &'t [&'t str],
+        how: &PatternOptions,
+    ) -> CandidateFinder<'t>
+        ensures { result ≡ (how.now, map (λ t. t.now) texts.now) }
+    {
+        CandidateFinder {
+            texts,
+            how: *how,
+            exact: BlockSearch::new(alloc, texts, how, true),
+            wordless: None,
+            wordless_left: 0,
+        }
+    }
+
+    /// How often the caches were cleared. The greatest number stands for any number above it.
+    pub(crate) fn clear_count(&self) -> usize {
+        let clears = self.exact.clear_count();
+        match &self.wordless {
+            Some(wordless) => clears.saturating_add(wordless.clear_count()),
+            None => clears,
+        }
+    }
+
+    /// The bytes that the caches are estimated to need.
+    pub(crate) fn memory_usage(&self) -> usize {
+        let usage = self.exact.memory_usage();
+        match &self.wordless {
+            Some(wordless) => usage.saturating_add(wordless.memory_usage()),
+            None => usage,
+        }
+    }
+
+    /// Returns the next line that may have a match, by the exact search.
+    fn reach(&mut self, alloc: Global, block: &[u8], at: usize) -> Result<Reached, Fault>
+        requires within { at ≤ length block.now }
+        requires starts { IsLineStart block.now at }
+        ensures same { self.new ≡ self.old }
+        ensures from { IfOk result (λ r. at ≤ r.start) }
+        ensures within { IfOk result (λ r. r.start ≤ length block.now) }
+        ensures starts { IfOk result (λ r. r.start < length block.now → IsLineStart block.now r.start) }
+        ensures passed { IfOk result (λ r. HaveNoMatch self.old.0 self.old.1 (slice_range block.now at r.start)) }
+        ensures has { IfOk result (λ r. r.has ≡ true → HasMatchAt self.old.0 self.old.1 block.now r.start) }
+    {
+        let reached = match self.exact.next_line(alloc, block, at) {
+            Ok(reached) => reached,
+            Err(e) => return Err(e),
+        };
+        Ok(reached)
+    }
+
+    /// Returns the next line that may have a match, by the search without looks at words. If there is none, this is the line at `at`.
+    fn reach_wordless(&mut self, alloc: Global, block: &[u8], at: usize) -> Result<Reached, Fault>
+        requires within { at ≤ length block.now }
+        requires starts { IsLineStart block.now at }
+        ensures same { self.new ≡ self.old }
+        ensures from { IfOk result (λ r. at ≤ r.start) }
+        ensures within { IfOk result (λ r. r.start ≤ length block.now) }
+        ensures starts { IfOk result (λ r. r.start < length block.now → IsLineStart block.now r.start) }
+        ensures passed { IfOk result (λ r. HaveNoMatch self.old.0 self.old.1 (slice_range block.now at r.start)) }
+        ensures has { IfOk result (λ r. r.has ≡ true → HasMatchAt self.old.0 self.old.1 block.now r.start) }
+    {
+        let Some(wordless) = &mut self.wordless else {
+            return Ok(Reached {
+                start: at,
+                has: false,
+                passed: 0,
+                gave_up: false,
+            });
+        };
+        let reached = match wordless.next_line(alloc, block, at) {
+            Ok(reached) => reached,
+            Err(e) => return Err(e),
+        };
+        Ok(reached)
+    }
+
+    /// Has the next bytes searched without looks at words.
+    #[inline(never)]
+    fn begin_wordless(&mut self, alloc: Global)
+        ensures { self.new ≡ self.old }
+    {
+        self.wordless_left = WORDLESS_SPAN;
+        if self.wordless.is_some() {
+            return;
+        }
+        self.wordless = Some(BlockSearch::new(alloc, self.texts, &self.how, false));
+    }
+
+    /// Records that this many bytes were searched without looks at words.
+    fn count_wordless(&mut self, bytes: usize)
+        ensures { self.new ≡ self.old }
+    {
+        self.wordless_left = self.wordless_left.saturating_sub(bytes.max(1));
+    }
+
+    /// Returns the start of the next line of a block that may have a match, or the end of the block if none may. It also returns whether
+    /// that line is known to have a match. The offset `at` is the start of a line. No line from there up to the returned offset has a
+    /// match.
+    pub(crate) fn next_line(
+        &mut self,
+        alloc: Global,
+        block: &[u8],
+        at: usize,
+    ) -> Result<Reached, Fault>
+        requires within { at ≤ length block.now }
+        requires starts { IsLineStart block.now at }
+        ensures same { self.new ≡ self.old }
+        ensures from { IfOk result (λ r. at ≤ r.start) }
+        ensures within { IfOk result (λ r. r.start ≤ length block.now) }
+        ensures starts { IfOk result (λ r. r.start < length block.now → IsLineStart block.now r.start) }
+        ensures passed { IfOk result (λ r. HaveNoMatch self.old.0 self.old.1 (slice_range block.now at r.start)) }
+        ensures has { IfOk result (λ r. r.has ≡ true → HasMatchAt self.old.0 self.old.1 block.now r.start) }
+    {
+        if self.wordless_left == 0 {
+            let reached = match self.reach(alloc, block, at) {
+                Ok(reached) => reached,
+                Err(e) => return Err(e),
+            };
+            if !reached.gave_up {
+                return Ok(reached);
+            }
+            self.begin_wordless(alloc);
+        }
+        let reached = match self.reach_wordless(alloc, block, at) {
+            Ok(reached) => reached,
+            Err(e) => return Err(e),
+        };
+        self.count_wordless(reached.passed);
+        Ok(reached)
+    }
+}
