@@ -10,9 +10,10 @@ use Rattle.capi.specs.Options.{options_of}
 abbrev pub value_of : RegexValue → Options → Regexed
 value_of r o = record { options = o; texts = r.texts; loops = r.loops }
 
--- the regex was made with these options, and is seen as this value
-pub by_value : (r : RegexValue) (o : Options) (v : Regexed) → r.options ≡ options_of o → value_of r o ≡ v →
-    (P : Config → List (List ℕ) → Bool → Type 0) → P r.options.syntax r.texts r.loops → P (config_by v) v.texts v.loops
-by_value r o v options is P p =
+-- the regex that is shared was made with these options, and is seen as this value
+pub by_value : (shared r : RegexValue) (o : Options) (v : Regexed) → shared ≡ r → r.options ≡ options_of o → value_of r o ≡ v →
+    (P : Config → List (List ℕ) → Bool → Type 0) → P shared.options.syntax shared.texts shared.loops → P (config_by v) v.texts v.loops
+by_value shared r o v same options is P p =
     subst (λ (w : Regexed). P (config_by w) w.texts w.loops) is
-    (subst (λ (e : engine.Options). P e.syntax r.texts r.loops) options p)
+    (subst (λ (e : engine.Options). P e.syntax r.texts r.loops) options
+    (subst (λ (it : RegexValue). P it.options.syntax it.texts it.loops) same p))

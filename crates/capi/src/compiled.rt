@@ -11,11 +11,12 @@ use crate::options::Options;
 use meta_regex::{Cache, FoundMatch, Regex, SearchError};
 use std::alloc::{AllocError, Global};
 use std::marker::Model;
+use std::sync::Arc;
 
-/// A regex made from patterns, and the cache of its searches.
+/// A regex made from patterns, and the cache of its searches. Handles that were cloned share the regex.
 #[derive(Drop)]
 pub struct Compiled {
-    regex: Regex,
+    regex: Arc<Regex>,
     cache: Cache,
     options: Options,
 }
@@ -28,9 +29,9 @@ impl Model for Compiled {
 
     ghost Value = { Regexed };
 
-    ghost view = { λ c. record { options = c.options; texts = c.regex.texts; loops = c.regex.loops } };
+    ghost view = { λ c. record { options = c.options; texts = c.regex.value.texts; loops = c.regex.value.loops } };
 
-    ghost invariant = { λ c. (c.regex.options ≡ options_of c.options) × IsCacheOf c.regex c.cache };
+    ghost invariant = { λ c. (c.regex.value.options ≡ options_of c.options) × IsCacheOf c.regex.value c.cache };
 }
 
 /// A new cache. The automaton that reports which patterns match is made at once if the options ask for it.
@@ -64,10 +65,27 @@ impl Compiled {
             Ok(cache) => cache,
             Err(_) => return Err(NewError::NoMemory),
         };
+        let regex = match Arc::new(alloc, regex) {
+            Ok(regex) => regex,
+            Err(_) => return Err(NewError::NoMemory),
+        };
         Ok(Compiled {
             regex,
             cache,
             options: *options,
+        })
+    }
+
+    /// A second handle of the same regex, with a cache of its own. Both share the regex, so nothing is parsed or compiled.
+    pub fn try_clone(&self, alloc: Global) -> Result<Compiled, AllocError>
+        ensures { IfOk result (λ v. v ≡ self.now) }
+    {
+        let cache = cache_of(alloc, &self.regex, &self.options)?;
+        let regex = Arc::try_clone(&self.regex)?;
+        Ok(Compiled {
+            regex,
+            cache,
+            options: self.options,
         })
     }
 
