@@ -1,9 +1,2 @@
-mod BestLemmas
-mod FallbackLemmas
-mod FoundLemmas
-mod ListLemmas
-mod LoopLemmas
-mod NextLemmas
-mod OrderLemmas
-mod RefusalLemmas
+mod CompiledLemmas
 mod TextLemmas

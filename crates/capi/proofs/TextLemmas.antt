@@ -7,7 +7,8 @@ use Rattle.std.proofs.lemmas.List.Sums.{sum_by-drop_more, sum_by-take-drop}
 use Rattle.capi.specs.declared.failure.NewError.{NewError}
 use Rattle.capi.specs.declared.failure.NewError.TheVariants.{NotUtf8}
 use Rattle.capi.specs.Compiled.{IsSplitError}
-use Rattle.capi.specs.Texts.{IsNoText, cut}
+use Rattle.meta_regex.specs.Regexes.{IsNoText}
+use Rattle.capi.specs.Texts.{cut}
 
 -- So many patterns are cut off so far. With those that the rest is cut into they are those of the whole, and the lengths that are left sum
 -- up to the rest as all do to the whole.

@@ -1,8 +1,7 @@
--- Errors and matches in numbers.
+-- Errors in numbers.
 use Rattle.std.specs.Prelude.{ℕ, Option, Some, None}
 use Rattle.regex_syntax.specs.declared.error.ErrorKind.{ErrorKind}
 use Rattle.regex_syntax.specs.declared.error.ErrorKind.TheVariants.{NestLimitExceeded}
-use Rattle.search_types.specs.Found.{Found}
 use Rattle.nfa_core.specs.BuildErrors.{size_limit_of}
 use Rattle.lazy_dfa.specs.declared.build_error.BuildError.{BuildError}
 use Rattle.lazy_dfa.specs.declared.build_error.BuildError.TheVariants.{NFA, InsufficientCacheCapacity, InsufficientStateIDCapacity}
@@ -10,16 +9,11 @@ use Rattle.lazy_dfa.specs.declared.build_error.BuildError.TheVariants.{Unsupport
 use Rattle.pattern_text.specs.declared.parse_error.ParseError.{ParseError}
 use Rattle.pattern_text.specs.declared.parse_error.ParseError.TheVariants.{NoMemory as NoneLeft, Refused}
 use Rattle.pattern_search.specs.declared.parsing.PatternError.{PatternError}
+use Rattle.meta_regex.specs.declared.errors.SearchError.{SearchError}
+use Rattle.meta_regex.specs.declared.errors.SearchError.TheVariants.{NoMemory as NoneFree, NotUtf8 as NoText, TooLarge, WrongMarkCount}
 use Rattle.capi.specs.declared.failure.Failure.{Failure}
-use Rattle.capi.specs.declared.failure.FoundMatch.{FoundMatch}
 use Rattle.capi.specs.declared.failure.NewError.{NewError}
 use Rattle.capi.specs.declared.failure.NewError.TheVariants.{BadArgument, NoMemory, NotUtf8, Text, EmptyLoop, Build}
-use Rattle.capi.specs.declared.failure.SearchError.{SearchError}
-use Rattle.capi.specs.declared.failure.SearchError.TheVariants.{BadArgument as BadSearch, NoMemory as NoneFree, NotUtf8 as NoText}
-use Rattle.capi.specs.declared.failure.SearchError.TheVariants.{TooLarge as TooGreat}
-
-abbrev pub row_of : Found → FoundMatch
-row_of f = record { pattern = f.pattern; start = f.start; end = f.end }
 
 abbrev pub plain : ℕ → Failure
 plain status = record { status = status; cause = 0; pattern = 0; start = 0; end = 0; limit = 0 }
@@ -60,7 +54,7 @@ failure_of_new (EmptyLoop pattern) = record (plain 7) { pattern = pattern }
 failure_of_new (Build e) = failure_of_build e
 
 abbrev pub failure_of_search : SearchError → Failure
-failure_of_search BadSearch = plain 2
+failure_of_search WrongMarkCount = plain 2
 failure_of_search NoneFree = plain 3
 failure_of_search (NoText at) = record (plain 12) { start = at }
-failure_of_search TooGreat = plain 8
+failure_of_search TooLarge = plain 8

@@ -1,10 +1,11 @@
 -- What the numbers of a caller's options mean.
-use Rattle.std.specs.Prelude.{ℕ, ◌/◌, ◌%◌, Bool, true, not, if◌then◌else◌, nat_eq, nat_lt, Option, Some, None}
+use Rattle.std.specs.Prelude.{ℕ, ◌/◌, ◌%◌, Bool, true, not, if◌then◌else◌, nat_eq, nat_lt, Some, None}
 use Rattle.regex_syntax.specs.declared.Config.{Config}
 use Rattle.look_core.specs.Terminators.{one_of}
 use Rattle.search_types.specs.declared.match_kind.MatchKind.{MatchKind}
 use Rattle.lazy_dfa.specs.ConfigValue.{DfaOptions, no_dfa_options}
 use Rattle.hirscan.specs.declared.settings.Settings.{Settings}
+use Rattle.meta_regex.specs.declared.options.Options as engine
 use Rattle.capi.specs.declared.options.Options.{Options}
 
 -- Whether a flag is set. A flag is a power of two.
@@ -56,4 +57,16 @@ settings_of o kind = record {
   shrink = is_flag_set o.flags 8192;
   size_limit = Some (if nat_eq o.size_limit 0 then 67108864 else o.size_limit);
   dfa = dfa_options_of o kind;
+}
+
+-- The options of the engine for which these numbers stand. The definitions above are what they mean there.
+abbrev pub options_of : Options → engine.Options
+options_of o = record {
+  syntax = config_of_options o;
+  empty_loops = allows_empty_loops o;
+  byte_classes = not (is_flag_set o.flags 4096);
+  skip_cache_capacity_check = is_flag_set o.flags 2048;
+  shrink = is_flag_set o.flags 8192;
+  size_limit = Some (if nat_eq o.size_limit 0 then 67108864 else o.size_limit);
+  cache_capacity = if nat_eq o.capacity 0 then None else Some o.capacity;
 }

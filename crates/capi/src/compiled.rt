@@ -1,78 +1,55 @@
 //! A compiled regex.
-ghost use Rattle.std.specs.Prelude.{◌≡◌, false, Some, IfErr, IfOk, IfSome, ℕ, List, length, map, string_bytes};
-ghost use Rattle.regex_syntax.specs.declared.Config.{Config as TextConfig};
-ghost use Rattle.search_types.specs.declared.match_kind.MatchKind.TheVariants.{All as AllMatches};
-ghost use Rattle.capi.specs.Compiled.{AreBuiltOf, IsMadeOf, IsNewError, IsSearchError, config_by};
-ghost use Rattle.capi.specs.Fallbacks.{AreFallbacksOf};
-ghost use Rattle.capi.specs.Options.{config_of_options};
+ghost use Rattle.std.specs.Prelude.{◌≡◌, ◌≤◌, IfErr, IfOk, length, map, replicate, true};
+ghost use Rattle.meta_regex.specs.Caches.{IsCacheOf};
+ghost use Rattle.meta_regex.specs.Regexes.{AreAll, AreFirstOfAll, AreMarked, HasFoundSpan, HasFoundStart, IsMatchingPatternsError, IsReported};
+ghost use Rattle.meta_regex.specs.Regexes.{IsSearchError};
+ghost use Rattle.meta_regex.specs.Lists.{AreFirstListed, AreListed};
+ghost use Rattle.capi.specs.Compiled.{IsMadeOf, IsNewError, config_by};
 
-use crate::automata::{Automata, regex_of};
-use crate::failure::{NewError, SearchError};
-use crate::fallback::{Fallback, fallbacks_of};
+use crate::failure::NewError;
 use crate::options::Options;
-use crate::texts::{lent, owned};
-use crate::walker::Walker;
-use search_types::MatchKind;
-use std::alloc::Global;
+use meta_regex::{Cache, FoundMatch, Regex, SearchError};
+use std::alloc::{AllocError, Global};
 use std::marker::Model;
+use std::sync::Arc;
 
-/// A regex made from patterns, and the caches of its searches.
-///
-/// Automata search the haystacks. In some haystacks they give up at a byte, for example if `\b` is tried next to a byte that isn't ASCII.
-/// Such haystacks are searched by the toolchain's regexes of the same patterns, which are made when the first one comes. The automaton that
-/// reports which patterns match is made when this is first asked.
+/// A regex made from patterns, and the cache of its searches. Handles that were cloned share the regex.
 #[derive(Drop)]
 pub struct Compiled {
-    pub(crate) automata: Automata,
-    pub(crate) walker: Option<Walker>,
-    pub(crate) regexes: Option<Vec<Fallback>>,
-    pub(crate) texts: Vec<String>,
-    pub(crate) options: Options,
-    pub(crate) loops: bool,
+    regex: Arc<Regex>,
+    cache: Cache,
+    options: Options,
 }
 
 impl Model for Compiled {
-    ghost use Rattle.std.specs.Prelude.{IfSome, map, string_bytes};
-    ghost use Rattle.search_types.specs.declared.match_kind.MatchKind.TheVariants.{LeftmostFirst, All};
-    ghost use Rattle.capi.specs.Compiled.{Regexed, AreBuiltOf, AreReportedOf};
-    ghost use Rattle.capi.specs.Fallbacks.{AreFallbacksOf};
-    ghost use Rattle.capi.specs.Options.{config_of_options};
+    ghost use Rattle.std.specs.Prelude.{◌≡◌};
+    ghost use Rattle.meta_regex.specs.Caches.{IsCacheOf};
+    ghost use Rattle.capi.specs.Compiled.{Regexed};
+    ghost use Rattle.capi.specs.Options.{options_of};
 
     ghost Value = { Regexed };
 
-    ghost view = { λ c. record { options = c.options; texts = map string_bytes c.texts.items; loops = c.loops } };
+    ghost view = { λ c. record { options = c.options; texts = c.regex.value.texts; loops = c.regex.value.loops } };
 
-    ghost invariant = { λ c. AreReportedOf (config_of_options c.options) (map string_bytes c.texts.items) LeftmostFirst c.loops c.automata
-        × IfSome c.walker (AreBuiltOf (config_of_options c.options) (map string_bytes c.texts.items) All)
-        × IfSome c.regexes (λ rs. AreFallbacksOf (config_of_options c.options) (map string_bytes c.texts.items) rs.items) };
+    ghost invariant = { λ c. (c.regex.value.options ≡ options_of c.options) × IsCacheOf c.regex.value c.cache };
 }
 
-/// The automaton that reports which patterns match, if it can be made.
-fn walker_of(alloc: Global, texts: &[&str], options: &Options) -> Option<Walker>
-    ensures { IfSome result (AreBuiltOf (config_of_options options.now) (map (λ t. t.now) texts.now) AllMatches) }
+/// A new cache. The automaton that reports which patterns match is made at once if the options ask for it.
+fn cache_of(alloc: Global, regex: &Regex, options: &Options) -> Result<Cache, AllocError>
+    ensures { IfOk result (IsCacheOf regex.now) }
 {
-    match regex_of(alloc, texts, options, MatchKind::All) {
-        Ok(made) => match Walker::of(alloc, made.regex) {
-            Ok(walker) => Some(walker),
-            Err(_) => None,
-        },
-        Err(_) => None,
+    let mut cache = regex.create_cache(alloc)?;
+    if !options.asks_which() {
+        return Ok(cache);
     }
-}
-
-/// The automaton that reports which patterns match, if the options ask for it at once and it can be made.
-fn first_walker(alloc: Global, texts: &[&str], options: &Options) -> Option<Walker>
-    ensures { IfSome result (AreBuiltOf (config_of_options options.now) (map (λ t. t.now) texts.now) AllMatches) }
-{
-    if options.asks_which() {
-        walker_of(alloc, texts, options)
-    } else {
-        None
-    }
+    regex.prepare_matching_patterns(alloc, &mut cache);
+    Ok(cache)
 }
 
 impl Compiled {
     /// Makes a regex from patterns. Of matches that start at the same offset, the one of the earlier pattern is preferred.
+    ///
+    /// The automaton that reports which patterns match is made at once if the options ask for it, and else when a call first needs it.
     pub fn new(alloc: Global, texts: &[&str], options: &Options) -> Result<Compiled, NewError>
         ensures made { IfOk result (IsMadeOf options.now (map (λ t. t.now) texts.now)) }
         ensures refused { IfErr result (IsNewError options.now (map (λ t. t.now) texts.now)) }
@@ -80,26 +57,35 @@ impl Compiled {
         if !options.is_known() {
             return Err(NewError::BadArgument);
         }
-        let made = match regex_of(alloc, texts, options, MatchKind::LeftmostFirst) {
-            Ok(made) => made,
-            Err(e) => return Err(e),
+        let regex = match Regex::new(alloc, texts, &options.options()) {
+            Ok(regex) => regex,
+            Err(e) => return Err(NewError::of(e)),
         };
-        let automata = match Automata::of(alloc, made.regex) {
-            Ok(automata) => automata,
+        let cache = match cache_of(alloc, &regex, options) {
+            Ok(cache) => cache,
             Err(_) => return Err(NewError::NoMemory),
         };
-        let copies = match owned(alloc, texts) {
-            Ok(copies) => copies,
+        let regex = match Arc::new(alloc, regex) {
+            Ok(regex) => regex,
             Err(_) => return Err(NewError::NoMemory),
         };
-        let walker = first_walker(alloc, texts, options);
         Ok(Compiled {
-            automata,
-            walker,
-            regexes: None,
-            texts: copies,
+            regex,
+            cache,
             options: *options,
-            loops: made.loops,
+        })
+    }
+
+    /// A second handle of the same regex, with a cache of its own. Both share the regex, so nothing is parsed or compiled.
+    pub fn try_clone(&self, alloc: Global) -> Result<Compiled, AllocError>
+        ensures { IfOk result (λ v. v ≡ self.now) }
+    {
+        let cache = cache_of(alloc, &self.regex, &self.options)?;
+        let regex = Arc::try_clone(&self.regex)?;
+        Ok(Compiled {
+            regex,
+            cache,
+            options: self.options,
         })
     }
 
@@ -107,79 +93,80 @@ impl Compiled {
     pub fn pattern_count(&self) -> usize
         ensures { result ≡ length self.now.texts }
     {
-        self.texts.as_slice().len()
+        self.regex.pattern_count()
     }
 
     /// How often the caches of its automata were cleared. The greatest number stands for any number above it.
     pub fn clear_count(&self) -> usize {
-        let clears = self.automata.clear_count();
-        match &self.walker {
-            Some(walker) => clears.saturating_add(walker.clear_count()),
-            None => clears,
-        }
+        self.cache.clear_count()
     }
 
     /// The bytes that the caches of its automata are estimated to need.
     pub fn memory_usage(&self) -> usize {
-        let usage = self.automata.memory_usage();
-        match &self.walker {
-            Some(walker) => usage.saturating_add(walker.memory_usage()),
-            None => usage,
-        }
+        self.cache.memory_usage()
     }
 
-    /// Makes the automaton that reports which patterns match.
-    fn make_walker(&self, alloc: Global) -> Option<Walker>
-        ensures { IfSome result (AreBuiltOf (config_by self.now) self.now.texts AllMatches) }
-    {
-        match lent(alloc, &self.texts) {
-            Ok(texts) => walker_of(alloc, &texts, &self.options),
-            Err(_) => None,
-        }
-    }
-
-    /// Makes that automaton if there is none yet and it can be made.
-    pub(crate) fn ready_walker(&mut self, alloc: Global)
-        ensures { self.new ≡ self.old }
-    {
-        if self.walker.is_some() {
-            return;
-        }
-        let walker = self.make_walker(alloc);
-        self.walker = walker;
-    }
-
-    /// Makes the toolchain's regexes.
-    fn make_regexes(&self, alloc: Global) -> Result<Vec<Fallback>, SearchError>
-        ensures made { IfOk result (λ rs. AreFallbacksOf (config_by self.now) self.now.texts rs.items) }
-        ensures refused { IfErr result (λ e. (config : TextConfig) → (h : List ℕ) → IsSearchError config h e) }
-    {
-        match fallbacks_of(alloc, &self.texts, &self.options.config()) {
-            Ok(regexes) => Ok(regexes),
-            Err(e) => Err(e),
-        }
-    }
-
-    /// Takes the toolchain's regexes out. They are made if there are none yet.
-    pub(crate) fn take_regexes(&mut self, alloc: Global) -> Result<Vec<Fallback>, SearchError>
+    /// The leftmost match from an offset on, and of several that start there the preferred one. Look-around assertions see what precedes
+    /// the offset.
+    pub fn find_at(
+        &mut self,
+        alloc: Global,
+        haystack: &[u8],
+        from: usize,
+    ) -> Result<Option<FoundMatch>, SearchError>
+        requires within { from ≤ length haystack.now }
         ensures same { self.new ≡ self.old }
-        ensures regexes { IfOk result (λ rs. AreFallbacksOf (config_by self.old) self.old.texts rs.items) }
-        ensures refused { IfErr result (λ e. (config : TextConfig) → (h : List ℕ) → IsSearchError config h e) }
+        ensures found { IfOk result (HasFoundStart (config_by self.old) self.old.texts haystack.now from) }
+        ensures preferred { self.old.loops ≡ true → IfOk result (HasFoundSpan (config_by self.old) self.old.texts haystack.now from) }
+        ensures refused { IfErr result (IsSearchError (config_by self.old) haystack.now) }
     {
-        if let Some(regexes) = self.regexes.take() {
-            return Ok(regexes);
-        }
-        match self.make_regexes(alloc) {
-            Ok(regexes) => Ok(regexes),
-            Err(e) => Err(e),
-        }
+        self.regex.find_at(alloc, &mut self.cache, haystack, from)
     }
 
-    /// Puts the toolchain's regexes back.
-    pub(crate) fn keep_regexes(&mut self, regexes: Vec<Fallback>)
-        requires { AreFallbacksOf (config_by self.old) self.old.texts regexes.items }
-        ensures { self.new ≡ self.old }
+    /// Whether there is a match.
+    pub fn is_match(&mut self, alloc: Global, haystack: &[u8]) -> Result<bool, SearchError>
+        ensures same { self.new ≡ self.old }
+        ensures reported { IfOk result (IsReported (config_by self.old) self.old.texts haystack.now) }
+        ensures refused { IfErr result (IsSearchError (config_by self.old) haystack.now) }
     {
-        self.regexes = Some(regexes);
+        self.regex.is_match(alloc, &mut self.cache, haystack)
+    }
+
+    /// Writes the first of all matches, from left to right, into the rows, as many as these have room for. Returns how many matches there
+    /// are in all. On an error, the number counts the matches that were found before the search that failed, and these are written as far
+    /// as there is room.
+    pub fn find_all(
+        &mut self,
+        alloc: Global,
+        haystack: &[u8],
+        rows: &mut [FoundMatch],
+    ) -> (usize, Result<(), SearchError>)
+        ensures same { self.new ≡ self.old }
+        ensures all { self.old.loops ≡ true →
+            IfOk result.1 (λ _. AreAll (config_by self.old) self.old.texts haystack.now result.0 rows.old rows.new) }
+        ensures first { self.old.loops ≡ true →
+            IfErr result.1 (λ _. AreFirstOfAll (config_by self.old) self.old.texts haystack.now result.0 rows.old rows.new) }
+        ensures listed { IfOk result.1 (λ _. AreListed (config_by self.old) self.old.texts haystack.now result.0 rows.old rows.new) }
+        ensures begun { IfErr result.1 (λ _. AreFirstListed (config_by self.old) self.old.texts haystack.now result.0 rows.old rows.new) }
+        ensures refused { IfErr result.1 (IsSearchError (config_by self.old) haystack.now) }
+    {
+        self.regex.find_all(alloc, &mut self.cache, haystack, rows)
+    }
+
+    /// For each pattern, writes 1 at its index if it matches anywhere, and 0 if it doesn't. Returns how many patterns match. There has to
+    /// be one mark for each pattern. On an error all marks are 0.
+    pub fn matching_patterns(
+        &mut self,
+        alloc: Global,
+        haystack: &[u8],
+        marks: &mut [u8],
+    ) -> Result<usize, SearchError>
+        ensures same { self.new ≡ self.old }
+        ensures marked { IfOk result (λ n. AreMarked (config_by self.old) self.old.texts haystack.now n marks.new) }
+        ensures refused { IfErr result (λ _. marks.new ≡ replicate (length marks.old) 0) }
+        ensures cause { IfErr result (IsMatchingPatternsError (config_by self.old) self.old.texts haystack.now marks.old) }
+    {
+        self.regex
+            .matching_patterns(alloc, &mut self.cache, haystack, marks)
     }
 }

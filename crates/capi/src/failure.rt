@@ -1,13 +1,17 @@
 //! Errors in numbers, as callers from C read them. A status of 0 says that a call succeeded, and 1 that there is no match. No error has the
 //! status 11.
-ghost use Rattle.std.specs.Prelude.{◌≡◌};
-ghost use Rattle.capi.specs.Failures.{plain, failure_of_text, failure_of_build, failure_of_new, failure_of_search, without_cause, row_of};
+ghost use Rattle.std.specs.Prelude.{◌≡◌, ℕ, List};
+ghost use Rattle.meta_regex.specs.Regexes.{IsNewError as IsRegexError};
+ghost use Rattle.capi.specs.Compiled.{IsNewError};
+ghost use Rattle.capi.specs.Failures.{plain, failure_of_text, failure_of_build, failure_of_new, failure_of_search, without_cause};
+ghost use Rattle.capi.specs.Options.{options_of};
+ghost use Rattle.capi.specs.declared.options.Options.{Options};
 
 use lazy_dfa::BuildError;
+use meta_regex::SearchError;
 use pattern_search::PatternError;
 use pattern_text::ParseError;
 use regex_syntax::ErrorKind;
-use search_types::Match;
 
 /// An argument isn't one that the call accepts.
 pub(crate) const BAD_ARGUMENT: u32 = 2;
@@ -39,38 +43,6 @@ pub(crate) const UNSUPPORTED: u32 = 10;
 /// The haystack isn't UTF-8, and the regex is made for UTF-8.
 pub(crate) const HAYSTACK_NOT_UTF8: u32 = 12;
 
-/// One match: the number of its pattern, counted from 0, and the offsets of its start and end.
-#[repr(C)]
-#[derive(Clone, Copy, Drop)]
-pub struct FoundMatch {
-    pub pattern: usize,
-    pub start: usize,
-    pub end: usize,
-}
-
-impl FoundMatch {
-    /// All 0.
-    pub fn zero() -> FoundMatch
-        ensures { result ≡ record { pattern = 0; start = 0; end = 0 } }
-    {
-        FoundMatch {
-            pattern: 0,
-            start: 0,
-            end: 0,
-        }
-    }
-
-    pub fn of(found: &Match) -> FoundMatch
-        ensures { result ≡ row_of found.now }
-    {
-        FoundMatch {
-            pattern: found.pattern().as_usize(),
-            start: found.start(),
-            end: found.end(),
-        }
-    }
-}
-
 /// An error in numbers. Fields that don't apply to its status are 0.
 #[repr(C)]
 #[derive(Clone, Copy, Drop)]
@@ -97,6 +69,21 @@ impl Failure {
             limit: 0,
         }
     }
+
+    /// The error of a search in numbers.
+    pub fn of_search(error: &SearchError) -> Failure
+        ensures { result ≡ failure_of_search error.now }
+    {
+        match error {
+            SearchError::WrongMarkCount => Failure::plain(BAD_ARGUMENT),
+            SearchError::NoMemory => Failure::plain(NO_MEMORY),
+            SearchError::NotUtf8(at) => Failure {
+                start: *at,
+                ..Failure::plain(HAYSTACK_NOT_UTF8)
+            },
+            SearchError::TooLarge => Failure::plain(TOO_LARGE),
+        }
+    }
 }
 
 /// Why no regex is made.
@@ -114,19 +101,6 @@ pub enum NewError {
     EmptyLoop(usize),
     /// No regex can be built from the trees.
     Build(BuildError),
-}
-
-/// Why a search failed.
-#[derive(Clone, Copy, Debug)]
-pub enum SearchError {
-    /// An argument isn't one that the call accepts.
-    BadArgument,
-    /// Memory ran out.
-    NoMemory,
-    /// The haystack isn't UTF-8 from this offset on, and the regex requires that.
-    NotUtf8(usize),
-    /// A regex of the toolchain, which is needed because the automata give up, is larger than allowed.
-    TooLarge,
 }
 
 /// What may be wrong with a pattern. The number of each cause is its position here, counted from 1.
@@ -235,6 +209,18 @@ fn failure_of_build(error: &BuildError) -> Failure
 }
 
 impl NewError {
+    /// An error of the engine.
+    pub(crate) fn of(error: meta_regex::NewError) -> NewError
+        ensures { (o : Options) → (texts : List (List ℕ)) → IsRegexError (options_of o) texts error → IsNewError o texts result }
+    {
+        match error {
+            meta_regex::NewError::NoMemory => NewError::NoMemory,
+            meta_regex::NewError::Text(e) => NewError::Text(e),
+            meta_regex::NewError::EmptyLoop(pattern) => NewError::EmptyLoop(pattern),
+            meta_regex::NewError::Build(e) => NewError::Build(e),
+        }
+    }
+
     /// The error in numbers.
     pub fn failure(&self) -> Failure
         ensures { without_cause result ≡ failure_of_new self.now }
@@ -253,23 +239,6 @@ impl NewError {
                 ..Failure::plain(EMPTY_LOOP)
             },
             NewError::Build(error) => failure_of_build(error),
-        }
-    }
-}
-
-impl SearchError {
-    /// The error in numbers.
-    pub fn failure(&self) -> Failure
-        ensures { result ≡ failure_of_search self.now }
-    {
-        match self {
-            SearchError::BadArgument => Failure::plain(BAD_ARGUMENT),
-            SearchError::NoMemory => Failure::plain(NO_MEMORY),
-            SearchError::NotUtf8(at) => Failure {
-                start: *at,
-                ..Failure::plain(HAYSTACK_NOT_UTF8)
-            },
-            SearchError::TooLarge => Failure::plain(TOO_LARGE),
         }
     }
 }

@@ -1,12 +1,11 @@
 //! What a caller may set.
-ghost use Rattle.std.specs.Prelude.{◌≡◌, ◌<◌, if◌then◌else◌, nat_eq};
+ghost use Rattle.std.specs.Prelude.{◌≡◌, ◌<◌, if◌then◌else◌, nat_eq, None, Some};
+ghost use Rattle.search_types.specs.declared.match_kind.MatchKind.{MatchKind};
+ghost use Rattle.meta_regex.specs.Options.{config_of, settings_of as settings_of_engine};
 ghost use Rattle.capi.specs.Options.{is_flag_set, has_known_flags, config_of_options, nest_limit_of, allows_empty_loops};
-ghost use Rattle.capi.specs.Options.{dfa_options_of, settings_of};
+ghost use Rattle.capi.specs.Options.{options_of, settings_of};
 
-use hirscan::Settings;
-use lazy_dfa::dfa;
 use pattern_text::Config;
-use search_types::MatchKind;
 
 const CASE_INSENSITIVE: u32 = 1;
 
@@ -110,19 +109,13 @@ impl Options {
             .nest_limit(self.nest_limit())
     }
 
-    /// The options of both automata, which find matches of this kind.
-    fn dfa(&self, kind: MatchKind) -> dfa::Config
-        ensures { result ≡ dfa_options_of self.now kind }
+    fn capacity(&self) -> Option<usize>
+        ensures { result ≡ (if nat_eq self.now.capacity 0 then None else Some self.now.capacity) }
     {
-        let config = dfa::Config::new()
-            .match_kind(kind)
-            .unicode_word_boundary(true)
-            .byte_classes(!self.has(NO_BYTE_CLASSES))
-            .skip_cache_capacity_check(self.has(RAISE_CAPACITY));
         if self.capacity == 0 {
-            config
+            None
         } else {
-            config.cache_capacity(self.capacity)
+            Some(self.capacity)
         }
     }
 
@@ -136,16 +129,20 @@ impl Options {
         }
     }
 
-    /// How regexes that find matches of this kind are built.
-    pub fn settings(&self, kind: MatchKind) -> Settings
-        ensures { result ≡ settings_of self.now kind }
+    /// The options of the engine for which these numbers stand.
+    pub fn options(&self) -> meta_regex::Options
+        ensures value { result ≡ options_of self.now }
+        ensures config { config_of result ≡ config_of_options self.now }
+        ensures settings { (kind : MatchKind) → settings_of_engine result kind ≡ settings_of self.now kind }
     {
-        Settings {
-            utf8: self.has(UTF8),
+        meta_regex::Options {
+            syntax: self.config(),
+            empty_loops: self.allows_empty_loops(),
+            byte_classes: !self.has(NO_BYTE_CLASSES),
+            skip_cache_capacity_check: self.has(RAISE_CAPACITY),
             shrink: self.has(SHRINK),
             size_limit: Some(self.size_limit()),
-            dfa: self.dfa(kind),
-            ..Settings::new()
+            cache_capacity: self.capacity(),
         }
     }
 }

@@ -1,11 +1,12 @@
 //! Patterns that are stored one after the other.
-ghost use Rattle.std.specs.Prelude.{◌≡◌, ◌≢◌, ◌<◌, ◌++◌, ◌∷◌, [], ℕ, Some, map, length, IfOk, IfErr, OnOk, take, drop, string_bytes};
+ghost use Rattle.std.specs.Prelude.{◌≡◌, ◌≢◌, ◌<◌, ◌++◌, ◌∷◌, [], ℕ, Some, map, length, IfOk, IfErr, OnOk, take, drop};
+ghost use Rattle.meta_regex.specs.Regexes.{IsNoText};
 ghost use Rattle.capi.specs.Compiled.{IsSplitError};
 ghost use Rattle.capi.specs.declared.failure.NewError.TheVariants.{NoMemory, NotUtf8};
-ghost use Rattle.capi.specs.Texts.{IsNoText, cut};
+ghost use Rattle.capi.specs.Texts.{cut};
 
 use crate::failure::NewError;
-use std::alloc::{AllocError, Global};
+use std::alloc::Global;
 
 fn push<'t>(texts: &mut Vec<&'t str>, text: &'t str) -> Result<(), NewError>
     ensures more { OnOk result (map (λ t. t.now) texts.new.items ≡ map (λ t. t.now) texts.old.items ++ text.now ∷ []) }
@@ -63,40 +64,4 @@ pub fn patterns_of<'t>(
         return Err(NewError::BadArgument);
     }
     Ok(texts)
-}
-
-fn push_owned(texts: &mut Vec<String>, text: String) -> Result<(), AllocError>
-    ensures { OnOk result (texts.new.items ≡ texts.old.items ++ text ∷ []) }
-{
-    texts.push(text)?;
-    Ok(())
-}
-
-/// Copies patterns.
-pub(crate) fn owned(alloc: Global, texts: &[&str]) -> Result<Vec<String>, AllocError>
-    ensures { IfOk result (λ ts. map string_bytes ts.items ≡ map (λ t. t.now) texts.now) }
-{
-    let mut copies = Vec::new(alloc);
-    for text in texts {
-        push_owned(&mut copies, String::from_str(alloc, text)?)?;
-    }
-    Ok(copies)
-}
-
-fn push_lent<'t>(texts: &mut Vec<&'t str>, text: &'t str) -> Result<(), AllocError>
-    ensures { OnOk result (map (λ t. t.now) texts.new.items ≡ map (λ t. t.now) texts.old.items ++ text.now ∷ []) }
-{
-    texts.push(text)?;
-    Ok(())
-}
-
-/// Borrows owned patterns as string slices.
-pub(crate) fn lent<'t>(alloc: Global, texts: &'t [String]) -> Result<Vec<&'t str>, AllocError>
-    ensures { IfOk result (λ ts. map (λ t. t.now) ts.items ≡ map string_bytes texts.now) }
-{
-    let mut read = Vec::new(alloc);
-    for text in texts {
-        push_lent(&mut read, text.as_str())?;
-    }
-    Ok(read)
 }

@@ -1,6 +1,6 @@
 //! Messages for errors.
 ghost use Rattle.std.specs.Prelude.{◌≡◌, slice_set};
-ghost use Rattle.capi.specs.Compiled.{overlaid};
+ghost use Rattle.meta_regex.specs.Regexes.{overlaid};
 
 use crate::failure::{
     BAD_ARGUMENT, CAPACITY_TOO_SMALL, EMPTY_LOOP, Failure, HAYSTACK_NOT_UTF8, NESTS_TOO_DEEP,
@@ -34,7 +34,7 @@ fn words_of(failure: &Failure) -> &'static str {
 }
 
 /// Writes a byte at this index, if the room is long enough.
-pub(crate) fn put(room: &mut [u8], at: usize, byte: u8)
+fn put(room: &mut [u8], at: usize, byte: u8)
     ensures { room.new ≡ slice_set room.old at byte }
 {
     if at < room.len() {

@@ -1,13 +1,14 @@
 -- What the results of the calls mean, in terms of the patterns and options from which a handle's regex is made.
 use Rattle.std.specs.Prelude.{◌≡◌, ◌≢◌, ◌<◌, ℕ, List, true, false, Option, Some, None, length}
-use Rattle.capi.specs.Compiled.{Regexed, config_by, IsReported, HasFoundStart, HasFoundSpan, AreAll, AreFirstOfAll, AreMarked}
-use Rattle.capi.specs.Compiled.{IsCallError, IsSearchError, IsMatchingPatternsError}
-use Rattle.capi.specs.Lists.{AreListed, AreFirstListed}
+use Rattle.meta_regex.specs.Regexes.{IsReported, HasFoundStart, HasFoundSpan, AreAll, AreFirstOfAll, AreMarked}
+use Rattle.meta_regex.specs.Regexes.{IsSearchError, IsMatchingPatternsError}
+use Rattle.meta_regex.specs.Lists.{AreListed, AreFirstListed}
+use Rattle.meta_regex.specs.declared.errors.SearchError.{SearchError}
+use Rattle.meta_regex.specs.declared.found_match.FoundMatch.{FoundMatch}
+use Rattle.capi.specs.Compiled.{Regexed, config_by, IsCallError}
 use Rattle.capi.specs.Failures.{failure_of_new, failure_of_search, without_cause}
 use Rattle.capi.specs.declared.failure.Failure.{Failure}
-use Rattle.capi.specs.declared.failure.FoundMatch.{FoundMatch}
 use Rattle.capi.specs.declared.failure.NewError.{NewError}
-use Rattle.capi.specs.declared.failure.SearchError.{SearchError}
 use Rattle.capi.specs.declared.options.Options.{Options}
 
 -- A status that isn't 0 says why no regex is made from these patterns. The cause for which a pattern is rejected is left open, since only

@@ -185,7 +185,7 @@ pub extern "C" fn hanneddois_is_match(
     match reported {
         Ok(true) => end(OK, error),
         Ok(false) => end(NONE, error),
-        Err(e) => refuse(e.failure(), error),
+        Err(e) => refuse(Failure::of_search(&e), error),
     }
 }
 
@@ -224,7 +224,7 @@ pub extern "C" fn hanneddois_find_at(
             end(OK, error)
         }
         Ok(None) => end(NONE, error),
-        Err(e) => refuse(e.failure(), error),
+        Err(e) => refuse(Failure::of_search(&e), error),
     }
 }
 
@@ -256,7 +256,7 @@ pub extern "C" fn hanneddois_find_all(
     match reported {
         Ok(()) if listed > 0 => end(OK, error),
         Ok(()) => end(NONE, error),
-        Err(e) => refuse(e.failure(), error),
+        Err(e) => refuse(Failure::of_search(&e), error),
     }
 }
 
@@ -292,7 +292,7 @@ pub extern "C" fn hanneddois_matching_patterns(
             *count = found;
             end(if found > 0 { OK } else { NONE }, error)
         }
-        Err(e) => refuse(e.failure(), error),
+        Err(e) => refuse(Failure::of_search(&e), error),
     }
 }
 

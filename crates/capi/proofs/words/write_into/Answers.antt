@@ -1,5 +1,5 @@
 use Rattle.std.proofs.Common.{sym, arith}
-use Rattle.capi.proofs.ListLemmas.{none_laid, one_more_byte, all_bytes}
+use Rattle.meta_regex.proofs.ForCallers.{none_laid, one_more_byte, all_bytes}
 use Rattle.capi.proofs.words.write_into.Goals as goal
 
 pub loop-at-init : goal.loop-at-init

@@ -1,5 +1,5 @@
 use Rattle.std.proofs.Common.{◌≡◌, take}
-use Rattle.capi.specs.Compiled.{overlaid}
+use Rattle.meta_regex.specs.Regexes.{overlaid}
 use Rattle.capi.proofs.words.write_into.Given as goal
 
 -- the bytes so far are in the buffer

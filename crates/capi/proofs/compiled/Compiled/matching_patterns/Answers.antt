@@ -1,12 +1,26 @@
-use Rattle.std.proofs.Common.{Bool, List, ap, map, ◌∙◌}
-use Rattle.capi.specs.Compiled.{config_by, hits, mark, overlaid}
-use Rattle.capi.proofs.FoundLemmas.{marked_of}
+use Rattle.std.proofs.Common.{subst}
+use Rattle.std.specs.Prelude.{IfErr, IfOk}
+use Rattle.meta_regex.specs.Caches.{IsCacheOf}
+use Rattle.meta_regex.specs.Regexes.{AreMarked, IsMatchingPatternsError, RegexValue}
+use Rattle.capi.proofs.CompiledLemmas.{by_value}
 use Rattle.capi.proofs.compiled.Compiled.matching_patterns.Goals as goal
 
 pub returns-clause-marked : goal.returns-clause-marked
 returns-clause-marked c =
-    marked_of (config_by c.args.self.now) c.args.self.now.texts c.args.haystack.now c.in-Ok-tell.tests.items c.hits.result c.fill.new.self
-    c.write_marks.new.marks
-    c.in-Ok-tell.ensures.reported (c.if-marks-pattern_count.false ∙ c.pattern_count.ensures)
-    (c.write_marks.ensures ∙ ap (λ (bs : List Bool). overlaid (map mark bs) c.fill.new.self) c.deref.ensures.value)
-    (c.hits.ensures ∙ ap hits c.deref-2.ensures.value)
+    by_value c.deref.result.now c.self.inside.regex.value c.self.inside.options c.args.self.now c.deref.ensures c.self.invariant.0
+    c.self.view_is
+    (λ k ts loops. IfOk c.matching_patterns.result (λ n. AreMarked k ts c.args.haystack.now n c.matching_patterns.new.marks))
+    c.matching_patterns.ensures.marked
+
+pub returns-clause-cause : goal.returns-clause-cause
+returns-clause-cause c =
+    by_value c.deref.result.now c.self.inside.regex.value c.self.inside.options c.args.self.now c.deref.ensures c.self.invariant.0
+    c.self.view_is
+    (λ k ts loops. IfErr c.matching_patterns.result (IsMatchingPatternsError k ts c.args.haystack.now c.args.marks.now))
+    c.matching_patterns.ensures.cause
+
+pub invariant_of-self : goal.invariant_of-self
+invariant_of-self c = (
+  c.self.invariant.0,
+  subst (λ (r : RegexValue). IsCacheOf r c.matching_patterns.new.cache) c.deref.ensures c.matching_patterns.ensures.own,
+)

@@ -1,9 +1,9 @@
-use Rattle.std.proofs.Common.{ap, length, string_bytes, sym, ◌∙◌}
+use Rattle.std.proofs.Common.{ap, length, ◌∙◌}
+use Rattle.meta_regex.specs.Regexes.{RegexValue}
 use Rattle.capi.specs.Compiled.{Regexed}
-use Rattle.std.proofs.lemmas.List.{length-map}
 use Rattle.capi.proofs.compiled.Compiled.pattern_count.Goals as goal
 
 pub returns : goal.returns
 returns c =
-    ap length c.as_slice.ensures.value ∙ sym (length-map c.self.inside.texts.items string_bytes)
+    c.pattern_count.ensures ∙ ap (λ (r : RegexValue). length r.texts) c.deref.ensures
     ∙ ap (λ (v : Regexed). length v.texts) c.self.view_is

@@ -1,8 +1,0 @@
-use Rattle.std.proofs.Common.{◌≡◌, rules}
-use Rattle.capi.specs.Compiled.{config_by}
-use Rattle.capi.proofs.compiled.Compiled.check.Goals as goal
-
-pub returns-in-Err-clause-refused : goal.returns-in-Err-clause-refused
-returns-in-Err-clause-refused c =
-    let same : c.options.result.utf8 ≡ (config_by c.args.self.now).utf8 = search rules in
-    c.in-Err.ensures.refused (config_by c.args.self.now) same

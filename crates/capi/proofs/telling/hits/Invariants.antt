@@ -1,6 +1,0 @@
-use Rattle.std.proofs.Common.{◌≡◌, ◌+◌, ◌≤◌, drop}
-use Rattle.capi.specs.Compiled.{hits}
-use Rattle.capi.proofs.telling.hits.Given as goal
-
-abbrev pub invariant-loop-test : goal.invariant-loop-test
-invariant-loop-test l = (l.count ≤ l.test-index) × (l.count + hits (drop l.test-index l.tests) ≡ hits l.tests)

@@ -1,7 +1,0 @@
-use Rattle.std.proofs.Common.{◌≡◌, map, take}
-use Rattle.capi.specs.Compiled.{mark, overlaid}
-use Rattle.capi.proofs.telling.write_marks.Given as goal
-
--- the marks so far lie at their indices
-abbrev pub invariant-loop-at : goal.invariant-loop-at
-invariant-loop-at l = l.marks ≡ overlaid (take l.at (map mark l.tests)) l.fn.marks

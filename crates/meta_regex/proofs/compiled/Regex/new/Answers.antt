@@ -1,0 +1,20 @@
+use Rattle.std.proofs.Common.{List, ℕ, refl, subst, sym}
+use Rattle.search_types.specs.declared.match_kind.MatchKind.TheVariants.{LeftmostFirst}
+use Rattle.meta_regex.specs.Options.{config_of}
+use Rattle.meta_regex.specs.Regexes.{AreReportedOf}
+use Rattle.meta_regex.proofs.compiled.Regex.new.Goals as goal
+
+pub invariant_of-result : goal.invariant_of-result
+invariant_of-result c =
+    subst (λ (ts : List (List ℕ)). AreReportedOf (config_of c.args.options.now) ts LeftmostFirst c.in-Ok.built.loops c.in-Ok.built.pair)
+    (sym c.in-Ok-owned.ensures) c.in-Ok.ensures.made.0
+
+pub returns-clause-made : goal.returns-clause-made
+returns-clause-made c = record {
+  options_are = refl;
+  texts_are = c.in-Ok-owned.ensures;
+  trees = c.in-Ok.ensures.made.0.0.trees;
+  mean = c.in-Ok.ensures.made.0.0.mean;
+  loops_told = c.in-Ok.ensures.made.0.1;
+  loops_read = c.in-Ok.ensures.made.1;
+}

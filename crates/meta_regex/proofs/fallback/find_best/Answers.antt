@@ -1,0 +1,11 @@
+use Rattle.std.proofs.Common.{◌-◌, ◌<◌, length, arith, subst, sym}
+use Rattle.meta_regex.specs.declared.fallback.Fallback.{Fallback}
+use Rattle.meta_regex.specs.Fallbacks.{IsFallbackOf}
+use Rattle.meta_regex.proofs.RefusalLemmas.{each_of}
+use Rattle.meta_regex.proofs.fallback.find_best.Goals as goal
+
+pub returns-in-Err-clause-refused : goal.returns-in-Err-clause-refused
+returns-in-Err-clause-refused c config texts of =
+    let within : c.loop-number.number - 1 < length c.args.regexes.now = omega arith in
+    let it = each_of config texts c.args.regexes.now (c.loop-number.number - 1) c.index-regexes-number.result of within in
+    c.in-Err.ensures.refused config it.0 (subst (λ (r : Fallback). IsFallbackOf config it.0 r) (sym c.index-regexes-number.is) it.1)

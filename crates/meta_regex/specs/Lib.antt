@@ -1,0 +1,5 @@
+pub mod Options
+pub mod Regexes
+pub mod Fallbacks
+pub mod Caches
+pub mod Lists

@@ -1,0 +1,110 @@
+//! What searches change.
+ghost use Rattle.std.specs.Prelude.{IfErr, IfOk, IfSome, ℕ, List};
+ghost use Rattle.regex_syntax.specs.declared.Config.{Config as TextConfig};
+ghost use Rattle.search_types.specs.declared.match_kind.MatchKind.TheVariants.{All as AllMatches};
+ghost use Rattle.meta_regex.specs.Caches.{IsCacheOf};
+ghost use Rattle.meta_regex.specs.Fallbacks.{AreFallbacksOf};
+ghost use Rattle.meta_regex.specs.Regexes.{AreBuiltOf, IsSearchError, config_by};
+
+use crate::building::build_pair;
+use crate::compiled::Regex;
+use crate::errors::SearchError;
+use crate::fallback::{Fallback, fallbacks_of};
+use crate::overlapping::OverlappingSearcher;
+use crate::texts::borrowed;
+use search_types::MatchKind;
+use std::alloc::{AllocError, Global};
+
+/// The caches of a regex's automata, and what its searches made later. It is usable only with the regex for which it was made.
+///
+/// Two parts are made once a search needs them: the automaton that reports which patterns match, and the toolchain's regexes.
+#[derive(Drop)]
+pub struct Cache {
+    pub(crate) pair: regex_pair::regex::Cache,
+    pub(crate) overlapping: Option<OverlappingSearcher>,
+    pub(crate) fallbacks: Option<Vec<Fallback>>,
+}
+
+impl Cache {
+    /// How often the caches of the automata were cleared. The greatest number stands for any number above it.
+    pub fn clear_count(&self) -> usize {
+        let forward = self.pair.forward().clear_count();
+        let clears = forward.saturating_add(self.pair.reverse().clear_count());
+        match &self.overlapping {
+            Some(searcher) => clears.saturating_add(searcher.clear_count()),
+            None => clears,
+        }
+    }
+
+    /// The bytes that the caches of the automata are estimated to need.
+    pub fn memory_usage(&self) -> usize {
+        let usage = self.pair.memory_usage();
+        match &self.overlapping {
+            Some(searcher) => usage.saturating_add(searcher.memory_usage()),
+            None => usage,
+        }
+    }
+}
+
+impl Regex {
+    /// A cache for this regex, which holds no states.
+    pub fn create_cache(&self, alloc: Global) -> Result<Cache, AllocError>
+        ensures { IfOk result (IsCacheOf self.now) }
+    {
+        let pair = self.pair().create_cache(alloc)?;
+        Ok(Cache {
+            pair,
+            overlapping: None,
+            fallbacks: None,
+        })
+    }
+
+    /// The automaton that reports which patterns match, if it can be made.
+    fn overlapping_searcher(&self, alloc: Global) -> Option<OverlappingSearcher>
+        ensures { IfSome result (AreBuiltOf (config_by self.now) self.now.texts AllMatches) }
+    {
+        let texts = match borrowed(alloc, self.texts()) {
+            Ok(texts) => texts,
+            Err(_) => return None,
+        };
+        let built = match build_pair(alloc, &texts, &self.options(), MatchKind::All) {
+            Ok(built) => built,
+            Err(_) => return None,
+        };
+        match OverlappingSearcher::of(alloc, built.pair) {
+            Ok(searcher) => Some(searcher),
+            Err(_) => None,
+        }
+    }
+
+    /// Makes the automaton that reports which patterns match, if there is none yet and it can be made. The first call of
+    /// [`matching_patterns`](Regex::matching_patterns) does so too.
+    pub fn prepare_matching_patterns(&self, alloc: Global, cache: &mut Cache)
+        requires { IsCacheOf self.now cache.old }
+        ensures { IsCacheOf self.now cache.new }
+    {
+        if cache.overlapping.is_none() {
+            cache.overlapping = self.overlapping_searcher(alloc);
+        }
+    }
+
+    /// Takes the toolchain's regexes out of the cache. They are made if there are none yet.
+    pub(crate) fn take_fallbacks(
+        &self,
+        alloc: Global,
+        cache: &mut Cache,
+    ) -> Result<Vec<Fallback>, SearchError>
+        requires own { IsCacheOf self.now cache.old }
+        ensures own { IsCacheOf self.now cache.new }
+        ensures made { IfOk result (λ rs. AreFallbacksOf (config_by self.now) self.now.texts rs.items) }
+        ensures refused { IfErr result (λ e. (config : TextConfig) → (h : List ℕ) → IsSearchError config h e) }
+    {
+        if let Some(fallbacks) = cache.fallbacks.take() {
+            return Ok(fallbacks);
+        }
+        match fallbacks_of(alloc, self.texts(), &self.options().syntax) {
+            Ok(fallbacks) => Ok(fallbacks),
+            Err(e) => Err(e),
+        }
+    }
+}

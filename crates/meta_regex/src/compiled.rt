@@ -1,0 +1,96 @@
+//! A regex of several patterns.
+ghost use Rattle.std.specs.Prelude.{◌≡◌, IfErr, IfOk, length, map, string_bytes};
+ghost use Rattle.search_types.specs.declared.match_kind.MatchKind.TheVariants.{LeftmostFirst};
+ghost use Rattle.meta_regex.specs.Regexes.{AreReportedOf, IsMadeOf, IsNewError, config_by};
+
+use crate::building::build_pair;
+use crate::errors::NewError;
+use crate::options::Options;
+use crate::texts::owned;
+use search_types::MatchKind;
+use std::alloc::Global;
+use std::marker::Model;
+
+/// A regex made from patterns. Nothing in it changes, so several callers may search by it, each with a [`Cache`](crate::Cache) of its own.
+///
+/// Automata search the haystacks. In some haystacks they give up at a byte, for example if `\b` is tried next to a byte that isn't ASCII.
+/// Such haystacks are searched by the toolchain's regexes of the same patterns, which a cache makes when the first one comes.
+#[derive(Drop)]
+pub struct Regex {
+    pair: regex_pair::regex::Regex,
+    texts: Vec<String>,
+    options: Options,
+    loops: bool,
+}
+
+impl Model for Regex {
+    ghost use Rattle.std.specs.Prelude.{map, string_bytes};
+    ghost use Rattle.search_types.specs.declared.match_kind.MatchKind.TheVariants.{LeftmostFirst};
+    ghost use Rattle.meta_regex.specs.Options.{config_of};
+    ghost use Rattle.meta_regex.specs.Regexes.{RegexValue, AreReportedOf};
+
+    ghost Value = { RegexValue };
+
+    ghost view = { λ r. record { options = r.options; texts = map string_bytes r.texts.items; loops = r.loops; pair = r.pair } };
+
+    ghost invariant = { λ r. AreReportedOf (config_of r.options) (map string_bytes r.texts.items) LeftmostFirst r.loops r.pair };
+}
+
+impl Regex {
+    /// Makes a regex from patterns. Of matches that start at the same offset, the one of the earlier pattern is preferred.
+    pub fn new(alloc: Global, texts: &[&str], options: &Options) -> Result<Regex, NewError>
+        ensures made { IfOk result (IsMadeOf options.now (map (λ t. t.now) texts.now)) }
+        ensures refused { IfErr result (IsNewError options.now (map (λ t. t.now) texts.now)) }
+    {
+        let built = match build_pair(alloc, texts, options, MatchKind::LeftmostFirst) {
+            Ok(built) => built,
+            Err(e) => return Err(e),
+        };
+        let copies = match owned(alloc, texts) {
+            Ok(copies) => copies,
+            Err(_) => return Err(NewError::NoMemory),
+        };
+        Ok(Regex {
+            pair: built.pair,
+            texts: copies,
+            options: *options,
+            loops: built.loops,
+        })
+    }
+
+    /// The number of its patterns.
+    pub fn pattern_count(&self) -> usize
+        ensures { result ≡ length self.now.texts }
+    {
+        self.texts.as_slice().len()
+    }
+
+    /// Its patterns.
+    pub(crate) fn texts(&self) -> &[String]
+        ensures { map string_bytes result.now ≡ self.now.texts }
+    {
+        &self.texts
+    }
+
+    /// The options with which it was made.
+    pub fn options(&self) -> Options
+        ensures { result ≡ self.now.options }
+    {
+        self.options
+    }
+
+    /// Whether the body of every unbounded repetition in its patterns consumes at least one byte.
+    pub fn loops_consume(&self) -> bool
+        ensures { result ≡ self.now.loops }
+    {
+        self.loops
+    }
+
+    /// The automata that search together.
+    pub(crate) fn pair(&self) -> &regex_pair::regex::Regex
+        ensures value { result.now ≡ self.now.pair }
+        ensures of { AreReportedOf (config_by self.now) self.now.texts LeftmostFirst self.now.loops self.now.pair }
+    {
+        &self.pair
+    }
+}

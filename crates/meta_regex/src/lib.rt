@@ -1,0 +1,25 @@
+//! Regexes of several patterns, as `regex_automata::meta`: the engine on which grep and the library for C stand.
+//!
+//! A [`Regex`] is made once from patterns and [`Options`] and never changes. Searches need a [`Cache`] that was made for it. They return what
+//! the patterns match by the toolchain's grammar and matcher, as `specs/Regexes.antt` defines it. No search gives up: where the automata do,
+//! the toolchain's regexes of the same patterns answer.
+#![tactic(auto)]
+
+mod building;
+mod cache;
+mod compiled;
+mod errors;
+mod fallback;
+mod find_all;
+mod found_match;
+mod matching_patterns;
+mod options;
+mod overlapping;
+mod searching;
+mod texts;
+
+pub use cache::Cache;
+pub use compiled::Regex;
+pub use errors::{NewError, SearchError};
+pub use found_match::FoundMatch;
+pub use options::Options;

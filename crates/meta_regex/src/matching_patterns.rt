@@ -1,0 +1,177 @@
+//! Which patterns match.
+ghost use Rattle.std.specs.Prelude.{◌≡◌, IfErr, IfOk, IfSome, length, map, replicate, slice_set, false, true};
+ghost use Rattle.search_core.specs.Utf8.{IsValidText};
+ghost use Rattle.meta_regex.specs.Caches.{IsCacheOf};
+ghost use Rattle.meta_regex.specs.Regexes.{AreMarked, AreWhich, IsSearchError, IsMatchingPatternsError, config_by, hits, mark, overlaid};
+
+use crate::cache::Cache;
+use crate::compiled::Regex;
+use crate::errors::SearchError;
+use crate::fallback::have_each;
+use crate::overlapping::tests_of;
+use crate::searching::see_bytes;
+use search_core::PatternID;
+use search_types::PatternSet;
+use std::alloc::Global;
+
+fn mark(test: bool) -> u8
+    ensures { result ≡ mark test }
+{
+    if test { 1 } else { 0 }
+}
+
+/// Writes a mark at this index, if there is one.
+fn put(marks: &mut [u8], at: usize, mark: u8)
+    ensures { marks.new ≡ slice_set marks.old at mark }
+{
+    if at < marks.len() {
+        marks[at] = mark;
+    }
+}
+
+/// Writes the mark of each test at its index.
+fn write_marks(tests: &[bool], marks: &mut [u8])
+    ensures { marks.new ≡ overlaid (map mark tests.now) marks.old }
+{
+    for (at, test) in tests.iter().enumerate() {
+        put(marks, at, mark(*test));
+    }
+}
+
+/// The number of tests that are true.
+fn hits(tests: &[bool]) -> usize
+    ensures { result ≡ hits tests.now }
+{
+    let mut count = 0;
+    for test in tests {
+        if *test {
+            count += 1;
+        }
+    }
+    count
+}
+
+/// An empty set with room for this many patterns, if there can be so many and memory suffices.
+fn empty_set(alloc: Global, count: usize) -> Option<PatternSet>
+    ensures { IfSome result (λ set. set ≡ replicate count false) }
+{
+    if PatternID::LIMIT < count {
+        return None;
+    }
+    match PatternSet::new(alloc, count) {
+        Ok(set) => Some(set),
+        Err(_) => None,
+    }
+}
+
+impl Regex {
+    /// For each pattern, whether it matches, by the automaton if it can answer.
+    fn matching_by_automaton(
+        &self,
+        alloc: Global,
+        cache: &mut Cache,
+        haystack: &[u8],
+    ) -> Option<Vec<bool>>
+        requires own { IsCacheOf self.now cache.old }
+        requires valid { (config_by self.now).utf8 ≡ true → IsValidText haystack.now }
+        ensures own { IsCacheOf self.now cache.new }
+        ensures reported { IfSome result (λ reported. AreWhich (config_by self.now) self.now.texts haystack.now reported.items) }
+    {
+        let Some(mut set) = empty_set(alloc, self.pattern_count()) else {
+            return None;
+        };
+        let Some(searcher) = &mut cache.overlapping else {
+            return None;
+        };
+        match searcher.matching_patterns(haystack, &mut set) {
+            Ok(()) => {}
+            Err(_) => return None,
+        }
+        let tests = match tests_of(alloc, &set) {
+            Ok(tests) => tests,
+            Err(_) => return None,
+        };
+        Some(tests)
+    }
+
+    /// For each pattern, whether it matches, by the toolchain's regexes.
+    fn matching_by_fallbacks(
+        &self,
+        alloc: Global,
+        cache: &mut Cache,
+        haystack: &[u8],
+    ) -> Result<Vec<bool>, SearchError>
+        requires { IsCacheOf self.now cache.old }
+        ensures own { IsCacheOf self.now cache.new }
+        ensures reported { IfOk result (λ reported. AreWhich (config_by self.now) self.now.texts haystack.now reported.items) }
+        ensures refused { IfErr result (IsSearchError (config_by self.now) haystack.now) }
+    {
+        see_bytes(haystack);
+        let fallbacks = match self.take_fallbacks(alloc, cache) {
+            Ok(fallbacks) => fallbacks,
+            Err(e) => return Err(e),
+        };
+        let reported = have_each(alloc, &fallbacks, haystack);
+        cache.fallbacks = Some(fallbacks);
+        let tests = match reported {
+            Ok(tests) => tests,
+            Err(e) => return Err(e),
+        };
+        Ok(tests)
+    }
+
+    /// For each pattern, whether it matches.
+    fn which_match(
+        &self,
+        alloc: Global,
+        cache: &mut Cache,
+        haystack: &[u8],
+    ) -> Result<Vec<bool>, SearchError>
+        requires own { IsCacheOf self.now cache.old }
+        requires valid { (config_by self.now).utf8 ≡ true → IsValidText haystack.now }
+        ensures own { IsCacheOf self.now cache.new }
+        ensures reported { IfOk result (λ reported. AreWhich (config_by self.now) self.now.texts haystack.now reported.items) }
+        ensures refused { IfErr result (IsSearchError (config_by self.now) haystack.now) }
+    {
+        self.prepare_matching_patterns(alloc, cache);
+        if let Some(tests) = self.matching_by_automaton(alloc, cache, haystack) {
+            return Ok(tests);
+        }
+        let reported = match self.matching_by_fallbacks(alloc, cache, haystack) {
+            Ok(reported) => reported,
+            Err(e) => return Err(e),
+        };
+        Ok(reported)
+    }
+
+    /// For each pattern, writes 1 at its index if it matches anywhere, and 0 if it doesn't. Returns how many patterns match. There has to
+    /// be one mark for each pattern. On an error all marks are 0.
+    pub fn matching_patterns(
+        &self,
+        alloc: Global,
+        cache: &mut Cache,
+        haystack: &[u8],
+        marks: &mut [u8],
+    ) -> Result<usize, SearchError>
+        requires { IsCacheOf self.now cache.old }
+        ensures own { IsCacheOf self.now cache.new }
+        ensures marked { IfOk result (λ n. AreMarked (config_by self.now) self.now.texts haystack.now n marks.new) }
+        ensures refused { IfErr result (λ _. marks.new ≡ replicate (length marks.old) 0) }
+        ensures cause { IfErr result (IsMatchingPatternsError (config_by self.now) self.now.texts haystack.now marks.old) }
+    {
+        marks.fill(0);
+        if marks.len() != self.pattern_count() {
+            return Err(SearchError::WrongMarkCount);
+        }
+        match self.check(haystack) {
+            Ok(()) => {}
+            Err(e) => return Err(e),
+        }
+        let tests = match self.which_match(alloc, cache, haystack) {
+            Ok(tests) => tests,
+            Err(e) => return Err(e),
+        };
+        write_marks(&tests, marks);
+        Ok(hits(&tests))
+    }
+}

@@ -1,0 +1,202 @@
+//! Searches for one match.
+ghost use Rattle.std.specs.Prelude.{◌≡◌, ◌≤◌, ◌<◌, All, IfErr, IfOk, length, option_map, true};
+ghost use Rattle.regex_syntax.specs.declared.Config.{Config as TextConfig};
+ghost use Rattle.search_core.specs.Utf8.{IsValidText};
+ghost use Rattle.pattern_search.specs.Searches.{whole_search};
+ghost use Rattle.regex_pair.specs.Pairs.{AreCachesOf};
+ghost use Rattle.meta_regex.specs.Caches.{IsCacheOf};
+ghost use Rattle.meta_regex.specs.Regexes.{HasFoundStart, HasFoundSpan, IsSearchError, IsReported, config_by, row_of};
+
+use crate::cache::Cache;
+use crate::compiled::Regex;
+use crate::errors::SearchError;
+use crate::fallback::find_best;
+use crate::found_match::FoundMatch;
+use hirscan::find;
+use pattern_search::regex_laws::regexes_answer_what_is_written;
+use search_types::{Input, Match, MatchError, MatchErrorKind};
+use std::alloc::Global;
+
+/// The elements of a haystack are bytes, below 256.
+pub(crate) fn see_bytes(bytes: &[u8])
+    ensures { All (λ byte. byte < 256) bytes.now }
+{}
+
+/// A search of the haystack from an offset on.
+pub(crate) fn search_from(haystack: &[u8], from: usize) -> Input<'_>
+    requires { from ≤ length haystack.now }
+    ensures { result ≡ whole_search haystack.now from }
+{
+    Input::new(haystack).range(from..haystack.len())
+}
+
+/// Converts a match to three numbers.
+fn row(found: Option<Match>) -> Option<FoundMatch>
+    ensures { result ≡ option_map row_of found }
+{
+    match found {
+        Some(it) => Some(FoundMatch::of(&it)),
+        None => None,
+    }
+}
+
+/// Returns an error if the haystack has to be UTF-8 and isn't.
+fn check_text(haystack: &[u8], utf8: bool) -> Result<(), SearchError>
+    ensures text { IfOk result (λ _. utf8 ≡ true → IsValidText haystack.now) }
+    ensures refused { (config : TextConfig) → utf8 ≡ config.utf8 → IfErr result (IsSearchError config haystack.now) }
+{
+    if !utf8 {
+        return Ok(());
+    }
+    match str::from_utf8(haystack) {
+        Ok(_) => Ok(()),
+        Err(e) => Err(SearchError::NotUtf8(e.valid_up_to())),
+    }
+}
+
+/// Whether a search failed because it ran out of memory.
+fn lacks_memory(error: &MatchError) -> bool {
+    match error.kind() {
+        MatchErrorKind::NoMemory => true,
+        _ => false,
+    }
+}
+
+impl Regex {
+    /// Returns an error if the haystack isn't UTF-8 and the options require it.
+    pub(crate) fn check(&self, haystack: &[u8]) -> Result<(), SearchError>
+        ensures text { IfOk result (λ _. (config_by self.now).utf8 ≡ true → IsValidText haystack.now) }
+        ensures refused { IfErr result (IsSearchError (config_by self.now) haystack.now) }
+    {
+        match check_text(haystack, self.options().syntax.options().utf8) {
+            Ok(()) => Ok(()),
+            Err(e) => Err(e),
+        }
+    }
+
+    /// A search by the automata.
+    fn find_by_pair(
+        &self,
+        cache: &mut regex_pair::regex::Cache,
+        haystack: &[u8],
+        from: usize,
+    ) -> Result<Option<FoundMatch>, MatchError>
+        requires own { AreCachesOf self.now.pair cache.old }
+        requires within { from ≤ length haystack.now }
+        requires valid { (config_by self.now).utf8 ≡ true → IsValidText haystack.now }
+        ensures own { AreCachesOf self.now.pair cache.new }
+        ensures found { IfOk result (HasFoundStart (config_by self.now) self.now.texts haystack.now from) }
+        ensures preferred { self.now.loops ≡ true → IfOk result (HasFoundSpan (config_by self.now) self.now.texts haystack.now from) }
+    {
+        see_bytes(haystack);
+        regexes_answer_what_is_written();
+        let found = match find(self.pair(), cache, &search_from(haystack, from)) {
+            Ok(found) => found,
+            Err(e) => return Err(e),
+        };
+        Ok(row(found))
+    }
+
+    /// A search by the toolchain's regexes.
+    fn find_by_fallbacks(
+        &self,
+        alloc: Global,
+        cache: &mut Cache,
+        haystack: &[u8],
+        from: usize,
+    ) -> Result<Option<FoundMatch>, SearchError>
+        requires { IsCacheOf self.now cache.old }
+        ensures own { IsCacheOf self.now cache.new }
+        ensures found { IfOk result (HasFoundStart (config_by self.now) self.now.texts haystack.now from) }
+        ensures preferred { IfOk result (HasFoundSpan (config_by self.now) self.now.texts haystack.now from) }
+        ensures refused { IfErr result (IsSearchError (config_by self.now) haystack.now) }
+    {
+        see_bytes(haystack);
+        let fallbacks = match self.take_fallbacks(alloc, cache) {
+            Ok(fallbacks) => fallbacks,
+            Err(e) => return Err(e),
+        };
+        let reported = find_best(alloc, &fallbacks, haystack, from);
+        cache.fallbacks = Some(fallbacks);
+        let found = match reported {
+            Ok(found) => found,
+            Err(e) => return Err(e),
+        };
+        Ok(found)
+    }
+
+    /// A search of a haystack that is UTF-8 if the options require it.
+    pub(crate) fn search(
+        &self,
+        alloc: Global,
+        cache: &mut Cache,
+        haystack: &[u8],
+        from: usize,
+    ) -> Result<Option<FoundMatch>, SearchError>
+        requires own { IsCacheOf self.now cache.old }
+        requires within { from ≤ length haystack.now }
+        requires valid { (config_by self.now).utf8 ≡ true → IsValidText haystack.now }
+        ensures own { IsCacheOf self.now cache.new }
+        ensures found { IfOk result (HasFoundStart (config_by self.now) self.now.texts haystack.now from) }
+        ensures preferred { self.now.loops ≡ true → IfOk result (HasFoundSpan (config_by self.now) self.now.texts haystack.now from) }
+        ensures refused { IfErr result (IsSearchError (config_by self.now) haystack.now) }
+    {
+        let error = match self.find_by_pair(&mut cache.pair, haystack, from) {
+            Ok(found) => return Ok(found),
+            Err(error) => error,
+        };
+        if lacks_memory(&error) {
+            return Err(SearchError::NoMemory);
+        }
+        match self.find_by_fallbacks(alloc, cache, haystack, from) {
+            Ok(found) => Ok(found),
+            Err(e) => Err(e),
+        }
+    }
+
+    /// The leftmost match from an offset on, and of several that start there the preferred one. Look-around assertions see what precedes
+    /// the offset.
+    pub fn find_at(
+        &self,
+        alloc: Global,
+        cache: &mut Cache,
+        haystack: &[u8],
+        from: usize,
+    ) -> Result<Option<FoundMatch>, SearchError>
+        requires own { IsCacheOf self.now cache.old }
+        requires within { from ≤ length haystack.now }
+        ensures own { IsCacheOf self.now cache.new }
+        ensures found { IfOk result (HasFoundStart (config_by self.now) self.now.texts haystack.now from) }
+        ensures preferred { self.now.loops ≡ true → IfOk result (HasFoundSpan (config_by self.now) self.now.texts haystack.now from) }
+        ensures refused { IfErr result (IsSearchError (config_by self.now) haystack.now) }
+    {
+        match self.check(haystack) {
+            Ok(()) => {}
+            Err(e) => return Err(e),
+        }
+        let found = match self.search(alloc, cache, haystack, from) {
+            Ok(found) => found,
+            Err(e) => return Err(e),
+        };
+        Ok(found)
+    }
+
+    /// Whether there is a match.
+    pub fn is_match(
+        &self,
+        alloc: Global,
+        cache: &mut Cache,
+        haystack: &[u8],
+    ) -> Result<bool, SearchError>
+        requires { IsCacheOf self.now cache.old }
+        ensures own { IsCacheOf self.now cache.new }
+        ensures reported { IfOk result (IsReported (config_by self.now) self.now.texts haystack.now) }
+        ensures refused { IfErr result (IsSearchError (config_by self.now) haystack.now) }
+    {
+        let found = match self.find_at(alloc, cache, haystack, 0) {
+            Ok(found) => found,
+            Err(e) => return Err(e),
+        };
+        Ok(found.is_some())
+    }
+}
