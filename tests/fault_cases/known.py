@@ -4,7 +4,6 @@ that the lists only get shorter."""
 import re
 from dataclasses import dataclass
 
-from .runs import BY_KIND
 from .verdicts import NOT_REPEATED
 
 ANY = "any"
@@ -42,27 +41,8 @@ class KnownWords:
         return case.call.name in self.calls and case.fault in self.faults and re.fullmatch(self.words, message) is not None
 
 
-# lines are printed without the names of their files, since it isn't known that a folder is searched
 KNOWN_FAULTS = [
-    KnownFault("folder", "statx", 1, "wrong status", "hirgrep_main/src/walking.rt: is_folder"),
     KnownFault(ANY, "read", ANY, NOT_REPEATED, "grep_core/src/line_buffer.rt: read_into"),
 ]
 
-MEMORY = ("brk", "mmap", "mremap", "limit")
-NO_MEMORY = ("retval=0", "ENOMEM", "no memory from here on")
-NUMBER = r"\(os error \d+\)"
-ERRORS_OF_FILES = ("EACCES", "ENOENT", "EMFILE", "EINTR", "EIO", "EBADF")
-OF_FILES = ("openat", "statx", "getdents64", "chdir")
-OF_BYTES = ("read", "write")
-KNOWN_WORDS = [
-    KnownWords(OF_FILES, ERRORS_OF_FILES, f"hirgrep: .*: .* {NUMBER}", "hirgrep_main/src/outcome.rt: fail"),
-    KnownWords(("statx",), ERRORS_OF_FILES, "hirgrep: .*: is a directory", "hirgrep_main/src/walking.rt: is_folder drops the error"),
-    KnownWords(("read",), ("EIO", "EAGAIN", "EISDIR"), f"hirgrep: (patterns|-): .* {NUMBER}", "hirgrep_main/src/patterns.rt: text_of"),
-    KnownWords(OF_BYTES, ("EIO",), "hirgrep: .*: uncategorized error", BY_KIND),
-    KnownWords(OF_BYTES, ("EAGAIN",), "hirgrep: .*: operation would block", BY_KIND),
-    KnownWords(OF_BYTES, ("EISDIR",), "hirgrep: .*: is a directory", BY_KIND),
-    KnownWords(OF_BYTES, ("EINTR",), "hirgrep: .*: operation interrupted", BY_KIND),
-    KnownWords(OF_BYTES, ("ENOSPC",), "hirgrep: .*: no storage space", BY_KIND),
-    KnownWords(MEMORY, NO_MEMORY, "hirgrep: an argument isn't UTF-8", "hirgrep_main/src/main.rt: run, where env::args returns out of memory"),
-    KnownWords(MEMORY, NO_MEMORY, "hirgrep: the patterns are too large: out of memory", "hirgrep_main/src/messages.rt: report_no_finder"),
-]
+KNOWN_WORDS: list[KnownWords] = []

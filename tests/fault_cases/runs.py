@@ -9,7 +9,6 @@ from dataclasses import dataclass
 from typing import Callable
 
 SECONDS = 20
-BY_KIND = "grep_core/src/fault.rt: a fault keeps the kind of an error, and not its number"
 ENVIRONMENT = {**{it: os.environ[it] for it in ("PATH", "HOME", "TMPDIR") if it in os.environ}, "LC_ALL": "C.UTF-8"}
 
 
@@ -121,12 +120,3 @@ def error(name, cause):
     """The message of a fault with a file, as GNU grep has it, as a regular expression."""
     return re.escape(f"hirgrep: {name}: {cause}").replace("\\ ", " ") + "\n"
 
-
-def numbered(said, number, source="hirgrep_main/src/outcome.rt: fail"):
-    """What is known of such a message: the number of the system's error follows."""
-    return Known(source, 2, said.removesuffix("\n") + rf" \(os error {number}\)\n")
-
-
-def worded(said, words):
-    """What is known of such a message: it has other words than the system's."""
-    return Known(BY_KIND, 2, said.rpartition(": ")[0] + f": {words}\n")

@@ -85,7 +85,7 @@ class Comparison:
             self.check_grep(Case(case.options, case.pattern, ("words", "missing", "gaps")))
             name = pick.choice(SMALL)
             known = without_known(GREP, Case(case.options, case.pattern, (name,)))
-            if known.files and not case.has("-r"):
+            if known.files and not case.has("-r", "-R", "-d recurse"):
                 self.check_grep(case, FILES[name])
 
     def compare_definition(self, most):

@@ -1,4 +1,4 @@
-//! Finds the lines of blocks that may have a match, in texts of any script.
+//! Finds the lines of blocks that may have a match, in inputs of any script.
 ghost use Rattle.std.specs.Prelude.{◌≡◌, ◌≤◌, ◌<◌, IfOk, length, map, slice_range, true};
 ghost use Rattle.grep_core.specs.Candidates.{HaveNoMatch, HasMatchAt, IsLineStart};
 

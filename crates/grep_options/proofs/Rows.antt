@@ -3,13 +3,17 @@ use Rattle.std.proofs.Common.{◌≡◌, ◌∙◌, ℕ, Bool, true, false, List
 use Rattle.std.proofs.Common.{ap, append_assoc, map, refl, sym, slice_get, unwrap_or}
 use Rattle.std.proofs.lemmas.List.{append-nil, append_cancel_left, map-append}
 use Rattle.std.specs.List.{list_any}
+use Rattle.std.specs.Borrow.{Bor}
+use Rattle.clap.specs.Adds.{AddsOverrides, AddsShortAliases}
 use Rattle.clap.specs.Words.{AddsArg, AddsInTurn, App, Rule, args_of, rule_of}
 use Rattle.clap.specs.declared.builder.arg.Arg.{Arg}
 use Rattle.clap.specs.declared.builder.command.Command.{Command}
-use Rattle.grep_options.specs.CommandLine.{AddsOptions, OptionRow, letter_of, options, option_row, option_rows}
+use Rattle.grep_options.specs.CommandLine.{AddsOptions, OptionRow, letter_of, options, option_row, option_rows, turning_off}
 
-ap₃ : {A B C D : Type 0} (f : A → B → C → D) {a b : A} {x y : B} {u v : C} → a ≡ b → x ≡ y → u ≡ v → f a x u ≡ f b y v
-ap₃ f {a = a} {b = b} {x = x} {y = y} {u = u} {v = v} p q r = ap (λ e. f e x u) p ∙ (ap (λ e. f b e u) q ∙ ap (λ e. f b y e) r)
+ap₄ : {A B C D E : Type 0} (f : A → B → C → D → E) {a b : A} {x y : B} {u v : C} {m n : D} → a ≡ b → x ≡ y → u ≡ v → m ≡ n
+    → f a x u m ≡ f b y v n
+ap₄ f {a = a} {b = b} {x = x} {y = y} {u = u} {v = v} {m = m} {n = n} p q r t =
+    ap (λ e. f e x u m) p ∙ (ap (λ e. f b e u m) q ∙ (ap (λ e. f b y e m) r ∙ ap (λ e. f b y v e) t))
 
 either_false : (a b : Bool) → (a || b) ≡ false → (a ≡ false) × (b ≡ false)
 either_false false b e = (refl, e)
@@ -22,18 +26,33 @@ joined {a = a} {xs = xs} {ys = ys} p q = record { added = q.added ∙ (ap (λ m.
 pub adds_as : {a b : List Arg} {x y : OptionRow} → AddsOptions a b (x ∷ []) → x ≡ y → AddsOptions a b (y ∷ [])
 adds_as {a = a} p e = record { added = p.added ∙ ap (λ r. option_rows a ++ r ∷ []) e }
 
+-- one more option that is turned off
+pub row_over : (old new : Arg) (x : Bor (List ℕ)) → AddsOverrides old new (x ∷ []) → option_row new ≡ turning_off (option_row old) x.now
+row_over old new x (e, f) =
+    let names = ap (map (λ s. s.now)) f ∙ map-append (λ s. s.now) old.overrides.items (x ∷ []) in
+    ap option_row e ∙ ap (λ ns. record (option_row old) { turns_off = ns }) names
+
+-- one more letter
+pub row_lettered : (old new : Arg) (x : ℕ × Bool) → AddsShortAliases old new (x ∷ []) → option_row new
+    ≡ record (option_row old) { other_letters = (option_row old).other_letters ++ x.0 ∷ [] }
+row_lettered old new x (e, f) =
+    let letters = ap (map (λ a. a.0)) f ∙ map-append (λ a. a.0) old.short_aliases.items (x ∷ []) in
+    ap option_row e ∙ ap (λ ls. record (option_row old) { other_letters = ls }) letters
+
 -- ---- the options of a command
 
 -- what a row shows of an argument's rule, and of what the rule leaves out
-abbrev row_by : Rule → List (List ℕ) → Bool → OptionRow
-row_by r turned_off is_global = record {
+abbrev row_by : Rule → List (List ℕ) → List (List ℕ) → Bool → OptionRow
+row_by r turned_off excluded is_global = record {
   name = r.id;
   letter = letter_of r.short;
+  other_letters = r.short_aliases;
   long = r.long;
   aliases = r.aliases;
   action = r.action;
   missing = r.missing;
   turns_off = turned_off;
+  excludes = excluded;
   is_global = is_global;
 }
 
@@ -45,7 +64,8 @@ one_added old a new h is_local =
     let arg_rules = ap (map rule_of) h.args ∙ map-append rule_of (args_of old) (h.arg ∷ []) in
     let same = append_cancel_left old_rules _ _ (sym arg_rules ∙ rules) in
     let rule : rule_of h.arg ≡ rule_of a = ap (λ rs. unwrap_or (slice_get rs 0) (rule_of a)) same in
-    let row : option_row h.arg ≡ option_row a = ap₃ row_by rule (ap (map (λ s. s.now)) h.rules.overrides) h.rules.global in
+    let row : option_row h.arg ≡ option_row a = ap₄ row_by rule (ap (map (λ s. s.now)) h.rules.overrides)
+    (ap (map (λ s. s.now)) h.rules.conflicts) h.rules.global in
     ap option_rows h.args ∙ (map-append option_row (args_of old) (h.arg ∷ []) ∙ ap (λ r. option_rows (args_of old) ++ r ∷ []) row)
 
 all_added : (old new : Command) (xs : List Arg) → AddsInTurn AddsArg old xs new → list_any (λ r. r.is_global) (option_rows xs) ≡ false

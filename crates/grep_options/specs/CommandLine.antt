@@ -10,6 +10,8 @@ pub record OptionRow : Type 0 where
   pub name : List ℕ
   -- `-c` has the letter "c"; no text where an option has no letter
   pub letter : List ℕ
+  -- the letters that stand for the same option and that help leaves out
+  pub other_letters : List ℕ
   pub long : Option (List ℕ)
   pub aliases : List (List ℕ)
   -- what a use does: set a value, add one, set a flag, or print something
@@ -18,6 +20,8 @@ pub record OptionRow : Type 0 where
   pub missing : List (List ℕ)
   -- the names of options that a use turns off
   pub turns_off : List (List ℕ)
+  -- the names of options with which a use is an error
+  pub excludes : List (List ℕ)
   pub is_global : Bool
 
 abbrev pub letter_of : Option ℕ → List ℕ
@@ -28,11 +32,13 @@ abbrev pub option_row : Arg → OptionRow
 option_row a = record {
   name = a.id.now;
   letter = letter_of a.short;
+  other_letters = map (λ alias. alias.0) a.short_aliases.items;
   long = option_map (λ s. s.now) a.long;
   aliases = map (λ alias. alias.0.now) a.aliases.items;
   action = a.action;
   missing = map (λ s. s.now) (items_of a.default_missing_vals);
   turns_off = map (λ s. s.now) a.overrides.items;
+  excludes = map (λ s. s.now) a.conflicts.items;
   is_global = a.global;
 }
 
@@ -48,11 +54,13 @@ abbrev pub option : List ℕ → List ℕ → ArgAction → OptionRow
 option name letter action = record {
   name = name;
   letter = letter;
+  other_letters = [];
   long = Some name;
   aliases = [];
   action = Some action;
   missing = [];
   turns_off = [];
+  excludes = [];
   is_global = false;
 }
 
@@ -64,6 +72,10 @@ flag name letter = option name letter SetTrue
 abbrev pub flag_over : List ℕ → List ℕ → List ℕ → OptionRow
 flag_over name letter other = record (flag name letter) { turns_off = other ∷ [] }
 
+-- an option that turns off one more
+abbrev pub turning_off : OptionRow → List ℕ → OptionRow
+turning_off row other = record row { turns_off = row.turns_off ++ other ∷ [] }
+
 abbrev pub list_options : List OptionRow
 list_options =
     option (codes "regexp") (codes "e") Append
@@ -71,11 +83,33 @@ list_options =
     ∷ option (codes "directory") [] Append
     ∷ []
 
+-- an option with which another one is an error
+abbrev pub flag_without : List ℕ → List ℕ → List ℕ → OptionRow
+flag_without name letter other = record (flag name letter) { excludes = other ∷ [] }
+
+-- Patterns are strings or have the one syntax, so that the first two change nothing. Of them and -F no two go together. With the last
+-- one the program fails.
+abbrev pub syntax_options : List OptionRow
+syntax_options =
+    flag_without (codes "extended-regexp") (codes "E") (codes "fixed-strings")
+    ∷ flag_without (codes "perl-regexp") (codes "P") (codes "extended-regexp")
+    ∷ flag_without (codes "fixed-strings") (codes "F") (codes "perl-regexp")
+    ∷ flag (codes "basic-regexp") (codes "G")
+    ∷ []
+
+abbrev pub ignore_option : OptionRow
+ignore_option = record (flag_over (codes "ignore-case") (codes "i") (codes "no-ignore-case")) { other_letters = codes "y" }
+
+-- Of these two the later one takes effect.
+abbrev pub case_options : List OptionRow
+case_options =
+    ignore_option
+    ∷ flag_over (codes "no-ignore-case") [] (codes "ignore-case")
+    ∷ []
+
 abbrev pub selecting_options : List OptionRow
 selecting_options =
-    flag (codes "ignore-case") (codes "i")
-    ∷ flag (codes "fixed-strings") (codes "F")
-    ∷ flag (codes "word-regexp") (codes "w")
+    flag (codes "word-regexp") (codes "w")
     ∷ flag (codes "line-regexp") (codes "x")
     ∷ flag (codes "invert-match") (codes "v")
     ∷ []
@@ -90,8 +124,20 @@ printing_options =
     ∷ flag (codes "no-messages") (codes "s")
     ∷ flag (codes "line-number") (codes "n")
     ∷ flag (codes "byte-offset") (codes "b")
-    ∷ flag (codes "recursive") (codes "r")
     ∷ quiet_option
+    ∷ []
+
+abbrev pub directories_option : OptionRow
+directories_option =
+    record (option (codes "directories") (codes "d") Set) { turns_off = codes "recursive" ∷ codes "dereference-recursive" ∷ [] }
+
+-- What is done with folders and with devices. Of the first three the last one takes effect.
+abbrev pub folder_options : List OptionRow
+folder_options =
+    flag_over (codes "recursive") (codes "r") (codes "directories")
+    ∷ flag_over (codes "dereference-recursive") (codes "R") (codes "directories")
+    ∷ directories_option
+    ∷ option (codes "devices") (codes "D") Set
     ∷ []
 
 abbrev pub paired_options : List OptionRow
@@ -110,6 +156,14 @@ number_options =
     ∷ option (codes "context") (codes "C") Set
     ∷ []
 
+-- These change nothing: any file is text, no carriage return is removed, and lines are written before more input is read.
+abbrev pub accepted_options : List OptionRow
+accepted_options =
+    flag (codes "text") (codes "a")
+    ∷ flag (codes "binary") (codes "U")
+    ∷ flag (codes "line-buffered") []
+    ∷ []
+
 -- A use of this option without a value counts as `auto`.
 abbrev pub color_option : OptionRow
 color_option = record (option (codes "color") [] Set) { aliases = codes "colour" ∷ []; missing = codes "auto" ∷ [] }
@@ -121,6 +175,7 @@ words_option = record (option (codes "words") [] Append) { long = None }
 abbrev pub other_options : List OptionRow
 other_options =
     color_option
+    ∷ option (codes "label") [] Set
     ∷ flag (codes "crlf") []
     ∷ flag (codes "stats") []
     ∷ option (codes "help") [] Help
@@ -131,4 +186,10 @@ other_options =
 
 -- all options, in the order in which they are listed
 abbrev pub options : List OptionRow
-options = list_options ++ (selecting_options ++ (printing_options ++ (paired_options ++ (number_options ++ other_options))))
+options =
+    list_options
+    ++ (syntax_options
+    ++ (case_options
+    ++ (selecting_options
+    ++ (printing_options
+    ++ (folder_options ++ (paired_options ++ (number_options ++ (accepted_options ++ other_options))))))))

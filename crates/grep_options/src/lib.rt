@@ -4,8 +4,10 @@
 //! `specs/Options.antt` defines what they return.
 #![tactic(auto)]
 
+mod numbers;
 mod options;
 mod values;
 
+pub use numbers::with_numbers;
 pub use options::command;
 pub use values::{is_set, limit, number};

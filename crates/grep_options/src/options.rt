@@ -2,9 +2,10 @@
 ghost use Rattle.std.specs.Prelude.{◌≡◌, ◌∷◌, [], OnOk, IfOk, codes};
 ghost use Rattle.clap.specs.Words.{args_of};
 ghost use Rattle.clap.specs.declared.builder.action.ArgAction.TheVariants.{Append, Help, Set, Version};
-ghost use Rattle.grep_options.specs.CommandLine.{AddsOptions, color_option, flag, flag_over, list_options, number_options, option};
-ghost use Rattle.grep_options.specs.CommandLine.{option_row, option_rows, options, other_options, paired_options, printing_options};
-ghost use Rattle.grep_options.specs.CommandLine.{quiet_option, selecting_options, words_option};
+ghost use Rattle.grep_options.specs.CommandLine.{AddsOptions, accepted_options, case_options, color_option, directories_option};
+ghost use Rattle.grep_options.specs.CommandLine.{flag, flag_over, flag_without, folder_options, ignore_option, list_options, number_options, option, option_row, option_rows, options};
+ghost use Rattle.grep_options.specs.CommandLine.{other_options, paired_options, printing_options, quiet_option, selecting_options};
+ghost use Rattle.grep_options.specs.CommandLine.{syntax_options, turning_off, words_option};
 
 use clap::{Arg, ArgAction, Command, value_parser};
 use std::alloc::{AllocError, Global};
@@ -66,28 +67,83 @@ fn push_long<'a>(
     push(args, option(alloc, id, ArgAction::SetTrue, help))
 }
 
+/// Appends a flag with a letter that is an error together with another option.
+fn push_without<'a>(
+    alloc: Global,
+    args: &mut Vec<Arg<'a>>,
+    id: &'a str,
+    short: char,
+    other: &'a str,
+    help: &'a str,
+) -> Result<(), AllocError>
+    ensures { OnOk result (AddsOptions args.old.items args.new.items (flag_without id.entry.now (short ∷ []) other.entry.now ∷ [])) }
+{
+    let arg = option(alloc, id, ArgAction::SetTrue, help);
+    let arg = arg.short(short).conflicts_with(other)?;
+    push(args, arg)
+}
+
+/// Appends an option that turns off one more.
+fn push_over<'a>(args: &mut Vec<Arg<'a>>, arg: Arg<'a>, other: &'a str) -> Result<(), AllocError>
+    ensures { OnOk result (AddsOptions args.old.items args.new.items (turning_off (option_row arg.entry) other.entry.now ∷ [])) }
+{
+    let arg = arg.overrides_with(other)?;
+    push(args, arg)
+}
+
+/// Appends the options for the syntaxes of GNU grep.
+fn push_syntaxes<'a>(alloc: Global, args: &mut Vec<Arg<'a>>) -> Result<(), AllocError>
+    ensures { OnOk result (AddsOptions args.old.items args.new.items syntax_options) }
+{
+    let (extended, perl, fixed) = ("extended-regexp", "perl-regexp", "fixed-strings");
+    let help = "accepted: regular expressions have one syntax, that of the crate regex";
+    push_without(alloc, args, extended, 'E', fixed, help)?;
+    let help =
+        "accepted, as -E: there are neither references to groups nor look-arounds but word boundaries";
+    push_without(alloc, args, perl, 'P', extended, help)?;
+    let help = "patterns are strings, not regular expressions";
+    push_without(alloc, args, fixed, 'F', perl, help)?;
+    let help = "not supported: operators such as + and | have no backslash";
+    push_flag(alloc, args, "basic-regexp", 'G', help)
+}
+
+fn push_ignore<'a>(alloc: Global, args: &mut Vec<Arg<'a>>) -> Result<(), AllocError>
+    ensures { OnOk result (AddsOptions args.old.items args.new.items (ignore_option ∷ [])) }
+{
+    let help = "letters match in either case; -y is the same";
+    let arg = option(alloc, "ignore-case", ArgAction::SetTrue, help);
+    let arg = arg.short('i').short_alias('y')?;
+    push_over(args, arg, "no-ignore-case")
+}
+
+fn push_case<'a>(alloc: Global, args: &mut Vec<Arg<'a>>) -> Result<(), AllocError>
+    ensures { OnOk result (AddsOptions args.old.items args.new.items case_options) }
+{
+    push_ignore(alloc, args)?;
+    let help = "letters match in their own case, also after -i";
+    let arg = option(alloc, "no-ignore-case", ArgAction::SetTrue, help);
+    push_over(args, arg, "ignore-case")
+}
+
 fn push_selecting<'a>(alloc: Global, args: &mut Vec<Arg<'a>>) -> Result<(), AllocError>
     ensures { OnOk result (AddsOptions args.old.items args.new.items selecting_options) }
 {
-    push_flag(
-        alloc,
-        args,
-        "ignore-case",
-        'i',
-        "letters match in either case",
-    )?;
-    push_flag(
-        alloc,
-        args,
-        "fixed-strings",
-        'F',
-        "patterns are strings, not regular expressions",
-    )?;
     let words = "a match neither starts nor ends inside a word";
     push_flag(alloc, args, "word-regexp", 'w', words)?;
     push_flag(alloc, args, "line-regexp", 'x', "a match is a whole line")?;
     let invert = "select the lines without a match";
     push_flag(alloc, args, "invert-match", 'v', invert)
+}
+
+/// Appends options of GNU grep that change nothing here.
+fn push_accepted<'a>(alloc: Global, args: &mut Vec<Arg<'a>>) -> Result<(), AllocError>
+    ensures { OnOk result (AddsOptions args.old.items args.new.items accepted_options) }
+{
+    push_flag(alloc, args, "text", 'a', "accepted: every file is text")?;
+    let binary = "accepted: no carriage return is removed";
+    push_flag(alloc, args, "binary", 'U', binary)?;
+    let help = "accepted: selected lines are always written before more input is read";
+    push_long(alloc, args, "line-buffered", help)
 }
 
 fn push_printing<'a>(alloc: Global, args: &mut Vec<Arg<'a>>) -> Result<(), AllocError>
@@ -108,8 +164,6 @@ fn push_printing<'a>(alloc: Global, args: &mut Vec<Arg<'a>>) -> Result<(), Alloc
     push_flag(alloc, args, "line-number", 'n', numbers)?;
     let offsets = "print the byte offset of its start before it, counted from 0";
     push_flag(alloc, args, "byte-offset", 'b', offsets)?;
-    let recursive = "search the files of folders, and of the folders in them";
-    push_flag(alloc, args, "recursive", 'r', recursive)?;
     push_quiet(alloc, args)
 }
 
@@ -120,6 +174,53 @@ fn push_quiet<'a>(alloc: Global, args: &mut Vec<Arg<'a>>) -> Result<(), AllocErr
     let arg = option(alloc, "quiet", ArgAction::SetTrue, help);
     let arg = arg.short('q').alias("silent")?;
     push(args, arg)
+}
+
+/// An option that says what is done with folders or devices, by one of these words.
+fn action<'a>(
+    alloc: Global,
+    id: &'a str,
+    short: char,
+    words: &'a [&'a str],
+    help: &'a str,
+) -> Arg<'a>
+    ensures { option_row result ≡ option id.entry.now (short ∷ []) Set }
+{
+    option(alloc, id, ArgAction::Set, help)
+        .short(short)
+        .value_parser(words)
+        .value_name("ACTION")
+}
+
+fn push_folders<'a>(alloc: Global, args: &mut Vec<Arg<'a>>) -> Result<(), AllocError>
+    ensures { OnOk result (AddsOptions args.old.items args.new.items folder_options) }
+{
+    let over = "directories";
+    let help = "search the files of folders, and of the folders in them";
+    push_pair(alloc, args, "recursive", 'r', over, help)?;
+    let help = "as -r, and follow links that are found in folders";
+    push_pair(alloc, args, "dereference-recursive", 'R', over, help)?;
+    push_directories(alloc, args)?;
+    push_devices(alloc, args)
+}
+
+fn push_directories<'a>(alloc: Global, args: &mut Vec<Arg<'a>>) -> Result<(), AllocError>
+    ensures { OnOk result (AddsOptions args.old.items args.new.items (directories_option ∷ [])) }
+{
+    let help = "what is done with a folder: it is an error, searched as by -r, or skipped";
+    let words = ["read", "recurse", "skip"].as_slice();
+    let arg = action(alloc, "directories", 'd', words, help);
+    let arg = arg.overrides_with("recursive")?;
+    push_over(args, arg, "dereference-recursive")
+}
+
+fn push_devices<'a>(alloc: Global, args: &mut Vec<Arg<'a>>) -> Result<(), AllocError>
+    ensures { OnOk result (AddsOptions args.old.items args.new.items (option (codes "devices") (codes "D") Set ∷ [])) }
+{
+    let help =
+        "what is done with devices, pipes and sockets; without it those are read that are named, and with -R all";
+    let words = ["read", "skip"].as_slice();
+    push(args, action(alloc, "devices", 'D', words, help))
 }
 
 fn push_pairs<'a>(alloc: Global, args: &mut Vec<Arg<'a>>) -> Result<(), AllocError>
@@ -176,7 +277,7 @@ fn push_numbers<'a>(alloc: Global, args: &mut Vec<Arg<'a>>) -> Result<(), AllocE
     push_number(alloc, args, "after-context", 'A', help)?;
     let help = "print so many lines before each selected one";
     push_number(alloc, args, "before-context", 'B', help)?;
-    let help = "print so many lines before and after each selected one";
+    let help = "print so many lines before and after each selected one; -N is the same";
     push_number(alloc, args, "context", 'C', help)
 }
 
@@ -212,6 +313,14 @@ fn push_color<'a>(alloc: Global, args: &mut Vec<Arg<'a>>) -> Result<(), AllocErr
         .value_name("WHEN");
     let arg = arg.alias("colour")?;
     push(args, arg)
+}
+
+fn push_label<'a>(alloc: Global, args: &mut Vec<Arg<'a>>) -> Result<(), AllocError>
+    ensures { OnOk result (AddsOptions args.old.items args.new.items (option (codes "label") [] Set ∷ [])) }
+{
+    let help = "the name of standard input, where names are printed";
+    let arg = option(alloc, "label", ArgAction::Set, help);
+    push(args, arg.allow_hyphen_values(true).value_name("NAME"))
 }
 
 fn push_help<'a>(alloc: Global, args: &mut Vec<Arg<'a>>) -> Result<(), AllocError>
@@ -250,6 +359,7 @@ fn push_others<'a>(alloc: Global, args: &mut Vec<Arg<'a>>) -> Result<(), AllocEr
     ensures { OnOk result (AddsOptions args.old.items args.new.items other_options) }
 {
     push_color(alloc, args)?;
+    push_label(alloc, args)?;
     let help = "a carriage return before the line feed belongs to the end of a line";
     push_long(alloc, args, "crlf", help)?;
     let help =
@@ -265,10 +375,14 @@ fn push_all<'a>(alloc: Global, args: &mut Vec<Arg<'a>>) -> Result<(), AllocError
     ensures { OnOk result (AddsOptions args.old.items args.new.items options) }
 {
     push_lists(alloc, args)?;
+    push_syntaxes(alloc, args)?;
+    push_case(alloc, args)?;
     push_selecting(alloc, args)?;
     push_printing(alloc, args)?;
+    push_folders(alloc, args)?;
     push_pairs(alloc, args)?;
     push_numbers(alloc, args)?;
+    push_accepted(alloc, args)?;
     push_others(alloc, args)
 }
 

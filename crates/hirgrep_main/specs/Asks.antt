@@ -1,5 +1,5 @@
 -- What each option asks for. Options are identified by their long names, under which the matches of the command line hold what was given.
-use Rattle.std.specs.Prelude.{ℕ, Bool, true, false, List, codes, Option, Some, None, unwrap_or, if◌then◌else◌}
+use Rattle.std.specs.Prelude.{ℕ, Bool, true, false, ◌||◌, List, codes, Option, Some, None, unwrap_or, if◌then◌else◌}
 use Rattle.std.specs.Option.{option_or}
 use Rattle.clap.specs.Words.{first_value}
 use Rattle.clap.specs.declared.parser.matches.Found.{Found}
@@ -10,6 +10,10 @@ use Rattle.grep_core.specs.declared.output_options.Print.{Print}
 use Rattle.grep_core.specs.declared.output_options.Print.TheVariants.{Lines, Matches, Count, NameIfAny, NameIfNone, Nothing}
 use Rattle.grep_core.specs.declared.output_options.OutputOptions.{OutputOptions}
 use Rattle.hirgrep_main.specs.declared.asked.Asked.{Asked}
+use Rattle.hirgrep_main.specs.declared.asked.Devices.{Devices}
+use Rattle.hirgrep_main.specs.declared.asked.Devices.TheVariants.{ReadAll, ReadNamed, SkipAll}
+use Rattle.hirgrep_main.specs.declared.asked.Directories.{Directories}
+use Rattle.hirgrep_main.specs.declared.asked.Directories.TheVariants.{Reject, Recurse, Skip}
 use Rattle.hirgrep_main.specs.declared.asked.Names.{Names}
 use Rattle.hirgrep_main.specs.declared.asked.Names.TheVariants.{Always, Never, IfSeveral}
 
@@ -58,6 +62,22 @@ asked_names f =
     else if is_set f (codes "with-filename") then Always
     else IfSeveral
 
+-- -d, -r, -R: what is done with a folder that an argument names. Of these options the last one has turned off the others.
+abbrev pub directories_by : Option (List ℕ) → Bool → Directories
+directories_by action recursive =
+    if is_text (codes "skip") action then Skip
+    else if is_text (codes "recurse") action then Recurse
+    else if recursive then Recurse
+    else Reject
+
+-- -D: which devices are read. With -R all are, unless -D skips them.
+abbrev pub devices_by : Option (List ℕ) → Bool → Devices
+devices_by action follows =
+    if is_text (codes "skip") action then SkipAll
+    else if is_text (codes "read") action then ReadAll
+    else if follows then ReadAll
+    else ReadNamed
+
 -- -v, -n, -b, -m, and what is above
 abbrev pub what_of : Found → Bool → OutputOptions
 what_of f is_colorful = record {
@@ -70,13 +90,16 @@ what_of f is_colorful = record {
   color = color_by (first_value f (codes "color")) is_colorful;
 }
 
--- -r, -s, --stats, and what is above
+-- -R, -s, --stats, and what is above
 abbrev pub asked_of : Found → Bool → Asked
 asked_of f is_colorful = record {
   how = how_of f;
   what = what_of f is_colorful;
   names = asked_names f;
-  recursive = is_set f (codes "recursive");
+  directories = directories_by (first_value f (codes "directories"))
+      (is_set f (codes "recursive") || is_set f (codes "dereference-recursive"));
+  follows = is_set f (codes "dereference-recursive");
+  devices = devices_by (first_value f (codes "devices")) (is_set f (codes "dereference-recursive"));
   silent = is_set f (codes "no-messages");
   stats = is_set f (codes "stats");
   reports_input = is_set f (codes "report-input");

@@ -4,6 +4,9 @@ use Rattle.grep_core.specs.declared.output_options.Print.{Print}
 use Rattle.grep_core.specs.declared.output_options.Print.TheVariants.{Lines, Matches, Count, NameIfAny, NameIfNone, Nothing}
 use Rattle.grep_core.specs.declared.output_options.OutputOptions.{OutputOptions}
 use Rattle.grep_core.specs.Reporting.{prints_lines}
+use Rattle.std.specs.Char.{is_control}
+use Rattle.hirgrep_main.specs.declared.asked.Devices.{Devices}
+use Rattle.hirgrep_main.specs.declared.asked.Devices.TheVariants.{ReadAll, ReadNamed, SkipAll}
 use Rattle.hirgrep_main.specs.declared.asked.Names.{Names}
 use Rattle.hirgrep_main.specs.declared.asked.Names.TheVariants.{Always, Never, IfSeveral}
 
@@ -47,6 +50,22 @@ abbrev pub shows_names : Names → Bool → Bool
 shows_names Always several = true
 shows_names Never several = false
 shows_names IfSeveral several = several
+
+-- Devices that are found in folders are read.
+abbrev pub reads_found : Devices → Bool
+reads_found ReadAll = true
+reads_found ReadNamed = false
+reads_found SkipAll = false
+
+-- Devices that arguments name are read.
+abbrev pub reads_named : Devices → Bool
+reads_named ReadAll = true
+reads_named ReadNamed = true
+reads_named SkipAll = false
+
+-- The character that a message has for this one: a question mark for a control character.
+abbrev pub shown_char : ℕ → ℕ
+shown_char c = if is_control c then 63 else c
 
 -- ---- the outcome
 

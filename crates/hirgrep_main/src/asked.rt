@@ -1,7 +1,9 @@
 //! What the options ask for.
-ghost use Rattle.std.specs.Prelude.{◌≡◌, codes};
+ghost use Rattle.std.specs.Prelude.{◌≡◌, ◌||◌, codes, unwrap_or};
 ghost use Rattle.clap.specs.Words.{first_value, found_of};
-ghost use Rattle.hirgrep_main.specs.Asks.{asked_of, color_by, context_by, context_of, how_of, asked_names, print_of, what_of};
+ghost use Rattle.grep_options.specs.Options.{is_set};
+ghost use Rattle.hirgrep_main.specs.Asks.{asked_names, asked_of, color_by, context_by, context_of, devices_by, directories_by, how_of};
+ghost use Rattle.hirgrep_main.specs.Asks.{print_of, what_of};
 
 use clap::ArgMatches;
 use grep_core::{Context, OutputOptions, PatternOptions, Print};
@@ -19,13 +21,35 @@ pub enum Names {
     IfSeveral,
 }
 
+/// What is done with a folder that an argument names.
+#[derive(Clone, Copy, PartialEq, Eq)]
+pub enum Directories {
+    /// It is an error.
+    Reject,
+    /// Its files are searched, and those of the folders in it.
+    Recurse,
+    Skip,
+}
+
+/// Which devices, pipes and sockets are read.
+#[derive(Clone, Copy, PartialEq, Eq)]
+pub enum Devices {
+    ReadAll,
+    /// Those that arguments name are read.
+    ReadNamed,
+    SkipAll,
+}
+
 /// What is asked for.
 #[derive(Clone, Copy)]
 pub struct Asked {
     pub how: PatternOptions,
     pub what: OutputOptions,
     pub names: Names,
-    pub recursive: bool,
+    pub directories: Directories,
+    /// Follows links that are found in folders.
+    pub follows: bool,
+    pub devices: Devices,
     /// Suppresses messages about files that can't be read.
     pub silent: bool,
     pub stats: bool,
@@ -123,6 +147,48 @@ fn names_of(matches: &ArgMatches<'_>) -> Names
     Names::IfSeveral
 }
 
+/// What is done with a folder. Of `-r`, `-R` and `-d` the last one has turned off the others.
+fn directories_of(matches: &ArgMatches<'_>) -> Directories
+    ensures { result ≡ directories_by (first_value (found_of matches.now) (codes "directories"))
+        (is_set (found_of matches.now) (codes "recursive") || is_set (found_of matches.now) (codes "dereference-recursive")) }
+{
+    let recursive = is_set(matches, "recursive") || is_set(matches, "dereference-recursive");
+    match matches.get_str("directories") {
+        Some("skip") => Directories::Skip,
+        Some("recurse") => Directories::Recurse,
+        _ => if recursive {
+            Directories::Recurse
+        } else {
+            Directories::Reject
+        },
+    }
+}
+
+/// Which devices are read. With `-R` all are, unless `-D` skips them.
+fn devices_of(matches: &ArgMatches<'_>, follows: bool) -> Devices
+    ensures { result ≡ devices_by (first_value (found_of matches.now) (codes "devices")) follows }
+{
+    match matches.get_str("devices") {
+        Some("skip") => Devices::SkipAll,
+        Some("read") => Devices::ReadAll,
+        _ => if follows {
+            Devices::ReadAll
+        } else {
+            Devices::ReadNamed
+        },
+    }
+}
+
+/// The name of standard input, where names are printed.
+pub fn input_name<'a>(matches: &ArgMatches<'a>) -> &'a str
+    ensures { result.now ≡ unwrap_or (first_value (found_of matches.now) (codes "label")) (codes "(standard input)") }
+{
+    match matches.get_str("label") {
+        Some(label) => label,
+        None => "(standard input)",
+    }
+}
+
 /// What is printed for each input.
 fn what_of(matches: &ArgMatches<'_>, is_colorful: bool) -> OutputOptions
     ensures { result ≡ what_of (found_of matches.now) is_colorful }
@@ -146,7 +212,9 @@ pub fn asked_of(matches: &ArgMatches<'_>, is_colorful: bool) -> Asked
         how: how_of(matches),
         what: what_of(matches, is_colorful),
         names: names_of(matches),
-        recursive: is_set(matches, "recursive"),
+        directories: directories_of(matches),
+        follows: is_set(matches, "dereference-recursive"),
+        devices: devices_of(matches, is_set(matches, "dereference-recursive")),
         silent: is_set(matches, "no-messages"),
         stats: is_set(matches, "stats"),
         reports_input: is_set(matches, "report-input"),

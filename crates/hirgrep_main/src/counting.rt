@@ -1,14 +1,15 @@
-//! A reader that counts bytes.
+//! A reader that counts bytes, and keeps the code of an error.
 ghost use Rattle.std.specs.Prelude.{◌≡◌};
 
 use std::io;
 use std::io::Read;
 
-/// A reader, and how many bytes it returned.
+/// A reader, how many bytes it returned, and the code of the system's error if a read failed.
 #[derive(Drop)]
 pub struct Counting<R> {
     reader: R,
     count: u64,
+    code: Option<i32>,
 }
 
 impl<R> Counting<R> {
@@ -16,7 +17,11 @@ impl<R> Counting<R> {
         ensures reader { result.reader ≡ reader }
         ensures count { result.count ≡ 0 }
     {
-        Counting { reader, count: 0 }
+        Counting {
+            reader,
+            count: 0,
+            code: None,
+        }
     }
 
     /// How many bytes it returned. The greatest number stands for any number above it.
@@ -25,10 +30,18 @@ impl<R> Counting<R> {
     {
         self.count
     }
+
+    /// The code of the system's error, if a read failed with one.
+    pub fn code(&self) -> Option<i32>
+        ensures { result ≡ self.now.code }
+    {
+        self.code
+    }
 }
 
 impl<R: Read> Read for Counting<R> {
-    ghost use Rattle.std.specs.Prelude.{◌≡◌, IfOk};
+    ghost use Rattle.std.specs.Prelude.{◌≡◌, IfErr, IfOk};
+    ghost use Rattle.std.specs.IoError.{raw_os_error};
     ghost use Rattle.std.specs.Io.{ReadsAtMost};
     ghost use Rattle.std.specs.Io.KnownBytes.{ReadConsumes};
     ghost use Rattle.hirgrep_main.specs.Decisions.{counted};
@@ -39,13 +52,17 @@ impl<R: Read> Read for Counting<R> {
         ensures bound { ReadsAtMost result buf.new }
         ensures bytes { ReadConsumes (R.remaining self.old.reader) (R.remaining self.new.reader) result buf.new }
         ensures count { IfOk result (λ n. self.new.count ≡ counted self.old.count n) }
+        ensures code { IfErr result (λ e. self.new.code ≡ raw_os_error e) }
     {
         match self.reader.read(buf) {
             Ok(n) => {
                 self.count = self.count.saturating_add(n as u64);
                 Ok(n)
             }
-            Err(e) => Err(e),
+            Err(e) => {
+                self.code = e.raw_os_error();
+                Err(e)
+            }
         }
     }
 }

@@ -2,9 +2,12 @@
 //! selected, 1 if none is, and 2 after an error, which is reported on standard error.
 #![tactic(auto)]
 
-ghost use Rattle.std.specs.Prelude.{◌≡◌, [], IfOk};
+ghost use Rattle.std.specs.Prelude.{◌≡◌, [], IfOk, codes, true};
+ghost use Rattle.clap.specs.Words.{found_of};
+ghost use Rattle.grep_options.specs.Options.{is_set};
 ghost use Rattle.hirgrep_main.specs.Outcomes.{no_outcome, with_failure};
 
+mod arguments;
 mod asked;
 mod counting;
 mod input;
@@ -14,14 +17,18 @@ mod outcome;
 mod output;
 mod patterns;
 mod searching;
+mod shown;
+mod task;
 mod walking;
 
-use crate::asked::{Asked, asked_of, is_colorful};
+use crate::arguments::{arguments_of, report_usage};
+use crate::asked::{Asked, asked_of, input_name, is_colorful};
+use crate::messages::report_error;
 use crate::outcome::Outcome;
 use crate::patterns::{gives_patterns, lines_of, patterns_of};
-use crate::searching::search;
+use crate::searching::{Files, search};
 use clap::ArgMatches;
-use grep_options::command;
+use grep_options::{command, is_set, with_numbers};
 use std::alloc::AllocError;
 use std::env;
 use std::process::ExitCode;
@@ -31,7 +38,7 @@ use std::rt::Runtime;
 fn enter(rt: &HostRuntime, folders: &[&str]) -> bool {
     for folder in folders {
         if let Err(e) = env::set_current_dir(rt, *folder) {
-            let _ = eprintln!(rt; "hirgrep: {folder}: {e}");
+            report_error(rt, folder, &e);
             return false;
         }
     }
@@ -43,7 +50,7 @@ fn run_given(
     rt: &HostRuntime,
     asked: &Asked,
     matches: &ArgMatches<'_>,
-    files: &[&str],
+    files: Files<'_>,
 ) -> Result<Outcome, AllocError> {
     match patterns_of(rt, asked, matches)? {
         Some(patterns) => search(rt, asked, patterns.as_slice(), files),
@@ -52,12 +59,13 @@ fn run_given(
 }
 
 /// Searches for the patterns in the first operand, one on each line. The other operands are files.
-fn run_words(rt: &HostRuntime, asked: &Asked, words: &[&str]) -> Result<Outcome, AllocError>
-    ensures { words.now ≡ [] → IfOk result (λ o. o ≡ with_failure no_outcome) }
+fn run_words(rt: &HostRuntime, asked: &Asked, words: Files<'_>) -> Result<Outcome, AllocError>
+    ensures { words.entry.names.now ≡ [] → IfOk result (λ o. o ≡ with_failure no_outcome) }
 {
-    match words.split_first() {
-        Some((pattern, files)) => {
+    match words.names.split_first() {
+        Some((pattern, names)) => {
             let patterns = lines_of(rt.alloc(), pattern)?;
+            let files = Files { names, ..words };
             search(rt, asked, patterns.as_slice(), files)
         }
         None => {
@@ -76,14 +84,26 @@ fn run_asked(
     if !enter(rt, matches.get_strs("directory").unwrap_or(&[])) {
         return Ok(Outcome::failure());
     }
-    let words = matches.get_strs("words").unwrap_or(&[]);
+    let words = Files {
+        names: matches.get_strs("words").unwrap_or(&[]),
+        input_name: input_name(matches),
+    };
     if gives_patterns(matches) {
         return run_given(rt, asked, matches, words);
     }
     run_words(rt, asked, words)
 }
 
-fn run_matches(rt: &HostRuntime, matches: &ArgMatches<'_>) -> Result<u8, AllocError> {
+/// Runs what the command line asks for, and returns the exit status. Basic regular expressions are an error.
+fn run_matches(rt: &HostRuntime, matches: &ArgMatches<'_>) -> Result<u8, AllocError>
+    ensures { is_set (found_of matches.now) (codes "basic-regexp") ≡ true → IfOk result (λ status. status ≡ 2) }
+{
+    if is_set(matches, "basic-regexp") {
+        let _ = eprintln!(rt;
+            "hirgrep: -G isn't supported: write \\+ \\? \\| \\( \\) \\{{ \\}} without a backslash, and + ? | ( ) {{ }} with one"
+        );
+        return Ok(2);
+    }
     let asked = asked_of(matches, is_colorful(rt));
     let outcome = run_asked(rt, &asked, matches)?;
     Ok(outcome.status(&asked))
@@ -91,25 +111,17 @@ fn run_matches(rt: &HostRuntime, matches: &ArgMatches<'_>) -> Result<u8, AllocEr
 
 fn run(rt: &HostRuntime) -> Result<u8, AllocError> {
     let alloc = rt.alloc();
-    let Ok(args) = env::args(rt) else {
+    let Some(arguments) = arguments_of(rt)? else {
+        return Ok(2);
+    };
+    let Some(words) = with_numbers(alloc, arguments.as_slice())? else {
         let _ = eprintln!(rt; "hirgrep: an argument isn't UTF-8");
         return Ok(2);
     };
-    let mut owned: Vec<String> = Vec::new(alloc);
-    for arg in args {
-        owned.push(arg)?;
-    }
     let command = command(alloc)?;
-    match command.try_get_matches_from(owned.as_slice()) {
+    match command.try_get_matches_from(words.as_slice()) {
         Ok(matches) => run_matches(rt, &matches),
-        Err(error) => {
-            let printed = error.print(rt);
-            Ok(if error.use_stderr() || printed.is_err() {
-                2
-            } else {
-                0
-            })
-        }
+        Err(error) => report_usage(rt, &error),
     }
 }
 

@@ -1,12 +1,63 @@
 //! Messages on standard error for patterns that are rejected, and for inputs that aren't searched to their end.
 
+use crate::asked::Asked;
 use crate::loops::loop_offset;
+use crate::shown::Shown;
 use grep_core::{Fault, SearcherError};
 use hirhead::pointed;
+use lazy_dfa::BuildError;
 use pattern_search::PatternError;
 use pattern_text::{Config, ParseError};
-use std::alloc::AllocError;
+use std::alloc::{AllocError, Global};
+use std::io;
+use std::io::ErrorKind;
 use std::rt::Runtime;
+
+/// A text without the number that follows the system's words in what the toolchain prints for an error.
+fn without_number(text: &str) -> &str {
+    match text.rsplit_once(" (os error ") {
+        Some((words, _)) => words,
+        None => text,
+    }
+}
+
+/// Reports an error with what has this name, in the system's words.
+pub fn report_error(rt: &HostRuntime, name: &str, error: &io::Error) {
+    let name = Shown(name);
+    let _ = match error.to_string(rt.alloc()) {
+        Ok(text) => {
+            let words = without_number(text.as_str());
+            eprintln!(rt; "hirgrep: {name}: {words}")
+        }
+        Err(_) => eprintln!(rt; "hirgrep: {name}: {error}"),
+    };
+}
+
+/// Reports why something isn't searched.
+pub fn report_reason(rt: &HostRuntime, name: &str, reason: &str) {
+    let name = Shown(name);
+    let _ = eprintln!(rt; "hirgrep: {name}: {reason}");
+}
+
+/// Reports that a folder is one of those in which it was found, so that it isn't searched again.
+pub fn warn_of_loop(rt: &HostRuntime, asked: &Asked, name: &str) {
+    if !asked.silent {
+        report_reason(rt, name, "warning: recursive directory loop");
+    }
+}
+
+/// Reports that the output can't be written, unless it is a pipe that nothing reads from any more.
+pub fn report_output(rt: &HostRuntime, error: &io::Error) {
+    if error.kind() != ErrorKind::BrokenPipe {
+        report_error(rt, "write error", error);
+    }
+}
+
+/// The text without control characters.
+fn shown_text(alloc: Global, text: &str) -> Result<String, AllocError> {
+    let text = Shown(text);
+    text.to_string(alloc)
+}
 
 /// Reports a message about a pattern, and shows the offset in the pattern if one is known.
 fn report_pattern(
@@ -20,9 +71,14 @@ fn report_pattern(
     let Some(at) = place else {
         return Ok(());
     };
-    if pattern.is_char_boundary(at) {
-        let shown = pointed(rt.alloc(), pattern, at)?;
-        let _ = eprint!(rt; "{shown}");
+    if let Some((before, after)) = pattern.split_at_checked(at) {
+        let mut text = shown_text(rt.alloc(), before)?;
+        let at = text.len();
+        text.push_str(shown_text(rt.alloc(), after)?.as_str())?;
+        if text.is_char_boundary(at) {
+            let shown = pointed(rt.alloc(), text.as_str(), at)?;
+            let _ = eprint!(rt; "{shown}");
+        }
     }
     Ok(())
 }
@@ -56,6 +112,15 @@ fn report_loop(
     report_pattern(rt, number, message, pattern, place)
 }
 
+/// Reports why the patterns can't be compiled.
+fn report_build(rt: &HostRuntime, error: BuildError) -> Result<(), AllocError> {
+    if let BuildError::NoMemory = error {
+        return Err(AllocError);
+    }
+    let _ = eprintln!(rt; "hirgrep: the patterns are too large: {error}");
+    Ok(())
+}
+
 /// Reports why no finder can be built. `texts` are the patterns in the syntax that is parsed under these options.
 pub fn report_no_finder(
     rt: &HostRuntime,
@@ -67,28 +132,34 @@ pub fn report_no_finder(
     match error {
         SearcherError::Text(error) => report_refused(rt, texts, error),
         SearcherError::EmptyLoop(number) => report_loop(rt, config, patterns, number),
-        SearcherError::Build(error) => {
-            let _ = eprintln!(rt; "hirgrep: the patterns are too large: {error}");
-            Ok(())
-        }
+        SearcherError::Build(error) => report_build(rt, error),
+    }
+}
+
+/// The codes of the system's errors when an input was read, and when its output was written.
+#[derive(Clone, Copy)]
+pub struct Causes {
+    pub read: Option<i32>,
+    pub write: Option<i32>,
+}
+
+/// Reports an error with what has this name. Its code is used if it is known, since a kind stands for several errors.
+fn report_cause(rt: &HostRuntime, name: &str, kind: ErrorKind, code: Option<i32>) {
+    match code {
+        Some(code) => report_error(rt, name, &io::Error::from_raw_os_error(code)),
+        None => report_error(rt, name, &io::Error::from(kind)),
     }
 }
 
 /// Reports why the input with this name isn't searched to its end.
-pub fn report_fault(rt: &HostRuntime, name: &str, fault: Fault) {
+pub fn report_fault(rt: &HostRuntime, name: &str, fault: Fault, causes: Causes) {
     let said = match fault {
-        Fault::Read(cause) => {
-            let _ = eprintln!(rt; "hirgrep: {name}: {cause}");
-            return;
-        }
-        Fault::Write(cause) => {
-            let _ = eprintln!(rt; "hirgrep: write error: {cause}");
-            return;
-        }
+        Fault::Read(kind) => return report_cause(rt, name, kind, causes.read),
+        Fault::Write(kind) => return report_cause(rt, "write error", kind, causes.write),
         Fault::NoMemory => "out of memory",
         Fault::TooLong => "a line above 1 GiB, or too many of them",
         Fault::TooLarge =>
             "the patterns are too large to search a line with non-ASCII text next to a word boundary",
     };
-    let _ = eprintln!(rt; "hirgrep: {name}: {said}");
+    report_reason(rt, name, said);
 }

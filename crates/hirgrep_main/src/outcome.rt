@@ -5,7 +5,7 @@ ghost use Rattle.hirgrep_main.specs.Outcomes.{after_result, after_search, is_of_
 ghost use Rattle.hirgrep_main.specs.Outcomes.{with_failure, with_file, with_lines};
 
 use crate::asked::Asked;
-use crate::messages::report_fault;
+use crate::messages::{Causes, report_error, report_fault, report_reason};
 use grep_core::{Fault, Finder, Print, SeparatorState};
 use std::io;
 use std::io::ErrorKind;
@@ -120,12 +120,19 @@ impl Outcome {
     }
 
     /// Records what the search of the file with this name returned, and reports a fault.
-    fn keep(&mut self, rt: &HostRuntime, asked: &Asked, name: &str, reported: Result<u64, Fault>)
+    fn keep(
+        &mut self,
+        rt: &HostRuntime,
+        asked: &Asked,
+        name: &str,
+        reported: Result<u64, Fault>,
+        causes: Causes,
+    )
         ensures { self.new ≡ after_result asked.now.what.print self.old reported }
     {
         if let Err(fault) = reported {
             if is_reported(asked, fault) {
-                report_fault(rt, name, fault);
+                report_fault(rt, name, fault, causes);
             }
         }
         self.keep_result(asked.what.print, reported);
@@ -141,12 +148,13 @@ impl Outcome {
         bytes: u64,
         wrote: bool,
         reported: Result<u64, Fault>,
+        causes: Causes,
     )
         ensures { self.new ≡ after_search asked.now.what.print self.old bytes wrote reported }
     {
         self.printed |= wrote;
         self.count(bytes);
-        self.keep(rt, asked, name, reported);
+        self.keep(rt, asked, name, reported, causes);
     }
 
     /// Records that something can't be read.
@@ -155,7 +163,7 @@ impl Outcome {
     {
         self.failed = true;
         if !asked.silent {
-            let _ = eprintln!(rt; "hirgrep: {path}: {error}");
+            report_error(rt, path, &error);
         }
     }
 
@@ -165,7 +173,7 @@ impl Outcome {
     {
         self.failed = true;
         if !asked.silent {
-            let _ = eprintln!(rt; "hirgrep: {path}: {reason}");
+            report_reason(rt, path, reason);
         }
     }
 

@@ -1,14 +1,15 @@
-//! A writer that records whether bytes were written to it.
+//! A writer that records whether bytes were written to it, and keeps the code of an error.
 ghost use Rattle.std.specs.Prelude.{◌≡◌, false};
 
 use std::io;
 use std::io::Write;
 
-/// A writer, and whether bytes were written to it.
+/// A writer, whether bytes were written to it, and the code of the system's error if a write failed.
 #[derive(Drop)]
 pub struct Output<W> {
     writer: W,
     wrote: bool,
+    code: Option<i32>,
 }
 
 impl<W> Output<W> {
@@ -19,6 +20,7 @@ impl<W> Output<W> {
         Output {
             writer,
             wrote: false,
+            code: None,
         }
     }
 
@@ -28,10 +30,18 @@ impl<W> Output<W> {
     {
         self.wrote
     }
+
+    /// The code of the system's error, if a write failed with one.
+    pub fn code(&self) -> Option<i32>
+        ensures { result ≡ self.now.code }
+    {
+        self.code
+    }
 }
 
 impl<W: Write> Write for Output<W> {
-    ghost use Rattle.std.specs.Prelude.{◌≡◌, true};
+    ghost use Rattle.std.specs.Prelude.{◌≡◌, IfErr, true};
+    ghost use Rattle.std.specs.IoError.{raw_os_error};
     ghost use Rattle.std.specs.Io.{WritesAtMost};
     ghost use Rattle.std.specs.Io.KnownBytes.{Keeps, WriteAppends};
 
@@ -41,9 +51,16 @@ impl<W: Write> Write for Output<W> {
         ensures bound { WritesAtMost result buf.now }
         ensures bytes { WriteAppends (W.contents self.old.writer) (W.contents self.new.writer) result buf.now }
         ensures wrote { self.new.wrote ≡ true }
+        ensures code { IfErr result (λ e. self.new.code ≡ raw_os_error e) }
     {
         self.wrote = true;
-        self.writer.write(buf)
+        match self.writer.write(buf) {
+            Ok(n) => Ok(n),
+            Err(e) => {
+                self.code = e.raw_os_error();
+                Err(e)
+            }
+        }
     }
 
     fn flush(&mut self) -> io::Result<()>

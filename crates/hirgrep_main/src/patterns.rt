@@ -7,6 +7,7 @@ ghost use Rattle.hirgrep_main.specs.Given.{ArePatterns, patterns_of_file, gives_
 
 use crate::asked::Asked;
 use crate::input::input;
+use crate::messages::report_error;
 use clap::ArgMatches;
 use std::alloc::{AllocError, Global};
 use std::rt::Runtime;
@@ -92,7 +93,7 @@ fn text_of(rt: &HostRuntime, asked: &Asked, name: &str) -> Option<String> {
     match read_file(rt, asked, name) {
         Ok(text) => Some(text),
         Err(e) => {
-            let _ = eprintln!(rt; "hirgrep: {name}: {e}");
+            report_error(rt, name, &e);
             None
         }
     }

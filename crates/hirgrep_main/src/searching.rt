@@ -1,22 +1,26 @@
 //! Searches files, one after the other.
-ghost use Rattle.std.specs.Prelude.{◌≡◌, ℕ, Bool, true, false, Result, IfErr, IfOk, IfSome, OnOk, map, string_bytes, take, if◌then◌else◌};
+ghost use Rattle.std.specs.Prelude.{◌≡◌, ℕ, Bool, true, false, Result, Ok, IfErr, IfOk, IfSome, OnOk, map, string_bytes, take, if◌then◌else◌};
 ghost use Rattle.std.specs.Io.KnownBytes.{Appends};
 ghost use Rattle.grep_core.specs.Meant.{written};
 ghost use Rattle.grep_core.specs.Report.{counted_as, report, selected_count};
 ghost use Rattle.grep_core.specs.Searchers.{SearchesFor, found_by};
 ghost use Rattle.grep_core.specs.Reporting.{needs_spans, prints_lines};
 ghost use Rattle.grep_core.specs.declared.fault.Fault.{Fault as TheFault};
-ghost use Rattle.hirgrep_main.specs.Decisions.{is_most, may_run_on, prints_names_if_none, selects_none, shows_names};
-ghost use Rattle.hirgrep_main.specs.declared.searching.Named.TheVariants.{Folder};
+ghost use Rattle.hirgrep_main.specs.Decisions.{is_most, may_run_on, prints_names_if_none, reads_found, reads_named, selects_none};
+ghost use Rattle.hirgrep_main.specs.Decisions.{shows_names};
+ghost use Rattle.hirgrep_main.specs.declared.asked.Directories.TheVariants.{Reject, Skip};
+ghost use Rattle.hirgrep_main.specs.declared.searching.Named.TheVariants.{Folder, Device};
+ghost use Rattle.hirgrep_main.specs.declared.walking.Kind.TheVariants.{Link, Device as FoundDevice};
 ghost use Rattle.hirgrep_main.specs.Outcomes.{Continues, after_search, no_outcome, with_failure};
 
-use crate::asked::{Asked, Names};
+use crate::asked::{Asked, Devices, Directories, Names};
 use crate::counting::Counting;
 use crate::input::input;
-use crate::messages::report_no_finder;
+use crate::messages::{Causes, report_no_finder};
 use crate::outcome::Outcome;
 use crate::output::Output;
-use crate::walking::{Kind, is_folder, is_output, kind_of, push_folder};
+use crate::task::{Task, shown_name};
+use crate::walking::{Kind, is_output, kind_of, push_folder, push_found};
 use grep_core::{
     Fault, Finder, LinePatterns, Print, SearcherError, SeparatorState, config_of, needs_spans, pattern_source,
     report_input,
@@ -26,14 +30,13 @@ use std::io::{Read, Write};
 use std::rt::Runtime;
 use std::{fs, io};
 
-/// What files are searched for, and how the results are printed.
+/// The files that a command line names.
 #[derive(Clone, Copy)]
-struct Task<'a> {
-    asked: &'a Asked,
-    /// Whether names are printed before lines.
-    with_name: bool,
-    /// No file is named, so the files of the current folder are searched, and their names are relative to it.
-    bare: bool,
+pub struct Files<'a> {
+    /// Their names; `-` is standard input. If there is none, the current folder or standard input is searched.
+    pub names: &'a [&'a str],
+    /// The name that is printed for standard input.
+    pub input_name: &'a str,
 }
 
 fn strs_of<'a>(alloc: Global, texts: &'a [String]) -> Result<Vec<&'a str>, AllocError>
@@ -127,6 +130,10 @@ fn search_reader<R: Read + Drop, W: Write + Drop>(
         reader.count(),
         writer.wrote(),
         reported,
+        Causes {
+            read: reader.code(),
+            write: writer.code(),
+        },
     );
 }
 
@@ -188,19 +195,12 @@ fn is_refused_output(
 fn search_input(rt: &HostRuntime, finder: &mut Finder<'_>, task: Task<'_>, outcome: &mut Outcome)
     ensures { Continues outcome.old outcome.new }
 {
-    let name = "(standard input)";
+    let name = task.input_name;
     let reader = input(rt, task.asked);
     if is_refused_output(rt, task, outcome, name, "/dev/stdin") {
         return;
     }
     search_reader(rt, finder, task, outcome, name, reader, rt.stdout());
-}
-
-fn shown_name<'a>(task: Task<'_>, path: &'a str) -> &'a str {
-    if !task.bare {
-        return path;
-    }
-    path.strip_prefix("./").unwrap_or(path)
 }
 
 /// Searches what was opened, or records that it can't be opened.
@@ -238,31 +238,71 @@ fn search_file(
     search_opened(rt, finder, task, outcome, name, fs::open(rt, path));
 }
 
+/// Whether devices that are found in folders are read.
+fn reads_found(devices: Devices) -> bool
+    ensures { result ≡ reads_found devices }
+{
+    match devices {
+        Devices::ReadAll => true,
+        Devices::ReadNamed | Devices::SkipAll => false,
+    }
+}
+
+/// Whether devices that arguments name are read.
+fn reads_named(devices: Devices) -> bool
+    ensures { result ≡ reads_named devices }
+{
+    match devices {
+        Devices::ReadAll | Devices::ReadNamed => true,
+        Devices::SkipAll => false,
+    }
+}
+
+/// Searches a device, a pipe or a socket, if it is to be read.
+fn search_device(
+    rt: &HostRuntime,
+    finder: &mut Finder<'_>,
+    task: Task<'_>,
+    outcome: &mut Outcome,
+    path: &str,
+    is_read: bool,
+)
+    ensures skipped { is_read ≡ false → outcome.new ≡ outcome.old }
+    ensures continues { Continues outcome.old outcome.new }
+{
+    if is_read {
+        search_file(rt, finder, task, outcome, path);
+    }
+}
+
 /// Searches something that was found in a folder, if its kind is known. The entries of a folder are put before the paths that are left.
+/// `root` is the path at which the search began.
 fn search_kind(
     rt: &HostRuntime,
     finder: &mut Finder<'_>,
     task: Task<'_>,
     outcome: &mut Outcome,
     left: &mut Vec<String>,
+    root: &str,
     path: &str,
     kind: io::Result<Kind>,
 ) -> Result<(), AllocError>
     ensures unread { IfErr kind (λ _. outcome.new ≡ with_failure outcome.old) }
+    ensures link { kind ≡ Ok Link → outcome.new ≡ outcome.old }
+    ensures device { kind ≡ Ok FoundDevice → reads_found task.entry.asked.now.devices ≡ false → outcome.new ≡ outcome.old }
     ensures continues { Continues outcome.old outcome.new }
 {
     match kind {
-        Ok(Kind::File) => {
-            search_file(rt, finder, task, outcome, path);
-            Ok(())
+        Ok(Kind::File) => search_file(rt, finder, task, outcome, path),
+        Ok(Kind::Folder) => return push_found(rt, task, outcome, left, root, path),
+        Ok(Kind::Link) => {}
+        Ok(Kind::Device) => {
+            let is_read = reads_found(task.asked.devices);
+            search_device(rt, finder, task, outcome, path, is_read);
         }
-        Ok(Kind::Folder) => push_folder(rt, task.asked, outcome, left, path),
-        Ok(Kind::Other) => Ok(()),
-        Err(e) => {
-            outcome.fail(rt, task.asked, shown_name(task, path), e);
-            Ok(())
-        }
+        Err(e) => outcome.fail(rt, task.asked, shown_name(task, path), e),
     }
+    Ok(())
 }
 
 /// Searches the files of a folder, and of the folders in it.
@@ -271,18 +311,19 @@ fn search_folder(
     finder: &mut Finder<'_>,
     task: Task<'_>,
     outcome: &mut Outcome,
-    path: &str,
+    root: &str,
 ) -> Result<(), AllocError>
     ensures { Continues outcome.old outcome.new }
 {
     let mut left = Vec::new(rt.alloc());
-    push_folder(rt, task.asked, outcome, &mut left, path)?;
+    push_folder(rt, task, outcome, &mut left, root, true)?;
     for _index in 0..u64::MAX {
         let Some(path) = left.pop() else {
             break;
         };
-        let kind = kind_of(rt, path.as_str());
-        search_kind(rt, finder, task, outcome, &mut left, path.as_str(), kind)?;
+        let path = path.as_str();
+        let kind = kind_of(rt, path, task.asked.follows);
+        search_kind(rt, finder, task, outcome, &mut left, root, path, kind)?;
         if outcome.ended {
             break;
         }
@@ -296,39 +337,65 @@ enum Named {
     Input,
     File,
     Folder,
+    Device,
 }
 
-fn named_at(rt: &HostRuntime, path: &str) -> Named {
+fn named_at(rt: &HostRuntime, path: &str) -> io::Result<Named> {
     if path == "-" {
-        return Named::Input;
+        return Ok(Named::Input);
     }
-    if is_folder(rt, path) {
-        return Named::Folder;
-    }
-    Named::File
+    let kind = kind_of(rt, path, true)?;
+    Ok(match kind {
+        Kind::File | Kind::Link => Named::File,
+        Kind::Folder => Named::Folder,
+        Kind::Device => Named::Device,
+    })
 }
 
-/// Searches what an argument names, or records that a folder isn't searched.
+/// Searches a folder that an argument names, if its files are to be searched.
+fn search_directory(
+    rt: &HostRuntime,
+    finder: &mut Finder<'_>,
+    task: Task<'_>,
+    outcome: &mut Outcome,
+    path: &str,
+) -> Result<(), AllocError>
+    ensures rejected { task.entry.asked.now.directories ≡ Reject → outcome.new ≡ with_failure outcome.old }
+    ensures skipped { task.entry.asked.now.directories ≡ Skip → outcome.new ≡ outcome.old }
+    ensures continues { Continues outcome.old outcome.new }
+{
+    match task.asked.directories {
+        Directories::Recurse => return search_folder(rt, finder, task, outcome, path),
+        Directories::Reject => outcome.fail_with(rt, task.asked, path, "Is a directory"),
+        Directories::Skip => {}
+    }
+    Ok(())
+}
+
+/// Searches what an argument names, or records that it can't be searched.
 fn search_as(
     rt: &HostRuntime,
     finder: &mut Finder<'_>,
     task: Task<'_>,
     outcome: &mut Outcome,
     path: &str,
-    named: Named,
+    named: io::Result<Named>,
 ) -> Result<(), AllocError>
-    ensures folder { named ≡ Folder → task.entry.asked.now.recursive ≡ false → outcome.new ≡ with_failure outcome.old }
+    ensures unknown { IfErr named (λ _. outcome.new ≡ with_failure outcome.old) }
+    ensures rejected { named ≡ Ok Folder → task.entry.asked.now.directories ≡ Reject → outcome.new ≡ with_failure outcome.old }
+    ensures skipped { named ≡ Ok Folder → task.entry.asked.now.directories ≡ Skip → outcome.new ≡ outcome.old }
+    ensures device { named ≡ Ok Device → reads_named task.entry.asked.now.devices ≡ false → outcome.new ≡ outcome.old }
     ensures continues { Continues outcome.old outcome.new }
 {
     match named {
-        Named::Input => search_input(rt, finder, task, outcome),
-        Named::File => search_file(rt, finder, task, outcome, path),
-        Named::Folder => {
-            if task.asked.recursive {
-                return search_folder(rt, finder, task, outcome, path);
-            }
-            outcome.fail_with(rt, task.asked, path, "Is a directory");
+        Ok(Named::Input) => search_input(rt, finder, task, outcome),
+        Ok(Named::File) => search_file(rt, finder, task, outcome, path),
+        Ok(Named::Folder) => return search_directory(rt, finder, task, outcome, path),
+        Ok(Named::Device) => {
+            let is_read = reads_named(task.asked.devices);
+            search_device(rt, finder, task, outcome, path, is_read);
         }
+        Err(e) => outcome.fail(rt, task.asked, path, e),
     }
     Ok(())
 }
@@ -357,14 +424,6 @@ fn is_named(asked: &Asked, may_be_several: bool) -> bool
     }
 }
 
-/// Whether arguments may name several files. A folder does if its files are searched.
-fn may_name_several(rt: &HostRuntime, asked: &Asked, files: &[&str]) -> bool {
-    match files {
-        [path] => asked.recursive && is_folder(rt, path),
-        _ => files.len() > 1,
-    }
-}
-
 /// Searches what arguments name.
 fn search_all(
     rt: &HostRuntime,
@@ -384,36 +443,56 @@ fn search_all(
     Ok(())
 }
 
+/// Whether what an argument names may be several files: the files of a folder.
+fn may_be_several(directories: Directories, named: &io::Result<Named>) -> bool {
+    match named {
+        Ok(Named::Folder) => directories == Directories::Recurse,
+        _ => false,
+    }
+}
+
+/// Searches the only file or folder that arguments name.
+fn search_one(
+    rt: &HostRuntime,
+    finder: &mut Finder<'_>,
+    task: Task<'_>,
+    outcome: &mut Outcome,
+    path: &str,
+) -> Result<(), AllocError>
+    ensures { Continues outcome.old outcome.new }
+{
+    let named = named_at(rt, path);
+    let several = may_be_several(task.asked.directories, &named);
+    let with_name = is_named(task.asked, several);
+    let task = Task { with_name, ..task };
+    search_as(rt, finder, task, outcome, path, named)
+}
+
 /// Searches what arguments name. If they name nothing, searches the current folder or standard input.
 fn search_files(
     rt: &HostRuntime,
     finder: &mut Finder<'_>,
     asked: &Asked,
     outcome: &mut Outcome,
-    files: &[&str],
+    files: Files<'_>,
 ) -> Result<(), AllocError>
     ensures { Continues outcome.old outcome.new }
 {
-    if !files.is_empty() {
-        let task = Task {
-            asked,
-            with_name: is_named(asked, may_name_several(rt, asked, files)),
-            bare: false,
-        };
-        return search_all(rt, finder, task, outcome, files);
-    }
     let task = Task {
         asked,
-        with_name: is_named(asked, asked.recursive),
-        bare: true,
+        with_name: is_named(asked, true),
+        bare: false,
+        input_name: files.input_name,
     };
-    search_named(
-        rt,
-        finder,
-        task,
-        outcome,
-        if asked.recursive { "." } else { "-" },
-    )
+    match files.names {
+        [] => {
+            let task = Task { bare: true, ..task };
+            let recursive = asked.directories == Directories::Recurse;
+            search_one(rt, finder, task, outcome, if recursive { "." } else { "-" })
+        }
+        [path] => search_one(rt, finder, task, outcome, path),
+        _ => search_all(rt, finder, task, outcome, files.names),
+    }
 }
 
 /// Whether no line can be selected, and nothing is printed whatever the inputs are.
@@ -428,7 +507,7 @@ fn search_by(
     rt: &HostRuntime,
     finder: &mut Finder<'_>,
     asked: &Asked,
-    files: &[&str],
+    files: Files<'_>,
 ) -> Result<Outcome, AllocError>
     ensures { selects_none asked.now.what ≡ true → IfOk result (λ o. o ≡ no_outcome) }
 {
@@ -464,7 +543,7 @@ fn search_texts(
     patterns: &[&str],
     texts: &[&str],
     sought: &LinePatterns<'_>,
-    files: &[&str],
+    files: Files<'_>,
 ) -> Result<Outcome, AllocError> {
     match Finder::new(rt.alloc(), sought, needs_spans(&asked.what)) {
         Ok(mut finder) => {
@@ -482,7 +561,7 @@ fn search_words(
     asked: &Asked,
     patterns: &[&str],
     texts: &[&str],
-    files: &[&str],
+    files: Files<'_>,
 ) -> Result<Outcome, AllocError> {
     let sought = LinePatterns::new(rt.alloc(), texts, &asked.how);
     search_texts(rt, asked, patterns, texts, &sought, files)
@@ -493,7 +572,7 @@ pub fn search(
     rt: &HostRuntime,
     asked: &Asked,
     patterns: &[String],
-    files: &[&str],
+    files: Files<'_>,
 ) -> Result<Outcome, AllocError> {
     let patterns = strs_of(rt.alloc(), patterns)?;
     let texts = texts_of(rt.alloc(), asked, patterns.as_slice())?;

@@ -1,91 +1,197 @@
 //! The files of folders.
 ghost use Rattle.hirgrep_main.specs.Outcomes.{Continues};
 
-use crate::asked::Asked;
+use crate::messages::warn_of_loop;
 use crate::outcome::Outcome;
-use std::alloc::AllocError;
+use crate::task::{Task, shown_name};
+use std::alloc::{AllocError, Global};
+use std::fs::Metadata;
+use std::io::Read;
 use std::os::unix::fs::MetadataExt;
-use std::rt::Runtime;
-use std::{fs, io};
+use std::rt::{Files, Runtime};
+use std::{fs, io, str};
 
 /// What is at a path.
 #[derive(Clone, Copy, PartialEq, Eq)]
 pub enum Kind {
     File,
     Folder,
-    /// What isn't searched if it is found in a folder: links, devices, pipes.
-    Other,
+    /// A link that isn't followed.
+    Link,
+    /// A device, a pipe or a socket.
+    Device,
 }
 
-/// What is at a path that was found in a folder.
-pub fn kind_of(rt: &HostRuntime, path: &str) -> io::Result<Kind> {
-    let metadata = fs::symlink_metadata(rt, path)?;
+fn kind_by(metadata: &Metadata) -> Kind {
     if metadata.is_dir() {
-        return Ok(Kind::Folder);
+        return Kind::Folder;
     }
     if metadata.is_file() {
-        return Ok(Kind::File);
+        return Kind::File;
     }
-    Ok(Kind::Other)
+    if metadata.is_symlink() {
+        return Kind::Link;
+    }
+    Kind::Device
 }
 
-/// Whether a path that was given as an argument is a folder.
-pub fn is_folder(rt: &HostRuntime, path: &str) -> bool {
-    match fs::metadata(rt, path) {
-        Ok(metadata) => metadata.is_dir(),
-        Err(_) => false,
-    }
+/// What is at a path, whose last part may be a link that is to be followed.
+pub fn kind_of(rt: &HostRuntime, path: &str, follows: bool) -> io::Result<Kind> {
+    let metadata = if follows {
+        fs::metadata(rt, path)?
+    } else {
+        fs::symlink_metadata(rt, path)?
+    };
+    Ok(kind_by(&metadata))
 }
 
 /// Whether the file at the path is the one that standard output is redirected to.
 pub fn is_output(rt: &HostRuntime, path: &str) -> bool {
     match (fs::metadata(rt, path), fs::metadata(rt, "/dev/stdout")) {
-        (Ok(read), Ok(written)) => written.is_file()
-            && read.dev() == written.dev()
-            && read.ino() == written.ino(),
+        (Ok(read), Ok(written)) => written.is_file() && is_same(&read, &written),
         _ => false,
     }
 }
 
-/// The paths of the entries of a folder, in the order in which the system lists them. Entries that can't be listed are reported and left
-/// out.
-fn read_entries(
+fn is_same(one: &Metadata, other: &Metadata) -> bool {
+    one.dev() == other.dev() && one.ino() == other.ino()
+}
+
+/// Whether the folder at the path is one of those in which it was found, from the root of the search on.
+fn is_loop(rt: &HostRuntime, root: &str, path: &str) -> bool {
+    let Ok(folder) = fs::metadata(rt, path) else {
+        return false;
+    };
+    let least = root.trim_end_matches('/').len();
+    for (at, byte) in path.as_bytes().iter().enumerate() {
+        if *byte != b'/' || at < least {
+            continue;
+        }
+        let above = path.split_at_checked(at.max(1));
+        if is_folder_at(rt, above, &folder) {
+            return true;
+        }
+    }
+    false
+}
+
+/// Whether the first of two parts of a path is the path of this folder.
+fn is_folder_at(rt: &HostRuntime, parts: Option<(&str, &str)>, folder: &Metadata) -> bool {
+    let Some((path, _)) = parts else {
+        return false;
+    };
+    match fs::metadata(rt, path) {
+        Ok(metadata) => is_same(&metadata, folder),
+        Err(_) => false,
+    }
+}
+
+/// The path of what has this name in a folder.
+fn joined(alloc: Global, folder: &str, name: &str) -> Result<String, AllocError> {
+    let mut path = String::from_str(alloc, folder)?;
+    if !folder.ends_with('/') {
+        path.push('/')?;
+    }
+    path.push_str(name)?;
+    Ok(path)
+}
+
+/// Appends the names in a folder, each with a zero byte after it, in the order in which the system lists them. A slash at the end of the
+/// path follows a link to a folder.
+fn read_names(rt: &HostRuntime, path: &str, names: &mut Vec<u8>) -> io::Result<()> {
+    let mut folder = rt.open_dir(path)?;
+    folder.read_to_end(names)?;
+    Ok(())
+}
+
+/// Appends the path of an entry of a folder. If its name isn't UTF-8, it is reported and left out.
+fn push_entry(
     rt: &HostRuntime,
-    asked: &Asked,
+    task: Task<'_>,
     outcome: &mut Outcome,
-    path: &str,
+    folder: &str,
+    name: &[u8],
     paths: &mut Vec<String>,
-) -> io::Result<()>
+) -> Result<(), AllocError>
     ensures { Continues outcome.old outcome.new }
 {
-    for entry in fs::read_dir(rt, path)? {
-        match entry {
-            Ok(entry) => {
-                let path = String::from_str(rt.alloc(), entry.path().as_str())?;
-                paths.push(path)?;
-            }
-            Err(e) => outcome.fail(rt, asked, path, e),
+    if name.is_empty() || name == b".".as_slice() || name == b"..".as_slice() {
+        return Ok(());
+    }
+    match str::from_utf8(name) {
+        Ok(name) => {
+            let path = joined(rt.alloc(), folder, name)?;
+            paths.push(path)?;
+        }
+        Err(_) => {
+            let name = String::from_utf8_lossy(rt.alloc(), name)?;
+            let path = joined(rt.alloc(), folder, name.as_str())?;
+            let shown = shown_name(task, path.as_str());
+            outcome.fail_with(rt, task.asked, shown, "the name isn't UTF-8");
         }
     }
     Ok(())
 }
 
-/// Puts the paths of the entries of a folder before those that are still to be searched.
-pub fn push_folder(
+/// Appends the paths of the entries of a folder.
+fn push_entries(
     rt: &HostRuntime,
-    asked: &Asked,
+    task: Task<'_>,
     outcome: &mut Outcome,
-    left: &mut Vec<String>,
-    path: &str,
+    folder: &str,
+    names: &[u8],
+    paths: &mut Vec<String>,
 ) -> Result<(), AllocError>
     ensures { Continues outcome.old outcome.new }
 {
-    let mut paths = Vec::new(rt.alloc());
-    if let Err(e) = read_entries(rt, asked, outcome, path, &mut paths) {
-        outcome.fail(rt, asked, path, e);
+    for name in names.split(|byte| *byte == 0) {
+        push_entry(rt, task, outcome, folder, name, paths)?;
     }
+    Ok(())
+}
+
+/// Puts the paths of the entries of a folder before those that are still to be searched. Whether the folder may be a link depends on
+/// `follows`.
+pub fn push_folder(
+    rt: &HostRuntime,
+    task: Task<'_>,
+    outcome: &mut Outcome,
+    left: &mut Vec<String>,
+    path: &str,
+    follows: bool,
+) -> Result<(), AllocError>
+    ensures { Continues outcome.old outcome.new }
+{
+    let opened = joined(rt.alloc(), path, "")?;
+    let opened = if follows { opened.as_str() } else { path };
+    let mut names = Vec::new(rt.alloc());
+    if let Err(e) = read_names(rt, opened, &mut names) {
+        outcome.fail(rt, task.asked, shown_name(task, path), e);
+    }
+    let mut paths = Vec::new(rt.alloc());
+    push_entries(rt, task, outcome, path, names.as_slice(), &mut paths)?;
     for path in paths.into_iter().rev() {
         left.push(path)?;
     }
     Ok(())
+}
+
+/// Puts the paths of the entries of a folder that was found in another one before those that are still to be searched. A folder that is
+/// found in itself, through a link, is reported and left out.
+pub fn push_found(
+    rt: &HostRuntime,
+    task: Task<'_>,
+    outcome: &mut Outcome,
+    left: &mut Vec<String>,
+    root: &str,
+    path: &str,
+) -> Result<(), AllocError>
+    ensures { Continues outcome.old outcome.new }
+{
+    let follows = task.asked.follows;
+    if follows && is_loop(rt, root, path) {
+        warn_of_loop(rt, task.asked, shown_name(task, path));
+        return Ok(());
+    }
+    push_folder(rt, task, outcome, left, path, follows)
 }

@@ -8,5 +8,4 @@ returns c =
     let three = joined two c.in_ok-push_flag-3.ensures in
     let four = joined three c.in_ok-push_flag-4.ensures in
     let five = joined four c.in_ok-push_flag-5.ensures in
-    let six = joined five c.in_ok-push_flag-6.ensures in
-    on_ok_weaker c.push_quiet.result (λ p. joined six p) c.push_quiet.ensures
+    on_ok_weaker c.push_quiet.result (λ p. joined five p) c.push_quiet.ensures

@@ -5,6 +5,4 @@ use Rattle.grep_options.proofs.options.push_selecting.Goals as goal
 pub returns : goal.returns
 returns c =
     let two = joined c.in_ok-push_flag.ensures c.in_ok-push_flag-2.ensures in
-    let three = joined two c.in_ok-push_flag-3.ensures in
-    let four = joined three c.in_ok-push_flag-4.ensures in
-    on_ok_weaker c.push_flag-5.result (λ p. joined four p) c.push_flag-5.ensures
+    on_ok_weaker c.push_flag-3.result (λ p. joined two p) c.push_flag-3.ensures

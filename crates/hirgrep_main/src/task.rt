@@ -1,0 +1,23 @@
+//! What files are searched for.
+
+use crate::asked::Asked;
+
+/// What files are searched for, and how the results are printed.
+#[derive(Clone, Copy)]
+pub struct Task<'a> {
+    pub asked: &'a Asked,
+    /// Whether names are printed before lines.
+    pub with_name: bool,
+    /// No file is named, so the files of the current folder are searched, and their names are relative to it.
+    pub bare: bool,
+    /// The name of standard input.
+    pub input_name: &'a str,
+}
+
+/// The name that is printed for the file at a path.
+pub fn shown_name<'a>(task: Task<'_>, path: &'a str) -> &'a str {
+    if !task.bare {
+        return path;
+    }
+    path.strip_prefix("./").unwrap_or(path)
+}
