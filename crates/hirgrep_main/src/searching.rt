@@ -22,8 +22,8 @@ use crate::output::Output;
 use crate::task::{Task, shown_name};
 use crate::walking::{Kind, is_output, kind_of, push_folder, push_found};
 use grep_core::{
-    Fault, Finder, LinePatterns, Print, SearcherError, SeparatorState, config_of, needs_spans, pattern_source,
-    report_input,
+    Fault, Finder, LinePatterns, Print, SearcherError, SeparatorState, config_of, needs_spans,
+    pattern_source, report_input,
 };
 use std::alloc::{AllocError, Global};
 use std::io::{Read, Write};
