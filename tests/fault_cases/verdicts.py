@@ -152,5 +152,7 @@ def has_right_words(case, message):
         return re.fullmatch(f"hirgrep: ((\\(standard input\\)|\\S+): )?{cause}", message) is not None
     if case.is_stdout:
         return re.fullmatch(f"hirgrep: write error: {cause}", message) is not None
-    name = re.escape(os.path.basename(case.call.file.rstrip("/")))
-    return re.fullmatch(f"hirgrep: (.*/)?({name}|\\(standard input\\)|-): {cause}", message) is not None
+    name = os.path.basename(case.call.file.rstrip("/"))
+    # the folder that a search runs in is the one that it names by a dot
+    names = "|".join(map(re.escape, [name, "(standard input)", "-", *(["."] if name == case.search.folder else [])]))
+    return re.fullmatch(f"hirgrep: (.*/)?({names}): {cause}", message) is not None

@@ -58,6 +58,7 @@ OPTIONS = [
     own("-C0", both=0),
     same("-C1", both=1),
     own("-C2", both=2),
+    own("-1", both=1),
     own("--color=always", color=True),
     own("--color=never", color=False),
     own("--color", color=False),

@@ -62,6 +62,10 @@ def random_content(pick, kind):
     return text.encode("utf-8", "surrogateescape")
 
 
+# with no file the folder would be searched, and the definition knows one name of standard input
+NOT_OF_INPUT = ("-r", "-R", "-d recurse", "--label=a name")
+
+
 def random_options(pick):
     options = pick.sample(OPTIONS, pick.choice(TIMES))
     if pick.random() < 0.15:
@@ -85,8 +89,8 @@ def random_case(seed, number):
     files = random_files(pick, kinds)
     is_input = files in ((), ("-",))
     options, pattern = random_options(pick), random_pattern(pick)
-    if is_input:  # with -r and no file the folder would be searched
-        options = tuple(it for it in options if it.name != "-r")
+    if is_input:
+        options = tuple(it for it in options if it.name not in NOT_OF_INPUT)
     words = random_words(pick, pattern.text, [it.words for it in options], files)
     return RandomCase(options, pattern, files, contents, tuple(words), is_input)
 

@@ -3,6 +3,7 @@ grep and hirgrep read them alike."""
 
 LONG = {
     "-i": ("--ignore-case",),
+    "-y": ("--ignore-case",),
     "-w": ("--word-regexp",),
     "-x": ("--line-regexp",),
     "-F": ("--fixed-strings",),
@@ -18,6 +19,12 @@ LONG = {
     "-q": ("--quiet", "--silent"),
     "-s": ("--no-messages",),
     "-r": ("--recursive",),
+    "-R": ("--dereference-recursive",),
+    "-a": ("--text",),
+    "-U": ("--binary",),
+    "-1": ("--context=1",),
+    "-d": ("--directories",),
+    "-D": ("--devices",),
     "-e": ("--regexp",),
     "-f": ("--file",),
     "-m": ("--max-count",),
@@ -25,7 +32,7 @@ LONG = {
     "-B": ("--before-context",),
     "-C": ("--context",),
 }
-VALUED = ("-e", "-f", "-m", "-A", "-B", "-C")
+VALUED = ("-d", "-D", "-e", "-f", "-m", "-A", "-B", "-C")
 
 
 def spelled(pick, words):
