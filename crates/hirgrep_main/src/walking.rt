@@ -6,7 +6,7 @@ use crate::outcome::Outcome;
 use crate::task::{Task, shown_name};
 use std::alloc::{AllocError, Global};
 use std::fs::Metadata;
-use std::io::Read;
+use std::io::{BufReader, Read};
 use std::os::unix::fs::MetadataExt;
 use std::rt::{Files, Runtime};
 use std::{fs, io, str};
@@ -96,10 +96,14 @@ fn joined(alloc: Global, folder: &str, name: &str) -> Result<String, AllocError>
     Ok(path)
 }
 
+/// Room for what one read of a folder returns. The system lists nothing if the next entry doesn't fit, which takes up to 280 bytes.
+const LISTING: usize = 32768;
+
 /// Appends the names in a folder, each with a zero byte after it, in the order in which the system lists them. A slash at the end of the
-/// path follows a link to a folder.
+/// path follows a link to a folder. The folder is never read into less room than [`LISTING`].
 fn read_names(rt: &HostRuntime, path: &str, names: &mut Vec<u8>) -> io::Result<()> {
-    let mut folder = rt.open_dir(path)?;
+    let folder = rt.open_dir(path)?;
+    let mut folder = BufReader::with_capacity(rt.alloc(), LISTING, folder)?;
     folder.read_to_end(names)?;
     Ok(())
 }
