@@ -20,7 +20,7 @@ use crate::messages::{Causes, report_no_finder};
 use crate::outcome::Outcome;
 use crate::output::Output;
 use crate::task::{Task, shown_name};
-use crate::walking::{Kind, is_output, kind_of, push_folder, push_found};
+use crate::walking::{Kind, is_output, kind_of, output_file, push_folder, push_found};
 use grep_core::{
     Fault, Finder, LinePatterns, Print, SearcherError, SeparatorState, config_of, needs_spans,
     pattern_source, report_input,
@@ -184,7 +184,7 @@ fn is_refused_output(
     ensures came { outcome.new ≡ (if result then with_failure outcome.old else outcome.old) }
     ensures continues { Continues outcome.old outcome.new }
 {
-    let is_refused = may_run_on(task.asked) && is_output(rt, path);
+    let is_refused = may_run_on(task.asked) && is_output(rt, task.output, path);
     if is_refused {
         outcome.fail_with(rt, task.asked, name, "input file is also the output");
     }
@@ -483,6 +483,7 @@ fn search_files(
         with_name: is_named(asked, true),
         bare: false,
         input_name: files.input_name,
+        output: output_file(rt),
     };
     match files.names {
         [] => {

@@ -1,6 +1,7 @@
 //! What files are searched for.
 
 use crate::asked::Asked;
+use crate::walking::FileId;
 
 /// What files are searched for, and how the results are printed.
 #[derive(Clone, Copy)]
@@ -12,6 +13,8 @@ pub struct Task<'a> {
     pub bare: bool,
     /// The name of standard input.
     pub input_name: &'a str,
+    /// The file that standard output is redirected to, if that is a regular one.
+    pub output: Option<FileId>,
 }
 
 /// The name that is printed for the file at a path.

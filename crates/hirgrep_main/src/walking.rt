@@ -45,30 +45,52 @@ pub fn kind_of(rt: &HostRuntime, path: &str, follows: bool) -> io::Result<Kind> 
     Ok(kind_by(&metadata))
 }
 
-/// Whether the file at the path is the one that standard output is redirected to.
-pub fn is_output(rt: &HostRuntime, path: &str) -> bool {
-    match (fs::metadata(rt, path), fs::metadata(rt, "/dev/stdout")) {
-        (Ok(read), Ok(written)) => written.is_file() && is_same(&read, &written),
-        _ => false,
+/// A file or folder, by its device and its number there.
+#[derive(Clone, Copy, PartialEq, Eq)]
+pub struct FileId {
+    device: u64,
+    number: u64,
+}
+
+fn id_of(metadata: &Metadata) -> FileId {
+    FileId {
+        device: metadata.dev(),
+        number: metadata.ino(),
     }
 }
 
-fn is_same(one: &Metadata, other: &Metadata) -> bool {
-    one.dev() == other.dev() && one.ino() == other.ino()
+/// The file that standard output is redirected to, if that is a regular one.
+pub fn output_file(rt: &HostRuntime) -> Option<FileId> {
+    match fs::metadata(rt, "/dev/stdout") {
+        Ok(written) if written.is_file() => Some(id_of(&written)),
+        _ => None,
+    }
+}
+
+/// Whether the file at the path is the one that standard output is redirected to.
+pub fn is_output(rt: &HostRuntime, output: Option<FileId>, path: &str) -> bool {
+    let Some(written) = output else {
+        return false;
+    };
+    match fs::metadata(rt, path) {
+        Ok(read) => id_of(&read) == written,
+        Err(_) => false,
+    }
 }
 
 /// Whether the folder at the path is one of those in which it was found, from the root of the search on.
 fn is_loop(rt: &HostRuntime, root: &str, path: &str) -> bool {
-    let Ok(folder) = fs::metadata(rt, path) else {
+    let Ok(metadata) = fs::metadata(rt, path) else {
         return false;
     };
+    let folder = id_of(&metadata);
     let least = root.trim_end_matches('/').len();
     for (at, byte) in path.as_bytes().iter().enumerate() {
         if *byte != b'/' || at < least {
             continue;
         }
         let above = path.split_at_checked(at.max(1));
-        if is_folder_at(rt, above, &folder) {
+        if is_folder_at(rt, above, folder) {
             return true;
         }
     }
@@ -76,12 +98,12 @@ fn is_loop(rt: &HostRuntime, root: &str, path: &str) -> bool {
 }
 
 /// Whether the first of two parts of a path is the path of this folder.
-fn is_folder_at(rt: &HostRuntime, parts: Option<(&str, &str)>, folder: &Metadata) -> bool {
+fn is_folder_at(rt: &HostRuntime, parts: Option<(&str, &str)>, folder: FileId) -> bool {
     let Some((path, _)) = parts else {
         return false;
     };
     match fs::metadata(rt, path) {
-        Ok(metadata) => is_same(&metadata, folder),
+        Ok(metadata) => id_of(&metadata) == folder,
         Err(_) => false,
     }
 }
