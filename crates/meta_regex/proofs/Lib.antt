@@ -7,3 +7,4 @@ mod LoopLemmas
 mod NextLemmas
 mod OrderLemmas
 mod RefusalLemmas
+mod WordlessLemmas

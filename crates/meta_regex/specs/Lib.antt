@@ -2,4 +2,5 @@ pub mod Options
 pub mod Regexes
 pub mod Fallbacks
 pub mod Caches
+pub mod Wordless
 pub mod Lists

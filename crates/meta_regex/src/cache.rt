@@ -1,10 +1,11 @@
 //! What searches change.
 ghost use Rattle.std.specs.Prelude.{IfErr, IfOk, IfSome, ℕ, List};
 ghost use Rattle.regex_syntax.specs.declared.Config.{Config as TextConfig};
-ghost use Rattle.search_types.specs.declared.match_kind.MatchKind.TheVariants.{All as AllMatches};
+ghost use Rattle.search_types.specs.declared.match_kind.MatchKind.TheVariants.{All as AllMatches, LeftmostFirst};
 ghost use Rattle.meta_regex.specs.Caches.{IsCacheOf};
 ghost use Rattle.meta_regex.specs.Fallbacks.{AreFallbacksOf};
 ghost use Rattle.meta_regex.specs.Regexes.{AreBuiltOf, IsSearchError, config_by};
+ghost use Rattle.meta_regex.specs.Wordless.{AreWordlessOf};
 
 use crate::building::build_pair;
 use crate::compiled::Regex;
@@ -12,17 +13,21 @@ use crate::errors::SearchError;
 use crate::fallback::{Fallback, fallbacks_of};
 use crate::overlapping::OverlappingSearcher;
 use crate::texts::borrowed;
+use crate::wordless::{WordlessSearcher, wordless_pair};
 use search_types::MatchKind;
 use std::alloc::{AllocError, Global};
 
 /// The caches of a regex's automata, and what its searches made later. It is usable only with the regex for which it was made.
 ///
-/// Two parts are made once a search needs them: the automaton that reports which patterns match, and the toolchain's regexes.
+/// Other parts are made once a search needs them: the automaton that reports which patterns match, the automata without looks at words,
+/// and the toolchain's regexes.
 #[derive(Drop)]
 pub struct Cache {
     pub(crate) pair: regex_pair::regex::Cache,
     pub(crate) overlapping: Option<OverlappingSearcher>,
     pub(crate) fallbacks: Option<Vec<Fallback>>,
+    pub(crate) wordless: Option<WordlessSearcher>,
+    pub(crate) wordless_overlapping: Option<OverlappingSearcher>,
 }
 
 impl Cache {
@@ -30,7 +35,15 @@ impl Cache {
     pub fn clear_count(&self) -> usize {
         let forward = self.pair.forward().clear_count();
         let clears = forward.saturating_add(self.pair.reverse().clear_count());
-        match &self.overlapping {
+        let clears = match &self.overlapping {
+            Some(searcher) => clears.saturating_add(searcher.clear_count()),
+            None => clears,
+        };
+        let clears = match &self.wordless {
+            Some(searcher) => clears.saturating_add(searcher.clear_count()),
+            None => clears,
+        };
+        match &self.wordless_overlapping {
             Some(searcher) => clears.saturating_add(searcher.clear_count()),
             None => clears,
         }
@@ -39,7 +52,15 @@ impl Cache {
     /// The bytes that the caches of the automata are estimated to need.
     pub fn memory_usage(&self) -> usize {
         let usage = self.pair.memory_usage();
-        match &self.overlapping {
+        let usage = match &self.overlapping {
+            Some(searcher) => usage.saturating_add(searcher.memory_usage()),
+            None => usage,
+        };
+        let usage = match &self.wordless {
+            Some(searcher) => usage.saturating_add(searcher.memory_usage()),
+            None => usage,
+        };
+        match &self.wordless_overlapping {
             Some(searcher) => usage.saturating_add(searcher.memory_usage()),
             None => usage,
         }
@@ -56,6 +77,8 @@ impl Regex {
             pair,
             overlapping: None,
             fallbacks: None,
+            wordless: None,
+            wordless_overlapping: None,
         })
     }
 
@@ -77,6 +100,46 @@ impl Regex {
         }
     }
 
+    /// The automata of the patterns without their looks at words that find matches of this kind, if they can be made.
+    fn wordless_pair(&self, alloc: Global, kind: MatchKind) -> Option<regex_pair::regex::Regex>
+        ensures { IfSome result (AreWordlessOf (config_by self.now) self.now.texts kind) }
+    {
+        let texts = match borrowed(alloc, self.texts()) {
+            Ok(texts) => texts,
+            Err(_) => return None,
+        };
+        let Some(pair) = wordless_pair(alloc, &texts, &self.options(), kind) else {
+            return None;
+        };
+        Some(pair)
+    }
+
+    /// What finds the least start of a match without looks at words, if it can be made.
+    fn wordless_searcher(&self, alloc: Global) -> Option<WordlessSearcher>
+        ensures { IfSome result (AreWordlessOf (config_by self.now) self.now.texts LeftmostFirst) }
+    {
+        let Some(pair) = self.wordless_pair(alloc, MatchKind::LeftmostFirst) else {
+            return None;
+        };
+        match WordlessSearcher::of(alloc, pair) {
+            Ok(searcher) => Some(searcher),
+            Err(_) => None,
+        }
+    }
+
+    /// The automaton that reports which patterns match without looks at words, if it can be made.
+    fn wordless_overlapping(&self, alloc: Global) -> Option<OverlappingSearcher>
+        ensures { IfSome result (AreWordlessOf (config_by self.now) self.now.texts AllMatches) }
+    {
+        let Some(pair) = self.wordless_pair(alloc, MatchKind::All) else {
+            return None;
+        };
+        match OverlappingSearcher::of(alloc, pair) {
+            Ok(searcher) => Some(searcher),
+            Err(_) => None,
+        }
+    }
+
     /// Makes the automaton that reports which patterns match, if there is none yet and it can be made. The first call of
     /// [`matching_patterns`](Regex::matching_patterns) does so too.
     pub fn prepare_matching_patterns(&self, alloc: Global, cache: &mut Cache)
@@ -85,6 +148,26 @@ impl Regex {
     {
         if cache.overlapping.is_none() {
             cache.overlapping = self.overlapping_searcher(alloc);
+        }
+    }
+
+    /// Makes what finds the least start of a match without looks at words, if there is none yet and it can be made.
+    pub(crate) fn prepare_wordless(&self, alloc: Global, cache: &mut Cache)
+        requires { IsCacheOf self.now cache.old }
+        ensures { IsCacheOf self.now cache.new }
+    {
+        if cache.wordless.is_none() {
+            cache.wordless = self.wordless_searcher(alloc);
+        }
+    }
+
+    /// Makes the automaton that reports which patterns match without looks at words, if there is none yet and it can be made.
+    pub(crate) fn prepare_wordless_overlapping(&self, alloc: Global, cache: &mut Cache)
+        requires { IsCacheOf self.now cache.old }
+        ensures { IsCacheOf self.now cache.new }
+    {
+        if cache.wordless_overlapping.is_none() {
+            cache.wordless_overlapping = self.wordless_overlapping(alloc);
         }
     }
 

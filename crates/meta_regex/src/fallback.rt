@@ -1,9 +1,10 @@
 //! Searches haystacks in which the automata give up by the toolchain's regexes of the same patterns.
-ghost use Rattle.std.specs.Prelude.{◌≡◌, ◌≤◌, ◌++◌, ◌∷◌, [], ℕ, List, IfErr, IfOk, OnOk, false, true, length, map, option_map};
+ghost use Rattle.std.specs.Prelude.{◌≡◌, ◌≤◌, ◌&&◌, ◌++◌, ◌∷◌, [], ℕ, List, IfErr, IfOk, OnOk, false, true, length, map, option_map};
 ghost use Rattle.std.specs.Prelude.{string_bytes};
 ghost use Rattle.regex.specs.Views.{builder_source, builder_config};
 ghost use Rattle.regex_syntax.specs.declared.Config.{Config as TextConfig};
 ghost use Rattle.meta_regex.specs.Regexes.{IsSearchError};
+ghost use Rattle.meta_regex.specs.Wordless.{both_of};
 ghost use Rattle.meta_regex.specs.Fallbacks.{AreFallbacksOf, IsFallbackOf, best_of, better_match, finds_any, row_of_span, span_by};
 
 use crate::errors::SearchError;
@@ -209,19 +210,41 @@ fn push(tests: &mut Vec<bool>, test: bool) -> Result<(), SearchError>
     }
 }
 
-/// For each regex, whether it has a match.
+/// Whether a regex has a match, if it may have one.
+fn has_one_if(
+    alloc: Global,
+    regex: &Fallback,
+    haystack: &[u8],
+    may: bool,
+) -> Result<bool, SearchError>
+    ensures reported { IfOk result (λ reported. reported ≡ (may && finds_any haystack.now regex.now)) }
+    ensures refused { (config : TextConfig) (t : List ℕ) → IsFallbackOf config t regex.now →
+        IfErr result (IsSearchError config haystack.now) }
+{
+    if !may {
+        return Ok(false);
+    }
+    match has_one(alloc, regex, haystack) {
+        Ok(has) => Ok(has),
+        Err(e) => Err(e),
+    }
+}
+
+/// For each regex, whether it has a match. Only those are searched for of which the test says that they may have one.
 pub(crate) fn have_each(
     alloc: Global,
     regexes: &[Fallback],
     haystack: &[u8],
+    may: &[bool],
 ) -> Result<Vec<bool>, SearchError>
-    ensures reported { IfOk result (λ reported. reported.items ≡ map (finds_any haystack.now) regexes.now) }
+    requires { length may.now ≡ length regexes.now }
+    ensures reported { IfOk result (λ reported. reported.items ≡ both_of may.now (map (finds_any haystack.now) regexes.now)) }
     ensures refused { (config : TextConfig) → (texts : List (List ℕ)) → AreFallbacksOf config texts regexes.now →
         IfErr result (IsSearchError config haystack.now) }
 {
     let mut reported = Vec::new(alloc);
-    for regex in regexes {
-        let has = match has_one(alloc, regex, haystack) {
+    for number in 0..regexes.len() {
+        let has = match has_one_if(alloc, &regexes[number], haystack, may[number]) {
             Ok(has) => has,
             Err(e) => return Err(e),
         };

@@ -17,6 +17,7 @@ mod options;
 mod overlapping;
 mod searching;
 mod texts;
+mod wordless;
 
 pub use cache::Cache;
 pub use compiled::Regex;

@@ -1,7 +1,9 @@
 //! Which patterns match.
 ghost use Rattle.std.specs.Prelude.{◌≡◌, IfErr, IfOk, IfSome, length, map, replicate, slice_set, false, true};
 ghost use Rattle.search_core.specs.Utf8.{IsValidText};
+ghost use Rattle.meta_regex.specs.declared.errors.SearchError.TheVariants.{NoMemory as NoneFree};
 ghost use Rattle.meta_regex.specs.Caches.{IsCacheOf};
+ghost use Rattle.meta_regex.specs.Wordless.{MayMatch};
 ghost use Rattle.meta_regex.specs.Regexes.{AreMarked, AreWhich, IsSearchError, IsMatchingPatternsError, config_by, hits, mark, overlaid};
 
 use crate::cache::Cache;
@@ -12,7 +14,7 @@ use crate::overlapping::tests_of;
 use crate::searching::see_bytes;
 use search_core::PatternID;
 use search_types::PatternSet;
-use std::alloc::Global;
+use std::alloc::{AllocError, Global};
 
 fn mark(test: bool) -> u8
     ensures { result ≡ mark test }
@@ -64,6 +66,15 @@ fn empty_set(alloc: Global, count: usize) -> Option<PatternSet>
     }
 }
 
+/// This many tests, each of them true.
+fn all_true(alloc: Global, count: usize) -> Result<Vec<bool>, AllocError>
+    ensures { IfOk result (λ tests. tests.items ≡ replicate count true) }
+{
+    let mut tests = Vec::new(alloc);
+    tests.resize(count, true)?;
+    Ok(tests)
+}
+
 impl Regex {
     /// For each pattern, whether it matches, by the automaton if it can answer.
     fn matching_by_automaton(
@@ -94,7 +105,62 @@ impl Regex {
         Some(tests)
     }
 
-    /// For each pattern, whether it matches, by the toolchain's regexes.
+    /// For each pattern, whether it may match, by the automaton without looks at words if it can be made.
+    fn may_match_by_automaton(
+        &self,
+        alloc: Global,
+        cache: &mut Cache,
+        haystack: &[u8],
+    ) -> Option<Vec<bool>>
+        requires { IsCacheOf self.now cache.old }
+        ensures own { IsCacheOf self.now cache.new }
+        ensures may { IfSome result (λ may. MayMatch (config_by self.now) self.now.texts haystack.now may.items) }
+        ensures long { IfSome result (λ may. length may.items ≡ length self.now.texts) }
+    {
+        self.prepare_wordless_overlapping(alloc, cache);
+        let Some(mut set) = empty_set(alloc, self.pattern_count()) else {
+            return None;
+        };
+        let Some(searcher) = &mut cache.wordless_overlapping else {
+            return None;
+        };
+        match searcher.matching_patterns(haystack, &mut set) {
+            Ok(()) => {}
+            Err(_) => return None,
+        }
+        let may = match tests_of(alloc, &set) {
+            Ok(may) => may,
+            Err(_) => return None,
+        };
+        if may.len() != self.pattern_count() {
+            return None;
+        }
+        Some(may)
+    }
+
+    /// For each pattern, whether it may match.
+    fn may_match(
+        &self,
+        alloc: Global,
+        cache: &mut Cache,
+        haystack: &[u8],
+    ) -> Result<Vec<bool>, SearchError>
+        requires { IsCacheOf self.now cache.old }
+        ensures own { IsCacheOf self.now cache.new }
+        ensures may { IfOk result (λ may. MayMatch (config_by self.now) self.now.texts haystack.now may.items) }
+        ensures long { IfOk result (λ may. length may.items ≡ length self.now.texts) }
+        ensures refused { IfErr result (λ e. e ≡ NoneFree) }
+    {
+        if let Some(may) = self.may_match_by_automaton(alloc, cache, haystack) {
+            return Ok(may);
+        }
+        match all_true(alloc, self.pattern_count()) {
+            Ok(may) => Ok(may),
+            Err(_) => Err(SearchError::NoMemory),
+        }
+    }
+
+    /// For each pattern, whether it matches, by the toolchain's regexes of those that may match.
     fn matching_by_fallbacks(
         &self,
         alloc: Global,
@@ -107,11 +173,15 @@ impl Regex {
         ensures refused { IfErr result (IsSearchError (config_by self.now) haystack.now) }
     {
         see_bytes(haystack);
+        let may = match self.may_match(alloc, cache, haystack) {
+            Ok(may) => may,
+            Err(e) => return Err(e),
+        };
         let fallbacks = match self.take_fallbacks(alloc, cache) {
             Ok(fallbacks) => fallbacks,
             Err(e) => return Err(e),
         };
-        let reported = have_each(alloc, &fallbacks, haystack);
+        let reported = have_each(alloc, &fallbacks, haystack, &may);
         cache.fallbacks = Some(fallbacks);
         let tests = match reported {
             Ok(tests) => tests,

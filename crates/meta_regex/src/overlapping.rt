@@ -8,10 +8,13 @@ ghost use Rattle.lazy_dfa.specs.Caches.{CacheValue, IsCacheOf};
 ghost use Rattle.lazy_dfa.specs.OverlappingAnswers.{AnswersWhich};
 ghost use Rattle.pattern_search.specs.Searches.{whole_search};
 ghost use Rattle.meta_regex.specs.Regexes.{AreBuiltOf, AreWhich};
+ghost use Rattle.meta_regex.specs.Wordless.{AreWordlessOf, MayMatch};
 
 use crate::searching::{search_from, see_bytes};
+use hirscan::tree_walk_laws::{built_automata_are_walked, sets_get_the_patterns_of_spans};
 use lazy_dfa::Work;
 use lazy_dfa::dfa::{Cache, DFA};
+use line_trees::laws::a_wordless_tree_matches_as_much;
 use pattern_search::regex_laws::overlapping_searches_find_which_texts_match;
 use regex_pair::regex::Regex;
 use search_core::PatternID;
@@ -129,9 +132,15 @@ impl OverlappingSearcher {
         ensures reported { (config : TextConfig) (texts : List (List ℕ)) → AreBuiltOf config texts AllMatches self.old →
             (config.utf8 ≡ true → IsValidText haystack.now) → set.old ≡ replicate (length texts) false →
             IfOk result (λ _. AreWhich config texts haystack.now set.new) }
+        ensures may { (config : TextConfig) (texts : List (List ℕ)) → AreWordlessOf config texts AllMatches self.old →
+            set.old ≡ replicate (length texts) false → length set.new ≡ length texts →
+            IfOk result (λ _. MayMatch config texts haystack.now set.new) }
     {
         see_bytes(haystack);
         overlapping_searches_find_which_texts_match();
+        a_wordless_tree_matches_as_much();
+        built_automata_are_walked();
+        sets_get_the_patterns_of_spans();
         let input = search_from(haystack, 0);
         match search(self.regex.forward(), &mut self.cache, &input, set) {
             Ok(()) => {}

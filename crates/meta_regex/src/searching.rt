@@ -5,6 +5,7 @@ ghost use Rattle.search_core.specs.Utf8.{IsValidText};
 ghost use Rattle.pattern_search.specs.Searches.{whole_search};
 ghost use Rattle.regex_pair.specs.Pairs.{AreCachesOf};
 ghost use Rattle.meta_regex.specs.Caches.{IsCacheOf};
+ghost use Rattle.meta_regex.specs.Wordless.{MayBeginAt};
 ghost use Rattle.meta_regex.specs.Regexes.{HasFoundStart, HasFoundSpan, IsSearchError, IsReported, config_by, row_of};
 
 use crate::cache::Cache;
@@ -125,6 +126,91 @@ impl Regex {
         Ok(found)
     }
 
+    /// An offset at which a search may begin instead, because no match starts before it. If there is none, there is no match.
+    fn next_start(
+        &self,
+        alloc: Global,
+        cache: &mut Cache,
+        haystack: &[u8],
+        from: usize,
+    ) -> Option<usize>
+        requires own { IsCacheOf self.now cache.old }
+        requires within { from ≤ length haystack.now }
+        ensures own { IsCacheOf self.now cache.new }
+        ensures begins { MayBeginAt (config_by self.now) self.now.texts haystack.now from result }
+    {
+        self.prepare_wordless(alloc, cache);
+        let Some(searcher) = &mut cache.wordless else {
+            return Some(from);
+        };
+        match searcher.least_start(haystack, from) {
+            Ok(start) => start,
+            Err(_) => Some(from),
+        }
+    }
+
+    /// A search by the automata or, if they give up, by the toolchain's regexes.
+    fn find_by_either(
+        &self,
+        alloc: Global,
+        cache: &mut Cache,
+        haystack: &[u8],
+        from: usize,
+    ) -> Result<Option<FoundMatch>, SearchError>
+        requires own { IsCacheOf self.now cache.old }
+        requires within { from ≤ length haystack.now }
+        requires valid { (config_by self.now).utf8 ≡ true → IsValidText haystack.now }
+        ensures own { IsCacheOf self.now cache.new }
+        ensures found { IfOk result (HasFoundStart (config_by self.now) self.now.texts haystack.now from) }
+        ensures preferred { self.now.loops ≡ true → IfOk result (HasFoundSpan (config_by self.now) self.now.texts haystack.now from) }
+        ensures refused { IfErr result (IsSearchError (config_by self.now) haystack.now) }
+    {
+        let error = match self.find_by_pair(&mut cache.pair, haystack, from) {
+            Ok(found) => return Ok(found),
+            Err(error) => error,
+        };
+        if lacks_memory(&error) {
+            return Err(SearchError::NoMemory);
+        }
+        match self.find_by_fallbacks(alloc, cache, haystack, from) {
+            Ok(found) => Ok(found),
+            Err(e) => Err(e),
+        }
+    }
+
+    /// A search of a haystack in which the automata gave up. It begins at the first match without looks at words. The automata are tried
+    /// again only if that is at a later offset.
+    #[inline(never)]
+    fn find_later(
+        &self,
+        alloc: Global,
+        cache: &mut Cache,
+        haystack: &[u8],
+        from: usize,
+    ) -> Result<Option<FoundMatch>, SearchError>
+        requires own { IsCacheOf self.now cache.old }
+        requires within { from ≤ length haystack.now }
+        requires valid { (config_by self.now).utf8 ≡ true → IsValidText haystack.now }
+        ensures own { IsCacheOf self.now cache.new }
+        ensures found { IfOk result (HasFoundStart (config_by self.now) self.now.texts haystack.now from) }
+        ensures preferred { self.now.loops ≡ true → IfOk result (HasFoundSpan (config_by self.now) self.now.texts haystack.now from) }
+        ensures refused { IfErr result (IsSearchError (config_by self.now) haystack.now) }
+    {
+        let Some(start) = self.next_start(alloc, cache, haystack, from) else {
+            return Ok(None);
+        };
+        if start == from {
+            return match self.find_by_fallbacks(alloc, cache, haystack, start) {
+                Ok(found) => Ok(found),
+                Err(e) => Err(e),
+            };
+        }
+        match self.find_by_either(alloc, cache, haystack, start) {
+            Ok(found) => Ok(found),
+            Err(e) => Err(e),
+        }
+    }
+
     /// A search of a haystack that is UTF-8 if the options require it.
     pub(crate) fn search(
         &self,
@@ -148,7 +234,7 @@ impl Regex {
         if lacks_memory(&error) {
             return Err(SearchError::NoMemory);
         }
-        match self.find_by_fallbacks(alloc, cache, haystack, from) {
+        match self.find_later(alloc, cache, haystack, from) {
             Ok(found) => Ok(found),
             Err(e) => Err(e),
         }
