@@ -1,0 +1,5 @@
+pub mod ListLemmas
+pub mod ClassLemmas
+pub mod StandLemmas
+pub mod RequiredLemmas
+pub mod SearchLemmas
