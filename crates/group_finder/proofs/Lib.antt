@@ -1,0 +1,4 @@
+pub mod SlotLemmas
+pub mod WriteLemmas
+pub mod GroupLemmas
+pub mod ForCallers

@@ -1,0 +1,21 @@
+-- Finders of groups, and what they find.
+use Rattle.std.specs.Prelude.{◌≡◌, ℕ, List, length, Option, Some}
+use Rattle.regex_hir.specs.Re.{Trace}
+use Rattle.regex_syntax.specs.declared.Config.{Config}
+use Rattle.regex_nfa.specs.declared.nfa.Nfa.{Nfa}
+use Rattle.group_finder.specs.declared.finder.GroupFinder.{GroupFinder}
+use Rattle.group_finder.specs.Engines.{IsAutomatonOf}
+use Rattle.group_finder.specs.Slots.{slots_of}
+
+-- The automaton by which a finder searches. No search changes it.
+abbrev pub automaton_of : GroupFinder → Nfa
+automaton_of g = g.dfa.nfa
+
+-- A finder was made of a pattern, parsed under these options.
+abbrev pub IsFinderOf : Config → List ℕ → GroupFinder → Type 0
+IsFinderOf config text g = IsAutomatonOf config text (automaton_of g)
+
+-- The match that starts at this offset and continues so was found: its end, and its slots as far as there is room.
+pub record HasSlots (start : ℕ) (t : Trace) (o : Option ℕ) (slots : List ℕ) : Type 0 where
+  pub end_is : o ≡ Some t.end
+  pub slots_are : slots ≡ slots_of (record { start = start; trace = t }) (length slots)

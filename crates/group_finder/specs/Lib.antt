@@ -1,0 +1,5 @@
+pub mod Slots
+pub mod Patterns
+pub mod Engines
+pub mod Errors
+pub mod Groups

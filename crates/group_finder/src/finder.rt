@@ -1,0 +1,266 @@
+//! Finds the groups of a match of one pattern.
+ghost use Rattle.std.proofs.Props.{props};
+ghost use Rattle.std.specs.Prelude.{◌≡◌, ℕ, ◌-◌, ◌≤◌, ◌<◌, All, List, Some, None, length, map, option_map, vec_len, IfErr, IfOk, IfSome};
+ghost use Rattle.regex_syntax.specs.declared.Config.{Config as TextConfig};
+ghost use Rattle.regex_hir.specs.Re.{Re, Trace, accept, attempt};
+ghost use Rattle.regex_tagged.specs.Valid.{IsFor};
+ghost use Rattle.regex_vm.specs.Found.{first_match, span, group_cells};
+ghost use Rattle.group_finder.specs.Slots.{slots_of};
+ghost use Rattle.group_finder.specs.Engines.{HasRoomFor, offsets_of, IsAutomatonOf};
+ghost use Rattle.group_finder.specs.Errors.{IsNewError};
+
+use crate::errors::{NewError, cause_of};
+use crate::slots::{clear, decode, write_ends, write_start};
+use regex_compile::compile;
+use regex_dfa::Dfa;
+use regex_nfa::{BuildError, Nfa};
+use regex_syntax::{Config, Parsed};
+use regex_tagged::Tagged;
+use regex_vm::PikeVm;
+use std::alloc::{AllocError, Global};
+
+/// Finds the groups of a match of one pattern. Its tables grow while it searches.
+///
+/// The toolchain's tagged automaton searches. It declines spans above 4 GiB and very long ones, and it gives up for good if its tables had to
+/// be dropped several times before they paid off. Then the toolchain's PikeVM searches, which is made by the first search that needs it.
+#[derive(Drop)]
+pub struct GroupFinder {
+    pub(crate) dfa: Dfa,
+    tagged: Tagged,
+    pikevm: Option<PikeVm>,
+    ghost tagged_runs: { IsFor tagged dfa },
+    ghost pikevm_runs: { IfSome pikevm (HasRoomFor dfa.nfa) } by { Prim.hlevel props },
+}
+
+/// The elements of a haystack are bytes, below 256.
+pub(crate) fn see_bytes(bytes: &[u8])
+    ensures { All (λ byte. byte < 256) bytes.now }
+{}
+
+/// The match that starts at an offset and consumes no byte from another one on, by the PikeVM.
+#[cold]
+#[inline(never)]
+fn find_by_pikevm(
+    alloc: Global,
+    nfa: &Nfa,
+    pikevm: &mut Option<PikeVm>,
+    haystack: &[u8],
+    start: usize,
+    stop: usize,
+    cells: &mut [usize],
+) -> Result<Option<(usize, usize)>, AllocError>
+    requires room { IfSome pikevm.old (HasRoomFor nfa.now) }
+    requires ordered { (start ≤ stop) × (stop ≤ length haystack.now) }
+    requires width { length cells.old ≤ nfa.now.slot_count - 2 }
+    ensures span { IfOk result (λ found. found ≡ option_map span (first_match nfa.now haystack.now stop start start)) }
+    ensures groups { IfOk result (λ _. IfSome (first_match nfa.now haystack.now stop start start)
+        (λ m. cells.new ≡ group_cells m (length cells.old))) }
+    ensures room { IfSome pikevm.new (HasRoomFor nfa.now) }
+{
+    let mut vm = match pikevm.take() {
+        Some(vm) => vm,
+        None => PikeVm::new(alloc, nfa)?,
+    };
+    let found = vm.find(nfa, haystack, start, start, stop, cells);
+    *pikevm = Some(vm);
+    Ok(found)
+}
+
+/// The match that starts at an offset and consumes no byte from another one on, by either engine.
+#[inline(always)]
+fn find_cells(
+    alloc: Global,
+    dfa: &Dfa,
+    tagged: &mut Tagged,
+    pikevm: &mut Option<PikeVm>,
+    haystack: &[u8],
+    start: usize,
+    stop: usize,
+    cells: &mut [usize],
+) -> Result<Option<(usize, usize)>, AllocError>
+    requires own { IsFor tagged.old dfa.now }
+    requires room { IfSome pikevm.old (HasRoomFor dfa.now.nfa) }
+    requires ordered { (start ≤ stop) × (stop ≤ length haystack.now) }
+    requires width { length cells.old ≤ dfa.now.nfa.slot_count - 2 }
+    ensures span { IfOk result (λ found. found ≡ option_map span (first_match dfa.now.nfa haystack.now stop start start)) }
+    ensures groups { IfOk result (λ _. IfSome (first_match dfa.now.nfa haystack.now stop start start)
+        (λ m. cells.new ≡ group_cells m (length cells.old))) }
+    ensures own { IsFor tagged.new dfa.now }
+    ensures room { IfSome pikevm.new (HasRoomFor dfa.now.nfa) }
+{
+    match tagged.find_at(dfa, haystack, start, stop, cells) {
+        Ok(found) => Ok(found),
+        Err(_) => find_by_pikevm(alloc, &dfa.nfa, pikevm, haystack, start, stop, cells),
+    }
+}
+
+/// The same match, with the offsets of its groups.
+#[inline(always)]
+fn find_offsets(
+    alloc: Global,
+    dfa: &Dfa,
+    tagged: &mut Tagged,
+    pikevm: &mut Option<PikeVm>,
+    haystack: &[u8],
+    start: usize,
+    stop: usize,
+    offsets: &mut [usize],
+) -> Result<Option<(usize, usize)>, AllocError>
+    requires own { IsFor tagged.old dfa.now }
+    requires room { IfSome pikevm.old (HasRoomFor dfa.now.nfa) }
+    requires ordered { (start ≤ stop) × (stop ≤ length haystack.now) }
+    requires width { length offsets.old ≤ dfa.now.nfa.slot_count - 2 }
+    ensures span { IfOk result (λ found. found ≡ option_map span (first_match dfa.now.nfa haystack.now stop start start)) }
+    ensures groups { IfOk result (λ _. IfSome (first_match dfa.now.nfa haystack.now stop start start)
+        (λ m. offsets.new ≡ offsets_of m (length offsets.old))) }
+    ensures own { IsFor tagged.new dfa.now }
+    ensures room { IfSome pikevm.new (HasRoomFor dfa.now.nfa) }
+{
+    let found = find_cells(alloc, dfa, tagged, pikevm, haystack, start, stop, offsets)?;
+    decode(offsets);
+    Ok(found)
+}
+
+/// The end of that match, with the slots of the match as far as there is room.
+#[inline(always)]
+fn find_slots(
+    alloc: Global,
+    dfa: &Dfa,
+    tagged: &mut Tagged,
+    pikevm: &mut Option<PikeVm>,
+    haystack: &[u8],
+    start: usize,
+    stop: usize,
+    slots: &mut [usize],
+) -> Result<Option<usize>, AllocError>
+    requires own { IsFor tagged.old dfa.now }
+    requires room { IfSome pikevm.old (HasRoomFor dfa.now.nfa) }
+    requires ordered { (start ≤ stop) × (stop ≤ length haystack.now) }
+    ensures end { IfOk result (λ o. o ≡ option_map (λ m. m.trace.end) (first_match dfa.now.nfa haystack.now stop start start)) }
+    ensures slots { IfOk result (λ _. IfSome (first_match dfa.now.nfa haystack.now stop start start)
+        (λ m. All (λ w. w.0 < dfa.now.nfa.slot_count) m.trace.writes → slots.new ≡ slots_of m (length slots.old))) }
+    ensures own { IsFor tagged.new dfa.now }
+    ensures room { IfSome pikevm.new (HasRoomFor dfa.now.nfa) }
+{
+    if slots.len() < 2 {
+        let found = find_offsets(alloc, dfa, tagged, pikevm, haystack, start, stop, &mut [])?;
+        return Ok(write_start(found, slots));
+    }
+    let (ends, offsets) = slots.split_at_mut(2);
+    let room = offsets.len().min(dfa.nfa.slot_count as usize - 2);
+    let (own, rest) = offsets.split_at_mut(room);
+    let found = find_offsets(alloc, dfa, tagged, pikevm, haystack, start, stop, own)?;
+    clear(rest);
+    Ok(write_ends(found, ends))
+}
+
+/// The automaton of a pattern.
+fn dfa_of(alloc: Global, text: &str, config: &Config, size_limit: usize) -> Result<Dfa, NewError>
+    ensures made { IfOk result (λ d. IsAutomatonOf config.now text.now d.nfa) }
+    ensures refused { IfErr result (IsNewError config.now text.now size_limit) }
+{
+    let Parsed { hir, names } = match regex_syntax::parse(alloc, text, config) {
+        Ok(parsed) => parsed,
+        Err(error) => return Err(cause_of(error)),
+    };
+    let Ok(groups) = u32::try_from(names.len()) else {
+        return Err(NewError::TooLarge(size_limit));
+    };
+    let nfa = match compile(alloc, &hir, groups, size_limit) {
+        Ok(nfa) => nfa,
+        Err(regex_compile::Error::OutOfMemory) => return Err(NewError::NoMemory),
+        Err(_) => return Err(NewError::TooLarge(size_limit)),
+    };
+    match Dfa::new(alloc, nfa) {
+        Ok(dfa) => Ok(dfa),
+        Err(BuildError::OutOfMemory) => Err(NewError::NoMemory),
+        Err(BuildError::Malformed) => Err(NewError::TooLarge(size_limit)),
+    }
+}
+
+impl GroupFinder {
+    ghost use Rattle.std.specs.Prelude.{IfNone, replicate};
+    ghost use Rattle.group_finder.specs.Slots.{no_offset};
+    ghost use Rattle.group_finder.specs.Patterns.{IsParsedAs};
+    ghost use Rattle.group_finder.specs.Groups.{IsFinderOf, HasSlots, automaton_of};
+
+    /// Makes the finder of a pattern. The tables of its automaton take at most `size_limit` bytes.
+    pub fn new(
+        alloc: Global,
+        text: &str,
+        config: &Config,
+        size_limit: usize,
+    ) -> Result<GroupFinder, NewError>
+        ensures made { IfOk result (IsFinderOf config.now text.now) }
+        ensures refused { IfErr result (IsNewError config.now text.now size_limit) }
+    {
+        let dfa = match dfa_of(alloc, text, config, size_limit) {
+            Ok(dfa) => dfa,
+            Err(error) => return Err(error),
+        };
+        let tagged = match Tagged::new(alloc, &dfa) {
+            Ok(tagged) => tagged,
+            Err(_) => return Err(NewError::NoMemory),
+        };
+        Ok(GroupFinder {
+            dfa,
+            tagged,
+            pikevm: None,
+        })
+    }
+
+    /// The bytes that the automaton of the pattern takes, without spare capacity: 12 for each state, 8 for each transition, and 4 for the rank
+    /// of each state. The greatest number stands for any number above it.
+    ///
+    /// The toolchain's engines don't report what their own tables take. Those of the tagged automaton are dropped at some 8 MiB.
+    pub fn memory_usage(&self) -> usize {
+        let states = self.dfa.nfa.states.len().saturating_mul(16);
+        states.saturating_add(self.dfa.nfa.transitions.len().saturating_mul(8))
+    }
+
+    /// Finds the match that the pattern has from an offset, and returns its end. `stop` is an offset at or after this end: the end itself, if
+    /// it is known, or else the length of the haystack.
+    ///
+    /// `slots` get the offsets of the groups: the start and end of group n in the slots 2n and 2n + 1, or [`NO_OFFSET`](crate::NO_OFFSET) in
+    /// both if it took no part. Group 0 is the match. Slots after the last group get that too, as do all if there is no match or no memory.
+    #[inline]
+    pub fn groups_at(
+        &mut self,
+        alloc: Global,
+        haystack: &[u8],
+        start: usize,
+        stop: usize,
+        slots: &mut [usize],
+    ) -> Result<Option<usize>, AllocError>
+        requires ordered { (start ≤ stop) × (stop ≤ length haystack.now) }
+        ensures found { (config : TextConfig) (text : List ℕ) (a : Re) → IsFinderOf config text self.old → IsParsedAs config text a →
+            (t : Trace) → attempt haystack.now a accept start ≡ Some t → t.end ≤ stop → IfOk result (λ o. HasSlots start t o slots.new) }
+        ensures none { (config : TextConfig) (text : List ℕ) (a : Re) → IsFinderOf config text self.old → IsParsedAs config text a →
+            attempt haystack.now a accept start ≡ None → stop ≡ length haystack.now → IfOk result (λ o. o ≡ None) }
+        ensures cleared { IfOk result (λ o. IfNone o (slots.new ≡ replicate (length slots.old) no_offset)) }
+        ensures refused { IfErr result (λ _. slots.new ≡ replicate (length slots.old) no_offset) }
+        ensures same { automaton_of self.new ≡ automaton_of self.old }
+    {
+        see_bytes(haystack);
+        match find_slots(
+            alloc,
+            &self.dfa,
+            &mut self.tagged,
+            &mut self.pikevm,
+            haystack,
+            start,
+            stop,
+            slots,
+        ) {
+            Ok(Some(end)) => Ok(Some(end)),
+            Ok(None) => {
+                clear(slots);
+                Ok(None)
+            }
+            Err(error) => {
+                clear(slots);
+                Err(error)
+            }
+        }
+    }
+}
