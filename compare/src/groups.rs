@@ -31,6 +31,9 @@ struct Group {
     is_large: bool,
 }
 
+/// Words in the names of properties that have other members since Unicode 14.
+const CHANGED: [&str; 3] = ["pictographic", "prepend", "scontinue"];
+
 /// Large patterns have up to so many states.
 const LARGE: usize = 20_000;
 
@@ -141,13 +144,7 @@ impl Run {
         }
         let settings = both.settings;
         if !shown.differs.is_empty() {
-            let name = if self.unassigned.is_match(text) {
-                "differs: text has characters unassigned there"
-            } else if group.patterns.iter().any(|it| it.to_lowercase().contains("pictographic")) {
-                "differs: a property whose members changed since Unicode 14"
-            } else {
-                "DIFFERS from the simplest"
-            };
+            let name = self.name_of_difference(&group.patterns, settings, text);
             let told = report.wants(name).then(|| self.example(group, settings, text, from, &shown.differs, false));
             report.count_with(name, || told.unwrap_or_default());
         }
@@ -158,6 +155,20 @@ impl Run {
             let name = format!("fastest differs from the simplest in {kinds}, {agrees}{loops}");
             let told = report.wants(&name).then(|| self.example(group, settings, text, from, &shown.fastest, true));
             report.count_with(&name, || told.unwrap_or_default());
+        }
+    }
+
+    /// Under which name a difference is counted: docs/DIFFERENCES.md says why the first three are.
+    fn name_of_difference(&self, patterns: &[String], settings: Settings, text: &[u8]) -> &'static str {
+        let has = |word: &str| patterns.iter().any(|it| it.to_lowercase().contains(word));
+        if self.unassigned.is_match(text) {
+            "differs: text has characters unassigned there"
+        } else if CHANGED.iter().any(|it| has(it)) {
+            "differs: a property whose members changed since Unicode 14"
+        } else if !settings.utf8 && patterns.iter().any(|it| it.contains(r"\B")) && !text.is_ascii() {
+            r"differs: \B outside UTF-8 mode, and bytes above 7F"
+        } else {
+            "DIFFERS from the simplest"
         }
     }
 

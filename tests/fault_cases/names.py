@@ -17,6 +17,9 @@ PLAIN = ["ab", "-x", "a:b", " a ", "ä ☺", "*", "'\"\\"]
 MARK = re.compile("[\0-\x1f\x7f-\x9f]")
 BROKEN = "x(\\?|\\\\xff|\ufffd)"  # some forms of x and FF that are clear
 PRINTED = "grep_core/src/reporter.rt: push_name and push_field print each byte of a name"
+LISTED = "hirgrep_main/src/walking.rt: read_names gives getdents64 what is left of a vector, which may be less than the next name needs"
+MIXED = "a\n\33[31m\7\x7f" * 27  # 243 bytes
+MANY = 300
 
 
 def shown(name):
@@ -116,6 +119,33 @@ class Names:
         self.write("\n" * 250)
         yield Check("a path with 250 line feeds", lambda: self.run("-H", "ab", feeds), 0, feeds.encode() + b":ab\n")
 
+    def mixed_checks(self):
+        """A path of almost 4 KB whose last name has line feeds and escape sequences."""
+        path = "./" * 1900 + MIXED
+        self.write(MIXED)
+        words = [self.program, "-H", "ab", path]
+        yield Check("a path of 4,043 bytes with escape sequences", lambda: self.run(*words[1:]), 0, path.encode() + b":ab\n")
+        known = Known(PRINTED, 0, "", path.encode() + b":ab\n")
+        yield Check("that path, at a terminal", lambda: at_terminal(words, self.folder), 0, shown(path).encode() + b":ab\n", "", known)
+        said = error(shown(path) + "x", "No such file or directory")
+        yield Check("that path of a missing file", lambda: self.run("ab", path + "x"), 2, b"", said)
+
+    def listed(self, folder):
+        """A run over a folder, of which counts whether each file is found."""
+        result = run([self.program, "-rh", "ab", folder], self.room)
+        return Result(result.status, b"all" if result.printed == b"ab\n" * MANY else b"some", result.said)
+
+    def many_checks(self):
+        """Folders with many files. The system lists as many names as a buffer has room for, and fails if that is none."""
+        for length in (8, 20, 60, 255):
+            folder = os.path.join(self.room, f"names{length}")
+            os.mkdir(folder)
+            for number in range(MANY):
+                with open(os.path.join(folder, f"{number:03}".ljust(length, "n")), "wb") as file:
+                    file.write(b"ab\n")
+            known = Known(LISTED, 2, error(f"names{length}", "Invalid argument"), b"some")
+            yield Check(f"a folder of {MANY} names of {length} bytes", lambda it=f"names{length}": self.listed(it), 0, b"all", "", known)
+
     def make_deep(self):
         """A file below folders with long names, whose path is longer than a path may be, and one that is found on the way."""
         here = os.getcwd()
@@ -166,6 +196,8 @@ class Names:
         yield from self.terminal_checks()
         yield from self.message_checks()
         yield from self.long_checks()
+        yield from self.mixed_checks()
+        yield from self.many_checks()
         yield from self.deep_checks()
         yield from self.broken_checks()
         yield from self.pattern_checks()
