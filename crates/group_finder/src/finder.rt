@@ -94,7 +94,7 @@ fn find_cells(
     }
 }
 
-/// The same match, with the offsets of its groups.
+/// That match with the offsets of its groups, by either engine.
 #[inline(always)]
 fn find_offsets(
     alloc: Global,

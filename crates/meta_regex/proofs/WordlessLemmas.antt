@@ -38,7 +38,7 @@ use Rattle.meta_regex.specs.declared.found_match.FoundMatch.{FoundMatch}
 use Rattle.meta_regex.specs.declared.fallback.Fallback.{Fallback}
 use Rattle.meta_regex.specs.Fallbacks.{AreFallbacksOf, finds_any}
 use Rattle.meta_regex.specs.Regexes.{AreWhich, HasFoundStart, HasFoundSpan}
-use Rattle.meta_regex.specs.Wordless.{MayBeginAt, MayMatch, both_of}
+use Rattle.meta_regex.specs.Wordless.{MayBeginAt, MayMatch, both_true}
 use Rattle.meta_regex.proofs.FallbackLemmas.{which_slowly}
 use Rattle.meta_regex.proofs.FoundLemmas.{read_as_many}
 
@@ -69,7 +69,7 @@ both_by false true on = on refl
 both_by false false on = refl
 
 both_kept : (f : Re → Bool) (res : List Re) (new : List Bool) → length new ≡ length res →
-    ((p : ℕ) (a : Re) → slice_get res p ≡ Some a → f a ≡ true → has new p ≡ true) → both_of new (map f res) ≡ map f res
+    ((p : ℕ) (a : Re) → slice_get res p ≡ Some a → f a ≡ true → has new p ≡ true) → both_true new (map f res) ≡ map f res
 both_kept f [] [] e each = refl
 both_kept f [] (n ∷ new) e each = absurd (omega (arith, e))
 both_kept f (a ∷ res) [] e each = absurd (omega (arith, e))
@@ -172,7 +172,7 @@ module _ (config : Config) (texts : List (List ℕ)) (xs : List Tree) (mean : Al
 
     pub may_match : MayMatch config texts h new
     may_match res read =
-        subst (λ (rs : List Re). both_of new (which_match config.utf8 rs h) ≡ which_match config.utf8 rs h)
+        subst (λ (rs : List Re). both_true new (which_match config.utf8 rs h) ≡ which_match config.utf8 rs h)
         (same_patterns config texts written.patterns res written.are_read read)
         (both_kept (λ a. is_some (found_from config.utf8 a h 0)) written.patterns new
         (long ∙ sym (read_as_many config texts written.patterns written.are_read))
@@ -209,7 +209,7 @@ module _ (config : Config) (texts : List (List ℕ)) (xs : List Tree) (mean : Al
       many (t ∷ ts) (y ∷ ys) m = ap suc (many ts ys m.1)
 
 -- if each may match, those match that do
-all_both : (bs : List Bool) → both_of (replicate (length bs) true) bs ≡ bs
+all_both : (bs : List Bool) → both_true (replicate (length bs) true) bs ≡ bs
 all_both [] = refl
 all_both (b ∷ bs) = ap (λ (cs : List Bool). b ∷ cs) (all_both bs)
 
@@ -218,7 +218,7 @@ pub all_may : (config : Config) (texts : List (List ℕ)) (h : List ℕ) (may : 
 all_may config texts h may is res read =
     let many : length (which_match config.utf8 res h) ≡ length texts =
     length-map res (λ re. is_some (found_from config.utf8 re h 0)) ∙ read_as_many config texts res read in
-    ap (λ (bs : List Bool). both_of bs (which_match config.utf8 res h)) (is ∙ ap (λ (n : ℕ). replicate n true) (sym many))
+    ap (λ (bs : List Bool). both_true bs (which_match config.utf8 res h)) (is ∙ ap (λ (n : ℕ). replicate n true) (sym many))
     ∙ all_both (which_match config.utf8 res h)
 
 pub fallbacks_many : (config : Config) (ts : List (List ℕ)) (rs : List Fallback) → AreFallbacksOf config ts rs → length rs ≡ length ts
@@ -229,9 +229,9 @@ fallbacks_many config (t ∷ ts) (r ∷ rs) of = ap suc (fallbacks_many config t
 
 -- those that match of the ones that may are all that match
 pub which_of_may : (h : List ℕ) → All (λ b. b < 256) h → (config : Config) (ts : List (List ℕ)) (rs : List Fallback) (may tests : List Bool) →
-    AreFallbacksOf config ts rs → MayMatch config ts h may → tests ≡ both_of may (map (finds_any h) rs) → AreWhich config ts h tests
+    AreFallbacksOf config ts rs → MayMatch config ts h may → tests ≡ both_true may (map (finds_any h) rs) → AreWhich config ts h tests
 which_of_may h bytes config ts rs may tests of allowed is res read =
-    is ∙ ap (both_of may) (which_slowly h bytes config ts rs (map (finds_any h) rs) of refl res read) ∙ allowed res read
+    is ∙ ap (both_true may) (which_slowly h bytes config ts rs (map (finds_any h) rs) of refl res read) ∙ allowed res read
 
 -- what a search from the later offset returns is what one from the first offset returns
 module _ (config : Config) (texts : List (List ℕ)) (h : List ℕ) (at : ℕ) where

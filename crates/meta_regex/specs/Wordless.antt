@@ -32,12 +32,12 @@ MayBeginAt config texts h at (Some s) = (s ≤ length h) × ((res : List Re) →
     found_from config.utf8 (alt_all res) h at ≡ found_from config.utf8 (alt_all res) h s)
 
 -- Element by element, whether both tests are true.
-abbrev pub both_of : List Bool → List Bool → List Bool
-both_of [] bs = []
-both_of (a ∷ more) [] = []
-both_of (a ∷ more) (b ∷ bs) = (a && b) ∷ both_of more bs
+abbrev pub both_true : List Bool → List Bool → List Bool
+both_true [] bs = []
+both_true (a ∷ more) [] = []
+both_true (a ∷ more) (b ∷ bs) = (a && b) ∷ both_true more bs
 
 -- There is a test for each pattern, and a pattern of which it is false has no match.
 abbrev pub MayMatch : Config → List (List ℕ) → List ℕ → List Bool → Type 0
 MayMatch config texts h may = (res : List Re) → AreReadAs config texts res →
-    both_of may (which_match config.utf8 res h) ≡ which_match config.utf8 res h
+    both_true may (which_match config.utf8 res h) ≡ which_match config.utf8 res h

@@ -4,7 +4,7 @@ ghost use Rattle.std.specs.Prelude.{string_bytes};
 ghost use Rattle.regex.specs.Views.{builder_source, builder_config};
 ghost use Rattle.regex_syntax.specs.declared.Config.{Config as TextConfig};
 ghost use Rattle.meta_regex.specs.Regexes.{IsSearchError};
-ghost use Rattle.meta_regex.specs.Wordless.{both_of};
+ghost use Rattle.meta_regex.specs.Wordless.{both_true};
 ghost use Rattle.meta_regex.specs.Fallbacks.{AreFallbacksOf, IsFallbackOf, best_of, better_match, finds_any, row_of_span, span_by};
 
 use crate::errors::SearchError;
@@ -238,7 +238,7 @@ pub(crate) fn have_each(
     may: &[bool],
 ) -> Result<Vec<bool>, SearchError>
     requires { length may.now ≡ length regexes.now }
-    ensures reported { IfOk result (λ reported. reported.items ≡ both_of may.now (map (finds_any haystack.now) regexes.now)) }
+    ensures reported { IfOk result (λ reported. reported.items ≡ both_true may.now (map (finds_any haystack.now) regexes.now)) }
     ensures refused { (config : TextConfig) → (texts : List (List ℕ)) → AreFallbacksOf config texts regexes.now →
         IfErr result (IsSearchError config haystack.now) }
 {
