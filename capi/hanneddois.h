@@ -172,6 +172,21 @@ hanneddois_status hanneddois_new(
     const hanneddois_options *options,
     hanneddois_error *error);
 
+/*
+ * Makes *to a second regex of the same patterns and options as *from, with caches of its own: one thread can search with
+ * each at the same time. Both share the compiled patterns, which are freed with the last of them, in any order. *to
+ * is another variable than *from. Searches of *from may come before and after, but not at the same time.
+ *
+ * Nothing is parsed or compiled: a clone gets empty caches, which takes some 5 microseconds, and memory in proportion to
+ * the states of the automata. That is 7 KB for a literal, and 300 KB for [\w\d]{20}. Each clone makes for itself what its
+ * searches need later: the slower regexes, and the automaton of hanneddois_matching_patterns. With
+ * HANNEDDOIS_MATCHING_PATTERNS the call makes that at once, which takes about half as long as hanneddois_new.
+ *
+ * Returns HANNEDDOIS_OK; HANNEDDOIS_BAD_ARGUMENT if *from is empty; or HANNEDDOIS_NO_MEMORY. If it doesn't return
+ * HANNEDDOIS_OK, *to is empty. What *to held before is freed in any case; this is tested.
+ */
+hanneddois_status hanneddois_clone(hanneddois_regex *from, hanneddois_regex *to);
+
 /* Frees what a regex holds, and leaves it empty. An empty one stays so. */
 void hanneddois_free(hanneddois_regex *regex);
 

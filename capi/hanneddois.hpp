@@ -10,7 +10,7 @@
  *
  * A regex is moved, and never copied. A search changes its caches, so only a regex that isn't const can be searched.
  * One thread at a time may use a regex, and the iterators over its matches. Different regexes may be used by different
- * threads.
+ * threads, also if one is a clone() of the other.
  *
  * A match and a range of matches refer to the haystack, and a range refers to the regex. Both must outlive them. For a
  * temporary std::string, calls that return a match don't compile.
@@ -276,6 +276,11 @@ public:
 
     ~regex() { hanneddois_free(&handle_); }
 
+    /* A second regex of the same patterns and options, with caches of its own, as for another thread. Nothing is parsed
+       or compiled. */
+    regex clone() { return clone_or(nullptr); }
+    regex clone(failure &why) noexcept { return clone_or(&why); }
+
     /* Whether it is empty. */
     bool empty() const noexcept { return handle_.inside == nullptr; }
 
@@ -364,6 +369,14 @@ private:
                        lengths.size(), &fields, &error);
         is_utf8_ = (options.flags & flag::utf8) != flag::none;
         return failure(error);
+    }
+
+    regex clone_or(failure *why)
+    {
+        regex copy;
+        copy.is_utf8_ = is_utf8_;
+        detail::report(detail::failure_of(static_cast<status>(hanneddois_clone(&handle_, &copy.handle_))), why);
+        return copy;
     }
 
     bool is_match_or(std::string_view haystack, failure *why)

@@ -122,6 +122,16 @@ static hanneddois_status which(hanneddois_regex *regex)
     return status;
 }
 
+/* A second regex of the same patterns, which is freed again. */
+static hanneddois_status clone(hanneddois_regex *regex)
+{
+    hanneddois_regex copy = HANNEDDOIS_EMPTY;
+    error.status = hanneddois_clone(regex, &copy);
+    CHECK((copy.inside != NULL) == (error.status == HANNEDDOIS_OK));
+    hanneddois_free(&copy);
+    return error.status;
+}
+
 typedef hanneddois_status call(hanneddois_regex *regex);
 
 /* With ample memory a call answers, and is never out of memory. It may be only where an allocation failed, and then the same call
@@ -191,9 +201,41 @@ static void replaced(void)
     CHECK(regex.inside == NULL && held == 0);
 }
 
+/* A clone shares what was compiled, which is freed with the last of them, and frees what stood in its destination. */
+static void cloned(void)
+{
+    hanneddois_regex regex = HANNEDDOIS_EMPTY, copy = HANNEDDOIS_EMPTY, last = HANNEDDOIS_EMPTY;
+    start(0);
+    CHECK(make(&regex) == HANNEDDOIS_OK);
+    size_t one = held;
+    CHECK(hanneddois_clone(&regex, &copy) == HANNEDDOIS_OK);
+    size_t two = held;
+    CHECK(two > one && two < 2 * one);
+    make_whole(&last);
+    CHECK(hanneddois_clone(&copy, &last) == HANNEDDOIS_OK);
+    CHECK(held - two == two - one);
+    hanneddois_free(&copy);
+    CHECK(held == two);
+    hanneddois_free(&regex);
+    CHECK(held == one);
+    CHECK(find_all(&last) == HANNEDDOIS_OK && which(&last) == HANNEDDOIS_OK && is_match(&last) == HANNEDDOIS_OK);
+    CHECK(hanneddois_clone(&copy, &last) == HANNEDDOIS_BAD_ARGUMENT && last.inside == NULL);
+    CHECK(held == 0);
+
+    make_whole(&copy);
+    CHECK(make(&regex) == HANNEDDOIS_OK);
+    start(1);
+    CHECK(hanneddois_clone(&regex, &copy) == HANNEDDOIS_NO_MEMORY && copy.inside == NULL);
+    CHECK(held == one);
+    hanneddois_free(&regex);
+    CHECK(held == 0);
+}
+
 int main(void)
 {
     replaced();
+    cloned();
+    each_fails(clone, 0);
     each_fails(make, 1);
     each_fails(is_match, 0);
     each_fails(find_at, 0);

@@ -174,9 +174,49 @@ static void patterns(void)
     hanneddois_free(&regex);
 }
 
+static void clones(void)
+{
+    hanneddois_regex regex = HANNEDDOIS_EMPTY, copy = HANNEDDOIS_EMPTY, last = HANNEDDOIS_EMPTY;
+    hanneddois_options options = {0};
+    hanneddois_match match;
+    CHECK(hanneddois_clone(&regex, &copy) == HANNEDDOIS_BAD_ARGUMENT && copy.inside == NULL);
+    CHECK(make(&copy, "a", &options) == HANNEDDOIS_OK);
+    CHECK(hanneddois_clone(&regex, &copy) == HANNEDDOIS_BAD_ARGUMENT && copy.inside == NULL && regex.inside == NULL);
+
+    /* A clone has the options and patterns of its source, and caches of its own. */
+    options.flags = HANNEDDOIS_RAISE_CAPACITY | HANNEDDOIS_CASE_INSENSITIVE | HANNEDDOIS_UTF8 | HANNEDDOIS_MATCHING_PATTERNS;
+    options.capacity = 1;
+    size_t lengths[2] = {11, 1}, count;
+    uint8_t matched[2] = {7, 7};
+    CHECK(hanneddois_new(&regex, bytes("[a-z]{3,9}x7"), 12, lengths, 2, &options, &error) == HANNEDDOIS_OK);
+    for (int i = 0; i < 20; i++)
+        CHECK(hanneddois_is_match(&regex, bytes("abcdefgh ijklmnopqrx"), 20, &error) == HANNEDDOIS_OK);
+    size_t clears = hanneddois_clear_count(&regex);
+    CHECK(clears > 0);
+    CHECK(hanneddois_clone(&regex, &copy) == HANNEDDOIS_OK && copy.inside != regex.inside);
+    CHECK(hanneddois_clear_count(&copy) == 0 && hanneddois_pattern_count(&copy) == 2);
+    CHECK(hanneddois_find_at(&copy, bytes("- ABCX 7"), 8, 0, &match, &error) == HANNEDDOIS_OK && match.start == 2 && match.end == 6);
+    CHECK(hanneddois_matching_patterns(&copy, bytes("- ABCX 7"), 8, matched, 2, &count, &error) == HANNEDDOIS_OK && count == 2);
+    CHECK(hanneddois_is_match(&copy, bytes("\xff"), 1, &error) == HANNEDDOIS_HAYSTACK_NOT_UTF8);
+    for (int i = 0; i < 20; i++)
+        CHECK(hanneddois_is_match(&copy, bytes("abcdefgh ijklmnopqrx"), 20, &error) == HANNEDDOIS_OK);
+    CHECK(hanneddois_clear_count(&copy) > 0 && hanneddois_clear_count(&regex) == clears);
+
+    /* Each may be freed first, and a clone may be cloned. */
+    CHECK(hanneddois_clone(&copy, &last) == HANNEDDOIS_OK);
+    hanneddois_free(&regex);
+    CHECK(hanneddois_clone(&last, &regex) == HANNEDDOIS_OK);
+    hanneddois_free(&copy);
+    CHECK(hanneddois_find_at(&regex, bytes("\xc3\xa9 abcx"), 7, 0, &match, &error) == HANNEDDOIS_OK && match.start == 3 && match.end == 7);
+    CHECK(hanneddois_find_at(&last, bytes("\xc3\xa9 abcx"), 7, 0, &match, &error) == HANNEDDOIS_OK && match.start == 3 && match.end == 7);
+    hanneddois_free(&last);
+    hanneddois_free(&regex);
+}
+
 int main(void)
 {
     empty_handles();
+    clones();
     refusals();
     searches();
     patterns();

@@ -299,11 +299,31 @@ static void an_empty_regex_fails()
     CHECK(first.is_match("b") && hanneddois_pattern_count(first.handle()) == 1);
 }
 
+static void a_clone_is_a_regex_of_its_own()
+{
+    options least = flag::raise_capacity | flag::utf8 | flag::case_insensitive;
+    least.capacity = 1;
+    regex searched("[a-y]{3,9}z", least);
+    for (int i = 0; i < 20; i++)
+        CHECK(searched.find("abcdefgh ijklmnopqrz")->start() == 10);
+    regex copy = searched.clone();
+    CHECK(searched.clear_count() > 0 && copy.clear_count() == 0 && copy.pattern_count() == 1);
+    const auto range = copy.matches("abcZ defZ");
+    CHECK(std::distance(range.begin(), range.end()) == 2);
+    CHECK_THROWS(copy.is_match("\xff"), error.status() == status::haystack_not_utf8);
+    searched = regex();
+    failure why;
+    CHECK(copy.clone(why).is_match("abcz") && !why);
+    CHECK_THROWS(searched.clone(), error.status() == status::bad_argument);
+    CHECK(searched.clone(why).empty() && why.status() == status::bad_argument);
+}
+
 static void different_regexes_serve_different_threads()
 {
     std::vector<std::thread> threads;
+    regex cloned("[a-z]+[0-9]");
     for (int i = 0; i < 4; i++)
-        threads.emplace_back([searched = regex("[a-z]+[0-9]")]() mutable {
+        threads.emplace_back([searched = i % 2 ? cloned.clone() : regex("[a-z]+[0-9]")]() mutable {
             for (int round = 0; round < 200; round++)
                 CHECK(searched.find("x ab1")->start() == 2);
         });
@@ -357,6 +377,7 @@ int main(int argc, char **argv)
     errors_say_where_and_why();
     utf8_mode_rejects_other_haystacks();
     an_empty_regex_fails();
+    a_clone_is_a_regex_of_its_own();
     different_regexes_serve_different_threads();
     allocations_may_fail();
     CHECK(hanneddois::version() == HANNEDDOIS_VERSION);

@@ -6,6 +6,7 @@ import os
 import pathlib
 import platform
 import struct
+import threading
 import types
 
 from ._common import BAD_ARGUMENT, NO_UNICODE, NONE, OK, UTF8, Error, count_characters
@@ -55,6 +56,7 @@ def _declare(library):
     handle, failure = ctypes.POINTER(_Handle), ctypes.POINTER(_Failure)
     for name, result, *parameters in [
         ("new", word, handle, address, size, ctypes.POINTER(size), size, ctypes.POINTER(_Options), failure),
+        ("clone", word, handle, handle),
         ("free", None, handle),
         ("is_match", word, handle, address, size, failure),
         ("find_at", word, handle, address, size, size, ctypes.POINTER(_Row), failure),
@@ -217,21 +219,58 @@ class _Haystack:
         return len(self.object[:offset].encode()) if offset <= len(self.object) else self.length + 1
 
 
+class _Stock:
+    """Handles of one regex. The one that was compiled is only cloned, and each clone does one search at a time."""
+
+    # A lock that the same thread may take again, since a signal's handler may search too.
+    _cloning = threading.RLock()
+
+    def __init__(self, compiled):
+        self._compiled, self._idle = compiled, []
+
+    def __del__(self, free=_locked.hanneddois_free):
+        for handle in (self._compiled, *self._idle):
+            free(handle)
+
+    def take(self):
+        """Returns a handle that no other search uses."""
+        try:
+            return self._idle.pop()
+        except IndexError:
+            handle = _Handle()
+        with self._cloning:
+            status = _locked.hanneddois_clone(self._compiled, handle)
+        if status != OK:
+            raise _error_of(_Failure(status))
+        return handle
+
+    def give_back(self, handle):
+        self._idle.append(handle)
+
+    def sum_of(self, figure):
+        """Adds up a figure of the handles that no search uses."""
+        taken = []
+        try:
+            while True:
+                taken.append(self._idle.pop())
+        except IndexError:
+            pass
+        with self._cloning:
+            total = sum(map(figure, (self._compiled, *taken)))
+        self._idle += taken
+        return total
+
+
 class Matcher:
     """Compiled patterns. Regex is the class to use."""
 
-    __slots__ = ("_patterns", "_encoded", "_options", "_idle", "_idle_utf8", "_fits_str")
+    __slots__ = ("_patterns", "_encoded", "_options", "_stock", "_utf8_stock", "_fits_str")
 
     def __new__(cls, patterns, encoded, flags, capacity, size_limit, nest_limit):
         self = super().__new__(cls)
         self._patterns, self._encoded, self._options = patterns, encoded, (flags, nest_limit, capacity, size_limit)
-        self._idle, self._idle_utf8, self._fits_str = [], [], False
-        self._idle.append(self._make_handle(0))
+        self._stock, self._utf8_stock, self._fits_str = _Stock(self._make_handle(0)), None, False
         return self
-
-    def __del__(self, free=_locked.hanneddois_free):
-        for handle in (*self._idle, *self._idle_utf8):
-            free(handle)
 
     patterns = property(lambda self: self._patterns, doc="The patterns, as they were given.")
     flags = property(lambda self: self._options[0], doc="The flags.")
@@ -252,16 +291,19 @@ class Matcher:
 
     def _search(self, haystack, name, *parameters, is_utf8=False):
         """Searches with a handle that no other search uses, and returns the status and the failure."""
-        idle, failure = self._idle_utf8 if is_utf8 else self._idle, _Failure()
-        try:
-            handle = idle.pop()
-        except IndexError:
-            handle = self._make_handle(UTF8 if is_utf8 else 0)
+        stock, failure = self._find_utf8_stock() if is_utf8 else self._stock, _Failure()
+        handle = stock.take()
         try:
             call = getattr(haystack.calls, name)
             return call(handle, haystack.address, haystack.length, *parameters, failure), failure
         finally:
-            idle.append(handle)
+            stock.give_back(handle)
+
+    def _find_utf8_stock(self):
+        """Returns the handles by which no match splits a character. They are compiled when they are first needed."""
+        if self._utf8_stock is None:
+            self._utf8_stock = _Stock(self._make_handle(UTF8))
+        return self._utf8_stock
 
     @staticmethod
     def _is_found(status, failure):
@@ -280,7 +322,7 @@ class Matcher:
         can't turn Unicode off: then no match does."""
         joined = b"".join(self._encoded)
         if self.flags & NO_UNICODE or (b"?" in joined and b"-" in joined and b"u" in joined):
-            self._idle_utf8.append(self._make_handle(UTF8))
+            self._find_utf8_stock()
         self._fits_str = True
 
     def _find_from(self, haystack, offset):
@@ -348,12 +390,15 @@ class Matcher:
         self._is_found(*self._search(haystack, "hanneddois_matching_patterns", marks, count, found, is_utf8=haystack.has_characters))
         return [number for number in range(count) if marks[number]]
 
+    def _sum_of(self, figure):
+        return self._stock.sum_of(figure) + (self._utf8_stock.sum_of(figure) if self._utf8_stock else 0)
+
     @property
     def memory_usage(self):
         """An estimate of how many bytes the caches need now, without those that searches are using."""
-        return sum(_locked.hanneddois_memory_usage(it) for it in (*self._idle, *self._idle_utf8))
+        return self._sum_of(_locked.hanneddois_memory_usage)
 
     @property
     def clear_count(self):
         """How often these caches were cleared."""
-        return sum(_locked.hanneddois_clear_count(it) for it in (*self._idle, *self._idle_utf8))
+        return self._sum_of(_locked.hanneddois_clear_count)

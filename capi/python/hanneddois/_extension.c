@@ -3,8 +3,8 @@
  *
  * A Matcher is made of patterns and searches haystacks; the class Regex in __init__.py adds what needs no speed. A handle of the library
  * may do one search at a time, and searches of long haystacks give up the interpreter's lock. So a Matcher keeps a stock of handles: a
- * search takes one and gives it back, and compiles the patterns again if none is left. Whatever else a Matcher has doesn't change after
- * it is made, or is changed only by whoever holds the lock.
+ * search takes one and gives it back. One that takes the last handle clones it before it gives up the lock, so that there is always one
+ * for the next search. Whatever else a Matcher has doesn't change after it is made, or is changed only by whoever holds the lock.
  */
 #ifndef Py_LIMITED_API
 #define Py_LIMITED_API 0x03090000
@@ -490,15 +490,9 @@ static void give_back(Stock *stock, hanneddois_regex handle)
     stock->idle[stock->idle_count++] = handle;
 }
 
-/* Takes an idle handle. If there is none it makes one, and room for it, so that giving it back can't fail. */
-static int take_handle(const Matcher *self, Stock *stock, hanneddois_regex *handle)
+/* Makes room for a handle that was made, so that giving it back can't fail. If there is no memory for that, frees the handle. */
+static int make_room(Stock *stock, hanneddois_regex *handle)
 {
-    if (stock->idle_count > 0) {
-        *handle = stock->idle[--stock->idle_count];
-        return 0;
-    }
-    if (compile_handle(self, stock, handle) < 0)
-        return -1;
     hanneddois_regex *idle = realloc(stock->idle, (stock->made + 1) * sizeof *idle);
     if (!idle) {
         hanneddois_free(handle);
@@ -507,6 +501,34 @@ static int take_handle(const Matcher *self, Stock *stock, hanneddois_regex *hand
     }
     stock->idle = idle;
     stock->made++;
+    return 0;
+}
+
+/* Takes an idle handle. There is one, unless the stock is new: then it compiles the patterns. */
+static int take_handle(const Matcher *self, Stock *stock, hanneddois_regex *handle)
+{
+    if (stock->idle_count > 0) {
+        *handle = stock->idle[--stock->idle_count];
+        return 0;
+    }
+    return compile_handle(self, stock, handle) < 0 ? -1 : make_room(stock, handle);
+}
+
+/* Before a search gives up the interpreter's lock: leaves an idle handle for another thread. */
+static int leave_handle(Stock *stock, hanneddois_regex *taken)
+{
+    hanneddois_regex handle = HANNEDDOIS_EMPTY;
+    hanneddois_error error = {HANNEDDOIS_OK, 0, 0, 0, 0, 0};
+    if (stock->idle_count > 0)
+        return 0;
+    error.status = hanneddois_clone(taken, &handle);
+    if (error.status != HANNEDDOIS_OK) {
+        raise_error(&error);
+        return -1;
+    }
+    if (make_room(stock, &handle) < 0)
+        return -1;
+    give_back(stock, handle);
     return 0;
 }
 
@@ -692,6 +714,10 @@ static int begin_search(const Matcher *self, Stock *stock, const Haystack *hayst
 {
     if (take_handle(self, stock, &search->handle) < 0)
         return -1;
+    if (haystack->may_unlock && leave_handle(stock, &search->handle) < 0) {
+        give_back(stock, search->handle);
+        return -1;
+    }
     search->stock = stock;
     search->unlocked = haystack->may_unlock ? PyEval_SaveThread() : NULL;
     return 0;

@@ -18,6 +18,7 @@ import sys
 import tempfile
 import threading
 import unittest
+import unittest.mock
 
 import hanneddois
 
@@ -471,6 +472,12 @@ class Threads(unittest.TestCase):
                 self.assertEqual(regex.matching_patterns(haystacks[at]), [0])
 
         run_in_threads(8, job)
+
+    @unittest.skipUnless(hasattr(hanneddois.Matcher, "_make_handle"), "the extension compiles where a test can't see it")
+    def test_nothing_is_compiled_again(self):
+        regex, haystack = hanneddois.compile("[a-z]+[0-9]"), b"abc1 " * 1000
+        with unittest.mock.patch.object(hanneddois.Matcher, "_make_handle", side_effect=AssertionError):
+            run_in_threads(8, lambda number: self.assertEqual(len(regex.find_all(haystack)), 1000))
 
     def test_compile(self):
         hanneddois.purge()

@@ -15,7 +15,8 @@ const ROWS: (usize, usize) = (64, 1 << 22);
 #[derive(Debug)]
 pub(crate) struct Handle(sys::Regex);
 
-// SAFETY: any thread may use a regex, if no two do at the same time. Each call takes `&mut self`, so no two do.
+// SAFETY: any thread may use a regex, if no two do at the same time. Each call takes `&mut self`, so no two do. Clones
+// may be used at the same time as what they were cloned of.
 unsafe impl Send for Handle {}
 
 /// Whether the call found something, by its status.
@@ -65,6 +66,16 @@ impl Handle {
             )
         };
         outcome(status, error).map(|_| handle)
+    }
+
+    /// A second handle of the same regex, with caches of its own. Nothing is compiled.
+    pub(crate) fn try_clone(&mut self) -> Result<Handle, Error> {
+        let mut clone = Handle::empty();
+        // SAFETY: as in `new`. The handles are two.
+        match unsafe { sys::hanneddois_clone(&mut self.0, &mut clone.0) } {
+            sys::OK => Ok(clone),
+            status => Err(Error::of(status)),
+        }
     }
 
     /// What the handle holds, as the pointer that owns it. It is null for an empty handle.

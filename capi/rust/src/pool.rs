@@ -17,14 +17,23 @@ pub(crate) struct Pool {
     /// What the first handle owns, or null while a search uses it. One thread alone needs only this one, and takes it
     /// without a lock.
     first: AtomicPtr<c_void>,
-    others: Mutex<Vec<Handle>>,
+    others: Mutex<Others>,
+}
+
+/// What further threads search with.
+#[derive(Debug)]
+struct Others {
+    /// The handle that was compiled. It does no search, and others are cloned of it.
+    compiled: Handle,
+    idle: Vec<Handle>,
 }
 
 impl Pool {
     pub(crate) fn new(patterns: Vec<String>, options: sys::Options) -> Result<Pool, Error> {
-        let handle = Handle::new(&patterns, &options)?;
-        let first = AtomicPtr::new(handle.into_raw());
-        Ok(Pool { patterns, options, first, others: Mutex::new(Vec::new()) })
+        let mut compiled = Handle::new(&patterns, &options)?;
+        let first = AtomicPtr::new(compiled.try_clone()?.into_raw());
+        let others = Mutex::new(Others { compiled, idle: Vec::new() });
+        Ok(Pool { patterns, options, first, others })
     }
 
     pub(crate) fn patterns(&self) -> &[String] {
@@ -49,22 +58,25 @@ impl Pool {
         self.first.store(handle.into_raw(), Ordering::Release);
     }
 
-    /// Takes another handle, or compiles one if all are in use.
+    /// Takes another handle, or clones one if all are in use.
     fn take_other(&self) -> Result<Handle, Error> {
-        let other = self.others().pop();
-        other.map_or_else(|| Handle::new(&self.patterns, &self.options), Ok)
+        let mut others = self.others();
+        match others.idle.pop() {
+            Some(handle) => Ok(handle),
+            None => others.compiled.try_clone(),
+        }
     }
 
     fn put_other(&self, handle: Handle) {
-        let mut others = self.others();
+        let idle = &mut self.others().idle;
         // Without memory for it in the list, the handle is freed.
-        if others.try_reserve(1).is_ok() {
-            others.push(handle);
+        if idle.try_reserve(1).is_ok() {
+            idle.push(handle);
         }
     }
 
     /// No call panics while it has the lock, so the list is whole also if the lock is poisoned.
-    fn others(&self) -> MutexGuard<'_, Vec<Handle>> {
+    fn others(&self) -> MutexGuard<'_, Others> {
         self.others.lock().unwrap_or_else(PoisonError::into_inner)
     }
 }

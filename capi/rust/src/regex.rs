@@ -13,9 +13,9 @@ use std::sync::Arc;
 ///
 /// Its methods have the names of `regex::bytes::Regex`. They return a [`Result`], since a search may run out of memory.
 ///
-/// Threads may share a regex. It keeps as many compiled handles as searches ran at the same time, at most one for each
-/// thread and each [`Matches`] or [`Searcher`] that is alive. A further one is compiled when it is first needed. A
-/// clone shares all of them.
+/// Threads may share a regex. It keeps as many caches as searches ran at the same time, at most one for each thread and
+/// each [`Matches`] or [`Searcher`] that is alive. Further ones are made when they are first needed, and nothing is
+/// compiled again. A clone shares all of them.
 ///
 /// ```
 /// use hanneddois::Regex;
@@ -99,8 +99,7 @@ impl Regex {
     /// Each is the leftmost one from the end of the one before it. An empty match right at the end of the one before it
     /// is skipped.
     ///
-    /// The iterator has caches of its own until it is dropped. Another search by this regex meanwhile uses others, and
-    /// compiles the patterns again if there are none.
+    /// The iterator has caches of its own until it is dropped. Another search by this regex meanwhile uses others.
     ///
     /// ```
     /// # fn main() -> Result<(), hanneddois::Error> {

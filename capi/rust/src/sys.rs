@@ -77,6 +77,7 @@ extern "C" {
         options: *const Options,
         error: *mut Error,
     ) -> u32;
+    pub(crate) fn hanneddois_clone(from: *mut Regex, to: *mut Regex) -> u32;
     pub(crate) fn hanneddois_free(regex: *mut Regex);
     pub(crate) fn hanneddois_is_match(
         regex: *mut Regex,

@@ -246,6 +246,16 @@ fn threads_share_a_regex() {
 }
 
 #[test]
+fn searches_at_the_same_time_have_the_same_options() {
+    let regex = RegexBuilder::new("^a.*z$").case_insensitive(true).multi_line(true).utf8(true).build().unwrap();
+    let mut searchers: Vec<Searcher> = (0..5).map(|_| regex.searcher().unwrap()).collect();
+    for searcher in &mut searchers {
+        assert_eq!(searcher.find(b"x\nAbZ\n").unwrap().unwrap().range(), 2..5);
+        assert_eq!(searcher.is_match(b"\xff").unwrap_err().kind(), ErrorKind::HaystackNotUtf8);
+    }
+}
+
+#[test]
 fn a_searcher_has_caches_of_its_own() {
     let regex = RegexBuilder::new("[a-z]{3,9}x").dfa_size_limit(1).skip_cache_capacity_check(true).build().unwrap();
     let mut searcher = regex.searcher().unwrap();

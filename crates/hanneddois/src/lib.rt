@@ -8,7 +8,7 @@
 mod apart;
 mod handle;
 
-ghost use Rattle.std.specs.Prelude.{◌≡◌, ◌≢◌, ◌<◌, ◌≤◌, Some, None, IfSome, IfOk, IfErr, length, replicate};
+ghost use Rattle.std.specs.Prelude.{◌≡◌, ◌≢◌, ◌⊎◌, ◌<◌, ◌≤◌, Some, None, IfSome, IfOk, IfErr, length, replicate};
 ghost use Rattle.capi.specs.Compiled.{IsMadeOf, IsCallError};
 ghost use Rattle.capi.specs.Failures.{plain};
 ghost use Rattle.capi.specs.Texts.{cut};
@@ -17,7 +17,8 @@ ghost use Rattle.hanneddois.specs.Answers.{RejectsNew, FailsSearch, FailsMatchin
 
 use capi::{Compiled, Failure, FoundMatch, NewError, Options, error_text, patterns_of};
 use handle::Handle;
-use std::alloc::Global;
+use meta_regex::Regex;
+use std::alloc::{AllocError, Global};
 
 /// The call succeeded: a regex is made, or there is a match.
 const OK: u32 = 0;
@@ -27,6 +28,9 @@ const NONE: u32 = 1;
 
 /// An argument isn't one that the call accepts.
 const BAD_ARGUMENT: u32 = 2;
+
+/// Memory ran out.
+const NO_MEMORY: u32 = 3;
 
 const VERSION: u32 = 300;
 
@@ -106,6 +110,51 @@ pub extern "C" fn hanneddois_new(
             end(OK, error)
         }
         Err(e) => refuse(e.failure(), error),
+    }
+}
+
+/// Checks that threads may use values of this type at the same time.
+fn shareable<T: Send + Sync>() {}
+
+/// A second handle of the same regex, in a memory block of its own. Both share the [`Regex`], and threads may use them at the same time.
+fn copied(alloc: Global, inside: &Compiled) -> Result<Box<Compiled>, AllocError>
+    ensures { IfOk result (λ b. b.value ≡ inside.now) }
+{
+    shareable::<Regex>();
+    let compiled = inside.try_clone(alloc)?;
+    match Box::new(alloc, compiled) {
+        Ok(copy) => Ok(copy),
+        Err(_) => Err(AllocError),
+    }
+}
+
+/// Makes `to` a second handle of the regex of `from`, with caches of its own, and returns the status 0. Both share the compiled patterns, so
+/// nothing is parsed or compiled. Otherwise `to` is empty, and the status says why:
+///
+/// - 2: `from` is empty.
+/// - 3: memory ran out.
+///
+/// What `to` held before is freed.
+#[unsafe(no_mangle)]
+pub extern "C" fn hanneddois_clone(alloc: Global, from: &mut Handle, to: &mut Handle) -> u32
+    ensures same { from.new.value ≡ from.old.value }
+    ensures copied { result ≡ 0 → to.new.value ≡ from.old.value }
+    ensures empty { result ≢ 0 → to.new.value ≡ None }
+    ensures argument { from.old.value ≡ None → result ≡ 2 }
+    ensures refused { IfSome from.old.value (λ _. (result ≡ 0) ⊎ (result ≡ 3)) }
+{
+    drop(to.take(alloc));
+    let Some(inside) = from.take(alloc) else {
+        return BAD_ARGUMENT;
+    };
+    let copy = copied(alloc, &inside);
+    from.put(alloc, inside);
+    match copy {
+        Ok(copy) => {
+            to.put(alloc, copy);
+            OK
+        }
+        Err(_) => NO_MEMORY,
     }
 }
 
