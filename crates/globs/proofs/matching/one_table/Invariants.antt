@@ -1,0 +1,9 @@
+use Rattle.std.proofs.Common.{◌≡◌, ◌+◌, ℕ, Bool, List, length, drop}
+use Rattle.globs.specs.Matching.{at_ends, item_of, one, takes}
+use Rattle.globs.proofs.matching.one_table.Given as goal
+
+abbrev pub invariant-loop-i : goal.invariant-loop-i
+invariant-loop-i l = record {
+  len : length l.table.items + l.i ≡ length l.name + 1;
+  table : (rest : List ℕ → Bool) → l.after ≡ at_ends rest l.name → l.table.items ≡ at_ends (one (takes (item_of l.item)) rest) (drop l.i l.name);
+}

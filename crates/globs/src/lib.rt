@@ -1,0 +1,13 @@
+//! Globs: patterns of file names.
+#![tactic(auto)]
+
+mod item;
+mod matching;
+mod reading;
+mod rules;
+mod sets;
+
+pub use item::{Class, Item};
+pub use matching::{matches, matches_part};
+pub use reading::{Fault, FaultKind, Syntax};
+pub use rules::{Rule, chars_of, chooses, glob_body, skips};
