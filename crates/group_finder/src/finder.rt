@@ -94,7 +94,7 @@ fn find_cells(
     }
 }
 
-/// The same match, with the offsets of its groups.
+/// That match, with the offsets of its groups.
 #[inline(always)]
 fn find_offsets(
     alloc: Global,

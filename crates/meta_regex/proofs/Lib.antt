@@ -4,6 +4,6 @@ mod FoundLemmas
 pub mod ForCallers
 pub mod ListLemmas
 mod LoopLemmas
-mod NextLemmas
+pub mod NextLemmas
 mod OrderLemmas
 mod RefusalLemmas
