@@ -12,4 +12,4 @@ mod slots;
 pub use errors::NewError;
 pub use finder::GroupFinder;
 pub use names::GroupNames;
-pub use slots::NO_OFFSET;
+pub use slots::{NO_OFFSET, clear};

@@ -25,7 +25,7 @@ pub(crate) fn decode(cells: &mut [usize])
 
 /// Writes into all slots that there is no offset.
 #[inline(always)]
-pub(crate) fn clear(slots: &mut [usize])
+pub fn clear(slots: &mut [usize])
     ensures { slots.new ≡ replicate (length slots.old) no_offset }
 {
     for i in 0..slots.len() {

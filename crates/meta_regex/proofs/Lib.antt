@@ -4,7 +4,7 @@ mod FoundLemmas
 pub mod ForCallers
 pub mod ListLemmas
 mod LoopLemmas
-mod NextLemmas
+pub mod NextLemmas
 mod OrderLemmas
 mod RefusalLemmas
 mod WordlessLemmas

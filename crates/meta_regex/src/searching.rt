@@ -65,7 +65,7 @@ fn lacks_memory(error: &MatchError) -> bool {
 
 impl Regex {
     /// Returns an error if the haystack isn't UTF-8 and the options require it.
-    pub(crate) fn check(&self, haystack: &[u8]) -> Result<(), SearchError>
+    pub fn check(&self, haystack: &[u8]) -> Result<(), SearchError>
         ensures text { IfOk result (λ _. (config_by self.now).utf8 ≡ true → IsValidText haystack.now) }
         ensures refused { IfErr result (IsSearchError (config_by self.now) haystack.now) }
     {
@@ -211,8 +211,9 @@ impl Regex {
         }
     }
 
-    /// A search of a haystack that is UTF-8 if the options require it.
-    pub(crate) fn search(
+    /// A search of a haystack that is UTF-8 if the options require it, which [`check`](Regex::check) tests. It is
+    /// [`find_at`](Regex::find_at) without that test, for several searches of one haystack.
+    pub fn search(
         &self,
         alloc: Global,
         cache: &mut Cache,

@@ -1,0 +1,90 @@
+-- The groups of patterns, one by one.
+use Rattle.std.proofs.Common.{◌≡◌, ℕ, zero, suc, ◌<◌, ◌≤◌, List, [], ◌∷◌, ◌++◌, length, map, drop, slice_get, slice_set, chars, Option, Some, None, IsSomeAnd, Bor, refl, sym, ap, ◌∙◌, subst, arith, append-nil}
+use Rattle.std.proofs.lemmas.Option.{none-some, same_Some, slice_get_within}
+use Rattle.regex_syntax.specs.Grammar.{Names, read}
+use Rattle.regex_syntax.specs.declared.Config.{Config}
+use Rattle.regex_hir.specs.Re.{Re}
+use Rattle.group_finder.specs.Patterns.{IsNamedBy, IsParsedAs}
+use Rattle.captures.specs.declared.pattern_groups.PatternGroups.{PatternGroups}
+use Rattle.captures.specs.Patterns.{IsPatternGroups, ArePatternGroups}
+
+-- what is made so far, followed by groups of what is left
+abbrev pub AreGroupsWith : Config → List (List ℕ) → List (List ℕ) → List PatternGroups → Type 0
+AreGroupsWith config whole left ps =
+    (more : List PatternGroups) → ArePatternGroups config left more → ArePatternGroups config whole (ps ++ more)
+
+none_left : (config : Config) (ts : List (Bor (List ℕ))) (i : ℕ) → length ts ≤ i → ArePatternGroups config (map (λ t. t.now) (drop i ts)) []
+none_left config [] zero above = tt
+none_left config [] (suc i) above = tt
+none_left config (t ∷ ts) zero above = absurd (omega (arith, above))
+none_left config (t ∷ ts) (suc i) above = none_left config ts i (omega (arith, above))
+
+pub all_made : (config : Config) (whole : List (List ℕ)) (ts : List (Bor (List ℕ))) (i : ℕ) (ps : List PatternGroups) → length ts ≤ i →
+    AreGroupsWith config whole (map (λ t. t.now) (drop i ts)) ps → ArePatternGroups config whole ps
+all_made config whole ts i ps above made =
+    subst (ArePatternGroups config whole) (append-nil ps) (made [] (none_left config ts i above))
+
+-- the groups of the pattern with a number
+pub groups_at_number : (config : Config) (ts : List (List ℕ)) (ps : List PatternGroups) (n : ℕ) (t : List ℕ) (p : PatternGroups) →
+    ArePatternGroups config ts ps → slice_get ts n ≡ Some t → slice_get ps n ≡ Some p → IsPatternGroups config t p
+groups_at_number config [] [] n t p of is listed = absurd (none-some t is)
+groups_at_number config [] (q ∷ ps) n t p of is listed = absurd of
+groups_at_number config (u ∷ ts) [] n t p of is listed = absurd of
+groups_at_number config (u ∷ ts) (q ∷ ps) zero t p of is listed =
+    subst (λ x. IsPatternGroups config x p) (same_Some u t is) (subst (IsPatternGroups config u) (same_Some q p listed) of.0)
+groups_at_number config (u ∷ ts) (q ∷ ps) (suc n) t p of is listed = groups_at_number config ts ps n t p of.1 is listed
+
+-- those of one pattern were changed, and are still its
+pub groups_changed : (config : Config) (ts : List (List ℕ)) (ps : List PatternGroups) (n : ℕ) (p q : PatternGroups) →
+    ArePatternGroups config ts ps → slice_get ps n ≡ Some p → ((t : List ℕ) → IsPatternGroups config t p → IsPatternGroups config t q) →
+    ArePatternGroups config ts (slice_set ps n q)
+groups_changed config [] [] n p q of listed kept = absurd (none-some p listed)
+groups_changed config [] (r ∷ ps) n p q of listed kept = absurd of
+groups_changed config (t ∷ ts) [] n p q of listed kept = absurd of
+groups_changed config (t ∷ ts) (r ∷ ps) zero p q of listed kept = (kept t (subst (IsPatternGroups config t) (same_Some r p listed) of.0), of.1)
+groups_changed config (t ∷ ts) (r ∷ ps) (suc n) p q of listed kept = (of.0, groups_changed config ts ps n p q of.1 listed kept)
+
+pub as_many : (config : Config) (ts : List (List ℕ)) (ps : List PatternGroups) → ArePatternGroups config ts ps → length ps ≡ length ts
+as_many config [] [] of = refl
+as_many config [] (p ∷ ps) of = absurd of
+as_many config (t ∷ ts) [] of = absurd of
+as_many config (t ∷ ts) (p ∷ ps) of = ap suc (as_many config ts ps of.1)
+
+-- groups of patterns that are parsed under the same options
+pub one_group : (syntax config : Config) (ts : List (List ℕ)) (ps : List PatternGroups) (n : ℕ) (t : List ℕ) (p : PatternGroups) →
+    syntax ≡ config → ArePatternGroups config ts ps → slice_get ts n ≡ Some t → slice_get ps n ≡ Some p → IsPatternGroups syntax t p
+one_group syntax config ts ps n t p e of is listed =
+    subst (λ c. IsPatternGroups c t p) (sym e) (groups_at_number config ts ps n t p of is listed)
+
+pub parsed_by : (syntax config : Config) (t : List ℕ) (a : Re) → syntax ≡ config → IsParsedAs config t a → IsParsedAs syntax t a
+parsed_by syntax config t a e parsed = subst (λ c. IsParsedAs c t a) (sym e) parsed
+
+pub one_changed : (syntax config : Config) (ts : List (List ℕ)) (ps : List PatternGroups) (n : ℕ) (p q : PatternGroups) → syntax ≡ config →
+    ArePatternGroups config ts ps → slice_get ps n ≡ Some p →
+    ((t : List ℕ) → IsPatternGroups syntax t p → IsPatternGroups syntax t q) → ArePatternGroups config ts (slice_set ps n q)
+one_changed syntax config ts ps n p q e of listed kept =
+    groups_changed config ts ps n p q of listed
+    (subst (λ (c : Config). (t : List ℕ) → IsPatternGroups c t p → IsPatternGroups c t q) e kept)
+
+pub no_pattern : {A : Type 0} (config : Config) (ts : List (List ℕ)) (ps : List PatternGroups) (n : ℕ) (t : List ℕ) →
+    ArePatternGroups config ts ps → length ps ≤ n → slice_get ts n ≡ Some t → A
+no_pattern config ts ps n t of above is = absurd (omega (arith, above, as_many config ts ps of, slice_get_within ts n t is))
+
+-- ---- names
+same_read : {A : Type 0} (a b : Names) (r : Option (A × Names)) → IsSomeAnd r (λ (x, found). a ≡ found) →
+    IsSomeAnd r (λ (x, found). b ≡ found) → a ≡ b
+same_read a b None p q = absurd p
+same_read a b (Some x) p q = p ∙ sym q
+
+pub names_of_number : (config : Config) (ts : List (List ℕ)) (ps : List PatternGroups) (n : ℕ) (t : List ℕ) (p : PatternGroups) (names : Names) →
+    ArePatternGroups config ts ps → slice_get ts n ≡ Some t → slice_get ps n ≡ Some p → IsNamedBy config t names → names ≡ p.names
+names_of_number config ts ps n t p names of is listed named =
+    same_read names p.names (read config (chars t)) named (groups_at_number config ts ps n t p of is listed).named
+
+pub a_pattern : {A : Type 0} (config : Config) (ts : List (List ℕ)) (ps : List PatternGroups) (n : ℕ) →
+    ArePatternGroups config ts ps → n < length ps → slice_get ts n ≡ None → A
+a_pattern config [] [] n of below none = absurd (omega (arith, below))
+a_pattern config [] (p ∷ ps) n of below none = absurd of
+a_pattern config (t ∷ ts) [] n of below none = absurd of
+a_pattern config (t ∷ ts) (p ∷ ps) zero of below none = absurd (none-some t (sym none))
+a_pattern config (t ∷ ts) (p ∷ ps) (suc n) of below none = a_pattern config ts ps n of.1 (omega (arith, below)) none

@@ -1,0 +1,4 @@
+pub mod Errors
+pub mod Patterns
+pub mod Groups
+pub mod Captures

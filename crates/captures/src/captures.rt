@@ -1,0 +1,179 @@
+//! Searches for one match with its groups.
+ghost use Rattle.std.specs.Prelude.{◌≡◌, ◌≤◌, ℕ, List, Some, IfErr, IfNone, IfOk, length, replicate, slice_get, true};
+ghost use Rattle.regex_hir.specs.Re.{Re, Trace, accept, attempt};
+ghost use Rattle.regex_hir.specs.Meaning.{alt_all};
+ghost use Rattle.regex_hir.specs.Find.{Match};
+ghost use Rattle.regex_syntax.specs.declared.Config.{Config as TextConfig};
+ghost use Rattle.search_core.specs.Utf8.{IsValidText};
+ghost use Rattle.pattern_search.specs.Searches.{span_of_match, IsOfFirstPattern};
+ghost use Rattle.pattern_search.specs.Texts.{AreReadAs};
+ghost use Rattle.meta_regex.specs.Caches.{IsCacheOf};
+ghost use Rattle.meta_regex.specs.Regexes.{HasFoundSpan, HasPattern, as_found, config_by, span_of_row};
+ghost use Rattle.group_finder.specs.Slots.{no_offset, slots_of};
+ghost use Rattle.group_finder.specs.Patterns.{IsParsedAs};
+ghost use Rattle.group_finder.specs.Groups.{HasSlots};
+ghost use Rattle.captures.specs.Captures.{HasCaptures};
+ghost use Rattle.captures.specs.Errors.{IsCapturesError};
+
+use crate::errors::{CapturesError, of_search};
+use crate::groups::Groups;
+use group_finder::clear;
+use meta_regex::{Cache, FoundMatch, Regex};
+use std::alloc::Global;
+
+impl Groups {
+    ghost use Rattle.captures.specs.Groups.{AreGroupsOf};
+
+    /// Finds the match that the pattern with a number has from an offset, and its slots. It ends at or before another offset.
+    #[inline]
+    fn slots_at(
+        &mut self,
+        alloc: Global,
+        haystack: &[u8],
+        pattern: usize,
+        start: usize,
+        stop: usize,
+        slots: &mut [usize],
+    ) -> Result<Option<usize>, CapturesError>
+        requires { stop ≤ length haystack.now }
+        ensures found { (config : TextConfig) (texts : List (List ℕ)) → AreGroupsOf config texts self.old → (text : List ℕ) (a : Re) →
+            slice_get texts pattern ≡ Some text → IsParsedAs config text a → (t : Trace) →
+            attempt haystack.now a accept start ≡ Some t → start ≤ t.end → t.end ≤ stop → IfOk result (λ o. HasSlots start t o slots.new) }
+        ensures own { (config : TextConfig) (texts : List (List ℕ)) → AreGroupsOf config texts self.old → AreGroupsOf config texts self.new }
+        ensures cleared { IfErr result (λ _. slots.new ≡ replicate (length slots.old) no_offset) }
+        ensures refused { IfErr result (λ e. (config : TextConfig) → (h : List ℕ) → IsCapturesError config h e) }
+    {
+        if pattern >= self.patterns.len() {
+            return Ok(None);
+        }
+        if start > stop {
+            return Ok(None);
+        }
+        self.patterns[pattern].slots_at(
+            alloc,
+            &self.syntax,
+            self.size_limit,
+            haystack,
+            start,
+            stop,
+            slots,
+        )
+    }
+
+    /// Searches a haystack that is UTF-8 if the options require it. The match has the end that the toolchain's matcher finds.
+    pub(crate) fn find(
+        &mut self,
+        alloc: Global,
+        regex: &Regex,
+        cache: &mut Cache,
+        haystack: &[u8],
+        from: usize,
+    ) -> Result<Option<FoundMatch>, CapturesError>
+        requires own { IsCacheOf regex.now cache.old }
+        requires groups { AreGroupsOf (config_by regex.now) regex.now.texts self.old }
+        requires within { from ≤ length haystack.now }
+        requires valid { (config_by regex.now).utf8 ≡ true → IsValidText haystack.now }
+        ensures own { IsCacheOf regex.now cache.new }
+        ensures groups { AreGroupsOf (config_by regex.now) regex.now.texts self.new }
+        ensures found { IfOk result (HasFoundSpan (config_by regex.now) regex.now.texts haystack.now from) }
+        ensures pattern { IfOk result (HasPattern (config_by regex.now) regex.now.texts haystack.now) }
+        ensures refused { IfErr result (IsCapturesError (config_by regex.now) haystack.now) }
+    {
+        let found = match regex.search(alloc, cache, haystack, from) {
+            Ok(found) => found,
+            Err(error) => return Err(of_search(error)),
+        };
+        if regex.loops_consume() {
+            return Ok(found);
+        }
+        let Some(row) = found else {
+            return Ok(None);
+        };
+        match self.slots_at(
+            alloc,
+            haystack,
+            row.pattern,
+            row.start,
+            haystack.len(),
+            &mut [],
+        ) {
+            Ok(Some(end)) => Ok(Some(FoundMatch { end, ..row })),
+            Ok(None) => Ok(None),
+            Err(error) => Err(error),
+        }
+    }
+
+    /// Writes the slots of a match that was found.
+    #[inline]
+    pub(crate) fn write_slots(
+        &mut self,
+        alloc: Global,
+        haystack: &[u8],
+        found: FoundMatch,
+        slots: &mut [usize],
+    ) -> Result<(), CapturesError>
+        ensures written { (config : TextConfig) (texts : List (List ℕ)) → AreGroupsOf config texts self.old → (res : List Re) →
+            AreReadAs config texts res → IsOfFirstPattern res haystack.now (as_found found) → (m : Match) →
+            span_of_match m ≡ span_of_row found → m.start ≤ length haystack.now →
+            attempt haystack.now (alt_all res) accept m.start ≡ Some m.trace →
+            IfOk result (λ _. slots.new ≡ slots_of m (length slots.old)) }
+        ensures own { (config : TextConfig) (texts : List (List ℕ)) → AreGroupsOf config texts self.old → AreGroupsOf config texts self.new }
+        ensures cleared { IfErr result (λ _. slots.new ≡ replicate (length slots.old) no_offset) }
+        ensures refused { IfErr result (λ e. (config : TextConfig) → (h : List ℕ) → IsCapturesError config h e) }
+    {
+        if found.end > haystack.len() {
+            return Ok(());
+        }
+        match self.slots_at(
+            alloc,
+            haystack,
+            found.pattern,
+            found.start,
+            found.end,
+            slots,
+        ) {
+            Ok(_) => Ok(()),
+            Err(error) => Err(error),
+        }
+    }
+
+    /// The leftmost match from an offset on, and of several that start there the preferred one, as the toolchain's matcher finds it. Look-around
+    /// assertions see what precedes the offset.
+    ///
+    /// `slots` get the offsets of the groups of the match: the start and end of group n in the slots 2n and 2n + 1, or
+    /// [`NO_OFFSET`](crate::NO_OFFSET) in both if it took no part. Group 0 is the match. Slots after the last group of the pattern get that
+    /// too, as do all slots if there is no match or if the search fails.
+    pub fn captures_at(
+        &mut self,
+        alloc: Global,
+        regex: &Regex,
+        cache: &mut Cache,
+        haystack: &[u8],
+        from: usize,
+        slots: &mut [usize],
+    ) -> Result<Option<FoundMatch>, CapturesError>
+        requires own { IsCacheOf regex.now cache.old }
+        requires groups { AreGroupsOf (config_by regex.now) regex.now.texts self.old }
+        requires within { from ≤ length haystack.now }
+        ensures own { IsCacheOf regex.now cache.new }
+        ensures groups { AreGroupsOf (config_by regex.now) regex.now.texts self.new }
+        ensures found { IfOk result (λ o. HasCaptures (config_by regex.now) regex.now.texts haystack.now from (length slots.old) o slots.new) }
+        ensures cleared { IfErr result (λ _. slots.new ≡ replicate (length slots.old) no_offset) }
+        ensures refused { IfErr result (IsCapturesError (config_by regex.now) haystack.now) }
+    {
+        clear(slots);
+        match regex.check(haystack) {
+            Ok(()) => {}
+            Err(error) => return Err(of_search(error)),
+        }
+        let found = match self.find(alloc, regex, cache, haystack, from) {
+            Ok(Some(found)) => found,
+            Ok(None) => return Ok(None),
+            Err(error) => return Err(error),
+        };
+        match self.write_slots(alloc, haystack, found, slots) {
+            Ok(()) => Ok(Some(found)),
+            Err(error) => Err(error),
+        }
+    }
+}

@@ -1,0 +1,14 @@
+//! Capture groups of regexes of several patterns.
+//!
+//! [`Groups`] goes with a [`meta_regex::Regex`] and its cache. It finds matches with the offsets of their groups, as the toolchain's matcher
+//! has them, whatever loops consume.
+#![tactic(auto)]
+
+mod captures;
+mod errors;
+mod groups;
+mod pattern_groups;
+
+pub use errors::CapturesError;
+pub use group_finder::NO_OFFSET;
+pub use groups::Groups;

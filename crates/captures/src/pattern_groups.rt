@@ -1,0 +1,109 @@
+//! The groups of one pattern.
+ghost use Rattle.std.specs.Prelude.{◌≡◌, ◌≤◌, ℕ, List, IfErr, IfNone, IfOk, IfSome, OnOk, Some, is_some, length, replicate, true};
+ghost use Rattle.regex_hir.specs.Re.{Re, Trace, accept, attempt};
+ghost use Rattle.regex_syntax.specs.declared.Config.{Config as TextConfig};
+ghost use Rattle.group_finder.specs.Slots.{no_offset};
+ghost use Rattle.group_finder.specs.Patterns.{IsParsedAs};
+ghost use Rattle.group_finder.specs.Groups.{HasSlots};
+ghost use Rattle.captures.specs.Errors.{IsCapturesError};
+ghost use Rattle.captures.specs.Patterns.{IsPatternGroups};
+
+use crate::errors::{CapturesError, of_new};
+use group_finder::{GroupFinder, GroupNames, NewError, clear};
+use pattern_text::Config;
+use std::alloc::Global;
+
+/// A pattern, the names of its groups and, once a search needed it, what finds them.
+#[derive(Drop)]
+pub(crate) struct PatternGroups {
+    pub(crate) text: String,
+    pub(crate) names: GroupNames,
+    pub(crate) finder: Option<GroupFinder>,
+}
+
+/// The groups of a pattern, without a finder.
+pub(crate) fn groups_of(
+    alloc: Global,
+    text: &str,
+    config: &Config,
+) -> Result<PatternGroups, NewError>
+    ensures { IfOk result (IsPatternGroups config.now text.now) }
+{
+    let names = match GroupNames::new(alloc, text, &config.options()) {
+        Ok(names) => names,
+        Err(error) => return Err(error),
+    };
+    let text = match String::from_str(alloc, text) {
+        Ok(text) => text,
+        Err(_) => return Err(NewError::NoMemory),
+    };
+    Ok(PatternGroups {
+        text,
+        names,
+        finder: None,
+    })
+}
+
+impl PatternGroups {
+    /// Makes the finder, if there is none.
+    pub(crate) fn prepare(
+        &mut self,
+        alloc: Global,
+        config: &Config,
+        size_limit: usize,
+    ) -> Result<(), NewError>
+        ensures own { (text : List ℕ) → IsPatternGroups config.now text self.old → IsPatternGroups config.now text self.new }
+        ensures made { OnOk result (is_some self.new.finder ≡ true) }
+    {
+        if self.finder.is_some() {
+            return Ok(());
+        }
+        let finder = match GroupFinder::new(
+            alloc,
+            self.text.as_str(),
+            &config.options(),
+            size_limit,
+        ) {
+            Ok(finder) => finder,
+            Err(error) => return Err(error),
+        };
+        self.finder = Some(finder);
+        Ok(())
+    }
+
+    /// Finds the match that the pattern has from an offset, and its slots, as [`GroupFinder::groups_at`] does.
+    #[inline]
+    pub(crate) fn slots_at(
+        &mut self,
+        alloc: Global,
+        config: &Config,
+        size_limit: usize,
+        haystack: &[u8],
+        start: usize,
+        stop: usize,
+        slots: &mut [usize],
+    ) -> Result<Option<usize>, CapturesError>
+        requires ordered { (start ≤ stop) × (stop ≤ length haystack.now) }
+        ensures found { (text : List ℕ) (a : Re) → IsPatternGroups config.now text self.old → IsParsedAs config.now text a →
+            (t : Trace) → attempt haystack.now a accept start ≡ Some t → t.end ≤ stop → IfOk result (λ o. HasSlots start t o slots.new) }
+        ensures own { (text : List ℕ) → IsPatternGroups config.now text self.old → IsPatternGroups config.now text self.new }
+        ensures cleared { IfErr result (λ _. slots.new ≡ replicate (length slots.old) no_offset) }
+        ensures refused { IfErr result (λ e. (config : TextConfig) → (h : List ℕ) → IsCapturesError config h e) }
+    {
+        match self.prepare(alloc, config, size_limit) {
+            Ok(()) => {}
+            Err(error) => {
+                clear(slots);
+                return Err(of_new(error, size_limit));
+            }
+        }
+        let Some(finder) = &mut self.finder else {
+            clear(slots);
+            return Ok(None);
+        };
+        match finder.groups_at(alloc, haystack, start, stop, slots) {
+            Ok(end) => Ok(end),
+            Err(_) => Err(CapturesError::NoMemory),
+        }
+    }
+}
