@@ -7,7 +7,9 @@ use Rattle.std.proofs.lemmas.Bool.{cases_lt}
 use Rattle.regex_literal.specs.Find.{OccursAt, AnyOccursAt, FirstNeedleAt, NoneBefore, Nowhere}
 use Rattle.regex_literal.proofs.lemmas.FindLemmas.{OccursAt-part, OccursAt-from_part}
 use Rattle.hir_core.specs.Tree.{Tree}
-use Rattle.hir_core.proofs.ForCallers.{span_within}
+use Rattle.hir_core.specs.Means.{Looks}
+use Rattle.hir_core.specs.PreferredEnds.{preferred_ends}
+use Rattle.hir_core.proofs.ForCallers.{span_within, nil_from_none, preferred_ends_sound}
 use Rattle.literal_search.specs.Literals.{BeginsBy, ContainsOne}
 use Rattle.literal_search.specs.Searches.{NoneBegins, AdvancesTo, EndsFrom, StartsFrom, StartsNowhere, IsContainedIn}
 use Rattle.literal_search.specs.Searches.{IsBegunBy}
@@ -121,3 +123,16 @@ starts_in_the_line h start k s e feed low high none = elim (cases_lt s start) [
   | inl before ↦ absurd (none (start - 1) (omega (arith, before)) (omega (arith, before, low, high)) (feed (omega (arith, before))))
   | inr after ↦ after
 ]
+
+-- ---- preferred ends
+-- no end is preferred from an offset at which no span starts
+pub no_ends_before : (looks : Looks) (h : List ℕ) (x : Tree) (i k s : ℕ) → StartsFrom x h i k → i ≤ s → s < k → s ≤ length h →
+    preferred_ends looks h x s ≡ []
+no_ends_before looks h x i k s n low high within =
+    nil_from_none (preferred_ends looks h x s)
+    (λ e m. absurd (omega (arith, high, n.starts looks s e low within (preferred_ends_sound looks h x s e m))))
+
+pub no_ends_at_all : (looks : Looks) (h : List ℕ) (x : Tree) (i s : ℕ) → StartsNowhere x h i → i ≤ s → s ≤ length h →
+    preferred_ends looks h x s ≡ []
+no_ends_at_all looks h x i s n low within =
+    nil_from_none (preferred_ends looks h x s) (λ e m. n.none looks s e low within (preferred_ends_sound looks h x s e m))

@@ -6,6 +6,7 @@ ghost use Rattle.literal_search.specs.Searches.{IsBegunBy, IsContainedIn, IsNext
 use crate::literals::Literals;
 use crate::required::required_literals;
 use crate::searching::{LiteralSearch, Stop};
+use crate::sets::cost;
 use hir_core::Hir;
 use std::alloc::{AllocError, Global};
 use std::marker::Model;
@@ -78,7 +79,7 @@ impl Model for CandidateFinder {
 fn finder_of(alloc: Global, literals: Literals) -> Result<Option<CandidateFinder>, AllocError>
     ensures { IfOk result (λ made. IfSome made (λ f. f ≡ literals)) }
 {
-    if literals.is_empty() {
+    if literals.is_empty() || cost(&literals) > MAX_COST {
         return Ok(None);
     }
     let Some(search) = LiteralSearch::new(alloc, literals)? else {

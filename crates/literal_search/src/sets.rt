@@ -1,5 +1,5 @@
 //! Lists of literals made from other lists. The lists are kept short: at most some 64 literals.
-ghost use Rattle.std.specs.Prelude.{◌≡◌, ◌⊎◌, ◌++◌, ◌∷◌, [], true, IfOk, OnOk};
+ghost use Rattle.std.specs.Prelude.{◌≡◌, ◌≤◌, ◌⊎◌, ◌++◌, ◌∷◌, [], true, IfOk, OnOk};
 ghost use Rattle.literal_search.specs.Literals.{Crosses, ListsPrefix, ListsPrefixes, KeepsAll};
 ghost use Rattle.literal_search.specs.Required.{IsJoined, IsUnion};
 
@@ -20,7 +20,7 @@ const MAX_BYTES: usize = 1024;
 const CANDIDATE_NANOS: u64 = 20;
 
 /// What each literal adds to the cost of a million bytes, in nanoseconds.
-const LITERAL_NANOS: u64 = 4_000;
+const LITERAL_NANOS: u64 = 1_000;
 
 /// Lists joined, one after the other.
 #[derive(Debug, Drop)]
@@ -210,6 +210,17 @@ pub(crate) fn union(
     })
 }
 
+/// How much more a candidate costs if its literal is short: the search for the whole list then examines fewer bytes.
+fn shortness(len: usize) -> u64
+    ensures { result ≤ 8 }
+{
+    match len {
+        0 | 1 => 8,
+        2 => 2,
+        _ => 1,
+    }
+}
+
 /// About how many nanoseconds a search for the literals takes for a million bytes of typical text.
 pub(crate) fn cost(literals: &Literals) -> u64 {
     let mut total: u64 = 0;
@@ -219,9 +230,10 @@ pub(crate) fn cost(literals: &Literals) -> u64 {
             return u64::MAX;
         }
         let candidates = expected_count(bytes) >> 12;
+        let each = CANDIDATE_NANOS * shortness(bytes.len());
         total = total
             .saturating_add(LITERAL_NANOS)
-            .saturating_add(candidates.saturating_mul(CANDIDATE_NANOS));
+            .saturating_add(candidates.saturating_mul(each));
     }
     total
 }
