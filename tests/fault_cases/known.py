@@ -4,20 +4,23 @@ that the lists only get shorter."""
 import re
 from dataclasses import dataclass
 
-from .verdicts import NOT_REPEATED
+from .strace import LIMIT
+from .verdicts import NO_STACK, NOT_REPEATED
 
 ANY = "any"
 
 
 @dataclass(frozen=True)
 class KnownFault:
-    """What goes wrong in a search if a call fails, by its number among those of its name; ANY stands for each."""
+    """What goes wrong in a search if a call fails, by its number among those of its name; ANY stands for each. Some things go wrong in some
+    environments alone."""
 
     search: str
     call: str
     number: int | str
     kind: str
     source: str
+    is_always: bool = True
 
     def names(self, case, kind):
         return (
@@ -43,6 +46,8 @@ class KnownWords:
 
 KNOWN_FAULTS = [
     KnownFault(ANY, "read", ANY, NOT_REPEATED, "grep_core/src/line_buffer.rt: read_into"),
+    # The stack begins with 132 KB, and grows. If a limit of memory has room for all else and not for that, the system ends the program.
+    KnownFault(ANY, LIMIT, ANY, NO_STACK, "hirgrep_main/src/main.rt: 144 KB of stack are used before a file is opened", False),
 ]
 
 KNOWN_WORDS: list[KnownWords] = []

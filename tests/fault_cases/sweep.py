@@ -126,7 +126,7 @@ class Sweep:
 
     def check_known(self, entries):
         for entry in entries:
-            if entry not in self.seen:
+            if entry not in self.seen and getattr(entry, "is_always", True):
                 self.wrong.append(f"{entry}: it is right now, so its entry has to go")
 
     def try_all(self, is_few):

@@ -6,12 +6,14 @@ import re
 import signal
 
 from .cases import SHORT
+from .strace import LIMIT
 
 ALL = "all"
 # how the C library's loader ends a program; the second if it is out of memory at once
 NOT_LOADED = (127, -signal.SIGSEGV)
 GOOD = ("answer", "reported", "loader")
 NOT_REPEATED = "an interrupted read isn't made once more"
+NO_STACK = "the stack can't grow"
 
 
 def affected(case, room):
@@ -107,6 +109,8 @@ def verdict(case, result, answer, offset, room):
         return "answer"
     if not case.call.is_own and result.status in NOT_LOADED and result.printed == b"":
         return "loader"
+    if case.call.name == LIMIT and result.status == -signal.SIGSEGV:
+        return NO_STACK
     report = report_of(case, result, answer, room)
     # GNU grep and ripgrep read again
     return NOT_REPEATED if report == "reported" and (case.call.name, case.fault) == ("read", "EINTR") else report
