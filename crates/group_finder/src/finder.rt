@@ -94,11 +94,7 @@ fn find_cells(
     }
 }
 
-<<<<<<< HEAD
-/// That match with the offsets of its groups, by either engine.
-=======
 /// That match, with the offsets of its groups.
->>>>>>> groups
 #[inline(always)]
 fn find_offsets(
     alloc: Global,
