@@ -10,10 +10,10 @@ const MOST: usize = 1 << 28;
 /// The factor from one capacity to the next larger one.
 const STEP: usize = 4;
 
-/// A cache is too small if it is cleared before its searches have consumed one byte for every `SHARE` bytes of its capacity. A state of an
-/// automaton takes at least some hundred bytes. So for each state that is built, fewer than ten bytes are searched, and building a state
-/// costs far more time than searching a byte.
-const SHARE: usize = 16;
+/// A cache is too small if it is cleared before its searches have consumed `WORTH` bytes for each byte of its capacity. A state of an
+/// automaton takes at least some hundred bytes, and building it takes as long as searching some thousand bytes. So a cache that is cleared
+/// sooner has searches build states for most of their time.
+const WORTH: usize = 8;
 
 /// The size of the caches of a regex, and how soon they were cleared.
 #[derive(Clone, Copy, Debug)]
@@ -51,7 +51,7 @@ impl Size {
         if clears == self.clears {
             return;
         }
-        self.too_small |= self.searched < self.capacity / SHARE;
+        self.too_small |= self.searched / WORTH < self.capacity;
         self.clears = clears;
         self.searched = 0;
     }
