@@ -1,0 +1,182 @@
+#include "handle.hpp"
+
+#include <cstring>
+
+namespace fuzz {
+namespace {
+
+hanneddois_error filled_error() {
+    hanneddois_error error;
+    memset(&error, UNTOUCHED, sizeof error);
+    return error;
+}
+
+void check_message(const hanneddois_error &error) {
+    size_t length = hanneddois_error_text(&error, Fenced("", 0).data(), 0);
+    bool is_error = !is_one_of(error.status, {HANNEDDOIS_OK, HANNEDDOIS_NONE});
+    check((length > 0) == is_error && length < 1000, "an error has no message, or a very long one");
+    for (size_t room : {length, length / 2, length + 7}) {
+        Fenced text(nullptr, room);
+        memset(text.data(), UNTOUCHED, room);
+        check(hanneddois_error_text(&error, text.data(), room) == length, "the length of a message changes with its room");
+        for (size_t at = 0; at < room && at < length; ++at)
+            check(text.data()[at] >= ' ' && text.data()[at] < 0x7F, "a message isn't ASCII");
+        for (size_t at = length; at < room; ++at)
+            check(text.data()[at] == UNTOUCHED, "bytes after a message are written");
+    }
+}
+
+bool has_position(hanneddois_status status) { return is_one_of(status, {HANNEDDOIS_SYNTAX_ERROR, HANNEDDOIS_NESTS_TOO_DEEP}); }
+
+bool has_pattern(hanneddois_status status) { return has_position(status) || is_one_of(status, {HANNEDDOIS_NOT_UTF8, HANNEDDOIS_EMPTY_LOOP}); }
+
+} // namespace
+
+void check_error(const hanneddois_error &error, const std::vector<Bytes> &patterns) {
+    hanneddois_status status = error.status;
+    bool has_start = has_position(status) || is_one_of(status, {HANNEDDOIS_NOT_UTF8, HANNEDDOIS_HAYSTACK_NOT_UTF8});
+    check(has_pattern(status) || error.pattern == 0, "an error without a pattern names one");
+    check(has_start || error.start == 0, "an error without an offset names one");
+    check(has_position(status) || error.end == 0, "an error without an end names one");
+    check(is_one_of(status, {HANNEDDOIS_TOO_LARGE, HANNEDDOIS_CAPACITY_TOO_SMALL}) || error.limit == 0, "an error without a limit names one");
+    note(status, error.cause);
+    check_message(error);
+    if (!has_pattern(status))
+        return;
+    check(error.pattern < patterns.size(), "an error names a pattern that isn't there");
+    const Bytes &pattern = patterns[error.pattern];
+    if (status == HANNEDDOIS_NOT_UTF8)
+        check(error.start == valid_up_to(pattern) && error.start < pattern.size(), "the offset isn't that of the first faulty byte of the pattern");
+    if (has_position(status))
+        check(error.start <= error.end && error.end <= pattern.size(), "the offsets of a syntax error aren't in the pattern");
+}
+
+Found Handle::make(const std::vector<Bytes> &patterns, const hanneddois_options &options) {
+    Bytes joined;
+    std::vector<size_t> lengths;
+    for (const Bytes &each : patterns) {
+        joined.insert(joined.end(), each.begin(), each.end());
+        lengths.push_back(each.size());
+    }
+    Fenced texts(joined.data(), joined.size()), counts(lengths.data(), lengths.size() * sizeof(size_t));
+    Found found;
+    found.error = filled_error();
+    found.status = hanneddois_new(raw(), texts.data(), texts.size(), reinterpret_cast<const size_t *>(counts.data()), lengths.size(), &options, &found.error);
+    check(found.error.status == found.status, "the status of the error isn't the one that is returned");
+    check(!is_one_of(found.status, {HANNEDDOIS_NONE, HANNEDDOIS_HAYSTACK_NOT_UTF8}) && found.status <= 12, "a regex is made with the status of a search");
+    check_error(found.error, patterns);
+    bool is_made = found.status == HANNEDDOIS_OK;
+    check((raw()->inside != nullptr) == is_made, "a regex that isn't made isn't empty, or the other way round");
+    count_ = is_made ? patterns.size() : 0;
+    flags_ = options.flags;
+    check_counts();
+    return found;
+}
+
+Found Handle::searched(hanneddois_status status, const hanneddois_error &error, const Bytes &haystack) {
+    Found found;
+    found.status = status;
+    found.error = error;
+    check(error.status == status, "the status of the error isn't the one that is returned");
+    check_error(error, {});
+    if (is_empty()) {
+        check(status == HANNEDDOIS_BAD_ARGUMENT, "an empty handle is searched");
+        return found;
+    }
+    bool is_utf8 = (flags_ & HANNEDDOIS_UTF8) != 0;
+    if (status == HANNEDDOIS_HAYSTACK_NOT_UTF8) {
+        check(is_utf8, "a haystack of any bytes is no UTF-8");
+        check(error.start == valid_up_to(haystack) && error.start < haystack.size(), "the offset isn't that of the first faulty byte of the haystack");
+    }
+    if (is_utf8 && found.is_answer())
+        check(valid_up_to(haystack) == haystack.size(), "a haystack that is no UTF-8 is searched");
+    return found;
+}
+
+Found Handle::is_match(const Bytes &haystack) {
+    Fenced input(haystack.data(), haystack.size(), haystack.size() % 2);
+    hanneddois_error error = filled_error();
+    return searched(hanneddois_is_match(raw(), input.data(), input.size(), &error), error, haystack);
+}
+
+Found Handle::find_at(const Bytes &haystack, size_t from) {
+    Fenced input(haystack.data(), haystack.size());
+    hanneddois_error error = filled_error();
+    hanneddois_match match = {9, 9, 9};
+    hanneddois_status status = hanneddois_find_at(raw(), input.data(), input.size(), from, &match, &error);
+    Found found = searched(status, error, haystack);
+    found.match = {match.pattern, match.start, match.end};
+    if (status != HANNEDDOIS_OK) {
+        check(found.match == Match(), "without a match its fields aren't 0");
+        return found;
+    }
+    check(from <= match.start && match.start <= match.end && match.end <= haystack.size(), "a match is outside the haystack, or before the start of the search");
+    check(match.pattern < count_, "a match is of a pattern that isn't there");
+    if (flags_ & HANNEDDOIS_UTF8)
+        check(is_boundary(haystack, match.start) && is_boundary(haystack, match.end), "a match splits a character");
+    return found;
+}
+
+Found Handle::find_all(const Bytes &haystack, size_t room) {
+    Fenced input(haystack.data(), haystack.size()), rows(nullptr, room * sizeof(hanneddois_match));
+    memset(rows.data(), UNTOUCHED, rows.size());
+    hanneddois_error error = filled_error();
+    size_t count = 99;
+    hanneddois_match *matches = reinterpret_cast<hanneddois_match *>(rows.data());
+    hanneddois_status status = hanneddois_find_all(raw(), input.data(), input.size(), matches, room, &count, &error);
+    Found found = searched(status, error, haystack);
+    found.count = count;
+    check(status != HANNEDDOIS_OK || count > 0, "matches are found, and their count is 0");
+    check(status != HANNEDDOIS_NONE || count == 0, "no match is found, and the count isn't 0");
+    check(!is_empty() || count == 0, "an empty handle has matches");
+    for (size_t it = 0; it < room && it < count; ++it)
+        found.list.push_back({matches[it].pattern, matches[it].start, matches[it].end});
+    for (size_t it = count * sizeof(hanneddois_match); it < rows.size(); ++it)
+        check(rows.data()[it] == UNTOUCHED, "rows after the last match are written");
+    return found;
+}
+
+Found Handle::matching(const Bytes &haystack, size_t marks) {
+    Fenced input(haystack.data(), haystack.size()), matched(nullptr, marks);
+    memset(matched.data(), UNTOUCHED, marks);
+    hanneddois_error error = filled_error();
+    size_t count = 99;
+    hanneddois_status status = hanneddois_matching_patterns(raw(), input.data(), input.size(), matched.data(), marks, &count, &error);
+    Found found = searched(status, error, haystack);
+    found.count = count;
+    found.marks.assign(matched.data(), matched.data() + marks);
+    if (marks != count_ || is_empty()) {
+        check(status == HANNEDDOIS_BAD_ARGUMENT && count == 0, "marks of another number than that of patterns are taken");
+        return found;
+    }
+    size_t sum = 0;
+    for (uint8_t mark : found.marks) {
+        check(mark <= 1, "a mark is neither 0 nor 1");
+        sum += mark;
+    }
+    check(sum == count, "the count isn't that of the marks");
+    check((status == HANNEDDOIS_OK) == (count > 0), "the count doesn't fit the status");
+    return found;
+}
+
+void Handle::end() {
+    hanneddois_free(raw());
+    check(raw()->inside == nullptr, "a freed handle isn't empty");
+    count_ = 0;
+    check_counts();
+}
+
+void Handle::move() {
+    regexes_[1 - at_] = regexes_[at_];
+    regexes_[at_].inside = reinterpret_cast<void *>(0xDEAD);
+    at_ = 1 - at_;
+}
+
+void Handle::check_counts() {
+    check(hanneddois_pattern_count(raw()) == count_, "the number of patterns is wrong");
+    size_t bytes = hanneddois_memory_usage(raw()), clears = hanneddois_clear_count(raw());
+    check(count_ > 0 || (bytes == 0 && clears == 0), "an empty handle has a cache");
+    note(100, clears < 8 ? static_cast<uint32_t>(clears) : 8);
+}
+
+} // namespace fuzz
