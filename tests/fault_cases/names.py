@@ -17,7 +17,6 @@ PLAIN = ["ab", "-x", "a:b", " a ", "ä ☺", "*", "'\"\\"]
 MARK = re.compile("[\0-\x1f\x7f-\x9f]")
 BROKEN = "x(\\?|\\\\xff|\ufffd)"  # some forms of x and FF that are clear
 PRINTED = "grep_core/src/reporter.rt: push_name and push_field print each byte of a name"
-LISTED = "hirgrep_main/src/walking.rt: read_names gives getdents64 what is left of a vector, which may be less than the next name needs"
 MIXED = "a\n\33[31m\7\x7f" * 27  # 243 bytes
 MANY = 300
 
@@ -143,8 +142,7 @@ class Names:
             for number in range(MANY):
                 with open(os.path.join(folder, f"{number:03}".ljust(length, "n")), "wb") as file:
                     file.write(b"ab\n")
-            known = Known(LISTED, 2, error(f"names{length}", "Invalid argument"), b"some")
-            yield Check(f"a folder of {MANY} names of {length} bytes", lambda it=f"names{length}": self.listed(it), 0, b"all", "", known)
+            yield Check(f"a folder of {MANY} names of {length} bytes", lambda it=f"names{length}": self.listed(it), 0, b"all", "")
 
     def make_deep(self):
         """A file below folders with long names, whose path is longer than a path may be, and one that is found on the way."""
