@@ -1,6 +1,7 @@
 //! What files are searched for.
 
 use crate::asked::Asked;
+use crate::selecting_files::Selection;
 
 /// What files are searched for, and how the results are printed.
 #[derive(Clone, Copy)]
@@ -12,6 +13,8 @@ pub struct Task<'a> {
     pub bare: bool,
     /// The name of standard input.
     pub input_name: &'a str,
+    /// Which files are searched.
+    pub selection: &'a Selection,
 }
 
 /// The name that is printed for the file at a path.
