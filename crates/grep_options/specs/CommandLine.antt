@@ -140,6 +140,25 @@ folder_options =
     ∷ option (codes "devices") (codes "D") Set
     ∷ []
 
+-- Which files are searched. The option `hidden` changes nothing: files whose name begins with a dot are searched.
+abbrev pub glob_options : List OptionRow
+glob_options =
+    option (codes "include") [] Append
+    ∷ option (codes "exclude") [] Append
+    ∷ option (codes "exclude-from") [] Append
+    ∷ option (codes "exclude-dir") [] Append
+    ∷ option (codes "glob") (codes "g") Append
+    ∷ []
+
+abbrev pub file_options : List OptionRow
+file_options =
+    glob_options
+    ++ (flag (codes "hidden") []
+    ∷ option (codes "max-depth") [] Set
+    ∷ option (codes "sort") [] Set
+    ∷ flag (codes "files") []
+    ∷ [])
+
 abbrev pub paired_options : List OptionRow
 paired_options =
     flag_over (codes "with-filename") (codes "H") (codes "no-filename")
@@ -192,4 +211,5 @@ options =
     ++ (case_options
     ++ (selecting_options
     ++ (printing_options
-    ++ (folder_options ++ (paired_options ++ (number_options ++ (accepted_options ++ other_options))))))))
+    ++ (folder_options
+    ++ (file_options ++ (paired_options ++ (number_options ++ (accepted_options ++ other_options)))))))))

@@ -1,3 +1,4 @@
 pub mod CommandLine
+pub mod FileOptions
 pub mod Numbers
 pub mod Options

@@ -4,10 +4,12 @@
 //! `specs/Options.antt` defines what they return.
 #![tactic(auto)]
 
+mod files;
 mod numbers;
 mod options;
 mod values;
 
+pub use files::{FileOption, FileValue, file_values};
 pub use numbers::with_numbers;
 pub use options::command;
 pub use values::{is_set, limit, number};

@@ -7,18 +7,19 @@ ghost use Rattle.grep_options.specs.CommandLine.{flag, flag_over, flag_without, 
 ghost use Rattle.grep_options.specs.CommandLine.{other_options, paired_options, printing_options, quiet_option, selecting_options};
 ghost use Rattle.grep_options.specs.CommandLine.{syntax_options, turning_off, words_option};
 
+use crate::files::push_files;
 use clap::{Arg, ArgAction, Command, value_parser};
 use std::alloc::{AllocError, Global};
 
 /// An option whose long name is the name under which its value is held.
-fn option<'a>(alloc: Global, id: &'a str, action: ArgAction, help: &'a str) -> Arg<'a>
+pub fn option<'a>(alloc: Global, id: &'a str, action: ArgAction, help: &'a str) -> Arg<'a>
     ensures { option_row result ≡ option id.entry.now [] action }
 {
     Arg::new(alloc, id).long(id).help(help).action(action)
 }
 
 /// Appends an option. Only this function drops an option for which there is no room.
-fn push<'a>(args: &mut Vec<Arg<'a>>, arg: Arg<'a>) -> Result<(), AllocError>
+pub fn push<'a>(args: &mut Vec<Arg<'a>>, arg: Arg<'a>) -> Result<(), AllocError>
     ensures { OnOk result (AddsOptions args.old.items args.new.items (option_row arg.entry ∷ [])) }
 {
     args.push(arg)?;
@@ -56,7 +57,7 @@ fn push_pair<'a>(
 }
 
 /// Appends an option that takes no value and has no letter.
-fn push_long<'a>(
+pub fn push_long<'a>(
     alloc: Global,
     args: &mut Vec<Arg<'a>>,
     id: &'a str,
@@ -282,7 +283,7 @@ fn push_numbers<'a>(alloc: Global, args: &mut Vec<Arg<'a>>) -> Result<(), AllocE
 }
 
 /// An option that may be given several times, whose values may look like options.
-fn list<'a>(alloc: Global, id: &'a str, value: &'a str, help: &'a str) -> Arg<'a>
+pub fn list<'a>(alloc: Global, id: &'a str, value: &'a str, help: &'a str) -> Arg<'a>
     ensures { option_row result ≡ option id.entry.now [] Append }
 {
     option(alloc, id, ArgAction::Append, help)
@@ -380,6 +381,7 @@ fn push_all<'a>(alloc: Global, args: &mut Vec<Arg<'a>>) -> Result<(), AllocError
     push_selecting(alloc, args)?;
     push_printing(alloc, args)?;
     push_folders(alloc, args)?;
+    push_files(alloc, args)?;
     push_pairs(alloc, args)?;
     push_numbers(alloc, args)?;
     push_accepted(alloc, args)?;

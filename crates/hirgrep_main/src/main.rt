@@ -17,16 +17,18 @@ mod outcome;
 mod output;
 mod patterns;
 mod searching;
+mod selecting_files;
 mod shown;
 mod task;
 mod walking;
 
 use crate::arguments::{arguments_of, report_usage};
-use crate::asked::{Asked, asked_of, input_name, is_colorful};
+use crate::asked::{Asked, Directories, asked_of, input_name, is_colorful};
 use crate::messages::report_error;
 use crate::outcome::Outcome;
 use crate::patterns::{gives_patterns, lines_of, patterns_of};
 use crate::searching::{Files, search};
+use crate::selecting_files::{Selection, selection_of};
 use clap::ArgMatches;
 use grep_options::{command, is_set, with_numbers};
 use std::alloc::AllocError;
@@ -75,6 +77,41 @@ fn run_words(rt: &HostRuntime, asked: &Asked, words: Files<'_>) -> Result<Outcom
     }
 }
 
+/// Prints the names of the files that would be searched, in folders too, unless these are skipped.
+fn run_list(rt: &HostRuntime, asked: &Asked, files: Files<'_>) -> Result<Outcome, AllocError> {
+    let directories = if asked.directories == Directories::Skip {
+        Directories::Skip
+    } else {
+        Directories::Recurse
+    };
+    let asked = Asked {
+        directories,
+        ..*asked
+    };
+    search(rt, &asked, &[], files)
+}
+
+/// Runs the search that the options ask for, of the files that they choose.
+fn run_chosen(
+    rt: &HostRuntime,
+    asked: &Asked,
+    matches: &ArgMatches<'_>,
+    selection: &Selection,
+) -> Result<Outcome, AllocError> {
+    let words = Files {
+        names: matches.get_strs("words").unwrap_or(&[]),
+        input_name: input_name(matches),
+        selection,
+    };
+    if selection.lists {
+        return run_list(rt, asked, words);
+    }
+    if gives_patterns(matches) {
+        return run_given(rt, asked, matches, words);
+    }
+    run_words(rt, asked, words)
+}
+
 /// Runs the search that the options ask for, in the folder that is named, if there is one.
 fn run_asked(
     rt: &HostRuntime,
@@ -84,14 +121,10 @@ fn run_asked(
     if !enter(rt, matches.get_strs("directory").unwrap_or(&[])) {
         return Ok(Outcome::failure());
     }
-    let words = Files {
-        names: matches.get_strs("words").unwrap_or(&[]),
-        input_name: input_name(matches),
-    };
-    if gives_patterns(matches) {
-        return run_given(rt, asked, matches, words);
+    match selection_of(rt, asked, matches)? {
+        Some(selection) => run_chosen(rt, asked, matches, &selection),
+        None => Ok(Outcome::failure()),
     }
-    run_words(rt, asked, words)
 }
 
 /// Runs what the command line asks for, and returns the exit status. Basic regular expressions are an error.

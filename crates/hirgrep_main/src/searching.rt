@@ -19,6 +19,7 @@ use crate::input::input;
 use crate::messages::{Causes, report_no_finder};
 use crate::outcome::Outcome;
 use crate::output::Output;
+use crate::selecting_files::Selection;
 use crate::task::{Task, shown_name};
 use crate::walking::{Kind, is_output, kind_of, output_file, push_folder, push_found};
 use grep_core::{
@@ -37,6 +38,8 @@ pub struct Files<'a> {
     pub names: &'a [&'a str],
     /// The name that is printed for standard input.
     pub input_name: &'a str,
+    /// Which files are searched.
+    pub selection: &'a Selection,
 }
 
 fn strs_of<'a>(alloc: Global, texts: &'a [String]) -> Result<Vec<&'a str>, AllocError>
@@ -195,6 +198,9 @@ fn is_refused_output(
 fn search_input(rt: &HostRuntime, finder: &mut Finder<'_>, task: Task<'_>, outcome: &mut Outcome)
     ensures { Continues outcome.old outcome.new }
 {
+    if task.selection.lists {
+        return;
+    }
     let name = task.input_name;
     let reader = input(rt, task.asked);
     if is_refused_output(rt, task, outcome, name, "/dev/stdin") {
@@ -221,7 +227,39 @@ fn search_opened<R: Read + Drop>(
     }
 }
 
-/// Searches a file.
+/// Writes the name of a file as a line, unless nothing is printed.
+fn write_name<W: Write>(print: Print, name: &str, writer: &mut W) -> Result<u64, Fault> {
+    if print == Print::Nothing {
+        return Ok(1);
+    }
+    match writeln!(writer, "{name}") {
+        Ok(()) => Ok(1),
+        Err(e) => Err(Fault::Write(e.kind())),
+    }
+}
+
+/// Prints the name of a file, and records the outcome.
+fn list_file(rt: &HostRuntime, task: Task<'_>, outcome: &mut Outcome, name: &str)
+    ensures { Continues outcome.old outcome.new }
+{
+    let mut writer = Output::new(rt.stdout());
+    let print = task.asked.what.print;
+    let written = write_name(print, name, &mut writer);
+    outcome.keep_search(
+        rt,
+        task.asked,
+        name,
+        0,
+        writer.wrote(),
+        written,
+        Causes {
+            read: None,
+            write: writer.code(),
+        },
+    );
+}
+
+/// Searches a file, or prints its name.
 fn search_file(
     rt: &HostRuntime,
     finder: &mut Finder<'_>,
@@ -232,6 +270,10 @@ fn search_file(
     ensures { Continues outcome.old outcome.new }
 {
     let name = shown_name(task, path);
+    if task.selection.lists {
+        list_file(rt, task, outcome, name);
+        return;
+    }
     if is_refused_output(rt, task, outcome, name, path) {
         return;
     }
@@ -305,6 +347,36 @@ fn search_kind(
     Ok(())
 }
 
+/// Whether this is a folder.
+fn is_folder(kind: &io::Result<Kind>) -> bool {
+    match kind {
+        Ok(kind) => *kind == Kind::Folder,
+        Err(_) => false,
+    }
+}
+
+/// Searches something that was found in a folder, unless the options leave it out.
+fn search_found(
+    rt: &HostRuntime,
+    finder: &mut Finder<'_>,
+    task: Task<'_>,
+    outcome: &mut Outcome,
+    left: &mut Vec<String>,
+    root: &str,
+    path: &str,
+) -> Result<(), AllocError>
+    ensures { Continues outcome.old outcome.new }
+{
+    let kind = kind_of(rt, path, task.asked.follows);
+    if task
+        .selection
+        .skips_found(rt.alloc(), is_folder(&kind), path)?
+    {
+        return Ok(());
+    }
+    search_kind(rt, finder, task, outcome, left, root, path, kind)
+}
+
 /// Searches the files of a folder, and of the folders in it.
 fn search_folder(
     rt: &HostRuntime,
@@ -315,6 +387,9 @@ fn search_folder(
 ) -> Result<(), AllocError>
     ensures { Continues outcome.old outcome.new }
 {
+    if !task.selection.enters(0) {
+        return Ok(());
+    }
     let mut left = Vec::new(rt.alloc());
     push_folder(rt, task, outcome, &mut left, root, true)?;
     for _index in 0..u64::MAX {
@@ -322,8 +397,7 @@ fn search_folder(
             break;
         };
         let path = path.as_str();
-        let kind = kind_of(rt, path, task.asked.follows);
-        search_kind(rt, finder, task, outcome, &mut left, root, path, kind)?;
+        search_found(rt, finder, task, outcome, &mut left, root, path)?;
         if outcome.ended {
             break;
         }
@@ -400,6 +474,45 @@ fn search_as(
     Ok(())
 }
 
+/// Whether the options leave out what an argument names.
+fn is_left_out(
+    alloc: Global,
+    task: Task<'_>,
+    path: &str,
+    named: &io::Result<Named>,
+) -> Result<bool, AllocError> {
+    let selection = task.selection;
+    match named {
+        Ok(Named::File) => selection.skips_named(alloc, false, path),
+        Ok(Named::Device) => selection.skips_named(alloc, false, path),
+        Ok(Named::Folder) => {
+            if task.bare {
+                return Ok(false);
+            }
+            selection.skips_named(alloc, true, path)
+        }
+        Ok(Named::Input) => Ok(false),
+        Err(_) => Ok(false),
+    }
+}
+
+/// Searches what an argument names, unless the options leave it out.
+fn search_chosen(
+    rt: &HostRuntime,
+    finder: &mut Finder<'_>,
+    task: Task<'_>,
+    outcome: &mut Outcome,
+    path: &str,
+    named: io::Result<Named>,
+) -> Result<(), AllocError>
+    ensures { Continues outcome.old outcome.new }
+{
+    if is_left_out(rt.alloc(), task, path, &named)? {
+        return Ok(());
+    }
+    search_as(rt, finder, task, outcome, path, named)
+}
+
 /// Searches what an argument names.
 fn search_named(
     rt: &HostRuntime,
@@ -410,7 +523,7 @@ fn search_named(
 ) -> Result<(), AllocError>
     ensures { Continues outcome.old outcome.new }
 {
-    search_as(rt, finder, task, outcome, path, named_at(rt, path))
+    search_chosen(rt, finder, task, outcome, path, named_at(rt, path))
 }
 
 /// Whether names are printed before lines, depending on whether several files may be searched.
@@ -465,7 +578,7 @@ fn search_one(
     let several = may_be_several(task.asked.directories, &named);
     let with_name = is_named(task.asked, several);
     let task = Task { with_name, ..task };
-    search_as(rt, finder, task, outcome, path, named)
+    search_chosen(rt, finder, task, outcome, path, named)
 }
 
 /// Searches what arguments name. If they name nothing, searches the current folder or standard input.
@@ -484,6 +597,7 @@ fn search_files(
         bare: false,
         input_name: files.input_name,
         output: output_file(rt),
+        selection: files.selection,
     };
     match files.names {
         [] => {

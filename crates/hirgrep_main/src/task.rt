@@ -1,6 +1,7 @@
 //! What files are searched for.
 
 use crate::asked::Asked;
+use crate::selecting_files::Selection;
 use crate::walking::FileId;
 
 /// What files are searched for, and how the results are printed.
@@ -15,6 +16,8 @@ pub struct Task<'a> {
     pub input_name: &'a str,
     /// The file that standard output is redirected to, if that is a regular one.
     pub output: Option<FileId>,
+    /// Which files are searched.
+    pub selection: &'a Selection,
 }
 
 /// The name that is printed for the file at a path.

@@ -3,6 +3,7 @@ ghost use Rattle.hirgrep_main.specs.Outcomes.{Continues};
 
 use crate::messages::warn_of_loop;
 use crate::outcome::Outcome;
+use crate::selecting_files::depth_in;
 use crate::task::{Task, shown_name};
 use std::alloc::{AllocError, Global};
 use std::fs::Metadata;
@@ -196,6 +197,9 @@ pub fn push_folder(
     }
     let mut paths = Vec::new(rt.alloc());
     push_entries(rt, task, outcome, path, names.as_slice(), &mut paths)?;
+    if task.selection.sorts {
+        paths.sort()?;
+    }
     for path in paths.into_iter().rev() {
         left.push(path)?;
     }
@@ -214,6 +218,9 @@ pub fn push_found(
 ) -> Result<(), AllocError>
     ensures { Continues outcome.old outcome.new }
 {
+    if !task.selection.enters(depth_in(root, path)) {
+        return Ok(());
+    }
     let follows = task.asked.follows;
     if follows && is_loop(rt, root, path) {
         warn_of_loop(rt, task.asked, shown_name(task, path));

@@ -9,7 +9,8 @@ returns c =
     let four = joined three c.in_ok-push_selecting.ensures in
     let five = joined four c.in_ok-push_printing.ensures in
     let six = joined five c.in_ok-push_folders.ensures in
-    let seven = joined six c.in_ok-push_pairs.ensures in
+    let files = joined six c.in_ok-push_files.ensures in
+    let seven = joined files c.in_ok-push_pairs.ensures in
     let eight = joined seven c.in_ok-push_numbers.ensures in
     let nine = joined eight c.in_ok-push_accepted.ensures in
     on_ok_weaker c.push_others.result (λ p. joined nine p) c.push_others.ensures
