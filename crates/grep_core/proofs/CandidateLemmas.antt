@@ -40,11 +40,12 @@ use Rattle.grep_core.specs.Meant.{line_config}
 use Rattle.grep_core.specs.declared.candidates.Stop.{Stop}
 use Rattle.grep_core.specs.declared.patterns.PatternOptions.{PatternOptions}
 use Rattle.grep_core.specs.Candidates.{BlockRegex, IsCandidatesOf, IsLineStart, HaveNoMatch, HasMatchAt, IsStop, IsStopIfAny, IsEnd}
-use Rattle.grep_core.specs.Candidates.{StopsInLine, searched_tree}
+use Rattle.grep_core.specs.Candidates.{IsNextLine, StopsInLine, searched_tree}
 use Rattle.grep_core.specs.Candidates.IsStop.{least_end, quit_byte}
 use Rattle.grep_core.specs.Lines.{ended, searched, split_lines}
 use Rattle.grep_core.specs.Patterns.{has_match_in}
-use Rattle.grep_core.specs.Searchers.{line_settings}
+use Rattle.grep_core.specs.Searchers.{IsResized, line_settings}
+use Rattle.regex_pair.specs.Pairs.{Pair}
 use Rattle.grep_core.proofs.BoundedTreeLemmas.{starts_of}
 use Rattle.grep_core.proofs.BlockLemmas.{is_feed, first_at, first_within, one_more, some_at}
 use Rattle.grep_core.proofs.JoinLemmas.{feed_there}
@@ -142,6 +143,21 @@ have_none how texts p block text at x it bytes least all res read k line below =
     (none_in how.crlf (searched_tree p.exact it.tree ∷ []) block at x _
     (all_one (λ y. has_crlf y ≡ false) (searched_tree p.exact it.tree) (plain_searched p.exact it.tree it.plain)) least s))
 
+-- ---- larger caches
+-- a regex of the same trees with other caches serves as well
+pub candidates_resized : (how : PatternOptions) (texts : List (List ℕ)) (p q : Pair) (exact feedless crlf : Bool) (bytes : ℕ) →
+    IsResized bytes p q → IsCandidatesOf how texts (record { regex = p; exact = exact; feedless = feedless; crlf = crlf }) →
+    IsCandidatesOf how texts (record { regex = q; exact = exact; feedless = feedless; crlf = crlf })
+candidates_resized how texts p q exact feedless crlf bytes resized it = record {
+  same = it.same;
+  tree = it.tree;
+  mean = it.mean;
+  plain = it.plain;
+  feedless = it.feedless;
+  capacity = Some bytes;
+  built = resized (line_tree how.crlf (searched_tree exact it.tree) ∷ []) it.capacity it.built;
+}
+
 -- ---- what a search returns
 pub end_told : (xs : List Tree) (block : List ℕ) (at : ℕ) (o : Option ℕ) →
     IsEarliestEnd xs (looks_by is_word_char line_settings block) block at (length block) o → IsStopIfAny xs block at o
@@ -194,6 +210,18 @@ nothing_between : (how : PatternOptions) (texts : List (List ℕ)) (block : List
 nothing_between how texts block at next low =
     let none : next - at ≡ 0 = omega (arith, low) in
     subst (λ n. HaveNoMatch how texts (take n (drop at block))) (sym none) (λ res read k line below. absurd (omega (arith, below)))
+
+-- ---- the next line
+-- a line of which nothing is known
+pub here_is_next : (how : PatternOptions) (texts : List (List ℕ)) (block : List ℕ) (at : ℕ) → at ≤ length block → IsLineStart block at →
+    IsNextLine how texts block at (record { start = at; has = false; passed = 0; gave_up = false })
+here_is_next how texts block at within starts = record {
+  from = grind arith;
+  within = within;
+  starts = λ below. starts;
+  passed = nothing_between how texts block at at (grind arith);
+  has = λ is. absurd (true≢false (sym is));
+}
 
 module _ (how : PatternOptions) (texts : List (List ℕ)) (p : BlockRegex) (block : List ℕ) (at : ℕ) (it : IsCandidatesOf how texts p)
     (bytes : All (λ b. b < 256) block)

@@ -2,6 +2,7 @@ mod BlockLemmas
 mod BoundedLemmas
 mod BoundedTreeLemmas
 mod CourseLemmas
+mod EdgeLemmas
 mod FallbackLemmas
 mod FeedLemmas
 mod HeldLemmas
@@ -12,6 +13,7 @@ mod MarkLemmas
 mod NeededLemmas
 mod NumberLemmas
 mod PassLemmas
+mod RegexLemmas
 mod ReportRows
 mod ReturnLemmas
 mod RunLemmas

@@ -1,5 +1,5 @@
 -- What is seen of a line.
-use Rattle.std.proofs.Common.{◌≡◌, ℕ, zero, suc, ◌+◌, Bool, true, false, List, [], map, length, All, Option, Some, None, if◌then◌else◌}
+use Rattle.std.proofs.Common.{◌≡◌, ℕ, zero, suc, ◌+◌, Bool, true, false, List, [], ◌∷◌, map, length, All, Option, Some, None, if◌then◌else◌}
 use Rattle.std.proofs.Common.{refl, sym, ap, ◌∙◌, subst, arith}
 use Rattle.std.specs.Prelude.{is_some}
 use Rattle.std.specs.List.{filter}
@@ -16,7 +16,7 @@ use Rattle.grep_core.specs.Lines.{SplitLine, searched, split_lines}
 use Rattle.grep_core.specs.Patterns.{finds_of, has_match_in, spans_in}
 use Rattle.grep_core.specs.Report.{is_some_text}
 use Rattle.grep_core.specs.Candidates.{HaveNoMatch}
-use Rattle.grep_core.specs.Searchers.{AreReported, IsMatchReported, Sought, IsSearcherOf, SearchesFor, found_by}
+use Rattle.grep_core.specs.Searchers.{AreReported, IsMatchReported, IsResized, Sought, IsSearcherOf, SearchesFor, found_by}
 use Rattle.pattern_search.specs.Texts.{AreReadAs}
 use Rattle.grep_core.specs.Reporting.{needs_spans, with_needed_spans}
 
@@ -49,6 +49,19 @@ none_needed w how res line none = ap (λ b. filter is_some_text (if b then (find
 -- what a finder knows of its searcher
 abbrev pub IsOwn : PatternOptions → List (List ℕ) → Bool → Pair → Type 0
 IsOwn how texts spans p = (it : IsSearcherOf how texts p) × (spans ≡ true → LoopsRead it.tree)
+
+-- and of one with larger caches
+pub own_resized : (how : PatternOptions) (texts : List (List ℕ)) (spans : Bool) (p q : Pair) (bytes : ℕ) → IsResized bytes p q →
+    IsOwn how texts spans p → IsOwn how texts spans q
+own_resized how texts spans p q bytes resized own = (
+  record {
+    tree = own.0.tree;
+    mean = own.0.mean;
+    capacity = Some bytes;
+    built = resized (own.0.tree ∷ []) own.0.capacity own.0.built;
+  },
+  own.1,
+)
 
 -- and if they count these are all
 pub all_needed : (w : OutputOptions) (how : PatternOptions) (res : List Re) (line : SplitLine) (found : List (ℕ × ℕ)) →

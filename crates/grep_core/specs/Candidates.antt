@@ -1,5 +1,6 @@
 -- Which lines of a haystack may have a match, by a regex built from trees that are changed to search blocks of lines.
 use Rattle.std.specs.Prelude.{◌≡◌, ◌==◌, ℕ, ◌+◌, ◌-◌, ◌<◌, ◌≤◌, Bool, true, false, List, [], ◌∷◌, All, drop, length, slice_get, take}
+use Rattle.std.specs.Prelude.{slice_range}
 use Rattle.std.specs.Prelude.{Option, Some}
 use Rattle.std.specs.Prelude.{None, if◌then◌else◌}
 use Rattle.std.specs.List.{position}
@@ -15,6 +16,7 @@ use Rattle.earliest_ends.specs.Earliest.{HasNoSpan, NoneEndsBefore, IsLeastEnd, 
 use Rattle.pattern_search.specs.Texts.{AreReadAs}
 use Rattle.grep_core.specs.BoundedTrees.{IsTreeOf}
 use Rattle.grep_core.specs.Meant.{line_config}
+use Rattle.grep_core.specs.declared.candidates.Reached.{Reached}
 use Rattle.grep_core.specs.declared.patterns.PatternOptions.{PatternOptions}
 use Rattle.grep_core.specs.Lines.{ended, searched, split_lines}
 use Rattle.grep_core.specs.Patterns.{finds_of}
@@ -59,6 +61,15 @@ abbrev pub HasMatchAt : PatternOptions → List (List ℕ) → List ℕ → ℕ 
 HasMatchAt how texts block at =
     (len : ℕ) → position (λ b. b == 10) (drop at block) ≡ Some len →
     IsMatchReported how texts (searched how.crlf (ended (take len (drop at block)))) true
+
+-- The next line from the offset `at` on that may have a match. It starts at or after that offset, and is none if its start is the end of
+-- the block. No line before it has a match. If it is known to have one, it has one.
+pub record IsNextLine (how : PatternOptions) (texts : List (List ℕ)) (block : List ℕ) (at : ℕ) (r : Reached) : Type 0 where
+  pub from : at ≤ r.start
+  pub within : r.start ≤ length block
+  pub starts : r.start < length block → IsLineStart block r.start
+  pub passed : HaveNoMatch how texts (slice_range block at r.start)
+  pub has : r.has ≡ true → HasMatchAt how texts block r.start
 
 -- Where a search of a block for these trees stops, if it starts at `at`. Either this offset is the least end of their spans in the block
 -- from `at` on. Or a quit byte of the search is at this offset, and none of these spans ends before it.

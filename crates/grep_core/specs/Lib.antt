@@ -14,3 +14,4 @@ pub mod Bounded
 pub mod Joined
 pub mod BoundedTrees
 pub mod Candidates
+pub mod Edges

@@ -37,6 +37,11 @@ pub record IsSearcherOf (how : PatternOptions) (texts : List (List ℕ)) (p : Pa
   pub capacity : Option ℕ
   pub built : IsBuilt (tree ∷ []) (sized_settings capacity) p
 
+-- The second regex is built from the trees of the first one, with caches of this capacity.
+abbrev pub IsResized : ℕ → Pair → Pair → Type 0
+IsResized bytes p q =
+    (xs : List Tree) (capacity : Option ℕ) → IsBuilt xs (sized_settings capacity) p → IsBuilt xs (sized_settings (Some bytes)) q
+
 -- The reported answer to whether the line has a match is right for the patterns as they are parsed.
 abbrev pub IsMatchReported : PatternOptions → List (List ℕ) → List ℕ → Bool → Type 0
 IsMatchReported how texts line reported = (res : List Re) → AreReadAs (line_config how) texts res → reported ≡ has_match_in how res line

@@ -1,21 +1,23 @@
 //! Searches blocks of lines by automata whose caches grow.
-ghost use Rattle.std.specs.Prelude.{◌≡◌, ◌≤◌, ◌<◌, IfOk, length, map, slice_range, true};
-ghost use Rattle.grep_core.specs.Candidates.{HaveNoMatch, HasMatchAt, IsLineStart};
+ghost use Rattle.std.specs.Prelude.{◌≡◌, ◌≤◌, ◌∷◌, [], IfOk, IfSome, length};
+ghost use Rattle.hirscan.specs.Built.{IsBuilt};
+ghost use Rattle.grep_core.specs.BoundedTrees.{IsTreeOf};
+ghost use Rattle.grep_core.specs.Candidates.{IsCandidatesOf, IsLineStart, IsNextLine};
+ghost use Rattle.grep_core.specs.Searchers.{line_settings};
 
-use crate::candidates::{Candidates, Reached, candidates_of};
+use crate::candidates::{Candidates, Reached, exact_regex, wordless_regex};
 use crate::fault::Fault;
-use crate::patterns::PatternOptions;
+use crate::line_patterns::LinePatterns;
+use crate::searcher::Searcher;
 use crate::sizes::Size;
+use hir_core::Hir;
 use std::alloc::Global;
 use std::marker::Model;
 
 /// A search of blocks of lines for patterns. If it can't be built, no line is passed.
 #[derive(Drop)]
 pub(crate) struct BlockSearch<'t> {
-    texts: &'t [&'t str],
-    how: PatternOptions,
-    /// Whether the tree of the patterns is searched for as it is.
-    exact: bool,
+    patterns: &'t LinePatterns<'t>,
     candidates: Option<Candidates>,
     /// The size of the caches.
     size: Size,
@@ -24,33 +26,83 @@ pub(crate) struct BlockSearch<'t> {
 }
 
 impl<'t> Model for BlockSearch<'t> {
-    ghost use Rattle.std.specs.Prelude.{IfSome, ℕ, List, map};
+    ghost use Rattle.std.specs.Prelude.{IfSome, ℕ, List};
     ghost use Rattle.grep_core.specs.Candidates.{IsCandidatesOf};
     ghost use Rattle.grep_core.specs.declared.patterns.PatternOptions.{PatternOptions};
 
     ghost Value = { PatternOptions × List (List ℕ) };
 
-    ghost view = { λ b. (b.how, map (λ t. t.now) b.texts.now) };
+    ghost view = { λ b. b.patterns.now };
 
-    ghost invariant = { λ b. IfSome b.candidates (λ c. IsCandidatesOf b.how (map (λ t. t.now) b.texts.now) c.0) };
+    ghost invariant = { λ b. IfSome b.candidates (λ c. IsCandidatesOf b.patterns.now.0 b.patterns.now.1 c.0) };
+}
+
+/// A search of blocks for the tree of the patterns, over a searcher of lines for it. If there is none, each line is searched by itself.
+fn exact_candidates(
+    alloc: Global,
+    patterns: &LinePatterns<'_>,
+    tree: &Hir,
+    lines: &Searcher,
+) -> Option<Candidates>
+    requires tree { IsTreeOf patterns.now.0 patterns.now.1 tree.now }
+    requires lines { IsBuilt (tree.now ∷ []) line_settings lines.now.0 }
+    ensures { IfSome result (λ c. IsCandidatesOf patterns.now.0 patterns.now.1 c.0) }
+{
+    let crlf = patterns.how().crlf;
+    let Ok(regex) = exact_regex(alloc, tree, lines, crlf) else {
+        return None;
+    };
+    let Ok(candidates) = Candidates::new(alloc, regex, tree, true, crlf) else {
+        return None;
+    };
+    candidates
+}
+
+/// A search of blocks for the tree of the patterns without its looks at words, if there is one.
+fn wordless_candidates(alloc: Global, patterns: &LinePatterns<'_>) -> Option<Candidates>
+    ensures { IfSome result (λ c. IsCandidatesOf patterns.now.0 patterns.now.1 c.0) }
+{
+    let crlf = patterns.how().crlf;
+    let Ok(tree) = patterns.tree(false) else {
+        return None;
+    };
+    let Ok(regex) = wordless_regex(alloc, tree, crlf) else {
+        return None;
+    };
+    let Ok(candidates) = Candidates::new(alloc, regex, tree, false, crlf) else {
+        return None;
+    };
+    candidates
 }
 
 impl<'t> BlockSearch<'t> {
-    /// Builds a search for patterns. If it is exact, it gives up at bytes above ASCII where the patterns ask for words. Otherwise it doesn't,
-    /// and passes fewer lines.
-    pub(crate) fn new(
+    /// A search that gives up at bytes above ASCII where the patterns ask for words. The searcher is one of lines for the tree of the
+    /// patterns.
+    pub(crate) fn exact(
         alloc: Global,
-        texts: &'t [&'t str],
-        how: &PatternOptions,
-        exact: bool,
+        patterns: &'t LinePatterns<'t>,
+        tree: &Hir,
+        lines: &Searcher,
     ) -> BlockSearch<'t>
-        ensures { result ≡ (how.now, map (λ t. t.now) texts.now) }
+        requires tree { IsTreeOf patterns.now.0 patterns.now.1 tree.now }
+        requires lines { IsBuilt (tree.now ∷ []) line_settings lines.now.0 }
+        ensures { result ≡ patterns.now }
     {
         BlockSearch {
-            texts,
-            how: *how,
-            exact,
-            candidates: candidates_of(alloc, texts, how, exact, None),
+            patterns,
+            candidates: exact_candidates(alloc, patterns, tree, lines),
+            size: Size::first(),
+            past_clears: 0,
+        }
+    }
+
+    /// A search that doesn't give up, and passes fewer lines.
+    pub(crate) fn wordless(alloc: Global, patterns: &'t LinePatterns<'t>) -> BlockSearch<'t>
+        ensures { result ≡ patterns.now }
+    {
+        BlockSearch {
+            patterns,
+            candidates: wordless_candidates(alloc, patterns),
             size: Size::first(),
             past_clears: 0,
         }
@@ -86,6 +138,16 @@ impl<'t> BlockSearch<'t> {
         }
     }
 
+    /// The search with caches of this capacity, if there is a search and memory suffices.
+    fn resized(&self, alloc: Global, capacity: usize) -> Option<Candidates>
+        ensures { IfSome result (λ c. IsCandidatesOf self.now.0 self.now.1 c.0) }
+    {
+        let Some(candidates) = &self.candidates else {
+            return None;
+        };
+        candidates.resized(alloc, capacity)
+    }
+
     /// Enlarges the caches to this size, if memory suffices. It isn't inlined since it is called rarely, and its setup would otherwise cost
     /// time for every line.
     #[inline(never)]
@@ -93,8 +155,7 @@ impl<'t> BlockSearch<'t> {
         ensures { self.new ≡ self.old }
     {
         let clears = self.clears();
-        let capacity = Some(size.capacity);
-        if let Some(larger) = candidates_of(alloc, self.texts, &self.how, self.exact, capacity) {
+        if let Some(larger) = self.resized(alloc, size.capacity) {
             self.candidates = Some(larger);
             self.size = size;
             self.past_clears = self.past_clears.saturating_add(clears);
@@ -121,11 +182,7 @@ impl<'t> BlockSearch<'t> {
         requires within { at ≤ length block.now }
         requires starts { IsLineStart block.now at }
         ensures same { self.new ≡ self.old }
-        ensures from { IfOk result (λ r. at ≤ r.start) }
-        ensures within { IfOk result (λ r. r.start ≤ length block.now) }
-        ensures starts { IfOk result (λ r. r.start < length block.now → IsLineStart block.now r.start) }
-        ensures passed { IfOk result (λ r. HaveNoMatch self.old.0 self.old.1 (slice_range block.now at r.start)) }
-        ensures has { IfOk result (λ r. r.has ≡ true → HasMatchAt self.old.0 self.old.1 block.now r.start) }
+        ensures next { IfOk result (IsNextLine self.old.0 self.old.1 block.now at) }
     {
         self.grow(alloc);
         let reached = match self.reach(block, at) {
@@ -141,19 +198,10 @@ impl<'t> BlockSearch<'t> {
         requires within { at ≤ length block.now }
         requires starts { IsLineStart block.now at }
         ensures same { self.new ≡ self.old }
-        ensures from { IfOk result (λ r. at ≤ r.start) }
-        ensures within { IfOk result (λ r. r.start ≤ length block.now) }
-        ensures starts { IfOk result (λ r. r.start < length block.now → IsLineStart block.now r.start) }
-        ensures passed { IfOk result (λ r. HaveNoMatch self.old.0 self.old.1 (slice_range block.now at r.start)) }
-        ensures has { IfOk result (λ r. r.has ≡ true → HasMatchAt self.old.0 self.old.1 block.now r.start) }
+        ensures next { IfOk result (IsNextLine self.old.0 self.old.1 block.now at) }
     {
         let Some(candidates) = &mut self.candidates else {
-            return Ok(Reached {
-                start: at,
-                has: false,
-                passed: 0,
-                gave_up: false,
-            });
+            return Ok(Reached::here(at));
         };
         let reached = match candidates.next_line(block, at) {
             Ok(reached) => reached,

@@ -1,11 +1,16 @@
 //! Finds the lines of blocks that may have a match, in inputs of any script.
-ghost use Rattle.std.specs.Prelude.{◌≡◌, ◌≤◌, ◌<◌, IfOk, length, map, slice_range, true};
-ghost use Rattle.grep_core.specs.Candidates.{HaveNoMatch, HasMatchAt, IsLineStart};
+ghost use Rattle.std.specs.Prelude.{◌≡◌, ◌≤◌, ◌∷◌, [], IfOk, length};
+ghost use Rattle.hirscan.specs.Built.{IsBuilt};
+ghost use Rattle.grep_core.specs.BoundedTrees.{IsTreeOf};
+ghost use Rattle.grep_core.specs.Candidates.{IsLineStart, IsNextLine};
+ghost use Rattle.grep_core.specs.Searchers.{line_settings};
 
 use crate::block_search::BlockSearch;
 use crate::candidates::Reached;
 use crate::fault::Fault;
-use crate::patterns::PatternOptions;
+use crate::line_patterns::LinePatterns;
+use crate::searcher::Searcher;
+use hir_core::Hir;
 use std::alloc::Global;
 use std::marker::Model;
 
@@ -16,8 +21,7 @@ const WORDLESS_SPAN: usize = 1 << 16;
 /// no looks at words, is used for some time. That one never gives up, but passes fewer lines.
 #[derive(Drop)]
 pub(crate) struct CandidateFinder<'t> {
-    texts: &'t [&'t str],
-    how: PatternOptions,
+    patterns: &'t LinePatterns<'t>,
     exact: BlockSearch<'t>,
     /// It is built when the exact one first gives up.
     wordless: Option<BlockSearch<'t>>,
@@ -26,30 +30,31 @@ pub(crate) struct CandidateFinder<'t> {
 }
 
 impl<'t> Model for CandidateFinder<'t> {
-    ghost use Rattle.std.specs.Prelude.{◌≡◌, IfSome, ℕ, List, map};
+    ghost use Rattle.std.specs.Prelude.{◌≡◌, IfSome, ℕ, List};
     ghost use Rattle.grep_core.specs.declared.patterns.PatternOptions.{PatternOptions};
 
     ghost Value = { PatternOptions × List (List ℕ) };
 
-    ghost view = { λ f. (f.how, map (λ t. t.now) f.texts.now) };
+    ghost view = { λ f. f.patterns.now };
 
-    ghost invariant = { λ f. (f.exact ≡ (f.how, map (λ t. t.now) f.texts.now))
-        × IfSome f.wordless (λ b. b ≡ (f.how, map (λ t. t.now) f.texts.now)) };
+    ghost invariant = { λ f. (f.exact ≡ f.patterns.now) × IfSome f.wordless (λ b. b ≡ f.patterns.now) };
 }
 
 impl<'t> CandidateFinder<'t> {
-    /// Builds the exact search.
+    /// Builds the exact search. The searcher is one of lines for the tree of the patterns.
     pub(crate) fn new(
         alloc: Global,
-        texts: &'t [&'t str],
-        how: &PatternOptions,
+        patterns: &'t LinePatterns<'t>,
+        tree: &Hir,
+        lines: &Searcher,
     ) -> CandidateFinder<'t>
-        ensures { result ≡ (how.now, map (λ t. t.now) texts.now) }
+        requires tree { IsTreeOf patterns.now.0 patterns.now.1 tree.now }
+        requires lines { IsBuilt (tree.now ∷ []) line_settings lines.now.0 }
+        ensures { result ≡ patterns.now }
     {
         CandidateFinder {
-            texts,
-            how: *how,
-            exact: BlockSearch::new(alloc, texts, how, true),
+            patterns,
+            exact: BlockSearch::exact(alloc, patterns, tree, lines),
             wordless: None,
             wordless_left: 0,
         }
@@ -78,11 +83,7 @@ impl<'t> CandidateFinder<'t> {
         requires within { at ≤ length block.now }
         requires starts { IsLineStart block.now at }
         ensures same { self.new ≡ self.old }
-        ensures from { IfOk result (λ r. at ≤ r.start) }
-        ensures within { IfOk result (λ r. r.start ≤ length block.now) }
-        ensures starts { IfOk result (λ r. r.start < length block.now → IsLineStart block.now r.start) }
-        ensures passed { IfOk result (λ r. HaveNoMatch self.old.0 self.old.1 (slice_range block.now at r.start)) }
-        ensures has { IfOk result (λ r. r.has ≡ true → HasMatchAt self.old.0 self.old.1 block.now r.start) }
+        ensures next { IfOk result (IsNextLine self.old.0 self.old.1 block.now at) }
     {
         let reached = match self.exact.next_line(alloc, block, at) {
             Ok(reached) => reached,
@@ -96,19 +97,10 @@ impl<'t> CandidateFinder<'t> {
         requires within { at ≤ length block.now }
         requires starts { IsLineStart block.now at }
         ensures same { self.new ≡ self.old }
-        ensures from { IfOk result (λ r. at ≤ r.start) }
-        ensures within { IfOk result (λ r. r.start ≤ length block.now) }
-        ensures starts { IfOk result (λ r. r.start < length block.now → IsLineStart block.now r.start) }
-        ensures passed { IfOk result (λ r. HaveNoMatch self.old.0 self.old.1 (slice_range block.now at r.start)) }
-        ensures has { IfOk result (λ r. r.has ≡ true → HasMatchAt self.old.0 self.old.1 block.now r.start) }
+        ensures next { IfOk result (IsNextLine self.old.0 self.old.1 block.now at) }
     {
         let Some(wordless) = &mut self.wordless else {
-            return Ok(Reached {
-                start: at,
-                has: false,
-                passed: 0,
-                gave_up: false,
-            });
+            return Ok(Reached::here(at));
         };
         let reached = match wordless.next_line(alloc, block, at) {
             Ok(reached) => reached,
@@ -126,7 +118,7 @@ impl<'t> CandidateFinder<'t> {
         if self.wordless.is_some() {
             return;
         }
-        self.wordless = Some(BlockSearch::new(alloc, self.texts, &self.how, false));
+        self.wordless = Some(BlockSearch::wordless(alloc, self.patterns));
     }
 
     /// Records that this many bytes were searched without looks at words.
@@ -148,11 +140,7 @@ impl<'t> CandidateFinder<'t> {
         requires within { at ≤ length block.now }
         requires starts { IsLineStart block.now at }
         ensures same { self.new ≡ self.old }
-        ensures from { IfOk result (λ r. at ≤ r.start) }
-        ensures within { IfOk result (λ r. r.start ≤ length block.now) }
-        ensures starts { IfOk result (λ r. r.start < length block.now → IsLineStart block.now r.start) }
-        ensures passed { IfOk result (λ r. HaveNoMatch self.old.0 self.old.1 (slice_range block.now at r.start)) }
-        ensures has { IfOk result (λ r. r.has ≡ true → HasMatchAt self.old.0 self.old.1 block.now r.start) }
+        ensures next { IfOk result (IsNextLine self.old.0 self.old.1 block.now at) }
     {
         if self.wordless_left == 0 {
             let reached = match self.reach(alloc, block, at) {

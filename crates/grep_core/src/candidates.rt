@@ -1,7 +1,7 @@
 //! The lines of a block that may have a match.
 ghost use Rattle.std.specs.Prelude.{◌≡◌, ◌==◌, ◌&&◌, ◌||◌, ◌≤◌, ◌<◌, ◌-◌, ◌∷◌, ℕ, List, [], length, map, option_map, slice_get};
 ghost use Rattle.std.specs.Prelude.{is_some, not, slice_range};
-ghost use Rattle.std.specs.Prelude.{true, Option, Some, IfErr, IfOk, IfSome};
+ghost use Rattle.std.specs.Prelude.{true, Option, Some, IfErr, IfOk, IfSome, false};
 ghost use Rattle.hir_core.specs.Tree.{Tree};
 ghost use Rattle.line_trees.specs.LineTrees.{line_tree, has_crlf, HasNoFeedFrom};
 ghost use Rattle.hirscan.specs.Built.{IsBuilt, FailsBuild};
@@ -15,20 +15,20 @@ ghost use Rattle.grep_core.specs.Candidates.{StopsInLine};
 ghost use Rattle.grep_core.specs.Searchers.{line_settings, sized_settings};
 ghost use Rattle.grep_core.specs.declared.fault.Fault.TheVariants.{NoMemory};
 
+use crate::edges::asks_for_edge;
 use crate::fault::Fault;
 use crate::feeds::skip_back;
-use crate::patterns::PatternOptions;
-use crate::searcher::{see_bytes, settings, tree_of};
+use crate::regexes::{regex_of, resized};
+use crate::searcher::{Searcher, see_bytes};
 use earliest_ends::find_earliest_end;
 use hir_core::Hir;
-use hirscan::build;
 use lazy_dfa::BuildError;
 use line_trees::{has_crlf, line_tree, reads_feed, wordless_tree};
 use regex_pair::regex::{Cache, Regex};
 use search_types::{MatchError, MatchErrorKind};
 use std::alloc::{AllocError, Global};
 use std::marker::Model;
-use std::slice;
+use std::sync::Arc;
 
 /// A regex that searches blocks of lines for patterns, and the caches of its searches.
 ///
@@ -38,10 +38,11 @@ use std::slice;
 /// block may consume that byte, so each such line is searched by itself.
 ///
 /// The regex is built from the tree of the patterns, or from that tree without its looks at words by characters. With such looks a search
-/// gives up at each byte above ASCII. Without them it doesn't, but a line with a match need have none of the patterns.
+/// gives up at each byte above ASCII. Without them it doesn't, but a line with a match need have none of the patterns. If the tree is its
+/// own line tree, the regex is shared with the search of lines.
 #[derive(Drop)]
 pub(crate) struct Candidates {
-    regex: Regex,
+    regex: Arc<Regex>,
     cache: Cache,
     /// Whether the tree of the patterns is searched for as it is.
     exact: bool,
@@ -72,15 +73,29 @@ pub(crate) struct Reached {
     pub gave_up: bool,
 }
 
+impl Reached {
+    /// The line that starts at this offset, of which nothing is known.
+    pub(crate) fn here(start: usize) -> Reached
+        ensures { result ≡ record { start = start; has = false; passed = 0; gave_up = false } }
+    {
+        Reached {
+            start,
+            has: false,
+            passed: 0,
+            gave_up: false,
+        }
+    }
+}
+
 impl Model for Candidates {
     ghost use Rattle.regex_pair.specs.Pairs.{AreCachesOf, PairCache};
     ghost use Rattle.grep_core.specs.Candidates.{BlockRegex};
 
     ghost Value = { BlockRegex × PairCache };
 
-    ghost view = { λ s. (record { regex = s.regex; exact = s.exact; feedless = s.feedless; crlf = s.crlf }, s.cache) };
+    ghost view = { λ s. (record { regex = s.regex.value; exact = s.exact; feedless = s.feedless; crlf = s.crlf }, s.cache) };
 
-    ghost invariant = { λ s. AreCachesOf s.regex s.cache };
+    ghost invariant = { λ s. AreCachesOf s.regex.value s.cache };
 }
 
 /// The offset right after the last line feed between both offsets, or the first offset if there is none.
@@ -128,75 +143,108 @@ fn stop_at(end: Option<usize>) -> Option<Stop>
     }
 }
 
-/// The tree that blocks are searched for: the line tree of the tree of the patterns, or, unless it has to be exact, of that tree without its
-/// looks at words by characters.
-fn block_tree(alloc: Global, tree: &Hir, exact: bool, crlf: bool) -> Result<Hir, AllocError>
-    ensures { IfOk result (λ x. x ≡ line_tree crlf (searched_tree exact tree.now)) }
+/// The regex of the line tree of this tree.
+fn line_regex(alloc: Global, tree: &Hir, crlf: bool) -> Result<Arc<Regex>, BuildError>
+    ensures built { IfOk result (λ re. IsBuilt (line_tree crlf tree.now ∷ []) line_settings re.value) }
+    ensures refused { IfErr result (λ e. FailsBuild (line_tree crlf tree.now ∷ []) line_settings e) }
 {
-    if exact {
-        let found = line_tree(alloc, tree, crlf)?;
-        return Ok(found);
+    let Ok(line) = line_tree(alloc, tree, crlf) else {
+        return Err(BuildError::NoMemory);
+    };
+    match regex_of(alloc, &line) {
+        Ok(regex) => Ok(regex),
+        Err(e) => Err(e),
     }
-    let wordless = wordless_tree(alloc, tree)?;
-    let found = line_tree(alloc, &wordless, crlf)?;
-    Ok(found)
 }
 
-/// Builds a search of blocks of lines for these patterns. If there is no such regex, for example because the patterns are rejected, it
-/// returns none, and each line is searched by itself.
-pub(crate) fn candidates_of(
+/// The regex that searches blocks for this tree. If it is its own line tree, this is the regex of the searcher of lines.
+pub(crate) fn exact_regex(
     alloc: Global,
-    texts: &[&str],
-    how: &PatternOptions,
-    exact: bool,
-    capacity: Option<usize>,
-) -> Option<Candidates>
-    ensures { IfSome result (λ c. IsCandidatesOf how.now (map (λ t. t.now) texts.now) c.0) }
+    tree: &Hir,
+    lines: &Searcher,
+    crlf: bool,
+) -> Result<Arc<Regex>, BuildError>
+    requires { IsBuilt (tree.now ∷ []) line_settings lines.now.0 }
+    ensures built { IfOk result (λ re. IsBuilt (line_tree crlf (searched_tree true tree.now) ∷ []) line_settings re.value) }
+    ensures refused { IfErr result (λ e. FailsBuild (line_tree crlf (searched_tree true tree.now) ∷ []) line_settings e) }
 {
-    let Ok(tree) = tree_of(alloc, how, texts, false) else {
-        return None;
+    if asks_for_edge(tree) {
+        return match line_regex(alloc, tree, crlf) {
+            Ok(regex) => Ok(regex),
+            Err(e) => Err(e),
+        };
+    }
+    match lines.regex() {
+        Ok(regex) => Ok(regex),
+        Err(_) => Err(BuildError::NoMemory),
+    }
+}
+
+/// The regex that searches blocks for this tree without its looks at words by characters.
+pub(crate) fn wordless_regex(
+    alloc: Global,
+    tree: &Hir,
+    crlf: bool,
+) -> Result<Arc<Regex>, BuildError>
+    ensures built { IfOk result (λ re. IsBuilt (line_tree crlf (searched_tree false tree.now) ∷ []) line_settings re.value) }
+    ensures refused { IfErr result (λ e. FailsBuild (line_tree crlf (searched_tree false tree.now) ∷ []) line_settings e) }
+{
+    let Ok(wordless) = wordless_tree(alloc, tree) else {
+        return Err(BuildError::NoMemory);
     };
-    let Ok(candidates) = Candidates::new(alloc, &tree, exact, how.crlf, capacity) else {
-        return None;
-    };
-    candidates
+    match line_regex(alloc, &wordless, crlf) {
+        Ok(regex) => Ok(regex),
+        Err(e) => Err(e),
+    }
 }
 
 impl Candidates {
-    /// Builds a search of blocks of lines from the tree of the patterns. It returns none if the tree has a look-around assertion about
-    /// carriage returns, since the laws about blocks don't cover such a tree.
+    /// A search of blocks of lines for the tree of the patterns, or for that tree without its looks at words by characters, with the regex
+    /// that is built for this. It returns none if the tree has a look-around assertion about carriage returns, since the laws about blocks
+    /// don't cover such a tree.
     pub(crate) fn new(
         alloc: Global,
+        regex: Arc<Regex>,
         tree: &Hir,
         exact: bool,
         crlf: bool,
-        capacity: Option<usize>,
-    ) -> Result<Option<Candidates>, BuildError>
+    ) -> Result<Option<Candidates>, AllocError>
         ensures some { IfOk result (λ o. is_some o ≡ not (has_crlf tree.now)) }
         ensures candidates { (how : PatternOptions) (texts : List (List ℕ)) → how.crlf ≡ crlf → IsTreeOf how texts tree.now →
+            IsBuilt (line_tree crlf (searched_tree exact tree.now) ∷ []) line_settings regex.value →
             IfOk result (λ o. IfSome o (λ c. IsCandidatesOf how texts c.0)) }
-        ensures refused { IfErr result (λ e. FailsBuild (line_tree crlf (searched_tree exact tree.now) ∷ []) (sized_settings capacity) e) }
     {
         if has_crlf(tree) {
             return Ok(None);
         }
         let feedless = !reads_feed(tree);
-        let Ok(tree) = block_tree(alloc, tree, exact, crlf) else {
-            return Err(BuildError::NoMemory);
-        };
-        let regex = match build(alloc, slice::from_ref(&tree), &settings(capacity)) {
-            Ok(regex) => regex,
-            Err(e) => return Err(e),
+        let cache = Cache::new(alloc, &regex)?;
+        Ok(Some(Candidates {
+            regex,
+            cache,
+            exact,
+            feedless,
+            crlf,
+        }))
+    }
+
+    /// A search by copies of the automata with caches of this capacity in bytes, if memory suffices. Nothing is compiled.
+    pub(crate) fn resized(&self, alloc: Global, capacity: usize) -> Option<Candidates>
+        ensures { (how : PatternOptions) (texts : List (List ℕ)) → IsCandidatesOf how texts self.now.0 →
+            IfSome result (λ c. IsCandidatesOf how texts c.0) }
+    {
+        let Some(regex) = resized(alloc, &self.regex, capacity) else {
+            return None;
         };
         match Cache::new(alloc, &regex) {
-            Ok(cache) => Ok(Some(Candidates {
+            Ok(cache) => Some(Candidates {
                 regex,
                 cache,
-                exact,
-                feedless,
-                crlf,
-            })),
-            Err(_) => Err(BuildError::NoMemory),
+                exact: self.exact,
+                feedless: self.feedless,
+                crlf: self.crlf,
+            }),
+            Err(_) => None,
         }
     }
 

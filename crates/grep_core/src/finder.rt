@@ -1,6 +1,6 @@
 //! Finds patterns by automata. Where these give up at a quit byte, a program of the toolchain for the same patterns answers.
-ghost use Rattle.std.specs.Prelude.{◌≡◌, IfErr, IfOk, map, false, true, ◌≤◌, ◌<◌, length, slice_range};
-ghost use Rattle.grep_core.specs.Candidates.{HaveNoMatch, HasMatchAt, IsLineStart};
+ghost use Rattle.std.specs.Prelude.{◌≡◌, IfErr, IfOk, map, true, ◌≤◌, length};
+ghost use Rattle.grep_core.specs.Candidates.{IsLineStart, IsNextLine};
 ghost use Rattle.grep_core.specs.Printing.{span_pair};
 ghost use Rattle.grep_core.specs.Searchers.{IsMatchReported, AreReported, IsSearcherError, SearchesFor};
 
@@ -8,7 +8,6 @@ use crate::candidate_finder::CandidateFinder;
 use crate::candidates::Reached;
 use crate::fault::Fault;
 use crate::line_patterns::LinePatterns;
-use crate::patterns::PatternOptions;
 use crate::searcher::{Searcher, SearcherError};
 use crate::sizes::Size;
 use crate::slow_search::SlowSearch;
@@ -29,8 +28,7 @@ use std::marker::Model;
 #[derive(Drop)]
 pub struct Finder<'t> {
     searcher: Searcher,
-    texts: &'t [&'t str],
-    how: PatternOptions,
+    patterns: &'t LinePatterns<'t>,
     with_matches: bool,
     slow: SlowSearch<'t>,
     candidates: CandidateFinder<'t>,
@@ -41,18 +39,18 @@ pub struct Finder<'t> {
 }
 
 impl<'t> Model for Finder<'t> {
-    ghost use Rattle.std.specs.Prelude.{◌≡◌, true, map};
+    ghost use Rattle.std.specs.Prelude.{◌≡◌, true};
     ghost use Rattle.hir_core.specs.Facts.{LoopsRead};
     ghost use Rattle.grep_core.specs.Searchers.{IsSearcherOf, Sought};
 
     ghost Value = { Sought };
 
-    ghost view = { λ f. record { how = f.how; texts = map (λ t. t.now) f.texts.now; spans = f.with_matches } };
+    ghost view = { λ f. record { how = f.patterns.now.0; texts = f.patterns.now.1; spans = f.with_matches } };
 
     ghost invariant = { λ f.
-        ((it : IsSearcherOf f.how (map (λ t. t.now) f.texts.now) f.searcher.0) × (f.with_matches ≡ true → LoopsRead it.tree))
-        × (f.slow ≡ (f.how, map (λ t. t.now) f.texts.now))
-        × (f.candidates ≡ (f.how, map (λ t. t.now) f.texts.now)) };
+        ((it : IsSearcherOf f.patterns.now.0 f.patterns.now.1 f.searcher.0) × (f.with_matches ≡ true → LoopsRead it.tree))
+        × (f.slow ≡ f.patterns.now)
+        × (f.candidates ≡ f.patterns.now) };
 }
 
 /// Whether a search failed because it ran out of memory.
@@ -79,19 +77,21 @@ impl<'t> Finder<'t> {
         ensures searches { IfOk result (λ f. SearchesFor f with_matches) }
         ensures refused { IfErr result (IsSearcherError patterns.now.0 patterns.now.1 with_matches) }
     {
-        let texts = patterns.texts();
-        let how = patterns.how();
-        let searcher = match Searcher::new(alloc, texts, &how, with_matches) {
-            Ok(searcher) => searcher,
+        let tree = match patterns.tree(with_matches) {
+            Ok(tree) => tree,
             Err(e) => return Err(e),
         };
+        let searcher = match Searcher::new(alloc, tree) {
+            Ok(searcher) => searcher,
+            Err(e) => return Err(SearcherError::Build(e)),
+        };
+        let candidates = CandidateFinder::new(alloc, patterns, tree, &searcher);
         Ok(Finder {
             searcher,
-            texts,
-            how,
+            patterns,
             with_matches,
             slow: SlowSearch::new(patterns),
-            candidates: CandidateFinder::new(alloc, texts, &how),
+            candidates,
             line_size: Size::first(),
             past_clears: 0,
         })
@@ -101,7 +101,7 @@ impl<'t> Finder<'t> {
     pub(crate) fn crlf(&self) -> bool
         ensures { result ≡ self.now.how.crlf }
     {
-        self.how.crlf
+        self.patterns.how().crlf
     }
 
     /// Enlarges the caches of the search of lines, if they were cleared too soon and memory suffices.
@@ -119,14 +119,7 @@ impl<'t> Finder<'t> {
         ensures { self.new ≡ self.old }
     {
         let clears = self.searcher.clear_count();
-        let capacity = Some(size.capacity);
-        if let Ok(larger) = Searcher::sized(
-            alloc,
-            self.texts,
-            &self.how,
-            self.with_matches,
-            capacity,
-        ) {
+        if let Some(larger) = self.searcher.resized(alloc, size.capacity) {
             self.searcher = larger;
             self.line_size = size;
             self.past_clears = self.past_clears.saturating_add(clears);
@@ -153,11 +146,7 @@ impl<'t> Finder<'t> {
         requires within { at ≤ length block.now }
         requires starts { IsLineStart block.now at }
         ensures same { self.new ≡ self.old }
-        ensures from { IfOk result (λ r. at ≤ r.start) }
-        ensures within { IfOk result (λ r. r.start ≤ length block.now) }
-        ensures starts { IfOk result (λ r. r.start < length block.now → IsLineStart block.now r.start) }
-        ensures passed { IfOk result (λ r. HaveNoMatch self.old.how self.old.texts (slice_range block.now at r.start)) }
-        ensures has { IfOk result (λ r. r.has ≡ true → HasMatchAt self.old.how self.old.texts block.now r.start) }
+        ensures next { IfOk result (IsNextLine self.old.how self.old.texts block.now at) }
     {
         let reached = match self.candidates.next_line(alloc, block, at) {
             Ok(reached) => reached,

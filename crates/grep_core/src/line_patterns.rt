@@ -1,34 +1,39 @@
 //! Patterns that lines are searched for.
-ghost use Rattle.std.specs.Prelude.{◌≡◌, IfSome, map};
+ghost use Rattle.std.specs.Prelude.{◌≡◌, IfErr, IfOk, IfSome, map, true};
+ghost use Rattle.hir_core.specs.Facts.{LoopsRead};
+ghost use Rattle.grep_core.specs.BoundedTrees.{IsTreeOf};
 ghost use Rattle.grep_core.specs.Fallbacks.{IsProgramOf};
+ghost use Rattle.grep_core.specs.Searchers.{IsSearcherError};
 
 use crate::fallback::program_of;
+use crate::parsed_patterns::ParsedPatterns;
 use crate::patterns::PatternOptions;
+use crate::searcher::SearcherError;
+use hir_core::Hir;
 use regex_meta::Program;
 use std::alloc::Global;
 use std::marker::Model;
 
-/// Patterns, how they are interpreted, and a program of the toolchain for them.
+/// Patterns, how they are interpreted, the one tree of them, and a program of the toolchain for them.
 ///
-/// The program searches the lines in which automata give up at a quit byte. It is compiled at once if that can happen, so that finders of
-/// these patterns keep a searcher of it from line to line.
+/// Finders of these patterns borrow the tree, so it is made once. The program searches the lines in which automata give up at a quit byte.
+/// It is compiled at once if that can happen, so that finders keep a searcher of it from line to line.
 #[derive(Drop)]
 pub struct LinePatterns<'t> {
-    texts: &'t [&'t str],
-    how: PatternOptions,
+    parsed: ParsedPatterns<'t>,
     program: Option<Box<Program>>,
 }
 
 impl<'t> Model for LinePatterns<'t> {
-    ghost use Rattle.std.specs.Prelude.{IfSome, ℕ, List, map};
+    ghost use Rattle.std.specs.Prelude.{IfSome, ℕ, List};
     ghost use Rattle.grep_core.specs.Fallbacks.{IsProgramOf};
     ghost use Rattle.grep_core.specs.declared.patterns.PatternOptions.{PatternOptions};
 
     ghost Value = { PatternOptions × List (List ℕ) };
 
-    ghost view = { λ p. (p.how, map (λ t. t.now) p.texts.now) };
+    ghost view = { λ p. p.parsed };
 
-    ghost invariant = { λ p. IfSome p.program (λ it. IsProgramOf p.how (map (λ t. t.now) p.texts.now) it.value) };
+    ghost invariant = { λ p. IfSome p.program (λ it. IsProgramOf p.parsed.0 p.parsed.1 it.value) };
 }
 
 /// Whether both bytes may begin a look at words, as `\\b` does.
@@ -48,19 +53,25 @@ fn may_give_up(texts: &[&str], how: &PatternOptions) -> bool {
     (how.words && !how.lines) || texts.iter().any(|text| asks_for_words(text))
 }
 
+/// The program of patterns, if automata may give up and it can be compiled.
+fn program_at_once(alloc: Global, texts: &[&str], how: &PatternOptions) -> Option<Box<Program>>
+    ensures { IfSome result (λ p. IsProgramOf how.now (map (λ t. t.now) texts.now) p.value) }
+{
+    if may_give_up(texts, how) {
+        program_of(alloc, how, texts).ok()
+    } else {
+        None
+    }
+}
+
 impl<'t> LinePatterns<'t> {
     /// Takes patterns in the syntax that is parsed. No error is reported for a pattern: [`Finder::new`](crate::Finder::new) reports it.
     pub fn new(alloc: Global, texts: &'t [&'t str], how: &PatternOptions) -> LinePatterns<'t>
         ensures { result ≡ (how.now, map (λ t. t.now) texts.now) }
     {
-        let program = if may_give_up(texts, how) {
-            program_of(alloc, how, texts).ok()
-        } else {
-            None
-        };
+        let program = program_at_once(alloc, texts, how);
         LinePatterns {
-            texts,
-            how: *how,
+            parsed: ParsedPatterns::new(alloc, texts, how),
             program,
         }
     }
@@ -69,14 +80,26 @@ impl<'t> LinePatterns<'t> {
     pub(crate) fn texts(&self) -> &'t [&'t str]
         ensures { map (λ t. t.now) result.now ≡ self.now.1 }
     {
-        self.texts
+        self.parsed.texts()
     }
 
     /// How they are interpreted.
     pub(crate) fn how(&self) -> PatternOptions
         ensures { result ≡ self.now.0 }
     {
-        self.how
+        self.parsed.how()
+    }
+
+    /// The tree that lines are searched for, or why there is none.
+    pub(crate) fn tree(&self, with_matches: bool) -> Result<&Hir, SearcherError>
+        ensures tree { IfOk result (λ x. IsTreeOf self.now.0 self.now.1 x.now) }
+        ensures loops { with_matches ≡ true → IfOk result (λ x. LoopsRead x.now) }
+        ensures refused { IfErr result (IsSearcherError self.now.0 self.now.1 with_matches) }
+    {
+        match self.parsed.tree(with_matches) {
+            Ok(tree) => Ok(tree),
+            Err(e) => Err(e),
+        }
     }
 
     /// Their program, if one is kept.

@@ -1,22 +1,19 @@
-use Rattle.std.proofs.Common.{◌≡◌, ◌∙◌, true, ℕ, List, Option, slice_range, subst}
+use Rattle.std.proofs.Common.{◌≡◌, ◌∙◌, ℕ, List, Option, sym, subst}
 use Rattle.std.specs.Prelude.{IfSome}
-use Rattle.grep_core.specs.Candidates.{HaveNoMatch, HasMatchAt}
+use Rattle.grep_core.specs.Candidates.{IsNextLine}
 use Rattle.grep_core.specs.declared.patterns.PatternOptions.{PatternOptions}
-use Rattle.pattern_search.proofs.ForCallers.{read_texts}
+use Rattle.grep_core.proofs.CandidateLemmas.{here_is_next}
 use Rattle.grep_core.proofs.candidate_finder.CandidateFinder.reach_wordless.Goals as goal
 
-pub returns-clause-passed : goal.returns-clause-passed
-returns-clause-passed c =
-    let is : c.in-Some.wordless ≡ (c.self.inside.how, read_texts c.self.inside.texts.now) =
-    subst (λ (o : Option (PatternOptions × List (List ℕ))). IfSome o
-    (λ v. v ≡ (c.self.inside.how, read_texts c.self.inside.texts.now))) c.in-Some.is c.self.invariant.1 in
-    subst (λ (v : PatternOptions × List (List ℕ)). HaveNoMatch v.0 v.1 (slice_range c.args.block.now c.args.at c.in-Ok.reached.start))
-    (is ∙ c.self.view_is) c.in-Ok.ensures.passed
+pub returns-in_default-clause-next : goal.returns-in_default-clause-next
+returns-in_default-clause-next c =
+    subst (IsNextLine c.args.self.now.0 c.args.self.now.1 c.args.block.now c.args.at) (sym c.here.ensures)
+    (here_is_next c.args.self.now.0 c.args.self.now.1 c.args.block.now c.args.at c.requires.within c.requires.starts)
 
-pub returns-clause-has : goal.returns-clause-has
-returns-clause-has c =
-    let is : c.in-Some.wordless ≡ (c.self.inside.how, read_texts c.self.inside.texts.now) =
-    subst (λ (o : Option (PatternOptions × List (List ℕ))). IfSome o
-    (λ v. v ≡ (c.self.inside.how, read_texts c.self.inside.texts.now))) c.in-Some.is c.self.invariant.1 in
-    subst (λ (v : PatternOptions × List (List ℕ)). c.in-Ok.reached.has ≡ true →
-    HasMatchAt v.0 v.1 c.args.block.now c.in-Ok.reached.start) (is ∙ c.self.view_is) c.in-Ok.ensures.has
+pub returns-clause-next : goal.returns-clause-next
+returns-clause-next c =
+    let is : c.in-Some.wordless ≡ c.self.inside.patterns.now =
+    subst (λ (o : Option (PatternOptions × List (List ℕ))). IfSome o (λ v. v ≡ c.self.inside.patterns.now)) c.in-Some.is
+    c.self.invariant.1 in
+    subst (λ (v : PatternOptions × List (List ℕ)). IsNextLine v.0 v.1 c.args.block.now c.args.at c.in-Ok.reached)
+    (is ∙ c.self.view_is) c.in-Ok.ensures.next

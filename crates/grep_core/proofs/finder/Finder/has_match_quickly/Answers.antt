@@ -1,4 +1,4 @@
-use Rattle.std.proofs.Common.{map, sym, subst}
+use Rattle.std.proofs.Common.{sym, subst}
 use Rattle.regex_pair.specs.Pairs.{Pair}
 use Rattle.grep_core.specs.Searchers.{IsMatchReported, Sought}
 use Rattle.grep_core.proofs.SeenLemmas.{IsOwn}
@@ -6,7 +6,7 @@ use Rattle.grep_core.proofs.finder.Finder.has_match_quickly.Goals as goal
 
 pub invariant_of-self : goal.invariant_of-self
 invariant_of-self c = (
-  subst (λ (p : Pair). IsOwn c.self.inside.how (map (λ t. t.now) c.self.inside.texts.now) c.self.inside.with_matches p)
+  subst (λ (p : Pair). IsOwn c.self.inside.patterns.now.0 c.self.inside.patterns.now.1 c.self.inside.with_matches p)
       (sym c.has_match.ensures.same) c.self.invariant.0,
   c.self.invariant.1,
   c.self.invariant.2,
@@ -14,7 +14,7 @@ invariant_of-self c = (
 
 pub invariant_of-self-2 : goal.invariant_of-self-2
 invariant_of-self-2 c = (
-  subst (λ (p : Pair). IsOwn c.self.inside.how (map (λ t. t.now) c.self.inside.texts.now) c.self.inside.with_matches p)
+  subst (λ (p : Pair). IsOwn c.self.inside.patterns.now.0 c.self.inside.patterns.now.1 c.self.inside.with_matches p)
       (sym c.has_match.ensures.same) c.self.invariant.0,
   c.self.invariant.1,
   c.self.invariant.2,
@@ -23,4 +23,4 @@ invariant_of-self-2 c = (
 pub returns-clause-reported : goal.returns-clause-reported
 returns-clause-reported c =
     subst (λ (s : Sought). IsMatchReported s.how s.texts c.args.line.now c.in-Ok.reported) c.self.view_is
-    (c.in-Ok.ensures.reported c.self.inside.how (map (λ t. t.now) c.self.inside.texts.now) c.self.invariant.0.0)
+    (c.in-Ok.ensures.reported c.self.inside.patterns.now.0 c.self.inside.patterns.now.1 c.self.invariant.0.0)

@@ -7,7 +7,7 @@ use Rattle.grep_core.proofs.finder.Finder.matches_quickly.Goals as goal
 
 pub invariant_of-self : goal.invariant_of-self
 invariant_of-self c = (
-  subst (λ (p : Pair). IsOwn c.self.inside.how (map (λ t. t.now) c.self.inside.texts.now) c.self.inside.with_matches p)
+  subst (λ (p : Pair). IsOwn c.self.inside.patterns.now.0 c.self.inside.patterns.now.1 c.self.inside.with_matches p)
       (sym c.matches.ensures.same) c.self.invariant.0,
   c.self.invariant.1,
   c.self.invariant.2,
@@ -15,7 +15,7 @@ invariant_of-self c = (
 
 pub invariant_of-self-2 : goal.invariant_of-self-2
 invariant_of-self-2 c = (
-  subst (λ (p : Pair). IsOwn c.self.inside.how (map (λ t. t.now) c.self.inside.texts.now) c.self.inside.with_matches p)
+  subst (λ (p : Pair). IsOwn c.self.inside.patterns.now.0 c.self.inside.patterns.now.1 c.self.inside.with_matches p)
       (sym c.matches.ensures.same) c.self.invariant.0,
   c.self.invariant.1,
   c.self.invariant.2,
@@ -24,5 +24,5 @@ invariant_of-self-2 c = (
 pub returns-clause-reported : goal.returns-clause-reported
 returns-clause-reported c =
     subst (λ (s : Sought). s.spans ≡ true → AreReported s.how s.texts c.args.line.now (map span_pair c.in-Ok.found.items)) c.self.view_is
-    (λ asked. c.in-Ok.ensures.reported c.self.inside.how (map (λ t. t.now) c.self.inside.texts.now) c.self.invariant.0.0
+    (λ asked. c.in-Ok.ensures.reported c.self.inside.patterns.now.0 c.self.inside.patterns.now.1 c.self.invariant.0.0
     (c.self.invariant.0.1 asked))

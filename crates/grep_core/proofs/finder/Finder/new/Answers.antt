@@ -1,10 +1,18 @@
-use Rattle.std.proofs.Common.{refl}
+use Rattle.std.proofs.Common.{◌∷◌, [], None, inr, refl}
 use Rattle.grep_core.proofs.BoundedTreeLemmas.{read_as}
-use Rattle.pattern_search.proofs.ForCallers.{read_texts}
 use Rattle.grep_core.proofs.finder.Finder.new.Goals as goal
+
+pub invariant_of-result : goal.invariant_of-result
+invariant_of-result c = (
+  (record { tree = c.in-Ok.tree.now; mean = c.in-Ok.ensures.tree; capacity = None; built = c.in-Ok-new.ensures.built }, c.in-Ok.ensures.loops),
+  c.new-2.ensures,
+  c.new-candidates.ensures,
+)
 
 pub returns-clause-searches : goal.returns-clause-searches
 returns-clause-searches c =
-    let it = c.in-Ok.ensures.searcher.0 in
-    let read = read_as c.how-how.result (read_texts c.texts-texts.result.now) it.tree it.mean in
-    record { may = λ asked. asked; how = c.how-how.result; same = refl; patterns = read.0; are_read = read.1 }
+    let read = read_as c.args.patterns.now.0 c.args.patterns.now.1 c.in-Ok.tree.now c.in-Ok.ensures.tree in
+    record { may = λ asked. asked; how = c.args.patterns.now.0; same = refl; patterns = read.0; are_read = read.1 }
+
+pub returns-in-Err-new-clause-refused : goal.returns-in-Err-new-clause-refused
+returns-in-Err-new-clause-refused c = inr (c.in-Ok.tree.now, c.in-Ok.ensures.tree, c.in-Err-new.ensures.refused)

@@ -18,13 +18,14 @@ returns-clause-reported c how texts it loops = all_told how texts c.args.self.no
     (λ rs xs k ends spans built. c.regexes_answer_what_patterns_say.ensures rs xs ends spans (sized_settings k) c.args.self.now.0 built
     refl refl)
     it loops c.see_bytes.ensures
-    (subst (λ (v : Pair × PairCache). IsWholeList v.0 (whole_search c.args.line.now 0) c.in-Ok.all.items) c.self.view_is
-    (subst (λ (q : Search). IsWholeList c.self.inside.regex q c.in-Ok.all.items) c.new.ensures c.in-Ok.ensures.whole))
-    (c.in_ok-spans.ensures ∙ ap (λ (fs : List Found). filter is_some_text (map span_of_found fs)) c.deref.ensures.value)
+    (subst (λ (p : Pair). IsWholeList p (whole_search c.args.line.now 0) c.in-Ok.all.items)
+    (c.deref.ensures ∙ ap (λ (v : Pair × PairCache). v.0) c.self.view_is)
+    (subst (λ (q : Search). IsWholeList c.deref.result.now q c.in-Ok.all.items) c.new.ensures c.in-Ok.ensures.whole))
+    (c.in_ok-spans.ensures ∙ ap (λ (fs : List Found). filter is_some_text (map span_of_found fs)) c.deref-2.ensures.value)
 
 pub returns-in-Err-clause-refused : goal.returns-in-Err-clause-refused
 returns-in-Err-clause-refused c =
-    subst (λ (v : Pair × PairCache). IsLineError v.0 c.args.line.now c.in-Err.e) c.self.view_is
+    subst (λ (p : Pair). IsLineError p c.args.line.now c.in-Err.e) (c.deref.ensures ∙ ap (λ (v : Pair × PairCache). v.0) c.self.view_is)
     (subst (λ (q : Search). (c.in-Err.e ≡ NoMemory) ⊎
-    ((at : ℕ) × (x : PairCache) × AnswersPair c.self.inside.regex x (search_at q at) (Err c.in-Err.e))) c.new.ensures
+    ((at : ℕ) × (x : PairCache) × AnswersPair c.deref.result.now x (search_at q at) (Err c.in-Err.e))) c.new.ensures
     c.in-Err.ensures.refused)
