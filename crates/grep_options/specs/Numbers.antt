@@ -82,7 +82,7 @@ is_awaiting w =
     bytes_eq w (codes "--regexp") || (bytes_eq w (codes "--file") || (bytes_eq w (codes "--directory")
     || (bytes_eq w (codes "--max-count") || (bytes_eq w (codes "--after-context") || (bytes_eq w (codes "--before-context")
     || (bytes_eq w (codes "--context") || (bytes_eq w (codes "--label") || (bytes_eq w (codes "--directories")
-    || bytes_eq w (codes "--devices")))))))))
+    || (bytes_eq w (codes "--devices") || bytes_eq w (codes "--group-separator"))))))))))
 
 -- what may follow a word of letters
 abbrev pub after_letters : Letters → Next

@@ -4,6 +4,7 @@
 //! `specs/Options.antt` defines what they return.
 #![tactic(auto)]
 
+mod format;
 mod numbers;
 mod options;
 mod values;

@@ -169,6 +169,7 @@ fn is_awaiting(word: &str) -> bool
         || word == "--label"
         || word == "--directories"
         || word == "--devices"
+        || word == "--group-separator"
 }
 
 /// What may follow a word that isn't one of letters.

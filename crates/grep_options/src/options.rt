@@ -7,18 +7,19 @@ ghost use Rattle.grep_options.specs.CommandLine.{flag, flag_over, flag_without, 
 ghost use Rattle.grep_options.specs.CommandLine.{other_options, paired_options, printing_options, quiet_option, selecting_options};
 ghost use Rattle.grep_options.specs.CommandLine.{syntax_options, turning_off, words_option};
 
+use crate::format::push_format;
 use clap::{Arg, ArgAction, Command, value_parser};
 use std::alloc::{AllocError, Global};
 
 /// An option whose long name is the name under which its value is held.
-fn option<'a>(alloc: Global, id: &'a str, action: ArgAction, help: &'a str) -> Arg<'a>
+pub(crate) fn option<'a>(alloc: Global, id: &'a str, action: ArgAction, help: &'a str) -> Arg<'a>
     ensures { option_row result ≡ option id.entry.now [] action }
 {
     Arg::new(alloc, id).long(id).help(help).action(action)
 }
 
 /// Appends an option. Only this function drops an option for which there is no room.
-fn push<'a>(args: &mut Vec<Arg<'a>>, arg: Arg<'a>) -> Result<(), AllocError>
+pub(crate) fn push<'a>(args: &mut Vec<Arg<'a>>, arg: Arg<'a>) -> Result<(), AllocError>
     ensures { OnOk result (AddsOptions args.old.items args.new.items (option_row arg.entry ∷ [])) }
 {
     args.push(arg)?;
@@ -26,7 +27,7 @@ fn push<'a>(args: &mut Vec<Arg<'a>>, arg: Arg<'a>) -> Result<(), AllocError>
 }
 
 /// Appends an option that takes no value and has a letter.
-fn push_flag<'a>(
+pub(crate) fn push_flag<'a>(
     alloc: Global,
     args: &mut Vec<Arg<'a>>,
     id: &'a str,
@@ -84,7 +85,11 @@ fn push_without<'a>(
 }
 
 /// Appends an option that turns off one more.
-fn push_over<'a>(args: &mut Vec<Arg<'a>>, arg: Arg<'a>, other: &'a str) -> Result<(), AllocError>
+pub(crate) fn push_over<'a>(
+    args: &mut Vec<Arg<'a>>,
+    arg: Arg<'a>,
+    other: &'a str,
+) -> Result<(), AllocError>
     ensures { OnOk result (AddsOptions args.old.items args.new.items (turning_off (option_row arg.entry) other.entry.now ∷ [])) }
 {
     let arg = arg.overrides_with(other)?;
@@ -383,6 +388,7 @@ fn push_all<'a>(alloc: Global, args: &mut Vec<Arg<'a>>) -> Result<(), AllocError
     push_pairs(alloc, args)?;
     push_numbers(alloc, args)?;
     push_accepted(alloc, args)?;
+    push_format(alloc, args)?;
     push_others(alloc, args)
 }
 

@@ -2,3 +2,4 @@ pub mod Asks
 pub mod Decisions
 pub mod Given
 pub mod Outcomes
+pub mod Tasks
