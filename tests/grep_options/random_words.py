@@ -22,6 +22,8 @@ LONG = {
     "-R": ("--dereference-recursive",),
     "-a": ("--text",),
     "-U": ("--binary",),
+    "-Z": ("--null",),
+    "-T": ("--initial-tab",),
     "-1": ("--context=1",),
     "-d": ("--directories",),
     "-D": ("--devices",),

@@ -2,7 +2,7 @@
 with GNU grep, so that it may be believed where there is no GNU grep to ask: with --crlf."""
 
 import re
-from dataclasses import dataclass
+from dataclasses import dataclass, replace
 
 BROKEN = "\udc80-\udcff"  # the bytes that aren't part of a character, as Python decodes them
 TOKEN = re.compile(r"\\[WSD]|\\.|\[\^|\[|\.", re.S)
@@ -35,6 +35,10 @@ class Asked:
     both: int | None = None
     most: int | None = None
     color: bool = False
+    zero_names: bool = False
+    tab: bool = False
+    width: int = 0
+    group: bytes | None = b"--"
 
 
 @dataclass(frozen=True)
@@ -131,11 +135,23 @@ def field(asked, code, text, sign):
     return coloured(asked, code, text) + coloured(asked, b"36", sign)
 
 
+def name_before(asked, name, other):
+    return coloured(asked, b"35", name) + (b"\0" if asked.zero_names else other)
+
+
+def name_field(asked, name, sign):
+    return b"" if name is None else name_before(asked, name, coloured(asked, b"36", sign))
+
+
 def fields(asked, name, line, offset, sign):
-    shown = [(b"35", name)] if name is not None else []
-    shown += [(b"32", b"%d" % line.number)] if asked.numbers else []
-    shown += [(b"32", b"%d" % offset)] if asked.offsets else []
-    return b"".join(field(asked, code, text, sign) for code, text in shown)
+    shown = [line.number] if asked.numbers else []
+    shown += [offset] if asked.offsets else []
+    numbers = [field(asked, b"32", b"%*d" % (asked.width, it), sign) for it in shown]
+    return name_field(asked, name, sign) + b"".join(numbers)
+
+
+def tab(asked, name, text):
+    return b"\t" if asked.tab and text and (name is not None or asked.numbers or asked.offsets) else b""
 
 
 def marked(asked, line, spans):
@@ -150,10 +166,11 @@ def printed_line(asked, regex, name, line, is_selected):
     sign = b":" if is_selected else b"-"
     spans = spans_of(regex, line) if is_selected != asked.invert else []
     if asked.matches:
-        rows = [(line.offset + start, coloured(asked, b"01;31", line.printed[start:end])) for start, end in spans]
+        texts = [(line.offset + start, line.printed[start:end]) for start, end in spans]
+        rows = [(offset, text, coloured(asked, b"01;31", text)) for offset, text in texts]
     else:
-        rows = [(line.offset, marked(asked, line, spans))]
-    return b"".join(fields(asked, name, line, offset, sign) + row + b"\n" for offset, row in rows)
+        rows = [(line.offset, line.printed, marked(asked, line, spans))]
+    return b"".join(fields(asked, name, line, offset, sign) + tab(asked, name, text) + row + b"\n" for offset, text, row in rows)
 
 
 def printed_lines(asked, regex, name, lines, selected, known):
@@ -165,25 +182,30 @@ def printed_lines(asked, regex, name, lines, selected, known):
         if not is_near(selected, index, before, after):
             known = known and "earlier"
             continue
-        if known == "earlier" and has_groups:
-            out += coloured(asked, b"36", b"--") + b"\n"
+        if known == "earlier" and has_groups and asked.group is not None:
+            out += coloured(asked, b"36", asked.group) + b"\n"
         out += printed_line(asked, regex, name, line, selected[index])
         known = "last"
     return out, known
 
 
+def width_of(asked, data):
+    """How wide numbers are under -T: as wide as the size of the file, or as the number of a line after all of its bytes."""
+    return len(str(len(data) + asked.numbers)) if asked.tab else 0
+
+
 def report_of_file(asked, regex, name, has_name, data, known):
     """What is printed of a file, whether a line is selected, and what is known for the next file."""
+    asked = replace(asked, width=width_of(asked, data))
     lines = lines_of(asked, data)
     selected = selected_of(asked, regex, lines)
     is_any, shown = any(selected), name if has_name else None
     if asked.quiet:
         return b"", is_any, known
     if asked.without or asked.with_match:
-        return (coloured(asked, b"35", name) + b"\n" if is_any != asked.without else b""), is_any, known
+        return (name_before(asked, name, b"\n") if is_any != asked.without else b""), is_any, known
     if asked.count:
-        prefix = field(asked, b"35", shown, b":") if has_name else b""
-        return prefix + b"%d\n" % sum(selected), is_any, known
+        return name_field(asked, shown, b":") + b"%d\n" % sum(selected), is_any, known
     out, known = printed_lines(asked, regex, shown, lines, selected, known)
     return out, is_any, known
 

@@ -9,7 +9,7 @@ use Rattle.grep_core.specs.declared.output_options.Print.{Print}
 use Rattle.grep_core.specs.declared.output_options.Print.TheVariants.{Lines, Matches, Count, NameIfAny, NameIfNone, Nothing}
 use Rattle.grep_core.specs.declared.output_options.OutputOptions.{OutputOptions}
 use Rattle.grep_core.specs.Lines.{TextLine, text_lines}
-use Rattle.grep_core.specs.Printing.{fields, has_marks, marked_from, printed_line, printed_matches}
+use Rattle.grep_core.specs.Printing.{fields, has_marks, marked_from, printed_line, printed_matches, tab}
 use Rattle.grep_core.specs.Report.{LineMatcher, after_hidden, is_some_text, parting, print_lines, report, report_as, roles_of, selected}
 use Rattle.grep_core.specs.Report.{reported_spans}
 use Rattle.grep_core.specs.Reporting.{with_needed_spans, needs_of, needs_spans}
@@ -32,10 +32,12 @@ module _ (w : OutputOptions) (f : LineMatcher) (name : Option (List ℕ)) where
   same_spans needs line = ap (λ b. filter is_some_text (if b then f.spans line.content else [])) needs
 
   unmarked : w.color ≡ false → (role : Role) (line : TextLine) (found : List (ℕ × ℕ)) →
-      printed_line w name role line found ≡ fields w name role line.number line.place ++ (line.content.bytes ++ 10 ∷ [])
+      printed_line w name role line found
+      ≡ fields w name role line.number line.place ++ (tab w name line.content.bytes ++ (line.content.bytes ++ 10 ∷ []))
   unmarked plain role line found =
       ap (λ b. fields w name role line.number line.place
-      ++ ((if b && has_marks w role then marked_from line.content.bytes 0 found else line.content.bytes) ++ 10 ∷ [])) plain
+      ++ (tab w name line.content.bytes
+      ++ ((if b && has_marks w role then marked_from line.content.bytes 0 found else line.content.bytes) ++ 10 ∷ []))) plain
 
   same_line : (color : Bool) → w.color ≡ color → needs_spans w ≡ w.color → (role : Role) (line : TextLine) →
       printed_line w name role line (reported_spans (with_needed_spans w f) line) ≡ printed_line w name role line (reported_spans f line)

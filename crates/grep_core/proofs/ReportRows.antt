@@ -1,10 +1,13 @@
 -- The definition of a report, run on a small haystack. What is expected is what GNU grep 3.8 prints for the pattern `a`.
-use Rattle.std.proofs.Common.{◌≡◌, ℕ, ◌+◌, ◌==◌, Bool, true, false, List, [], ◌∷◌, ◌++◌, codes, decimal, Option, Some, None, if◌then◌else◌}
+use Rattle.std.proofs.Common.{◌≡◌, ℕ, ◌+◌, ◌-◌, ◌==◌, Bool, true, false, List, [], ◌∷◌, ◌++◌, codes, decimal, length, replicate}
+use Rattle.std.proofs.Common.{Option, Some, None, if◌then◌else◌}
+use Rattle.std.specs.Borrow.{Bor}
 use Rattle.std.proofs.Common.{refl, rules}
 use Rattle.std.proofs.lemmas.Grind.{common_steps}
 use Rattle.grep_core.specs.declared.separator_state.SeparatorState.TheVariants.{NonePrinted, EarlierPrinted}
 use Rattle.grep_core.specs.declared.output_options.Context.{Context}
 use Rattle.grep_core.specs.declared.output_options.Print.TheVariants.{Lines, Matches, Count, NameIfAny, NameIfNone}
+use Rattle.grep_core.specs.declared.output_options.GroupSeparator.TheVariants.{Hyphens, Given, Omitted}
 use Rattle.grep_core.specs.declared.output_options.OutputOptions.{OutputOptions}
 use Rattle.grep_core.specs.Lines.{ended, searched, unended}
 use Rattle.grep_core.specs.Report.{LineMatcher, report}
@@ -29,12 +32,28 @@ line text rest = text ++ 10 ∷ rest
 abbrev numbered : ℕ → List ℕ → List ℕ
 numbered n text = decimal n ++ text
 
+-- a number in two columns, before what comes after it
+abbrev spaced : ℕ → List ℕ → List ℕ
+spaced n text = replicate (2 - length (decimal n)) 32 ++ numbered n text
+
 -- its last line has no line feed
 abbrev text : List ℕ
 text = line (codes "a1") (line (codes "b") (line (codes "c") (line (codes "d") (line (codes "a2 a3") (line [] (codes "b"))))))
 
 abbrev plain : OutputOptions
-plain = record { invert = false; print = Lines; numbers = false; offsets = false; context = None; most = None; color = false }
+plain = record {
+  invert = false;
+  print = Lines;
+  numbers = false;
+  offsets = false;
+  context = None;
+  most = None;
+  color = false;
+  zero_names = false;
+  initial_tab = false;
+  width = 0;
+  groups = Hyphens;
+}
 
 abbrev beside : ℕ → ℕ → Option Context
 beside before after = Some (record { before = before; after = after })
@@ -81,6 +100,46 @@ matches_beside = Prim.search (rules, common_steps)
 of_a_later_text : report (record plain { numbers = true; context = beside 0 0 }) letters (codes "t") false EarlierPrinted text
     ≡ line (codes "--") (line (numbered 1 (codes ":a1")) (line (codes "--") (line (numbered 5 (codes ":a2 a3")) [])))
 of_a_later_text = Prim.search (rules, common_steps)
+
+-- -T -n -b -H, of a file whose offsets have two digits
+aligned : report (record plain { numbers = true; offsets = true; initial_tab = true; width = 2 }) letters
+    (codes "t") true NonePrinted (line (codes "a1") [])
+    ≡ codes "t:" ++ spaced 1 (codes ":" ++ spaced 0 (58 ∷ 9 ∷ line (codes "a1") []))
+aligned = Prim.search (rules, common_steps)
+
+-- -T -H -v: no tab comes before an empty line
+empty_aligned : report (record plain { invert = true; initial_tab = true }) letters
+    (codes "t") true NonePrinted (line [] (line (codes "b") []))
+    ≡ line (codes "t:") (line (codes "t:" ++ 9 ∷ codes "b") [])
+empty_aligned = Prim.search (rules, common_steps)
+
+-- -T alone changes nothing
+unaligned : report (record plain { initial_tab = true }) letters (codes "t") false NonePrinted text
+    ≡ line (codes "a1") (line (codes "a2 a3") [])
+unaligned = refl
+
+-- -Z -H -n, -Z -l, -Z -c -H
+ended_by_zero : report (record plain { numbers = true; zero_names = true; most = Some 1 }) letters (codes "t") true NonePrinted text
+    ≡ line (codes "t" ++ 0 ∷ numbered 1 (codes ":a1")) []
+ended_by_zero = Prim.search (rules, common_steps)
+
+named_by_zero : report (record plain { print = NameIfAny; zero_names = true }) letters (codes "t") false NonePrinted text ≡ codes "t" ++ 0 ∷ []
+named_by_zero = refl
+
+counted_by_zero : report (record plain { print = Count; zero_names = true }) letters (codes "t") true NonePrinted text
+    ≡ line (codes "t" ++ 0 ∷ decimal 2) []
+counted_by_zero = refl
+
+-- -A0 --no-group-separator
+never_parted : report (record plain { context = beside 0 0; groups = Omitted }) letters (codes "t") false NonePrinted text
+    ≡ line (codes "a1") (line (codes "a2 a3") [])
+never_parted = refl
+
+-- -A0 --group-separator=.., in any bytes
+parted_as_given : (given : Bor (List ℕ)) → report (record plain { context = beside 0 0; groups = Given given }) letters
+    (codes "t") false NonePrinted text
+    ≡ line (codes "a1") (line given.now (line (codes "a2 a3") []))
+parted_as_given given = Prim.search (rules, common_steps)
 
 -- -c
 counted : report (record plain { print = Count }) letters (codes "t") false NonePrinted text ≡ line (decimal 2) []

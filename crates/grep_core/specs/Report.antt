@@ -11,7 +11,7 @@ use Rattle.grep_core.specs.Lines.{SplitLine, TextLine, text_lines}
 use Rattle.grep_core.specs.declared.role.Role.{Role}
 use Rattle.grep_core.specs.declared.role.Role.TheVariants.{Selected, Beside, Hidden}
 use Rattle.grep_core.specs.Selecting.{limited, count_selected, roles}
-use Rattle.grep_core.specs.Printing.{coloured, printed_line, printed_matches, group_line, field}
+use Rattle.grep_core.specs.Printing.{printed_line, printed_matches, group_line, name_before, name_field}
 
 -- What a matcher reports about a line: whether it has a match, and the spans of all its matches, from left to right.
 pub record LineMatcher : Type 0 where
@@ -67,10 +67,10 @@ print_lines w print before (Beside ∷ rs) (line ∷ lines) =
 -- The count as a line, after the name of the input if there is one.
 abbrev pub count_line : OutputOptions → Option (List ℕ) → ℕ → List ℕ
 count_line w None n = decimal n ++ 10 ∷ []
-count_line w (Some name) n = field w Selected (codes "35") name ++ (decimal n ++ 10 ∷ [])
+count_line w (Some name) n = name_field w Selected (Some name) ++ (decimal n ++ 10 ∷ [])
 
 abbrev pub name_line : OutputOptions → List ℕ → List ℕ
-name_line w name = coloured w.color (codes "35") name ++ 10 ∷ []
+name_line w name = name_before w name (10 ∷ [])
 
 -- What is printed for the input with this name. If asked for, the name precedes each line. What is known before the first line of this
 -- input is what is known of the lines of earlier inputs.

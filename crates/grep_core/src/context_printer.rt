@@ -40,7 +40,7 @@ pub(crate) struct ContextPrinter {
 /// Appends the line that separates groups of lines, if a new group begins here.
 pub(crate) fn push_parting(
     out: &mut Vec<u8>,
-    what: &OutputOptions,
+    what: &OutputOptions<'_>,
     known: SeparatorState,
 ) -> Result<(), AllocError>
     ensures { OnOk result (out.new.items ≡ out.old.items ++ parting what.now known) }
@@ -55,7 +55,7 @@ pub(crate) fn push_parting(
 fn push_waiting(
     alloc: Global,
     out: &mut Vec<u8>,
-    what: &OutputOptions,
+    what: &OutputOptions<'_>,
     name: Option<&[u8]>,
     known: SeparatorState,
     it: &Waiting,
@@ -78,7 +78,7 @@ fn push_waiting(
 fn print_waiting(
     alloc: Global,
     out: &mut Vec<u8>,
-    what: &OutputOptions,
+    what: &OutputOptions<'_>,
     name: Option<&[u8]>,
     course: &mut ContextPrinter,
 ) -> Result<(), Fault>
@@ -97,7 +97,7 @@ fn print_waiting(
 }
 
 /// How many context lines are printed after a selected one.
-fn after_of(what: &OutputOptions) -> u64
+fn after_of(what: &OutputOptions<'_>) -> u64
     ensures { result ≡ after_of what.now.context }
 {
     match what.context {
@@ -107,7 +107,7 @@ fn after_of(what: &OutputOptions) -> u64
 }
 
 /// How many context lines are printed before a selected one.
-pub(crate) fn before_of(what: &OutputOptions) -> u64
+pub(crate) fn before_of(what: &OutputOptions<'_>) -> u64
     ensures { result ≡ before_of what.now.context }
 {
     match what.context {
@@ -120,7 +120,7 @@ pub(crate) fn before_of(what: &OutputOptions) -> u64
 fn select(
     alloc: Global,
     out: &mut Vec<u8>,
-    what: &OutputOptions,
+    what: &OutputOptions<'_>,
     name: Option<&[u8]>,
     course: &mut ContextPrinter,
     line: Line<'_>,
@@ -145,7 +145,7 @@ fn select(
 fn stand_next_to(
     alloc: Global,
     out: &mut Vec<u8>,
-    what: &OutputOptions,
+    what: &OutputOptions<'_>,
     name: Option<&[u8]>,
     course: &mut ContextPrinter,
     line: Line<'_>,
@@ -215,7 +215,7 @@ pub(crate) fn forget_waiting(course: &mut ContextPrinter)
 /// Advances by a line that isn't selected, if no line is owed to the last selected one.
 fn wait(
     alloc: Global,
-    what: &OutputOptions,
+    what: &OutputOptions<'_>,
     course: &mut ContextPrinter,
     line: Line<'_>,
     found: &[Span],
@@ -260,7 +260,7 @@ impl ContextPrinter {
 pub(crate) fn next_line(
     alloc: Global,
     out: &mut Vec<u8>,
-    what: &OutputOptions,
+    what: &OutputOptions<'_>,
     name: Option<&[u8]>,
     course: &mut ContextPrinter,
     line: Line<'_>,
@@ -285,7 +285,7 @@ pub(crate) fn next_line(
 }
 
 /// After the last line nothing more is printed.
-pub(crate) fn see_end(what: &OutputOptions, course: &ContextPrinter)
+pub(crate) fn see_end(what: &OutputOptions<'_>, course: &ContextPrinter)
     requires { Waits what.now course.now }
     ensures { (name : Option (List ℕ)) → still what.now name course.now [] [] ≡ [] }
 {

@@ -7,7 +7,7 @@ ghost use Rattle.grep_core.specs.Printing.{printed_match, printed_matches, span_
 use crate::fault::Fault;
 use crate::line::Line;
 use crate::output_options::{OutputOptions, Print};
-use crate::printing::{has_marks, piece, push_fields, push_line, push_marked};
+use crate::printing::{has_marks, piece, push_fields, push_line, push_marked, push_tab};
 use crate::role::Role;
 use search_types::Span;
 use std::alloc::{AllocError, Global};
@@ -16,7 +16,7 @@ use std::alloc::{AllocError, Global};
 fn push_match_at(
     alloc: Global,
     out: &mut Vec<u8>,
-    what: &OutputOptions,
+    what: &OutputOptions<'_>,
     name: Option<&[u8]>,
     role: Role,
     line: Line<'_>,
@@ -28,12 +28,9 @@ fn push_match_at(
         ++ printed_match what.now (option_map (λ n. n.now) name.entry) role (text_line line.entry) (span_pair span)) }
 {
     push_fields(alloc, out, what, name, role, line.number, place)?;
-    push_marked(
-        out,
-        what.color,
-        b"01;31",
-        piece(line.bytes, span.start, span.end),
-    )?;
+    let text = piece(line.bytes, span.start, span.end);
+    push_tab(out, what, name, text)?;
+    push_marked(out, what.color, b"01;31", text)?;
     out.push(b'\n')?;
     Ok(())
 }
@@ -42,7 +39,7 @@ fn push_match_at(
 fn push_match(
     alloc: Global,
     out: &mut Vec<u8>,
-    what: &OutputOptions,
+    what: &OutputOptions<'_>,
     name: Option<&[u8]>,
     role: Role,
     line: Line<'_>,
@@ -62,7 +59,7 @@ fn push_match(
 fn push_all(
     alloc: Global,
     out: &mut Vec<u8>,
-    what: &OutputOptions,
+    what: &OutputOptions<'_>,
     name: Option<&[u8]>,
     role: Role,
     line: Line<'_>,
@@ -81,7 +78,7 @@ fn push_all(
 fn push_matches(
     alloc: Global,
     out: &mut Vec<u8>,
-    what: &OutputOptions,
+    what: &OutputOptions<'_>,
     name: Option<&[u8]>,
     role: Role,
     line: Line<'_>,
@@ -100,7 +97,7 @@ fn push_matches(
 pub(crate) fn push_item(
     alloc: Global,
     out: &mut Vec<u8>,
-    what: &OutputOptions,
+    what: &OutputOptions<'_>,
     name: Option<&[u8]>,
     role: Role,
     line: Line<'_>,

@@ -46,7 +46,7 @@ pub use finder::Finder;
 pub use line::Line;
 pub use line_patterns::LinePatterns;
 pub use looking::needs_spans;
-pub use output_options::{Context, OutputOptions, Print};
+pub use output_options::{Context, GroupSeparator, OutputOptions, Print};
 pub use patterns::{PatternOptions, config_of, pattern_source};
 pub use reading::report_input;
 pub use role::Role;

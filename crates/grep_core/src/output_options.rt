@@ -24,9 +24,20 @@ pub enum Print {
     Nothing,
 }
 
+/// What separates groups of lines that aren't adjacent.
+#[derive(Clone, Copy, Debug, PartialEq, Eq)]
+pub enum GroupSeparator<'a> {
+    /// A line of two hyphens.
+    Hyphens,
+    /// A line of these bytes.
+    Given(&'a [u8]),
+    /// Nothing.
+    Omitted,
+}
+
 /// What is asked for.
 #[derive(Clone, Copy, Debug, PartialEq, Eq)]
-pub struct OutputOptions {
+pub struct OutputOptions<'a> {
     /// If set, the lines without a match are selected instead of those with one.
     pub invert: bool,
     /// What is printed.
@@ -41,4 +52,12 @@ pub struct OutputOptions {
     pub most: Option<u64>,
     /// Whether names, numbers, separators and matches are marked for a terminal.
     pub color: bool,
+    /// Whether a zero byte follows names, instead of a separator or a line feed.
+    pub zero_names: bool,
+    /// Whether a tab separates a line or match from the fields before it, if there are any. An empty line has none.
+    pub initial_tab: bool,
+    /// The least number of bytes for a number or offset. Spaces precede shorter ones.
+    pub width: usize,
+    /// What separates groups of lines, if context is asked for.
+    pub groups: GroupSeparator<'a>,
 }

@@ -52,7 +52,7 @@ fn count_feeds(text: &[u8]) -> usize
 }
 
 /// How many lines before a selected one are printed with it.
-fn held_of(what: &OutputOptions) -> u64
+fn held_of(what: &OutputOptions<'_>) -> u64
     ensures { result ≡ held_of what.now }
 {
     if prints_lines(what.print) {
@@ -82,7 +82,7 @@ fn last_lines(lines: &[u8], count: u64) -> usize
 }
 
 /// Whether a line without a match is, at this point, neither selected nor owed to a selected one as context.
-fn may_pass(what: &OutputOptions, course: &ContextPrinter) -> bool
+fn may_pass(what: &OutputOptions<'_>, course: &ContextPrinter) -> bool
     ensures { IsTrue result → MaySkip what.now course.now }
 {
     if what.invert {
@@ -92,7 +92,7 @@ fn may_pass(what: &OutputOptions, course: &ContextPrinter) -> bool
 }
 
 /// Whether processing lines without a match one by one can stop. It can if such lines can be skipped, unless `all` asks for all of them.
-fn stops(what: &OutputOptions, course: &ContextPrinter, all: bool) -> bool
+fn stops(what: &OutputOptions<'_>, course: &ContextPrinter, all: bool) -> bool
     ensures may { IsTrue result → MaySkip what.now course.now }
     ensures some { IsTrue result → all ≡ false }
 {

@@ -1,10 +1,10 @@
 //! How a line is printed, in the format of GNU grep.
-ghost use Rattle.std.specs.Prelude.{◌≡◌, ◌≤◌, ◌++◌, ◌∷◌, ◌+◌, ℕ, [], codes, decimal, length, map, option_map, slice_range, OnOk};
+ghost use Rattle.std.specs.Prelude.{◌≡◌, ◌<◌, ◌++◌, ◌&&◌, ◌||◌, Some, is_some, length, map, nat_lt, option_map, slice_range, IfOk, OnOk};
 ghost use Rattle.grep_core.specs.Printing.{coloured, marked_from, span_pair, has_marks, line_bytes, printed_line, text_line, group_line};
-ghost use Rattle.grep_core.specs.Printing.{field, fields, if_asked, name_field, separator};
+ghost use Rattle.grep_core.specs.Printing.{field, fields, if_asked, name_field, number_field, padded, separator, separator_line, tab};
 
 use crate::line::Line;
-use crate::output_options::OutputOptions;
+use crate::output_options::{GroupSeparator, OutputOptions};
 use crate::role::Role;
 use search_types::Span;
 use std::alloc::{AllocError, Global};
@@ -43,7 +43,7 @@ fn separator(role: Role) -> &'static [u8]
 /// Appends a field and the separator after it.
 pub(crate) fn push_field(
     out: &mut Vec<u8>,
-    what: &OutputOptions,
+    what: &OutputOptions<'_>,
     role: Role,
     code: &[u8],
     text: &[u8],
@@ -55,20 +55,67 @@ pub(crate) fn push_field(
     Ok(())
 }
 
+/// Appends a name and what follows it: a zero byte if that is asked for, and else the separator for this role.
+pub(crate) fn push_name_field(
+    out: &mut Vec<u8>,
+    what: &OutputOptions<'_>,
+    role: Role,
+    name: &[u8],
+) -> Result<(), AllocError>
+    ensures { OnOk result (out.new.items ≡ out.old.items ++ name_field what.now role (Some name.now)) }
+{
+    push_marked(out, what.color, b"35", name)?;
+    if what.zero_names {
+        out.push(0)?;
+        return Ok(());
+    }
+    push_marked(out, what.color, b"36", separator(role))
+}
+
+/// The text of at least this many bytes: spaces precede a shorter one.
+fn padded(alloc: Global, width: usize, text: &[u8]) -> Result<Vec<u8>, AllocError>
+    requires { 0 < width }
+    ensures { IfOk result (λ v. v.items ≡ padded width text.now) }
+{
+    let mut all = Vec::new(alloc);
+    all.resize(width.saturating_sub(text.len()), b' ')?;
+    all.extend_from_slice(text)?;
+    Ok(all)
+}
+
+/// Appends a number as a field.
+fn push_number_field(
+    alloc: Global,
+    out: &mut Vec<u8>,
+    what: &OutputOptions<'_>,
+    role: Role,
+    number: u64,
+) -> Result<(), AllocError>
+    ensures { OnOk result (out.new.items ≡ out.old.items ++ number_field what.now role number) }
+{
+    let text = format!(in alloc; "{number}")?;
+    let digits = text.as_str().as_bytes();
+    let width = what.width;
+    if width == 0 {
+        return push_field(out, what, role, b"32", digits);
+    }
+    let wide = padded(alloc, width, digits)?;
+    push_field(out, what, role, b"32", &wide)
+}
+
 /// Appends a number as a field, if it is asked for.
 fn push_number(
     alloc: Global,
     out: &mut Vec<u8>,
-    what: &OutputOptions,
+    what: &OutputOptions<'_>,
     role: Role,
     is_asked: bool,
     number: u64,
 ) -> Result<(), AllocError>
-    ensures { OnOk result (out.new.items ≡ out.old.items ++ if_asked is_asked (field what.now role (codes "32") (decimal number))) }
+    ensures { OnOk result (out.new.items ≡ out.old.items ++ if_asked is_asked (number_field what.now role number)) }
 {
     if is_asked {
-        let text = format!(in alloc; "{number}")?;
-        push_field(out, what, role, b"32", text.as_str().as_bytes())?;
+        return push_number_field(alloc, out, what, role, number);
     }
     Ok(())
 }
@@ -77,7 +124,7 @@ fn push_number(
 pub(crate) fn push_fields(
     alloc: Global,
     out: &mut Vec<u8>,
-    what: &OutputOptions,
+    what: &OutputOptions<'_>,
     name: Option<&[u8]>,
     role: Role,
     number: u64,
@@ -86,10 +133,33 @@ pub(crate) fn push_fields(
     ensures { OnOk result (out.new.items ≡ out.old.items ++ fields what.now (option_map (λ n. n.now) name.entry) role number place) }
 {
     if let Some(name) = name {
-        push_field(out, what, role, b"35", name)?;
+        push_name_field(out, what, role, name)?;
     }
     push_number(alloc, out, what, role, what.numbers, number)?;
     push_number(alloc, out, what, role, what.offsets, place)?;
+    Ok(())
+}
+
+/// Whether there is a tab before this text.
+fn has_tab(what: &OutputOptions<'_>, name: Option<&[u8]>, text: &[u8]) -> bool
+    ensures { result ≡ (what.now.initial_tab && (is_some name.entry || what.now.numbers || what.now.offsets)
+        && nat_lt 0 (length text.now)) }
+{
+    what.initial_tab && (name.is_some() || what.numbers || what.offsets) && !text.is_empty()
+}
+
+/// Appends the tab between fields and a text, if it is asked for.
+pub(crate) fn push_tab(
+    out: &mut Vec<u8>,
+    what: &OutputOptions<'_>,
+    name: Option<&[u8]>,
+    text: &[u8],
+) -> Result<(), AllocError>
+    ensures { OnOk result (out.new.items ≡ out.old.items ++ tab what.now (option_map (λ n. n.now) name.entry) text.now) }
+{
+    if has_tab(what, name, text) {
+        out.push(b'\t')?;
+    }
     Ok(())
 }
 
@@ -119,7 +189,7 @@ fn push_matches(out: &mut Vec<u8>, line: &[u8], found: &[Span]) -> Result<(), Al
 }
 
 /// Whether matches are printed or marked in lines of this role.
-pub(crate) fn has_marks(what: &OutputOptions, role: Role) -> bool
+pub(crate) fn has_marks(what: &OutputOptions<'_>, role: Role) -> bool
     ensures { result ≡ has_marks what.now role }
 {
     match role {
@@ -131,7 +201,7 @@ pub(crate) fn has_marks(what: &OutputOptions, role: Role) -> bool
 /// Appends the bytes of a line that has these matches, none of which is empty.
 fn push_bytes(
     out: &mut Vec<u8>,
-    what: &OutputOptions,
+    what: &OutputOptions<'_>,
     role: Role,
     line: &[u8],
     found: &[Span],
@@ -150,7 +220,7 @@ fn push_bytes(
 pub(crate) fn push_line(
     alloc: Global,
     out: &mut Vec<u8>,
-    what: &OutputOptions,
+    what: &OutputOptions<'_>,
     name: Option<&[u8]>,
     role: Role,
     line: Line<'_>,
@@ -160,16 +230,32 @@ pub(crate) fn push_line(
         ++ printed_line what.now (option_map (λ n. n.now) name.entry) role (text_line line.entry) (map span_pair found.now)) }
 {
     push_fields(alloc, out, what, name, role, line.number, line.place)?;
+    push_tab(out, what, name, line.bytes)?;
     push_bytes(out, what, role, line.bytes, found)?;
     out.push(b'\n')?;
     Ok(())
 }
 
-/// Appends the separator line between two groups of lines.
-pub(crate) fn push_group(out: &mut Vec<u8>, what: &OutputOptions) -> Result<(), AllocError>
-    ensures { OnOk result (out.new.items ≡ out.old.items ++ group_line what.now) }
+/// Appends a separator line of this text.
+fn push_separator_line(
+    out: &mut Vec<u8>,
+    what: &OutputOptions<'_>,
+    text: &[u8],
+) -> Result<(), AllocError>
+    ensures { OnOk result (out.new.items ≡ out.old.items ++ separator_line what.now (Some text.now)) }
 {
-    push_marked(out, what.color, b"36", b"--")?;
+    push_marked(out, what.color, b"36", text)?;
     out.push(b'\n')?;
     Ok(())
+}
+
+/// Appends what is between two groups of lines.
+pub(crate) fn push_group(out: &mut Vec<u8>, what: &OutputOptions<'_>) -> Result<(), AllocError>
+    ensures { OnOk result (out.new.items ≡ out.old.items ++ group_line what.now) }
+{
+    match what.groups {
+        GroupSeparator::Hyphens => push_separator_line(out, what, b"--"),
+        GroupSeparator::Given(text) => push_separator_line(out, what, text),
+        GroupSeparator::Omitted => Ok(()),
+    }
 }

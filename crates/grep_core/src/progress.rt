@@ -17,7 +17,7 @@ use std::alloc::Global;
 /// A task: an input with this name is searched, and `what` says what to print.
 #[derive(Clone, Copy)]
 pub(crate) struct Task<'a> {
-    pub what: &'a OutputOptions,
+    pub what: &'a OutputOptions<'a>,
     pub name: &'a [u8],
     /// Whether the name is printed before lines.
     pub with_name: bool,

@@ -418,7 +418,7 @@ fn count_of(print: Print, progress: &Progress) -> u64
 pub fn report_input<R: Read, W: Write>(
     alloc: Global,
     finder: &mut Finder<'_>,
-    what: &OutputOptions,
+    what: &OutputOptions<'_>,
     name: &[u8],
     with_name: bool,
     known: SeparatorState,

@@ -13,7 +13,7 @@ use crate::context_printer::{ContextPrinter, next_line, see_end};
 use crate::fault::Fault;
 use crate::line::Line;
 use crate::output_options::{OutputOptions, Print};
-use crate::printing::{push_field, push_marked};
+use crate::printing::{push_marked, push_name_field};
 use crate::role::Role;
 use crate::separator_state::SeparatorState;
 use search_types::Span;
@@ -45,7 +45,7 @@ pub(crate) fn prints_lines(print: Print) -> bool
 }
 
 /// Whether one more line may be selected, after this many.
-fn may_select(what: &OutputOptions, count: u64) -> bool
+fn may_select(what: &OutputOptions<'_>, count: u64) -> bool
     ensures { result ≡ may_select what.now.most count }
 {
     match what.most {
@@ -55,14 +55,14 @@ fn may_select(what: &OutputOptions, count: u64) -> bool
 }
 
 /// Whether a line is wanted, given whether it has a match.
-fn is_wanted(what: &OutputOptions, has: bool) -> bool
+fn is_wanted(what: &OutputOptions<'_>, has: bool) -> bool
     ensures { result ≡ (if what.now.invert then not has else has) }
 {
     if what.invert { !has } else { has }
 }
 
 /// Whether a line is selected, after this many selected ones.
-fn is_selected(what: &OutputOptions, count: u64, has: bool) -> bool
+fn is_selected(what: &OutputOptions<'_>, count: u64, has: bool) -> bool
     ensures { result ≡ ((if what.now.invert then not has else has) && may_select what.now.most count) }
 {
     is_wanted(what, has) && may_select(what, count)
@@ -72,7 +72,7 @@ fn is_selected(what: &OutputOptions, count: u64, has: bool) -> bool
 fn report_by_flags(
     alloc: Global,
     out: &mut Vec<u8>,
-    what: &OutputOptions,
+    what: &OutputOptions<'_>,
     name: Option<&[u8]>,
     course: &mut ContextPrinter,
     line: Line<'_>,
@@ -126,7 +126,7 @@ impl Reporter {
 pub(crate) fn report_line(
     alloc: Global,
     out: &mut Vec<u8>,
-    what: &OutputOptions,
+    what: &OutputOptions<'_>,
     name: &[u8],
     with_name: bool,
     telling: &mut Reporter,
@@ -172,7 +172,7 @@ fn push_number(alloc: Global, out: &mut Vec<u8>, number: u64) -> Result<(), Allo
 fn push_count(
     alloc: Global,
     out: &mut Vec<u8>,
-    what: &OutputOptions,
+    what: &OutputOptions<'_>,
     name: Option<&[u8]>,
     count: u64,
 ) -> Result<(), AllocError>
@@ -181,16 +181,16 @@ fn push_count(
     let Some(name) = name else {
         return push_number(alloc, out, count);
     };
-    push_field(out, what, Role::Selected, b"35", name)?;
+    push_name_field(out, what, Role::Selected, name)?;
     push_number(alloc, out, count)
 }
 
 /// Appends the name of an input as a line.
-fn push_name(out: &mut Vec<u8>, what: &OutputOptions, name: &[u8]) -> Result<(), AllocError>
+fn push_name(out: &mut Vec<u8>, what: &OutputOptions<'_>, name: &[u8]) -> Result<(), AllocError>
     ensures { OnOk result (out.new.items ≡ out.old.items ++ name_line what.now name.now) }
 {
     push_marked(out, what.color, b"35", name)?;
-    out.push(b'\n')?;
+    out.push(if what.zero_names { 0 } else { b'\n' })?;
     Ok(())
 }
 
@@ -198,7 +198,7 @@ fn push_name(out: &mut Vec<u8>, what: &OutputOptions, name: &[u8]) -> Result<(),
 pub(crate) fn report_end(
     alloc: Global,
     out: &mut Vec<u8>,
-    what: &OutputOptions,
+    what: &OutputOptions<'_>,
     name: &[u8],
     with_name: bool,
     telling: &Reporter,
@@ -236,7 +236,7 @@ pub(crate) fn counted_as(print: Print, count: u64) -> u64
 }
 
 /// Whether the next lines change neither the output nor the number that is counted, whatever they are.
-pub(crate) fn is_over(what: &OutputOptions, telling: &Reporter) -> bool
+pub(crate) fn is_over(what: &OutputOptions<'_>, telling: &Reporter) -> bool
     ensures reported { IsTrue result → (f : LineMatcher) (name : List ℕ) (with_name : Bool) (lines : List TextLine) →
         still_reported what.now f name with_name telling.now lines ≡ still_reported what.now f name with_name telling.now [] }
     ensures counted { IsTrue result → (f : LineMatcher) (lines : List TextLine) →

@@ -175,6 +175,22 @@ number_options =
     ∷ option (codes "context") (codes "C") Set
     ∷ []
 
+-- Of these two the later one takes effect.
+abbrev pub given_separator : OptionRow
+given_separator = record (option (codes "group-separator") [] Set) { turns_off = codes "no-group-separator" ∷ [] }
+
+abbrev pub no_separator : OptionRow
+no_separator = flag_over (codes "no-group-separator") [] (codes "group-separator")
+
+-- the format of what is printed
+abbrev pub format_options : List OptionRow
+format_options =
+    flag (codes "null") (codes "Z")
+    ∷ flag (codes "initial-tab") (codes "T")
+    ∷ given_separator
+    ∷ no_separator
+    ∷ []
+
 -- These change nothing: any file is text, no carriage return is removed, and lines are written before more input is read.
 abbrev pub accepted_options : List OptionRow
 accepted_options =
@@ -212,4 +228,4 @@ options =
     ++ (selecting_options
     ++ (printing_options
     ++ (folder_options
-    ++ (file_options ++ (paired_options ++ (number_options ++ (accepted_options ++ other_options)))))))))
+    ++ (file_options ++ (paired_options ++ (number_options ++ (accepted_options ++ (format_options ++ other_options))))))))))

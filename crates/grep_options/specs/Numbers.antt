@@ -88,7 +88,7 @@ is_awaiting w =
     bytes_eq w (codes "--regexp") || (bytes_eq w (codes "--file") || (bytes_eq w (codes "--directory")
     || (bytes_eq w (codes "--max-count") || (bytes_eq w (codes "--after-context") || (bytes_eq w (codes "--before-context")
     || (bytes_eq w (codes "--context") || (bytes_eq w (codes "--label") || (bytes_eq w (codes "--directories")
-    || (bytes_eq w (codes "--devices") || is_awaiting_file w)))))))))
+    || (bytes_eq w (codes "--devices") || (bytes_eq w (codes "--group-separator") || is_awaiting_file w))))))))))
 
 -- what may follow a word of letters
 abbrev pub after_letters : Letters → Next

@@ -5,6 +5,7 @@
 #![tactic(auto)]
 
 mod files;
+mod format;
 mod numbers;
 mod options;
 mod values;

@@ -183,6 +183,7 @@ fn is_awaiting(word: &str) -> bool
         || word == "--label"
         || word == "--directories"
         || word == "--devices"
+        || word == "--group-separator"
         || is_awaiting_file(word)
 }
 

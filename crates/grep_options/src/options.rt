@@ -8,6 +8,7 @@ ghost use Rattle.grep_options.specs.CommandLine.{other_options, paired_options, 
 ghost use Rattle.grep_options.specs.CommandLine.{syntax_options, turning_off, words_option};
 
 use crate::files::push_files;
+use crate::format::push_format;
 use clap::{Arg, ArgAction, Command, value_parser};
 use std::alloc::{AllocError, Global};
 
@@ -27,7 +28,7 @@ pub fn push<'a>(args: &mut Vec<Arg<'a>>, arg: Arg<'a>) -> Result<(), AllocError>
 }
 
 /// Appends an option that takes no value and has a letter.
-fn push_flag<'a>(
+pub(crate) fn push_flag<'a>(
     alloc: Global,
     args: &mut Vec<Arg<'a>>,
     id: &'a str,
@@ -85,7 +86,11 @@ fn push_without<'a>(
 }
 
 /// Appends an option that turns off one more.
-fn push_over<'a>(args: &mut Vec<Arg<'a>>, arg: Arg<'a>, other: &'a str) -> Result<(), AllocError>
+pub(crate) fn push_over<'a>(
+    args: &mut Vec<Arg<'a>>,
+    arg: Arg<'a>,
+    other: &'a str,
+) -> Result<(), AllocError>
     ensures { OnOk result (AddsOptions args.old.items args.new.items (turning_off (option_row arg.entry) other.entry.now ∷ [])) }
 {
     let arg = arg.overrides_with(other)?;
@@ -385,6 +390,7 @@ fn push_all<'a>(alloc: Global, args: &mut Vec<Arg<'a>>) -> Result<(), AllocError
     push_pairs(alloc, args)?;
     push_numbers(alloc, args)?;
     push_accepted(alloc, args)?;
+    push_format(alloc, args)?;
     push_others(alloc, args)
 }
 

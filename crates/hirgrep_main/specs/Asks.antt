@@ -8,6 +8,7 @@ use Rattle.grep_core.specs.declared.patterns.PatternOptions.{PatternOptions}
 use Rattle.grep_core.specs.declared.output_options.Context.{Context}
 use Rattle.grep_core.specs.declared.output_options.Print.{Print}
 use Rattle.grep_core.specs.declared.output_options.Print.TheVariants.{Lines, Matches, Count, NameIfAny, NameIfNone, Nothing}
+use Rattle.grep_core.specs.declared.output_options.GroupSeparator.{GroupSeparator}
 use Rattle.grep_core.specs.declared.output_options.OutputOptions.{OutputOptions}
 use Rattle.hirgrep_main.specs.declared.asked.Asked.{Asked}
 use Rattle.hirgrep_main.specs.declared.asked.Devices.{Devices}
@@ -78,9 +79,15 @@ devices_by action follows =
     else if follows then ReadAll
     else ReadNamed
 
--- -v, -n, -b, -m, and what is above
-abbrev pub what_of : Found → Bool → OutputOptions
-what_of f is_colorful = record {
+-- --group-separator, --no-group-separator: the text between groups of lines. Of the two options the later one has turned off the other.
+abbrev pub group_given : Found → Option (List ℕ)
+group_given f =
+    if is_set f (codes "no-group-separator") then None
+    else Some (unwrap_or (first_value f (codes "group-separator")) (codes "--"))
+
+-- -v, -n, -b, -m, -Z, -T, and what is above. The width of numbers depends on the input.
+abbrev pub what_of : Found → Bool → GroupSeparator → OutputOptions
+what_of f is_colorful groups = record {
   invert = is_set f (codes "invert-match");
   print = print_of f;
   numbers = is_set f (codes "line-number");
@@ -88,13 +95,17 @@ what_of f is_colorful = record {
   context = context_of f;
   most = limit_given f (codes "max-count");
   color = color_by (first_value f (codes "color")) is_colorful;
+  zero_names = is_set f (codes "null");
+  initial_tab = is_set f (codes "initial-tab");
+  width = 0;
+  groups = groups;
 }
 
 -- -R, -s, --stats, and what is above
-abbrev pub asked_of : Found → Bool → Asked
-asked_of f is_colorful = record {
+abbrev pub asked_of : Found → Bool → GroupSeparator → Asked
+asked_of f is_colorful groups = record {
   how = how_of f;
-  what = what_of f is_colorful;
+  what = what_of f is_colorful groups;
   names = asked_names f;
   directories = directories_by (first_value f (codes "directories"))
       (is_set f (codes "recursive") || is_set f (codes "dereference-recursive"));

@@ -1,5 +1,5 @@
 -- What follows from the options, and from the outcome of the files.
-use Rattle.std.specs.Prelude.{ℕ, ◌+◌, ◌-◌, ◌^◌, min, Bool, true, false, not, ◌&&◌, nat_eq, Option, Some, None, if◌then◌else◌}
+use Rattle.std.specs.Prelude.{ℕ, ◌+◌, ◌-◌, ◌^◌, min, Bool, true, false, not, ◌&&◌, nat_eq, decimal, length, Option, Some, None, if◌then◌else◌}
 use Rattle.grep_core.specs.declared.output_options.Print.{Print}
 use Rattle.grep_core.specs.declared.output_options.Print.TheVariants.{Lines, Matches, Count, NameIfAny, NameIfNone, Nothing}
 use Rattle.grep_core.specs.declared.output_options.OutputOptions.{OutputOptions}
@@ -81,3 +81,7 @@ status print selected failed =
 -- A number of 64 bits to which n was added. The greatest number stands for any number above it.
 abbrev pub counted : ℕ → ℕ → ℕ
 counted old n = min (old + n) (2 ^ 64 - 1)
+
+-- How many digits the greatest offset and, if asked for, line number of a file of this size may have.
+abbrev pub width_for : Bool → ℕ → ℕ
+width_for numbers size = length (decimal (if numbers then counted size 1 else size))

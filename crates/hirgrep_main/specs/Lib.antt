@@ -3,3 +3,4 @@ pub mod Decisions
 pub mod Given
 pub mod Outcomes
 pub mod Selecting
+pub mod Tasks

@@ -1,12 +1,13 @@
 //! What the options ask for.
 ghost use Rattle.std.specs.Prelude.{◌≡◌, ◌||◌, codes, unwrap_or};
 ghost use Rattle.clap.specs.Words.{first_value, found_of};
+ghost use Rattle.grep_core.specs.Printing.{group_text};
 ghost use Rattle.grep_options.specs.Options.{is_set};
 ghost use Rattle.hirgrep_main.specs.Asks.{asked_names, asked_of, color_by, context_by, context_of, devices_by, directories_by, how_of};
-ghost use Rattle.hirgrep_main.specs.Asks.{print_of, what_of};
+ghost use Rattle.hirgrep_main.specs.Asks.{group_given, print_of, what_of};
 
 use clap::ArgMatches;
-use grep_core::{Context, OutputOptions, PatternOptions, Print};
+use grep_core::{Context, GroupSeparator, OutputOptions, PatternOptions, Print};
 use grep_options::{is_set, limit, number};
 use std::env;
 use std::io::IsTerminal;
@@ -42,9 +43,9 @@ pub enum Devices {
 
 /// What is asked for.
 #[derive(Clone, Copy)]
-pub struct Asked {
+pub struct Asked<'a> {
     pub how: PatternOptions,
-    pub what: OutputOptions,
+    pub what: OutputOptions<'a>,
     pub names: Names,
     pub directories: Directories,
     /// Follows links that are found in folders.
@@ -189,9 +190,23 @@ pub fn input_name<'a>(matches: &ArgMatches<'a>) -> &'a str
     }
 }
 
-/// What is printed for each input.
-fn what_of(matches: &ArgMatches<'_>, is_colorful: bool) -> OutputOptions
-    ensures { result ≡ what_of (found_of matches.now) is_colorful }
+/// What separates groups of lines. Of the two options, the later one has turned off the other.
+fn groups_of<'a>(matches: &ArgMatches<'a>) -> GroupSeparator<'a>
+    ensures { group_text result ≡ group_given (found_of matches.now) }
+{
+    if is_set(matches, "no-group-separator") {
+        return GroupSeparator::Omitted;
+    }
+    match matches.get_str("group-separator") {
+        Some(text) => GroupSeparator::Given(text.as_bytes()),
+        None => GroupSeparator::Hyphens,
+    }
+}
+
+/// What is printed for each input. The width of numbers depends on the input, and is 0 here.
+fn what_of<'a>(matches: &ArgMatches<'a>, is_colorful: bool) -> OutputOptions<'a>
+    ensures options { result ≡ what_of (found_of matches.now) is_colorful result.groups }
+    ensures groups { group_text result.groups ≡ group_given (found_of matches.now) }
 {
     OutputOptions {
         invert: is_set(matches, "invert-match"),
@@ -201,12 +216,17 @@ fn what_of(matches: &ArgMatches<'_>, is_colorful: bool) -> OutputOptions
         context: context_of(matches),
         most: limit(matches, "max-count"),
         color: color_of(matches, is_colorful),
+        zero_names: is_set(matches, "null"),
+        initial_tab: is_set(matches, "initial-tab"),
+        width: 0,
+        groups: groups_of(matches),
     }
 }
 
 /// What the options ask for. `is_colorful` says whether standard output is a terminal that supports colours.
-pub fn asked_of(matches: &ArgMatches<'_>, is_colorful: bool) -> Asked
-    ensures { result ≡ asked_of (found_of matches.now) is_colorful }
+pub fn asked_of<'a>(matches: &ArgMatches<'a>, is_colorful: bool) -> Asked<'a>
+    ensures options { result ≡ asked_of (found_of matches.now) is_colorful result.what.groups }
+    ensures groups { group_text result.what.groups ≡ group_given (found_of matches.now) }
 {
     Asked {
         how: how_of(matches),

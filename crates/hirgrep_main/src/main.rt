@@ -9,6 +9,7 @@ ghost use Rattle.hirgrep_main.specs.Outcomes.{no_outcome, with_failure};
 
 mod arguments;
 mod asked;
+mod columns;
 mod counting;
 mod input;
 mod loops;

@@ -12,8 +12,10 @@ ghost use Rattle.hirgrep_main.specs.declared.asked.Directories.TheVariants.{Reje
 ghost use Rattle.hirgrep_main.specs.declared.searching.Named.TheVariants.{Folder, Device};
 ghost use Rattle.hirgrep_main.specs.declared.walking.Kind.TheVariants.{Link, Device as FoundDevice};
 ghost use Rattle.hirgrep_main.specs.Outcomes.{Continues, after_search, no_outcome, with_failure};
+ghost use Rattle.hirgrep_main.specs.Tasks.{options_in};
 
 use crate::asked::{Asked, Devices, Directories, Names};
+use crate::columns::width_at;
 use crate::counting::Counting;
 use crate::input::input;
 use crate::messages::{Causes, report_no_finder};
@@ -23,8 +25,8 @@ use crate::selecting_files::Selection;
 use crate::task::{Task, shown_name};
 use crate::walking::{Kind, is_output, kind_of, output_file, push_folder, push_found};
 use grep_core::{
-    Fault, Finder, LinePatterns, Print, SearcherError, SeparatorState, config_of, needs_spans,
-    pattern_source, report_input,
+    Fault, Finder, LinePatterns, OutputOptions, Print, SearcherError, SeparatorState, config_of,
+    needs_spans, pattern_source, report_input,
 };
 use std::alloc::{AllocError, Global};
 use std::io::{Read, Write};
@@ -77,18 +79,22 @@ fn report_reader<R: Read, W: Write>(
     ensures same { finder.new ≡ finder.old }
     ensures reported { OnOk result ((by : SearchesFor finder.old (needs_spans task.entry.asked.now.what)) →
         IfSome (R.remaining reader.old) (λ text. Appends (W.contents writer.old) (W.contents writer.new)
-        (report task.entry.asked.now.what (found_by by) name.now task.entry.with_name known text))) }
+        (report (options_in task.entry) (found_by by) name.now task.entry.with_name known text))) }
     ensures selected { IfOk result (λ n. (by : SearchesFor finder.old (needs_spans task.entry.asked.now.what)) →
         IfSome (R.remaining reader.old) (λ text.
         n ≡ counted_as task.entry.asked.now.what.print (selected_count task.entry.asked.now.what (found_by by) text))) }
     ensures fault { IfErr result (λ _. (by : SearchesFor finder.old (needs_spans task.entry.asked.now.what)) →
         IfSome (R.remaining reader.old) (λ text. (n : ℕ) × Appends (W.contents writer.old) (W.contents writer.new)
-        (take n (report task.entry.asked.now.what (found_by by) name.now task.entry.with_name known text)))) }
+        (take n (report (options_in task.entry) (found_by by) name.now task.entry.with_name known text)))) }
 {
+    let what = OutputOptions {
+        width: task.width,
+        ..task.asked.what
+    };
     report_input(
         alloc,
         finder,
-        &task.asked.what,
+        &what,
         name.as_bytes(),
         task.with_name,
         known,
@@ -194,21 +200,6 @@ fn is_refused_output(
     is_refused
 }
 
-/// Searches standard input.
-fn search_input(rt: &HostRuntime, finder: &mut Finder<'_>, task: Task<'_>, outcome: &mut Outcome)
-    ensures { Continues outcome.old outcome.new }
-{
-    if task.selection.lists {
-        return;
-    }
-    let name = task.input_name;
-    let reader = input(rt, task.asked);
-    if is_refused_output(rt, task, outcome, name, "/dev/stdin") {
-        return;
-    }
-    search_reader(rt, finder, task, outcome, name, reader, rt.stdout());
-}
-
 /// Searches what was opened, or records that it can't be opened.
 fn search_opened<R: Read + Drop>(
     rt: &HostRuntime,
@@ -227,12 +218,47 @@ fn search_opened<R: Read + Drop>(
     }
 }
 
-/// Writes the name of a file as a line, unless nothing is printed.
-fn write_name<W: Write>(print: Print, name: &str, writer: &mut W) -> Result<u64, Fault> {
+/// Searches what was opened, with numbers at least this wide, or records that memory ran out.
+fn search_aligned<R: Read + Drop>(
+    rt: &HostRuntime,
+    finder: &mut Finder<'_>,
+    task: Task<'_>,
+    outcome: &mut Outcome,
+    name: &str,
+    width: Result<usize, AllocError>,
+    opened: io::Result<R>,
+)
+    ensures unknown { IfErr width (λ _. outcome.new ≡ with_failure outcome.old) }
+    ensures continues { Continues outcome.old outcome.new }
+{
+    match width {
+        Ok(width) => search_opened(rt, finder, Task { width, ..task }, outcome, name, opened),
+        Err(_) => outcome.fail_with(rt, task.asked, name, "out of memory"),
+    }
+}
+
+/// Searches standard input.
+fn search_input(rt: &HostRuntime, finder: &mut Finder<'_>, task: Task<'_>, outcome: &mut Outcome)
+    ensures { Continues outcome.old outcome.new }
+{
+    if task.selection.lists {
+        return;
+    }
+    let name = task.input_name;
+    let reader = input(rt, task.asked);
+    if is_refused_output(rt, task, outcome, name, "/dev/stdin") {
+        return;
+    }
+    let width = width_at(rt, &task.asked.what, "/dev/stdin");
+    search_aligned(rt, finder, task, outcome, name, width, Ok(reader));
+}
+
+/// Writes the name of a file and what ends it, unless nothing is printed.
+fn write_name<W: Write>(print: Print, name: &str, end: char, writer: &mut W) -> Result<u64, Fault> {
     if print == Print::Nothing {
         return Ok(1);
     }
-    match writeln!(writer, "{name}") {
+    match write!(writer, "{name}{end}") {
         Ok(()) => Ok(1),
         Err(e) => Err(Fault::Write(e.kind())),
     }
@@ -244,7 +270,12 @@ fn list_file(rt: &HostRuntime, task: Task<'_>, outcome: &mut Outcome, name: &str
 {
     let mut writer = Output::new(rt.stdout());
     let print = task.asked.what.print;
-    let written = write_name(print, name, &mut writer);
+    let end = if task.asked.what.zero_names {
+        '\0'
+    } else {
+        '\n'
+    };
+    let written = write_name(print, name, end, &mut writer);
     outcome.keep_search(
         rt,
         task.asked,
@@ -277,7 +308,8 @@ fn search_file(
     if is_refused_output(rt, task, outcome, name, path) {
         return;
     }
-    search_opened(rt, finder, task, outcome, name, fs::open(rt, path));
+    let width = width_at(rt, &task.asked.what, path);
+    search_aligned(rt, finder, task, outcome, name, width, fs::open(rt, path));
 }
 
 /// Whether devices that are found in folders are read.
@@ -598,6 +630,7 @@ fn search_files(
         input_name: files.input_name,
         output: output_file(rt),
         selection: files.selection,
+        width: 0,
     };
     match files.names {
         [] => {

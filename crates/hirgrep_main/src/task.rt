@@ -7,7 +7,7 @@ use crate::walking::FileId;
 /// What files are searched for, and how the results are printed.
 #[derive(Clone, Copy)]
 pub struct Task<'a> {
-    pub asked: &'a Asked,
+    pub asked: &'a Asked<'a>,
     /// Whether names are printed before lines.
     pub with_name: bool,
     /// No file is named, so the files of the current folder are searched, and their names are relative to it.
@@ -18,6 +18,8 @@ pub struct Task<'a> {
     pub output: Option<FileId>,
     /// Which files are searched.
     pub selection: &'a Selection,
+    /// The least number of columns for numbers.
+    pub width: usize,
 }
 
 /// The name that is printed for the file at a path.

@@ -13,4 +13,5 @@ returns c =
     let seven = joined files c.in_ok-push_pairs.ensures in
     let eight = joined seven c.in_ok-push_numbers.ensures in
     let nine = joined eight c.in_ok-push_accepted.ensures in
-    on_ok_weaker c.push_others.result (λ p. joined nine p) c.push_others.ensures
+    let ten = joined nine c.in_ok-push_format.ensures in
+    on_ok_weaker c.push_others.result (λ p. joined ten p) c.push_others.ensures

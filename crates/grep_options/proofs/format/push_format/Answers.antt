@@ -1,0 +1,9 @@
+use Rattle.std.proofs.lemmas.Result.{on_ok_weaker}
+use Rattle.grep_options.proofs.Rows.{joined}
+use Rattle.grep_options.proofs.format.push_format.Goals as goal
+
+pub returns : goal.returns
+returns c =
+    let two = joined c.in_ok-push_flag.ensures c.in_ok-push_flag-2.ensures in
+    let three = joined two c.in_ok-push_separator.ensures in
+    on_ok_weaker c.push_no_separator.result (λ p. joined three p) c.push_no_separator.ensures
