@@ -7,11 +7,14 @@ use std::alloc::{AllocError, Global};
 use std::fs;
 use std::rt::Runtime;
 
-/// The size in bytes of the file at the path. Of anything else than a file, it is the greatest number.
+/// The greatest offset that the system has.
+const GREATEST: u64 = 0x7FFF_FFFF_FFFF_FFFF;
+
+/// The size in bytes of the file at the path. Of anything else than a file, it is the greatest offset.
 fn size_at(rt: &HostRuntime, path: &str) -> u64 {
     match fs::metadata(rt, path) {
         Ok(metadata) if metadata.is_file() => metadata.len(),
-        _ => u64::MAX,
+        _ => GREATEST,
     }
 }
 
