@@ -1,0 +1,57 @@
+-- Pieces joined, and a byte more of a piece.
+use Rattle.std.proofs.Common.{◌≡◌, ◌≢◌, ◌∙◌, ◌+◌, ◌<◌, ◌≤◌, ◌++◌, ◌∷◌, [], ℕ, zero, suc, Bool, true, false, List, Some, None, length, take, drop}
+use Rattle.std.proofs.Common.{map, slice_get, slice_index, refl, sym, ap, ap₂, subst, arith, append_assoc, append-nil, cond, if◌then◌else◌}
+use Rattle.search_core.specs.ByteSets.{has}
+use Rattle.determinize_core.specs.States.{StateValue, dead}
+use Rattle.lazy_dfa.specs.Caches.{CacheValue, HeldAt, IsCacheOf}
+use Rattle.lazy_dfa.specs.Dfas.{Dfa, after, is_dead}
+use Rattle.streams.specs.Streams.{after_byte, end_at, ends_at, ends_before, ends_of, fed, next_at, point_in}
+use Rattle.streams.specs.Reading.{Appends, IsAt, within}
+use Rattle.streams.specs.declared.stream.Point.TheVariants.{Dead}
+use Rattle.streams.specs.declared.stream.Stream.{Stream}
+use Rattle.streams.specs.declared.stream.StreamMatch.{StreamMatch}
+
+-- ---- pieces joined
+
+pub fed_joined : (d : Dfa) (s : Stream) (a b : List ℕ) → fed d (fed d s a) b ≡ fed d s (a ++ b)
+unfolding fed
+fed_joined d s [] b = refl
+fed_joined d s (x ∷ a) b = fed_joined d (next_at d s.point s.offset x) a b
+
+pub ends_joined : (d : Dfa) (s : Stream) (a b : List ℕ) → ends_of d s a ++ ends_of d (fed d s a) b ≡ ends_of d s (a ++ b)
+unfolding fed ends_of
+ends_joined d s [] b = refl
+ends_joined d s (x ∷ a) b =
+    append_assoc (ends_at d s.point s.offset x) (ends_of d (next_at d s.point s.offset x) a) (ends_of d (fed d (next_at d s.point s.offset x) a) b)
+    ∙ ap (λ (l : List StreamMatch). ends_at d s.point s.offset x ++ l) (ends_joined d (next_at d s.point s.offset x) a b)
+
+-- one byte
+pub fed_one : (d : Dfa) (s : Stream) (b : ℕ) → fed d s (b ∷ []) ≡ next_at d s.point s.offset b
+unfolding fed
+fed_one d s b = refl
+
+pub ends_one : (d : Dfa) (s : Stream) (b : ℕ) → ends_of d s (b ∷ []) ≡ ends_at d s.point s.offset b
+unfolding ends_of
+ends_one d s b = append-nil (ends_at d s.point s.offset b)
+
+pub fed_none : (d : Dfa) (s : Stream) → fed d s [] ≡ s
+unfolding fed
+fed_none d s = refl
+
+pub ends_none : (d : Dfa) (s : Stream) → ends_of d s [] ≡ []
+unfolding ends_of
+ends_none d s = refl
+
+-- ---- the dead state
+
+pub dead_fed : (d : Dfa) (i : ℕ) (bs : List ℕ) → fed d (record { point = Dead; offset = i }) bs ≡ record { point = Dead; offset = i + length bs }
+unfolding fed
+dead_fed d i [] = ap (λ (k : ℕ). record { point = Dead; offset = k }) (omega arith)
+dead_fed d i (b ∷ bs) =
+    dead_fed d (i + 1) bs
+    ∙ ap (λ (k : ℕ). record { point = Dead; offset = k }) (omega arith)
+
+pub dead_silent : (d : Dfa) (i : ℕ) (bs : List ℕ) → ends_of d (record { point = Dead; offset = i }) bs ≡ []
+unfolding ends_of
+dead_silent d i [] = refl
+dead_silent d i (b ∷ bs) = dead_silent d (i + 1) bs
