@@ -1,5 +1,5 @@
 -- Why a step fails.
-use Rattle.std.proofs.Common.{◌≡◌, ◌≢◌, ◌∙◌, ℕ, Bool, true, false, Option, Some, None, refl, sym, ap, inl, inr, true≢false}
+use Rattle.std.proofs.Common.{◌≡◌, ◌≢◌, ◌∙◌, ℕ, true, false, Option, None, sym, ap, inl, inr, true≢false}
 use Rattle.std.specs.Prelude.{◌&&◌, is_none, not}
 use Rattle.std.proofs.lemmas.Bool.{and_parts}
 use Rattle.determinize_core.specs.States.{StateValue}

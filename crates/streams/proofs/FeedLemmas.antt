@@ -1,17 +1,13 @@
 -- Where a stream reads on, and what its calls make of what was read.
-use Rattle.std.proofs.Common.{◌≡◌, ◌∙◌, ◌+◌, ◌<◌, ◌≤◌, ◌++◌, [], ◌∷◌, ℕ, suc, Bool, true, false, List, Some, None, length, take, refl, sym, ap}
-use Rattle.std.proofs.Common.{subst, arith}
+use Rattle.std.proofs.Common.{◌≡◌, [], ℕ, true, false, Some, None, refl, ap}
 use Rattle.determinize_core.specs.States.{StateValue}
-use Rattle.lazy_dfa.specs.Caches.{CacheValue, HeldAt, IsCacheOf, IsRow, IsShaped, Leads, Names}
+use Rattle.lazy_dfa.specs.Caches.{CacheValue, HeldAt, IsCacheOf, IsRow, IsShaped, Leads}
 use Rattle.lazy_dfa.specs.Dfas.{Dfa, after, is_dead}
 use Rattle.lazy_dfa.specs.Ids.{dead_tag, has_tag}
-use Rattle.streams.specs.Feeding.{IsEntered, IsLast, IsNamed, IsOpen, state_in}
-use Rattle.streams.specs.Streams.{ends_of, fed, first_of, last_patterns}
+use Rattle.streams.specs.Feeding.{IsEntered, IsLast, IsNamed}
+use Rattle.streams.specs.Streams.{first_of, last_patterns}
 use Rattle.streams.specs.declared.stream.Point.{Point}
 use Rattle.streams.specs.declared.stream.Point.TheVariants.{Closed, Dead, Failed, Fresh, Within}
-use Rattle.streams.specs.declared.stream.Stream.{Stream}
-use Rattle.streams.specs.declared.stream.StreamMatch.{StreamMatch}
-use Rattle.streams.proofs.StreamLemmas.{dead_fed, dead_silent}
 use Rattle.streams.proofs.TagLemmas.{alive_named, dead_is, dead_named, held_alive, row_of}
 
 -- ---- the state in which a stream reads on

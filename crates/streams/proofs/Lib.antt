@@ -5,3 +5,4 @@ pub mod ReadLemmas
 pub mod StepLemmas
 pub mod FeedLemmas
 pub mod PieceLemmas
+pub mod CallLemmas

@@ -1,23 +1,22 @@
 -- The bytes of a piece, one after the other, and where the reading of them ends.
-use Rattle.std.proofs.Common.{◌≡◌, ◌≢◌, ◌∙◌, ◌+◌, ◌-◌, ◌<◌, ◌≤◌, ◌++◌, [], ◌∷◌, ℕ, suc, Bool, true, false, List, Option, Some, None, length, take}
+use Rattle.std.proofs.Common.{◌≡◌, ◌∙◌, ◌+◌, ◌-◌, ◌<◌, ◌++◌, [], ◌∷◌, ℕ, false, List, Some, None, length, take}
 use Rattle.std.proofs.Common.{drop, refl, sym, ap, subst, arith, append-nil, slice_get, slice_index, inl, inr}
 use Rattle.std.proofs.lemmas.List.{length-drop, take-append-drop, take_all, take_more}
 use Rattle.std.proofs.lemmas.Option.{none-some, slice_get-get_or}
 use Rattle.determinize_core.specs.States.{StateValue}
-use Rattle.lazy_dfa.specs.Caches.{CacheValue, HeldAt, IsCacheOf, IsShaped, Leads}
+use Rattle.lazy_dfa.specs.Caches.{CacheValue, HeldAt, IsCacheOf, Leads}
 use Rattle.lazy_dfa.specs.Dfas.{Dfa, IsStateOf, after, is_dead}
 use Rattle.lazy_dfa.specs.Ids.{tag}
-use Rattle.streams.specs.Reading.{Appends, IsAt, IsFull, IsRead, IsReadError, IsStep, IsStepError, IsStop, read_stopped, within}
+use Rattle.streams.specs.Reading.{Appends, IsAt, IsRead, IsReadError, IsStepError, IsStop, read_stopped, within}
 use Rattle.streams.specs.Streams.{after_byte, ends_before, ends_of, fed}
 use Rattle.streams.specs.declared.errors.StreamError.{StreamError}
 use Rattle.streams.specs.declared.errors.StreamError.TheVariants.{Closed, GaveUp, NoMemory, NoRoom, Quit, TooLong}
-use Rattle.streams.specs.declared.reading.Read.{Read}
 use Rattle.streams.specs.declared.reading.Stop.{Stop}
 use Rattle.streams.specs.declared.reading.Stop.TheVariants.{Died, Full, Quits, Refused}
-use Rattle.streams.specs.declared.stream.Point.TheVariants.{Dead, Failed}
+use Rattle.streams.specs.declared.stream.Point.TheVariants.{Dead}
 use Rattle.streams.specs.declared.stream.Stream.{Stream}
 use Rattle.streams.specs.declared.stream.StreamMatch.{StreamMatch}
-use Rattle.streams.proofs.ReadLemmas.{appends_more, appends_none, ends_more, ends_silent, fed_more, none_appended}
+use Rattle.streams.proofs.ReadLemmas.{appends_none, ends_more, ends_silent, fed_more, none_appended}
 use Rattle.streams.proofs.StepLemmas.{goes, goes_on, same_state}
 use Rattle.streams.proofs.StreamLemmas.{dead_fed, dead_silent, ends_joined, ends_none, fed_joined, fed_none}
 use Rattle.streams.proofs.TagLemmas.{held_alive, no_quit_led, untagged_lists_none, untagged_not_dead, untagged_not_quit}

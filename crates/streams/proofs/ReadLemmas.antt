@@ -1,13 +1,12 @@
 -- One byte more of a piece.
-use Rattle.std.proofs.Common.{◌≡◌, ◌∙◌, ◌+◌, ◌<◌, ◌≤◌, ◌++◌, [], ◌∷◌, ℕ, suc, Bool, true, false, List, Some, length, take, map, refl, sym, ap}
-use Rattle.std.proofs.Common.{subst, arith, append_assoc, append-nil, length-append, slice_index, slice_set, if◌then◌else◌}
+use Rattle.std.proofs.Common.{◌≡◌, ◌∙◌, ◌+◌, ◌<◌, ◌≤◌, ◌++◌, [], ◌∷◌, ℕ, Bool, true, false, List, Some, length, take, map, refl, sym, ap}
+use Rattle.std.proofs.Common.{subst, arith, append_assoc, append-nil, length-append, slice_index, slice_set}
 use Rattle.std.proofs.lemmas.List.{map-append, take_more, take_more_set}
 use Rattle.search_core.specs.ByteSets.{has}
 use Rattle.determinize_core.specs.States.{StateValue}
-use Rattle.lazy_dfa.specs.Caches.{CacheValue, HeldAt, IsCacheOf}
 use Rattle.lazy_dfa.specs.Dfas.{Dfa, after, is_dead}
-use Rattle.streams.specs.Streams.{after_byte, counts_before, end_at, ends_before, ends_of, ends_there, fed, point_in}
-use Rattle.streams.specs.Reading.{Appends, IsAt, within}
+use Rattle.streams.specs.Streams.{after_byte, counts_before, end_at, ends_before, ends_of, ends_there, fed}
+use Rattle.streams.specs.Reading.{Appends, within}
 use Rattle.streams.specs.declared.stream.Point.TheVariants.{Dead, Failed}
 use Rattle.streams.specs.declared.stream.Stream.{Stream}
 use Rattle.streams.specs.declared.stream.StreamMatch.{StreamMatch}

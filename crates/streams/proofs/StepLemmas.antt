@@ -1,16 +1,15 @@
 -- A step over a cache, as what becomes of a byte.
-use Rattle.std.proofs.Common.{◌≡◌, ◌∙◌, ◌+◌, ◌<◌, ◌≤◌, [], ℕ, Bool, true, false, List, Some, length, refl, sym, ap, subst, arith}
+use Rattle.std.proofs.Common.{◌≡◌, ◌∙◌, ◌+◌, [], ℕ, true, false, Some, ap}
 use Rattle.determinize_core.specs.States.{StateValue}
-use Rattle.lazy_dfa.specs.Caches.{CacheValue, HeldAt, IsCacheOf, IsRow, IsShaped, Leads, Names, state_at}
+use Rattle.lazy_dfa.specs.Caches.{CacheValue, HeldAt, IsCacheOf, IsShaped, Leads, Names}
 use Rattle.lazy_dfa.specs.Dfas.{Dfa, after, is_dead}
 use Rattle.lazy_dfa.specs.Ids.{dead_tag, has_tag, quit_tag}
 use Rattle.lazy_dfa.proofs.ForCallers.{one_state}
-use Rattle.streams.specs.Reading.{Appends, within}
+use Rattle.streams.specs.Reading.{within}
 use Rattle.streams.specs.Streams.{after_byte, counts_before, ends_before, ends_there}
 use Rattle.streams.specs.declared.stream.Point.TheVariants.{Dead, Failed}
-use Rattle.streams.specs.declared.stream.StreamMatch.{StreamMatch}
 use Rattle.streams.proofs.ReadLemmas.{after_dies, after_goes, after_quits, ends_go, ends_quit, ends_silent}
-use Rattle.streams.proofs.TagLemmas.{alive_named, dead_is, dead_named, held_alive, no_quit_led, quit_led, row_of}
+use Rattle.streams.proofs.TagLemmas.{alive_named, dead_is, dead_named, held_alive, no_quit_led, quit_led}
 
 pub same_state : (v : CacheValue) (id : ℕ) (s t : StateValue) → IsShaped v → HeldAt v id s → HeldAt v id t → s ≡ t
 same_state v id s t i h g = h.3 ∙ one_state v id h.0 t i h.1 h.2 g

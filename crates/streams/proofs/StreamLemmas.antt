@@ -1,12 +1,8 @@
 -- Pieces joined, and a byte more of a piece.
-use Rattle.std.proofs.Common.{◌≡◌, ◌≢◌, ◌∙◌, ◌+◌, ◌<◌, ◌≤◌, ◌++◌, ◌∷◌, [], ℕ, zero, suc, Bool, true, false, List, Some, None, length, take, drop}
-use Rattle.std.proofs.Common.{map, slice_get, slice_index, refl, sym, ap, ap₂, subst, arith, append_assoc, append-nil, cond, if◌then◌else◌}
-use Rattle.search_core.specs.ByteSets.{has}
-use Rattle.determinize_core.specs.States.{StateValue, dead}
-use Rattle.lazy_dfa.specs.Caches.{CacheValue, HeldAt, IsCacheOf}
-use Rattle.lazy_dfa.specs.Dfas.{Dfa, after, is_dead}
-use Rattle.streams.specs.Streams.{after_byte, end_at, ends_at, ends_before, ends_of, fed, next_at, point_in}
-use Rattle.streams.specs.Reading.{Appends, IsAt, within}
+use Rattle.std.proofs.Common.{◌≡◌, ◌∙◌, ◌+◌, ◌++◌, ◌∷◌, [], ℕ, List, length}
+use Rattle.std.proofs.Common.{refl, ap, arith, append_assoc, append-nil}
+use Rattle.lazy_dfa.specs.Dfas.{Dfa}
+use Rattle.streams.specs.Streams.{ends_at, ends_of, fed, next_at}
 use Rattle.streams.specs.declared.stream.Point.TheVariants.{Dead}
 use Rattle.streams.specs.declared.stream.Stream.{Stream}
 use Rattle.streams.specs.declared.stream.StreamMatch.{StreamMatch}

@@ -8,7 +8,7 @@ use Rattle.determinize_core.specs.StateBytes.{is_match}
 use Rattle.determinize_core.specs.States.{StateValue, dead}
 use Rattle.lazy_dfa.specs.Caches.{CacheValue, HeldAt, IsCacheOf, IsRow, IsShaped, Leads, Names, names_dead, names_held, state_at}
 use Rattle.lazy_dfa.specs.Dfas.{Dfa, IsDfa, IsStateOf, after, class_of, is_dead, is_empty}
-use Rattle.lazy_dfa.specs.Ids.{dead_id, dead_tag, has_tag, quit_tag, tag, tagged, unknown_id}
+use Rattle.lazy_dfa.specs.Ids.{dead_tag, has_tag, quit_tag, tag, tagged, unknown_id}
 use Rattle.lazy_dfa.specs.Readers.{is_quit}
 use Rattle.lazy_dfa.specs.Steps.{noted}
 use Rattle.lazy_dfa.proofs.ForCallers.{empty_is, known_leads, row_is_plain}

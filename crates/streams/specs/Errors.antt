@@ -4,7 +4,6 @@ use Rattle.lazy_dfa.specs.ConfigValue.{clears_of}
 use Rattle.lazy_dfa.specs.Dfas.{Dfa}
 use Rattle.streams.specs.declared.errors.StreamError.{StreamError}
 use Rattle.streams.specs.declared.errors.StreamError.TheVariants.{Quit, Closed, GaveUp, NoMemory, NoRoom, TooLong}
-use Rattle.streams.specs.declared.stream.Point.{Point}
 use Rattle.streams.specs.declared.stream.Point.TheVariants.{Failed, Closed as ClosedPoint}
 use Rattle.streams.specs.declared.stream.Stream.{Stream}
 
@@ -16,4 +15,4 @@ IsStreamError d old new n Closed = (old.point ≡ ClosedPoint) × (new ≡ old)
 IsStreamError d old new n GaveUp = clears_of d.options ≢ None
 IsStreamError d old new n NoMemory = ⊤
 IsStreamError d old new n TooLong = (0xFFFF_FFFF_FFFF_FFFF < old.offset + n) × (new ≡ old)
-IsStreamError d old new n NoRoom = ⊤
+IsStreamError d old new n NoRoom = ⊥

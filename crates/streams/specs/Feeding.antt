@@ -1,13 +1,15 @@
 -- What the calls of a stream do.
-use Rattle.std.specs.Prelude.{◌≡◌, ◌≢◌, ◌⊎◌, ◌+◌, ◌<◌, ◌≤◌, ℕ, List, [], length, take, Result, Ok, Err, IfOk, IfErr, Option, Some, None, MatchOption, ⊤, true, false}
+use Rattle.std.specs.Prelude.{◌≡◌, ◌≢◌, ◌⊎◌, ◌<◌, ◌≤◌, ℕ, List, [], length, take, Result, Ok, Err, IfOk, IfErr, Option, Some, None, MatchOption, ⊤, ◌==◌, true, false, if◌then◌else◌}
 use Rattle.determinize_core.specs.States.{StateValue}
 use Rattle.lazy_dfa.specs.Caches.{CacheValue, HeldAt, Names}
 use Rattle.lazy_dfa.specs.Dfas.{Dfa, after, is_dead}
 use Rattle.streams.specs.Errors.{IsStreamError}
 use Rattle.streams.specs.Reading.{Appends, IsFull, is_failed}
-use Rattle.streams.specs.Streams.{ends_of, fed, first_of, last_ends, last_patterns}
+use Rattle.streams.specs.Streams.{ends_of, fed, first_of, last_ends, last_patterns, point_in}
 use Rattle.streams.specs.declared.errors.StreamError.{StreamError}
-use Rattle.streams.specs.declared.errors.StreamError.TheVariants.{NoRoom}
+use Rattle.streams.specs.declared.errors.StreamError.TheVariants.{Closed as ClosedError, GaveUp, NoMemory, NoRoom, Quit, TooLong}
+use Rattle.streams.specs.declared.reading.Read.{Read}
+use Rattle.lazy_dfa.specs.ConfigValue.{clears_of}
 use Rattle.streams.specs.declared.feeding.Fed.{Fed}
 use Rattle.streams.specs.declared.stream.Point.{Point}
 use Rattle.streams.specs.declared.stream.Point.TheVariants.{Closed, Dead, Failed, Fresh, Within}
@@ -29,6 +31,34 @@ IsOpen (Within s) = ⊤
 IsOpen Dead = ⊤
 IsOpen (Failed b) = ⊥
 IsOpen Closed = ⊥
+
+-- a stream that knows the state in which it begins
+abbrev pub begun_point : Dfa → Point → Point
+begun_point d Fresh = point_in (first_of d)
+begun_point d (Within s) = Within s
+begun_point d Dead = Dead
+begun_point d (Failed b) = Failed b
+begun_point d Closed = Closed
+
+abbrev pub begun : Dfa → Point → ℕ → Stream
+begun d p i = record { point = begun_point d p; offset = i }
+
+-- a stream after what was read, which is as it was if that is nothing
+abbrev pub settled : Stream → Read → Stream
+settled old r = if r.taken == 0 then old else r.stream
+
+abbrev pub outcome_of : Option StreamError → Result ⊤ StreamError
+outcome_of None = Ok tt
+outcome_of (Some e) = Err e
+
+-- why the ends at the end of the input aren't written: they have no room and are counted, or a step failed
+abbrev pub IsLastError : Dfa → List StreamMatch → ℕ → ℕ → StreamError → Type 0
+IsLastError d ends room count NoRoom = (count ≡ length ends) × (room < count)
+IsLastError d ends room count (Quit b i) = ⊥
+IsLastError d ends room count ClosedError = ⊥
+IsLastError d ends room count GaveUp = (count ≡ 0) × (clears_of d.options ≢ None)
+IsLastError d ends room count NoMemory = count ≡ 0
+IsLastError d ends room count TooLong = ⊥
 
 -- The ID names the state in which a stream reads on. None: it is in no state.
 abbrev pub IsNamed : Dfa → CacheValue → Point → Option ℕ → Type 0
@@ -63,4 +93,4 @@ pub record IsClosed (d : Dfa) (old new : Stream) (rows after : List StreamMatch)
   pub none : IfErr r (λ e. e ≢ NoRoom → count ≡ 0)
   pub lacks : r ≡ Err NoRoom → (count ≡ length (last_ends d old)) × (length rows < count)
   pub same : IfErr r (λ _. new ≡ old)
-  pub err : IfErr r (IsStreamError d old new 0)
+  pub err : IfErr r (λ e. (e ≡ NoRoom) ⊎ IsStreamError d old new 0 e)

@@ -1,9 +1,9 @@
 -- Reading the bytes of a piece over a cache.
-use Rattle.std.specs.Prelude.{◌≡◌, ◌≢◌, ◌+◌, ◌<◌, ◌≤◌, ℕ, List, [], ◌++◌, length, take, Bool, true, false, Some, None, Option, IfSome, slice_get, slice_index, ◌⊎◌, ⊤}
+use Rattle.std.specs.Prelude.{◌≡◌, ◌≢◌, ◌+◌, ◌<◌, ◌≤◌, ℕ, List, [], ◌++◌, length, take, Bool, true, false, Some, None, IfSome, slice_get, slice_index, ◌⊎◌, ⊤}
 use Rattle.determinize_core.specs.States.{StateValue}
 use Rattle.lazy_dfa.specs.Caches.{CacheValue, HeldAt}
 use Rattle.lazy_dfa.specs.ConfigValue.{clears_of}
-use Rattle.lazy_dfa.specs.Dfas.{Dfa, IsStateOf, after, is_dead}
+use Rattle.lazy_dfa.specs.Dfas.{Dfa, IsStateOf, after}
 use Rattle.streams.specs.Streams.{IsStreamOf, after_byte, ends_at, ends_before, ends_of, fed}
 use Rattle.streams.specs.declared.errors.StreamError.{StreamError}
 use Rattle.streams.specs.declared.errors.StreamError.TheVariants.{Quit, GaveUp, NoMemory, NoRoom, Closed, TooLong}

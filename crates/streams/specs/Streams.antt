@@ -1,5 +1,5 @@
 -- What a stream reports of input that comes in pieces, and where it is after them, as functions of values that know no cache.
-use Rattle.std.specs.Prelude.{◌≡◌, ◌+◌, ◌||◌, ℕ, zero, suc, Bool, false, not, nat_le, List, [], ◌∷◌, ◌++◌, length, map, Some, None, ⊤}
+use Rattle.std.specs.Prelude.{◌≡◌, ◌+◌, ◌||◌, ℕ, Bool, false, not, nat_le, List, [], ◌∷◌, ◌++◌, map, Some, None, ⊤}
 use Rattle.std.specs.Prelude.{if◌then◌else◌}
 use Rattle.search_core.specs.ByteSets.{has}
 use Rattle.determinize_core.specs.States.{StateValue}

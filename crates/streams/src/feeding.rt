@@ -1,14 +1,14 @@
 //! Calls that feed a stream, and the one that closes it.
-ghost use Rattle.std.specs.Prelude.{◌≡◌, ◌+◌, ◌<◌, ◌≤◌, IfErr, IfOk, IfSome, length};
+ghost use Rattle.std.specs.Prelude.{◌≡◌, ◌+◌, ◌<◌, ◌≤◌, IfErr, IfOk, IfSome, length, map};
 ghost use Rattle.lazy_dfa.specs.Caches.{IsCacheOf, IsRow};
 ghost use Rattle.lazy_dfa.specs.Dfas.{Dfa};
 ghost use Rattle.streams.specs.Errors.{IsStreamError};
-ghost use Rattle.streams.specs.Feeding.{IsClosed, IsEntered, IsFed, IsLast, IsNamed, IsOpen};
-ghost use Rattle.streams.specs.Reading.{IsStepError};
-ghost use Rattle.streams.specs.Streams.{IsPointOf, IsStreamOf};
+ghost use Rattle.streams.specs.Feeding.{IsClosed, IsEntered, IsFed, IsLast, IsLastError, IsNamed, IsOpen, begun, outcome_of, settled};
+ghost use Rattle.streams.specs.Reading.{Appends, IsRead, IsStepError};
+ghost use Rattle.streams.specs.Streams.{IsPointOf, IsStreamOf, end_at, last_at};
 
 use crate::errors::{StreamError, of_start, of_step};
-use crate::reading::read_piece;
+use crate::reading::{Read, read_piece};
 use crate::rows::write_ends;
 use crate::stream::{Point, Stream, StreamMatch};
 use determinize_core::Config as StartConfig;
@@ -73,6 +73,63 @@ fn enter<L: Ledger, M: Ledger>(
     }
 }
 
+/// Reads a piece from where an open stream is.
+fn read_open<L: Ledger, M: Ledger>(
+    dfa: &DFA,
+    cache: &mut Cache,
+    point: &Point,
+    offset: usize,
+    bytes: &[u8],
+    rows: &mut [StreamMatch],
+    first: Blank,
+    second: Blank,
+) -> Result<Read, StreamError>
+    requires own { IsCacheOf dfa.now cache.old }
+    requires point { IsPointOf dfa.now point.now }
+    requires is_open { IsOpen point.now }
+    requires room { offset + length bytes.now ≤ 0xFFFF_FFFF_FFFF_FFFF }
+    requires name1 { first.name ≡ L.name }
+    requires parts1 { first.parts ≡ L.parts }
+    requires some1 { 0 < first.parts }
+    requires name2 { second.name ≡ M.name }
+    requires parts2 { second.parts ≡ M.parts }
+    requires some2 { 0 < second.parts }
+    ensures own { IsCacheOf dfa.now cache.new }
+    ensures read { IfOk result (IsRead dfa.now (begun dfa.now point.now offset) bytes.now rows.old rows.new) }
+    ensures err { IfErr result (IsStepError dfa.now) }
+{
+    let mut work = Work::<L, M>::new(first, second);
+    let id = match enter(dfa, cache, point, &mut work) {
+        Ok(Some(id)) => id,
+        Ok(None) => {
+            return Ok(Read {
+                stream: Stream {
+                    point: Point::Dead,
+                    offset: offset + bytes.len(),
+                },
+                taken: bytes.len(),
+                count: 0,
+                error: None,
+            });
+        }
+        Err(error) => return Err(error),
+    };
+    match read_piece(dfa, cache, id, offset, bytes, rows, &mut work) {
+        Ok(read) => Ok(read),
+        Err(_) => Err(StreamError::NoMemory),
+    }
+}
+
+/// The result of a call, from the error of what it read.
+fn outcome(error: Option<StreamError>) -> Result<(), StreamError>
+    ensures { result ≡ outcome_of error }
+{
+    match error {
+        Some(error) => Err(error),
+        None => Ok(()),
+    }
+}
+
 impl Stream {
     /// Why the stream takes no bytes, whatever these are.
     fn check(&self, n: usize) -> Result<(), StreamError>
@@ -95,63 +152,22 @@ impl Stream {
         Ok(())
     }
 
-    /// Reads a piece that isn't empty.
-    fn feed_counted<L: Ledger, M: Ledger>(
-        &mut self,
-        dfa: &DFA,
-        cache: &mut Cache,
-        bytes: &[u8],
-        rows: &mut [StreamMatch],
-        first: Blank,
-        second: Blank,
-    ) -> (Fed, Result<(), StreamError>)
-        requires own { IsCacheOf dfa.now cache.old }
-        requires stream { IsStreamOf dfa.now self.old }
-        requires some { 0 < length bytes.now }
-        requires open { IsOpen self.old.point }
-        requires room { self.old.offset + length bytes.now ≤ 0xFFFF_FFFF_FFFF_FFFF }
-        requires name1 { first.name ≡ L.name }
-        requires parts1 { first.parts ≡ L.parts }
-        requires some1 { 0 < first.parts }
-        requires name2 { second.name ≡ M.name }
-        requires parts2 { second.parts ≡ M.parts }
-        requires some2 { 0 < second.parts }
-        ensures own { IsCacheOf dfa.now cache.new }
-        ensures stream { IsStreamOf dfa.now self.new }
-        ensures fed { IsFed dfa.now self.old self.new bytes.now rows.old rows.new result.0 result.1 }
+    /// Takes over what was read.
+    fn settle(&mut self, read: Read) -> (Fed, Result<(), StreamError>)
+        ensures stream { self.new ≡ settled self.old read }
+        ensures fed { result.0 ≡ record { taken = read.taken; count = read.count } }
+        ensures outcome { result.1 ≡ outcome_of read.error }
     {
-        let none = Fed { taken: 0, count: 0 };
-        let mut work = Work::<L, M>::new(first, second);
-        let id = match enter(dfa, cache, &self.point, &mut work) {
-            Ok(Some(id)) => id,
-            Ok(None) => {
-                self.point = Point::Dead;
-                self.offset += bytes.len();
-                return (
-                    Fed {
-                        taken: bytes.len(),
-                        count: 0,
-                    },
-                    Ok(()),
-                );
-            }
-            Err(error) => return (none, Err(error)),
-        };
-        let Ok(read) = read_piece(dfa, cache, id, self.offset, bytes, rows, &mut work) else {
-            return (none, Err(StreamError::NoMemory));
-        };
         let fed = Fed {
             taken: read.taken,
             count: read.count,
         };
-        let error = read.error;
-        if fed.taken > 0 {
-            *self = read.stream;
+        let result = outcome(read.error);
+        if fed.taken == 0 {
+            return (fed, result);
         }
-        match error {
-            Some(error) => (fed, Err(error)),
-            None => (fed, Ok(())),
-        }
+        *self = read.stream;
+        (fed, result)
     }
 
     /// Reads a piece of the input, and writes the ends that these bytes decide to the first rows: ends ascending, each with its pattern,
@@ -184,7 +200,21 @@ impl Stream {
         if bytes.is_empty() {
             return (none, Ok(()));
         }
-        self.feed_counted::<Brand, Brand>(dfa, cache, bytes, rows, Blank::new(1), Blank::new(1))
+        let first = Blank::new(1);
+        let second = Blank::new(1);
+        match read_open::<Brand, Brand>(
+            dfa,
+            cache,
+            &self.point,
+            self.offset,
+            bytes,
+            rows,
+            first,
+            second,
+        ) {
+            Ok(read) => self.settle(read),
+            Err(error) => (none, Err(error)),
+        }
     }
 }
 
@@ -217,46 +247,41 @@ fn last<L: Ledger, M: Ledger>(
     Ok(Some(to))
 }
 
-impl Stream {
-    /// Closes an open stream.
-    fn close_counted<L: Ledger, M: Ledger>(
-        &mut self,
-        dfa: &DFA,
-        cache: &mut Cache,
-        rows: &mut [StreamMatch],
-        first: Blank,
-        second: Blank,
-    ) -> (usize, Result<(), StreamError>)
-        requires own { IsCacheOf dfa.now cache.old }
-        requires stream { IsStreamOf dfa.now self.old }
-        requires open { IsOpen self.old.point }
-        requires name1 { first.name ≡ L.name }
-        requires parts1 { first.parts ≡ L.parts }
-        requires some1 { 0 < first.parts }
-        requires name2 { second.name ≡ M.name }
-        requires parts2 { second.parts ≡ M.parts }
-        requires some2 { 0 < second.parts }
-        ensures own { IsCacheOf dfa.now cache.new }
-        ensures closed { IsClosed dfa.now self.old self.new rows.old rows.new result.0 result.1 }
-    {
-        let mut work = Work::<L, M>::new(first, second);
-        let id = match last(dfa, cache, &self.point, &mut work) {
-            Ok(Some(id)) => id,
-            Ok(None) => {
-                self.point = Point::Closed;
-                return (0, Ok(()));
-            }
-            Err(error) => return (0, Err(error)),
-        };
-        match write_ends(dfa, cache, id, self.offset, rows, 0) {
-            Some(count) => {
-                self.point = Point::Closed;
-                (count, Ok(()))
-            }
-            None => (dfa.match_len(cache, id), Err(StreamError::NoRoom)),
-        }
+/// Writes the ends at the end of the input of an open stream. Returns how many there are.
+fn write_last<L: Ledger, M: Ledger>(
+    dfa: &DFA,
+    cache: &mut Cache,
+    point: &Point,
+    offset: usize,
+    rows: &mut [StreamMatch],
+    first: Blank,
+    second: Blank,
+) -> (usize, Result<(), StreamError>)
+    requires own { IsCacheOf dfa.now cache.old }
+    requires point { IsPointOf dfa.now point.now }
+    requires name1 { first.name ≡ L.name }
+    requires parts1 { first.parts ≡ L.parts }
+    requires some1 { 0 < first.parts }
+    requires name2 { second.name ≡ M.name }
+    requires parts2 { second.parts ≡ M.parts }
+    requires some2 { 0 < second.parts }
+    ensures own { IsCacheOf dfa.now cache.new }
+    ensures ends { IfOk result.1 (λ _. Appends rows.old rows.new 0 result.0 (map (end_at offset) (last_at dfa.now point.now))) }
+    ensures err { IfErr result.1 (IsLastError dfa.now (map (end_at offset) (last_at dfa.now point.now)) (length rows.old) result.0) }
+{
+    let mut work = Work::<L, M>::new(first, second);
+    let id = match last(dfa, cache, point, &mut work) {
+        Ok(Some(id)) => id,
+        Ok(None) => return (0, Ok(())),
+        Err(error) => return (0, Err(error)),
+    };
+    match write_ends(dfa, cache, id, offset, rows, 0) {
+        Some(count) => (count, Ok(())),
+        None => (dfa.match_len(cache, id), Err(StreamError::NoRoom)),
     }
+}
 
+impl Stream {
     /// Reads the end of the input, and writes the ends that lie there to the first rows. The stream is closed after that: it takes no more
     /// bytes until it is reset. If the rows have no room for the ends, the call returns an error with their number, and the stream is as
     /// it was; so it is after each error.
@@ -276,6 +301,23 @@ impl Stream {
             Ok(()) => {}
             Err(error) => return (0, Err(error)),
         }
-        self.close_counted::<Brand, Brand>(dfa, cache, rows, Blank::new(1), Blank::new(1))
+        let first = Blank::new(1);
+        let second = Blank::new(1);
+        let (count, result) = write_last::<Brand, Brand>(
+            dfa,
+            cache,
+            &self.point,
+            self.offset,
+            rows,
+            first,
+            second,
+        );
+        match result {
+            Ok(()) => {
+                self.point = Point::Closed;
+                (count, Ok(()))
+            }
+            Err(error) => (count, Err(error)),
+        }
     }
 }

@@ -2,7 +2,6 @@ use Rattle.std.proofs.Common.{◌∙◌, ℕ, None, Option, subst, sym}
 use Rattle.std.specs.Prelude.{IfSome}
 use Rattle.lazy_dfa.specs.Caches.{IsRow, state_at}
 use Rattle.streams.specs.Feeding.{IsEntered}
-use Rattle.streams.proofs.ErrorLemmas.{step_limit}
 use Rattle.streams.proofs.FeedLemmas.{alive_last, dead_last, last_row}
 use Rattle.streams.proofs.TagLemmas.{held_by_row}
 use Rattle.streams.proofs.feeding.last.Goals as goal

@@ -1,5 +1,4 @@
-use Rattle.std.proofs.Common.{◌≡◌, ◌∙◌, ◌+◌, ◌<◌, ℕ, List, Some, length, refl, sym, subst}
-use Rattle.determinize_core.specs.States.{StateValue}
+use Rattle.std.proofs.Common.{◌∙◌, ◌+◌, ◌<◌, List, Some, length, refl, sym, subst}
 use Rattle.lazy_dfa.specs.Dfas.{after}
 use Rattle.streams.specs.Reading.{Appends}
 use Rattle.streams.specs.declared.stream.StreamMatch.{StreamMatch}

@@ -1,5 +1,4 @@
-use Rattle.std.proofs.Common.{◌≡◌, ◌∙◌, ◌+◌, ◌≤◌, ◌<◌, ℕ, List, Some, length, take, refl, sym, ap, subst, arith, slice_index}
-use Rattle.std.specs.Prelude.{nat_le}
+use Rattle.std.proofs.Common.{◌≡◌, ◌∙◌, ◌+◌, ◌≤◌, ℕ, Some, length, take, refl, sym, subst, arith, slice_index}
 use Rattle.lazy_dfa.specs.Caches.{state_at}
 use Rattle.lazy_dfa.specs.Dfas.{after}
 use Rattle.streams.specs.Reading.{IsAt, IsRead, IsStep, within}
@@ -17,9 +16,10 @@ loop-k-init g c = record {
   row = c.requires.row;
   len = refl;
   count = omega arith;
-  read = λ s h.
-      (at_first c.args.dfa.now c.args.cache.now s c.args.offset c.args.first h,
-      none_first c.args.dfa.now (within s c.args.offset) c.args.rows.now);
+  read = λ s h. (
+    at_first c.args.dfa.now c.args.cache.now s c.args.offset c.args.first h,
+    none_first c.args.dfa.now (within s c.args.offset) c.args.rows.now,
+  );
 }
 
 pub loop-k-preserved-then-not-is_tagged : goal.loop-k-preserved-then-not-is_tagged
@@ -40,15 +40,16 @@ loop-k-preserved-then-not-is_tagged g c =
       count = i.count;
       read = λ s h.
           let a = (i.read s h).0 in
-          let led = c.quick-next.ensures low a.state a.held in
-          (subst (λ (m : ℕ). IsAt c.args.dfa.now c.loop-k.cache s c.args.offset (take (c.loop-k.k + 1) c.args.bytes.now) c.quick-next.result m)
-          (omega arith)
-          (quick_at c.args.dfa.now c.loop-k.cache s c.args.offset c.loop-k.id (c.args.offset + c.loop-k.k)
-          (slice_index c.args.bytes.now c.loop-k.k) (take c.loop-k.k c.args.bytes.now) (take (c.loop-k.k + 1) c.args.bytes.now) one a
-          c.quick-next.result i.own low led),
-          quick_ends c.args.dfa.now c.loop-k.cache s c.args.offset c.loop-k.id (c.args.offset + c.loop-k.k)
-          (slice_index c.args.bytes.now c.loop-k.k) (take c.loop-k.k c.args.bytes.now) (take (c.loop-k.k + 1) c.args.bytes.now) one a
-          c.quick-next.result i.own low led c.args.rows.now c.loop-k.rows c.loop-k.count (i.read s h).1);
+          let led = c.quick-next.ensures low a.state a.held in (
+            subst (λ (m : ℕ). IsAt c.args.dfa.now c.loop-k.cache s c.args.offset (take (c.loop-k.k + 1) c.args.bytes.now) c.quick-next.result m)
+                (omega arith)
+                (quick_at c.args.dfa.now c.loop-k.cache s c.args.offset c.loop-k.id (c.args.offset + c.loop-k.k)
+                (slice_index c.args.bytes.now c.loop-k.k) (take c.loop-k.k c.args.bytes.now) (take (c.loop-k.k + 1) c.args.bytes.now) one a
+                c.quick-next.result i.own low led),
+            quick_ends c.args.dfa.now c.loop-k.cache s c.args.offset c.loop-k.id (c.args.offset + c.loop-k.k)
+                (slice_index c.args.bytes.now c.loop-k.k) (take c.loop-k.k c.args.bytes.now) (take (c.loop-k.k + 1) c.args.bytes.now) one a
+                c.quick-next.result i.own low led c.args.rows.now c.loop-k.rows c.loop-k.count (i.read s h).1,
+          );
     }
 
 pub returns-in-Stop-clause-read : goal.returns-in-Stop-clause-read
@@ -89,17 +90,18 @@ loop-k-preserved g c =
       read = λ s h.
           let a = (i.read s h).0 in
           let made = subst (λ (x : Step). IsStep c.args.dfa.now c.make_step.new.cache a.state (c.args.offset + c.loop-k.k) b c.loop-k.rows
-          c.make_step.new.rows c.loop-k.count x) c.in-To.is (c.in_ok-to.ensures.step a.state a.held) in
-          (subst (λ (m : ℕ). IsAt c.args.dfa.now c.make_step.new.cache s c.args.offset more c.in-To.to m)
-          (omega arith)
-          (at_more c.args.dfa.now c.loop-k.cache s c.args.offset c.loop-k.id (c.args.offset + c.loop-k.k) b
-          (take c.loop-k.k c.args.bytes.now) more one a c.make_step.new.cache c.in-To.to made.0 made.1),
-          appends_more c.args.rows.now c.loop-k.rows c.make_step.new.rows c.loop-k.count c.in-To.n
-          (ends_of c.args.dfa.now (within s c.args.offset) (take c.loop-k.k c.args.bytes.now))
-          (ends_before c.args.dfa.now a.state (c.args.offset + c.loop-k.k) b) (ends_of c.args.dfa.now (within s c.args.offset) more) i.len
-          (ends_are c.args.dfa.now c.loop-k.cache s c.args.offset c.loop-k.id (c.args.offset + c.loop-k.k) b
-          (take c.loop-k.k c.args.bytes.now) more one a)
-          (i.read s h).1 made.2);
+          c.make_step.new.rows c.loop-k.count x) c.in-To.is (c.in_ok-to.ensures.step a.state a.held) in (
+            subst (λ (m : ℕ). IsAt c.args.dfa.now c.make_step.new.cache s c.args.offset more c.in-To.to m)
+                (omega arith)
+                (at_more c.args.dfa.now c.loop-k.cache s c.args.offset c.loop-k.id (c.args.offset + c.loop-k.k) b
+                (take c.loop-k.k c.args.bytes.now) more one a c.make_step.new.cache c.in-To.to made.0 made.1),
+            appends_more c.args.rows.now c.loop-k.rows c.make_step.new.rows c.loop-k.count c.in-To.n
+                (ends_of c.args.dfa.now (within s c.args.offset) (take c.loop-k.k c.args.bytes.now))
+                (ends_before c.args.dfa.now a.state (c.args.offset + c.loop-k.k) b) (ends_of c.args.dfa.now (within s c.args.offset) more) i.len
+                (ends_are c.args.dfa.now c.loop-k.cache s c.args.offset c.loop-k.id (c.args.offset + c.loop-k.k) b
+                (take c.loop-k.k c.args.bytes.now) more one a)
+                (i.read s h).1 made.2,
+          );
     }
 
 pub returns-clause-read : goal.returns-clause-read
