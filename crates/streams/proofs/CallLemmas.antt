@@ -25,10 +25,10 @@ use Rattle.streams.proofs.TagLemmas.{held_alive}
 
 -- ---- a stream that knows the state in which it begins
 
-point_alive : (s : StateValue) → is_dead s ≡ false → point_in s ≡ Within s
+pub point_alive : (s : StateValue) → is_dead s ≡ false → point_in s ≡ Within s
 point_alive s e = rw e refl
 
-point_dead : (s : StateValue) → is_dead s ≡ true → point_in s ≡ Dead
+pub point_dead : (s : StateValue) → is_dead s ≡ true → point_in s ≡ Dead
 point_dead s e = rw e refl
 
 pub alive_begun : (d : Dfa) (v : CacheValue) (id i : ℕ) (p : Point) → IsCacheOf d v → IsEntered d v p (Some id) →

@@ -6,3 +6,4 @@ pub mod StepLemmas
 pub mod FeedLemmas
 pub mod PieceLemmas
 pub mod CallLemmas
+pub mod OverlapLemmas
