@@ -73,7 +73,7 @@ def single(path):
 
 def files_of(crate, ending, top=TOP):
     """Returns the files below the crate's folder of edits that have this ending."""
-    found = [f"{at}/{name}" for at, _, names in os.walk(f"{top}/crates/{crate}/edits") for name in names if name.endswith(ending)]
+    found = [f"{at}/{name}" for at, _, names in os.walk(f"{top}/crates/{crate}/edits") for name in names if f"{at}/{name}".endswith(ending)]
     return sorted(found)
 
 
