@@ -8,9 +8,9 @@ use Rattle.determinize_core.specs.States.{StateValue}
 use Rattle.lazy_dfa.specs.Caches.{CacheValue, HeldAt, IsCacheOf}
 use Rattle.lazy_dfa.specs.Dfas.{Dfa, after, is_dead}
 use Rattle.streams.specs.Errors.{IsStreamError}
-use Rattle.streams.specs.Feeding.{IsClosed, IsEntered, IsFed, IsLast, IsLastError, IsOpen, begun, begun_point, outcome_of, settled}
-use Rattle.streams.specs.Reading.{Appends, IsFull, IsRead, IsReadError, IsStepError, is_failed, within}
-use Rattle.streams.specs.Streams.{IsPointOf, IsStreamOf, after_byte, end_at, ends_at, ends_before, ends_of, fed, first_of, last_at, last_patterns}
+use Rattle.streams.specs.Feeding.{IsStreamClosed, IsEntered, IsFed, IsLast, IsLastError, IsOpenPoint, begun_stream, begun_point, outcome_of, settled}
+use Rattle.streams.specs.Reading.{Appends, IsFull, IsPieceRead, IsReadError, IsStepError, is_failed, within}
+use Rattle.streams.specs.Streams.{IsPointOf, IsStreamOf, stream_after, stream_end, stream_ends_at, ends_before, stream_ends, fed, first_state_of, last_at, last_patterns}
 use Rattle.streams.specs.Streams.{next_at, point_in}
 use Rattle.streams.specs.declared.errors.StreamError.{StreamError}
 use Rattle.streams.specs.declared.errors.StreamError.TheVariants.{Closed as ClosedError, GaveUp, NoMemory, NoRoom, Quit, TooLong}
@@ -32,16 +32,16 @@ pub point_dead : (s : StateValue) → is_dead s ≡ true → point_in s ≡ Dead
 point_dead s e = rw e refl
 
 pub alive_begun : (d : Dfa) (v : CacheValue) (id i : ℕ) (p : Point) → IsCacheOf d v → IsEntered d v p (Some id) →
-    (s : StateValue) × HeldAt v id s × (begun d p i ≡ within s i)
+    (s : StateValue) × HeldAt v id s × (begun_stream d p i ≡ within s i)
 alive_begun d v id i Fresh own h =
-    (first_of d, h, ap (λ (q : Point). record { point = q; offset = i }) (point_alive (first_of d) (held_alive d v id (first_of d) own h)))
+    (first_state_of d, h, ap (λ (q : Point). record { point = q; offset = i }) (point_alive (first_state_of d) (held_alive d v id (first_state_of d) own h)))
 alive_begun d v id i (Within s) own h = (s, h, refl)
 alive_begun d v id i Dead own h = absurd h
 alive_begun d v id i (Failed b) own h = absurd h
 alive_begun d v id i Closed own h = absurd h
 
-dead_begun : (d : Dfa) (v : CacheValue) (p : Point) → IsOpen p → IsPointOf d p → IsEntered d v p None → begun_point d p ≡ Dead
-dead_begun d v Fresh o x e = point_dead (first_of d) e
+dead_begun : (d : Dfa) (v : CacheValue) (p : Point) → IsOpenPoint p → IsPointOf d p → IsEntered d v p None → begun_point d p ≡ Dead
+dead_begun d v Fresh o x e = point_dead (first_state_of d) e
 dead_begun d v (Within s) o x e = absurd (true≢false (sym e ∙ x.1))
 dead_begun d v Dead o x e = refl
 dead_begun d v (Failed b) o x e = absurd o
@@ -55,68 +55,68 @@ none_rows rows ends e = record {
 }
 
 dead_read : (d : Dfa) (i : ℕ) (bytes : List ℕ) (rows : List StreamMatch) →
-    IsRead d (record { point = Dead; offset = i }) bytes rows rows
+    IsPieceRead d (record { point = Dead; offset = i }) bytes rows rows
     (record { stream = record { point = Dead; offset = i + length bytes }; taken = length bytes; count = 0; error = None })
 dead_read d i bytes rows = record {
   taken = omega arith;
   stream = sym (dead_fed d i (take (length bytes) bytes)
       ∙ ap (λ (l : List ℕ). record { point = Dead; offset = i + length l }) (take_all (length bytes) bytes (omega arith)));
   own = tt;
-  ends = none_rows rows (ends_of d (record { point = Dead; offset = i }) (take (length bytes) bytes))
+  ends = none_rows rows (stream_ends d (record { point = Dead; offset = i }) (take (length bytes) bytes))
       (dead_silent d i (take (length bytes) bytes));
   all = λ e. inl refl;
   quiet = λ e. refl;
   err = tt;
 }
 
-pub dead_open : (d : Dfa) (v : CacheValue) (p : Point) (i : ℕ) (bytes : List ℕ) (rows : List StreamMatch) → IsOpen p → IsPointOf d p →
-    IsEntered d v p None → IsRead d (begun d p i) bytes rows rows
+pub dead_open : (d : Dfa) (v : CacheValue) (p : Point) (i : ℕ) (bytes : List ℕ) (rows : List StreamMatch) → IsOpenPoint p → IsPointOf d p →
+    IsEntered d v p None → IsPieceRead d (begun_stream d p i) bytes rows rows
     (record { stream = record { point = Dead; offset = i + length bytes }; taken = length bytes; count = 0; error = None })
 dead_open d v p i bytes rows o x e =
-    subst (λ (q : Point). IsRead d (record { point = q; offset = i }) bytes rows rows
+    subst (λ (q : Point). IsPieceRead d (record { point = q; offset = i }) bytes rows rows
     (record { stream = record { point = Dead; offset = i + length bytes }; taken = length bytes; count = 0; error = None }))
     (sym (dead_begun d v p o x e)) (dead_read d i bytes rows)
 
 -- a byte more or less makes no difference to what it knows
-next_dead : (d : Dfa) (s : StateValue) (i b : ℕ) → is_dead s ≡ true → after_byte d s i b ≡ record { point = Dead; offset = i + 1 }
+next_dead : (d : Dfa) (s : StateValue) (i b : ℕ) → is_dead s ≡ true → stream_after d s i b ≡ record { point = Dead; offset = i + 1 }
 next_dead d s i b e = rw e refl
 
 ends_dead : (d : Dfa) (s : StateValue) (i b : ℕ) → is_dead s ≡ true → ends_before d s i b ≡ []
 ends_dead d s i b e = rw e refl
 
-next_in : (d : Dfa) (s : StateValue) (i b : ℕ) (t : Bool) → is_dead s ≡ t → next_at d (point_in s) i b ≡ after_byte d s i b
+next_in : (d : Dfa) (s : StateValue) (i b : ℕ) (t : Bool) → is_dead s ≡ t → next_at d (point_in s) i b ≡ stream_after d s i b
 next_in d s i b true e = ap (λ (q : Point). next_at d q i b) (point_dead s e) ∙ sym (next_dead d s i b e)
 next_in d s i b false e = ap (λ (q : Point). next_at d q i b) (point_alive s e)
 
-ends_in : (d : Dfa) (s : StateValue) (i b : ℕ) (t : Bool) → is_dead s ≡ t → ends_at d (point_in s) i b ≡ ends_before d s i b
-ends_in d s i b true e = ap (λ (q : Point). ends_at d q i b) (point_dead s e) ∙ sym (ends_dead d s i b e)
-ends_in d s i b false e = ap (λ (q : Point). ends_at d q i b) (point_alive s e)
+ends_in : (d : Dfa) (s : StateValue) (i b : ℕ) (t : Bool) → is_dead s ≡ t → stream_ends_at d (point_in s) i b ≡ ends_before d s i b
+ends_in d s i b true e = ap (λ (q : Point). stream_ends_at d q i b) (point_dead s e) ∙ sym (ends_dead d s i b e)
+ends_in d s i b false e = ap (λ (q : Point). stream_ends_at d q i b) (point_alive s e)
 
 next_begun : (d : Dfa) (p : Point) (i b : ℕ) → next_at d (begun_point d p) i b ≡ next_at d p i b
-next_begun d Fresh i b = next_in d (first_of d) i b (is_dead (first_of d)) refl
+next_begun d Fresh i b = next_in d (first_state_of d) i b (is_dead (first_state_of d)) refl
 next_begun d (Within s) i b = refl
 next_begun d Dead i b = refl
 next_begun d (Failed q) i b = refl
 next_begun d Closed i b = refl
 
-ends_at_begun : (d : Dfa) (p : Point) (i b : ℕ) → ends_at d (begun_point d p) i b ≡ ends_at d p i b
-ends_at_begun d Fresh i b = ends_in d (first_of d) i b (is_dead (first_of d)) refl
+ends_at_begun : (d : Dfa) (p : Point) (i b : ℕ) → stream_ends_at d (begun_point d p) i b ≡ stream_ends_at d p i b
+ends_at_begun d Fresh i b = ends_in d (first_state_of d) i b (is_dead (first_state_of d)) refl
 ends_at_begun d (Within s) i b = refl
 ends_at_begun d Dead i b = refl
 ends_at_begun d (Failed q) i b = refl
 ends_at_begun d Closed i b = refl
 
-fed_begun : (d : Dfa) (s : Stream) (bs : List ℕ) → 0 < length bs → fed d (begun d s.point s.offset) bs ≡ fed d s bs
+fed_begun : (d : Dfa) (s : Stream) (bs : List ℕ) → 0 < length bs → fed d (begun_stream d s.point s.offset) bs ≡ fed d s bs
 unfolding fed
 fed_begun d s [] l = absurd (omega (arith, l))
 fed_begun d s (b ∷ bs) l = ap (λ (x : Stream). fed d x bs) (next_begun d s.point s.offset b)
 
-ends_begun : (d : Dfa) (s : Stream) (bs : List ℕ) → ends_of d (begun d s.point s.offset) bs ≡ ends_of d s bs
-unfolding ends_of
+ends_begun : (d : Dfa) (s : Stream) (bs : List ℕ) → stream_ends d (begun_stream d s.point s.offset) bs ≡ stream_ends d s bs
+unfolding stream_ends
 ends_begun d s [] = refl
 ends_begun d s (b ∷ bs) =
-    ap (λ (l : List StreamMatch). l ++ ends_of d (next_at d (begun_point d s.point) s.offset b) bs) (ends_at_begun d s.point s.offset b)
-    ∙ ap (λ (x : Stream). ends_at d s.point s.offset b ++ ends_of d x bs) (next_begun d s.point s.offset b)
+    ap (λ (l : List StreamMatch). l ++ stream_ends d (next_at d (begun_point d s.point) s.offset b) bs) (ends_at_begun d s.point s.offset b)
+    ∙ ap (λ (x : Stream). stream_ends_at d s.point s.offset b ++ stream_ends d x bs) (next_begun d s.point s.offset b)
 
 -- ---- what a call returns
 
@@ -128,21 +128,21 @@ outcome_err : (o : Option StreamError) (P Q : StreamError → Type 0) → ((e : 
 outcome_err None P Q f x = tt
 outcome_err (Some e) P Q f x = f e x
 
-open_quiet : (p : Point) → IsOpen p → is_failed p ≡ false
+open_quiet : (p : Point) → IsOpenPoint p → is_failed p ≡ false
 open_quiet Fresh o = refl
 open_quiet (Within s) o = refl
 open_quiet Dead o = refl
 open_quiet (Failed b) o = absurd o
 open_quiet Closed o = refl
 
-pub quiet_open : (p : Point) → IsOpen p → is_failed p ≡ false
+pub quiet_open : (p : Point) → IsOpenPoint p → is_failed p ≡ false
 quiet_open p o = open_quiet p o
 
 not_failed : (p : Point) (b : ℕ) → is_failed p ≡ false → p ≡ Failed b → ⊥
 not_failed p b e f = true≢false (sym (ap is_failed f) ∙ e)
 
-begun_quiet : (d : Dfa) (p : Point) → IsOpen p → is_failed (begun_point d p) ≡ false
-begun_quiet d Fresh o = quiet_in (first_of d) (is_dead (first_of d)) refl
+begun_quiet : (d : Dfa) (p : Point) → IsOpenPoint p → is_failed (begun_point d p) ≡ false
+begun_quiet d Fresh o = quiet_in (first_state_of d) (is_dead (first_state_of d)) refl
   where
     quiet_in : (s : StateValue) (t : Bool) → is_dead s ≡ t → is_failed (point_in s) ≡ false
     quiet_in s true e = ap is_failed (point_dead s e)
@@ -164,9 +164,9 @@ not_zero : (b : Bool) (n : ℕ) → (n == 0) ≡ b → 0 < n → b ≡ false
 not_zero false n e l = refl
 not_zero true n e l = let none : n ≡ 0 = eqb-true n 0 e in absurd (omega (arith, none, l))
 
-module _ (d : Dfa) (s : Stream) (bytes : List ℕ) (rows after : List StreamMatch) (r : Read) (o : IsOpen s.point)
-    (x : IsRead d (begun d s.point s.offset) bytes rows after r) where
-  ends_read : Appends rows after 0 r.count (ends_of d s (take r.taken bytes))
+module _ (d : Dfa) (s : Stream) (bytes : List ℕ) (rows after : List StreamMatch) (r : Read) (o : IsOpenPoint s.point)
+    (x : IsPieceRead d (begun_stream d s.point s.offset) bytes rows after r) where
+  ends_read : Appends rows after 0 r.count (stream_ends d s (take r.taken bytes))
   ends_read = subst (λ (l : List StreamMatch). Appends rows after 0 r.count l) (ends_begun d s (take r.taken bytes)) x.ends
 
   read_error : (t : Stream) → ((b i : ℕ) → r.stream ≡ record { point = Failed b; offset = i } → t ≡ record { point = Failed b; offset = i }) →
@@ -180,15 +180,15 @@ module _ (d : Dfa) (s : Stream) (bytes : List ℕ) (rows after : List StreamMatc
 
   -- nothing was read
   module _ (none : r.taken ≡ 0) where
-    stream_is : r.stream ≡ begun d s.point s.offset
-    stream_is = x.stream ∙ (ap (λ (m : ℕ). fed d (begun d s.point s.offset) (take m bytes)) none ∙ fed_none d (begun d s.point s.offset))
+    stream_is : r.stream ≡ begun_stream d s.point s.offset
+    stream_is = x.stream ∙ (ap (λ (m : ℕ). fed d (begun_stream d s.point s.offset) (take m bytes)) none ∙ fed_none d (begun_stream d s.point s.offset))
 
     still_full : IsFull d r.stream bytes r.taken r.count (length rows) → IsFull d s bytes r.taken r.count (length rows)
     still_full f = record {
       byte = f.byte;
       is = f.is;
       lacks = subst (λ (l : List StreamMatch). length rows < r.count + length l)
-          (ap (λ (t : Stream). ends_at d t.point t.offset f.byte) stream_is ∙ ends_at_begun d s.point s.offset f.byte) f.lacks;
+          (ap (λ (t : Stream). stream_ends_at d t.point t.offset f.byte) stream_is ∙ ends_at_begun d s.point s.offset f.byte) f.lacks;
     }
 
     all_still : r.error ≡ None → (r.taken ≡ length bytes) ⊎ IsFull d s bytes r.taken r.count (length rows)
@@ -258,9 +258,9 @@ module _ (d : Dfa) (s : Stream) (bytes : List ℕ) (rows after : List StreamMatc
   pub own_settled : IsStreamOf d s → IsStreamOf d (settled s r)
   own_settled own = own_by r.taken refl own
 
-none_written : (d : Dfa) (s : Stream) (rows after : List StreamMatch) → Appends rows after 0 0 (ends_of d s [])
+none_written : (d : Dfa) (s : Stream) (rows after : List StreamMatch) → Appends rows after 0 0 (stream_ends d s [])
 none_written d s rows after = record {
-  count_is = let sizes : length (ends_of d s []) ≡ 0 = ap length (ends_none d s) in omega (arith, sizes);
+  count_is = let sizes : length (stream_ends d s []) ≡ 0 = ap length (ends_none d s) in omega (arith, sizes);
   fits = omega arith;
   rows = sym (ends_none d s);
 }
@@ -276,7 +276,7 @@ fed_nothing d s bytes rows after e x = record {
   err = x;
 }
 
-pub fed_empty : (d : Dfa) (s : Stream) (bytes : List ℕ) (rows : List StreamMatch) → length bytes ≡ 0 → IsOpen s.point →
+pub fed_empty : (d : Dfa) (s : Stream) (bytes : List ℕ) (rows : List StreamMatch) → length bytes ≡ 0 → IsOpenPoint s.point →
     IsFed d s s bytes rows rows (record { taken = 0; count = 0 }) (Ok tt)
 fed_empty d s bytes rows len o = record {
   taken = omega arith;
@@ -294,7 +294,7 @@ last_is d s e = rw e refl
 
 pub last_of : (d : Dfa) (v : CacheValue) (id : ℕ) (p : Point) → IsLast d v p (Some id) →
     (s : StateValue) × HeldAt v id s × (last_at d p ≡ s.matches)
-last_of d v id Fresh x = (after d (first_of d) None, x.1, last_is d (first_of d) x.0)
+last_of d v id Fresh x = (after d (first_state_of d) None, x.1, last_is d (first_state_of d) x.0)
 last_of d v id (Within s) x = (after d s None, x.1, last_is d s x.0)
 last_of d v id Dead x = absurd x
 last_of d v id (Failed b) x = absurd x
@@ -307,9 +307,9 @@ no_last d v Dead x = refl
 no_last d v (Failed b) x = refl
 no_last d v Closed x = refl
 
-pub closed_ok : (d : Dfa) (s : Stream) (rows after : List StreamMatch) (count : ℕ) → IsOpen s.point →
-    Appends rows after 0 count (map (end_at s.offset) (last_at d s.point)) →
-    IsClosed d s (record { point = Closed; offset = s.offset }) rows after count (Ok tt)
+pub closed_ok : (d : Dfa) (s : Stream) (rows after : List StreamMatch) (count : ℕ) → IsOpenPoint s.point →
+    Appends rows after 0 count (map (stream_end s.offset) (last_at d s.point)) →
+    IsStreamClosed d s (record { point = Closed; offset = s.offset }) rows after count (Ok tt)
 closed_ok d s rows after count o x = record {
   stream = refl;
   ends = x;
@@ -332,7 +332,7 @@ unfolding error_in
 err_same e f is = ap error_in is
 
 pub closed_not : (d : Dfa) (s : Stream) (rows after : List StreamMatch) (e : StreamError) → IsStreamError d s s 0 e →
-    IsClosed d s s rows after 0 (Err e)
+    IsStreamClosed d s s rows after 0 (Err e)
 closed_not d s rows after e x = record {
   stream = tt;
   ends = tt;
@@ -361,16 +361,16 @@ last_error d s ends room count NoMemory x = inr tt
 last_error d s ends room count TooLong x = absurd x
 
 pub closed_err : (d : Dfa) (s : Stream) (rows after : List StreamMatch) (count : ℕ) (e : StreamError) →
-    IsLastError d (map (end_at s.offset) (last_at d s.point)) (length rows) count e → IsClosed d s s rows after count (Err e)
+    IsLastError d (map (stream_end s.offset) (last_at d s.point)) (length rows) count e → IsStreamClosed d s s rows after count (Err e)
 closed_err d s rows after count e x = record {
   stream = tt;
   ends = tt;
   not_closed = tt;
-  none = last_none d (map (end_at s.offset) (last_at d s.point)) (length rows) count e x;
-  lacks = λ is. subst (λ (y : StreamError). IsLastError d (map (end_at s.offset) (last_at d s.point)) (length rows) count y)
+  none = last_none d (map (stream_end s.offset) (last_at d s.point)) (length rows) count e x;
+  lacks = λ is. subst (λ (y : StreamError). IsLastError d (map (stream_end s.offset) (last_at d s.point)) (length rows) count y)
       (err_same e NoRoom is) x;
   same = refl;
-  err = last_error d s (map (end_at s.offset) (last_at d s.point)) (length rows) count e x;
+  err = last_error d s (map (stream_end s.offset) (last_at d s.point)) (length rows) count e x;
 }
 
 -- a step that fails at the end of the input

@@ -20,10 +20,10 @@ use Rattle.lazy_dfa.specs.HalfSearches.{first_offset}
 use Rattle.lazy_dfa.specs.Overlapping.{Rest, end_of, listed, nothing_left, onto, refused, rest_from, unless_quit_at, where_supported, whole_rest}
 use Rattle.lazy_dfa.specs.Scans.{index_at, index_before_offset, next_value, start_name, start_or_dead}
 use Rattle.nfa_core.specs.Ways.{offset_of}
-use Rattle.streams.specs.Overlapping.{failure, pair_of, rest_of_stream}
+use Rattle.streams.specs.Overlapping.{failure, end_pair, rest_of_stream}
 use Rattle.streams.specs.Reading.{within}
-use Rattle.streams.specs.Streams.{after_byte, begins_character, counts_before, end_at, ends_at, ends_before, ends_of, ends_there, fed, first_of}
-use Rattle.streams.specs.Streams.{fresh, last_ends, last_patterns, next_at, point_in}
+use Rattle.streams.specs.Streams.{stream_after, begins_character, counts_before, stream_end, stream_ends_at, ends_before, stream_ends, counted_ends, fed, first_state_of}
+use Rattle.streams.specs.Streams.{fresh_stream, last_ends, last_patterns, next_at, point_in}
 use Rattle.streams.specs.declared.stream.Point.TheVariants.{Dead, Failed}
 use Rattle.streams.specs.declared.stream.Stream.{Stream}
 use Rattle.streams.specs.declared.stream.StreamMatch.{StreamMatch}
@@ -100,27 +100,27 @@ counts_last true h i e = let is : (i == length h) ≡ true = (Decides-eqb i (len
 
 -- ---- what a stream reports
 
-pairs_of : (i : ℕ) (ms : List ℕ) → map pair_of (map (end_at i) ms) ≡ map (end_of i) ms
+pairs_of : (i : ℕ) (ms : List ℕ) → map end_pair (map (stream_end i) ms) ≡ map (end_of i) ms
 pairs_of i [] = refl
 pairs_of i (m ∷ ms) = ap (λ (l : List (ℕ × ℕ)). (i, m) ∷ l) (pairs_of i ms)
 
-pairs_there : (b : Bool) (i : ℕ) (ms : List ℕ) → map pair_of (ends_there b i ms) ≡ (if b then map (end_of i) ms else [])
+pairs_there : (b : Bool) (i : ℕ) (ms : List ℕ) → map end_pair (counted_ends b i ms) ≡ (if b then map (end_of i) ms else [])
 pairs_there true i ms = pairs_of i ms
 pairs_there false i ms = refl
 
 rest_cons : (d : Dfa) (s : Stream) (b : ℕ) (bs : List ℕ) →
-    rest_of_stream d s (b ∷ bs) ≡ onto (map pair_of (ends_at d s.point s.offset b)) (rest_of_stream d (next_at d s.point s.offset b) bs)
-unfolding fed ends_of
+    rest_of_stream d s (b ∷ bs) ≡ onto (map end_pair (stream_ends_at d s.point s.offset b)) (rest_of_stream d (next_at d s.point s.offset b) bs)
+unfolding fed stream_ends
 rest_cons d s b bs =
     let next = next_at d s.point s.offset b in
-    let ends : map pair_of ((ends_at d s.point s.offset b ++ ends_of d next bs) ++ last_ends d (fed d next bs)) ≡
-    map pair_of (ends_at d s.point s.offset b) ++ map pair_of (ends_of d next bs ++ last_ends d (fed d next bs)) =
-    ap (λ (l : List StreamMatch). map pair_of l) (append_assoc (ends_at d s.point s.offset b) (ends_of d next bs) (last_ends d (fed d next bs)))
-    ∙ map-append pair_of (ends_at d s.point s.offset b) (ends_of d next bs ++ last_ends d (fed d next bs)) in
+    let ends : map end_pair ((stream_ends_at d s.point s.offset b ++ stream_ends d next bs) ++ last_ends d (fed d next bs)) ≡
+    map end_pair (stream_ends_at d s.point s.offset b) ++ map end_pair (stream_ends d next bs ++ last_ends d (fed d next bs)) =
+    ap (λ (l : List StreamMatch). map end_pair l) (append_assoc (stream_ends_at d s.point s.offset b) (stream_ends d next bs) (last_ends d (fed d next bs)))
+    ∙ map-append end_pair (stream_ends_at d s.point s.offset b) (stream_ends d next bs ++ last_ends d (fed d next bs)) in
     λ n. record { ends = ends n; rejection = failure (fed d next bs) }
 
-rest_end : (d : Dfa) (s : Stream) → rest_of_stream d s [] ≡ record { ends = map pair_of (last_ends d s); rejection = failure s }
-unfolding fed ends_of
+rest_end : (d : Dfa) (s : Stream) → rest_of_stream d s [] ≡ record { ends = map end_pair (last_ends d s); rejection = failure s }
+unfolding fed stream_ends
 rest_end d s = refl
 
 dead_rest : (d : Dfa) (i : ℕ) (bs : List ℕ) → rest_of_stream d (record { point = Dead; offset = i }) bs ≡ nothing_left
@@ -128,8 +128,8 @@ dead_rest d i bs =
     let silent = dead_silent d i bs in
     let still = dead_fed d i bs in
     λ n. record {
-      ends = (ap (λ (l : List StreamMatch). map pair_of (l ++ last_ends d (fed d (record { point = Dead; offset = i }) bs))) silent
-          ∙ ap (λ (t : Stream). map pair_of (last_ends d t)) still) n;
+      ends = (ap (λ (l : List StreamMatch). map end_pair (l ++ last_ends d (fed d (record { point = Dead; offset = i }) bs))) silent
+          ∙ ap (λ (t : Stream). map end_pair (last_ends d t)) still) n;
       rejection = ap failure still n;
     }
 
@@ -137,7 +137,7 @@ failed_rest : (d : Dfa) (b i : ℕ) (bs : List ℕ) → rest_of_stream d (record
 failed_rest d b i [] = rest_end d (record { point = Failed b; offset = i })
 failed_rest d b i (x ∷ bs) = rest_cons d (record { point = Failed b; offset = i }) x bs ∙ failed_rest d b i bs
 
-dead_next : (d : Dfa) (s : StateValue) (i b : ℕ) → is_dead s ≡ true → after_byte d s i b ≡ record { point = Dead; offset = i + 1 }
+dead_next : (d : Dfa) (s : StateValue) (i b : ℕ) → is_dead s ≡ true → stream_after d s i b ≡ record { point = Dead; offset = i + 1 }
 dead_next d s i b e = rw e refl
 
 dead_ends : (d : Dfa) (s : StateValue) (i b : ℕ) → is_dead s ≡ true → ends_before d s i b ≡ []
@@ -150,10 +150,10 @@ dead_last d s e = rw e refl
 dead_within : (d : Dfa) (s : StateValue) (i : ℕ) (bs : List ℕ) → is_dead s ≡ true → rest_of_stream d (within s i) bs ≡ nothing_left
 dead_within d s i [] e =
     rest_end d (within s i)
-    ∙ ap (λ (l : List ℕ). record { ends = map pair_of (map (end_at i) l); rejection = None }) (dead_last d s e)
+    ∙ ap (λ (l : List ℕ). record { ends = map end_pair (map (stream_end i) l); rejection = None }) (dead_last d s e)
 dead_within d s i (b ∷ bs) e =
     rest_cons d (within s i) b bs
-    ∙ (ap (λ (l : List StreamMatch). onto (map pair_of l) (rest_of_stream d (after_byte d s i b) bs)) (dead_ends d s i b e)
+    ∙ (ap (λ (l : List StreamMatch). onto (map end_pair l) (rest_of_stream d (stream_after d s i b) bs)) (dead_ends d s i b e)
     ∙ (ap (λ (t : Stream). onto [] (rest_of_stream d t bs)) (dead_next d s i b e)
     ∙ ap (onto []) (dead_rest d (i + 1) bs)))
 
@@ -164,7 +164,7 @@ rest_in d s i bs true e =
 rest_in d s i bs false e = ap (λ q. rest_of_stream d (record { point = q; offset = i }) bs) (point_alive s e)
 
 goes : (d : Dfa) (s : StateValue) (i b : ℕ) → is_dead s ≡ false → has d.quits b ≡ false →
-    after_byte d s i b ≡ record { point = point_in (after d s (Some b)); offset = i + 1 }
+    stream_after d s i b ≡ record { point = point_in (after d s (Some b)); offset = i + 1 }
 goes d s i b alive quiet = rw (alive, quiet) refl
 
 last_is : (d : Dfa) (s : StateValue) → is_dead s ≡ false → last_patterns d s ≡ (after d s None).matches
@@ -198,7 +198,7 @@ module _ (d : Dfa) (h : List ℕ) (forward : d.nfa.automaton.reverse ≡ false) 
   dead_step : (n i : ℕ) (s : StateValue) → is_dead s ≡ true → rest_from (reader d) h (suc n) i s ≡ nothing_left
   dead_step n i s e = step_of n i s ∙ rw e refl
 
-  listed_by : (b : Bool) (i : ℕ) (ms : List ℕ) → counts utf8 h i ≡ b → listed (counts utf8 h) i ms ≡ map pair_of (ends_there b i ms)
+  listed_by : (b : Bool) (i : ℕ) (ms : List ℕ) → counts utf8 h i ≡ b → listed (counts utf8 h) i ms ≡ map end_pair (counted_ends b i ms)
   listed_by b i ms e = ap (λ (t : Bool). if t then map (end_of i) ms else []) e ∙ sym (pairs_there b i ms)
 
   last_step : (i : ℕ) (s : StateValue) → is_dead s ≡ false → drop i h ≡ [] → i ≡ length h →
@@ -209,7 +209,7 @@ module _ (d : Dfa) (h : List ℕ) (forward : d.nfa.automaton.reverse ≡ false) 
       ∙ (ap (λ (l : List (ℕ × ℕ)). record { ends = l; rejection = None })
       (append-nil (listed (counts utf8 h) i (after d s None).matches)
       ∙ (listed_by true i (after d s None).matches (counts_last utf8 h i len)
-      ∙ ap (λ (l : List ℕ). map pair_of (map (end_at i) l)) (sym (last_is d s alive))))
+      ∙ ap (λ (l : List ℕ). map end_pair (map (stream_end i) l)) (sym (last_is d s alive))))
       ∙ sym (rest_end d (within s i))))
 
   quit_step : (i b : ℕ) (bs : List ℕ) (s : StateValue) → is_dead s ≡ false → has d.quits b ≡ true → drop i h ≡ b ∷ bs →
@@ -219,7 +219,7 @@ module _ (d : Dfa) (h : List ℕ) (forward : d.nfa.automaton.reverse ≡ false) 
       ∙ (ap (λ (t : Bool). if t then refused (Quit b i) else
       onto (listed (counts utf8 h) i (after d s (Some b)).matches) (rest_from (reader d) h (suc (length bs)) (i + 1) (after d s (Some b)))) quits
       ∙ sym (rest_cons d (within s i) b bs
-      ∙ (ap (λ (l : List StreamMatch). onto (map pair_of l) (rest_of_stream d (after_byte d s i b) bs)) (ends_quit d s i b alive quits)
+      ∙ (ap (λ (l : List StreamMatch). onto (map end_pair l) (rest_of_stream d (stream_after d s i b) bs)) (ends_quit d s i b alive quits)
       ∙ (ap (λ (t : Stream). onto [] (rest_of_stream d t bs)) (after_quits d s i b alive quits)
       ∙ ap (onto []) (failed_rest d b i bs)))))
 
@@ -234,11 +234,11 @@ module _ (d : Dfa) (h : List ℕ) (forward : d.nfa.automaton.reverse ≡ false) 
       onto (listed (counts utf8 h) i next.matches) (rest_from (reader d) h (suc (length bs)) (i + 1) next)) quiet
       ∙ (ap (λ (l : List (ℕ × ℕ)). onto l (rest_from (reader d) h (suc (length bs)) (i + 1) next))
       (listed_by (counts_before d b) i next.matches (counts_there utf8 h i b bs at len))
-      ∙ (ap (onto (map pair_of (ends_there (counts_before d b) i next.matches)))
+      ∙ (ap (onto (map end_pair (counted_ends (counts_before d b) i next.matches)))
       (later ∙ sym (rest_in d next (i + 1) bs (is_dead next) refl))
       ∙ sym (rest_cons d (within s i) b bs
-      ∙ (ap (λ (l : List StreamMatch). onto (map pair_of l) (rest_of_stream d (after_byte d s i b) bs)) (ends_go d s i b alive quiet)
-      ∙ ap (λ (t : Stream). onto (map pair_of (ends_there (counts_before d b) i next.matches)) (rest_of_stream d t bs))
+      ∙ (ap (λ (l : List StreamMatch). onto (map end_pair l) (rest_of_stream d (stream_after d s i b) bs)) (ends_go d s i b alive quiet)
+      ∙ ap (λ (t : Stream). onto (map end_pair (counted_ends (counts_before d b) i next.matches)) (rest_of_stream d t bs))
       (goes d s i b alive quiet))))))
 
   byte_rest : (t : Bool) (b : ℕ) (bs : List ℕ) (i : ℕ) (s : StateValue) → has d.quits b ≡ t → is_dead s ≡ false → drop i h ≡ b ∷ bs →
@@ -271,8 +271,8 @@ module _ (d : Dfa) (h : List ℕ) (forward : d.nfa.automaton.reverse ≡ false) 
 
 -- ---- the whole input
 
-fresh_rest : (d : Dfa) (bs : List ℕ) → rest_of_stream d (within (first_of d) 0) bs ≡ rest_of_stream d fresh bs
-unfolding fed ends_of
+fresh_rest : (d : Dfa) (bs : List ℕ) → rest_of_stream d (within (first_state_of d) 0) bs ≡ rest_of_stream d fresh_stream bs
+unfolding fed stream_ends
 fresh_rest d [] = refl
 fresh_rest d (b ∷ bs) = refl
 
@@ -282,7 +282,7 @@ begun_rest : (d : Dfa) (h : List ℕ) (r : Bool) (start end : ℕ) (mode : Ancho
     (where_supported (is_supported (reader d).starts_for_each_pattern mode) mode
     (rest_from (reader d) h (suc (end - start)) (first_offset r start end)
     (start_or_dead (reader d) (unit_before r h (first_offset r start end)) (start_name d.nfa.automaton mode))))
-    else nothing_left) ≡ rest_from (reader d) h (suc (length h)) 0 (first_of d)
+    else nothing_left) ≡ rest_from (reader d) h (suc (length h)) 0 (first_state_of d)
 unfolding start_or_dead first_state
 begun_rest d h r start end mode a b c e =
     let le : nat_le 0 (length h) ≡ true = le-leb 0 (length h) (omega arith) in
@@ -290,8 +290,8 @@ begun_rest d h r start end mode a b c e =
     rw (a, b, c, e, le, less) refl
 
 pub whole_is : (d : Dfa) (q : Search) → d.nfa.automaton.reverse ≡ false → q.start ≡ 0 → q.end ≡ length q.haystack → q.anchored ≡ No →
-    whole_rest (reader d) q ≡ rest_of_stream d fresh q.haystack
+    whole_rest (reader d) q ≡ rest_of_stream d fresh_stream q.haystack
 whole_is d q forward start end mode =
     begun_rest d q.haystack d.nfa.automaton.reverse q.start q.end q.anchored forward start end mode
-    ∙ (rest_is d q.haystack forward q.haystack 0 (first_of d) refl (omega arith)
+    ∙ (rest_is d q.haystack forward q.haystack 0 (first_state_of d) refl (omega arith)
     ∙ fresh_rest d q.haystack)

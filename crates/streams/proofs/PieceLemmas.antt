@@ -7,8 +7,8 @@ use Rattle.determinize_core.specs.States.{StateValue}
 use Rattle.lazy_dfa.specs.Caches.{CacheValue, HeldAt, IsCacheOf, Leads}
 use Rattle.lazy_dfa.specs.Dfas.{Dfa, IsStateOf, after, is_dead}
 use Rattle.lazy_dfa.specs.Ids.{tag}
-use Rattle.streams.specs.Reading.{Appends, IsAt, IsRead, IsReadError, IsStepError, IsStop, read_stopped, within}
-use Rattle.streams.specs.Streams.{after_byte, ends_before, ends_of, fed}
+use Rattle.streams.specs.Reading.{Appends, IsAt, IsPieceRead, IsReadError, IsStepError, IsReadingStop, read_stopped, within}
+use Rattle.streams.specs.Streams.{stream_after, ends_before, stream_ends, fed}
 use Rattle.streams.specs.declared.errors.StreamError.{StreamError}
 use Rattle.streams.specs.declared.errors.StreamError.TheVariants.{Closed, GaveUp, NoMemory, NoRoom, Quit, TooLong}
 use Rattle.streams.specs.declared.reading.Stop.{Stop}
@@ -28,20 +28,20 @@ at_first d v s i id h = record {
   is = fed_none d (within s i) ∙ ap (λ (k : ℕ). within s k) (omega arith);
 }
 
-pub none_first : (d : Dfa) (s : Stream) (rows : List StreamMatch) → Appends rows rows 0 0 (ends_of d s [])
+pub none_first : (d : Dfa) (s : Stream) (rows : List StreamMatch) → Appends rows rows 0 0 (stream_ends d s [])
 none_first d s rows = subst (λ (l : List StreamMatch). Appends rows rows 0 0 l) (sym (ends_none d s)) (none_appended rows)
 
 module _ (d : Dfa) (v : CacheValue) (s : StateValue) (i id at b : ℕ) (bytes more : List ℕ) (more_is : more ≡ bytes ++ b ∷ [])
     (a : IsAt d v s i bytes id at) where
   pub at_more : (w : CacheValue) (to : ℕ) → HeldAt w to (after d a.state (Some b)) →
-      after_byte d a.state at b ≡ within (after d a.state (Some b)) (at + 1) → IsAt d w s i more to (at + 1)
+      stream_after d a.state at b ≡ within (after d a.state (Some b)) (at + 1) → IsAt d w s i more to (at + 1)
   at_more w to held goes = record {
     state = after d a.state (Some b);
     held = held;
     is = fed_more d s i bytes more b at a.state more_is a.is ∙ goes;
   }
 
-  pub ends_are : ends_of d (within s i) more ≡ ends_of d (within s i) bytes ++ ends_before d a.state at b
+  pub ends_are : stream_ends d (within s i) more ≡ stream_ends d (within s i) bytes ++ ends_before d a.state at b
   ends_are = ends_more d s i bytes more b at a.state more_is a.is
 
   -- a known step to an ID without a tag
@@ -59,10 +59,10 @@ module _ (d : Dfa) (v : CacheValue) (s : StateValue) (i id at b : ℕ) (bytes mo
         (no_quit_led d v a.state (Some b) to own.shape (untagged_not_quit to low) led)
         (untagged_lists_none v to (after d a.state (Some b)) own.shape low held)
 
-    pub quick_ends : (old new : List StreamMatch) (n : ℕ) → Appends old new 0 n (ends_of d (within s i) bytes) →
-        Appends old new 0 n (ends_of d (within s i) more)
+    pub quick_ends : (old new : List StreamMatch) (n : ℕ) → Appends old new 0 n (stream_ends d (within s i) bytes) →
+        Appends old new 0 n (stream_ends d (within s i) more)
     quick_ends old new n e =
-        appends_none old new n (ends_of d (within s i) bytes) (ends_before d a.state at b) (ends_of d (within s i) more) ends_are silent e
+        appends_none old new n (stream_ends d (within s i) bytes) (ends_before d a.state at b) (stream_ends d (within s i) more) ends_are silent e
 
 -- ---- the bytes that were taken
 
@@ -73,7 +73,7 @@ one_more bytes k l = take_more bytes k 0 l
 
 module _ (d : Dfa) (v : CacheValue) (s : StateValue) (offset id k n : ℕ) (bytes : List ℕ) (old mid new : List StreamMatch)
     (inside : k < length bytes) (a : IsAt d v s offset (take k bytes) id (offset + k)) (len : length mid ≡ length old)
-    (rows : Appends old mid 0 n (ends_of d (within s offset) (take k bytes))) (same : new ≡ mid) where
+    (rows : Appends old mid 0 n (stream_ends d (within s offset) (take k bytes))) (same : new ≡ mid) where
   abbrev start : Stream
   start = within s offset
 
@@ -83,17 +83,17 @@ module _ (d : Dfa) (v : CacheValue) (s : StateValue) (offset id k n : ℕ) (byte
   abbrev next : List ℕ
   next = take (k + 1) bytes
 
-  fed_next : fed d start next ≡ after_byte d a.state (offset + k) b
+  fed_next : fed d start next ≡ stream_after d a.state (offset + k) b
   fed_next = fed_more d s offset (take k bytes) next b (offset + k) a.state (one_more bytes k inside) a.is
 
-  ends_next : ends_of d start next ≡ ends_of d start (take k bytes) ++ ends_before d a.state (offset + k) b
+  ends_next : stream_ends d start next ≡ stream_ends d start (take k bytes) ++ ends_before d a.state (offset + k) b
   ends_next = ends_more d s offset (take k bytes) next b (offset + k) a.state (one_more bytes k inside) a.is
 
-  kept : Appends old new 0 n (ends_of d start (take k bytes))
-  kept = subst (λ (l : List StreamMatch). Appends old l 0 n (ends_of d start (take k bytes))) (sym same) rows
+  kept : Appends old new 0 n (stream_ends d start (take k bytes))
+  kept = subst (λ (l : List StreamMatch). Appends old l 0 n (stream_ends d start (take k bytes))) (sym same) rows
 
-  kept_next : ends_before d a.state (offset + k) b ≡ [] → Appends old new 0 n (ends_of d start next)
-  kept_next none = appends_none old new n (ends_of d start (take k bytes)) (ends_before d a.state (offset + k) b) (ends_of d start next)
+  kept_next : ends_before d a.state (offset + k) b ≡ [] → Appends old new 0 n (stream_ends d start next)
+  kept_next none = appends_none old new n (stream_ends d start (take k bytes)) (ends_before d a.state (offset + k) b) (stream_ends d start next)
       ends_next none kept
 
   -- the dead state reads all that is left
@@ -103,7 +103,7 @@ module _ (d : Dfa) (v : CacheValue) (s : StateValue) (offset id k n : ℕ) (byte
   rest_len : length (drop (k + 1) bytes) ≡ length bytes - (k + 1)
   rest_len = length-drop (k + 1) bytes
 
-  dead_all : after_byte d a.state (offset + k) b ≡ record { point = Dead; offset = (offset + k) + 1 } →
+  dead_all : stream_after d a.state (offset + k) b ≡ record { point = Dead; offset = (offset + k) + 1 } →
       fed d start (take (length bytes) bytes) ≡ record { point = Dead; offset = offset + length bytes }
   dead_all e =
       ap (λ (l : List ℕ). fed d start l) (take_all (length bytes) bytes (omega arith) ∙ whole)
@@ -112,14 +112,14 @@ module _ (d : Dfa) (v : CacheValue) (s : StateValue) (offset id k n : ℕ) (byte
       ∙ (dead_fed d ((offset + k) + 1) (drop (k + 1) bytes)
       ∙ ap (λ (m : ℕ). record { point = Dead; offset = m }) (omega (arith, rest_len, inside)))))
 
-  dead_ends : after_byte d a.state (offset + k) b ≡ record { point = Dead; offset = (offset + k) + 1 } →
-      ends_of d start (take (length bytes) bytes) ≡ ends_of d start next
+  dead_ends : stream_after d a.state (offset + k) b ≡ record { point = Dead; offset = (offset + k) + 1 } →
+      stream_ends d start (take (length bytes) bytes) ≡ stream_ends d start next
   dead_ends e =
-      ap (λ (l : List ℕ). ends_of d start l) (take_all (length bytes) bytes (omega arith) ∙ whole)
+      ap (λ (l : List ℕ). stream_ends d start l) (take_all (length bytes) bytes (omega arith) ∙ whole)
       ∙ (sym (ends_joined d start next (drop (k + 1) bytes))
-      ∙ (ap (λ (x : Stream). ends_of d start next ++ ends_of d x (drop (k + 1) bytes)) (fed_next ∙ e)
-      ∙ (ap (λ (l : List StreamMatch). ends_of d start next ++ l) (dead_silent d ((offset + k) + 1) (drop (k + 1) bytes))
-      ∙ append-nil (ends_of d start next))))
+      ∙ (ap (λ (x : Stream). stream_ends d start next ++ stream_ends d x (drop (k + 1) bytes)) (fed_next ∙ e)
+      ∙ (ap (λ (l : List StreamMatch). stream_ends d start next ++ l) (dead_silent d ((offset + k) + 1) (drop (k + 1) bytes))
+      ∙ append-nil (stream_ends d start next))))
 
   got : slice_get bytes k ≡ Some b
   got = slice_get-get_or bytes k 0 inside
@@ -132,8 +132,8 @@ module _ (d : Dfa) (v : CacheValue) (s : StateValue) (offset id k n : ℕ) (byte
   error_of t TooLong x = absurd x
   error_of t NoRoom x = absurd x
 
-  pub stop_read : (own : IsCacheOf d v) (stop : Stop) → IsStop d a.state (offset + k) b mid n stop →
-      IsRead d start bytes old new (read_stopped offset bytes k n stop)
+  pub stop_read : (own : IsCacheOf d v) (stop : Stop) → IsReadingStop d a.state (offset + k) b mid n stop →
+      IsPieceRead d start bytes old new (read_stopped offset bytes k n stop)
   stop_read own Died x = record {
     taken = omega arith;
     stream = sym (dead_all x.0);
@@ -180,8 +180,8 @@ module _ (d : Dfa) (v : CacheValue) (s : StateValue) (offset id k n : ℕ) (byte
 -- all bytes were read
 pub all_read : (d : Dfa) (v : CacheValue) (s t : StateValue) (offset id k n : ℕ) (bytes : List ℕ) (old new : List StreamMatch) →
     k ≡ length bytes → IsCacheOf d v → (a : IsAt d v s offset (take k bytes) id (offset + k)) → HeldAt v id t → IsStateOf d t →
-    Appends old new 0 n (ends_of d (within s offset) (take k bytes)) →
-    IsRead d (within s offset) bytes old new
+    Appends old new 0 n (stream_ends d (within s offset) (take k bytes)) →
+    IsPieceRead d (within s offset) bytes old new
     (record { stream = within t (offset + length bytes); taken = length bytes; count = n; error = None })
 all_read d v s t offset id k n bytes old new is own a h real rows =
     let same = same_state v id t a.state own.shape h a.held in
@@ -190,7 +190,7 @@ all_read d v s t offset id k n bytes old new is own a h real rows =
       stream = ap (λ (y : StateValue). within y (offset + length bytes)) same
           ∙ (ap (λ (m : ℕ). within a.state (offset + m)) (sym is) ∙ (sym a.is ∙ ap (λ (m : ℕ). fed d (within s offset) (take m bytes)) is));
       own = (real, held_alive d v id t own h);
-      ends = subst (λ (m : ℕ). Appends old new 0 n (ends_of d (within s offset) (take m bytes))) is rows;
+      ends = subst (λ (m : ℕ). Appends old new 0 n (stream_ends d (within s offset) (take m bytes))) is rows;
       all = λ e. inl refl;
       quiet = λ e. refl;
       err = tt;

@@ -6,7 +6,7 @@ use Rattle.lazy_dfa.specs.Dfas.{Dfa, after, is_dead}
 use Rattle.lazy_dfa.specs.Ids.{dead_tag, has_tag, quit_tag}
 use Rattle.lazy_dfa.proofs.ForCallers.{one_state}
 use Rattle.streams.specs.Reading.{within}
-use Rattle.streams.specs.Streams.{after_byte, counts_before, ends_before, ends_there}
+use Rattle.streams.specs.Streams.{stream_after, counts_before, ends_before, counted_ends}
 use Rattle.streams.specs.declared.stream.Point.TheVariants.{Dead, Failed}
 use Rattle.streams.proofs.ReadLemmas.{after_dies, after_goes, after_quits, ends_go, ends_quit, ends_silent}
 use Rattle.streams.proofs.TagLemmas.{alive_named, dead_is, dead_named, held_alive, no_quit_led, quit_led}
@@ -20,7 +20,7 @@ module _ (d : Dfa) (v w : CacheValue) (id to at b : ℕ) (s : StateValue) (own :
   alive = held_alive d v id s own held
 
   pub quits : has_tag quit_tag to ≡ true →
-      (after_byte d s at b ≡ record { point = Failed b; offset = at }) × (ends_before d s at b ≡ [])
+      (stream_after d s at b ≡ record { point = Failed b; offset = at }) × (ends_before d s at b ≡ [])
   quits t =
       let q = quit_led d w s (Some b) to new.shape t led in
       (after_quits d s at b alive q, ends_quit d s at b alive q)
@@ -30,7 +30,7 @@ module _ (d : Dfa) (v w : CacheValue) (id to at b : ℕ) (s : StateValue) (own :
     names = led.goes (no_quit_led d w s (Some b) to new.shape quiet led)
 
     pub dies : has_tag dead_tag to ≡ true →
-        (after_byte d s at b ≡ record { point = Dead; offset = at + 1 }) × (ends_before d s at b ≡ [])
+        (stream_after d s at b ≡ record { point = Dead; offset = at + 1 }) × (ends_before d s at b ≡ [])
     dies t =
         let q = no_quit_led d w s (Some b) to new.shape quiet led in
         let gone = dead_named w to (after d s (Some b)) new.shape t names in (
@@ -41,10 +41,10 @@ module _ (d : Dfa) (v w : CacheValue) (id to at b : ℕ) (s : StateValue) (own :
     pub goes_on : has_tag dead_tag to ≡ false → HeldAt w to (after d s (Some b))
     goes_on t = alive_named w to (after d s (Some b)) new.shape t names
 
-    pub goes : has_tag dead_tag to ≡ false → after_byte d s at b ≡ within (after d s (Some b)) (at + 1)
+    pub goes : has_tag dead_tag to ≡ false → stream_after d s at b ≡ within (after d s (Some b)) (at + 1)
     goes t =
         after_goes d s at b alive (no_quit_led d w s (Some b) to new.shape quiet led)
         (held_alive d w to (after d s (Some b)) new (goes_on t))
 
-    pub ends : ends_before d s at b ≡ ends_there (counts_before d b) at (after d s (Some b)).matches
+    pub ends : ends_before d s at b ≡ counted_ends (counts_before d b) at (after d s (Some b)).matches
     ends = ends_go d s at b alive (no_quit_led d w s (Some b) to new.shape quiet led)

@@ -2,7 +2,7 @@
 use Rattle.std.proofs.Common.{◌≡◌, ◌∙◌, ◌+◌, ◌++◌, ◌∷◌, [], ℕ, List, length}
 use Rattle.std.proofs.Common.{refl, ap, arith, append_assoc, append-nil}
 use Rattle.lazy_dfa.specs.Dfas.{Dfa}
-use Rattle.streams.specs.Streams.{ends_at, ends_of, fed, next_at}
+use Rattle.streams.specs.Streams.{stream_ends_at, stream_ends, fed, next_at}
 use Rattle.streams.specs.declared.stream.Point.TheVariants.{Dead}
 use Rattle.streams.specs.declared.stream.Stream.{Stream}
 use Rattle.streams.specs.declared.stream.StreamMatch.{StreamMatch}
@@ -14,28 +14,28 @@ unfolding fed
 fed_joined d s [] b = refl
 fed_joined d s (x ∷ a) b = fed_joined d (next_at d s.point s.offset x) a b
 
-pub ends_joined : (d : Dfa) (s : Stream) (a b : List ℕ) → ends_of d s a ++ ends_of d (fed d s a) b ≡ ends_of d s (a ++ b)
-unfolding fed ends_of
+pub ends_joined : (d : Dfa) (s : Stream) (a b : List ℕ) → stream_ends d s a ++ stream_ends d (fed d s a) b ≡ stream_ends d s (a ++ b)
+unfolding fed stream_ends
 ends_joined d s [] b = refl
 ends_joined d s (x ∷ a) b =
-    append_assoc (ends_at d s.point s.offset x) (ends_of d (next_at d s.point s.offset x) a) (ends_of d (fed d (next_at d s.point s.offset x) a) b)
-    ∙ ap (λ (l : List StreamMatch). ends_at d s.point s.offset x ++ l) (ends_joined d (next_at d s.point s.offset x) a b)
+    append_assoc (stream_ends_at d s.point s.offset x) (stream_ends d (next_at d s.point s.offset x) a) (stream_ends d (fed d (next_at d s.point s.offset x) a) b)
+    ∙ ap (λ (l : List StreamMatch). stream_ends_at d s.point s.offset x ++ l) (ends_joined d (next_at d s.point s.offset x) a b)
 
 -- one byte
 pub fed_one : (d : Dfa) (s : Stream) (b : ℕ) → fed d s (b ∷ []) ≡ next_at d s.point s.offset b
 unfolding fed
 fed_one d s b = refl
 
-pub ends_one : (d : Dfa) (s : Stream) (b : ℕ) → ends_of d s (b ∷ []) ≡ ends_at d s.point s.offset b
-unfolding ends_of
-ends_one d s b = append-nil (ends_at d s.point s.offset b)
+pub ends_one : (d : Dfa) (s : Stream) (b : ℕ) → stream_ends d s (b ∷ []) ≡ stream_ends_at d s.point s.offset b
+unfolding stream_ends
+ends_one d s b = append-nil (stream_ends_at d s.point s.offset b)
 
 pub fed_none : (d : Dfa) (s : Stream) → fed d s [] ≡ s
 unfolding fed
 fed_none d s = refl
 
-pub ends_none : (d : Dfa) (s : Stream) → ends_of d s [] ≡ []
-unfolding ends_of
+pub ends_none : (d : Dfa) (s : Stream) → stream_ends d s [] ≡ []
+unfolding stream_ends
 ends_none d s = refl
 
 -- ---- the dead state
@@ -47,7 +47,7 @@ dead_fed d i (b ∷ bs) =
     dead_fed d (i + 1) bs
     ∙ ap (λ (k : ℕ). record { point = Dead; offset = k }) (omega arith)
 
-pub dead_silent : (d : Dfa) (i : ℕ) (bs : List ℕ) → ends_of d (record { point = Dead; offset = i }) bs ≡ []
-unfolding ends_of
+pub dead_silent : (d : Dfa) (i : ℕ) (bs : List ℕ) → stream_ends d (record { point = Dead; offset = i }) bs ≡ []
+unfolding stream_ends
 dead_silent d i [] = refl
 dead_silent d i (b ∷ bs) = dead_silent d (i + 1) bs

@@ -5,7 +5,7 @@ use Rattle.lazy_dfa.specs.Caches.{CacheValue, HeldAt, Names}
 use Rattle.lazy_dfa.specs.Dfas.{Dfa, after, is_dead}
 use Rattle.streams.specs.Errors.{IsStreamError}
 use Rattle.streams.specs.Reading.{Appends, IsFull, is_failed}
-use Rattle.streams.specs.Streams.{ends_of, fed, first_of, last_ends, last_patterns, point_in}
+use Rattle.streams.specs.Streams.{stream_ends, fed, first_state_of, last_ends, last_patterns, point_in}
 use Rattle.streams.specs.declared.errors.StreamError.{StreamError}
 use Rattle.streams.specs.declared.errors.StreamError.TheVariants.{Closed as ClosedError, GaveUp, NoMemory, NoRoom, Quit, TooLong}
 use Rattle.streams.specs.declared.reading.Read.{Read}
@@ -18,30 +18,30 @@ use Rattle.streams.specs.declared.stream.StreamMatch.{StreamMatch}
 
 -- the state in which a stream reads on
 abbrev pub state_in : Dfa → Point → Option StateValue
-state_in d Fresh = Some (first_of d)
+state_in d Fresh = Some (first_state_of d)
 state_in d (Within s) = Some s
 state_in d Dead = None
 state_in d (Failed b) = None
 state_in d Closed = None
 
 -- A stream that may read on: it hasn't failed, and isn't closed.
-abbrev pub IsOpen : Point → Type 0
-IsOpen Fresh = ⊤
-IsOpen (Within s) = ⊤
-IsOpen Dead = ⊤
-IsOpen (Failed b) = ⊥
-IsOpen Closed = ⊥
+abbrev pub IsOpenPoint : Point → Type 0
+IsOpenPoint Fresh = ⊤
+IsOpenPoint (Within s) = ⊤
+IsOpenPoint Dead = ⊤
+IsOpenPoint (Failed b) = ⊥
+IsOpenPoint Closed = ⊥
 
 -- a stream that knows the state in which it begins
 abbrev pub begun_point : Dfa → Point → Point
-begun_point d Fresh = point_in (first_of d)
+begun_point d Fresh = point_in (first_state_of d)
 begun_point d (Within s) = Within s
 begun_point d Dead = Dead
 begun_point d (Failed b) = Failed b
 begun_point d Closed = Closed
 
-abbrev pub begun : Dfa → Point → ℕ → Stream
-begun d p i = record { point = begun_point d p; offset = i }
+abbrev pub begun_stream : Dfa → Point → ℕ → Stream
+begun_stream d p i = record { point = begun_point d p; offset = i }
 
 -- a stream after what was read, which is as it was if that is nothing
 abbrev pub settled : Stream → Read → Stream
@@ -79,17 +79,17 @@ IsLast d v p None = MatchOption (state_in d p) ⊤ (λ s. last_patterns d s ≡ 
 pub record IsFed (d : Dfa) (old new : Stream) (bytes : List ℕ) (rows after : List StreamMatch) (f : Fed) (r : Result ⊤ StreamError) : Type 0 where
   pub taken : f.taken ≤ length bytes
   pub stream : new ≡ fed d old (take f.taken bytes)
-  pub ends : Appends rows after 0 f.count (ends_of d old (take f.taken bytes))
+  pub ends : Appends rows after 0 f.count (stream_ends d old (take f.taken bytes))
   -- if there is no error, all were read, or the ends of the next byte have no room
   pub all : IfOk r (λ _. (f.taken ≡ length bytes) ⊎ IsFull d new bytes f.taken f.count (length rows))
   pub quiet : IfOk r (λ _. is_failed new.point ≡ false)
   pub err : IfErr r (IsStreamError d old new (length bytes))
 
 -- A stream is closed, and the ends at the end of its input are the first `count` rows. Or they have no room, and it is as it was.
-pub record IsClosed (d : Dfa) (old new : Stream) (rows after : List StreamMatch) (count : ℕ) (r : Result ⊤ StreamError) : Type 0 where
+pub record IsStreamClosed (d : Dfa) (old new : Stream) (rows after : List StreamMatch) (count : ℕ) (r : Result ⊤ StreamError) : Type 0 where
   pub stream : IfOk r (λ _. new ≡ record { point = Closed; offset = old.offset })
   pub ends : IfOk r (λ _. Appends rows after 0 count (last_ends d old))
-  pub not_closed : IfOk r (λ _. IsOpen old.point)
+  pub not_closed : IfOk r (λ _. IsOpenPoint old.point)
   pub none : IfErr r (λ e. e ≢ NoRoom → count ≡ 0)
   pub lacks : r ≡ Err NoRoom → (count ≡ length (last_ends d old)) × (length rows < count)
   pub same : IfErr r (λ _. new ≡ old)

@@ -4,7 +4,7 @@ use Rattle.determinize_core.specs.States.{StateValue}
 use Rattle.lazy_dfa.specs.Caches.{CacheValue, HeldAt}
 use Rattle.lazy_dfa.specs.ConfigValue.{clears_of}
 use Rattle.lazy_dfa.specs.Dfas.{Dfa, IsStateOf, after}
-use Rattle.streams.specs.Streams.{IsStreamOf, after_byte, ends_at, ends_before, ends_of, fed}
+use Rattle.streams.specs.Streams.{IsStreamOf, stream_after, stream_ends_at, ends_before, stream_ends, fed}
 use Rattle.streams.specs.declared.errors.StreamError.{StreamError}
 use Rattle.streams.specs.declared.errors.StreamError.TheVariants.{Quit, GaveUp, NoMemory, NoRoom, Closed, TooLong}
 use Rattle.streams.specs.declared.reading.Step.{Step}
@@ -43,18 +43,18 @@ IsStepError d GaveUp = clears_of d.options ≢ None
 IsStepError d NoMemory = ⊤
 
 -- Why reading ends at a byte in state s at offset i. If the byte wasn't read, the state is still known.
-abbrev pub IsStop : Dfa → StateValue → ℕ → ℕ → List StreamMatch → ℕ → ReadingStop → Type 0
-IsStop d s i b rows count Died = (after_byte d s i b ≡ record { point = Dead; offset = i + 1 }) × (ends_before d s i b ≡ [])
-IsStop d s i b rows count Quits = (after_byte d s i b ≡ record { point = Failed b; offset = i }) × (ends_before d s i b ≡ [])
-IsStop d s i b rows count (Full kept) = (kept ≡ s) × IsStateOf d kept × (length rows < count + length (ends_before d s i b))
-IsStop d s i b rows count (Refused kept e) = (kept ≡ s) × IsStateOf d kept × IsStepError d e
+abbrev pub IsReadingStop : Dfa → StateValue → ℕ → ℕ → List StreamMatch → ℕ → ReadingStop → Type 0
+IsReadingStop d s i b rows count Died = (stream_after d s i b ≡ record { point = Dead; offset = i + 1 }) × (ends_before d s i b ≡ [])
+IsReadingStop d s i b rows count Quits = (stream_after d s i b ≡ record { point = Failed b; offset = i }) × (ends_before d s i b ≡ [])
+IsReadingStop d s i b rows count (Full kept) = (kept ≡ s) × IsStateOf d kept × (length rows < count + length (ends_before d s i b))
+IsReadingStop d s i b rows count (Refused kept e) = (kept ≡ s) × IsStateOf d kept × IsStepError d e
 
 -- A byte was read from state s at offset i, and its ends were appended. Or the reading ends.
 abbrev pub IsStep : Dfa → CacheValue → StateValue → ℕ → ℕ → List StreamMatch → List StreamMatch → ℕ → Step → Type 0
 IsStep d v s i b old new count (To id n) =
-    HeldAt v id (after d s (Some b)) × (after_byte d s i b ≡ within (after d s (Some b)) (i + 1)) ×
+    HeldAt v id (after d s (Some b)) × (stream_after d s i b ≡ within (after d s (Some b)) (i + 1)) ×
     Appends old new count n (ends_before d s i b)
-IsStep d v s i b old new count (Stop stop) = IsStop d s i b old count stop × (new ≡ old)
+IsStep d v s i b old new count (Stop stop) = IsReadingStop d s i b old count stop × (new ≡ old)
 
 -- what was read if the reading ends at the byte after k bytes
 abbrev pub read_stopped : ℕ → List ℕ → ℕ → ℕ → ReadingStop → Read
@@ -77,7 +77,7 @@ read_stopped offset bytes k count (Refused s e) = record { stream = within s (of
 pub record IsFull (d : Dfa) (s : Stream) (bytes : List ℕ) (taken count room : ℕ) : Type 0 where
   pub byte : ℕ
   pub is : slice_get bytes taken ≡ Some byte
-  pub lacks : room < count + length (ends_at d s.point s.offset byte)
+  pub lacks : room < count + length (stream_ends_at d s.point s.offset byte)
 
 -- why fewer bytes were taken than there are, if a step failed or a byte is one at which the automaton gives up
 abbrev pub IsReadError : Dfa → Stream → StreamError → Type 0
@@ -96,11 +96,11 @@ is_failed (Failed b) = true
 is_failed ClosedPoint = false
 
 -- what was read of a piece by a stream
-pub record IsRead (d : Dfa) (s : Stream) (bytes : List ℕ) (old new : List StreamMatch) (r : Read) : Type 0 where
+pub record IsPieceRead (d : Dfa) (s : Stream) (bytes : List ℕ) (old new : List StreamMatch) (r : Read) : Type 0 where
   pub taken : r.taken ≤ length bytes
   pub stream : r.stream ≡ fed d s (take r.taken bytes)
   pub own : IsStreamOf d r.stream
-  pub ends : Appends old new 0 r.count (ends_of d s (take r.taken bytes))
+  pub ends : Appends old new 0 r.count (stream_ends d s (take r.taken bytes))
   pub all : r.error ≡ None → (r.taken ≡ length bytes) ⊎ IsFull d r.stream bytes r.taken r.count (length old)
   pub quiet : r.error ≡ None → is_failed r.stream.point ≡ false
   pub err : IfSome r.error (IsReadError d r.stream)

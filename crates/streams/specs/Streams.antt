@@ -11,12 +11,12 @@ use Rattle.streams.specs.declared.stream.Stream.{Stream}
 use Rattle.streams.specs.declared.stream.StreamMatch.{StreamMatch}
 
 -- a stream that has read nothing
-abbrev pub fresh : Stream
-fresh = record { point = Fresh; offset = 0 }
+abbrev pub fresh_stream : Stream
+fresh_stream = record { point = Fresh; offset = 0 }
 
 -- the state in which a stream begins
-abbrev pub first_of : Dfa → StateValue
-first_of d = first_state d Text d.nfa.automaton.start_unanchored
+abbrev pub first_state_of : Dfa → StateValue
+first_state_of d = first_state d Text d.nfa.automaton.start_unanchored
 
 -- ---- one byte
 
@@ -29,20 +29,20 @@ abbrev pub counts_before : Dfa → ℕ → Bool
 counts_before d b = not (reader d).between_characters || begins_character b
 
 -- an end of a match of this pattern
-abbrev pub end_at : ℕ → ℕ → StreamMatch
-end_at i p = record { pattern = p; end = i }
+abbrev pub stream_end : ℕ → ℕ → StreamMatch
+stream_end i p = record { pattern = p; end = i }
 
 -- the ends of matches of these patterns at an offset, if an end counts there
-abbrev pub ends_there : Bool → ℕ → List ℕ → List StreamMatch
-ends_there counted i patterns = if counted then map (end_at i) patterns else []
+abbrev pub counted_ends : Bool → ℕ → List ℕ → List StreamMatch
+counted_ends counted i patterns = if counted then map (stream_end i) patterns else []
 
 -- where a stream is in a state
 abbrev pub point_in : StateValue → Point
 point_in s = if is_dead s then Dead else Within s
 
 -- From a state at an offset: where a stream is after a byte. A byte at which the automaton gives up isn't counted.
-abbrev pub after_byte : Dfa → StateValue → ℕ → ℕ → Stream
-after_byte d s i b =
+abbrev pub stream_after : Dfa → StateValue → ℕ → ℕ → Stream
+stream_after d s i b =
     if is_dead s then record { point = Dead; offset = i + 1 } else
     if has d.quits b then record { point = Failed b; offset = i } else
     record { point = point_in (after d s (Some b)); offset = i + 1 }
@@ -52,21 +52,21 @@ abbrev pub ends_before : Dfa → StateValue → ℕ → ℕ → List StreamMatch
 ends_before d s i b =
     if is_dead s then [] else
     if has d.quits b then [] else
-    ends_there (counts_before d b) i (after d s (Some b)).matches
+    counted_ends (counts_before d b) i (after d s (Some b)).matches
 
 abbrev pub next_at : Dfa → Point → ℕ → ℕ → Stream
-next_at d Fresh i b = after_byte d (first_of d) i b
-next_at d (Within s) i b = after_byte d s i b
+next_at d Fresh i b = stream_after d (first_state_of d) i b
+next_at d (Within s) i b = stream_after d s i b
 next_at d Dead i b = record { point = Dead; offset = i + 1 }
 next_at d (Failed q) i b = record { point = Failed q; offset = i }
 next_at d Closed i b = record { point = Closed; offset = i }
 
-abbrev pub ends_at : Dfa → Point → ℕ → ℕ → List StreamMatch
-ends_at d Fresh i b = ends_before d (first_of d) i b
-ends_at d (Within s) i b = ends_before d s i b
-ends_at d Dead i b = []
-ends_at d (Failed q) i b = []
-ends_at d Closed i b = []
+abbrev pub stream_ends_at : Dfa → Point → ℕ → ℕ → List StreamMatch
+stream_ends_at d Fresh i b = ends_before d (first_state_of d) i b
+stream_ends_at d (Within s) i b = ends_before d s i b
+stream_ends_at d Dead i b = []
+stream_ends_at d (Failed q) i b = []
+stream_ends_at d Closed i b = []
 
 -- ---- pieces
 
@@ -76,9 +76,9 @@ fed d s [] = s
 fed d s (b ∷ bs) = fed d (next_at d s.point s.offset b) bs
 
 -- the ends that it reports for these bytes
-unfoldable pub ends_of : Dfa → Stream → List ℕ → List StreamMatch
-ends_of d s [] = []
-ends_of d s (b ∷ bs) = ends_at d s.point s.offset b ++ ends_of d (next_at d s.point s.offset b) bs
+unfoldable pub stream_ends : Dfa → Stream → List ℕ → List StreamMatch
+stream_ends d s [] = []
+stream_ends d s (b ∷ bs) = stream_ends_at d s.point s.offset b ++ stream_ends d (next_at d s.point s.offset b) bs
 
 -- ---- the end of the input
 
@@ -87,7 +87,7 @@ abbrev pub last_patterns : Dfa → StateValue → List ℕ
 last_patterns d s = if is_dead s then [] else (after d s None).matches
 
 abbrev pub last_at : Dfa → Point → List ℕ
-last_at d Fresh = last_patterns d (first_of d)
+last_at d Fresh = last_patterns d (first_state_of d)
 last_at d (Within s) = last_patterns d s
 last_at d Dead = []
 last_at d (Failed q) = []
@@ -95,7 +95,7 @@ last_at d Closed = []
 
 -- the ends that it reports when it is closed
 abbrev pub last_ends : Dfa → Stream → List StreamMatch
-last_ends d s = map (end_at s.offset) (last_at d s.point)
+last_ends d s = map (stream_end s.offset) (last_at d s.point)
 
 -- ---- streams of an automaton
 

@@ -3,9 +3,9 @@ ghost use Rattle.std.specs.Prelude.{◌≡◌, ◌+◌, ◌<◌, ◌≤◌, IfEr
 ghost use Rattle.lazy_dfa.specs.Caches.{IsCacheOf, IsRow};
 ghost use Rattle.lazy_dfa.specs.Dfas.{Dfa};
 ghost use Rattle.streams.specs.Errors.{IsStreamError};
-ghost use Rattle.streams.specs.Feeding.{IsClosed, IsEntered, IsFed, IsLast, IsLastError, IsNamed, IsOpen, begun, outcome_of, settled};
-ghost use Rattle.streams.specs.Reading.{Appends, IsRead, IsStepError};
-ghost use Rattle.streams.specs.Streams.{IsPointOf, IsStreamOf, end_at, last_at};
+ghost use Rattle.streams.specs.Feeding.{IsStreamClosed, IsEntered, IsFed, IsLast, IsLastError, IsNamed, IsOpenPoint, begun_stream, outcome_of, settled};
+ghost use Rattle.streams.specs.Reading.{Appends, IsPieceRead, IsStepError};
+ghost use Rattle.streams.specs.Streams.{IsPointOf, IsStreamOf, stream_end, last_at};
 
 use crate::errors::{StreamError, of_start, of_step};
 use crate::reading::{Read, read_piece};
@@ -86,7 +86,7 @@ fn read_open<L: Ledger, M: Ledger>(
 ) -> Result<Read, StreamError>
     requires own { IsCacheOf dfa.now cache.old }
     requires point { IsPointOf dfa.now point.now }
-    requires is_open { IsOpen point.now }
+    requires is_open { IsOpenPoint point.now }
     requires room { offset + length bytes.now ≤ 0xFFFF_FFFF_FFFF_FFFF }
     requires name1 { first.name ≡ L.name }
     requires parts1 { first.parts ≡ L.parts }
@@ -95,7 +95,7 @@ fn read_open<L: Ledger, M: Ledger>(
     requires parts2 { second.parts ≡ M.parts }
     requires some2 { 0 < second.parts }
     ensures own { IsCacheOf dfa.now cache.new }
-    ensures read { IfOk result (IsRead dfa.now (begun dfa.now point.now offset) bytes.now rows.old rows.new) }
+    ensures read { IfOk result (IsPieceRead dfa.now (begun_stream dfa.now point.now offset) bytes.now rows.old rows.new) }
     ensures err { IfErr result (IsStepError dfa.now) }
 {
     let mut work = Work::<L, M>::new(first, second);
@@ -133,7 +133,7 @@ fn outcome(error: Option<StreamError>) -> Result<(), StreamError>
 impl Stream {
     /// Why the stream takes no bytes, whatever these are.
     fn check(&self, n: usize) -> Result<(), StreamError>
-        ensures ok { IfOk result (λ _. IsOpen self.now.point × (self.now.offset + n ≤ 0xFFFF_FFFF_FFFF_FFFF)) }
+        ensures ok { IfOk result (λ _. IsOpenPoint self.now.point × (self.now.offset + n ≤ 0xFFFF_FFFF_FFFF_FFFF)) }
         ensures err { (d : Dfa) → IfErr result (IsStreamError d self.now self.now n) }
     {
         match &self.point {
@@ -266,8 +266,8 @@ fn write_last<L: Ledger, M: Ledger>(
     requires parts2 { second.parts ≡ M.parts }
     requires some2 { 0 < second.parts }
     ensures own { IsCacheOf dfa.now cache.new }
-    ensures ends { IfOk result.1 (λ _. Appends rows.old rows.new 0 result.0 (map (end_at offset) (last_at dfa.now point.now))) }
-    ensures err { IfErr result.1 (IsLastError dfa.now (map (end_at offset) (last_at dfa.now point.now)) (length rows.old) result.0) }
+    ensures ends { IfOk result.1 (λ _. Appends rows.old rows.new 0 result.0 (map (stream_end offset) (last_at dfa.now point.now))) }
+    ensures err { IfErr result.1 (IsLastError dfa.now (map (stream_end offset) (last_at dfa.now point.now)) (length rows.old) result.0) }
 {
     let mut work = Work::<L, M>::new(first, second);
     let id = match last(dfa, cache, point, &mut work) {
@@ -295,7 +295,7 @@ impl Stream {
         requires stream { IsStreamOf dfa.now self.old }
         ensures own { IsCacheOf dfa.now cache.new }
         ensures stream { IsStreamOf dfa.now self.new }
-        ensures closed { IsClosed dfa.now self.old self.new rows.old rows.new result.0 result.1 }
+        ensures closed { IsStreamClosed dfa.now self.old self.new rows.old rows.new result.0 result.1 }
     {
         match self.check(0) {
             Ok(()) => {}

@@ -3,7 +3,7 @@ ghost use Rattle.std.specs.Prelude.{◌≡◌, ◌+◌, ◌<◌, ◌≤◌, IfEr
 ghost use Rattle.determinize_core.specs.States.{StateValue};
 ghost use Rattle.lazy_dfa.specs.Caches.{HeldAt, IsCacheOf, IsRow, Leads};
 ghost use Rattle.lazy_dfa.specs.Ids.{tag};
-ghost use Rattle.streams.specs.Reading.{IsRead, IsStep, read_stopped, within};
+ghost use Rattle.streams.specs.Reading.{IsPieceRead, IsStep, read_stopped, within};
 
 use crate::errors::{StreamError, of_step};
 use crate::rows::write_counted;
@@ -166,7 +166,7 @@ pub(crate) fn read_piece<L: Ledger, M: Ledger>(
     requires room { offset + length bytes.now ≤ 0xFFFF_FFFF_FFFF_FFFF }
     ensures own { IsCacheOf dfa.now cache.new }
     ensures read { (s : StateValue) → HeldAt cache.old first s →
-        IfOk result (IsRead dfa.now (within s offset) bytes.now rows.old rows.new) }
+        IfOk result (IsPieceRead dfa.now (within s offset) bytes.now rows.old rows.new) }
     ensures length { length rows.new ≡ length rows.old }
 {
     let mut id = first;

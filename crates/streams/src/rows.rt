@@ -4,7 +4,7 @@ ghost use Rattle.determinize_core.specs.States.{StateValue};
 ghost use Rattle.lazy_dfa.specs.Caches.{HeldAt, IsCacheOf, IsRow};
 ghost use Rattle.lazy_dfa.specs.Dfas.{reader};
 ghost use Rattle.streams.specs.Reading.{Appends};
-ghost use Rattle.streams.specs.Streams.{begins_character, counts_before, end_at, ends_there};
+ghost use Rattle.streams.specs.Streams.{begins_character, counts_before, stream_end, counted_ends};
 
 use crate::stream::StreamMatch;
 use lazy_dfa::LazyStateID;
@@ -35,9 +35,9 @@ pub(crate) fn write_ends(
     requires row { IsRow cache.now id }
     requires count { count ≤ length rows.old }
     ensures fits { (s : StateValue) → HeldAt cache.now id s →
-        IfSome result (λ n. Appends rows.old rows.new count n (map (end_at end) s.matches)) }
+        IfSome result (λ n. Appends rows.old rows.new count n (map (stream_end end) s.matches)) }
     ensures full { (s : StateValue) → HeldAt cache.now id s →
-        IfNone result (length rows.old < count + length (map (end_at end) s.matches)) }
+        IfNone result (length rows.old < count + length (map (stream_end end) s.matches)) }
     ensures same { IfNone result (rows.new ≡ rows.old) }
     ensures length { length rows.new ≡ length rows.old }
 {
@@ -66,9 +66,9 @@ pub(crate) fn write_counted(
     requires row { IsRow cache.now id }
     requires count { count ≤ length rows.old }
     ensures fits { (s : StateValue) → HeldAt cache.now id s →
-        IfSome result (λ n. Appends rows.old rows.new count n (ends_there (counts_before dfa.now byte) end s.matches)) }
+        IfSome result (λ n. Appends rows.old rows.new count n (counted_ends (counts_before dfa.now byte) end s.matches)) }
     ensures full { (s : StateValue) → HeldAt cache.now id s →
-        IfNone result (length rows.old < count + length (ends_there (counts_before dfa.now byte) end s.matches)) }
+        IfNone result (length rows.old < count + length (counted_ends (counts_before dfa.now byte) end s.matches)) }
     ensures same { IfNone result (rows.new ≡ rows.old) }
     ensures length { length rows.new ≡ length rows.old }
 {

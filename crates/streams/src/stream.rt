@@ -1,7 +1,7 @@
 //! What a stream keeps between two pieces of its input.
 ghost use Rattle.std.specs.Prelude.{◌≡◌, IfOk, IfSome, None};
 ghost use Rattle.lazy_dfa.specs.Dfas.{Dfa};
-ghost use Rattle.streams.specs.Streams.{IsStreamOf, fresh};
+ghost use Rattle.streams.specs.Streams.{IsStreamOf, fresh_stream};
 ghost use Rattle.streams.specs.declared.stream.Stream.{Stream as StreamValue};
 
 use determinize_core::State;
@@ -42,7 +42,7 @@ pub struct Stream {
 impl Stream {
     /// Returns a stream that has read nothing.
     pub fn new() -> Stream
-        ensures is { result ≡ fresh }
+        ensures is { result ≡ fresh_stream }
         ensures own { (d : Dfa) → IsStreamOf d result }
     {
         Stream {
@@ -53,7 +53,7 @@ impl Stream {
 
     /// Makes it a stream that has read nothing.
     pub fn reset(&mut self)
-        ensures is { self.new ≡ fresh }
+        ensures is { self.new ≡ fresh_stream }
         ensures own { (d : Dfa) → IsStreamOf d self.new }
     {
         self.point = Point::Fresh;

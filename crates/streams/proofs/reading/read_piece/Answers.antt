@@ -1,8 +1,8 @@
 use Rattle.std.proofs.Common.{◌≡◌, ◌∙◌, ◌+◌, ◌≤◌, ℕ, Some, length, take, refl, sym, subst, arith, slice_index}
 use Rattle.lazy_dfa.specs.Caches.{state_at}
 use Rattle.lazy_dfa.specs.Dfas.{after}
-use Rattle.streams.specs.Reading.{IsAt, IsRead, IsStep, within}
-use Rattle.streams.specs.Streams.{ends_before, ends_of}
+use Rattle.streams.specs.Reading.{IsAt, IsPieceRead, IsStep, within}
+use Rattle.streams.specs.Streams.{ends_before, stream_ends}
 use Rattle.streams.specs.declared.reading.Read.{Read}
 use Rattle.streams.specs.declared.reading.Step.{Step}
 use Rattle.streams.proofs.PieceLemmas.{all_read, at_first, at_more, ends_are, none_first, one_more, quick_at, quick_ends, stop_read}
@@ -59,7 +59,7 @@ returns-in-Stop-clause-read g c = λ s h.
     let made = subst (λ (x : Step). IsStep c.args.dfa.now c.make_step.new.cache a.state (c.args.offset + c.loop-k.k)
     (slice_index c.args.bytes.now c.loop-k.k) c.loop-k.rows c.make_step.new.rows c.loop-k.count x) c.in-Stop.is
     (c.in_ok-to.ensures.step a.state a.held) in
-    subst (λ (r : Read). IsRead c.args.dfa.now (within s c.args.offset) c.args.bytes.now c.args.rows.now c.make_step.new.rows r)
+    subst (λ (r : Read). IsPieceRead c.args.dfa.now (within s c.args.offset) c.args.bytes.now c.args.rows.now c.make_step.new.rows r)
     (sym c.stopped.ensures)
     (stop_read c.args.dfa.now c.loop-k.cache s c.args.offset c.loop-k.id c.loop-k.k c.loop-k.count c.args.bytes.now c.args.rows.now c.loop-k.rows
     c.make_step.new.rows c.loop-k-test.true a i.len (i.read s h).1 made.1 i.own c.in-Stop.stop made.0)
@@ -96,8 +96,8 @@ loop-k-preserved g c =
                 (at_more c.args.dfa.now c.loop-k.cache s c.args.offset c.loop-k.id (c.args.offset + c.loop-k.k) b
                 (take c.loop-k.k c.args.bytes.now) more one a c.make_step.new.cache c.in-To.to made.0 made.1),
             appends_more c.args.rows.now c.loop-k.rows c.make_step.new.rows c.loop-k.count c.in-To.n
-                (ends_of c.args.dfa.now (within s c.args.offset) (take c.loop-k.k c.args.bytes.now))
-                (ends_before c.args.dfa.now a.state (c.args.offset + c.loop-k.k) b) (ends_of c.args.dfa.now (within s c.args.offset) more) i.len
+                (stream_ends c.args.dfa.now (within s c.args.offset) (take c.loop-k.k c.args.bytes.now))
+                (ends_before c.args.dfa.now a.state (c.args.offset + c.loop-k.k) b) (stream_ends c.args.dfa.now (within s c.args.offset) more) i.len
                 (ends_are c.args.dfa.now c.loop-k.cache s c.args.offset c.loop-k.id (c.args.offset + c.loop-k.k) b
                 (take c.loop-k.k c.args.bytes.now) more one a)
                 (i.read s h).1 made.2,
