@@ -55,5 +55,16 @@ def swept_calls(room):
     wrong = [it for it in run.stdout.splitlines() if not it.startswith("| `")]
     if run.returncode and not wrong:
         wrong.append(f"refused/library/calls.c ended with {run.returncode}")
-    lacking = set(calls_of_header()) - {it[0] for it in rows}
-    return rows, [*wrong, *(f"refused/library/calls.c has no row for {it}" for it in sorted(lacking))]
+    return rows, wrong
+
+
+def lacking_calls(rows):
+    """Returns the calls of the header for which there is no row."""
+    return sorted(set(calls_of_header()) - {it[0] for it in rows})
+
+
+def is_library_of_header():
+    """Whether the library that is found was built from these sources, so that the header is its own."""
+    if library() != f"{DIST}/libhanneddois.a":
+        return library() is not None
+    return subprocess.run(["sh", "-c", 'top=$1; . "$top/scripts/dist.sh"; is_of_sources', "sh", TOP], check=False).returncode == 0
