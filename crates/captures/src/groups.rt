@@ -101,11 +101,11 @@ impl Groups {
         ensures same { vec_len self.new.patterns ≡ vec_len self.old.patterns }
         ensures refused { (o : RegexOptions) (texts : List (List ℕ)) → AreGroupsOf o texts self.old → IfErr result (IsPrepareError o) }
     {
-        let result = self.patterns[pattern].prepare(alloc, &self.syntax, self.size_limit);
-        match result {
-            Ok(()) => Ok(()),
-            Err(error) => Err(error),
+        match self.patterns[pattern].prepare(alloc, &self.syntax, self.size_limit) {
+            Ok(()) => {}
+            Err(error) => return Err(error),
         }
+        Ok(())
     }
 
     /// The bytes that are counted for the patterns: their own, and those of what finds their groups, as
