@@ -1,5 +1,6 @@
 -- The groups of patterns, one by one.
-use Rattle.std.proofs.Common.{◌≡◌, ◌≢◌, ◌⊎◌, ⊎_elim, ℕ, zero, suc, ◌<◌, ◌≤◌, List, [], ◌∷◌, ◌++◌, length, map, drop, slice_get, slice_set, chars, Option, Some, None, IsSomeAnd, IfSome, Bor, refl, sym, ap, ◌∙◌, subst, arith, append-nil}
+use Rattle.std.proofs.Common.{◌≡◌, ◌≢◌, ◌⊎◌, ⊎_elim, ℕ, zero, suc, ◌+◌, ◌<◌, ◌≤◌, List, [], ◌∷◌, ◌++◌, length, map, drop, slice_get, slice_set, chars, Option, Some, None, IsSomeAnd, IfSome, Bor, is_some, true, refl, sym, ap, ◌∙◌, subst, arith, append-nil}
+use Rattle.std.proofs.lemmas.Bool.{cases_lt}
 use Rattle.std.proofs.lemmas.Option.{none-some, same_Some, slice_get_within}
 use Rattle.regex_syntax.specs.Grammar.{Names, read}
 use Rattle.regex_syntax.specs.Brackets.{Nested}
@@ -94,6 +95,39 @@ one_text syntax config ts ps n p e of listed =
 pub no_pattern : {A : Type 0} (config : Config) (ts : List (List ℕ)) (ps : List PatternGroups) (n : ℕ) (t : List ℕ) →
     ArePatternGroups config ts ps → length ps ≤ n → slice_get ts n ≡ Some t → A
 no_pattern config ts ps n t of above is = absurd (omega (arith, above, as_many config ts ps of, slice_get_within ts n t is))
+
+-- ---- what is prepared
+abbrev pub IsReady : List PatternGroups → ℕ → Type 0
+IsReady ps n = IfSome (slice_get ps n) (λ p. is_some p.finder ≡ true)
+
+pub ready_made : (ps : List PatternGroups) (n : ℕ) (p q : PatternGroups) → slice_get ps n ≡ Some p → is_some q.finder ≡ true →
+    IsReady (slice_set ps n q) n
+ready_made [] n p q listed made = absurd (none-some p listed)
+ready_made (r ∷ ps) zero p q listed made = made
+ready_made (r ∷ ps) (suc n) p q listed made = ready_made ps n p q listed made
+
+pub ready_kept : (ps : List PatternGroups) (n : ℕ) (p q : PatternGroups) → slice_get ps n ≡ Some p →
+    (is_some p.finder ≡ true → is_some q.finder ≡ true) → (k : ℕ) → IsReady ps k → IsReady (slice_set ps n q) k
+ready_kept [] n p q listed kept k ready = absurd (none-some p listed)
+ready_kept (r ∷ ps) zero p q listed kept zero ready = kept (subst (λ (x : PatternGroups). is_some x.finder ≡ true) (same_Some r p listed) ready)
+ready_kept (r ∷ ps) zero p q listed kept (suc k) ready = ready
+ready_kept (r ∷ ps) (suc n) p q listed kept zero ready = ready
+ready_kept (r ∷ ps) (suc n) p q listed kept (suc k) ready = ready_kept ps n p q listed kept k ready
+
+pub none_after : (ps : List PatternGroups) (n : ℕ) → length ps ≤ n → IsReady ps n
+none_after [] n above = tt
+none_after (p ∷ ps) zero above = absurd (omega (arith, above))
+none_after (p ∷ ps) (suc n) above = none_after ps n (omega (arith, above))
+
+pub all_ready : (ps : List PatternGroups) (i : ℕ) → length ps ≤ i → ((n : ℕ) → n < i → IsReady ps n) → (n : ℕ) → IsReady ps n
+all_ready ps i above ready n =
+    ⊎_elim (λ (below : n < i). ready n below) (λ (after : i ≤ n). none_after ps n (omega (arith, above, after))) (cases_lt n i)
+
+pub one_more_ready : (old new : List PatternGroups) (i : ℕ) → ((n : ℕ) → n < i → IsReady old n) →
+    ((n : ℕ) → IsReady old n → IsReady new n) → IsReady new i → (n : ℕ) → n < i + 1 → IsReady new n
+one_more_ready old new i ready kept made n below =
+    ⊎_elim (λ (before : n < i). kept n (ready n before))
+    (λ (after : i ≤ n). let here : i ≡ n = omega (arith, below, after) in subst (IsReady new) here made) (cases_lt n i)
 
 -- ---- errors
 rejected_read : {A X Y : Type 0} (kind : ErrorKind) (most : ℕ) (r : Option (Nested X × Y)) → IsSomeAnd r (λ (re, names). re.depth ≤ most) →
