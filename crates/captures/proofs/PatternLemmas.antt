@@ -14,7 +14,7 @@ use Rattle.group_finder.specs.Patterns.{IsNamedBy, IsParsedAs, IsPattern}
 use Rattle.group_finder.specs.Errors.{IsNewError, bytes_allowed}
 use Rattle.group_finder.specs.declared.errors.NewError.{NewError}
 use Rattle.group_finder.specs.declared.errors.NewError.TheVariants.{NoMemory, Syntax, TooLarge}
-use Rattle.captures.specs.Errors.{IsPrepareError}
+use Rattle.captures.specs.Errors.{IsGroupsError, IsPrepareError}
 use Rattle.captures.specs.Groups.{limit_of}
 use Rattle.captures.specs.declared.pattern_groups.PatternGroups.{PatternGroups}
 use Rattle.captures.specs.Patterns.{IsPatternGroups, ArePatternGroups}
@@ -147,6 +147,33 @@ pub prepare_error : (o : Options) (config : Config) (text : List ℕ) (limit : �
 prepare_error o config text limit NoMemory pattern is same = tt
 prepare_error o config text limit (Syntax e) pattern is same = rejected config text e.kind pattern is.0 is.1
 prepare_error o config text limit (TooLarge n) pattern is same = is.0 ∙ same
+
+pub groups_error : (config : Config) (ts : List (List ℕ)) (n : ℕ) (t : List ℕ) (e : NewError) → slice_get ts n ≡ Some t →
+    ((limit : ℕ) → IsNewError config t limit e) →
+    ((k : ℕ) (u : List ℕ) → k < n → slice_get ts k ≡ Some u → IsPattern config u) → IsGroupsError config ts e
+groups_error config ts n t NoMemory listed rejects before = tt
+groups_error config ts n t (Syntax e) listed rejects before = record {
+  number = n;
+  text = t;
+  listed = listed;
+  rejected = rejects;
+  before = before;
+}
+groups_error config ts n t (TooLarge m) listed rejects before =
+    let none : m ≡ bytes_allowed 0 = (rejects 0).0 in
+    let one : m ≡ bytes_allowed 1 = (rejects 1).0 in
+    absurd (omega (arith, none, one))
+
+-- one more of them is a pattern
+pub one_more_read : (config : Config) (ts : List (List ℕ)) (n : ℕ) (t : List ℕ) → slice_get ts n ≡ Some t → IsPattern config t →
+    ((k : ℕ) (u : List ℕ) → k < n → slice_get ts k ≡ Some u → IsPattern config u) →
+    (k : ℕ) (u : List ℕ) → k < n + 1 → slice_get ts k ≡ Some u → IsPattern config u
+one_more_read config ts n t listed pattern before k u below is =
+    ⊎_elim (λ (earlier : k < n). before k u earlier is)
+    (λ (later : n ≤ k).
+    let here : n ≡ k = omega (arith, below, later) in
+    subst (IsPattern config) (same_Some t u (sym listed ∙ ap (slice_get ts) here ∙ is)) pattern)
+    (cases_lt k n)
 
 -- ---- names
 same_read : {A : Type 0} (a b : Names) (r : Option (A × Names)) → IsSomeAnd r (λ (x, found). a ≡ found) →
