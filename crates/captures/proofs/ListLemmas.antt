@@ -1,5 +1,5 @@
 -- All matches with their slots, one after the other.
-use Rattle.std.proofs.Common.{◌≡◌, ℕ, zero, suc, ◌+◌, ◌-◌, ◌<◌, ◌≤◌, ◌⊎◌, ◌==◌, Bool, true, false, List, [], ◌∷◌, ◌++◌, All, length, map, take, replicate, Option, Some, None, option_map, if◌then◌else◌, inl, inr, refl, sym, ap, ◌∙◌, subst, arith, append_assoc, append-nil, length-append}
+use Rattle.std.proofs.Common.{◌≡◌, ℕ, zero, suc, ◌+◌, ◌-◌, ◌<◌, ◌≤◌, ◌==◌, Bool, true, false, List, [], ◌∷◌, ◌++◌, All, length, map, take, replicate, Option, Some, None, option_map, if◌then◌else◌, inl, refl, sym, ap, ◌∙◌, subst, arith, append_assoc, append-nil, length-append}
 use Rattle.std.proofs.lemmas.List.{length-map}
 use Rattle.std.proofs.lemmas.Option.{none-some}
 use Rattle.regex_hir.specs.Re.{Re, accept, attempt}
@@ -11,10 +11,10 @@ use Rattle.pattern_search.specs.Searches.{all_found, found_from, span_of_match, 
 use Rattle.pattern_search.specs.Texts.{AreReadAs}
 use Rattle.pattern_search.proofs.ForCallers.{all_from_start}
 use Rattle.meta_regex.specs.declared.found_match.FoundMatch.{FoundMatch}
-use Rattle.meta_regex.specs.Regexes.{AreFirstOfAll, HasFoundSpan, IsNext, as_found, overlaid, span_of_row}
+use Rattle.meta_regex.specs.Regexes.{AreFirstOfAll, HasFoundSpan, as_found, overlaid, span_of_row}
 use Rattle.meta_regex.proofs.ForCallers.{IsListedSoFar, none_laid}
 use Rattle.group_finder.specs.Slots.{no_offset, slots_of}
-use Rattle.captures.specs.Captures.{AreCaptured, AreFirstCaptured, rows_of}
+use Rattle.captures.specs.Captures.{AreFirstCaptured, rows_of}
 use Rattle.captures.specs.Rows.{AreFilled}
 use Rattle.captures.proofs.FoundLemmas.{found_there, spanned}
 use Rattle.captures.proofs.RowLemmas.{all_laid, map_laid, rows_more, take_taken}

@@ -1,9 +1,10 @@
 -- Slots that are filled row by row.
-use Rattle.std.proofs.Common.{◌≡◌, ℕ, zero, suc, ◌+◌, ◌-◌, ◌≤◌, List, [], ◌∷◌, ◌++◌, All, length, map, take, drop, min, replicate, refl, sym, ap, ◌∙◌, subst, arith, append_assoc, append-nil, length-append}
+use Rattle.std.proofs.Common.{◌≡◌, ℕ, zero, suc, ◌+◌, ◌-◌, ◌<◌, ◌≤◌, List, [], ◌∷◌, ◌++◌, All, length, map, take, drop, min, replicate, refl, sym, ap, ◌∙◌, subst, arith, append_assoc, append-nil, length-append}
 use Rattle.std.proofs.lemmas.List.{take-append-drop, take_at}
 use Rattle.std.proofs.lemmas.List.Elements.{All-nil, All-cons, All-head, All-tail}
-use Rattle.std.specs.List.{flat_map, range_with_len}
+use Rattle.std.specs.List.{range_with_len}
 use Rattle.regex_hir.specs.Find.{Match}
+use Rattle.pattern_search.specs.Searches.{span_of_match}
 use Rattle.meta_regex.specs.Regexes.{overlaid}
 use Rattle.group_finder.specs.Slots.{slot_value, slots_of}
 use Rattle.captures.specs.Captures.{rows_of}
@@ -35,6 +36,21 @@ take_alike x (suc room) (suc width) fits = ap (λ (ys : List ℕ). x ∷ ys) (ta
 pub length_alike : (x n : ℕ) → length (replicate n x) ≡ n
 length_alike x zero = refl
 length_alike x (suc n) = ap suc (length_alike x n)
+
+-- ---- a match whose span is all that is wanted
+pub slot_of_start : (m : Match) (start n : ℕ) → m.start ≡ start → n < 2 → replicate n start ≡ slots_of m n
+unfolding slots_of
+slot_of_start m start zero same few = refl
+slot_of_start m start (suc zero) same few = ap (λ (i : ℕ). i ∷ []) (sym same)
+slot_of_start m start (suc (suc n)) same few = absurd (omega (arith, few))
+
+two_slots : (m : Match) → slots_of m 2 ≡ m.start ∷ m.trace.end ∷ []
+unfolding slots_of
+two_slots m = refl
+
+pub slots_of_span : (m : Match) (start end n : ℕ) → span_of_match m ≡ (start, end) → n ≡ 2 → start ∷ end ∷ [] ≡ slots_of m n
+slots_of_span m start end n span two =
+    ap (λ (s : ℕ × ℕ). s.0 ∷ s.1 ∷ []) (sym span) ∙ sym (two_slots m) ∙ ap (slots_of m) (sym two)
 
 -- ---- a row after those that are filled
 lay_first : (xs old : List ℕ) (room : ℕ) → room ≡ min (length xs) (length old) → take room xs ++ drop room old ≡ overlaid xs old

@@ -1,4 +1,4 @@
-use Rattle.std.proofs.Common.{◌≡◌, ap, arith, slice_get, sym, Some, ◌∙◌}
+use Rattle.std.proofs.Common.{ap, sym, Some, ◌∙◌}
 use Rattle.std.proofs.lemmas.Option.{slice_get-get_or}
 use Rattle.captures.proofs.PatternLemmas.{one_changed, one_text, prepare_error, ready_kept, ready_made}
 use Rattle.captures.proofs.groups.Groups.prepare_one.Goals as goal

@@ -1,4 +1,4 @@
-use Rattle.std.proofs.Common.{ℕ, List, ◌++◌, arith, ap, ap₂, drop, length, replicate, subst, sym, ◌∙◌}
+use Rattle.std.proofs.Common.{ℕ, List, ◌++◌, arith, ap, ap₂, drop, replicate, subst, sym, ◌∙◌}
 use Rattle.std.proofs.lemmas.List.{take-append-drop}
 use Rattle.group_finder.specs.Slots.{no_offset, slots_of}
 use Rattle.captures.specs.Rows.{AreFilled}
