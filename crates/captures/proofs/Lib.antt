@@ -1,2 +1,4 @@
 pub mod PatternLemmas
 pub mod FoundLemmas
+pub mod RowLemmas
+pub mod ListLemmas
