@@ -1,14 +1,15 @@
 -- What pieces write, and which groups they read.
-use Rattle.std.proofs.Common.{◌≡◌, ℕ, ◌+◌, ◌*◌, ◌≤◌, ◌==◌, ◌||◌, ◌≢◌, if◌then◌else◌, ne_eqb, Bool, true, false, List, [], ◌∷◌, ◌++◌, Option, Some, None, drop, length, slice_range, refl, sym, ap, ◌∙◌, append_assoc, append-nil}
+use Rattle.std.proofs.Common.{IfSome, arith, ap₂, ◌≡◌, ℕ, ◌+◌, ◌*◌, ◌≤◌, ◌==◌, ◌||◌, ◌≢◌, if◌then◌else◌, ne_eqb, Bool, true, false, List, [], ◌∷◌, ◌++◌, Option, Some, None, drop, length, slice_range, refl, sym, ap, ◌∙◌, append_assoc, append-nil}
 use Rattle.std.proofs.lemmas.Grind.{flat_map-append}
 use Rattle.std.proofs.lemmas.List.{drop_all, get_or_past}
 use Rattle.regex_syntax.specs.Grammar.{Names}
 use Rattle.regex.specs.Templates.{written_after}
 use Rattle.group_finder.specs.Slots.{no_offset}
 use Rattle.templates.specs.declared.template.Piece.{Piece}
+use Rattle.templates.specs.declared.template.Piece.TheVariants.{Literal, Group}
 use Rattle.regex.specs.Replace.{bytes_of}
 use Rattle.templates.specs.Slots.{slot_in, span_in, group_in}
-use Rattle.templates.specs.Expansion.{piece_text, pieces_text, text_or_none}
+use Rattle.templates.specs.Expansion.{piece_text, pieces_text, text_or_none, greater, greatest_group}
 use Rattle.templates.specs.Reading.{IsStep, AreReadFrom}
 
 -- ---- pieces that are read
@@ -74,3 +75,19 @@ both_slots h slots n first second =
     let a : (slot_in slots (2 * n) == no_offset) ≡ false = ne_eqb _ no_offset first in
     let b : (slot_in slots (2 * n + 1) == no_offset) ≡ false = ne_eqb _ no_offset second in
     rw (span_in, a, b) refl
+
+-- ---- groups that pieces read
+module _ (a b : ℕ → List ℕ) where
+  abbrev AgreeUpTo : Option ℕ → Type 0
+  AgreeUpTo o = IfSome o (λ k. (n : ℕ) → n ≤ k → a n ≡ b n)
+
+  agree_below : (o : Option ℕ) (n : ℕ) → AgreeUpTo (greater o n) → (a n ≡ b n) × AgreeUpTo o
+  agree_below None n h = (h n (omega arith), tt)
+  agree_below (Some k) n h = (h n (omega arith), λ j le. h j (omega (arith, le)))
+
+  pub same_texts : (pieces : List Piece) → AgreeUpTo (greatest_group pieces) → pieces_text a pieces ≡ pieces_text b pieces
+  same_texts [] h = refl
+  same_texts (Literal bytes ∷ pieces) h = ap (λ xs. bytes.items ++ xs) (same_texts pieces h)
+  same_texts (Group n ∷ pieces) h =
+      let parts = agree_below (greatest_group pieces) n h in
+      ap₂ ◌++◌ parts.0 (same_texts pieces parts.1)

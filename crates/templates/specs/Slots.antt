@@ -1,9 +1,9 @@
--- The texts of groups whose offsets are in slots.
+-- What groups matched, if their offsets are in slots.
 use Rattle.std.specs.Prelude.{ℕ, ◌+◌, ◌*◌, ◌==◌, ◌||◌, List, Option, Some, None, slice_index_or, if◌then◌else◌}
 use Rattle.regex.specs.Replace.{bytes_of}
 use Rattle.group_finder.specs.Slots.{no_offset}
 
--- What the slot with this number holds. A slot that a row lacks holds no offset.
+-- What the slot with this number holds. A slot after the last one of a row holds no offset.
 abbrev pub slot_in : List ℕ → ℕ → ℕ
 slot_in slots k = slice_index_or slots k no_offset
 

@@ -1,4 +1,4 @@
-//! Reads replacement texts.
+//! Reads replacement templates.
 ghost use Rattle.std.specs.Prelude.{◌≡◌, ◌≢◌, ◌+◌, ◌<◌, ◌≤◌, ◌==◌, ℕ, List, IfSome, drop, length, not, option_map, slice_index};
 ghost use Rattle.std.specs.List.{prefix_len};
 ghost use Rattle.regex.specs.Templates.{group_called, is_name_byte, name_at};

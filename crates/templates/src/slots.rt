@@ -1,4 +1,4 @@
-//! The texts of groups whose offsets are in slots.
+//! What groups matched, if their offsets are in slots.
 ghost use Rattle.std.specs.Prelude.{◌≡◌, slice_range};
 ghost use Rattle.templates.specs.Slots.{group_in};
 

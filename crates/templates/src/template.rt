@@ -1,5 +1,5 @@
 //! Templates, which write what they stand for at a match.
-ghost use Rattle.std.specs.Prelude.{◌≡◌, ◌++◌, ◌∷◌, [], ℕ, List, IfOk, OnOk, OnErr, length, take};
+ghost use Rattle.std.specs.Prelude.{◌≡◌, ◌≤◌, ◌++◌, ◌∷◌, [], ℕ, List, IfOk, IfSome, OnOk, OnErr, length, take};
 ghost use Rattle.templates.specs.Expansion.{IsLiteral, IsReadFrom, greatest_group, piece_text, pieces_text, template_text, text_or_none};
 ghost use Rattle.templates.specs.Reading.{AreReadFrom};
 ghost use Rattle.templates.specs.Slots.{group_in};
@@ -127,10 +127,12 @@ impl Template {
 }
 
 impl Template {
-    /// The greatest number of a group that the template writes, or None if it writes none. A row of slots has to have room for this group,
-    /// or for all groups of the pattern.
+    /// The greatest number of a group that the template writes, or None if it writes none. What it writes depends on groups up
+    /// to this one alone, so a row of slots needs room for no more groups.
     pub fn greatest_group(&self) -> Option<usize>
-        ensures { result ≡ greatest_group self.now.pieces.items }
+        ensures greatest { result ≡ greatest_group self.now.pieces.items }
+        ensures enough { (a b : ℕ → List ℕ) → IfSome result (λ k. (n : ℕ) → n ≤ k → a n ≡ b n) →
+            template_text a self.now ≡ template_text b self.now }
     {
         let mut greatest = None;
         for i in (0..self.pieces.len()).rev() {
