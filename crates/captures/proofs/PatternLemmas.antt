@@ -1,10 +1,20 @@
 -- The groups of patterns, one by one.
-use Rattle.std.proofs.Common.{◌≡◌, ℕ, zero, suc, ◌<◌, ◌≤◌, List, [], ◌∷◌, ◌++◌, length, map, drop, slice_get, slice_set, chars, Option, Some, None, IsSomeAnd, Bor, refl, sym, ap, ◌∙◌, subst, arith, append-nil}
+use Rattle.std.proofs.Common.{◌≡◌, ◌≢◌, ◌⊎◌, ⊎_elim, ℕ, zero, suc, ◌<◌, ◌≤◌, List, [], ◌∷◌, ◌++◌, length, map, drop, slice_get, slice_set, chars, Option, Some, None, IsSomeAnd, IfSome, Bor, refl, sym, ap, ◌∙◌, subst, arith, append-nil}
 use Rattle.std.proofs.lemmas.Option.{none-some, same_Some, slice_get_within}
 use Rattle.regex_syntax.specs.Grammar.{Names, read}
+use Rattle.regex_syntax.specs.Brackets.{Nested}
+use Rattle.regex_syntax.specs.Verdict.{Refuses}
 use Rattle.regex_syntax.specs.declared.Config.{Config}
+use Rattle.regex_syntax.specs.declared.error.ErrorKind.{ErrorKind}
+use Rattle.regex_syntax.specs.declared.error.ErrorKind.TheVariants.{OutOfMemory, NestLimitExceeded}
 use Rattle.regex_hir.specs.Re.{Re}
-use Rattle.group_finder.specs.Patterns.{IsNamedBy, IsParsedAs}
+use Rattle.meta_regex.specs.declared.options.Options.{Options}
+use Rattle.group_finder.specs.Patterns.{IsNamedBy, IsParsedAs, IsPattern}
+use Rattle.group_finder.specs.Errors.{IsNewError, bytes_allowed}
+use Rattle.group_finder.specs.declared.errors.NewError.{NewError}
+use Rattle.group_finder.specs.declared.errors.NewError.TheVariants.{NoMemory, Syntax, TooLarge}
+use Rattle.captures.specs.Errors.{IsPrepareError}
+use Rattle.captures.specs.Groups.{limit_of}
 use Rattle.captures.specs.declared.pattern_groups.PatternGroups.{PatternGroups}
 use Rattle.captures.specs.Patterns.{IsPatternGroups, ArePatternGroups}
 
@@ -66,9 +76,43 @@ one_changed syntax config ts ps n p q e of listed kept =
     groups_changed config ts ps n p q of listed
     (subst (λ (c : Config). (t : List ℕ) → IsPatternGroups c t p → IsPatternGroups c t q) e kept)
 
+-- the pattern of groups with a number
+text_at_number : (config : Config) (ts : List (List ℕ)) (ps : List PatternGroups) (n : ℕ) (p : PatternGroups) →
+    ArePatternGroups config ts ps → slice_get ps n ≡ Some p → (t : List ℕ) × IsPatternGroups config t p
+text_at_number config [] [] n p of listed = absurd (none-some p listed)
+text_at_number config [] (q ∷ ps) n p of listed = absurd of
+text_at_number config (u ∷ ts) [] n p of listed = absurd of
+text_at_number config (u ∷ ts) (q ∷ ps) zero p of listed = (u, subst (IsPatternGroups config u) (same_Some q p listed) of.0)
+text_at_number config (u ∷ ts) (q ∷ ps) (suc n) p of listed = text_at_number config ts ps n p of.1 listed
+
+pub one_text : (syntax config : Config) (ts : List (List ℕ)) (ps : List PatternGroups) (n : ℕ) (p : PatternGroups) → syntax ≡ config →
+    ArePatternGroups config ts ps → slice_get ps n ≡ Some p → (t : List ℕ) × IsPatternGroups syntax t p
+one_text syntax config ts ps n p e of listed =
+    let it = text_at_number config ts ps n p of listed in
+    (it.0, subst (λ c. IsPatternGroups c it.0 p) (sym e) it.1)
+
 pub no_pattern : {A : Type 0} (config : Config) (ts : List (List ℕ)) (ps : List PatternGroups) (n : ℕ) (t : List ℕ) →
     ArePatternGroups config ts ps → length ps ≤ n → slice_get ts n ≡ Some t → A
 no_pattern config ts ps n t of above is = absurd (omega (arith, above, as_many config ts ps of, slice_get_within ts n t is))
+
+-- ---- errors
+rejected_read : {A X Y : Type 0} (kind : ErrorKind) (most : ℕ) (r : Option (Nested X × Y)) → IsSomeAnd r (λ (re, names). re.depth ≤ most) →
+    ((kind ≡ OutOfMemory) ⊎ ((r ≡ None) ⊎ ((kind ≡ NestLimitExceeded) × IfSome r (λ (re, _). most < re.depth)))) → kind ≢ OutOfMemory → A
+rejected_read kind most None pattern refuses more = absurd pattern
+rejected_read kind most (Some (re, names)) pattern refuses more =
+    ⊎_elim (λ out. absurd (more out))
+    (⊎_elim (λ none. absurd (none-some (re, names) (sym none))) (λ deep. absurd (omega (arith, deep.1, pattern)))) refuses
+
+rejected : {A : Type 0} (config : Config) (text : List ℕ) (kind : ErrorKind) → IsPattern config text → Refuses config text kind →
+    kind ≢ OutOfMemory → A
+unfolding Refuses
+rejected config text kind pattern refuses more = rejected_read kind config.nest_limit (read config (chars text)) pattern refuses more
+
+pub prepare_error : (o : Options) (config : Config) (text : List ℕ) (limit : ℕ) (e : NewError) → IsPattern config text →
+    IsNewError config text limit e → bytes_allowed limit ≡ limit_of o → IsPrepareError o e
+prepare_error o config text limit NoMemory pattern is same = tt
+prepare_error o config text limit (Syntax e) pattern is same = rejected config text e.kind pattern is.0 is.1
+prepare_error o config text limit (TooLarge n) pattern is same = is.0 ∙ same
 
 -- ---- names
 same_read : {A : Type 0} (a b : Names) (r : Option (A × Names)) → IsSomeAnd r (λ (x, found). a ≡ found) →

@@ -7,6 +7,7 @@
 mod captures;
 mod errors;
 mod groups;
+mod list;
 mod pattern_groups;
 
 pub use errors::CapturesError;

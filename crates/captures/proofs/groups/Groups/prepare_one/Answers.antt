@@ -3,12 +3,13 @@ use Rattle.std.proofs.lemmas.Option.{slice_get-get_or}
 use Rattle.captures.proofs.PatternLemmas.{one_changed}
 use Rattle.captures.proofs.groups.Groups.prepare_one.Goals as goal
 
-pub returns : goal.returns
-returns c = λ config texts of. record {
+pub returns-clause-own : goal.returns-clause-own
+returns-clause-own c = λ o texts of. record {
   config_is = of.config_is;
-  patterns = one_changed c.args.self.now.syntax config texts c.args.self.now.patterns.items c.args.pattern c.index_mut.result.now
+  limit_is = of.limit_is;
+  patterns = one_changed c.args.self.now.syntax o.syntax texts c.args.self.now.patterns.items c.args.pattern c.index_mut.result.now
       c.prepare.new.self of.config_is of.patterns
-      (slice_get-get_or c.args.self.now.patterns.items c.args.pattern c.index_mut.result.now (omega (arith, c.if-pattern-len.false, c.len.ensures))
+      (slice_get-get_or c.args.self.now.patterns.items c.args.pattern c.index_mut.result.now (omega (arith, c.requires, c.len.ensures))
       ∙ ap Some (sym c.index_mut.ensures.value))
       c.prepare.ensures.own;
 }
