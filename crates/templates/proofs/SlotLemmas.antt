@@ -1,10 +1,9 @@
 -- The text of a group by the slots of a match is the text that the match gives it.
-use Rattle.std.proofs.Common.{◌≡◌, ℕ, zero, suc, ◌+◌, ◌*◌, ◌^◌, ◌<◌, ◌≤◌, All, List, [], ◌∷◌, length, Some, None, slice_range, refl, sym, ap, ap₂, ◌∙◌, subst, ⊎_elim, arith, ne_eqb}
-use Rattle.std.proofs.lemmas.Bool.{cond-false}
-use Rattle.std.proofs.lemmas.List.Elements.{All-head, All-tail, All-weaker}
+use Rattle.std.proofs.Common.{max, Option, chars, ◌⊎◌, IsSomeAnd, ◌≡◌, ℕ, zero, suc, ◌+◌, ◌*◌, ◌^◌, ◌<◌, ◌≤◌, All, List, length, Some, None, slice_range, sym, ap, ap₂, ◌∙◌, subst, ⊎_elim, arith, ne_eqb}
+use Rattle.std.proofs.lemmas.Bool.{cases_lt, cond-false}
+use Rattle.std.proofs.lemmas.List.Elements.{All-weaker}
 use Rattle.std.proofs.lemmas.List.FromFn.{get_or-map-range_with_len, length-map-range_with_len}
 use Rattle.std.proofs.lemmas.Option.{same_Some}
-use Rattle.std.specs.Option.{option_or}
 use Rattle.regex_hir.specs.Re.{Re, Trace, accept, attempt}
 use Rattle.regex_hir.specs.Find.{Match, last_write, slot_of}
 use Rattle.regex_hir.specs.Matches.{Matches}
@@ -14,8 +13,15 @@ use Rattle.regex_vm.specs.Found.{span}
 use Rattle.regex.specs.Writes.{both, group_of}
 use Rattle.regex.specs.Replace.{bytes_of, group_bytes}
 use Rattle.regex.proofs.WritesLemmas.{last_write_has, writes_are_tidy}
+use Rattle.regex_syntax.specs.Brackets.{Nested}
+use Rattle.regex_syntax.specs.Grammar.{Names, group_count, names_below, read}
+use Rattle.regex_syntax.specs.declared.Config.{Config}
+use Rattle.regex_syntax.proofs.Always.{Always, walk}
+use Rattle.regex_syntax.proofs.GroupLemmas.{length-names_below}
+use Rattle.group_finder.specs.Patterns.{IsParsedAs}
+use Rattle.templates.specs.Expansion.{names_in, names_of_read}
 use Rattle.group_finder.specs.Slots.{no_offset, offset_or_none, slot_value, slots_of}
-use Rattle.group_finder.proofs.ForCallers.{slot_after_ends}
+use Rattle.group_finder.proofs.ForCallers.{never_written, slot_after_ends, writes_within}
 use Rattle.templates.specs.Slots.{slot_in, group_in}
 use Rattle.templates.proofs.TextLemmas.{both_slots, no_slots, no_start}
 
@@ -52,12 +58,6 @@ by_writes : (h : List ℕ) (m : Match) (n : ℕ) → 1 ≤ n → group_bytes h m
 by_writes h m n high =
     ap (bytes_of h) (cond-false _ (Some (span m)) (group_of m n) (ne_eqb n 0 (omega arith))
     ∙ ap₂ both (slot_is_last m (2 * n) (omega (arith, high))) (slot_is_last m (2 * n + 1) (omega (arith, high))))
-
-never_written : (ws : List (ℕ × ℕ)) (slot : ℕ) → All (λ (w : ℕ × ℕ). w.0 < slot) ws → last_write ws slot ≡ None
-never_written [] slot all = refl
-never_written (w ∷ ws) slot all =
-    ap₂ option_or (never_written ws slot (All-tail (λ (v : ℕ × ℕ). v.0 < slot) w ws all))
-    (cond-false _ (Some w.1) None (ne_eqb w.0 slot (omega (arith, All-head (λ (v : ℕ × ℕ). v.0 < slot) w ws all))))
 
 module _ (h : List ℕ) (re : Re) (m : Match) (w : ℕ) (there : attempt h re accept m.start ≡ Some m.trace) (inside : m.start ≤ length h)
     (short : length h < 2 ^ 63) where
@@ -112,3 +112,50 @@ module _ (h : List ℕ) (re : Re) (m : Match) (w : ℕ) (there : attempt h re ac
     where
       weaker : All (λ (x : ℕ × ℕ). x.0 < 2 * count) m.trace.writes → All (λ (x : ℕ × ℕ). x.0 < 2 * n) m.trace.writes
       weaker below = All-weaker (λ (x : ℕ × ℕ). x.0 < 2 * count) (λ (x : ℕ × ℕ). x.0 < 2 * n) (λ x lt. omega (arith, lt, past)) m.trace.writes below
+
+-- ---- the groups of a pattern
+record IsCounted (found : Nested Re × Names) : Type 0 where
+  few : group_count found.0.value ≤ length found.1
+  some : 1 ≤ length found.1
+
+counted_below : (re : Re) (names : Names) → (group_count re ≤ length (names_below re names (max 1 (group_count re))))
+    × (1 ≤ length (names_below re names (max 1 (group_count re))))
+counted_below re names =
+    let all = length-names_below re names (max 1 (group_count re)) in
+    (omega (arith, all), omega (arith, all))
+
+both_counted : (nested : Nested Re) (names : Names) → IsCounted (nested, names_below nested.value names (max 1 (group_count nested.value)))
+both_counted nested names =
+    let c = counted_below nested.value names in
+    record { few = c.0; some = c.1 }
+
+read_counted : (config : Config) (t : List ℕ) → Always IsCounted (read config t)
+unfolding read
+read_counted config t = search (walk, both_counted) depth 12
+
+counted_as : (r : Option (Nested Re × Names)) (a : Re) (P : Nested Re × Names → Type 0) → Always IsCounted r →
+    IsSomeAnd r (λ (re, names). P (re, names) × (re.value ≡ a)) →
+    (group_count a ≤ length (names_of_read r)) × (1 ≤ length (names_of_read r))
+counted_as None a P c parsed = absurd parsed
+counted_as (Some found) a P c parsed =
+    let it = c.holds in
+    (subst (λ (re : Re). group_count re ≤ length found.1) parsed.1 it.few, it.some)
+
+groups_counted : (config : Config) (text : List ℕ) (a : Re) → IsParsedAs config text a →
+    (group_count a ≤ length (names_in config text)) × (1 ≤ length (names_in config text))
+groups_counted config text a parsed =
+    counted_as (read config (chars text)) a (λ found. found.0.depth ≤ config.nest_limit) (read_counted config (chars text)) parsed
+
+-- The text of a group of a match of a pattern, by slots for some groups: either there are slots for this group, or the pattern doesn't have it.
+pub group_text_of : (config : Config) (text : List ℕ) (a : Re) → IsParsedAs config text a → (h : List ℕ) (m : Match) (groups n : ℕ) →
+    attempt h a accept m.start ≡ Some m.trace → m.start ≤ length h → length h < 2 ^ 63 →
+    (n < groups) ⊎ (length (names_in config text) ≤ n) → group_in h (slots_of m (2 * groups)) n ≡ group_bytes h m n
+group_text_of config text a parsed h m groups n there inside short reads =
+    let c = groups_counted config text a parsed in
+    ⊎_elim
+    (λ (below : n < groups). group_text_in h a m (2 * groups) there inside short n (omega (arith, below)))
+    (λ (above : groups ≤ n).
+    let past : length (names_in config text) ≤ n = ⊎_elim (λ (lt : n < groups). absurd (omega (arith, lt, above))) (λ le. le) reads in
+    no_group_text h a m (2 * groups) there inside short n (length (names_in config text)) c.1 past (omega (arith, above))
+    (writes_within h a (length (names_in config text)) c.0 m.start m.trace there))
+    (cases_lt n groups)

@@ -1,10 +1,21 @@
 -- What a template writes.
-use Rattle.std.specs.Prelude.{◌≡◌, ℕ, [], ◌∷◌, List, Option, Some, None, flat_map, max}
-use Rattle.regex_syntax.specs.Grammar.{Names}
+use Rattle.std.specs.Prelude.{◌≡◌, ℕ, [], ◌∷◌, List, Option, Some, None, chars, flat_map, max}
+use Rattle.regex_hir.specs.Re.{Re}
+use Rattle.regex_syntax.specs.Brackets.{Nested}
+use Rattle.regex_syntax.specs.Grammar.{Names, read}
+use Rattle.regex_syntax.specs.declared.Config.{Config}
 use Rattle.regex.specs.Templates.{written_after}
 use Rattle.templates.specs.declared.template.Piece.{Piece}
 use Rattle.templates.specs.declared.template.Piece.TheVariants.{Literal, Group}
 use Rattle.templates.specs.declared.template.Template.{Template}
+
+abbrev pub names_of_read : Option (Nested Re × Names) → Names
+names_of_read None = []
+names_of_read (Some found) = found.1
+
+-- The names of the groups that the grammar reads in a pattern, parsed under these options. There are none in what is no pattern.
+abbrev pub names_in : Config → List ℕ → Names
+names_in config text = names_of_read (read config (chars text))
 
 -- What a piece writes if each group has the text that `group_text` gives for its number.
 abbrev pub piece_text : (ℕ → List ℕ) → Piece → List ℕ

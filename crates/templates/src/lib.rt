@@ -8,5 +8,5 @@ mod reading;
 mod slots;
 mod template;
 
-pub use slots::group_in;
+pub use slots::{bytes_between, group_in};
 pub use template::Template;

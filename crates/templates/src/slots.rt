@@ -6,7 +6,7 @@ use group_finder::NO_OFFSET;
 
 /// The bytes from one offset to another. There are none after the end of the haystack, and none if the offsets are in the wrong order.
 #[inline]
-fn range(haystack: &[u8], start: usize, end: usize) -> &[u8]
+pub fn bytes_between(haystack: &[u8], start: usize, end: usize) -> &[u8]
     ensures { result.now ≡ slice_range haystack.now start end }
 {
     let end = end.min(haystack.len());
@@ -34,5 +34,5 @@ pub fn group_in<'a>(haystack: &'a [u8], slots: &[usize], group: usize) -> &'a [u
     if end == NO_OFFSET {
         return &[];
     }
-    range(haystack, start, end)
+    bytes_between(haystack, start, end)
 }

@@ -22,6 +22,6 @@ pub returns : goal.returns
 returns c =
     let first = get_or_default_zero c.args.slots.now (2 * c.args.group) no_offset (omega arith) in
     let last = get_or_default_zero c.args.slots.now (2 * c.args.group + 1) no_offset (omega arith) in
-    c.range.ensures
+    c.bytes_between.ensures
     ∙ ap₂ (λ i j. slice_range c.args.haystack.now i j) (sym first) (sym last)
     ∙ sym (both_slots c.args.haystack.now c.args.slots.now c.args.group (λ e. c.if-start.false (sym first ∙ e)) (λ e. c.if-end.false (sym last ∙ e)))
