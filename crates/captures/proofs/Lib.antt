@@ -1,2 +1,5 @@
 pub mod PatternLemmas
 pub mod FoundLemmas
+pub mod ReplaceLemmas
+pub mod SplitLemmas
+pub mod TemplateLemmas
