@@ -34,11 +34,11 @@ some_gap len at (m ∷ ms) = omega arith
 
 -- ---- so many pieces
 -- these pieces are in the rows, and with those that follow they are all
-record IsSplitFrom (find : ℕ → Option Match) (len total count : ℕ) (last : Option ℕ) (old rows : List (ℕ × ℕ)) : Type 0 where
-  done : List (ℕ × ℕ)
-  counted : count ≡ length done
-  laid : rows ≡ overlaid done old
-  all : done ++ gaps len (unwrap_or last 0) (matches_from find (total - count) (comes find last))
+pub record IsSplitFrom (find : ℕ → Option Match) (len total count : ℕ) (last : Option ℕ) (old rows : List (ℕ × ℕ)) : Type 0 where
+  pub done : List (ℕ × ℕ)
+  pub counted : count ≡ length done
+  pub laid : rows ≡ overlaid done old
+  pub all : done ++ gaps len (unwrap_or last 0) (matches_from find (total - count) (comes find last))
       ≡ gaps len 0 (matches_from find total (find 0))
 
 module _ (find : ℕ → Option Match) (len total : ℕ) (old : List (ℕ × ℕ)) where
@@ -85,7 +85,7 @@ module _ (find : ℕ → Option Match) (len total : ℕ) (old : List (ℕ × ℕ
       let rest = gaps len (unwrap_or last 0) (matches_from find (total - count) (comes find last)) in
       let some = some_gap len (unwrap_or last 0) (matches_from find (total - count) (comes find last)) in
       let front : take count (gaps len 0 (matches_from find total (find 0))) ≡ so.done =
-      ap (take count) (sym so.all) ∙ take_at so.done rest count so.counted in
+      ap (take count) (sym so.all) ∙ take_at so.done rest count (sym so.counted) in
       (so.laid ∙ ap (λ ps. overlaid ps old) (sym front),
       omega (arith, so.counted, length-append so.done rest, ap length so.all, some))
 
