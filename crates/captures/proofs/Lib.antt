@@ -3,3 +3,5 @@ pub mod FoundLemmas
 pub mod ReplaceLemmas
 pub mod SplitLemmas
 pub mod TemplateLemmas
+pub mod RowLemmas
+pub mod ListLemmas

@@ -1,5 +1,5 @@
 -- Replacing matches, match by match.
-use Rattle.std.proofs.Common.{◌≡◌, ◌⊎◌, ◌<◌, ◌≤◌, ◌+◌, ◌-◌, ◌*◌, ◌^◌, ◌==◌, ◌++◌, ℕ, zero, suc, min, not, Bool, true, false, List, [], ◌∷◌, length, get_or, slice_get, slice_range, slice_set, drop, take, Option, Some, None, IfSome, is_some, option_map, if◌then◌else◌, refl, sym, ap, ap₂, ◌∙◌, subst, arith, append_assoc, append-nil, take_at}
+use Rattle.std.proofs.Common.{◌≡◌, ◌⊎◌, ◌<◌, ◌≤◌, ◌+◌, ◌-◌, ◌*◌, ◌^◌, ◌==◌, ◌++◌, ℕ, zero, suc, min, not, Bool, true, false, List, [], ◌∷◌, length, get_or, slice_get, slice_range, drop, take, Option, Some, None, IfSome, is_some, option_map, if◌then◌else◌, refl, sym, ap, ap₂, ◌∙◌, subst, arith, append_assoc, append-nil, take_at}
 use Rattle.std.proofs.lemmas.List.{take_rest}
 use Rattle.std.proofs.lemmas.List.Sums.{prefix_len_is}
 use Rattle.std.proofs.lemmas.Option.{none-some, same_Some, slice_get_within, slice_get-get_or, get_or_from_slice_get}
@@ -216,13 +216,3 @@ same_continues old mid new first is = (first.0, is ∙ first.1)
 
 pub cut_back : (old new : List ℕ) → Continues old new → take (length old) new ≡ old
 cut_back old new c = ap (take (length old)) c.1 ∙ take_at old c.0 (length old) refl
-
--- ---- slots of a match without groups
-pub two_slots : (m : Match) (slots new : List ℕ) (f : FoundMatch) → length slots ≡ 2 → span_of_match m ≡ span_of_row f →
-    new ≡ slice_set (slice_set slots 0 f.start) 1 f.end → new ≡ slots_of m (length slots)
-unfolding slots_of
-two_slots m [] new f e span put = absurd (omega (arith, e))
-two_slots m (a ∷ []) new f e span put = absurd (omega (arith, e))
-two_slots m (a ∷ b ∷ []) new f e span put =
-    put ∙ ap₂ (λ (i j : ℕ). i ∷ j ∷ []) (ap (λ (s : ℕ × ℕ). s.0) (sym span)) (ap (λ (s : ℕ × ℕ). s.1) (sym span))
-two_slots m (a ∷ b ∷ c ∷ slots) new f e span put = absurd (omega (arith, e))

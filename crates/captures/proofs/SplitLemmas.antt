@@ -74,9 +74,10 @@ module _ (find : ℕ → Option Match) (len total : ℕ) (old : List (ℕ × ℕ
   ends count last rows new so none put =
       let piece : ℕ × ℕ = (unwrap_or last 0, len) in
       let whole : so.done ++ piece ∷ [] ≡ gaps len 0 (matches_from find total (find 0)) =
-      ap (λ ms. so.done ++ gaps len (unwrap_or last 0) ms) (sym none) ∙ so.all in
-      (one_more_row so.done old rows new count piece so.counted so.laid put ∙ ap (λ ps. overlaid ps old) whole,
-      omega (arith, so.counted, length-append so.done (piece ∷ []), ap length whole))
+      ap (λ ms. so.done ++ gaps len (unwrap_or last 0) ms) (sym none) ∙ so.all in (
+        one_more_row so.done old rows new count piece so.counted so.laid put ∙ ap (λ ps. overlaid ps old) whole,
+        omega (arith, so.counted, length-append so.done (piece ∷ []), ap length whole),
+      )
 
   fails : (count : ℕ) (last : Option ℕ) (rows : List (ℕ × ℕ)) → IsSplitFrom find len total count last old rows →
       (rows ≡ overlaid (take count (gaps len 0 (matches_from find total (find 0)))) old)
@@ -85,9 +86,10 @@ module _ (find : ℕ → Option Match) (len total : ℕ) (old : List (ℕ × ℕ
       let rest = gaps len (unwrap_or last 0) (matches_from find (total - count) (comes find last)) in
       let some = some_gap len (unwrap_or last 0) (matches_from find (total - count) (comes find last)) in
       let front : take count (gaps len 0 (matches_from find total (find 0))) ≡ so.done =
-      ap (take count) (sym so.all) ∙ take_at so.done rest count (sym so.counted) in
-      (so.laid ∙ ap (λ ps. overlaid ps old) (sym front),
-      omega (arith, so.counted, length-append so.done rest, ap length so.all, some))
+      ap (take count) (sym so.all) ∙ take_at so.done rest count (sym so.counted) in (
+        so.laid ∙ ap (λ ps. overlaid ps old) (sym front),
+        omega (arith, so.counted, length-append so.done rest, ap length so.all, some),
+      )
 
 -- ---- the pieces of a haystack
 abbrev pub IsSplitUpTo : Config → List (List ℕ) → List ℕ → ℕ → ℕ → Option ℕ → List (ℕ × ℕ) → List (ℕ × ℕ) → Type 0

@@ -41,7 +41,7 @@ written_for texts res h said m = said (slice_index_or texts (pattern_at res h m.
 abbrev pub first_found : Config → List Re → List ℕ → ℕ → List Match
 first_found config res h limit = first_or_all limit (all_found config.utf8 (alt_all res) h)
 
--- So many matches were replaced: the output continues by the haystack, in which what the replacement says is in place of each of the first
+-- So many matches were replaced: the output continues by the haystack, in which what the replacement says is written for each of the first
 -- matches, up to the limit.
 pub record IsReplaced (config : Config) (texts : List (List ℕ)) (h : List ℕ) (said : Said) (limit : ℕ) (old new : List ℕ) (count : ℕ) : Type 0 where
   pub output : (res : List Re) → AreReadAs config texts res →

@@ -1,5 +1,5 @@
 //! Searches for one match with its groups.
-ghost use Rattle.std.specs.Prelude.{◌≡◌, ◌≤◌, ℕ, List, Some, IfErr, IfNone, IfOk, length, replicate, slice_get, true};
+ghost use Rattle.std.specs.Prelude.{◌≡◌, ◌<◌, ◌≤◌, ◌∷◌, [], ℕ, List, Some, IfErr, IfNone, IfOk, length, replicate, slice_get, true};
 ghost use Rattle.regex_hir.specs.Re.{Re, Trace, accept, attempt};
 ghost use Rattle.regex_hir.specs.Meaning.{alt_all};
 ghost use Rattle.regex_hir.specs.Find.{Match};
@@ -20,6 +20,25 @@ use crate::groups::Groups;
 use group_finder::clear;
 use meta_regex::{Cache, FoundMatch, Regex};
 use std::alloc::Global;
+
+/// Writes the start of a match into its slots, of which there is at most one.
+fn write_start(start: usize, slots: &mut [usize])
+    requires { length slots.old < 2 }
+    ensures { slots.new ≡ replicate (length slots.old) start }
+{
+    if slots.len() == 1 {
+        slots[0] = start;
+    }
+}
+
+/// Writes the span of a match into its two slots.
+fn write_span(start: usize, end: usize, slots: &mut [usize])
+    requires { length slots.old ≡ 2 }
+    ensures { slots.new ≡ start ∷ end ∷ [] }
+{
+    slots[0] = start;
+    slots[1] = end;
+}
 
 impl Groups {
     ghost use Rattle.captures.specs.Groups.{AreGroupsOf};
@@ -104,7 +123,7 @@ impl Groups {
         }
     }
 
-    /// Writes the slots of a match that was found.
+    /// Writes the slots of a match that was found. Only slots after the first two need a search.
     #[inline]
     pub(crate) fn write_slots(
         &mut self,
@@ -123,6 +142,14 @@ impl Groups {
         ensures refused { (o : Options) (texts : List (List ℕ)) → AreGroupsOf o texts self.old → (h : List ℕ) →
             IfErr result (IsCapturesError o h) }
     {
+        if slots.len() < 2 {
+            write_start(found.start, slots);
+            return Ok(());
+        }
+        if slots.len() == 2 {
+            write_span(found.start, found.end, slots);
+            return Ok(());
+        }
         if found.end > haystack.len() {
             return Ok(());
         }

@@ -94,11 +94,11 @@ impl Groups {
 
     /// Makes what finds the groups of one pattern.
     fn prepare_one(&mut self, alloc: Global, pattern: usize) -> Result<(), NewError>
-        requires { pattern < vec_len self.old.patterns }
+        requires { pattern < length self.old.patterns.items }
         ensures own { (o : RegexOptions) (texts : List (List ℕ)) → AreGroupsOf o texts self.old → AreGroupsOf o texts self.new }
         ensures made { OnOk result (IsPrepared self.new pattern) }
         ensures kept { (n : ℕ) → IsPrepared self.old n → IsPrepared self.new n }
-        ensures same { vec_len self.new.patterns ≡ vec_len self.old.patterns }
+        ensures same { length self.new.patterns.items ≡ length self.old.patterns.items }
         ensures refused { (o : RegexOptions) (texts : List (List ℕ)) → AreGroupsOf o texts self.old → IfErr result (IsPrepareError o) }
     {
         match self.patterns[pattern].prepare(alloc, &self.syntax, self.size_limit) {
@@ -115,7 +115,7 @@ impl Groups {
         ensures { result ≡ counted (all_bytes self.now.patterns.items) }
     {
         let mut usage = 0usize;
-        for pattern in (0..self.patterns.len()).rev() {
+        for pattern in 0..self.patterns.len() {
             usage = usage.saturating_add(self.patterns[pattern].memory_usage());
         }
         usage

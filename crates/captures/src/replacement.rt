@@ -7,7 +7,7 @@ use crate::groups::Groups;
 use std::alloc::{AllocError, Global};
 use templates::Template;
 
-/// What is written in place of matches, read for each pattern of a regex. It is usable only with groups of the same patterns and options.
+/// What is written for matches, read for each pattern of a regex. It is usable only with groups of the same patterns and options.
 #[derive(Drop)]
 pub struct Replacement {
     pub(crate) templates: Vec<Template>,

@@ -11,7 +11,6 @@ ghost use Rattle.pattern_search.specs.Texts.{AreReadAs};
 ghost use Rattle.meta_regex.specs.Caches.{IsCacheOf};
 ghost use Rattle.meta_regex.specs.Regexes.{HasPattern, as_found, config_by, span_of_row};
 ghost use Rattle.meta_regex.specs.declared.options.Options.{Options};
-ghost use Rattle.group_finder.specs.Slots.{slots_of};
 ghost use Rattle.captures.specs.Errors.{IsCapturesError};
 ghost use Rattle.captures.specs.Replacing.{ComesNext, Continues, IsReplaced, IsReplacementFor, Said, written_for};
 
@@ -90,32 +89,6 @@ impl Groups {
         }
     }
 
-    /// Writes the slots of a match that was found. Without groups but the match itself, nothing has to be searched for.
-    fn fill_slots(
-        &mut self,
-        alloc: Global,
-        haystack: &[u8],
-        found: FoundMatch,
-        slots: &mut [usize],
-    ) -> Result<(), CapturesError>
-        requires { 2 ≤ length slots.old }
-        ensures written { (o : Options) (texts : List (List ℕ)) → AreGroupsOf o texts self.old → (res : List Re) →
-            AreReadAs o.syntax texts res → IsOfFirstPattern res haystack.now (as_found found) → (m : Match) →
-            span_of_match m ≡ span_of_row found → m.start ≤ length haystack.now →
-            attempt haystack.now (alt_all res) accept m.start ≡ Some m.trace →
-            IfOk result (λ _. slots.new ≡ slots_of m (length slots.old)) }
-        ensures own { (o : Options) (texts : List (List ℕ)) → AreGroupsOf o texts self.old → AreGroupsOf o texts self.new }
-        ensures refused { (o : Options) (texts : List (List ℕ)) → AreGroupsOf o texts self.old → (h : List ℕ) →
-            IfErr result (IsCapturesError o h) }
-    {
-        if slots.len() > 2 {
-            return self.write_slots(alloc, haystack, found, slots);
-        }
-        slots[0] = found.start;
-        slots[1] = found.end;
-        Ok(())
-    }
-
     /// Appends what a replacement says of a match that was found.
     fn append_replaced(
         &mut self,
@@ -126,8 +99,7 @@ impl Groups {
         slots: &mut [usize],
         output: &mut Vec<u8>,
     ) -> Result<(), CapturesError>
-        requires room { 2 ≤ length slots.old }
-        requires width { length slots.old ≡ 2 * replacement.now.groups }
+        requires { length slots.old ≡ 2 * replacement.now.groups }
         ensures appended { (o : Options) (texts : List (List ℕ)) → AreGroupsOf o texts self.old → (said : Said) →
             IsReplacementFor o.syntax texts said replacement.now → (res : List Re) → AreReadAs o.syntax texts res →
             IsOfFirstPattern res haystack.now (as_found found) → (m : Match) → span_of_match m ≡ span_of_row found →
@@ -138,7 +110,7 @@ impl Groups {
         ensures refused { (o : Options) (texts : List (List ℕ)) → AreGroupsOf o texts self.old → (h : List ℕ) →
             IfErr result (IsCapturesError o h) }
     {
-        match self.fill_slots(alloc, haystack, found, slots) {
+        match self.write_slots(alloc, haystack, found, slots) {
             Ok(()) => {}
             Err(error) => return Err(error),
         }
@@ -166,7 +138,6 @@ impl Groups {
         requires own { IsCacheOf regex.now cache.old }
         requires groups { AreGroupsOf regex.now.options regex.now.texts self.old }
         requires valid { (config_by regex.now).utf8 ≡ true → IsValidText haystack.now }
-        requires room { 2 ≤ length slots.old }
         requires width { length slots.old ≡ 2 * replacement.now.groups }
         ensures own { IsCacheOf regex.now cache.new }
         ensures groups { AreGroupsOf regex.now.options regex.now.texts self.new }
@@ -232,7 +203,14 @@ impl Groups {
         };
         let before = output.len();
         match self.replace_matches(
-            alloc, regex, cache, haystack, replacement, limit, &mut slots, output,
+            alloc,
+            regex,
+            cache,
+            haystack,
+            replacement,
+            limit,
+            &mut slots,
+            output,
         ) {
             Ok(count) => Ok(count),
             Err(error) => {

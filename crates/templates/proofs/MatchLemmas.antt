@@ -118,6 +118,7 @@ module _ (find_from : ℕ → Option Match) where
         matches_from find_from (total - count) (comes last) ≡ [] → new ≡ out ++ drop (unwrap_or last 0) h →
         (new ≡ old ++ replaced_by written h 0 (matches_from find_from total (find_from 0))) × (count ≡ length (matches_from find_from total (find_from 0)))
     unfolding replaced_by
-    replacing_ends total old out new count last so none is =
-        (is ∙ ap (λ ms. out ++ replaced_by written h (unwrap_or last 0) ms) (sym none) ∙ so.output,
-        omega (arith, so.counted, ap length none))
+    replacing_ends total old out new count last so none is = (
+      is ∙ ap (λ ms. out ++ replaced_by written h (unwrap_or last 0) ms) (sym none) ∙ so.output,
+      omega (arith, so.counted, ap length none),
+    )

@@ -52,7 +52,7 @@ module _ (names : Names) (group_text : ℕ → List ℕ) where
 
   dollar_here : (t : List ℕ) (at : ℕ) → at < length t → get_or t at 0 ≡ 36 → written_after names group_text (drop at t) 0
       ≡ (if slice_index (drop (at + 1) t) 0 == 36 then 36 ∷ written_after names group_text (drop (at + 1) t) 1
-         else at_dollar names group_text (name_at (drop (at + 1) t)) (written_after names group_text (drop (at + 1) t)))
+      else at_dollar names group_text (name_at (drop (at + 1) t)) (written_after names group_text (drop (at + 1) t)))
   unfolding written_after
   dollar_here t at lt dollar = rw (drop_more t at 0 lt, dollar)
 

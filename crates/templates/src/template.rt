@@ -66,7 +66,11 @@ fn pieces_of(
     let mut pieces = Vec::new(alloc);
     let mut at = 0;
     while at < replacement.len() {
-        let Step { literal, group, next } = step_at(names, replacement, at);
+        let Step {
+            literal,
+            group,
+            next,
+        } = step_at(names, replacement, at);
         push_literal(alloc, &mut pieces, literal)?;
         push_group(&mut pieces, group)?;
         at = next;

@@ -20,4 +20,4 @@ returns-in-Ok-append-clause-appended c =
     (slice_get-get_or c.args.replacement.now.templates.items c.args.found.pattern c.index.result.now
     (omega (arith, c.if-found-len.false, c.len.ensures)) ∙ ap Some (sym c.index.ensures))
     (omega arith)
-    c.fill_slots.new.slots (c.in-Ok.ensures.written o texts of res read first m span inside there ∙ ap (slots_of m) c.requires.width))
+    c.write_slots.new.slots (c.in-Ok.ensures.written o texts of res read first m span inside there ∙ ap (slots_of m) c.requires))

@@ -5,10 +5,12 @@ use Rattle.captures.proofs.SplitLemmas.{split_begins, split_ends, split_fails, s
 use Rattle.captures.proofs.groups.Groups.split_matches.Goals as goal
 
 pub loop-count-init : goal.loop-count-init
-loop-count-init c =
-    (c.requires.groups, c.requires.own,
-    split_begins (config_by c.args.regex.now) c.args.regex.now.texts c.args.haystack.now c.args.limit c.most_cuts-most.result c.args.rows.now
-    c.requires.some c.most_cuts-most.ensures)
+loop-count-init c = (
+  c.requires.groups,
+  c.requires.own,
+  split_begins (config_by c.args.regex.now) c.args.regex.now.texts c.args.haystack.now c.args.limit c.most_cuts-most.result c.args.rows.now
+      c.requires.some c.most_cuts-most.ensures,
+)
 
 pub returns-in-Err-clause-first : goal.returns-in-Err-clause-first
 returns-in-Err-clause-first c =
@@ -26,14 +28,16 @@ returns-in_default-clause-all c =
 pub loop-count-preserved : goal.loop-count-preserved
 loop-count-preserved c =
     let h = c.args.haystack.now in
-    let found = c.in-Some.found in
-    (c.in-Ok.ensures.groups, c.in-Ok.ensures.own,
-    split_goes_on (config_by c.args.regex.now) c.args.regex.now.texts h c.args.limit c.most_cuts-most.result c.args.rows.now
-    c.requires.some c.most_cuts-most.ensures c.loop-count.count c.loop-count.last found c.loop-count.rows _ c.loop-count.invariant.2
-    c.loop-count-test.true
-    (subst (ComesNext (config_by c.args.regex.now) c.args.regex.now.texts h c.loop-count.last) c.in-Some.is c.in-Ok.ensures.next)
-    (c.put-in-loop-count.ensures
-    ∙ ap (λ i. slice_set c.loop-count.rows c.loop-count.count (i, found.start)) c.unwrap_or-in-loop-count.ensures))
+    let found = c.in-Some.found in (
+      c.in-Ok.ensures.groups,
+      c.in-Ok.ensures.own,
+      split_goes_on (config_by c.args.regex.now) c.args.regex.now.texts h c.args.limit c.most_cuts-most.result c.args.rows.now
+          c.requires.some c.most_cuts-most.ensures c.loop-count.count c.loop-count.last found c.loop-count.rows _ c.loop-count.invariant.2
+          c.loop-count-test.true
+          (subst (ComesNext (config_by c.args.regex.now) c.args.regex.now.texts h c.loop-count.last) c.in-Some.is c.in-Ok.ensures.next)
+          (c.put-in-loop-count.ensures
+          ∙ ap (λ i. slice_set c.loop-count.rows c.loop-count.count (i, found.start)) c.unwrap_or-in-loop-count.ensures),
+    )
 
 pub returns-clause-all : goal.returns-clause-all
 returns-clause-all c =

@@ -1,6 +1,18 @@
-use Rattle.std.proofs.Common.{ap, arith, length, ℕ}
+use Rattle.std.proofs.Common.{ap, arith, length, ℕ, ◌∙◌}
 use Rattle.captures.proofs.FoundLemmas.{ends_inside, slots_known}
+use Rattle.captures.proofs.RowLemmas.{slot_of_start, slots_of_span}
 use Rattle.captures.proofs.groups.Groups.write_slots.Goals as goal
+
+pub returns-then-slots-lt2-clause-written : goal.returns-then-slots-lt2-clause-written
+returns-then-slots-lt2-clause-written c = λ o texts of res read first m span inside there.
+    c.write_start.ensures
+    ∙ slot_of_start m c.args.found.start (length c.args.slots.now) (ap (λ (s : ℕ × ℕ). s.0) span)
+    (omega (arith, c.if-slots-lt2.true))
+
+pub returns-then-slots-eq2-clause-written : goal.returns-then-slots-eq2-clause-written
+returns-then-slots-eq2-clause-written c = λ o texts of res read first m span inside there.
+    c.write_span.ensures
+    ∙ slots_of_span m c.args.found.start c.args.found.end (length c.args.slots.now) span (omega (arith, c.if-slots-eq2.true))
 
 pub returns-then-found-haystack-clause-written : goal.returns-then-found-haystack-clause-written
 returns-then-found-haystack-clause-written c = λ o texts of res read first m span inside there.
