@@ -1,19 +1,19 @@
 -- Replacing matches, match by match.
-use Rattle.std.proofs.Common.{◌≡◌, ◌⊎◌, ◌<◌, ◌≤◌, ◌+◌, ◌-◌, ◌*◌, ◌^◌, ◌==◌, ◌++◌, ℕ, zero, suc, min, not, Bool, true, false, List, [], ◌∷◌, length, get_or, slice_get, slice_range, drop, take, Option, Some, None, IfSome, is_some, option_map, if◌then◌else◌, refl, sym, ap, ap₂, ◌∙◌, subst, arith, append_assoc, append-nil, take_at}
+use Rattle.std.proofs.Common.{◌≡◌, ◌<◌, ◌≤◌, ◌+◌, ◌-◌, ◌*◌, ◌^◌, ◌==◌, ◌++◌, ℕ, zero, suc, min, not, Bool, true, false, List, [], ◌∷◌, length, get_or, slice_get, slice_range, drop, take, Option, Some, None, is_some, option_map, if◌then◌else◌, refl, sym, ap, ◌∙◌, subst, arith, append_assoc, append-nil, take_at}
 use Rattle.std.proofs.lemmas.List.{take_rest}
 use Rattle.std.proofs.lemmas.List.Sums.{prefix_len_is}
 use Rattle.std.proofs.lemmas.Option.{none-some, same_Some, slice_get_within, slice_get-get_or, get_or_from_slice_get}
 use Rattle.std.specs.Option.{unwrap_or}
-use Rattle.regex_hir.specs.Re.{Re, Trace, accept, attempt}
+use Rattle.regex_hir.specs.Re.{Re, accept, attempt}
 use Rattle.regex_hir.specs.Meaning.{alt_all}
 use Rattle.regex_hir.specs.Text.{is_some_and}
-use Rattle.regex_hir.specs.Find.{Match, find_after, matches_from}
-use Rattle.regex_hir.proofs.AttemptLemmas.{attempt_complete, attempt_sound}
+use Rattle.regex_hir.specs.Find.{Match, matches_from}
+use Rattle.regex_hir.proofs.AttemptLemmas.{attempt_complete}
 use Rattle.regex_hir.proofs.OptionLemmas.{none_of_no_value, value_of_IsSome}
 use Rattle.regex_syntax.specs.declared.Config.{Config}
 use Rattle.regex.specs.Replace.{group_bytes, replaced_by}
 use Rattle.regex.specs.Search.{first_or_all}
-use Rattle.pattern_search.specs.Searches.{all_found, found_from, span_of_match, IsOfFirstPattern}
+use Rattle.pattern_search.specs.Searches.{found_from, span_of_match, IsOfFirstPattern}
 use Rattle.pattern_search.specs.Texts.{AreReadAs}
 use Rattle.pattern_search.proofs.ForCallers.{all_from_start}
 use Rattle.meta_regex.specs.Regexes.{HasPattern, as_found, span_of_row}

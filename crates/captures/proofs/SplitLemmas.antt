@@ -1,15 +1,15 @@
 -- Splitting at matches, match by match.
-use Rattle.std.proofs.Common.{◌≡◌, ◌≢◌, ◌⊎◌, ◌<◌, ◌≤◌, ◌+◌, ◌-◌, ◌==◌, ◌++◌, ℕ, zero, suc, min, Bool, List, [], ◌∷◌, length, slice_set, take, Option, Some, None, if◌then◌else◌, refl, sym, ap, ap₂, ◌∙◌, subst, inl, inr, arith, append_assoc, length-append, take_at, ne_eqb}
+use Rattle.std.proofs.Common.{◌≡◌, ◌≢◌, ◌<◌, ◌≤◌, ◌+◌, ◌-◌, ◌++◌, ℕ, suc, List, [], ◌∷◌, length, slice_set, take, Option, Some, None, if◌then◌else◌, refl, sym, ap, ap₂, ◌∙◌, subst, inl, inr, arith, append_assoc, length-append, take_at, ne_eqb}
 use Rattle.std.specs.Option.{unwrap_or}
 use Rattle.regex_hir.specs.Re.{Re}
 use Rattle.regex_hir.specs.Meaning.{alt_all}
-use Rattle.regex_hir.specs.Find.{Match, find_after, matches_from}
+use Rattle.regex_hir.specs.Find.{Match, matches_from}
 use Rattle.regex_syntax.specs.declared.Config.{Config}
 use Rattle.regex.specs.Search.{gaps}
-use Rattle.pattern_search.specs.Searches.{all_found, found_from, span_of_match}
+use Rattle.pattern_search.specs.Searches.{all_found, found_from}
 use Rattle.pattern_search.specs.Texts.{AreReadAs}
 use Rattle.pattern_search.proofs.ForCallers.{all_from_start}
-use Rattle.meta_regex.specs.Regexes.{overlaid, span_of_row}
+use Rattle.meta_regex.specs.Regexes.{overlaid}
 use Rattle.meta_regex.specs.declared.found_match.FoundMatch.{FoundMatch}
 use Rattle.templates.proofs.ForCallers.{comes, no_more, none_left, one_more, taken}
 use Rattle.captures.specs.Replacing.{AreAllPieces, AreFirstPieces, ComesNext, most_cuts, pieces_of}

@@ -1,7 +1,6 @@
 -- Templates that are read for patterns, one by one.
-use Rattle.std.proofs.Common.{◌≡◌, ◌⊎◌, ◌<◌, ◌≤◌, ◌+◌, ℕ, zero, suc, List, [], ◌∷◌, ◌++◌, length, slice_get, take, chars, Option, Some, None, IfSome, IsSomeAnd, refl, sym, ap, ◌∙◌, subst, inl, inr, ⊎_elim, min, arith, take_all}
-use Rattle.std.proofs.lemmas.Bool.{cases_lt}
-use Rattle.std.proofs.lemmas.Option.{none-some, same_Some, slice_get_within, slice_get-get_or}
+use Rattle.std.proofs.Common.{◌≡◌, ◌⊎◌, ◌<◌, ◌≤◌, ◌+◌, ℕ, zero, suc, List, [], ◌∷◌, ◌++◌, length, slice_get, take, chars, Option, Some, None, IsSomeAnd, sym, ap, ◌∙◌, subst, inl, inr, ⊎_elim, arith, take_all}
+use Rattle.std.proofs.lemmas.Option.{none-some, same_Some, slice_get-get_or}
 use Rattle.regex_syntax.specs.Brackets.{Nested}
 use Rattle.regex_hir.specs.Re.{Re}
 use Rattle.regex_syntax.specs.Grammar.{Names, read}

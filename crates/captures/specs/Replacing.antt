@@ -1,9 +1,9 @@
 -- What replacing matches writes, and what splitting at matches returns.
-use Rattle.std.specs.Prelude.{◌≡◌, ◌≤◌, ◌<◌, ◌+◌, ◌-◌, ◌==◌, ◌++◌, ◌⊎◌, min, not, ℕ, List, [], ◌∷◌, IfSome, Option, Some, None, chars, if◌then◌else◌, is_some, length, slice_index_or, take, ⊤}
+use Rattle.std.specs.Prelude.{◌≡◌, ◌≤◌, ◌<◌, ◌+◌, ◌-◌, ◌==◌, ◌++◌, ◌⊎◌, min, not, ℕ, List, [], ◌∷◌, Option, Some, None, if◌then◌else◌, is_some, length, slice_index_or, take, ⊤}
 use Rattle.std.specs.List.{prefix_len}
 use Rattle.regex_hir.specs.Re.{Re, accept, attempt}
 use Rattle.regex_hir.specs.Meaning.{alt_all}
-use Rattle.regex_hir.specs.Find.{Match, find_after}
+use Rattle.regex_hir.specs.Find.{Match}
 use Rattle.regex_syntax.specs.declared.Config.{Config}
 use Rattle.regex.specs.Replace.{group_bytes, replaced_by}
 use Rattle.regex.specs.Search.{first_or_all, gaps}

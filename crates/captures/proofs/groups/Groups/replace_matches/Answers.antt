@@ -1,4 +1,4 @@
-use Rattle.std.proofs.Common.{◌≡◌, ◌++◌, ℕ, Some, length, slice_range, ap, ◌∙◌, subst, arith}
+use Rattle.std.proofs.Common.{◌≡◌, ◌++◌, ℕ, length, slice_range, ap, ◌∙◌, subst, arith}
 use Rattle.meta_regex.specs.Regexes.{HasPattern, config_by}
 use Rattle.captures.specs.Replacing.{ComesNext, IsReplaced}
 use Rattle.captures.proofs.ReplaceLemmas.{continues_on, continues_with, ends_at_the_limit, ends_without_match, up_to_goes_on}

@@ -1,4 +1,3 @@
-use Rattle.std.proofs.Common.{◌≡◌}
 use Rattle.meta_regex.specs.Caches.{IsCacheOf}
 use Rattle.meta_regex.specs.Regexes.{config_by}
 use Rattle.captures.specs.Groups.{AreGroupsOf}
