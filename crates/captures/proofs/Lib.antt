@@ -1,4 +1,7 @@
 pub mod PatternLemmas
 pub mod FoundLemmas
+pub mod ReplaceLemmas
+pub mod SplitLemmas
+pub mod TemplateLemmas
 pub mod RowLemmas
 pub mod ListLemmas

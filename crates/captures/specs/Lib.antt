@@ -3,3 +3,4 @@ pub mod Patterns
 pub mod Groups
 pub mod Captures
 pub mod Rows
+pub mod Replacing
