@@ -15,16 +15,16 @@ use std::marker::Model;
 const MAX_COST: u64 = 500_000;
 
 /// How many bytes a search is ahead when it begins, and after it gave up for a time.
-const CREDIT: usize = 1024;
+const CREDIT: usize = 4096;
 
 /// How many bytes a search can be ahead.
-const MOST_CREDIT: usize = 1 << 14;
+const MOST_CREDIT: usize = 1 << 16;
 
 /// How many skipped bytes make up for a candidate.
-const CANDIDATE: usize = 192;
+const CANDIDATE: usize = 1024;
 
 /// How many skipped bytes make up for a search that stops since many offsets looked as if a literal began there.
-const MISSES: usize = 1024;
+const MISSES: usize = 4096;
 
 /// How many bytes are searched without literals after these have given up.
 const REST: usize = 1 << 16;
