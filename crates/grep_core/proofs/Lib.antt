@@ -28,3 +28,5 @@ mod WholePatternLemmas
 mod WriteLemmas
 pub mod LineCutLemmas
 pub mod CandidateLemmas
+mod LiteralLemmas
+mod PartLemmas
