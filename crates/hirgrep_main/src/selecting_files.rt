@@ -1,13 +1,21 @@
 //! Which files are searched, by the options on their names and paths.
-ghost use Rattle.std.specs.Prelude.{◌≡◌, ◌+◌, ◌≤◌, ℕ, OnOk, length};
-ghost use Rattle.hirgrep_main.specs.Selecting.{enters, slashes};
+ghost use Rattle.std.specs.Prelude.{◌≡◌, ◌≤◌, ◌++◌, ◌∷◌, [], ℕ, true, false, List, IfErr, IfOk, IfSome, OnOk, codes, is_none, is_some, length, map, string_bytes};
+ghost use Rattle.std.specs.List.{list_any};
+ghost use Rattle.std.specs.Result.{is_ok};
+ghost use Rattle.std.specs.Str.{chars};
+ghost use Rattle.clap.specs.Words.{first_value, found_of};
+ghost use Rattle.globs.specs.Rules.{excluded, folder_rule, glob_fault, glob_rule, grep_rule, rule_of};
+ghost use Rattle.grep_options.specs.FileOptions.{file_values, given_of};
+ghost use Rattle.grep_options.specs.Options.{is_text, values_given};
+ghost use Rattle.hirgrep_main.specs.Selecting.{are_sound, base_len, depth_in, enters, excluded_lines, folder_rules, glob_rules, is_sure, names_rules, rules_for, selection, selection_given, selection_without_rules, skips_entry};
+ghost use Rattle.hirgrep_main.specs.Selecting.{skips_found, skips_named, skips_path, slashes, value_rules, values_rules, with_files, with_folders, with_globs, with_rules};
 
 use crate::asked::Asked;
 use crate::input::input;
 use crate::messages::report_error;
 use crate::shown::Shown;
 use clap::ArgMatches;
-use globs::{FaultKind, Rule, chars_of, chooses, skips};
+use globs::{Fault, FaultKind, Rule, chars_of, chooses, file_name, push_excluded, skips, without_dot};
 use grep_options::{FileOption, FileValue, file_values, is_set, number};
 use std::alloc::{AllocError, Global};
 use std::rt::Runtime;
@@ -36,20 +44,29 @@ fn push_rule(
     rules: &mut Vec<Rule>,
     selects: bool,
     text: &str,
-) -> Result<(), AllocError> {
+) -> Result<(), AllocError>
+    ensures { OnOk result (map rule_of rules.new.items ≡ map rule_of rules.old.items ++ grep_rule selects (chars text.now) ∷ []) }
+{
     let chars = chars_of(alloc, text)?;
     let rule = Rule::of_grep(alloc, selects, &chars)?;
     rules.push(rule)?;
     Ok(())
 }
 
-/// Appends a rule for each line, without the white space at its end. Blank lines have none.
-fn push_lines(alloc: Global, rules: &mut Vec<Rule>, text: &str) -> Result<(), AllocError> {
+/// Appends the rule of a line of a file of rules, if it has one.
+fn push_line(alloc: Global, rules: &mut Vec<Rule>, line: &str) -> Result<(), AllocError>
+    ensures { OnOk result (map rule_of rules.new.items ≡ map rule_of rules.old.items ++ excluded (chars line.now)) }
+{
+    let chars = chars_of(alloc, line)?;
+    push_excluded(alloc, rules, &chars)
+}
+
+/// Appends the rules in the content of a file, one a line.
+fn push_lines(alloc: Global, rules: &mut Vec<Rule>, text: &str) -> Result<(), AllocError>
+    ensures { OnOk result (map rule_of rules.new.items ≡ map rule_of rules.old.items ++ excluded_lines text.now) }
+{
     for line in text.split('\n') {
-        let line = line.trim_ascii_end();
-        if !line.is_empty() {
-            push_rule(alloc, rules, false, line)?;
-        }
+        push_line(alloc, rules, line)?;
     }
     Ok(())
 }
@@ -61,14 +78,19 @@ fn read_text(rt: &HostRuntime, asked: &Asked, name: &str) -> io::Result<String> 
     fs::read_to_string(rt, name)
 }
 
-/// Appends the rules in a file. Returns false if it can't be read, after reporting the error.
-fn push_file(
+/// Appends the rules in the content of the file with this name. Returns false if it can't be read, after reporting the error.
+fn push_content(
     rt: &HostRuntime,
-    asked: &Asked,
     rules: &mut Vec<Rule>,
     name: &str,
-) -> Result<bool, AllocError> {
-    match read_text(rt, asked, name) {
+    content: io::Result<String>,
+) -> Result<bool, AllocError>
+    ensures read { IfOk result (λ read. read ≡ is_ok content) }
+    ensures rules { IfOk content (λ text. OnOk result
+        (map rule_of rules.new.items ≡ map rule_of rules.old.items ++ excluded_lines (string_bytes text))) }
+    ensures unread { IfErr content (λ _. OnOk result (rules.new ≡ rules.old)) }
+{
+    match content {
         Ok(text) => {
             push_lines(rt.alloc(), rules, text.as_str())?;
             Ok(true)
@@ -80,13 +102,31 @@ fn push_file(
     }
 }
 
+/// Appends the rules in a file. Returns false if it can't be read, after reporting the error.
+fn push_file(
+    rt: &HostRuntime,
+    asked: &Asked,
+    rules: &mut Vec<Rule>,
+    name: &str,
+) -> Result<bool, AllocError>
+    ensures { IfOk result (λ read. read ≡ true → (content : List ℕ)
+        × (map rule_of rules.new.items ≡ map rule_of rules.old.items ++ excluded_lines content)) }
+{
+    let content = read_text(rt, asked, name);
+    push_content(rt, rules, name, content)
+}
+
 /// Appends the rules of a value. Returns false if it names a file that can't be read, after reporting the error.
 fn push_value(
     rt: &HostRuntime,
     asked: &Asked,
     rules: &mut Vec<Rule>,
     value: FileValue<'_>,
-) -> Result<bool, AllocError> {
+) -> Result<bool, AllocError>
+    ensures rules { IfOk result (λ read. read ≡ true → (content : List ℕ)
+        × (map rule_of rules.new.items ≡ map rule_of rules.old.items ++ value_rules (given_of value.entry) content)) }
+    ensures sure { IfOk result (λ read. names_rules value.entry.option ≡ false → read ≡ true) }
+{
     match value.option {
         FileOption::Include => push_rule(rt.alloc(), rules, true, value.text)?,
         FileOption::Exclude => push_rule(rt.alloc(), rules, false, value.text)?,
@@ -101,7 +141,11 @@ fn push_values(
     asked: &Asked,
     rules: &mut Vec<Rule>,
     values: &[FileValue<'_>],
-) -> Result<bool, AllocError> {
+) -> Result<bool, AllocError>
+    ensures rules { IfOk result (λ read. read ≡ true → (contents : List (List ℕ))
+        × (map rule_of rules.new.items ≡ map rule_of rules.old.items ++ values_rules (map given_of values.now) contents)) }
+    ensures sure { IfOk result (λ read. list_any (λ v. names_rules v.option) (map given_of values.now) ≡ false → read ≡ true) }
+{
     for value in values {
         if !push_value(rt, asked, rules, *value)? {
             return Ok(false);
@@ -110,16 +154,22 @@ fn push_values(
     Ok(true)
 }
 
-/// The name of a folder without the slashes at its end, unless it has nothing else.
-fn folder_name(text: &str) -> &str {
-    let name = text.trim_end_matches('/');
-    if name.is_empty() { text } else { name }
+/// Appends the rule of a folder that isn't searched.
+fn push_folder(alloc: Global, rules: &mut Vec<Rule>, text: &str) -> Result<(), AllocError>
+    ensures { OnOk result (map rule_of rules.new.items ≡ map rule_of rules.old.items ++ folder_rule (chars text.now) ∷ []) }
+{
+    let chars = chars_of(alloc, text)?;
+    let rule = Rule::of_folder(alloc, &chars)?;
+    rules.push(rule)?;
+    Ok(())
 }
 
 /// Appends the rules of `--exclude-dir`.
-fn push_folders(alloc: Global, rules: &mut Vec<Rule>, texts: &[&str]) -> Result<(), AllocError> {
+fn push_folders(alloc: Global, rules: &mut Vec<Rule>, texts: &[&str]) -> Result<(), AllocError>
+    ensures { OnOk result (map rule_of rules.new.items ≡ map rule_of rules.old.items ++ folder_rules (map (λ t. t.now) texts.now)) }
+{
     for text in texts {
-        push_rule(alloc, rules, false, folder_name(text))?;
+        push_folder(alloc, rules, text)?;
     }
     Ok(())
 }
@@ -136,8 +186,20 @@ fn reason_of(kind: FaultKind) -> &'static str {
     }
 }
 
+/// Reports a fault of a glob.
+fn report_fault(rt: &HostRuntime, text: &str, fault: Fault) {
+    let at = fault.at.saturating_add(1);
+    let reason = reason_of(fault.kind);
+    let text = Shown(text);
+    let _ = eprintln!(rt; "hirgrep: glob {text}: {reason} (character {at} of the glob)");
+}
+
 /// Appends the rule of `--glob`. Returns false if the glob has a fault, after reporting it.
-fn push_glob(rt: &HostRuntime, rules: &mut Vec<Rule>, text: &str) -> Result<bool, AllocError> {
+fn push_glob(rt: &HostRuntime, rules: &mut Vec<Rule>, text: &str) -> Result<bool, AllocError>
+    ensures sound { IfOk result (λ sound. sound ≡ is_none (glob_fault (chars text.now))) }
+    ensures rule { IfOk result (λ sound. sound ≡ true
+        → map rule_of rules.new.items ≡ map rule_of rules.old.items ++ glob_rule (chars text.now) ∷ []) }
+{
     let chars = chars_of(rt.alloc(), text)?;
     match Rule::of_glob(rt.alloc(), &chars)? {
         Ok(rule) => {
@@ -145,17 +207,18 @@ fn push_glob(rt: &HostRuntime, rules: &mut Vec<Rule>, text: &str) -> Result<bool
             Ok(true)
         }
         Err(fault) => {
-            let at = fault.at.saturating_add(1);
-            let reason = reason_of(fault.kind);
-            let text = Shown(text);
-            let _ = eprintln!(rt; "hirgrep: glob {text}: {reason} (character {at} of the glob)");
+            report_fault(rt, text, fault);
             Ok(false)
         }
     }
 }
 
 /// Appends the rules of `--glob`. Returns false if a glob has a fault, after reporting it.
-fn push_globs(rt: &HostRuntime, rules: &mut Vec<Rule>, texts: &[&str]) -> Result<bool, AllocError> {
+fn push_globs(rt: &HostRuntime, rules: &mut Vec<Rule>, texts: &[&str]) -> Result<bool, AllocError>
+    ensures sound { IfOk result (λ sound. sound ≡ are_sound (map (λ t. t.now) texts.now)) }
+    ensures rules { IfOk result (λ sound. sound ≡ true
+        → map rule_of rules.new.items ≡ map rule_of rules.old.items ++ glob_rules (map (λ t. t.now) texts.now)) }
+{
     for text in texts {
         if !push_glob(rt, rules, text)? {
             return Ok(false);
@@ -165,12 +228,20 @@ fn push_globs(rt: &HostRuntime, rules: &mut Vec<Rule>, texts: &[&str]) -> Result
 }
 
 /// Whether the names in a folder are put in order.
-fn sorts(matches: &ArgMatches<'_>) -> bool {
-    matches.get_str("sort") == Some("path")
+fn sorts(matches: &ArgMatches<'_>) -> bool
+    ensures { result ≡ is_text (codes "path") (first_value (found_of matches.now) (codes "sort")) }
+{
+    match matches.get_str("sort") {
+        Some("path") => true,
+        _ => false,
+    }
 }
 
 impl Selection {
-    fn new(alloc: Global, matches: &ArgMatches<'_>) -> Selection {
+    /// What the options choose that have no rules.
+    fn new(alloc: Global, matches: &ArgMatches<'_>) -> Selection
+        ensures { selection result ≡ selection_without_rules (found_of matches.now) }
+    {
         Selection {
             files: Vec::new(alloc),
             folders: Vec::new(alloc),
@@ -181,20 +252,66 @@ impl Selection {
         }
     }
 
+    /// Adds the rules of files that options give. Returns false after reporting an error.
+    fn add_values(
+        &mut self,
+        rt: &HostRuntime,
+        asked: &Asked,
+        matches: &ArgMatches<'_>,
+    ) -> Result<bool, AllocError>
+        ensures rules { IfOk result (λ read. read ≡ true → (contents : List (List ℕ))
+            × (selection self.new ≡ with_files (selection self.old) (values_rules (file_values (found_of matches.now)) contents))) }
+        ensures sure { IfOk result (λ read. list_any (λ v. names_rules v.option) (file_values (found_of matches.now)) ≡ false → read ≡ true) }
+    {
+        let values = file_values(rt.alloc(), matches)?;
+        push_values(rt, asked, &mut self.files, &values)
+    }
+
+    /// Adds the rules of folders that options give.
+    fn add_folders(&mut self, alloc: Global, matches: &ArgMatches<'_>) -> Result<(), AllocError>
+        ensures { OnOk result (selection self.new
+            ≡ with_folders (selection self.old) (folder_rules (values_given (found_of matches.now) (codes "exclude-dir")))) }
+    {
+        let texts = matches.get_strs("exclude-dir").unwrap_or(&[]);
+        push_folders(alloc, &mut self.folders, texts)
+    }
+
+    /// Adds the rules of `--glob`. Returns false after reporting an error.
+    fn add_globs(&mut self, rt: &HostRuntime, matches: &ArgMatches<'_>) -> Result<bool, AllocError>
+        ensures sound { IfOk result (λ sound. sound ≡ are_sound (values_given (found_of matches.now) (codes "glob"))) }
+        ensures rules { IfOk result (λ sound. sound ≡ true → selection self.new
+            ≡ with_globs (selection self.old) (glob_rules (values_given (found_of matches.now) (codes "glob")))) }
+    {
+        let texts = matches.get_strs("glob").unwrap_or(&[]);
+        push_globs(rt, &mut self.globs, texts)
+    }
+
     /// Adds the rules that options give. Returns false after reporting an error.
     fn add_rules(
         &mut self,
         rt: &HostRuntime,
         asked: &Asked,
         matches: &ArgMatches<'_>,
-    ) -> Result<bool, AllocError> {
-        let values = file_values(rt.alloc(), matches)?;
-        if !push_values(rt, asked, &mut self.files, &values)? {
+    ) -> Result<bool, AllocError>
+        ensures rules { IfOk result (λ sound. sound ≡ true → (contents : List (List ℕ))
+            × (selection self.new ≡ with_rules (selection self.old) (found_of matches.now) contents)) }
+        ensures sure { IfOk result (λ sound. is_sure (found_of matches.now) ≡ true → sound ≡ true) }
+    {
+        if !self.add_values(rt, asked, matches)? {
             return Ok(false);
         }
-        let folders = matches.get_strs("exclude-dir").unwrap_or(&[]);
-        push_folders(rt.alloc(), &mut self.folders, folders)?;
-        push_globs(rt, &mut self.globs, matches.get_strs("glob").unwrap_or(&[]))
+        self.add_folders(rt.alloc(), matches)?;
+        self.add_globs(rt, matches)
+    }
+
+    fn rules_for(&self, is_folder: bool) -> &[Rule]
+        ensures { map rule_of result.now ≡ rules_for (selection self.now) is_folder }
+    {
+        if is_folder {
+            &self.folders
+        } else {
+            &self.files
+        }
     }
 
     /// Whether an argument that names a file or a folder is left out.
@@ -203,12 +320,10 @@ impl Selection {
         alloc: Global,
         is_folder: bool,
         name: &str,
-    ) -> Result<bool, AllocError> {
-        let rules = if is_folder {
-            &self.folders
-        } else {
-            &self.files
-        };
+    ) -> Result<bool, AllocError>
+        ensures { IfOk result (λ is. is ≡ skips_named (selection self.now) is_folder name.now) }
+    {
+        let rules = self.rules_for(is_folder);
         if rules.is_empty() {
             return Ok(false);
         }
@@ -216,27 +331,27 @@ impl Selection {
         skips(alloc, rules, true, &name)
     }
 
-    /// Whether the rules of GNU grep's options leave out what has this name in a folder.
-    fn skips_entry(&self, alloc: Global, is_folder: bool, name: &str) -> Result<bool, AllocError> {
-        let rules = if is_folder {
-            &self.folders
-        } else {
-            &self.files
-        };
+    /// Whether the rules of GNU grep's options leave out what has this path in a folder, by its name.
+    fn skips_entry(&self, alloc: Global, is_folder: bool, path: &str) -> Result<bool, AllocError>
+        ensures { IfOk result (λ is. is ≡ skips_entry (selection self.now) is_folder path.now) }
+    {
+        let rules = self.rules_for(is_folder);
         if rules.is_empty() {
             return Ok(false);
         }
-        let name = chars_of(alloc, name)?;
-        skips(alloc, rules, false, &name)
+        let path = chars_of(alloc, path)?;
+        skips(alloc, rules, false, file_name(&path))
     }
 
     /// Whether the rules of `--glob` leave out what has this path.
-    fn skips_path(&self, alloc: Global, is_folder: bool, path: &str) -> Result<bool, AllocError> {
+    fn skips_path(&self, alloc: Global, is_folder: bool, path: &str) -> Result<bool, AllocError>
+        ensures { IfOk result (λ is. is ≡ skips_path (selection self.now) is_folder path.now) }
+    {
         if self.globs.is_empty() {
             return Ok(false);
         }
-        let path = chars_of(alloc, path.strip_prefix("./").unwrap_or(path))?;
-        let chosen = chooses(alloc, &self.globs, is_folder, &path)?;
+        let path = chars_of(alloc, path)?;
+        let chosen = chooses(alloc, &self.globs, is_folder, without_dot(&path))?;
         Ok(!chosen)
     }
 
@@ -246,12 +361,10 @@ impl Selection {
         alloc: Global,
         is_folder: bool,
         path: &str,
-    ) -> Result<bool, AllocError> {
-        let name = match path.rsplit_once('/') {
-            Some((_, name)) => name,
-            None => path,
-        };
-        if self.skips_entry(alloc, is_folder, name)? {
+    ) -> Result<bool, AllocError>
+        ensures { IfOk result (λ is. is ≡ skips_found (selection self.now) is_folder path.now) }
+    {
+        if self.skips_entry(alloc, is_folder, path)? {
             return Ok(true);
         }
         self.skips_path(alloc, is_folder, path)
@@ -266,6 +379,18 @@ impl Selection {
             None => true,
         }
     }
+}
+
+/// How many bytes a path has without the slashes at its end.
+pub fn base_len(path: &str) -> usize
+    ensures len { result ≡ base_len path.now }
+    ensures within { result ≤ length path.now }
+{
+    let mut kept = 0;
+    for (at, byte) in path.as_bytes().iter().enumerate() {
+        kept = if *byte == b'/' { kept } else { at + 1 };
+    }
+    kept
 }
 
 /// How many slashes there are in a part of a path.
@@ -283,20 +408,25 @@ fn slashes(part: &[u8]) -> usize
 }
 
 /// How deep a path is in the folder at `root`, in which it was found: 1 for an entry of that folder.
-pub fn depth_in(root: &str, path: &str) -> usize {
-    let least = root.trim_end_matches('/').len();
-    match path.as_bytes().get(least..) {
+pub fn depth_in(root: &str, path: &str) -> usize
+    ensures { result ≡ depth_in root.now path.now }
+{
+    match path.as_bytes().get(base_len(root)..) {
         Some(part) => slashes(part),
         None => 0,
     }
 }
 
-/// What the options choose. If an option has a fault, reports it and returns none.
+/// What the options choose. If an option has a fault or names a file that can't be read, reports it and returns none.
 pub fn selection_of(
     rt: &HostRuntime,
     asked: &Asked,
     matches: &ArgMatches<'_>,
-) -> Result<Option<Selection>, AllocError> {
+) -> Result<Option<Selection>, AllocError>
+    ensures rules { IfOk result (λ o. IfSome o (λ s. (contents : List (List ℕ))
+        × (selection s ≡ selection_given (found_of matches.now) contents))) }
+    ensures sure { IfOk result (λ o. is_sure (found_of matches.now) ≡ true → is_some o ≡ true) }
+{
     let mut selection = Selection::new(rt.alloc(), matches);
     let is_sound = selection.add_rules(rt, asked, matches)?;
     Ok(if is_sound { Some(selection) } else { None })
