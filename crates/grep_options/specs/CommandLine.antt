@@ -150,14 +150,23 @@ glob_options =
     ∷ option (codes "glob") (codes "g") Append
     ∷ []
 
+-- Files by their types. The last of these prints the types instead of a search.
+abbrev pub type_options : List OptionRow
+type_options =
+    option (codes "type") (codes "t") Append
+    ∷ option (codes "type-not") [] Append
+    ∷ flag (codes "type-list") []
+    ∷ []
+
 abbrev pub file_options : List OptionRow
 file_options =
     glob_options
+    ++ (type_options
     ++ (flag (codes "hidden") []
     ∷ option (codes "max-depth") [] Set
     ∷ option (codes "sort") [] Set
     ∷ flag (codes "files") []
-    ∷ [])
+    ∷ []))
 
 abbrev pub paired_options : List OptionRow
 paired_options =
@@ -191,11 +200,30 @@ format_options =
     ∷ no_separator
     ∷ []
 
--- These change nothing: any file is text, no carriage return is removed, and lines are written before more input is read.
+-- Which files with zero bytes are text: of these three the last one takes effect. The last of them has no long name.
+abbrev pub text_option : OptionRow
+text_option = record (flag (codes "text") (codes "a")) { turns_off = codes "binary-files" ∷ codes "skip-binary" ∷ [] }
+
+abbrev pub given_type : OptionRow
+given_type = record (option (codes "binary-files") [] Set) { turns_off = codes "text" ∷ codes "skip-binary" ∷ [] }
+
+abbrev pub short_flag : List ℕ → List ℕ → OptionRow
+short_flag name letter = record (flag name letter) { long = None }
+
+abbrev pub skip_option : OptionRow
+skip_option = record (short_flag (codes "skip-binary") (codes "I")) { turns_off = codes "text" ∷ codes "binary-files" ∷ [] }
+
+abbrev pub binary_options : List OptionRow
+binary_options =
+    text_option
+    ∷ given_type
+    ∷ skip_option
+    ∷ []
+
+-- These change nothing: no carriage return is removed, and lines are written before more input is read.
 abbrev pub accepted_options : List OptionRow
 accepted_options =
-    flag (codes "text") (codes "a")
-    ∷ flag (codes "binary") (codes "U")
+    flag (codes "binary") (codes "U")
     ∷ flag (codes "line-buffered") []
     ∷ []
 
@@ -228,4 +256,4 @@ options =
     ++ (selecting_options
     ++ (printing_options
     ++ (folder_options
-    ++ (file_options ++ (paired_options ++ (number_options ++ (accepted_options ++ (format_options ++ other_options))))))))))
+    ++ (file_options ++ (paired_options ++ (number_options ++ (binary_options ++ (accepted_options ++ (format_options ++ other_options)))))))))))

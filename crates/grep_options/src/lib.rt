@@ -4,6 +4,7 @@
 //! `specs/Options.antt` defines what they return.
 #![tactic(auto)]
 
+mod binary;
 mod files;
 mod format;
 mod numbers;
