@@ -90,6 +90,10 @@ rule_with glob text = record {
 abbrev pub glob_rule : List ℕ → Rule
 glob_rule text = rule_with (read Globset (glob_body text)).sections text
 
+-- The rule of a glob of a type of files.
+abbrev pub type_rule : Bool → List ℕ → Rule
+type_rule selects text = record { glob = (read Globset text).sections; selects = selects; only_folders = false; anywhere = false }
+
 -- Folders that no rule matches are searched, and files if no rule chooses files.
 abbrev pub chooses_by : Option Bool → List Rule → Bool → Bool
 chooses_by (Some selects) rules is_folder = selects

@@ -4,7 +4,7 @@ ghost use Rattle.std.specs.Str.{chars};
 ghost use Rattle.std.specs.List.{list_any};
 ghost use Rattle.globs.specs.Matching.{is_slash, sections_of};
 ghost use Rattle.globs.specs.Reading.{read};
-ghost use Rattle.globs.specs.Rules.{applies, begins, chooses, decided, ends_in_slash, excluded, folder_rule, glob_body, glob_fault, glob_rule, grep_rule, rule_of, rule_with, skips, skips_by, without_first, without_last_slash};
+ghost use Rattle.globs.specs.Rules.{applies, begins, chooses, decided, ends_in_slash, excluded, folder_rule, glob_body, glob_fault, glob_rule, grep_rule, rule_of, rule_with, skips, skips_by, type_rule, without_first, without_last_slash};
 ghost use Rattle.globs.specs.declared.reading.Syntax.TheVariants.{Globset};
 
 use crate::item::{Item, is_slash};
@@ -106,6 +106,19 @@ impl Rule {
         ensures { IfOk result (λ r. rule_of r ≡ folder_rule text.now) }
     {
         Rule::of_grep(alloc, false, folder_name(text))
+    }
+
+    /// The rule of a glob of a type of files, which selects names or leaves them out. The glob is in the syntax of `--glob` and has no fault.
+    pub fn of_type(alloc: Global, selects: bool, text: &[char]) -> Result<Rule, AllocError>
+        ensures { IfOk result (λ r. rule_of r ≡ type_rule selects text.now) }
+    {
+        let reader = read(alloc, Syntax::Globset, text)?;
+        Ok(Rule {
+            glob: reader.sections,
+            selects,
+            only_folders: false,
+            anywhere: false,
+        })
     }
 
     /// The rule of `--glob`, or the first fault of its glob.

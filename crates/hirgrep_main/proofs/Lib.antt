@@ -1,3 +1,4 @@
 mod SelectingLemmas
 pub mod GivenLemmas
 pub mod OutcomeLemmas
+mod BinaryLemmas

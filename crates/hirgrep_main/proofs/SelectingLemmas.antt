@@ -22,9 +22,11 @@ added_none before all later = (later, refl)
 pub added_more : (before now new : List Rule) (v : Given) (all rest whole : List Given) (content : List ℕ) → whole ≡ v ∷ rest
     → new ≡ now ++ value_rules v content → AreAdded before now all whole → AreAdded before new all rest
 added_more before now new v all rest whole content e f h later =
-    let more = h (content ∷ later) in
-    (more.0, more.1 ∙ (ap (λ w. now ++ values_rules w (content ∷ later)) e
-        ∙ (sym (append_assoc now (value_rules v content) (values_rules rest later)) ∙ ap (λ m. m ++ values_rules rest later) (sym f))))
+    let more = h (content ∷ later) in (
+      more.0,
+      more.1 ∙ (ap (λ w. now ++ values_rules w (content ∷ later)) e
+          ∙ (sym (append_assoc now (value_rules v content) (values_rules rest later)) ∙ ap (λ m. m ++ values_rules rest later) (sym f))),
+    )
 
 pub added_all : (before now : List Rule) (all rest : List Given) → AreAdded before now all rest
     → (contents : List (List ℕ)) × (now ≡ before ++ values_rules all contents)

@@ -11,6 +11,7 @@ use Rattle.grep_options.specs.FileOptions.{Given, file_values}
 use Rattle.grep_options.specs.Options.{is_set, is_text, number_given, values_given}
 use Rattle.grep_options.specs.declared.files.FileOption.{FileOption}
 use Rattle.grep_options.specs.declared.files.FileOption.TheVariants.{Include, Exclude, ExcludeFrom}
+use Rattle.hirgrep_main.specs.FileTypes.{TypeRow, is_type, of_type, type_rules}
 use Rattle.hirgrep_main.specs.declared.selecting_files.Selection.{Selection as TheSelection}
 
 -- ---- the rules that options give
@@ -50,6 +51,20 @@ are_sound texts = list_all (λ text. is_none (glob_fault (chars text))) texts
 abbrev pub glob_rules : List (List ℕ) → List Rule
 glob_rules texts = map (λ text. glob_rule (chars text)) texts
 
+-- Whether there are types of these names, and their rules, which select files or leave them out.
+abbrev pub are_types : List TypeRow → List (List ℕ) → Bool
+are_types rows names = list_all (λ name. is_type name rows) names
+
+abbrev pub named_types : Bool → List TypeRow → List (List ℕ) → List Rule
+named_types selects rows names = flat_map (λ name. type_rules selects (of_type name rows)) names
+
+-- The rules of --type come before those of --type-not.
+abbrev pub types_given : Found → List TypeRow → List Rule
+types_given f rows = named_types true rows (values_given f (codes "type")) ++ named_types false rows (values_given f (codes "type-not"))
+
+abbrev pub gives_types : Found → List TypeRow → Bool
+gives_types f rows = are_types rows (values_given f (codes "type")) && are_types rows (values_given f (codes "type-not"))
+
 -- ---- what chooses files
 
 pub record Selection : Type 0 where
@@ -59,6 +74,8 @@ pub record Selection : Type 0 where
   pub folders : List Rule
   -- the rules of --glob
   pub globs : List Rule
+  -- the rules of --type and --type-not
+  pub types : List Rule
   -- how deep folders are searched
   pub max_depth : Option ℕ
   -- names are printed, and nothing is searched
@@ -71,6 +88,7 @@ selection s = record {
   files = map rule_of s.files.items;
   folders = map rule_of s.folders.items;
   globs = map rule_of s.globs.items;
+  types = map rule_of s.types.items;
   max_depth = s.max_depth;
   lists = s.lists;
   sorts = s.sorts;
@@ -82,6 +100,7 @@ selection_without_rules f = record {
   files = [];
   folders = [];
   globs = [];
+  types = [];
   max_depth = number_given f (codes "max-depth");
   lists = is_set f (codes "files");
   sorts = is_text (codes "path") (first_value f (codes "sort"));
@@ -97,19 +116,25 @@ with_folders s rules = record s { folders = s.folders ++ rules }
 abbrev pub with_globs : Selection → List Rule → Selection
 with_globs s rules = record s { globs = s.globs ++ rules }
 
+abbrev pub with_types : Selection → List Rule → Selection
+with_types s rules = record s { types = s.types ++ rules }
+
 -- With the rules that options give. `contents` has a content for each value of --include, --exclude and --exclude-from.
-abbrev pub with_rules : Selection → Found → List (List ℕ) → Selection
-with_rules s f contents =
-    with_globs (with_folders (with_files s (values_rules (file_values f) contents)) (folder_rules (values_given f (codes "exclude-dir"))))
-        (glob_rules (values_given f (codes "glob")))
+abbrev pub with_rules : Selection → Found → List TypeRow → List (List ℕ) → Selection
+with_rules s f rows contents =
+    with_types
+    (with_globs (with_folders (with_files s (values_rules (file_values f) contents)) (folder_rules (values_given f (codes "exclude-dir"))))
+    (glob_rules (values_given f (codes "glob"))))
+    (types_given f rows)
 
 -- What the options choose.
-abbrev pub selection_given : Found → List (List ℕ) → Selection
-selection_given f contents = with_rules (selection_without_rules f) f contents
+abbrev pub selection_given : Found → List TypeRow → List (List ℕ) → Selection
+selection_given f rows contents = with_rules (selection_without_rules f) f rows contents
 
--- No file of rules is named, and each glob can be read: then the options choose files whatever the system does.
-abbrev pub is_sure : Found → Bool
-is_sure f = not (list_any (λ (v : Given). names_rules v.option) (file_values f)) && are_sound (values_given f (codes "glob"))
+-- No file of rules is named, each glob can be read and each type is known: then the options choose files whatever the system does.
+abbrev pub is_sure : Found → List TypeRow → Bool
+is_sure f rows =
+    not (list_any (λ (v : Given). names_rules v.option) (file_values f)) && (are_sound (values_given f (codes "glob")) && gives_types f rows)
 
 -- ---- what is left out
 
@@ -128,9 +153,13 @@ skips_entry s is_folder path = skips (rules_for s is_folder) false (file_name (c
 abbrev pub skips_path : Selection → Bool → List ℕ → Bool
 skips_path s is_folder path = not (chooses s.globs is_folder (without_dot (chars path)))
 
+-- The types of files leave out what has this path, by its name. They don't leave out folders.
+abbrev pub skips_type : Selection → Bool → List ℕ → Bool
+skips_type s is_folder path = not is_folder && not (chooses s.types false (file_name (chars path)))
+
 -- What is at this path, which was found in a folder, is left out.
 abbrev pub skips_found : Selection → Bool → List ℕ → Bool
-skips_found s is_folder path = skips_entry s is_folder path || skips_path s is_folder path
+skips_found s is_folder path = skips_entry s is_folder path || (skips_path s is_folder path || skips_type s is_folder path)
 
 -- ---- how deep folders are searched
 

@@ -1,32 +1,35 @@
 //! Searches files, one after the other.
-ghost use Rattle.std.specs.Prelude.{◌≡◌, ℕ, Bool, true, false, Result, Ok, IfErr, IfOk, IfSome, OnOk, map, string_bytes, take, if◌then◌else◌};
+ghost use Rattle.std.specs.Prelude.{◌≡◌, ℕ, Bool, true, false, Result, Ok, IfErr, IfOk, IfSome, OnOk, List, ◌++◌, codes, map, string_bytes, take, if◌then◌else◌};
 ghost use Rattle.std.specs.Io.KnownBytes.{Appends};
 ghost use Rattle.grep_core.specs.Meant.{written};
 ghost use Rattle.grep_core.specs.Report.{counted_as, report, selected_count};
 ghost use Rattle.grep_core.specs.Searchers.{SearchesFor, found_by};
 ghost use Rattle.grep_core.specs.Reporting.{needs_spans, prints_lines};
 ghost use Rattle.grep_core.specs.declared.fault.Fault.{Fault as TheFault};
-ghost use Rattle.hirgrep_main.specs.Decisions.{is_most, may_run_on, prints_names_if_none, reads_found, reads_named, selects_none};
+ghost use Rattle.hirgrep_main.specs.Decisions.{counted, is_most, may_run_on, prints_names_if_none, reads_found, reads_named, selects_none};
 ghost use Rattle.hirgrep_main.specs.Decisions.{shows_names};
 ghost use Rattle.hirgrep_main.specs.declared.asked.Directories.TheVariants.{Reject, Skip};
-ghost use Rattle.hirgrep_main.specs.declared.searching.Named.TheVariants.{Folder, Device};
-ghost use Rattle.hirgrep_main.specs.declared.walking.Kind.TheVariants.{Link, Device as FoundDevice};
+ghost use Rattle.hirgrep_main.specs.declared.searching.Named.TheVariants.{Input, File, Folder, Device};
+ghost use Rattle.hirgrep_main.specs.declared.walking.Kind.TheVariants.{Link, Device as FoundDevice, File as FoundFile, Folder as FoundFolder};
+ghost use Rattle.hirgrep_main.specs.Selecting.{depth_in, enters, selection, skips_found};
+ghost use Rattle.hirgrep_main.specs.Walking.{Tries, is_folder, is_folder_kind, is_left_out, leaves_out, may_be_several, named_by};
 ghost use Rattle.hirgrep_main.specs.Outcomes.{Continues, after_search, no_outcome, with_failure};
-ghost use Rattle.hirgrep_main.specs.Tasks.{options_in};
+ghost use Rattle.hirgrep_main.specs.Tasks.{count_for, has_zero, options_for};
 
 use crate::asked::{Asked, Devices, Directories, Names};
+use crate::binary::{Binary, has_zero, is_noticed, prints_lines, read_first};
 use crate::columns::width_at;
 use crate::counting::Counting;
 use crate::input::input;
-use crate::messages::{Causes, report_no_finder};
+use crate::messages::{Causes, report_no_finder, report_reason};
 use crate::outcome::Outcome;
 use crate::output::Output;
 use crate::selecting_files::Selection;
-use crate::task::{Task, shown_name};
+use crate::task::{Task, options_for, shown_name};
 use crate::walking::{Kind, is_output, kind_of, output_file, push_folder, push_found};
 use grep_core::{
-    Fault, Finder, LinePatterns, OutputOptions, Print, SearcherError, SeparatorState, config_of,
-    needs_spans, pattern_source, report_input,
+    Fault, Finder, LinePatterns, Print, SearcherError, SeparatorState, config_of, needs_spans,
+    pattern_source, report_input,
 };
 use std::alloc::{AllocError, Global};
 use std::io::{Read, Write};
@@ -42,6 +45,8 @@ pub struct Files<'a> {
     pub input_name: &'a str,
     /// Which files are searched.
     pub selection: &'a Selection,
+    /// What is printed of inputs with zero bytes.
+    pub binary: Binary,
 }
 
 fn strs_of<'a>(alloc: Global, texts: &'a [String]) -> Result<Vec<&'a str>, AllocError>
@@ -66,9 +71,95 @@ fn texts_of(alloc: Global, asked: &Asked, patterns: &[&str]) -> Result<Vec<Strin
     Ok(texts)
 }
 
-/// Searches the input of a reader, and writes the output for it: the report that was asked for, under this name.
+/// Searches the input of a reader, and writes the output for it: the report that was asked for, under this name. `zero` says whether its
+/// first bytes have a zero byte.
 fn report_reader<R: Read, W: Write>(
     alloc: Global,
+    finder: &mut Finder<'_>,
+    task: Task<'_>,
+    known: SeparatorState,
+    name: &str,
+    zero: bool,
+    reader: &mut R,
+    writer: &mut W,
+) -> Result<u64, Fault>
+    ensures same { finder.new ≡ finder.old }
+    ensures reported { OnOk result ((by : SearchesFor finder.old (needs_spans task.entry.asked.now.what)) →
+        IfSome (R.remaining reader.old) (λ text. Appends (W.contents writer.old) (W.contents writer.new)
+        (report (options_for task.entry zero) (found_by by) name.now task.entry.with_name known text))) }
+    ensures selected { IfOk result (λ n. (by : SearchesFor finder.old (needs_spans task.entry.asked.now.what)) →
+        IfSome (R.remaining reader.old) (λ text. n ≡ count_for task.entry zero (found_by by) text)) }
+    ensures fault { IfErr result (λ _. (by : SearchesFor finder.old (needs_spans task.entry.asked.now.what)) →
+        IfSome (R.remaining reader.old) (λ text. (n : ℕ) × Appends (W.contents writer.old) (W.contents writer.new)
+        (take n (report (options_for task.entry zero) (found_by by) name.now task.entry.with_name known text)))) }
+{
+    report_input(
+        alloc,
+        finder,
+        &options_for(task, zero),
+        name.as_bytes(),
+        task.with_name,
+        known,
+        reader,
+        writer,
+    )
+}
+
+/// Reports that an input with a zero byte has a selected line, if that is printed instead of its lines.
+fn report_notice(
+    rt: &HostRuntime,
+    task: Task<'_>,
+    name: &str,
+    zero: bool,
+    reported: Result<u64, Fault>,
+) {
+    if is_noticed(task.binary, task.asked.what.print, zero, reported) {
+        report_reason(rt, name, "binary file matches");
+    }
+}
+
+/// Searches an input of which these are the first bytes, and a reader has the others.
+fn report_first<R: Read, W: Write>(
+    rt: &HostRuntime,
+    finder: &mut Finder<'_>,
+    task: Task<'_>,
+    known: SeparatorState,
+    name: &str,
+    first: &[u8],
+    reader: &mut R,
+    writer: &mut W,
+) -> Result<u64, Fault>
+    ensures same { finder.new ≡ finder.old }
+    ensures reported { OnOk result ((by : SearchesFor finder.old (needs_spans task.entry.asked.now.what)) →
+        IfSome (R.remaining reader.old) (λ text. Appends (W.contents writer.old) (W.contents writer.new)
+        (report (options_for task.entry (has_zero first.now)) (found_by by) name.now task.entry.with_name known (first.now ++ text)))) }
+    ensures selected { IfOk result (λ n. (by : SearchesFor finder.old (needs_spans task.entry.asked.now.what)) →
+        IfSome (R.remaining reader.old) (λ text. n ≡ count_for task.entry (has_zero first.now) (found_by by) (first.now ++ text))) }
+    ensures fault { IfErr result (λ _. (by : SearchesFor finder.old (needs_spans task.entry.asked.now.what)) →
+        IfSome (R.remaining reader.old) (λ text. (n : ℕ) × Appends (W.contents writer.old) (W.contents writer.new)
+        (take n (report (options_for task.entry (has_zero first.now)) (found_by by) name.now task.entry.with_name known
+        (first.now ++ text))))) }
+{
+    let zero = has_zero(first);
+    let mut whole = first.chain(reader);
+    let reported = report_reader(
+        rt.alloc(),
+        finder,
+        task,
+        known,
+        name,
+        zero,
+        &mut whole,
+        writer,
+    );
+    report_notice(rt, task, name, zero, reported);
+    reported
+}
+
+/// Searches the input of a reader, and writes the output for it under this name. If inputs with a zero byte aren't text, the bytes of the
+/// first read decide what is printed.
+fn report_any<R: Read, W: Write>(
+    rt: &HostRuntime,
     finder: &mut Finder<'_>,
     task: Task<'_>,
     known: SeparatorState,
@@ -78,29 +169,21 @@ fn report_reader<R: Read, W: Write>(
 ) -> Result<u64, Fault>
     ensures same { finder.new ≡ finder.old }
     ensures reported { OnOk result ((by : SearchesFor finder.old (needs_spans task.entry.asked.now.what)) →
-        IfSome (R.remaining reader.old) (λ text. Appends (W.contents writer.old) (W.contents writer.new)
-        (report (options_in task.entry) (found_by by) name.now task.entry.with_name known text))) }
-    ensures selected { IfOk result (λ n. (by : SearchesFor finder.old (needs_spans task.entry.asked.now.what)) →
-        IfSome (R.remaining reader.old) (λ text.
-        n ≡ counted_as task.entry.asked.now.what.print (selected_count task.entry.asked.now.what (found_by by) text))) }
-    ensures fault { IfErr result (λ _. (by : SearchesFor finder.old (needs_spans task.entry.asked.now.what)) →
         IfSome (R.remaining reader.old) (λ text. (n : ℕ) × Appends (W.contents writer.old) (W.contents writer.new)
-        (take n (report (options_in task.entry) (found_by by) name.now task.entry.with_name known text)))) }
+        (report (options_for task.entry (has_zero (take n text))) (found_by by) name.now task.entry.with_name known text))) }
+    ensures selected { IfOk result (λ lines. (by : SearchesFor finder.old (needs_spans task.entry.asked.now.what)) →
+        IfSome (R.remaining reader.old) (λ text. (n : ℕ) × (lines ≡ count_for task.entry (has_zero (take n text)) (found_by by) text))) }
+    ensures fault { IfErr result (λ _. (by : SearchesFor finder.old (needs_spans task.entry.asked.now.what)) →
+        IfSome (R.remaining reader.old) (λ text. (n : ℕ) × (m : ℕ) × Appends (W.contents writer.old) (W.contents writer.new)
+        (take m (report (options_for task.entry (has_zero (take n text))) (found_by by) name.now task.entry.with_name known text)))) }
 {
-    let what = OutputOptions {
-        width: task.width,
-        ..task.asked.what
-    };
-    report_input(
-        alloc,
-        finder,
-        &what,
-        name.as_bytes(),
-        task.with_name,
-        known,
-        reader,
-        writer,
-    )
+    if task.binary == Binary::AsText {
+        return report_reader(rt.alloc(), finder, task, known, name, false, reader, writer);
+    }
+    match read_first(rt.alloc(), reader) {
+        Ok(first) => report_first(rt, finder, task, known, name, &first, reader, writer),
+        Err(fault) => Err(fault),
+    }
 }
 
 /// Searches the input of a reader under this name, and records the outcome.
@@ -116,15 +199,15 @@ fn search_reader<R: Read + Drop, W: Write + Drop>(
     ensures same { finder.new ≡ finder.old }
     ensures came { (reported : Result ℕ TheFault) × (bytes : ℕ) × (wrote : Bool)
         × (outcome.new ≡ after_search task.entry.asked.now.what.print outcome.old bytes wrote reported)
-        × IfOk reported (λ n. (by : SearchesFor finder.old (needs_spans task.entry.asked.now.what)) →
-        IfSome (R.remaining reader) (λ text.
-        n ≡ counted_as task.entry.asked.now.what.print (selected_count task.entry.asked.now.what (found_by by) text))) }
+        × IfOk reported (λ lines. (by : SearchesFor finder.old (needs_spans task.entry.asked.now.what)) →
+        IfSome (R.remaining reader) (λ text. (n : ℕ) × (lines ≡ count_for task.entry (has_zero (take n text)) (found_by by) text))) }
+    ensures counted { outcome.new.files ≡ counted outcome.old.files 1 }
     ensures continues { Continues outcome.old outcome.new }
 {
     let mut reader = Counting::new(reader);
     let mut writer = Output::new(writer);
-    let reported = report_reader(
-        rt.alloc(),
+    let reported = report_any(
+        rt,
         finder,
         task,
         outcome.known(),
@@ -144,15 +227,6 @@ fn search_reader<R: Read + Drop, W: Write + Drop>(
             write: writer.code(),
         },
     );
-}
-
-fn prints_lines(print: Print) -> bool
-    ensures { result ≡ prints_lines print }
-{
-    match print {
-        Print::Lines | Print::Matches => true,
-        Print::Count | Print::NameIfAny | Print::NameIfNone | Print::Nothing => false,
-    }
 }
 
 fn prints_names_if_none(print: Print) -> bool
@@ -209,7 +283,9 @@ fn search_opened<R: Read + Drop>(
     name: &str,
     opened: io::Result<R>,
 )
+    ensures read { IfOk opened (λ _. outcome.new.files ≡ counted outcome.old.files 1) }
     ensures unread { IfErr opened (λ _. outcome.new ≡ with_failure outcome.old) }
+    ensures tried { Tries outcome.old outcome.new }
     ensures continues { Continues outcome.old outcome.new }
 {
     match opened {
@@ -229,6 +305,8 @@ fn search_aligned<R: Read + Drop>(
     opened: io::Result<R>,
 )
     ensures unknown { IfErr width (λ _. outcome.new ≡ with_failure outcome.old) }
+    ensures read { IfOk width (λ _. IfOk opened (λ _. outcome.new.files ≡ counted outcome.old.files 1)) }
+    ensures tried { Tries outcome.old outcome.new }
     ensures continues { Continues outcome.old outcome.new }
 {
     match width {
@@ -239,7 +317,9 @@ fn search_aligned<R: Read + Drop>(
 
 /// Searches standard input.
 fn search_input(rt: &HostRuntime, finder: &mut Finder<'_>, task: Task<'_>, outcome: &mut Outcome)
-    ensures { Continues outcome.old outcome.new }
+    ensures listed { task.entry.selection.now.lists ≡ true → outcome.new ≡ outcome.old }
+    ensures tried { task.entry.selection.now.lists ≡ false → Tries outcome.old outcome.new }
+    ensures continues { Continues outcome.old outcome.new }
 {
     if task.selection.lists {
         return;
@@ -254,7 +334,9 @@ fn search_input(rt: &HostRuntime, finder: &mut Finder<'_>, task: Task<'_>, outco
 }
 
 /// Writes the name of a file and what ends it, unless nothing is printed.
-fn write_name<W: Write>(print: Print, name: &str, end: char, writer: &mut W) -> Result<u64, Fault> {
+fn write_name<W: Write>(print: Print, name: &str, end: char, writer: &mut W) -> Result<u64, Fault>
+    ensures one { IfOk result (λ n. n ≡ 1) }
+{
     if print == Print::Nothing {
         return Ok(1);
     }
@@ -266,7 +348,8 @@ fn write_name<W: Write>(print: Print, name: &str, end: char, writer: &mut W) -> 
 
 /// Prints the name of a file, and records the outcome.
 fn list_file(rt: &HostRuntime, task: Task<'_>, outcome: &mut Outcome, name: &str)
-    ensures { Continues outcome.old outcome.new }
+    ensures counted { outcome.new.files ≡ counted outcome.old.files 1 }
+    ensures continues { Continues outcome.old outcome.new }
 {
     let mut writer = Output::new(rt.stdout());
     let print = task.asked.what.print;
@@ -298,7 +381,8 @@ fn search_file(
     outcome: &mut Outcome,
     path: &str,
 )
-    ensures { Continues outcome.old outcome.new }
+    ensures tried { Tries outcome.old outcome.new }
+    ensures continues { Continues outcome.old outcome.new }
 {
     let name = shown_name(task, path);
     if task.selection.lists {
@@ -342,6 +426,7 @@ fn search_device(
     is_read: bool,
 )
     ensures skipped { is_read ≡ false → outcome.new ≡ outcome.old }
+    ensures tried { is_read ≡ true → Tries outcome.old outcome.new }
     ensures continues { Continues outcome.old outcome.new }
 {
     if is_read {
@@ -364,6 +449,10 @@ fn search_kind(
     ensures unread { IfErr kind (λ _. outcome.new ≡ with_failure outcome.old) }
     ensures link { kind ≡ Ok Link → outcome.new ≡ outcome.old }
     ensures device { kind ≡ Ok FoundDevice → reads_found task.entry.asked.now.devices ≡ false → outcome.new ≡ outcome.old }
+    ensures read { kind ≡ Ok FoundDevice → reads_found task.entry.asked.now.devices ≡ true → Tries outcome.old outcome.new }
+    ensures file { kind ≡ Ok FoundFile → Tries outcome.old outcome.new }
+    ensures deep { kind ≡ Ok FoundFolder → enters task.entry.selection.now.max_depth (depth_in root.now path.now) ≡ false
+        → (outcome.new ≡ outcome.old) × (left.new ≡ left.old) }
     ensures continues { Continues outcome.old outcome.new }
 {
     match kind {
@@ -379,12 +468,49 @@ fn search_kind(
     Ok(())
 }
 
-/// Whether this is a folder.
-fn is_folder(kind: &io::Result<Kind>) -> bool {
+fn is_folder_kind(kind: Kind) -> bool
+    ensures { result ≡ is_folder_kind kind }
+{
     match kind {
-        Ok(kind) => *kind == Kind::Folder,
+        Kind::Folder => true,
+        Kind::File | Kind::Link | Kind::Device => false,
+    }
+}
+
+/// Whether this is a folder.
+fn is_folder(kind: &io::Result<Kind>) -> bool
+    ensures { result ≡ is_folder kind.now }
+{
+    match kind {
+        Ok(kind) => is_folder_kind(*kind),
         Err(_) => false,
     }
+}
+
+/// Searches something of this kind that was found in a folder, unless the options leave it out.
+fn search_unless_skipped(
+    rt: &HostRuntime,
+    finder: &mut Finder<'_>,
+    task: Task<'_>,
+    outcome: &mut Outcome,
+    left: &mut Vec<String>,
+    root: &str,
+    path: &str,
+    kind: io::Result<Kind>,
+) -> Result<(), AllocError>
+    ensures skipped { skips_found (selection task.entry.selection.now) (is_folder kind) path.now ≡ true
+        → (outcome.new ≡ outcome.old) × (left.new ≡ left.old) }
+    ensures file { skips_found (selection task.entry.selection.now) (is_folder kind) path.now ≡ false
+        → kind ≡ Ok FoundFile → OnOk result (Tries outcome.old outcome.new) }
+    ensures unread { skips_found (selection task.entry.selection.now) (is_folder kind) path.now ≡ false
+        → IfErr kind (λ _. OnOk result (outcome.new ≡ with_failure outcome.old)) }
+    ensures continues { Continues outcome.old outcome.new }
+{
+    let is_folder = is_folder(&kind);
+    if task.selection.skips_found(rt.alloc(), is_folder, path)? {
+        return Ok(());
+    }
+    search_kind(rt, finder, task, outcome, left, root, path, kind)
 }
 
 /// Searches something that was found in a folder, unless the options leave it out.
@@ -400,13 +526,7 @@ fn search_found(
     ensures { Continues outcome.old outcome.new }
 {
     let kind = kind_of(rt, path, task.asked.follows);
-    if task
-        .selection
-        .skips_found(rt.alloc(), is_folder(&kind), path)?
-    {
-        return Ok(());
-    }
-    search_kind(rt, finder, task, outcome, left, root, path, kind)
+    search_unless_skipped(rt, finder, task, outcome, left, root, path, kind)
 }
 
 /// Searches the files of a folder, and of the folders in it.
@@ -446,16 +566,24 @@ enum Named {
     Device,
 }
 
-fn named_at(rt: &HostRuntime, path: &str) -> io::Result<Named> {
+fn named_by(kind: Kind) -> Named
+    ensures { result ≡ named_by kind }
+{
+    match kind {
+        Kind::File | Kind::Link => Named::File,
+        Kind::Folder => Named::Folder,
+        Kind::Device => Named::Device,
+    }
+}
+
+fn named_at(rt: &HostRuntime, path: &str) -> io::Result<Named>
+    ensures { path.now ≡ codes "-" → result ≡ Ok Input }
+{
     if path == "-" {
         return Ok(Named::Input);
     }
     let kind = kind_of(rt, path, true)?;
-    Ok(match kind {
-        Kind::File | Kind::Link => Named::File,
-        Kind::Folder => Named::Folder,
-        Kind::Device => Named::Device,
-    })
+    Ok(named_by(kind))
 }
 
 /// Searches a folder that an argument names, if its files are to be searched.
@@ -491,6 +619,9 @@ fn search_as(
     ensures rejected { named ≡ Ok Folder → task.entry.asked.now.directories ≡ Reject → outcome.new ≡ with_failure outcome.old }
     ensures skipped { named ≡ Ok Folder → task.entry.asked.now.directories ≡ Skip → outcome.new ≡ outcome.old }
     ensures device { named ≡ Ok Device → reads_named task.entry.asked.now.devices ≡ false → outcome.new ≡ outcome.old }
+    ensures read { named ≡ Ok Device → reads_named task.entry.asked.now.devices ≡ true → Tries outcome.old outcome.new }
+    ensures file { named ≡ Ok File → Tries outcome.old outcome.new }
+    ensures input { named ≡ Ok Input → task.entry.selection.now.lists ≡ false → Tries outcome.old outcome.new }
     ensures continues { Continues outcome.old outcome.new }
 {
     match named {
@@ -507,23 +638,32 @@ fn search_as(
 }
 
 /// Whether the options leave out what an argument names.
+fn leaves_out(alloc: Global, task: Task<'_>, path: &str, named: Named) -> Result<bool, AllocError>
+    ensures { IfOk result (λ is. is ≡ leaves_out (selection task.entry.selection.now) task.entry.bare named path.now) }
+{
+    match named {
+        Named::File | Named::Device => task.selection.skips_named(alloc, false, path),
+        Named::Folder => {
+            if task.bare {
+                return Ok(false);
+            }
+            task.selection.skips_named(alloc, true, path)
+        }
+        Named::Input => Ok(false),
+    }
+}
+
+/// Whether the options leave out what an argument names, if that is known.
 fn is_left_out(
     alloc: Global,
     task: Task<'_>,
     path: &str,
     named: &io::Result<Named>,
-) -> Result<bool, AllocError> {
-    let selection = task.selection;
+) -> Result<bool, AllocError>
+    ensures { IfOk result (λ is. is ≡ is_left_out (selection task.entry.selection.now) task.entry.bare named.now path.now) }
+{
     match named {
-        Ok(Named::File) => selection.skips_named(alloc, false, path),
-        Ok(Named::Device) => selection.skips_named(alloc, false, path),
-        Ok(Named::Folder) => {
-            if task.bare {
-                return Ok(false);
-            }
-            selection.skips_named(alloc, true, path)
-        }
-        Ok(Named::Input) => Ok(false),
+        Ok(named) => leaves_out(alloc, task, path, *named),
         Err(_) => Ok(false),
     }
 }
@@ -537,7 +677,11 @@ fn search_chosen(
     path: &str,
     named: io::Result<Named>,
 ) -> Result<(), AllocError>
-    ensures { Continues outcome.old outcome.new }
+    ensures left { is_left_out (selection task.entry.selection.now) task.entry.bare named path.now ≡ true → outcome.new ≡ outcome.old }
+    ensures file { is_left_out (selection task.entry.selection.now) task.entry.bare named path.now ≡ false
+        → named ≡ Ok File → OnOk result (Tries outcome.old outcome.new) }
+    ensures unknown { IfErr named (λ _. OnOk result (outcome.new ≡ with_failure outcome.old)) }
+    ensures continues { Continues outcome.old outcome.new }
 {
     if is_left_out(rt.alloc(), task, path, &named)? {
         return Ok(());
@@ -589,7 +733,9 @@ fn search_all(
 }
 
 /// Whether what an argument names may be several files: the files of a folder.
-fn may_be_several(directories: Directories, named: &io::Result<Named>) -> bool {
+fn may_be_several(directories: Directories, named: &io::Result<Named>) -> bool
+    ensures { result ≡ may_be_several directories named.now }
+{
     match named {
         Ok(Named::Folder) => directories == Directories::Recurse,
         _ => false,
@@ -630,6 +776,7 @@ fn search_files(
         input_name: files.input_name,
         output: output_file(rt),
         selection: files.selection,
+        binary: files.binary,
         width: 0,
     };
     match files.names {

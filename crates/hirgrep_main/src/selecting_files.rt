@@ -8,14 +8,19 @@ ghost use Rattle.globs.specs.Rules.{excluded, folder_rule, glob_fault, glob_rule
 ghost use Rattle.grep_options.specs.FileOptions.{file_values, given_of};
 ghost use Rattle.grep_options.specs.Options.{is_text, values_given};
 ghost use Rattle.hirgrep_main.specs.Selecting.{are_sound, base_len, depth_in, enters, excluded_lines, folder_rules, glob_rules, is_sure, names_rules, rules_for, selection, selection_given, selection_without_rules, skips_entry};
-ghost use Rattle.hirgrep_main.specs.Selecting.{skips_found, skips_named, skips_path, slashes, value_rules, values_rules, with_files, with_folders, with_globs, with_rules};
+ghost use Rattle.hirgrep_main.specs.Selecting.{skips_found, skips_named, skips_path, skips_type, slashes, value_rules, values_rules, with_files, with_folders, with_globs, with_rules, with_types};
+ghost use Rattle.hirgrep_main.specs.Selecting.{are_types, gives_types, named_types, types_given};
+ghost use Rattle.hirgrep_main.specs.FileTypes.{is_type, of_type, rows_of, type_rules};
 
 use crate::asked::Asked;
+use crate::file_types::{is_type, push_type};
 use crate::input::input;
 use crate::messages::report_error;
 use crate::shown::Shown;
 use clap::ArgMatches;
-use globs::{Fault, FaultKind, Rule, chars_of, chooses, file_name, push_excluded, skips, without_dot};
+use globs::{
+    Fault, FaultKind, Rule, chars_of, chooses, file_name, push_excluded, skips, without_dot,
+};
 use grep_options::{FileOption, FileValue, file_values, is_set, number};
 use std::alloc::{AllocError, Global};
 use std::rt::Runtime;
@@ -30,6 +35,8 @@ pub struct Selection {
     folders: Vec<Rule>,
     /// The rules of `--glob`.
     globs: Vec<Rule>,
+    /// The rules of `--type` and `--type-not`.
+    types: Vec<Rule>,
     /// How deep folders are searched.
     max_depth: Option<u64>,
     /// The names of files are printed, and nothing is searched.
@@ -227,6 +234,47 @@ fn push_globs(rt: &HostRuntime, rules: &mut Vec<Rule>, texts: &[&str]) -> Result
     Ok(true)
 }
 
+/// Appends the rules of a type, which select its files or leave them out. Returns false if there is no such type, after reporting that.
+fn push_named_type(
+    rt: &HostRuntime,
+    rules: &mut Vec<Rule>,
+    types: &[(&str, &str)],
+    selects: bool,
+    name: &str,
+) -> Result<bool, AllocError>
+    ensures known { IfOk result (λ known. known ≡ is_type name.now (rows_of types.now)) }
+    ensures rules { IfOk result (λ known. known ≡ true → map rule_of rules.new.items
+        ≡ map rule_of rules.old.items ++ type_rules selects (of_type name.now (rows_of types.now))) }
+{
+    if !is_type(types, name) {
+        let name = Shown(name);
+        let _ = eprintln!(rt; "hirgrep: unrecognized file type: {name}; see hirgrep --type-list");
+        return Ok(false);
+    }
+    push_type(rt.alloc(), rules, types, selects, name)?;
+    Ok(true)
+}
+
+/// Appends the rules of types. Returns false if one isn't known, after reporting that.
+fn push_named_types(
+    rt: &HostRuntime,
+    rules: &mut Vec<Rule>,
+    types: &[(&str, &str)],
+    selects: bool,
+    names: &[&str],
+) -> Result<bool, AllocError>
+    ensures known { IfOk result (λ known. known ≡ are_types (rows_of types.now) (map (λ n. n.now) names.now)) }
+    ensures rules { IfOk result (λ known. known ≡ true → map rule_of rules.new.items
+        ≡ map rule_of rules.old.items ++ named_types selects (rows_of types.now) (map (λ n. n.now) names.now)) }
+{
+    for name in names {
+        if !push_named_type(rt, rules, types, selects, name)? {
+            return Ok(false);
+        }
+    }
+    Ok(true)
+}
+
 /// Whether the names in a folder are put in order.
 fn sorts(matches: &ArgMatches<'_>) -> bool
     ensures { result ≡ is_text (codes "path") (first_value (found_of matches.now) (codes "sort")) }
@@ -246,6 +294,7 @@ impl Selection {
             files: Vec::new(alloc),
             folders: Vec::new(alloc),
             globs: Vec::new(alloc),
+            types: Vec::new(alloc),
             max_depth: number(matches, "max-depth"),
             lists: is_set(matches, "files"),
             sorts: sorts(matches),
@@ -286,22 +335,45 @@ impl Selection {
         push_globs(rt, &mut self.globs, texts)
     }
 
+    /// Adds the rules of types of files. Returns false after reporting an error.
+    fn add_types(
+        &mut self,
+        rt: &HostRuntime,
+        types: &[(&str, &str)],
+        matches: &ArgMatches<'_>,
+    ) -> Result<bool, AllocError>
+        ensures known { IfOk result (λ known. known ≡ gives_types (found_of matches.now) (rows_of types.now)) }
+        ensures rules { IfOk result (λ known. known ≡ true → selection self.new
+            ≡ with_types (selection self.old) (types_given (found_of matches.now) (rows_of types.now))) }
+    {
+        let names = matches.get_strs("type").unwrap_or(&[]);
+        if !push_named_types(rt, &mut self.types, types, true, names)? {
+            return Ok(false);
+        }
+        let names = matches.get_strs("type-not").unwrap_or(&[]);
+        push_named_types(rt, &mut self.types, types, false, names)
+    }
+
     /// Adds the rules that options give. Returns false after reporting an error.
     fn add_rules(
         &mut self,
         rt: &HostRuntime,
         asked: &Asked,
+        types: &[(&str, &str)],
         matches: &ArgMatches<'_>,
     ) -> Result<bool, AllocError>
         ensures rules { IfOk result (λ sound. sound ≡ true → (contents : List (List ℕ))
-            × (selection self.new ≡ with_rules (selection self.old) (found_of matches.now) contents)) }
-        ensures sure { IfOk result (λ sound. is_sure (found_of matches.now) ≡ true → sound ≡ true) }
+            × (selection self.new ≡ with_rules (selection self.old) (found_of matches.now) (rows_of types.now) contents)) }
+        ensures sure { IfOk result (λ sound. is_sure (found_of matches.now) (rows_of types.now) ≡ true → sound ≡ true) }
     {
         if !self.add_values(rt, asked, matches)? {
             return Ok(false);
         }
         self.add_folders(rt.alloc(), matches)?;
-        self.add_globs(rt, matches)
+        if !self.add_globs(rt, matches)? {
+            return Ok(false);
+        }
+        self.add_types(rt, types, matches)
     }
 
     fn rules_for(&self, is_folder: bool) -> &[Rule]
@@ -355,6 +427,18 @@ impl Selection {
         Ok(!chosen)
     }
 
+    /// Whether the types of files leave out what has this path, by its name.
+    fn skips_type(&self, alloc: Global, is_folder: bool, path: &str) -> Result<bool, AllocError>
+        ensures { IfOk result (λ is. is ≡ skips_type (selection self.now) is_folder path.now) }
+    {
+        if is_folder || self.types.is_empty() {
+            return Ok(false);
+        }
+        let path = chars_of(alloc, path)?;
+        let chosen = chooses(alloc, &self.types, false, file_name(&path))?;
+        Ok(!chosen)
+    }
+
     /// Whether what is at this path, which was found in a folder, is left out.
     pub fn skips_found(
         &self,
@@ -367,7 +451,10 @@ impl Selection {
         if self.skips_entry(alloc, is_folder, path)? {
             return Ok(true);
         }
-        self.skips_path(alloc, is_folder, path)
+        if self.skips_path(alloc, is_folder, path)? {
+            return Ok(true);
+        }
+        self.skips_type(alloc, is_folder, path)
     }
 
     /// Whether the folder at a path is searched, which is this deep.
@@ -421,13 +508,14 @@ pub fn depth_in(root: &str, path: &str) -> usize
 pub fn selection_of(
     rt: &HostRuntime,
     asked: &Asked,
+    types: &[(&str, &str)],
     matches: &ArgMatches<'_>,
 ) -> Result<Option<Selection>, AllocError>
     ensures rules { IfOk result (λ o. IfSome o (λ s. (contents : List (List ℕ))
-        × (selection s ≡ selection_given (found_of matches.now) contents))) }
-    ensures sure { IfOk result (λ o. is_sure (found_of matches.now) ≡ true → is_some o ≡ true) }
+        × (selection s ≡ selection_given (found_of matches.now) (rows_of types.now) contents))) }
+    ensures sure { IfOk result (λ o. is_sure (found_of matches.now) (rows_of types.now) ≡ true → is_some o ≡ true) }
 {
     let mut selection = Selection::new(rt.alloc(), matches);
-    let is_sound = selection.add_rules(rt, asked, matches)?;
+    let is_sound = selection.add_rules(rt, asked, types, matches)?;
     Ok(if is_sound { Some(selection) } else { None })
 }
