@@ -200,30 +200,11 @@ format_options =
     ∷ no_separator
     ∷ []
 
--- Which files with zero bytes are text: of these three the last one takes effect. The last of them has no long name.
-abbrev pub text_option : OptionRow
-text_option = record (flag (codes "text") (codes "a")) { turns_off = codes "binary-files" ∷ codes "skip-binary" ∷ [] }
-
-abbrev pub given_type : OptionRow
-given_type = record (option (codes "binary-files") [] Set) { turns_off = codes "text" ∷ codes "skip-binary" ∷ [] }
-
-abbrev pub short_flag : List ℕ → List ℕ → OptionRow
-short_flag name letter = record (flag name letter) { long = None }
-
-abbrev pub skip_option : OptionRow
-skip_option = record (short_flag (codes "skip-binary") (codes "I")) { turns_off = codes "text" ∷ codes "binary-files" ∷ [] }
-
-abbrev pub binary_options : List OptionRow
-binary_options =
-    text_option
-    ∷ given_type
-    ∷ skip_option
-    ∷ []
-
--- These change nothing: no carriage return is removed, and lines are written before more input is read.
+-- These change nothing: any file is text, no carriage return is removed, and lines are written before more input is read.
 abbrev pub accepted_options : List OptionRow
 accepted_options =
-    flag (codes "binary") (codes "U")
+    flag (codes "text") (codes "a")
+    ∷ flag (codes "binary") (codes "U")
     ∷ flag (codes "line-buffered") []
     ∷ []
 
@@ -256,4 +237,4 @@ options =
     ++ (selecting_options
     ++ (printing_options
     ++ (folder_options
-    ++ (file_options ++ (paired_options ++ (number_options ++ (binary_options ++ (accepted_options ++ (format_options ++ other_options)))))))))))
+    ++ (file_options ++ (paired_options ++ (number_options ++ (accepted_options ++ (format_options ++ other_options))))))))))

@@ -76,12 +76,12 @@ option_words word s =
 
 -- ---- words
 
--- one of the options that choose files or say what is printed of them
+-- one of the options that choose files
 abbrev pub is_awaiting_file : List ℕ → Bool
 is_awaiting_file w =
     bytes_eq w (codes "--include") || (bytes_eq w (codes "--exclude") || (bytes_eq w (codes "--exclude-from")
     || (bytes_eq w (codes "--exclude-dir") || (bytes_eq w (codes "--glob") || (bytes_eq w (codes "--max-depth") || (bytes_eq w (codes "--sort")
-    || (bytes_eq w (codes "--type") || (bytes_eq w (codes "--type-not") || bytes_eq w (codes "--binary-files")))))))))
+    || (bytes_eq w (codes "--type") || bytes_eq w (codes "--type-not"))))))))
 
 -- a long option whose value is the next word
 abbrev pub is_awaiting : List ℕ → Bool

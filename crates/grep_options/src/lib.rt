@@ -4,7 +4,6 @@
 //! `specs/Options.antt` defines what they return.
 #![tactic(auto)]
 
-mod binary;
 mod files;
 mod format;
 mod numbers;

@@ -170,7 +170,6 @@ fn is_awaiting_file(word: &str) -> bool
         || word == "--sort"
         || word == "--type"
         || word == "--type-not"
-        || word == "--binary-files"
 }
 
 /// Whether the word is a long option whose value is the next word.

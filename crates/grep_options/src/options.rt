@@ -7,7 +7,6 @@ ghost use Rattle.grep_options.specs.CommandLine.{flag, flag_over, flag_without, 
 ghost use Rattle.grep_options.specs.CommandLine.{other_options, paired_options, printing_options, quiet_option, selecting_options};
 ghost use Rattle.grep_options.specs.CommandLine.{syntax_options, turning_off, words_option};
 
-use crate::binary::push_binary;
 use crate::files::push_files;
 use crate::format::push_format;
 use clap::{Arg, ArgAction, Command, value_parser};
@@ -146,6 +145,7 @@ fn push_selecting<'a>(alloc: Global, args: &mut Vec<Arg<'a>>) -> Result<(), Allo
 fn push_accepted<'a>(alloc: Global, args: &mut Vec<Arg<'a>>) -> Result<(), AllocError>
     ensures { OnOk result (AddsOptions args.old.items args.new.items accepted_options) }
 {
+    push_flag(alloc, args, "text", 'a', "accepted: every file is text")?;
     let binary = "accepted: no carriage return is removed";
     push_flag(alloc, args, "binary", 'U', binary)?;
     let help = "accepted: selected lines are always written before more input is read";
@@ -389,7 +389,6 @@ fn push_all<'a>(alloc: Global, args: &mut Vec<Arg<'a>>) -> Result<(), AllocError
     push_files(alloc, args)?;
     push_pairs(alloc, args)?;
     push_numbers(alloc, args)?;
-    push_binary(alloc, args)?;
     push_accepted(alloc, args)?;
     push_format(alloc, args)?;
     push_others(alloc, args)

@@ -1,6 +1,5 @@
 -- What is found in folders, and which of it is searched.
 use Rattle.std.specs.Prelude.{◌≡◌, ◌⊎◌, ℕ, ◌==◌, Bool, true, false, ◌&&◌, ◌||◌, not, List, [], ◌∷◌, ◌++◌, Result, Ok, Err, if◌then◌else◌}
-use Rattle.std.specs.Str.{is_utf8}
 use Rattle.std.specs.declared.io.Error.{Error}
 use Rattle.globs.specs.Rules.{ends_in_slash}
 use Rattle.hirgrep_main.specs.Decisions.{counted}
@@ -26,14 +25,6 @@ is_entry [] = false
 is_entry (a ∷ []) = not (a == 46)
 is_entry (a ∷ b ∷ []) = not (a == 46 && b == 46)
 is_entry (a ∷ b ∷ c ∷ more) = true
-
--- An entry whose name isn't UTF-8 can't be searched.
-abbrev pub is_broken : List ℕ → Bool
-is_broken name = is_entry name && not (is_utf8 name)
-
--- the path of an entry, if it can be searched
-abbrev pub entry_paths : List ℕ → List ℕ → List (List ℕ)
-entry_paths folder name = if is_entry name && is_utf8 name then joined folder name ∷ [] else []
 
 -- ---- what is searched
 

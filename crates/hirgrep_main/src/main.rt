@@ -9,7 +9,6 @@ ghost use Rattle.hirgrep_main.specs.Outcomes.{no_outcome, with_failure};
 
 mod arguments;
 mod asked;
-mod binary;
 mod columns;
 mod counting;
 mod file_types;
@@ -27,7 +26,6 @@ mod walking;
 
 use crate::arguments::{arguments_of, report_usage};
 use crate::asked::{Asked, Directories, asked_of, input_name, is_colorful};
-use crate::binary::binary_of;
 use crate::file_types::{TYPES, list_of_types};
 use crate::messages::{report_error, report_output};
 use crate::outcome::Outcome;
@@ -108,7 +106,6 @@ fn run_chosen(
         names: matches.get_strs("words").unwrap_or(&[]),
         input_name: input_name(matches),
         selection,
-        binary: binary_of(matches),
     };
     if selection.lists {
         return run_list(rt, asked, words);

@@ -1,5 +1,5 @@
 //! Searches files, one after the other.
-ghost use Rattle.std.specs.Prelude.{◌≡◌, ℕ, Bool, true, false, Result, Ok, IfErr, IfOk, IfSome, OnOk, List, ◌++◌, codes, map, string_bytes, take, if◌then◌else◌};
+ghost use Rattle.std.specs.Prelude.{◌≡◌, ℕ, Bool, true, false, Result, Ok, IfErr, IfOk, IfSome, OnOk, codes, map, string_bytes, take, if◌then◌else◌};
 ghost use Rattle.std.specs.Io.KnownBytes.{Appends};
 ghost use Rattle.grep_core.specs.Meant.{written};
 ghost use Rattle.grep_core.specs.Report.{counted_as, report, selected_count};
@@ -14,22 +14,21 @@ ghost use Rattle.hirgrep_main.specs.declared.walking.Kind.TheVariants.{Link, Dev
 ghost use Rattle.hirgrep_main.specs.Selecting.{depth_in, enters, selection, skips_found};
 ghost use Rattle.hirgrep_main.specs.Walking.{Tries, is_folder, is_folder_kind, is_left_out, leaves_out, may_be_several, named_by};
 ghost use Rattle.hirgrep_main.specs.Outcomes.{Continues, after_search, no_outcome, with_failure};
-ghost use Rattle.hirgrep_main.specs.Tasks.{count_for, has_zero, options_for};
+ghost use Rattle.hirgrep_main.specs.Tasks.{options_in};
 
 use crate::asked::{Asked, Devices, Directories, Names};
-use crate::binary::{Binary, has_zero, is_noticed, prints_lines, read_first};
 use crate::columns::width_at;
 use crate::counting::Counting;
 use crate::input::input;
-use crate::messages::{Causes, report_no_finder, report_reason};
+use crate::messages::{Causes, report_no_finder};
 use crate::outcome::Outcome;
 use crate::output::Output;
 use crate::selecting_files::Selection;
-use crate::task::{Task, options_for, shown_name};
+use crate::task::{Task, shown_name};
 use crate::walking::{Kind, is_output, kind_of, output_file, push_folder, push_found};
 use grep_core::{
-    Fault, Finder, LinePatterns, Print, SearcherError, SeparatorState, config_of, needs_spans,
-    pattern_source, report_input,
+    Fault, Finder, LinePatterns, OutputOptions, Print, SearcherError, SeparatorState, config_of,
+    needs_spans, pattern_source, report_input,
 };
 use std::alloc::{AllocError, Global};
 use std::io::{Read, Write};
@@ -45,8 +44,6 @@ pub struct Files<'a> {
     pub input_name: &'a str,
     /// Which files are searched.
     pub selection: &'a Selection,
-    /// What is printed of inputs with zero bytes.
-    pub binary: Binary,
 }
 
 fn strs_of<'a>(alloc: Global, texts: &'a [String]) -> Result<Vec<&'a str>, AllocError>
@@ -71,119 +68,41 @@ fn texts_of(alloc: Global, asked: &Asked, patterns: &[&str]) -> Result<Vec<Strin
     Ok(texts)
 }
 
-/// Searches the input of a reader, and writes the output for it: the report that was asked for, under this name. `zero` says whether its
-/// first bytes have a zero byte.
+/// Searches the input of a reader, and writes the output for it: the report that was asked for, under this name.
 fn report_reader<R: Read, W: Write>(
     alloc: Global,
     finder: &mut Finder<'_>,
     task: Task<'_>,
     known: SeparatorState,
     name: &str,
-    zero: bool,
     reader: &mut R,
     writer: &mut W,
 ) -> Result<u64, Fault>
     ensures same { finder.new ≡ finder.old }
     ensures reported { OnOk result ((by : SearchesFor finder.old (needs_spans task.entry.asked.now.what)) →
         IfSome (R.remaining reader.old) (λ text. Appends (W.contents writer.old) (W.contents writer.new)
-        (report (options_for task.entry zero) (found_by by) name.now task.entry.with_name known text))) }
+        (report (options_in task.entry) (found_by by) name.now task.entry.with_name known text))) }
     ensures selected { IfOk result (λ n. (by : SearchesFor finder.old (needs_spans task.entry.asked.now.what)) →
-        IfSome (R.remaining reader.old) (λ text. n ≡ count_for task.entry zero (found_by by) text)) }
+        IfSome (R.remaining reader.old) (λ text.
+        n ≡ counted_as task.entry.asked.now.what.print (selected_count task.entry.asked.now.what (found_by by) text))) }
     ensures fault { IfErr result (λ _. (by : SearchesFor finder.old (needs_spans task.entry.asked.now.what)) →
         IfSome (R.remaining reader.old) (λ text. (n : ℕ) × Appends (W.contents writer.old) (W.contents writer.new)
-        (take n (report (options_for task.entry zero) (found_by by) name.now task.entry.with_name known text)))) }
+        (take n (report (options_in task.entry) (found_by by) name.now task.entry.with_name known text)))) }
 {
+    let what = OutputOptions {
+        width: task.width,
+        ..task.asked.what
+    };
     report_input(
         alloc,
         finder,
-        &options_for(task, zero),
+        &what,
         name.as_bytes(),
         task.with_name,
         known,
         reader,
         writer,
     )
-}
-
-/// Reports that an input with a zero byte has a selected line, if that is printed instead of its lines.
-fn report_notice(
-    rt: &HostRuntime,
-    task: Task<'_>,
-    name: &str,
-    zero: bool,
-    reported: Result<u64, Fault>,
-) {
-    if is_noticed(task.binary, task.asked.what.print, zero, reported) {
-        report_reason(rt, name, "binary file matches");
-    }
-}
-
-/// Searches an input of which these are the first bytes, and a reader has the others.
-fn report_first<R: Read, W: Write>(
-    rt: &HostRuntime,
-    finder: &mut Finder<'_>,
-    task: Task<'_>,
-    known: SeparatorState,
-    name: &str,
-    first: &[u8],
-    reader: &mut R,
-    writer: &mut W,
-) -> Result<u64, Fault>
-    ensures same { finder.new ≡ finder.old }
-    ensures reported { OnOk result ((by : SearchesFor finder.old (needs_spans task.entry.asked.now.what)) →
-        IfSome (R.remaining reader.old) (λ text. Appends (W.contents writer.old) (W.contents writer.new)
-        (report (options_for task.entry (has_zero first.now)) (found_by by) name.now task.entry.with_name known (first.now ++ text)))) }
-    ensures selected { IfOk result (λ n. (by : SearchesFor finder.old (needs_spans task.entry.asked.now.what)) →
-        IfSome (R.remaining reader.old) (λ text. n ≡ count_for task.entry (has_zero first.now) (found_by by) (first.now ++ text))) }
-    ensures fault { IfErr result (λ _. (by : SearchesFor finder.old (needs_spans task.entry.asked.now.what)) →
-        IfSome (R.remaining reader.old) (λ text. (n : ℕ) × Appends (W.contents writer.old) (W.contents writer.new)
-        (take n (report (options_for task.entry (has_zero first.now)) (found_by by) name.now task.entry.with_name known
-        (first.now ++ text))))) }
-{
-    let zero = has_zero(first);
-    let mut whole = first.chain(reader);
-    let reported = report_reader(
-        rt.alloc(),
-        finder,
-        task,
-        known,
-        name,
-        zero,
-        &mut whole,
-        writer,
-    );
-    report_notice(rt, task, name, zero, reported);
-    reported
-}
-
-/// Searches the input of a reader, and writes the output for it under this name. If inputs with a zero byte aren't text, the bytes of the
-/// first read decide what is printed.
-fn report_any<R: Read, W: Write>(
-    rt: &HostRuntime,
-    finder: &mut Finder<'_>,
-    task: Task<'_>,
-    known: SeparatorState,
-    name: &str,
-    reader: &mut R,
-    writer: &mut W,
-) -> Result<u64, Fault>
-    ensures same { finder.new ≡ finder.old }
-    ensures reported { OnOk result ((by : SearchesFor finder.old (needs_spans task.entry.asked.now.what)) →
-        IfSome (R.remaining reader.old) (λ text. (n : ℕ) × Appends (W.contents writer.old) (W.contents writer.new)
-        (report (options_for task.entry (has_zero (take n text))) (found_by by) name.now task.entry.with_name known text))) }
-    ensures selected { IfOk result (λ lines. (by : SearchesFor finder.old (needs_spans task.entry.asked.now.what)) →
-        IfSome (R.remaining reader.old) (λ text. (n : ℕ) × (lines ≡ count_for task.entry (has_zero (take n text)) (found_by by) text))) }
-    ensures fault { IfErr result (λ _. (by : SearchesFor finder.old (needs_spans task.entry.asked.now.what)) →
-        IfSome (R.remaining reader.old) (λ text. (n : ℕ) × (m : ℕ) × Appends (W.contents writer.old) (W.contents writer.new)
-        (take m (report (options_for task.entry (has_zero (take n text))) (found_by by) name.now task.entry.with_name known text)))) }
-{
-    if task.binary == Binary::AsText {
-        return report_reader(rt.alloc(), finder, task, known, name, false, reader, writer);
-    }
-    match read_first(rt.alloc(), reader) {
-        Ok(first) => report_first(rt, finder, task, known, name, &first, reader, writer),
-        Err(fault) => Err(fault),
-    }
 }
 
 /// Searches the input of a reader under this name, and records the outcome.
@@ -199,15 +118,16 @@ fn search_reader<R: Read + Drop, W: Write + Drop>(
     ensures same { finder.new ≡ finder.old }
     ensures came { (reported : Result ℕ TheFault) × (bytes : ℕ) × (wrote : Bool)
         × (outcome.new ≡ after_search task.entry.asked.now.what.print outcome.old bytes wrote reported)
-        × IfOk reported (λ lines. (by : SearchesFor finder.old (needs_spans task.entry.asked.now.what)) →
-        IfSome (R.remaining reader) (λ text. (n : ℕ) × (lines ≡ count_for task.entry (has_zero (take n text)) (found_by by) text))) }
+        × IfOk reported (λ n. (by : SearchesFor finder.old (needs_spans task.entry.asked.now.what)) →
+        IfSome (R.remaining reader) (λ text.
+        n ≡ counted_as task.entry.asked.now.what.print (selected_count task.entry.asked.now.what (found_by by) text))) }
     ensures counted { outcome.new.files ≡ counted outcome.old.files 1 }
     ensures continues { Continues outcome.old outcome.new }
 {
     let mut reader = Counting::new(reader);
     let mut writer = Output::new(writer);
-    let reported = report_any(
-        rt,
+    let reported = report_reader(
+        rt.alloc(),
         finder,
         task,
         outcome.known(),
@@ -227,6 +147,15 @@ fn search_reader<R: Read + Drop, W: Write + Drop>(
             write: writer.code(),
         },
     );
+}
+
+fn prints_lines(print: Print) -> bool
+    ensures { result ≡ prints_lines print }
+{
+    match print {
+        Print::Lines | Print::Matches => true,
+        Print::Count | Print::NameIfAny | Print::NameIfNone | Print::Nothing => false,
+    }
 }
 
 fn prints_names_if_none(print: Print) -> bool
@@ -776,7 +705,6 @@ fn search_files(
         input_name: files.input_name,
         output: output_file(rt),
         selection: files.selection,
-        binary: files.binary,
         width: 0,
     };
     match files.names {

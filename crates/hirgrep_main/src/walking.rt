@@ -1,9 +1,9 @@
 //! The files of folders.
-ghost use Rattle.std.specs.Prelude.{◌≡◌, ◌++◌, ◌∷◌, [], IfOk, OnOk, false, map, string_bytes, if◌then◌else◌};
+ghost use Rattle.std.specs.Prelude.{◌≡◌, ◌++◌, ◌∷◌, [], IfOk, OnOk, false, map, string_bytes};
 ghost use Rattle.globs.specs.Rules.{ends_in_slash};
 ghost use Rattle.hirgrep_main.specs.Outcomes.{Continues, with_failure};
 ghost use Rattle.hirgrep_main.specs.Selecting.{depth_in, enters};
-ghost use Rattle.hirgrep_main.specs.Walking.{entry_paths, is_broken, is_entry, joined};
+ghost use Rattle.hirgrep_main.specs.Walking.{is_entry, joined};
 
 use crate::messages::warn_of_loop;
 use crate::outcome::Outcome;
@@ -196,8 +196,7 @@ fn push_entry(
     name: &[u8],
     paths: &mut Vec<String>,
 ) -> Result<(), AllocError>
-    ensures paths { OnOk result (map string_bytes paths.new.items ≡ map string_bytes paths.old.items ++ entry_paths folder.now name.now) }
-    ensures failed { OnOk result (outcome.new ≡ (if is_broken name.now then with_failure outcome.old else outcome.old)) }
+    ensures other { is_entry name.now ≡ false → (outcome.new ≡ outcome.old) × (paths.new ≡ paths.old) }
     ensures continues { Continues outcome.old outcome.new }
 {
     if !is_entry(name) {
