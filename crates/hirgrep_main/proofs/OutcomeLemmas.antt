@@ -1,5 +1,5 @@
 -- What came of files stays, whatever comes of the next ones.
-use Rattle.std.proofs.Common.{inl, inr, ◌∙◌, ◌≡◌, ℕ, Bool, true, ◌||◌, ◌&&◌, nat_lt, ap, sym, subst, refl}
+use Rattle.std.proofs.Common.{◌∙◌, ◌≡◌, ℕ, Bool, true, false, if◌then◌else◌, ◌||◌, ◌&&◌, nat_lt, ap, sym, subst, refl}
 use Rattle.std.specs.Prelude.{Result, Ok, Err}
 use Rattle.grep_core.specs.declared.fault.Fault.{Fault}
 use Rattle.grep_core.specs.declared.output_options.Print.{Print}
@@ -55,11 +55,8 @@ pub searched_as : {new : Outcome} (print : Print) (o : Outcome) (bytes : ℕ) (w
     → new ≡ after_search print o bytes wrote reported → new.files ≡ counted o.files 1
 searched_as print o bytes wrote reported e = ap (λ (x : Outcome). x.files) e ∙ searched_counts print o bytes wrote reported
 
-pub tries_counted : {old new : Outcome} → new.files ≡ counted old.files 1 → Tries old new
-tries_counted e = inl e
-
-pub tries_failed : {old new : Outcome} → new ≡ with_failure old → Tries old new
-tries_failed e = inr e
+pub unrefused : {a b : Outcome} (refused : Bool) → b ≡ (if refused then with_failure a else a) → refused ≡ false → b ≡ a
+unrefused {a = a} refused e f = e ∙ ap (λ (r : Bool). if r then with_failure a else a) f
 
 pub tries_after : {a b c : Outcome} → b ≡ a → Tries b c → Tries a c
 tries_after {c = c} e t = subst (λ (x : Outcome). Tries x c) e t
