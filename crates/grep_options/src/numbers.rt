@@ -40,6 +40,7 @@ fn takes_value(byte: u8) -> bool
         || byte == b'd'
         || byte == b'D'
         || byte == b'g'
+        || byte == b't'
 }
 
 fn is_digit(byte: u8) -> bool
@@ -167,6 +168,8 @@ fn is_awaiting_file(word: &str) -> bool
         || word == "--glob"
         || word == "--max-depth"
         || word == "--sort"
+        || word == "--type"
+        || word == "--type-not"
 }
 
 /// Whether the word is a long option whose value is the next word.
