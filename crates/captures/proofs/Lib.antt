@@ -1,2 +1,3 @@
 pub mod PatternLemmas
 pub mod FoundLemmas
+pub mod CopyLemmas
