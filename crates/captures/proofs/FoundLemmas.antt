@@ -163,7 +163,7 @@ no_span config ts h at found res read =
     ap (option_map span_of_match) (nothing (found_from config.utf8 (alt_all res) h at) (found.start res read))
 
 -- ---- with the slots
-spanned : (o : Option Match) (f : FoundMatch) → option_map span_of_match o ≡ Some (span_of_row f) →
+pub spanned : (o : Option Match) (f : FoundMatch) → option_map span_of_match o ≡ Some (span_of_row f) →
     (m : Match) × (o ≡ Some m) × (span_of_match m ≡ span_of_row f)
 spanned None f e = absurd (none-some (span_of_row f) e)
 spanned (Some m) f e = (m, refl, same_Some (span_of_match m) (span_of_row f) e)

@@ -1,3 +1,5 @@
 pub mod PatternLemmas
+pub mod RowLemmas
 pub mod FoundLemmas
+pub mod ListLemmas
 pub mod CopyLemmas

@@ -1,6 +1,7 @@
 //! Copies of groups, for a second handle of a regex.
 ghost use Rattle.std.specs.Prelude.{◌≡◌, ◌++◌, ◌∷◌, [], ℕ, List, IfOk, OnOk};
 ghost use Rattle.regex_syntax.specs.declared.Config.{Config as TextConfig};
+ghost use Rattle.meta_regex.specs.declared.options.Options.{Options};
 ghost use Rattle.captures.specs.Patterns.{IsPatternGroups, ArePatternGroups};
 
 use crate::groups::Groups;
@@ -44,7 +45,7 @@ impl Groups {
 
     /// The groups of the same patterns once more, without what finds them. Nothing is parsed or compiled.
     pub fn try_clone(&self, alloc: Global) -> Result<Groups, AllocError>
-        ensures { (config : TextConfig) (texts : List (List ℕ)) → AreGroupsOf config texts self.now → IfOk result (AreGroupsOf config texts) }
+        ensures { (o : Options) (texts : List (List ℕ)) → AreGroupsOf o texts self.now → IfOk result (AreGroupsOf o texts) }
     {
         let patterns = copies_of(alloc, &self.patterns)?;
         Ok(Groups {

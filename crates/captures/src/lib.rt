@@ -8,6 +8,7 @@ mod captures;
 mod copies;
 mod errors;
 mod groups;
+mod list;
 mod pattern_groups;
 
 pub use errors::CapturesError;

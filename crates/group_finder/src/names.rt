@@ -1,7 +1,7 @@
 //! The groups of a pattern and their names.
 ghost use Rattle.std.specs.Prelude.{◌≡◌, ◌++◌, ◌∷◌, [], ℕ, List, IfErr, IfOk, OnOk, length, map, option_map, string_bytes};
 ghost use Rattle.group_finder.specs.Errors.{IsNewError};
-ghost use Rattle.group_finder.specs.Patterns.{IsNamedBy, name_at};
+ghost use Rattle.group_finder.specs.Patterns.{IsNamedBy, IsPattern, name_at};
 
 use crate::errors::{NewError, cause_of};
 use regex_syntax::{Config, Parsed};
@@ -26,6 +26,7 @@ impl Model for GroupNames {
 /// The names of the groups that the grammar reads in a pattern.
 fn names_of(alloc: Global, text: &str, config: &Config) -> Result<Vec<Option<String>>, NewError>
     ensures made { IfOk result (λ names. IsNamedBy config.now text.now (map (option_map string_bytes) names.items)) }
+    ensures pattern { IfOk result (λ _. IsPattern config.now text.now) }
     ensures refused { (limit : ℕ) → IfErr result (IsNewError config.now text.now limit) }
 {
     let Parsed { hir: _hir, names } = match regex_syntax::parse(alloc, text, config) {
@@ -67,6 +68,7 @@ impl GroupNames {
     /// The names of the groups that the grammar reads in a pattern. No error is about a limit.
     pub fn new(alloc: Global, text: &str, config: &Config) -> Result<GroupNames, NewError>
         ensures made { IfOk result (IsNamedBy config.now text.now) }
+        ensures pattern { IfOk result (λ _. IsPattern config.now text.now) }
         ensures refused { (limit : ℕ) → IfErr result (IsNewError config.now text.now limit) }
     {
         match names_of(alloc, text, config) {
