@@ -273,6 +273,24 @@ hanneddois_status hanneddois_find_all(
     hanneddois_error *error);
 
 /*
+ * The matches of hanneddois_find_all, each with the offsets of its groups. The slots of the match in matches[i] are
+ * slots[i * width] and the next ones, `width` in all, as hanneddois_captures writes them. So slots_length has to be
+ * matches_length * width; otherwise the call returns HANNEDDOIS_BAD_ARGUMENT. A width of 2 * N has room for N groups.
+ *
+ * Returns HANNEDDOIS_OK if there is any match, HANNEDDOIS_NONE and a count of 0, or an error. After an error *count is the
+ * number of matches before the search that failed, and these are written with their slots as far as they fit. With
+ * HANNEDDOIS_BAD_ARGUMENT *count is 0. Rows after the last match are unchanged, and so are their slots; only after an error
+ * the slots of the next match may be HANNEDDOIS_NO_OFFSET. Matches have the preferred end also with HANNEDDOIS_EMPTY_LOOPS.
+ */
+hanneddois_status hanneddois_captures_all(
+    hanneddois_regex *regex,
+    const uint8_t *haystack, size_t haystack_length,
+    hanneddois_match *matches, size_t matches_length,
+    size_t *slots, size_t slots_length, size_t width,
+    size_t *count,
+    hanneddois_error *error);
+
+/*
  * Which patterns match anywhere in the haystack, also if their matches overlap. Writes to matched[i] 1 if pattern i
  * does, and else 0, and to *count how many do. Returns HANNEDDOIS_OK if a pattern matches, HANNEDDOIS_NONE and a count
  * of 0, or an error, after which count and marks are 0. If matched_length isn't the number of patterns, the call returns

@@ -1,5 +1,6 @@
 -- Groups of a compiled regex.
 use Rattle.std.proofs.Common.{◌≡◌, ℕ, Bool, List, [], length, replicate, slice_get, Option, Some, None, option_map, refl, sym, ap, ◌∙◌}
+use Rattle.std.specs.Prelude.{IfErr, Result, Ok, Err}
 use Rattle.std.proofs.lemmas.Option.{none-some, same_Some}
 use Rattle.regex_hir.specs.Find.{Match}
 use Rattle.regex_syntax.specs.Grammar.{Names}
@@ -12,7 +13,11 @@ use Rattle.group_finder.specs.Patterns.{IsNamedBy, name_at}
 use Rattle.group_finder.specs.Slots.{no_offset}
 use Rattle.captures.specs.Captures.{HasCaptures, slots_of_found}
 use Rattle.capi.specs.Compiled.{Regexed, config_by}
-use Rattle.capi.specs.Groups.{IsGroupCount, IsGroupName, bytes_of_name}
+use Rattle.captures.specs.Errors.{IsCapturesError}
+use Rattle.captures.specs.declared.errors.CapturesError.{CapturesError}
+use Rattle.captures.specs.declared.errors.CapturesError.TheVariants.{Search, NoMemory, TooLarge}
+use Rattle.capi.specs.Groups.{IsGroupCount, IsGroupName, IsGroupSearchError, bytes_of_name}
+use Rattle.capi.specs.Options.{options_of}
 
 -- ---- numbers and names
 module _ (v : Regexed) (p : ℕ) where
@@ -56,3 +61,14 @@ none_cleared config ts h at n slots cleared is found res read = record {
   pattern = (found res read).pattern;
   slots_are = is ∙ ap (λ (o : Option Match). slots_of_found o n) (sym (spanless _ (found res read).span));
 }
+
+-- ---- errors
+one_error : (v : Regexed) (h : List ℕ) (e : CapturesError) → IsCapturesError (options_of v.options) h e → IsGroupSearchError v h e
+one_error v h (Search e) is = is
+one_error v h NoMemory is = is
+one_error v h (TooLarge n) is = is
+
+pub group_search_error : {A : Type 0} (v : Regexed) (h : List ℕ) (r : Result A CapturesError) →
+    IfErr r (IsCapturesError (options_of v.options) h) → IfErr r (IsGroupSearchError v h)
+group_search_error v h (Ok a) is = tt
+group_search_error v h (Err e) is = one_error v h e is

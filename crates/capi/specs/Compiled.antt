@@ -13,7 +13,7 @@ use Rattle.meta_regex.specs.Regexes.{IsNoText}
 use Rattle.capi.specs.declared.failure.NewError.{NewError}
 use Rattle.capi.specs.declared.failure.NewError.TheVariants.{BadArgument, NoMemory, NotUtf8, Text, EmptyLoop, Build, GroupsTooLarge}
 use Rattle.capi.specs.declared.options.Options.{Options}
-use Rattle.capi.specs.Options.{config_of_options, settings_of, has_known_flags, allows_empty_loops, asks_groups, size_limit_of}
+use Rattle.capi.specs.Options.{config_of_options, settings_of, has_known_flags, allows_empty_loops, asks_groups, groups_limit_of}
 use Rattle.capi.specs.Texts.{cut}
 
 -- What a contract sees of a compiled regex: its options and patterns, and whether the body of every unbounded repetition in these consumes
@@ -47,7 +47,7 @@ IsNewError o texts (EmptyLoop number) =
     (allows_empty_loops o ≡ false) × ((xs : List Tree) × AllMean (config_of_options o) texts xs × (first_empty_loop xs ≡ Some number))
 IsNewError o texts (Build e) =
     (xs : List Tree) × AllMean (config_of_options o) texts xs × FailsBuild xs (settings_of o LeftmostFirst) e
-IsNewError o texts (GroupsTooLarge n) = (asks_groups o ≡ true) × (n ≡ size_limit_of o)
+IsNewError o texts (GroupsTooLarge n) = (asks_groups o ≡ true) × (n ≡ groups_limit_of o)
 
 -- Why bytes can't be split into patterns of these lengths. With `BadArgument`, there is no length, or the lengths don't sum to the number
 -- of bytes. With `NotUtf8`, the pattern with this number isn't UTF-8 from this offset on. With `NoMemory`, memory ran out.

@@ -6,14 +6,14 @@ use Rattle.group_finder.specs.Patterns.{IsNamedBy, name_at}
 use Rattle.captures.specs.declared.errors.CapturesError.{CapturesError}
 use Rattle.captures.specs.declared.errors.CapturesError.TheVariants.{Search, NoMemory, TooLarge}
 use Rattle.capi.specs.Compiled.{Regexed, config_by}
-use Rattle.capi.specs.Options.{size_limit_of}
+use Rattle.capi.specs.Options.{groups_limit_of}
 
 -- Why a search for a match with its groups fails. With `NoMemory`, memory ran out. With `TooLarge`, what finds the groups of a pattern would
 -- take more bytes than the options allow.
 abbrev pub IsGroupSearchError : Regexed → List ℕ → CapturesError → Type 0
 IsGroupSearchError v h (Search e) = IsSearchError (config_by v) h e
 IsGroupSearchError v h NoMemory = ⊤
-IsGroupSearchError v h (TooLarge n) = n ≡ size_limit_of v.options
+IsGroupSearchError v h (TooLarge n) = n ≡ groups_limit_of v.options
 
 -- The number of groups that the grammar reads in the pattern with a number, group 0 counted. It is 0 if there is no such pattern.
 pub record IsGroupCount (v : Regexed) (pattern : ℕ) (n : ℕ) : Type 0 where

@@ -1,5 +1,5 @@
 -- What the numbers of a caller's options mean.
-use Rattle.std.specs.Prelude.{ℕ, ◌/◌, ◌%◌, Bool, true, not, if◌then◌else◌, nat_eq, nat_lt, Some, None}
+use Rattle.std.specs.Prelude.{ℕ, ◌/◌, ◌%◌, ◌^◌, min, Bool, true, not, if◌then◌else◌, nat_eq, nat_lt, Some, None}
 use Rattle.regex_syntax.specs.declared.Config.{Config}
 use Rattle.look_core.specs.Terminators.{one_of}
 use Rattle.search_types.specs.declared.match_kind.MatchKind.{MatchKind}
@@ -26,9 +26,13 @@ asks_groups o = is_flag_set o.flags 16384
 abbrev pub nest_limit_of : Options → ℕ
 nest_limit_of o = if nat_eq o.nest_limit 0 then 250 else o.nest_limit
 
--- How many bytes each automaton may take, also one that finds groups.
+-- How many bytes each automaton may take.
 abbrev pub size_limit_of : Options → ℕ
 size_limit_of o = if nat_eq o.size_limit 0 then 67108864 else o.size_limit
+
+-- How many bytes the automaton that finds the groups of a pattern may take: as many, but at most 16 GiB.
+abbrev pub groups_limit_of : Options → ℕ
+groups_limit_of o = min (size_limit_of o) (2 ^ 34)
 
 -- How the grammar parses patterns.
 abbrev pub config_of_options : Options → Config

@@ -5,14 +5,12 @@ ghost use Rattle.meta_regex.specs.Regexes.{AreAll, AreFirstOfAll, AreMarked, Has
 ghost use Rattle.meta_regex.specs.Regexes.{IsSearchError};
 ghost use Rattle.meta_regex.specs.Lists.{AreFirstListed, AreListed};
 ghost use Rattle.group_finder.specs.Slots.{no_offset};
-ghost use Rattle.captures.specs.Captures.{HasCaptures};
-ghost use Rattle.captures.specs.Errors.{IsCapturesError};
+ghost use Rattle.captures.specs.Captures.{AreCaptured, AreFirstCaptured, HasCaptures};
 ghost use Rattle.capi.specs.Compiled.{IsMadeOf, IsNewError, config_by};
 ghost use Rattle.capi.specs.Groups.{IsGroupCount, IsGroupName, IsGroupSearchError};
-ghost use Rattle.capi.specs.Options.{size_limit_of};
 
 use crate::failure::NewError;
-use crate::groups::{copied_groups, prepared_groups, with_limit, write_name};
+use crate::groups::{copied_groups, prepared_groups, write_name};
 use crate::options::Options;
 use captures::{CapturesError, Groups};
 use group_finder::clear;
@@ -33,7 +31,6 @@ pub struct Compiled {
 impl Model for Compiled {
     ghost use Rattle.std.specs.Prelude.{◌≡◌};
     ghost use Rattle.meta_regex.specs.Caches.{IsCacheOf};
-    ghost use Rattle.meta_regex.specs.Regexes.{config_by as config_of_regex};
     ghost use Rattle.captures.specs.Groups.{AreGroupsOf};
     ghost use Rattle.capi.specs.Compiled.{Regexed};
     ghost use Rattle.capi.specs.Options.{options_of};
@@ -43,7 +40,7 @@ impl Model for Compiled {
     ghost view = { λ c. record { options = c.options; texts = c.regex.value.texts; loops = c.regex.value.loops } };
 
     ghost invariant = { λ c. (c.regex.value.options ≡ options_of c.options) × IsCacheOf c.regex.value c.cache
-        × AreGroupsOf (config_of_regex c.regex.value) c.regex.value.texts c.groups };
+        × AreGroupsOf c.regex.value.options c.regex.value.texts c.groups };
 }
 
 /// A new cache. The automaton that reports which patterns match is made at once if the options ask for it.
@@ -122,16 +119,11 @@ impl Compiled {
         self.cache.clear_count()
     }
 
-    /// The bytes that the caches of its automata are estimated to need.
+    /// The bytes that the caches of its automata are estimated to need, and what finds groups, as [`Groups`] counts it.
     pub fn memory_usage(&self) -> usize {
-        self.cache.memory_usage()
-    }
-
-    /// How many bytes each automaton may take.
-    fn size_limit(&self) -> usize
-        ensures { result ≡ size_limit_of self.now.options }
-    {
-        self.options.size_limit()
+        self.cache
+            .memory_usage()
+            .saturating_add(self.groups.memory_usage())
     }
 
     /// The number of groups of the pattern with a number, group 0 counted. 0 if there is no such pattern.
@@ -182,7 +174,7 @@ impl Compiled {
         ensures same { self.new ≡ self.old }
         ensures found { IfOk result (λ o. HasCaptures (config_by self.old) self.old.texts haystack.now from (length slots.old) o slots.new) }
         ensures cleared { IfErr result (λ _. slots.new ≡ replicate (length slots.old) no_offset) }
-        ensures refused { IfErr result (IsCapturesError (config_by self.old) haystack.now) }
+        ensures refused { IfErr result (IsGroupSearchError self.old haystack.now) }
     {
         self.groups
             .captures_at(alloc, &self.regex, &mut self.cache, haystack, from, slots)
@@ -214,7 +206,7 @@ impl Compiled {
                 clear(slots);
                 Ok(None)
             }
-            Err(error) => Err(with_limit(error, self.size_limit())),
+            Err(error) => Err(error),
         }
     }
 
@@ -246,6 +238,38 @@ impl Compiled {
         ensures refused { IfErr result.1 (IsSearchError (config_by self.old) haystack.now) }
     {
         self.regex.find_all(alloc, &mut self.cache, haystack, rows)
+    }
+
+    /// All matches with their groups, by what goes with the regex: writes the first of them into the rows, from left to right, as many as these
+    /// have room for, and `width` slots of each into the slots, as far as there is room. The slots of a match are those of
+    /// [`captures_at`](Compiled::captures_at). Returns how many matches there are in all, whatever loops consume. On an error, the number counts
+    /// the matches before the search that failed, and these are written as far as there is room. Slots after them are unchanged, or those of the
+    /// next match hold no offset.
+    pub fn captures_all(
+        &mut self,
+        alloc: Global,
+        haystack: &[u8],
+        rows: &mut [FoundMatch],
+        slots: &mut [usize],
+        width: usize,
+    ) -> (usize, Result<(), CapturesError>)
+        ensures same { self.new ≡ self.old }
+        ensures all { IfOk result.1 (λ _. AreAll (config_by self.old) self.old.texts haystack.now result.0 rows.old rows.new) }
+        ensures first { IfErr result.1 (λ _. AreFirstOfAll (config_by self.old) self.old.texts haystack.now result.0 rows.old rows.new) }
+        ensures slots { IfOk result.1 (λ _. AreCaptured (config_by self.old) self.old.texts haystack.now width slots.old slots.new) }
+        ensures begun { IfErr result.1
+            (λ _. AreFirstCaptured (config_by self.old) self.old.texts haystack.now width result.0 slots.old slots.new) }
+        ensures refused { IfErr result.1 (IsGroupSearchError self.old haystack.now) }
+    {
+        self.groups.captures_all(
+            alloc,
+            &self.regex,
+            &mut self.cache,
+            haystack,
+            rows,
+            slots,
+            width,
+        )
     }
 
     /// For each pattern, writes 1 at its index if it matches anywhere, and 0 if it doesn't. Returns how many patterns match. There has to

@@ -1,23 +1,21 @@
 //! The groups of a compiled regex.
-ghost use Rattle.std.specs.Prelude.{◌≡◌, ℕ, List, IfErr, IfOk, length, map, option_map};
-ghost use Rattle.regex_syntax.specs.declared.Config.{Config as TextConfig};
+ghost use Rattle.std.specs.Prelude.{◌≡◌, ℕ, List, IfErr, IfOk, length, map, option_map, true};
 ghost use Rattle.meta_regex.specs.Regexes.{overlaid};
-ghost use Rattle.captures.specs.Errors.{IsCapturesError};
-ghost use Rattle.captures.specs.Groups.{AreGroupsOf};
-ghost use Rattle.capi.specs.Compiled.{IsNewError, Regexed, config_by};
-ghost use Rattle.capi.specs.Groups.{IsGroupSearchError, bytes_of_name};
-ghost use Rattle.capi.specs.Options.{config_of_options, size_limit_of};
+ghost use Rattle.captures.specs.Groups.{AreGroupsOf, IsPrepared};
+ghost use Rattle.capi.specs.Compiled.{IsNewError};
+ghost use Rattle.capi.specs.Groups.{bytes_of_name};
+ghost use Rattle.capi.specs.Options.{asks_groups, options_of};
 
 use crate::failure::NewError;
 use crate::options::Options;
 use crate::words::write_into;
-use captures::{CapturesError, Groups};
+use captures::Groups;
 use std::alloc::{AllocError, Global};
 
 /// The groups of patterns that were parsed before. So only memory can run out.
 fn groups_of(alloc: Global, texts: &[&str], options: &Options) -> Result<Groups, NewError>
-    ensures made { IfOk result (AreGroupsOf (config_of_options options.now) (map (λ t. t.now) texts.now)) }
-    ensures refused { (texts : List (List ℕ)) → IfErr result (IsNewError options.now texts) }
+    ensures made { IfOk result (AreGroupsOf (options_of options.now) (map (λ t. t.now) texts.now)) }
+    ensures refused { (ts : List (List ℕ)) → IfErr result (IsNewError options.now ts) }
 {
     match Groups::new(alloc, texts, &options.options()) {
         Ok(groups) => Ok(groups),
@@ -27,16 +25,19 @@ fn groups_of(alloc: Global, texts: &[&str], options: &Options) -> Result<Groups,
 
 /// Makes what finds the groups of all patterns, if the options ask for it.
 fn prepare(alloc: Global, groups: &mut Groups, options: &Options) -> Result<(), NewError>
-    ensures own { (config : TextConfig) (texts : List (List ℕ)) → AreGroupsOf config texts groups.old → AreGroupsOf config texts groups.new }
-    ensures refused { (texts : List (List ℕ)) → IfErr result (IsNewError options.now texts) }
+    ensures own { (texts : List (List ℕ)) → AreGroupsOf (options_of options.now) texts groups.old →
+        AreGroupsOf (options_of options.now) texts groups.new }
+    ensures prepared { asks_groups options.now ≡ true → IfOk result (λ _. (n : ℕ) → IsPrepared groups.new n) }
+    ensures refused { (texts : List (List ℕ)) → AreGroupsOf (options_of options.now) texts groups.old → (ts : List (List ℕ)) →
+        IfErr result (IsNewError options.now ts) }
 {
     if !options.asks_groups() {
         return Ok(());
     }
     match groups.prepare(alloc) {
         Ok(()) => Ok(()),
-        Err(group_finder::NewError::NoMemory) => Err(NewError::NoMemory),
-        Err(_) => Err(NewError::GroupsTooLarge(options.size_limit())),
+        Err(group_finder::NewError::TooLarge(limit)) => Err(NewError::GroupsTooLarge(limit)),
+        Err(_) => Err(NewError::NoMemory),
     }
 }
 
@@ -47,8 +48,9 @@ pub(crate) fn prepared_groups(
     texts: &[&str],
     options: &Options,
 ) -> Result<Groups, NewError>
-    ensures made { IfOk result (AreGroupsOf (config_of_options options.now) (map (λ t. t.now) texts.now)) }
-    ensures refused { (texts : List (List ℕ)) → IfErr result (IsNewError options.now texts) }
+    ensures made { IfOk result (AreGroupsOf (options_of options.now) (map (λ t. t.now) texts.now)) }
+    ensures prepared { asks_groups options.now ≡ true → IfOk result (λ groups. (n : ℕ) → IsPrepared groups n) }
+    ensures refused { (ts : List (List ℕ)) → IfErr result (IsNewError options.now ts) }
 {
     let mut groups = match groups_of(alloc, texts, options) {
         Ok(groups) => groups,
@@ -67,23 +69,14 @@ pub(crate) fn copied_groups(
     groups: &Groups,
     options: &Options,
 ) -> Result<Groups, AllocError>
-    ensures { (config : TextConfig) (texts : List (List ℕ)) → AreGroupsOf config texts groups.now → IfOk result (AreGroupsOf config texts) }
+    ensures own { (texts : List (List ℕ)) → AreGroupsOf (options_of options.now) texts groups.now →
+        IfOk result (AreGroupsOf (options_of options.now) texts) }
+    ensures prepared { asks_groups options.now ≡ true → IfOk result (λ copy. (n : ℕ) → IsPrepared copy n) }
 {
     let mut copy = groups.try_clone(alloc)?;
     match prepare(alloc, &mut copy, options) {
         Ok(()) => Ok(copy),
         Err(_) => Err(AllocError),
-    }
-}
-
-/// The error of a search for groups, with the limit that the options set.
-pub(crate) fn with_limit(error: CapturesError, limit: usize) -> CapturesError
-    ensures { (v : Regexed) → (h : List ℕ) → limit ≡ size_limit_of v.options → IsCapturesError (config_by v) h error → IsGroupSearchError v h result }
-{
-    match error {
-        CapturesError::Search(error) => CapturesError::Search(error),
-        CapturesError::NoMemory => CapturesError::NoMemory,
-        CapturesError::TooLarge(_) => CapturesError::TooLarge(limit),
     }
 }
 

@@ -128,8 +128,7 @@ impl Options {
         }
     }
 
-    /// How many bytes each automaton may take.
-    pub fn size_limit(&self) -> usize
+    fn size_limit(&self) -> usize
         ensures { result ≡ size_limit_of self.now }
     {
         if self.size_limit == 0 {

@@ -5,7 +5,7 @@ use Rattle.meta_regex.specs.Regexes.{IsSearchError, IsMatchingPatternsError}
 use Rattle.meta_regex.specs.Lists.{AreListed, AreFirstListed}
 use Rattle.meta_regex.specs.declared.errors.SearchError.{SearchError}
 use Rattle.meta_regex.specs.declared.found_match.FoundMatch.{FoundMatch}
-use Rattle.captures.specs.Captures.{HasCaptures}
+use Rattle.captures.specs.Captures.{AreCaptured, AreFirstCaptured, HasCaptures}
 use Rattle.captures.specs.declared.errors.CapturesError.{CapturesError}
 use Rattle.capi.specs.Compiled.{Regexed, config_by, IsCallError}
 use Rattle.capi.specs.Failures.{failure_of_captures, failure_of_new, failure_of_search, without_cause}
@@ -60,6 +60,16 @@ pub record AnswersAll (v : Regexed) (h : List ℕ) (n : ℕ) (old new : List Fou
   pub listed : status < 2 → AreListed (config_by v) v.texts h n old new
   pub first : 1 < status → v.loops ≡ true → AreFirstOfAll (config_by v) v.texts h n old new
   pub begun : 1 < status → AreFirstListed (config_by v) v.texts h n old new
+
+-- `n` matches were counted, the first of them are in the rows, and their slots, of which a row has the given width, are in the slots. If the
+-- call succeeds, these are all matches that the matcher finds, whatever loops consume. If it fails, they are the first of these.
+pub record AnswersCapturesAll (v : Regexed) (h : List ℕ) (width n : ℕ) (old new : List FoundMatch) (slots_old slots : List ℕ) (status : ℕ)
+    : Type 0 where
+  pub any : status ≡ 0 → 0 < n
+  pub all : status < 2 → AreAll (config_by v) v.texts h n old new
+  pub captured : status < 2 → AreCaptured (config_by v) v.texts h width slots_old slots
+  pub first : 1 < status → AreFirstOfAll (config_by v) v.texts h n old new
+  pub begun : 1 < status → AreFirstCaptured (config_by v) v.texts h width n slots_old slots
 
 -- `n` patterns match, and these are marked.
 pub record AnswersWhichMatch (v : Regexed) (h : List ℕ) (n : ℕ) (marks : List ℕ) (status : ℕ) : Type 0 where

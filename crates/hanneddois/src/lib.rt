@@ -8,13 +8,14 @@
 mod apart;
 mod handle;
 
-ghost use Rattle.std.specs.Prelude.{◌≡◌, ◌≢◌, ◌⊎◌, ◌<◌, ◌≤◌, Some, None, IfSome, IfOk, IfErr, false, length, replicate};
+ghost use Rattle.std.specs.Prelude.{◌≡◌, ◌≢◌, ◌⊎◌, ◌<◌, ◌≤◌, ◌*◌, Some, None, IfSome, IfOk, IfErr, false, length, nat_eq, replicate};
 ghost use Rattle.group_finder.specs.Slots.{no_offset};
 ghost use Rattle.capi.specs.Compiled.{IsMadeOf, IsCallError, are_arguments};
 ghost use Rattle.capi.specs.Failures.{plain};
 ghost use Rattle.capi.specs.Groups.{IsGroupCount, IsGroupName};
 ghost use Rattle.capi.specs.Texts.{cut};
-ghost use Rattle.hanneddois.specs.Answers.{AnswersIsMatch, AnswersFind, AnswersCaptures, AnswersAll, AnswersWhichMatch, pattern_count_of};
+ghost use Rattle.hanneddois.specs.Answers.{AnswersIsMatch, AnswersFind, AnswersCaptures, AnswersAll, AnswersCapturesAll, AnswersWhichMatch};
+ghost use Rattle.hanneddois.specs.Answers.{pattern_count_of};
 ghost use Rattle.hanneddois.specs.Answers.{RejectsNew, FailsSearch, FailsCaptures, FailsMatchingPatterns};
 
 use capi::{
@@ -397,6 +398,57 @@ pub extern "C" fn hanneddois_find_all(
         Ok(()) if listed > 0 => end(OK, error),
         Ok(()) => end(NONE, error),
         Err(e) => refuse(Failure::of_search(&e), error),
+    }
+}
+
+/// Whether there are so many slots as that many rows of this width have.
+fn fills(slots: usize, rows: usize, width: usize) -> bool
+    ensures { result ≡ nat_eq slots (rows * width) }
+{
+    match rows.checked_mul(width) {
+        Some(room) => slots == room,
+        None => false,
+    }
+}
+
+/// All matches with the offsets of their groups, of each as many slots as a row is wide. The status is 0 if there is any match, and 1 if there is
+/// none. The errors are those of [`hanneddois_captures`], and 2 also if the slots don't fill the rows.
+#[unsafe(no_mangle)]
+pub extern "C" fn hanneddois_captures_all(
+    alloc: Global,
+    regex: &mut Handle,
+    haystack: &[u8],
+    matches: &mut [FoundMatch],
+    slots: &mut [usize],
+    width: usize,
+    count: &mut usize,
+    error: &mut Failure,
+) -> u32
+    ensures reported { error.new.status ≡ result }
+    ensures same { regex.new.value ≡ regex.old.value }
+    ensures plain { result < 2 → error.new ≡ plain result }
+    ensures none { result ≡ 1 → count.new ≡ 0 }
+    ensures empty { regex.old.value ≡ None →
+        (error.new ≡ plain 2) × (count.new ≡ 0) × (matches.new ≡ matches.old) × (slots.new ≡ slots.old) }
+    ensures room { length slots.old ≢ length matches.old * width →
+        (error.new ≡ plain 2) × (count.new ≡ 0) × (matches.new ≡ matches.old) × (slots.new ≡ slots.old) }
+    ensures answer { length slots.old ≡ length matches.old * width → IfSome regex.old.value
+        (λ v. AnswersCapturesAll v haystack.now width count.new matches.old matches.new slots.old slots.new result) }
+    ensures refused { length slots.old ≡ length matches.old * width → IfSome regex.old.value (λ v. FailsCaptures v haystack.now error.new) }
+{
+    *count = 0usize;
+    if !fills(slots.len(), matches.len(), width) {
+        return end(BAD_ARGUMENT, error);
+    }
+    let Some(mut inside) = regex.take(alloc) else {
+        return end(BAD_ARGUMENT, error);
+    };
+    let (total, reported) = inside.captures_all(alloc, haystack, matches, slots, width);
+    regex.put(alloc, inside);
+    *count = total;
+    match reported {
+        Ok(()) => end(if total == 0 { NONE } else { OK }, error),
+        Err(why) => refuse(Failure::of_captures(&why), error),
     }
 }
 

@@ -1,11 +1,12 @@
 use Rattle.std.proofs.Common.{length, subst}
 use Rattle.std.specs.Prelude.{IfErr, IfOk}
 use Rattle.meta_regex.specs.Caches.{IsCacheOf}
-use Rattle.meta_regex.specs.Regexes.{RegexValue, config_by}
+use Rattle.meta_regex.specs.Regexes.{RegexValue}
 use Rattle.captures.specs.Captures.{HasCaptures}
 use Rattle.captures.specs.Errors.{IsCapturesError}
 use Rattle.captures.specs.Groups.{AreGroupsOf}
-use Rattle.capi.proofs.CompiledLemmas.{by_value}
+use Rattle.capi.proofs.CompiledLemmas.{by_options, by_value}
+use Rattle.capi.proofs.GroupLemmas.{group_search_error}
 use Rattle.capi.proofs.compiled.Compiled.find_groups.Goals as goal
 
 pub returns-clause-found : goal.returns-clause-found
@@ -18,14 +19,15 @@ returns-clause-found c =
 
 pub returns-clause-refused : goal.returns-clause-refused
 returns-clause-refused c =
-    by_value c.deref.result.now c.self.inside.regex.value c.self.inside.options c.args.self.now c.deref.ensures c.self.invariant.0
+    group_search_error c.args.self.now c.args.haystack.now c.captures_at.result
+    (by_options c.deref.result.now c.self.inside.regex.value c.self.inside.options c.args.self.now c.deref.ensures c.self.invariant.0
     c.self.view_is
-    (λ k ts loops. IfErr c.captures_at.result (IsCapturesError k c.args.haystack.now))
-    c.captures_at.ensures.refused
+    (λ o ts. IfErr c.captures_at.result (IsCapturesError o c.args.haystack.now))
+    c.captures_at.ensures.refused)
 
 pub invariant_of-self : goal.invariant_of-self
 invariant_of-self c = (
   c.self.invariant.0,
   subst (λ (r : RegexValue). IsCacheOf r c.captures_at.new.cache) c.deref.ensures c.captures_at.ensures.own,
-  subst (λ (r : RegexValue). AreGroupsOf (config_by r) r.texts c.captures_at.new.self) c.deref.ensures c.captures_at.ensures.groups,
+  subst (λ (r : RegexValue). AreGroupsOf r.options r.texts c.captures_at.new.self) c.deref.ensures c.captures_at.ensures.groups,
 )
