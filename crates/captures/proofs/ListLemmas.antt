@@ -12,12 +12,12 @@ use Rattle.pattern_search.specs.Texts.{AreReadAs}
 use Rattle.pattern_search.proofs.ForCallers.{all_from_start}
 use Rattle.meta_regex.specs.declared.found_match.FoundMatch.{FoundMatch}
 use Rattle.meta_regex.specs.Regexes.{AreFirstOfAll, HasFoundSpan, IsNext, as_found, overlaid, span_of_row}
-use Rattle.meta_regex.proofs.ForCallers.{IsListedSoFar, all_laid, map_laid, none_laid}
+use Rattle.meta_regex.proofs.ForCallers.{IsListedSoFar, none_laid}
 use Rattle.group_finder.specs.Slots.{no_offset, slots_of}
 use Rattle.captures.specs.Captures.{AreCaptured, AreFirstCaptured, rows_of}
 use Rattle.captures.specs.Rows.{AreFilled}
 use Rattle.captures.proofs.FoundLemmas.{found_there, spanned}
-use Rattle.captures.proofs.RowLemmas.{rows_more, take_taken}
+use Rattle.captures.proofs.RowLemmas.{all_laid, map_laid, rows_more, take_taken}
 
 -- So many matches were taken and their slots written as far as there is room. What is left begins with the next match.
 pub record IsSlotted (utf8 : Bool) (a : Re) (h : List ℕ) (width left count : ℕ) (old now : List ℕ) (filled : ℕ) (next : Option FoundMatch)

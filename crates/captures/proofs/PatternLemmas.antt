@@ -1,5 +1,5 @@
 -- The groups of patterns, one by one.
-use Rattle.std.proofs.Common.{◌≡◌, ◌≢◌, ◌⊎◌, ⊎_elim, ℕ, zero, suc, ◌+◌, ◌<◌, ◌≤◌, List, [], ◌∷◌, ◌++◌, length, map, drop, slice_get, slice_set, chars, Option, Some, None, IsSomeAnd, IfSome, Bor, is_some, true, refl, sym, ap, ◌∙◌, subst, arith, append-nil}
+use Rattle.std.proofs.Common.{◌≡◌, ◌≢◌, ◌⊎◌, ⊎_elim, ℕ, zero, suc, ◌+◌, ◌^◌, ◌<◌, ◌≤◌, List, [], ◌∷◌, ◌++◌, length, map, drop, slice_get, slice_set, chars, Option, Some, None, IsSomeAnd, IfSome, Bor, is_some, true, refl, sym, ap, ◌∙◌, subst, arith, append_assoc, append-nil}
 use Rattle.std.proofs.lemmas.Bool.{cases_lt}
 use Rattle.std.proofs.lemmas.Option.{none-some, same_Some, slice_get_within}
 use Rattle.regex_syntax.specs.Grammar.{Names, read}
@@ -17,7 +17,8 @@ use Rattle.group_finder.specs.declared.errors.NewError.TheVariants.{NoMemory, Sy
 use Rattle.captures.specs.Errors.{IsGroupsError, IsPrepareError}
 use Rattle.captures.specs.Groups.{limit_of}
 use Rattle.captures.specs.declared.pattern_groups.PatternGroups.{PatternGroups}
-use Rattle.captures.specs.Patterns.{IsPatternGroups, ArePatternGroups}
+use Rattle.group_finder.specs.Engines.{counted}
+use Rattle.captures.specs.Patterns.{IsPatternGroups, ArePatternGroups, all_bytes, pattern_bytes}
 
 -- what is made so far, followed by groups of what is left
 abbrev pub AreGroupsWith : Config → List (List ℕ) → List (List ℕ) → List PatternGroups → Type 0
@@ -34,6 +35,27 @@ pub all_made : (config : Config) (whole : List (List ℕ)) (ts : List (Bor (List
     AreGroupsWith config whole (map (λ t. t.now) (drop i ts)) ps → ArePatternGroups config whole ps
 all_made config whole ts i ps above made =
     subst (ArePatternGroups config whole) (append-nil ps) (made [] (none_left config ts i above))
+
+-- the pattern with a number
+pub listed_text : (ts : List (Bor (List ℕ))) (i : ℕ) (x : Bor (List ℕ)) → slice_get ts i ≡ Some x →
+    slice_get (map (λ t. t.now) ts) i ≡ Some x.now
+listed_text [] i x listed = absurd (none-some x listed)
+listed_text (t ∷ ts) zero x listed = ap (λ (y : Bor (List ℕ)). Some y.now) (same_Some t x listed)
+listed_text (t ∷ ts) (suc i) x listed = listed_text ts i x listed
+
+left_from : (ts : List (Bor (List ℕ))) (i : ℕ) (x : Bor (List ℕ)) → slice_get ts i ≡ Some x → drop i ts ≡ x ∷ drop (suc i) ts
+left_from [] i x listed = absurd (none-some x listed)
+left_from (t ∷ ts) zero x listed = ap (λ (y : Bor (List ℕ)). y ∷ ts) (same_Some t x listed)
+left_from (t ∷ ts) (suc i) x listed = left_from ts i x listed
+
+pub one_more_made : (config : Config) (whole : List (List ℕ)) (ts : List (Bor (List ℕ))) (i : ℕ) (x : Bor (List ℕ)) (ps new : List PatternGroups)
+    (p : PatternGroups) → slice_get ts i ≡ Some x → IsPatternGroups config x.now p → new ≡ ps ++ p ∷ [] →
+    AreGroupsWith config whole (map (λ t. t.now) (drop i ts)) ps → AreGroupsWith config whole (map (λ t. t.now) (drop (i + 1) ts)) new
+one_more_made config whole ts i x ps new p listed of is made more are =
+    let next : suc i ≡ i + 1 = omega arith in
+    let left : drop i ts ≡ x ∷ drop (i + 1) ts = left_from ts i x listed ∙ ap (λ (k : ℕ). x ∷ drop k ts) next in
+    subst (ArePatternGroups config whole) (sym (append_assoc ps (p ∷ []) more) ∙ ap (λ (qs : List PatternGroups). qs ++ more) (sym is))
+    (made (p ∷ more) (subst (λ (ts : List (Bor (List ℕ))). ArePatternGroups config (map (λ t. t.now) ts) (p ∷ more)) (sym left) (of, are)))
 
 -- the groups of the pattern with a number
 pub groups_at_number : (config : Config) (ts : List (List ℕ)) (ps : List PatternGroups) (n : ℕ) (t : List ℕ) (p : PatternGroups) →
@@ -128,6 +150,32 @@ pub one_more_ready : (old new : List PatternGroups) (i : ℕ) → ((n : ℕ) →
 one_more_ready old new i ready kept made n below =
     ⊎_elim (λ (before : n < i). kept n (ready n before))
     (λ (after : i ≤ n). let here : i ≡ n = omega (arith, below, after) in subst (IsReady new) here made) (cases_lt n i)
+
+-- ---- memory
+bytes_after : (ps : List PatternGroups) (i : ℕ) (p : PatternGroups) → slice_get ps i ≡ Some p →
+    all_bytes (drop i ps) ≡ pattern_bytes p + all_bytes (drop (suc i) ps)
+bytes_after [] i p listed = absurd (none-some p listed)
+bytes_after (q ∷ ps) zero p listed = ap (λ (x : PatternGroups). pattern_bytes x + all_bytes ps) (same_Some q p listed)
+bytes_after (q ∷ ps) (suc i) p listed = bytes_after ps i p listed
+
+pub one_more_counted : (ps : List PatternGroups) (i usage more new whole : ℕ) (p : PatternGroups) → slice_get ps i ≡ Some p →
+    more ≡ counted (pattern_bytes p) → new ≡ counted (usage + more) → counted (usage + all_bytes (drop i ps)) ≡ whole →
+    counted (new + all_bytes (drop (i + 1) ps)) ≡ whole
+one_more_counted ps i usage more new whole p listed one sum before =
+    let next : suc i ≡ i + 1 = omega arith in
+    let rest : all_bytes (drop i ps) ≡ pattern_bytes p + all_bytes (drop (i + 1) ps) =
+    bytes_after ps i p listed ∙ ap (λ (k : ℕ). pattern_bytes p + all_bytes (drop k ps)) next in
+    omega (arith, one, sum, before, rest)
+
+none_counted : (ps : List PatternGroups) (i : ℕ) → length ps ≤ i → all_bytes (drop i ps) ≡ 0
+none_counted [] zero above = refl
+none_counted [] (suc i) above = refl
+none_counted (p ∷ ps) zero above = absurd (omega (arith, above))
+none_counted (p ∷ ps) (suc i) above = none_counted ps i (omega (arith, above))
+
+pub all_counted : (ps : List PatternGroups) (i usage whole : ℕ) → length ps ≤ i → usage < 2 ^ 64 →
+    counted (usage + all_bytes (drop i ps)) ≡ whole → usage ≡ whole
+all_counted ps i usage whole above fits is = omega (arith, none_counted ps i above, fits, is)
 
 -- ---- errors
 rejected_read : {A X Y : Type 0} (kind : ErrorKind) (most : ℕ) (r : Option (Nested X × Y)) → IsSomeAnd r (λ (re, names). re.depth ≤ most) →

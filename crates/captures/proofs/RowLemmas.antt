@@ -1,6 +1,7 @@
 -- Slots that are filled row by row.
-use Rattle.std.proofs.Common.{◌≡◌, ℕ, zero, suc, ◌+◌, ◌-◌, ◌≤◌, List, [], ◌∷◌, ◌++◌, length, map, take, drop, min, replicate, refl, sym, ap, ◌∙◌, subst, arith, append_assoc, append-nil, length-append}
+use Rattle.std.proofs.Common.{◌≡◌, ℕ, zero, suc, ◌+◌, ◌-◌, ◌≤◌, List, [], ◌∷◌, ◌++◌, All, length, map, take, drop, min, replicate, refl, sym, ap, ◌∙◌, subst, arith, append_assoc, append-nil, length-append}
 use Rattle.std.proofs.lemmas.List.{take-append-drop, take_at}
+use Rattle.std.proofs.lemmas.List.Elements.{All-nil, All-cons, All-head, All-tail}
 use Rattle.std.specs.List.{flat_map, range_with_len}
 use Rattle.regex_hir.specs.Find.{Match}
 use Rattle.meta_regex.specs.Regexes.{overlaid}
@@ -56,6 +57,20 @@ lay_next (d ∷ done) [] xs (suc filled) room e f = absurd (omega (arith, e))
 lay_next (d ∷ done) (y ∷ ys) xs zero room e f = absurd (omega (arith, e))
 lay_next (d ∷ done) (y ∷ ys) xs (suc filled) room e f =
     ap (λ (zs : List ℕ). d ∷ zs) (lay_next done ys xs filled room (omega (arith, e)) (omega (arith, f)))
+
+pub map_laid : {A B : Type 0} (f : A → B) (xs ys : List A) → map f (overlaid xs ys) ≡ overlaid (map f xs) (map f ys)
+unfolding overlaid
+map_laid f [] ys = refl
+map_laid f (x ∷ xs) [] = refl
+map_laid f (x ∷ xs) (y ∷ ys) = ap (λ (zs : List _). f x ∷ zs) (map_laid f xs ys)
+
+-- what holds of each of the first list holds of as many of what it is laid over
+pub all_laid : {A : Type 0} (P : A → Type 0) (xs ys : List A) → All P xs → All P (take (length xs) (overlaid xs ys))
+unfolding overlaid
+all_laid P [] ys each = All-nil P
+all_laid P (x ∷ xs) [] each = All-nil P
+all_laid P (x ∷ xs) (y ∷ ys) each =
+    All-cons P x (take (length xs) (overlaid xs ys)) (All-head P x xs each) (all_laid P xs ys (All-tail P x xs each))
 
 length_laid : (xs ys : List ℕ) → length (overlaid xs ys) ≡ length ys
 unfolding overlaid

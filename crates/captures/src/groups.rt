@@ -115,7 +115,7 @@ impl Groups {
         ensures { result ≡ counted (all_bytes self.now.patterns.items) }
     {
         let mut usage = 0usize;
-        for pattern in (0..self.patterns.len()).rev() {
+        for pattern in 0..self.patterns.len() {
             usage = usage.saturating_add(self.patterns[pattern].memory_usage());
         }
         usage

@@ -27,15 +27,15 @@ loop-count-preserved c = (
       (omega (arith, c.loop-count-test.true)) c.in-Some.is c.put.ensures
       c.in-Ok-find_next.ensures.next c.in-Ok-find_next.ensures.pattern c.loop-count.invariant.2,
   λ res read. slotted_goes_on (config_by c.args.regex.now).utf8 (alt_all res) c.args.haystack.now c.args.width c.args.slots.now
-    (length c.args.haystack.now + 1 - c.loop-count.count) c.loop-count.count c.loop-count.slots c.loop-count.filled c.loop-count.next
-    c.in-Some.found (c.loop-count.invariant.3 res read) c.in-Some.is (length c.args.haystack.now + 1 - (c.loop-count.count + 1))
-    c.write_row.new.slots c.in-Ok-write_row.filled c.in-Ok-find_next.next (omega (arith, c.loop-count-test.true))
-    (λ m span inside there done before fill. c.in-Ok-write_row.ensures.written c.args.regex.now.options c.args.regex.now.texts c.loop-count.invariant.1
-    res read
-    (subst (λ (p : Option FoundMatch). IfSome p (λ f. IsOfFirstPattern res c.args.haystack.now (as_found f))) c.in-Some.is
-    (c.loop-count.invariant.2.next_named res read))
-    m span inside there done before fill)
-    (c.in-Ok-find_next.ensures.next res read),
+      (length c.args.haystack.now + 1 - c.loop-count.count) c.loop-count.count c.loop-count.slots c.loop-count.filled c.loop-count.next
+      c.in-Some.found (c.loop-count.invariant.3 res read) c.in-Some.is (length c.args.haystack.now + 1 - (c.loop-count.count + 1))
+      c.write_row.new.slots c.in-Ok-write_row.filled c.in-Ok-find_next.next (omega (arith, c.loop-count-test.true))
+      (λ m span inside there done before fill. c.in-Ok-write_row.ensures.written c.args.regex.now.options c.args.regex.now.texts c.loop-count.invariant.1
+      res read
+      (subst (λ (p : Option FoundMatch). IfSome p (λ f. IsOfFirstPattern res c.args.haystack.now (as_found f))) c.in-Some.is
+      (c.loop-count.invariant.2.next_named res read))
+      m span inside there done before fill)
+      (c.in-Ok-find_next.ensures.next res read),
 )
 
 pub returns-in_default-clause-all : goal.returns-in_default-clause-all
