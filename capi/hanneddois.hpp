@@ -214,9 +214,11 @@ inline void report(const failure &why, failure *to)
         throw error(why);
 }
 
-/* Rows of a list of matches, and why the list ends before its end, if it does. */
+/* Rows of a list of matches, their slots, and why the list ends before its end, if it does. */
 struct rows {
     std::unique_ptr<hanneddois_match[]> first;
+    std::unique_ptr<std::size_t[]> slots;
+    std::size_t width = 0;
     std::size_t count = 0;
     failure why;
 };
@@ -577,6 +579,12 @@ private:
         return match_groups(haystack, row, std::move(slots), kept_names(row.pattern));
     }
 
+    match_groups groups_of(std::string_view haystack, const hanneddois_match &row, const std::size_t *slots)
+    {
+        return match_groups(haystack, row, std::vector<std::size_t>(slots, slots + 2 * group_count(row.pattern)),
+                            kept_names(row.pattern));
+    }
+
     std::optional<match_groups> captures_or(std::string_view haystack, std::size_t from, failure *why)
     {
         try {
@@ -607,6 +615,26 @@ private:
             hanneddois_error error;
             hanneddois_find_all(&handle_, detail::bytes_of(haystack), haystack.size(), listed.first.get(), room,
                                 &listed.count, &error);
+            listed.why = failure(error);
+            if (listed.count <= room)
+                return listed;
+            room = listed.count;
+        }
+    }
+
+    /* All matches with their groups, in the same way. */
+    detail::rows list_groups(std::string_view haystack)
+    {
+        detail::rows listed;
+        listed.width = slot_count();
+        std::size_t room = std::clamp(haystack.size() / bytes_per_row, least_rows,
+                                      least_rows + most_rows / std::max(listed.width, std::size_t{1}));
+        for (;;) {
+            listed.first.reset(new hanneddois_match[room]);
+            listed.slots.reset(new std::size_t[std::max(room * listed.width, std::size_t{1})]);
+            hanneddois_error error;
+            hanneddois_captures_all(&handle_, detail::bytes_of(haystack), haystack.size(), listed.first.get(), room,
+                                    listed.slots.get(), room * listed.width, listed.width, &listed.count, &error);
             listed.why = failure(error);
             if (listed.count <= room)
                 return listed;
@@ -795,13 +823,12 @@ public:
     reference operator*() const noexcept { return *found_; }
     pointer operator->() const noexcept { return &*found_; }
 
-    /* An empty match right at the end of the one before it is skipped. */
     captures_iterator &operator++()
     {
-        const std::size_t end = found_->end();
-        found_ = regex_->captures_or(haystack_, end, why_);
-        if (found_ && found_->end() == end)
-            found_ = end < haystack_.size() ? regex_->captures_or(haystack_, end + 1, why_) : std::nullopt;
+        if (listed_)
+            next_listed();
+        else
+            next_searched();
         return *this;
     }
 
@@ -824,14 +851,53 @@ public:
 private:
     friend class captures_range;
 
+    /* In UTF-8 mode each search checks the whole haystack, so one search lists all matches there. */
     captures_iterator(regex &regex, std::string_view haystack, failure *why)
-        : regex_(&regex), haystack_(haystack), why_(why), found_(regex.captures_or(haystack, 0, why))
+        : regex_(&regex), haystack_(haystack), why_(why)
     {
+        if (!regex.is_utf8_)
+            found_ = regex.captures_or(haystack, 0, why);
+        else if (list())
+            next_listed();
+    }
+
+    /* An empty match right at the end of the one before it is skipped. */
+    void next_searched()
+    {
+        const std::size_t end = found_->end();
+        found_ = regex_->captures_or(haystack_, end, why_);
+        if (found_ && found_->end() == end)
+            found_ = end < haystack_.size() ? regex_->captures_or(haystack_, end + 1, why_) : std::nullopt;
+    }
+
+    bool list()
+    {
+        try {
+            listed_ = std::make_shared<const detail::rows>(regex_->list_groups(haystack_));
+        } catch (const std::bad_alloc &) {
+            detail::report(detail::failure_of(status::no_memory), why_);
+        }
+        return listed_ != nullptr;
+    }
+
+    void next_listed()
+    {
+        found_ = std::nullopt;
+        if (index_ == listed_->count)
+            return detail::report(listed_->why, why_);
+        const std::size_t i = index_++;
+        try {
+            found_ = regex_->groups_of(haystack_, listed_->first[i], listed_->slots.get() + i * listed_->width);
+        } catch (const std::bad_alloc &) {
+            detail::report(detail::failure_of(status::no_memory), why_);
+        }
     }
 
     regex *regex_ = nullptr;
     std::string_view haystack_;
     failure *why_ = nullptr;
+    std::shared_ptr<const detail::rows> listed_;
+    std::size_t index_ = 0;
     std::optional<match_groups> found_;
 };
 

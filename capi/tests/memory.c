@@ -135,6 +135,28 @@ static hanneddois_status captures(hanneddois_regex *regex)
     return status;
 }
 
+/* After an error the matches before it are counted and written with their slots. */
+static hanneddois_status captures_all(hanneddois_regex *regex)
+{
+    hanneddois_match rows[3];
+    size_t count = 7, slots[12];
+    memset(rows, 0x55, sizeof rows);
+    memset(slots, 0x55, sizeof slots);
+    hanneddois_status status = hanneddois_captures_all(regex, haystack, length, rows, 3, slots, 12, 4, &count, &error);
+    CHECK(status == HANNEDDOIS_OK ? count == 3 : count <= 3);
+    for (size_t i = 0; i < 3; i++) {
+        const size_t *own = slots + 4 * i;
+        if (i < count) {
+            CHECK(rows[i].pattern == 0 && rows[i].start == starts[i] && rows[i].end == starts[i] + 1);
+            CHECK(own[0] == starts[i] && own[1] == starts[i] + 1 && own[2] == HANNEDDOIS_NO_OFFSET && own[3] == HANNEDDOIS_NO_OFFSET);
+        } else {
+            CHECK(rows[i].start == (size_t)0x5555555555555555);
+            CHECK(own[0] == (size_t)0x5555555555555555 || (i == count && own[0] == HANNEDDOIS_NO_OFFSET));
+        }
+    }
+    return status;
+}
+
 /* A second regex of the same patterns, which is freed again. */
 static hanneddois_status clone(hanneddois_regex *regex)
 {
@@ -302,6 +324,7 @@ int main(void)
     each_fails(make, 1);
     each_fails(make_with_groups, 1);
     each_fails(captures, 0);
+    each_fails(captures_all, 0);
     each_fails(is_match, 0);
     each_fails(find_at, 0);
     each_fails(find_all, 0);

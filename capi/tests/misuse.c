@@ -53,6 +53,10 @@ static void empty_handles(void)
     match.pattern = match.start = match.end = 7;
     CHECK(hanneddois_captures(&none, bytes("a"), 1, 0, &match, slots, 2, &error) == HANNEDDOIS_BAD_ARGUMENT);
     CHECK(is_cleared(&match, slots, 2) && error.status == HANNEDDOIS_BAD_ARGUMENT);
+    memset(slots, 0x55, sizeof slots);
+    match.end = count = 7;
+    CHECK(hanneddois_captures_all(&none, bytes("a"), 1, &match, 1, slots, 2, 2, &count, &error) == HANNEDDOIS_BAD_ARGUMENT && count == 0);
+    CHECK(match.end == 7 && slots[0] == (size_t)0x5555555555555555);
     CHECK(hanneddois_group_count(&none, 0) == 0);
     CHECK(hanneddois_group_name(&none, 0, 0, matched, 1) == 0 && matched[0] == 0);
     hanneddois_free(&none);
@@ -342,10 +346,66 @@ static void groups(void)
     hanneddois_free(&regex);
 }
 
+/* All matches with their groups. Expected offsets are those of Python's re, or were written by hand. */
+static void all_groups(void)
+{
+    hanneddois_regex regex = HANNEDDOIS_EMPTY;
+    hanneddois_options options = {0};
+    hanneddois_match rows[4];
+    size_t slots[24], count = 7;
+    const size_t untouched = (size_t)0x5555555555555555;
+    CHECK(make(&regex, "(a)|([0-9])(?:-([0-9]))?", &options) == HANNEDDOIS_OK);
+    memset(rows, 0x55, sizeof rows);
+    memset(slots, 0x55, sizeof slots);
+    CHECK(hanneddois_captures_all(&regex, bytes("a 1-2 3"), 7, rows, 4, slots, 24, 6, &count, &error) == HANNEDDOIS_OK && count == 3);
+    CHECK(rows[0].end == 1 && rows[1].start == 2 && rows[1].end == 5 && rows[2].start == 6 && rows[3].start == untouched);
+    CHECK(slots[0] == 0 && slots[1] == 1 && slots[2] == 0 && slots[3] == 1 && slots[4] == HANNEDDOIS_NO_OFFSET);
+    CHECK(slots[6] == 2 && slots[7] == 5 && slots[8] == HANNEDDOIS_NO_OFFSET && slots[10] == 2 && slots[11] == 3);
+    CHECK(slots[12] == 6 && slots[13] == 7 && slots[16] == 6 && slots[17] == 7 && slots[18] == untouched && slots[23] == untouched);
+    /* Fewer rows than matches; a width of 8 has the last group too, and an odd one is as good. */
+    memset(slots, 0x55, sizeof slots);
+    CHECK(hanneddois_captures_all(&regex, bytes("a 1-2 3"), 7, rows, 2, slots, 16, 8, &count, &error) == HANNEDDOIS_OK && count == 3);
+    CHECK(slots[14] == 4 && slots[15] == 5 && slots[16] == untouched);
+    CHECK(hanneddois_captures_all(&regex, bytes("a 1-2 3"), 7, rows, 3, slots, 9, 3, &count, &error) == HANNEDDOIS_OK && slots[8] == HANNEDDOIS_NO_OFFSET);
+    CHECK(hanneddois_captures_all(&regex, bytes("a 1-2 3"), 7, rows, 3, slots, 0, 0, &count, &error) == HANNEDDOIS_OK && count == 3);
+    CHECK(hanneddois_captures_all(&regex, bytes("a 1-2 3"), 7, rows, 0, slots, 0, 6, &count, &error) == HANNEDDOIS_OK && count == 3);
+    CHECK(hanneddois_captures_all(&regex, bytes("bcd"), 3, rows, 1, slots, 6, 6, &count, &error) == HANNEDDOIS_NONE && count == 0);
+
+    /* Slots that don't fill the rows. */
+    memset(rows, 0x55, sizeof rows);
+    memset(slots, 0x55, sizeof slots);
+    static const size_t wrong[][3] = {{2, 11, 6}, {2, 13, 6}, {0, 1, 6}, {2, 0, 6}, {2, 2, 0}, {4, 0, SIZE_MAX / 4 + 1}};
+    for (size_t i = 0; i < sizeof wrong / sizeof wrong[0]; i++) {
+        count = 7;
+        CHECK(hanneddois_captures_all(&regex, bytes("a 1"), 3, rows, wrong[i][0], slots, wrong[i][1], wrong[i][2], &count, &error) ==
+              HANNEDDOIS_BAD_ARGUMENT);
+        CHECK(count == 0 && error.status == HANNEDDOIS_BAD_ARGUMENT && rows[0].start == untouched && slots[0] == untouched);
+    }
+
+    /* Empty matches go on as those of hanneddois_find_all, and the haystack is checked once. */
+    CHECK(make(&regex, "(x?)", &options) == HANNEDDOIS_OK);
+    CHECK(hanneddois_captures_all(&regex, bytes("axb"), 3, rows, 4, slots, 16, 4, &count, &error) == HANNEDDOIS_OK && count == 3);
+    CHECK(rows[0].end == 0 && rows[1].start == 1 && rows[1].end == 2 && rows[2].start == 3 && slots[6] == 1 && slots[7] == 2);
+    options.flags = HANNEDDOIS_UTF8;
+    CHECK(make(&regex, "(.)", &options) == HANNEDDOIS_OK);
+    count = 7;
+    memset(slots, 0x55, sizeof slots);
+    CHECK(hanneddois_captures_all(&regex, bytes("ab\xff"), 3, rows, 4, slots, 16, 4, &count, &error) == HANNEDDOIS_HAYSTACK_NOT_UTF8);
+    CHECK(count == 0 && error.start == 2 && slots[4] == untouched);
+
+    /* The preferred ends whatever loops consume, where hanneddois_find_all may have others. */
+    options.flags = HANNEDDOIS_EMPTY_LOOPS;
+    CHECK(make(&regex, "(a*)*b|c", &options) == HANNEDDOIS_OK);
+    CHECK(hanneddois_captures_all(&regex, bytes("xaabcab"), 7, rows, 4, slots, 16, 4, &count, &error) == HANNEDDOIS_OK && count == 3);
+    CHECK(rows[0].start == 1 && rows[0].end == 4 && rows[1].start == 4 && rows[2].start == 5 && rows[2].end == 7);
+    hanneddois_free(&regex);
+}
+
 int main(void)
 {
     empty_handles();
     groups();
+    all_groups();
     clones();
     refusals();
     searches();

@@ -260,6 +260,16 @@ static void captures_are_listed()
     CHECK(std::distance(range.begin(), range.end()) == 3 && range.begin() == range.begin());
     auto at = range.begin();
     CHECK(at++->start() == 0 && at->end() == 2 && (*++at).start() == 3 && ++at == range.end());
+    std::string letters;
+    for (const match_groups &found : text.captures_iter("a\xc3\xa9" "b"))
+        letters += std::string(found.view(1)) + '.';
+    CHECK(letters == "a.\xc3\xa9.b.");
+    const std::string many(1000, 'x');
+    regex each("(x)(y)?", flag::utf8);
+    std::size_t count = 0;
+    for (const match_groups &found : each.captures_iter(many))
+        count += found[1]->start() == count && !found[2];
+    CHECK(count == many.size());
     failure why;
     const auto broken = text.captures_iter("ab\xff", why);
     CHECK(!why && broken.begin() == broken.end() && why.status() == status::haystack_not_utf8 && why.start() == 2);
@@ -424,6 +434,7 @@ static void allocations_may_fail()
     survives_failed_allocations([&](failure &why) { regex("(?<digits>[0-9]+)").captures("7 and 42", 0, why); });
     survives_failed_allocations([&](failure &why) { searched.captures("7 and 42", 0, why); });
     survives_failed_allocations([&](failure &why) { searched.group_names(0, why); });
+    survives_failed_allocations([&](failure &why) { text.captures_iter("7 and 42", why).begin(); });
     allocations_left = 0;
     CHECK_THROWS(searched.find_all("7"), error.status() == status::no_memory && error.what() == "out of memory"sv);
     allocations_left = -1;
