@@ -327,6 +327,16 @@ pub extern "C" fn hanneddois_find_at(
     }
 }
 
+/// Writes into all slots that there is no offset, and into the error that an argument is bad.
+fn reject(slots: &mut [usize], error: &mut Failure) -> u32
+    ensures status { result ≡ 2 }
+    ensures reported { error.new ≡ plain 2 }
+    ensures cleared { slots.new ≡ replicate (length slots.old) no_offset }
+{
+    slots.fill(NO_OFFSET);
+    end(BAD_ARGUMENT, error)
+}
+
 /// The leftmost match from an offset on, with the offsets of its groups. The status is 0 if there is one, and 1 if there is none. The errors
 /// are those of [`hanneddois_find_at`], and 8 also if what finds the groups is too large.
 #[unsafe(no_mangle)]
@@ -350,12 +360,11 @@ pub extern "C" fn hanneddois_captures(
     ensures refused { from ≤ length haystack.now → IfSome regex.old.value (λ v. FailsCaptures v haystack.now error.new) }
 {
     *found = FoundMatch::zero();
-    slots.fill(NO_OFFSET);
     if from > haystack.len() {
-        return end(BAD_ARGUMENT, error);
+        return reject(slots, error);
     }
     let Some(mut inside) = regex.take(alloc) else {
-        return end(BAD_ARGUMENT, error);
+        return reject(slots, error);
     };
     let reported = inside.captures_at(alloc, haystack, from, slots);
     regex.put(alloc, inside);
