@@ -1,3 +1,2 @@
 mod CompiledLemmas
-mod GroupLemmas
 mod TextLemmas

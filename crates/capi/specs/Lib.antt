@@ -2,4 +2,3 @@ pub mod Options
 pub mod Texts
 pub mod Compiled
 pub mod Failures
-pub mod Groups
