@@ -5,6 +5,7 @@
 #![tactic(auto)]
 
 mod captures;
+mod copies;
 mod errors;
 mod groups;
 mod list;
