@@ -50,11 +50,11 @@ IsReadingStop d s i b rows count (Full kept) = (kept ≡ s) × IsStateOf d kept 
 IsReadingStop d s i b rows count (Refused kept e) = (kept ≡ s) × IsStateOf d kept × IsStepError d e
 
 -- A byte was read from state s at offset i, and its ends were appended. Or the reading ends.
-abbrev pub IsStep : Dfa → CacheValue → StateValue → ℕ → ℕ → List StreamMatch → List StreamMatch → ℕ → Step → Type 0
-IsStep d v s i b old new count (To id n) =
+abbrev pub IsByteStep : Dfa → CacheValue → StateValue → ℕ → ℕ → List StreamMatch → List StreamMatch → ℕ → Step → Type 0
+IsByteStep d v s i b old new count (To id n) =
     HeldAt v id (after d s (Some b)) × (stream_after d s i b ≡ within (after d s (Some b)) (i + 1)) ×
     Appends old new count n (ends_before d s i b)
-IsStep d v s i b old new count (Stop stop) = IsReadingStop d s i b old count stop × (new ≡ old)
+IsByteStep d v s i b old new count (Stop stop) = IsReadingStop d s i b old count stop × (new ≡ old)
 
 -- what was read if the reading ends at the byte after k bytes
 abbrev pub read_stopped : ℕ → List ℕ → ℕ → ℕ → ReadingStop → Read

@@ -3,7 +3,7 @@ ghost use Rattle.std.specs.Prelude.{◌≡◌, ◌+◌, ◌<◌, ◌≤◌, IfEr
 ghost use Rattle.determinize_core.specs.States.{StateValue};
 ghost use Rattle.lazy_dfa.specs.Caches.{HeldAt, IsCacheOf, IsRow, Leads};
 ghost use Rattle.lazy_dfa.specs.Ids.{tag};
-ghost use Rattle.streams.specs.Reading.{IsPieceRead, IsStep, read_stopped, within};
+ghost use Rattle.streams.specs.Reading.{IsPieceRead, IsByteStep, read_stopped, within};
 
 use crate::errors::{StreamError, of_step};
 use crate::rows::write_counted;
@@ -53,7 +53,7 @@ fn make_step<L: Ledger, M: Ledger>(
     requires at { at < 0xFFFF_FFFF_FFFF_FFFF }
     ensures own { IsCacheOf dfa.now cache.new }
     ensures step { (s : StateValue) → HeldAt cache.old id s →
-        IfOk result (IsStep dfa.now cache.new s at byte rows.old rows.new count) }
+        IfOk result (IsByteStep dfa.now cache.new s at byte rows.old rows.new count) }
     ensures same { IfErr result (λ _. rows.new ≡ rows.old) }
     ensures length { length rows.new ≡ length rows.old }
 {

@@ -1,7 +1,7 @@
 use Rattle.std.proofs.Common.{◌≡◌, ◌∙◌, ◌+◌, ◌≤◌, ℕ, Some, length, take, refl, sym, subst, arith, slice_index}
 use Rattle.lazy_dfa.specs.Caches.{state_at}
 use Rattle.lazy_dfa.specs.Dfas.{after}
-use Rattle.streams.specs.Reading.{IsAt, IsPieceRead, IsStep, within}
+use Rattle.streams.specs.Reading.{IsAt, IsPieceRead, IsByteStep, within}
 use Rattle.streams.specs.Streams.{ends_before, stream_ends}
 use Rattle.streams.specs.declared.reading.Read.{Read}
 use Rattle.streams.specs.declared.reading.Step.{Step}
@@ -56,7 +56,7 @@ pub returns-in-Stop-clause-read : goal.returns-in-Stop-clause-read
 returns-in-Stop-clause-read g c = λ s h.
     let i = c.loop-k.invariant in
     let a = (i.read s h).0 in
-    let made = subst (λ (x : Step). IsStep c.args.dfa.now c.make_step.new.cache a.state (c.args.offset + c.loop-k.k)
+    let made = subst (λ (x : Step). IsByteStep c.args.dfa.now c.make_step.new.cache a.state (c.args.offset + c.loop-k.k)
     (slice_index c.args.bytes.now c.loop-k.k) c.loop-k.rows c.make_step.new.rows c.loop-k.count x) c.in-Stop.is
     (c.in_ok-to.ensures.step a.state a.held) in
     subst (λ (r : Read). IsPieceRead c.args.dfa.now (within s c.args.offset) c.args.bytes.now c.args.rows.now c.make_step.new.rows r)
@@ -75,21 +75,21 @@ loop-k-preserved g c =
       row =
           let first = state_at c.args.cache.now c.requires.row.0 in
           let a = (i.read first (held_by_row c.args.cache.now c.args.first c.requires.row)).0 in
-          let made = subst (λ (x : Step). IsStep c.args.dfa.now c.make_step.new.cache a.state (c.args.offset + c.loop-k.k) b c.loop-k.rows
+          let made = subst (λ (x : Step). IsByteStep c.args.dfa.now c.make_step.new.cache a.state (c.args.offset + c.loop-k.k) b c.loop-k.rows
           c.make_step.new.rows c.loop-k.count x) c.in-To.is (c.in_ok-to.ensures.step a.state a.held) in
           row_of c.make_step.new.cache c.in-To.to (after c.args.dfa.now a.state (Some b)) made.0;
       len = c.in_ok-to.ensures.length ∙ i.len;
       count =
           let first = state_at c.args.cache.now c.requires.row.0 in
           let a = (i.read first (held_by_row c.args.cache.now c.args.first c.requires.row)).0 in
-          let made = subst (λ (x : Step). IsStep c.args.dfa.now c.make_step.new.cache a.state (c.args.offset + c.loop-k.k) b c.loop-k.rows
+          let made = subst (λ (x : Step). IsByteStep c.args.dfa.now c.make_step.new.cache a.state (c.args.offset + c.loop-k.k) b c.loop-k.rows
           c.make_step.new.rows c.loop-k.count x) c.in-To.is (c.in_ok-to.ensures.step a.state a.held) in
           let fits : c.in-To.n ≤ length c.loop-k.rows = made.2.fits in
           let len : length c.make_step.new.rows ≡ length c.loop-k.rows = c.in_ok-to.ensures.length in
           omega (arith, fits, len);
       read = λ s h.
           let a = (i.read s h).0 in
-          let made = subst (λ (x : Step). IsStep c.args.dfa.now c.make_step.new.cache a.state (c.args.offset + c.loop-k.k) b c.loop-k.rows
+          let made = subst (λ (x : Step). IsByteStep c.args.dfa.now c.make_step.new.cache a.state (c.args.offset + c.loop-k.k) b c.loop-k.rows
           c.make_step.new.rows c.loop-k.count x) c.in-To.is (c.in_ok-to.ensures.step a.state a.held) in (
             subst (λ (m : ℕ). IsAt c.args.dfa.now c.make_step.new.cache s c.args.offset more c.in-To.to m)
                 (omega arith)
