@@ -80,7 +80,8 @@ enum {
        number. */
     HANNEDDOIS_EMPTY_LOOP = 7,
     /* The automata take more bytes than they may: error.limit is how many they may, if that limit is the cause. From a
-       search: the slower regexes that it needs are too large. */
+       search: the slower regexes that it needs are too large, or what finds the groups of a pattern is; then error.limit
+       is how many bytes that may take. */
     HANNEDDOIS_TOO_LARGE = 8,
     /* A cache may take fewer bytes than it needs: error.limit is how many it needs. */
     HANNEDDOIS_CAPACITY_TOO_SMALL = 9,
@@ -95,6 +96,9 @@ typedef struct hanneddois_match {
     size_t start;
     size_t end;
 } hanneddois_match;
+
+/* What both slots of a group hold that took no part in the match. No offset is that number. */
+#define HANNEDDOIS_NO_OFFSET SIZE_MAX
 
 /* Why a call failed. Each call with such a parameter writes all of it, even if it doesn't fail. A field that the
    comment on the status doesn't name is 0. */
@@ -141,7 +145,10 @@ enum {
     /* Bytes that patterns treat alike don't share their transitions: caches are larger. For tests. */
     HANNEDDOIS_NO_BYTE_CLASSES = 1 << 12,
     /* The automaton that finds starts shares states of classes, which takes longer to make. */
-    HANNEDDOIS_SHRINK = 1 << 13
+    HANNEDDOIS_SHRINK = 1 << 13,
+    /* hanneddois_new makes what finds the groups of all patterns, instead of the first search that needs it. If it can't
+       be made, hanneddois_new fails. */
+    HANNEDDOIS_GROUPS = 1 << 14
 };
 
 /* Options of hanneddois_new. Most callers want all of them 0. Only the flags from HANNEDDOIS_CASE_INSENSITIVE to
@@ -153,14 +160,16 @@ typedef struct hanneddois_options {
     uint32_t nest_limit;
     /* How many bytes each of both caches may take; 0 for 2 MiB. */
     size_t capacity;
-    /* How many bytes each of both automata may take; 0 for 64 MiB. */
+    /* How many bytes each of both automata may take, and the automaton that finds the groups of a pattern; 0 for
+       64 MiB. */
     size_t size_limit;
 } hanneddois_options;
 
 /*
  * Makes a regex of `count` patterns, which follow one another in `texts`: the first has lengths[0] bytes, and so on.
- * If count is 0, or the lengths don't sum up to texts_length, the call returns HANNEDDOIS_BAD_ARGUMENT. If matches of
- * several patterns start at the same offset, the one of the earlier pattern is preferred.
+ * If count is 0, the lengths don't sum up to texts_length, or a flag is unknown, the call returns
+ * HANNEDDOIS_BAD_ARGUMENT, whatever else is wrong. If matches of several patterns start at the same offset, the one of the
+ * earlier pattern is preferred.
  *
  * Returns HANNEDDOIS_OK, and *regex is the new one; or an error, which *error describes, and *regex is empty. What
  * *regex held before is freed in both cases; this is tested.
@@ -178,9 +187,10 @@ hanneddois_status hanneddois_new(
  * is another variable than *from. Searches of *from may come before and after, but not at the same time.
  *
  * Nothing is parsed or compiled: a clone gets empty caches, which takes some 5 microseconds, and memory in proportion to
- * the states of the automata. That is 7 KB for a literal, and 300 KB for [\w\d]{20}. Each clone makes for itself what its
- * searches need later: the slower regexes, and the automaton of hanneddois_matching_patterns. With
- * HANNEDDOIS_MATCHING_PATTERNS the call makes that at once, which takes about half as long as hanneddois_new.
+ * the states of the automata and to the patterns. That is 7 KB for a literal, and 300 KB for [\w\d]{20}. Each clone makes for itself what its
+ * searches need later: the slower regexes, the automaton of hanneddois_matching_patterns, and what finds groups. With
+ * HANNEDDOIS_MATCHING_PATTERNS the call makes that automaton at once, which takes about half as long as hanneddois_new.
+ * With HANNEDDOIS_GROUPS it makes what finds groups at once.
  *
  * Returns HANNEDDOIS_OK; HANNEDDOIS_BAD_ARGUMENT if *from is empty; or HANNEDDOIS_NO_MEMORY. If it doesn't return
  * HANNEDDOIS_OK, *to is empty. What *to held before is freed in any case; this is tested.
@@ -192,6 +202,22 @@ void hanneddois_free(hanneddois_regex *regex);
 
 /* How many patterns the regex has; 0 if it is empty. */
 size_t hanneddois_pattern_count(hanneddois_regex *regex);
+
+/*
+ * How many groups a pattern has, which is counted from 0: the groups in parentheses that capture, and group 0, which is the
+ * whole match. 0 if there is no such pattern or if the regex is empty.
+ */
+size_t hanneddois_group_count(hanneddois_regex *regex, size_t pattern);
+
+/*
+ * The name of a group of a pattern, as year in (?<year>[0-9]+): writes as many of its bytes as fit into `name`, without a 0
+ * after them, and returns how many it has. It is UTF-8. Returns 0 if the group has no name, if there is no such group or
+ * pattern, or if the regex is empty.
+ */
+size_t hanneddois_group_name(
+    hanneddois_regex *regex,
+    size_t pattern, size_t group,
+    uint8_t *name, size_t name_length);
 
 /* Whether there is a match in the haystack: HANNEDDOIS_OK, HANNEDDOIS_NONE, or an error. */
 hanneddois_status hanneddois_is_match(
@@ -212,6 +238,25 @@ hanneddois_status hanneddois_find_at(
     hanneddois_error *error);
 
 /*
+ * The match of hanneddois_find_at, with the offsets of its groups. Group n starts at slots[2 * n] and ends at
+ * slots[2 * n + 1]; for a group that took no part in the match, both are HANNEDDOIS_NO_OFFSET. A group in a repetition has
+ * the offsets of its last round. As many slots are written as there are: slots_length may be 0, and slots after the last
+ * group of the match's pattern are HANNEDDOIS_NO_OFFSET.
+ *
+ * The match has the preferred end also with HANNEDDOIS_EMPTY_LOOPS. What finds the groups of a pattern is made by the first
+ * match of that pattern, or by hanneddois_new with HANNEDDOIS_GROUPS. If it can't be made, the call returns
+ * HANNEDDOIS_NO_MEMORY or HANNEDDOIS_TOO_LARGE, and other calls stay as they are. If the call doesn't return
+ * HANNEDDOIS_OK, *match is all 0 and all slots are HANNEDDOIS_NO_OFFSET.
+ */
+hanneddois_status hanneddois_captures(
+    hanneddois_regex *regex,
+    const uint8_t *haystack, size_t haystack_length,
+    size_t from,
+    hanneddois_match *match,
+    size_t *slots, size_t slots_length,
+    hanneddois_error *error);
+
+/*
  * All matches from left to right: each is the leftmost one from the end of the one before it. An empty match right
  * at the end of the one before it is skipped. Writes the first of them to `matches`, at most matches_length, and to
  * *count how many there are in all. Returns HANNEDDOIS_OK if there is any, HANNEDDOIS_NONE and a count of 0, or an
@@ -224,6 +269,24 @@ hanneddois_status hanneddois_find_all(
     hanneddois_regex *regex,
     const uint8_t *haystack, size_t haystack_length,
     hanneddois_match *matches, size_t matches_length,
+    size_t *count,
+    hanneddois_error *error);
+
+/*
+ * The matches of hanneddois_find_all, each with the offsets of its groups. The slots of the match in matches[i] are
+ * slots[i * width] and the next ones, `width` in all, as hanneddois_captures writes them. So slots_length has to be
+ * matches_length * width; otherwise the call returns HANNEDDOIS_BAD_ARGUMENT. A width of 2 * N has room for N groups.
+ *
+ * Returns HANNEDDOIS_OK if there is any match, HANNEDDOIS_NONE and a count of 0, or an error. After an error *count is the
+ * number of matches before the search that failed, and these are written with their slots as far as they fit. With
+ * HANNEDDOIS_BAD_ARGUMENT *count is 0. Rows after the last match are unchanged, and so are their slots; only after an error
+ * the slots of the next match may be HANNEDDOIS_NO_OFFSET. Matches have the preferred end also with HANNEDDOIS_EMPTY_LOOPS.
+ */
+hanneddois_status hanneddois_captures_all(
+    hanneddois_regex *regex,
+    const uint8_t *haystack, size_t haystack_length,
+    hanneddois_match *matches, size_t matches_length,
+    size_t *slots, size_t slots_length, size_t width,
     size_t *count,
     hanneddois_error *error);
 

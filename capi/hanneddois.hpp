@@ -12,8 +12,8 @@
  * One thread at a time may use a regex, and the iterators over its matches. Different regexes may be used by different
  * threads, also if one is a clone() of the other.
  *
- * A match and a range of matches refer to the haystack, and a range refers to the regex. Both must outlive them. For a
- * temporary std::string, calls that return a match don't compile.
+ * A match, with its groups or without, and a range of matches refer to the haystack, and a range refers to the regex. Both
+ * must outlive them. For a temporary std::string, calls that return a match don't compile.
  *
  * Each call has two forms. One throws hanneddois::error. The other is noexcept, and has a last parameter to which it
  * writes why it failed, or that it didn't. If it failed, it returns what it returns without a match.
@@ -56,7 +56,8 @@ enum class flag : std::uint32_t {
     matching_patterns = HANNEDDOIS_MATCHING_PATTERNS,
     raise_capacity = HANNEDDOIS_RAISE_CAPACITY,
     no_byte_classes = HANNEDDOIS_NO_BYTE_CLASSES,
-    shrink = HANNEDDOIS_SHRINK
+    shrink = HANNEDDOIS_SHRINK,
+    groups = HANNEDDOIS_GROUPS
 };
 
 constexpr flag operator|(flag a, flag b) noexcept
@@ -79,7 +80,8 @@ struct options {
     std::uint32_t nest_limit = 0;
     /* How many bytes each of both caches may take; 0 for 2 MiB. */
     std::size_t capacity = 0;
-    /* How many bytes each of both automata may take; 0 for 64 MiB. */
+    /* How many bytes each of both automata may take, and the automaton that finds the groups of a pattern; 0 for
+       64 MiB. */
     std::size_t size_limit = 0;
 };
 
@@ -182,8 +184,13 @@ private:
 
 class match_iterator;
 class match_range;
+class captures_iterator;
+class captures_range;
 
 namespace detail {
+
+/* The names of the groups of a pattern, by their numbers. A group without a name has an empty one. */
+using group_names = std::vector<std::string>;
 
 /* A call of the library needs a pointer that isn't null, also with a length of 0. */
 inline const std::uint8_t *bytes_of(std::string_view haystack) noexcept
@@ -207,9 +214,11 @@ inline void report(const failure &why, failure *to)
         throw error(why);
 }
 
-/* Rows of a list of matches, and why the list ends before its end, if it does. */
+/* Rows of a list of matches, their slots, and why the list ends before its end, if it does. */
 struct rows {
     std::unique_ptr<hanneddois_match[]> first;
+    std::unique_ptr<std::size_t[]> slots;
+    std::size_t width = 0;
     std::size_t count = 0;
     failure why;
 };
@@ -222,7 +231,76 @@ template <class Iterator>
 using if_patterns = std::enable_if_t<
     std::is_convertible_v<typename std::iterator_traits<Iterator>::reference, std::string_view>, int>;
 
+/* What a regex keeps about its groups once a search needed it: the most slots of a pattern, and the names of each pattern of
+   which a match was found. */
+struct group_table {
+    std::size_t slots = 0;
+    std::vector<std::shared_ptr<const group_names>> names;
+};
+
 }  // namespace detail
+
+/* One match with its groups. Group 0 is the whole match, and the others are counted from 1 by their opening parentheses. */
+class match_groups {
+public:
+    match_groups() noexcept = default;
+
+    /* The whole match. */
+    const match &whole() const noexcept { return whole_; }
+    std::size_t pattern() const noexcept { return whole_.pattern(); }
+    std::size_t start() const noexcept { return whole_.start(); }
+    std::size_t end() const noexcept { return whole_.end(); }
+
+    /* How many groups the pattern of the match has, group 0 included. */
+    std::size_t size() const noexcept { return slots_.size() / 2; }
+
+    /* A group by its number or its name; nothing if it took no part in the match, or if there is no such group. In a
+       repetition it has the offsets of its last round. */
+    std::optional<match> operator[](std::size_t group) const noexcept
+    {
+        if (group >= size() || slots_[2 * group] == HANNEDDOIS_NO_OFFSET)
+            return std::nullopt;
+        return match(haystack_, {whole_.pattern(), slots_[2 * group], slots_[2 * group + 1]});
+    }
+    std::optional<match> operator[](std::string_view name) const noexcept
+    {
+        const std::optional<std::size_t> group = index(name);
+        return group ? (*this)[*group] : std::nullopt;
+    }
+
+    /* The bytes of a group; none if it is nothing. */
+    std::string_view view(std::size_t group = 0) const noexcept { return bytes_of((*this)[group]); }
+    std::string_view view(std::string_view name) const noexcept { return bytes_of((*this)[name]); }
+
+    /* The number of the group with this name, if there is one. */
+    std::optional<std::size_t> index(std::string_view name) const noexcept
+    {
+        for (std::size_t i = 0; names_ && !name.empty() && i < names_->size(); i++)
+            if ((*names_)[i] == name)
+                return i;
+        return std::nullopt;
+    }
+
+private:
+    friend class regex;
+    friend class captures_iterator;
+
+    match_groups(std::string_view haystack, const hanneddois_match &row, std::vector<std::size_t> &&slots,
+                 std::shared_ptr<const detail::group_names> names) noexcept
+        : haystack_(haystack), whole_(haystack, row), slots_(std::move(slots)), names_(std::move(names))
+    {
+    }
+
+    static std::string_view bytes_of(const std::optional<match> &group) noexcept
+    {
+        return group ? group->view() : std::string_view();
+    }
+
+    std::string_view haystack_;
+    match whole_;
+    std::vector<std::size_t> slots_;
+    std::shared_ptr<const detail::group_names> names_;
+};
 
 /* A compiled regex with the caches of its searches. If it is empty, calls fail with status::bad_argument. */
 class regex {
@@ -265,12 +343,17 @@ public:
     regex &operator=(const regex &) = delete;
 
     /* Moving leaves the other one empty. */
-    regex(regex &&other) noexcept : handle_(std::exchange(other.handle_, {nullptr})), is_utf8_(other.is_utf8_) {}
+    regex(regex &&other) noexcept
+        : handle_(std::exchange(other.handle_, {nullptr})), is_utf8_(other.is_utf8_),
+          groups_(std::exchange(other.groups_, {}))
+    {
+    }
     regex &operator=(regex &&other) noexcept
     {
         regex moved(std::move(other));
         std::swap(handle_, moved.handle_);
         std::swap(is_utf8_, moved.is_utf8_);
+        std::swap(groups_, moved.groups_);
         return *this;
     }
 
@@ -322,6 +405,24 @@ public:
     template <class String, class... Rest, detail::if_temporary_string<String> = 0>
     std::vector<match> find_all(String &&haystack, Rest &&...) = delete;
 
+    /* The match of find() with its groups. It has the preferred end also with flag::empty_loops. */
+    std::optional<match_groups> captures(std::string_view haystack, std::size_t from = 0)
+    {
+        return captures_or(haystack, from, nullptr);
+    }
+    std::optional<match_groups> captures(std::string_view haystack, std::size_t from, failure &why) noexcept
+    {
+        return captures_or(haystack, from, &why);
+    }
+    template <class String, class... Rest, detail::if_temporary_string<String> = 0>
+    std::optional<match_groups> captures(String &&haystack, Rest &&...) = delete;
+
+    /* All matches with their groups, each searched for when it is reached, as those of matches(). */
+    captures_range captures_iter(std::string_view haystack) &;
+    captures_range captures_iter(std::string_view haystack, failure &why) & noexcept;
+    template <class String, class... Rest, detail::if_temporary_string<String> = 0>
+    captures_range captures_iter(String &&haystack, Rest &&...) = delete;
+
     /* The numbers of the patterns that match anywhere in the haystack, also if their matches overlap. They ascend. */
     std::vector<std::size_t> matching_patterns(std::string_view haystack) { return matching_or(haystack, nullptr); }
     std::vector<std::size_t> matching_patterns(std::string_view haystack, failure &why) noexcept
@@ -331,6 +432,14 @@ public:
 
     /* How many patterns it has. */
     std::size_t pattern_count() noexcept { return hanneddois_pattern_count(&handle_); }
+    /* How many groups a pattern has, group 0 included; 0 if there is no such pattern. */
+    std::size_t group_count(std::size_t pattern = 0) noexcept { return hanneddois_group_count(&handle_, pattern); }
+    /* The names of the groups of a pattern, by their numbers. A group without a name has an empty one. */
+    std::vector<std::string> group_names(std::size_t pattern = 0) { return group_names_or(pattern, nullptr); }
+    std::vector<std::string> group_names(std::size_t pattern, failure &why) noexcept
+    {
+        return group_names_or(pattern, &why);
+    }
     /* An estimate of how many bytes its caches need now. */
     std::size_t memory_usage() noexcept { return hanneddois_memory_usage(&handle_); }
     /* How often its caches were cleared since it was made. */
@@ -341,6 +450,7 @@ public:
 
 private:
     friend class match_iterator;
+    friend class captures_iterator;
 
     template <class Iterator>
     void compile(Iterator first, Iterator last, const options &options, failure *why)
@@ -405,6 +515,86 @@ private:
         return match(haystack, row);
     }
 
+    std::string group_name(std::size_t pattern, std::size_t group)
+    {
+        std::uint8_t none;
+        std::string name(hanneddois_group_name(&handle_, pattern, group, &none, 0), '\0');
+        hanneddois_group_name(&handle_, pattern, group, reinterpret_cast<std::uint8_t *>(name.data()), name.size());
+        return name;
+    }
+
+    detail::group_names names_of(std::size_t pattern)
+    {
+        detail::group_names names(group_count(pattern));
+        for (std::size_t group = 0; group < names.size(); group++)
+            names[group] = group_name(pattern, group);
+        return names;
+    }
+
+    std::vector<std::string> group_names_or(std::size_t pattern, failure *why)
+    {
+        try {
+            std::vector<std::string> names = names_of(pattern);
+            detail::report(failure(), why);
+            return names;
+        } catch (const std::bad_alloc &) {
+            detail::report(detail::failure_of(status::no_memory), why);
+        }
+        return {};
+    }
+
+    /* The names of a pattern of which a match was found. They are read once. */
+    const std::shared_ptr<const detail::group_names> &kept_names(std::size_t pattern)
+    {
+        std::shared_ptr<const detail::group_names> &names = groups_.names[pattern];
+        if (!names)
+            names = std::make_shared<const detail::group_names>(names_of(pattern));
+        return names;
+    }
+
+    /* The most slots of a pattern. */
+    std::size_t slot_count()
+    {
+        if (groups_.names.empty()) {
+            std::size_t most = 0;
+            for (std::size_t pattern = 0; pattern < pattern_count(); pattern++)
+                most = std::max(most, group_count(pattern));
+            groups_.names.resize(pattern_count());
+            groups_.slots = 2 * most;
+        }
+        return groups_.slots;
+    }
+
+    std::optional<match_groups> search_groups(std::string_view haystack, std::size_t from, failure *why)
+    {
+        std::vector<std::size_t> slots(std::max(slot_count(), std::size_t{1}));
+        hanneddois_match row;
+        hanneddois_error error;
+        const hanneddois_status ended = hanneddois_captures(&handle_, detail::bytes_of(haystack), haystack.size(), from, &row,
+                                                            slots.data(), slots.size(), &error);
+        detail::report(failure(error), why);
+        if (ended != HANNEDDOIS_OK)
+            return std::nullopt;
+        slots.resize(2 * group_count(row.pattern));
+        return match_groups(haystack, row, std::move(slots), kept_names(row.pattern));
+    }
+
+    match_groups groups_of(std::string_view haystack, const hanneddois_match &row, const std::size_t *slots)
+    {
+        return match_groups(haystack, row, std::vector<std::size_t>(slots, slots + 2 * group_count(row.pattern)),
+                            kept_names(row.pattern));
+    }
+
+    std::optional<match_groups> captures_or(std::string_view haystack, std::size_t from, failure *why)
+    {
+        try {
+            return search_groups(haystack, from, why);
+        } catch (const std::bad_alloc &) {
+            detail::report(detail::failure_of(status::no_memory), why);
+        }
+        return std::nullopt;
+    }
+
     /* The first list of matches has room for one match in so many bytes of the haystack, for at least the second number
        of matches, and for at most the third, which takes 100 MB of addresses. The system gives memory only for rows
        that are written. */
@@ -425,6 +615,26 @@ private:
             hanneddois_error error;
             hanneddois_find_all(&handle_, detail::bytes_of(haystack), haystack.size(), listed.first.get(), room,
                                 &listed.count, &error);
+            listed.why = failure(error);
+            if (listed.count <= room)
+                return listed;
+            room = listed.count;
+        }
+    }
+
+    /* All matches with their groups, in the same way. */
+    detail::rows list_groups(std::string_view haystack)
+    {
+        detail::rows listed;
+        listed.width = slot_count();
+        std::size_t room = std::clamp(haystack.size() / bytes_per_row, least_rows,
+                                      least_rows + most_rows / std::max(listed.width, std::size_t{1}));
+        for (;;) {
+            listed.first.reset(new hanneddois_match[room]);
+            listed.slots.reset(new std::size_t[std::max(room * listed.width, std::size_t{1})]);
+            hanneddois_error error;
+            hanneddois_captures_all(&handle_, detail::bytes_of(haystack), haystack.size(), listed.first.get(), room,
+                                    listed.slots.get(), room * listed.width, listed.width, &listed.count, &error);
             listed.why = failure(error);
             if (listed.count <= room)
                 return listed;
@@ -470,6 +680,7 @@ private:
 
     hanneddois_regex handle_ = HANNEDDOIS_EMPTY;
     bool is_utf8_ = false;
+    detail::group_table groups_;
 };
 
 /* An input iterator over the matches of a haystack. A default-constructed one is the end. */
@@ -596,6 +807,132 @@ inline match_range regex::matches(std::string_view haystack) &
 inline match_range regex::matches(std::string_view haystack, failure &why) & noexcept
 {
     return match_range(*this, haystack, &why);
+}
+
+/* An input iterator over the matches of a haystack with their groups. A default-constructed one is the end. */
+class captures_iterator {
+public:
+    using iterator_category = std::input_iterator_tag;
+    using value_type = match_groups;
+    using difference_type = std::ptrdiff_t;
+    using pointer = const match_groups *;
+    using reference = const match_groups &;
+
+    captures_iterator() noexcept = default;
+
+    reference operator*() const noexcept { return *found_; }
+    pointer operator->() const noexcept { return &*found_; }
+
+    captures_iterator &operator++()
+    {
+        if (listed_)
+            next_listed();
+        else
+            next_searched();
+        return *this;
+    }
+
+    captures_iterator operator++(int)
+    {
+        captures_iterator before = *this;
+        ++*this;
+        return before;
+    }
+
+    /* Whether both are the end, or are at the same match. */
+    friend bool operator==(const captures_iterator &a, const captures_iterator &b) noexcept
+    {
+        if (!a.found_ || !b.found_)
+            return a.found_.has_value() == b.found_.has_value();
+        return a.regex_ == b.regex_ && a.found_->start() == b.found_->start() && a.found_->end() == b.found_->end();
+    }
+    friend bool operator!=(const captures_iterator &a, const captures_iterator &b) noexcept { return !(a == b); }
+
+private:
+    friend class captures_range;
+
+    /* In UTF-8 mode each search checks the whole haystack, so one search lists all matches there. */
+    captures_iterator(regex &regex, std::string_view haystack, failure *why)
+        : regex_(&regex), haystack_(haystack), why_(why)
+    {
+        if (!regex.is_utf8_)
+            found_ = regex.captures_or(haystack, 0, why);
+        else if (list())
+            next_listed();
+    }
+
+    /* An empty match right at the end of the one before it is skipped. */
+    void next_searched()
+    {
+        const std::size_t end = found_->end();
+        found_ = regex_->captures_or(haystack_, end, why_);
+        if (found_ && found_->end() == end)
+            found_ = end < haystack_.size() ? regex_->captures_or(haystack_, end + 1, why_) : std::nullopt;
+    }
+
+    bool list()
+    {
+        try {
+            listed_ = std::make_shared<const detail::rows>(regex_->list_groups(haystack_));
+        } catch (const std::bad_alloc &) {
+            detail::report(detail::failure_of(status::no_memory), why_);
+        }
+        return listed_ != nullptr;
+    }
+
+    void next_listed()
+    {
+        found_ = std::nullopt;
+        if (index_ == listed_->count)
+            return detail::report(listed_->why, why_);
+        const std::size_t i = index_++;
+        try {
+            found_ = regex_->groups_of(haystack_, listed_->first[i], listed_->slots.get() + i * listed_->width);
+        } catch (const std::bad_alloc &) {
+            detail::report(detail::failure_of(status::no_memory), why_);
+        }
+    }
+
+    regex *regex_ = nullptr;
+    std::string_view haystack_;
+    failure *why_ = nullptr;
+    std::shared_ptr<const detail::rows> listed_;
+    std::size_t index_ = 0;
+    std::optional<match_groups> found_;
+};
+
+/* The matches of a haystack with their groups. Each begin() searches from the start. */
+class captures_range {
+public:
+    using iterator = captures_iterator;
+    using const_iterator = captures_iterator;
+
+    captures_iterator begin() const { return captures_iterator(*regex_, haystack_, why_); }
+    captures_iterator end() const noexcept { return captures_iterator(); }
+
+private:
+    friend class regex;
+
+    captures_range(regex &regex, std::string_view haystack, failure *why) noexcept
+        : regex_(&regex), haystack_(haystack), why_(why)
+    {
+        if (why)
+            *why = failure();
+    }
+
+    regex *regex_;
+    std::string_view haystack_;
+    failure *why_;
+};
+
+inline captures_range regex::captures_iter(std::string_view haystack) &
+{
+    return captures_range(*this, haystack, nullptr);
+}
+
+inline captures_range regex::captures_iter(std::string_view haystack, failure &why) & noexcept
+{
+    return captures_range(*this, haystack, &why);
 }
 
 /* The version of the library, as HANNEDDOIS_VERSION of hanneddois.h. */

@@ -122,6 +122,41 @@ static hanneddois_status which(hanneddois_regex *regex)
     return status;
 }
 
+/* Without a match, and after an error, no slot holds an offset. */
+static hanneddois_status captures(hanneddois_regex *regex)
+{
+    hanneddois_match match = {7, 7, 7};
+    size_t slots[4] = {7, 7, 7, 7};
+    hanneddois_status status = hanneddois_captures(regex, haystack, length, 4, &match, slots, 4, &error);
+    int is_found = status == HANNEDDOIS_OK;
+    CHECK(match.pattern == 0 && match.start == (is_found ? 9 : 0) && match.end == (is_found ? 10 : 0));
+    CHECK(slots[0] == (is_found ? 9 : HANNEDDOIS_NO_OFFSET) && slots[1] == (is_found ? 10 : HANNEDDOIS_NO_OFFSET));
+    CHECK(slots[2] == HANNEDDOIS_NO_OFFSET && slots[3] == HANNEDDOIS_NO_OFFSET);
+    return status;
+}
+
+/* After an error the matches before it are counted and written with their slots. */
+static hanneddois_status captures_all(hanneddois_regex *regex)
+{
+    hanneddois_match rows[3];
+    size_t count = 7, slots[12];
+    memset(rows, 0x55, sizeof rows);
+    memset(slots, 0x55, sizeof slots);
+    hanneddois_status status = hanneddois_captures_all(regex, haystack, length, rows, 3, slots, 12, 4, &count, &error);
+    CHECK(status == HANNEDDOIS_OK ? count == 3 : count <= 3);
+    for (size_t i = 0; i < 3; i++) {
+        const size_t *own = slots + 4 * i;
+        if (i < count) {
+            CHECK(rows[i].pattern == 0 && rows[i].start == starts[i] && rows[i].end == starts[i] + 1);
+            CHECK(own[0] == starts[i] && own[1] == starts[i] + 1 && own[2] == HANNEDDOIS_NO_OFFSET && own[3] == HANNEDDOIS_NO_OFFSET);
+        } else {
+            CHECK(rows[i].start == (size_t)0x5555555555555555);
+            CHECK(own[0] == (size_t)0x5555555555555555 || (i == count && own[0] == HANNEDDOIS_NO_OFFSET));
+        }
+    }
+    return status;
+}
+
 /* A second regex of the same patterns, which is freed again. */
 static hanneddois_status clone(hanneddois_regex *regex)
 {
@@ -161,12 +196,14 @@ static void each_fails(call *call, int is_new)
     CHECK(reported > 0);
 }
 
-/* A regex with each of its parts made: caches, the automaton of hanneddois_matching_patterns, and the regexes that answer where automata give up. */
+/* A regex with each of its parts made: caches, the automaton of hanneddois_matching_patterns, what finds groups, and the regexes that answer
+   where automata give up. */
 static void make_whole(hanneddois_regex *regex)
 {
     CHECK(make(regex) == HANNEDDOIS_OK);
     CHECK(find_all(regex) == HANNEDDOIS_OK);
     CHECK(which(regex) == HANNEDDOIS_OK);
+    CHECK(captures(regex) == HANNEDDOIS_OK);
 }
 
 /* hanneddois_new frees what stood in the regex before, whether it succeeds or not, and hanneddois_free does. */
@@ -231,12 +268,63 @@ static void cloned(void)
     CHECK(held == 0);
 }
 
+/* With the flag, what finds groups is made by hanneddois_new, and by hanneddois_clone. A search then makes less. */
+static hanneddois_status make_with_groups(hanneddois_regex *regex)
+{
+    hanneddois_options options = {0};
+    options.flags = HANNEDDOIS_GROUPS;
+    return hanneddois_new(regex, patterns, 6, lengths, 2, &options, &error);
+}
+
+static void made_at_once(void)
+{
+    hanneddois_regex later = HANNEDDOIS_EMPTY, at_once = HANNEDDOIS_EMPTY, copy = HANNEDDOIS_EMPTY;
+    start(0);
+    CHECK(make(&later) == HANNEDDOIS_OK);
+    size_t without = held;
+    CHECK(make_with_groups(&at_once) == HANNEDDOIS_OK);
+    CHECK(held - without > without);
+    CHECK(is_match(&later) == HANNEDDOIS_OK && is_match(&at_once) == HANNEDDOIS_OK);
+    CHECK(find_at(&later) == HANNEDDOIS_OK && find_at(&at_once) == HANNEDDOIS_OK);
+    start(0);
+    CHECK(captures(&later) == HANNEDDOIS_OK);
+    size_t asked_later = asked;
+    start(0);
+    CHECK(captures(&at_once) == HANNEDDOIS_OK);
+    CHECK(asked < asked_later);
+    size_t asked_at_once = asked;
+    CHECK(hanneddois_clone(&at_once, &copy) == HANNEDDOIS_OK);
+    CHECK(is_match(&copy) == HANNEDDOIS_OK && find_at(&copy) == HANNEDDOIS_OK);
+    start(0);
+    CHECK(captures(&copy) == HANNEDDOIS_OK && asked == asked_at_once);
+    hanneddois_free(&copy);
+    hanneddois_free(&later);
+    hanneddois_free(&at_once);
+    CHECK(held == 0);
+}
+
+static hanneddois_status clone_with_groups(hanneddois_regex *regex)
+{
+    hanneddois_options options = {0};
+    options.flags = HANNEDDOIS_GROUPS;
+    size_t number = fails_at;
+    start(0);
+    CHECK(hanneddois_new(regex, patterns, 6, lengths, 2, &options, &error) == HANNEDDOIS_OK);
+    start(number);
+    return clone(regex);
+}
+
 int main(void)
 {
     replaced();
     cloned();
+    made_at_once();
     each_fails(clone, 0);
+    each_fails(clone_with_groups, 0);
     each_fails(make, 1);
+    each_fails(make_with_groups, 1);
+    each_fails(captures, 0);
+    each_fails(captures_all, 0);
     each_fails(is_match, 0);
     each_fails(find_at, 0);
     each_fails(find_all, 0);

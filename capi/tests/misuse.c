@@ -27,6 +27,15 @@ static const uint8_t *bytes(const char *text)
     return (const uint8_t *)text;
 }
 
+/* Whether a match is all 0, and no slot holds an offset. */
+static int is_cleared(const hanneddois_match *match, const size_t *slots, size_t count)
+{
+    for (size_t i = 0; i < count; i++)
+        if (slots[i] != HANNEDDOIS_NO_OFFSET)
+            return 0;
+    return match->pattern == 0 && match->start == 0 && match->end == 0;
+}
+
 static void empty_handles(void)
 {
     hanneddois_regex none = HANNEDDOIS_EMPTY;
@@ -40,6 +49,16 @@ static void empty_handles(void)
     CHECK(hanneddois_find_all(&none, bytes("a"), 1, &match, 1, &count, &error) == HANNEDDOIS_BAD_ARGUMENT && count == 0);
     CHECK(hanneddois_matching_patterns(&none, bytes("a"), 1, matched, 1, &count, &error) == HANNEDDOIS_BAD_ARGUMENT && matched[0] == 0 && count == 0);
     CHECK(hanneddois_pattern_count(&none) == 0 && hanneddois_memory_usage(&none) == 0 && hanneddois_clear_count(&none) == 0);
+    size_t slots[2] = {7, 7};
+    match.pattern = match.start = match.end = 7;
+    CHECK(hanneddois_captures(&none, bytes("a"), 1, 0, &match, slots, 2, &error) == HANNEDDOIS_BAD_ARGUMENT);
+    CHECK(is_cleared(&match, slots, 2) && error.status == HANNEDDOIS_BAD_ARGUMENT);
+    memset(slots, 0x55, sizeof slots);
+    match.end = count = 7;
+    CHECK(hanneddois_captures_all(&none, bytes("a"), 1, &match, 1, slots, 2, 2, &count, &error) == HANNEDDOIS_BAD_ARGUMENT && count == 0);
+    CHECK(match.end == 7 && slots[0] == (size_t)0x5555555555555555);
+    CHECK(hanneddois_group_count(&none, 0) == 0);
+    CHECK(hanneddois_group_name(&none, 0, 0, matched, 1) == 0 && matched[0] == 0);
     hanneddois_free(&none);
     hanneddois_free(&none);
     CHECK(none.inside == NULL);
@@ -69,6 +88,18 @@ static void refusals(void)
     CHECK(hanneddois_new(&regex, bytes("aa+b"), 4, lengths, 3, &options, &error) == HANNEDDOIS_BAD_ARGUMENT);
 
     CHECK(make(&regex, "ab\xff", &options) == HANNEDDOIS_NOT_UTF8 && error.pattern == 0 && error.start == 2);
+    /* Arguments are checked before the patterns. */
+    options.flags = 1u << 20;
+    CHECK(make(&regex, "ab\xff", &options) == HANNEDDOIS_BAD_ARGUMENT && error.start == 0 && regex.inside == NULL);
+    CHECK(make(&regex, "a(b", &options) == HANNEDDOIS_BAD_ARGUMENT && error.cause == 0);
+    options.flags = 1u << 15;
+    CHECK(make(&regex, "a", &options) == HANNEDDOIS_BAD_ARGUMENT);
+    options.flags = 0;
+    size_t too_long[2] = {1, 2}, too_short[2] = {1, 1};
+    CHECK(hanneddois_new(&regex, bytes("\xff*"), 2, too_long, 2, &options, &error) == HANNEDDOIS_BAD_ARGUMENT && error.start == 0);
+    CHECK(hanneddois_new(&regex, bytes("\xff*b"), 3, too_short, 2, &options, &error) == HANNEDDOIS_BAD_ARGUMENT);
+    CHECK(hanneddois_new(&regex, bytes("\xff*"), 2, too_short, 2, &options, &error) == HANNEDDOIS_NOT_UTF8 && error.pattern == 0);
+    CHECK(hanneddois_new(&regex, bytes("*\xff"), 2, too_short, 2, &options, &error) == HANNEDDOIS_NOT_UTF8 && error.pattern == 1);
     CHECK(make(&regex, "(a*)*", &options) == HANNEDDOIS_EMPTY_LOOP && error.pattern == 0);
     options.flags = HANNEDDOIS_EMPTY_LOOPS;
     CHECK(make(&regex, "(a*)*b", &options) == HANNEDDOIS_OK);
@@ -213,9 +244,168 @@ static void clones(void)
     hanneddois_free(&regex);
 }
 
+/* The groups of the first match of a pattern. Expected offsets are those of Python's re, or were written by hand. */
+static void groups(void)
+{
+    hanneddois_regex regex = HANNEDDOIS_EMPTY, copy = HANNEDDOIS_EMPTY;
+    hanneddois_options options = {0};
+    hanneddois_match match;
+    size_t slots[8];
+    uint8_t name[8];
+    for (int at_once = 0; at_once < 2; at_once++) {
+        options.flags = at_once ? HANNEDDOIS_GROUPS : 0;
+        CHECK(make(&regex, "(?<year>[0-9]{4})-(?P<mois\xc3\xa9>[0-9]{2})|(x)", &options) == HANNEDDOIS_OK);
+        CHECK(hanneddois_captures(&regex, bytes("on 2024-05 and x"), 16, 0, &match, slots, 8, &error) == HANNEDDOIS_OK);
+        CHECK(match.pattern == 0 && match.start == 3 && match.end == 10 && error.status == HANNEDDOIS_OK);
+        CHECK(slots[0] == 3 && slots[1] == 10 && slots[2] == 3 && slots[3] == 7 && slots[4] == 8 && slots[5] == 10);
+        CHECK(slots[6] == HANNEDDOIS_NO_OFFSET && slots[7] == HANNEDDOIS_NO_OFFSET);
+        CHECK(hanneddois_captures(&regex, bytes("on 2024-05 and x"), 16, 4, &match, slots, 8, &error) == HANNEDDOIS_OK);
+        CHECK(match.start == 15 && slots[0] == 15 && slots[1] == 16 && slots[2] == HANNEDDOIS_NO_OFFSET && slots[6] == 15 && slots[7] == 16);
+        /* As many slots as there are. */
+        memset(slots, 0x55, sizeof slots);
+        CHECK(hanneddois_captures(&regex, bytes("2024-05"), 7, 0, &match, slots, 3, &error) == HANNEDDOIS_OK);
+        CHECK(slots[1] == 7 && slots[2] == 0 && slots[3] == (size_t)0x5555555555555555);
+        CHECK(hanneddois_captures(&regex, bytes("2024-05"), 7, 0, &match, slots, 0, &error) == HANNEDDOIS_OK && match.end == 7);
+
+        CHECK(hanneddois_group_count(&regex, 0) == 4 && hanneddois_group_count(&regex, 1) == 0 && hanneddois_group_count(&regex, SIZE_MAX) == 0);
+        memset(name, 'x', sizeof name);
+        CHECK(hanneddois_group_name(&regex, 0, 1, name, sizeof name) == 4 && memcmp(name, "yearxxxx", 8) == 0);
+        CHECK(hanneddois_group_name(&regex, 0, 2, name, sizeof name) == 6 && memcmp(name, "mois\xc3\xa9xx", 8) == 0);
+        memset(name, 'x', sizeof name);
+        CHECK(hanneddois_group_name(&regex, 0, 1, name, 2) == 4 && memcmp(name, "yexx", 4) == 0);
+        CHECK(hanneddois_group_name(&regex, 0, 1, name, 0) == 4 && memcmp(name, "yexx", 4) == 0);
+        CHECK(hanneddois_group_name(&regex, 0, 0, name, 8) == 0 && hanneddois_group_name(&regex, 0, 3, name, 8) == 0);
+        CHECK(hanneddois_group_name(&regex, 0, 4, name, 8) == 0 && hanneddois_group_name(&regex, 0, SIZE_MAX, name, 8) == 0);
+        CHECK(hanneddois_group_name(&regex, 1, 1, name, 8) == 0 && memcmp(name, "yexx", 4) == 0);
+
+        /* A clone has the groups of its source. */
+        CHECK(hanneddois_clone(&regex, &copy) == HANNEDDOIS_OK);
+        hanneddois_free(&regex);
+        CHECK(hanneddois_group_count(&copy, 0) == 4 && hanneddois_group_name(&copy, 0, 1, name, 8) == 4);
+        CHECK(hanneddois_captures(&copy, bytes("2024-05"), 7, 0, &match, slots, 8, &error) == HANNEDDOIS_OK && slots[4] == 5 && slots[5] == 7);
+    }
+    hanneddois_free(&copy);
+    options.flags = 0;
+
+    /* Without a match, and after each error, nothing is left. */
+    CHECK(make(&regex, "(a)|\\b(b)", &options) == HANNEDDOIS_OK);
+    memset(slots, 0x55, sizeof slots);
+    CHECK(hanneddois_captures(&regex, bytes("xyz"), 3, 0, &match, slots, 6, &error) == HANNEDDOIS_NONE && is_cleared(&match, slots, 6));
+    CHECK(slots[6] == (size_t)0x5555555555555555 && error.status == HANNEDDOIS_NONE);
+    memset(slots, 0x55, sizeof slots);
+    CHECK(hanneddois_captures(&regex, bytes("aa"), 2, 3, &match, slots, 6, &error) == HANNEDDOIS_BAD_ARGUMENT && is_cleared(&match, slots, 6));
+    CHECK(hanneddois_captures(&regex, bytes("aa"), 2, SIZE_MAX, &match, slots, 6, &error) == HANNEDDOIS_BAD_ARGUMENT);
+    CHECK(hanneddois_captures(&regex, bytes("aa"), 2, 2, &match, slots, 6, &error) == HANNEDDOIS_NONE);
+    /* Looks see what is before the offset, also where the automata give up. */
+    CHECK(hanneddois_captures(&regex, bytes("\xc3\xa9" "b"), 3, 2, &match, slots, 6, &error) == HANNEDDOIS_NONE && is_cleared(&match, slots, 6));
+    CHECK(hanneddois_captures(&regex, bytes("\xe2\x80\x94" "b"), 4, 0, &match, slots, 6, &error) == HANNEDDOIS_OK);
+    CHECK(match.start == 3 && slots[2] == HANNEDDOIS_NO_OFFSET && slots[4] == 3 && slots[5] == 4);
+    options.flags = HANNEDDOIS_UTF8;
+    CHECK(make(&regex, "(.)", &options) == HANNEDDOIS_OK);
+    memset(slots, 0x55, sizeof slots);
+    CHECK(hanneddois_captures(&regex, bytes("ab\xff"), 3, 0, &match, slots, 4, &error) == HANNEDDOIS_HAYSTACK_NOT_UTF8 && error.start == 2);
+    CHECK(is_cleared(&match, slots, 4));
+    CHECK(hanneddois_captures(&regex, bytes("\xc3\xa9"), 2, 0, &match, slots, 4, &error) == HANNEDDOIS_OK && slots[3] == 2);
+
+    /* The last round of a group; and the preferred end whatever loops consume. */
+    options.flags = HANNEDDOIS_EMPTY_LOOPS;
+    CHECK(make(&regex, "(?:(a)|(b))*", &options) == HANNEDDOIS_OK);
+    CHECK(hanneddois_captures(&regex, bytes("abab"), 4, 0, &match, slots, 6, &error) == HANNEDDOIS_OK && match.end == 4);
+    CHECK(slots[2] == 2 && slots[3] == 3 && slots[4] == 3 && slots[5] == 4);
+    CHECK(make(&regex, "(|a)+", &options) == HANNEDDOIS_OK);
+    CHECK(hanneddois_captures(&regex, bytes("aaa"), 3, 0, &match, slots, 4, &error) == HANNEDDOIS_OK && match.end == 0 && slots[1] == 0 && slots[3] == 0);
+
+    /* Several patterns with different numbers of groups. */
+    options.flags = 0;
+    size_t lengths[3] = {3, 6, 1};
+    CHECK(hanneddois_new(&regex, bytes("(a)(b)(c)z"), 10, lengths, 3, &options, &error) == HANNEDDOIS_OK);
+    CHECK(hanneddois_group_count(&regex, 0) == 2 && hanneddois_group_count(&regex, 1) == 3 && hanneddois_group_count(&regex, 2) == 1);
+    CHECK(hanneddois_group_count(&regex, 3) == 0);
+    CHECK(hanneddois_captures(&regex, bytes("xbca"), 4, 0, &match, slots, 6, &error) == HANNEDDOIS_OK && match.pattern == 1);
+    CHECK(slots[2] == 1 && slots[3] == 2 && slots[4] == 2 && slots[5] == 3);
+    CHECK(hanneddois_captures(&regex, bytes("xbca"), 4, 3, &match, slots, 6, &error) == HANNEDDOIS_OK && match.pattern == 0);
+    CHECK(slots[2] == 3 && slots[3] == 4 && slots[4] == HANNEDDOIS_NO_OFFSET && slots[5] == HANNEDDOIS_NO_OFFSET);
+    CHECK(hanneddois_captures(&regex, bytes("z"), 1, 0, &match, slots, 6, &error) == HANNEDDOIS_OK && match.pattern == 2 && slots[1] == 1);
+    CHECK(slots[2] == HANNEDDOIS_NO_OFFSET);
+
+    /* What finds groups may be too large, and then other searches go on. With the flag no regex is made. */
+    hanneddois_options limited = {0};
+    limited.size_limit = 6000;
+    if (make(&regex, "((((((a|b){9}){3}))))", &limited) == HANNEDDOIS_OK) {
+        memset(slots, 0x55, sizeof slots);
+        hanneddois_status status = hanneddois_captures(&regex, bytes("abababababababababababababa"), 27, 0, &match, slots, 4, &error);
+        CHECK(status == HANNEDDOIS_OK || (status == HANNEDDOIS_TOO_LARGE && error.limit == 6000 && is_cleared(&match, slots, 4)));
+        CHECK(hanneddois_find_at(&regex, bytes("abababababababababababababa"), 27, 0, &match, &error) == HANNEDDOIS_OK && match.end == 27);
+        limited.flags = HANNEDDOIS_GROUPS;
+        CHECK(make(&copy, "((((((a|b){9}){3}))))", &limited) == status && (status == HANNEDDOIS_OK || error.limit == 6000));
+        CHECK(status == HANNEDDOIS_TOO_LARGE);
+    } else {
+        CHECK(!"the automata fit");
+    }
+    hanneddois_free(&copy);
+    hanneddois_free(&regex);
+}
+
+/* All matches with their groups. Expected offsets are those of Python's re, or were written by hand. */
+static void all_groups(void)
+{
+    hanneddois_regex regex = HANNEDDOIS_EMPTY;
+    hanneddois_options options = {0};
+    hanneddois_match rows[4];
+    size_t slots[24], count = 7;
+    const size_t untouched = (size_t)0x5555555555555555;
+    CHECK(make(&regex, "(a)|([0-9])(?:-([0-9]))?", &options) == HANNEDDOIS_OK);
+    memset(rows, 0x55, sizeof rows);
+    memset(slots, 0x55, sizeof slots);
+    CHECK(hanneddois_captures_all(&regex, bytes("a 1-2 3"), 7, rows, 4, slots, 24, 6, &count, &error) == HANNEDDOIS_OK && count == 3);
+    CHECK(rows[0].end == 1 && rows[1].start == 2 && rows[1].end == 5 && rows[2].start == 6 && rows[3].start == untouched);
+    CHECK(slots[0] == 0 && slots[1] == 1 && slots[2] == 0 && slots[3] == 1 && slots[4] == HANNEDDOIS_NO_OFFSET);
+    CHECK(slots[6] == 2 && slots[7] == 5 && slots[8] == HANNEDDOIS_NO_OFFSET && slots[10] == 2 && slots[11] == 3);
+    CHECK(slots[12] == 6 && slots[13] == 7 && slots[16] == 6 && slots[17] == 7 && slots[18] == untouched && slots[23] == untouched);
+    /* Fewer rows than matches; a width of 8 has the last group too, and an odd one is as good. */
+    memset(slots, 0x55, sizeof slots);
+    CHECK(hanneddois_captures_all(&regex, bytes("a 1-2 3"), 7, rows, 2, slots, 16, 8, &count, &error) == HANNEDDOIS_OK && count == 3);
+    CHECK(slots[14] == 4 && slots[15] == 5 && slots[16] == untouched);
+    CHECK(hanneddois_captures_all(&regex, bytes("a 1-2 3"), 7, rows, 3, slots, 9, 3, &count, &error) == HANNEDDOIS_OK && slots[8] == HANNEDDOIS_NO_OFFSET);
+    CHECK(hanneddois_captures_all(&regex, bytes("a 1-2 3"), 7, rows, 3, slots, 0, 0, &count, &error) == HANNEDDOIS_OK && count == 3);
+    CHECK(hanneddois_captures_all(&regex, bytes("a 1-2 3"), 7, rows, 0, slots, 0, 6, &count, &error) == HANNEDDOIS_OK && count == 3);
+    CHECK(hanneddois_captures_all(&regex, bytes("bcd"), 3, rows, 1, slots, 6, 6, &count, &error) == HANNEDDOIS_NONE && count == 0);
+
+    /* Slots that don't fill the rows. */
+    memset(rows, 0x55, sizeof rows);
+    memset(slots, 0x55, sizeof slots);
+    static const size_t wrong[][3] = {{2, 11, 6}, {2, 13, 6}, {0, 1, 6}, {2, 0, 6}, {2, 2, 0}, {4, 0, SIZE_MAX / 4 + 1}};
+    for (size_t i = 0; i < sizeof wrong / sizeof wrong[0]; i++) {
+        count = 7;
+        CHECK(hanneddois_captures_all(&regex, bytes("a 1"), 3, rows, wrong[i][0], slots, wrong[i][1], wrong[i][2], &count, &error) ==
+              HANNEDDOIS_BAD_ARGUMENT);
+        CHECK(count == 0 && error.status == HANNEDDOIS_BAD_ARGUMENT && rows[0].start == untouched && slots[0] == untouched);
+    }
+
+    /* Empty matches go on as those of hanneddois_find_all, and the haystack is checked once. */
+    CHECK(make(&regex, "(x?)", &options) == HANNEDDOIS_OK);
+    CHECK(hanneddois_captures_all(&regex, bytes("axb"), 3, rows, 4, slots, 16, 4, &count, &error) == HANNEDDOIS_OK && count == 3);
+    CHECK(rows[0].end == 0 && rows[1].start == 1 && rows[1].end == 2 && rows[2].start == 3 && slots[6] == 1 && slots[7] == 2);
+    options.flags = HANNEDDOIS_UTF8;
+    CHECK(make(&regex, "(.)", &options) == HANNEDDOIS_OK);
+    count = 7;
+    memset(slots, 0x55, sizeof slots);
+    CHECK(hanneddois_captures_all(&regex, bytes("ab\xff"), 3, rows, 4, slots, 16, 4, &count, &error) == HANNEDDOIS_HAYSTACK_NOT_UTF8);
+    CHECK(count == 0 && error.start == 2 && slots[4] == untouched);
+
+    /* The preferred ends whatever loops consume, where hanneddois_find_all may have others. */
+    options.flags = HANNEDDOIS_EMPTY_LOOPS;
+    CHECK(make(&regex, "(a*)*b|c", &options) == HANNEDDOIS_OK);
+    CHECK(hanneddois_captures_all(&regex, bytes("xaabcab"), 7, rows, 4, slots, 16, 4, &count, &error) == HANNEDDOIS_OK && count == 3);
+    CHECK(rows[0].start == 1 && rows[0].end == 4 && rows[1].start == 4 && rows[2].start == 5 && rows[2].end == 7);
+    hanneddois_free(&regex);
+}
+
 int main(void)
 {
     empty_handles();
+    groups();
+    all_groups();
     clones();
     refusals();
     searches();

@@ -15,6 +15,7 @@
 using hanneddois::failure;
 using hanneddois::flag;
 using hanneddois::match;
+using hanneddois::match_groups;
 using hanneddois::options;
 using hanneddois::regex;
 using hanneddois::status;
@@ -211,6 +212,79 @@ static void several_patterns_have_numbers()
     CHECK(regex(words, words + 2, {}, why).empty() && why.pattern() == 1);
 }
 
+static void groups_have_numbers_and_names()
+{
+    regex date("(?<year>[0-9]{4})-(?<month>[0-9]{2})|(x)");
+    const std::string haystack = "on 2024-05 and x";
+    const std::optional<match_groups> found = date.captures(haystack);
+    CHECK(found && found->size() == 4 && found->start() == 3 && found->end() == 10 && found->pattern() == 0);
+    CHECK(found->whole().view() == "2024-05" && found->view() == "2024-05" && (*found)[0]->view() == "2024-05");
+    CHECK((*found)[1]->view() == "2024" && (*found)["month"]->start() == 8 && found->view("year") == "2024");
+    CHECK((*found)[1]->view().data() == haystack.data() + 3);
+    CHECK(!(*found)[3] && !(*found)[4] && !(*found)["day"] && !(*found)[""] && found->view(3).empty() && found->view("day").empty());
+    CHECK(found->index("month") == std::size_t{2} && !found->index("") && !found->index("mont"));
+    CHECK(date.captures(haystack, 4)->view(3) == "x" && !date.captures("none"));
+    CHECK(date.group_count() == 4 && date.group_count(1) == 0);
+    CHECK((date.group_names() == std::vector<std::string>{"", "year", "month", ""}) && date.group_names(1).empty());
+    CHECK(!match_groups()[0] && match_groups().size() == 0 && !match_groups()["a"]);
+    failure why;
+    CHECK(date.captures(haystack, 4, why)->start() == 15 && !why);
+    CHECK(!date.captures(haystack, 16, why) && !why && why.status() == status::none);
+    CHECK(!date.captures(haystack, 17, why) && why.status() == status::bad_argument);
+    CHECK(date.group_names(0, why).size() == 4 && !why);
+    CHECK_THROWS(date.captures(haystack, 17), error.status() == status::bad_argument);
+    /* What a match has stays when the regex is gone. */
+    regex moved(std::move(date));
+    date = regex("b");
+    const std::optional<match_groups> kept = moved.captures(haystack);
+    moved = regex();
+    CHECK(kept->view("year") == "2024" && date.captures("abc")->size() == 1);
+    /* The last round of a group, and the preferred end whatever loops consume. */
+    CHECK(regex("(?:(a)|(b))*", flag::empty_loops).captures("abab")->view(1) == "a");
+    CHECK(regex("(|a)+", flag::empty_loops | flag::groups).captures("aaa")->end() == 0);
+    CHECK(regex("(?<\xc3\xa9t\xc3\xa9>.)", flag::utf8).captures("\xe2\x98\x83")->view("\xc3\xa9t\xc3\xa9") == "\xe2\x98\x83");
+}
+
+static void captures_are_listed()
+{
+    regex pair("(?<key>[a-z]+)=(?<value>[a-z]*)"), nothing("(x?)"), text("(.)", flag::utf8);
+    std::string keys;
+    for (const match_groups &found : pair.captures_iter("a=b c= d"))
+        keys += std::string(found.view("key")) + found["value"]->view().data()[0];
+    CHECK(keys == "abc ");
+    const auto range = nothing.captures_iter("axb");
+    std::vector<std::size_t> starts;
+    for (const match_groups &found : range)
+        starts.push_back(found[1]->start());
+    CHECK((starts == std::vector<std::size_t>{0, 1, 3}));
+    CHECK(std::distance(range.begin(), range.end()) == 3 && range.begin() == range.begin());
+    auto at = range.begin();
+    CHECK(at++->start() == 0 && at->end() == 2 && (*++at).start() == 3 && ++at == range.end());
+    std::string letters;
+    for (const match_groups &found : text.captures_iter("a\xc3\xa9" "b"))
+        letters += std::string(found.view(1)) + '.';
+    CHECK(letters == "a.\xc3\xa9.b.");
+    const std::string many(1000, 'x');
+    regex each("(x)(y)?", flag::utf8);
+    std::size_t count = 0;
+    for (const match_groups &found : each.captures_iter(many))
+        count += found[1]->start() == count && !found[2];
+    CHECK(count == many.size());
+    failure why;
+    const auto broken = text.captures_iter("ab\xff", why);
+    CHECK(!why && broken.begin() == broken.end() && why.status() == status::haystack_not_utf8 && why.start() == 2);
+    CHECK_THROWS(text.captures_iter("ab\xff").begin(), error.status() == status::haystack_not_utf8);
+    regex several({"(a)", "(b)(c)", "z"});
+    std::string numbers;
+    for (const match_groups &found : several.captures_iter("xbcaz"))
+        numbers += std::to_string(found.pattern()) + std::to_string(found.size());
+    CHECK(numbers == "130221");
+    static_assert(std::is_same_v<std::iterator_traits<hanneddois::captures_iterator>::value_type, match_groups>);
+#if defined(__cpp_lib_ranges)
+    static_assert(std::ranges::input_range<hanneddois::captures_range>);
+#endif
+}
+
 static bool has(std::string_view pattern, const options &set, std::string_view haystack)
 {
     return regex(pattern, set).is_match(haystack);
@@ -227,7 +301,7 @@ static void options_change_what_matches()
     CHECK(has("\\141", flag::octal, "a"));
     CHECK(regex("\\w+", flag::no_unicode).find("\xc3\xa9" "a")->start() == 2);
     CHECK(regex("(?:a*)*b", flag::empty_loops).find("aab")->end() == 3);
-    for (const flag each : {flag::no_byte_classes, flag::shrink, flag::matching_patterns})
+    for (const flag each : {flag::no_byte_classes, flag::shrink, flag::matching_patterns, flag::groups})
         CHECK(regex("[a-y]{3,9}z", each).find("abcdefgh ijklmnopqrz")->start() == 10);
     options least = flag::raise_capacity;
     least.capacity = 1;
@@ -289,6 +363,8 @@ static void an_empty_regex_fails()
     CHECK_THROWS(first.is_match("a"), error.status() == status::bad_argument);
     CHECK_THROWS(first.matches("a").begin(), error.status() == status::bad_argument);
     CHECK_THROWS(first.matching_patterns("a"), error.status() == status::bad_argument);
+    CHECK_THROWS(first.captures("a"), error.status() == status::bad_argument);
+    CHECK(first.group_count() == 0 && first.group_names().empty());
     CHECK(first.pattern_count() == 0 && regex().empty());
     first = std::move(second);
     CHECK(second.empty() && first.is_match("a"));  // NOLINT(bugprone-use-after-move)
@@ -355,6 +431,10 @@ static void allocations_may_fail()
     survives_failed_allocations([&](failure &why) { searched.find_all("7 and 42", why); });
     survives_failed_allocations([&](failure &why) { searched.matching_patterns("7 and 42", why); });
     survives_failed_allocations([&](failure &why) { text.matches("7 and 42", why).begin(); });
+    survives_failed_allocations([&](failure &why) { regex("(?<digits>[0-9]+)").captures("7 and 42", 0, why); });
+    survives_failed_allocations([&](failure &why) { searched.captures("7 and 42", 0, why); });
+    survives_failed_allocations([&](failure &why) { searched.group_names(0, why); });
+    survives_failed_allocations([&](failure &why) { text.captures_iter("7 and 42", why).begin(); });
     allocations_left = 0;
     CHECK_THROWS(searched.find_all("7"), error.status() == status::no_memory && error.what() == "out of memory"sv);
     allocations_left = -1;
@@ -373,6 +453,8 @@ int main(int argc, char **argv)
     a_haystack_may_be_any_bytes();
     iterators_are_input_iterators();
     several_patterns_have_numbers();
+    groups_have_numbers_and_names();
+    captures_are_listed();
     options_change_what_matches();
     errors_say_where_and_why();
     utf8_mode_rejects_other_haystacks();

@@ -1,2 +1,3 @@
 mod CompiledLemmas
+mod GroupLemmas
 mod TextLemmas

@@ -1,12 +1,19 @@
 -- Patterns that are cut off one by one.
 use Rattle.std.proofs.Common.{◌≡◌, ◌≢◌, ℕ, suc, ◌+◌, ◌-◌, ◌<◌, ◌≤◌, List, [], ◌∷◌, ◌++◌, length, take, drop, slice_index_or, slice_get}
 use Rattle.std.proofs.Common.{Option, Some, refl, subst, sym, ap, ap₂, ◌∙◌, append_assoc, append-nil, arith, drop-cons, drop_of_length-le}
-use Rattle.std.proofs.Common.{length-append, length-drop, zero, ◌==◌, false, true≢false}
+use Rattle.std.proofs.Common.{length-append, length-drop, zero, ◌==◌, false, true, true≢false, ◌⊎◌, inl, inr, ◌&&◌, not, Bool}
+use Rattle.std.specs.Bool.{nat_eq}
+use Rattle.std.proofs.Math.Bool.{and-false}
+use Rattle.std.proofs.Math.Dec.{eqb-suc-zero}
+use Rattle.std.proofs.lemmas.Bool.{eqb-false}
+use Rattle.std.proofs.lemmas.Bool.Decides.{eqb_tells}
 use Rattle.std.specs.List.{sum_by}
 use Rattle.std.proofs.lemmas.List.Sums.{sum_by-drop_more, sum_by-take-drop}
 use Rattle.capi.specs.declared.failure.NewError.{NewError}
-use Rattle.capi.specs.declared.failure.NewError.TheVariants.{NotUtf8}
-use Rattle.capi.specs.Compiled.{IsSplitError}
+use Rattle.capi.specs.declared.failure.NewError.TheVariants.{BadArgument, NotUtf8}
+use Rattle.capi.specs.Compiled.{IsCallError, IsSplitError, are_arguments, do_lengths_fit}
+use Rattle.capi.specs.Options.{has_known_flags}
+use Rattle.capi.specs.declared.options.Options.{Options}
 use Rattle.meta_regex.specs.Regexes.{IsNoText}
 use Rattle.capi.specs.Texts.{cut}
 
@@ -17,7 +24,7 @@ IsCutSoFar lengths bytes n texts rest =
     (texts ++ cut (drop n lengths) rest ≡ cut lengths bytes) × (length texts ≡ n) ×
     (sum_by (λ k. k) (drop n lengths) + length bytes ≡ sum_by (λ k. k) lengths + length rest)
 
-abbrev total : List ℕ → ℕ
+abbrev pub total : List ℕ → ℕ
 total ns = sum_by (λ n. n) ns
 
 total_none : total [] ≡ 0
@@ -93,3 +100,54 @@ pub refused_text : (lengths bytes : List ℕ) (n d : ℕ) (texts : List (List �
 refused_text lengths bytes n d texts rest text below here so_far e it =
     subst (IsSplitError lengths bytes) (sym it.1)
     (subst (λ (o : Option (List ℕ)). IsNoText o it.0) (next_text lengths bytes n d texts rest text below here so_far) it.2)
+
+-- ---- lengths alone
+same_tests : (a b m n : ℕ) → (a ≡ b → m ≡ n) → (m ≡ n → a ≡ b) → nat_eq a b ≡ nat_eq m n
+same_tests a b m n to from = by_cases (eqb_tells a b) (eqb_tells m n)
+  where
+    by_cases : ((nat_eq a b ≡ true) × (a ≡ b)) ⊎ ((nat_eq a b ≡ false) × (a ≢ b)) →
+        ((nat_eq m n ≡ true) × (m ≡ n)) ⊎ ((nat_eq m n ≡ false) × (m ≢ n)) → nat_eq a b ≡ nat_eq m n
+    by_cases (inl p) (inl q) = p.0 ∙ sym q.0
+    by_cases (inl p) (inr q) = absurd (q.1 (to p.1))
+    by_cases (inr p) (inl q) = absurd (p.1 (from q.1))
+    by_cases (inr p) (inr q) = p.0 ∙ sym q.0
+
+pub one_more_length : (lengths bytes : List ℕ) (n d left : ℕ) → n < length lengths → slice_index_or lengths n d ≤ left →
+    total (drop n lengths) + length bytes ≡ total lengths + left →
+    total (drop (n + 1) lengths) + length bytes ≡ total lengths + (left - slice_index_or lengths n d)
+one_more_length lengths bytes n d left below fits so_far = omega (arith, so_far, left_sum lengths n d below, fits)
+
+-- whether nothing is left says whether they fit
+pub fits_at_end : (lengths bytes : List ℕ) (n left : ℕ) → false ≡ (length lengths == 0) → length lengths ≤ n →
+    total (drop n lengths) + length bytes ≡ total lengths + left → nat_eq left 0 ≡ do_lengths_fit lengths bytes
+fits_at_end lengths bytes n left some above so_far =
+    let none : total (drop n lengths) ≡ 0 = ap total (drop_of_length-le lengths above) ∙ total_none in
+    same_tests left 0 (total lengths) (length bytes) (λ e. omega (arith, none, so_far, e)) (λ e. omega (arith, none, so_far, e))
+    ∙ ap (λ b. not b && nat_eq (total lengths) (length bytes)) some
+
+-- a length above what is left
+pub longer_than_left : (lengths bytes : List ℕ) (n d left : ℕ) → n < length lengths → left < slice_index_or lengths n d →
+    total (drop n lengths) + length bytes ≡ total lengths + left → false ≡ do_lengths_fit lengths bytes
+longer_than_left lengths bytes n d left below more so_far =
+    by_cases (eqb_tells (total lengths) (length bytes))
+  where
+    by_cases : ((nat_eq (total lengths) (length bytes) ≡ true) × (total lengths ≡ length bytes)) ⊎
+        ((nat_eq (total lengths) (length bytes) ≡ false) × (total lengths ≢ length bytes)) → false ≡ do_lengths_fit lengths bytes
+    by_cases (inl p) = absurd (omega (arith, so_far, left_sum lengths n d below, more, p.1))
+    by_cases (inr p) = sym (ap (λ b. not (nat_eq (length lengths) 0) && b) p.0 ∙ and-false (not (nat_eq (length lengths) 0)))
+
+-- ---- arguments
+no_fit : (lengths bytes : List ℕ) → do_lengths_fit lengths bytes ≡ false → (lengths ≡ []) ⊎ (total lengths ≢ length bytes)
+no_fit [] bytes off = inl refl
+no_fit (n ∷ ns) bytes off =
+    inr (eqb-false (total (n ∷ ns)) (length bytes)
+    (sym (ap (λ b. not b && nat_eq (total (n ∷ ns)) (length bytes)) (eqb-suc-zero (length ns))) ∙ off))
+
+pub refused_arguments : (o : Options) (lengths bytes : List ℕ) → are_arguments o lengths bytes ≡ false →
+    IsCallError o lengths bytes BadArgument
+refused_arguments o lengths bytes off = by_flags (has_known_flags o) refl off
+  where
+    by_flags : (known : Bool) → has_known_flags o ≡ known → (known && do_lengths_fit lengths bytes) ≡ false →
+        IsCallError o lengths bytes BadArgument
+    by_flags false unknown rest = inr unknown
+    by_flags true known rest = inl (no_fit lengths bytes rest)

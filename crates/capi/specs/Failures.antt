@@ -11,9 +11,11 @@ use Rattle.pattern_text.specs.declared.parse_error.ParseError.TheVariants.{NoMem
 use Rattle.pattern_search.specs.declared.parsing.PatternError.{PatternError}
 use Rattle.meta_regex.specs.declared.errors.SearchError.{SearchError}
 use Rattle.meta_regex.specs.declared.errors.SearchError.TheVariants.{NoMemory as NoneFree, NotUtf8 as NoText, TooLarge, WrongMarkCount}
+use Rattle.captures.specs.declared.errors.CapturesError.{CapturesError}
+use Rattle.captures.specs.declared.errors.CapturesError.TheVariants.{Search, NoMemory as OutOfMemory, TooLarge as OverLimit}
 use Rattle.capi.specs.declared.failure.Failure.{Failure}
 use Rattle.capi.specs.declared.failure.NewError.{NewError}
-use Rattle.capi.specs.declared.failure.NewError.TheVariants.{BadArgument, NoMemory, NotUtf8, Text, EmptyLoop, Build}
+use Rattle.capi.specs.declared.failure.NewError.TheVariants.{BadArgument, NoMemory, NotUtf8, Text, EmptyLoop, Build, GroupsTooLarge}
 
 abbrev pub plain : ℕ → Failure
 plain status = record { status = status; cause = 0; pattern = 0; start = 0; end = 0; limit = 0 }
@@ -52,9 +54,15 @@ failure_of_new (NotUtf8 pattern at) = record (plain 4) { pattern = pattern; star
 failure_of_new (Text e) = failure_of_text e
 failure_of_new (EmptyLoop pattern) = record (plain 7) { pattern = pattern }
 failure_of_new (Build e) = failure_of_build e
+failure_of_new (GroupsTooLarge limit) = record (plain 8) { limit = limit }
 
 abbrev pub failure_of_search : SearchError → Failure
 failure_of_search WrongMarkCount = plain 2
 failure_of_search NoneFree = plain 3
 failure_of_search (NoText at) = record (plain 12) { start = at }
 failure_of_search TooLarge = plain 8
+
+abbrev pub failure_of_captures : CapturesError → Failure
+failure_of_captures (Search e) = failure_of_search e
+failure_of_captures OutOfMemory = plain 3
+failure_of_captures (OverLimit limit) = record (plain 8) { limit = limit }

@@ -2,3 +2,4 @@ pub mod Options
 pub mod Texts
 pub mod Compiled
 pub mod Failures
+pub mod Groups

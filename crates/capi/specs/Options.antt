@@ -1,5 +1,5 @@
 -- What the numbers of a caller's options mean.
-use Rattle.std.specs.Prelude.{ℕ, ◌/◌, ◌%◌, Bool, true, not, if◌then◌else◌, nat_eq, nat_lt, Some, None}
+use Rattle.std.specs.Prelude.{ℕ, ◌/◌, ◌%◌, ◌^◌, min, Bool, true, not, if◌then◌else◌, nat_eq, nat_lt, Some, None}
 use Rattle.regex_syntax.specs.declared.Config.{Config}
 use Rattle.look_core.specs.Terminators.{one_of}
 use Rattle.search_types.specs.declared.match_kind.MatchKind.{MatchKind}
@@ -12,15 +12,27 @@ use Rattle.capi.specs.declared.options.Options.{Options}
 abbrev pub is_flag_set : ℕ → ℕ → Bool
 is_flag_set flags flag = nat_eq (flags / flag % 2) 1
 
--- There are fourteen flags.
+-- There are fifteen flags.
 abbrev pub has_known_flags : Options → Bool
-has_known_flags o = nat_lt o.flags 16384
+has_known_flags o = nat_lt o.flags 32768
 
 abbrev pub allows_empty_loops : Options → Bool
 allows_empty_loops o = is_flag_set o.flags 512
 
+-- What finds the groups of matches is made together with the regex.
+abbrev pub asks_groups : Options → Bool
+asks_groups o = is_flag_set o.flags 16384
+
 abbrev pub nest_limit_of : Options → ℕ
 nest_limit_of o = if nat_eq o.nest_limit 0 then 250 else o.nest_limit
+
+-- How many bytes each automaton may take.
+abbrev pub size_limit_of : Options → ℕ
+size_limit_of o = if nat_eq o.size_limit 0 then 67108864 else o.size_limit
+
+-- How many bytes the automaton that finds the groups of a pattern may take: as many, but at most 16 GiB.
+abbrev pub groups_limit_of : Options → ℕ
+groups_limit_of o = min (size_limit_of o) (2 ^ 34)
 
 -- How the grammar parses patterns.
 abbrev pub config_of_options : Options → Config
@@ -55,7 +67,7 @@ settings_of o kind = record {
   utf8 = is_flag_set o.flags 256;
   line_terminator = one_of 10;
   shrink = is_flag_set o.flags 8192;
-  size_limit = Some (if nat_eq o.size_limit 0 then 67108864 else o.size_limit);
+  size_limit = Some (size_limit_of o);
   dfa = dfa_options_of o kind;
 }
 
@@ -67,6 +79,6 @@ options_of o = record {
   byte_classes = not (is_flag_set o.flags 4096);
   skip_cache_capacity_check = is_flag_set o.flags 2048;
   shrink = is_flag_set o.flags 8192;
-  size_limit = Some (if nat_eq o.size_limit 0 then 67108864 else o.size_limit);
+  size_limit = Some (size_limit_of o);
   cache_capacity = if nat_eq o.capacity 0 then None else Some o.capacity;
 }

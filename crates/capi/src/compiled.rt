@@ -1,29 +1,40 @@
 //! A compiled regex.
-ghost use Rattle.std.specs.Prelude.{◌≡◌, ◌≤◌, IfErr, IfOk, length, map, replicate, true};
+ghost use Rattle.std.specs.Prelude.{◌≡◌, ◌≤◌, IfErr, IfNone, IfOk, length, map, replicate, true};
 ghost use Rattle.meta_regex.specs.Caches.{IsCacheOf};
 ghost use Rattle.meta_regex.specs.Regexes.{AreAll, AreFirstOfAll, AreMarked, HasFoundSpan, HasFoundStart, IsMatchingPatternsError, IsReported};
 ghost use Rattle.meta_regex.specs.Regexes.{IsSearchError};
 ghost use Rattle.meta_regex.specs.Lists.{AreFirstListed, AreListed};
+ghost use Rattle.group_finder.specs.Slots.{no_offset};
+ghost use Rattle.captures.specs.Captures.{AreCaptured, AreFirstCaptured, HasCaptures};
+ghost use Rattle.meta_regex.specs.Regexes.{IsMadeOf as IsEngineMadeOf};
+ghost use Rattle.captures.specs.Groups.{AreGroupsOf};
 ghost use Rattle.capi.specs.Compiled.{IsMadeOf, IsNewError, config_by};
+ghost use Rattle.capi.specs.Options.{options_of};
+ghost use Rattle.capi.specs.Groups.{IsGroupCount, IsGroupName, IsGroupSearchError};
 
 use crate::failure::NewError;
+use crate::groups::{copied_groups, prepared_groups, write_name};
 use crate::options::Options;
+use captures::{CapturesError, Groups};
+use group_finder::clear;
 use meta_regex::{Cache, FoundMatch, Regex, SearchError};
 use std::alloc::{AllocError, Global};
 use std::marker::Model;
 use std::sync::Arc;
 
-/// A regex made from patterns, and the cache of its searches. Handles that were cloned share the regex.
+/// A regex made from patterns, the cache of its searches, and the groups of its patterns. Handles that were cloned share the regex.
 #[derive(Drop)]
 pub struct Compiled {
     regex: Arc<Regex>,
     cache: Cache,
     options: Options,
+    groups: Groups,
 }
 
 impl Model for Compiled {
     ghost use Rattle.std.specs.Prelude.{◌≡◌};
     ghost use Rattle.meta_regex.specs.Caches.{IsCacheOf};
+    ghost use Rattle.captures.specs.Groups.{AreGroupsOf};
     ghost use Rattle.capi.specs.Compiled.{Regexed};
     ghost use Rattle.capi.specs.Options.{options_of};
 
@@ -31,7 +42,8 @@ impl Model for Compiled {
 
     ghost view = { λ c. record { options = c.options; texts = c.regex.value.texts; loops = c.regex.value.loops } };
 
-    ghost invariant = { λ c. (c.regex.value.options ≡ options_of c.options) × IsCacheOf c.regex.value c.cache };
+    ghost invariant = { λ c. (c.regex.value.options ≡ options_of c.options) × IsCacheOf c.regex.value c.cache
+        × AreGroupsOf c.regex.value.options c.regex.value.texts c.groups };
 }
 
 /// A new cache. The automaton that reports which patterns match is made at once if the options ask for it.
@@ -46,10 +58,46 @@ fn cache_of(alloc: Global, regex: &Regex, options: &Options) -> Result<Cache, Al
     Ok(cache)
 }
 
+/// A regex of patterns, which handles can share.
+fn regex_of(alloc: Global, texts: &[&str], options: &Options) -> Result<Arc<Regex>, NewError>
+    ensures made { IfOk result (λ r. IsEngineMadeOf (options_of options.now) (map (λ t. t.now) texts.now) r.value) }
+    ensures refused { IfErr result (IsNewError options.now (map (λ t. t.now) texts.now)) }
+{
+    let regex = match Regex::new(alloc, texts, &options.options()) {
+        Ok(regex) => regex,
+        Err(e) => return Err(NewError::of(e)),
+    };
+    match Arc::new(alloc, regex) {
+        Ok(regex) => Ok(regex),
+        Err(_) => Err(NewError::NoMemory),
+    }
+}
+
+/// A handle of a regex and of its groups, with a new cache.
+fn handle_of(
+    alloc: Global,
+    regex: Arc<Regex>,
+    groups: Groups,
+    options: &Options,
+) -> Result<Compiled, AllocError>
+    requires options { regex.value.options ≡ options_of options.now }
+    requires groups { AreGroupsOf (options_of options.now) regex.value.texts groups }
+    ensures { IfOk result (λ v. v ≡ record { options = options.now; texts = regex.value.texts; loops = regex.value.loops }) }
+{
+    let cache = cache_of(alloc, &regex, options)?;
+    Ok(Compiled {
+        regex,
+        cache,
+        options: *options,
+        groups,
+    })
+}
+
 impl Compiled {
     /// Makes a regex from patterns. Of matches that start at the same offset, the one of the earlier pattern is preferred.
     ///
-    /// The automaton that reports which patterns match is made at once if the options ask for it, and else when a call first needs it.
+    /// The automaton that reports which patterns match is made at once if the options ask for it, and else when a call first needs it. So is
+    /// what finds the groups of matches.
     pub fn new(alloc: Global, texts: &[&str], options: &Options) -> Result<Compiled, NewError>
         ensures made { IfOk result (IsMadeOf options.now (map (λ t. t.now) texts.now)) }
         ensures refused { IfErr result (IsNewError options.now (map (λ t. t.now) texts.now)) }
@@ -57,36 +105,28 @@ impl Compiled {
         if !options.is_known() {
             return Err(NewError::BadArgument);
         }
-        let regex = match Regex::new(alloc, texts, &options.options()) {
+        let regex = match regex_of(alloc, texts, options) {
             Ok(regex) => regex,
-            Err(e) => return Err(NewError::of(e)),
+            Err(e) => return Err(e),
         };
-        let cache = match cache_of(alloc, &regex, options) {
-            Ok(cache) => cache,
-            Err(_) => return Err(NewError::NoMemory),
+        let groups = match prepared_groups(alloc, texts, options) {
+            Ok(groups) => groups,
+            Err(e) => return Err(e),
         };
-        let regex = match Arc::new(alloc, regex) {
-            Ok(regex) => regex,
-            Err(_) => return Err(NewError::NoMemory),
-        };
-        Ok(Compiled {
-            regex,
-            cache,
-            options: *options,
-        })
+        match handle_of(alloc, regex, groups, options) {
+            Ok(compiled) => Ok(compiled),
+            Err(_) => Err(NewError::NoMemory),
+        }
     }
 
-    /// A second handle of the same regex, with a cache of its own. Both share the regex, so nothing is parsed or compiled.
+    /// A second handle of the same regex, with a cache of its own, and its own finders of groups. Both share the regex, so no pattern is
+    /// parsed.
     pub fn try_clone(&self, alloc: Global) -> Result<Compiled, AllocError>
         ensures { IfOk result (λ v. v ≡ self.now) }
     {
-        let cache = cache_of(alloc, &self.regex, &self.options)?;
+        let groups = copied_groups(alloc, &self.groups, &self.options)?;
         let regex = Arc::try_clone(&self.regex)?;
-        Ok(Compiled {
-            regex,
-            cache,
-            options: self.options,
-        })
+        handle_of(alloc, regex, groups, &self.options)
     }
 
     /// The number of its patterns.
@@ -101,9 +141,29 @@ impl Compiled {
         self.cache.clear_count()
     }
 
-    /// The bytes that the caches of its automata are estimated to need.
+    /// The bytes that the caches of its automata are estimated to need, and what finds groups, as [`Groups`] counts it.
     pub fn memory_usage(&self) -> usize {
-        self.cache.memory_usage()
+        self.cache
+            .memory_usage()
+            .saturating_add(self.groups.memory_usage())
+    }
+
+    /// The number of groups of the pattern with a number, group 0 counted. 0 if there is no such pattern.
+    pub fn group_count(&self, pattern: usize) -> usize
+        ensures { IsGroupCount self.now pattern result }
+    {
+        match self.groups.group_count(pattern) {
+            Some(count) => count,
+            None => 0,
+        }
+    }
+
+    /// Writes the name of a group of the pattern with a number into the room, as far as it fits. Returns the length of the name in bytes, or 0
+    /// if there is no such group or it has no name.
+    pub fn write_group_name(&self, pattern: usize, group: usize, room: &mut [u8]) -> usize
+        ensures { IsGroupName self.now pattern group room.old room.new result }
+    {
+        write_name(self.groups.group_name(pattern, group), room)
     }
 
     /// The leftmost match from an offset on, and of several that start there the preferred one. Look-around assertions see what precedes
@@ -121,6 +181,55 @@ impl Compiled {
         ensures refused { IfErr result (IsSearchError (config_by self.old) haystack.now) }
     {
         self.regex.find_at(alloc, &mut self.cache, haystack, from)
+    }
+
+    /// The match that [`captures_at`](Compiled::captures_at) finds, by what goes with the regex.
+    #[inline]
+    fn find_groups(
+        &mut self,
+        alloc: Global,
+        haystack: &[u8],
+        from: usize,
+        slots: &mut [usize],
+    ) -> Result<Option<FoundMatch>, CapturesError>
+        requires within { from ≤ length haystack.now }
+        ensures same { self.new ≡ self.old }
+        ensures found { IfOk result (λ o. HasCaptures (config_by self.old) self.old.texts haystack.now from (length slots.old) o slots.new) }
+        ensures cleared { IfErr result (λ _. slots.new ≡ replicate (length slots.old) no_offset) }
+        ensures refused { IfErr result (IsGroupSearchError self.old haystack.now) }
+    {
+        self.groups
+            .captures_at(alloc, &self.regex, &mut self.cache, haystack, from, slots)
+    }
+
+    /// The leftmost match from an offset on, and of several that start there the preferred one, whatever loops consume. Look-around assertions
+    /// see what precedes the offset.
+    ///
+    /// `slots` get the offsets of the groups of the match: the start and end of group n in the slots 2n and 2n + 1, or
+    /// [`NO_OFFSET`](crate::NO_OFFSET) in both if it took no part. Group 0 is the match. Slots after the last group of the pattern get that
+    /// too, as do all slots if there is no match or if the search fails.
+    pub fn captures_at(
+        &mut self,
+        alloc: Global,
+        haystack: &[u8],
+        from: usize,
+        slots: &mut [usize],
+    ) -> Result<Option<FoundMatch>, CapturesError>
+        requires within { from ≤ length haystack.now }
+        ensures same { self.new ≡ self.old }
+        ensures found { IfOk result (λ o. HasCaptures (config_by self.old) self.old.texts haystack.now from (length slots.old) o slots.new) }
+        ensures none { IfOk result (λ o. IfNone o (slots.new ≡ replicate (length slots.old) no_offset)) }
+        ensures cleared { IfErr result (λ _. slots.new ≡ replicate (length slots.old) no_offset) }
+        ensures refused { IfErr result (IsGroupSearchError self.old haystack.now) }
+    {
+        match self.find_groups(alloc, haystack, from, slots) {
+            Ok(Some(found)) => Ok(Some(found)),
+            Ok(None) => {
+                clear(slots);
+                Ok(None)
+            }
+            Err(error) => Err(error),
+        }
     }
 
     /// Whether there is a match.
@@ -151,6 +260,38 @@ impl Compiled {
         ensures refused { IfErr result.1 (IsSearchError (config_by self.old) haystack.now) }
     {
         self.regex.find_all(alloc, &mut self.cache, haystack, rows)
+    }
+
+    /// All matches with their groups, by what goes with the regex: writes the first of them into the rows, from left to right, as many as these
+    /// have room for, and `width` slots of each into the slots, as far as there is room. The slots of a match are those of
+    /// [`captures_at`](Compiled::captures_at). Returns how many matches there are in all, whatever loops consume. On an error, the number counts
+    /// the matches before the search that failed, and these are written as far as there is room. Slots after them are unchanged, or those of the
+    /// next match hold no offset.
+    pub fn captures_all(
+        &mut self,
+        alloc: Global,
+        haystack: &[u8],
+        rows: &mut [FoundMatch],
+        slots: &mut [usize],
+        width: usize,
+    ) -> (usize, Result<(), CapturesError>)
+        ensures same { self.new ≡ self.old }
+        ensures all { IfOk result.1 (λ _. AreAll (config_by self.old) self.old.texts haystack.now result.0 rows.old rows.new) }
+        ensures first { IfErr result.1 (λ _. AreFirstOfAll (config_by self.old) self.old.texts haystack.now result.0 rows.old rows.new) }
+        ensures slots { IfOk result.1 (λ _. AreCaptured (config_by self.old) self.old.texts haystack.now width slots.old slots.new) }
+        ensures begun { IfErr result.1
+            (λ _. AreFirstCaptured (config_by self.old) self.old.texts haystack.now width result.0 slots.old slots.new) }
+        ensures refused { IfErr result.1 (IsGroupSearchError self.old haystack.now) }
+    {
+        self.groups.captures_all(
+            alloc,
+            &self.regex,
+            &mut self.cache,
+            haystack,
+            rows,
+            slots,
+            width,
+        )
     }
 
     /// For each pattern, writes 1 at its index if it matches anywhere, and 0 if it doesn't. Returns how many patterns match. There has to

@@ -4,9 +4,11 @@ ghost use Rattle.std.specs.Prelude.{◌≡◌, ℕ, List};
 ghost use Rattle.meta_regex.specs.Regexes.{IsNewError as IsRegexError};
 ghost use Rattle.capi.specs.Compiled.{IsNewError};
 ghost use Rattle.capi.specs.Failures.{plain, failure_of_text, failure_of_build, failure_of_new, failure_of_search, without_cause};
+ghost use Rattle.capi.specs.Failures.{failure_of_captures};
 ghost use Rattle.capi.specs.Options.{options_of};
 ghost use Rattle.capi.specs.declared.options.Options.{Options};
 
+use captures::CapturesError;
 use lazy_dfa::BuildError;
 use meta_regex::SearchError;
 use pattern_search::PatternError;
@@ -31,7 +33,7 @@ pub(crate) const NESTS_TOO_DEEP: u32 = 6;
 /// A pattern has an unbounded repetition whose body can match the empty string.
 pub(crate) const EMPTY_LOOP: u32 = 7;
 
-/// The automata are larger than allowed, or the toolchain's regexes that a search needs are.
+/// The automata are larger than allowed, or the toolchain's regexes that a search needs are, or what finds groups is.
 pub(crate) const TOO_LARGE: u32 = 8;
 
 /// The capacity of a cache is less than it needs.
@@ -84,6 +86,27 @@ impl Failure {
             SearchError::TooLarge => Failure::plain(TOO_LARGE),
         }
     }
+
+    /// An error about a limit on bytes.
+    fn too_large(limit: usize) -> Failure
+        ensures { result ≡ record (plain 8) { limit = limit } }
+    {
+        Failure {
+            limit,
+            ..Failure::plain(TOO_LARGE)
+        }
+    }
+
+    /// The error of a search for groups in numbers.
+    pub fn of_captures(error: &CapturesError) -> Failure
+        ensures { result ≡ failure_of_captures error.now }
+    {
+        match error {
+            CapturesError::Search(error) => Failure::of_search(error),
+            CapturesError::NoMemory => Failure::plain(NO_MEMORY),
+            CapturesError::TooLarge(limit) => Failure::too_large(*limit),
+        }
+    }
 }
 
 /// Why no regex is made.
@@ -101,6 +124,8 @@ pub enum NewError {
     EmptyLoop(usize),
     /// No regex can be built from the trees.
     Build(BuildError),
+    /// What finds the groups of a pattern would take more than this many bytes, and the options ask to make it at once.
+    GroupsTooLarge(usize),
 }
 
 /// What may be wrong with a pattern. The number of each cause is its position here, counted from 1.
@@ -239,6 +264,7 @@ impl NewError {
                 ..Failure::plain(EMPTY_LOOP)
             },
             NewError::Build(error) => failure_of_build(error),
+            NewError::GroupsTooLarge(limit) => Failure::too_large(*limit),
         }
     }
 }

@@ -8,13 +8,15 @@
 
 mod compiled;
 mod failure;
+mod groups;
 mod options;
 mod texts;
 mod words;
 
+pub use captures::{CapturesError, NO_OFFSET};
 pub use compiled::Compiled;
 pub use failure::{Failure, NewError};
 pub use meta_regex::{FoundMatch, SearchError};
 pub use options::Options;
-pub use texts::patterns_of;
+pub use texts::{accepts, patterns_of};
 pub use words::error_text;

@@ -3,7 +3,7 @@ ghost use Rattle.std.specs.Prelude.{◌≡◌, ◌<◌, if◌then◌else◌, nat
 ghost use Rattle.search_types.specs.declared.match_kind.MatchKind.{MatchKind};
 ghost use Rattle.meta_regex.specs.Options.{config_of, settings_of as settings_of_engine};
 ghost use Rattle.capi.specs.Options.{is_flag_set, has_known_flags, config_of_options, nest_limit_of, allows_empty_loops};
-ghost use Rattle.capi.specs.Options.{options_of, settings_of};
+ghost use Rattle.capi.specs.Options.{asks_groups, options_of, settings_of, size_limit_of};
 
 use pattern_text::Config;
 
@@ -35,7 +35,9 @@ const NO_BYTE_CLASSES: u32 = 4096;
 
 const SHRINK: u32 = 8192;
 
-const FLAGS_END: u32 = 16384;
+const GROUPS: u32 = 16384;
+
+const FLAGS_END: u32 = 32768;
 
 const NEST_LIMIT: u32 = 250;
 
@@ -82,6 +84,13 @@ impl Options {
         self.has(MATCHING_PATTERNS)
     }
 
+    /// Whether what finds the groups of matches is made at once.
+    pub fn asks_groups(&self) -> bool
+        ensures { result ≡ asks_groups self.now }
+    {
+        self.has(GROUPS)
+    }
+
     fn nest_limit(&self) -> u32
         ensures { result ≡ nest_limit_of self.now }
     {
@@ -120,7 +129,7 @@ impl Options {
     }
 
     fn size_limit(&self) -> usize
-        ensures { result ≡ (if nat_eq self.now.size_limit 0 then 0x400_0000 else self.now.size_limit) }
+        ensures { result ≡ size_limit_of self.now }
     {
         if self.size_limit == 0 {
             SIZE_LIMIT

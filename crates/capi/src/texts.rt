@@ -1,11 +1,12 @@
 //! Patterns that are stored one after the other.
-ghost use Rattle.std.specs.Prelude.{◌≡◌, ◌≢◌, ◌<◌, ◌++◌, ◌∷◌, [], ℕ, Some, map, length, IfOk, IfErr, OnOk, take, drop};
+ghost use Rattle.std.specs.Prelude.{◌≡◌, ◌≢◌, ◌<◌, ◌++◌, ◌∷◌, [], ℕ, Some, false, map, length, IfOk, IfErr, OnOk, take, drop};
 ghost use Rattle.meta_regex.specs.Regexes.{IsNoText};
-ghost use Rattle.capi.specs.Compiled.{IsSplitError};
-ghost use Rattle.capi.specs.declared.failure.NewError.TheVariants.{NoMemory, NotUtf8};
+ghost use Rattle.capi.specs.Compiled.{IsCallError, IsSplitError, are_arguments, do_lengths_fit};
+ghost use Rattle.capi.specs.declared.failure.NewError.TheVariants.{BadArgument, NoMemory, NotUtf8};
 ghost use Rattle.capi.specs.Texts.{cut};
 
 use crate::failure::NewError;
+use crate::options::Options;
 use std::alloc::Global;
 
 fn push<'t>(texts: &mut Vec<&'t str>, text: &'t str) -> Result<(), NewError>
@@ -30,6 +31,34 @@ fn text_of(bytes: &[u8], number: usize) -> Result<&str, NewError>
             at: e.valid_up_to(),
         }),
     }
+}
+
+/// Whether there is a length, and the lengths sum to the number of bytes.
+fn lengths_fit(bytes: &[u8], lengths: &[usize]) -> bool
+    ensures { result ≡ do_lengths_fit lengths.now bytes.now }
+{
+    if lengths.is_empty() {
+        return false;
+    }
+    let mut left = bytes.len();
+    for length in lengths {
+        if *length > left {
+            return false;
+        }
+        left -= *length;
+    }
+    left == 0
+}
+
+/// Whether a call for a regex accepts these arguments: each flag is known, there is a length, and the lengths sum to the number of bytes.
+pub fn accepts(bytes: &[u8], lengths: &[usize], options: &Options) -> bool
+    ensures value { result ≡ are_arguments options.now lengths.now bytes.now }
+    ensures refused { result ≡ false → IsCallError options.now lengths.now bytes.now BadArgument }
+{
+    if !options.is_known() {
+        return false;
+    }
+    lengths_fit(bytes, lengths)
 }
 
 /// Splits bytes into patterns of these lengths, which are stored one after the other.

@@ -43,7 +43,7 @@ fn put(room: &mut [u8], at: usize, byte: u8)
 }
 
 /// Writes the first bytes into the room, as many as fit.
-fn write_into(bytes: &[u8], room: &mut [u8])
+pub(crate) fn write_into(bytes: &[u8], room: &mut [u8])
     ensures { room.new ≡ overlaid bytes.now room.old }
 {
     for (at, byte) in bytes.iter().enumerate() {

@@ -5,8 +5,11 @@ use Rattle.meta_regex.specs.Regexes.{IsSearchError, IsMatchingPatternsError}
 use Rattle.meta_regex.specs.Lists.{AreListed, AreFirstListed}
 use Rattle.meta_regex.specs.declared.errors.SearchError.{SearchError}
 use Rattle.meta_regex.specs.declared.found_match.FoundMatch.{FoundMatch}
+use Rattle.captures.specs.Captures.{AreCaptured, AreFirstCaptured, HasCaptures}
+use Rattle.captures.specs.declared.errors.CapturesError.{CapturesError}
 use Rattle.capi.specs.Compiled.{Regexed, config_by, IsCallError}
-use Rattle.capi.specs.Failures.{failure_of_new, failure_of_search, without_cause}
+use Rattle.capi.specs.Failures.{failure_of_captures, failure_of_new, failure_of_search, without_cause}
+use Rattle.capi.specs.Groups.{IsGroupSearchError}
 use Rattle.capi.specs.declared.failure.Failure.{Failure}
 use Rattle.capi.specs.declared.failure.NewError.{NewError}
 use Rattle.capi.specs.declared.options.Options.{Options}
@@ -20,6 +23,10 @@ RejectsNew o lengths texts f =
 -- A status above 1 says why the search of the haystack failed.
 abbrev pub FailsSearch : Regexed → List ℕ → Failure → Type 0
 FailsSearch v h f = 1 < f.status → (e : SearchError) × (f ≡ failure_of_search e) × IsSearchError (config_by v) h e
+
+-- A status above 1 says why the search of the haystack for matches with their groups failed.
+abbrev pub FailsCaptures : Regexed → List ℕ → Failure → Type 0
+FailsCaptures v h f = 1 < f.status → (e : CapturesError) × (f ≡ failure_of_captures e) × IsGroupSearchError v h e
 
 -- A status above 1 says why the search for the patterns that match failed.
 abbrev pub FailsMatchingPatterns : Regexed → List ℕ → List ℕ → Failure → Type 0
@@ -38,6 +45,12 @@ pub record AnswersFind (v : Regexed) (h : List ℕ) (from : ℕ) (found : FoundM
   pub preferred : status ≡ 0 → v.loops ≡ true → HasFoundSpan (config_by v) v.texts h from (Some found)
   pub none : status ≡ 1 → HasFoundStart (config_by v) v.texts h from None
 
+-- The result is the preferred match from an offset on, whatever loops consume, of the first pattern that matches there. The slots are those of
+-- the match, as far as there is room for the given number.
+pub record AnswersCaptures (v : Regexed) (h : List ℕ) (from n : ℕ) (found : FoundMatch) (slots : List ℕ) (status : ℕ) : Type 0 where
+  pub some : status ≡ 0 → HasCaptures (config_by v) v.texts h from n (Some found) slots
+  pub none : status ≡ 1 → HasCaptures (config_by v) v.texts h from n None slots
+
 -- `n` matches were counted, and the first of them are in the rows. If the call succeeds, these are all matches. If the body of every
 -- unbounded repetition consumes at least one byte, they are those that the matcher finds. In any case each match comes next after the one
 -- before it, and none follows the last. If the call fails, they are the first matches.
@@ -47,6 +60,16 @@ pub record AnswersAll (v : Regexed) (h : List ℕ) (n : ℕ) (old new : List Fou
   pub listed : status < 2 → AreListed (config_by v) v.texts h n old new
   pub first : 1 < status → v.loops ≡ true → AreFirstOfAll (config_by v) v.texts h n old new
   pub begun : 1 < status → AreFirstListed (config_by v) v.texts h n old new
+
+-- `n` matches were counted, the first of them are in the rows, and their slots, of which a row has the given width, are in the slots. If the
+-- call succeeds, these are all matches that the matcher finds, whatever loops consume. If it fails, they are the first of these.
+pub record AnswersCapturesAll (v : Regexed) (h : List ℕ) (width n : ℕ) (old new : List FoundMatch) (slots_old slots : List ℕ) (status : ℕ)
+    : Type 0 where
+  pub any : status ≡ 0 → 0 < n
+  pub all : status < 2 → AreAll (config_by v) v.texts h n old new
+  pub captured : status < 2 → AreCaptured (config_by v) v.texts h width slots_old slots
+  pub first : 1 < status → AreFirstOfAll (config_by v) v.texts h n old new
+  pub begun : 1 < status → AreFirstCaptured (config_by v) v.texts h width n slots_old slots
 
 -- `n` patterns match, and these are marked.
 pub record AnswersWhichMatch (v : Regexed) (h : List ℕ) (n : ℕ) (marks : List ℕ) (status : ℕ) : Type 0 where

@@ -8,14 +8,19 @@
 mod apart;
 mod handle;
 
-ghost use Rattle.std.specs.Prelude.{◌≡◌, ◌≢◌, ◌⊎◌, ◌<◌, ◌≤◌, Some, None, IfSome, IfOk, IfErr, length, replicate};
-ghost use Rattle.capi.specs.Compiled.{IsMadeOf, IsCallError};
+ghost use Rattle.std.specs.Prelude.{◌≡◌, ◌≢◌, ◌⊎◌, ◌<◌, ◌≤◌, ◌*◌, Some, None, IfSome, IfOk, IfErr, false, length, nat_eq, replicate};
+ghost use Rattle.group_finder.specs.Slots.{no_offset};
+ghost use Rattle.capi.specs.Compiled.{IsMadeOf, IsCallError, are_arguments};
 ghost use Rattle.capi.specs.Failures.{plain};
+ghost use Rattle.capi.specs.Groups.{IsGroupCount, IsGroupName};
 ghost use Rattle.capi.specs.Texts.{cut};
-ghost use Rattle.hanneddois.specs.Answers.{AnswersIsMatch, AnswersFind, AnswersAll, AnswersWhichMatch, pattern_count_of};
-ghost use Rattle.hanneddois.specs.Answers.{RejectsNew, FailsSearch, FailsMatchingPatterns};
+ghost use Rattle.hanneddois.specs.Answers.{AnswersIsMatch, AnswersFind, AnswersCaptures, AnswersAll, AnswersCapturesAll, AnswersWhichMatch};
+ghost use Rattle.hanneddois.specs.Answers.{pattern_count_of};
+ghost use Rattle.hanneddois.specs.Answers.{RejectsNew, FailsSearch, FailsCaptures, FailsMatchingPatterns};
 
-use capi::{Compiled, Failure, FoundMatch, NewError, Options, error_text, patterns_of};
+use capi::{
+    Compiled, Failure, FoundMatch, NO_OFFSET, NewError, Options, accepts, error_text, patterns_of,
+};
 use handle::Handle;
 use meta_regex::Regex;
 use std::alloc::{AllocError, Global};
@@ -77,13 +82,13 @@ fn made(
 
 /// Makes a regex from patterns and returns the status 0, or returns an error:
 ///
-/// - 2: an argument isn't one that the call accepts.
+/// - 2: an argument isn't one that the call accepts. Arguments are checked before all else.
 /// - 3: memory ran out.
 /// - 4: a pattern isn't UTF-8.
 /// - 5: a pattern has a syntax error.
 /// - 6: a pattern nests too deep.
 /// - 7: a pattern has an unbounded repetition whose body can match the empty string.
-/// - 8: the automata are larger than allowed.
+/// - 8: the automata are larger than allowed, or what finds groups is.
 /// - 9: the capacity of a cache is less than it needs.
 ///
 /// No options lead to the status 10, which is about Unicode word boundaries.
@@ -101,9 +106,13 @@ pub extern "C" fn hanneddois_new(
     ensures made { IfSome regex.new.value (IsMadeOf options.now (cut lengths.now texts.now)) }
     ensures empty { result ≢ 0 → regex.new.value ≡ None }
     ensures plain { result ≡ 0 → error.new ≡ plain 0 }
+    ensures argument { are_arguments options.now lengths.now texts.now ≡ false → error.new ≡ plain 2 }
     ensures refused { RejectsNew options.now lengths.now texts.now error.new }
 {
     drop(regex.take(alloc));
+    if !accepts(texts, lengths, options) {
+        return end(BAD_ARGUMENT, error);
+    }
     match made(alloc, texts, lengths, options) {
         Ok(inside) => {
             regex.put(alloc, inside);
@@ -178,6 +187,47 @@ pub extern "C" fn hanneddois_pattern_count(alloc: Global, regex: &mut Handle) ->
     let count = inside.pattern_count();
     regex.put(alloc, inside);
     count
+}
+
+/// The number of groups of the pattern with a number, group 0 counted. 0 if there is no such pattern, or if the handle is empty.
+#[unsafe(no_mangle)]
+pub extern "C" fn hanneddois_group_count(
+    alloc: Global,
+    regex: &mut Handle,
+    pattern: usize,
+) -> usize
+    ensures same { regex.new.value ≡ regex.old.value }
+    ensures empty { regex.old.value ≡ None → result ≡ 0 }
+    ensures count { IfSome regex.old.value (λ v. IsGroupCount v pattern result) }
+{
+    let Some(inside) = regex.take(alloc) else {
+        return 0;
+    };
+    let count = inside.group_count(pattern);
+    regex.put(alloc, inside);
+    count
+}
+
+/// Writes the name of a group of the pattern with a number, as far as it fits. Returns the length of the name in bytes, or 0 if there is no
+/// such group, if it has no name, or if the handle is empty.
+#[unsafe(no_mangle)]
+pub extern "C" fn hanneddois_group_name(
+    alloc: Global,
+    regex: &mut Handle,
+    pattern: usize,
+    group: usize,
+    name: &mut [u8],
+) -> usize
+    ensures same { regex.new.value ≡ regex.old.value }
+    ensures empty { regex.old.value ≡ None → (result ≡ 0) × (name.new ≡ name.old) }
+    ensures name { IfSome regex.old.value (λ v. IsGroupName v pattern group name.old name.new result) }
+{
+    let Some(inside) = regex.take(alloc) else {
+        return 0;
+    };
+    let length = inside.write_group_name(pattern, group, name);
+    regex.put(alloc, inside);
+    length
 }
 
 /// The bytes that the caches are estimated to need.
@@ -277,6 +327,57 @@ pub extern "C" fn hanneddois_find_at(
     }
 }
 
+/// Writes into all slots that there is no offset, and into the error that an argument is bad.
+fn reject(slots: &mut [usize], error: &mut Failure) -> u32
+    ensures status { result ≡ 2 }
+    ensures reported { error.new ≡ plain 2 }
+    ensures cleared { slots.new ≡ replicate (length slots.old) no_offset }
+{
+    slots.fill(NO_OFFSET);
+    end(BAD_ARGUMENT, error)
+}
+
+/// The leftmost match from an offset on, with the offsets of its groups. The status is 0 if there is one, and 1 if there is none. The errors
+/// are those of [`hanneddois_find_at`], and 8 also if what finds the groups is too large.
+#[unsafe(no_mangle)]
+pub extern "C" fn hanneddois_captures(
+    alloc: Global,
+    regex: &mut Handle,
+    haystack: &[u8],
+    from: usize,
+    found: &mut FoundMatch,
+    slots: &mut [usize],
+    error: &mut Failure,
+) -> u32
+    ensures reported { error.new.status ≡ result }
+    ensures same { regex.new.value ≡ regex.old.value }
+    ensures plain { result < 2 → error.new ≡ plain result }
+    ensures none { 0 < result → found.new ≡ record { pattern = 0; start = 0; end = 0 } }
+    ensures cleared { 0 < result → slots.new ≡ replicate (length slots.old) no_offset }
+    ensures empty { regex.old.value ≡ None → error.new ≡ plain 2 }
+    ensures behind { length haystack.now < from → error.new ≡ plain 2 }
+    ensures answer { IfSome regex.old.value (λ v. AnswersCaptures v haystack.now from (length slots.old) found.new slots.new result) }
+    ensures refused { from ≤ length haystack.now → IfSome regex.old.value (λ v. FailsCaptures v haystack.now error.new) }
+{
+    *found = FoundMatch::zero();
+    if from > haystack.len() {
+        return reject(slots, error);
+    }
+    let Some(mut inside) = regex.take(alloc) else {
+        return reject(slots, error);
+    };
+    let reported = inside.captures_at(alloc, haystack, from, slots);
+    regex.put(alloc, inside);
+    match reported {
+        Ok(Some(it)) => {
+            *found = it;
+            end(OK, error)
+        }
+        Ok(None) => end(NONE, error),
+        Err(e) => refuse(Failure::of_captures(&e), error),
+    }
+}
+
 /// All matches. The status is 0 if there is any, and 1 if there is none. The errors are those of [`hanneddois_is_match`].
 #[unsafe(no_mangle)]
 pub extern "C" fn hanneddois_find_all(
@@ -306,6 +407,57 @@ pub extern "C" fn hanneddois_find_all(
         Ok(()) if listed > 0 => end(OK, error),
         Ok(()) => end(NONE, error),
         Err(e) => refuse(Failure::of_search(&e), error),
+    }
+}
+
+/// Whether there are so many slots as that many rows of this width have.
+fn fills(slots: usize, rows: usize, width: usize) -> bool
+    ensures { result ≡ nat_eq slots (rows * width) }
+{
+    match rows.checked_mul(width) {
+        Some(room) => slots == room,
+        None => false,
+    }
+}
+
+/// All matches with the offsets of their groups, of each as many slots as a row is wide. The status is 0 if there is any match, and 1 if there is
+/// none. The errors are those of [`hanneddois_captures`], and 2 also if the slots don't fill the rows.
+#[unsafe(no_mangle)]
+pub extern "C" fn hanneddois_captures_all(
+    alloc: Global,
+    regex: &mut Handle,
+    haystack: &[u8],
+    matches: &mut [FoundMatch],
+    slots: &mut [usize],
+    width: usize,
+    count: &mut usize,
+    error: &mut Failure,
+) -> u32
+    ensures reported { error.new.status ≡ result }
+    ensures same { regex.new.value ≡ regex.old.value }
+    ensures plain { result < 2 → error.new ≡ plain result }
+    ensures none { result ≡ 1 → count.new ≡ 0 }
+    ensures empty { regex.old.value ≡ None →
+        (error.new ≡ plain 2) × (count.new ≡ 0) × (matches.new ≡ matches.old) × (slots.new ≡ slots.old) }
+    ensures room { length slots.old ≢ length matches.old * width →
+        (error.new ≡ plain 2) × (count.new ≡ 0) × (matches.new ≡ matches.old) × (slots.new ≡ slots.old) }
+    ensures answer { length slots.old ≡ length matches.old * width → IfSome regex.old.value
+        (λ v. AnswersCapturesAll v haystack.now width count.new matches.old matches.new slots.old slots.new result) }
+    ensures refused { length slots.old ≡ length matches.old * width → IfSome regex.old.value (λ v. FailsCaptures v haystack.now error.new) }
+{
+    *count = 0usize;
+    if !fills(slots.len(), matches.len(), width) {
+        return end(BAD_ARGUMENT, error);
+    }
+    let Some(mut inside) = regex.take(alloc) else {
+        return end(BAD_ARGUMENT, error);
+    };
+    let (total, reported) = inside.captures_all(alloc, haystack, matches, slots, width);
+    regex.put(alloc, inside);
+    *count = total;
+    match reported {
+        Ok(()) => end(if total == 0 { NONE } else { OK }, error),
+        Err(why) => refuse(Failure::of_captures(&why), error),
     }
 }
 

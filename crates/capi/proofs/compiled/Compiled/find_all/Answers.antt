@@ -45,4 +45,5 @@ pub invariant_of-self : goal.invariant_of-self
 invariant_of-self c = (
   c.self.invariant.0,
   subst (λ (r : RegexValue). IsCacheOf r c.find_all.new.cache) c.deref.ensures c.find_all.ensures.own,
+  c.self.invariant.2,
 )

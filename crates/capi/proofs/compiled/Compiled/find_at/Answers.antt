@@ -30,4 +30,5 @@ pub invariant_of-self : goal.invariant_of-self
 invariant_of-self c = (
   c.self.invariant.0,
   subst (λ (r : RegexValue). IsCacheOf r c.find_at.new.cache) c.deref.ensures c.find_at.ensures.own,
+  c.self.invariant.2,
 )

@@ -23,4 +23,5 @@ pub invariant_of-self : goal.invariant_of-self
 invariant_of-self c = (
   c.self.invariant.0,
   subst (λ (r : RegexValue). IsCacheOf r c.matching_patterns.new.cache) c.deref.ensures c.matching_patterns.ensures.own,
+  c.self.invariant.2,
 )
