@@ -131,21 +131,21 @@ def selected_lines(regex, data):
         match = regex.find(data, start)
         if match is None:
             return
-        start = data.rfind(b"\n", start, match.start) + 1 or start
+        start = data.rfind(b"\n", start, match.start()) + 1 or start
         if start == len(data):
             return  # an empty match after the last line feed, where there is no line
-        end = end_of_line(data, match.start)
-        if match.end <= end:
+        end = end_of_line(data, match.start())
+        if match.end() <= end:
             yield start, end
             start = end + 1
         else:
-            yield from lines_one_by_one(regex, data, start, match.end)
-            start = end_of_line(data, match.end - 1) + 1
+            yield from lines_one_by_one(regex, data, start, match.end())
+            start = end_of_line(data, match.end() - 1) + 1
 
 
 def matches_of(regex, line):
     """Returns the matches of a line that aren't empty, each with its offset in the line."""
-    return [(it.start, line[it.start : it.end]) for it in regex.find_iter(line) if it.end > it.start]
+    return [(it.start(), it.group()) for it in regex.find_iter(line) if it.end() > it.start()]
 
 
 def search_lines(query, block):

@@ -15,25 +15,38 @@ environment variable HANNEDDOIS_LIBRARY names a shared library, that one is used
 import functools
 import operator
 import os
+import sys
+import types
 
 from ._common import (BAD_ARGUMENT, CAPACITY_TOO_SMALL, CASE_INSENSITIVE, CRLF, DOT_MATCHES_NEW_LINE, EMPTY_LOOP, EMPTY_LOOPS,
                       HAYSTACK_NOT_UTF8, IGNORE_WHITESPACE, MATCHING_PATTERNS, MULTI_LINE, NESTS_TOO_DEEP, NO_BYTE_CLASSES, NO_MEMORY,
                       NO_PATTERN, NO_UNICODE, NONE, NOT_UTF8, OCTAL, OK, RAISE_CAPACITY, SHRINK, SWAP_GREED, SYNTAX_ERROR, TOO_LARGE,
                       UTF8, WHICH, Error)
+from ._groups import add_methods, parse_template
 
 try:
     if os.environ.get("HANNEDDOIS_LIBRARY"):
         raise ImportError("HANNEDDOIS_LIBRARY names another library than that of the extension")
     from ._extension import Match, Matcher, version
+    add_methods(Match)
     backend = "extension"
 except ImportError:
     from ._ctypes import Match, Matcher, version
     backend = "ctypes"
 
-__all__ = ["BAD_ARGUMENT", "CAPACITY_TOO_SMALL", "CASE_INSENSITIVE", "CRLF", "DOT_MATCHES_NEW_LINE", "EMPTY_LOOP", "EMPTY_LOOPS", "Error",
-           "HAYSTACK_NOT_UTF8", "IGNORE_WHITESPACE", "MATCHING_PATTERNS", "MULTI_LINE", "Match", "NESTS_TOO_DEEP", "NONE", "NOT_UTF8",
-           "NO_BYTE_CLASSES", "NO_MEMORY", "NO_PATTERN", "NO_UNICODE", "OCTAL", "OK", "RAISE_CAPACITY", "Regex", "SHRINK", "SWAP_GREED",
-           "SYNTAX_ERROR", "TOO_LARGE", "UTF8", "WHICH", "backend", "compile", "purge", "version"]
+__all__ = ["BAD_ARGUMENT", "CAPACITY_TOO_SMALL", "CASE_INSENSITIVE", "CRLF", "DOTALL", "DOT_MATCHES_NEW_LINE", "EMPTY_LOOP", "EMPTY_LOOPS",
+           "Error", "HAYSTACK_NOT_UTF8", "I", "IGNORECASE", "IGNORE_WHITESPACE", "M", "MATCHING_PATTERNS", "MULTILINE",
+           "MULTI_LINE", "Match", "NESTS_TOO_DEEP", "NONE", "NOT_UTF8", "NO_BYTE_CLASSES", "NO_MEMORY", "NO_PATTERN",
+           "NO_UNICODE", "OCTAL", "OK", "RAISE_CAPACITY", "Regex", "S", "SHRINK", "SWAP_GREED", "SYNTAX_ERROR", "TOO_LARGE",
+           "UTF8", "VERBOSE", "WHICH", "X", "backend", "compile", "error", "escape", "findall", "finditer", "fullmatch",
+           "match", "purge", "search", "split", "sub", "subn", "version"]
+
+# The names of flags in re.
+I = IGNORECASE = CASE_INSENSITIVE
+M = MULTILINE = MULTI_LINE
+S = DOTALL = DOT_MATCHES_NEW_LINE
+X = VERBOSE = IGNORE_WHITESPACE
+error = Error
 
 # How many regexes `compile` keeps. Each may take some MB after long searches.
 _MOST_KEPT = 128
@@ -81,6 +94,83 @@ class Regex(Matcher):
 
     which = Matcher.matching_patterns  # the name in version 0.2
 
+    @property
+    def pattern(self):
+        """The pattern; of several, the first one."""
+        return self.patterns[0]
+
+    @property
+    def groups(self):
+        """How many groups the pattern has; of several, the first one."""
+        return len(self.group_names[0]) - 1
+
+    @property
+    def groupindex(self):
+        """The numbers of the groups that have a name, by their names; of several patterns, those of the first one."""
+        return types.MappingProxyType({name: number for number, name in enumerate(self.group_names[0]) if name})
+
+    def _between(self, before, after):
+        """Returns the regex of the patterns between these others. It is kept."""
+        if self._kept is None:
+            self._kept = {}
+        if (before, after) not in self._kept:
+            self._kept[before, after] = _wrap(self, before, after)
+        return self._kept[before, after]
+
+    def match(self, string, pos=0, endpos=sys.maxsize):
+        """The match that starts at the offset, or None. From another offset than 0 it searches as far as the next match."""
+        if pos <= 0:
+            return self._between(r"\A(?:", ")")._find_for(self, string, 0, endpos)
+        found = self.search(string, pos, endpos)
+        return found if found and found.start() == found.pos else None
+
+    def fullmatch(self, string, pos=0, endpos=sys.maxsize):
+        """The match from the one offset to the other, or None. From another offset than 0 it searches as far as the next match."""
+        if pos <= 0:
+            return self._between(r"\A(?:", r")\z")._find_for(self, string, 0, endpos)
+        found = self._between("(?:", r")\z")._find_for(self, string, pos, endpos)
+        return found if found and found.start() == found.pos else None
+
+    def findall(self, string, pos=0, endpos=sys.maxsize):
+        """The list of all matches: the whole match if its pattern has no group, its group if it has one, and else a tuple of its groups."""
+        empty, found = ("" if isinstance(string, str) else b""), []
+        for match in self.finditer(string, pos, endpos):
+            groups = match.groups(empty) or (match.group(),)
+            found.append(groups if len(groups) > 1 else groups[0])
+        return found
+
+    def sub(self, repl, string, count=0):
+        """The string with its first matches replaced, or with all if the count is 0.
+
+        Each match is replaced by a template, in which \\1 and \\g<name> stand for groups, or by what a function returns for the match."""
+        return self.subn(repl, string, count)[0]
+
+    def subn(self, repl, string, count=0):
+        """The pair of what sub returns, and of how many matches were replaced."""
+        replace, content = _replacement_of(self, repl), _content_of(string)
+        pieces, last, number = [], 0, 0
+        for match in self.finditer(string) if count >= 0 else ():
+            start, end = match.span()
+            pieces += content[last:start], replace(match)
+            last, number = end, number + 1
+            if number == count:
+                break
+        pieces.append(content[last:])
+        return content[:0].join(pieces), number
+
+    def split(self, string, maxsplit=0):
+        """The list of what is between the matches, with their groups. Without a maxsplit of 0 at most so many matches split it."""
+        content, pieces, last, number = _content_of(string), [], 0, 0
+        for match in self.finditer(string) if maxsplit >= 0 else ():
+            start, end = match.span()
+            pieces.append(content[last:start])
+            pieces += match.groups()
+            last, number = end, number + 1
+            if number == maxsplit:
+                break
+        pieces.append(content[last:])
+        return pieces
+
     def __reduce__(self):
         return type(self), (self.patterns, self.flags, self.capacity, self.size_limit, self.nest_limit)
 
@@ -106,6 +196,36 @@ class Regex(Matcher):
         return f"hanneddois.{type(self).__name__}({list(self.patterns)!r}{options})"
 
 
+def _wrap(regex, before, after):
+    """Compiles the patterns between two others. If a comment ends a pattern, a line feed ends that."""
+    for line_feed in ("\n", "") if regex.flags & IGNORE_WHITESPACE else ("", "\n"):
+        try:
+            patterns = [_around(it, before, line_feed + after) for it in regex.patterns]
+            return Regex(patterns, regex.flags, regex.capacity, regex.size_limit, regex.nest_limit and regex.nest_limit + 1)
+        except Error as error:
+            failed = error
+    raise failed
+
+
+def _around(pattern, before, after):
+    return before + pattern + after if isinstance(pattern, str) else before.encode() + pattern + after.encode()
+
+
+def _content_of(string):
+    return string if isinstance(string, (str, bytes)) else bytes(memoryview(string))
+
+
+def _replacement_of(regex, repl):
+    """Returns a function that returns the replacement of a match."""
+    if callable(repl):
+        return lambda match: repl(match) or match.string[:0]
+    templates = [parse_template(repl, names) for names in regex.group_names]
+    if all(not isinstance(part, int) for parts in templates for part in parts):
+        texts = [repl[:0].join(parts) for parts in templates]
+        return lambda match: texts[match.pattern]
+    return lambda match: match.expand(repl)
+
+
 @functools.lru_cache(maxsize=_MOST_KEPT)
 def _compile(kind, pattern, *options):
     return Regex([pattern], *options)
@@ -118,6 +238,46 @@ def compile(pattern, flags=0, capacity=0, size_limit=0, nest_limit=0):
             raise ValueError("a compiled regex takes no further options")
         return pattern
     return _compile(type(pattern), _as_pattern(pattern), flags, capacity, size_limit, nest_limit)
+
+
+_SPECIAL = {ord(each): "\\" + each for each in r"\.+*?()|[]{}^$#&-~"}
+
+
+def escape(pattern):
+    """Returns the pattern that matches a text itself."""
+    if isinstance(pattern, str):
+        return pattern.translate(_SPECIAL)
+    return bytes(memoryview(pattern)).decode("latin-1").translate(_SPECIAL).encode("latin-1")
+
+
+def _searching(name):
+    """Returns the function of re that compiles a pattern and calls a method of it."""
+    method = getattr(Regex, name)
+
+    def call(pattern, string, flags=0):
+        return method(compile(pattern, flags), string)
+
+    call.__name__ = call.__qualname__ = name
+    call.__doc__ = f"Compiles a pattern, and returns what the method {name} of the regex returns."
+    return call
+
+
+search, match, fullmatch, findall, finditer = map(_searching, ("search", "match", "fullmatch", "findall", "finditer"))
+
+
+def sub(pattern, repl, string, count=0, flags=0):
+    """Compiles a pattern, and returns what the method sub of the regex returns."""
+    return compile(pattern, flags).sub(repl, string, count)
+
+
+def subn(pattern, repl, string, count=0, flags=0):
+    """Compiles a pattern, and returns what the method subn of the regex returns."""
+    return compile(pattern, flags).subn(repl, string, count)
+
+
+def split(pattern, string, maxsplit=0, flags=0):
+    """Compiles a pattern, and returns what the method split of the regex returns."""
+    return compile(pattern, flags).split(string, maxsplit)
 
 
 def purge():

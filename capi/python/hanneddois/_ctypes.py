@@ -6,10 +6,12 @@ import os
 import pathlib
 import platform
 import struct
+import sys
 import threading
 import types
 
 from ._common import BAD_ARGUMENT, NO_UNICODE, NONE, OK, UTF8, Error, count_characters
+from ._groups import MatchMethods
 
 # The path of the shared library, which ./install writes into its copy of this file.
 _INSTALLED = None
@@ -19,6 +21,9 @@ _VERSION = (0, 3)
 
 # Searches of more bytes than this give up the interpreter's lock. Shorter ones take less time than that would.
 _FEW_BYTES = 4096
+
+# The offset of a group that took no part.
+_NO_OFFSET = ctypes.c_size_t(-1).value
 
 
 class _Handle(ctypes.Structure):
@@ -62,6 +67,9 @@ def _declare(library):
         ("find_at", word, handle, address, size, size, ctypes.POINTER(_Row), failure),
         ("find_all", word, handle, address, size, ctypes.POINTER(_Row), size, ctypes.POINTER(size), failure),
         ("matching_patterns", word, handle, address, size, ctypes.POINTER(ctypes.c_uint8), size, ctypes.POINTER(size), failure),
+        ("group_count", size, handle, size),
+        ("group_name", size, handle, size, size, ctypes.POINTER(ctypes.c_char), size),
+        ("captures", word, handle, address, size, size, ctypes.POINTER(_Row), ctypes.POINTER(size), size, failure),
         ("error_text", size, failure, ctypes.POINTER(ctypes.c_char), size),
         ("memory_usage", size, handle),
         ("clear_count", size, handle),
@@ -94,87 +102,83 @@ def _error_of(failure):
     return Error(text.raw[:length].decode(), *(getattr(failure, name) for name, _ in _Failure._fields_))
 
 
-class Match:
-    """A match: unpacks and compares as the tuple (pattern, start, end).
+class Match(MatchMethods):
+    """A match, with the methods that it has in re, and the number of its pattern.
 
     Offsets count the characters of a str, and the bytes of any other haystack."""
 
-    __slots__ = ("_fields", "_haystack")
-    __match_args__ = ("pattern", "start", "end")
+    __slots__ = ("_fields", "_place", "_regex", "_finder", "_regs")
     __class_getitem__ = classmethod(types.GenericAlias)
 
-    def __init__(self, pattern, start, end, haystack=None):
-        self._fields = tuple(map(operator.index, (pattern, start, end)))
-        self._haystack = haystack
-        if self.pattern < 0 or not 0 <= self.start <= self.end:
-            raise ValueError("a match has a pattern and a start of 0 or more, and an end that isn't below its start")
+    def __new__(cls, *args, **kwargs):
+        raise TypeError(f"only a search makes a {cls!r}")
 
     pattern = property(lambda self: self._fields[0], doc="The number of the pattern that matches, from 0.")
-    start = property(lambda self: self._fields[1], doc="The offset at which the match starts.")
-    end = property(lambda self: self._fields[2], doc="The offset after the match.")
-    haystack = property(lambda self: self._haystack, doc="What was searched.")
+    haystack = property(lambda self: self._place.object, doc="What was searched.")
+    string = property(lambda self: self._place.object, doc="What was searched, by the name that it has in re.")
+    pos = property(lambda self: self._place.pos, doc="The offset from which on the search was made.")
+    endpos = property(lambda self: self._place.endpos, doc="The offset up to which the search was made.")
+    re = property(lambda self: self._regex, doc="The regex that found the match.")
 
-    @staticmethod
-    def _check(group):
-        if operator.index(group) != 0:
-            raise IndexError("the only group is 0, the whole match")
-
-    def group(self, group=0, /):
-        """The part of the haystack that matches: a str of a str, and otherwise bytes.
-
-        The only group is 0, the whole match: the library doesn't find capture groups yet."""
-        self._check(group)
-        if self._haystack is None:
-            raise ValueError("the match was made without a haystack")
-        if isinstance(self._haystack, (str, bytes)):
-            return self._haystack[self.start : self.end]
-        return bytes(memoryview(self._haystack).cast("B")[self.start : self.end])
+    @property
+    def regs(self):
+        """The pairs of start and end of all groups; -1 and -1 for one that took no part."""
+        if self._regs is None:
+            self._regs = self._finder._find_groups(self)
+        return self._regs
 
     def span(self, group=0, /):
-        """The pair of start and end."""
-        self._check(group)
-        return self._fields[1:]
+        """The pair of start and end of a group; -1 and -1 if it took no part."""
+        names = self._finder.group_names[self.pattern]
+        if isinstance(group, str):
+            group = names.index(group) if group in names else len(names)
+        elif not hasattr(group, "__index__"):
+            group = len(names)
+        group = operator.index(group)
+        if not 0 <= group < len(names):
+            raise IndexError("no such group")
+        return self.regs[group] if group else self._fields[1:3]
 
-    def __reduce__(self):
-        return Match, (*self._fields, self._haystack)
+    def start(self, group=0, /):
+        """The offset at which a group starts; -1 if it took no part."""
+        return self.span(group)[0]
 
-    def __repr__(self):
-        return "Match(pattern=%d, start=%d, end=%d)" % self._fields
+    def end(self, group=0, /):
+        """The offset after a group; -1 if it took no part."""
+        return self.span(group)[1]
 
-    def __len__(self):
-        return 3
+    def _part(self, group):
+        start, end = self.span(group)
+        if start < 0:
+            return None
+        if isinstance(self.string, (str, bytes)):
+            return self.string[start:end]
+        return bytes(memoryview(self.string).cast("B")[start:end])
 
-    def __iter__(self):
-        return iter(self._fields)
+    def group(self, /, *groups):
+        """The part of the haystack that a group matches, by its number or name: a str of a str, and otherwise bytes.
+
+        Without an argument it is that of the whole match, and with several a tuple. A group that took no part is None."""
+        return tuple(map(self._part, groups)) if len(groups) > 1 else self._part(*groups or (0,))
 
     def __getitem__(self, key):
-        return self._fields[key]
+        return self._part(key)
 
-    def __hash__(self):
-        return hash(self._fields)
 
-    def _compared(self, other, operation):
-        if not isinstance(other, (Match, tuple)):
-            return NotImplemented
-        return operation(self._fields, tuple(other))
+def _make_match(regex, haystack, row):
+    match = object.__new__(Match)
+    match._fields = (row[0], haystack.move_to(row[1]), haystack.move_to(row[2]), row[1])
+    match._place, match._regex, match._finder, match._regs = haystack.place, regex, regex, None
+    return match
 
-    def __eq__(self, other):
-        return self._compared(other, operator.eq)
 
-    def __ne__(self, other):
-        return self._compared(other, operator.ne)
+class _Place:
+    """What was searched, and between which offsets."""
 
-    def __lt__(self, other):
-        return self._compared(other, operator.lt)
+    __slots__ = ("object", "pos", "endpos")
 
-    def __le__(self, other):
-        return self._compared(other, operator.le)
-
-    def __gt__(self, other):
-        return self._compared(other, operator.gt)
-
-    def __ge__(self, other):
-        return self._compared(other, operator.ge)
+    def __init__(self, *fields):
+        self.object, self.pos, self.endpos = fields
 
 
 class _Haystack:
@@ -190,7 +194,24 @@ class _Haystack:
         else:
             self._find_buffer()
         self.calls = _unlocking if self.length > _FEW_BYTES and (self.view is None or self.view.readonly) else _locked
-        self._byte = self._character = 0
+        self.start = self._byte = self._character = 0
+        self.place = None
+        self.is_empty = False
+
+    def cut(self, start, end, is_strict=False):
+        """Limits the search to what is between two offsets, as a caller counts. Others stand for the nearest offset of the haystack, except
+        that a start has to be one of them if the search is strict."""
+        length = len(self.object) if self.has_characters else self.length
+        start, end = operator.index(start), operator.index(end)
+        if is_strict and not 0 <= start <= length:
+            raise _error_of(_Failure(BAD_ARGUMENT))
+        start, end = (min(max(it, 0), length) for it in (start, end))
+        self.start = self._byte = self.byte_of(start)
+        self._character = start
+        if end < length:
+            self.length = self.byte_of(end)
+        self.place, self.is_empty = _Place(self.object, start, end), end < start
+        return self
 
     def _find_buffer(self):
         try:
@@ -212,11 +233,18 @@ class _Haystack:
         self._byte = byte
         return self._character
 
+    def pair_of(self, start, end):
+        """Returns the offsets of a group as a caller counts. It is at or after the offset that was moved to last."""
+        if start == _NO_OFFSET:
+            return -1, -1
+        byte, character = self._byte, self._character
+        pair = self.move_to(start), self.move_to(end)
+        self._byte, self._character = byte, character
+        return pair
+
     def byte_of(self, offset):
-        """Returns the offset in bytes for one that a caller gives, or one after the end if there is none."""
-        if not self.has_characters or offset < 0:
-            return offset
-        return len(self.object[:offset].encode()) if offset <= len(self.object) else self.length + 1
+        """Returns the offset in bytes for one that a caller gives."""
+        return len(self.object[:offset].encode()) if self.has_characters else offset
 
 
 class _Stock:
@@ -264,12 +292,13 @@ class _Stock:
 class Matcher:
     """Compiled patterns. Regex is the class to use."""
 
-    __slots__ = ("_patterns", "_encoded", "_options", "_stock", "_utf8_stock", "_fits_str")
+    __slots__ = ("_patterns", "_encoded", "_options", "_stock", "_utf8_stock", "_fits_str", "_names", "_kept")
 
     def __new__(cls, patterns, encoded, flags, capacity, size_limit, nest_limit):
         self = super().__new__(cls)
         self._patterns, self._encoded, self._options = patterns, encoded, (flags, nest_limit, capacity, size_limit)
         self._stock, self._utf8_stock, self._fits_str = _Stock(self._make_handle(0)), None, False
+        self._names = self._kept = None
         return self
 
     patterns = property(lambda self: self._patterns, doc="The patterns, as they were given.")
@@ -341,32 +370,81 @@ class Matcher:
             return self._find_from(haystack, 0) is not None
         return self._is_found(*self._search(haystack, "hanneddois_is_match"))
 
-    def find(self, haystack, start=0):
+    def _find_in(self, haystack):
+        row = None if haystack.is_empty else self._find_from(haystack, haystack.start)
+        return row and _make_match(self, haystack, (row.pattern, row.start, row.end))
+
+    def find(self, haystack, start=0, end=sys.maxsize):
         """The leftmost match that starts at the offset or after it, or None.
 
-        Looks, as ^ and \\b, see what is before the start."""
-        haystack = self._open(haystack)
-        offset = haystack.byte_of(operator.index(start))
-        if not 0 <= offset <= haystack.length:
-            raise _error_of(_Failure(BAD_ARGUMENT))
-        row = self._find_from(haystack, offset)
-        return row and Match(row.pattern, haystack.move_to(row.start), haystack.move_to(row.end), haystack.object)
+        Looks, as ^ and \\b, see what is before the start. For them the haystack ends at the end."""
+        return self._find_in(self._open(haystack).cut(start, end, is_strict=True))
 
-    def search(self, haystack, start=0):
-        """find, by the name that it has in re."""
-        return self.find(haystack, start)
+    def search(self, string, pos=0, endpos=sys.maxsize):
+        """find as re has it: offsets outside of the haystack stand for the nearest one."""
+        return self._find_in(self._open(string).cut(pos, endpos))
 
-    def find_iter(self, haystack):
+    def _find_for(self, regex, string, pos=0, endpos=sys.maxsize):
+        """Searches for another regex: the match is one of that, whose groups this regex has."""
+        match = self.search(string, pos, endpos)
+        if match:
+            match._regex = regex
+        return match
+
+    def _find_groups(self, match):
+        haystack = self._open(match.string).cut(match.start(), match.endpos)
+        found, count = _Row(), len(self.group_names[match.pattern])
+        slots = (ctypes.c_size_t * (2 * count))()
+        status, failure = self._search(haystack, "hanneddois_captures", match._fields[3], found, slots, 2 * count)
+        if not self._is_found(status, failure) or (found.pattern, found.start) != (match.pattern, match._fields[3]):
+            raise ValueError("the haystack was changed after the match was found")
+        return tuple(haystack.pair_of(*slots[2 * at : 2 * at + 2]) for at in range(count))
+
+    @property
+    def group_names(self):
+        """For each pattern a tuple of the names of its groups, with None for a group that has none."""
+        if self._names is None:
+            handle = self._stock.take()
+            self._names = tuple(self._names_of(handle, pattern) for pattern in range(self.pattern_count))
+            self._stock.give_back(handle)
+        return self._names
+
+    @staticmethod
+    def _names_of(handle, pattern):
+        names, text = [], ctypes.create_string_buffer(64)
+        for group in range(_locked.hanneddois_group_count(handle, pattern)):
+            length = _locked.hanneddois_group_name(handle, pattern, group, text, len(text))
+            if length > len(text):
+                text = ctypes.create_string_buffer(length)
+                _locked.hanneddois_group_name(handle, pattern, group, text, length)
+            names.append(text.raw[:length].decode() or None)
+        return tuple(names)
+
+    def find_iter(self, haystack, start=0, end=sys.maxsize):
         """An iterator over all matches, each the leftmost one from the end of the one before it.
 
         An empty match right at the end of the one before it is skipped."""
-        return self._iterate(self._open(haystack))
+        haystack = self._open(haystack).cut(start, end)
+        return iter(()) if haystack.is_empty else self._iterate_from(haystack) if haystack.start else self._iterate(haystack)
 
-    def finditer(self, haystack):
+    def finditer(self, string, pos=0, endpos=sys.maxsize):
         """find_iter, by the name that it has in re."""
-        return self.find_iter(haystack)
+        return self.find_iter(string, pos, endpos)
+
+    def _iterate_from(self, haystack):
+        """The matches from an offset on, one by one."""
+        offset, last_end = haystack.start, None
+        while offset <= haystack.length:
+            row = self._find_from(haystack, offset)
+            if row is None:
+                return
+            if row.start < row.end or row.end != last_end:
+                yield _make_match(self, haystack, (row.pattern, row.start, row.end))
+            offset = row.end + (row.start == row.end == last_end)
+            last_end = row.end
 
     def _iterate(self, haystack):
+        """All matches, by one search."""
         room, count = 64 + haystack.length // 128, ctypes.c_size_t()
         while True:
             rows = (_Row * room)()
@@ -374,14 +452,14 @@ class Matcher:
             if count.value <= room:
                 break
             room = count.value
-        for pattern, start, end in struct.iter_unpack("NNN", memoryview(rows).cast("B")[: count.value * ctypes.sizeof(_Row)]):
-            if not haystack.is_inside_character(start):
-                yield Match(pattern, haystack.move_to(start), haystack.move_to(end), haystack.object)
+        for row in struct.iter_unpack("NNN", memoryview(rows).cast("B")[: count.value * ctypes.sizeof(_Row)]):
+            if not haystack.is_inside_character(row[1]):
+                yield _make_match(self, haystack, row)
         self._is_found(status, failure)
 
-    def find_all(self, haystack):
+    def find_all(self, haystack, start=0, end=sys.maxsize):
         """The list of the matches of find_iter."""
-        return list(self.find_iter(haystack))
+        return list(self.find_iter(haystack, start, end))
 
     def matching_patterns(self, haystack):
         """The numbers of the patterns that match anywhere, ascending, also if their matches overlap."""

@@ -229,216 +229,6 @@ static Position position_of(const Haystack *haystack, size_t offset)
     return position;
 }
 
-/* ---- matches */
-
-typedef struct {
-    PyObject_HEAD
-    Py_ssize_t pattern;
-    Py_ssize_t start;
-    Py_ssize_t end;
-    PyObject *haystack;
-} Match;
-
-static PyObject *make_match(PyObject *haystack, size_t pattern, size_t start, size_t end)
-{
-    Match *match = PyObject_GC_New(Match, match_type);
-    if (!match)
-        return NULL;
-    match->pattern = (Py_ssize_t)pattern;
-    match->start = (Py_ssize_t)start;
-    match->end = (Py_ssize_t)end;
-    match->haystack = new_reference(haystack);
-    /* Other objects may refer to the match. Not tracking it for these saves time. */
-    if (!PyBytes_CheckExact(haystack) && !PyUnicode_CheckExact(haystack))
-        PyObject_GC_Track(match);
-    return (PyObject *)match;
-}
-
-static PyObject *match_new(PyTypeObject *Py_UNUSED(type), PyObject *args, PyObject *kwargs)
-{
-    static char *names[] = {"pattern", "start", "end", "haystack", NULL};
-    Py_ssize_t pattern, start, end;
-    PyObject *haystack = Py_None;
-    if (!PyArg_ParseTupleAndKeywords(args, kwargs, "nnn|O:Match", names, &pattern, &start, &end, &haystack))
-        return NULL;
-    if (pattern < 0 || start < 0 || end < start) {
-        PyErr_SetString(PyExc_ValueError, "a match has a pattern and a start of 0 or more, and an end that isn't below its start");
-        return NULL;
-    }
-    return make_match(haystack, (size_t)pattern, (size_t)start, (size_t)end);
-}
-
-static int match_traverse(PyObject *self, visitproc visit, void *arg)
-{
-    Py_VISIT(Py_TYPE(self));
-    Py_VISIT(((Match *)self)->haystack);
-    return 0;
-}
-
-static int match_clear(PyObject *self)
-{
-    Py_CLEAR(((Match *)self)->haystack);
-    return 0;
-}
-
-static void match_dealloc(PyObject *self)
-{
-    PyTypeObject *type = Py_TYPE(self);
-    PyObject_GC_UnTrack(self);
-    match_clear(self);
-    PyObject_GC_Del(self);
-    Py_DECREF(type);
-}
-
-static PyObject *match_tuple(PyObject *self)
-{
-    Match *match = (Match *)self;
-    return Py_BuildValue("nnn", match->pattern, match->start, match->end);
-}
-
-/* The part of the haystack between two offsets, as it is now: a buffer may have been written to, and may be shorter. */
-static PyObject *part_of(PyObject *object, Py_ssize_t start, Py_ssize_t end)
-{
-    Haystack haystack;
-    if (PyUnicode_Check(object))
-        return PyUnicode_Substring(object, start, end);
-    if (open_haystack(&haystack, object) < 0)
-        return NULL;
-    Py_ssize_t length = (Py_ssize_t)haystack.length;
-    end = end < length ? end : length;
-    start = start < end ? start : end;
-    PyObject *part = PyBytes_FromStringAndSize((const char *)haystack.bytes + start, end - start);
-    close_haystack(&haystack);
-    return part;
-}
-
-/* Checks the number of a group, of which there is only 0 until the library finds capture groups. */
-static int check_group(const char *name, PyObject *args)
-{
-    PyObject *group = NULL;
-    if (!PyArg_UnpackTuple(args, name, 0, 1, &group))
-        return -1;
-    Py_ssize_t number = group ? PyNumber_AsSsize_t(group, NULL) : 0;
-    if (number == -1 && PyErr_Occurred())
-        return -1;
-    if (number != 0) {
-        PyErr_SetString(PyExc_IndexError, "the only group is 0, the whole match");
-        return -1;
-    }
-    return 0;
-}
-
-static PyObject *match_group(PyObject *self, PyObject *args)
-{
-    Match *match = (Match *)self;
-    if (check_group("group", args) < 0)
-        return NULL;
-    if (match->haystack == Py_None) {
-        PyErr_SetString(PyExc_ValueError, "the match was made without a haystack");
-        return NULL;
-    }
-    return part_of(match->haystack, match->start, match->end);
-}
-
-static PyObject *match_span(PyObject *self, PyObject *args)
-{
-    Match *match = (Match *)self;
-    if (check_group("span", args) < 0)
-        return NULL;
-    return Py_BuildValue("nn", match->start, match->end);
-}
-
-static PyObject *match_reduce(PyObject *self, PyObject *Py_UNUSED(ignored))
-{
-    Match *match = (Match *)self;
-    return Py_BuildValue("O(nnnO)", Py_TYPE(self), match->pattern, match->start, match->end, match->haystack);
-}
-
-static PyObject *match_repr(PyObject *self)
-{
-    Match *match = (Match *)self;
-    return PyUnicode_FromFormat("Match(pattern=%zd, start=%zd, end=%zd)", match->pattern, match->start, match->end);
-}
-
-static PyObject *match_compare(PyObject *self, PyObject *other, int operation)
-{
-    if (Py_TYPE(other) != match_type && !PyTuple_Check(other))
-        return new_reference(Py_NotImplemented);
-    PyObject *left = match_tuple(self);
-    PyObject *right = PyTuple_Check(other) ? new_reference(other) : match_tuple(other);
-    PyObject *result = left && right ? PyObject_RichCompare(left, right, operation) : NULL;
-    Py_XDECREF(left);
-    Py_XDECREF(right);
-    return result;
-}
-
-static Py_hash_t match_hash(PyObject *self)
-{
-    PyObject *tuple = match_tuple(self);
-    Py_hash_t hash = tuple ? PyObject_Hash(tuple) : -1;
-    Py_XDECREF(tuple);
-    return hash;
-}
-
-static PyObject *match_iter(PyObject *self)
-{
-    PyObject *tuple = match_tuple(self);
-    PyObject *iterator = tuple ? PyObject_GetIter(tuple) : NULL;
-    Py_XDECREF(tuple);
-    return iterator;
-}
-
-static PyObject *match_item(PyObject *self, PyObject *key)
-{
-    PyObject *tuple = match_tuple(self);
-    PyObject *item = tuple ? PyObject_GetItem(tuple, key) : NULL;
-    Py_XDECREF(tuple);
-    return item;
-}
-
-static Py_ssize_t match_length(PyObject *Py_UNUSED(self))
-{
-    return 3;
-}
-
-static PyMemberDef match_members[] = {
-    {"pattern", T_PYSSIZET, offsetof(Match, pattern), READONLY, "The number of the pattern that matches, from 0."},
-    {"start", T_PYSSIZET, offsetof(Match, start), READONLY, "The offset at which the match starts."},
-    {"end", T_PYSSIZET, offsetof(Match, end), READONLY, "The offset after the match."},
-    {"haystack", T_OBJECT, offsetof(Match, haystack), READONLY, "What was searched."},
-    {NULL, 0, 0, 0, NULL},
-};
-
-static PyMethodDef match_methods[] = {
-    {"group", match_group, METH_VARARGS,
-     "group($self, group=0, /)\n--\n\nThe part of the haystack that matches: a str of a str, and otherwise bytes.\n\n"
-     "The only group is 0, the whole match: the library doesn't find capture groups yet."},
-    {"span", match_span, METH_VARARGS, "span($self, group=0, /)\n--\n\nThe pair of start and end."},
-    {"__reduce__", match_reduce, METH_NOARGS, NULL},
-    {"__class_getitem__", Py_GenericAlias, METH_O | METH_CLASS, NULL},
-    {NULL, NULL, 0, NULL},
-};
-
-static PyType_Slot match_slots[] = {
-    {Py_tp_doc, "A match: unpacks and compares as the tuple (pattern, start, end).\n\n"
-                "Offsets count the characters of a str, and the bytes of any other haystack."},
-    {Py_tp_new, match_new},
-    {Py_tp_dealloc, match_dealloc},
-    {Py_tp_traverse, match_traverse},
-    {Py_tp_clear, match_clear},
-    {Py_tp_repr, match_repr},
-    {Py_tp_hash, match_hash},
-    {Py_tp_iter, match_iter},
-    {Py_tp_richcompare, match_compare},
-    {Py_tp_members, match_members},
-    {Py_tp_methods, match_methods},
-    {Py_mp_length, match_length},
-    {Py_mp_subscript, match_item},
-    {0, NULL},
-};
-
-static PyType_Spec match_spec = {"hanneddois.Match", sizeof(Match), 0, Py_TPFLAGS_DEFAULT | Py_TPFLAGS_HAVE_GC, match_slots};
-
 /* ---- matchers */
 
 /* Handles that no search uses, in an array with room for all that were made. */
@@ -466,6 +256,10 @@ typedef struct {
     Stock utf8_stock;
     /* Whether the patterns were found to be of that kind: a search of a str requires it. */
     int fits_str;
+    /* For each pattern a tuple of the names of its groups, or NULL until somebody asks. */
+    PyObject *names;
+    /* What __init__.py keeps with a regex. */
+    PyObject *kept;
 } Matcher;
 
 /* Compiles the patterns, and gives up the interpreter's lock meanwhile. */
@@ -530,6 +324,56 @@ static int leave_handle(Stock *stock, hanneddois_regex *taken)
         return -1;
     give_back(stock, handle);
     return 0;
+}
+
+/* The name of a group as a str, or None if it has none. */
+static PyObject *name_of(hanneddois_regex *handle, size_t pattern, size_t group)
+{
+    uint8_t few[64], *name = few;
+    size_t length = hanneddois_group_name(handle, pattern, group, few, sizeof few);
+    if (length == 0)
+        return new_reference(Py_None);
+    if (length > sizeof few) {
+        name = malloc(length);
+        if (!name)
+            return PyErr_NoMemory();
+        hanneddois_group_name(handle, pattern, group, name, length);
+    }
+    PyObject *made = PyUnicode_FromStringAndSize((const char *)name, (Py_ssize_t)length);
+    if (name != few)
+        free(name);
+    return made;
+}
+
+static PyObject *names_of(hanneddois_regex *handle, size_t pattern)
+{
+    Py_ssize_t count = (Py_ssize_t)hanneddois_group_count(handle, pattern);
+    PyObject *names = PyTuple_New(count);
+    for (Py_ssize_t i = 0; names && i < count; i++) {
+        PyObject *name = name_of(handle, pattern, (size_t)i);
+        if (!name || PyTuple_SetItem(names, i, name) < 0)
+            Py_CLEAR(names);
+    }
+    return names;
+}
+
+/* The names of the groups of all patterns: a tuple for each, with None for a group without a name, as for the whole match. */
+static PyObject *find_names(Matcher *self)
+{
+    hanneddois_regex handle;
+    if (self->names)
+        return self->names;
+    if (take_handle(self, &self->stock, &handle) < 0)
+        return NULL;
+    PyObject *all = PyTuple_New(self->count);
+    for (Py_ssize_t i = 0; all && i < self->count; i++) {
+        PyObject *names = names_of(&handle, (size_t)i);
+        if (!names || PyTuple_SetItem(all, i, names) < 0)
+            Py_CLEAR(all);
+    }
+    give_back(&self->stock, handle);
+    self->names = all;
+    return all;
 }
 
 static void free_stock(Stock *stock)
@@ -629,6 +473,8 @@ static void matcher_dealloc(PyObject *object)
     free(self->patterns);
     free(self->lengths);
     Py_XDECREF(self->given);
+    Py_XDECREF(self->names);
+    Py_XDECREF(self->kept);
     freefunc release = (freefunc)PyType_GetSlot(type, Py_tp_free);
     release(object);
     Py_DECREF(type);
@@ -636,10 +482,11 @@ static void matcher_dealloc(PyObject *object)
 
 /* ---- searches */
 
-/* Finds the parameters of a search, the haystack and perhaps a start, among positional arguments and keywords. */
+/* Finds the parameters of a search, the haystack and perhaps offsets, among positional arguments and keywords. The names that they have in
+   re will do too. */
 static int parse_arguments(const char *name, PyObject *const *args, Py_ssize_t nargs, PyObject *keywords, Py_ssize_t most, PyObject **parsed)
 {
-    static const char *const names[] = {"haystack", "start"};
+    static const char *const names[] = {"haystack", "start", "end"}, *const other_names[] = {"string", "pos", "endpos"};
     Py_ssize_t count = keywords ? PyTuple_Size(keywords) : 0;
     if (nargs > most) {
         PyErr_Format(PyExc_TypeError, "%s() takes at most %zd arguments (%zd given)", name, most, nargs);
@@ -650,7 +497,8 @@ static int parse_arguments(const char *name, PyObject *const *args, Py_ssize_t n
     for (Py_ssize_t i = 0; i < count; i++) {
         PyObject *keyword = PyTuple_GetItem(keywords, i);
         Py_ssize_t at = 0;
-        while (at < most && PyUnicode_CompareWithASCIIString(keyword, names[at]) != 0)
+        while (at < most && PyUnicode_CompareWithASCIIString(keyword, names[at]) != 0 &&
+               PyUnicode_CompareWithASCIIString(keyword, other_names[at]) != 0)
             at++;
         if (at == most || parsed[at]) {
             PyErr_Format(PyExc_TypeError, "%s() got %s argument %R", name, at == most ? "an unexpected keyword" : "multiple values for", keyword);
@@ -685,21 +533,55 @@ static int parse_haystack(Matcher *self, const char *name, PyObject *const *args
     return open_for(self, haystack, parsed[0]);
 }
 
-/* The position at which a search starts. */
-static int parse_start(const Haystack *haystack, PyObject *start, Position *position)
+/* Where a match is, in bytes. */
+typedef struct {
+    Py_ssize_t start;
+    /* How many bytes of the haystack were searched, and from which offset on, as the caller counts. */
+    Py_ssize_t length;
+    Py_ssize_t pos;
+    Py_ssize_t endpos;
+} Place;
+
+/* The part of a haystack in which to search. */
+typedef struct {
+    Position start;
+    Place place;
+    /* Whether its end is before its start. */
+    int is_empty;
+} Range;
+
+static int parse_offset(PyObject *given, Py_ssize_t *offset)
 {
-    *position = (Position){0, 0};
-    if (!start)
-        return 0;
-    Py_ssize_t offset = PyNumber_AsSsize_t(start, NULL);
-    if (offset == -1 && PyErr_Occurred())
+    if (given)
+        *offset = PyNumber_AsSsize_t(given, NULL);
+    return *offset == -1 && PyErr_Occurred() ? -1 : 0;
+}
+
+static Py_ssize_t clamp(Py_ssize_t offset, Py_ssize_t length)
+{
+    return offset < 0 ? 0 : offset > length ? length : offset;
+}
+
+/* Finds the part that a caller gives by its start and end, and ends the haystack there. Other offsets than those of the haystack stand for
+   the nearest one, except that a start has to be one of them if the search is strict. */
+static int parse_range(Haystack *haystack, PyObject *const *given, int is_strict, Range *range)
+{
+    Py_ssize_t length = haystack->has_characters ? PyUnicode_GetLength(haystack->object) : (Py_ssize_t)haystack->length;
+    Py_ssize_t start = 0, end = length;
+    if (parse_offset(given[0], &start) < 0 || parse_offset(given[1], &end) < 0)
         return -1;
-    if (offset >= 0)
-        *position = position_of(haystack, (size_t)offset);
-    if (offset >= 0 && position->byte <= haystack->length)
-        return 0;
-    raise_bad_argument();
-    return -1;
+    if (is_strict && (start < 0 || start > length)) {
+        raise_bad_argument();
+        return -1;
+    }
+    start = clamp(start, length);
+    end = clamp(end, length);
+    range->start = start ? position_of(haystack, (size_t)start) : (Position){0, 0};
+    if (end < length)
+        haystack->length = position_of(haystack, (size_t)end).byte;
+    range->place = (Place){0, (Py_ssize_t)haystack->length, start, end};
+    range->is_empty = end < start;
+    return 0;
 }
 
 /* What a search holds while it runs. */
@@ -730,6 +612,300 @@ static void end_search(Search *search)
     give_back(search->stock, search->handle);
 }
 
+/* ---- matches */
+
+typedef struct {
+    PyObject_HEAD
+    Py_ssize_t pattern;
+    Py_ssize_t start;
+    Py_ssize_t end;
+    Place place;
+    PyObject *haystack;
+    PyObject *regex;
+    /* The regex that finds the groups, if it is another one than the match is of, or NULL. */
+    PyObject *finder;
+    /* The offsets of all groups, as a tuple of pairs, or NULL until somebody asks for one. */
+    PyObject *spans;
+} Match;
+
+static PyObject *make_match(Matcher *regex, PyObject *haystack, size_t pattern, size_t start, size_t end, const Place *place)
+{
+    Match *match = PyObject_GC_New(Match, match_type);
+    if (!match)
+        return NULL;
+    match->pattern = (Py_ssize_t)pattern;
+    match->start = (Py_ssize_t)start;
+    match->end = (Py_ssize_t)end;
+    match->place = *place;
+    match->haystack = new_reference(haystack);
+    match->regex = new_reference((PyObject *)regex);
+    match->finder = match->spans = NULL;
+    /* Other objects may refer to the match. Not tracking it for these saves time. */
+    if (!PyBytes_CheckExact(haystack) && !PyUnicode_CheckExact(haystack))
+        PyObject_GC_Track(match);
+    return (PyObject *)match;
+}
+
+static PyObject *match_new(PyTypeObject *type, PyObject *Py_UNUSED(args), PyObject *Py_UNUSED(kwargs))
+{
+    PyErr_Format(PyExc_TypeError, "only a search makes a %R", (PyObject *)type);
+    return NULL;
+}
+
+static int match_traverse(PyObject *self, visitproc visit, void *arg)
+{
+    Py_VISIT(Py_TYPE(self));
+    Py_VISIT(((Match *)self)->haystack);
+    Py_VISIT(((Match *)self)->regex);
+    return 0;
+}
+
+static int match_clear(PyObject *self)
+{
+    Match *match = (Match *)self;
+    Py_CLEAR(match->haystack);
+    Py_CLEAR(match->regex);
+    Py_CLEAR(match->finder);
+    Py_CLEAR(match->spans);
+    return 0;
+}
+
+static void match_dealloc(PyObject *self)
+{
+    PyTypeObject *type = Py_TYPE(self);
+    PyObject_GC_UnTrack(self);
+    match_clear(self);
+    PyObject_GC_Del(self);
+    Py_DECREF(type);
+}
+
+/* The part of the haystack between two offsets, as it is now: a buffer may have been written to, and may be shorter. */
+static PyObject *part_of(PyObject *object, Py_ssize_t start, Py_ssize_t end)
+{
+    Haystack haystack;
+    if (PyUnicode_Check(object))
+        return PyUnicode_Substring(object, start, end);
+    if (open_haystack(&haystack, object) < 0)
+        return NULL;
+    Py_ssize_t length = (Py_ssize_t)haystack.length;
+    end = end < length ? end : length;
+    start = start < end ? start : end;
+    PyObject *part = PyBytes_FromStringAndSize((const char *)haystack.bytes + start, end - start);
+    close_haystack(&haystack);
+    return part;
+}
+
+/* The pair of offsets of a group, as the caller counts, or of one that took no part. Groups are inside of their match. */
+static PyObject *pair_of(const Match *match, const Haystack *haystack, const size_t *slots)
+{
+    if (slots[0] == HANNEDDOIS_NO_OFFSET)
+        return Py_BuildValue("nn", (Py_ssize_t)-1, (Py_ssize_t)-1);
+    Position position = {(size_t)match->place.start, (size_t)match->start};
+    size_t start = move_to(&position, haystack, slots[0]);
+    return Py_BuildValue("nn", (Py_ssize_t)start, (Py_ssize_t)move_to(&position, haystack, slots[1]));
+}
+
+static PyObject *list_pairs(const Match *match, const Haystack *haystack, const size_t *slots, Py_ssize_t count)
+{
+    PyObject *pairs = PyTuple_New(count);
+    for (Py_ssize_t i = 0; pairs && i < count; i++) {
+        PyObject *pair = pair_of(match, haystack, slots + 2 * i);
+        if (!pair || PyTuple_SetItem(pairs, i, pair) < 0)
+            Py_CLEAR(pairs);
+    }
+    return pairs;
+}
+
+/* Searches the match again, with its groups. */
+static PyObject *find_groups(const Match *match, Haystack *haystack, size_t *slots, Py_ssize_t count)
+{
+    Matcher *matcher = (Matcher *)(match->finder ? match->finder : match->regex);
+    Search search;
+    hanneddois_match found;
+    hanneddois_error error;
+    size_t length = (size_t)match->place.length;
+    if (haystack->length < length)
+        length = haystack->length;
+    haystack->length = length;
+    if ((size_t)match->place.start > length || begin_search(matcher, &matcher->stock, haystack, &search) < 0)
+        return NULL;
+    hanneddois_status status = hanneddois_captures(&search.handle, haystack->bytes, length, (size_t)match->place.start, &found, slots,
+                                                      (size_t)(2 * count), &error);
+    end_search(&search);
+    if (is_failure(status)) {
+        raise_error(&error);
+        return NULL;
+    }
+    if (status == HANNEDDOIS_NONE || found.pattern != (size_t)match->pattern || found.start != (size_t)match->place.start)
+        return NULL;
+    return list_pairs(match, haystack, slots, count);
+}
+
+/* The offsets of all groups. Groups are found when somebody first asks for one. */
+static PyObject *spans_of(Match *match)
+{
+    Haystack haystack;
+    if (match->spans)
+        return match->spans;
+    PyObject *names = find_names((Matcher *)match->regex);
+    if (!names || open_haystack(&haystack, match->haystack) < 0)
+        return NULL;
+    Py_ssize_t count = PyTuple_Size(PyTuple_GetItem(names, match->pattern));
+    size_t *slots = malloc((size_t)count * 2 * sizeof *slots);
+    if (slots)
+        match->spans = find_groups(match, &haystack, slots, count);
+    else
+        PyErr_NoMemory();
+    free(slots);
+    close_haystack(&haystack);
+    if (!match->spans && !PyErr_Occurred())
+        PyErr_SetString(PyExc_ValueError, "the haystack was changed after the match was found");
+    return match->spans;
+}
+
+/* The number of a group, which a caller gives as a number or a name. */
+static int number_of(Match *match, PyObject *group, Py_ssize_t *number)
+{
+    PyObject *names = find_names((Matcher *)match->regex);
+    if (!names)
+        return -1;
+    names = PyTuple_GetItem(names, match->pattern);
+    if (PyIndex_Check(group)) {
+        *number = PyNumber_AsSsize_t(group, NULL);
+        if (*number >= 0 && *number < PyTuple_Size(names))
+            return 0;
+    } else if (PyUnicode_Check(group)) {
+        for (*number = 1; *number < PyTuple_Size(names); (*number)++) {
+            PyObject *name = PyTuple_GetItem(names, *number);
+            if (name != Py_None && PyUnicode_Compare(name, group) == 0)
+                return 0;
+        }
+    }
+    if (!PyErr_Occurred())
+        PyErr_SetString(PyExc_IndexError, "no such group");
+    return -1;
+}
+
+/* Finds the offsets of a group, which is 0 if it is NULL. */
+static int find_span(PyObject *self, PyObject *group, Py_ssize_t *start, Py_ssize_t *end)
+{
+    Match *match = (Match *)self;
+    Py_ssize_t number = 0;
+    if (group && number_of(match, group, &number) < 0)
+        return -1;
+    if (number == 0) {
+        *start = match->start;
+        *end = match->end;
+        return 0;
+    }
+    PyObject *spans = spans_of(match);
+    if (!spans)
+        return -1;
+    PyObject *pair = PyTuple_GetItem(spans, number);
+    *start = PyLong_AsSsize_t(PyTuple_GetItem(pair, 0));
+    *end = PyLong_AsSsize_t(PyTuple_GetItem(pair, 1));
+    return 0;
+}
+
+static PyObject *group_of(PyObject *self, PyObject *group)
+{
+    Py_ssize_t start, end;
+    if (find_span(self, group, &start, &end) < 0)
+        return NULL;
+    return start < 0 ? new_reference(Py_None) : part_of(((Match *)self)->haystack, start, end);
+}
+
+static PyObject *match_group(PyObject *self, PyObject *args)
+{
+    Py_ssize_t count = PyTuple_Size(args);
+    if (count < 2)
+        return group_of(self, count ? PyTuple_GetItem(args, 0) : NULL);
+    PyObject *parts = PyTuple_New(count);
+    for (Py_ssize_t i = 0; parts && i < count; i++) {
+        PyObject *part = group_of(self, PyTuple_GetItem(args, i));
+        if (!part || PyTuple_SetItem(parts, i, part) < 0)
+            Py_CLEAR(parts);
+    }
+    return parts;
+}
+
+/* The group that a method takes as its only parameter, if any. */
+static int parse_span(const char *name, PyObject *self, PyObject *args, Py_ssize_t *start, Py_ssize_t *end)
+{
+    PyObject *group = NULL;
+    if (!PyArg_UnpackTuple(args, name, 0, 1, &group))
+        return -1;
+    return find_span(self, group, start, end);
+}
+
+static PyObject *match_span(PyObject *self, PyObject *args)
+{
+    Py_ssize_t start, end;
+    return parse_span("span", self, args, &start, &end) < 0 ? NULL : Py_BuildValue("nn", start, end);
+}
+
+static PyObject *match_start(PyObject *self, PyObject *args)
+{
+    Py_ssize_t start, end;
+    return parse_span("start", self, args, &start, &end) < 0 ? NULL : PyLong_FromSsize_t(start);
+}
+
+static PyObject *match_end(PyObject *self, PyObject *args)
+{
+    Py_ssize_t start, end;
+    return parse_span("end", self, args, &start, &end) < 0 ? NULL : PyLong_FromSsize_t(end);
+}
+
+static PyObject *match_regs(PyObject *self, void *Py_UNUSED(closure))
+{
+    PyObject *spans = spans_of((Match *)self);
+    return spans ? new_reference(spans) : NULL;
+}
+
+static PyMemberDef match_members[] = {
+    {"pattern", T_PYSSIZET, offsetof(Match, pattern), READONLY, "The number of the pattern that matches, from 0."},
+    {"pos", T_PYSSIZET, offsetof(Match, place.pos), READONLY, "The offset from which on the search was made."},
+    {"endpos", T_PYSSIZET, offsetof(Match, place.endpos), READONLY, "The offset up to which the search was made."},
+    {"haystack", T_OBJECT, offsetof(Match, haystack), READONLY, "What was searched."},
+    {"string", T_OBJECT, offsetof(Match, haystack), READONLY, "What was searched, by the name that it has in re."},
+    {"re", T_OBJECT, offsetof(Match, regex), READONLY, "The regex that found the match."},
+    {NULL, 0, 0, 0, NULL},
+};
+
+static PyGetSetDef match_properties[] = {
+    {"regs", match_regs, NULL, "The pairs of start and end of all groups; -1 and -1 for one that took no part.", NULL},
+    {NULL, NULL, NULL, NULL, NULL},
+};
+
+static PyMethodDef match_methods[] = {
+    {"group", match_group, METH_VARARGS,
+     "group($self, /, *groups)\n--\n\nThe part of the haystack that a group matches, by its number or name: a str of a str, and otherwise bytes.\n\n"
+     "Without an argument it is that of the whole match, and with several a tuple. A group that took no part is None."},
+    {"span", match_span, METH_VARARGS, "span($self, group=0, /)\n--\n\nThe pair of start and end of a group; -1 and -1 if it took no part."},
+    {"start", match_start, METH_VARARGS, "start($self, group=0, /)\n--\n\nThe offset at which a group starts; -1 if it took no part."},
+    {"end", match_end, METH_VARARGS, "end($self, group=0, /)\n--\n\nThe offset after a group; -1 if it took no part."},
+    {"__class_getitem__", Py_GenericAlias, METH_O | METH_CLASS, NULL},
+    {NULL, NULL, 0, NULL},
+};
+
+static PyType_Slot match_slots[] = {
+    {Py_tp_doc, "A match, with the methods that it has in re, and the number of its pattern.\n\n"
+                "Offsets count the characters of a str, and the bytes of any other haystack."},
+    {Py_tp_new, match_new},
+    {Py_tp_dealloc, match_dealloc},
+    {Py_tp_traverse, match_traverse},
+    {Py_tp_clear, match_clear},
+    {Py_tp_members, match_members},
+    {Py_tp_getset, match_properties},
+    {Py_tp_methods, match_methods},
+    {Py_mp_subscript, group_of},
+    {0, NULL},
+};
+
+static PyType_Spec match_spec = {"hanneddois.Match", sizeof(Match), 0, Py_TPFLAGS_DEFAULT | Py_TPFLAGS_HAVE_GC, match_slots};
+
+/* ---- finding matches */
+
 /* The next match from an offset on. In a str, an empty match inside a character doesn't count. */
 static hanneddois_status find_from(Search *search, const Haystack *haystack, size_t from, hanneddois_match *match, hanneddois_error *error)
 {
@@ -741,18 +917,21 @@ static hanneddois_status find_from(Search *search, const Haystack *haystack, siz
     }
 }
 
-static PyObject *find_match(Matcher *self, const Haystack *haystack, Position position)
+static PyObject *find_match(Matcher *self, const Haystack *haystack, Range *range)
 {
     Search search;
     hanneddois_match match;
     hanneddois_error error;
+    if (range->is_empty)
+        return new_reference(Py_None);
     if (begin_search(self, &self->stock, haystack, &search) < 0)
         return NULL;
-    hanneddois_status status = find_from(&search, haystack, position.byte, &match, &error);
+    hanneddois_status status = find_from(&search, haystack, range->start.byte, &match, &error);
     end_search(&search);
     if (status == HANNEDDOIS_OK) {
-        size_t start = move_to(&position, haystack, match.start);
-        return make_match(haystack->object, match.pattern, start, move_to(&position, haystack, match.end));
+        size_t start = move_to(&range->start, haystack, match.start);
+        range->place.start = (Py_ssize_t)match.start;
+        return make_match(self, haystack->object, match.pattern, start, move_to(&range->start, haystack, match.end), &range->place);
     }
     if (status == HANNEDDOIS_NONE)
         return new_reference(Py_None);
@@ -760,17 +939,43 @@ static PyObject *find_match(Matcher *self, const Haystack *haystack, Position po
     return NULL;
 }
 
-static PyObject *matcher_find(PyObject *self, PyObject *const *args, Py_ssize_t nargs, PyObject *keywords)
+static PyObject *find_parsed(PyObject *self, PyObject *const *args, Py_ssize_t nargs, PyObject *keywords, int is_strict)
 {
-    PyObject *parsed[2] = {NULL, NULL}, *result = NULL;
+    PyObject *parsed[3] = {NULL, NULL, NULL}, *result = NULL;
     Haystack haystack;
-    Position position;
-    if (parse_arguments("find", args, nargs, keywords, 2, parsed) < 0 || open_for((Matcher *)self, &haystack, parsed[0]) < 0)
+    Range range;
+    if (parse_arguments("find", args, nargs, keywords, 3, parsed) < 0 || open_for((Matcher *)self, &haystack, parsed[0]) < 0)
         return NULL;
-    if (parse_start(&haystack, parsed[1], &position) == 0)
-        result = find_match((Matcher *)self, &haystack, position);
+    if (parse_range(&haystack, parsed + 1, is_strict, &range) == 0)
+        result = find_match((Matcher *)self, &haystack, &range);
     close_haystack(&haystack);
     return result;
+}
+
+static PyObject *matcher_find(PyObject *self, PyObject *const *args, Py_ssize_t nargs, PyObject *keywords)
+{
+    return find_parsed(self, args, nargs, keywords, 1);
+}
+
+static PyObject *matcher_search(PyObject *self, PyObject *const *args, Py_ssize_t nargs, PyObject *keywords)
+{
+    return find_parsed(self, args, nargs, keywords, 0);
+}
+
+/* Searches for the regex that comes before the other arguments: the match is one of that, whose groups this regex has. */
+static PyObject *matcher_find_for(PyObject *self, PyObject *const *args, Py_ssize_t nargs, PyObject *keywords)
+{
+    if (nargs < 1 || !PyObject_TypeCheck(args[0], matcher_type)) {
+        PyErr_SetString(PyExc_TypeError, "_find_for() takes a regex and a haystack");
+        return NULL;
+    }
+    PyObject *found = find_parsed(self, args + 1, nargs - 1, keywords, 0);
+    if (found && Py_TYPE(found) == match_type) {
+        Match *match = (Match *)found;
+        match->finder = match->regex;
+        match->regex = new_reference(args[0]);
+    }
+    return found;
 }
 
 static PyObject *is_match(Matcher *self, const Haystack *haystack)
@@ -870,6 +1075,7 @@ typedef struct {
     hanneddois_error error;
     /* How far characters are counted. */
     Position position;
+    Place place;
     int is_searching;
 } Iterator;
 
@@ -930,7 +1136,7 @@ static int search_ahead(Iterator *self)
     if (begin_search(self->matcher, &self->matcher->stock, &self->haystack, &search) < 0)
         return -1;
     self->is_searching = 1;
-    if (self->matcher->options.flags & HANNEDDOIS_UTF8)
+    if ((self->matcher->options.flags & HANNEDDOIS_UTF8) && self->from == 0)
         find_rest(self, &search);
     else
         find_some(self, &search);
@@ -969,13 +1175,28 @@ static PyObject *iterator_next(PyObject *object)
     }
     const hanneddois_match *row = &self->rows[self->next++];
     size_t start = move_to(&self->position, &self->haystack, row->start);
-    return make_match(self->haystack.object, row->pattern, start, move_to(&self->position, &self->haystack, row->end));
+    self->place.start = (Py_ssize_t)row->start;
+    return make_match(self->matcher, self->haystack.object, row->pattern, start, move_to(&self->position, &self->haystack, row->end),
+                      &self->place);
+}
+
+/* Parses the arguments of an iterator into a haystack that is open, and its part. */
+static int parse_all(Matcher *matcher, PyObject *const *args, Py_ssize_t nargs, PyObject *keywords, Haystack *haystack, Range *range)
+{
+    PyObject *parsed[3] = {NULL, NULL, NULL};
+    if (parse_arguments("find_iter", args, nargs, keywords, 3, parsed) < 0 || open_for(matcher, haystack, parsed[0]) < 0)
+        return -1;
+    if (parse_range(haystack, parsed + 1, 0, range) == 0)
+        return 0;
+    close_haystack(haystack);
+    return -1;
 }
 
 static PyObject *matcher_find_iter(PyObject *matcher, PyObject *const *args, Py_ssize_t nargs, PyObject *keywords)
 {
     Haystack haystack;
-    if (parse_haystack((Matcher *)matcher, "find_iter", args, nargs, keywords, &haystack) < 0)
+    Range range;
+    if (parse_all((Matcher *)matcher, args, nargs, keywords, &haystack, &range) < 0)
         return NULL;
     Iterator *self = PyObject_GC_New(Iterator, iterator_type);
     if (!self) {
@@ -986,10 +1207,11 @@ static PyObject *matcher_find_iter(PyObject *matcher, PyObject *const *args, Py_
     self->haystack = haystack;
     self->rows = NULL;
     self->room = self->count = self->next = 0;
-    self->from = 0;
+    self->from = range.start.byte;
     self->last_end = SIZE_MAX;
-    self->status = HANNEDDOIS_OK;
-    self->position = (Position){0, 0};
+    self->status = range.is_empty ? HANNEDDOIS_NONE : HANNEDDOIS_OK;
+    self->position = range.start;
+    self->place = range.place;
     self->is_searching = 0;
     PyObject_GC_Track(self);
     return (PyObject *)self;
@@ -1070,7 +1292,14 @@ static PyObject *matcher_clear_count(PyObject *self, void *Py_UNUSED(closure))
     return sum_of((Matcher *)self, hanneddois_clear_count);
 }
 
+static PyObject *matcher_group_names(PyObject *self, void *Py_UNUSED(closure))
+{
+    PyObject *names = find_names((Matcher *)self);
+    return names ? new_reference(names) : NULL;
+}
+
 static PyGetSetDef matcher_properties[] = {
+    {"group_names", matcher_group_names, NULL, "For each pattern a tuple of the names of its groups, with None for a group that has none.", NULL},
     {"memory_usage", matcher_memory_usage, NULL, "An estimate of how many bytes the caches need now, without those that searches are using.", NULL},
     {"clear_count", matcher_clear_count, NULL, "How often these caches were cleared.", NULL},
     {NULL, NULL, NULL, NULL, NULL},
@@ -1078,6 +1307,7 @@ static PyGetSetDef matcher_properties[] = {
 
 static PyMemberDef matcher_members[] = {
     {"patterns", T_OBJECT, offsetof(Matcher, given), READONLY, "The patterns, as they were given."},
+    {"_kept", T_OBJECT, offsetof(Matcher, kept), 0, NULL},
     {"pattern_count", T_PYSSIZET, offsetof(Matcher, count), READONLY, "How many patterns there are."},
     {"flags", T_UINT, offsetof(Matcher, options.flags), READONLY, "The flags."},
     {"capacity", T_PYSSIZET, offsetof(Matcher, options.capacity), READONLY, "How many bytes each of both caches may take; 0 for 2 MiB."},
@@ -1091,14 +1321,16 @@ static PyMemberDef matcher_members[] = {
 static PyMethodDef matcher_methods[] = {
     SEARCH("is_match", matcher_is_match, "($self, /, haystack)\n--\n\nWhether there is a match in the haystack."),
     SEARCH("find", matcher_find,
-           "($self, /, haystack, start=0)\n--\n\nThe leftmost match that starts at the offset or after it, or None.\n\n"
-           "Looks, as ^ and \\b, see what is before the start."),
-    SEARCH("search", matcher_find, "($self, /, haystack, start=0)\n--\n\nfind, by the name that it has in re."),
+           "($self, /, haystack, start=0, end=sys.maxsize)\n--\n\nThe leftmost match that starts at the offset or after it, or None.\n\n"
+           "Looks, as ^ and \\b, see what is before the start. For them the haystack ends at the end."),
+    {"_find_for", (PyCFunction)(void (*)(void))matcher_find_for, METH_FASTCALL | METH_KEYWORDS, NULL},
+    SEARCH("search", matcher_search,
+           "($self, /, string, pos=0, endpos=sys.maxsize)\n--\n\nfind as re has it: offsets outside of the haystack stand for the nearest one."),
     SEARCH("find_iter", matcher_find_iter,
-           "($self, /, haystack)\n--\n\nAn iterator over all matches, each the leftmost one from the end of the one before it.\n\n"
-           "An empty match right at the end of the one before it is skipped."),
-    SEARCH("finditer", matcher_find_iter, "($self, /, haystack)\n--\n\nfind_iter, by the name that it has in re."),
-    SEARCH("find_all", matcher_find_all, "($self, /, haystack)\n--\n\nThe list of the matches of find_iter."),
+           "($self, /, haystack, start=0, end=sys.maxsize)\n--\n\nAn iterator over all matches, each the leftmost one from the end of the one "
+           "before it.\n\nAn empty match right at the end of the one before it is skipped."),
+    SEARCH("finditer", matcher_find_iter, "($self, /, string, pos=0, endpos=sys.maxsize)\n--\n\nfind_iter, by the name that it has in re."),
+    SEARCH("find_all", matcher_find_all, "($self, /, haystack, start=0, end=sys.maxsize)\n--\n\nThe list of the matches of find_iter."),
     SEARCH("matching_patterns", matcher_matching_patterns,
            "($self, /, haystack)\n--\n\nThe numbers of the patterns that match anywhere, ascending, also if their matches overlap."),
     {NULL, NULL, 0, NULL},
@@ -1137,15 +1369,6 @@ static PyTypeObject *add_type(PyObject *module, const char *name, PyType_Spec *s
     return (PyTypeObject *)type;
 }
 
-/* Sets what Match.__match_args__ has, for the statement match. */
-static int add_match_args(void)
-{
-    PyObject *names = Py_BuildValue("(sss)", "pattern", "start", "end");
-    int status = names ? PyObject_SetAttrString((PyObject *)match_type, "__match_args__", names) : -1;
-    Py_XDECREF(names);
-    return status;
-}
-
 static int import_common(void)
 {
     PyObject *common = PyImport_ImportModule("hanneddois._common");
@@ -1167,7 +1390,7 @@ PyMODINIT_FUNC PyInit__extension(void)
     matcher_type = add_type(module, "Matcher", &matcher_spec);
     match_type = add_type(module, "Match", &match_spec);
     iterator_type = add_type(module, "MatchIterator", &iterator_spec);
-    if (!matcher_type || !match_type || !iterator_type || add_match_args() < 0 || import_common() < 0)
+    if (!matcher_type || !match_type || !iterator_type || import_common() < 0)
         Py_CLEAR(module);
     return module;
 }

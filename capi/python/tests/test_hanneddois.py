@@ -165,48 +165,32 @@ class Matches(unittest.TestCase):
 
     def test_fields(self):
         match = self.match
-        self.assertEqual((match.pattern, match.start, match.end, match.haystack), (0, 3, 5, "ab 12é"))
-        self.assertEqual((match.group(), match.group(0), match.span(), match.span(0)), ("12", "12", (3, 5), (3, 5)))
-        self.assertEqual(repr(match), "Match(pattern=0, start=3, end=5)")
+        self.assertEqual((match.pattern, match.start(), match.end(), match.haystack, match.string), (0, 3, 5, "ab 12é", "ab 12é"))
+        self.assertEqual((match.group(), match.group(0), match[0], match.span(), match.span(0)), ("12", "12", "12", (3, 5), (3, 5)))
+        self.assertEqual((match.pos, match.endpos, match.re), (0, 6, hanneddois.compile("[0-9]+")))
+        self.assertEqual(repr(match), "<hanneddois.Match object; pattern=0, span=(3, 5), match='12'>")
         self.assertTrue(match)
-        for name in ("pattern", "start", "end", "haystack"):
+        for name in ("pattern", "haystack", "string", "pos", "endpos", "re", "regs", "lastindex", "lastgroup"):
             with self.assertRaises(AttributeError):
                 setattr(match, name, 1)
+        self.assertRaises(TypeError, hanneddois.Match)
 
-    def test_groups_are_not_there_yet(self):
-        for group in (1, -1, 2**70):
+    def test_without_groups(self):
+        self.assertEqual((self.match.groups(), self.match.groupdict(), self.match.regs), ((), {}, ((3, 5),)))
+        self.assertEqual((self.match.lastindex, self.match.lastgroup), (None, None))
+        for group in (1, -1, 2**70, "name", 1.0, None):
             self.assertRaises(IndexError, self.match.group, group)
             self.assertRaises(IndexError, self.match.span, group)
-        self.assertRaises(TypeError, self.match.group, "name")
-        self.assertRaises(TypeError, self.match.group, 0, 0)
+        self.assertRaises(TypeError, self.match.span, 0, 0)
 
     def test_as_tuple(self):
         pattern, start, end = self.match
         self.assertEqual((pattern, start, end), (0, 3, 5))
-        self.assertEqual((len(self.match), self.match[1], self.match[-1], self.match[1:]), (3, 3, 5, (3, 5)))
-        self.assertRaises(IndexError, lambda: self.match[3])
-        self.assertIn(5, self.match)
         self.assertEqual(self.match, (0, 3, 5))
         self.assertEqual((0, 3, 5), self.match)
         self.assertNotEqual(self.match, (0, 3, 6))
         self.assertNotEqual(self.match, [0, 3, 5])
-        self.assertEqual(self.match, hanneddois.Match(0, 3, 5))
-        self.assertLess(self.match, hanneddois.Match(0, 4, 5))
-        self.assertLessEqual(self.match, (0, 3, 5))
-        self.assertGreater(self.match, (0, 3))
-        self.assertGreaterEqual(self.match, self.match)
-        self.assertRaises(TypeError, lambda: self.match < 1)
         self.assertEqual(hash(self.match), hash((0, 3, 5)))
-        self.assertEqual(hanneddois.Match.__match_args__, ("pattern", "start", "end"))
-
-    def test_made_by_hand(self):
-        match = hanneddois.Match(pattern=1, start=2, end=4, haystack=b"abcdef")
-        self.assertEqual((tuple(match), match.group()), ((1, 2, 4), b"cd"))
-        self.assertRaises(ValueError, hanneddois.Match(0, 0, 0).group)
-        for fields in ((-1, 0, 0), (0, -1, 0), (0, 2, 1)):
-            self.assertRaises(ValueError, hanneddois.Match, *fields)
-        for fields in ((), (0, 0), ("a", 0, 0), (0, 0, 0, b"", 0)):
-            self.assertRaises(TypeError, hanneddois.Match, *fields)
 
     def test_copies(self):
         for protocol in range(pickle.HIGHEST_PROTOCOL + 1):
@@ -230,6 +214,138 @@ class Matches(unittest.TestCase):
             del haystack
         gc.collect()
         self.assertEqual(len([it for it in gc.get_objects() if type(it) is Kept]), before)
+
+
+class LikeRe(unittest.TestCase):
+    """Compares with re, where both mean the same. Bytes are compared without Unicode, as re has them."""
+
+    CASES = [(r"(\w+)=(?P<value>\d+)", "é a=12 bé=3"), (r"(a)|(b)", "xb"), (r"(a(b)?)+", "abaab"), (r"(a)(b?)", "a"), (r"((a)b)", "ab"),
+             (r"(?P<year>\d{4})-(?P<month>\d\d)", "on 2024-12 and 2025-01"), (r"(é)(?:(x)|(y))", "éy éx"), (r"[]a]([)])(b)", "a)b]"),
+             (r"a|ab", "ab"), (r"\(([^)]*)\)", "f(x, y) g()"), ("none(x)?", "abc"), (r"(\s)", "a b c"), (r"(?:(a)|(b))*", "ba")]
+
+    @staticmethod
+    def row(match):
+        return match and (match.span(), match.group(), match.groups(), match.groups(0), match.groupdict(), match.lastindex, match.lastgroup,
+                          match.pos, match.endpos, match.regs, match.start(), match.end(), match[0])
+
+    def each_case(self):
+        for pattern, haystack in self.CASES:
+            yield hanneddois.compile(pattern), re.compile(pattern), haystack, str
+            encoded = pattern.encode()
+            yield hanneddois.compile(encoded, hanneddois.NO_UNICODE), re.compile(encoded), haystack.encode(), lambda text: text.encode()
+
+    def test_searches(self):
+        for ours, theirs, haystack, _ in self.each_case():
+            for name in ("search", "match", "fullmatch"):
+                for offsets in ((), (0,), (1,), (3,), (0, 3), (2, 5), (-3, 99), (5, 2), (99,)):
+                    with self.subTest(pattern=theirs.pattern, name=name, offsets=offsets):
+                        try:
+                            wanted = self.row(getattr(theirs, name)(haystack, *offsets))
+                            self.assertEqual(self.row(getattr(ours, name)(haystack, *offsets)), wanted)
+                        except hanneddois.Error as error:
+                            self.assertEqual((error.status, type(haystack)), (hanneddois.SYNTAX_ERROR, str))
+
+    def test_lists(self):
+        for ours, theirs, haystack, _ in self.each_case():
+            if theirs.search(haystack[:0]):
+                continue
+            with self.subTest(pattern=theirs.pattern, haystack=haystack):
+                for offsets in ((), (1,), (1, 4), (4, 1)):
+                    self.assertEqual(list(map(self.row, ours.finditer(haystack, *offsets))), list(map(self.row, theirs.finditer(haystack, *offsets))))
+                    self.assertEqual(ours.findall(haystack, *offsets), theirs.findall(haystack, *offsets))
+                for most in (0, 1, -1):
+                    self.assertEqual(ours.split(haystack, most), theirs.split(haystack, most))
+
+    def test_replacements(self):
+        for ours, theirs, haystack, convert in self.each_case():
+            if theirs.search(haystack[:0]):
+                continue
+            templates = ["-", r"<\g<0>>", r"\\\n\t", r"\0\101\x"[:-2], "$1", ""] + [r"\1", r"\g<1>\1"] * (theirs.groups > 0)
+            for template in map(convert, templates):
+                for count in (0, 1, -1):
+                    with self.subTest(pattern=theirs.pattern, template=template):
+                        self.assertEqual(ours.subn(template, haystack, count), theirs.subn(template, haystack, count))
+                        self.assertEqual(ours.sub(template, haystack, count), theirs.sub(template, haystack, count))
+            double = lambda match: match.group() * 2  # noqa: E731
+            self.assertEqual(ours.sub(double, haystack), theirs.sub(double, haystack))
+            found = theirs.search(haystack)
+            if found:
+                self.assertEqual(ours.search(haystack).expand(convert(r"[\g<0>]")), found.expand(convert(r"[\g<0>]")))
+
+    def test_wrong_templates(self):
+        ours, theirs, haystack = hanneddois.compile("(?P<n>a)(b)?"), re.compile("(?P<n>a)(b)?"), "xab"
+        for template in (r"\2", r"\3", r"\g", r"\g<", r"\g<>", r"\g<n", r"\g<m>", r"\g<3>", r"\g<1a>", r"\400", "\\", r"\q", r"\g<n>", r"\g<2>"):
+            try:
+                wanted = theirs.sub(template, haystack)
+            except (re.error, IndexError):
+                self.assertRaises((hanneddois.Error, IndexError), ours.sub, template, haystack)
+            else:
+                self.assertEqual(ours.sub(template, haystack), wanted)
+
+    def test_functions(self):
+        self.assertEqual(hanneddois.search("(b)", "abc").groups(), ("b",))
+        self.assertEqual((hanneddois.match("b", "abc"), hanneddois.match("a", "abc").span()), (None, (0, 1)))
+        self.assertEqual((hanneddois.fullmatch("ab", "abc"), hanneddois.fullmatch("a|abc", "abc").span()), (None, (0, 3)))
+        self.assertEqual((hanneddois.findall("[a-c]", "axb"), hanneddois.split("x", "axb")), (["a", "b"], ["a", "b"]))
+        self.assertEqual([it.group() for it in hanneddois.finditer("B", "abb", hanneddois.I)], ["b", "b"])
+        self.assertEqual((hanneddois.sub("a", "b", "aa", 1), hanneddois.subn("a", "b", "aa")), ("ba", ("bb", 2)))
+        for text in ("a.b*[c]$ (d)#-&~|\\é", "", "x y"):
+            self.assertEqual(hanneddois.fullmatch(hanneddois.escape(text), text).group(), text)
+            self.assertEqual(hanneddois.fullmatch(hanneddois.escape(text.encode()), text.encode()).group(), text.encode())
+
+    def test_names(self):
+        regex = hanneddois.Regex(["(?P<a>x)(y)", "(z)(?P<b>w)?"])
+        self.assertEqual(regex.group_names, ((None, "a", None), (None, None, "b")))
+        self.assertEqual((regex.groups, dict(regex.groupindex), regex.pattern), (2, {"a": 1}, "(?P<a>x)(y)"))
+        first, second = regex.finditer("xy z")
+        self.assertEqual((first.groupdict(), first["a"], first.group("a", 2)), ({"a": "x"}, "x", ("x", "y")))
+        self.assertEqual((second.groupdict("-"), second["b"], second.span("b")), ({"b": "-"}, None, (-1, -1)))
+        self.assertRaises(IndexError, second.group, "a")
+
+    def test_comments(self):
+        for pattern, flags in (("a b # c", hanneddois.VERBOSE), ("(?x) a b # c", 0)):
+            regex = hanneddois.compile(pattern, flags)
+            self.assertEqual((regex.fullmatch("ab").span(), regex.match("abc").span(), regex.fullmatch("abc")), ((0, 2), (0, 2), None))
+
+    def test_matches_of_other_searches(self):
+        regex = hanneddois.compile("a|(a)b")
+        self.assertIs(regex.fullmatch("ab").re, regex)
+        self.assertEqual((regex.fullmatch("ab").groups(), regex.search("ab").groups()), (("a",), (None,)))
+
+    def test_changed_haystack(self):
+        haystack = bytearray(b"xab")
+        match = hanneddois.compile(b"(a)(b)").search(haystack)
+        haystack[1:] = b"-"
+        self.assertRaises(ValueError, match.groups)
+
+    def test_rows_of_python(self):
+        """The rows of CPython's own tests, if they are installed. A row isn't run if its syntax is another one here."""
+        try:
+            from test import re_tests
+        except ImportError:
+            self.skipTest("CPython's own tests aren't installed")
+        run, left_out, wrong = 0, 0, []
+        for pattern, haystack, outcome, *rest in re_tests.tests:
+            try:
+                regex = hanneddois.compile(pattern)
+            except hanneddois.Error:
+                left_out += 1
+                continue
+            if outcome == re_tests.SYNTAX_ERROR or re.search(r"\$|\\Z|\(\?[a-z]*L|\\b|\\B", pattern):
+                left_out += 1
+                continue
+            match, run = regex.search(haystack), run + 1
+            if outcome == re_tests.FAIL or match is None:
+                if (outcome == re_tests.FAIL) != (match is None):
+                    wrong.append((pattern, haystack, match))
+                continue
+            values = {"found": match.group(), "groups": match.groups(), "flags": regex.flags, **match.groupdict()}
+            values.update({f"g{number}": match.group(number) if number <= regex.groups else "Error" for number in range(100)})
+            values = {name: "None" if value is None else value for name, value in values.items()}
+            if eval(rest[0], values) != rest[1]:
+                wrong.append((pattern, haystack, rest, match.regs))
+        self.assertEqual(wrong, [])
+        self.assertGreater(run, 250)
 
 
 class Buffers(unittest.TestCase):
@@ -372,7 +488,7 @@ class Errors(unittest.TestCase):
         regex = hanneddois.compile("a")
         for call in (regex.find, regex.find_iter, regex.find_all, regex.is_match, regex.matching_patterns):
             self.assertRaises(TypeError, call)
-            self.assertRaises(TypeError, call, b"a", 0, 0)
+            self.assertRaises(TypeError, call, b"a", 0, 0, 0)
             self.assertRaises(TypeError, call, b"a", text=b"a")
             self.assertRaises(TypeError, call, b"a", haystack=b"a")
             self.assertRaises(TypeError, call, start=1)
@@ -427,10 +543,12 @@ class Regexes(unittest.TestCase):
     def test_names(self):
         for name in hanneddois.__all__:
             self.assertTrue(hasattr(hanneddois, name), name)
-        public = {"capacity", "clear_count", "find", "find_all", "find_iter", "finditer", "flags", "is_match", "matching_patterns",
-                  "memory_usage", "nest_limit", "pattern_count", "patterns", "search", "size_limit", "which"}
+        public = {"capacity", "clear_count", "find", "find_all", "find_iter", "findall", "finditer", "flags", "fullmatch", "group_names",
+                  "groupindex", "groups", "is_match", "match", "matching_patterns", "memory_usage", "nest_limit", "pattern", "pattern_count",
+                  "patterns", "search", "size_limit", "split", "sub", "subn", "which"}
         self.assertEqual({name for name in dir(hanneddois.Regex) if not name.startswith("_")}, public)
-        public = {"end", "group", "haystack", "pattern", "span", "start"}
+        public = {"end", "endpos", "expand", "group", "groupdict", "groups", "haystack", "lastgroup", "lastindex", "pattern", "pos", "re",
+                  "regs", "span", "start", "string"}
         self.assertEqual({name for name in dir(hanneddois.Match) if not name.startswith("_")}, public)
         for each in (hanneddois.Regex, hanneddois.Match, hanneddois.Error):
             for name in (it for it in vars(each) if not it.startswith("_")):
@@ -563,12 +681,26 @@ class Leaks(unittest.TestCase):
             for haystack in ("a12 3", "é12 3", b"a12 3", buffer, memoryview(buffer), "none"):
                 match = regex.find(haystack)
                 if match:
-                    match.group(), match.span(), match == (0, 1, 3), hash(match), repr(match), list(match), match[1:], pickle.dumps(regex)
+                    match.group(), match.span(), match == (0, 1, 3), hash(match), repr(match), list(match), match[0], pickle.dumps(regex)
                 list(regex.find_iter(haystack))
                 next(regex.find_iter(haystack), None)
                 regex.find_all(haystack), regex.is_match(haystack), regex.matching_patterns(haystack)
 
         self.check(job, 300)
+
+    def test_groups(self):
+        regex = hanneddois.compile(r"(?P<a>\w)(\d)?|é()")
+
+        def job():
+            for haystack in ("é1 é a2", b"a1 bc", bytearray(b"a12 3")):
+                for match in regex.finditer(haystack):
+                    match.groups(), match.groupdict(), match.expand(rb"\1" if isinstance(haystack, (bytes, bytearray)) else r"\1")
+                    match.group("a"), match.start(1), match.regs, match.lastindex, match.lastgroup, match["a"], match.group(1, 2), repr(match)
+                    self.assertRaises(IndexError, match.group, "none")
+                regex.fullmatch(haystack), regex.match(haystack), regex.split(haystack), regex.findall(haystack)
+                regex.subn(lambda match: match.group(), haystack)
+
+        self.check(job, 100)
 
     def test_failures(self):
         regex, strict = hanneddois.compile("[0-9]+"), hanneddois.Regex(["(?-u).", "a"])
@@ -577,7 +709,7 @@ class Leaks(unittest.TestCase):
             for call, error in ((lambda: regex.find(5), TypeError), (lambda: regex.find("a", 9), hanneddois.Error),
                                 (lambda: regex.find_iter(memoryview(b"abc")[::2]), BufferError), (lambda: strict.find("a"), hanneddois.Error),
                                 (lambda: hanneddois.compile("a("), hanneddois.Error), (lambda: regex.find(text=1), TypeError),
-                                (lambda: hanneddois.Match(0, 0, 0).group(), ValueError), (lambda: regex.find("\ud800"), UnicodeEncodeError)):
+                                (lambda: regex.find("\ud800"), UnicodeEncodeError)):
                 self.assertRaises(error, call)
 
         self.check(job, 100)

@@ -11,6 +11,9 @@ const BYTES_PER_ROW: usize = 8;
 /// gives memory only for rows that are written. If there are more matches, the haystack is searched a second time.
 const ROWS: (usize, usize) = (64, 1 << 22);
 
+/// A match, and the offsets of its groups.
+pub(crate) type Row = (sys::Match, Vec<usize>);
+
 /// A compiled regex with its caches, or nothing.
 #[derive(Debug)]
 pub(crate) struct Handle(sys::Regex);
@@ -151,6 +154,95 @@ impl Handle {
                 return (rows, outcome(status, error).map(|_| ()));
             }
             room = count;
+        }
+    }
+
+    /// The next match, and the offsets of its groups as far as there is room.
+    pub(crate) fn captures_at(
+        &mut self,
+        haystack: &[u8],
+        from: usize,
+        slots: &mut [usize],
+    ) -> Result<Option<sys::Match>, Error> {
+        let mut found = sys::Match::default();
+        let mut error = sys::Error::default();
+        // SAFETY: as in `new`.
+        let status = unsafe {
+            sys::hanneddois_captures(
+                &mut self.0,
+                haystack.as_ptr(),
+                haystack.len(),
+                from,
+                &mut found,
+                slots.as_mut_ptr(),
+                slots.len(),
+                &mut error,
+            )
+        };
+        Ok(outcome(status, error)?.then_some(found))
+    }
+
+    /// All matches with so many slots each. After an error, the list has those before the search that failed.
+    pub(crate) fn captures_all(&mut self, haystack: &[u8], width: usize) -> (Vec<Row>, Result<(), Error>) {
+        // The matches are counted first, without rows.
+        let (counted, mut result) = self.list_captures(haystack, &mut [], &mut [], width);
+        let mut listed = Vec::new();
+        if counted > 0 {
+            let mut rows = vec![sys::Match::default(); counted];
+            let mut slots = vec![sys::NO_OFFSET; counted.saturating_mul(width)];
+            let again = self.list_captures(haystack, &mut rows, &mut slots, width);
+            rows.truncate(again.0);
+            listed = rows.into_iter().zip(slots.chunks(width).map(<[usize]>::to_vec)).collect();
+            result = again.1;
+        }
+        (listed, result)
+    }
+
+    fn list_captures(
+        &mut self,
+        haystack: &[u8],
+        rows: &mut [sys::Match],
+        slots: &mut [usize],
+        width: usize,
+    ) -> (usize, Result<(), Error>) {
+        let mut count = 0;
+        let mut error = sys::Error::default();
+        // SAFETY: as in `new`.
+        let status = unsafe {
+            sys::hanneddois_captures_all(
+                &mut self.0,
+                haystack.as_ptr(),
+                haystack.len(),
+                rows.as_mut_ptr(),
+                rows.len(),
+                slots.as_mut_ptr(),
+                slots.len(),
+                width,
+                &mut count,
+                &mut error,
+            )
+        };
+        (count, outcome(status, error).map(|_| ()))
+    }
+
+    /// The names of the groups of a pattern, by their numbers.
+    pub(crate) fn group_names(&mut self, pattern: usize) -> Vec<Option<String>> {
+        // SAFETY: as in `new`.
+        let count = unsafe { sys::hanneddois_group_count(&mut self.0, pattern) };
+        (0..count).map(|group| self.group_name(pattern, group)).collect()
+    }
+
+    fn group_name(&mut self, pattern: usize, group: usize) -> Option<String> {
+        let mut name = vec![0; 64];
+        loop {
+            // SAFETY: as in `new`.
+            let length =
+                unsafe { sys::hanneddois_group_name(&mut self.0, pattern, group, name.as_mut_ptr(), name.len()) };
+            if length <= name.len() {
+                name.truncate(length);
+                return String::from_utf8(name).ok().filter(|it| !it.is_empty());
+            }
+            name.resize(length, 0);
         }
     }
 
