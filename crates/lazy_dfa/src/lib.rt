@@ -42,6 +42,7 @@ pub mod dfa;
 mod dfa_starts;
 mod dfa_steps;
 mod half_tables;
+mod held_states;
 mod lazy_id;
 mod making;
 mod match_loop;
