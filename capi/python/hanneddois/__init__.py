@@ -3,7 +3,7 @@
     import hanneddois
     regex = hanneddois.compile(r"[0-9]+")
     for match in regex.find_iter("7 and 42"):
-        print(match.start, match.end, match.group())
+        print(match.start(), match.end(), match.group())
 
 A haystack is a str, or bytes, a bytearray, a memoryview, a mmap or any other object with contiguous bytes. Offsets count the characters of
 a str, and the bytes of any other haystack.
@@ -15,7 +15,6 @@ environment variable HANNEDDOIS_LIBRARY names a shared library, that one is used
 import functools
 import operator
 import os
-import sys
 import types
 
 from ._common import (BAD_ARGUMENT, CAPACITY_TOO_SMALL, CASE_INSENSITIVE, CRLF, DOT_MATCHES_NEW_LINE, EMPTY_LOOP, EMPTY_LOOPS,
@@ -109,35 +108,9 @@ class Regex(Matcher):
         """The numbers of the groups that have a name, by their names; of several patterns, those of the first one."""
         return types.MappingProxyType({name: number for number, name in enumerate(self.group_names[0]) if name})
 
-    def _between(self, before, after):
-        """Returns the regex of the patterns between these others. It is kept."""
-        if self._kept is None:
-            self._kept = {}
-        if (before, after) not in self._kept:
-            self._kept[before, after] = _wrap(self, before, after)
-        return self._kept[before, after]
-
-    def match(self, string, pos=0, endpos=sys.maxsize):
-        """The match that starts at the offset, or None. From another offset than 0 it searches as far as the next match."""
-        if pos <= 0:
-            return self._between(r"\A(?:", ")")._find_for(self, string, 0, endpos)
-        found = self.search(string, pos, endpos)
-        return found if found and found.start() == found.pos else None
-
-    def fullmatch(self, string, pos=0, endpos=sys.maxsize):
-        """The match from the one offset to the other, or None. From another offset than 0 it searches as far as the next match."""
-        if pos <= 0:
-            return self._between(r"\A(?:", r")\z")._find_for(self, string, 0, endpos)
-        found = self._between("(?:", r")\z")._find_for(self, string, pos, endpos)
-        return found if found and found.start() == found.pos else None
-
-    def findall(self, string, pos=0, endpos=sys.maxsize):
-        """The list of all matches: the whole match if its pattern has no group, its group if it has one, and else a tuple of its groups."""
-        empty, found = ("" if isinstance(string, str) else b""), []
-        for match in self.finditer(string, pos, endpos):
-            groups = match.groups(empty) or (match.group(),)
-            found.append(groups if len(groups) > 1 else groups[0])
-        return found
+    def _anchored(self, anchor, is_full):
+        """Returns the regex of the patterns that matches at one offset alone: at the start, or after a character or a byte there."""
+        return _wrap(self, _ANCHORS[anchor], r")\z" if is_full else ")")
 
     def sub(self, repl, string, count=0):
         """The string with its first matches replaced, or with all if the count is 0.
@@ -147,29 +120,16 @@ class Regex(Matcher):
 
     def subn(self, repl, string, count=0):
         """The pair of what sub returns, and of how many matches were replaced."""
-        replace, content = _replacement_of(self, repl), _content_of(string)
-        pieces, last, number = [], 0, 0
-        for match in self.finditer(string) if count >= 0 else ():
-            start, end = match.span()
-            pieces += content[last:start], replace(match)
-            last, number = end, number + 1
-            if number == count:
-                break
-        pieces.append(content[last:])
-        return content[:0].join(pieces), number
+        if callable(repl):
+            return self._replace(string, repl, count, False)
+        if isinstance(repl, str) != isinstance(string, str):
+            raise TypeError("a template is of the same kind as what is searched: both are a str, or both are bytes-like objects")
+        templates = tuple(parse_template(repl, names) for names in self.group_names)
+        return self._replace(string, templates, count, any(isinstance(part, int) and part for parts in templates for part in parts))
 
     def split(self, string, maxsplit=0):
         """The list of what is between the matches, with their groups. Without a maxsplit of 0 at most so many matches split it."""
-        content, pieces, last, number = _content_of(string), [], 0, 0
-        for match in self.finditer(string) if maxsplit >= 0 else ():
-            start, end = match.span()
-            pieces.append(content[last:start])
-            pieces += match.groups()
-            last, number = end, number + 1
-            if number == maxsplit:
-                break
-        pieces.append(content[last:])
-        return pieces
+        return self._split(string, maxsplit)
 
     def __reduce__(self):
         return type(self), (self.patterns, self.flags, self.capacity, self.size_limit, self.nest_limit)
@@ -196,12 +156,19 @@ class Regex(Matcher):
         return f"hanneddois.{type(self).__name__}({list(self.patterns)!r}{options})"
 
 
+# What a regex begins with that matches at one offset alone: nothing, or the character or byte before that offset.
+_ANCHORS = (r"\A(?:", r"\A(?su:.)(?:", r"\A(?s-u:.)(?:")
+# A pattern that nests as deep as it may gets a group and a sequence around it.
+_DEEPER = 4
+
+
 def _wrap(regex, before, after):
     """Compiles the patterns between two others. If a comment ends a pattern, a line feed ends that."""
+    flags = regex.flags & ~UTF8 & ~MATCHING_PATTERNS | RAISE_CAPACITY
+    options = (flags, regex.capacity, 2 * regex.size_limit, (regex.nest_limit or 250) + _DEEPER)
     for line_feed in ("\n", "") if regex.flags & IGNORE_WHITESPACE else ("", "\n"):
         try:
-            patterns = [_around(it, before, line_feed + after) for it in regex.patterns]
-            return Regex(patterns, regex.flags, regex.capacity, regex.size_limit, regex.nest_limit and regex.nest_limit + 1)
+            return Regex([_around(it, before, line_feed + after) for it in regex.patterns], *options)
         except Error as error:
             failed = error
     raise failed
@@ -209,21 +176,6 @@ def _wrap(regex, before, after):
 
 def _around(pattern, before, after):
     return before + pattern + after if isinstance(pattern, str) else before.encode() + pattern + after.encode()
-
-
-def _content_of(string):
-    return string if isinstance(string, (str, bytes)) else bytes(memoryview(string))
-
-
-def _replacement_of(regex, repl):
-    """Returns a function that returns the replacement of a match."""
-    if callable(repl):
-        return lambda match: repl(match) or match.string[:0]
-    templates = [parse_template(repl, names) for names in regex.group_names]
-    if all(not isinstance(part, int) for parts in templates for part in parts):
-        texts = [repl[:0].join(parts) for parts in templates]
-        return lambda match: texts[match.pattern]
-    return lambda match: match.expand(repl)
 
 
 @functools.lru_cache(maxsize=_MOST_KEPT)
@@ -241,13 +193,17 @@ def compile(pattern, flags=0, capacity=0, size_limit=0, nest_limit=0):
 
 
 _SPECIAL = {ord(each): "\\" + each for each in r"\.+*?()|[]{}^$#&-~"}
+# White space, which means nothing in a pattern with the flag X.
+_SPECIAL |= {each: f"\\x{{{each:x}}}" for each in (*range(9, 14), 32, 0x85, 0x200E, 0x200F, 0x2028, 0x2029)}
+# What a byte is decoded to that is no UTF-8.
+_SPECIAL |= {0xDC00 + each: f"(?-u:\\x{each:02x})" for each in range(128, 256)}
 
 
 def escape(pattern):
-    """Returns the pattern that matches a text itself."""
+    """Returns the pattern that matches a text itself. It is a str if the text is one, and otherwise bytes."""
     if isinstance(pattern, str):
         return pattern.translate(_SPECIAL)
-    return bytes(memoryview(pattern)).decode("latin-1").translate(_SPECIAL).encode("latin-1")
+    return bytes(memoryview(pattern)).decode(errors="surrogateescape").translate(_SPECIAL).encode()
 
 
 def _searching(name):

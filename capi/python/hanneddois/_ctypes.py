@@ -1,6 +1,7 @@
 """Searches by ctypes, for systems without a compiler: Match and Matcher, with the interface that they have in _extension.c."""
 
 import ctypes
+import itertools
 import operator
 import os
 import pathlib
@@ -10,7 +11,7 @@ import sys
 import threading
 import types
 
-from ._common import BAD_ARGUMENT, NO_UNICODE, NONE, OK, UTF8, Error, count_characters
+from ._common import BAD_ARGUMENT, EMPTY_LOOP, EMPTY_LOOPS, NO_UNICODE, NONE, OK, UTF8, Error, count_characters
 from ._groups import MatchMethods
 
 # The path of the shared library, which ./install writes into its copy of this file.
@@ -107,7 +108,7 @@ class Match(MatchMethods):
 
     Offsets count the characters of a str, and the bytes of any other haystack."""
 
-    __slots__ = ("_fields", "_place", "_regex", "_finder", "_regs")
+    __slots__ = ("_fields", "_place", "_regex", "_finder", "_row", "_regs")
     __class_getitem__ = classmethod(types.GenericAlias)
 
     def __new__(cls, *args, **kwargs):
@@ -119,17 +120,18 @@ class Match(MatchMethods):
     pos = property(lambda self: self._place.pos, doc="The offset from which on the search was made.")
     endpos = property(lambda self: self._place.endpos, doc="The offset up to which the search was made.")
     re = property(lambda self: self._regex, doc="The regex that found the match.")
+    _is_anchored = property(lambda self: self._finder is not None)
 
     @property
     def regs(self):
         """The pairs of start and end of all groups; -1 and -1 for one that took no part."""
         if self._regs is None:
-            self._regs = self._finder._find_groups(self)
+            self._regs = self._regex._find_groups(self)
         return self._regs
 
     def span(self, group=0, /):
         """The pair of start and end of a group; -1 and -1 if it took no part."""
-        names = self._finder.group_names[self.pattern]
+        names = self._regex.group_names[self.pattern]
         if isinstance(group, str):
             group = names.index(group) if group in names else len(names)
         elif not hasattr(group, "__index__"):
@@ -137,7 +139,7 @@ class Match(MatchMethods):
         group = operator.index(group)
         if not 0 <= group < len(names):
             raise IndexError("no such group")
-        return self.regs[group] if group else self._fields[1:3]
+        return self.regs[group] if group else self._fields[1:]
 
     def start(self, group=0, /):
         """The offset at which a group starts; -1 if it took no part."""
@@ -161,15 +163,18 @@ class Match(MatchMethods):
         Without an argument it is that of the whole match, and with several a tuple. A group that took no part is None."""
         return tuple(map(self._part, groups)) if len(groups) > 1 else self._part(*groups or (0,))
 
+    def groups(self, default=None):
+        """The tuple of the groups from 1 on. A group that took no part is the default."""
+        parts = map(self._part, range(1, len(self._regex.group_names[self.pattern])))
+        return tuple(default if part is None else part for part in parts)
+
+    def groupdict(self, default=None):
+        """The groups that have a name, by their names. A group that took no part is the default."""
+        names = self._regex.group_names[self.pattern]
+        return {name: part for name, part in zip(names[1:], self.groups(default)) if name}
+
     def __getitem__(self, key):
         return self._part(key)
-
-
-def _make_match(regex, haystack, row):
-    match = object.__new__(Match)
-    match._fields = (row[0], haystack.move_to(row[1]), haystack.move_to(row[2]), row[1])
-    match._place, match._regex, match._finder, match._regs = haystack.place, regex, regex, None
-    return match
 
 
 class _Place:
@@ -185,14 +190,16 @@ class _Haystack:
     """What a search reads, and how its offsets count. The address is valid as long as this object is held."""
 
     def __init__(self, haystack):
-        self.object, self.view, self.has_characters = haystack, None, False
+        self.object, self.view, self.has_characters, self.is_str = haystack, None, False, False
         if isinstance(haystack, bytes):
             self.address, self.length = haystack, len(haystack)
         elif isinstance(haystack, str):
-            self.address = haystack.encode()
+            self.address, self.is_str = haystack.encode(), True
             self.length, self.has_characters = len(self.address), not haystack.isascii()
         else:
             self._find_buffer()
+        # Whether an empty match inside a character doesn't count.
+        self.is_utf8 = self.has_characters
         self.calls = _unlocking if self.length > _FEW_BYTES and (self.view is None or self.view.readonly) else _locked
         self.start = self._byte = self._character = 0
         self.place = None
@@ -222,8 +229,17 @@ class _Haystack:
         ctypes.pythonapi.PyObject_AsReadBuffer(ctypes.py_object(self.view), ctypes.byref(address), ctypes.byref(length))
         self.address, self.length = address.value or b"", length.value
 
+    def bytes_between(self, start, end):
+        """Returns a part of what is searched, as bytes."""
+        return self.address[start:end] if isinstance(self.address, bytes) else ctypes.string_at(self.address + start, end - start)
+
+    def part(self, start, end):
+        """Returns a part of what is searched, of its own kind."""
+        found = self.bytes_between(start, end)
+        return found.decode() if self.is_str else found
+
     def is_inside_character(self, offset):
-        return self.has_characters and offset < self.length and self.address[offset] & 0xC0 == 0x80
+        return self.is_utf8 and offset < self.length and self.bytes_between(offset, offset + 1)[0] & 0xC0 == 0x80
 
     def move_to(self, byte):
         """Returns the offset of a byte as a caller counts it. Each is at or after the one before it."""
@@ -245,6 +261,19 @@ class _Haystack:
     def byte_of(self, offset):
         """Returns the offset in bytes for one that a caller gives."""
         return len(self.object[:offset].encode()) if self.has_characters else offset
+
+    def from_character_before(self, offset):
+        """Returns the number of an anchor, and the bytes from the character on that ends at an offset. If none ends there, a byte is one."""
+        if offset == 0:
+            return _AT_START, 0
+        length = 1
+        while length < min(4, offset) and self.bytes_between(offset - length, offset - length + 1)[0] & 0xC0 == 0x80:
+            length += 1
+        try:
+            is_one = len(self.bytes_between(offset - length, offset).decode()) == 1
+        except UnicodeDecodeError:
+            is_one = False
+        return (_AFTER_CHARACTER, length) if is_one else (_AFTER_BYTE, 1)
 
 
 class _Stock:
@@ -289,16 +318,22 @@ class _Stock:
         return total
 
 
+# How a regex that matches at one offset alone is made of the patterns: by what is before them.
+_AT_START, _AFTER_CHARACTER, _AFTER_BYTE = range(3)
+
+
 class Matcher:
     """Compiled patterns. Regex is the class to use."""
 
-    __slots__ = ("_patterns", "_encoded", "_options", "_stock", "_utf8_stock", "_fits_str", "_names", "_kept")
+    __slots__ = ("_patterns", "_encoded", "_options", "_stock", "_utf8_stock", "_has_empty_loops", "_fits_str", "_names", "_finders")
 
     def __new__(cls, patterns, encoded, flags, capacity, size_limit, nest_limit):
         self = super().__new__(cls)
         self._patterns, self._encoded, self._options = patterns, encoded, (flags, nest_limit, capacity, size_limit)
-        self._stock, self._utf8_stock, self._fits_str = _Stock(self._make_handle(0)), None, False
-        self._names = self._kept = None
+        self._stock = self._utf8_stock = self._names = None
+        self._has_empty_loops = self._fits_str = False
+        self._finders = {}
+        self._find_stock(flags & UTF8)
         return self
 
     patterns = property(lambda self: self._patterns, doc="The patterns, as they were given.")
@@ -309,18 +344,33 @@ class Matcher:
     pattern_count = property(lambda self: len(self._patterns), doc="How many patterns there are.")
 
     def _make_handle(self, flags):
+        """Compiles the patterns. That a loop may be empty isn't an error: the searches for groups find the end that is preferred."""
         handle, failure, options = _Handle(), _Failure(), _Options(*self._options)
-        options.flags |= flags
         joined, lengths = b"".join(self._encoded), (ctypes.c_size_t * max(len(self._encoded), 1))(*map(len, self._encoded))
-        if _unlocking.hanneddois_new(handle, joined, len(joined), lengths, len(self._encoded), options, failure) != OK:
+        for options.flags in (flags & ~EMPTY_LOOPS, flags | EMPTY_LOOPS):
+            status = _unlocking.hanneddois_new(handle, joined, len(joined), lengths, len(self._encoded), options, failure)
+            if status != EMPTY_LOOP:
+                break
+            self._has_empty_loops = True
+        if status != OK:
             error = _error_of(failure)
             count_characters(error, self._patterns)
             raise error
         return handle
 
+    def _find_stock(self, is_utf8):
+        """Returns the handles that check their haystacks and split no character, or the others. They are compiled when first needed."""
+        if is_utf8:
+            if self._utf8_stock is None:
+                self._utf8_stock = _Stock(self._make_handle(self.flags | UTF8))
+            return self._utf8_stock
+        if self._stock is None:
+            self._stock = _Stock(self._make_handle(self.flags & ~UTF8))
+        return self._stock
+
     def _search(self, haystack, name, *parameters, is_utf8=False):
         """Searches with a handle that no other search uses, and returns the status and the failure."""
-        stock, failure = self._find_utf8_stock() if is_utf8 else self._stock, _Failure()
+        stock, failure = self._find_stock(is_utf8), _Failure()
         handle = stock.take()
         try:
             call = getattr(haystack.calls, name)
@@ -328,11 +378,9 @@ class Matcher:
         finally:
             stock.give_back(handle)
 
-    def _find_utf8_stock(self):
-        """Returns the handles by which no match splits a character. They are compiled when they are first needed."""
-        if self._utf8_stock is None:
-            self._utf8_stock = _Stock(self._make_handle(UTF8))
-        return self._utf8_stock
+    def _checks(self, haystack):
+        """Whether the haystack has to be UTF-8, and may be none."""
+        return bool(self.flags & UTF8) and not haystack.is_utf8 and not haystack.is_str
 
     @staticmethod
     def _is_found(status, failure):
@@ -342,7 +390,7 @@ class Matcher:
 
     def _open(self, haystack):
         opened = _Haystack(haystack)
-        if isinstance(haystack, str) and not self._fits_str:
+        if opened.is_str and not self._fits_str:
             self._check_fits_str()
         return opened
 
@@ -351,28 +399,45 @@ class Matcher:
         can't turn Unicode off: then no match does."""
         joined = b"".join(self._encoded)
         if self.flags & NO_UNICODE or (b"?" in joined and b"-" in joined and b"u" in joined):
-            self._find_utf8_stock()
+            self._find_stock(True)
         self._fits_str = True
 
-    def _find_from(self, haystack, offset):
-        """Returns the next match as a row, or None. In a str, an empty match inside a character doesn't count."""
-        row = _Row()
-        while self._is_found(*self._search(haystack, "hanneddois_find_at", offset, row)):
+    def _check_utf8(self, haystack):
+        """Before several searches: raises an error if the haystack has to be UTF-8 and isn't."""
+        if self._checks(haystack):
+            self._is_found(*self._search(haystack, "hanneddois_is_match", is_utf8=True))
+            haystack.is_utf8 = True
+
+    def _find_from(self, haystack, offset, width=0):
+        """Returns the next match as a tuple of its row and its slots, or None. In a str, an empty match inside a character doesn't count."""
+        row, slots, is_utf8 = _Row(), (ctypes.c_size_t * width)(), self._checks(haystack)
+        while True:
+            if width or self._has_empty_loops:
+                status = self._search(haystack, "hanneddois_captures", offset, row, slots, width, is_utf8=is_utf8)
+            else:
+                status = self._search(haystack, "hanneddois_find_at", offset, row, is_utf8=is_utf8)
+            if not self._is_found(*status):
+                return None
             if not haystack.is_inside_character(row.start):
-                return row
+                return (row.pattern, row.start, row.end), slots
             offset = row.start + 1
-        return None
+
+    def _make_match(self, haystack, row, finder=None):
+        match = object.__new__(Match)
+        match._fields = (row[0], haystack.move_to(row[1]), haystack.move_to(row[2]))
+        match._place, match._regex, match._finder, match._row, match._regs = haystack.place, self, finder, row, None
+        return match
 
     def is_match(self, haystack):
         """Whether there is a match in the haystack."""
         haystack = self._open(haystack)
-        if haystack.has_characters:
+        if haystack.is_utf8:
             return self._find_from(haystack, 0) is not None
-        return self._is_found(*self._search(haystack, "hanneddois_is_match"))
+        return self._is_found(*self._search(haystack, "hanneddois_is_match", is_utf8=self._checks(haystack)))
 
     def _find_in(self, haystack):
-        row = None if haystack.is_empty else self._find_from(haystack, haystack.start)
-        return row and _make_match(self, haystack, (row.pattern, row.start, row.end))
+        found = None if haystack.is_empty else self._find_from(haystack, haystack.start)
+        return found and self._make_match(haystack, found[0])
 
     def find(self, haystack, start=0, end=sys.maxsize):
         """The leftmost match that starts at the offset or after it, or None.
@@ -384,29 +449,54 @@ class Matcher:
         """find as re has it: offsets outside of the haystack stand for the nearest one."""
         return self._find_in(self._open(string).cut(pos, endpos))
 
-    def _find_for(self, regex, string, pos=0, endpos=sys.maxsize):
-        """Searches for another regex: the match is one of that, whose groups this regex has."""
-        match = self.search(string, pos, endpos)
-        if match:
-            match._regex = regex
-        return match
+    def _match_at(self, haystack, is_full):
+        """Matches at one offset, and perhaps up to the end: by a regex that begins with the character before that offset, so that it sees
+        that character and reads no more than the match."""
+        if haystack.is_empty:
+            return None
+        self._check_utf8(haystack)
+        start = haystack.start
+        anchor, back = haystack.from_character_before(start)
+        if (anchor, is_full) not in self._finders:
+            self._finders[anchor, is_full] = self._anchored(anchor, is_full)
+        finder = self._finders[anchor, is_full]
+        found = finder._find_from(_Haystack(haystack.bytes_between(start - back, haystack.length)), 0)
+        if found is None or haystack.is_inside_character(start):
+            return None
+        return self._make_match(haystack, (found[0][0], start, start - back + found[0][2]), (finder, back))
+
+    def match(self, string, pos=0, endpos=sys.maxsize):
+        """The match that starts at the offset, or None."""
+        return self._match_at(self._open(string).cut(pos, endpos), False)
+
+    def fullmatch(self, string, pos=0, endpos=sys.maxsize):
+        """The match from the one offset to the other, or None."""
+        return self._match_at(self._open(string).cut(pos, endpos), True)
 
     def _find_groups(self, match):
-        haystack = self._open(match.string).cut(match.start(), match.endpos)
-        found, count = _Row(), len(self.group_names[match.pattern])
-        slots = (ctypes.c_size_t * (2 * count))()
-        status, failure = self._search(haystack, "hanneddois_captures", match._fields[3], found, slots, 2 * count)
-        if not self._is_found(status, failure) or (found.pattern, found.start) != (match.pattern, match._fields[3]):
+        """Searches a match again, with its groups. Before one that was sought at one offset, its finder sees the character there alone."""
+        haystack, (pattern, start, _) = self._open(match.string).cut(match.start(), match.endpos), match._row
+        width = 2 * len(self.group_names[pattern])
+        if match._finder:
+            finder, back = match._finder
+            skipped = start - back
+            found = finder._find_from(_Haystack(haystack.bytes_between(skipped, haystack.length)), 0, width)
+        else:
+            back = skipped = 0
+            found = self._find_from(haystack, start, width)
+        if found is None or (found[0][0], found[0][1] + skipped) != (pattern, start - back):
             raise ValueError("the haystack was changed after the match was found")
-        return tuple(haystack.pair_of(*slots[2 * at : 2 * at + 2]) for at in range(count))
+        slots = [it if it == _NO_OFFSET else it + skipped for it in found[1]]
+        return (match._fields[1:], *(haystack.pair_of(*slots[at : at + 2]) for at in range(2, width, 2)))
 
     @property
     def group_names(self):
         """For each pattern a tuple of the names of its groups, with None for a group that has none."""
         if self._names is None:
-            handle = self._stock.take()
+            stock = self._find_stock(False)
+            handle = stock.take()
             self._names = tuple(self._names_of(handle, pattern) for pattern in range(self.pattern_count))
-            self._stock.give_back(handle)
+            stock.give_back(handle)
         return self._names
 
     @staticmethod
@@ -425,51 +515,118 @@ class Matcher:
 
         An empty match right at the end of the one before it is skipped."""
         haystack = self._open(haystack).cut(start, end)
-        return iter(()) if haystack.is_empty else self._iterate_from(haystack) if haystack.start else self._iterate(haystack)
+        if haystack.is_empty:
+            return iter(())
+        rows = self._list(haystack) if haystack.start == 0 and not self._has_empty_loops else self._scan(haystack, lists_all=False)
+        return (self._make_match(haystack, row) for row, _ in rows)
 
     def finditer(self, string, pos=0, endpos=sys.maxsize):
-        """find_iter, by the name that it has in re."""
-        return self.find_iter(string, pos, endpos)
+        """find_iter as re has it: an empty match right at the end of another one is listed too."""
+        haystack = self._open(string).cut(pos, endpos)
+        return (self._make_match(haystack, row) for row, _ in self._scan(haystack))
 
-    def _iterate_from(self, haystack):
-        """The matches from an offset on, one by one."""
+    def _scan(self, haystack, width=0, lists_all=True):
+        """The matches from the start on, one by one, as `_find_from` returns them."""
+        self._check_utf8(haystack)
         offset, last_end = haystack.start, None
-        while offset <= haystack.length:
-            row = self._find_from(haystack, offset)
-            if row is None:
+        while offset <= haystack.length and not haystack.is_empty:
+            found = self._find_from(haystack, offset, width)
+            if found is None:
                 return
-            if row.start < row.end or row.end != last_end:
-                yield _make_match(self, haystack, (row.pattern, row.start, row.end))
-            offset = row.end + (row.start == row.end == last_end)
-            last_end = row.end
+            _, start, end = found[0]
+            is_skipped = start == end == last_end and not lists_all
+            if not is_skipped:
+                yield found
+            offset = end + (is_skipped or (start == end and lists_all))
+            last_end = end
 
-    def _iterate(self, haystack):
+    def _list(self, haystack):
         """All matches, by one search."""
-        room, count = 64 + haystack.length // 128, ctypes.c_size_t()
+        room, count, is_utf8 = 64 + haystack.length // 128, ctypes.c_size_t(), self._checks(haystack)
         while True:
             rows = (_Row * room)()
-            status, failure = self._search(haystack, "hanneddois_find_all", rows, room, count)
+            status, failure = self._search(haystack, "hanneddois_find_all", rows, room, count, is_utf8=is_utf8)
             if count.value <= room:
                 break
             room = count.value
         for row in struct.iter_unpack("NNN", memoryview(rows).cast("B")[: count.value * ctypes.sizeof(_Row)]):
             if not haystack.is_inside_character(row[1]):
-                yield _make_match(self, haystack, row)
+                yield row, ()
         self._is_found(status, failure)
 
     def find_all(self, haystack, start=0, end=sys.maxsize):
         """The list of the matches of find_iter."""
         return list(self.find_iter(haystack, start, end))
 
+    def _width(self):
+        """How many slots the groups of any pattern take; 0 if there are no groups."""
+        most = max(map(len, self.group_names))
+        return 2 * most if most > 1 else 0
+
+    def _parts_of(self, haystack, found, otherwise):
+        """The parts of the groups of a match from 1 on. One that took no part is the default."""
+        (pattern, _, _), slots = found
+        pairs = (slots[at : at + 2] for at in range(2, 2 * len(self.group_names[pattern]), 2))
+        return [otherwise if start == _NO_OFFSET else haystack.part(start, end) for start, end in pairs]
+
+    def findall(self, string, pos=0, endpos=sys.maxsize):
+        """The list of the parts that match: the whole match if its pattern has no group, its group if it has one, and else a tuple of its
+        groups.
+
+        A group that took no part is empty."""
+        haystack, found = self._open(string).cut(pos, endpos), []
+        for row, slots in self._scan(haystack, self._width()):
+            parts = self._parts_of(haystack, (row, slots), haystack.part(0, 0)) or [haystack.part(*row[1:])]
+            found.append(tuple(parts) if len(parts) > 1 else parts[0])
+        return found
+
+    def _scan_whole(self, string, limit, width):
+        """The haystack, and its first matches, or all if the limit is 0."""
+        haystack = self._open(string).cut(0, sys.maxsize)
+        return haystack, itertools.islice(self._scan(haystack, width), 0 if limit < 0 else limit or None)
+
+    def _split(self, string, maxsplit):
+        haystack, rows = self._scan_whole(string, maxsplit, self._width())
+        pieces, last = [], 0
+        for row, slots in rows:
+            pieces.append(haystack.part(last, row[1]))
+            pieces += self._parts_of(haystack, (row, slots), None)
+            last = row[2]
+        return [*pieces, haystack.part(last, haystack.length)]
+
+    def _replace(self, string, by, limit, needs_groups):
+        haystack, rows = self._scan_whole(string, limit, self._width() if needs_groups else 0)
+        pieces, last, count = [], 0, 0
+        for row, slots in rows:
+            pieces.append(haystack.bytes_between(last, row[1]))
+            if isinstance(by, tuple):
+                pieces += self._expanded(haystack, (row, slots), by[row[0]])
+            else:
+                pieces.append(_encode(by(self._make_match(haystack, row)), haystack.is_str))
+            last, count = row[2], count + 1
+        pieces.append(haystack.bytes_between(last, haystack.length))
+        made = b"".join(pieces)
+        return (made.decode() if haystack.is_str else made), count
+
+    @staticmethod
+    def _expanded(haystack, found, parts):
+        """The parts of a template, with those of groups in the place of their numbers."""
+        (_, *whole), slots = found
+        for part in parts:
+            if isinstance(part, int):
+                start, end = slots[2 * part : 2 * part + 2] if part else whole
+                part = b"" if start == _NO_OFFSET else haystack.bytes_between(start, end)
+            yield part
+
     def matching_patterns(self, haystack):
         """The numbers of the patterns that match anywhere, ascending, also if their matches overlap."""
         haystack, count, found = self._open(haystack), self.pattern_count, ctypes.c_size_t()
-        marks = (ctypes.c_uint8 * count)()
-        self._is_found(*self._search(haystack, "hanneddois_matching_patterns", marks, count, found, is_utf8=haystack.has_characters))
+        marks, is_utf8 = (ctypes.c_uint8 * count)(), haystack.has_characters or self._checks(haystack)
+        self._is_found(*self._search(haystack, "hanneddois_matching_patterns", marks, count, found, is_utf8=is_utf8))
         return [number for number in range(count) if marks[number]]
 
     def _sum_of(self, figure):
-        return self._stock.sum_of(figure) + (self._utf8_stock.sum_of(figure) if self._utf8_stock else 0)
+        return sum(stock.sum_of(figure) for stock in (self._stock, self._utf8_stock) if stock)
 
     @property
     def memory_usage(self):
@@ -480,3 +637,12 @@ class Matcher:
     def clear_count(self):
         """How often these caches were cleared."""
         return self._sum_of(_locked.hanneddois_clear_count)
+
+
+def _encode(result, is_str):
+    """What a function returned for a match, as bytes."""
+    if result is None:
+        return b""
+    if isinstance(result, str) != is_str:
+        raise TypeError(f"a replacement in a {'str' if is_str else 'bytes-like object'} is of the same kind, not {type(result)!r}")
+    return result.encode() if is_str else bytes(memoryview(result))

@@ -2,10 +2,12 @@
 
 import functools
 import operator
+import re
 
 from ._common import IGNORE_WHITESPACE, Error
 
 _ESCAPES = {"a": "\a", "b": "\b", "f": "\f", "n": "\n", "r": "\r", "t": "\t", "v": "\v", "\\": "\\"}
+_TURNS_VERBOSE = re.compile(r"\(\?[A-Za-z]*x")
 _OCTAL, _DIGITS = frozenset("01234567"), frozenset("0123456789")
 
 
@@ -34,7 +36,8 @@ def _closing_order(pattern, is_verbose):
 
 @functools.lru_cache(maxsize=256)
 def _closing_ranks(pattern, is_verbose):
-    return {number: rank for rank, number in enumerate(_closing_order(pattern, is_verbose or "(?x" in pattern))}
+    is_verbose = is_verbose or _TURNS_VERBOSE.search(pattern) is not None
+    return {number: rank for rank, number in enumerate(_closing_order(pattern, is_verbose))}
 
 
 def _parse_name(template, at, names):
@@ -101,35 +104,30 @@ def _parse_template(kind, template, names):
     for part in parts:
         if isinstance(part, int) and part >= len(names):
             raise Error(f"invalid group reference {part}")
-    return [part.encode("latin-1") if isinstance(part, str) and kind is bytes else part for part in parts]
+    return tuple(part if isinstance(part, int) else part.encode("latin-1" if kind is bytes else "utf-8") for part in parts)
 
 
 def parse_template(template, names):
-    """Returns the parts of a template for a pattern whose groups have these names: text, and the numbers of groups."""
+    """Returns the parts of a template for a pattern whose groups have these names: bytes, and the numbers of groups."""
     if not isinstance(template, (str, bytes)):
         template = bytes(memoryview(template))
     return _parse_template(type(template), template, names)
 
 
 class MatchMethods:
-    """What a match has in re, over group, span and regs."""
+    """What a match has in re, over its other methods."""
 
     __slots__ = ()
 
-    def groups(self, default=None):
-        """The tuple of the groups from 1 on. A group that took no part is the default."""
-        return tuple(default if span[0] < 0 else self.group(number) for number, span in enumerate(self.regs) if number)
-
-    def groupdict(self, default=None):
-        """The groups that have a name, by their names. A group that took no part is the default."""
-        names = self.re.group_names[self.pattern]
-        return {name: default if self.start(name) < 0 else self.group(name) for name in names if name}
-
     def expand(self, template):
         """The template with its references to groups replaced, as \\1 and \\g<name>. A group that took no part is empty."""
-        empty = template[:0]
+        is_str = isinstance(self.string, str)
+        if isinstance(template, str) != is_str:
+            raise TypeError("a template is of the same kind as what is searched: both are a str, or both are bytes-like objects")
         parts = parse_template(template, self.re.group_names[self.pattern])
-        return empty.join(self.group(part) or empty if isinstance(part, int) else part for part in parts)
+        if is_str:
+            return "".join(self.group(part) or "" if isinstance(part, int) else part.decode() for part in parts)
+        return b"".join(self.group(part) or b"" if isinstance(part, int) else part for part in parts)
 
     @property
     def lastindex(self):
@@ -157,8 +155,12 @@ class MatchMethods:
         return hash(tuple(self))
 
     def __reduce__(self):
-        # A search from the start of a match finds it again.
-        return operator.methodcaller("find", self.string, self.start(), self.endpos), (self.re,)
+        # A search from the start of a match finds it again, unless that was sought at one offset alone.
+        if not self._is_anchored:
+            return operator.methodcaller("find", self.string, self.start(), self.endpos), (self.re,)
+        again = self.re.match(self.string, self.pos, self.endpos)
+        name = "match" if again and (again.span(), again.pattern) == (self.span(), self.pattern) else "fullmatch"
+        return operator.methodcaller(name, self.string, self.pos, self.endpos), (self.re,)
 
     def __copy__(self):
         return self
