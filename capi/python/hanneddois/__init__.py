@@ -15,10 +15,11 @@ environment variable HANNEDDOIS_LIBRARY names a shared library, that one is used
 import functools
 import operator
 import os
+import sys
 import types
 
 from ._common import (BAD_ARGUMENT, CAPACITY_TOO_SMALL, CASE_INSENSITIVE, CRLF, DOT_MATCHES_NEW_LINE, EMPTY_LOOP, EMPTY_LOOPS,
-                      HAYSTACK_NOT_UTF8, IGNORE_WHITESPACE, MATCHING_PATTERNS, MULTI_LINE, NESTS_TOO_DEEP, NO_BYTE_CLASSES, NO_MEMORY,
+                      GROUPS, HAYSTACK_NOT_UTF8, IGNORE_WHITESPACE, MATCHING_PATTERNS, MULTI_LINE, NESTS_TOO_DEEP, NO_BYTE_CLASSES, NO_MEMORY,
                       NO_PATTERN, NO_UNICODE, NONE, NOT_UTF8, OCTAL, OK, RAISE_CAPACITY, SHRINK, SWAP_GREED, SYNTAX_ERROR, TOO_LARGE,
                       UTF8, WHICH, Error)
 from ._groups import add_methods, parse_template
@@ -34,17 +35,18 @@ except ImportError:
     backend = "ctypes"
 
 __all__ = ["BAD_ARGUMENT", "CAPACITY_TOO_SMALL", "CASE_INSENSITIVE", "CRLF", "DOTALL", "DOT_MATCHES_NEW_LINE", "EMPTY_LOOP", "EMPTY_LOOPS",
-           "Error", "HAYSTACK_NOT_UTF8", "I", "IGNORECASE", "IGNORE_WHITESPACE", "M", "MATCHING_PATTERNS", "MULTILINE",
-           "MULTI_LINE", "Match", "NESTS_TOO_DEEP", "NONE", "NOT_UTF8", "NO_BYTE_CLASSES", "NO_MEMORY", "NO_PATTERN",
-           "NO_UNICODE", "OCTAL", "OK", "RAISE_CAPACITY", "Regex", "S", "SHRINK", "SWAP_GREED", "SYNTAX_ERROR", "TOO_LARGE",
-           "UTF8", "VERBOSE", "WHICH", "X", "backend", "compile", "error", "escape", "findall", "finditer", "fullmatch",
-           "match", "purge", "search", "split", "sub", "subn", "version"]
+           "Error", "GROUPS", "HAYSTACK_NOT_UTF8", "I", "IGNORECASE", "IGNORE_WHITESPACE", "M", "MATCHING_PATTERNS", "MULTILINE", "MULTI_LINE",
+           "Match", "NESTS_TOO_DEEP", "NOFLAG", "NONE", "NOT_UTF8", "NO_BYTE_CLASSES", "NO_MEMORY", "NO_PATTERN", "NO_UNICODE", "OCTAL",
+           "OK", "Pattern", "RAISE_CAPACITY", "Regex", "S", "SHRINK", "SWAP_GREED", "SYNTAX_ERROR", "TOO_LARGE", "U", "UNICODE", "UTF8",
+           "VERBOSE", "WHICH", "X", "backend", "compile", "error", "escape", "findall", "finditer", "fullmatch", "match", "purge", "search",
+           "split", "sub", "subn", "version"]
 
-# The names of flags in re.
+# The names of flags in re. Patterns are Unicode's without one.
 I = IGNORECASE = CASE_INSENSITIVE
 M = MULTILINE = MULTI_LINE
 S = DOTALL = DOT_MATCHES_NEW_LINE
 X = VERBOSE = IGNORE_WHITESPACE
+U = UNICODE = NOFLAG = 0
 error = Error
 
 # How many regexes `compile` keeps. Each may take some MB after long searches.
@@ -58,6 +60,17 @@ def _as_pattern(pattern):
         return bytes(memoryview(pattern))
     except TypeError:
         raise TypeError(f"a pattern is a str or a bytes-like object, not {type(pattern)!r}") from None
+
+
+def _as_flags(flags):
+    """Returns the flags of this module. Those of re have other numbers, and are translated."""
+    re = sys.modules.get("re")
+    if re is None or not isinstance(flags, re.RegexFlag):
+        return _as_number("flags", flags, 32)
+    known = {re.I: I, re.M: M, re.S: S, re.X: X, re.U: U}
+    if flags & ~(re.I | re.M | re.S | re.X | re.U):
+        raise ValueError(f"there are no flags {flags & ~(re.I | re.M | re.S | re.X | re.U)!r}")
+    return sum(flag for theirs, flag in known.items() if flags & theirs)
 
 
 def _as_number(name, value, bits):
@@ -80,14 +93,14 @@ class Regex(Matcher):
     raises Error.
     """
 
-    __slots__ = ()
+    __slots__ = ("__weakref__",)
 
     def __new__(cls, patterns, flags=0, capacity=0, size_limit=0, nest_limit=0):
         if isinstance(patterns, (str, bytes, bytearray, memoryview)):
             raise TypeError("Regex takes a list of patterns; compile takes a single one")
         patterns = tuple(map(_as_pattern, patterns))
         encoded = tuple(it.encode() if isinstance(it, str) else bytes(it) for it in patterns)
-        flags, nest_limit = _as_number("flags", flags, 32), _as_number("nest_limit", nest_limit, 32)
+        flags, nest_limit = _as_flags(flags), _as_number("nest_limit", nest_limit, 32)
         capacity, size_limit = _as_number("capacity", capacity, 63), _as_number("size_limit", size_limit, 63)
         return super().__new__(cls, patterns, encoded, flags, capacity, size_limit, nest_limit)
 
@@ -156,6 +169,8 @@ class Regex(Matcher):
         return f"hanneddois.{type(self).__name__}({list(self.patterns)!r}{options})"
 
 
+Pattern = Regex
+
 # What a regex begins with that matches at one offset alone: nothing, or the character or byte before that offset.
 _ANCHORS = (r"\A(?:", r"\A(?su:.)(?:", r"\A(?s-u:.)(?:")
 # A pattern that nests as deep as it may gets a group and a sequence around it.
@@ -189,12 +204,13 @@ def compile(pattern, flags=0, capacity=0, size_limit=0, nest_limit=0):
         if (flags, capacity, size_limit, nest_limit) != (0, 0, 0, 0):
             raise ValueError("a compiled regex takes no further options")
         return pattern
-    return _compile(type(pattern), _as_pattern(pattern), flags, capacity, size_limit, nest_limit)
+    # Flags of re have other numbers, so they aren't what is kept under their number.
+    return _compile(type(pattern), _as_pattern(pattern), flags if type(flags) is int else _as_flags(flags), capacity, size_limit, nest_limit)
 
 
 _SPECIAL = {ord(each): "\\" + each for each in r"\.+*?()|[]{}^$#&-~"}
 # White space, which means nothing in a pattern with the flag X.
-_SPECIAL |= {each: f"\\x{{{each:x}}}" for each in (*range(9, 14), 32, 0x85, 0x200E, 0x200F, 0x2028, 0x2029)}
+_SPECIAL |= {each: f"\\x{{{each:x}}}" for each in range(0x3001) if chr(each).isspace() or each in (0x200E, 0x200F)}
 # What a byte is decoded to that is no UTF-8.
 _SPECIAL |= {0xDC00 + each: f"(?-u:\\x{each:02x})" for each in range(128, 256)}
 

@@ -11,7 +11,7 @@ import sys
 import threading
 import types
 
-from ._common import BAD_ARGUMENT, EMPTY_LOOP, EMPTY_LOOPS, NO_UNICODE, NONE, OK, UTF8, Error, count_characters
+from ._common import BAD_ARGUMENT, EMPTY_LOOP, EMPTY_LOOPS, NO_UNICODE, NONE, OK, RAISE_CAPACITY, UTF8, Error, count_characters
 from ._groups import MatchMethods
 
 # The path of the shared library, which ./install writes into its copy of this file.
@@ -224,7 +224,7 @@ class _Haystack:
         try:
             self.view = memoryview(self.object)
         except TypeError:
-            raise TypeError(f"a haystack is a str or a bytes-like object, not {type(self.object)!r}") from None
+            raise TypeError(f"expected a str or a bytes-like object, got {type(self.object).__name__!r}") from None
         address, length = ctypes.c_void_p(), ctypes.c_ssize_t()
         ctypes.pythonapi.PyObject_AsReadBuffer(ctypes.py_object(self.view), ctypes.byref(address), ctypes.byref(length))
         self.address, self.length = address.value or b"", length.value
@@ -346,6 +346,8 @@ class Matcher:
     def _make_handle(self, flags):
         """Compiles the patterns. That a loop may be empty isn't an error: the searches for groups find the end that is preferred."""
         handle, failure, options = _Handle(), _Failure(), _Options(*self._options)
+        if options.capacity == 0:
+            flags |= RAISE_CAPACITY  # a pattern that needs more than the default isn't an error
         joined, lengths = b"".join(self._encoded), (ctypes.c_size_t * max(len(self._encoded), 1))(*map(len, self._encoded))
         for options.flags in (flags & ~EMPTY_LOOPS, flags | EMPTY_LOOPS):
             status = _unlocking.hanneddois_new(handle, joined, len(joined), lengths, len(self._encoded), options, failure)
@@ -644,5 +646,6 @@ def _encode(result, is_str):
     if result is None:
         return b""
     if isinstance(result, str) != is_str:
-        raise TypeError(f"a replacement in a {'str' if is_str else 'bytes-like object'} is of the same kind, not {type(result)!r}")
+        kind = "str" if is_str else "bytes-like object"
+        raise TypeError(f"expected a {kind} that replaces a match, got {type(result).__name__!r}")
     return result.encode() if is_str else bytes(memoryview(result))

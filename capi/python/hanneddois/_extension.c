@@ -90,6 +90,15 @@ static void raise_bad_argument(void)
     raise_error(&error);
 }
 
+/* Raises a TypeError with a message and the name of an object's type. */
+static void raise_wrong_type(const char *message, PyObject *object)
+{
+    PyObject *name = PyObject_GetAttrString((PyObject *)Py_TYPE(object), "__name__");
+    if (name)
+        PyErr_Format(PyExc_TypeError, "%s, got %R", message, name);
+    Py_XDECREF(name);
+}
+
 static int is_failure(hanneddois_status status)
 {
     return status != HANNEDDOIS_OK && status != HANNEDDOIS_NONE;
@@ -113,13 +122,21 @@ typedef struct {
     int may_unlock;
 } Haystack;
 
-static void close_haystack(Haystack *haystack)
+static inline void close_haystack(Haystack *haystack)
 {
     Py_CLEAR(haystack->object);
     Py_CLEAR(haystack->view);
 }
 
-static int open_str(Haystack *haystack)
+/* Whether a str with this UTF-8 is ASCII. One that is has its bytes in itself, right after its header. One that isn't has a longer header,
+   and a pointer to its UTF-8 there. */
+static inline int is_ascii(PyObject *object, const char *bytes, Py_ssize_t length)
+{
+    const size_t least_header = 56;
+    return (size_t)((uintptr_t)bytes - (uintptr_t)object) < least_header || PyUnicode_GetLength(object) == length;
+}
+
+static inline int open_str(Haystack *haystack)
 {
     Py_ssize_t length;
     const char *bytes = PyUnicode_AsUTF8AndSize(haystack->object, &length);
@@ -128,11 +145,11 @@ static int open_str(Haystack *haystack)
     haystack->bytes = (const uint8_t *)bytes;
     haystack->length = (size_t)length;
     haystack->is_str = 1;
-    haystack->is_utf8 = haystack->has_characters = PyUnicode_GetLength(haystack->object) != length;
+    haystack->is_utf8 = haystack->has_characters = !is_ascii(haystack->object, bytes, length);
     return 0;
 }
 
-static int open_bytes(Haystack *haystack)
+static inline int open_bytes(Haystack *haystack)
 {
     char *bytes;
     Py_ssize_t length;
@@ -160,14 +177,14 @@ static int find_bytes(PyObject *view, const void **bytes, Py_ssize_t *length)
 #pragma GCC diagnostic pop
 }
 
-static int open_buffer(Haystack *haystack)
+static __attribute__((noinline)) int open_buffer(Haystack *haystack)
 {
     const void *bytes;
     Py_ssize_t length;
     haystack->view = PyMemoryView_FromObject(haystack->object);
     if (!haystack->view) {
         if (PyErr_ExceptionMatches(PyExc_TypeError))
-            PyErr_Format(PyExc_TypeError, "a haystack is a str or a bytes-like object, not %R", (PyObject *)Py_TYPE(haystack->object));
+            raise_wrong_type("expected a str or a bytes-like object", haystack->object);
         return -1;
     }
     if (find_bytes(haystack->view, &bytes, &length) < 0)
@@ -180,7 +197,7 @@ static int open_buffer(Haystack *haystack)
 }
 
 /* The exact types come first: for others the limited API needs a call. */
-static int open_by_kind(Haystack *haystack)
+static inline int open_by_kind(Haystack *haystack)
 {
     PyObject *object = haystack->object;
     if (PyBytes_CheckExact(object))
@@ -191,7 +208,7 @@ static int open_by_kind(Haystack *haystack)
 }
 
 /* Opens what a caller searches. Must be closed, unless this fails. */
-static int open_haystack(Haystack *haystack, PyObject *object)
+static inline int open_haystack(Haystack *haystack, PyObject *object)
 {
     memset(haystack, 0, sizeof *haystack);
     haystack->object = new_reference(object);
@@ -302,7 +319,7 @@ static hanneddois_status compile_patterns(const Matcher *self, uint32_t flags, h
 }
 
 /* Compiles the patterns. That a loop may be empty isn't an error: the searches for groups find the end that is preferred. */
-static int compile_handle(Matcher *self, const Stock *stock, hanneddois_regex *handle)
+static __attribute__((noinline)) int compile_handle(Matcher *self, const Stock *stock, hanneddois_regex *handle)
 {
     hanneddois_error error;
     uint32_t flags = stock->flags & ~(uint32_t)HANNEDDOIS_EMPTY_LOOPS;
@@ -347,7 +364,7 @@ static inline int take_handle(Matcher *self, Stock *stock, hanneddois_regex *han
 }
 
 /* Before a search gives up the interpreter's lock: leaves an idle handle for another thread. */
-static int leave_handle(Stock *stock, hanneddois_regex *taken)
+static __attribute__((noinline)) int leave_handle(Stock *stock, hanneddois_regex *taken)
 {
     hanneddois_regex handle = HANNEDDOIS_EMPTY;
     hanneddois_error error = {HANNEDDOIS_OK, 0, 0, 0, 0, 0};
@@ -532,6 +549,11 @@ static PyObject *matcher_new(PyTypeObject *type, PyObject *args, PyObject *Py_UN
     self->options = options;
     self->stock.flags = options.flags & ~(uint32_t)HANNEDDOIS_UTF8;
     self->utf8_stock.flags = options.flags | HANNEDDOIS_UTF8;
+    /* A pattern that needs more than the default isn't an error, but one that needs more than its caller allows. */
+    if (options.capacity == 0) {
+        self->stock.flags |= HANNEDDOIS_RAISE_CAPACITY;
+        self->utf8_stock.flags |= HANNEDDOIS_RAISE_CAPACITY;
+    }
     Stock *first = options.flags & HANNEDDOIS_UTF8 ? &self->utf8_stock : &self->stock;
     if (copy_patterns(self, patterns) < 0) {
         PyErr_NoMemory();
@@ -568,7 +590,7 @@ static void matcher_dealloc(PyObject *object)
 
 /* Finds the parameters of a search, the haystack and perhaps offsets, among positional arguments and keywords. The names that they have in
    re will do too. */
-static int parse_keywords(const char *name, PyObject *const *args, Py_ssize_t nargs, PyObject *keywords, Py_ssize_t most, PyObject **parsed)
+static __attribute__((noinline)) int parse_keywords(const char *name, PyObject *const *args, Py_ssize_t nargs, PyObject *keywords, Py_ssize_t most, PyObject **parsed)
 {
     static const char *const names[] = {"haystack", "start", "end"}, *const other_names[] = {"string", "pos", "endpos"};
     Py_ssize_t count = keywords ? PyTuple_Size(keywords) : 0;
@@ -605,7 +627,7 @@ static inline int parse_arguments(const char *name, PyObject *const *args, Py_ss
 }
 
 /* Opens the haystack of a search by these patterns. */
-static int open_for(Matcher *self, Haystack *haystack, PyObject *object)
+static inline int open_for(Matcher *self, Haystack *haystack, PyObject *object)
 {
     if (open_haystack(haystack, object) < 0)
         return -1;
@@ -676,7 +698,7 @@ static Position position_of(Matcher *self, const Haystack *haystack, Py_ssize_t 
 
 /* Finds the part that a caller gives by its start and end, and ends the haystack there. Other offsets than those of the haystack stand for
    the nearest one, except that a start has to be one of them if the search is strict. */
-static int parse_offsets(Matcher *self, Haystack *haystack, PyObject *const *given, int is_strict, Range *range)
+static __attribute__((noinline)) int parse_offsets(Matcher *self, Haystack *haystack, PyObject *const *given, int is_strict, Range *range)
 {
     Py_ssize_t length = haystack->has_characters ? PyUnicode_GetLength(haystack->object) : (Py_ssize_t)haystack->length;
     Py_ssize_t start = 0, end = length;
@@ -954,6 +976,12 @@ static inline Match *allocate_match(void)
     return (Match *)PyObject_Init((PyObject *)match, match_type);
 }
 
+/* Whether a haystack refers to no other object. Not tracking matches of these saves time. */
+static inline int is_plain(PyObject *haystack)
+{
+    return PyBytes_CheckExact(haystack) || PyUnicode_CheckExact(haystack);
+}
+
 static inline Match *make_match(Matcher *regex, PyObject *haystack, const hanneddois_match *row, size_t start, size_t end, const Place *place)
 {
     Match *match = allocate_match();
@@ -968,8 +996,7 @@ static inline Match *make_match(Matcher *regex, PyObject *haystack, const hanned
     match->regex = new_reference((PyObject *)regex);
     match->finder = NULL;
     match->offsets = NULL;
-    /* Other objects may refer to the match. Not tracking it for these saves time. */
-    if (!PyBytes_CheckExact(haystack) && !PyUnicode_CheckExact(haystack))
+    if (!is_plain(haystack))
         PyObject_GC_Track(match);
     return match;
 }
@@ -989,7 +1016,7 @@ static int match_traverse(PyObject *self, visitproc visit, void *arg)
     return 0;
 }
 
-static int match_clear(PyObject *self)
+static inline int match_clear(PyObject *self)
 {
     Match *match = (Match *)self;
     Py_CLEAR(match->haystack);
@@ -1004,7 +1031,9 @@ static int match_clear(PyObject *self)
 static void match_dealloc(PyObject *self)
 {
     PyTypeObject *type = Py_TYPE(self);
-    PyObject_GC_UnTrack(self);
+    PyObject *haystack = ((Match *)self)->haystack;
+    if (!haystack || !is_plain(haystack))
+        PyObject_GC_UnTrack(self);
     match_clear(self);
     if (free_count < MOST_FREE) {
         ((Match *)self)->haystack = (PyObject *)free_matches;
@@ -1394,9 +1423,48 @@ static PyObject *matcher_find(PyObject *self, PyObject *const *args, Py_ssize_t 
     return find_parsed(self, args, nargs, keywords, 1);
 }
 
-static PyObject *matcher_search(PyObject *self, PyObject *const *args, Py_ssize_t nargs, PyObject *keywords)
+/* The bytes of a str that is ASCII or of bytes, if they are few, or NULL. */
+static inline const uint8_t *few_bytes_of(Matcher *self, PyObject *object, Py_ssize_t *length)
 {
-    return find_parsed(self, args, nargs, keywords, 0);
+    char *bytes;
+    if (PyUnicode_CheckExact(object)) {
+        bytes = self->fits_str ? (char *)PyUnicode_AsUTF8AndSize(object, length) : NULL;
+        if (!bytes || *length > FEW_BYTES || !is_ascii(object, bytes, *length))
+            bytes = NULL;
+    } else if (!PyBytes_CheckExact(object) || PyBytes_AsStringAndSize(object, &bytes, length) < 0 || *length > FEW_BYTES) {
+        bytes = NULL;
+    }
+    return (const uint8_t *)bytes;
+}
+
+/* Searches few bytes. The interpreter's lock is kept, so nobody else can use the handle, and it isn't taken out of its stock. */
+static inline PyObject *search_few(Matcher *self, PyObject *object, const uint8_t *bytes, Py_ssize_t length)
+{
+    hanneddois_match match;
+    hanneddois_error error;
+    hanneddois_regex *handle = &self->stock.idle[self->stock.idle_count - 1];
+    hanneddois_status status = hanneddois_find_at(handle, bytes, (size_t)length, 0, &match, &error);
+    if (status == HANNEDDOIS_OK) {
+        Place place = {0, 0, length, 0, length};
+        return (PyObject *)make_match(self, object, &match, match.start, match.end, &place);
+    }
+    if (status == HANNEDDOIS_NONE)
+        return new_reference(Py_None);
+    raise_error(&error);
+    return NULL;
+}
+
+static PyObject *matcher_search(PyObject *object, PyObject *const *args, Py_ssize_t nargs, PyObject *keywords)
+{
+    Matcher *self = (Matcher *)object;
+    Py_ssize_t length;
+    if (nargs == 1 && !keywords && self->stock.idle_count > 0 && !self->has_empty_loops && !(self->options.flags & HANNEDDOIS_UTF8)) {
+        const uint8_t *bytes = few_bytes_of(self, args[0], &length);
+        if (bytes)
+            return search_few(self, args[0], bytes, length);
+        PyErr_Clear();
+    }
+    return find_parsed(object, args, nargs, keywords, 0);
 }
 
 /* How many bytes the character has that ends at an offset above 0; if none ends there, the byte before it is one. */
@@ -1868,8 +1936,7 @@ static int add_object(Output *output, PyObject *object, int is_str)
 {
     Haystack part;
     if (PyUnicode_Check(object) != is_str) {
-        PyErr_Format(PyExc_TypeError, "a replacement in a %s is of the same kind, not %R", is_str ? "str" : "bytes-like object",
-                     (PyObject *)Py_TYPE(object));
+        raise_wrong_type(is_str ? "expected a str that replaces a match" : "expected a bytes-like object that replaces a match", object);
         return -1;
     }
     if (open_haystack(&part, object) < 0)

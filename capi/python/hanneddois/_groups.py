@@ -43,21 +43,29 @@ def _closing_ranks(pattern, is_verbose):
 def _parse_name(template, at, names):
     """Parses the group between angle brackets, and returns its number and the offset after it."""
     if template[at : at + 1] != "<":
-        raise Error("missing <")
+        raise Error("missing <").locate(template, at)
     end = template.find(">", at)
-    name = template[at + 1 : end]
-    if end < 0 or not name:
-        raise Error("missing >, unterminated name" if end < 0 and template[at + 1 :] else "missing group name")
+    name = template[at + 1 : end if end >= 0 else len(template)]
+    if not name:
+        raise Error("missing group name").locate(template, at + 1)
+    if end < 0:
+        raise Error("missing >, unterminated name").locate(template, at + 1)
     if name.isascii() and name.isdigit():
-        return int(name), end + 1
+        return _check_number(int(name), template, at + 1, names), end + 1
     if not name.isidentifier():
-        raise Error(f"bad character in group name {name!r}")
+        raise Error(f"bad character in group name {name!r}").locate(template, at + 1)
     if name not in names:
         raise IndexError(f"unknown group name {name!r}")
     return names.index(name), end + 1
 
 
-def _parse_number(template, at):
+def _check_number(number, template, at, names):
+    if number >= len(names):
+        raise Error(f"invalid group reference {number}").locate(template, at)
+    return number
+
+
+def _parse_number(template, at, names):
     """Parses what follows a backslash and begins with a digit: returns a character or the number of a group, and the offset after it."""
     digits = template[at : at + 3]
     if digits[0] == "0":
@@ -65,32 +73,32 @@ def _parse_number(template, at):
         return chr(int(digits[:length], 8)), at + length
     if len(digits) == 3 and all(it in _OCTAL for it in digits):
         if int(digits, 8) > 0o377:
-            raise Error(f"octal escape value \\{digits} outside of range 0-0o377")
+            raise Error(f"octal escape value \\{digits} outside of range 0-0o377").locate(template, at - 1)
         return chr(int(digits, 8)), at + 3
     length = 1 + (digits[1:2] in _DIGITS)
-    return int(digits[:length]), at + length
+    return _check_number(int(digits[:length]), template, at, names), at + length
 
 
 def _parse_escape(template, at, names):
     """Parses what follows a backslash: returns a str or the number of a group, and the offset after it."""
     if at == len(template):
-        raise Error("bad escape (end of pattern)")
+        raise Error("bad escape (end of pattern)").locate(template, at - 1)
     each = template[at]
     if each == "g":
         return _parse_name(template, at + 1, names)
     if each in _DIGITS:
-        return _parse_number(template, at)
+        return _parse_number(template, at, names)
     if each in _ESCAPES:
         return _ESCAPES[each], at + 1
     if each.isascii() and each.isalpha():
-        raise Error(f"bad escape \\{each}")
+        raise Error(f"bad escape \\{each}").locate(template, at - 1)
     return "\\" + each, at + 1
 
 
 @functools.lru_cache(maxsize=512)
-def _parse_template(kind, template, names):
-    """Returns the parts of a template as re has them: text, and the numbers of groups."""
-    text, parts, at = template if kind is str else template.decode("latin-1"), [], 0
+def _parse_template(is_str, template, names):
+    """Returns the parts of a template as re has them: bytes, and the numbers of groups."""
+    text, parts, at = template if is_str else template.decode("latin-1"), [], 0
     while at < len(text):
         next_escape = text.find("\\", at)
         if next_escape < 0:
@@ -101,17 +109,14 @@ def _parse_template(kind, template, names):
         if at < len(text):
             part, at = _parse_escape(text, at + 1, names)
             parts.append(part)
-    for part in parts:
-        if isinstance(part, int) and part >= len(names):
-            raise Error(f"invalid group reference {part}")
-    return tuple(part if isinstance(part, int) else part.encode("latin-1" if kind is bytes else "utf-8") for part in parts)
+    return tuple(part if isinstance(part, int) else part.encode("utf-8" if is_str else "latin-1") for part in parts)
 
 
 def parse_template(template, names):
     """Returns the parts of a template for a pattern whose groups have these names: bytes, and the numbers of groups."""
-    if not isinstance(template, (str, bytes)):
-        template = bytes(memoryview(template))
-    return _parse_template(type(template), template, names)
+    if isinstance(template, str):
+        return _parse_template(True, str(template), names)
+    return _parse_template(False, template if isinstance(template, bytes) else bytes(memoryview(template)), names)
 
 
 class MatchMethods:
@@ -169,7 +174,8 @@ class MatchMethods:
         return self
 
     def __repr__(self):
-        return f"<hanneddois.Match object; pattern={self.pattern}, span={self.span()}, match={self.group()!r}>"
+        pattern = f"pattern={self.pattern}, " if self.re.pattern_count > 1 else ""
+        return f"<hanneddois.Match object; {pattern}span={self.span()}, match={self.group()!r}>"
 
 
 def add_methods(kind):

@@ -1,0 +1,179 @@
+"""Runs CPython's own tests of `re` over the package hanneddois, as far as both have the same syntax.
+
+    PYTHONPATH=FOLDER python3 of_cpython.py [--list]
+
+The tests are the rows of test/re_tests.py and the statements of the methods in test/test_re.py, as they are installed with Python (Debian:
+libpython3.11-testsuite). Nothing of them is copied. A row or a statement that has another result here needs a reason: one of REASONS,
+whose expression has to match it, or one of METHODS for all statements of a method. DIFFERENCES.md has a table of how many there are of
+each reason, which is compared for the version of Python that it names. --list prints each of them.
+
+Prints what is wrong. The status is 77 if this Python has no such tests.
+"""
+
+import ast
+import contextlib
+import inspect
+import io
+import pathlib
+import re
+import sys
+import types
+import unittest
+import warnings
+
+import hanneddois
+
+PAGE = pathlib.Path(__file__).resolve().parent.parent / "DIFFERENCES.md"
+# Where the page has the counts, and for which version of Python.
+TABLE = re.compile(r"^\| (.+?) \| (\d+) \| (\d+) \|$", re.MULTILINE)
+COUNTED_FOR = (3, 11)
+
+# Why a row or a statement has another result here, with an expression that is in its source.
+REASONS = [
+    ("Look-around assertions", r"\(\?<?[=!]"),
+    ("Back-references", r"\\[1-9]|\(\?P=|\\\\[1-9]"),
+]
+# Why no statement of a method counts.
+METHODS = {}
+
+
+class Outcome:
+    """What was compared, and what differs by reason."""
+
+    def __init__(self):
+        self.same, self.by_reason, self.wrong = 0, {}, []
+
+    def add(self, name, source, error, method=None):
+        """Adds a row or a statement, with what it raised or None."""
+        if error is None:
+            self.same += 1
+            return
+        reason = METHODS.get(method) or next((it for it, expression in REASONS if re.search(expression, source)), None)
+        if reason is None:
+            self.wrong.append((name, source, error))
+        else:
+            self.by_reason.setdefault(reason, []).append((name, source, error))
+
+
+def expect(row):
+    """Checks a row of re_tests.py, and raises an error if the result differs."""
+    from test import re_tests
+
+    pattern, haystack, outcome, *rest = row
+    if outcome == re_tests.SYNTAX_ERROR:
+        try:
+            hanneddois.compile(pattern)
+        except hanneddois.Error:
+            return
+        raise AssertionError("the pattern is accepted")
+    regex = hanneddois.compile(pattern)
+    match = regex.search(haystack)
+    if (match is None) != (outcome == re_tests.FAIL):
+        raise AssertionError(f"found {match}")
+    if match is None:
+        return
+    values = {"found": match.group(), "groups": match.groups(), "flags": regex.flags, **match.groupdict()}
+    values.update({f"g{number}": match.group(number) if number <= regex.groups else "Error" for number in range(100)})
+    values = {name: "None" if value is None else value for name, value in values.items()}
+    result = eval(rest[0], values)
+    if result != rest[1]:
+        raise AssertionError(f"{rest[0]} is {result!r} and not {rest[1]!r}")
+    # CPython's tests repeat each search in bytes, between two offsets, and with flags.
+    if hanneddois.compile(pattern).search(haystack, match.start(), match.end() + 1) is None and "^" not in pattern and "\\A" not in pattern:
+        raise AssertionError("nothing is found from the start of the match on")
+    with contextlib.suppress(UnicodeEncodeError):
+        found = hanneddois.compile(pattern.encode("ascii")).search(haystack.encode("ascii"))
+        if found is None or found.regs != match.regs:
+            raise AssertionError(f"in bytes {found}")
+
+
+def run_rows(outcome):
+    from test import re_tests
+
+    for number, row in enumerate(re_tests.tests):
+        error = None
+        try:
+            expect(row)
+        except Exception as failed:
+            error = failed
+        outcome.add(f"row {number}", repr(row), error)
+
+
+def make_module():
+    """Returns a module re that is hanneddois."""
+    module = types.ModuleType("re")
+    for name in hanneddois.__all__:
+        setattr(module, name, getattr(hanneddois, name))
+    return module
+
+
+def run_statement(code, names):
+    """Runs a statement, and returns what it raised or None."""
+    try:
+        with warnings.catch_warnings(), contextlib.redirect_stdout(io.StringIO()):
+            warnings.simplefilter("ignore")
+            exec(code, names)
+    except unittest.SkipTest:
+        return None
+    except Exception as failed:
+        return failed
+    return None
+
+
+def run_methods(outcome):
+    """Runs each statement of each method by itself: an error in one says nothing of the others."""
+    from test import test_re
+
+    globals_of_tests = {**vars(test_re), "re": make_module()}
+    source = inspect.getsource(test_re)
+    lines = source.splitlines()
+    for kind in (it for it in ast.parse(source).body if isinstance(it, ast.ClassDef) and it.name.endswith("Tests")):
+        # The methods that the tests call have to see this module too.
+        exec(compile(ast.Module([kind], []), test_re.__file__, "exec"), globals_of_tests)
+        for method in (it for it in kind.body if isinstance(it, ast.FunctionDef) and it.name.startswith("test")):
+            names = {**globals_of_tests, "self": globals_of_tests[kind.name]()}
+            for statement in method.body:
+                code = compile(ast.Module([statement], []), test_re.__file__, "exec")
+                text = "\n".join(lines[statement.lineno - 1 : statement.end_lineno])
+                outcome.add(f"{method.name}:{statement.lineno}", text, run_statement(code, names), method.name)
+
+
+def check_table(rows, statements):
+    """Compares the page with what was counted, and prints what is wrong."""
+    counted = {reason: (len(rows.by_reason.get(reason, ())), len(statements.by_reason.get(reason, ()))) for reason in
+               [*rows.by_reason, *statements.by_reason]}
+    counted["The same result"] = rows.same, statements.same
+    written = {reason: (int(first), int(second)) for reason, first, second in TABLE.findall(PAGE.read_text())} if PAGE.exists() else {}
+    if sys.version_info[:2] != COUNTED_FOR or written == counted:
+        return 0
+    for reason in sorted({*written, *counted}):
+        if written.get(reason) != counted.get(reason):
+            print(f"of_cpython.py: {reason}: the page has {written.get(reason)}, and there are {counted.get(reason)}")
+    return 1
+
+
+def main():
+    try:
+        from test import re_tests, test_re  # noqa: F401
+    except ImportError:
+        print("of_cpython.py: this Python has no tests of its own")
+        return 77
+    rows, statements = Outcome(), Outcome()
+    run_rows(rows)
+    run_methods(statements)
+    for outcome in (rows, statements):
+        for name, source, error in outcome.wrong:
+            print(f"of_cpython.py: {name}: {source.strip()}: {type(error).__name__}: {error}")
+        if "--list" in sys.argv:
+            for reason, found in outcome.by_reason.items():
+                for name, source, error in found:
+                    print(f"{reason}: {name}: {source.strip()}: {type(error).__name__}: {error}")
+    status = check_table(rows, statements) if not rows.wrong + statements.wrong else 1
+    kinds = [f"{outcome.same} of {outcome.same + sum(map(len, outcome.by_reason.values())) + len(outcome.wrong)} {what}"
+             for outcome, what in ((rows, "rows"), (statements, "statements"))]
+    print(f"of_cpython.py: by {hanneddois.backend}, {' and '.join(kinds)} have the same result")
+    return status
+
+
+if __name__ == "__main__":
+    sys.exit(main())
