@@ -28,13 +28,46 @@ PAGE = pathlib.Path(__file__).resolve().parent.parent / "DIFFERENCES.md"
 TABLE = re.compile(r"^\| (.+?) \| (\d+) \| (\d+) \|$", re.MULTILINE)
 COUNTED_FOR = (3, 11)
 
-# Why a row or a statement has another result here, with an expression that is in its source.
+# Why a row or a statement has another result here, with an expression that is in its source or in the error. The first one counts.
 REASONS = [
-    ("Look-around assertions", r"\(\?<?[=!]"),
-    ("Back-references", r"\\[1-9]|\(\?P=|\\\\[1-9]"),
+    ("Look-around assertions", r"look-around"),
+    ("Conditions, as `(?(1)a)`", r"\(\?\("),
+    ("Atomic groups and possessive repetitions", r"\(\?>|[*+?}]\+"),
+    ("Comments, as `(?#a)`", r"\(\?#"),
+    ("Octal escapes", r"\\0|%0?3?o|\\141|\[\\+\d"),
+    ("Back-references", r"backreferences|\(\?P="),
+    ("`\\Z`, `\\b` in a class, and escapes that one of both lacks", r"\\Z|\[\\*b\]|ceghijk|\\u1234|\\U0001"),
+    ("Characters by names, as `\\N{DIGIT ONE}`", r"\\N"),
+    ("The flags `A`, `L`, `T` and `DEBUG`, also in a pattern", r"has no attribute '(A|ASCII|L|LOCALE|T|TEMPLATE|DEBUG|template)'|\(\?[a-z-]*[aL]|re\.A\b|LOCALE"),
+    ("Flags are numbers, and those of a pattern are no flags of the regex", r"flags_repr|\.flags, re|str\(re\."),
+    ("Messages and offsets of errors, and which patterns are errors", r"check(Pattern|Template)Error|err\.|at position"),
+    ("Repetitions, as `a**`, `a{}` and `a{,2}`", r"\*\*|\^\*|\{\}|\{,|2\*\*12|6553"),
+    ("Operations on classes, as `[a--b]`", r"assertWarns\(FutureWarning"),
+    ("`\\B` in an empty haystack", r"B\", \"\"\)"),
+    ("Another match where an empty one was, as of `\\\\b\\|a`", r"\\b\|"),
+    ("Patterns and haystacks of two kinds", r"assertRaises\(TypeError"),
+    ("Lone surrogates", r"surrogates not allowed"),
+    ("`scanner`", r"scanner"),
+    ("`repr` of a regex and of flags", r"self\.check(_flags)?\(|repr\("),
+    ("Patterns for bytes are Unicode's and are UTF-8", r"bytes\(\[i\]\)"),
 ]
 # Why no statement of a method counts.
-METHODS = {}
+METHODS = {
+    "test_large_search": "Gigabytes of memory",
+    "test_large_subn": "Gigabytes of memory",
+    "test_possible_set_operations": "Operations on classes, as `[a--b]`",
+    "test_dollar_matches_twice": "`$` before a last line feed",
+    "test_template_function_and_flag_is_deprecated": "The flags `A`, `L`, `T` and `DEBUG`, also in a pattern",
+    "test_ascii_and_unicode_flag": "The flags `A`, `L`, `T` and `DEBUG`, also in a pattern",
+    "test_symbolic_groups": "Conditions, as `(?(1)a)`",
+    "test_re_groupref_exists": "Conditions, as `(?(1)a)`",
+    "test_bug_6509": "Patterns for bytes are Unicode's and are UTF-8",
+    "test_locale_caching": "The flags `A`, `L`, `T` and `DEBUG`, also in a pattern",
+    "test_locale_compiled": "The flags `A`, `L`, `T` and `DEBUG`, also in a pattern",
+    "test_error": "Messages and offsets of errors, and which patterns are errors",
+    "test_long_pattern": "`repr` of a regex and of flags",
+    "test_re_tests": "Each row is run by itself",
+}
 
 
 class Outcome:
@@ -43,16 +76,23 @@ class Outcome:
     def __init__(self):
         self.same, self.by_reason, self.wrong = 0, {}, []
 
-    def add(self, name, source, error, method=None):
-        """Adds a row or a statement, with what it raised or None."""
+    def add(self, name, source, error, reason=None):
+        """Adds a row or a statement, with what it raised or None, and returns the reason for that."""
         if error is None:
             self.same += 1
-            return
-        reason = METHODS.get(method) or next((it for it, expression in REASONS if re.search(expression, source)), None)
+            return None
+        whole = f"{source}\n{error}"
+        reason = reason or next((it for it, expression in REASONS if re.search(expression, whole)), None)
         if reason is None:
             self.wrong.append((name, source, error))
         else:
             self.by_reason.setdefault(reason, []).append((name, source, error))
+        return reason
+
+
+def lacks_what_failed(error):
+    """Whether a statement needs what an earlier one of its method should have made."""
+    return isinstance(error, NameError) or "_AssertWarnsContext" in str(error) or "'NoneType' object has no" in str(error)
 
 
 def expect(row):
@@ -78,7 +118,7 @@ def expect(row):
     result = eval(rest[0], values)
     if result != rest[1]:
         raise AssertionError(f"{rest[0]} is {result!r} and not {rest[1]!r}")
-    # CPython's tests repeat each search in bytes, between two offsets, and with flags.
+    # CPython's tests repeat each search between two offsets and in bytes.
     if hanneddois.compile(pattern).search(haystack, match.start(), match.end() + 1) is None and "^" not in pattern and "\\A" not in pattern:
         raise AssertionError("nothing is found from the start of the match on")
     with contextlib.suppress(UnicodeEncodeError):
@@ -132,10 +172,13 @@ def run_methods(outcome):
         exec(compile(ast.Module([kind], []), test_re.__file__, "exec"), globals_of_tests)
         for method in (it for it in kind.body if isinstance(it, ast.FunctionDef) and it.name.startswith("test")):
             names = {**globals_of_tests, "self": globals_of_tests[kind.name]()}
+            reason = METHODS.get(method.name)
             for statement in method.body:
                 code = compile(ast.Module([statement], []), test_re.__file__, "exec")
                 text = "\n".join(lines[statement.lineno - 1 : statement.end_lineno])
-                outcome.add(f"{method.name}:{statement.lineno}", text, run_statement(code, names), method.name)
+                error = run_statement(code, names)
+                found = METHODS.get(method.name) or (reason if lacks_what_failed(error) else None)
+                reason = outcome.add(f"{method.name}:{statement.lineno}", text, error, found) or reason
 
 
 def check_table(rows, statements):
