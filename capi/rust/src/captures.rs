@@ -1,7 +1,7 @@
 //! The groups of a match, and the iterator over all matches with their groups.
 
 use crate::error::Error;
-use crate::handle::{with_room, Row};
+use crate::handle::with_room;
 use crate::matches::Match;
 use crate::pool::{Pool, Searcher};
 use crate::sys;
@@ -130,6 +130,9 @@ pub struct CaptureMatches<'r, 'h> {
     state: State<'r>,
 }
 
+/// A match, and the offsets of its groups.
+type Row = (sys::Match, Vec<usize>);
+
 #[derive(Debug)]
 enum State<'r> {
     /// No search was made yet.
@@ -138,11 +141,7 @@ enum State<'r> {
     Searching {
         searcher: Searcher<'r>,
         end: usize,
-    },
-    /// All matches were searched for, and after them there may be an error.
-    Listed {
-        rows: std::vec::IntoIter<Row>,
-        outcome: Result<(), Error>,
+        is_utf8: bool,
     },
     Ended,
 }
@@ -152,33 +151,28 @@ impl<'r, 'h> CaptureMatches<'r, 'h> {
         CaptureMatches { haystack, names: pool.names(), state: State::Begun(pool) }
     }
 
-    /// Makes the first search. In UTF-8 mode each search checks the whole haystack, so one search lists all matches
-    /// there.
+    /// Makes the first search. In UTF-8 mode each search checks the whole haystack, so one search does that, and handles
+    /// that don't check it find the matches.
     fn begin(&mut self, pool: &'r Pool) -> Result<Option<Row>, Error> {
-        let mut searcher = Searcher::new(pool)?;
-        if pool.is_utf8() {
-            let (rows, outcome) = searcher.handle.captures_all(self.haystack, pool.slot_count());
-            self.state = State::Listed { rows: rows.into_iter(), outcome };
-            return self.advance();
+        let is_utf8 = pool.is_utf8();
+        if is_utf8 && !Searcher::new(pool)?.handle.is_match(self.haystack)? {
+            return Ok(None);
         }
-        let found = search(&mut searcher, self.haystack, 0)?;
+        let mut searcher = Searcher::new(pool.unchecked()?)?;
+        let found = search_from(&mut searcher, self.haystack, 0, is_utf8)?;
         if let Some((it, _)) = &found {
-            self.state = State::Searching { searcher, end: it.end };
+            self.state = State::Searching { searcher, end: it.end, is_utf8 };
         }
         Ok(found)
     }
 
     fn advance(&mut self) -> Result<Option<Row>, Error> {
         match &mut self.state {
-            State::Searching { searcher, end } => {
-                let found = search_after(searcher, self.haystack, *end)?;
+            State::Searching { searcher, end, is_utf8 } => {
+                let found = search_after(searcher, self.haystack, *end, *is_utf8)?;
                 *end = found.as_ref().map_or(*end, |(it, _)| it.end);
                 Ok(found)
             }
-            State::Listed { rows, outcome } => match rows.next() {
-                None => outcome.map(|_| None),
-                row => Ok(row),
-            },
             State::Begun(pool) => {
                 let pool = *pool;
                 self.begin(pool)
@@ -197,11 +191,31 @@ pub(crate) fn search(searcher: &mut Searcher<'_>, haystack: &[u8], start: usize)
     Ok(found.map(|it| (it, slots)))
 }
 
+/// Searches from an offset on. In UTF-8 mode an empty match inside a character is skipped.
+fn search_from(
+    searcher: &mut Searcher<'_>,
+    haystack: &[u8],
+    mut start: usize,
+    is_utf8: bool,
+) -> Result<Option<Row>, Error> {
+    loop {
+        match search(searcher, haystack, start)? {
+            Some((found, _)) if is_utf8 && is_inside_character(haystack, found.start) => start = found.start + 1,
+            found => return Ok(found),
+        }
+    }
+}
+
+/// Whether a byte of UTF-8 isn't the first one of its character.
+fn is_inside_character(haystack: &[u8], offset: usize) -> bool {
+    haystack.get(offset).map_or(false, |it| it & 0xC0 == 0x80)
+}
+
 /// Searches for the match that follows one that ended at this offset: an empty one at that offset is skipped.
-fn search_after(searcher: &mut Searcher<'_>, haystack: &[u8], end: usize) -> Result<Option<Row>, Error> {
-    match search(searcher, haystack, end)? {
+fn search_after(searcher: &mut Searcher<'_>, haystack: &[u8], end: usize, is_utf8: bool) -> Result<Option<Row>, Error> {
+    match search_from(searcher, haystack, end, is_utf8)? {
         Some((found, _)) if found.end == end && end == haystack.len() => Ok(None),
-        Some((found, _)) if found.end == end => search(searcher, haystack, end + 1),
+        Some((found, _)) if found.end == end => search_from(searcher, haystack, end + 1, is_utf8),
         found => Ok(found),
     }
 }

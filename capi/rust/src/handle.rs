@@ -11,9 +11,6 @@ const BYTES_PER_ROW: usize = 8;
 /// gives memory only for rows that are written. If there are more matches, the haystack is searched a second time.
 const ROWS: (usize, usize) = (64, 1 << 22);
 
-/// A match, and the offsets of its groups.
-pub(crate) type Row = (sys::Match, Vec<usize>);
-
 /// A compiled regex with its caches, or nothing.
 #[derive(Debug)]
 pub(crate) struct Handle(sys::Regex);
@@ -180,49 +177,6 @@ impl Handle {
             )
         };
         Ok(outcome(status, error)?.then_some(found))
-    }
-
-    /// All matches with so many slots each. After an error, the list has those before the search that failed.
-    pub(crate) fn captures_all(&mut self, haystack: &[u8], width: usize) -> (Vec<Row>, Result<(), Error>) {
-        // The matches are counted first, without rows.
-        let (counted, mut result) = self.list_captures(haystack, &mut [], &mut [], width);
-        let mut listed = Vec::new();
-        if counted > 0 {
-            let mut rows = vec![sys::Match::default(); counted];
-            let mut slots = vec![sys::NO_OFFSET; counted.saturating_mul(width)];
-            let again = self.list_captures(haystack, &mut rows, &mut slots, width);
-            rows.truncate(again.0);
-            listed = rows.into_iter().zip(slots.chunks(width).map(<[usize]>::to_vec)).collect();
-            result = again.1;
-        }
-        (listed, result)
-    }
-
-    fn list_captures(
-        &mut self,
-        haystack: &[u8],
-        rows: &mut [sys::Match],
-        slots: &mut [usize],
-        width: usize,
-    ) -> (usize, Result<(), Error>) {
-        let mut count = 0;
-        let mut error = sys::Error::default();
-        // SAFETY: as in `new`.
-        let status = unsafe {
-            sys::hanneddois_captures_all(
-                &mut self.0,
-                haystack.as_ptr(),
-                haystack.len(),
-                rows.as_mut_ptr(),
-                rows.len(),
-                slots.as_mut_ptr(),
-                slots.len(),
-                width,
-                &mut count,
-                &mut error,
-            )
-        };
-        (count, outcome(status, error).map(|_| ()))
     }
 
     /// The names of the groups of a pattern, by their numbers.

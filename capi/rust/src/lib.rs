@@ -18,7 +18,7 @@ pub use error::{Error, ErrorKind};
 pub use matches::{Match, Matches, Split};
 pub use pool::Searcher;
 pub use regex::Regex;
-pub use replace::{NoExpand, Replacer};
+pub use replace::{NoExpand, Replacer, ReplacerRef};
 pub use set::{RegexSet, SetMatches, SetMatchesIntoIter, SetMatchesIter};
 
 /// The version of the library: 10000 times the major number, 100 times the minor one, and the patch.

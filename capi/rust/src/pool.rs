@@ -20,6 +20,9 @@ pub(crate) struct Pool {
     /// without a lock.
     first: AtomicPtr<c_void>,
     others: Mutex<Others>,
+    /// In UTF-8 mode handles of the same patterns without that mode, or null until they are needed. The pool owns them, and
+    /// nothing changes the pointer from then on.
+    unchecked: AtomicPtr<Pool>,
 }
 
 /// What further threads search with.
@@ -36,7 +39,7 @@ impl Pool {
         let names = Arc::new((0..patterns.len()).map(|pattern| compiled.group_names(pattern)).collect());
         let first = AtomicPtr::new(compiled.try_clone()?.into_raw());
         let others = Mutex::new(Others { compiled, idle: Vec::new() });
-        Ok(Pool { patterns, options, names, first, others })
+        Ok(Pool { patterns, options, names, first, others, unchecked: AtomicPtr::default() })
     }
 
     pub(crate) fn patterns(&self) -> &[String] {
@@ -54,6 +57,29 @@ impl Pool {
 
     pub(crate) fn is_utf8(&self) -> bool {
         self.options.flags & sys::UTF8 != 0
+    }
+
+    /// Handles that don't check their haystacks. What is no UTF-8 must not be searched with them in UTF-8 mode.
+    pub(crate) fn unchecked(&self) -> Result<&Pool, Error> {
+        if !self.is_utf8() {
+            return Ok(self);
+        }
+        let mut pool = self.unchecked.load(Ordering::Acquire);
+        if pool.is_null() {
+            let options = sys::Options { flags: self.options.flags & !sys::UTF8, ..self.options };
+            let made = Box::into_raw(Box::new(Pool::new(self.patterns.clone(), options)?));
+            let null = std::ptr::null_mut();
+            pool = match self.unchecked.compare_exchange(null, made, Ordering::AcqRel, Ordering::Acquire) {
+                Ok(_) => made,
+                Err(other) => {
+                    // SAFETY: another thread was faster, so nobody else knows this box.
+                    drop(unsafe { Box::from_raw(made) });
+                    other
+                }
+            };
+        }
+        // SAFETY: the pointer comes from a box, which only `drop` frees.
+        Ok(unsafe { &*pool })
     }
 
     /// Takes the first handle, if no search uses it.
@@ -97,6 +123,11 @@ impl Drop for Pool {
     fn drop(&mut self) {
         // SAFETY: as in `take_first`.
         drop(unsafe { Handle::from_raw(*self.first.get_mut()) });
+        let unchecked = *self.unchecked.get_mut();
+        if !unchecked.is_null() {
+            // SAFETY: the pointer comes from a box, and nobody borrows the pool any more.
+            drop(unsafe { Box::from_raw(unchecked) });
+        }
     }
 }
 

@@ -1,6 +1,8 @@
 //! What matches are replaced by.
 
 use crate::captures::Captures;
+use std::borrow::Cow;
+use std::fmt;
 
 /// What replaces a match: a template, a function of its groups, or text by [`NoExpand`].
 ///
@@ -13,6 +15,30 @@ pub trait Replacer {
     /// What replaces each match, if that doesn't depend on its groups. Then groups aren't searched for.
     fn no_expansion(&mut self) -> Option<Vec<u8>> {
         None
+    }
+
+    /// This replacement, borrowed, so that it can be used again.
+    fn by_ref(&mut self) -> ReplacerRef<'_, Self> {
+        ReplacerRef(self)
+    }
+}
+
+/// A replacement that is borrowed, as [`Replacer::by_ref`] returns it.
+pub struct ReplacerRef<'r, R: ?Sized>(&'r mut R);
+
+impl<R: ?Sized> fmt::Debug for ReplacerRef<'_, R> {
+    fn fmt(&self, f: &mut fmt::Formatter<'_>) -> fmt::Result {
+        f.write_str("ReplacerRef")
+    }
+}
+
+impl<R: Replacer + ?Sized> Replacer for ReplacerRef<'_, R> {
+    fn replace_append(&mut self, captures: &Captures<'_>, to: &mut Vec<u8>) {
+        self.0.replace_append(captures, to);
+    }
+
+    fn no_expansion(&mut self) -> Option<Vec<u8>> {
+        self.0.no_expansion()
     }
 }
 
@@ -45,17 +71,22 @@ macro_rules! template {
         }
     )*};
 }
-template!(&[u8], Vec<u8>, &Vec<u8>, &str, String, &String);
+template!(&[u8], Vec<u8>, &Vec<u8>, Cow<'_, [u8]>, &Cow<'_, [u8]>, &str, String, &String);
 
-impl<const N: usize> Replacer for &[u8; N] {
-    fn replace_append(&mut self, captures: &Captures<'_>, to: &mut Vec<u8>) {
-        (&self[..]).replace_append(captures, to);
-    }
+macro_rules! template_of_array {
+    ($($kind:ty),*) => {$(
+        impl<const N: usize> Replacer for $kind {
+            fn replace_append(&mut self, captures: &Captures<'_>, to: &mut Vec<u8>) {
+                (&self[..]).replace_append(captures, to);
+            }
 
-    fn no_expansion(&mut self) -> Option<Vec<u8>> {
-        (&self[..]).no_expansion()
-    }
+            fn no_expansion(&mut self) -> Option<Vec<u8>> {
+                (&self[..]).no_expansion()
+            }
+        }
+    )*};
 }
+template_of_array!([u8; N], &[u8; N]);
 
 impl<F, T> Replacer for F
 where

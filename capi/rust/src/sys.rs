@@ -132,18 +132,6 @@ extern "C" {
         slots_length: usize,
         error: *mut Error,
     ) -> u32;
-    pub(crate) fn hanneddois_captures_all(
-        regex: *mut Regex,
-        haystack: *const u8,
-        haystack_length: usize,
-        matches: *mut Match,
-        matches_length: usize,
-        slots: *mut usize,
-        slots_length: usize,
-        width: usize,
-        count: *mut usize,
-        error: *mut Error,
-    ) -> u32;
     pub(crate) fn hanneddois_error_text(error: *const Error, text: *mut u8, text_length: usize) -> usize;
     pub(crate) fn hanneddois_memory_usage(regex: *mut Regex) -> usize;
     pub(crate) fn hanneddois_clear_count(regex: *mut Regex) -> usize;

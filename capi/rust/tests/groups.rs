@@ -1,7 +1,7 @@
 //! Groups, replacements and splits. Expected values are from the documentation of the crate `regex`, from Python's `re`,
 //! or were written by hand.
 
-use hanneddois::{Captures, ErrorKind, NoExpand, Regex, RegexBuilder};
+use hanneddois::{Captures, ErrorKind, NoExpand, Regex, RegexBuilder, Replacer};
 use std::borrow::Cow;
 
 type Spans = Vec<Option<(usize, usize)>>;
@@ -80,6 +80,42 @@ fn utf8_mode_rejects_other_haystacks() {
     let mut found = regex.captures_iter(b"b\xff");
     assert_eq!(found.next().unwrap().unwrap_err().kind(), ErrorKind::HaystackNotUtf8);
     assert!(found.next().is_none());
+}
+
+#[test]
+fn utf8_mode_splits_no_character() {
+    let regex = RegexBuilder::new("(x?)").utf8(true).build().unwrap();
+    let found = all_spans(&regex, "éx€".as_bytes());
+    assert_eq!(found.iter().map(|it| it[1].unwrap()).collect::<Vec<_>>(), [(0, 0), (2, 3), (6, 6)]);
+    let replaced = regex.replace_all("éx€".as_bytes(), "<$1>").unwrap();
+    assert_eq!(String::from_utf8(replaced.into_owned()).unwrap(), "<>é<x>€<>");
+    let none = RegexBuilder::new("(z)").utf8(true).build().unwrap();
+    assert!(none.captures_iter("é".as_bytes()).next().is_none());
+}
+
+#[test]
+fn empty_loops_have_the_end_that_is_preferred() {
+    let regex = RegexBuilder::new("(?:(a)|b*)*").empty_loops(true).build().unwrap();
+    assert_eq!(regex.captures(b"aab-").unwrap().unwrap().get(0).unwrap().range(), 0..3);
+    for utf8 in [false, true] {
+        let regex = RegexBuilder::new("(a*)*b").empty_loops(true).utf8(utf8).build().unwrap();
+        assert_eq!(regex.captures_iter(b"aabb").count(), 2);
+    }
+}
+
+#[test]
+fn the_same_replacement_serves_again() {
+    let mut count = 0;
+    let mut by = |_: &Captures| {
+        count += 1;
+        b"-"
+    };
+    let regex = Regex::new("a").unwrap();
+    assert_eq!(regex.replace_all(b"aa", by.by_ref()).unwrap(), &b"--"[..]);
+    assert_eq!(regex.replace(b"aa", by.by_ref()).unwrap(), &b"-a"[..]);
+    assert_eq!(count, 3);
+    assert_eq!(regex.replace(b"a", *b"[$0]").unwrap(), &b"[a]"[..]);
+    assert_eq!(regex.replace(b"a", Cow::Borrowed(&b"$0$0"[..])).unwrap(), &b"aa"[..]);
 }
 
 fn replaced(pattern: &str, haystack: &str, template: &str) -> String {
