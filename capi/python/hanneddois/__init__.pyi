@@ -23,6 +23,7 @@ MATCHING_PATTERNS: Final[int]
 RAISE_CAPACITY: Final[int]
 NO_BYTE_CLASSES: Final[int]
 SHRINK: Final[int]
+GROUPS: Final[int]
 
 OK: Final[int]
 NONE: Final[int]
@@ -44,6 +45,9 @@ S: Final[int]
 DOTALL: Final[int]
 X: Final[int]
 VERBOSE: Final[int]
+U: Final[int]
+UNICODE: Final[int]
+NOFLAG: Final[int]
 
 NO_PATTERN: Final[int]
 WHICH: Final[int]
@@ -57,6 +61,11 @@ class Error(Exception):
     start: int
     end: int
     limit: int
+    msg: str
+    pos: int | None
+    lineno: int | None
+    colno: int | None
+    def locate(self, text: str | bytes, offset: int) -> Error: ...
     def __init__(
         self, message: str, status: int = ..., cause: int = 0, pattern: int = 0, start: int = 0, end: int = 0, limit: int = 0
     ) -> None: ...
@@ -175,6 +184,8 @@ class Regex:
     def split(self, string: ReadableBuffer, maxsplit: int = 0) -> list[bytes | Any]: ...
     def matching_patterns(self, haystack: str | ReadableBuffer) -> list[int]: ...
     def which(self, haystack: str | ReadableBuffer) -> list[int]: ...
+
+Pattern = Regex
 
 def compile(
     pattern: _Pattern | Regex, flags: int = 0, capacity: int = 0, size_limit: int = 0, nest_limit: int = 0

@@ -153,8 +153,9 @@ class Match(MatchMethods):
         start, end = self.span(group)
         if start < 0:
             return None
-        if isinstance(self.string, (str, bytes)):
-            return self.string[start:end]
+        for kind in (str, bytes):
+            if isinstance(self.string, kind):
+                return kind.__getitem__(self.string, slice(start, end))
         return bytes(memoryview(self.string).cast("B")[start:end])
 
     def group(self, /, *groups):
@@ -192,7 +193,8 @@ class _Haystack:
     def __init__(self, haystack):
         self.object, self.view, self.has_characters, self.is_str = haystack, None, False, False
         if isinstance(haystack, bytes):
-            self.address, self.length = haystack, len(haystack)
+            # A subclass may return something else for a part of it.
+            self.address, self.length = haystack if type(haystack) is bytes else bytes(haystack), len(haystack)
         elif isinstance(haystack, str):
             self.address, self.is_str = haystack.encode(), True
             self.length, self.has_characters = len(self.address), not haystack.isascii()

@@ -1,17 +1,18 @@
 """Runs CPython's own tests of `re` over the package hanneddois, as far as both have the same syntax.
 
-    PYTHONPATH=FOLDER python3 of_cpython.py [--list]
+    PYTHONPATH=FOLDER python3 of_cpython.py [--list | --table]
 
 The tests are the rows of test/re_tests.py and the statements of the methods in test/test_re.py, as they are installed with Python (Debian:
 libpython3.11-testsuite). Nothing of them is copied. A row or a statement that has another result here needs a reason: one of REASONS,
 whose expression has to match it, or one of METHODS for all statements of a method. DIFFERENCES.md has a table of how many there are of
-each reason, which is compared for the version of Python that it names. --list prints each of them.
+each reason, which is compared for the version of Python that it names. --list prints each of them, and --table the table.
 
 Prints what is wrong. The status is 77 if this Python has no such tests.
 """
 
 import ast
 import contextlib
+import hashlib
 import inspect
 import io
 import pathlib
@@ -24,9 +25,9 @@ import warnings
 import hanneddois
 
 PAGE = pathlib.Path(__file__).resolve().parent.parent / "DIFFERENCES.md"
-# Where the page has the counts, and for which version of Python.
+# Where the page has the counts, and the checksum of the tests for which they hold.
 TABLE = re.compile(r"^\| (.+?) \| (\d+) \| (\d+) \|$", re.MULTILINE)
-COUNTED_FOR = (3, 11)
+COUNTED_FOR = re.compile(r"checksum `([0-9a-f]+)`")
 
 # Why a row or a statement has another result here, with an expression that is in its source or in the error. The first one counts.
 REASONS = [
@@ -41,16 +42,18 @@ REASONS = [
     ("The flags `A`, `L`, `T` and `DEBUG`, also in a pattern", r"has no attribute '(A|ASCII|L|LOCALE|T|TEMPLATE|DEBUG|template)'|\(\?[a-z-]*[aL]|re\.A\b|LOCALE"),
     ("Flags are numbers, and those of a pattern are no flags of the regex", r"flags_repr|\.flags, re|str\(re\."),
     ("Messages and offsets of errors, and which patterns are errors", r"check(Pattern|Template)Error|err\.|at position"),
-    ("Repetitions, as `a**`, `a{}` and `a{,2}`", r"\*\*|\^\*|\{\}|\{,|2\*\*12|6553"),
+    ("Repetitions, as `a**`, `a{}` and `a{,2}`", r"\*\*|\^\*|\{\}|\{,|2\*\*12|6553|MAXREPEAT\b"),
     ("Operations on classes, as `[a--b]`", r"assertWarns\(FutureWarning"),
     ("`\\B` in an empty haystack", r"B\", \"\"\)"),
-    ("Another match where an empty one was, as of `\\\\b\\|a`", r"\\b\|"),
+    ("Another match where an empty one was, as of `\\b\\|a`", r"\\b\|"),
     ("Patterns and haystacks of two kinds", r"assertRaises\(TypeError"),
     ("Lone surrogates", r"surrogates not allowed"),
     ("`scanner`", r"scanner"),
     ("`repr` of a regex and of flags", r"self\.check(_flags)?\(|repr\("),
     ("Patterns for bytes are Unicode's and are UTF-8", r"bytes\(\[i\]\)"),
 ]
+# Methods that aren't run: what they compare are times.
+LEFT_OUT = {"test_search_anchor_at_beginning"}
 # Why no statement of a method counts.
 METHODS = {
     "test_large_search": "Gigabytes of memory",
@@ -173,6 +176,8 @@ def run_methods(outcome):
         for method in (it for it in kind.body if isinstance(it, ast.FunctionDef) and it.name.startswith("test")):
             names = {**globals_of_tests, "self": globals_of_tests[kind.name]()}
             reason = METHODS.get(method.name)
+            if method.name in LEFT_OUT:
+                continue
             for statement in method.body:
                 code = compile(ast.Module([statement], []), test_re.__file__, "exec")
                 text = "\n".join(lines[statement.lineno - 1 : statement.end_lineno])
@@ -181,13 +186,28 @@ def run_methods(outcome):
                 reason = outcome.add(f"{method.name}:{statement.lineno}", text, error, found) or reason
 
 
+def count(rows, statements):
+    """Returns how many rows and statements there are of each reason, in the order in which the reasons are listed."""
+    reasons = dict.fromkeys([*(reason for reason, _ in REASONS), *METHODS.values()])
+    counted = {reason: tuple(len(it.by_reason.get(reason, ())) for it in (rows, statements)) for reason in reasons}
+    return {"The same result": (rows.same, statements.same), **{reason: it for reason, it in counted.items() if any(it)}}
+
+
+def checksum():
+    from test import re_tests, test_re
+
+    return hashlib.sha256("".join(map(inspect.getsource, (re_tests, test_re))).encode()).hexdigest()[:16]
+
+
 def check_table(rows, statements):
     """Compares the page with what was counted, and prints what is wrong."""
-    counted = {reason: (len(rows.by_reason.get(reason, ())), len(statements.by_reason.get(reason, ()))) for reason in
-               [*rows.by_reason, *statements.by_reason]}
-    counted["The same result"] = rows.same, statements.same
-    written = {reason: (int(first), int(second)) for reason, first, second in TABLE.findall(PAGE.read_text())} if PAGE.exists() else {}
-    if sys.version_info[:2] != COUNTED_FOR or written == counted:
+    counted = count(rows, statements)
+    if "--table" in sys.argv:
+        print(*(f"| {reason} | {first} | {second} |" for reason, (first, second) in counted.items()), sep="\n")
+        print(f"checksum {checksum()}")
+    page = PAGE.read_text()
+    written = {reason: (int(first), int(second)) for reason, first, second in TABLE.findall(page)}
+    if COUNTED_FOR.findall(page) != [checksum()] or written == counted:
         return 0
     for reason in sorted({*written, *counted}):
         if written.get(reason) != counted.get(reason):
