@@ -37,7 +37,7 @@ except ImportError:
 __all__ = ["BAD_ARGUMENT", "CAPACITY_TOO_SMALL", "CASE_INSENSITIVE", "CRLF", "DOTALL", "DOT_MATCHES_NEW_LINE", "EMPTY_LOOP", "EMPTY_LOOPS",
            "Error", "GROUPS", "HAYSTACK_NOT_UTF8", "I", "IGNORECASE", "IGNORE_WHITESPACE", "M", "MATCHING_PATTERNS", "MULTILINE", "MULTI_LINE",
            "Match", "NESTS_TOO_DEEP", "NOFLAG", "NONE", "NOT_UTF8", "NO_BYTE_CLASSES", "NO_MEMORY", "NO_PATTERN", "NO_UNICODE", "OCTAL",
-           "OK", "Pattern", "RAISE_CAPACITY", "Regex", "S", "SHRINK", "SWAP_GREED", "SYNTAX_ERROR", "TOO_LARGE", "U", "UNICODE", "UTF8",
+           "OK", "Pattern", "PatternError", "RAISE_CAPACITY", "Regex", "S", "SHRINK", "SWAP_GREED", "SYNTAX_ERROR", "TOO_LARGE", "U", "UNICODE", "UTF8",
            "VERBOSE", "WHICH", "X", "backend", "compile", "error", "escape", "findall", "finditer", "fullmatch", "match", "purge", "search",
            "split", "sub", "subn", "version"]
 
@@ -47,7 +47,7 @@ M = MULTILINE = MULTI_LINE
 S = DOTALL = DOT_MATCHES_NEW_LINE
 X = VERBOSE = IGNORE_WHITESPACE
 U = UNICODE = NOFLAG = 0
-error = Error
+error = PatternError = Error
 
 # How many regexes `compile` keeps. Each may take some MB after long searches.
 _MOST_KEPT = 128

@@ -71,6 +71,7 @@ class Error(Exception):
     ) -> None: ...
 
 error = Error
+PatternError = Error
 
 @final
 class Match(Generic[_T]):
