@@ -37,7 +37,7 @@ REASONS = [
     ("Comments, as `(?#a)`", r"\(\?#"),
     ("Octal escapes", r"\\0|%0?3?o|\\141|\[\\+\d"),
     ("Back-references", r"backreferences|\(\?P="),
-    ("`\\Z`, `\\b` in a class, and escapes that one of both lacks", r"\\Z|\[\\*b\]|ceghijk|\\u1234|\\U0001"),
+    ("`\\Z`, `\\b` in a class, and escapes that only one of both has", r"\\Z|\[\\*b\]|ceghijk|\\u1234|\\U0001"),
     ("Characters by names, as `\\N{DIGIT ONE}`", r"\\N"),
     ("The flags `A`, `L`, `T` and `DEBUG`, also in a pattern", r"has no attribute '(A|ASCII|L|LOCALE|T|TEMPLATE|DEBUG|template)'|\(\?[a-z-]*[aL]|re\.A\b|LOCALE"),
     ("Flags are numbers, and those of a pattern are no flags of the regex", r"flags_repr|\.flags, re|str\(re\."),
