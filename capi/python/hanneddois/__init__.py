@@ -22,7 +22,7 @@ from ._common import (BAD_ARGUMENT, CAPACITY_TOO_SMALL, CASE_INSENSITIVE, CRLF, 
                       GROUPS, HAYSTACK_NOT_UTF8, IGNORE_WHITESPACE, MATCHING_PATTERNS, MULTI_LINE, NESTS_TOO_DEEP, NO_BYTE_CLASSES, NO_MEMORY,
                       NO_PATTERN, NO_UNICODE, NONE, NOT_UTF8, OCTAL, OK, RAISE_CAPACITY, SHRINK, SWAP_GREED, SYNTAX_ERROR, TOO_LARGE,
                       UTF8, WHICH, Error)
-from ._groups import add_methods, parse_template
+from ._groups import add_methods, parse_templates
 
 try:
     if os.environ.get("HANNEDDOIS_LIBRARY"):
@@ -137,8 +137,8 @@ class Regex(Matcher):
             return self._replace(string, repl, count, False)
         if isinstance(repl, str) != isinstance(string, str):
             raise TypeError("a template is of the same kind as what is searched: both are a str, or both are bytes-like objects")
-        templates = tuple(parse_template(repl, names) for names in self.group_names)
-        return self._replace(string, templates, count, any(isinstance(part, int) and part for parts in templates for part in parts))
+        templates, needs_groups = parse_templates(repl, self.group_names)
+        return self._replace(string, templates, count, needs_groups)
 
     def split(self, string, maxsplit=0):
         """The list of what is between the matches, with their groups. Without a maxsplit of 0 at most so many matches split it."""
@@ -193,8 +193,9 @@ def _around(pattern, before, after):
     return before + pattern + after if isinstance(pattern, str) else before.encode() + pattern + after.encode()
 
 
-@functools.lru_cache(maxsize=_MOST_KEPT)
-def _compile(kind, pattern, *options):
+# Types are compared too: flags of re have other numbers, so they aren't what is kept under their number.
+@functools.lru_cache(maxsize=_MOST_KEPT, typed=True)
+def _compile(pattern, *options):
     return Regex([pattern], *options)
 
 
@@ -204,8 +205,7 @@ def compile(pattern, flags=0, capacity=0, size_limit=0, nest_limit=0):
         if (flags, capacity, size_limit, nest_limit) != (0, 0, 0, 0):
             raise ValueError("a compiled regex takes no further options")
         return pattern
-    # Flags of re have other numbers, so they aren't what is kept under their number.
-    return _compile(type(pattern), _as_pattern(pattern), flags if type(flags) is int else _as_flags(flags), capacity, size_limit, nest_limit)
+    return _compile(_as_pattern(pattern), flags, capacity, size_limit, nest_limit)
 
 
 _SPECIAL = {ord(each): "\\" + each for each in r"\.+*?()|[]{}^$#&-~"}
@@ -227,7 +227,8 @@ def _searching(name):
     method = getattr(Regex, name)
 
     def call(pattern, string, flags=0):
-        return method(compile(pattern, flags), string)
+        regex = _compile(pattern, flags, 0, 0, 0) if type(pattern) is str else compile(pattern, flags)
+        return method(regex, string)
 
     call.__name__ = call.__qualname__ = name
     call.__doc__ = f"Compiles a pattern, and returns what the method {name} of the regex returns."

@@ -112,11 +112,27 @@ def _parse_template(is_str, template, names):
     return tuple(part if isinstance(part, int) else part.encode("utf-8" if is_str else "latin-1") for part in parts)
 
 
+@functools.lru_cache(maxsize=512)
+def _parse_templates(is_str, template, all_names):
+    templates = tuple(_parse_template(is_str, template, names) for names in all_names)
+    return templates, any(isinstance(part, int) and part > 0 for parts in templates for part in parts)
+
+
+def _as_template(template):
+    """Returns whether a template is a str, and the template as what can be kept."""
+    if isinstance(template, str):
+        return True, str(template)
+    return False, template if isinstance(template, bytes) else bytes(memoryview(template))
+
+
 def parse_template(template, names):
     """Returns the parts of a template for a pattern whose groups have these names: bytes, and the numbers of groups."""
-    if isinstance(template, str):
-        return _parse_template(True, str(template), names)
-    return _parse_template(False, template if isinstance(template, bytes) else bytes(memoryview(template)), names)
+    return _parse_template(*_as_template(template), names)
+
+
+def parse_templates(template, all_names):
+    """Returns the parts of a template for each of several patterns, and whether a group is among them."""
+    return _parse_templates(*_as_template(template), all_names)
 
 
 class MatchMethods:

@@ -753,11 +753,16 @@ class Leaks(unittest.TestCase):
             return int(file.read().split()[1]) * os.sysconf("SC_PAGESIZE")
 
     def check(self, job, turns):
-        """Checks that a job leaves neither Python's objects nor memory of the library."""
+        """Checks that a job leaves neither Python's objects nor memory of the library. Python keeps some blocks for itself at first, so
+        there are several attempts: what leaks does so in each of them."""
         self.blocks_after(job, turns)
-        first = self.blocks_after(job, turns)
-        held = self.memory() if os.path.exists("/proc/self/statm") else None
-        self.assertLess(self.blocks_after(job, 2 * turns) - first, 50)
+        for attempt in range(5):
+            first = self.blocks_after(job, turns)
+            held = self.memory() if os.path.exists("/proc/self/statm") else None
+            grown = self.blocks_after(job, 2 * turns) - first
+            if grown < 50:
+                break
+        self.assertLess(grown, 50)
         if held is not None:
             self.assertLess(self.memory() - held, 4_000_000)
 
