@@ -109,6 +109,7 @@ class Match(MatchMethods):
     Offsets count the characters of a str, and the bytes of any other haystack."""
 
     __slots__ = ("_fields", "_place", "_regex", "_finder", "_row", "_regs")
+    __module__ = "hanneddois"
     __class_getitem__ = classmethod(types.GenericAlias)
 
     def __new__(cls, *args, **kwargs):
