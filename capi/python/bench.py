@@ -1,13 +1,15 @@
 #!/usr/bin/env python3
-"""Measures searches against Python's re, and prints a table.
+"""Measures searches against Python's re, and prints tables.
 
-    bench.py [--megabytes N] [--rounds N]    (16 megabytes, 5 rounds)
+    bench.py [--megabytes N] [--rounds N] [--ratios]    (16 megabytes, 5 rounds)
 
 It takes the package that is installed, or else the one next to this file, and says whether that is the extension. Both engines search in
-turn, and of each one the least time counts, since other programs only ever add to it. Both must find as many matches.
+turn, and of each one the least processor time counts, since other programs only ever add to it. Both must find the same. With --ratios
+one table has the ratios alone, for bytes and for str, as in README.md.
 """
 
 import argparse
+import os
 import pathlib
 import re
 import sys
@@ -26,14 +28,21 @@ LINE = "the 25 bytes of a line 42"
 SHORT = ["[0-9]+", r"\w+", "[a-z]+ing", "(?i)LINE", "^the", "line", "zzz", "return -E[A-Z]+"]
 LONG = [("log", r"[0-9]{4}-[0-9]{2}-[0-9]{2}"), ("log", "ERROR|WARN"), ("log", "[0-9]+"), ("log", r"user=[0-9]+ id=[0-9a-f]+"),
         ("source", "return -E[A-Z]+"), ("source", r"while|return|else"), ("prose", "[A-Z][a-z]+"), ("prose", r"\w+"), ("prose", "absent")]
-SHORT_CALLS, SHORT_ROUNDS = 5000, 100
+# Each match is asked for its groups.
+GROUPS = [("log", r"([0-9]{4})-([0-9]{2})-([0-9]{2})"), ("log", r"user=([0-9]+) id=([0-9a-f]+)"), ("log", r"(ERROR|WARN) +(\w+): (\w+)"),
+          ("log", r"([a-z]+)=([^ \n]+)"), ("prose", r"(\w)(\w*)")]
+# Other calls over a whole input, by name, input, pattern and what else they take.
+CALLS = [("findall", "log", "[0-9]+", ()), ("findall", "log", r"user=([0-9]+) id=([0-9a-f]+)", ()), ("sub", "log", r"([0-9]{4})-([0-9]{2})", (r"\2/\1",)),
+         ("sub", "prose", "[A-Z]", ("-",)), ("split", "prose", r"\W+", ())]
+SHORT_CALLS, SHORT_ROUNDS = 2000, 150
+clock = time.process_time
 
 
 def read_corpora(megabytes):
     """Returns the inputs by their names. A source also has a line with an error now and then."""
     contents = {}
     with tempfile.TemporaryDirectory() as folder:
-        for name in sorted({name for name, _ in LONG}):
+        for name in ("log", "prose", "source"):
             path = pathlib.Path(folder) / name
             corpora.write_corpus(str(path), name, megabytes << 20, "1")
             contents[name] = path.read_bytes()
@@ -46,24 +55,42 @@ def read_corpora(megabytes):
 
 def time_calls(search, haystack):
     calls = range(SHORT_CALLS)
-    begun = time.perf_counter()
+    begun = clock()
     for _ in calls:
         search(haystack)
-    return (time.perf_counter() - begun) / SHORT_CALLS * 1e9
+    return (clock() - begun) / SHORT_CALLS * 1e9, None
 
 
-def time_matches(find_iter, haystack):
+def time_matches(finditer, haystack):
     count = 0
-    begun = time.perf_counter()
-    for _ in find_iter(haystack):
+    begun = clock()
+    for _ in finditer(haystack):
         count += 1
-    return (time.perf_counter() - begun) * 1e3, count
+    return (clock() - begun) * 1e3, count
 
 
-def compare(measure, rounds):
-    """Returns the least results of two measures that run in turn."""
-    theirs, ours = zip(*((measure[0](), measure[1]()) for _ in range(rounds)))
-    return min(theirs), min(ours)
+def time_groups(finditer, haystack):
+    count = 0
+    begun = clock()
+    for match in finditer(haystack):
+        match.groups()
+        count += 1
+    return (clock() - begun) * 1e3, count
+
+
+def time_call(call, haystack):
+    begun = clock()
+    result = call(haystack)
+    return (clock() - begun) * 1e3, result
+
+
+def compare(what, measure, theirs, ours, haystack, rounds):
+    """Returns the least times of two searches that run in turn."""
+    pairs = [(measure(theirs, haystack), measure(ours, haystack)) for _ in range(rounds)]
+    for (_, wanted), (_, found) in pairs:
+        if wanted != found:
+            sys.exit(f"bench.py: re and hanneddois find something else by {what}")
+    return min(it[0][0] for it in pairs), min(it[1][0] for it in pairs)
 
 
 def as_kind(text, is_str):
@@ -72,40 +99,62 @@ def as_kind(text, is_str):
     return text.encode() if isinstance(text, str) else text
 
 
-def print_short():
-    print("| `search` in 25 bytes | Haystack | re, ns | hanneddois, ns | / re |\n|---|---|---|---|---|")
-    for pattern in SHORT:
-        for is_str in (False, True):
-            haystack, written = as_kind(LINE, is_str), as_kind(pattern, is_str)
-            theirs, ours = re.compile(written).search, hanneddois.compile(written).search
-            least = compare([lambda: time_calls(theirs, haystack), lambda: time_calls(ours, haystack)], SHORT_ROUNDS)
-            print(f"| `{pattern}` | {type(haystack).__name__} | {least[0]:.0f} | {least[1]:.0f} | {least[1] / least[0]:.2f} |")
+def compile_both(pattern, is_str):
+    """Returns the regexes of both. Python's patterns over bytes know ASCII alone."""
+    written = as_kind(pattern, is_str)
+    return re.compile(written), hanneddois.compile(written, 0 if is_str else hanneddois.NO_UNICODE)
 
 
-def print_long(megabytes, rounds):
-    contents = read_corpora(megabytes)
-    print(f"\n| `finditer` over {megabytes} MB | Input | Haystack | Matches | re, ms | hanneddois, ms | / re |\n|---|---|---|---|---|---|---|")
-    for name, pattern in LONG:
+def bind(regex, name, others):
+    """Returns a function of a haystack that calls a method. A replacement comes before the haystack."""
+    method = getattr(regex, name)
+    return (lambda haystack: method(*others, haystack)) if others else method
+
+
+class Table:
+    """Prints a row for each search in bytes and in str, or one with the ratios of both."""
+
+    def __init__(self, only_ratios):
+        self.only_ratios = only_ratios
+        print("| Call | Input | Pattern | `bytes` | `str` |\n|---|---|---|---|---|" if only_ratios else
+              "| Call | Input | Pattern | Haystack | re | hanneddois | / re |\n|---|---|---|---|---|---|---|")
+
+    def add(self, call, name, pattern, measure, method, others, content, rounds):
+        cells, ratios = [f"`{call}`", name, "`" + pattern.replace("|", "\\|") + "`"], []
         for is_str in (False, True):
-            haystack, written = as_kind(contents[name], is_str), as_kind(pattern, is_str)
-            # Python's patterns over bytes know ASCII alone.
-            flags = 0 if is_str else hanneddois.NO_UNICODE
-            theirs, ours = re.compile(written).finditer, hanneddois.compile(written, flags).finditer
-            least = compare([lambda: time_matches(theirs, haystack), lambda: time_matches(ours, haystack)], rounds)
-            if least[0][1] != least[1][1]:
-                sys.exit(f"bench.py: re finds {least[0][1]} matches of {pattern}, and hanneddois {least[1][1]}")
-            cell = pattern.replace("|", "\\|")
-            print(f"| `{cell}` | {name} | {type(haystack).__name__} | {least[0][1]} | {least[0][0]:.1f} | {least[1][0]:.1f} | {least[1][0] / least[0][0]:.2f} |")
+            haystack, converted = as_kind(content, is_str), tuple(as_kind(it, is_str) for it in others)
+            theirs, ours = (bind(it, method, converted) for it in compile_both(pattern, is_str))
+            least = compare(f"{call} {pattern}", measure, theirs, ours, haystack, rounds)
+            unit = "ns" if measure is time_calls else "ms"
+            ratios.append(f"{least[1] / least[0]:.2f}")
+            if not self.only_ratios:
+                self.row(*cells, type(haystack).__name__, f"{least[0]:.0f} {unit}", f"{least[1]:.0f} {unit}", ratios[-1])
+        if self.only_ratios:
+            self.row(*cells, *ratios)
+
+    @staticmethod
+    def row(*cells):
+        print(f"| {' | '.join(cells)} |", flush=True)
 
 
 def main():
     parser = argparse.ArgumentParser(usage=__doc__)
     parser.add_argument("--megabytes", type=int, default=16)
     parser.add_argument("--rounds", type=int, default=5)
+    parser.add_argument("--ratios", action="store_true")
     options = parser.parse_args()
-    print(f"Python {sys.version.split()[0]}, hanneddois {hanneddois.version()} by {hanneddois.backend}\n")
-    print_short()
-    print_long(options.megabytes, options.rounds)
+    load = " ".join(f"{it:.0f}" for it in os.getloadavg())
+    print(f"Python {sys.version.split()[0]}, hanneddois {hanneddois.version()} by {hanneddois.backend}, {os.cpu_count()} processors, load {load}\n")
+    table, contents = Table(options.ratios), read_corpora(options.megabytes)
+    for pattern in SHORT:
+        table.add("search", "25 bytes", pattern, time_calls, "search", (), LINE, SHORT_ROUNDS)
+    for name, pattern in LONG:
+        table.add("finditer", name, pattern, time_matches, "finditer", (), contents[name], options.rounds)
+    for name, pattern in GROUPS:
+        table.add("groups", name, pattern, time_groups, "finditer", (), contents[name], options.rounds)
+    for method, name, pattern, others in CALLS:
+        table.add(method, name, pattern, time_call, method, others, contents[name], options.rounds)
+    print(f"\nLoad at the end {os.getloadavg()[0]:.0f}")
 
 
 main()

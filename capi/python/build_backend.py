@@ -77,7 +77,7 @@ def check_library(library):
 def compile_extension(to, libraries):
     """Compiles the extension, which finds the library in the folder lib next to itself."""
     compiler = shlex.split(os.environ.get("CC") or sysconfig.get_config_var("CC") or "cc")
-    words = [*compiler, "-std=c11", "-O3", "-DNDEBUG", "-fPIC", "-fvisibility=hidden", "-Wall", "-Wextra", *shlex.split(os.environ.get("CFLAGS", ""))]
+    words = [*compiler, "-std=c11", "-O3", "-DNDEBUG", "-fPIC", "-fno-plt", "-fvisibility=hidden", "-Wall", "-Wextra", *shlex.split(os.environ.get("CFLAGS", ""))]
     words += [f"-I{sysconfig.get_path('include')}", f"-I{HEADER.parent}", str(HERE / "hanneddois/_extension.c")]
     words += ["-shared", "-Wl,-z,relro,-z,now", "-Wl,-rpath,$ORIGIN/lib", str(libraries[""]), *shlex.split(os.environ.get("LDFLAGS", ""))]
     try:

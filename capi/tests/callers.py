@@ -24,7 +24,7 @@ def by_re(pattern, haystack):
 def by_library(pattern, haystack):
     # Python's patterns over bytes know ASCII alone.
     regex = hanneddois.compile(pattern, hanneddois.NO_UNICODE)
-    return [(match.start, match.end) for match in regex.find_iter(haystack)]
+    return [match.span() for match in regex.find_iter(haystack)]
 
 
 def step_by_step(spans):
@@ -103,7 +103,7 @@ def main():
     for pattern in EMPTY_LOOPS:
         regex = hanneddois.compile(pattern, hanneddois.EMPTY_LOOPS)
         for haystack in [*HAYSTACKS, b"baab", b"aacbcca", b"xabbaxa"]:
-            rows = [(match.start, match.end) for match in regex.find_iter(haystack)]
+            rows = [match.span() for match in regex.find_iter(haystack)]
             check(f"python, {pattern} in {haystack}: {rows}", is_list(pattern, haystack, rows), True)
 
     regex = hanneddois.compile("é+", hanneddois.UTF8)
@@ -123,7 +123,7 @@ def main():
             in_bytes = [tuple(len(haystack[:offset].encode()) for offset in span) for span in wanted]
             for flags in (0, hanneddois.UTF8):
                 for searched, spans in ((haystack, wanted), (haystack.encode(), in_bytes)):
-                    found = [(match.start, match.end) for match in hanneddois.compile(pattern, flags).find_iter(searched)]
+                    found = [match.span() for match in hanneddois.compile(pattern, flags).find_iter(searched)]
                     check(f"python, {pattern} in {searched}", found, spans)
                     marked = hanneddois.Regex([pattern, "z"], flags).matching_patterns(searched)
                     check(f"python, matching patterns of {pattern} in {searched}", marked, [0] if spans else [])

@@ -15,7 +15,7 @@ from typing import NamedTuple
 import hanneddois
 
 # What is returned of a block.
-COUNT, LINES, MATCHES = "count", "lines", "matches"
+COUNT, LINES, MATCHES, GROUPS = "count", "lines", "matches", "groups"
 
 PIECE = 1 << 18  # how many bytes one call searches; a processor's cache holds them
 LONGEST = 1 << 30  # longer lines are an error, as in hirgrep; lines up to one piece shorter may be
@@ -43,8 +43,8 @@ class Block(NamedTuple):
 
 class Found(NamedTuple):
     """What is returned of a block: how many line feeds it has, how many lines are selected, and rows unless only counts are asked for.
-    A row is a selected line or a match: how many lines of the block are before it, its offset in the file, and its bytes. If the file
-    can't be searched, `error` says why. Also which process searched, and its processor time in seconds."""
+    A row is a selected line or a match: how many lines of the block are before it, its offset in the file, and its bytes, or the number of
+    its pattern and a list of its groups. If the file can't be searched, `error` says why. Also which process searched, and its processor time in seconds."""
 
     line_feeds: int
     selected: int
@@ -60,7 +60,7 @@ def compile_query(query):
     flags = 0 if by_line else hanneddois.MULTI_LINE
     if query.ignore_case:
         flags |= hanneddois.CASE_INSENSITIVE
-    if query.output != MATCHES:
+    if query.output in (COUNT, LINES):
         flags |= hanneddois.EMPTY_LOOPS  # such a loop may change where a match ends, but not whether there is one
     return hanneddois.Regex(query.patterns, flags), by_line
 
@@ -131,21 +131,79 @@ def selected_lines(regex, data):
         match = regex.find(data, start)
         if match is None:
             return
-        start = data.rfind(b"\n", start, match.start) + 1 or start
+        start = data.rfind(b"\n", start, match.start()) + 1 or start
         if start == len(data):
             return  # an empty match after the last line feed, where there is no line
-        end = end_of_line(data, match.start)
-        if match.end <= end:
+        end = end_of_line(data, match.start())
+        if match.end() <= end:
             yield start, end
             start = end + 1
         else:
-            yield from lines_one_by_one(regex, data, start, match.end)
-            start = end_of_line(data, match.end - 1) + 1
+            yield from lines_one_by_one(regex, data, start, match.end())
+            start = end_of_line(data, match.end() - 1) + 1
 
 
 def matches_of(regex, line):
     """Returns the matches of a line that aren't empty, each with its offset in the line."""
-    return [(it.start, line[it.start : it.end]) for it in regex.find_iter(line) if it.end > it.start]
+    return [(it.start(), it.group()) for it in regex.find_iter(line) if it.end() > it.start()]
+
+
+def matches_with_groups(regex, data):
+    """Yields the matches of all lines that aren't empty, with their offset in the data.
+
+    One search finds them, with their groups. A match that ends in its line is one of that line alone. If one goes on after a line feed,
+    each line that it touches is searched by itself, from the match before it on.
+    """
+    start = 0
+    while start <= len(data):
+        last = start
+        for match in regex.finditer(data, start):
+            if data.find(b"\n", match.start(), match.end()) >= 0:
+                break
+            last = match.end()
+            if last > match.start():
+                yield 0, match
+        else:
+            return
+        begin = data.rfind(b"\n", 0, match.start()) + 1
+        while begin < match.end():
+            end = end_of_line(data, begin)
+            yield from matches_in_line(regex, data, begin, end, max(last, begin))
+            begin = end + 1
+        start = begin
+
+
+def matches_in_line(regex, data, begin, end, start):
+    """Yields the matches of a line that aren't empty, from an offset on, with the offset of the line."""
+    for match in regex.finditer(data[begin:end], start - begin):
+        if match.end() > match.start():
+            yield begin, match
+
+
+def matches_line_by_line(regex, data):
+    """Yields the matches that aren't empty, with the offset of their line. Each line is searched by itself."""
+    begin = 0
+    while begin < len(data):
+        end = end_of_line(data, begin)
+        yield from matches_in_line(regex, data, begin, end, begin)
+        begin = end + 1
+
+
+def search_groups(query, block):
+    """Returns what `search_lines` returns, with a row for each match: its groups, or the whole match if its pattern has none."""
+    regex, by_line = compiled(query)
+    line_feeds, selected, rows = 0, 0, []
+    for offset, data in pieces(block):
+        counted, last = 0, -1
+        for begin, match in matches_line_by_line(regex, data) if by_line else matches_with_groups(regex, data):
+            start = begin + match.start()
+            line_feeds += data.count(b"\n", counted, start)
+            counted = start
+            selected += line_feeds != last
+            last = line_feeds
+            rows.append((line_feeds, offset + start, match.pattern, list(match.groups() or (match.group(),))))
+        line_feeds += data.count(b"\n", counted)
+    return line_feeds, selected, rows
 
 
 def search_lines(query, block):
@@ -174,7 +232,7 @@ def search_block(query, block):
     """Searches a block. An error is returned and not raised: it ends the search of one file, and not of the others."""
     begun = time.thread_time()
     try:
-        found, error = search_lines(query, block), ""
+        found, error = (search_groups if query.output == GROUPS else search_lines)(query, block), ""
     except OSError as failed:
         found, error = (0, 0, []), failed.strerror or str(failed)
     except (hanneddois.Error, ValueError, MemoryError) as failed:

@@ -33,6 +33,10 @@ PyAPI_FUNC(int) PyObject_AsReadBuffer(PyObject *, const void **, Py_ssize_t *);
 #define FEW_BYTES 4096
 /* An iterator searches ahead by as many matches as it has found so far, and at most by this many. */
 #define MOST_ROWS 512
+/* A match has room for the offsets of so many groups, and allocates room for more. */
+#define FEW_GROUPS 4
+/* How many matches that were freed are kept, to be made anew. */
+#define MOST_FREE 64
 
 static PyTypeObject *matcher_type, *match_type, *iterator_type;
 /* Of the module _common. */
@@ -86,6 +90,15 @@ static void raise_bad_argument(void)
     raise_error(&error);
 }
 
+/* Raises a TypeError with a message and the name of an object's type. */
+static void raise_wrong_type(const char *message, PyObject *object)
+{
+    PyObject *name = PyObject_GetAttrString((PyObject *)Py_TYPE(object), "__name__");
+    if (name)
+        PyErr_Format(PyExc_TypeError, "%s, got %R", message, name);
+    Py_XDECREF(name);
+}
+
 static int is_failure(hanneddois_status status)
 {
     return status != HANNEDDOIS_OK && status != HANNEDDOIS_NONE;
@@ -103,17 +116,27 @@ typedef struct {
     int is_str;
     /* Whether offsets count the characters of a str. They count bytes otherwise, also in a str that is ASCII. */
     int has_characters;
+    /* Whether an empty match inside a character doesn't count. */
+    int is_utf8;
     /* Whether a search may give up the interpreter's lock: if no Python code can write to the bytes, and there are enough of them. */
     int may_unlock;
 } Haystack;
 
-static void close_haystack(Haystack *haystack)
+static inline void close_haystack(Haystack *haystack)
 {
     Py_CLEAR(haystack->object);
     Py_CLEAR(haystack->view);
 }
 
-static int open_str(Haystack *haystack)
+/* Whether a str with this UTF-8 is ASCII. One that is has its bytes in itself, right after its header. One that isn't has a longer header,
+   and a pointer to its UTF-8 there. */
+static inline int is_ascii(PyObject *object, const char *bytes, Py_ssize_t length)
+{
+    const size_t least_header = 56;
+    return (size_t)((uintptr_t)bytes - (uintptr_t)object) < least_header || PyUnicode_GetLength(object) == length;
+}
+
+static inline int open_str(Haystack *haystack)
 {
     Py_ssize_t length;
     const char *bytes = PyUnicode_AsUTF8AndSize(haystack->object, &length);
@@ -121,7 +144,19 @@ static int open_str(Haystack *haystack)
         return -1;
     haystack->bytes = (const uint8_t *)bytes;
     haystack->length = (size_t)length;
-    haystack->has_characters = PyUnicode_GetLength(haystack->object) != length;
+    haystack->is_str = 1;
+    haystack->is_utf8 = haystack->has_characters = !is_ascii(haystack->object, bytes, length);
+    return 0;
+}
+
+static inline int open_bytes(Haystack *haystack)
+{
+    char *bytes;
+    Py_ssize_t length;
+    if (PyBytes_AsStringAndSize(haystack->object, &bytes, &length) < 0)
+        return -1;
+    haystack->bytes = (const uint8_t *)bytes;
+    haystack->length = (size_t)length;
     return 0;
 }
 
@@ -142,14 +177,14 @@ static int find_bytes(PyObject *view, const void **bytes, Py_ssize_t *length)
 #pragma GCC diagnostic pop
 }
 
-static int open_buffer(Haystack *haystack)
+static __attribute__((noinline)) int open_buffer(Haystack *haystack)
 {
     const void *bytes;
     Py_ssize_t length;
     haystack->view = PyMemoryView_FromObject(haystack->object);
     if (!haystack->view) {
         if (PyErr_ExceptionMatches(PyExc_TypeError))
-            PyErr_Format(PyExc_TypeError, "a haystack is a str or a bytes-like object, not %R", (PyObject *)Py_TYPE(haystack->object));
+            raise_wrong_type("expected a str or a bytes-like object", haystack->object);
         return -1;
     }
     if (find_bytes(haystack->view, &bytes, &length) < 0)
@@ -161,23 +196,23 @@ static int open_buffer(Haystack *haystack)
     return haystack->may_unlock < 0 ? -1 : 0;
 }
 
-/* Opens what a caller searches. Must be closed, unless this fails. */
-static int open_haystack(Haystack *haystack, PyObject *object)
+/* The exact types come first: for others the limited API needs a call. */
+static inline int open_by_kind(Haystack *haystack)
 {
-    char *bytes;
-    Py_ssize_t length;
-    int status;
+    PyObject *object = haystack->object;
+    if (PyBytes_CheckExact(object))
+        return open_bytes(haystack);
+    if (PyUnicode_CheckExact(object) || PyUnicode_Check(object))
+        return open_str(haystack);
+    return PyBytes_Check(object) ? open_bytes(haystack) : open_buffer(haystack);
+}
+
+/* Opens what a caller searches. Must be closed, unless this fails. */
+static inline int open_haystack(Haystack *haystack, PyObject *object)
+{
     memset(haystack, 0, sizeof *haystack);
     haystack->object = new_reference(object);
-    if (PyBytes_CheckExact(object) || PyBytes_Check(object)) {
-        status = PyBytes_AsStringAndSize(object, &bytes, &length);
-        haystack->bytes = (const uint8_t *)bytes;
-        haystack->length = (size_t)length;
-    } else {
-        haystack->is_str = PyUnicode_Check(object);
-        status = haystack->is_str ? open_str(haystack) : open_buffer(haystack);
-    }
-    if (status < 0) {
+    if (open_by_kind(haystack) < 0) {
         close_haystack(haystack);
         return -1;
     }
@@ -197,247 +232,32 @@ typedef struct {
     size_t character;
 } Position;
 
+static size_t count_characters_in(const uint8_t *bytes, size_t length)
+{
+    size_t count = 0;
+    for (size_t i = 0; i < length; i++)
+        count += (bytes[i] & 0xC0) != 0x80;
+    return count;
+}
+
 /* Moves to an offset at or after the position, and returns its number of characters. */
 static size_t move_to(Position *position, const Haystack *haystack, size_t byte)
 {
-    size_t count = 0;
     if (!haystack->has_characters)
         return byte;
-    for (size_t i = position->byte; i < byte; i++)
-        count += (haystack->bytes[i] & 0xC0) != 0x80;
+    position->character += count_characters_in(haystack->bytes + position->byte, byte - position->byte);
     position->byte = byte;
-    position->character += count;
     return position->character;
 }
 
-/* The position of an offset that a caller gives; if there is none, it is after the end. */
-static Position position_of(const Haystack *haystack, size_t offset)
+/* Moves to a number of characters, which the haystack has. */
+static void move_to_character(Position *position, const Haystack *haystack, size_t character)
 {
-    Position position = {offset, offset};
-    if (!haystack->has_characters)
-        return position;
-    size_t left = offset;
-    for (position.byte = 0; position.byte < haystack->length; position.byte++) {
-        if ((haystack->bytes[position.byte] & 0xC0) == 0x80)
-            continue;
-        if (left == 0)
-            return position;
-        left--;
-    }
-    if (left > 0)
-        position.byte = haystack->length + 1;
-    return position;
+    while (position->character > character)
+        position->character -= !is_inside_character(haystack, --position->byte);
+    while (position->character < character)
+        position->character += !is_inside_character(haystack, ++position->byte);
 }
-
-/* ---- matches */
-
-typedef struct {
-    PyObject_HEAD
-    Py_ssize_t pattern;
-    Py_ssize_t start;
-    Py_ssize_t end;
-    PyObject *haystack;
-} Match;
-
-static PyObject *make_match(PyObject *haystack, size_t pattern, size_t start, size_t end)
-{
-    Match *match = PyObject_GC_New(Match, match_type);
-    if (!match)
-        return NULL;
-    match->pattern = (Py_ssize_t)pattern;
-    match->start = (Py_ssize_t)start;
-    match->end = (Py_ssize_t)end;
-    match->haystack = new_reference(haystack);
-    /* Other objects may refer to the match. Not tracking it for these saves time. */
-    if (!PyBytes_CheckExact(haystack) && !PyUnicode_CheckExact(haystack))
-        PyObject_GC_Track(match);
-    return (PyObject *)match;
-}
-
-static PyObject *match_new(PyTypeObject *Py_UNUSED(type), PyObject *args, PyObject *kwargs)
-{
-    static char *names[] = {"pattern", "start", "end", "haystack", NULL};
-    Py_ssize_t pattern, start, end;
-    PyObject *haystack = Py_None;
-    if (!PyArg_ParseTupleAndKeywords(args, kwargs, "nnn|O:Match", names, &pattern, &start, &end, &haystack))
-        return NULL;
-    if (pattern < 0 || start < 0 || end < start) {
-        PyErr_SetString(PyExc_ValueError, "a match has a pattern and a start of 0 or more, and an end that isn't below its start");
-        return NULL;
-    }
-    return make_match(haystack, (size_t)pattern, (size_t)start, (size_t)end);
-}
-
-static int match_traverse(PyObject *self, visitproc visit, void *arg)
-{
-    Py_VISIT(Py_TYPE(self));
-    Py_VISIT(((Match *)self)->haystack);
-    return 0;
-}
-
-static int match_clear(PyObject *self)
-{
-    Py_CLEAR(((Match *)self)->haystack);
-    return 0;
-}
-
-static void match_dealloc(PyObject *self)
-{
-    PyTypeObject *type = Py_TYPE(self);
-    PyObject_GC_UnTrack(self);
-    match_clear(self);
-    PyObject_GC_Del(self);
-    Py_DECREF(type);
-}
-
-static PyObject *match_tuple(PyObject *self)
-{
-    Match *match = (Match *)self;
-    return Py_BuildValue("nnn", match->pattern, match->start, match->end);
-}
-
-/* The part of the haystack between two offsets, as it is now: a buffer may have been written to, and may be shorter. */
-static PyObject *part_of(PyObject *object, Py_ssize_t start, Py_ssize_t end)
-{
-    Haystack haystack;
-    if (PyUnicode_Check(object))
-        return PyUnicode_Substring(object, start, end);
-    if (open_haystack(&haystack, object) < 0)
-        return NULL;
-    Py_ssize_t length = (Py_ssize_t)haystack.length;
-    end = end < length ? end : length;
-    start = start < end ? start : end;
-    PyObject *part = PyBytes_FromStringAndSize((const char *)haystack.bytes + start, end - start);
-    close_haystack(&haystack);
-    return part;
-}
-
-/* Checks the number of a group, of which there is only 0 until the library finds capture groups. */
-static int check_group(const char *name, PyObject *args)
-{
-    PyObject *group = NULL;
-    if (!PyArg_UnpackTuple(args, name, 0, 1, &group))
-        return -1;
-    Py_ssize_t number = group ? PyNumber_AsSsize_t(group, NULL) : 0;
-    if (number == -1 && PyErr_Occurred())
-        return -1;
-    if (number != 0) {
-        PyErr_SetString(PyExc_IndexError, "the only group is 0, the whole match");
-        return -1;
-    }
-    return 0;
-}
-
-static PyObject *match_group(PyObject *self, PyObject *args)
-{
-    Match *match = (Match *)self;
-    if (check_group("group", args) < 0)
-        return NULL;
-    if (match->haystack == Py_None) {
-        PyErr_SetString(PyExc_ValueError, "the match was made without a haystack");
-        return NULL;
-    }
-    return part_of(match->haystack, match->start, match->end);
-}
-
-static PyObject *match_span(PyObject *self, PyObject *args)
-{
-    Match *match = (Match *)self;
-    if (check_group("span", args) < 0)
-        return NULL;
-    return Py_BuildValue("nn", match->start, match->end);
-}
-
-static PyObject *match_reduce(PyObject *self, PyObject *Py_UNUSED(ignored))
-{
-    Match *match = (Match *)self;
-    return Py_BuildValue("O(nnnO)", Py_TYPE(self), match->pattern, match->start, match->end, match->haystack);
-}
-
-static PyObject *match_repr(PyObject *self)
-{
-    Match *match = (Match *)self;
-    return PyUnicode_FromFormat("Match(pattern=%zd, start=%zd, end=%zd)", match->pattern, match->start, match->end);
-}
-
-static PyObject *match_compare(PyObject *self, PyObject *other, int operation)
-{
-    if (Py_TYPE(other) != match_type && !PyTuple_Check(other))
-        return new_reference(Py_NotImplemented);
-    PyObject *left = match_tuple(self);
-    PyObject *right = PyTuple_Check(other) ? new_reference(other) : match_tuple(other);
-    PyObject *result = left && right ? PyObject_RichCompare(left, right, operation) : NULL;
-    Py_XDECREF(left);
-    Py_XDECREF(right);
-    return result;
-}
-
-static Py_hash_t match_hash(PyObject *self)
-{
-    PyObject *tuple = match_tuple(self);
-    Py_hash_t hash = tuple ? PyObject_Hash(tuple) : -1;
-    Py_XDECREF(tuple);
-    return hash;
-}
-
-static PyObject *match_iter(PyObject *self)
-{
-    PyObject *tuple = match_tuple(self);
-    PyObject *iterator = tuple ? PyObject_GetIter(tuple) : NULL;
-    Py_XDECREF(tuple);
-    return iterator;
-}
-
-static PyObject *match_item(PyObject *self, PyObject *key)
-{
-    PyObject *tuple = match_tuple(self);
-    PyObject *item = tuple ? PyObject_GetItem(tuple, key) : NULL;
-    Py_XDECREF(tuple);
-    return item;
-}
-
-static Py_ssize_t match_length(PyObject *Py_UNUSED(self))
-{
-    return 3;
-}
-
-static PyMemberDef match_members[] = {
-    {"pattern", T_PYSSIZET, offsetof(Match, pattern), READONLY, "The number of the pattern that matches, from 0."},
-    {"start", T_PYSSIZET, offsetof(Match, start), READONLY, "The offset at which the match starts."},
-    {"end", T_PYSSIZET, offsetof(Match, end), READONLY, "The offset after the match."},
-    {"haystack", T_OBJECT, offsetof(Match, haystack), READONLY, "What was searched."},
-    {NULL, 0, 0, 0, NULL},
-};
-
-static PyMethodDef match_methods[] = {
-    {"group", match_group, METH_VARARGS,
-     "group($self, group=0, /)\n--\n\nThe part of the haystack that matches: a str of a str, and otherwise bytes.\n\n"
-     "The only group is 0, the whole match: the library doesn't find capture groups yet."},
-    {"span", match_span, METH_VARARGS, "span($self, group=0, /)\n--\n\nThe pair of start and end."},
-    {"__reduce__", match_reduce, METH_NOARGS, NULL},
-    {"__class_getitem__", Py_GenericAlias, METH_O | METH_CLASS, NULL},
-    {NULL, NULL, 0, NULL},
-};
-
-static PyType_Slot match_slots[] = {
-    {Py_tp_doc, "A match: unpacks and compares as the tuple (pattern, start, end).\n\n"
-                "Offsets count the characters of a str, and the bytes of any other haystack."},
-    {Py_tp_new, match_new},
-    {Py_tp_dealloc, match_dealloc},
-    {Py_tp_traverse, match_traverse},
-    {Py_tp_clear, match_clear},
-    {Py_tp_repr, match_repr},
-    {Py_tp_hash, match_hash},
-    {Py_tp_iter, match_iter},
-    {Py_tp_richcompare, match_compare},
-    {Py_tp_members, match_members},
-    {Py_tp_methods, match_methods},
-    {Py_mp_length, match_length},
-    {Py_mp_subscript, match_item},
-    {0, NULL},
-};
-
-static PyType_Spec match_spec = {"hanneddois.Match", sizeof(Match), 0, Py_TPFLAGS_DEFAULT | Py_TPFLAGS_HAVE_GC, match_slots};
 
 /* ---- matchers */
 
@@ -446,9 +266,12 @@ typedef struct {
     hanneddois_regex *idle;
     size_t idle_count;
     size_t made;
-    /* What their flags are in addition to those of the options. */
+    /* The flags with which they are compiled. */
     uint32_t flags;
 } Stock;
+
+/* How a regex that matches at one offset alone is made of the patterns: by what is before them. */
+enum { AT_START, AFTER_CHARACTER, AFTER_BYTE, ANCHORS };
 
 typedef struct {
     PyObject_HEAD
@@ -460,25 +283,51 @@ typedef struct {
     size_t *lengths;
     Py_ssize_t count;
     hanneddois_options options;
-    /* The handles with which to search. */
+    /* Whether a pattern has an unbounded repetition whose body can match the empty string. */
+    int has_empty_loops;
+    /* The handles with which to search any bytes. */
     Stock stock;
-    /* Handles by which no match splits a character. They read each haystack twice, so only what needs them uses them. */
+    /* Handles with the flag HANNEDDOIS_UTF8. They read each haystack twice, so only what needs them uses them. */
     Stock utf8_stock;
     /* Whether the patterns were found to be of that kind: a search of a str requires it. */
     int fits_str;
+    /* For each pattern a tuple of the names of its groups and a dict of their numbers, or NULL until somebody asks. */
+    PyObject *names;
+    PyObject *indexes;
+    /* How many groups a pattern has at most, with group 0. */
+    size_t most_groups;
+    /* How many matches somebody asked for their groups. */
+    size_t asked;
+    /* Regexes that match at one offset, and perhaps up to the end, or NULL until somebody asks. */
+    PyObject *anchored[ANCHORS][2];
+    /* The last str in which a search was given an offset, and where this is: the next offset is likely to be near. */
+    PyObject *last_str;
+    Position last_position;
 } Matcher;
 
 /* Compiles the patterns, and gives up the interpreter's lock meanwhile. */
-static int compile_handle(const Matcher *self, const Stock *stock, hanneddois_regex *handle)
+static hanneddois_status compile_patterns(const Matcher *self, uint32_t flags, hanneddois_regex *handle, hanneddois_error *error)
 {
     hanneddois_options options = self->options;
-    hanneddois_error error;
     hanneddois_status status;
-    options.flags |= stock->flags;
+    options.flags = flags;
     memset(handle, 0, sizeof *handle);
     Py_BEGIN_ALLOW_THREADS
-    status = hanneddois_new(handle, self->patterns, self->patterns_length, self->lengths, (size_t)self->count, &options, &error);
+    status = hanneddois_new(handle, self->patterns, self->patterns_length, self->lengths, (size_t)self->count, &options, error);
     Py_END_ALLOW_THREADS
+    return status;
+}
+
+/* Compiles the patterns. That a loop may be empty isn't an error: the searches for groups find the end that is preferred. */
+static __attribute__((noinline)) int compile_handle(Matcher *self, const Stock *stock, hanneddois_regex *handle)
+{
+    hanneddois_error error;
+    uint32_t flags = stock->flags & ~(uint32_t)HANNEDDOIS_EMPTY_LOOPS;
+    hanneddois_status status = compile_patterns(self, flags, handle, &error);
+    if (status == HANNEDDOIS_EMPTY_LOOP) {
+        self->has_empty_loops = 1;
+        status = compile_patterns(self, flags | HANNEDDOIS_EMPTY_LOOPS, handle, &error);
+    }
     if (status == HANNEDDOIS_OK)
         return 0;
     raise_pattern_error(&error, self->given);
@@ -505,7 +354,7 @@ static int make_room(Stock *stock, hanneddois_regex *handle)
 }
 
 /* Takes an idle handle. There is one, unless the stock is new: then it compiles the patterns. */
-static int take_handle(const Matcher *self, Stock *stock, hanneddois_regex *handle)
+static inline int take_handle(Matcher *self, Stock *stock, hanneddois_regex *handle)
 {
     if (stock->idle_count > 0) {
         *handle = stock->idle[--stock->idle_count];
@@ -515,7 +364,7 @@ static int take_handle(const Matcher *self, Stock *stock, hanneddois_regex *hand
 }
 
 /* Before a search gives up the interpreter's lock: leaves an idle handle for another thread. */
-static int leave_handle(Stock *stock, hanneddois_regex *taken)
+static __attribute__((noinline)) int leave_handle(Stock *stock, hanneddois_regex *taken)
 {
     hanneddois_regex handle = HANNEDDOIS_EMPTY;
     hanneddois_error error = {HANNEDDOIS_OK, 0, 0, 0, 0, 0};
@@ -530,6 +379,97 @@ static int leave_handle(Stock *stock, hanneddois_regex *taken)
         return -1;
     give_back(stock, handle);
     return 0;
+}
+
+/* The name of a group as a str, or None if it has none. */
+static PyObject *name_of(hanneddois_regex *handle, size_t pattern, size_t group)
+{
+    uint8_t few[64], *name = few;
+    size_t length = hanneddois_group_name(handle, pattern, group, few, sizeof few);
+    if (length == 0)
+        return new_reference(Py_None);
+    if (length > sizeof few) {
+        name = malloc(length);
+        if (!name)
+            return PyErr_NoMemory();
+        hanneddois_group_name(handle, pattern, group, name, length);
+    }
+    PyObject *made = PyUnicode_FromStringAndSize((const char *)name, (Py_ssize_t)length);
+    if (name != few)
+        free(name);
+    return made;
+}
+
+/* The names of the groups of a pattern, with None for a group without a name, as for the whole match. */
+static PyObject *names_of(hanneddois_regex *handle, size_t pattern)
+{
+    Py_ssize_t count = (Py_ssize_t)hanneddois_group_count(handle, pattern);
+    PyObject *names = PyTuple_New(count);
+    for (Py_ssize_t i = 0; names && i < count; i++) {
+        PyObject *name = name_of(handle, pattern, (size_t)i);
+        if (!name || PyTuple_SetItem(names, i, name) < 0)
+            Py_CLEAR(names);
+    }
+    return names;
+}
+
+/* The numbers of groups by their names. */
+static PyObject *index_names(PyObject *names)
+{
+    PyObject *index = PyDict_New();
+    for (Py_ssize_t i = 1; index && i < PyTuple_Size(names); i++) {
+        PyObject *name = PyTuple_GetItem(names, i), *number;
+        if (name == Py_None)
+            continue;
+        number = PyLong_FromSsize_t(i);
+        if (!number || PyDict_SetItem(index, name, number) < 0)
+            Py_CLEAR(index);
+        Py_XDECREF(number);
+    }
+    return index;
+}
+
+static int list_names(Matcher *self, hanneddois_regex *handle, PyObject *all, PyObject *indexes)
+{
+    for (Py_ssize_t i = 0; i < self->count; i++) {
+        PyObject *names = names_of(handle, (size_t)i);
+        if (!names || PyTuple_SetItem(all, i, names) < 0)
+            return -1;
+        PyObject *index = index_names(names);
+        if (!index || PyTuple_SetItem(indexes, i, index) < 0)
+            return -1;
+        if ((size_t)PyTuple_Size(names) > self->most_groups)
+            self->most_groups = (size_t)PyTuple_Size(names);
+    }
+    return 0;
+}
+
+/* Finds the names of the groups of all patterns, if that wasn't done yet. */
+static int find_names(Matcher *self)
+{
+    hanneddois_regex handle;
+    if (self->names)
+        return 0;
+    PyObject *all = PyTuple_New(self->count), *indexes = PyTuple_New(self->count);
+    int status = all && indexes ? take_handle(self, &self->stock, &handle) : -1;
+    if (status == 0) {
+        status = list_names(self, &handle, all, indexes);
+        give_back(&self->stock, handle);
+    }
+    if (status == 0 && !self->names) {
+        self->names = all;
+        self->indexes = indexes;
+        return 0;
+    }
+    Py_XDECREF(all);
+    Py_XDECREF(indexes);
+    return status;
+}
+
+/* How many groups a pattern has, with group 0. The names have to be known. */
+static Py_ssize_t group_count(const Matcher *self, Py_ssize_t pattern)
+{
+    return PyTuple_Size(PyTuple_GetItem(self->names, pattern));
 }
 
 static void free_stock(Stock *stock)
@@ -549,8 +489,6 @@ static int has_byte(const Matcher *self, char byte)
 static int check_fits_str(Matcher *self)
 {
     hanneddois_regex handle;
-    if (self->fits_str)
-        return 0;
     if ((self->options.flags & HANNEDDOIS_NO_UNICODE) || (has_byte(self, '?') && has_byte(self, '-') && has_byte(self, 'u'))) {
         if (take_handle(self, &self->utf8_stock, &handle) < 0)
             return -1;
@@ -609,11 +547,18 @@ static PyObject *matcher_new(PyTypeObject *type, PyObject *args, PyObject *Py_UN
         return NULL;
     self->given = new_reference(given);
     self->options = options;
-    self->utf8_stock.flags = HANNEDDOIS_UTF8;
+    self->stock.flags = options.flags & ~(uint32_t)HANNEDDOIS_UTF8;
+    self->utf8_stock.flags = options.flags | HANNEDDOIS_UTF8;
+    /* A pattern that needs more than the default isn't an error, but one that needs more than its caller allows. */
+    if (options.capacity == 0) {
+        self->stock.flags |= HANNEDDOIS_RAISE_CAPACITY;
+        self->utf8_stock.flags |= HANNEDDOIS_RAISE_CAPACITY;
+    }
+    Stock *first = options.flags & HANNEDDOIS_UTF8 ? &self->utf8_stock : &self->stock;
     if (copy_patterns(self, patterns) < 0) {
         PyErr_NoMemory();
-    } else if (take_handle(self, &self->stock, &handle) == 0) {
-        give_back(&self->stock, handle);
+    } else if (take_handle(self, first, &handle) == 0) {
+        give_back(first, handle);
         return (PyObject *)self;
     }
     Py_DECREF(self);
@@ -629,6 +574,13 @@ static void matcher_dealloc(PyObject *object)
     free(self->patterns);
     free(self->lengths);
     Py_XDECREF(self->given);
+    Py_XDECREF(self->names);
+    Py_XDECREF(self->indexes);
+    Py_XDECREF(self->last_str);
+    for (size_t i = 0; i < ANCHORS; i++) {
+        Py_XDECREF(self->anchored[i][0]);
+        Py_XDECREF(self->anchored[i][1]);
+    }
     freefunc release = (freefunc)PyType_GetSlot(type, Py_tp_free);
     release(object);
     Py_DECREF(type);
@@ -636,10 +588,11 @@ static void matcher_dealloc(PyObject *object)
 
 /* ---- searches */
 
-/* Finds the parameters of a search, the haystack and perhaps a start, among positional arguments and keywords. */
-static int parse_arguments(const char *name, PyObject *const *args, Py_ssize_t nargs, PyObject *keywords, Py_ssize_t most, PyObject **parsed)
+/* Finds the parameters of a search, the haystack and perhaps offsets, among positional arguments and keywords. The names that they have in
+   re will do too. */
+static __attribute__((noinline)) int parse_keywords(const char *name, PyObject *const *args, Py_ssize_t nargs, PyObject *keywords, Py_ssize_t most, PyObject **parsed)
 {
-    static const char *const names[] = {"haystack", "start"};
+    static const char *const names[] = {"haystack", "start", "end"}, *const other_names[] = {"string", "pos", "endpos"};
     Py_ssize_t count = keywords ? PyTuple_Size(keywords) : 0;
     if (nargs > most) {
         PyErr_Format(PyExc_TypeError, "%s() takes at most %zd arguments (%zd given)", name, most, nargs);
@@ -650,7 +603,8 @@ static int parse_arguments(const char *name, PyObject *const *args, Py_ssize_t n
     for (Py_ssize_t i = 0; i < count; i++) {
         PyObject *keyword = PyTuple_GetItem(keywords, i);
         Py_ssize_t at = 0;
-        while (at < most && PyUnicode_CompareWithASCIIString(keyword, names[at]) != 0)
+        while (at < most && PyUnicode_CompareWithASCIIString(keyword, names[at]) != 0 &&
+               PyUnicode_CompareWithASCIIString(keyword, other_names[at]) != 0)
             at++;
         if (at == most || parsed[at]) {
             PyErr_Format(PyExc_TypeError, "%s() got %s argument %R", name, at == most ? "an unexpected keyword" : "multiple values for", keyword);
@@ -664,12 +618,20 @@ static int parse_arguments(const char *name, PyObject *const *args, Py_ssize_t n
     return -1;
 }
 
+static inline int parse_arguments(const char *name, PyObject *const *args, Py_ssize_t nargs, PyObject *keywords, Py_ssize_t most, PyObject **parsed)
+{
+    if (nargs != 1 || keywords)
+        return parse_keywords(name, args, nargs, keywords, most, parsed);
+    parsed[0] = args[0];
+    return 0;
+}
+
 /* Opens the haystack of a search by these patterns. */
-static int open_for(Matcher *self, Haystack *haystack, PyObject *object)
+static inline int open_for(Matcher *self, Haystack *haystack, PyObject *object)
 {
     if (open_haystack(haystack, object) < 0)
         return -1;
-    if (haystack->is_str && check_fits_str(self) < 0) {
+    if (haystack->is_str && !self->fits_str && check_fits_str(self) < 0) {
         close_haystack(haystack);
         return -1;
     }
@@ -685,21 +647,86 @@ static int parse_haystack(Matcher *self, const char *name, PyObject *const *args
     return open_for(self, haystack, parsed[0]);
 }
 
-/* The position at which a search starts. */
-static int parse_start(const Haystack *haystack, PyObject *start, Position *position)
+/* Where a match is, in bytes. */
+typedef struct {
+    Py_ssize_t start;
+    /* How many bytes before the start the search for its groups begins. */
+    Py_ssize_t back;
+    /* How many bytes of the haystack were searched, and from which offset on, as the caller counts. */
+    Py_ssize_t length;
+    Py_ssize_t pos;
+    Py_ssize_t endpos;
+} Place;
+
+/* The part of a haystack in which to search. */
+typedef struct {
+    Position start;
+    Place place;
+    /* Whether its end is before its start. */
+    int is_empty;
+} Range;
+
+static int parse_offset(PyObject *given, Py_ssize_t *offset)
 {
-    *position = (Position){0, 0};
-    if (!start)
-        return 0;
-    Py_ssize_t offset = PyNumber_AsSsize_t(start, NULL);
-    if (offset == -1 && PyErr_Occurred())
+    if (given)
+        *offset = PyNumber_AsSsize_t(given, NULL);
+    return *offset == -1 && PyErr_Occurred() ? -1 : 0;
+}
+
+static Py_ssize_t clamp(Py_ssize_t offset, Py_ssize_t length)
+{
+    return offset < 0 ? 0 : offset > length ? length : offset;
+}
+
+/* The position of an offset that a caller gives. It is sought from the last one in the same str, or from the start of the haystack, which
+   is nearer. */
+static Position position_of(Matcher *self, const Haystack *haystack, Py_ssize_t offset)
+{
+    Position position = {0, 0};
+    if (!haystack->has_characters)
+        return (Position){(size_t)offset, (size_t)offset};
+    if (self->last_str == haystack->object && self->last_position.character / 2 <= (size_t)offset)
+        position = self->last_position;
+    move_to_character(&position, haystack, (size_t)offset);
+    if (self->last_str != haystack->object) {
+        Py_XDECREF(self->last_str);
+        self->last_str = new_reference(haystack->object);
+    }
+    self->last_position = position;
+    return position;
+}
+
+/* Finds the part that a caller gives by its start and end, and ends the haystack there. Other offsets than those of the haystack stand for
+   the nearest one, except that a start has to be one of them if the search is strict. */
+static __attribute__((noinline)) int parse_offsets(Matcher *self, Haystack *haystack, PyObject *const *given, int is_strict, Range *range)
+{
+    Py_ssize_t length = haystack->has_characters ? PyUnicode_GetLength(haystack->object) : (Py_ssize_t)haystack->length;
+    Py_ssize_t start = 0, end = length;
+    if (parse_offset(given[0], &start) < 0 || parse_offset(given[1], &end) < 0)
         return -1;
-    if (offset >= 0)
-        *position = position_of(haystack, (size_t)offset);
-    if (offset >= 0 && position->byte <= haystack->length)
-        return 0;
-    raise_bad_argument();
-    return -1;
+    if (is_strict && (start < 0 || start > length)) {
+        raise_bad_argument();
+        return -1;
+    }
+    start = clamp(start, length);
+    end = clamp(end, length);
+    size_t last = end < length ? position_of(self, haystack, end).byte : haystack->length;
+    range->start = start ? position_of(self, haystack, start) : (Position){0, 0};
+    haystack->length = last;
+    range->place = (Place){0, 0, (Py_ssize_t)last, start, end};
+    range->is_empty = end < start;
+    return 0;
+}
+
+static inline int parse_range(Matcher *self, Haystack *haystack, PyObject *const *given, int is_strict, Range *range)
+{
+    if (given[0] || given[1])
+        return parse_offsets(self, haystack, given, is_strict, range);
+    Py_ssize_t length = (Py_ssize_t)haystack->length;
+    range->start = (Position){0, 0};
+    range->place = (Place){0, 0, length, 0, haystack->has_characters ? PyUnicode_GetLength(haystack->object) : length};
+    range->is_empty = 0;
+    return 0;
 }
 
 /* What a search holds while it runs. */
@@ -710,7 +737,7 @@ typedef struct {
     PyThreadState *unlocked;
 } Search;
 
-static int begin_search(const Matcher *self, Stock *stock, const Haystack *haystack, Search *search)
+static inline int begin_search(Matcher *self, Stock *stock, const Haystack *haystack, Search *search)
 {
     if (take_handle(self, stock, &search->handle) < 0)
         return -1;
@@ -723,36 +750,653 @@ static int begin_search(const Matcher *self, Stock *stock, const Haystack *hayst
     return 0;
 }
 
-static void end_search(Search *search)
+static inline void end_search(Search *search)
 {
     if (search->unlocked)
         PyEval_RestoreThread(search->unlocked);
     give_back(search->stock, search->handle);
 }
 
-/* The next match from an offset on. In a str, an empty match inside a character doesn't count. */
-static hanneddois_status find_from(Search *search, const Haystack *haystack, size_t from, hanneddois_match *match, hanneddois_error *error)
+/* The handles with which to search a haystack once. */
+static inline Stock *stock_for(Matcher *self, const Haystack *haystack)
+{
+    return self->options.flags & HANNEDDOIS_UTF8 && !haystack->is_str ? &self->utf8_stock : &self->stock;
+}
+
+/* Before several searches: raises an error if the haystack has to be UTF-8 and isn't. From then on empty matches inside characters are
+   skipped, and handles are used that don't check the haystack at each search. */
+static int check_utf8(Matcher *self, Haystack *haystack)
+{
+    Search search;
+    hanneddois_error error;
+    if (!(self->options.flags & HANNEDDOIS_UTF8) || haystack->is_utf8 || haystack->is_str)
+        return 0;
+    if (begin_search(self, &self->utf8_stock, haystack, &search) < 0)
+        return -1;
+    hanneddois_status status = hanneddois_is_match(&search.handle, haystack->bytes, haystack->length, &error);
+    end_search(&search);
+    if (is_failure(status)) {
+        raise_error(&error);
+        return -1;
+    }
+    haystack->is_utf8 = 1;
+    return 0;
+}
+
+/* What one search looks for: from which offset on, and how many slots it fills. */
+typedef struct {
+    size_t from;
+    size_t *slots;
+    size_t width;
+} Query;
+
+/* The next match. If a loop of the patterns may be empty, only the search for groups returns the end that is preferred. */
+static inline hanneddois_status find_once(const Matcher *self, Search *search, const Haystack *haystack, const Query *query, hanneddois_match *match,
+                                          hanneddois_error *error)
+{
+    if (query->width == 0 && !self->has_empty_loops)
+        return hanneddois_find_at(&search->handle, haystack->bytes, haystack->length, query->from, match, error);
+    return hanneddois_captures(&search->handle, haystack->bytes, haystack->length, query->from, match, query->slots, query->width, error);
+}
+
+/* The next match that counts: in a str, an empty one inside a character doesn't. */
+static inline hanneddois_status find_from(const Matcher *self, Search *search, const Haystack *haystack, Query query, hanneddois_match *match,
+                                          hanneddois_error *error)
 {
     for (;;) {
-        hanneddois_status status = hanneddois_find_at(&search->handle, haystack->bytes, haystack->length, from, match, error);
-        if (status != HANNEDDOIS_OK || !haystack->has_characters || !is_inside_character(haystack, match->start))
+        hanneddois_status status = find_once(self, search, haystack, &query, match, error);
+        if (status != HANNEDDOIS_OK || !haystack->is_utf8 || !is_inside_character(haystack, match->start))
             return status;
-        from = match->start + 1;
+        query.from = match->start + 1;
     }
 }
 
-static PyObject *find_match(Matcher *self, const Haystack *haystack, Position position)
+/* ---- scans: all matches of a haystack, of which some are found ahead */
+
+typedef struct {
+    Matcher *matcher;
+    Haystack haystack;
+    /* Whether an empty match right at the end of the last one is listed, as re does. */
+    int lists_all;
+    /* Where to search on, and where the last match ended. */
+    size_t from;
+    size_t last_end;
+    /* The matches that were found ahead, which of them is the next, and the slots of their groups, so many each. */
+    hanneddois_match *rows;
+    size_t room;
+    size_t count;
+    size_t next;
+    size_t *slots;
+    size_t slots_room;
+    size_t width;
+    /* What comes after these matches: perhaps more, or nothing, or an error. */
+    hanneddois_status status;
+    hanneddois_error error;
+    int is_searching;
+} Scan;
+
+static void begin_scan(Scan *scan, Matcher *matcher, const Haystack *haystack, const Range *range, int lists_all)
+{
+    memset(scan, 0, sizeof *scan);
+    scan->matcher = (Matcher *)new_reference((PyObject *)matcher);
+    scan->haystack = *haystack;
+    scan->lists_all = lists_all;
+    scan->from = range->start.byte;
+    scan->last_end = SIZE_MAX;
+    scan->status = range->is_empty ? HANNEDDOIS_NONE : HANNEDDOIS_OK;
+}
+
+/* Lets go of everything. Then there are no further matches. */
+static void end_scan(Scan *scan)
+{
+    free(scan->rows);
+    free(scan->slots);
+    scan->rows = NULL;
+    scan->slots = NULL;
+    scan->room = scan->slots_room = scan->count = scan->next = 0;
+    scan->status = HANNEDDOIS_NONE;
+    close_haystack(&scan->haystack);
+    Py_CLEAR(scan->matcher);
+}
+
+/* Each match gets the slots of all groups that a pattern has. */
+static int want_groups(Scan *scan)
+{
+    if (find_names(scan->matcher) < 0)
+        return -1;
+    scan->width = 2 * scan->matcher->most_groups;
+    return 0;
+}
+
+/* Finds the next matches, as many as there is room for. */
+static void find_some(Scan *scan, Search *search)
+{
+    while (scan->count < scan->room) {
+        hanneddois_match *row = &scan->rows[scan->count];
+        Query query = {scan->from, scan->width ? scan->slots + scan->count * scan->width : (size_t *)row, scan->width};
+        scan->status = scan->from > scan->haystack.length ? HANNEDDOIS_NONE
+                                                          : find_from(scan->matcher, search, &scan->haystack, query, row, &scan->error);
+        if (scan->status != HANNEDDOIS_OK)
+            return;
+        int is_empty = row->start == row->end, is_skipped = is_empty && row->end == scan->last_end && !scan->lists_all;
+        scan->from = row->end + (is_skipped || (is_empty && scan->lists_all));
+        scan->last_end = row->end;
+        scan->count += !is_skipped;
+    }
+}
+
+static int has_room(Scan *scan, size_t room)
+{
+    if (room > scan->room) {
+        hanneddois_match *rows = realloc(scan->rows, room * sizeof *rows);
+        if (!rows)
+            return 0;
+        scan->rows = rows;
+        scan->room = room;
+    }
+    if (scan->room * scan->width > scan->slots_room) {
+        size_t *slots = realloc(scan->slots, scan->room * scan->width * sizeof *slots);
+        if (!slots)
+            return 0;
+        scan->slots = slots;
+        scan->slots_room = scan->room * scan->width;
+    }
+    return 1;
+}
+
+static int search_ahead(Scan *scan)
+{
+    Search search;
+    size_t room = scan->room ? 2 * scan->room : scan->haystack.length > FEW_BYTES ? 1 : 8;
+    scan->count = scan->next = 0;
+    if (!has_room(scan, room < MOST_ROWS ? room : MOST_ROWS)) {
+        PyErr_NoMemory();
+        return -1;
+    }
+    if (scan->room == room && check_utf8(scan->matcher, &scan->haystack) < 0)
+        return -1;
+    if (begin_search(scan->matcher, &scan->matcher->stock, &scan->haystack, &search) < 0)
+        return -1;
+    scan->is_searching = 1;
+    find_some(scan, &search);
+    end_search(&search);
+    scan->is_searching = 0;
+    return 0;
+}
+
+/* The next match, or NULL after the last one, and with an error raised. The slots of its groups are at `slots_of`. */
+static inline const hanneddois_match *next_row(Scan *scan)
+{
+    while (scan->next == scan->count) {
+        if (scan->status != HANNEDDOIS_OK) {
+            if (is_failure(scan->status))
+                raise_error(&scan->error);
+            return NULL;
+        }
+        if (search_ahead(scan) < 0)
+            return NULL;
+    }
+    return &scan->rows[scan->next++];
+}
+
+/* The slots of the match that was returned last, or NULL if groups weren't searched for. */
+static inline const size_t *slots_of(const Scan *scan)
+{
+    return scan->width ? scan->slots + (scan->next - 1) * scan->width : NULL;
+}
+
+/* ---- matches */
+
+typedef struct {
+    PyObject_HEAD
+    Py_ssize_t pattern;
+    Py_ssize_t start;
+    Py_ssize_t end;
+    Place place;
+    /* What was searched. In a match that was freed and is kept, the next one of these. */
+    PyObject *haystack;
+    PyObject *regex;
+    /* The regex that finds the groups, if it is another one than the match is of, or NULL. */
+    PyObject *finder;
+    /* Start and end of each group from 1 on, as the caller counts, and -1 for one that took no part. NULL until somebody asks for one. */
+    Py_ssize_t *offsets;
+    Py_ssize_t few[2 * FEW_GROUPS];
+} Match;
+
+static Match *free_matches;
+static size_t free_count;
+
+static inline Match *allocate_match(void)
+{
+    Match *match = free_matches;
+    if (!match)
+        return PyObject_GC_New(Match, match_type);
+    free_matches = (Match *)match->haystack;
+    free_count--;
+    return (Match *)PyObject_Init((PyObject *)match, match_type);
+}
+
+/* Whether a haystack refers to no other object. Not tracking matches of these saves time. */
+static inline int is_plain(PyObject *haystack)
+{
+    return PyBytes_CheckExact(haystack) || PyUnicode_CheckExact(haystack);
+}
+
+static inline Match *make_match(Matcher *regex, PyObject *haystack, const hanneddois_match *row, size_t start, size_t end, const Place *place)
+{
+    Match *match = allocate_match();
+    if (!match)
+        return NULL;
+    match->pattern = (Py_ssize_t)row->pattern;
+    match->start = (Py_ssize_t)start;
+    match->end = (Py_ssize_t)end;
+    match->place = *place;
+    match->place.start = (Py_ssize_t)row->start;
+    match->haystack = new_reference(haystack);
+    match->regex = new_reference((PyObject *)regex);
+    match->finder = NULL;
+    match->offsets = NULL;
+    if (!is_plain(haystack))
+        PyObject_GC_Track(match);
+    return match;
+}
+
+static PyObject *match_new(PyTypeObject *type, PyObject *Py_UNUSED(args), PyObject *Py_UNUSED(kwargs))
+{
+    PyErr_Format(PyExc_TypeError, "only a search makes a %R", (PyObject *)type);
+    return NULL;
+}
+
+static int match_traverse(PyObject *self, visitproc visit, void *arg)
+{
+    Py_VISIT(Py_TYPE(self));
+    Py_VISIT(((Match *)self)->haystack);
+    Py_VISIT(((Match *)self)->regex);
+    Py_VISIT(((Match *)self)->finder);
+    return 0;
+}
+
+static inline int match_clear(PyObject *self)
+{
+    Match *match = (Match *)self;
+    Py_CLEAR(match->haystack);
+    Py_CLEAR(match->regex);
+    Py_CLEAR(match->finder);
+    if (match->offsets != match->few)
+        free(match->offsets);
+    match->offsets = NULL;
+    return 0;
+}
+
+static void match_dealloc(PyObject *self)
+{
+    PyTypeObject *type = Py_TYPE(self);
+    PyObject *haystack = ((Match *)self)->haystack;
+    if (!haystack || !is_plain(haystack))
+        PyObject_GC_UnTrack(self);
+    match_clear(self);
+    if (free_count < MOST_FREE) {
+        ((Match *)self)->haystack = (PyObject *)free_matches;
+        free_matches = (Match *)self;
+        free_count++;
+    } else {
+        PyObject_GC_Del(self);
+    }
+    Py_DECREF(type);
+}
+
+/* The part of a haystack between two offsets in bytes. */
+static inline PyObject *part_of_bytes(const Haystack *haystack, size_t start, size_t end)
+{
+    const char *bytes = (const char *)haystack->bytes + start;
+    Py_ssize_t length = (Py_ssize_t)(end - start);
+    return haystack->is_str ? PyUnicode_FromStringAndSize(bytes, length) : PyBytes_FromStringAndSize(bytes, length);
+}
+
+/* The part of the haystack between two offsets, as it is now: a buffer may have been written to, and may be shorter. */
+static PyObject *part_of(PyObject *object, Py_ssize_t start, Py_ssize_t end)
+{
+    Haystack haystack;
+    if (PyUnicode_Check(object))
+        return PyUnicode_Substring(object, start, end);
+    if (open_haystack(&haystack, object) < 0)
+        return NULL;
+    Py_ssize_t length = (Py_ssize_t)haystack.length;
+    end = end < length ? end : length;
+    start = start < end ? start : end;
+    PyObject *part = part_of_bytes(&haystack, (size_t)start, (size_t)end);
+    close_haystack(&haystack);
+    return part;
+}
+
+/* Keeps the offsets of all groups but the whole match. Groups are inside of their match. */
+static int keep_offsets(Match *match, const Haystack *haystack, const size_t *slots, Py_ssize_t count)
+{
+    Position first = {(size_t)match->place.start, (size_t)match->start}, position = first;
+    Py_ssize_t *offsets = count - 1 <= FEW_GROUPS ? match->few : malloc((size_t)(count - 1) * 2 * sizeof *offsets);
+    if (!offsets) {
+        PyErr_NoMemory();
+        return -1;
+    }
+    for (Py_ssize_t i = 1; i < count; i++) {
+        const size_t *pair = slots + 2 * i;
+        Py_ssize_t *kept = offsets + 2 * (i - 1);
+        kept[0] = kept[1] = -1;
+        if (pair[0] == HANNEDDOIS_NO_OFFSET)
+            continue;
+        if (pair[0] < position.byte)
+            position = first;
+        kept[0] = (Py_ssize_t)move_to(&position, haystack, pair[0]);
+        Position end = position;
+        kept[1] = (Py_ssize_t)move_to(&end, haystack, pair[1]);
+    }
+    match->offsets = offsets;
+    return 0;
+}
+
+/* Searches the match again, with its groups. Returns 0 without an error if that is another one by now. */
+static int search_groups(Match *match, Haystack *haystack, size_t *slots, Py_ssize_t count)
+{
+    Matcher *matcher = (Matcher *)(match->finder ? match->finder : match->regex);
+    Search search;
+    hanneddois_match found;
+    hanneddois_error error;
+    size_t length = (size_t)match->place.length, start = (size_t)match->place.start, from = start - (size_t)match->place.back;
+    if (haystack->length < length || begin_search(matcher, &matcher->stock, haystack, &search) < 0)
+        return 0;
+    /* Before a match that is sought at one offset, its finder sees the character there, and no other. */
+    size_t skipped = match->finder ? from : 0;
+    hanneddois_status status = hanneddois_captures(&search.handle, haystack->bytes + skipped, length - skipped, from - skipped, &found, slots,
+                                                   (size_t)(2 * count), &error);
+    end_search(&search);
+    if (is_failure(status))
+        raise_error(&error);
+    if (status != HANNEDDOIS_OK || found.pattern != (size_t)match->pattern || found.start + skipped != from)
+        return 0;
+    for (Py_ssize_t i = 2; i < 2 * count; i++)
+        slots[i] += slots[i] == HANNEDDOIS_NO_OFFSET ? 0 : skipped;
+    return keep_offsets(match, haystack, slots, count) == 0;
+}
+
+static int find_groups(Match *match, Py_ssize_t count)
+{
+    Haystack haystack;
+    if (open_haystack(&haystack, match->haystack) < 0)
+        return -1;
+    size_t *slots = malloc((size_t)count * 2 * sizeof *slots);
+    if (!slots)
+        PyErr_NoMemory();
+    else if (!search_groups(match, &haystack, slots, count) && !PyErr_Occurred())
+        PyErr_SetString(PyExc_ValueError, "the haystack was changed after the match was found");
+    free(slots);
+    close_haystack(&haystack);
+    return match->offsets ? 0 : -1;
+}
+
+/* How many groups the match has, with group 0, or -1 if their names can't be found. */
+static Py_ssize_t count_of(const Match *match)
+{
+    Matcher *matcher = (Matcher *)match->regex;
+    return find_names(matcher) < 0 ? -1 : group_count(matcher, match->pattern);
+}
+
+/* The offsets of the groups from 1 on, of which there has to be one. They are found when somebody first asks for one. */
+static inline const Py_ssize_t *offsets_of(Match *match, Py_ssize_t count)
+{
+    if (!match->offsets) {
+        ((Matcher *)match->regex)->asked++;
+        if (find_groups(match, count) < 0)
+            return NULL;
+    }
+    return match->offsets;
+}
+
+/* The number of a group, which a caller gives as a number or a name, or -1. */
+static Py_ssize_t number_of(Match *match, PyObject *group)
+{
+    Py_ssize_t count = count_of(match), number = -1;
+    if (count < 0)
+        return -1;
+    if (PyLong_Check(group) || PyIndex_Check(group)) {
+        number = PyNumber_AsSsize_t(group, NULL);
+    } else if (PyUnicode_Check(group)) {
+        PyObject *found = PyDict_GetItemWithError(PyTuple_GetItem(((Matcher *)match->regex)->indexes, match->pattern), group);
+        number = found ? PyLong_AsSsize_t(found) : -1;
+    }
+    if (number >= 0 && number < count)
+        return number;
+    if (!PyErr_Occurred())
+        PyErr_SetString(PyExc_IndexError, "no such group");
+    return -1;
+}
+
+/* Finds the offsets of a group, which is 0 if it is NULL. */
+static int find_span(PyObject *self, PyObject *group, Py_ssize_t *start, Py_ssize_t *end)
+{
+    Match *match = (Match *)self;
+    Py_ssize_t number = group ? number_of(match, group) : 0;
+    *start = match->start;
+    *end = match->end;
+    if (number <= 0)
+        return (int)number;
+    const Py_ssize_t *offsets = offsets_of(match, group_count((Matcher *)match->regex, match->pattern));
+    if (!offsets)
+        return -1;
+    *start = offsets[2 * (number - 1)];
+    *end = offsets[2 * (number - 1) + 1];
+    return 0;
+}
+
+static PyObject *group_of(PyObject *self, PyObject *group)
+{
+    Py_ssize_t start, end;
+    if (find_span(self, group, &start, &end) < 0)
+        return NULL;
+    return start < 0 ? new_reference(Py_None) : part_of(((Match *)self)->haystack, start, end);
+}
+
+static PyObject *match_group(PyObject *self, PyObject *const *args, Py_ssize_t nargs)
+{
+    if (nargs < 2)
+        return group_of(self, nargs ? args[0] : NULL);
+    PyObject *parts = PyTuple_New(nargs);
+    for (Py_ssize_t i = 0; parts && i < nargs; i++) {
+        PyObject *part = group_of(self, args[i]);
+        if (!part || PyTuple_SetItem(parts, i, part) < 0)
+            Py_CLEAR(parts);
+    }
+    return parts;
+}
+
+/* The part of a group from 1 on, or what stands for one that took no part. */
+static PyObject *part_or(Match *match, const Py_ssize_t *offsets, Py_ssize_t number, PyObject *otherwise)
+{
+    const Py_ssize_t *pair = offsets + 2 * (number - 1);
+    return pair[0] < 0 ? new_reference(otherwise) : part_of(match->haystack, pair[0], pair[1]);
+}
+
+/* The only parameter of groups and groupdict. */
+static int parse_default(const char *name, PyObject *const *args, Py_ssize_t nargs, PyObject *keywords, PyObject **parsed)
+{
+    Py_ssize_t count = keywords ? PyTuple_Size(keywords) : 0;
+    *parsed = nargs + count ? args[0] : Py_None;
+    if (nargs + count > 1) {
+        PyErr_Format(PyExc_TypeError, "%s() takes at most 1 argument (%zd given)", name, nargs + count);
+        return -1;
+    }
+    if (count && PyUnicode_CompareWithASCIIString(PyTuple_GetItem(keywords, 0), "default") != 0) {
+        PyErr_Format(PyExc_TypeError, "%s() got an unexpected keyword argument %R", name, PyTuple_GetItem(keywords, 0));
+        return -1;
+    }
+    return 0;
+}
+
+static PyObject *match_groups(PyObject *self, PyObject *const *args, Py_ssize_t nargs, PyObject *keywords)
+{
+    Match *match = (Match *)self;
+    PyObject *otherwise;
+    Py_ssize_t count = count_of(match);
+    if (count < 0 || parse_default("groups", args, nargs, keywords, &otherwise) < 0)
+        return NULL;
+    const Py_ssize_t *offsets = count > 1 ? offsets_of(match, count) : match->few;
+    PyObject *parts = offsets ? PyTuple_New(count - 1) : NULL;
+    for (Py_ssize_t i = 1; parts && i < count; i++) {
+        PyObject *part = part_or(match, offsets, i, otherwise);
+        if (!part || PyTuple_SetItem(parts, i - 1, part) < 0)
+            Py_CLEAR(parts);
+    }
+    return parts;
+}
+
+static PyObject *match_groupdict(PyObject *self, PyObject *const *args, Py_ssize_t nargs, PyObject *keywords)
+{
+    Match *match = (Match *)self;
+    PyObject *otherwise;
+    Py_ssize_t count = count_of(match);
+    if (count < 0 || parse_default("groupdict", args, nargs, keywords, &otherwise) < 0)
+        return NULL;
+    PyObject *names = PyTuple_GetItem(((Matcher *)match->regex)->names, match->pattern);
+    const Py_ssize_t *offsets = count > 1 ? offsets_of(match, count) : match->few;
+    PyObject *parts = offsets ? PyDict_New() : NULL;
+    for (Py_ssize_t i = 1; parts && i < count; i++) {
+        PyObject *name = PyTuple_GetItem(names, i);
+        if (name == Py_None)
+            continue;
+        PyObject *part = part_or(match, offsets, i, otherwise);
+        if (!part || PyDict_SetItem(parts, name, part) < 0)
+            Py_CLEAR(parts);
+        Py_XDECREF(part);
+    }
+    return parts;
+}
+
+/* The group that a method takes as its only parameter, if any. */
+static int parse_span(const char *name, PyObject *self, PyObject *const *args, Py_ssize_t nargs, Py_ssize_t *start, Py_ssize_t *end)
+{
+    if (nargs < 2)
+        return find_span(self, nargs ? args[0] : NULL, start, end);
+    PyErr_Format(PyExc_TypeError, "%s() takes at most 1 argument (%zd given)", name, nargs);
+    return -1;
+}
+
+static PyObject *make_pair(Py_ssize_t start, Py_ssize_t end)
+{
+    PyObject *pair = PyTuple_New(2), *first = PyLong_FromSsize_t(start), *second = PyLong_FromSsize_t(end);
+    if (pair && first && second) {
+        PyTuple_SetItem(pair, 0, first);
+        PyTuple_SetItem(pair, 1, second);
+        return pair;
+    }
+    Py_XDECREF(first);
+    Py_XDECREF(second);
+    Py_XDECREF(pair);
+    return NULL;
+}
+
+static PyObject *match_span(PyObject *self, PyObject *const *args, Py_ssize_t nargs)
+{
+    Py_ssize_t start, end;
+    return parse_span("span", self, args, nargs, &start, &end) < 0 ? NULL : make_pair(start, end);
+}
+
+static PyObject *match_start(PyObject *self, PyObject *const *args, Py_ssize_t nargs)
+{
+    Py_ssize_t start, end;
+    return parse_span("start", self, args, nargs, &start, &end) < 0 ? NULL : PyLong_FromSsize_t(start);
+}
+
+static PyObject *match_end(PyObject *self, PyObject *const *args, Py_ssize_t nargs)
+{
+    Py_ssize_t start, end;
+    return parse_span("end", self, args, nargs, &start, &end) < 0 ? NULL : PyLong_FromSsize_t(end);
+}
+
+static PyObject *match_regs(PyObject *self, void *Py_UNUSED(closure))
+{
+    Match *match = (Match *)self;
+    Py_ssize_t count = count_of(match);
+    const Py_ssize_t *offsets = count > 1 ? offsets_of(match, count) : match->few;
+    PyObject *pairs = count > 0 && offsets ? PyTuple_New(count) : NULL;
+    for (Py_ssize_t i = 0; pairs && i < count; i++) {
+        PyObject *pair = i ? make_pair(offsets[2 * i - 2], offsets[2 * i - 1]) : make_pair(match->start, match->end);
+        if (!pair || PyTuple_SetItem(pairs, i, pair) < 0)
+            Py_CLEAR(pairs);
+    }
+    return pairs;
+}
+
+static PyObject *match_is_anchored(PyObject *self, void *Py_UNUSED(closure))
+{
+    return PyBool_FromLong(((Match *)self)->finder != NULL);
+}
+
+static PyMemberDef match_members[] = {
+    {"pattern", T_PYSSIZET, offsetof(Match, pattern), READONLY, "The number of the pattern that matches, from 0."},
+    {"pos", T_PYSSIZET, offsetof(Match, place.pos), READONLY, "The offset from which on the search was made."},
+    {"endpos", T_PYSSIZET, offsetof(Match, place.endpos), READONLY, "The offset up to which the search was made."},
+    {"haystack", T_OBJECT, offsetof(Match, haystack), READONLY, "What was searched."},
+    {"string", T_OBJECT, offsetof(Match, haystack), READONLY, "What was searched, by the name that it has in re."},
+    {"re", T_OBJECT, offsetof(Match, regex), READONLY, "The regex that found the match."},
+    {NULL, 0, 0, 0, NULL},
+};
+
+static PyGetSetDef match_properties[] = {
+    {"regs", match_regs, NULL, "The pairs of start and end of all groups; -1 and -1 for one that took no part.", NULL},
+    {"_is_anchored", match_is_anchored, NULL, NULL, NULL},
+    {NULL, NULL, NULL, NULL, NULL},
+};
+
+#define FAST(name, function, doc) {name, (PyCFunction)(void (*)(void))function, METH_FASTCALL, name doc}
+#define FAST_WITH_KEYWORDS(name, function, doc) {name, (PyCFunction)(void (*)(void))function, METH_FASTCALL | METH_KEYWORDS, name doc}
+
+static PyMethodDef match_methods[] = {
+    FAST("group", match_group,
+         "($self, /, *groups)\n--\n\nThe part of the haystack that a group matches, by its number or name: a str of a str, and otherwise bytes.\n\n"
+         "Without an argument it is that of the whole match, and with several a tuple. A group that took no part is None."),
+    FAST_WITH_KEYWORDS("groups", match_groups,
+                       "($self, /, default=None)\n--\n\nThe tuple of the groups from 1 on. A group that took no part is the default."),
+    FAST_WITH_KEYWORDS("groupdict", match_groupdict,
+                       "($self, /, default=None)\n--\n\nThe groups that have a name, by their names. A group that took no part is the default."),
+    FAST("span", match_span, "($self, group=0, /)\n--\n\nThe pair of start and end of a group; -1 and -1 if it took no part."),
+    FAST("start", match_start, "($self, group=0, /)\n--\n\nThe offset at which a group starts; -1 if it took no part."),
+    FAST("end", match_end, "($self, group=0, /)\n--\n\nThe offset after a group; -1 if it took no part."),
+    {"__class_getitem__", Py_GenericAlias, METH_O | METH_CLASS, NULL},
+    {NULL, NULL, 0, NULL},
+};
+
+static PyType_Slot match_slots[] = {
+    {Py_tp_doc, "A match, with the methods that it has in re, and the number of its pattern.\n\n"
+                "Offsets count the characters of a str, and the bytes of any other haystack."},
+    {Py_tp_new, match_new},
+    {Py_tp_dealloc, match_dealloc},
+    {Py_tp_traverse, match_traverse},
+    {Py_tp_clear, match_clear},
+    {Py_tp_members, match_members},
+    {Py_tp_getset, match_properties},
+    {Py_tp_methods, match_methods},
+    {Py_mp_subscript, group_of},
+    {0, NULL},
+};
+
+static PyType_Spec match_spec = {"hanneddois.Match", sizeof(Match), 0, Py_TPFLAGS_DEFAULT | Py_TPFLAGS_HAVE_GC, match_slots};
+
+/* ---- finding one match */
+
+static inline PyObject *find_match(Matcher *self, const Haystack *haystack, Range *range)
 {
     Search search;
     hanneddois_match match;
     hanneddois_error error;
-    if (begin_search(self, &self->stock, haystack, &search) < 0)
+    Query query = {range->start.byte, &match.start, 0};
+    if (range->is_empty)
+        return new_reference(Py_None);
+    if (begin_search(self, stock_for(self, haystack), haystack, &search) < 0)
         return NULL;
-    hanneddois_status status = find_from(&search, haystack, position.byte, &match, &error);
+    hanneddois_status status = find_from(self, &search, haystack, query, &match, &error);
     end_search(&search);
     if (status == HANNEDDOIS_OK) {
-        size_t start = move_to(&position, haystack, match.start);
-        return make_match(haystack->object, match.pattern, start, move_to(&position, haystack, match.end));
+        size_t start = move_to(&range->start, haystack, match.start);
+        return (PyObject *)make_match(self, haystack->object, &match, start, move_to(&range->start, haystack, match.end), &range->place);
     }
     if (status == HANNEDDOIS_NONE)
         return new_reference(Py_None);
@@ -760,17 +1404,167 @@ static PyObject *find_match(Matcher *self, const Haystack *haystack, Position po
     return NULL;
 }
 
-static PyObject *matcher_find(PyObject *self, PyObject *const *args, Py_ssize_t nargs, PyObject *keywords)
+static inline PyObject *find_parsed(PyObject *object, PyObject *const *args, Py_ssize_t nargs, PyObject *keywords, int is_strict)
 {
-    PyObject *parsed[2] = {NULL, NULL}, *result = NULL;
+    Matcher *self = (Matcher *)object;
+    PyObject *parsed[3] = {NULL, NULL, NULL}, *result = NULL;
     Haystack haystack;
-    Position position;
-    if (parse_arguments("find", args, nargs, keywords, 2, parsed) < 0 || open_for((Matcher *)self, &haystack, parsed[0]) < 0)
+    Range range;
+    if (parse_arguments(is_strict ? "find" : "search", args, nargs, keywords, 3, parsed) < 0 || open_for(self, &haystack, parsed[0]) < 0)
         return NULL;
-    if (parse_start(&haystack, parsed[1], &position) == 0)
-        result = find_match((Matcher *)self, &haystack, position);
+    if (parse_range(self, &haystack, parsed + 1, is_strict, &range) == 0)
+        result = find_match(self, &haystack, &range);
     close_haystack(&haystack);
     return result;
+}
+
+static PyObject *matcher_find(PyObject *self, PyObject *const *args, Py_ssize_t nargs, PyObject *keywords)
+{
+    return find_parsed(self, args, nargs, keywords, 1);
+}
+
+/* The bytes of a str that is ASCII or of bytes, if they are few, or NULL. */
+static inline const uint8_t *few_bytes_of(Matcher *self, PyObject *object, Py_ssize_t *length)
+{
+    char *bytes;
+    if (PyUnicode_CheckExact(object)) {
+        bytes = self->fits_str ? (char *)PyUnicode_AsUTF8AndSize(object, length) : NULL;
+        if (!bytes || *length > FEW_BYTES || !is_ascii(object, bytes, *length))
+            bytes = NULL;
+    } else if (!PyBytes_CheckExact(object) || PyBytes_AsStringAndSize(object, &bytes, length) < 0 || *length > FEW_BYTES) {
+        bytes = NULL;
+    }
+    return (const uint8_t *)bytes;
+}
+
+/* Searches few bytes. The interpreter's lock is kept, so nobody else can use the handle, and it isn't taken out of its stock. */
+static inline PyObject *search_few(Matcher *self, PyObject *object, const uint8_t *bytes, Py_ssize_t length)
+{
+    hanneddois_match match;
+    hanneddois_error error;
+    hanneddois_regex *handle = &self->stock.idle[self->stock.idle_count - 1];
+    hanneddois_status status = hanneddois_find_at(handle, bytes, (size_t)length, 0, &match, &error);
+    if (status == HANNEDDOIS_OK) {
+        Place place = {0, 0, length, 0, length};
+        return (PyObject *)make_match(self, object, &match, match.start, match.end, &place);
+    }
+    if (status == HANNEDDOIS_NONE)
+        return new_reference(Py_None);
+    raise_error(&error);
+    return NULL;
+}
+
+static PyObject *matcher_search(PyObject *object, PyObject *const *args, Py_ssize_t nargs, PyObject *keywords)
+{
+    Matcher *self = (Matcher *)object;
+    Py_ssize_t length;
+    if (nargs == 1 && !keywords && self->stock.idle_count > 0 && !self->has_empty_loops && !(self->options.flags & HANNEDDOIS_UTF8)) {
+        const uint8_t *bytes = few_bytes_of(self, args[0], &length);
+        if (bytes)
+            return search_few(self, args[0], bytes, length);
+        PyErr_Clear();
+    }
+    return find_parsed(object, args, nargs, keywords, 0);
+}
+
+/* How many bytes the character has that ends at an offset above 0; if none ends there, the byte before it is one. */
+static size_t character_before(const Haystack *haystack, size_t offset, int *anchor)
+{
+    size_t length = 1;
+    *anchor = AFTER_CHARACTER;
+    while (length < 4 && length < offset && is_inside_character(haystack, offset - length))
+        length++;
+    PyObject *decoded = PyUnicode_DecodeUTF8((const char *)haystack->bytes + offset - length, (Py_ssize_t)length, NULL);
+    if (decoded && PyUnicode_GetLength(decoded) == 1) {
+        Py_DECREF(decoded);
+        return length;
+    }
+    Py_XDECREF(decoded);
+    PyErr_Clear();
+    *anchor = AFTER_BYTE;
+    return 1;
+}
+
+/* The regex that matches where the patterns do, but at one offset alone. Regex makes it, when it is first needed. */
+static Matcher *find_anchored(Matcher *self, int anchor, int is_full)
+{
+    PyObject **kept = &self->anchored[anchor][is_full];
+    if (*kept)
+        return (Matcher *)*kept;
+    PyObject *made = PyObject_CallMethod((PyObject *)self, "_anchored", "ii", anchor, is_full);
+    if (made && !PyObject_TypeCheck(made, matcher_type)) {
+        PyErr_SetString(PyExc_TypeError, "_anchored() returns a regex");
+        Py_CLEAR(made);
+    }
+    if (*kept)
+        Py_XDECREF(made);
+    else
+        *kept = made;
+    return (Matcher *)*kept;
+}
+
+/* Matches at one offset, and perhaps up to the end: by a regex that begins with the character before that offset, so that it sees that
+   character and reads no more than the match. */
+static PyObject *match_at(Matcher *self, Haystack *haystack, Range *range, int is_full)
+{
+    Search search;
+    hanneddois_match match;
+    hanneddois_error error;
+    int anchor = AT_START;
+    size_t start = range->start.byte, back = 0;
+    if (range->is_empty)
+        return new_reference(Py_None);
+    if (check_utf8(self, haystack) < 0)
+        return NULL;
+    if (start > 0)
+        back = character_before(haystack, start, &anchor);
+    Matcher *finder = find_anchored(self, anchor, is_full);
+    if (!finder || begin_search(finder, &finder->stock, haystack, &search) < 0)
+        return NULL;
+    Haystack rest = *haystack;
+    rest.bytes += start - back;
+    rest.length -= start - back;
+    Query query = {0, &match.start, 0};
+    hanneddois_status status = find_once(finder, &search, &rest, &query, &match, &error);
+    end_search(&search);
+    if (is_failure(status)) {
+        raise_error(&error);
+        return NULL;
+    }
+    hanneddois_match row = {match.pattern, start, start - back + match.end};
+    if (status == HANNEDDOIS_NONE || (haystack->is_utf8 && is_inside_character(haystack, start)))
+        return new_reference(Py_None);
+    size_t first = range->start.character;
+    range->place.back = (Py_ssize_t)back;
+    Match *made = make_match(self, haystack->object, &row, haystack->has_characters ? first : start, move_to(&range->start, haystack, row.end),
+                             &range->place);
+    if (made)
+        made->finder = new_reference((PyObject *)finder);
+    return (PyObject *)made;
+}
+
+static PyObject *match_parsed(const char *name, PyObject *object, PyObject *const *args, Py_ssize_t nargs, PyObject *keywords, int is_full)
+{
+    Matcher *self = (Matcher *)object;
+    PyObject *parsed[3] = {NULL, NULL, NULL}, *result = NULL;
+    Haystack haystack;
+    Range range;
+    if (parse_arguments(name, args, nargs, keywords, 3, parsed) < 0 || open_for(self, &haystack, parsed[0]) < 0)
+        return NULL;
+    if (parse_range(self, &haystack, parsed + 1, 0, &range) == 0)
+        result = match_at(self, &haystack, &range, is_full);
+    close_haystack(&haystack);
+    return result;
+}
+
+static PyObject *matcher_match(PyObject *self, PyObject *const *args, Py_ssize_t nargs, PyObject *keywords)
+{
+    return match_parsed("match", self, args, nargs, keywords, 0);
+}
+
+static PyObject *matcher_fullmatch(PyObject *self, PyObject *const *args, Py_ssize_t nargs, PyObject *keywords)
+{
+    return match_parsed("fullmatch", self, args, nargs, keywords, 1);
 }
 
 static PyObject *is_match(Matcher *self, const Haystack *haystack)
@@ -779,11 +1573,12 @@ static PyObject *is_match(Matcher *self, const Haystack *haystack)
     hanneddois_match match;
     hanneddois_error error;
     hanneddois_status status;
-    if (begin_search(self, &self->stock, haystack, &search) < 0)
+    Query query = {0, &match.start, 0};
+    if (begin_search(self, stock_for(self, haystack), haystack, &search) < 0)
         return NULL;
     /* Whether an empty match is inside a character shows only in its offset. */
-    if (haystack->has_characters)
-        status = find_from(&search, haystack, 0, &match, &error);
+    if (haystack->is_utf8)
+        status = find_from(self, &search, haystack, query, &match, &error);
     else
         status = hanneddois_is_match(&search.handle, haystack->bytes, haystack->length, &error);
     end_search(&search);
@@ -823,7 +1618,7 @@ static PyObject *matching_patterns(Matcher *self, const Haystack *haystack, uint
     Search search;
     hanneddois_error error;
     size_t found;
-    if (begin_search(self, haystack->has_characters ? &self->utf8_stock : &self->stock, haystack, &search) < 0)
+    if (begin_search(self, haystack->has_characters ? &self->utf8_stock : stock_for(self, haystack), haystack, &search) < 0)
         return NULL;
     hanneddois_status status =
         hanneddois_matching_patterns(&search.handle, haystack->bytes, haystack->length, marks, (size_t)self->count, &found, &error);
@@ -855,149 +1650,102 @@ static PyObject *matcher_matching_patterns(PyObject *object, PyObject *const *ar
 
 typedef struct {
     PyObject_HEAD
-    Matcher *matcher;
-    Haystack haystack;
-    /* The matches that were found ahead, and which of them is the next. */
-    hanneddois_match *rows;
-    size_t room;
-    size_t count;
-    size_t next;
-    /* Where to search on, and where the last match ended. */
-    size_t from;
-    size_t last_end;
-    /* What comes after these matches: perhaps more, or nothing, or an error. */
-    hanneddois_status status;
-    hanneddois_error error;
+    Scan scan;
     /* How far characters are counted. */
     Position position;
-    int is_searching;
+    Place place;
+    /* How many matches of the regex were asked for their groups before these were found. */
+    size_t asked_before;
 } Iterator;
 
-/* Finds the next matches, as many as there is room for. */
-static void find_some(Iterator *self, Search *search)
+/* Before more matches are found: they are found with their groups, if the groups of most of the last ones were asked for. */
+static int choose_width(Iterator *self)
 {
-    while (self->count < self->room) {
-        hanneddois_match *row = &self->rows[self->count];
-        self->status = self->from <= self->haystack.length ? find_from(search, &self->haystack, self->from, row, &self->error) : HANNEDDOIS_NONE;
-        if (self->status != HANNEDDOIS_OK)
-            return;
-        self->from = row->end;
-        if (row->start == row->end && row->end == self->last_end)
-            self->from++;
-        else
-            self->count++;
-        self->last_end = row->end;
-    }
-}
-
-static int has_room(Iterator *self, size_t room)
-{
-    hanneddois_match *rows = room > SIZE_MAX / sizeof *rows ? NULL : realloc(self->rows, room * sizeof *rows);
-    if (!rows)
+    Scan *scan = &self->scan;
+    size_t asked = scan->matcher->asked - self->asked_before;
+    self->asked_before = scan->matcher->asked;
+    if (scan->width > 0 || scan->count == 0 || 2 * asked < scan->count)
         return 0;
-    self->rows = rows;
-    self->room = room;
-    return 1;
-}
-
-/* Finds all matches at once, if the library checks the whole haystack at each search. */
-static void find_rest(Iterator *self, Search *search)
-{
-    size_t count = 0;
-    for (;;) {
-        self->status = hanneddois_find_all(&search->handle, self->haystack.bytes, self->haystack.length, self->rows, self->room, &count, &self->error);
-        if (count <= self->room)
-            break;
-        if (!has_room(self, count)) {
-            self->status = self->error.status = HANNEDDOIS_NO_MEMORY;
-            return;
-        }
-    }
-    self->count = count;
-    if (self->status == HANNEDDOIS_OK)
-        self->status = HANNEDDOIS_NONE;
-}
-
-static int search_ahead(Iterator *self)
-{
-    Search search;
-    size_t room = self->room ? 2 * self->room : self->haystack.length > FEW_BYTES ? 1 : 8;
-    self->count = self->next = 0;
-    if (self->room < MOST_ROWS && !has_room(self, room)) {
-        PyErr_NoMemory();
-        return -1;
-    }
-    if (begin_search(self->matcher, &self->matcher->stock, &self->haystack, &search) < 0)
-        return -1;
-    self->is_searching = 1;
-    if (self->matcher->options.flags & HANNEDDOIS_UTF8)
-        find_rest(self, &search);
-    else
-        find_some(self, &search);
-    end_search(&search);
-    self->is_searching = 0;
-    return 0;
-}
-
-/* Lets go of everything when the last match is returned. */
-static void finish(Iterator *self)
-{
-    free(self->rows);
-    self->rows = NULL;
-    self->room = self->count = self->next = 0;
-    self->status = HANNEDDOIS_NONE;
-    close_haystack(&self->haystack);
-    Py_CLEAR(self->matcher);
+    return want_groups(scan);
 }
 
 static PyObject *iterator_next(PyObject *object)
 {
     Iterator *self = (Iterator *)object;
-    if (self->is_searching) {
+    Scan *scan = &self->scan;
+    if (scan->is_searching) {
         PyErr_SetString(PyExc_ValueError, "another thread is in this iterator");
         return NULL;
     }
-    while (self->next == self->count) {
-        if (self->status != HANNEDDOIS_OK) {
-            if (is_failure(self->status))
-                raise_error(&self->error);
-            finish(self);
-            return NULL;
-        }
-        if (search_ahead(self) < 0)
-            return NULL;
+    if (scan->next == scan->count && scan->status == HANNEDDOIS_OK && choose_width(self) < 0)
+        return NULL;
+    const hanneddois_match *row = next_row(scan);
+    if (!row) {
+        if (scan->status != HANNEDDOIS_OK)
+            end_scan(scan);
+        return NULL;
     }
-    const hanneddois_match *row = &self->rows[self->next++];
-    size_t start = move_to(&self->position, &self->haystack, row->start);
-    return make_match(self->haystack.object, row->pattern, start, move_to(&self->position, &self->haystack, row->end));
+    size_t start = move_to(&self->position, &scan->haystack, row->start);
+    Position position = self->position;
+    Match *match =
+        make_match(scan->matcher, scan->haystack.object, row, start, move_to(&position, &scan->haystack, row->end), &self->place);
+    if (!match || !scan->width)
+        return (PyObject *)match;
+    Py_ssize_t count = group_count(scan->matcher, match->pattern);
+    if (count > 1 && keep_offsets(match, &scan->haystack, slots_of(scan), count) < 0)
+        Py_CLEAR(match);
+    return (PyObject *)match;
 }
 
-static PyObject *matcher_find_iter(PyObject *matcher, PyObject *const *args, Py_ssize_t nargs, PyObject *keywords)
+/* Parses the arguments of a search for all matches, and begins it. */
+static int begin_parsed(const char *name, PyObject *object, PyObject *const *args, Py_ssize_t nargs, PyObject *keywords, int lists_all, Scan *scan,
+                        Range *range)
 {
+    Matcher *matcher = (Matcher *)object;
+    PyObject *parsed[3] = {NULL, NULL, NULL};
     Haystack haystack;
-    if (parse_haystack((Matcher *)matcher, "find_iter", args, nargs, keywords, &haystack) < 0)
+    if (parse_arguments(name, args, nargs, keywords, 3, parsed) < 0 || open_for(matcher, &haystack, parsed[0]) < 0)
+        return -1;
+    if (parse_range(matcher, &haystack, parsed + 1, 0, range) < 0) {
+        close_haystack(&haystack);
+        return -1;
+    }
+    begin_scan(scan, matcher, &haystack, range, lists_all);
+    return 0;
+}
+
+static PyObject *iterate(const char *name, PyObject *matcher, PyObject *const *args, Py_ssize_t nargs, PyObject *keywords, int lists_all)
+{
+    Scan scan;
+    Range range;
+    if (begin_parsed(name, matcher, args, nargs, keywords, lists_all, &scan, &range) < 0)
         return NULL;
     Iterator *self = PyObject_GC_New(Iterator, iterator_type);
     if (!self) {
-        close_haystack(&haystack);
+        end_scan(&scan);
         return NULL;
     }
-    self->matcher = (Matcher *)new_reference(matcher);
-    self->haystack = haystack;
-    self->rows = NULL;
-    self->room = self->count = self->next = 0;
-    self->from = 0;
-    self->last_end = SIZE_MAX;
-    self->status = HANNEDDOIS_OK;
-    self->position = (Position){0, 0};
-    self->is_searching = 0;
+    self->scan = scan;
+    self->position = range.start;
+    self->place = range.place;
+    self->asked_before = ((Matcher *)matcher)->asked;
     PyObject_GC_Track(self);
     return (PyObject *)self;
 }
 
+static PyObject *matcher_find_iter(PyObject *matcher, PyObject *const *args, Py_ssize_t nargs, PyObject *keywords)
+{
+    return iterate("find_iter", matcher, args, nargs, keywords, 0);
+}
+
+static PyObject *matcher_finditer(PyObject *matcher, PyObject *const *args, Py_ssize_t nargs, PyObject *keywords)
+{
+    return iterate("finditer", matcher, args, nargs, keywords, 1);
+}
+
 static PyObject *matcher_find_all(PyObject *matcher, PyObject *const *args, Py_ssize_t nargs, PyObject *keywords)
 {
-    PyObject *iterator = matcher_find_iter(matcher, args, nargs, keywords);
+    PyObject *iterator = iterate("find_all", matcher, args, nargs, keywords, 0);
     PyObject *list = iterator ? PySequence_List(iterator) : NULL;
     Py_XDECREF(iterator);
     return list;
@@ -1007,15 +1755,15 @@ static int iterator_traverse(PyObject *object, visitproc visit, void *arg)
 {
     Iterator *self = (Iterator *)object;
     Py_VISIT(Py_TYPE(object));
-    Py_VISIT((PyObject *)self->matcher);
-    Py_VISIT(self->haystack.object);
-    Py_VISIT(self->haystack.view);
+    Py_VISIT((PyObject *)self->scan.matcher);
+    Py_VISIT(self->scan.haystack.object);
+    Py_VISIT(self->scan.haystack.view);
     return 0;
 }
 
 static int iterator_clear(PyObject *self)
 {
-    finish((Iterator *)self);
+    end_scan(&((Iterator *)self)->scan);
     return 0;
 }
 
@@ -1023,19 +1771,19 @@ static void iterator_dealloc(PyObject *self)
 {
     PyTypeObject *type = Py_TYPE(self);
     PyObject_GC_UnTrack(self);
-    finish((Iterator *)self);
+    end_scan(&((Iterator *)self)->scan);
     PyObject_GC_Del(self);
     Py_DECREF(type);
 }
 
 static PyObject *iterator_new(PyTypeObject *type, PyObject *Py_UNUSED(args), PyObject *Py_UNUSED(kwargs))
 {
-    PyErr_Format(PyExc_TypeError, "only find_iter makes a %R", (PyObject *)type);
+    PyErr_Format(PyExc_TypeError, "only a search makes a %R", (PyObject *)type);
     return NULL;
 }
 
 static PyType_Slot iterator_slots[] = {
-    {Py_tp_doc, "The matches of Regex.find_iter."},
+    {Py_tp_doc, "The matches of Regex.finditer or Regex.find_iter."},
     {Py_tp_new, iterator_new},
     {Py_tp_dealloc, iterator_dealloc},
     {Py_tp_traverse, iterator_traverse},
@@ -1046,6 +1794,246 @@ static PyType_Slot iterator_slots[] = {
 };
 
 static PyType_Spec iterator_spec = {"hanneddois.MatchIterator", sizeof(Iterator), 0, Py_TPFLAGS_DEFAULT | Py_TPFLAGS_HAVE_GC, iterator_slots};
+
+/* ---- lists of parts, and replacements */
+
+/* The part of a group from 1 on. */
+static PyObject *part_of_slots(const Haystack *haystack, const size_t *slots, Py_ssize_t number, PyObject *otherwise)
+{
+    const size_t *pair = slots + 2 * number;
+    return pair[0] == HANNEDDOIS_NO_OFFSET ? new_reference(otherwise) : part_of_bytes(haystack, pair[0], pair[1]);
+}
+
+static int append(PyObject *list, PyObject *item)
+{
+    int status = item ? PyList_Append(list, item) : -1;
+    Py_XDECREF(item);
+    return status;
+}
+
+/* What findall lists of a match: the whole match if its pattern has no group, its group if it has one, and else a tuple of its groups. */
+static PyObject *item_of(const Scan *scan, const hanneddois_match *row, PyObject *empty)
+{
+    const size_t *slots = slots_of(scan);
+    Py_ssize_t count = slots ? group_count(scan->matcher, (Py_ssize_t)row->pattern) : 1;
+    if (count == 1)
+        return part_of_bytes(&scan->haystack, row->start, row->end);
+    if (count == 2)
+        return part_of_slots(&scan->haystack, slots, 1, empty);
+    PyObject *parts = PyTuple_New(count - 1);
+    for (Py_ssize_t i = 1; parts && i < count; i++) {
+        PyObject *part = part_of_slots(&scan->haystack, slots, i, empty);
+        if (!part || PyTuple_SetItem(parts, i - 1, part) < 0)
+            Py_CLEAR(parts);
+    }
+    return parts;
+}
+
+/* Has the groups found too, if there is one. */
+static int want_any_groups(Scan *scan)
+{
+    if (find_names(scan->matcher) < 0)
+        return -1;
+    return scan->matcher->most_groups > 1 ? want_groups(scan) : 0;
+}
+
+static PyObject *matcher_findall(PyObject *matcher, PyObject *const *args, Py_ssize_t nargs, PyObject *keywords)
+{
+    Scan scan;
+    Range range;
+    const hanneddois_match *row;
+    if (begin_parsed("findall", matcher, args, nargs, keywords, 1, &scan, &range) < 0)
+        return NULL;
+    PyObject *empty = part_of_bytes(&scan.haystack, 0, 0);
+    PyObject *list = empty && want_any_groups(&scan) == 0 ? PyList_New(0) : NULL;
+    while (list && (row = next_row(&scan))) {
+        if (append(list, item_of(&scan, row, empty)) < 0)
+            Py_CLEAR(list);
+    }
+    if (PyErr_Occurred())
+        Py_CLEAR(list);
+    Py_XDECREF(empty);
+    end_scan(&scan);
+    return list;
+}
+
+/* Begins a search for all matches of a whole haystack, of which only so many count, or all if the limit is 0. */
+static int begin_whole(Scan *scan, Matcher *matcher, PyObject *string, Py_ssize_t limit, Range *range)
+{
+    PyObject *none[2] = {NULL, NULL};
+    Haystack haystack;
+    if (open_for(matcher, &haystack, string) < 0)
+        return -1;
+    parse_range(matcher, &haystack, none, 0, range);
+    range->is_empty = limit < 0;
+    begin_scan(scan, matcher, &haystack, range, 1);
+    return 0;
+}
+
+/* Appends what is before a match, and its groups. */
+static int append_split(PyObject *list, const Scan *scan, const hanneddois_match *row, size_t last)
+{
+    const size_t *slots = slots_of(scan);
+    Py_ssize_t count = slots ? group_count(scan->matcher, (Py_ssize_t)row->pattern) : 1;
+    if (append(list, part_of_bytes(&scan->haystack, last, row->start)) < 0)
+        return -1;
+    for (Py_ssize_t i = 1; i < count; i++)
+        if (append(list, part_of_slots(&scan->haystack, slots, i, Py_None)) < 0)
+            return -1;
+    return 0;
+}
+
+/* _split(string, maxsplit) */
+static PyObject *matcher_split(PyObject *matcher, PyObject *args)
+{
+    PyObject *string;
+    Py_ssize_t limit, count = 0;
+    Scan scan;
+    Range range;
+    const hanneddois_match *row;
+    size_t last = 0;
+    if (!PyArg_ParseTuple(args, "On:_split", &string, &limit) || begin_whole(&scan, (Matcher *)matcher, string, limit, &range) < 0)
+        return NULL;
+    PyObject *list = want_any_groups(&scan) == 0 ? PyList_New(0) : NULL;
+    while (list && (limit <= 0 || count < limit) && (row = next_row(&scan))) {
+        count++;
+        if (append_split(list, &scan, row, last) < 0)
+            Py_CLEAR(list);
+        last = row->end;
+    }
+    if (list && (PyErr_Occurred() || append(list, part_of_bytes(&scan.haystack, last, scan.haystack.length)) < 0))
+        Py_CLEAR(list);
+    end_scan(&scan);
+    return list;
+}
+
+/* Bytes that grow. */
+typedef struct {
+    char *bytes;
+    size_t length;
+    size_t room;
+} Output;
+
+static int add_bytes(Output *output, const void *bytes, size_t length)
+{
+    if (length > output->room - output->length) {
+        size_t room = 2 * output->room + length + 64;
+        char *grown = room < length ? NULL : realloc(output->bytes, room);
+        if (!grown) {
+            PyErr_NoMemory();
+            return -1;
+        }
+        output->bytes = grown;
+        output->room = room;
+    }
+    memcpy(output->bytes + output->length, bytes, length);
+    output->length += length;
+    return 0;
+}
+
+/* Adds a str to a str, or bytes to bytes. */
+static int add_object(Output *output, PyObject *object, int is_str)
+{
+    Haystack part;
+    if (PyUnicode_Check(object) != is_str) {
+        raise_wrong_type(is_str ? "expected a str that replaces a match" : "expected a bytes-like object that replaces a match", object);
+        return -1;
+    }
+    if (open_haystack(&part, object) < 0)
+        return -1;
+    int status = add_bytes(output, part.bytes, part.length);
+    close_haystack(&part);
+    return status;
+}
+
+/* Adds the parts of a template: bytes, and the numbers of groups. */
+static int add_template(Output *output, const Scan *scan, const hanneddois_match *row, PyObject *parts)
+{
+    const size_t whole[2] = {row->start, row->end}, *slots = slots_of(scan);
+    for (Py_ssize_t i = 0; i < PyTuple_Size(parts); i++) {
+        PyObject *part = PyTuple_GetItem(parts, i);
+        if (PyBytes_CheckExact(part)) {
+            if (add_bytes(output, PyBytes_AsString(part), (size_t)PyBytes_Size(part)) < 0)
+                return -1;
+            continue;
+        }
+        Py_ssize_t number = PyLong_AsSsize_t(part);
+        const size_t *pair = number ? slots + 2 * number : whole;
+        if (pair[0] != HANNEDDOIS_NO_OFFSET && add_bytes(output, scan->haystack.bytes + pair[0], pair[1] - pair[0]) < 0)
+            return -1;
+    }
+    return 0;
+}
+
+/* What is made of a haystack by a replacement, with what is known on the way. */
+typedef struct {
+    Scan scan;
+    Range range;
+    /* For each pattern the tuple of the parts of its template, or a function. */
+    PyObject *by;
+    Output output;
+    size_t last;
+} Replacement;
+
+/* Adds what a function returns for a match. */
+static int add_result(Replacement *self, const hanneddois_match *row)
+{
+    const Haystack *haystack = &self->scan.haystack;
+    size_t start = move_to(&self->range.start, haystack, row->start);
+    Position position = self->range.start;
+    Match *match =
+        make_match(self->scan.matcher, haystack->object, row, start, move_to(&position, haystack, row->end), &self->range.place);
+    PyObject *result = match ? PyObject_CallFunctionObjArgs(self->by, match, NULL) : NULL;
+    int status = !result ? -1 : result == Py_None ? 0 : add_object(&self->output, result, haystack->is_str);
+    Py_XDECREF(match);
+    Py_XDECREF(result);
+    return status;
+}
+
+static int replace_one(Replacement *self, const hanneddois_match *found)
+{
+    hanneddois_match row = *found;
+    if (add_bytes(&self->output, self->scan.haystack.bytes + self->last, row.start - self->last) < 0)
+        return -1;
+    self->last = row.end;
+    if (PyTuple_CheckExact(self->by))
+        return add_template(&self->output, &self->scan, &row, PyTuple_GetItem(self->by, (Py_ssize_t)row.pattern));
+    return add_result(self, &row);
+}
+
+static PyObject *finish_replacement(Replacement *self, Py_ssize_t count)
+{
+    const Haystack *haystack = &self->scan.haystack;
+    Output *output = &self->output;
+    if (PyErr_Occurred() || add_bytes(output, haystack->bytes + self->last, haystack->length - self->last) < 0)
+        return NULL;
+    PyObject *made = haystack->is_str ? PyUnicode_FromStringAndSize(output->bytes, (Py_ssize_t)output->length)
+                                      : PyBytes_FromStringAndSize(output->bytes, (Py_ssize_t)output->length);
+    return made ? Py_BuildValue("Nn", made, count) : NULL;
+}
+
+/* _replace(string, by, limit, needs_groups): the pair of what is made of the string, and how many matches were replaced. */
+static PyObject *matcher_replace(PyObject *matcher, PyObject *args)
+{
+    Replacement self = {.output = {NULL, 0, 0}};
+    PyObject *string, *result = NULL;
+    Py_ssize_t limit, count = 0;
+    int needs_groups;
+    const hanneddois_match *row;
+    if (!PyArg_ParseTuple(args, "OOnp:_replace", &string, &self.by, &limit, &needs_groups) ||
+        begin_whole(&self.scan, (Matcher *)matcher, string, limit, &self.range) < 0)
+        return NULL;
+    int status = needs_groups ? want_groups(&self.scan) : 0;
+    while (status == 0 && (limit <= 0 || count < limit) && (row = next_row(&self.scan))) {
+        count++;
+        status = replace_one(&self, row);
+    }
+    if (status == 0)
+        result = finish_replacement(&self, count);
+    free(self.output.bytes);
+    end_scan(&self.scan);
+    return result;
+}
 
 /* ---- the module */
 
@@ -1070,7 +2058,13 @@ static PyObject *matcher_clear_count(PyObject *self, void *Py_UNUSED(closure))
     return sum_of((Matcher *)self, hanneddois_clear_count);
 }
 
+static PyObject *matcher_group_names(PyObject *self, void *Py_UNUSED(closure))
+{
+    return find_names((Matcher *)self) < 0 ? NULL : new_reference(((Matcher *)self)->names);
+}
+
 static PyGetSetDef matcher_properties[] = {
+    {"group_names", matcher_group_names, NULL, "For each pattern a tuple of the names of its groups, with None for a group that has none.", NULL},
     {"memory_usage", matcher_memory_usage, NULL, "An estimate of how many bytes the caches need now, without those that searches are using.", NULL},
     {"clear_count", matcher_clear_count, NULL, "How often these caches were cleared.", NULL},
     {NULL, NULL, NULL, NULL, NULL},
@@ -1086,21 +2080,31 @@ static PyMemberDef matcher_members[] = {
     {NULL, 0, 0, 0, NULL},
 };
 
-#define SEARCH(name, function, doc) {name, (PyCFunction)(void (*)(void))function, METH_FASTCALL | METH_KEYWORDS, name doc}
-
 static PyMethodDef matcher_methods[] = {
-    SEARCH("is_match", matcher_is_match, "($self, /, haystack)\n--\n\nWhether there is a match in the haystack."),
-    SEARCH("find", matcher_find,
-           "($self, /, haystack, start=0)\n--\n\nThe leftmost match that starts at the offset or after it, or None.\n\n"
-           "Looks, as ^ and \\b, see what is before the start."),
-    SEARCH("search", matcher_find, "($self, /, haystack, start=0)\n--\n\nfind, by the name that it has in re."),
-    SEARCH("find_iter", matcher_find_iter,
-           "($self, /, haystack)\n--\n\nAn iterator over all matches, each the leftmost one from the end of the one before it.\n\n"
-           "An empty match right at the end of the one before it is skipped."),
-    SEARCH("finditer", matcher_find_iter, "($self, /, haystack)\n--\n\nfind_iter, by the name that it has in re."),
-    SEARCH("find_all", matcher_find_all, "($self, /, haystack)\n--\n\nThe list of the matches of find_iter."),
-    SEARCH("matching_patterns", matcher_matching_patterns,
-           "($self, /, haystack)\n--\n\nThe numbers of the patterns that match anywhere, ascending, also if their matches overlap."),
+    FAST_WITH_KEYWORDS("is_match", matcher_is_match, "($self, /, haystack)\n--\n\nWhether there is a match in the haystack."),
+    FAST_WITH_KEYWORDS("find", matcher_find,
+                       "($self, /, haystack, start=0, end=sys.maxsize)\n--\n\nThe leftmost match that starts at the offset or after it, or None.\n\n"
+                       "Looks, as ^ and \\b, see what is before the start. For them the haystack ends at the end."),
+    FAST_WITH_KEYWORDS("search", matcher_search,
+                       "($self, /, string, pos=0, endpos=sys.maxsize)\n--\n\nfind as re has it: offsets outside of the haystack stand for the "
+                       "nearest one."),
+    FAST_WITH_KEYWORDS("match", matcher_match, "($self, /, string, pos=0, endpos=sys.maxsize)\n--\n\nThe match that starts at the offset, or None."),
+    FAST_WITH_KEYWORDS("fullmatch", matcher_fullmatch,
+                       "($self, /, string, pos=0, endpos=sys.maxsize)\n--\n\nThe match from the one offset to the other, or None."),
+    FAST_WITH_KEYWORDS("find_iter", matcher_find_iter,
+                       "($self, /, haystack, start=0, end=sys.maxsize)\n--\n\nAn iterator over all matches, each the leftmost one from the end of the "
+                       "one before it.\n\nAn empty match right at the end of the one before it is skipped."),
+    FAST_WITH_KEYWORDS("finditer", matcher_finditer,
+                       "($self, /, string, pos=0, endpos=sys.maxsize)\n--\n\nfind_iter as re has it: an empty match right at the end of another one is "
+                       "listed too."),
+    FAST_WITH_KEYWORDS("find_all", matcher_find_all, "($self, /, haystack, start=0, end=sys.maxsize)\n--\n\nThe list of the matches of find_iter."),
+    FAST_WITH_KEYWORDS("findall", matcher_findall,
+                       "($self, /, string, pos=0, endpos=sys.maxsize)\n--\n\nThe list of the parts that match: the whole match if its pattern has no "
+                       "group, its group if it has one, and else a tuple of its groups.\n\nA group that took no part is empty."),
+    FAST_WITH_KEYWORDS("matching_patterns", matcher_matching_patterns,
+                       "($self, /, haystack)\n--\n\nThe numbers of the patterns that match anywhere, ascending, also if their matches overlap."),
+    {"_replace", matcher_replace, METH_VARARGS, NULL},
+    {"_split", matcher_split, METH_VARARGS, NULL},
     {NULL, NULL, 0, NULL},
 };
 
@@ -1137,15 +2141,6 @@ static PyTypeObject *add_type(PyObject *module, const char *name, PyType_Spec *s
     return (PyTypeObject *)type;
 }
 
-/* Sets what Match.__match_args__ has, for the statement match. */
-static int add_match_args(void)
-{
-    PyObject *names = Py_BuildValue("(sss)", "pattern", "start", "end");
-    int status = names ? PyObject_SetAttrString((PyObject *)match_type, "__match_args__", names) : -1;
-    Py_XDECREF(names);
-    return status;
-}
-
 static int import_common(void)
 {
     PyObject *common = PyImport_ImportModule("hanneddois._common");
@@ -1167,7 +2162,7 @@ PyMODINIT_FUNC PyInit__extension(void)
     matcher_type = add_type(module, "Matcher", &matcher_spec);
     match_type = add_type(module, "Match", &match_spec);
     iterator_type = add_type(module, "MatchIterator", &iterator_spec);
-    if (!matcher_type || !match_type || !iterator_type || add_match_args() < 0 || import_common() < 0)
+    if (!matcher_type || !match_type || !iterator_type || import_common() < 0)
         Py_CLEAR(module);
     return module;
 }

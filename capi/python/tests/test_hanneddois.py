@@ -19,6 +19,7 @@ import tempfile
 import threading
 import unittest
 import unittest.mock
+import weakref
 
 import hanneddois
 
@@ -45,6 +46,77 @@ def spans(matches):
 
 
 class Searches(unittest.TestCase):
+    def test_lists_as_re(self):
+        # A pattern whose match is empty where it might not be is left out: re looks for another match there.
+        for pattern in PATTERNS + [r"a*", r"\d*", r"(?:ab)*", r"x*$", r"^a*", r"(?:a|b)*", r"()a|b", r"(a)|(b)|"]:
+            regex, in_bytes = hanneddois.compile(pattern), hanneddois.compile(pattern, hanneddois.NO_UNICODE)
+            for haystack in HAYSTACKS + WIDE:
+                for ours, theirs, searched in ((regex, re.compile(pattern), haystack), (in_bytes, re.compile(pattern.encode()), haystack.encode())):
+                    if "$" in pattern and haystack.endswith("\n"):
+                        continue
+                    with self.subTest(pattern=pattern, searched=searched):
+                        self.assertEqual(spans(ours.finditer(searched)), spans(theirs.finditer(searched)))
+                        self.assertEqual(ours.findall(searched), theirs.findall(searched))
+                        self.assertEqual(ours.split(searched), theirs.split(searched))
+                        self.assertEqual(ours.split(searched, 2), theirs.split(searched, 2))
+                        dash = "-" if isinstance(searched, str) else b"-"
+                        self.assertEqual(ours.subn(dash, searched), theirs.subn(dash, searched))
+                        self.assertEqual(ours.subn(lambda match: dash, searched, 2), theirs.subn(lambda match: dash, searched, 2))
+
+    def test_utf8_lists_as_re(self):
+        for pattern in ("x*", "", r"\b", "é|"):
+            regex = hanneddois.compile(pattern, hanneddois.UTF8)
+            for haystack in HAYSTACKS + WIDE:
+                wanted = [tuple(len(haystack[:it].encode()) for it in span) for span in spans(re.finditer(pattern, haystack))]
+                self.assertEqual(spans(regex.finditer(haystack.encode())), wanted)
+                self.assertEqual(regex.sub(b"-", haystack.encode()), re.sub(pattern, "-", haystack).encode())
+                self.assertEqual(regex.sub("-", haystack), re.sub(pattern, "-", haystack))
+        for call in (regex.finditer, regex.findall, regex.split, lambda it: regex.sub(b"", it), regex.match, regex.fullmatch):
+            with self.assertRaises(hanneddois.Error) as caught:
+                list(call(b"ab\xff"))
+            self.assertEqual(caught.exception.status, hanneddois.HAYSTACK_NOT_UTF8)
+
+    def test_at_each_offset(self):
+        for pattern in PATTERNS + [r"\bé?", r"(?m)^", r"(\w)(\w)?", r"\A"]:
+            if "$" in pattern:
+                continue
+            regex, theirs = hanneddois.compile(pattern), re.compile(pattern)
+            in_bytes, theirs_in_bytes = hanneddois.compile(pattern, hanneddois.NO_UNICODE), re.compile(pattern.encode())
+            for haystack in HAYSTACKS + WIDE:
+                encoded = haystack.encode()
+                for first, second, searched in ((regex, theirs, haystack), (in_bytes, theirs_in_bytes, encoded)):
+                    if (pattern == r"\bé?" and first is in_bytes) or (pattern == r"\Bb" and not searched):
+                        continue
+                    for start in range(len(searched) + 1):
+                        for end in (sys.maxsize, start, start + 1, max(start, len(searched) - 1)):
+                            with self.subTest(pattern=pattern, searched=searched, start=start, end=end):
+                                for name in ("match", "fullmatch"):
+                                    found, wanted = getattr(first, name)(searched, start, end), getattr(second, name)(searched, start, end)
+                                    self.assertEqual(found and found.regs, wanted and wanted.regs)
+
+    def test_at_offsets_far_inside(self):
+        # Offsets of a long str are sought from the last one, in both directions.
+        size = 20000 if hanneddois.backend == "extension" else 400
+        haystack = "é1ab€" * size
+        regex, theirs = hanneddois.compile("[a-z]+"), re.compile("[a-z]+")
+        for start in [*range(0, 5 * size, size // 20), *range(5 * size - 3, 0, -size // 10), 5, 3 * size, 3 * size - 1]:
+            found, wanted = regex.search(haystack, start), theirs.search(haystack, start)
+            self.assertEqual(found and found.span(), wanted and wanted.span())
+            self.assertEqual(bool(regex.match(haystack, start)), bool(theirs.match(haystack, start)))
+        at, count = 0, 0
+        token = hanneddois.compile(r"\w+?|€")
+        while at < len(haystack):
+            at, count = token.match(haystack, at).end(), count + 1
+        self.assertEqual(count, 5 * size)
+
+    def test_empty_loops(self):
+        for pattern in ("(a*)*", "(a*)+", "(?:a?)*b", "(a|b*)*", "(?:a*?)*b"):
+            for haystack in ("", "a", "aab", "ba", "xaay"):
+                found, wanted = hanneddois.search(pattern, haystack), re.search(pattern, haystack)
+                self.assertEqual(found and found.span(), wanted and wanted.span(), (pattern, haystack))
+                self.assertEqual(bool(hanneddois.fullmatch(pattern, haystack)), bool(re.fullmatch(pattern, haystack)), (pattern, haystack))
+        self.assertEqual(hanneddois.findall("(?:a*)*b", "aabb"), ["aab", "b"])
+
     def test_bytes_as_re(self):
         for pattern in PATTERNS:
             regex = hanneddois.compile(pattern, hanneddois.NO_UNICODE)
@@ -148,6 +220,7 @@ class Searches(unittest.TestCase):
         self.assertTrue(hanneddois.compile("(?:a*)*b", hanneddois.EMPTY_LOOPS).is_match("aab"))
         flags = hanneddois.MATCHING_PATTERNS | hanneddois.RAISE_CAPACITY | hanneddois.NO_BYTE_CLASSES | hanneddois.SHRINK
         self.assertEqual(hanneddois.compile("[a-z]+", flags, capacity=1).find("Ab"), (0, 1, 2))
+        self.assertTrue(hanneddois.compile("(a)", hanneddois.GROUPS).search("a").groups())
         self.assertEqual((hanneddois.NO_PATTERN, hanneddois.WHICH), (hanneddois.SYNTAX_ERROR, hanneddois.MATCHING_PATTERNS))
 
     def test_figures(self):
@@ -165,53 +238,42 @@ class Matches(unittest.TestCase):
 
     def test_fields(self):
         match = self.match
-        self.assertEqual((match.pattern, match.start, match.end, match.haystack), (0, 3, 5, "ab 12é"))
-        self.assertEqual((match.group(), match.group(0), match.span(), match.span(0)), ("12", "12", (3, 5), (3, 5)))
-        self.assertEqual(repr(match), "Match(pattern=0, start=3, end=5)")
+        self.assertEqual((match.pattern, match.start(), match.end(), match.haystack, match.string), (0, 3, 5, "ab 12é", "ab 12é"))
+        self.assertEqual((match.group(), match.group(0), match[0], match.span(), match.span(0)), ("12", "12", "12", (3, 5), (3, 5)))
+        self.assertEqual((match.pos, match.endpos, match.re), (0, 6, hanneddois.compile("[0-9]+")))
+        self.assertEqual(repr(match), "<hanneddois.Match object; span=(3, 5), match='12'>")
+        self.assertEqual(repr(hanneddois.Regex(["a", "b"]).find("b")), "<hanneddois.Match object; pattern=1, span=(0, 1), match='b'>")
         self.assertTrue(match)
-        for name in ("pattern", "start", "end", "haystack"):
+        for name in ("pattern", "haystack", "string", "pos", "endpos", "re", "regs", "lastindex", "lastgroup"):
             with self.assertRaises(AttributeError):
                 setattr(match, name, 1)
+        self.assertRaises(TypeError, hanneddois.Match)
 
-    def test_groups_are_not_there_yet(self):
-        for group in (1, -1, 2**70):
+    def test_without_groups(self):
+        self.assertEqual((self.match.groups(), self.match.groupdict(), self.match.regs), ((), {}, ((3, 5),)))
+        self.assertEqual((self.match.lastindex, self.match.lastgroup), (None, None))
+        for group in (1, -1, 2**70, "name", 1.0, None):
             self.assertRaises(IndexError, self.match.group, group)
             self.assertRaises(IndexError, self.match.span, group)
-        self.assertRaises(TypeError, self.match.group, "name")
-        self.assertRaises(TypeError, self.match.group, 0, 0)
+        self.assertRaises(TypeError, self.match.span, 0, 0)
 
     def test_as_tuple(self):
         pattern, start, end = self.match
         self.assertEqual((pattern, start, end), (0, 3, 5))
-        self.assertEqual((len(self.match), self.match[1], self.match[-1], self.match[1:]), (3, 3, 5, (3, 5)))
-        self.assertRaises(IndexError, lambda: self.match[3])
-        self.assertIn(5, self.match)
         self.assertEqual(self.match, (0, 3, 5))
         self.assertEqual((0, 3, 5), self.match)
         self.assertNotEqual(self.match, (0, 3, 6))
         self.assertNotEqual(self.match, [0, 3, 5])
-        self.assertEqual(self.match, hanneddois.Match(0, 3, 5))
-        self.assertLess(self.match, hanneddois.Match(0, 4, 5))
-        self.assertLessEqual(self.match, (0, 3, 5))
-        self.assertGreater(self.match, (0, 3))
-        self.assertGreaterEqual(self.match, self.match)
-        self.assertRaises(TypeError, lambda: self.match < 1)
         self.assertEqual(hash(self.match), hash((0, 3, 5)))
-        self.assertEqual(hanneddois.Match.__match_args__, ("pattern", "start", "end"))
-
-    def test_made_by_hand(self):
-        match = hanneddois.Match(pattern=1, start=2, end=4, haystack=b"abcdef")
-        self.assertEqual((tuple(match), match.group()), ((1, 2, 4), b"cd"))
-        self.assertRaises(ValueError, hanneddois.Match(0, 0, 0).group)
-        for fields in ((-1, 0, 0), (0, -1, 0), (0, 2, 1)):
-            self.assertRaises(ValueError, hanneddois.Match, *fields)
-        for fields in ((), (0, 0), ("a", 0, 0), (0, 0, 0, b"", 0)):
-            self.assertRaises(TypeError, hanneddois.Match, *fields)
 
     def test_copies(self):
         for protocol in range(pickle.HIGHEST_PROTOCOL + 1):
             other = pickle.loads(pickle.dumps(self.match, protocol))
             self.assertEqual((other, other.group()), (self.match, "12"))
+            for name in ("search", "match", "fullmatch"):
+                match = getattr(hanneddois.compile("(a)|(ab)"), name)("xab", 1)
+                other = pickle.loads(pickle.dumps(match, protocol))
+                self.assertEqual((other.regs, other.re), (match.regs, match.re))
         self.assertEqual(copy.copy(self.match).group(), "12")
         self.assertEqual(copy.deepcopy(self.match).group(), "12")
 
@@ -230,6 +292,142 @@ class Matches(unittest.TestCase):
             del haystack
         gc.collect()
         self.assertEqual(len([it for it in gc.get_objects() if type(it) is Kept]), before)
+
+
+class LikeRe(unittest.TestCase):
+    """Compares with re, where both mean the same. Bytes are compared without Unicode, as re has them."""
+
+    CASES = [(r"(\w+)=(?P<value>\d+)", "é a=12 bé=3"), (r"(a)|(b)", "xb"), (r"(a(b)?)+", "abaab"), (r"(a)(b?)", "a"), (r"((a)b)", "ab"),
+             (r"(?P<year>\d{4})-(?P<month>\d\d)", "on 2024-12 and 2025-01"), (r"(é)(?:(x)|(y))", "éy éx"), (r"[]a]([)])(b)", "a)b]"),
+             (r"a|ab", "ab"), (r"\(([^)]*)\)", "f(x, y) g()"), ("none(x)?", "abc"), (r"(\s)", "a b c"), (r"(?:(a)|(b))*", "ba")]
+
+    @staticmethod
+    def row(match):
+        return match and (match.span(), match.group(), match.groups(), match.groups(0), match.groupdict(), match.lastindex, match.lastgroup,
+                          match.pos, match.endpos, match.regs, match.start(), match.end(), match[0])
+
+    def each_case(self):
+        for pattern, haystack in self.CASES:
+            yield hanneddois.compile(pattern), re.compile(pattern), haystack, str
+            encoded = pattern.encode()
+            yield hanneddois.compile(encoded, hanneddois.NO_UNICODE), re.compile(encoded), haystack.encode(), lambda text: text.encode()
+
+    def test_searches(self):
+        for ours, theirs, haystack, _ in self.each_case():
+            for name in ("search", "match", "fullmatch"):
+                for offsets in ((), (0,), (1,), (3,), (0, 3), (2, 5), (-3, 99), (5, 2), (99,)):
+                    with self.subTest(pattern=theirs.pattern, name=name, offsets=offsets):
+                        try:
+                            wanted = self.row(getattr(theirs, name)(haystack, *offsets))
+                            self.assertEqual(self.row(getattr(ours, name)(haystack, *offsets)), wanted)
+                        except hanneddois.Error as error:
+                            self.assertEqual((error.status, type(haystack)), (hanneddois.SYNTAX_ERROR, str))
+
+    def test_lists(self):
+        for ours, theirs, haystack, _ in self.each_case():
+            if theirs.search(haystack[:0]):
+                continue
+            with self.subTest(pattern=theirs.pattern, haystack=haystack):
+                for offsets in ((), (1,), (1, 4), (4, 1)):
+                    self.assertEqual(list(map(self.row, ours.finditer(haystack, *offsets))), list(map(self.row, theirs.finditer(haystack, *offsets))))
+                    self.assertEqual(ours.findall(haystack, *offsets), theirs.findall(haystack, *offsets))
+                for most in (0, 1, -1):
+                    self.assertEqual(ours.split(haystack, most), theirs.split(haystack, most))
+
+    def test_replacements(self):
+        for ours, theirs, haystack, convert in self.each_case():
+            if theirs.search(haystack[:0]):
+                continue
+            templates = ["-", r"<\g<0>>", r"\\\n\t", r"\0\101\x"[:-2], "$1", ""] + [r"\1", r"\g<1>\1"] * (theirs.groups > 0)
+            for template in map(convert, templates):
+                for count in (0, 1, -1):
+                    with self.subTest(pattern=theirs.pattern, template=template):
+                        self.assertEqual(ours.subn(template, haystack, count), theirs.subn(template, haystack, count))
+                        self.assertEqual(ours.sub(template, haystack, count), theirs.sub(template, haystack, count))
+            double = lambda match: match.group() * 2  # noqa: E731
+            self.assertEqual(ours.sub(double, haystack), theirs.sub(double, haystack))
+            self.assertEqual(ours.subn(double, haystack, 1), theirs.subn(double, haystack, 1))
+            found = theirs.search(haystack)
+            if found:
+                self.assertEqual(ours.search(haystack).expand(convert(r"[\g<0>]")), found.expand(convert(r"[\g<0>]")))
+
+    def test_wrong_templates(self):
+        ours, theirs, haystack = hanneddois.compile("(?P<n>a)(b)?"), re.compile("(?P<n>a)(b)?"), "xab"
+        for template in (r"\2", r"\3", r"\g", r"\g<", r"\g<>", r"\g<n", r"\g<m>", r"\g<3>", r"\g<1a>", r"\400", "\\", r"\q", r"\g<n>", r"\g<2>"):
+            try:
+                wanted = theirs.sub(template, haystack)
+            except (re.error, IndexError):
+                self.assertRaises((hanneddois.Error, IndexError), ours.sub, template, haystack)
+            else:
+                self.assertEqual(ours.sub(template, haystack), wanted)
+
+    def test_functions(self):
+        self.assertEqual(hanneddois.search("(b)", "abc").groups(), ("b",))
+        self.assertEqual((hanneddois.match("b", "abc"), hanneddois.match("a", "abc").span()), (None, (0, 1)))
+        self.assertEqual((hanneddois.fullmatch("ab", "abc"), hanneddois.fullmatch("a|abc", "abc").span()), (None, (0, 3)))
+        self.assertEqual((hanneddois.findall("[a-c]", "axb"), hanneddois.split("x", "axb")), (["a", "b"], ["a", "b"]))
+        self.assertEqual([it.group() for it in hanneddois.finditer("B", "abb", hanneddois.I)], ["b", "b"])
+        self.assertEqual((hanneddois.sub("a", "b", "aa", 1), hanneddois.subn("a", "b", "aa")), ("ba", ("bb", 2)))
+        for text in ("a.b*[c]$ (d)#-&~|\\é", "", "x y", "\t\n\u2028\x85", "".join(map(chr, range(256)))):
+            for flags in (0, hanneddois.X):
+                self.assertEqual(hanneddois.fullmatch(hanneddois.escape(text), text, flags).group(), text)
+                self.assertEqual(hanneddois.fullmatch(hanneddois.escape(text.encode()), text.encode(), flags).group(), text.encode())
+        every = bytes(range(256))
+        self.assertEqual(hanneddois.fullmatch(hanneddois.escape(every), every).group(), every)
+        for each in map(chr, range(256)):
+            self.assertTrue(hanneddois.fullmatch("[" + hanneddois.escape(each) + "]", each), each)
+        self.assertEqual(hanneddois.escape("a_1é"), "a_1é")
+
+    def test_flags_of_re(self):
+        self.assertEqual(hanneddois.compile("a", re.I | re.M | re.S | re.X | re.U).flags, hanneddois.I | hanneddois.M | hanneddois.S | hanneddois.X)
+        self.assertEqual(hanneddois.search("^B", "a\nb", re.I | re.M).span(), (2, 3))
+        self.assertRaises(ValueError, hanneddois.compile, "a", re.A)
+
+    def test_kinds_of_replacements(self):
+        regex = hanneddois.compile("(a)(b)?")
+        self.assertEqual(regex.sub(lambda match: None, "xab"), "x")
+        self.assertEqual(regex.sub(lambda match: bytearray(b"-"), b"xab"), b"x-")
+        self.assertEqual(regex.sub(lambda match: memoryview(b"-"), bytearray(b"xab")), b"x-")
+        self.assertEqual(regex.sub(r"[\2]", "xa é ab"), "x[] é [b]")
+        for by, searched in ((b"-", "a"), ("-", b"a"), (lambda match: b"", "a"), (lambda match: "", b"a"), (lambda match: 0, "a"), (lambda match: [], b"a")):
+            self.assertRaises(TypeError, regex.sub, by, searched)
+        self.assertRaises(TypeError, regex.search("a").expand, b"-")
+        self.assertRaises(ZeroDivisionError, regex.sub, lambda match: 1 // 0, "a")
+        self.assertRaises(KeyError, regex.sub, lambda match: {}["a"], "é" * 5000 + "a" * 5000)
+        self.assertEqual(regex.sub(lambda match: regex.sub("é", match.group()), "xab ya"), "xé yé")
+
+    def test_errors_of_templates(self):
+        for template, text, offset in ((r"-\g<", "missing group name", 4), (r"-\9", "invalid group reference 9", 2), (r"-\q", r"bad escape \q", 1),
+                                       ("\n\\", "bad escape (end of pattern)", 1)):
+            with self.assertRaises(hanneddois.Error) as caught:
+                hanneddois.sub("a", template, "a")
+            self.assertEqual((str(caught.exception), caught.exception.msg, caught.exception.pos), (text, text, offset))
+        self.assertEqual((caught.exception.lineno, caught.exception.colno), (2, 1))
+
+    def test_names(self):
+        regex = hanneddois.Regex(["(?P<a>x)(y)", "(z)(?P<b>w)?"])
+        self.assertEqual(regex.group_names, ((None, "a", None), (None, None, "b")))
+        self.assertEqual((regex.groups, dict(regex.groupindex), regex.pattern), (2, {"a": 1}, "(?P<a>x)(y)"))
+        first, second = regex.finditer("xy z")
+        self.assertEqual((first.groupdict(), first["a"], first.group("a", 2)), ({"a": "x"}, "x", ("x", "y")))
+        self.assertEqual((second.groupdict("-"), second["b"], second.span("b")), ({"b": "-"}, None, (-1, -1)))
+        self.assertRaises(IndexError, second.group, "a")
+
+    def test_comments(self):
+        for pattern, flags in (("a b # c", hanneddois.VERBOSE), ("(?x) a b # c", 0)):
+            regex = hanneddois.compile(pattern, flags)
+            self.assertEqual((regex.fullmatch("ab").span(), regex.match("abc").span(), regex.fullmatch("abc")), ((0, 2), (0, 2), None))
+
+    def test_matches_of_other_searches(self):
+        regex = hanneddois.compile("a|(a)b")
+        self.assertIs(regex.fullmatch("ab").re, regex)
+        self.assertEqual((regex.fullmatch("ab").groups(), regex.search("ab").groups()), (("a",), (None,)))
+
+    def test_changed_haystack(self):
+        haystack = bytearray(b"xab")
+        match = hanneddois.compile(b"(a)(b)").search(haystack)
+        haystack[1:] = b"-"
+        self.assertRaises(ValueError, match.groups)
 
 
 class Buffers(unittest.TestCase):
@@ -315,8 +513,12 @@ class Errors(unittest.TestCase):
     def test_offsets_in_patterns(self):
         error = self.error_of(hanneddois.compile, "日é(b")
         self.assertEqual((error.status, error.start, error.end), (hanneddois.SYNTAX_ERROR, 2, 3))
+        self.assertEqual((error.msg, error.pos, error.lineno, error.colno), ("unclosed group", 2, 1, 3))
         error = self.error_of(hanneddois.compile, "日é(b".encode())
-        self.assertEqual((error.status, error.start, error.end), (hanneddois.SYNTAX_ERROR, 5, 6))
+        self.assertEqual((error.status, error.start, error.end, error.pos), (hanneddois.SYNTAX_ERROR, 5, 6, 5))
+        error = self.error_of(hanneddois.compile, "a\n(?x)\n  (b")
+        self.assertEqual((error.pos, error.lineno, error.colno), (9, 3, 3))
+        self.assertIsNone(self.error_of(hanneddois.Regex, []).pos)
 
     def test_statuses(self):
         self.assertEqual(self.error_of(hanneddois.Regex, []).status, hanneddois.BAD_ARGUMENT)
@@ -324,7 +526,6 @@ class Errors(unittest.TestCase):
         error = self.error_of(hanneddois.compile, b"a\xff")
         self.assertEqual((error.status, error.start), (hanneddois.NOT_UTF8, 1))
         self.assertEqual(self.error_of(hanneddois.compile, "(((a)))", nest_limit=2).status, hanneddois.NESTS_TOO_DEEP)
-        self.assertEqual(self.error_of(hanneddois.compile, "(a*)*").status, hanneddois.EMPTY_LOOP)
         error = self.error_of(hanneddois.compile, r"\w{1000}", size_limit=1000)
         self.assertEqual((error.status, error.limit), (hanneddois.TOO_LARGE, 1000))
         error = self.error_of(hanneddois.compile, "a", capacity=1)
@@ -372,7 +573,7 @@ class Errors(unittest.TestCase):
         regex = hanneddois.compile("a")
         for call in (regex.find, regex.find_iter, regex.find_all, regex.is_match, regex.matching_patterns):
             self.assertRaises(TypeError, call)
-            self.assertRaises(TypeError, call, b"a", 0, 0)
+            self.assertRaises(TypeError, call, b"a", 0, 0, 0)
             self.assertRaises(TypeError, call, b"a", text=b"a")
             self.assertRaises(TypeError, call, b"a", haystack=b"a")
             self.assertRaises(TypeError, call, start=1)
@@ -421,16 +622,19 @@ class Regexes(unittest.TestCase):
 
         regex = Named(["[a-z]+"])
         regex.more = 1
+        self.assertIs(weakref.ref(regex)(), regex)
         self.assertEqual((regex.find("A b"), regex.name), ((0, 2, 3), "words"))
         self.assertIs(type(pickle.loads(pickle.dumps(hanneddois.Regex(["a"])))), hanneddois.Regex)
 
     def test_names(self):
         for name in hanneddois.__all__:
             self.assertTrue(hasattr(hanneddois, name), name)
-        public = {"capacity", "clear_count", "find", "find_all", "find_iter", "finditer", "flags", "is_match", "matching_patterns",
-                  "memory_usage", "nest_limit", "pattern_count", "patterns", "search", "size_limit", "which"}
+        public = {"capacity", "clear_count", "find", "find_all", "find_iter", "findall", "finditer", "flags", "fullmatch", "group_names",
+                  "groupindex", "groups", "is_match", "match", "matching_patterns", "memory_usage", "nest_limit", "pattern", "pattern_count",
+                  "patterns", "search", "size_limit", "split", "sub", "subn", "which"}
         self.assertEqual({name for name in dir(hanneddois.Regex) if not name.startswith("_")}, public)
-        public = {"end", "group", "haystack", "pattern", "span", "start"}
+        public = {"end", "endpos", "expand", "group", "groupdict", "groups", "haystack", "lastgroup", "lastindex", "pattern", "pos", "re",
+                  "regs", "span", "start", "string"}
         self.assertEqual({name for name in dir(hanneddois.Match) if not name.startswith("_")}, public)
         for each in (hanneddois.Regex, hanneddois.Match, hanneddois.Error):
             for name in (it for it in vars(each) if not it.startswith("_")):
@@ -549,10 +753,16 @@ class Leaks(unittest.TestCase):
             return int(file.read().split()[1]) * os.sysconf("SC_PAGESIZE")
 
     def check(self, job, turns):
-        """Checks that a job leaves neither Python's objects nor memory of the library."""
-        first = self.blocks_after(job, turns)
-        held = self.memory() if os.path.exists("/proc/self/statm") else None
-        self.assertLess(self.blocks_after(job, 2 * turns) - first, 50)
+        """Checks that a job leaves neither Python's objects nor memory of the library. Python keeps some blocks for itself at first, so
+        there are several attempts: what leaks does so in each of them."""
+        self.blocks_after(job, turns)
+        for attempt in range(5):
+            first = self.blocks_after(job, turns)
+            held = self.memory() if os.path.exists("/proc/self/statm") else None
+            grown = self.blocks_after(job, 2 * turns) - first
+            if grown < 50:
+                break
+        self.assertLess(grown, 50)
         if held is not None:
             self.assertLess(self.memory() - held, 4_000_000)
 
@@ -563,12 +773,26 @@ class Leaks(unittest.TestCase):
             for haystack in ("a12 3", "é12 3", b"a12 3", buffer, memoryview(buffer), "none"):
                 match = regex.find(haystack)
                 if match:
-                    match.group(), match.span(), match == (0, 1, 3), hash(match), repr(match), list(match), match[1:], pickle.dumps(regex)
+                    match.group(), match.span(), match == (0, 1, 3), hash(match), repr(match), list(match), match[0], pickle.dumps(regex)
                 list(regex.find_iter(haystack))
                 next(regex.find_iter(haystack), None)
                 regex.find_all(haystack), regex.is_match(haystack), regex.matching_patterns(haystack)
 
         self.check(job, 300)
+
+    def test_groups(self):
+        regex = hanneddois.compile(r"(?P<a>\w)(\d)?|é()")
+
+        def job():
+            for haystack in ("é1 é a2", b"a1 bc", bytearray(b"a12 3")):
+                for match in regex.finditer(haystack):
+                    match.groups(), match.groupdict(), match.expand(rb"\1" if isinstance(haystack, (bytes, bytearray)) else r"\1")
+                    match.group("a"), match.start(1), match.regs, match.lastindex, match.lastgroup, match["a"], match.group(1, 2), repr(match)
+                    self.assertRaises(IndexError, match.group, "none")
+                regex.fullmatch(haystack), regex.match(haystack), regex.split(haystack), regex.findall(haystack)
+                regex.subn(lambda match: match.group(), haystack)
+
+        self.check(job, 100)
 
     def test_failures(self):
         regex, strict = hanneddois.compile("[0-9]+"), hanneddois.Regex(["(?-u).", "a"])
@@ -577,7 +801,7 @@ class Leaks(unittest.TestCase):
             for call, error in ((lambda: regex.find(5), TypeError), (lambda: regex.find("a", 9), hanneddois.Error),
                                 (lambda: regex.find_iter(memoryview(b"abc")[::2]), BufferError), (lambda: strict.find("a"), hanneddois.Error),
                                 (lambda: hanneddois.compile("a("), hanneddois.Error), (lambda: regex.find(text=1), TypeError),
-                                (lambda: hanneddois.Match(0, 0, 0).group(), ValueError), (lambda: regex.find("\ud800"), UnicodeEncodeError)):
+                                (lambda: regex.find("\ud800"), UnicodeEncodeError)):
                 self.assertRaises(error, call)
 
         self.check(job, 100)

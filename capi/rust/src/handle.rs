@@ -154,6 +154,52 @@ impl Handle {
         }
     }
 
+    /// The next match, and the offsets of its groups as far as there is room.
+    pub(crate) fn captures_at(
+        &mut self,
+        haystack: &[u8],
+        from: usize,
+        slots: &mut [usize],
+    ) -> Result<Option<sys::Match>, Error> {
+        let mut found = sys::Match::default();
+        let mut error = sys::Error::default();
+        // SAFETY: as in `new`.
+        let status = unsafe {
+            sys::hanneddois_captures(
+                &mut self.0,
+                haystack.as_ptr(),
+                haystack.len(),
+                from,
+                &mut found,
+                slots.as_mut_ptr(),
+                slots.len(),
+                &mut error,
+            )
+        };
+        Ok(outcome(status, error)?.then_some(found))
+    }
+
+    /// The names of the groups of a pattern, by their numbers.
+    pub(crate) fn group_names(&mut self, pattern: usize) -> Vec<Option<String>> {
+        // SAFETY: as in `new`.
+        let count = unsafe { sys::hanneddois_group_count(&mut self.0, pattern) };
+        (0..count).map(|group| self.group_name(pattern, group)).collect()
+    }
+
+    fn group_name(&mut self, pattern: usize, group: usize) -> Option<String> {
+        let mut name = vec![0; 64];
+        loop {
+            // SAFETY: as in `new`.
+            let length =
+                unsafe { sys::hanneddois_group_name(&mut self.0, pattern, group, name.as_mut_ptr(), name.len()) };
+            if length <= name.len() {
+                name.truncate(length);
+                return String::from_utf8(name).ok().filter(|it| !it.is_empty());
+            }
+            name.resize(length, 0);
+        }
+    }
+
     /// Marks the patterns that match anywhere by 1, and the others by 0. Returns how many match.
     pub(crate) fn mark_matching(&mut self, haystack: &[u8], marks: &mut [u8]) -> Result<usize, Error> {
         let mut count = 0;

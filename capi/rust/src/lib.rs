@@ -2,19 +2,23 @@
 #![warn(missing_docs, missing_debug_implementations)]
 
 mod builders;
+mod captures;
 mod error;
 mod handle;
 mod matches;
 mod pool;
 mod regex;
+mod replace;
 mod set;
 mod sys;
 
 pub use builders::{RegexBuilder, RegexSetBuilder};
+pub use captures::{CaptureMatches, Captures};
 pub use error::{Error, ErrorKind};
-pub use matches::{Match, Matches};
+pub use matches::{Match, Matches, Split};
 pub use pool::Searcher;
 pub use regex::Regex;
+pub use replace::{NoExpand, Replacer, ReplacerRef};
 pub use set::{RegexSet, SetMatches, SetMatchesIntoIter, SetMatchesIter};
 
 /// The version of the library: 10000 times the major number, 100 times the minor one, and the patch.

@@ -169,3 +169,48 @@ impl<'h> Iterator for Matches<'_, 'h> {
 }
 
 impl FusedIterator for Matches<'_, '_> {}
+
+/// What is between the matches of a haystack, as [`Regex::split`](crate::Regex::split) returns it.
+///
+/// An item is a part, or why the search for the next match failed. After an error the iterator ends.
+#[derive(Debug)]
+pub struct Split<'r, 'h> {
+    matches: Matches<'r, 'h>,
+    haystack: &'h [u8],
+    /// Where the next part starts.
+    last: usize,
+    /// How many parts there may still be.
+    left: usize,
+}
+
+impl<'r, 'h> Split<'r, 'h> {
+    pub(crate) fn new(matches: Matches<'r, 'h>, haystack: &'h [u8], limit: usize) -> Split<'r, 'h> {
+        Split { matches, haystack, last: 0, left: limit }
+    }
+}
+
+impl<'h> Iterator for Split<'_, 'h> {
+    type Item = Result<&'h [u8], Error>;
+
+    fn next(&mut self) -> Option<Self::Item> {
+        self.left = self.left.checked_sub(1)?;
+        let found = if self.left == 0 { None } else { self.matches.next() };
+        match found {
+            Some(Ok(found)) => {
+                let part = &self.haystack[self.last..found.start()];
+                self.last = found.end();
+                Some(Ok(part))
+            }
+            Some(Err(error)) => {
+                self.left = 0;
+                Some(Err(error))
+            }
+            None => {
+                self.left = 0;
+                Some(Ok(&self.haystack[self.last..]))
+            }
+        }
+    }
+}
+
+impl FusedIterator for Split<'_, '_> {}

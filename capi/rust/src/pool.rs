@@ -1,5 +1,6 @@
 //! The handles of a regex. A handle serves one search at a time, so a regex that threads share has several.
 
+use crate::captures::{self, Captures, Names};
 use crate::error::Error;
 use crate::handle::{with_room, Handle};
 use crate::matches::Match;
@@ -7,17 +8,21 @@ use crate::set::SetMatches;
 use crate::sys;
 use std::ffi::c_void;
 use std::sync::atomic::{AtomicPtr, Ordering};
-use std::sync::{Mutex, MutexGuard, PoisonError};
+use std::sync::{Arc, Mutex, MutexGuard, PoisonError};
 
 /// The patterns and options of a regex, and those of its handles that no search uses at the moment.
 #[derive(Debug)]
 pub(crate) struct Pool {
     patterns: Vec<String>,
     options: sys::Options,
+    names: Arc<Names>,
     /// What the first handle owns, or null while a search uses it. One thread alone needs only this one, and takes it
     /// without a lock.
     first: AtomicPtr<c_void>,
     others: Mutex<Others>,
+    /// In UTF-8 mode handles of the same patterns without that mode, or null until they are needed. The pool owns them, and
+    /// nothing changes the pointer from then on.
+    unchecked: AtomicPtr<Pool>,
 }
 
 /// What further threads search with.
@@ -31,17 +36,50 @@ struct Others {
 impl Pool {
     pub(crate) fn new(patterns: Vec<String>, options: sys::Options) -> Result<Pool, Error> {
         let mut compiled = Handle::new(&patterns, &options)?;
+        let names = Arc::new((0..patterns.len()).map(|pattern| compiled.group_names(pattern)).collect());
         let first = AtomicPtr::new(compiled.try_clone()?.into_raw());
         let others = Mutex::new(Others { compiled, idle: Vec::new() });
-        Ok(Pool { patterns, options, first, others })
+        Ok(Pool { patterns, options, names, first, others, unchecked: AtomicPtr::default() })
     }
 
     pub(crate) fn patterns(&self) -> &[String] {
         &self.patterns
     }
 
+    pub(crate) fn names(&self) -> &Arc<Names> {
+        &self.names
+    }
+
+    /// How many slots the groups of any pattern take.
+    pub(crate) fn slot_count(&self) -> usize {
+        2 * self.names.iter().map(Vec::len).max().unwrap_or(0)
+    }
+
     pub(crate) fn is_utf8(&self) -> bool {
         self.options.flags & sys::UTF8 != 0
+    }
+
+    /// Handles that don't check their haystacks. What is no UTF-8 must not be searched with them in UTF-8 mode.
+    pub(crate) fn unchecked(&self) -> Result<&Pool, Error> {
+        if !self.is_utf8() {
+            return Ok(self);
+        }
+        let mut pool = self.unchecked.load(Ordering::Acquire);
+        if pool.is_null() {
+            let options = sys::Options { flags: self.options.flags & !sys::UTF8, ..self.options };
+            let made = Box::into_raw(Box::new(Pool::new(self.patterns.clone(), options)?));
+            let null = std::ptr::null_mut();
+            pool = match self.unchecked.compare_exchange(null, made, Ordering::AcqRel, Ordering::Acquire) {
+                Ok(_) => made,
+                Err(other) => {
+                    // SAFETY: another thread was faster, so nobody else knows this box.
+                    drop(unsafe { Box::from_raw(made) });
+                    other
+                }
+            };
+        }
+        // SAFETY: the pointer comes from a box, which only `drop` frees.
+        Ok(unsafe { &*pool })
     }
 
     /// Takes the first handle, if no search uses it.
@@ -85,6 +123,11 @@ impl Drop for Pool {
     fn drop(&mut self) {
         // SAFETY: as in `take_first`.
         drop(unsafe { Handle::from_raw(*self.first.get_mut()) });
+        let unchecked = *self.unchecked.get_mut();
+        if !unchecked.is_null() {
+            // SAFETY: the pointer comes from a box, and nobody borrows the pool any more.
+            drop(unsafe { Box::from_raw(unchecked) });
+        }
     }
 }
 
@@ -136,6 +179,21 @@ impl<'r> Searcher<'r> {
     pub fn find_at<'h>(&mut self, haystack: &'h [u8], start: usize) -> Result<Option<Match<'h>>, Error> {
         let found = self.handle.find_at(haystack, start)?;
         Ok(found.map(|it| Match::new(haystack, it)))
+    }
+
+    pub(crate) fn pool(&self) -> &'r Pool {
+        self.pool
+    }
+
+    /// The leftmost match with its groups, as [`Regex::captures`](crate::Regex::captures).
+    pub fn captures<'h>(&mut self, haystack: &'h [u8]) -> Result<Option<Captures<'h>>, Error> {
+        self.captures_at(haystack, 0)
+    }
+
+    /// The leftmost match from an offset on with its groups, as [`Regex::captures_at`](crate::Regex::captures_at).
+    pub fn captures_at<'h>(&mut self, haystack: &'h [u8], start: usize) -> Result<Option<Captures<'h>>, Error> {
+        let found = captures::search(self, haystack, start)?;
+        Ok(found.map(|(it, slots)| Captures::new(haystack, it.pattern, slots, self.pool.names())))
     }
 
     /// All matches in a list, as [`Regex::find_all`](crate::Regex::find_all).

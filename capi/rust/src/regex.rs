@@ -1,10 +1,13 @@
 //! A regex of one pattern or several.
 
 use crate::builders::RegexBuilder;
+use crate::captures::{CaptureMatches, Captures};
 use crate::error::Error;
-use crate::matches::{Match, Matches};
+use crate::matches::{Match, Matches, Split};
 use crate::pool::{Pool, Searcher};
+use crate::replace::Replacer;
 use crate::set::SetMatches;
+use std::borrow::Cow;
 use std::fmt;
 use std::str::FromStr;
 use std::sync::Arc;
@@ -122,6 +125,116 @@ impl Regex {
         self.searcher()?.find_all(haystack)
     }
 
+    /// The leftmost match with its groups.
+    ///
+    /// ```
+    /// # fn main() -> Result<(), hanneddois::Error> {
+    /// let regex = hanneddois::Regex::new(r"'(?<title>[^']+)'\s+\((\d{4})\)")?;
+    /// let groups = regex.captures(b"Not my favorite movie: 'Citizen Kane' (1941).")?.unwrap();
+    /// assert_eq!((&groups["title"], &groups[2]), (&b"Citizen Kane"[..], &b"1941"[..]));
+    /// # Ok(())
+    /// # }
+    /// ```
+    pub fn captures<'h>(&self, haystack: &'h [u8]) -> Result<Option<Captures<'h>>, Error> {
+        self.captures_at(haystack, 0)
+    }
+
+    /// The leftmost match that starts at this offset or after it, with its groups.
+    pub fn captures_at<'h>(&self, haystack: &'h [u8], start: usize) -> Result<Option<Captures<'h>>, Error> {
+        self.searcher()?.captures_at(haystack, start)
+    }
+
+    /// All matches from left to right with their groups, as [`find_iter`](Regex::find_iter) finds them.
+    pub fn captures_iter<'r, 'h>(&'r self, haystack: &'h [u8]) -> CaptureMatches<'r, 'h> {
+        CaptureMatches::new(&self.0, haystack)
+    }
+
+    /// The number of the groups of the pattern, with group 0; of several patterns, those of the first one.
+    pub fn captures_len(&self) -> usize {
+        self.group_names(0).len()
+    }
+
+    /// The names of the groups by their numbers; of several patterns, those of the first one. Group 0 has none.
+    pub fn capture_names(&self) -> impl Iterator<Item = Option<&str>> {
+        self.group_names(0).iter().map(Option::as_deref)
+    }
+
+    /// The names of the groups of a pattern by their numbers.
+    ///
+    /// # Panics
+    ///
+    /// If there is no pattern of this number.
+    pub fn group_names(&self, pattern: usize) -> &[Option<String>] {
+        &self.0.names()[pattern]
+    }
+
+    /// The haystack with the first match replaced.
+    pub fn replace<'h, R: Replacer>(&self, haystack: &'h [u8], by: R) -> Result<Cow<'h, [u8]>, Error> {
+        self.replacen(haystack, 1, by)
+    }
+
+    /// The haystack with all matches replaced. Without a match it is borrowed.
+    ///
+    /// ```
+    /// # fn main() -> Result<(), hanneddois::Error> {
+    /// let regex = hanneddois::Regex::new(r"(?<last>[^,\s]+),\s+(?<first>\S+)")?;
+    /// let replaced = regex.replace_all(b"Springsteen, Bruce", "$first $last")?;
+    /// assert_eq!(replaced, &b"Bruce Springsteen"[..]);
+    /// # Ok(())
+    /// # }
+    /// ```
+    pub fn replace_all<'h, R: Replacer>(&self, haystack: &'h [u8], by: R) -> Result<Cow<'h, [u8]>, Error> {
+        self.replacen(haystack, 0, by)
+    }
+
+    /// The haystack with at most so many matches replaced, or with all if the limit is 0.
+    pub fn replacen<'h, R: Replacer>(
+        &self,
+        haystack: &'h [u8],
+        limit: usize,
+        mut by: R,
+    ) -> Result<Cow<'h, [u8]>, Error> {
+        let limit = if limit == 0 { usize::MAX } else { limit };
+        let mut replaced = Vec::new();
+        let mut last = 0;
+        if let Some(text) = by.no_expansion() {
+            for found in self.find_iter(haystack).take(limit) {
+                let found = found?;
+                replaced.extend_from_slice(&haystack[last..found.start()]);
+                replaced.extend_from_slice(&text);
+                last = found.end();
+            }
+            return Ok(joined(haystack, replaced, last));
+        }
+        for found in self.captures_iter(haystack).take(limit) {
+            let found = found?;
+            let whole = found.get(0).expect("the whole match takes part");
+            replaced.extend_from_slice(&haystack[last..whole.start()]);
+            by.replace_append(&found, &mut replaced);
+            last = whole.end();
+        }
+        Ok(joined(haystack, replaced, last))
+    }
+
+    /// What is between the matches.
+    ///
+    /// ```
+    /// # fn main() -> Result<(), hanneddois::Error> {
+    /// let regex = hanneddois::Regex::new(r"[ \t]+")?;
+    /// let parts: Vec<&[u8]> = regex.split(b"a b \t  c\td    e").collect::<Result<_, _>>()?;
+    /// assert_eq!(parts, [b"a", b"b", b"c", b"d", b"e"]);
+    /// # Ok(())
+    /// # }
+    /// ```
+    pub fn split<'r, 'h>(&'r self, haystack: &'h [u8]) -> Split<'r, 'h> {
+        Split::new(self.find_iter(haystack), haystack, usize::MAX)
+    }
+
+    /// What is between the matches, in at most so many parts: the last one is the rest of the haystack.
+    pub fn splitn<'r, 'h>(&'r self, haystack: &'h [u8], limit: usize) -> Split<'r, 'h> {
+        Split::new(self.find_iter(haystack), haystack, limit)
+    }
+
     /// Which patterns match anywhere in the haystack, also if their matches overlap, as
     /// [`RegexSet::matches`](crate::RegexSet::matches).
     pub fn matching_patterns(&self, haystack: &[u8]) -> Result<SetMatches, Error> {
@@ -142,6 +255,15 @@ impl Regex {
     pub fn patterns(&self) -> &[String] {
         self.0.patterns()
     }
+}
+
+/// What was replaced, and the rest of the haystack. If nothing was written, and no byte is left out, that is the haystack.
+fn joined(haystack: &[u8], mut replaced: Vec<u8>, last: usize) -> Cow<'_, [u8]> {
+    if last == 0 && replaced.is_empty() {
+        return Cow::Borrowed(haystack);
+    }
+    replaced.extend_from_slice(&haystack[last..]);
+    Cow::Owned(replaced)
 }
 
 impl fmt::Display for Regex {

@@ -29,6 +29,9 @@ pub(crate) const RAISE_CAPACITY: u32 = 1 << 11;
 pub(crate) const NO_BYTE_CLASSES: u32 = 1 << 12;
 pub(crate) const SHRINK: u32 = 1 << 13;
 
+/// The offsets of a group that took no part.
+pub(crate) const NO_OFFSET: usize = usize::MAX;
+
 /// `hanneddois_regex`
 #[repr(C)]
 #[derive(Debug)]
@@ -109,6 +112,24 @@ extern "C" {
         matched: *mut u8,
         matched_length: usize,
         count: *mut usize,
+        error: *mut Error,
+    ) -> u32;
+    pub(crate) fn hanneddois_group_count(regex: *mut Regex, pattern: usize) -> usize;
+    pub(crate) fn hanneddois_group_name(
+        regex: *mut Regex,
+        pattern: usize,
+        group: usize,
+        name: *mut u8,
+        name_length: usize,
+    ) -> usize;
+    pub(crate) fn hanneddois_captures(
+        regex: *mut Regex,
+        haystack: *const u8,
+        haystack_length: usize,
+        from: usize,
+        found: *mut Match,
+        slots: *mut usize,
+        slots_length: usize,
         error: *mut Error,
     ) -> u32;
     pub(crate) fn hanneddois_error_text(error: *const Error, text: *mut u8, text_length: usize) -> usize;
