@@ -1,6 +1,6 @@
 //! Errors in numbers, as callers from C read them. A status of 0 says that a call succeeded, and 1 that there is no match. No error has the
 //! status 11.
-ghost use Rattle.std.specs.Prelude.{◌≡◌, ℕ, List};
+ghost use Rattle.std.specs.Prelude.{◌≡◌, ◌<◌, ℕ, List};
 ghost use Rattle.meta_regex.specs.Regexes.{IsNewError as IsRegexError};
 ghost use Rattle.capi.specs.Compiled.{IsNewError};
 ghost use Rattle.capi.specs.Failures.{plain, failure_of_text, failure_of_build, failure_of_new, failure_of_search, without_cause};
@@ -195,7 +195,8 @@ pub(crate) fn kind_of(cause: u32) -> Option<ErrorKind> {
 }
 
 fn failure_of_text(error: &PatternError) -> Failure
-    ensures { without_cause result ≡ failure_of_text error.now }
+    ensures value { without_cause result ≡ failure_of_text error.now }
+    ensures fails { 0 < result.status }
 {
     match error.error {
         ParseError::NoMemory => Failure::plain(NO_MEMORY),
@@ -213,7 +214,8 @@ fn failure_of_text(error: &PatternError) -> Failure
 }
 
 fn failure_of_build(error: &BuildError) -> Failure
-    ensures { result ≡ failure_of_build error.now }
+    ensures value { result ≡ failure_of_build error.now }
+    ensures fails { 0 < result.status }
 {
     match error {
         BuildError::NFA { err } => match err.size_limit() {
@@ -248,7 +250,8 @@ impl NewError {
 
     /// The error in numbers.
     pub fn failure(&self) -> Failure
-        ensures { without_cause result ≡ failure_of_new self.now }
+        ensures value { without_cause result ≡ failure_of_new self.now }
+        ensures fails { 0 < result.status }
     {
         match self {
             NewError::BadArgument => Failure::plain(BAD_ARGUMENT),
