@@ -50,7 +50,11 @@ fn room_alone(dfa: &DFA, cache: &mut Cache, state: &State) -> Result<(), CacheEr
 
 /// The ID of a state in which a search starts. The state is added if it isn't held.
 #[inline(never)]
-pub(crate) fn place_start(dfa: &DFA, cache: &mut Cache, state: State) -> Result<LazyStateID, CacheError>
+pub(crate) fn place_start(
+    dfa: &DFA,
+    cache: &mut Cache,
+    state: State,
+) -> Result<LazyStateID, CacheError>
     requires own { IsCacheOf dfa.now cache.old }
     requires is { IsStateOf dfa.now state }
     ensures own { IsCacheOf dfa.now cache.new }
