@@ -51,13 +51,23 @@ HEAD = re.compile(r"^(?:abbrev |unfoldable )?(?:pub )?(?:abbrev |unfoldable )?(?
 def flat_lines(path):
     """Returns the lines of a file; what is within a module of parameters or a mutual block stands as if it were alone."""
     opened = []  # the indents of the blocks that are open
+    waiting = None  # the indent of a module whose parameters go on in the next line
     with open(path, encoding="utf-8") as file:
         for line in file.read().split("\n"):
             indent = len(line) - len(line.lstrip())
+            if waiting is not None:
+                if line.endswith(" where") or line.strip() == "where":
+                    opened.append(waiting)
+                    waiting = None
+                yield ""
+                continue
             while line.strip() and opened and indent <= opened[-1]:
                 opened.pop()
             if re.match(r"\s*(module _ .*where|(abbrev |unfoldable )?mutual)$", line) and indent == 2 * len(opened):
                 opened.append(indent)
+                yield ""
+            elif re.match(r"\s*module _ ", line) and indent == 2 * len(opened):
+                waiting = indent
                 yield ""
             else:
                 yield line[2 * len(opened) :] if line.startswith("  " * len(opened)) else line
@@ -74,9 +84,11 @@ def definitions_in(path):
             name = None
             continue
         if not line.strip():
-            name, comment = None, ""
+            comment = ""
             continue
-        if not line[0].isspace() and not line.startswith(("use ", "pub mod ", "mod ", "pub use ", "module ")):
+        if line.startswith(("use ", "pub mod ", "mod ", "pub use ", "module ")):
+            name = None
+        elif not line[0].isspace():
             head = HEAD.match(line)
             if line.split()[0] in found:
                 name = line.split()[0]
@@ -121,38 +133,58 @@ def contract_of(crate, module, function, clauses=()):
 def fold(functions):
     """Returns the definitions on which the contracts of these functions rest, and the words of `std` and of code that end the search.
     Each function is a crate, a module, a name, and the names of its clauses, if only these are meant."""
+    return fold_texts([contract_of(*each) for each in functions])
+
+
+def cited(text, names, path):
+    """Returns the definitions that a text cites, as pairs of file and name, and the words of `std` and of code that it names. `names` are
+    the imports of its file; `path` is that file, if its definitions may be meant."""
+    found, ends = [], []
+    own = definitions_in(path) if path else {}
+    operators = [it for it in [*names, *own] if "◌" in it and it.replace("◌", "") in text]
+    for word in dict.fromkeys([*NAME.findall(text), *operators]):
+        if word in names:
+            module_path, name = names[word]
+            file = file_of(module_path)
+            if module_path.startswith("Rattle.std.") or file is None:
+                ends.append((module_path, name))
+                continue
+        elif word in own:
+            file, name = path, word
+        else:
+            continue
+        each = definitions_in(file).get(name)
+        if each and each[0] == "constructor":
+            name = each[1]
+            each = definitions_in(file)[name]
+        if each is None:
+            ends.append((module_path if word in names else path, name))
+        else:
+            found.append((file, name))
+    return found, ends
+
+
+@functools.lru_cache(None)
+def cited_by(file, name):
+    """Returns what a definition cites, as `cited` does."""
+    with open(file, encoding="utf-8") as source:
+        return cited(definitions_in(file)[name][1], imports_of(without_comments(source.read())), file)
+
+
+def fold_texts(contracts):
+    """Returns the same of contracts that are given as their text and the text of their file."""
     reached, ends, queue = {}, set(), []
-    for each in functions:
-        text, whole = contract_of(*each)
-        queue.append((text, imports_of(without_comments(whole)), None))
+    for text, whole in contracts:
+        found, words = cited(text, imports_of(without_comments(whole)), None)
+        queue += found
+        ends.update(words)
     while queue:
-        text, names, path = queue.pop(0)
-        own = definitions_in(path) if path else {}
-        operators = [it for it in [*names, *own] if "◌" in it and it.replace("◌", "") in text]
-        for word in dict.fromkeys([*NAME.findall(text), *operators]):
-            if word in names:
-                module_path, name = names[word]
-                file = file_of(module_path)
-                if module_path.startswith("Rattle.std.") or file is None:
-                    ends.add((module_path, name))
-                    continue
-            elif word in own:
-                file, name = path, word
-            else:
-                continue
-            found = definitions_in(file).get(name)
-            if found and found[0] == "constructor":
-                name = found[1]
-                found = definitions_in(file)[name]
-            if found is None:
-                ends.add((module_path if word in names else path, name))
-                continue
-            key = (file, name)
-            if key in reached:
-                continue
-            reached[key] = found
-            with open(file, encoding="utf-8") as source:
-                queue.append((found[1], imports_of(without_comments(source.read())), file))
+        key = queue.pop(0)
+        if key not in reached:
+            reached[key] = definitions_in(key[0])[key[1]]
+            found, words = cited_by(*key)
+            queue += found
+            ends.update(words)
     return reached, ends
 
 

@@ -159,6 +159,19 @@ Found Handle::matching(const Bytes &haystack, size_t marks) {
     return found;
 }
 
+Found Handle::copy_from(Handle &from) {
+    Found found;
+    found.status = hanneddois_clone(from.raw(), raw());
+    check(is_one_of(found.status, {HANNEDDOIS_OK, HANNEDDOIS_BAD_ARGUMENT, HANNEDDOIS_NO_MEMORY}), "a copy is made with another status");
+    check((found.status == HANNEDDOIS_BAD_ARGUMENT) == from.is_empty(), "a copy of nothing is made, or none of a regex");
+    check((raw()->inside != nullptr) == (found.status == HANNEDDOIS_OK), "a copy that isn't made isn't empty, or the other way round");
+    count_ = found.status == HANNEDDOIS_OK ? from.count_ : 0;
+    flags_ = from.flags_;
+    check_counts();
+    from.check_counts();
+    return found;
+}
+
 void Handle::end() {
     hanneddois_free(raw());
     check(raw()->inside == nullptr, "a freed handle isn't empty");
@@ -174,6 +187,7 @@ void Handle::move() {
 
 void Handle::check_counts() {
     check(hanneddois_pattern_count(raw()) == count_, "the number of patterns is wrong");
+    check(hanneddois_version() == HANNEDDOIS_VERSION, "the library is of another version than the header");
     size_t bytes = hanneddois_memory_usage(raw()), clears = hanneddois_clear_count(raw());
     check(count_ > 0 || (bytes == 0 && clears == 0), "an empty handle has a cache");
     note(100, clears < 8 ? static_cast<uint32_t>(clears) : 8);

@@ -61,6 +61,7 @@ class Handle {
     Found find_at(const Bytes &haystack, size_t from);
     Found find_all(const Bytes &haystack, size_t room);
     Found matching(const Bytes &haystack, size_t marks);
+    Found copy_from(Handle &from);
     void end();
     void move();
     void check_counts();

@@ -8,7 +8,7 @@
 namespace fuzz {
 namespace {
 
-enum Kind { MAKE, MAKE_OTHER, IS_MATCH, FIND_AT, FIND_ALL, MATCHING, END, MOVE, COUNTS, MAKE_FAULTY, FIND_FAULTY, MATCHING_FAULTY, MESSAGE, KINDS };
+enum Kind { MAKE, MAKE_OTHER, IS_MATCH, FIND_AT, FIND_ALL, MATCHING, END, MOVE, COUNTS, MAKE_FAULTY, FIND_FAULTY, MATCHING_FAULTY, MESSAGE, COPY, KINDS };
 
 // What a handle was made of.
 struct Side {
@@ -69,6 +69,8 @@ class Runs {
         note(400, static_cast<uint32_t>(kind + KINDS * side.handle.is_empty()));
         if (kind == MAKE || kind == MAKE_OTHER)
             make(side, kind == MAKE_OTHER, call.value);
+        else if (kind == COPY)
+            copy(sides_[1 - call.kind / KINDS % 2], side);
         else if (kind >= IS_MATCH && kind <= MATCHING)
             searched(side, kind, haystack, call.value);
         else
@@ -91,6 +93,17 @@ class Runs {
         Found again = side.handle.make(side.patterns, side.options);
         check(again.status != HANNEDDOIS_NO_MEMORY, "out of memory again, and no allocation failed");
         check(found.status == HANNEDDOIS_NO_MEMORY || found.status == again.status, "a failed allocation changes the status of a regex");
+    }
+
+    // Makes a second regex of that of the other handle.
+    void copy(Side &from, Side &to) {
+        begin_failing();
+        Found found = to.handle.copy_from(from.handle);
+        bool has_failed = end_failing();
+        to.patterns = from.patterns;
+        to.options = from.options;
+        if (is_out_of_memory(found, has_failed))
+            check(to.handle.copy_from(from.handle).status == HANNEDDOIS_OK, "a copy can't be made once more");
     }
 
     void searched(Side &side, int kind, const Bytes &haystack, uint8_t value) {

@@ -1,4 +1,4 @@
-"""Which files are searched: the globs of GNU grep's options beside GNU grep, and --glob, --files and --max-depth beside ripgrep, over a
+"""Which files are searched: the globs of GNU grep's options beside GNU grep, and --glob, --type, --files and --max-depth beside ripgrep, over a
 small tree, with random globs."""
 
 import os
@@ -64,10 +64,16 @@ def beside_grep(program, room, run, tell, rng, count):
             tell(words, f"{ours}, and not {theirs}")
 
 
+def type_options(rng):
+    """Types of files that are in the tree, and the order in which ripgrep takes them: those that are left out come last."""
+    return [rng.choice(("-tc", "-th", "--type=txt", "--type-not=c", "--type-not=txt", "-tall", "--type-not=h")) for _ in range(rng.randrange(1, 3))]
+
+
 def beside_ripgrep(program, room, run, tell, rng, count):
     for number in range(count):
         words = [f"-g{rng.choice(('', '', '!'))}{rng.choice(('', '', '/'))}{random_glob(rng, GLOB_PARTS)}{rng.choice(('', '', '/'))}" for _ in range(rng.randrange(1, 3))]
         words += ["--max-depth", str(rng.randrange(4))] if number % 7 == 0 else []
+        words += type_options(rng) if number % 3 == 0 else []
         if any("//" in it for it in words):
             continue
         ours = ascii_lines(run([program, "--files", *words], room))

@@ -44,7 +44,7 @@ alt_first h (x ∷ res) (suc p) i a listed none some =
     option_or_second (attempt h x accept i) (attempt h (alt_all res) accept i) (none 0 x (omega arith) refl)
     ∙ alt_first h res p i a listed (λ q b below is. none (suc q) b (omega (arith, below)) is) some
 
-matches_of : (h : List ℕ) (b : Re) (i : ℕ) (t : Trace) → attempt h b accept i ≡ Some t → Matches h b i t.end
+pub matches_of : (h : List ℕ) (b : Re) (i : ℕ) (t : Trace) → attempt h b accept i ≡ Some t → Matches h b i t.end
 matches_of h b i t e =
     let c = attempt_sound h b accept i t e in
     subst (Matches h b i) (ap (λ (u : Trace). u.end) (same_Some _ _ c.gave) ∙ sym c.same_end) c.leads
@@ -163,7 +163,7 @@ no_span config ts h at found res read =
     ap (option_map span_of_match) (nothing (found_from config.utf8 (alt_all res) h at) (found.start res read))
 
 -- ---- with the slots
-spanned : (o : Option Match) (f : FoundMatch) → option_map span_of_match o ≡ Some (span_of_row f) →
+pub spanned : (o : Option Match) (f : FoundMatch) → option_map span_of_match o ≡ Some (span_of_row f) →
     (m : Match) × (o ≡ Some m) × (span_of_match m ≡ span_of_row f)
 spanned None f e = absurd (none-some (span_of_row f) e)
 spanned (Some m) f e = (m, refl, same_Some (span_of_match m) (span_of_row f) e)
@@ -183,7 +183,7 @@ captured config ts h at n f slots found pattern written res read =
           ∙ ap (λ (o : Option Match). slots_of_found o n) (sym it.1);
     }
 
-spanless : (o : Option Match) → option_map span_of_match o ≡ None → o ≡ None
+pub spanless : (o : Option Match) → option_map span_of_match o ≡ None → o ≡ None
 spanless None e = refl
 spanless (Some m) e = absurd (none-some (span_of_match m) (sym e))
 

@@ -2,3 +2,5 @@ pub mod Errors
 pub mod Patterns
 pub mod Groups
 pub mod Captures
+pub mod Rows
+pub mod Replacing

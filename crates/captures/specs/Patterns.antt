@@ -1,13 +1,15 @@
 -- The groups of patterns.
-use Rattle.std.specs.Prelude.{◌≡◌, ℕ, List, [], ◌∷◌, IfSome, ⊤, string_bytes}
+use Rattle.std.specs.Prelude.{◌≡◌, ℕ, ◌+◌, List, [], ◌∷◌, Some, None, IfSome, Option, ⊤, length, string_bytes}
 use Rattle.regex_syntax.specs.declared.Config.{Config}
-use Rattle.group_finder.specs.Patterns.{IsNamedBy}
-use Rattle.group_finder.specs.Groups.{IsFinderOf}
+use Rattle.group_finder.specs.Patterns.{IsNamedBy, IsPattern}
+use Rattle.group_finder.specs.Groups.{IsFinderOf, finder_bytes}
+use Rattle.group_finder.specs.declared.finder.GroupFinder.{GroupFinder}
 use Rattle.captures.specs.declared.pattern_groups.PatternGroups.{PatternGroups}
 
 -- This is of the pattern, parsed under these options: its bytes, the names of its groups, and the finder of its groups if there is one.
 pub record IsPatternGroups (config : Config) (text : List ℕ) (p : PatternGroups) : Type 0 where
   pub text_is : string_bytes p.text ≡ text
+  pub parsed : IsPattern config text
   pub named : IsNamedBy config text p.names
   pub finder : IfSome p.finder (IsFinderOf config text)
 
@@ -16,3 +18,19 @@ abbrev pub ArePatternGroups : Config → List (List ℕ) → List PatternGroups 
 ArePatternGroups config [] [] = ⊤
 ArePatternGroups config (t ∷ ts) (p ∷ ps) = IsPatternGroups config t p × ArePatternGroups config ts ps
 ArePatternGroups config _ _ = ⊥
+
+-- ---- memory
+
+-- The bytes of what finds the groups of a pattern, if it is made.
+abbrev pub found_bytes : Option GroupFinder → ℕ
+found_bytes None = 0
+found_bytes (Some g) = finder_bytes g
+
+-- The bytes that are counted for a pattern: its own, and those of what finds its groups.
+abbrev pub pattern_bytes : PatternGroups → ℕ
+pattern_bytes p = length (string_bytes p.text) + found_bytes p.finder
+
+-- The bytes that are counted for all patterns.
+abbrev pub all_bytes : List PatternGroups → ℕ
+all_bytes [] = 0
+all_bytes (p ∷ ps) = pattern_bytes p + all_bytes ps

@@ -1,9 +1,9 @@
 //! Searches for one match with its groups.
-ghost use Rattle.std.specs.Prelude.{◌≡◌, ◌≤◌, ℕ, List, Some, IfErr, IfNone, IfOk, length, replicate, slice_get, true};
+ghost use Rattle.std.specs.Prelude.{◌≡◌, ◌<◌, ◌≤◌, ◌∷◌, [], ℕ, List, Some, IfErr, IfNone, IfOk, length, replicate, slice_get, true};
 ghost use Rattle.regex_hir.specs.Re.{Re, Trace, accept, attempt};
 ghost use Rattle.regex_hir.specs.Meaning.{alt_all};
 ghost use Rattle.regex_hir.specs.Find.{Match};
-ghost use Rattle.regex_syntax.specs.declared.Config.{Config as TextConfig};
+ghost use Rattle.meta_regex.specs.declared.options.Options.{Options};
 ghost use Rattle.search_core.specs.Utf8.{IsValidText};
 ghost use Rattle.pattern_search.specs.Searches.{span_of_match, IsOfFirstPattern};
 ghost use Rattle.pattern_search.specs.Texts.{AreReadAs};
@@ -21,6 +21,25 @@ use group_finder::clear;
 use meta_regex::{Cache, FoundMatch, Regex};
 use std::alloc::Global;
 
+/// Writes the start of a match into its slots, of which there is at most one.
+fn write_start(start: usize, slots: &mut [usize])
+    requires { length slots.old < 2 }
+    ensures { slots.new ≡ replicate (length slots.old) start }
+{
+    if slots.len() == 1 {
+        slots[0] = start;
+    }
+}
+
+/// Writes the span of a match into its two slots.
+fn write_span(start: usize, end: usize, slots: &mut [usize])
+    requires { length slots.old ≡ 2 }
+    ensures { slots.new ≡ start ∷ end ∷ [] }
+{
+    slots[0] = start;
+    slots[1] = end;
+}
+
 impl Groups {
     ghost use Rattle.captures.specs.Groups.{AreGroupsOf};
 
@@ -36,12 +55,13 @@ impl Groups {
         slots: &mut [usize],
     ) -> Result<Option<usize>, CapturesError>
         requires { stop ≤ length haystack.now }
-        ensures found { (config : TextConfig) (texts : List (List ℕ)) → AreGroupsOf config texts self.old → (text : List ℕ) (a : Re) →
-            slice_get texts pattern ≡ Some text → IsParsedAs config text a → (t : Trace) →
+        ensures found { (o : Options) (texts : List (List ℕ)) → AreGroupsOf o texts self.old → (text : List ℕ) (a : Re) →
+            slice_get texts pattern ≡ Some text → IsParsedAs o.syntax text a → (t : Trace) →
             attempt haystack.now a accept start ≡ Some t → start ≤ t.end → t.end ≤ stop → IfOk result (λ o. HasSlots start t o slots.new) }
-        ensures own { (config : TextConfig) (texts : List (List ℕ)) → AreGroupsOf config texts self.old → AreGroupsOf config texts self.new }
+        ensures own { (o : Options) (texts : List (List ℕ)) → AreGroupsOf o texts self.old → AreGroupsOf o texts self.new }
         ensures cleared { IfErr result (λ _. slots.new ≡ replicate (length slots.old) no_offset) }
-        ensures refused { IfErr result (λ e. (config : TextConfig) → (h : List ℕ) → IsCapturesError config h e) }
+        ensures refused { (o : Options) (texts : List (List ℕ)) → AreGroupsOf o texts self.old → (h : List ℕ) →
+            IfErr result (IsCapturesError o h) }
     {
         if pattern >= self.patterns.len() {
             return Ok(None);
@@ -70,14 +90,14 @@ impl Groups {
         from: usize,
     ) -> Result<Option<FoundMatch>, CapturesError>
         requires own { IsCacheOf regex.now cache.old }
-        requires groups { AreGroupsOf (config_by regex.now) regex.now.texts self.old }
+        requires groups { AreGroupsOf regex.now.options regex.now.texts self.old }
         requires within { from ≤ length haystack.now }
         requires valid { (config_by regex.now).utf8 ≡ true → IsValidText haystack.now }
         ensures own { IsCacheOf regex.now cache.new }
-        ensures groups { AreGroupsOf (config_by regex.now) regex.now.texts self.new }
+        ensures groups { AreGroupsOf regex.now.options regex.now.texts self.new }
         ensures found { IfOk result (HasFoundSpan (config_by regex.now) regex.now.texts haystack.now from) }
         ensures pattern { IfOk result (HasPattern (config_by regex.now) regex.now.texts haystack.now) }
-        ensures refused { IfErr result (IsCapturesError (config_by regex.now) haystack.now) }
+        ensures refused { IfErr result (IsCapturesError regex.now.options haystack.now) }
     {
         let found = match regex.search(alloc, cache, haystack, from) {
             Ok(found) => found,
@@ -103,7 +123,7 @@ impl Groups {
         }
     }
 
-    /// Writes the slots of a match that was found.
+    /// Writes the slots of a match that was found. Only slots after the first two need a search.
     #[inline]
     pub(crate) fn write_slots(
         &mut self,
@@ -112,15 +132,24 @@ impl Groups {
         found: FoundMatch,
         slots: &mut [usize],
     ) -> Result<(), CapturesError>
-        ensures written { (config : TextConfig) (texts : List (List ℕ)) → AreGroupsOf config texts self.old → (res : List Re) →
-            AreReadAs config texts res → IsOfFirstPattern res haystack.now (as_found found) → (m : Match) →
+        ensures written { (o : Options) (texts : List (List ℕ)) → AreGroupsOf o texts self.old → (res : List Re) →
+            AreReadAs o.syntax texts res → IsOfFirstPattern res haystack.now (as_found found) → (m : Match) →
             span_of_match m ≡ span_of_row found → m.start ≤ length haystack.now →
             attempt haystack.now (alt_all res) accept m.start ≡ Some m.trace →
             IfOk result (λ _. slots.new ≡ slots_of m (length slots.old)) }
-        ensures own { (config : TextConfig) (texts : List (List ℕ)) → AreGroupsOf config texts self.old → AreGroupsOf config texts self.new }
+        ensures own { (o : Options) (texts : List (List ℕ)) → AreGroupsOf o texts self.old → AreGroupsOf o texts self.new }
         ensures cleared { IfErr result (λ _. slots.new ≡ replicate (length slots.old) no_offset) }
-        ensures refused { IfErr result (λ e. (config : TextConfig) → (h : List ℕ) → IsCapturesError config h e) }
+        ensures refused { (o : Options) (texts : List (List ℕ)) → AreGroupsOf o texts self.old → (h : List ℕ) →
+            IfErr result (IsCapturesError o h) }
     {
+        if slots.len() < 2 {
+            write_start(found.start, slots);
+            return Ok(());
+        }
+        if slots.len() == 2 {
+            write_span(found.start, found.end, slots);
+            return Ok(());
+        }
         if found.end > haystack.len() {
             return Ok(());
         }
@@ -153,13 +182,13 @@ impl Groups {
         slots: &mut [usize],
     ) -> Result<Option<FoundMatch>, CapturesError>
         requires own { IsCacheOf regex.now cache.old }
-        requires groups { AreGroupsOf (config_by regex.now) regex.now.texts self.old }
+        requires groups { AreGroupsOf regex.now.options regex.now.texts self.old }
         requires within { from ≤ length haystack.now }
         ensures own { IsCacheOf regex.now cache.new }
-        ensures groups { AreGroupsOf (config_by regex.now) regex.now.texts self.new }
+        ensures groups { AreGroupsOf regex.now.options regex.now.texts self.new }
         ensures found { IfOk result (λ o. HasCaptures (config_by regex.now) regex.now.texts haystack.now from (length slots.old) o slots.new) }
         ensures cleared { IfErr result (λ _. slots.new ≡ replicate (length slots.old) no_offset) }
-        ensures refused { IfErr result (IsCapturesError (config_by regex.now) haystack.now) }
+        ensures refused { IfErr result (IsCapturesError regex.now.options haystack.now) }
     {
         clear(slots);
         match regex.check(haystack) {

@@ -1,7 +1,12 @@
 //! Why no match is returned with its groups.
 ghost use Rattle.std.specs.Prelude.{◌≡◌, ℕ, List};
 ghost use Rattle.regex_syntax.specs.declared.Config.{Config as TextConfig};
+ghost use Rattle.meta_regex.specs.Options.{config_of};
 ghost use Rattle.meta_regex.specs.Regexes.{IsSearchError};
+ghost use Rattle.meta_regex.specs.declared.options.Options.{Options};
+ghost use Rattle.group_finder.specs.Errors.{IsNewError, bytes_allowed};
+ghost use Rattle.group_finder.specs.Patterns.{IsPattern};
+ghost use Rattle.captures.specs.Groups.{limit_of};
 ghost use Rattle.captures.specs.Errors.{IsCapturesError};
 
 use group_finder::NewError;
@@ -14,23 +19,25 @@ pub enum CapturesError {
     Search(SearchError),
     /// Memory ran out.
     NoMemory,
-    /// What finds the groups of a pattern would take more than this many bytes.
+    /// What finds the groups of a pattern would take more than this many bytes: the limit of the options, or 16 GiB.
     TooLarge(usize),
 }
 
 /// The cause of an error of a search.
 pub(crate) fn of_search(error: SearchError) -> CapturesError
-    ensures { (config : TextConfig) → (h : List ℕ) → IsSearchError config h error → IsCapturesError config h result }
+    ensures { (o : Options) → (h : List ℕ) → IsSearchError (config_of o) h error → IsCapturesError o h result }
 {
     CapturesError::Search(error)
 }
 
-/// The cause of an error of making a finder. It isn't a syntax error, since the names of the groups were read in the same pattern.
-pub(crate) fn of_new(error: NewError, size_limit: usize) -> CapturesError
-    ensures { (config : TextConfig) → (h : List ℕ) → IsCapturesError config h result }
+/// The cause of an error of making a finder of a pattern. It isn't about the syntax, since the names of the groups were read in the pattern.
+pub(crate) fn of_new(error: NewError) -> CapturesError
+    ensures { (o : Options) (config : TextConfig) → (text : List ℕ) (limit : ℕ) → (h : List ℕ) → IsPattern config text →
+        IsNewError config text limit error → bytes_allowed limit ≡ limit_of o → IsCapturesError o h result }
 {
     match error {
         NewError::NoMemory => CapturesError::NoMemory,
-        _ => CapturesError::TooLarge(size_limit),
+        NewError::TooLarge(most) => CapturesError::TooLarge(most),
+        NewError::Syntax(_) => CapturesError::NoMemory,
     }
 }

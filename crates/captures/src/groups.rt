@@ -1,9 +1,11 @@
 //! The groups of the patterns of a regex.
-ghost use Rattle.std.specs.Prelude.{◌≡◌, ◌++◌, ◌∷◌, [], ℕ, List, Some, None, IfOk, OnOk, length, map, option_map, slice_get};
-ghost use Rattle.regex_syntax.specs.declared.Config.{Config as TextConfig};
+ghost use Rattle.std.specs.Prelude.{◌≡◌, ◌<◌, ◌++◌, ◌∷◌, [], ℕ, List, Some, None, IfErr, IfOk, OnOk, length, map, option_map, slice_get, vec_len};
+ghost use Rattle.meta_regex.specs.declared.options.Options.{Options as RegexOptions};
 ghost use Rattle.regex_syntax.specs.Grammar.{Names};
 ghost use Rattle.group_finder.specs.Patterns.{IsNamedBy, name_at};
-ghost use Rattle.captures.specs.Patterns.{ArePatternGroups};
+ghost use Rattle.group_finder.specs.Engines.{counted};
+ghost use Rattle.captures.specs.Errors.{IsGroupsError, IsPrepareError};
+ghost use Rattle.captures.specs.Patterns.{ArePatternGroups, all_bytes};
 
 use crate::pattern_groups::{PatternGroups, groups_of};
 use group_finder::NewError;
@@ -37,7 +39,8 @@ fn all_groups_of(
     texts: &[&str],
     config: &Config,
 ) -> Result<Vec<PatternGroups>, NewError>
-    ensures { IfOk result (λ ps. ArePatternGroups config.now (map (λ t. t.now) texts.now) ps.items) }
+    ensures made { IfOk result (λ ps. ArePatternGroups config.now (map (λ t. t.now) texts.now) ps.items) }
+    ensures refused { IfErr result (IsGroupsError config.now (map (λ t. t.now) texts.now)) }
 {
     let mut groups = Vec::new(alloc);
     for text in texts {
@@ -54,11 +57,12 @@ fn all_groups_of(
 }
 
 impl Groups {
-    ghost use Rattle.captures.specs.Groups.{AreGroupsOf};
+    ghost use Rattle.captures.specs.Groups.{AreGroupsOf, IsPrepared};
 
     /// The groups of patterns, without what finds them.
     pub fn new(alloc: Global, texts: &[&str], options: &Options) -> Result<Groups, NewError>
-        ensures { IfOk result (AreGroupsOf options.now.syntax (map (λ t. t.now) texts.now)) }
+        ensures made { IfOk result (AreGroupsOf options.now (map (λ t. t.now) texts.now)) }
+        ensures refused { IfErr result (IsGroupsError options.now.syntax (map (λ t. t.now) texts.now)) }
     {
         let patterns = match all_groups_of(alloc, texts, &options.syntax) {
             Ok(patterns) => patterns,
@@ -71,31 +75,57 @@ impl Groups {
         })
     }
 
-    /// Makes what finds the groups of all patterns. Otherwise a search makes it for the pattern of its match.
+    /// Makes what finds the groups of all patterns. Otherwise a search makes it for the pattern of its match. After an error, what was made
+    /// stays.
     pub fn prepare(&mut self, alloc: Global) -> Result<(), NewError>
-        ensures { (config : TextConfig) (texts : List (List ℕ)) → AreGroupsOf config texts self.old → AreGroupsOf config texts self.new }
+        ensures own { (o : RegexOptions) (texts : List (List ℕ)) → AreGroupsOf o texts self.old → AreGroupsOf o texts self.new }
+        ensures made { OnOk result ((n : ℕ) → IsPrepared self.new n) }
+        ensures kept { (n : ℕ) → IsPrepared self.old n → IsPrepared self.new n }
+        ensures refused { (o : RegexOptions) (texts : List (List ℕ)) → AreGroupsOf o texts self.old → IfErr result (IsPrepareError o) }
     {
         for pattern in 0..self.patterns.len() {
-            self.prepare_one(alloc, pattern)?;
+            match self.prepare_one(alloc, pattern) {
+                Ok(()) => {}
+                Err(error) => return Err(error),
+            }
         }
         Ok(())
     }
 
     /// Makes what finds the groups of one pattern.
     fn prepare_one(&mut self, alloc: Global, pattern: usize) -> Result<(), NewError>
-        ensures { (config : TextConfig) (texts : List (List ℕ)) → AreGroupsOf config texts self.old → AreGroupsOf config texts self.new }
+        requires { pattern < length self.old.patterns.items }
+        ensures own { (o : RegexOptions) (texts : List (List ℕ)) → AreGroupsOf o texts self.old → AreGroupsOf o texts self.new }
+        ensures made { OnOk result (IsPrepared self.new pattern) }
+        ensures kept { (n : ℕ) → IsPrepared self.old n → IsPrepared self.new n }
+        ensures same { length self.new.patterns.items ≡ length self.old.patterns.items }
+        ensures refused { (o : RegexOptions) (texts : List (List ℕ)) → AreGroupsOf o texts self.old → IfErr result (IsPrepareError o) }
     {
-        if pattern >= self.patterns.len() {
-            return Ok(());
+        match self.patterns[pattern].prepare(alloc, &self.syntax, self.size_limit) {
+            Ok(()) => {}
+            Err(error) => return Err(error),
         }
-        self.patterns[pattern].prepare(alloc, &self.syntax, self.size_limit)
+        Ok(())
+    }
+
+    /// The bytes that are counted for the patterns: their own, and those of what finds their groups, as
+    /// [`GroupFinder::memory_usage`](group_finder::GroupFinder::memory_usage) counts them. The greatest number stands for any number above
+    /// it.
+    pub fn memory_usage(&self) -> usize
+        ensures { result ≡ counted (all_bytes self.now.patterns.items) }
+    {
+        let mut usage = 0usize;
+        for pattern in 0..self.patterns.len() {
+            usage = usage.saturating_add(self.patterns[pattern].memory_usage());
+        }
+        usage
     }
 
     /// The number of groups of a pattern, group 0 counted. None if there is no pattern of this number.
     pub fn group_count(&self, pattern: usize) -> Option<usize>
-        ensures counted { (config : TextConfig) (texts : List (List ℕ)) → AreGroupsOf config texts self.now → (text : List ℕ) (names : Names) →
-            slice_get texts pattern ≡ Some text → IsNamedBy config text names → result ≡ Some (length names) }
-        ensures none { (config : TextConfig) (texts : List (List ℕ)) → AreGroupsOf config texts self.now → slice_get texts pattern ≡ None →
+        ensures counted { (o : RegexOptions) (texts : List (List ℕ)) → AreGroupsOf o texts self.now → (text : List ℕ) (names : Names) →
+            slice_get texts pattern ≡ Some text → IsNamedBy o.syntax text names → result ≡ Some (length names) }
+        ensures none { (o : RegexOptions) (texts : List (List ℕ)) → AreGroupsOf o texts self.now → slice_get texts pattern ≡ None →
             result ≡ None }
     {
         if pattern >= self.patterns.len() {
@@ -106,9 +136,9 @@ impl Groups {
 
     /// The name of a group of a pattern. None if there is no such group, or if it has no name.
     pub fn group_name(&self, pattern: usize, group: usize) -> Option<&str>
-        ensures named { (config : TextConfig) (texts : List (List ℕ)) → AreGroupsOf config texts self.now → (text : List ℕ) (names : Names) →
-            slice_get texts pattern ≡ Some text → IsNamedBy config text names → option_map (λ t. t.now) result ≡ name_at names group }
-        ensures none { (config : TextConfig) (texts : List (List ℕ)) → AreGroupsOf config texts self.now → slice_get texts pattern ≡ None →
+        ensures named { (o : RegexOptions) (texts : List (List ℕ)) → AreGroupsOf o texts self.now → (text : List ℕ) (names : Names) →
+            slice_get texts pattern ≡ Some text → IsNamedBy o.syntax text names → option_map (λ t. t.now) result ≡ name_at names group }
+        ensures none { (o : RegexOptions) (texts : List (List ℕ)) → AreGroupsOf o texts self.now → slice_get texts pattern ≡ None →
             result ≡ None }
     {
         if pattern >= self.patterns.len() {

@@ -5,10 +5,16 @@
 #![tactic(auto)]
 
 mod captures;
+mod copies;
 mod errors;
 mod groups;
+mod list;
 mod pattern_groups;
+mod replacement;
+mod replacing;
+mod splitting;
 
 pub use errors::CapturesError;
 pub use group_finder::NO_OFFSET;
 pub use groups::Groups;
+pub use replacement::Replacement;

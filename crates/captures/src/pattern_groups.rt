@@ -1,12 +1,15 @@
 //! The groups of one pattern.
 ghost use Rattle.std.specs.Prelude.{◌≡◌, ◌≤◌, ℕ, List, IfErr, IfNone, IfOk, IfSome, OnOk, Some, is_some, length, replicate, true};
 ghost use Rattle.regex_hir.specs.Re.{Re, Trace, accept, attempt};
-ghost use Rattle.regex_syntax.specs.declared.Config.{Config as TextConfig};
+ghost use Rattle.meta_regex.specs.declared.options.Options.{Options};
+ghost use Rattle.group_finder.specs.Engines.{counted};
+ghost use Rattle.group_finder.specs.Errors.{IsNewError, bytes_allowed};
 ghost use Rattle.group_finder.specs.Slots.{no_offset};
 ghost use Rattle.group_finder.specs.Patterns.{IsParsedAs};
 ghost use Rattle.group_finder.specs.Groups.{HasSlots};
 ghost use Rattle.captures.specs.Errors.{IsCapturesError};
-ghost use Rattle.captures.specs.Patterns.{IsPatternGroups};
+ghost use Rattle.captures.specs.Groups.{limit_of};
+ghost use Rattle.captures.specs.Patterns.{IsPatternGroups, pattern_bytes};
 
 use crate::errors::{CapturesError, of_new};
 use group_finder::{GroupFinder, GroupNames, NewError, clear};
@@ -27,7 +30,8 @@ pub(crate) fn groups_of(
     text: &str,
     config: &Config,
 ) -> Result<PatternGroups, NewError>
-    ensures { IfOk result (IsPatternGroups config.now text.now) }
+    ensures made { IfOk result (IsPatternGroups config.now text.now) }
+    ensures refused { (limit : ℕ) → IfErr result (IsNewError config.now text.now limit) }
 {
     let names = match GroupNames::new(alloc, text, &config.options()) {
         Ok(names) => names,
@@ -45,6 +49,17 @@ pub(crate) fn groups_of(
 }
 
 impl PatternGroups {
+    /// The bytes of the pattern, and of what finds its groups.
+    pub(crate) fn memory_usage(&self) -> usize
+        ensures { result ≡ counted (pattern_bytes self.now) }
+    {
+        let usage = self.text.len();
+        match &self.finder {
+            Some(finder) => usage.saturating_add(finder.memory_usage()),
+            None => usage,
+        }
+    }
+
     /// Makes the finder, if there is none.
     pub(crate) fn prepare(
         &mut self,
@@ -54,6 +69,8 @@ impl PatternGroups {
     ) -> Result<(), NewError>
         ensures own { (text : List ℕ) → IsPatternGroups config.now text self.old → IsPatternGroups config.now text self.new }
         ensures made { OnOk result (is_some self.new.finder ≡ true) }
+        ensures kept { is_some self.old.finder ≡ true → is_some self.new.finder ≡ true }
+        ensures refused { (text : List ℕ) → IsPatternGroups config.now text self.old → IfErr result (IsNewError config.now text size_limit) }
     {
         if self.finder.is_some() {
             return Ok(());
@@ -88,13 +105,14 @@ impl PatternGroups {
             (t : Trace) → attempt haystack.now a accept start ≡ Some t → t.end ≤ stop → IfOk result (λ o. HasSlots start t o slots.new) }
         ensures own { (text : List ℕ) → IsPatternGroups config.now text self.old → IsPatternGroups config.now text self.new }
         ensures cleared { IfErr result (λ _. slots.new ≡ replicate (length slots.old) no_offset) }
-        ensures refused { IfErr result (λ e. (config : TextConfig) → (h : List ℕ) → IsCapturesError config h e) }
+        ensures refused { (text : List ℕ) → IsPatternGroups config.now text self.old → (o : Options) → bytes_allowed size_limit ≡ limit_of o →
+            (h : List ℕ) → IfErr result (IsCapturesError o h) }
     {
         match self.prepare(alloc, config, size_limit) {
             Ok(()) => {}
             Err(error) => {
                 clear(slots);
-                return Err(of_new(error, size_limit));
+                return Err(of_new(error));
             }
         }
         let Some(finder) = &mut self.finder else {

@@ -1,3 +1,4 @@
 pub mod Matching
+pub mod Paths
 pub mod Reading
 pub mod Rules

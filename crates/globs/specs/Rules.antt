@@ -2,6 +2,7 @@
 use Rattle.std.specs.Prelude.{ℕ, ◌-◌, ◌==◌, Bool, false, ◌&&◌, ◌||◌, not, nat_lt, List, [], ◌∷◌, length, take, drop, slice_index, Option, Some, None, if◌then◌else◌}
 use Rattle.std.specs.List.{list_any}
 use Rattle.globs.specs.Matching.{Sections, is_slash, matches, matches_part, sections_of}
+use Rattle.globs.specs.Paths.{folder_name, without_end_space}
 use Rattle.globs.specs.Reading.{read}
 use Rattle.globs.specs.declared.reading.Fault.{Fault}
 use Rattle.globs.specs.declared.reading.Syntax.TheVariants.{Fnmatch, Globset}
@@ -30,6 +31,18 @@ decided known (r ∷ rs) is_folder part name = decided (if applies r is_folder p
 
 abbrev pub grep_rule : Bool → List ℕ → Rule
 grep_rule selects text = record { glob = (read Fnmatch text).sections; selects = selects; only_folders = false; anywhere = false }
+
+-- The rule of --exclude-dir.
+abbrev pub folder_rule : List ℕ → Rule
+folder_rule text = grep_rule false (folder_name text)
+
+-- The rules of a line of a file of --exclude-from: none if the line is empty without the white space at its end.
+abbrev pub excluded_by : List ℕ → List Rule
+excluded_by [] = []
+excluded_by (c ∷ cs) = grep_rule false (c ∷ cs) ∷ []
+
+abbrev pub excluded : List ℕ → List Rule
+excluded line = excluded_by (without_end_space line)
 
 -- If the first rule chooses files, all others are left out.
 abbrev pub skips_by : Option Bool → List Rule → Bool
@@ -76,6 +89,10 @@ rule_with glob text = record {
 
 abbrev pub glob_rule : List ℕ → Rule
 glob_rule text = rule_with (read Globset (glob_body text)).sections text
+
+-- The rule of a glob of a type of files.
+abbrev pub type_rule : Bool → List ℕ → Rule
+type_rule selects text = record { glob = (read Globset text).sections; selects = selects; only_folders = false; anywhere = false }
 
 -- Folders that no rule matches are searched, and files if no rule chooses files.
 abbrev pub chooses_by : Option Bool → List Rule → Bool → Bool

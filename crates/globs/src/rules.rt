@@ -1,13 +1,15 @@
 //! Rules that choose files: globs in the order in which they were given, of which the last one that matches decides.
-ghost use Rattle.std.specs.Prelude.{◌≡◌, IfOk, None, map, IfErr, Some, encode_utf8_all};
+ghost use Rattle.std.specs.Prelude.{◌≡◌, ◌++◌, OnOk, IfOk, None, map, IfErr, Some};
+ghost use Rattle.std.specs.Str.{chars};
 ghost use Rattle.std.specs.List.{list_any};
 ghost use Rattle.globs.specs.Matching.{is_slash, sections_of};
 ghost use Rattle.globs.specs.Reading.{read};
-ghost use Rattle.globs.specs.Rules.{applies, begins, chooses, decided, ends_in_slash, glob_body, glob_fault, glob_rule, grep_rule, rule_of, rule_with, skips, skips_by, without_first, without_last_slash};
+ghost use Rattle.globs.specs.Rules.{applies, begins, chooses, decided, ends_in_slash, excluded, folder_rule, glob_body, glob_fault, glob_rule, grep_rule, rule_of, rule_with, skips, skips_by, type_rule, without_first, without_last_slash};
 ghost use Rattle.globs.specs.declared.reading.Syntax.TheVariants.{Globset};
 
 use crate::item::{Item, is_slash};
 use crate::matching::{matches, matches_part};
+use crate::paths::{folder_name, without_end_space};
 use crate::reading::{Fault, Syntax, read};
 use std::alloc::{AllocError, Global};
 
@@ -91,6 +93,26 @@ impl Rule {
         ensures { IfOk result (λ r. rule_of r ≡ grep_rule selects text.now) }
     {
         let reader = read(alloc, Syntax::Fnmatch, text)?;
+        Ok(Rule {
+            glob: reader.sections,
+            selects,
+            only_folders: false,
+            anywhere: false,
+        })
+    }
+
+    /// The rule of `--exclude-dir`. Slashes at the end of the name don't count.
+    pub fn of_folder(alloc: Global, text: &[char]) -> Result<Rule, AllocError>
+        ensures { IfOk result (λ r. rule_of r ≡ folder_rule text.now) }
+    {
+        Rule::of_grep(alloc, false, folder_name(text))
+    }
+
+    /// The rule of a glob of a type of files, which selects names or leaves them out. The glob is in the syntax of `--glob` and has no fault.
+    pub fn of_type(alloc: Global, selects: bool, text: &[char]) -> Result<Rule, AllocError>
+        ensures { IfOk result (λ r. rule_of r ≡ type_rule selects text.now) }
+    {
+        let reader = read(alloc, Syntax::Globset, text)?;
         Ok(Rule {
             glob: reader.sections,
             selects,
@@ -198,9 +220,23 @@ pub fn chooses(
     }
 }
 
+/// Appends the rule of a line of a file of `--exclude-from`. White space at the end of the line doesn't count, and a line of nothing else has
+/// no rule.
+pub fn push_excluded(alloc: Global, rules: &mut Vec<Rule>, line: &[char]) -> Result<(), AllocError>
+    ensures { OnOk result (map rule_of rules.new.items ≡ map rule_of rules.old.items ++ excluded line.now) }
+{
+    let glob = without_end_space(line);
+    if glob.is_empty() {
+        return Ok(());
+    }
+    let rule = Rule::of_grep(alloc, false, glob)?;
+    rules.push(rule)?;
+    Ok(())
+}
+
 /// The characters of a text.
 pub fn chars_of(alloc: Global, text: &str) -> Result<Vec<char>, AllocError>
-    ensures { IfOk result (λ v. encode_utf8_all v.items ≡ text.now) }
+    ensures { IfOk result (λ v. v.items ≡ chars text.now) }
 {
     text.chars().collect(alloc)
 }

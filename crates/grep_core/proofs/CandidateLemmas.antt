@@ -54,7 +54,7 @@ use Rattle.grep_core.proofs.ToldLemmas.{is_search}
 use Rattle.grep_core.proofs.WholePatternLemmas.{find_same, whole_is_each, whole_pattern}
 
 -- of the spans that these trees mean in the block from the first offset on, none ends before the second one
-abbrev EndNotBefore : List Tree → List ℕ → ℕ → ℕ → Type 0
+abbrev pub EndNotBefore : List Tree → List ℕ → ℕ → ℕ → Type 0
 EndNotBefore xs block at place = NoneEndsBefore xs (looks_by is_word_char line_settings block) block at (length block) place
 
 -- no tree means a span of the line
@@ -130,18 +130,25 @@ none_of_tree true x line none = none
 none_of_tree false x line none = none_wordless x line none
 
 -- no line that ends before the offset has a match
+pub have_none_of : (how : PatternOptions) (texts : List (List ℕ)) (tree : Tree) (exact : Bool) (block text : List ℕ) (at x : ℕ) →
+    IsTreeOf how texts tree → has_crlf tree ≡ false → All (λ b. b < 256) block →
+    EndNotBefore (line_tree how.crlf (searched_tree exact tree) ∷ []) block at x → All (StandsIn block at x) (split_lines text) →
+    HaveNoMatch how texts text
+have_none_of how texts tree exact block text at x mean plain bytes least all res read k line below =
+    let s = searched_in block at x how.crlf _ (all k line below) in
+    no_match how texts tree res _ mean read
+    (All-left (λ b. b < 256) _ s.after (All-right (λ b. b < 256) s.before _ (subst (All (λ b. b < 256)) s.whole bytes)))
+    (none_of_tree exact tree _
+    (none_in how.crlf (searched_tree exact tree ∷ []) block at x _
+    (all_one (λ y. has_crlf y ≡ false) (searched_tree exact tree) (plain_searched exact tree plain)) least s))
+
 pub have_none : (how : PatternOptions) (texts : List (List ℕ)) (p : BlockRegex) (block text : List ℕ) (at x : ℕ) →
     (it : IsCandidatesOf how texts p) →
     All (λ b. b < 256) block → EndNotBefore (line_tree how.crlf (searched_tree p.exact it.tree) ∷ []) block at x →
     All (StandsIn block at x) (split_lines text) →
     HaveNoMatch how texts text
-have_none how texts p block text at x it bytes least all res read k line below =
-    let s = searched_in block at x how.crlf _ (all k line below) in
-    no_match how texts it.tree res _ it.mean read
-    (All-left (λ b. b < 256) _ s.after (All-right (λ b. b < 256) s.before _ (subst (All (λ b. b < 256)) s.whole bytes)))
-    (none_of_tree p.exact it.tree _
-    (none_in how.crlf (searched_tree p.exact it.tree ∷ []) block at x _
-    (all_one (λ y. has_crlf y ≡ false) (searched_tree p.exact it.tree) (plain_searched p.exact it.tree it.plain)) least s))
+have_none how texts p block text at x it bytes least all =
+    have_none_of how texts it.tree p.exact block text at x it.mean it.plain bytes least all
 
 -- ---- larger caches
 -- a regex of the same trees with other caches serves as well
@@ -205,7 +212,7 @@ stops_in_line xs block at start x stop fits none = record {
 }
 
 -- ---- what is skipped
-nothing_between : (how : PatternOptions) (texts : List (List ℕ)) (block : List ℕ) (at next : ℕ) → next ≤ at →
+pub nothing_between : (how : PatternOptions) (texts : List (List ℕ)) (block : List ℕ) (at next : ℕ) → next ≤ at →
     HaveNoMatch how texts (slice_range block at next)
 nothing_between how texts block at next low =
     let none : next - at ≡ 0 = omega (arith, low) in
@@ -384,7 +391,7 @@ starts_here xs block at start place feedless end before feed = elim (cases_lt en
   | inr enough ↦ enough
 ]
 
-line_starts_at : (block : List ℕ) (at start : ℕ) → IsLineStart block at → at ≤ start →
+pub line_starts_at : (block : List ℕ) (at start : ℕ) → IsLineStart block at → at ≤ start →
     (at < start → slice_get block (start - 1) ≡ Some 10) → IsLineStart block start
 line_starts_at block at start starts from feed = elim (cases_lt at start) [
   | inl over ↦ (λ above. feed over)

@@ -29,3 +29,5 @@ mod WholePatternLemmas
 mod WriteLemmas
 pub mod LineCutLemmas
 pub mod CandidateLemmas
+mod LiteralLemmas
+mod PartLemmas

@@ -15,3 +15,4 @@ pub mod Joined
 pub mod BoundedTrees
 pub mod Candidates
 pub mod Edges
+pub mod LiteralLines

@@ -4,9 +4,9 @@ ghost use Rattle.grep_core.specs.Candidates.{IsLineStart, IsNextLine};
 ghost use Rattle.grep_core.specs.Printing.{span_pair};
 ghost use Rattle.grep_core.specs.Searchers.{IsMatchReported, AreReported, IsSearcherError, SearchesFor};
 
-use crate::candidate_finder::CandidateFinder;
 use crate::candidates::Reached;
 use crate::fault::Fault;
+use crate::line_finder::LineFinder;
 use crate::line_patterns::LinePatterns;
 use crate::searcher::{Searcher, SearcherError};
 use crate::sizes::Size;
@@ -31,7 +31,7 @@ pub struct Finder<'t> {
     patterns: &'t LinePatterns<'t>,
     with_matches: bool,
     slow: SlowSearch<'t>,
-    candidates: CandidateFinder<'t>,
+    candidates: LineFinder<'t>,
     /// The size of the caches of the search of lines.
     line_size: Size,
     /// How often caches of the search of lines were cleared that have been replaced by larger ones.
@@ -85,7 +85,7 @@ impl<'t> Finder<'t> {
             Ok(searcher) => searcher,
             Err(e) => return Err(SearcherError::Build(e)),
         };
-        let candidates = CandidateFinder::new(alloc, patterns, tree, &searcher);
+        let candidates = LineFinder::new(alloc, patterns, tree, &searcher);
         Ok(Finder {
             searcher,
             patterns,

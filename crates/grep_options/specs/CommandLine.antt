@@ -150,14 +150,23 @@ glob_options =
     ∷ option (codes "glob") (codes "g") Append
     ∷ []
 
+-- Files by their types. The last of these prints the types instead of a search.
+abbrev pub type_options : List OptionRow
+type_options =
+    option (codes "type") (codes "t") Append
+    ∷ option (codes "type-not") [] Append
+    ∷ flag (codes "type-list") []
+    ∷ []
+
 abbrev pub file_options : List OptionRow
 file_options =
     glob_options
+    ++ (type_options
     ++ (flag (codes "hidden") []
     ∷ option (codes "max-depth") [] Set
     ∷ option (codes "sort") [] Set
     ∷ flag (codes "files") []
-    ∷ [])
+    ∷ []))
 
 abbrev pub paired_options : List OptionRow
 paired_options =

@@ -10,7 +10,7 @@ use Rattle.grep_options.specs.declared.numbers.Next.TheVariants.{AnyWord, Value,
 
 -- the option with this letter takes a value
 abbrev pub takes_value : ℕ → Bool
-takes_value b = list_any (λ c. b == c) (codes "efmABCdDgM")
+takes_value b = list_any (λ c. b == c) (codes "efmABCdDgtM")
 
 abbrev pub is_digit : ℕ → Bool
 is_digit b = nat_lt 47 b && nat_lt b 58
@@ -80,7 +80,8 @@ option_words word s =
 abbrev pub is_awaiting_file : List ℕ → Bool
 is_awaiting_file w =
     bytes_eq w (codes "--include") || (bytes_eq w (codes "--exclude") || (bytes_eq w (codes "--exclude-from")
-    || (bytes_eq w (codes "--exclude-dir") || (bytes_eq w (codes "--glob") || (bytes_eq w (codes "--max-depth") || bytes_eq w (codes "--sort"))))))
+    || (bytes_eq w (codes "--exclude-dir") || (bytes_eq w (codes "--glob") || (bytes_eq w (codes "--max-depth") || (bytes_eq w (codes "--sort")
+    || (bytes_eq w (codes "--type") || bytes_eq w (codes "--type-not"))))))))
 
 -- one of the options on the format of what is printed
 abbrev pub is_awaiting_format : List ℕ → Bool

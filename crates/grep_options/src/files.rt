@@ -2,7 +2,7 @@
 ghost use Rattle.std.specs.Prelude.{◌≡◌, ◌≤◌, ◌∷◌, ◌++◌, [], OnOk, IfOk, List, length, map, codes};
 ghost use Rattle.clap.specs.Words.{found_of};
 ghost use Rattle.clap.specs.declared.builder.action.ArgAction.TheVariants.{Append, Set};
-ghost use Rattle.grep_options.specs.CommandLine.{AddsOptions, file_options, flag, glob_options, option};
+ghost use Rattle.grep_options.specs.CommandLine.{AddsOptions, file_options, flag, glob_options, option, type_options};
 ghost use Rattle.grep_options.specs.FileOptions.{earlier, file_values, given_of, with_option, with_value, with_values};
 
 use crate::options::{list, option, push, push_long};
@@ -45,6 +45,22 @@ fn push_globs<'a>(alloc: Global, args: &mut Vec<Arg<'a>>) -> Result<(), AllocErr
     push_glob(alloc, args)
 }
 
+fn push_type<'a>(alloc: Global, args: &mut Vec<Arg<'a>>) -> Result<(), AllocError>
+    ensures { OnOk result (AddsOptions args.old.items args.new.items (option (codes "type") (codes "t") Append ∷ [])) }
+{
+    let help = "search only files of TYPE, by their names; see --type-list";
+    push(args, list(alloc, "type", "TYPE", help).short('t'))
+}
+
+fn push_types<'a>(alloc: Global, args: &mut Vec<Arg<'a>>) -> Result<(), AllocError>
+    ensures { OnOk result (AddsOptions args.old.items args.new.items type_options) }
+{
+    push_type(alloc, args)?;
+    push_list(alloc, args, "type-not", "TYPE", "skip files of TYPE")?;
+    let help = "print the types of files and the globs of their names";
+    push_long(alloc, args, "type-list", help)
+}
+
 fn push_depth<'a>(alloc: Global, args: &mut Vec<Arg<'a>>) -> Result<(), AllocError>
     ensures { OnOk result (AddsOptions args.old.items args.new.items (option (codes "max-depth") [] Set ∷ [])) }
 {
@@ -68,6 +84,7 @@ pub fn push_files<'a>(alloc: Global, args: &mut Vec<Arg<'a>>) -> Result<(), Allo
     ensures { OnOk result (AddsOptions args.old.items args.new.items file_options) }
 {
     push_globs(alloc, args)?;
+    push_types(alloc, args)?;
     let help = "accepted: files whose name begins with a dot are searched in any case";
     push_long(alloc, args, "hidden", help)?;
     push_depth(alloc, args)?;

@@ -40,6 +40,7 @@ fn takes_value(byte: u8) -> bool
         || byte == b'd'
         || byte == b'D'
         || byte == b'g'
+        || byte == b't'
         || byte == b'M'
 }
 
@@ -168,6 +169,8 @@ fn is_awaiting_file(word: &str) -> bool
         || word == "--glob"
         || word == "--max-depth"
         || word == "--sort"
+        || word == "--type"
+        || word == "--type-not"
 }
 
 /// Whether the word is an option on the format of what is printed, whose value is the next word.

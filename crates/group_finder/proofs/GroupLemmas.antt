@@ -19,7 +19,7 @@ use Rattle.regex_nfa.specs.declared.nfa.Nfa.{Nfa}
 use Rattle.regex_nfa.proofs.StopLemmas.{run_narrower}
 use Rattle.regex_vm.specs.Found.{first_match, span, group_cells}
 use Rattle.group_finder.specs.Slots.{no_offset, offset_or_none, offset_of_cell, slot_value, slots_of}
-use Rattle.group_finder.specs.Patterns.{IsParsedAs, IsNamedBy}
+use Rattle.group_finder.specs.Patterns.{IsParsedAs, IsNamedBy, IsPattern}
 use Rattle.group_finder.specs.Engines.{RunsAs, IsAutomatonOf, offsets_of}
 use Rattle.group_finder.specs.Groups.{HasSlots}
 use Rattle.group_finder.proofs.SlotLemmas.{cells_as_offsets, few_slots, slots_in_parts, slot_after_ends, along}
@@ -54,6 +54,17 @@ read_named : (config : Config) (hir : Hir) (names : Names) (r : Option (Nested R
     IsSomeAnd r (λ (re, found). names ≡ found)
 read_named config hir names None p = p
 read_named config hir names (Some (re, found)) p = p.2
+
+read_pattern : (config : Config) (hir : Hir) (names : Names) (r : Option (Nested Re × Names)) →
+    IsSomeAnd r (λ (re, found). (re.depth ≤ config.nest_limit) × SameCaptures (meaning hir) re.value × (names ≡ found)
+    × (group_count (meaning hir) ≤ length names)) →
+    IsSomeAnd r (λ (re, found). re.depth ≤ config.nest_limit)
+read_pattern config hir names None p = p
+read_pattern config hir names (Some (re, found)) p = p.0
+
+pub pattern_read : (config : Config) (text : List ℕ) (hir : Hir) (names : Names) → Reads config text hir names → IsPattern config text
+unfolding Reads
+pattern_read config text hir names p = read_pattern config hir names (read config (chars text)) p
 
 pub names_read : (config : Config) (text : List ℕ) (hir : Hir) (names : Names) → Reads config text hir names → IsNamedBy config text names
 unfolding Reads

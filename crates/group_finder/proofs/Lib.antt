@@ -1,4 +1,5 @@
 pub mod SlotLemmas
 pub mod WriteLemmas
 pub mod GroupLemmas
+pub mod CompileLemmas
 pub mod ForCallers

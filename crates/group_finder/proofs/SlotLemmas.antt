@@ -71,7 +71,7 @@ slot_after_ends m k =
     (cond-false _ (Some m.start) None (ne_eqb 0 (k + 2) (omega arith)))
     ∙ option_or-None _
 
-never_written : (ws : List (ℕ × ℕ)) (slot : ℕ) → All (λ (w : ℕ × ℕ). w.0 < slot) ws → last_write ws slot ≡ None
+pub never_written : (ws : List (ℕ × ℕ)) (slot : ℕ) → All (λ (w : ℕ × ℕ). w.0 < slot) ws → last_write ws slot ≡ None
 never_written [] slot all = refl
 never_written (w ∷ ws) slot all =
     ap₂ option_or (never_written ws slot (All-tail (λ (v : ℕ × ℕ). v.0 < slot) w ws all))

@@ -1,5 +1,5 @@
 -- Automata of patterns, and what the engines find by them.
-use Rattle.std.specs.Prelude.{◌≡◌, ℕ, ◌+◌, ◌-◌, ◌*◌, ◌<◌, ◌≤◌, All, List, Some, IsSomeAnd, chars, length, map, vec_len}
+use Rattle.std.specs.Prelude.{◌≡◌, ℕ, ◌+◌, ◌-◌, ◌*◌, ◌^◌, ◌<◌, ◌≤◌, All, Bool, true, false, List, Some, IsSomeAnd, chars, length, map, min, vec_len}
 use Rattle.std.specs.List.{range_with_len}
 use Rattle.regex_hir.specs.Re.{Re, Trace, accept, attempt}
 use Rattle.regex_hir.specs.Find.{Match, last_write}
@@ -30,3 +30,18 @@ HasRoomFor nfa room = (room.states ≡ vec_len nfa.states) × (room.groups ≡ n
 -- n slots of a match, from slot 2 on
 abbrev pub offsets_of : Match → ℕ → List ℕ
 offsets_of m n = map (λ k. offset_or_none (last_write m.trace.writes (k + 2))) (range_with_len 0 n)
+
+-- ---- memory
+
+-- The bytes of an automaton, without spare capacity: 16 for each state with its rank, and 8 for each transition.
+abbrev pub automaton_bytes : Nfa → ℕ
+automaton_bytes nfa = 16 * vec_len nfa.states + 8 * vec_len nfa.transitions
+
+-- The bytes of a PikeVM for an automaton, if there is one: for each state 60, and 16 for each slot after the first two.
+abbrev pub pikevm_bytes : Nfa → Bool → ℕ
+pikevm_bytes nfa false = 0
+pikevm_bytes nfa true = vec_len nfa.states * (16 * (nfa.slot_count - 2) + 60)
+
+-- What a count of bytes returns. The greatest number stands for any number above it.
+abbrev pub counted : ℕ → ℕ
+counted n = min n (2 ^ 64 - 1)

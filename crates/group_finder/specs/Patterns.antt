@@ -8,6 +8,10 @@ use Rattle.regex_syntax.specs.Grammar.{Names, read}
 abbrev pub IsParsedAs : Config → List ℕ → Re → Type 0
 IsParsedAs config text a = IsSomeAnd (read config (chars text)) (λ (re, names). (re.depth ≤ config.nest_limit) × (re.value ≡ a))
 
+-- A pattern that the grammar reads under these options, within the limit on nesting.
+abbrev pub IsPattern : Config → List ℕ → Type 0
+IsPattern config text = IsSomeAnd (read config (chars text)) (λ (re, names). re.depth ≤ config.nest_limit)
+
 -- A pattern has groups with these names, from group 0 on.
 abbrev pub IsNamedBy : Config → List ℕ → Names → Type 0
 IsNamedBy config text names = IsSomeAnd (read config (chars text)) (λ (re, found). names ≡ found)

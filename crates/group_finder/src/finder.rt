@@ -1,15 +1,15 @@
 //! Finds the groups of a match of one pattern.
 ghost use Rattle.std.proofs.Props.{props};
-ghost use Rattle.std.specs.Prelude.{◌≡◌, ℕ, ◌-◌, ◌≤◌, ◌<◌, All, List, Some, None, length, map, option_map, vec_len, IfErr, IfOk, IfSome};
+ghost use Rattle.std.specs.Prelude.{◌≡◌, ℕ, ◌+◌, ◌-◌, ◌≤◌, ◌<◌, All, List, Some, None, length, map, option_map, vec_len, IfErr, IfOk, IfSome};
 ghost use Rattle.regex_syntax.specs.declared.Config.{Config as TextConfig};
 ghost use Rattle.regex_hir.specs.Re.{Re, Trace, accept, attempt};
 ghost use Rattle.regex_tagged.specs.Valid.{IsFor};
 ghost use Rattle.regex_vm.specs.Found.{first_match, span, group_cells};
 ghost use Rattle.group_finder.specs.Slots.{slots_of};
-ghost use Rattle.group_finder.specs.Engines.{HasRoomFor, offsets_of, IsAutomatonOf};
+ghost use Rattle.group_finder.specs.Engines.{HasRoomFor, IsAutomatonOf, automaton_bytes, counted, offsets_of, pikevm_bytes};
 ghost use Rattle.group_finder.specs.Errors.{IsNewError};
 
-use crate::errors::{NewError, cause_of};
+use crate::errors::{NewError, allowed, cause_of};
 use crate::slots::{clear, decode, write_ends, write_start};
 use regex_compile::compile;
 use regex_dfa::Dfa;
@@ -163,28 +163,44 @@ fn dfa_of(alloc: Global, text: &str, config: &Config, size_limit: usize) -> Resu
         Ok(parsed) => parsed,
         Err(error) => return Err(cause_of(error)),
     };
+    let most = allowed(size_limit);
     let Ok(groups) = u32::try_from(names.len()) else {
-        return Err(NewError::TooLarge(size_limit));
+        return Err(NewError::TooLarge(most));
     };
-    let nfa = match compile(alloc, &hir, groups, size_limit) {
+    let nfa = match compile(alloc, &hir, groups, most) {
         Ok(nfa) => nfa,
         Err(regex_compile::Error::OutOfMemory) => return Err(NewError::NoMemory),
-        Err(_) => return Err(NewError::TooLarge(size_limit)),
+        Err(regex_compile::Error::TooBig) => return Err(NewError::TooLarge(most)),
+        Err(regex_compile::Error::Malformed) => unreachable!(),
     };
     match Dfa::new(alloc, nfa) {
         Ok(dfa) => Ok(dfa),
         Err(BuildError::OutOfMemory) => Err(NewError::NoMemory),
-        Err(BuildError::Malformed) => Err(NewError::TooLarge(size_limit)),
+        Err(BuildError::Malformed) => unreachable!(),
     }
+}
+
+/// The bytes of an automaton, and of a PikeVM for it if there is one.
+fn bytes_of(nfa: &Nfa, pikevm: bool) -> usize
+    ensures { result ≡ counted (automaton_bytes nfa.now + pikevm_bytes nfa.now pikevm) }
+{
+    let states = nfa.states.len();
+    let usage = (16 * states).saturating_add(nfa.transitions.len().saturating_mul(8));
+    if !pikevm {
+        return usage;
+    }
+    let each = 16 * (nfa.slot_count as usize - 2) + 60;
+    usage.saturating_add(states.saturating_mul(each))
 }
 
 impl GroupFinder {
     ghost use Rattle.std.specs.Prelude.{IfNone, replicate};
     ghost use Rattle.group_finder.specs.Slots.{no_offset};
     ghost use Rattle.group_finder.specs.Patterns.{IsParsedAs};
-    ghost use Rattle.group_finder.specs.Groups.{IsFinderOf, HasSlots, automaton_of};
+    ghost use Rattle.group_finder.specs.Engines.{counted};
+    ghost use Rattle.group_finder.specs.Groups.{IsFinderOf, HasSlots, automaton_of, finder_bytes};
 
-    /// Makes the finder of a pattern. The tables of its automaton take at most `size_limit` bytes.
+    /// Makes the finder of a pattern. The tables of its automaton take at most `size_limit` bytes, and at most 16 GiB.
     pub fn new(
         alloc: Global,
         text: &str,
@@ -209,13 +225,15 @@ impl GroupFinder {
         })
     }
 
-    /// The bytes that the automaton of the pattern takes, without spare capacity: 12 for each state, 8 for each transition, and 4 for the rank
-    /// of each state. The greatest number stands for any number above it.
+    /// The bytes that the finder takes, as far as they are counted. The automaton of the pattern takes 16 for each state and 8 for each
+    /// transition. The PikeVM, if a search needed it, takes for each state 60, and 16 for each slot after the first two. The greatest
+    /// number stands for any number above it.
     ///
-    /// The toolchain's engines don't report what their own tables take. Those of the tagged automaton are dropped at some 8 MiB.
-    pub fn memory_usage(&self) -> usize {
-        let states = self.dfa.nfa.states.len().saturating_mul(16);
-        states.saturating_add(self.dfa.nfa.transitions.len().saturating_mul(8))
+    /// The tables of the toolchain's tagged automaton aren't counted, since it doesn't report them. It drops them at some 8 MiB.
+    pub fn memory_usage(&self) -> usize
+        ensures { result ≡ counted (finder_bytes self.now) }
+    {
+        bytes_of(&self.dfa.nfa, self.pikevm.is_some())
     }
 
     /// Finds the match that the pattern has from an offset, and returns its end. `stop` is an offset at or after this end: the end itself, if

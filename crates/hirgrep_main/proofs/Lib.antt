@@ -1,2 +1,3 @@
+mod SelectingLemmas
 pub mod GivenLemmas
 pub mod OutcomeLemmas

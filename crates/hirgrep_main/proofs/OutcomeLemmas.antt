@@ -1,11 +1,12 @@
 -- What came of files stays, whatever comes of the next ones.
-use Rattle.std.proofs.Common.{◌≡◌, ℕ, Bool, true, ◌||◌, ◌&&◌, nat_lt, ap, sym, subst, refl}
+use Rattle.std.proofs.Common.{◌∙◌, ◌≡◌, ℕ, Bool, true, false, if◌then◌else◌, ◌||◌, ◌&&◌, nat_lt, ap, sym, subst, refl}
 use Rattle.std.specs.Prelude.{Result, Ok, Err}
 use Rattle.grep_core.specs.declared.fault.Fault.{Fault}
 use Rattle.grep_core.specs.declared.output_options.Print.{Print}
 use Rattle.hirgrep_main.specs.declared.outcome.Outcome.{Outcome}
-use Rattle.hirgrep_main.specs.Decisions.{prints_nothing}
+use Rattle.hirgrep_main.specs.Decisions.{counted, prints_nothing}
 use Rattle.hirgrep_main.specs.Outcomes.{Continues, after_search, is_of_output, with_failure}
+use Rattle.hirgrep_main.specs.Walking.{Tries}
 
 or_stays : (a b : Bool) → a ≡ true → (a || b) ≡ true
 or_stays a b e = ap (λ x. x || b) e
@@ -42,3 +43,20 @@ continues_searched print o bytes wrote (Err fault) = record {
 -- by an equation of what came
 pub continues_as : {a b c : Outcome} → Continues a b → c ≡ b → Continues a c
 continues_as {a = a} p e = subst (λ (x : Outcome). Continues a x) (sym e) p
+
+-- ---- a file was searched, or a failure was recorded
+
+pub searched_counts : (print : Print) (o : Outcome) (bytes : ℕ) (wrote : Bool) (reported : Result ℕ Fault)
+    → (after_search print o bytes wrote reported).files ≡ counted o.files 1
+searched_counts print o bytes wrote (Ok n) = refl
+searched_counts print o bytes wrote (Err fault) = refl
+
+pub searched_as : {new : Outcome} (print : Print) (o : Outcome) (bytes : ℕ) (wrote : Bool) (reported : Result ℕ Fault)
+    → new ≡ after_search print o bytes wrote reported → new.files ≡ counted o.files 1
+searched_as print o bytes wrote reported e = ap (λ (x : Outcome). x.files) e ∙ searched_counts print o bytes wrote reported
+
+pub unrefused : {a b : Outcome} (refused : Bool) → b ≡ (if refused then with_failure a else a) → refused ≡ false → b ≡ a
+unrefused {a = a} refused e f = e ∙ ap (λ (r : Bool). if r then with_failure a else a) f
+
+pub tries_after : {a b c : Outcome} → b ≡ a → Tries b c → Tries a c
+tries_after {c = c} e t = subst (λ (x : Outcome). Tries x c) e t

@@ -11,6 +11,7 @@ mod arguments;
 mod asked;
 mod columns;
 mod counting;
+mod file_types;
 mod input;
 mod loops;
 mod messages;
@@ -25,7 +26,8 @@ mod walking;
 
 use crate::arguments::{arguments_of, report_usage};
 use crate::asked::{Asked, Directories, asked_of, input_name, is_colorful};
-use crate::messages::report_error;
+use crate::file_types::{TYPES, list_of_types};
+use crate::messages::{report_error, report_output};
 use crate::outcome::Outcome;
 use crate::patterns::{gives_patterns, lines_of, patterns_of};
 use crate::searching::{Files, search};
@@ -34,6 +36,7 @@ use clap::ArgMatches;
 use grep_options::{command, is_set, with_numbers};
 use std::alloc::AllocError;
 use std::env;
+use std::io::Write;
 use std::process::ExitCode;
 use std::rt::Runtime;
 
@@ -122,9 +125,21 @@ fn run_asked(
     if !enter(rt, matches.get_strs("directory").unwrap_or(&[])) {
         return Ok(Outcome::failure());
     }
-    match selection_of(rt, asked, matches)? {
+    match selection_of(rt, asked, &TYPES, matches)? {
         Some(selection) => run_chosen(rt, asked, matches, &selection),
         None => Ok(Outcome::failure()),
+    }
+}
+
+/// Prints the types of files, and returns the exit status.
+fn print_types(rt: &HostRuntime) -> Result<u8, AllocError> {
+    let text = list_of_types(rt.alloc(), &TYPES)?;
+    match rt.stdout().write_all(text.as_bytes()) {
+        Ok(()) => Ok(0),
+        Err(e) => {
+            report_output(rt, &e);
+            Ok(2)
+        }
     }
 }
 
@@ -137,6 +152,9 @@ fn run_matches(rt: &HostRuntime, matches: &ArgMatches<'_>) -> Result<u8, AllocEr
             "hirgrep: -G isn't supported: write \\+ \\? \\| \\( \\) \\{{ \\}} without a backslash, and + ? | ( ) {{ }} with one"
         );
         return Ok(2);
+    }
+    if is_set(matches, "type-list") {
+        return print_types(rt);
     }
     let asked = asked_of(matches, is_colorful(rt));
     let outcome = run_asked(rt, &asked, matches)?;

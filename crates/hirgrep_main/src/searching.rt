@@ -1,16 +1,18 @@
 //! Searches files, one after the other.
-ghost use Rattle.std.specs.Prelude.{◌≡◌, ℕ, Bool, true, false, Result, Ok, IfErr, IfOk, IfSome, OnOk, map, string_bytes, take, if◌then◌else◌};
+ghost use Rattle.std.specs.Prelude.{◌≡◌, ℕ, Bool, true, false, Result, Ok, IfErr, IfOk, IfSome, OnOk, codes, map, string_bytes, take, if◌then◌else◌};
 ghost use Rattle.std.specs.Io.KnownBytes.{Appends};
 ghost use Rattle.grep_core.specs.Meant.{written};
 ghost use Rattle.grep_core.specs.Report.{counted_as, report, selected_count};
 ghost use Rattle.grep_core.specs.Searchers.{SearchesFor, found_by};
 ghost use Rattle.grep_core.specs.Reporting.{needs_spans, prints_lines};
 ghost use Rattle.grep_core.specs.declared.fault.Fault.{Fault as TheFault};
-ghost use Rattle.hirgrep_main.specs.Decisions.{is_most, may_run_on, prints_all, prints_names_if_none, reads_found, reads_named, selects_none};
+ghost use Rattle.hirgrep_main.specs.Decisions.{counted, is_most, may_run_on, prints_all, prints_names_if_none, reads_found, reads_named, selects_none};
 ghost use Rattle.hirgrep_main.specs.Decisions.{shows_names};
 ghost use Rattle.hirgrep_main.specs.declared.asked.Directories.TheVariants.{Reject, Skip};
-ghost use Rattle.hirgrep_main.specs.declared.searching.Named.TheVariants.{Folder, Device};
-ghost use Rattle.hirgrep_main.specs.declared.walking.Kind.TheVariants.{Link, Device as FoundDevice};
+ghost use Rattle.hirgrep_main.specs.declared.searching.Named.TheVariants.{Input, File, Folder, Device};
+ghost use Rattle.hirgrep_main.specs.declared.walking.Kind.TheVariants.{Link, Device as FoundDevice, File as FoundFile, Folder as FoundFolder};
+ghost use Rattle.hirgrep_main.specs.Selecting.{depth_in, enters, selection, skips_found};
+ghost use Rattle.hirgrep_main.specs.Walking.{Tries, is_folder, is_folder_kind, is_left_out, leaves_out, may_be_several, named_by};
 ghost use Rattle.hirgrep_main.specs.Outcomes.{Continues, after_search, no_outcome, with_failure};
 ghost use Rattle.hirgrep_main.specs.Tasks.{options_in};
 
@@ -119,6 +121,7 @@ fn search_reader<R: Read + Drop, W: Write + Drop>(
         × IfOk reported (λ n. (by : SearchesFor finder.old (needs_spans task.entry.asked.now.what)) →
         IfSome (R.remaining reader) (λ text.
         n ≡ counted_as task.entry.asked.now.what.print (selected_count task.entry.asked.now.what (found_by by) text))) }
+    ensures counted { outcome.new.files ≡ counted outcome.old.files 1 }
     ensures continues { Continues outcome.old outcome.new }
 {
     let mut reader = Counting::new(reader);
@@ -219,7 +222,9 @@ fn search_opened<R: Read + Drop>(
     name: &str,
     opened: io::Result<R>,
 )
+    ensures read { IfOk opened (λ _. outcome.new.files ≡ counted outcome.old.files 1) }
     ensures unread { IfErr opened (λ _. outcome.new ≡ with_failure outcome.old) }
+    ensures tried { Tries outcome.old outcome.new }
     ensures continues { Continues outcome.old outcome.new }
 {
     match opened {
@@ -239,6 +244,8 @@ fn search_aligned<R: Read + Drop>(
     opened: io::Result<R>,
 )
     ensures unknown { IfErr width (λ _. outcome.new ≡ with_failure outcome.old) }
+    ensures read { IfOk width (λ _. IfOk opened (λ _. outcome.new.files ≡ counted outcome.old.files 1)) }
+    ensures tried { Tries outcome.old outcome.new }
     ensures continues { Continues outcome.old outcome.new }
 {
     match width {
@@ -249,7 +256,9 @@ fn search_aligned<R: Read + Drop>(
 
 /// Searches standard input.
 fn search_input(rt: &HostRuntime, finder: &mut Finder<'_>, task: Task<'_>, outcome: &mut Outcome)
-    ensures { Continues outcome.old outcome.new }
+    ensures listed { task.entry.selection.now.lists ≡ true → outcome.new ≡ outcome.old }
+    ensures tried { task.entry.selection.now.lists ≡ false → Tries outcome.old outcome.new }
+    ensures continues { Continues outcome.old outcome.new }
 {
     if task.selection.lists {
         return;
@@ -264,7 +273,9 @@ fn search_input(rt: &HostRuntime, finder: &mut Finder<'_>, task: Task<'_>, outco
 }
 
 /// Writes the name of a file and what ends it, unless nothing is printed.
-fn write_name<W: Write>(print: Print, name: &str, end: char, writer: &mut W) -> Result<u64, Fault> {
+fn write_name<W: Write>(print: Print, name: &str, end: char, writer: &mut W) -> Result<u64, Fault>
+    ensures one { IfOk result (λ n. n ≡ 1) }
+{
     if print == Print::Nothing {
         return Ok(1);
     }
@@ -276,7 +287,8 @@ fn write_name<W: Write>(print: Print, name: &str, end: char, writer: &mut W) -> 
 
 /// Prints the name of a file, and records the outcome.
 fn list_file(rt: &HostRuntime, task: Task<'_>, outcome: &mut Outcome, name: &str)
-    ensures { Continues outcome.old outcome.new }
+    ensures counted { outcome.new.files ≡ counted outcome.old.files 1 }
+    ensures continues { Continues outcome.old outcome.new }
 {
     let mut writer = Output::new(rt.stdout());
     let print = task.asked.what.print;
@@ -308,7 +320,8 @@ fn search_file(
     outcome: &mut Outcome,
     path: &str,
 )
-    ensures { Continues outcome.old outcome.new }
+    ensures tried { Tries outcome.old outcome.new }
+    ensures continues { Continues outcome.old outcome.new }
 {
     let name = shown_name(task, path);
     if task.selection.lists {
@@ -352,6 +365,7 @@ fn search_device(
     is_read: bool,
 )
     ensures skipped { is_read ≡ false → outcome.new ≡ outcome.old }
+    ensures tried { is_read ≡ true → Tries outcome.old outcome.new }
     ensures continues { Continues outcome.old outcome.new }
 {
     if is_read {
@@ -374,6 +388,10 @@ fn search_kind(
     ensures unread { IfErr kind (λ _. outcome.new ≡ with_failure outcome.old) }
     ensures link { kind ≡ Ok Link → outcome.new ≡ outcome.old }
     ensures device { kind ≡ Ok FoundDevice → reads_found task.entry.asked.now.devices ≡ false → outcome.new ≡ outcome.old }
+    ensures read { kind ≡ Ok FoundDevice → reads_found task.entry.asked.now.devices ≡ true → Tries outcome.old outcome.new }
+    ensures file { kind ≡ Ok FoundFile → Tries outcome.old outcome.new }
+    ensures deep { kind ≡ Ok FoundFolder → enters task.entry.selection.now.max_depth (depth_in root.now path.now) ≡ false
+        → (outcome.new ≡ outcome.old) × (left.new ≡ left.old) }
     ensures continues { Continues outcome.old outcome.new }
 {
     match kind {
@@ -389,12 +407,49 @@ fn search_kind(
     Ok(())
 }
 
-/// Whether this is a folder.
-fn is_folder(kind: &io::Result<Kind>) -> bool {
+fn is_folder_kind(kind: Kind) -> bool
+    ensures { result ≡ is_folder_kind kind }
+{
     match kind {
-        Ok(kind) => *kind == Kind::Folder,
+        Kind::Folder => true,
+        Kind::File | Kind::Link | Kind::Device => false,
+    }
+}
+
+/// Whether this is a folder.
+fn is_folder(kind: &io::Result<Kind>) -> bool
+    ensures { result ≡ is_folder kind.now }
+{
+    match kind {
+        Ok(kind) => is_folder_kind(*kind),
         Err(_) => false,
     }
+}
+
+/// Searches something of this kind that was found in a folder, unless the options leave it out.
+fn search_unless_skipped(
+    rt: &HostRuntime,
+    finder: &mut Finder<'_>,
+    task: Task<'_>,
+    outcome: &mut Outcome,
+    left: &mut Vec<String>,
+    root: &str,
+    path: &str,
+    kind: io::Result<Kind>,
+) -> Result<(), AllocError>
+    ensures skipped { skips_found (selection task.entry.selection.now) (is_folder kind) path.now ≡ true
+        → (outcome.new ≡ outcome.old) × (left.new ≡ left.old) }
+    ensures file { skips_found (selection task.entry.selection.now) (is_folder kind) path.now ≡ false
+        → kind ≡ Ok FoundFile → OnOk result (Tries outcome.old outcome.new) }
+    ensures unread { skips_found (selection task.entry.selection.now) (is_folder kind) path.now ≡ false
+        → IfErr kind (λ _. OnOk result (outcome.new ≡ with_failure outcome.old)) }
+    ensures continues { Continues outcome.old outcome.new }
+{
+    let is_folder = is_folder(&kind);
+    if task.selection.skips_found(rt.alloc(), is_folder, path)? {
+        return Ok(());
+    }
+    search_kind(rt, finder, task, outcome, left, root, path, kind)
 }
 
 /// Searches something that was found in a folder, unless the options leave it out.
@@ -410,13 +465,7 @@ fn search_found(
     ensures { Continues outcome.old outcome.new }
 {
     let kind = kind_of(rt, path, task.asked.follows);
-    if task
-        .selection
-        .skips_found(rt.alloc(), is_folder(&kind), path)?
-    {
-        return Ok(());
-    }
-    search_kind(rt, finder, task, outcome, left, root, path, kind)
+    search_unless_skipped(rt, finder, task, outcome, left, root, path, kind)
 }
 
 /// Searches the files of a folder, and of the folders in it.
@@ -456,16 +505,24 @@ enum Named {
     Device,
 }
 
-fn named_at(rt: &HostRuntime, path: &str) -> io::Result<Named> {
+fn named_by(kind: Kind) -> Named
+    ensures { result ≡ named_by kind }
+{
+    match kind {
+        Kind::File | Kind::Link => Named::File,
+        Kind::Folder => Named::Folder,
+        Kind::Device => Named::Device,
+    }
+}
+
+fn named_at(rt: &HostRuntime, path: &str) -> io::Result<Named>
+    ensures { path.now ≡ codes "-" → result ≡ Ok Input }
+{
     if path == "-" {
         return Ok(Named::Input);
     }
     let kind = kind_of(rt, path, true)?;
-    Ok(match kind {
-        Kind::File | Kind::Link => Named::File,
-        Kind::Folder => Named::Folder,
-        Kind::Device => Named::Device,
-    })
+    Ok(named_by(kind))
 }
 
 /// Searches a folder that an argument names, if its files are to be searched.
@@ -501,6 +558,9 @@ fn search_as(
     ensures rejected { named ≡ Ok Folder → task.entry.asked.now.directories ≡ Reject → outcome.new ≡ with_failure outcome.old }
     ensures skipped { named ≡ Ok Folder → task.entry.asked.now.directories ≡ Skip → outcome.new ≡ outcome.old }
     ensures device { named ≡ Ok Device → reads_named task.entry.asked.now.devices ≡ false → outcome.new ≡ outcome.old }
+    ensures read { named ≡ Ok Device → reads_named task.entry.asked.now.devices ≡ true → Tries outcome.old outcome.new }
+    ensures file { named ≡ Ok File → Tries outcome.old outcome.new }
+    ensures input { named ≡ Ok Input → task.entry.selection.now.lists ≡ false → Tries outcome.old outcome.new }
     ensures continues { Continues outcome.old outcome.new }
 {
     match named {
@@ -517,23 +577,32 @@ fn search_as(
 }
 
 /// Whether the options leave out what an argument names.
+fn leaves_out(alloc: Global, task: Task<'_>, path: &str, named: Named) -> Result<bool, AllocError>
+    ensures { IfOk result (λ is. is ≡ leaves_out (selection task.entry.selection.now) task.entry.bare named path.now) }
+{
+    match named {
+        Named::File | Named::Device => task.selection.skips_named(alloc, false, path),
+        Named::Folder => {
+            if task.bare {
+                return Ok(false);
+            }
+            task.selection.skips_named(alloc, true, path)
+        }
+        Named::Input => Ok(false),
+    }
+}
+
+/// Whether the options leave out what an argument names, if that is known.
 fn is_left_out(
     alloc: Global,
     task: Task<'_>,
     path: &str,
     named: &io::Result<Named>,
-) -> Result<bool, AllocError> {
-    let selection = task.selection;
+) -> Result<bool, AllocError>
+    ensures { IfOk result (λ is. is ≡ is_left_out (selection task.entry.selection.now) task.entry.bare named.now path.now) }
+{
     match named {
-        Ok(Named::File) => selection.skips_named(alloc, false, path),
-        Ok(Named::Device) => selection.skips_named(alloc, false, path),
-        Ok(Named::Folder) => {
-            if task.bare {
-                return Ok(false);
-            }
-            selection.skips_named(alloc, true, path)
-        }
-        Ok(Named::Input) => Ok(false),
+        Ok(named) => leaves_out(alloc, task, path, *named),
         Err(_) => Ok(false),
     }
 }
@@ -547,7 +616,11 @@ fn search_chosen(
     path: &str,
     named: io::Result<Named>,
 ) -> Result<(), AllocError>
-    ensures { Continues outcome.old outcome.new }
+    ensures left { is_left_out (selection task.entry.selection.now) task.entry.bare named path.now ≡ true → outcome.new ≡ outcome.old }
+    ensures file { is_left_out (selection task.entry.selection.now) task.entry.bare named path.now ≡ false
+        → named ≡ Ok File → OnOk result (Tries outcome.old outcome.new) }
+    ensures unknown { IfErr named (λ _. OnOk result (outcome.new ≡ with_failure outcome.old)) }
+    ensures continues { Continues outcome.old outcome.new }
 {
     if is_left_out(rt.alloc(), task, path, &named)? {
         return Ok(());
@@ -599,7 +672,9 @@ fn search_all(
 }
 
 /// Whether what an argument names may be several files: the files of a folder.
-fn may_be_several(directories: Directories, named: &io::Result<Named>) -> bool {
+fn may_be_several(directories: Directories, named: &io::Result<Named>) -> bool
+    ensures { result ≡ may_be_several directories named.now }
+{
     match named {
         Ok(Named::Folder) => directories == Directories::Recurse,
         _ => false,

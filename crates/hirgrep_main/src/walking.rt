@@ -1,9 +1,13 @@
 //! The files of folders.
-ghost use Rattle.hirgrep_main.specs.Outcomes.{Continues};
+ghost use Rattle.std.specs.Prelude.{◌≡◌, ◌++◌, ◌∷◌, [], IfOk, OnOk, false, map, string_bytes};
+ghost use Rattle.globs.specs.Rules.{ends_in_slash};
+ghost use Rattle.hirgrep_main.specs.Outcomes.{Continues, with_failure};
+ghost use Rattle.hirgrep_main.specs.Selecting.{depth_in, enters};
+ghost use Rattle.hirgrep_main.specs.Walking.{is_entry, joined};
 
 use crate::messages::warn_of_loop;
 use crate::outcome::Outcome;
-use crate::selecting_files::depth_in;
+use crate::selecting_files::{base_len, depth_in};
 use crate::task::{Task, shown_name};
 use std::alloc::{AllocError, Global};
 use std::fs::Metadata;
@@ -85,7 +89,7 @@ fn is_loop(rt: &HostRuntime, root: &str, path: &str) -> bool {
         return false;
     };
     let folder = id_of(&metadata);
-    let least = root.trim_end_matches('/').len();
+    let least = base_len(root);
     for (at, byte) in path.as_bytes().iter().enumerate() {
         if *byte != b'/' || at < least {
             continue;
@@ -109,10 +113,19 @@ fn is_folder_at(rt: &HostRuntime, parts: Option<(&str, &str)>, folder: FileId) -
     }
 }
 
+fn ends_in_slash(path: &str) -> bool
+    ensures { result ≡ ends_in_slash path.now }
+{
+    let path = path.as_bytes();
+    !path.is_empty() && path[path.len() - 1] == b'/'
+}
+
 /// The path of what has this name in a folder.
-fn joined(alloc: Global, folder: &str, name: &str) -> Result<String, AllocError> {
+fn joined(alloc: Global, folder: &str, name: &str) -> Result<String, AllocError>
+    ensures { IfOk result (λ path. string_bytes path ≡ joined folder.now name.now) }
+{
     let mut path = String::from_str(alloc, folder)?;
-    if !folder.ends_with('/') {
+    if !ends_in_slash(folder) {
         path.push('/')?;
     }
     path.push_str(name)?;
@@ -131,6 +144,49 @@ fn read_names(rt: &HostRuntime, path: &str, names: &mut Vec<u8>) -> io::Result<(
     Ok(())
 }
 
+/// Whether this is the name of something in a folder, and not of the folder itself or the one above it.
+fn is_entry(name: &[u8]) -> bool
+    ensures { result ≡ is_entry name.now }
+{
+    match name {
+        [] => false,
+        [a] => *a != b'.',
+        [a, b] => !(*a == b'.' && *b == b'.'),
+        _ => true,
+    }
+}
+
+fn push_name(
+    alloc: Global,
+    folder: &str,
+    name: &str,
+    paths: &mut Vec<String>,
+) -> Result<(), AllocError>
+    ensures { OnOk result (map string_bytes paths.new.items ≡ map string_bytes paths.old.items ++ joined folder.now name.now ∷ []) }
+{
+    let path = joined(alloc, folder, name)?;
+    paths.push(path)?;
+    Ok(())
+}
+
+/// Reports that the name of an entry of a folder isn't UTF-8.
+fn report_name(
+    rt: &HostRuntime,
+    task: Task<'_>,
+    outcome: &mut Outcome,
+    folder: &str,
+    name: &[u8],
+) -> Result<(), AllocError>
+    ensures failed { OnOk result (outcome.new ≡ with_failure outcome.old) }
+    ensures continues { Continues outcome.old outcome.new }
+{
+    let name = String::from_utf8_lossy(rt.alloc(), name)?;
+    let path = joined(rt.alloc(), folder, name.as_str())?;
+    let shown = shown_name(task, path.as_str());
+    outcome.fail_with(rt, task.asked, shown, "the name isn't UTF-8");
+    Ok(())
+}
+
 /// Appends the path of an entry of a folder. If its name isn't UTF-8, it is reported and left out.
 fn push_entry(
     rt: &HostRuntime,
@@ -140,24 +196,16 @@ fn push_entry(
     name: &[u8],
     paths: &mut Vec<String>,
 ) -> Result<(), AllocError>
-    ensures { Continues outcome.old outcome.new }
+    ensures other { is_entry name.now ≡ false → (outcome.new ≡ outcome.old) × (paths.new ≡ paths.old) }
+    ensures continues { Continues outcome.old outcome.new }
 {
-    if name.is_empty() || name == b".".as_slice() || name == b"..".as_slice() {
+    if !is_entry(name) {
         return Ok(());
     }
     match str::from_utf8(name) {
-        Ok(name) => {
-            let path = joined(rt.alloc(), folder, name)?;
-            paths.push(path)?;
-        }
-        Err(_) => {
-            let name = String::from_utf8_lossy(rt.alloc(), name)?;
-            let path = joined(rt.alloc(), folder, name.as_str())?;
-            let shown = shown_name(task, path.as_str());
-            outcome.fail_with(rt, task.asked, shown, "the name isn't UTF-8");
-        }
+        Ok(name) => push_name(rt.alloc(), folder, name, paths),
+        Err(_) => report_name(rt, task, outcome, folder, name),
     }
-    Ok(())
 }
 
 /// Appends the paths of the entries of a folder.
@@ -216,7 +264,9 @@ pub fn push_found(
     root: &str,
     path: &str,
 ) -> Result<(), AllocError>
-    ensures { Continues outcome.old outcome.new }
+    ensures deep { enters task.entry.selection.now.max_depth (depth_in root.now path.now) ≡ false
+        → (outcome.new ≡ outcome.old) × (left.new ≡ left.old) }
+    ensures continues { Continues outcome.old outcome.new }
 {
     if !task.selection.enters(depth_in(root, path)) {
         return Ok(());

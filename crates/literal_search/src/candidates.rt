@@ -1,10 +1,10 @@
 //! Skips the parts of a haystack in which a tree has no match.
 ghost use Rattle.std.specs.Prelude.{◌≡◌, ◌≤◌, length, true, IfOk, IfSome};
-ghost use Rattle.hir_core.specs.Tree.{Tree};
+ghost use Rattle.hir_core.specs.Tree.{Tree, alternation};
 ghost use Rattle.literal_search.specs.Searches.{IsBegunBy, IsContainedIn, IsNextEnd, IsNextStart, AdvancesToStop};
 
 use crate::literals::Literals;
-use crate::required::required_literals;
+use crate::required::{of_alternation, required_literals};
 use crate::searching::{LiteralSearch, Stop};
 use crate::sets::cost;
 use hir_core::Hir;
@@ -14,22 +14,28 @@ use std::marker::Model;
 /// A search that costs more than this for a million bytes of typical text, in nanoseconds, isn't made.
 const MAX_COST: u64 = 500_000;
 
-/// The fewest bytes that a search has to skip on average before each candidate.
-const LEAST_SKIP: usize = 32;
+/// How many bytes a search is ahead when it begins, and after it gave up for a time.
+const CREDIT: usize = 4096;
 
-/// How many bytes a search is ahead when it begins, at most and after it gave up for a time.
-const CREDIT: usize = 1024;
+/// How many bytes a search can be ahead.
+const MOST_CREDIT: usize = 1 << 16;
+
+/// How many skipped bytes make up for a candidate.
+const CANDIDATE: usize = 1024;
+
+/// How many skipped bytes make up for a search that stops since many offsets looked as if a literal began there.
+const MISSES: usize = 4096;
 
 /// How many bytes are searched without literals after these have given up.
 const REST: usize = 1 << 16;
 
-/// Whether a search for literals pays. It is kept from call to call.
+/// Whether a search for literals pays. It is kept from call to call. It counts bytes, so it may be kept from haystack to haystack too.
 #[derive(Clone, Copy, Debug)]
 pub struct Effort {
     /// How many bytes the search is ahead.
     credit: usize,
-    /// The offset up to which no search is made.
-    resume: usize,
+    /// How many bytes are still to be searched without literals.
+    rest: usize,
 }
 
 impl Effort {
@@ -37,27 +43,29 @@ impl Effort {
     pub fn new() -> Effort {
         Effort {
             credit: CREDIT,
-            resume: 0,
+            rest: 0,
         }
     }
 
-    /// Whether a search from this offset on is worthwhile.
-    pub fn pays(&self, from: usize) -> bool {
-        from >= self.resume
+    /// Whether a search for literals is worthwhile now.
+    pub fn pays(&self) -> bool {
+        self.rest == 0
     }
 
-    /// Records a search from one offset to another one.
-    pub fn record(&mut self, from: usize, to: usize) {
-        let ahead = self
-            .credit
-            .saturating_add(to.saturating_sub(from))
-            .min(16 * CREDIT);
-        if ahead > LEAST_SKIP {
-            self.credit = ahead - LEAST_SKIP;
+    /// Records that a search for literals skipped this many bytes, and how many make up for what it costs.
+    fn record(&mut self, skipped: usize, price: usize) {
+        let ahead = self.credit.saturating_add(skipped).min(MOST_CREDIT);
+        if ahead > price {
+            self.credit = ahead - price;
             return;
         }
         self.credit = CREDIT;
-        self.resume = to.saturating_add(REST);
+        self.rest = REST;
+    }
+
+    /// Records that this many bytes were searched without literals.
+    pub fn pass(&mut self, bytes: usize) {
+        self.rest = self.rest.saturating_sub(bytes);
     }
 }
 
@@ -115,18 +123,33 @@ impl CandidateFinder {
         }
     }
 
+    /// A finder of literals with which each match of one of the trees begins, as [`CandidateFinder::beginnings`].
+    pub fn beginnings_of_all(
+        alloc: Global,
+        trees: &[Hir],
+    ) -> Result<Option<CandidateFinder>, AllocError>
+        ensures { IfOk result (λ made. IfSome made (λ f. IsBegunBy f (alternation trees.now))) }
+    {
+        let all = of_alternation(alloc, trees)?;
+        match finder_of(alloc, all.begins)? {
+            Some(finder) => Ok(Some(finder)),
+            None => Ok(None),
+        }
+    }
+
     /// Searches for the literals from an offset on, unless that didn't pay before.
     fn stop_from(&self, effort: &mut Effort, haystack: &[u8], from: usize) -> Stop
         requires { from ≤ length haystack.now }
         ensures { AdvancesToStop self.now haystack.now from result }
     {
-        if !effort.pays(from) {
+        if !effort.pays() {
             return Stop::Tired(from);
         }
         let stop = self.search.find_at(haystack, from);
         match stop {
-            Stop::At(at) | Stop::Tired(at) => effort.record(from, at),
-            Stop::Missing => {}
+            Stop::At(at) => effort.record(at.saturating_sub(from), CANDIDATE),
+            Stop::Tired(at) => effort.record(at.saturating_sub(from), MISSES),
+            Stop::Missing => effort.record(haystack.len() - from, 0),
         }
         stop
     }

@@ -225,7 +225,7 @@ fn of_concat(alloc: Global, xs: &[Hir]) -> Result<Required, AllocError>
 
 /// What is known of an alternation.
 #[cycle(required_literals)]
-fn of_alternation(alloc: Global, xs: &[Hir]) -> Result<Required, AllocError>
+pub(crate) fn of_alternation(alloc: Global, xs: &[Hir]) -> Result<Required, AllocError>
     ensures { IfOk result (λ r. IsRequired r (alternation xs.now)) }
 {
     if xs.len() > MAX_PARTS {

@@ -5,7 +5,7 @@ use Rattle.captures.proofs.FoundLemmas.{captured}
 use Rattle.captures.proofs.groups.Groups.captures_at.Goals as goal
 
 pub returns-in-Err-clause-refused : goal.returns-in-Err-clause-refused
-returns-in-Err-clause-refused c = c.of_search.ensures (config_by c.args.regex.now) c.args.haystack.now c.in-Err.ensures.refused
+returns-in-Err-clause-refused c = c.of_search.ensures c.args.regex.now.options c.args.haystack.now c.in-Err.ensures.refused
 
 pub returns-in-Ok-write_slots-clause-found : goal.returns-in-Ok-write_slots-clause-found
 returns-in-Ok-write_slots-clause-found c =
@@ -16,9 +16,9 @@ returns-in-Ok-write_slots-clause-found c =
     (subst (HasPattern (config_by c.args.regex.now) c.args.regex.now.texts c.args.haystack.now) c.in-Ok-Some.field-0-is
     c.in-Ok-Some.ensures.pattern)
     (λ res read first m span inside there.
-    c.in-Ok-write_slots.ensures.written (config_by c.args.regex.now) c.args.regex.now.texts c.find.ensures.groups res read first m span inside
+    c.in-Ok-write_slots.ensures.written c.args.regex.now.options c.args.regex.now.texts c.find.ensures.groups res read first m span inside
     there ∙ ap (slots_of m) c.clear.auto.slots)
 
 pub returns-in-Err-write_slots-clause-refused : goal.returns-in-Err-write_slots-clause-refused
 returns-in-Err-write_slots-clause-refused c =
-    c.in-Err-write_slots.ensures.refused (config_by c.args.regex.now) c.args.haystack.now
+    c.in-Err-write_slots.ensures.refused c.args.regex.now.options c.args.regex.now.texts c.find.ensures.groups c.args.haystack.now

@@ -8,3 +8,7 @@ returns-in-Ok-groups_at-clause-found c = λ text a of parsed t e fits.
     c.in-Ok-groups_at.ensures.found c.args.config.now text a
     (subst (λ (o : Option GroupFinder). IfSome o (IsFinderOf c.args.config.now text)) c.in-Some.is (c.prepare.ensures.own text of).finder)
     parsed t e fits
+
+pub returns-in-Err-clause-refused : goal.returns-in-Err-clause-refused
+returns-in-Err-clause-refused c = λ text of o limit h.
+    c.of_new.ensures o c.args.config.now text c.args.size_limit h of.parsed (c.in-Err.ensures.refused text of) limit

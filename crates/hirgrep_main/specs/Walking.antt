@@ -1,0 +1,77 @@
+-- What is found in folders, and which of it is searched.
+use Rattle.std.specs.Prelude.{◌≡◌, ◌⊎◌, ℕ, ◌==◌, Bool, true, false, ◌&&◌, ◌||◌, not, List, [], ◌∷◌, ◌++◌, Result, Ok, Err, if◌then◌else◌}
+use Rattle.std.specs.declared.io.Error.{Error}
+use Rattle.globs.specs.Rules.{ends_in_slash}
+use Rattle.hirgrep_main.specs.Decisions.{counted}
+use Rattle.hirgrep_main.specs.Outcomes.{with_failure}
+use Rattle.hirgrep_main.specs.Selecting.{Selection, skips_named}
+use Rattle.hirgrep_main.specs.declared.asked.Directories.{Directories}
+use Rattle.hirgrep_main.specs.declared.asked.Directories.TheVariants.{Reject, Recurse, Skip}
+use Rattle.hirgrep_main.specs.declared.outcome.Outcome.{Outcome}
+use Rattle.hirgrep_main.specs.declared.searching.Named.{Named}
+use Rattle.hirgrep_main.specs.declared.searching.Named.TheVariants.{Input, File as NamedFile, Folder as NamedFolder, Device as NamedDevice}
+use Rattle.hirgrep_main.specs.declared.walking.Kind.{Kind}
+use Rattle.hirgrep_main.specs.declared.walking.Kind.TheVariants.{File, Folder, Link, Device}
+
+-- ---- the entries of a folder
+
+-- the path of what has this name in a folder
+abbrev pub joined : List ℕ → List ℕ → List ℕ
+joined folder name = if ends_in_slash folder then folder ++ name else folder ++ 47 ∷ name
+
+-- Neither nothing nor the folder itself nor the one above it.
+abbrev pub is_entry : List ℕ → Bool
+is_entry [] = false
+is_entry (a ∷ []) = not (a == 46)
+is_entry (a ∷ b ∷ []) = not (a == 46 && b == 46)
+is_entry (a ∷ b ∷ c ∷ more) = true
+
+-- ---- what is searched
+
+abbrev pub is_folder_kind : Kind → Bool
+is_folder_kind File = false
+is_folder_kind Folder = true
+is_folder_kind Link = false
+is_folder_kind Device = false
+
+abbrev pub is_folder : Result Kind Error → Bool
+is_folder (Ok kind) = is_folder_kind kind
+is_folder (Err e) = false
+
+-- What an argument names, by what is at its path. A link to nothing is opened as a file, and reported.
+abbrev pub named_by : Kind → Named
+named_by File = NamedFile
+named_by Folder = NamedFolder
+named_by Link = NamedFile
+named_by Device = NamedDevice
+
+-- The options leave out what an argument names. They don't leave out standard input, and the current folder only if it is named.
+abbrev pub leaves_out : Selection → Bool → Named → List ℕ → Bool
+leaves_out s bare Input path = false
+leaves_out s bare NamedFile path = skips_named s false path
+leaves_out s bare NamedFolder path = not bare && skips_named s true path
+leaves_out s bare NamedDevice path = skips_named s false path
+
+abbrev pub is_left_out : Selection → Bool → Result Named Error → List ℕ → Bool
+is_left_out s bare (Ok named) path = leaves_out s bare named path
+is_left_out s bare (Err e) path = false
+
+abbrev pub recurses : Directories → Bool
+recurses Reject = false
+recurses Recurse = true
+recurses Skip = false
+
+abbrev pub is_named_folder : Named → Bool
+is_named_folder Input = false
+is_named_folder NamedFile = false
+is_named_folder NamedFolder = true
+is_named_folder NamedDevice = false
+
+-- What an argument names may be several files: those of a folder.
+abbrev pub may_be_several : Directories → Result Named Error → Bool
+may_be_several directories (Ok named) = is_named_folder named && recurses directories
+may_be_several directories (Err e) = false
+
+-- A file was searched, or a failure was recorded.
+abbrev pub Tries : Outcome → Outcome → Type 0
+Tries old new = (new.files ≡ counted old.files 1) ⊎ (new ≡ with_failure old)

@@ -1,0 +1,89 @@
+-- Where a stream reads on, and what its calls make of what was read.
+use Rattle.std.proofs.Common.{◌≡◌, [], ℕ, true, false, Some, None, refl, ap}
+use Rattle.determinize_core.specs.States.{StateValue}
+use Rattle.lazy_dfa.specs.Caches.{CacheValue, HeldAt, IsCacheOf, IsRow, IsShaped, Leads}
+use Rattle.lazy_dfa.specs.Dfas.{Dfa, after, is_dead}
+use Rattle.lazy_dfa.specs.Ids.{dead_tag, has_tag}
+use Rattle.streams.specs.Feeding.{IsEntered, IsLast, IsNamed}
+use Rattle.streams.specs.Streams.{first_state_of, last_patterns}
+use Rattle.streams.specs.declared.stream.Point.{Point}
+use Rattle.streams.specs.declared.stream.Point.TheVariants.{Closed, Dead, Failed, Fresh, Within}
+use Rattle.streams.proofs.TagLemmas.{alive_named, dead_is, dead_named, held_alive, row_of}
+
+-- ---- the state in which a stream reads on
+
+module _ (d : Dfa) (v : CacheValue) (id : ℕ) (shape : IsShaped v) where
+  pub dead_entered : (p : Point) → has_tag dead_tag id ≡ true → IsNamed d v p (Some id) → IsEntered d v p None
+  dead_entered Fresh t n = dead_named v id (first_state_of d) shape t n
+  dead_entered (Within s) t n = dead_named v id s shape t n
+  dead_entered Dead t n = absurd n
+  dead_entered (Failed b) t n = absurd n
+  dead_entered Closed t n = absurd n
+
+  pub alive_entered : (p : Point) → has_tag dead_tag id ≡ false → IsNamed d v p (Some id) → IsEntered d v p (Some id)
+  alive_entered Fresh t n = alive_named v id (first_state_of d) shape t n
+  alive_entered (Within s) t n = alive_named v id s shape t n
+  alive_entered Dead t n = absurd n
+  alive_entered (Failed b) t n = absurd n
+  alive_entered Closed t n = absurd n
+
+  pub alive_row : (p : Point) → has_tag dead_tag id ≡ false → IsNamed d v p (Some id) → IsRow v id
+  alive_row Fresh t n = row_of v id (first_state_of d) (alive_named v id (first_state_of d) shape t n)
+  alive_row (Within s) t n = row_of v id s (alive_named v id s shape t n)
+  alive_row Dead t n = absurd n
+  alive_row (Failed b) t n = absurd n
+  alive_row Closed t n = absurd n
+
+pub none_entered : (d : Dfa) (v : CacheValue) (p : Point) → IsNamed d v p None → IsEntered d v p None
+none_entered d v Fresh n = absurd n
+none_entered d v (Within s) n = absurd n
+none_entered d v Dead n = tt
+none_entered d v (Failed b) n = tt
+none_entered d v Closed n = tt
+
+-- ---- the end of the input
+
+patterns_of : (d : Dfa) (s : StateValue) → is_dead s ≡ true → last_patterns d s ≡ []
+patterns_of d s e = rw e refl
+
+pub none_last : (d : Dfa) (v : CacheValue) (p : Point) → IsEntered d v p None → IsLast d v p None
+none_last d v Fresh e = patterns_of d (first_state_of d) e
+none_last d v (Within s) e = patterns_of d s e
+none_last d v Dead e = tt
+none_last d v (Failed b) e = tt
+none_last d v Closed e = tt
+
+patterns_there : (d : Dfa) (s : StateValue) → is_dead s ≡ false → (after d s None).matches ≡ [] → last_patterns d s ≡ []
+patterns_there d s alive none = rw alive none
+
+module _ (d : Dfa) (v w : CacheValue) (id to : ℕ) (own : IsCacheOf d v) (new : IsCacheOf d w)
+    (led : (s : StateValue) → HeldAt v id s → Leads d w s None to) where
+  dies_there : (s : StateValue) → HeldAt v id s → has_tag dead_tag to ≡ true → last_patterns d s ≡ []
+  dies_there s h t =
+      patterns_there d s (held_alive d v id s own h)
+      (ap (λ (x : StateValue). x.matches)
+      (dead_is (after d s None) (dead_named w to (after d s None) new.shape t ((led s h).goes refl))))
+
+  pub dead_last : (p : Point) → has_tag dead_tag to ≡ true → IsEntered d v p (Some id) → IsLast d w p None
+  dead_last Fresh t h = dies_there (first_state_of d) h t
+  dead_last (Within s) t h = dies_there s h t
+  dead_last Dead t h = absurd h
+  dead_last (Failed b) t h = absurd h
+  dead_last Closed t h = absurd h
+
+  there : (s : StateValue) → HeldAt v id s → has_tag dead_tag to ≡ false → (is_dead s ≡ false) × HeldAt w to (after d s None)
+  there s h t = (held_alive d v id s own h, alive_named w to (after d s None) new.shape t ((led s h).goes refl))
+
+  pub alive_last : (p : Point) → has_tag dead_tag to ≡ false → IsEntered d v p (Some id) → IsLast d w p (Some to)
+  alive_last Fresh t h = there (first_state_of d) h t
+  alive_last (Within s) t h = there s h t
+  alive_last Dead t h = absurd h
+  alive_last (Failed b) t h = absurd h
+  alive_last Closed t h = absurd h
+
+  pub last_row : (p : Point) → has_tag dead_tag to ≡ false → IsEntered d v p (Some id) → IsRow w to
+  last_row Fresh t h = row_of w to (after d (first_state_of d) None) (there (first_state_of d) h t).1
+  last_row (Within s) t h = row_of w to (after d s None) (there s h t).1
+  last_row Dead t h = absurd h
+  last_row (Failed b) t h = absurd h
+  last_row Closed t h = absurd h

@@ -1,0 +1,5 @@
+pub mod Streams
+pub mod Errors
+pub mod Reading
+pub mod Feeding
+pub mod Overlapping

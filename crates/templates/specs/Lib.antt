@@ -1,0 +1,3 @@
+pub mod Expansion
+pub mod Slots
+pub mod Reading
